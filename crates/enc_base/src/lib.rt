@@ -1,0 +1,19 @@
+//! Tokens, numbers, refusals and the counter of steps: what every other crate speaks of.
+#![tactic(auto)]
+
+mod counts;
+mod laws;
+mod number;
+mod refusal;
+mod steps;
+mod token;
+
+pub use counts::Counts;
+pub use laws::{compressed_laws, first_below_law};
+pub use number::{read_unsigned, u16_at, u32_at, u64_at};
+pub use refusal::{Code, Place, ReadFault, Refusal, StreamName};
+pub use steps::Steps;
+pub use token::Token;
+
+#[cfg(test)]
+mod tests;

@@ -1,0 +1,263 @@
+-- The rows and cells of the module in a source.
+use Rattle.std.proofs.Common.{◌≡◌, ℕ, zero, suc, ◌+◌, ◌-◌, ◌<◌, ◌≤◌, Bool, true, false, List, [], ◌∷◌, length, Option, Some, None, refl, ap, ◌∙◌, inl, inr, arith}
+use Rattle.std.specs.Prelude.{is_some, not, ◌&&◌, option_map, option_and_then, unwrap_or, slice_get, filter, if◌then◌else◌, IsTrue, nat_lt, nat_le, ◌⊎◌, MatchOption, IsSome}
+use Rattle.std.specs.List.{list_all}
+use Rattle.std.proofs.lemmas.Bool.{cases_lt}
+use Rattle.std.proofs.lemmas.Bool.Decides.{nat_tests}
+use Rattle.enc_base.specs.declared.token.Token.{Token}
+use Rattle.enc_schema.specs.declared.column.Column.{Column}
+use Rattle.enc_schema.specs.Schema.{list_at, schema, columns_in, column_in}
+use Rattle.enc_rows.specs.Layout.{Layout, rows_of}
+use Rattle.enc_rows.specs.Layout as rows
+use Rattle.enc_meta.specs.Heaps.{Counted}
+use Rattle.enc_schema.specs.declared.column.Coding.{Coding}
+use Rattle.enc_schema.specs.Coding.{decoded}
+use Rattle.enc_plain.specs.Cell.{Cell, Kind, number, text, blob, guid, refer, numbers, texts, blobs, guids, kind_of, kind_in}
+use Rattle.enc_plain.specs.Module.{rows_in, row_of, has_row, cell_of}
+use Rattle.enc_image.specs.declared.judge.Rule.{Rule}
+use Rattle.enc_image.specs.declared.judge.Rule.TheVariants as rule
+use Rattle.enc_meta.specs.Heaps.{text_at, blob_at, guid_at}
+use Rattle.enc_schema.specs.declared.column.Column.TheVariants.{Num8, Num16, Num32, Text, Guid, Blob, Index, Coded, Run}
+use Rattle.enc_image.proofs.Good.{good_cell, no_index_fault, no_offset_fault}
+use Rattle.enc_image.specs.Base.{Source, within, index_token, cell_for, raw_in, asks, first_fault, cells_fault, cell_in, row_token, is_part, cell_count, row_in, table_rows, module_in}
+use Rattle.enc_image.proofs.Listed.{get_below, get_past, length_below}
+
+-- the rows of a table below 2D
+pub rows_there : (s : Source) (table : ℕ) → table < 0x2D → rows_in (module_in s) table ≡ table_rows s table
+unfolding module_in
+rows_there s table h = rw (get_below (table_rows s) 0x2D table h) refl
+
+pub rows_past : (s : Source) (table : ℕ) → 0x2D ≤ table → rows_in (module_in s) table ≡ []
+unfolding module_in
+rows_past s table h = rw (get_past (table_rows s) 0x2D table h) refl
+
+-- how many rows a table has
+pub count_there : (s : Source) (table : ℕ) → table < 0x2D → is_part table ≡ true → length (rows_in (module_in s) table) ≡ rows_of s.layout table
+count_there s table h part = rw (rows_there s table h, part) (length_below (row_in s table) (rows_of s.layout table))
+
+pub count_other : (s : Source) (table : ℕ) → is_part table ≡ false → length (rows_in (module_in s) table) ≡ 0
+count_other s table part = elim (cases_lt table 0x2D) [ inl h ↦ rw (rows_there s table h, part) refl | inr h ↦ rw (rows_past s table h) refl ]
+
+pub count_past : (s : Source) (table : ℕ) → 0x2D ≤ table → length (rows_in (module_in s) table) ≡ 0
+count_past s table h = rw (rows_past s table h) refl
+
+-- what a row of the module is in the stream
+pub record Stands (s : Source) (token : Token) : Type 0 where
+  pub table : token.table < 0x2D
+  pub part : is_part token.table ≡ true
+  pub low : 0 < token.row
+  pub high : token.row ≤ rows_of s.layout token.table
+
+part_cases : (b : Bool) → (b ≡ true) ⊎ (b ≡ false)
+part_cases true = inl refl
+part_cases false = inr refl
+
+bounds : (n row : ℕ) → (nat_lt 0 row && nat_le row n) ≡ true → (0 < row) × (row ≤ n)
+bounds n row h = (grind (arith, nat_tests), grind (arith, nat_tests))
+
+none_there : (n row : ℕ) → n ≡ 0 → (nat_lt 0 row && nat_le row n) ≡ true → ⊥
+none_there n row e h = let b = bounds n row h in omega arith
+
+pub row_stands : (s : Source) (token : Token) → IsTrue (has_row (module_in s) token) → Stands s token
+unfolding has_row
+row_stands s token h =
+    elim (cases_lt token.table 0x2D) [
+      | inr past ↦ absurd (none_there _ token.row (count_past s token.table past) h)
+      | inl low ↦ elim (part_cases (is_part token.table)) [
+        | inr other ↦ absurd (none_there _ token.row (count_other s token.table other) h)
+        | inl part ↦ let b = bounds _ token.row h in record { table = low; part = part; low = b.0; high = rw (← (count_there s token.table low part)) b.1 }
+      ]
+    ]
+
+-- the token of the row before one
+pub token_is : (token : Token) → 0 < token.row → row_token token.table (token.row - 1) ≡ token
+token_is token h = let e : token.row - 1 + 1 ≡ token.row = omega arith in rw e refl
+
+-- a cell of the module is the source's
+cell_at : (s : Source) (table r i : ℕ) (cell : Cell) → table < 0x2D → is_part table ≡ true → r < rows_of s.layout table → i < cell_count table → cell_in s (row_token table r) i ≡ Some cell → cell_of (module_in s) (row_token table r) i ≡ Some cell
+unfolding cell_of row_of
+cell_at s table r i cell there part row column is =
+    let e : r + 1 ≡ suc r = omega arith in
+    rw (rows_there s table there, part, e, get_below (row_in s table) (rows_of s.layout table) r row, get_below (λ (k : ℕ). unwrap_or (cell_in s (row_token table r) k) (number 0)) (cell_count table) i column, is) refl
+
+-- behind a run stand runs alone
+runs_last : List Column → Bool
+runs_last [] = true
+runs_last (c ∷ cs) = if is_some (kind_of c) then runs_last cs else list_all (λ (d : Column). not (is_some (kind_of d))) cs
+
+all_last : list_all runs_last schema ≡ true
+unfolding runs_last
+all_last = refl
+
+both_left : (a b : Bool) → (a && b) ≡ true → a ≡ true
+both_left true b h = refl
+both_left false b h = h
+
+both_right : (a b : Bool) → (a && b) ≡ true → b ≡ true
+both_right true b h = h
+both_right false b h = absurd cc
+
+not_both : (a : Bool) → not a ≡ true → a ≡ true → ⊥
+not_both true h k = absurd cc
+not_both false h k = absurd cc
+
+each : {A : Type 0} (p : List A → Bool) (xs : List (List A)) (i : ℕ) → list_all p xs ≡ true → p [] ≡ true → p (list_at xs i) ≡ true
+each p [] i h e = e
+each p (x ∷ xs) zero h e = both_left (p x) (list_all p xs) h
+each p (x ∷ xs) (suc i) h e = each p xs i (both_right (p x) (list_all p xs) h) e
+
+none_last : (cs : List Column) (i : ℕ) (c : Column) → list_all (λ (d : Column). not (is_some (kind_of d))) cs ≡ true → slice_get cs i ≡ Some c → is_some (kind_of c) ≡ true → ⊥
+none_last [] i c h e k = absurd cc
+none_last (x ∷ xs) zero c h e k =
+    let is : x ≡ c = cc in
+    let n : not (is_some (kind_of x)) ≡ true = both_left _ _ h in
+    not_both _ (rw is at n) k
+none_last (x ∷ xs) (suc i) c h e k = none_last xs i c (both_right _ _ h) e k
+
+counted : (cs : List Column) (i : ℕ) (c : Column) → runs_last cs ≡ true → slice_get cs i ≡ Some c → is_some (kind_of c) ≡ true → i < length (filter (λ (d : Column). is_some (kind_of d)) cs)
+unfolding runs_last
+counted [] i c h e k = absurd cc
+counted (x ∷ xs) zero c h e k =
+    let is : x ≡ c = cc in
+    rw (is, k) (omega arith)
+counted (x ∷ xs) (suc i) c h e k =
+    elim (part_cases (is_some (kind_of x))) [
+      | inl cell ↦ rw cell (omega (arith, counted xs i c (rw cell at h) e k))
+      | inr run ↦ absurd (none_last xs i c (rw run at h) e k)
+    ]
+
+-- a column with a kind is one of those with cells
+pub in_cells : (table i : ℕ) (c : Column) → column_in table i ≡ Some c → is_some (kind_of c) ≡ true → i < cell_count table
+unfolding columns_in runs_last
+in_cells table i c e k = counted (list_at schema table) i c (each runs_last schema table all_last refl) e k
+
+-- a cell of the module, where its number stands for one
+pub held : (s : Source) (token : Token) (i : ℕ) (c : Column) (cell : Cell) → IsTrue (has_row (module_in s) token) → column_in token.table i ≡ Some c → is_some (kind_of c) ≡ true → cell_for s.layout s.heaps c (raw_in s token i) ≡ Some cell → cell_of (module_in s) token i ≡ Some cell
+unfolding cell_in
+held s token i c cell there column kind is =
+    let row = row_stands s token there in
+    let e = token_is token row.low in
+    let at = cell_at s token.table (token.row - 1) i cell row.table row.part (omega (arith, row.low, row.high)) (in_cells token.table i c column kind) in
+    let found : cell_in s token i ≡ Some cell = rw column is in
+    rw e at at found
+
+-- no index and no offset of the module is bad
+pub good : (s : Source) (which : Rule) (token : Token) (i : ℕ) (c : Column) → first_fault s which ≡ None → IsTrue (has_row (module_in s) token) → column_in token.table i ≡ Some c → asks which c ≡ true → is_some (cell_for s.layout s.heaps c (raw_in s token i)) ≡ true
+good s which token i c none there column speaks =
+    let row = row_stands s token there in
+    rw (token_is token row.low) at (good_cell s which token.table (token.row - 1) i c none row.table (omega (arith, row.low, row.high)) column speaks)
+
+-- the column of a cell of this kind
+column_with : (o : Option Column) (k : Kind) → option_and_then kind_of o ≡ Some k → (c : Column) × (o ≡ Some c) × (kind_of c ≡ Some k)
+column_with (Some c) k h = (c, refl, h)
+column_with None k h = absurd cc
+
+text_column : (c : Column) → kind_of c ≡ Some texts → c ≡ Text
+text_column Text h = refl
+text_column Num8 h = absurd cc
+text_column Num16 h = absurd cc
+text_column Num32 h = absurd cc
+text_column Guid h = absurd cc
+text_column Blob h = absurd cc
+text_column (Index t) h = absurd cc
+text_column (Coded k) h = absurd cc
+text_column (Run t) h = absurd cc
+
+blob_column : (c : Column) → kind_of c ≡ Some blobs → c ≡ Blob
+blob_column Blob h = refl
+blob_column Text h = absurd cc
+blob_column Num8 h = absurd cc
+blob_column Num16 h = absurd cc
+blob_column Num32 h = absurd cc
+blob_column Guid h = absurd cc
+blob_column (Index t) h = absurd cc
+blob_column (Coded k) h = absurd cc
+blob_column (Run t) h = absurd cc
+
+guid_column : (c : Column) → kind_of c ≡ Some guids → c ≡ Guid
+guid_column Guid h = refl
+guid_column Text h = absurd cc
+guid_column Num8 h = absurd cc
+guid_column Num16 h = absurd cc
+guid_column Num32 h = absurd cc
+guid_column Blob h = absurd cc
+guid_column (Index t) h = absurd cc
+guid_column (Coded k) h = absurd cc
+guid_column (Run t) h = absurd cc
+
+-- where an optional value is there, and the cell is made from it, the module has that cell
+pub made : {A : Type 0} (s : Source) (token : Token) (i : ℕ) (c : Column) (which : Rule) (f : A → Cell) (x : Option A) → first_fault s which ≡ None → IsTrue (has_row (module_in s) token) → column_in token.table i ≡ Some c → is_some (kind_of c) ≡ true → asks which c ≡ true → cell_for s.layout s.heaps c (raw_in s token i) ≡ option_map f x → MatchOption x ⊥ (λ a. cell_of (module_in s) token i ≡ Some (f a))
+made s token i c which f (Some a) none there column kind speaks is = held s token i c (f a) there column kind is
+made s token i c which f None none there column kind speaks is =
+    let e = rw is at (good s which token i c none there column speaks) in
+    cc
+
+-- a cell of each kind: the entry is there, and the module has the cell with it
+pub text_cell : (s : Source) (token : Token) (i n : ℕ) → cells_fault s ≡ None → IsTrue (has_row (module_in s) token) → kind_in token.table i ≡ Some texts → raw_in s token i ≡ n → MatchOption (text_at s.heaps.strings n) ⊥ (λ a. cell_of (module_in s) token i ≡ Some (text a))
+unfolding cell_for
+text_cell s token i n sound there kind is =
+    let w = column_with _ _ kind in
+    let e = w.1 ∙ ap (λ c. Some c) (text_column w.0 w.2) in
+    made s token i Text rule.Offset text _ (no_offset_fault s sound) there e refl refl (rw is refl)
+
+pub blob_cell : (s : Source) (token : Token) (i n : ℕ) → cells_fault s ≡ None → IsTrue (has_row (module_in s) token) → kind_in token.table i ≡ Some blobs → raw_in s token i ≡ n → MatchOption (blob_at s.heaps.blobs n) ⊥ (λ a. cell_of (module_in s) token i ≡ Some (blob a))
+unfolding cell_for
+blob_cell s token i n sound there kind is =
+    let w = column_with _ _ kind in
+    let e = w.1 ∙ ap (λ c. Some c) (blob_column w.0 w.2) in
+    made s token i Blob rule.Offset blob _ (no_offset_fault s sound) there e refl refl (rw is refl)
+
+pub guid_cell : (s : Source) (token : Token) (i n : ℕ) → cells_fault s ≡ None → IsTrue (has_row (module_in s) token) → kind_in token.table i ≡ Some guids → raw_in s token i ≡ n → MatchOption (guid_at s.heaps.guids n) ⊥ (λ a. cell_of (module_in s) token i ≡ Some (guid a))
+unfolding cell_for
+guid_cell s token i n sound there kind is =
+    let w = column_with _ _ kind in
+    let e = w.1 ∙ ap (λ c. Some c) (guid_column w.0 w.2) in
+    made s token i Guid rule.Offset guid _ (no_offset_fault s sound) there e refl refl (rw is refl)
+
+within_from : (b : Bool) (t : Token) (P : Token → Type 0) → MatchOption (if b then Some t else None) ⊥ P → P t
+within_from true t P h = h
+within_from false t P h = absurd h
+
+within_is : (l : Layout) (t : Token) (P : Token → Type 0) → MatchOption (within l t) ⊥ P → P t
+within_is l t P h = within_from (nat_le t.row (rows_of l t.table)) t P h
+
+pub index_cell : (s : Source) (token : Token) (i n table : ℕ) → cells_fault s ≡ None → IsTrue (has_row (module_in s) token) → column_in token.table i ≡ Some (Index table) → raw_in s token i ≡ n → cell_of (module_in s) token i ≡ Some (refer (index_token table n))
+unfolding cell_for
+index_cell s token i n table sound there column is =
+    within_is s.layout (index_token table n) (λ t. cell_of (module_in s) token i ≡ Some (refer t)) (made s token i (Index table) rule.Index refer _ (no_index_fault s sound) there column refl refl (rw is refl))
+
+coded_is : (l : Layout) (o : Option Token) (P : Token → Type 0) → MatchOption (option_and_then (within l) o) ⊥ P → MatchOption o ⊥ P
+coded_is l (Some t) P h = within_is l t P h
+coded_is l None P h = h
+
+pub coded_cell : (s : Source) (token : Token) (i n : ℕ) (kind : Coding) → cells_fault s ≡ None → IsTrue (has_row (module_in s) token) → column_in token.table i ≡ Some (Coded kind) → raw_in s token i ≡ n → MatchOption (decoded kind n) ⊥ (λ t. cell_of (module_in s) token i ≡ Some (refer t))
+unfolding cell_for
+coded_cell s token i n kind sound there column is =
+    coded_is s.layout (decoded kind n) (λ t. cell_of (module_in s) token i ≡ Some (refer t)) (made s token i (Coded kind) rule.Index refer (option_and_then (within s.layout) (decoded kind n)) (no_index_fault s sound) there column refl refl (rw is refl))
+
+number_for : (l : Layout) (h : Counted) (c : Column) (n : ℕ) → kind_of c ≡ Some numbers → cell_for l h c n ≡ Some (number n)
+unfolding cell_for
+number_for l h Num8 n e = refl
+number_for l h Num16 n e = refl
+number_for l h Num32 n e = refl
+number_for l h Text n e = absurd cc
+number_for l h Guid n e = absurd cc
+number_for l h Blob n e = absurd cc
+number_for l h (Index t) n e = absurd cc
+number_for l h (Coded k) n e = absurd cc
+number_for l h (Run t) n e = absurd cc
+
+pub number_cell : (s : Source) (token : Token) (i n : ℕ) → IsTrue (has_row (module_in s) token) → kind_in token.table i ≡ Some numbers → raw_in s token i ≡ n → cell_of (module_in s) token i ≡ Some (number n)
+number_cell s token i n there kind is =
+    let w = column_with _ _ kind in
+    held s token i w.0 (number n) there w.1 (ap is_some w.2) (rw is (number_for s.layout s.heaps w.0 n w.2))
+
+-- a column with a kind is there
+pub column_there : (table i : ℕ) (k : Kind) → kind_in table i ≡ Some k → IsSome (column_in table i)
+column_there table i k kind = let w = column_with _ _ kind in rw w.1 refl
+
+-- a row of the module is a row of the tables
+pub row_in_tables : (s : Source) (token : Token) → IsTrue (has_row (module_in s) token) → IsTrue (rows.has_row s.layout token)
+row_in_tables s token there =
+    let row = row_stands s token there in
+    grind (arith, nat_tests, row.low, row.high)

@@ -1,0 +1,178 @@
+-- The plain module that a file's bytes say, or the first refusal (ECMA-335 II.22, II.24).
+use Rattle.std.specs.Prelude.{ℕ, zero, suc, ◌+◌, ◌^◌, Bool, true, false, not, ◌&&◌, ◌||◌, List, [], ◌∷◌, length, map, Option, Some, None, option_map, option_and_then, unwrap_or, is_some, Result, Ok, Err, nat_lt, nat_le, ◌==◌, if◌then◌else◌, filter, replicate, codes, nat_eq}
+use Rattle.std.specs.List.{list_any, list_all, starts_with}
+use Rattle.std.specs.Int.{w64}
+use Rattle.enc_base.specs.Numbers.{number_at}
+use Rattle.enc_base.specs.Order.{or_else, first_below}
+use Rattle.enc_base.specs.Token.{nil}
+use Rattle.enc_base.specs.declared.token.Token.{Token}
+use Rattle.enc_base.specs.declared.refusal.Refusal.{Refusal}
+use Rattle.enc_base.specs.declared.refusal.Code.TheVariants.{F, U}
+use Rattle.enc_base.specs.declared.refusal.Place.TheVariants as place
+use Rattle.enc_meta.specs.declared.root.Root.{Root}
+use Rattle.enc_meta.specs.Root.{root_of}
+use Rattle.enc_meta.specs.Heaps.{Counted, heaps_of, part, text_at, blob_at, guid_at}
+use Rattle.enc_schema.specs.declared.column.Column.{Column}
+use Rattle.enc_schema.specs.declared.column.Column.TheVariants.{Num8, Num16, Num32, Text, Guid, Blob, Index, Coded, Run}
+use Rattle.enc_schema.specs.Schema.{columns_in, column_in}
+use Rattle.enc_schema.specs.Coding.{decoded}
+use Rattle.enc_rows.specs.Sums.{below}
+use Rattle.enc_rows.specs.Layout.{Layout, tables_of, rows_of, raw_cell, has_table}
+use Rattle.enc_rows.specs.declared.form.Form.TheVariants as form
+use Rattle.enc_image.specs.declared.judge.Rule.{Rule}
+use Rattle.enc_image.specs.declared.judge.Rule.TheVariants as rule
+use Rattle.enc_plain.specs.Cell.{Cell, number, text, blob, guid, refer, kind_of}
+use Rattle.enc_plain.specs.Module.{Module, Row}
+
+-- what a module's file says by its parts: the table stream, its layout, and the heaps
+pub record Source : Type 0 where
+  pub stream : List ℕ
+  pub layout : Layout
+  pub heaps : Counted
+
+-- the token, where it is nil or one of the module's rows
+abbrev pub within : Layout → Token → Option Token
+within l token = if nat_le token.row (rows_of l token.table) then Some token else None
+
+-- row 0 of a table is nil
+abbrev pub index_token : ℕ → ℕ → Token
+index_token table zero = nil
+index_token table (suc r) = record { table = table; row = suc r }
+
+-- the cell that a column's number stands for: None where an offset isn't good, where an index is past its table or has a tag of no table, and for a run, which has no cell
+unfoldable pub cell_for : Layout → Counted → Column → ℕ → Option Cell
+cell_for l h Num8 n = Some (number n)
+cell_for l h Num16 n = Some (number n)
+cell_for l h Num32 n = Some (number n)
+cell_for l h Text n = option_map text (text_at h.strings n)
+cell_for l h Guid n = option_map guid (guid_at h.guids n)
+cell_for l h Blob n = option_map blob (blob_at h.blobs n)
+cell_for l h (Index table) n = option_map refer (within l (index_token table n))
+cell_for l h (Coded kind) n = option_map refer (option_and_then (within l) (decoded kind n))
+cell_for l h (Run table) n = None
+
+-- the number in a cell
+abbrev pub raw_in : Source → Token → ℕ → ℕ
+raw_in s token i = unwrap_or (raw_cell s.stream s.layout token i) 0
+
+-- the cell in a column of a row
+unfoldable pub cell_in : Source → Token → ℕ → Option Cell
+cell_in s token i = option_and_then (λ (c : Column). cell_for s.layout s.heaps c (raw_in s token i)) (column_in token.table i)
+
+-- the columns of which a rule speaks: indices, or offsets in heaps
+abbrev pub asks : Rule → Column → Bool
+asks rule.Index (Index table) = true
+asks rule.Index (Coded kind) = true
+asks rule.Offset Text = true
+asks rule.Offset Guid = true
+asks rule.Offset Blob = true
+asks _ _ = false
+
+-- F7 of indices, F8 of offsets
+abbrev pub number_of : Rule → ℕ
+number_of rule.Index = 7
+number_of rule.Offset = 8
+
+-- a cell of which the rule speaks isn't good
+abbrev pub breaks : Source → Rule → Token → ℕ → Column → Bool
+breaks s rule token i c = asks rule c && not (is_some (cell_for s.layout s.heaps c (raw_in s token i)))
+
+-- the first place of a rule: by table, row and column
+unfoldable pub cell_fault : Source → Rule → Token → ℕ → Option Refusal
+cell_fault s rule token i = option_and_then (λ (c : Column). if breaks s rule token i c then Some (record { code = F (number_of rule); place = place.Cell token i }) else None) (column_in token.table i)
+
+-- a row's token, of the row's number from 0
+abbrev pub row_token : ℕ → ℕ → Token
+row_token table r = record { table = table; row = r + 1 }
+
+unfoldable pub row_fault : Source → Rule → ℕ → ℕ → Option Refusal
+row_fault s rule table r = first_below (cell_fault s rule (row_token table r)) (length (columns_in table))
+
+unfoldable pub table_fault : Source → Rule → ℕ → Option Refusal
+table_fault s rule table = first_below (row_fault s rule table) (rows_of s.layout table)
+
+unfoldable pub first_fault : Source → Rule → Option Refusal
+first_fault s rule = first_below (table_fault s rule) 0x2D
+
+-- the tables that are no part of a module: the Ptr tables, EncLog and EncMap
+abbrev pub is_part : ℕ → Bool
+is_part table = not (list_any (λ t. t == table) (0x03 ∷ 0x05 ∷ 0x07 ∷ 0x13 ∷ 0x16 ∷ 0x1E ∷ 0x1F ∷ []))
+
+-- how many columns of a table have cells; runs stand behind them
+abbrev pub cell_count : ℕ → ℕ
+cell_count table = length (filter (λ (c : Column). is_some (kind_of c)) (columns_in table))
+
+-- the row with its cells
+abbrev pub row_in : Source → ℕ → ℕ → Row
+row_in s table r = record { cells = map (λ i. unwrap_or (cell_in s (row_token table r) i) (number 0)) (below (cell_count table)) }
+
+abbrev pub table_rows : Source → ℕ → List Row
+table_rows s table = if is_part table then map (row_in s table) (below (rows_of s.layout table)) else []
+
+-- the plain module of a source
+unfoldable pub module_in : Source → Module
+module_in s = record { tables = map (table_rows s) (below 0x2D) }
+
+-- the file begins as a metadata root
+abbrev pub is_bare : List ℕ → Bool
+is_bare bytes = starts_with nat_eq bytes (codes "BSJB")
+
+-- for now: the tables that are read
+abbrev pub is_read : ℕ → Bool
+is_read table = list_any (λ t. t == table) (0x00 ∷ 0x01 ∷ 0x1E ∷ 0x1F ∷ 0x23 ∷ [])
+
+unfoldable pub is_read_or_absent : ℕ → ℕ → Bool
+is_read_or_absent valid table = not (has_table valid table) || is_read table
+
+-- for now: a table stream whose header is there, with no table past 2C, but with one that isn't read
+unfoldable pub has_unread : ℕ → Bool
+has_unread valid = nat_lt valid (2 ^ 0x2D) && not (list_all (is_read_or_absent valid) (below 0x2D))
+
+abbrev pub unread_by : Option ℕ → Bool
+unread_by (Some valid) = has_unread valid
+unread_by None = false
+
+unfoldable pub is_unread : List ℕ → Bool
+is_unread stream = nat_le 24 (length stream) && unread_by (number_at w64 stream 8)
+
+-- a module's widths go by its own rows alone
+unfoldable pub no_counts : List ℕ
+no_counts = replicate 64 0
+
+-- the layout of a root's table stream, or F6; for now U1 in between
+unfoldable pub layout_for : List ℕ → Root → Result Layout Refusal
+layout_for bytes root =
+    if is_unread (part bytes root.tables) then Err (record { code = U 1; place = place.Tables })
+    else tables_of bytes root.tables form.Base root.jtd no_counts
+
+-- the parts of a file with this root and this layout
+abbrev pub source_from : List ℕ → Root → Layout → Source
+source_from bytes root l = record { stream = part bytes root.tables; layout = l; heaps = heaps_of bytes root }
+
+abbrev pub source_with : List ℕ → Root → Result Layout Refusal → Result Source Refusal
+source_with bytes root (Ok l) = Ok (source_from bytes root l)
+source_with bytes root (Err e) = Err e
+
+abbrev pub source_in : List ℕ → Result Root Refusal → Result Source Refusal
+source_in bytes (Ok root) = source_with bytes root (layout_for bytes root)
+source_in bytes (Err e) = Err e
+
+-- the source of a bare file, or F1, F2, F6; for now a file that isn't bare is U3
+unfoldable pub source_of : List ℕ → Result Source Refusal
+source_of bytes = if is_bare bytes then source_in bytes (root_of bytes) else Err (record { code = U 3; place = place.Headers })
+
+-- F7 before F8; for now without their places
+unfoldable pub cells_fault : Source → Option Refusal
+cells_fault s = option_map (λ (e : Refusal). record { code = U 2; place = place.Root }) (or_else (first_fault s rule.Index) (first_fault s rule.Offset))
+
+abbrev pub module_or : Source → Option Refusal → Result Module Refusal
+module_or s None = Ok (module_in s)
+module_or s (Some e) = Err e
+
+abbrev pub base_in : Result Source Refusal → Result Module Refusal
+base_in (Ok s) = module_or s (cells_fault s)
+base_in (Err e) = Err e
+
+-- the plain module of a file's bytes, or the first refusal
+unfoldable pub base_of : List ℕ → Result Module Refusal
+base_of bytes = base_in (source_of bytes)

@@ -1,0 +1,37 @@
+-- What the parts of the program stand for.
+use Rattle.std.specs.Prelude.{◌≡◌, ℕ, List, None, Result, Ok, Err}
+use Rattle.enc_base.specs.declared.refusal.Refusal.{Refusal}
+use Rattle.enc_base.specs.declared.refusal.ReadFault.{ReadFault}
+use Rattle.enc_base.specs.declared.refusal.ReadFault.TheVariants.{Memory, Refused}
+use Rattle.enc_meta.specs.Root.{root_of}
+use Rattle.enc_meta.specs.Heaps.{part}
+use Rattle.enc_rows.specs.Layout.{IsWithin}
+use Rattle.enc_plain.specs.Module.{Module}
+use Rattle.enc_image.specs.declared.judge.Cells.{Cells}
+use Rattle.enc_image.specs.declared.bare.Opened.{Opened}
+use Rattle.enc_image.specs.Base.{Source, source_from, cells_fault, module_in}
+
+abbrev pub source_seen : Cells → Source
+source_seen c = record { stream = part c.bytes.now c.tables.now.span; layout = c.tables.now; heaps = c.heaps }
+
+-- a root and its tables with the file's bytes
+abbrev pub opened_source : List ℕ → Result Opened Refusal → Result Source Refusal
+opened_source bytes (Ok o) = Ok (source_from bytes o.root o.tables)
+opened_source bytes (Err e) = Err e
+
+-- the root and the tables were read from these bytes
+pub record IsOpened (bytes : List ℕ) (o : Opened) : Type 0 where
+  pub root : root_of bytes ≡ Ok o.root
+  pub span : o.tables.span ≡ o.root.tables
+  pub within : IsWithin (part bytes o.tables.span) o.tables
+
+-- what was read is the plain module; what was refused is refused by the first rule; want of memory tells nothing
+abbrev pub Reads : Result Source ReadFault → Result Module Refusal → Type 0
+Reads (Ok s) base = base ≡ Ok (module_in s)
+Reads (Err (Refused e)) base = base ≡ Err e
+Reads (Err Memory) base = Unit {0}
+
+-- the parts of an image's file were read from its bytes, and each of its cells is good
+pub record IsImage (bytes : List ℕ) (o : Opened) : Type 0 where
+  pub opened : IsOpened bytes o
+  pub cells : cells_fault (source_from bytes o.root o.tables) ≡ None

@@ -1,0 +1,100 @@
+//! Opening a bare file: its root and its tables.
+ghost use Rattle.std.specs.Prelude.{◌≡◌, ◌<◌, IfOk, not, length, nat_lt};
+ghost use Rattle.std.specs.List.{list_all};
+ghost use Rattle.enc_meta.specs.Heaps.{part};
+ghost use Rattle.enc_rows.specs.Sums.{below};
+ghost use Rattle.enc_rows.specs.Layout.{IsWithin};
+ghost use Rattle.enc_image.specs.Base.{is_bare, is_read, is_read_or_absent, has_unread, is_unread, layout_for, source_of};
+ghost use Rattle.enc_image.specs.Seen.{opened_source, IsOpened};
+
+use enc_base::{Code, Counts, Place, Refusal, u64_at};
+use enc_meta::{Root, Span, read_root};
+use enc_rows::{Form, Tables};
+
+/// A root, and the tables in it.
+#[derive(Drop)]
+pub struct Opened {
+    pub root: Root,
+    pub tables: Tables,
+}
+
+fn is_bare(bytes: &[u8]) -> bool
+    ensures { result ≡ is_bare bytes.now }
+{
+    bytes.starts_with(b"BSJB".as_slice())
+}
+
+/// For now: the table is absent, or one that is read.
+#[tactic(auto, unfolding(crate::specs::Base::is_read_or_absent))]
+fn is_read_or_absent(valid: u64, table: u8) -> bool
+    requires { table < 64 }
+    ensures { result ≡ is_read_or_absent valid table }
+{
+    match table {
+        0x00 | 0x01 | 0x1e | 0x1f | 0x23 => true,
+        _ => (valid >> table) % 2 == 0,
+    }
+}
+
+#[tactic(auto, using(enc_rows::proofs::Below::all_none, enc_rows::proofs::Below::all_more, enc_rows::proofs::Below::all_false))]
+fn reads_all(valid: u64) -> bool
+    ensures { result ≡ list_all (is_read_or_absent valid) (below 0x2D) }
+{
+    for table in 0..0x2d {
+        if !is_read_or_absent(valid, table) {
+            return false;
+        }
+    }
+    true
+}
+
+#[tactic(auto, unfolding(crate::specs::Base::is_unread, crate::specs::Base::has_unread))]
+fn is_unread(stream: &[u8]) -> bool
+    ensures { result ≡ is_unread stream.now }
+{
+    if stream.len() < 24 {
+        return false;
+    }
+    match u64_at(stream, 8) {
+        None => false,
+        Some(valid) => valid < 1 << 0x2d && !reads_all(valid),
+    }
+}
+
+/// The tables of a root.
+#[tactic(auto, unfolding(crate::specs::Base::layout_for, crate::specs::Base::no_counts))]
+fn tables_in(bytes: &[u8], root: &Root) -> Result<Tables, Refusal>
+    ensures tables { result ≡ layout_for bytes.now root.now }
+    ensures within { IfOk result (λ l. IsWithin (part bytes.now root.now.tables) l × (l.span ≡ root.now.tables)) }
+{
+    if is_unread(root.tables.part(bytes)) {
+        return Err(Refusal {
+            code: Code::U(1),
+            place: Place::Tables,
+        });
+    }
+    let none = Counts { rows: [0; 64] };
+    Tables::read(bytes, root.tables, Form::Base, root.jtd, &none)
+}
+
+/// The root and the tables of a bare file: F1, F2, F6, and for now U1 and U3.
+#[tactic(auto, unfolding(crate::specs::Base::source_of))]
+pub fn open(bytes: &[u8]) -> Result<Opened, Refusal>
+    ensures source { opened_source bytes.now result ≡ source_of bytes.now }
+    ensures opened { IfOk result (IsOpened bytes.now) }
+{
+    if !is_bare(bytes) {
+        return Err(Refusal {
+            code: Code::U(3),
+            place: Place::Headers,
+        });
+    }
+    let root = match read_root(bytes) {
+        Ok(root) => root,
+        Err(refusal) => return Err(refusal),
+    };
+    match tables_in(bytes, &root) {
+        Ok(tables) => Ok(Opened { root, tables }),
+        Err(refusal) => Err(refusal),
+    }
+}

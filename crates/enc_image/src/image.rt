@@ -1,0 +1,58 @@
+//! An image: the bytes of a module that was accepted.
+ghost use Rattle.std.specs.Prelude.{◌≡◌};
+ghost use Rattle.enc_image.specs.Base.{base_of, module_in};
+ghost use Rattle.enc_image.specs.Seen.{Reads};
+
+use crate::bare::open;
+use crate::judge::{Cells, cells_fault};
+use enc_base::ReadFault;
+use enc_meta::{Heaps, Root};
+use enc_rows::Tables;
+use std::marker::Model;
+
+/// The bytes of a module that was accepted, and where its parts stand in them. Its cells aren't
+/// copied.
+#[derive(Drop)]
+pub struct Image {
+    pub(crate) bytes: Vec<u8>,
+    pub(crate) root: Root,
+    pub(crate) tables: Tables,
+}
+
+impl Model for Image {
+    ghost use Rattle.enc_image.specs.Base.{Source, source_from};
+    ghost use Rattle.enc_image.specs.Seen.{IsImage};
+
+    ghost Value = { Source };
+
+    ghost view = { λ i. source_from i.bytes.items i.root i.tables };
+
+    ghost invariant = { λ i. IsImage i.bytes.items (record { root = i.root; tables = i.tables }) };
+}
+
+impl Image {
+    /// Reads a module. Refused is the first of F1, F2, F6, and so far U1 to U3 for forms that aren't
+    /// read yet.
+    #[tactic(auto, unfolding(crate::specs::Base::base_of))]
+    pub fn read(bytes: Vec<u8>) -> Result<Image, ReadFault>
+        ensures { Reads result (base_of bytes.items) }
+    {
+        let opened = match open(&bytes) {
+            Ok(opened) => opened,
+            Err(refusal) => return Err(ReadFault::Refused(refusal)),
+        };
+        let fault = cells_fault(&Cells {
+            bytes: &bytes,
+            tables: &opened.tables,
+            heaps: Heaps::of(&bytes, &opened.root),
+        });
+        match fault {
+            Some(refusal) => Err(ReadFault::Refused(refusal)),
+            None => Ok(Image {
+                bytes,
+                root: opened.root,
+                tables: opened.tables,
+            }),
+        }
+    }
+}

@@ -1,0 +1,9 @@
+//! A module's file: accepted or refused, and then a view of its plain module.
+#![tactic(auto)]
+
+mod bare;
+mod image;
+mod judge;
+mod view;
+
+pub use image::Image;

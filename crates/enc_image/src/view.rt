@@ -1,0 +1,97 @@
+//! An image as a view of its plain module.
+ghost use Rattle.std.specs.Prelude.{◌≡◌, ◌&&◌, Some, None, IsTrue, IsSome, nat_lt};
+ghost use Rattle.enc_schema.specs.Schema.{column_in};
+ghost use Rattle.enc_plain.specs.Module.{Module, rows_in, has_row, cell_of};
+ghost use Rattle.enc_image.specs.Base.{is_part, index_token, raw_in, cells_fault, module_in};
+
+use crate::image::Image;
+use enc_base::Token;
+use enc_meta::Heaps;
+use enc_plain::ModuleView;
+use enc_schema::{Column, column_of, decode_coded};
+
+/// The Ptr tables, EncLog and EncMap are no part of a module.
+fn is_part(table: u8) -> bool
+    ensures { result ≡ is_part table }
+{
+    !matches!(table, 0x03 | 0x05 | 0x07 | 0x13 | 0x16 | 0x1e | 0x1f)
+}
+
+/// The token of an index.
+fn index_token(table: u8, row: u32) -> Token
+    ensures { result ≡ index_token table row }
+{
+    if row == 0 {
+        Token { table: 0, row: 0 }
+    } else {
+        Token { table, row }
+    }
+}
+
+impl Image {
+    /// The number that stands in a cell.
+    fn number(&self, row: Token, column: u8) -> u32
+        requires row { IsTrue (has_row (module_in self.now) row) }
+        requires column { IsSome (column_in row.table column) }
+        ensures raw { raw_in self.now row column ≡ result }
+        ensures sound { cells_fault self.now ≡ None }
+    {
+        self.tables.cell(&self.bytes, row, column)
+    }
+
+    fn heaps(&self) -> Heaps<'_>
+        ensures { result ≡ self.now.heaps }
+    {
+        Heaps::of(&self.bytes, &self.root)
+    }
+}
+
+impl ModuleView for Image {
+    ghost meaning = { module_in };
+
+    #[tactic(auto, using(crate::proofs::Rows::count_there, crate::proofs::Rows::count_other, crate::proofs::Rows::count_past))]
+    fn count(&self, table: u8) -> u32 {
+        if table < 0x2d && is_part(table) {
+            self.tables.count(table)
+        } else {
+            0
+        }
+    }
+
+    fn num(&self, row: Token, column: u8) -> u32 {
+        self.number(row, column)
+    }
+
+    fn text(&self, row: Token, column: u8) -> &[u8] {
+        match self.heaps().text(self.number(row, column)) {
+            Some(text) => text,
+            None => unreachable!(),
+        }
+    }
+
+    fn blob(&self, row: Token, column: u8) -> &[u8] {
+        match self.heaps().blob(self.number(row, column)) {
+            Some(blob) => blob,
+            None => unreachable!(),
+        }
+    }
+
+    fn guid(&self, row: Token, column: u8) -> [u8; 16] {
+        match self.heaps().guid(self.number(row, column)) {
+            Some(guid) => guid,
+            None => unreachable!(),
+        }
+    }
+
+    fn refer(&self, row: Token, column: u8) -> Token {
+        let number = self.number(row, column);
+        match column_of(row.table, column) {
+            Some(Column::Index(table)) => index_token(table, number),
+            Some(Column::Coded(kind)) => match decode_coded(kind, number) {
+                Some(token) => token,
+                None => unreachable!(),
+            },
+            _ => unreachable!(),
+        }
+    }
+}

@@ -1,0 +1,4 @@
+pub mod Root
+pub mod Heaps
+pub mod Example
+pub mod Laws

@@ -1,0 +1,82 @@
+//! What stands at an offset of one heap (ECMA-335 II.24.2.3, II.24.2.4).
+ghost use Rattle.std.specs.Prelude.{◌≡◌, ℕ, ◌+◌, ◌*◌, ◌<◌, ◌≤◌, ◌^◌, ◌==◌, option_map, length, position, IfSome};
+ghost use Rattle.std.specs.Option.{option_copied};
+ghost use Rattle.enc_meta.specs.Root.{before_zero};
+ghost use Rattle.enc_meta.specs.Heaps.{filled, counted_strings, bytes_at, units_in, sixteen_at};
+
+use enc_base::read_unsigned;
+
+/// The place of the first zero.
+fn zero_at(bytes: &[u8]) -> Option<usize>
+    ensures place { result ≡ position (λ b. b == 0) bytes.now }
+    ensures within { IfSome result (λ i. i < length bytes.now) }
+{
+    bytes.iter().position(|b| *b == 0)
+}
+
+/// The bytes before the first zero, None where there is no zero.
+#[tactic(auto, using(crate::proofs::Bytes::before_zero_is))]
+pub fn before_zero(bytes: &[u8]) -> Option<&[u8]>
+    ensures text { option_copied result ≡ before_zero bytes.now }
+    ensures within { IfSome result (λ r. length r.now < length bytes.now) }
+{
+    match zero_at(bytes) {
+        None => None,
+        Some(end) => Some(&bytes[..end]),
+    }
+}
+
+/// How many bytes stand up to the last that isn't zero.
+#[tactic(auto, using(crate::proofs::Bytes::filled_less, crate::proofs::Bytes::filled_there))]
+fn filled(heap: &[u8]) -> usize
+    ensures { result ≡ filled heap.now }
+{
+    let mut len = heap.len();
+    while len > 0 && heap[len - 1] == 0 {
+        len -= 1;
+    }
+    len
+}
+
+/// The bytes of a `#Strings` that count: of the zeros at its end only the first.
+#[tactic(auto, unfolding(crate::specs::Heaps::counted_strings))]
+pub fn counted_strings(heap: &[u8]) -> &[u8]
+    ensures counted { result.now ≡ counted_strings heap.now }
+    ensures few { length result.now ≤ length heap.now }
+{
+    let len = filled(heap);
+    if len < heap.len() {
+        &heap[..len + 1]
+    } else {
+        heap
+    }
+}
+
+/// The bytes at an offset behind their compressed length, None where they don't stand whole there.
+#[tactic(auto, unfolding(crate::specs::Heaps::bytes_at))]
+pub fn bytes_at(heap: &[u8], offset: usize) -> Option<&[u8]>
+    ensures { option_copied result ≡ bytes_at heap.now offset }
+{
+    let (len, start) = read_unsigned(heap, offset)?;
+    heap.get(start..start + len as usize)
+}
+
+/// The bytes of the UTF-16 units of a user text, without the byte behind them.
+#[tactic(auto, unfolding(crate::specs::Heaps::units_in))]
+pub fn units_in(entry: &[u8]) -> Option<&[u8]>
+    ensures { option_copied result ≡ units_in entry.now }
+{
+    match entry {
+        [] => Some(entry),
+        [units @ .., _] if units.len() % 2 == 0 => Some(units),
+        _ => None,
+    }
+}
+
+/// The sixteen bytes behind so many sixteens, None where they don't stand whole there.
+#[tactic(auto, unfolding(crate::specs::Heaps::sixteen_at))]
+pub fn sixteen_at(heap: &[u8], k: u32) -> Option<[u8; 16]>
+    ensures { result ≡ sixteen_at heap.now k }
+{
+    Some(*heap.get(16 * k as usize..)?.first_chunk::<16>()?)
+}

@@ -1,0 +1,121 @@
+//! The heaps of a metadata root (ECMA-335 II.24.2.3 to II.24.2.5).
+ghost use Rattle.std.specs.Prelude.{◌≡◌, ℕ, ◌+◌, ◌*◌, ◌/◌, ◌<◌, ◌≤◌, ◌^◌, length, Ok};
+ghost use Rattle.std.specs.Option.{option_copied};
+ghost use Rattle.enc_meta.specs.Root.{root_of, IsWithin};
+ghost use Rattle.enc_meta.specs.Heaps.{lengths_of, heaps_of, part, AreAtMost, text_at, blob_at, user_at, guid_at};
+
+use crate::entry::{before_zero, bytes_at, counted_strings, sixteen_at, units_in};
+use crate::root::Root;
+use crate::span::Span;
+use std::marker::Model;
+
+/// The heaps of a root, each by the bytes that count.
+#[derive(Drop)]
+pub struct Heaps<'a> {
+    strings: &'a [u8],
+    users: &'a [u8],
+    blobs: &'a [u8],
+    guids: &'a [u8],
+}
+
+/// How many bytes of `#Strings`, `#US` and `#Blob` count, and how many entries `#GUID` has.
+#[derive(Clone, Copy, Debug, PartialEq, Eq)]
+pub struct HeapLengths {
+    pub strings: u32,
+    pub users: u32,
+    pub blobs: u32,
+    pub guids: u32,
+}
+
+impl<'a> Model for Heaps<'a> {
+    ghost use Rattle.enc_meta.specs.Heaps.{Counted};
+
+    ghost Value = { Counted };
+
+    ghost view = { λ h. record {
+      strings = h.strings.now;
+      users = h.users.now;
+      blobs = h.blobs.now;
+      guids = h.guids.now;
+    } };
+}
+
+impl<'a> Heaps<'a> {
+    /// The heaps of the root that was read from these bytes. Of the zeros at the end of `#Strings`
+    /// only the first counts.
+    #[tactic(auto, unfolding(crate::specs::Heaps::heaps_of))]
+    pub fn of(bytes: &'a [u8], root: &Root) -> Heaps<'a>
+        requires { root_of bytes.now ≡ Ok root.now }
+        ensures heaps { result ≡ heaps_of bytes.now root.now }
+        ensures few { AreAtMost (length bytes.now) result }
+    {
+        Heaps {
+            strings: counted_strings(root.strings.part(bytes)),
+            users: root.users.part(bytes),
+            blobs: root.blobs.part(bytes),
+            guids: root.guids.part(bytes),
+        }
+    }
+
+    /// How many bytes of `#Strings`, `#US` and `#Blob` count, and how many whole entries `#GUID` has.
+    pub fn lengths(&self) -> HeapLengths
+        requires strings { length self.now.strings < 2 ^ 32 }
+        requires users { length self.now.users < 2 ^ 32 }
+        requires blobs { length self.now.blobs < 2 ^ 32 }
+        requires guids { length self.now.guids < 2 ^ 32 }
+        ensures { result ≡ lengths_of self.now }
+    {
+        HeapLengths {
+            strings: self.strings.len() as u32,
+            users: self.users.len() as u32,
+            blobs: self.blobs.len() as u32,
+            guids: (self.guids.len() / 16) as u32,
+        }
+    }
+
+    /// The text at an offset of `#Strings`, without its zero: empty at offset 0, None where no zero
+    /// follows in the bytes that count.
+    #[tactic(auto, unfolding(crate::specs::Heaps::text_at))]
+    pub fn text(&self, offset: u32) -> Option<&'a [u8]>
+        ensures { option_copied result ≡ text_at self.now.strings offset }
+    {
+        if offset == 0 {
+            return Some(&[]);
+        }
+        before_zero(self.strings.get(offset as usize..)?)
+    }
+
+    /// The bytes at an offset of `#Blob`, without their length: empty at offset 0, None where they
+    /// don't stand whole there.
+    #[tactic(auto, unfolding(crate::specs::Heaps::blob_at))]
+    pub fn blob(&self, offset: u32) -> Option<&'a [u8]>
+        ensures { option_copied result ≡ blob_at self.now.blobs offset }
+    {
+        if offset == 0 {
+            return Some(&[]);
+        }
+        bytes_at(self.blobs, offset as usize)
+    }
+
+    /// The bytes of the UTF-16 units at an offset of `#US`, without their length and the byte behind
+    /// them: empty at offset 0, None where they don't stand whole there or aren't whole units.
+    #[tactic(auto, unfolding(crate::specs::Heaps::user_at))]
+    pub fn user(&self, offset: u32) -> Option<&'a [u8]>
+        ensures { option_copied result ≡ user_at self.now.users offset }
+    {
+        if offset == 0 {
+            return Some(&[]);
+        }
+        units_in(bytes_at(self.users, offset as usize)?)
+    }
+
+    /// Entry k of `#GUID`, from 1: entry 0 is all zeros, None where there is no entry k.
+    pub fn guid(&self, k: u32) -> Option<[u8; 16]>
+        ensures { result ≡ guid_at self.now.guids k }
+    {
+        match k.checked_sub(1) {
+            None => Some([0; 16]),
+            Some(before) => sixteen_at(self.guids, before),
+        }
+    }
+}

@@ -1,0 +1,19 @@
+//! What the definitions of this crate mean, each as the contract of a function that does nothing.
+ghost use Rattle.enc_meta.specs.Example.{ExampleReads, ExampleCounts};
+ghost use Rattle.enc_meta.specs.Laws.{PaddedIsLeast, TextStands};
+
+/// A name is padded to the least multiple of 4 that isn't less.
+pub fn padded_law()
+    ensures { PaddedIsLeast }
+{}
+
+/// A text stands in `#Strings` without a zero in it and with one behind it.
+pub fn text_law()
+    ensures { TextStands }
+{}
+
+/// A file of 200 bytes reads as it was written by hand.
+pub fn example_root()
+    ensures root { ExampleReads }
+    ensures counted { ExampleCounts }
+{}

@@ -1,0 +1,141 @@
+ghost use Rattle.std.specs.Prelude.{◌<◌, ◌^◌, length};
+
+use super::*;
+use enc_base::{Code, Place, Refusal, StreamName};
+use std::test::Fail;
+
+// A module m.dll of three rows, read by hand.
+const EXAMPLE: [u8; 200] = [
+    0x42, 0x53, 0x4a, 0x42, 0x01, 0x00, 0x01, 0x00, 0x00, 0x00, 0x00, 0x00, 0x0c, 0x00, 0x00, 0x00,
+    0x76, 0x34, 0x2e, 0x30, 0x2e, 0x33, 0x30, 0x33, 0x31, 0x39, 0x00, 0x00, 0x00, 0x00, 0x03, 0x00,
+    0x50, 0x00, 0x00, 0x00, 0x48, 0x00, 0x00, 0x00, 0x23, 0x7e, 0x00, 0x00, 0x98, 0x00, 0x00, 0x00,
+    0x20, 0x00, 0x00, 0x00, 0x23, 0x53, 0x74, 0x72, 0x69, 0x6e, 0x67, 0x73, 0x00, 0x00, 0x00, 0x00,
+    0xb8, 0x00, 0x00, 0x00, 0x10, 0x00, 0x00, 0x00, 0x23, 0x47, 0x55, 0x49, 0x44, 0x00, 0x00, 0x00,
+    0x00, 0x00, 0x00, 0x00, 0x02, 0x00, 0x00, 0x01, 0x03, 0x00, 0x00, 0x00, 0x08, 0x00, 0x00, 0x00,
+    0x00, 0x00, 0x00, 0x00, 0x00, 0x00, 0x00, 0x00, 0x01, 0x00, 0x00, 0x00, 0x01, 0x00, 0x00, 0x00,
+    0x01, 0x00, 0x00, 0x00, 0x00, 0x00, 0x01, 0x00, 0x01, 0x00, 0x00, 0x00, 0x00, 0x00, 0x06, 0x00,
+    0x0e, 0x00, 0x07, 0x00, 0x04, 0x00, 0x00, 0x00, 0x00, 0x00, 0x00, 0x00, 0x00, 0x00, 0x00, 0x00,
+    0x00, 0x00, 0x15, 0x00, 0x00, 0x00, 0x00, 0x00, 0x00, 0x6d, 0x2e, 0x64, 0x6c, 0x6c, 0x00, 0x53,
+    0x79, 0x73, 0x74, 0x65, 0x6d, 0x00, 0x4f, 0x62, 0x6a, 0x65, 0x63, 0x74, 0x00, 0x6d, 0x73, 0x63,
+    0x6f, 0x72, 0x6c, 0x69, 0x62, 0x00, 0x00, 0x00, 0x00, 0x11, 0x22, 0x33, 0x44, 0x55, 0x66, 0x77,
+    0x88, 0x99, 0xaa, 0xbb, 0xcc, 0xdd, 0xee, 0xff,
+];
+
+const NOT_A_ROOT: Refusal = Refusal {
+    code: Code::F(1),
+    place: Place::Root,
+};
+
+const NOT_ONE_TABLE_STREAM: Refusal = Refusal {
+    code: Code::F(2),
+    place: Place::Stream(StreamName::Compressed),
+};
+
+fn lengths_in(bytes: &[u8]) -> Option<HeapLengths>
+    requires { length bytes.now < 2 ^ 32 }
+{
+    match read_root(bytes) {
+        Ok(root) => Some(Heaps::of(bytes, &root).lengths()),
+        Err(_) => None,
+    }
+}
+
+#[test]
+fn reads_the_example(rt: HostRuntime) -> Result<(), Fail> {
+    let root = Root {
+        tables: Span { start: 80, len: 72 },
+        uncompressed: false,
+        jtd: false,
+        strings: Span {
+            start: 152,
+            len: 32,
+        },
+        users: Span { start: 0, len: 0 },
+        blobs: Span { start: 0, len: 0 },
+        guids: Span {
+            start: 184,
+            len: 16,
+        },
+        pdb: None,
+    };
+    assert_eq!(rt; read_root(&EXAMPLE), Ok(root));
+    assert_eq!(rt; read_root(&EXAMPLE[..31]), Err(NOT_A_ROOT));
+    let lengths = HeapLengths {
+        strings: 30,
+        users: 0,
+        blobs: 0,
+        guids: 1,
+    };
+    assert_eq!(rt; lengths_in(&EXAMPLE), Some(lengths));
+    Ok(())
+}
+
+#[test]
+fn reads_entries(rt: HostRuntime) -> Result<(), Fail> {
+    let root = read_root(&EXAMPLE)?;
+    let heaps = Heaps::of(&EXAMPLE, &root);
+    assert_eq!(rt; heaps.text(1), Some("m.dll".as_bytes()));
+    assert_eq!(rt; heaps.text(8), Some("ystem".as_bytes()));
+    assert_eq!(rt; heaps.text(29), Some("".as_bytes()));
+    assert_eq!(rt; heaps.text(30), None);
+    assert_eq!(rt; heaps.blob(0), Some("".as_bytes()));
+    assert_eq!(rt; heaps.blob(1), None);
+    assert_eq!(rt; heaps.guid(1).map(|x| (x[1], x[15])), Some((0x11, 0xff)));
+    assert_eq!(rt; heaps.guid(2), None);
+    Ok(())
+}
+
+#[test]
+fn refuses_streams(rt: HostRuntime) -> Result<(), Fail> {
+    // `#~` in place of `#GUID`, and `#-`
+    let mut bytes = EXAMPLE;
+    bytes[73] = b'~';
+    bytes[74] = 0;
+    assert_eq!(rt; read_root(&bytes), Err(NOT_ONE_TABLE_STREAM));
+    bytes[73] = b'-';
+    assert_eq!(rt; read_root(&bytes), Err(NOT_ONE_TABLE_STREAM));
+    // `#Strings` one byte longer than the file
+    let mut bytes = EXAMPLE;
+    bytes[48] = 49;
+    let place = Place::Stream(StreamName::Strings);
+    let code = Code::F(2);
+    assert_eq!(rt; read_root(&bytes), Err(Refusal { code, place }));
+    // a name of 32 bytes without a zero
+    let mut bytes = EXAMPLE;
+    for i in 52..84 {
+        bytes[i] = b'a';
+    }
+    assert_eq!(rt; read_root(&bytes), Err(NOT_A_ROOT));
+    Ok(())
+}
+
+#[test]
+fn counts_strings(rt: HostRuntime) -> Result<(), Fail> {
+    let mut bytes = EXAMPLE;
+    for i in 152..184 {
+        bytes[i] = 0;
+    }
+    assert_eq!(rt; lengths_in(&bytes).map(|x| x.strings), Some(1));
+    bytes[183] = b'a';
+    assert_eq!(rt; lengths_in(&bytes).map(|x| x.strings), Some(32));
+    Ok(())
+}
+
+#[test]
+fn reads_user_texts(rt: HostRuntime) -> Result<(), Fail> {
+    // `#US` in place of `#GUID`, with a text of three bytes and one of two
+    let mut bytes = EXAMPLE;
+    bytes[73] = b'U';
+    bytes[74] = b'S';
+    bytes[75] = 0;
+    bytes[185] = 3;
+    bytes[186] = b'a';
+    bytes[187] = 0;
+    bytes[189] = 2;
+    let root = read_root(&bytes)?;
+    let heaps = Heaps::of(&bytes, &root);
+    assert_eq!(rt; heaps.user(0), Some("".as_bytes()));
+    assert_eq!(rt; heaps.user(1), Some("a\0".as_bytes()));
+    assert_eq!(rt; heaps.user(5), None);
+    Ok(())
+}

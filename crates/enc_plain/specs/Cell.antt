@@ -1,0 +1,38 @@
+-- The cell of a row: what stands in a column, without heaps, offsets or widths.
+use Rattle.std.specs.Prelude.{ℕ, List, Option, Some, None, option_and_then}
+use Rattle.enc_base.specs.declared.token.Token.{Token}
+use Rattle.enc_schema.specs.declared.column.Column.{Column}
+use Rattle.enc_schema.specs.declared.column.Column.TheVariants.{Num8, Num16, Num32, Text, Guid, Blob, Index, Coded, Run}
+use Rattle.enc_schema.specs.Schema.{column_in}
+
+-- a number; the bytes of a text, of a blob, of a GUID; a token, where nil names nothing (ECMA-335 II.22)
+pub data Cell : Type 0 where
+  number : ℕ → Cell
+  text : List ℕ → Cell
+  blob : List ℕ → Cell
+  guid : List ℕ → Cell
+  refer : Token → Cell
+
+-- the kinds of cells
+pub data Kind : Type 0 where
+  numbers : Kind
+  texts : Kind
+  blobs : Kind
+  guids : Kind
+  references : Kind
+
+-- which kind of cell a column has; a run has none
+abbrev pub kind_of : Column → Option Kind
+kind_of Num8 = Some numbers
+kind_of Num16 = Some numbers
+kind_of Num32 = Some numbers
+kind_of Text = Some texts
+kind_of Guid = Some guids
+kind_of Blob = Some blobs
+kind_of (Index table) = Some references
+kind_of (Coded kind) = Some references
+kind_of (Run table) = None
+
+-- the kind of cells in a table's column
+abbrev pub kind_in : ℕ → ℕ → Option Kind
+kind_in table i = option_and_then kind_of (column_in table i)

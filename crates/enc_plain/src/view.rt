@@ -1,0 +1,56 @@
+//! A view of a module: its rows, asked for cell by cell.
+ghost use Rattle.std.specs.Prelude.{◌≡◌, Some, length, IsTrue};
+ghost use Rattle.enc_plain.specs.Cell.{number, text, blob, guid, refer, kind_in, numbers, texts, blobs, guids, references};
+ghost use Rattle.enc_plain.specs.Module.{Module, rows_in, has_row, cell_of};
+
+use enc_base::Token;
+
+/// Whatever means one plain module. Rows count from 1, columns from 0 in the order of ECMA-335
+/// II.22. A cell may be asked for where the row is there and the column is of that kind. No call
+/// takes memory.
+pub trait ModuleView {
+    // The module that is meant.
+    ghost meaning: { Self → Module };
+
+    /// The number of rows of a table.
+    fn count(&self, table: u8) -> u32
+        ensures { result ≡ length (rows_in (meaning self.now) table) };
+
+    /// The number in a column.
+    fn num(&self, row: Token, column: u8) -> u32
+        requires row { IsTrue (has_row (meaning self.now) row) }
+        requires kind { kind_in row.table column ≡ Some numbers }
+        ensures { cell_of (meaning self.now) row column ≡ Some (number result) };
+
+    /// The bytes of a text, without a zero.
+    fn text(&self, row: Token, column: u8) -> &[u8]
+        requires row { IsTrue (has_row (meaning self.now) row) }
+        requires kind { kind_in row.table column ≡ Some texts }
+        ensures { cell_of (meaning self.now) row column ≡ Some (text result.now) };
+
+    /// The bytes of a blob.
+    fn blob(&self, row: Token, column: u8) -> &[u8]
+        requires row { IsTrue (has_row (meaning self.now) row) }
+        requires kind { kind_in row.table column ≡ Some blobs }
+        ensures { cell_of (meaning self.now) row column ≡ Some (blob result.now) };
+
+    /// The sixteen bytes of a GUID as they are stored; nil is sixteen zeros.
+    fn guid(&self, row: Token, column: u8) -> [u8; 16]
+        requires row { IsTrue (has_row (meaning self.now) row) }
+        requires kind { kind_in row.table column ≡ Some guids }
+        ensures { cell_of (meaning self.now) row column ≡ Some (guid result) };
+
+    /// The token in a column of an index; nil is 00000000.
+    fn refer(&self, row: Token, column: u8) -> Token
+        requires row { IsTrue (has_row (meaning self.now) row) }
+        requires kind { kind_in row.table column ≡ Some references }
+        ensures { cell_of (meaning self.now) row column ≡ Some (refer result) };
+}
+
+/// Whether the token names a row: its row is from 1 to its table's count.
+#[tactic(auto, unfolding(crate::specs::Module::has_row))]
+pub fn is_row<V: ModuleView>(view: &V, token: Token) -> bool
+    ensures { result ≡ has_row (V.meaning view.now) token }
+{
+    token.row != 0 && token.row <= view.count(token.table)
+}

@@ -1,0 +1,9 @@
+//! The table stream: its rows, and the number that stands in a cell (ECMA-335 II.24.2.6).
+#![tactic(auto)]
+
+mod form;
+mod header;
+mod tables;
+
+pub use form::Form;
+pub use tables::Tables;

@@ -1,0 +1,4 @@
+pub mod Shift
+pub mod Kept
+pub mod Codes
+pub mod Tables

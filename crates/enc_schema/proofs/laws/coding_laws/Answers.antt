@@ -1,0 +1,5 @@
+use Rattle.enc_schema.proofs.Tables.{tags_fit}
+use Rattle.enc_schema.proofs.laws.coding_laws.Goals as goal
+
+pub returns : goal.returns
+returns c = tags_fit

@@ -1,0 +1,43 @@
+-- What the tables of data mean together.
+use Rattle.std.specs.Prelude.{◌≡◌, ℕ, ◌≤◌, ◌^◌, Bool, true, length, is_some, nat_lt, nat_le, ◌&&◌, ◌||◌, IfSome, IsTrue}
+use Rattle.enc_schema.specs.declared.column.Column.{Column}
+use Rattle.enc_schema.specs.declared.column.Column.TheVariants.{Num8, Num16, Num32, Text, Guid, Blob, Index, Coded, Run}
+use Rattle.enc_schema.specs.declared.column.Coding.{Coding}
+use Rattle.enc_schema.specs.Schema.{columns_in, column_in}
+use Rattle.enc_schema.specs.Names.{table_name_in, column_name_in}
+use Rattle.enc_schema.specs.Coding.{tables_of, each_table, tag_bits}
+
+-- whether a table has columns
+abbrev pub is_table : ℕ → Bool
+is_table t = nat_lt 0 (length (columns_in t))
+
+-- whether the tables whose rows a column can name have columns
+abbrev pub names_tables : Column → Bool
+names_tables Num8 = true
+names_tables Num16 = true
+names_tables Num32 = true
+names_tables Text = true
+names_tables Guid = true
+names_tables Blob = true
+names_tables (Index t) = is_table t
+names_tables (Coded kind) = each_table is_table (tables_of kind)
+names_tables (Run t) = is_table t
+
+-- the tables are 00 to 2C and 30 to 37
+abbrev pub WhichTables : Type 0
+WhichTables = (t : ℕ) → is_table t ≡ (nat_lt t 0x2D || (nat_le 0x30 t && nat_lt t 0x38))
+
+-- every column that names rows names those of tables that are there
+abbrev pub ColumnsName : Type 0
+ColumnsName = (t i : ℕ) → IfSome (column_in t i) (λ (c : Column). IsTrue (names_tables c))
+
+-- a table has a name just where it has columns, and so does a column
+abbrev pub TablesAreNamed : Type 0
+TablesAreNamed = (t : ℕ) → is_some (table_name_in t) ≡ is_table t
+
+abbrev pub ColumnsAreNamed : Type 0
+ColumnsAreNamed = (t i : ℕ) → is_some (column_name_in t i) ≡ is_some (column_in t i)
+
+-- the tags of a coding's tables fit its bits
+abbrev pub TagsFit : Type 0
+TagsFit = (kind : Coding) → length (tables_of kind) ≤ 2 ^ tag_bits kind

@@ -1,0 +1,5 @@
+pub mod Coding
+pub mod Schema
+pub mod Names
+pub mod Widths
+pub mod Laws

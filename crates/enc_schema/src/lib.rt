@@ -1,0 +1,20 @@
+//! The metadata tables as data: columns, names, widths and codings (ECMA-335 II.22, II.24.2.6,
+//! Portable PDB).
+#![tactic(auto)]
+
+mod coding;
+mod column;
+mod laws;
+mod names;
+mod schema;
+mod widths;
+
+pub use coding::{decode_coded, encode_coded};
+pub use column::{Coding, Column};
+pub use laws::{coding_laws, table_laws};
+pub use names::{column_name, table_name};
+pub use schema::{column_of, columns_of};
+pub use widths::{Widths, widths_of};
+
+#[cfg(test)]
+mod tests;

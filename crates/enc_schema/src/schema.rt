@@ -1,0 +1,173 @@
+//! The columns of every table in the order of the standard (ECMA-335 II.22; Portable PDB from 30 on).
+ghost use Rattle.std.specs.Prelude.{◌≡◌, ℕ, ◌≤◌, List, length, map, IsTrue, nat_le};
+ghost use Rattle.std.specs.List.{list_all};
+ghost use Rattle.std.specs.Borrow.{Bor};
+ghost use Rattle.enc_schema.specs.declared.column.Column.{Column as TheColumn};
+ghost use Rattle.enc_schema.specs.Schema.{list_at, columns_in, column_in};
+
+use crate::column::Coding;
+use crate::column::Column::{self, Blob, Coded, Guid, Index, Num8, Num16, Num32, Run, Text};
+
+/// By table number.
+static SCHEMA: [&[Column]; 56] = [
+    // 00 Module
+    &[Num16, Text, Guid, Guid, Guid],
+    // 01 TypeRef
+    &[Coded(Coding::ResolutionScope), Text, Text],
+    // 02 TypeDef
+    &[
+        Num32,
+        Text,
+        Text,
+        Coded(Coding::TypeDefOrRef),
+        Run(0x04),
+        Run(0x06),
+    ],
+    // 03 FieldPtr
+    &[Index(0x04)],
+    // 04 Field
+    &[Num16, Text, Blob],
+    // 05 MethodPtr
+    &[Index(0x06)],
+    // 06 MethodDef
+    &[Num32, Num16, Num16, Text, Blob, Run(0x08)],
+    // 07 ParamPtr
+    &[Index(0x08)],
+    // 08 Param
+    &[Num16, Num16, Text],
+    // 09 InterfaceImpl
+    &[Index(0x02), Coded(Coding::TypeDefOrRef)],
+    // 0A MemberRef
+    &[Coded(Coding::MemberRefParent), Text, Blob],
+    // 0B Constant
+    &[Num8, Coded(Coding::HasConstant), Blob],
+    // 0C CustomAttribute
+    &[
+        Coded(Coding::HasCustomAttribute),
+        Coded(Coding::CustomAttributeType),
+        Blob,
+    ],
+    // 0D FieldMarshal
+    &[Coded(Coding::HasFieldMarshal), Blob],
+    // 0E DeclSecurity
+    &[Num16, Coded(Coding::HasDeclSecurity), Blob],
+    // 0F ClassLayout
+    &[Num16, Num32, Index(0x02)],
+    // 10 FieldLayout
+    &[Num32, Index(0x04)],
+    // 11 StandAloneSig
+    &[Blob],
+    // 12 EventMap
+    &[Index(0x02), Run(0x14)],
+    // 13 EventPtr
+    &[Index(0x14)],
+    // 14 Event
+    &[Num16, Text, Coded(Coding::TypeDefOrRef)],
+    // 15 PropertyMap
+    &[Index(0x02), Run(0x17)],
+    // 16 PropertyPtr
+    &[Index(0x17)],
+    // 17 Property
+    &[Num16, Text, Blob],
+    // 18 MethodSemantics
+    &[Num16, Index(0x06), Coded(Coding::HasSemantics)],
+    // 19 MethodImpl
+    &[
+        Index(0x02),
+        Coded(Coding::MethodDefOrRef),
+        Coded(Coding::MethodDefOrRef),
+    ],
+    // 1A ModuleRef
+    &[Text],
+    // 1B TypeSpec
+    &[Blob],
+    // 1C ImplMap
+    &[Num16, Coded(Coding::MemberForwarded), Text, Index(0x1A)],
+    // 1D FieldRVA
+    &[Num32, Index(0x04)],
+    // 1E EncLog
+    &[Num32, Num32],
+    // 1F EncMap
+    &[Num32],
+    // 20 Assembly
+    &[Num32, Num16, Num16, Num16, Num16, Num32, Blob, Text, Text],
+    // 21 AssemblyProcessor
+    &[Num32],
+    // 22 AssemblyOS
+    &[Num32, Num32, Num32],
+    // 23 AssemblyRef
+    &[Num16, Num16, Num16, Num16, Num32, Blob, Text, Text, Blob],
+    // 24 AssemblyRefProcessor
+    &[Num32, Index(0x23)],
+    // 25 AssemblyRefOS
+    &[Num32, Num32, Num32, Index(0x23)],
+    // 26 File
+    &[Num32, Text, Blob],
+    // 27 ExportedType
+    &[Num32, Num32, Text, Text, Coded(Coding::Implementation)],
+    // 28 ManifestResource
+    &[Num32, Num32, Text, Coded(Coding::Implementation)],
+    // 29 NestedClass
+    &[Index(0x02), Index(0x02)],
+    // 2A GenericParam
+    &[Num16, Num16, Coded(Coding::TypeOrMethodDef), Text],
+    // 2B MethodSpec
+    &[Coded(Coding::MethodDefOrRef), Blob],
+    // 2C GenericParamConstraint
+    &[Index(0x2A), Coded(Coding::TypeDefOrRef)],
+    // 2D
+    &[],
+    // 2E
+    &[],
+    // 2F
+    &[],
+    // 30 Document
+    &[Blob, Guid, Blob, Guid],
+    // 31 MethodDebugInformation
+    &[Index(0x30), Blob],
+    // 32 LocalScope
+    &[
+        Index(0x06),
+        Index(0x35),
+        Index(0x33),
+        Index(0x34),
+        Num32,
+        Num32,
+    ],
+    // 33 LocalVariable
+    &[Num16, Num16, Text],
+    // 34 LocalConstant
+    &[Text, Blob],
+    // 35 ImportScope
+    &[Index(0x35), Blob],
+    // 36 StateMachineMethod
+    &[Index(0x06), Index(0x06)],
+    // 37 CustomDebugInformation
+    &[Coded(Coding::HasCustomDebugInformation), Guid, Blob],
+];
+
+/// The list at the place, and none of its things where there is no such place.
+fn entry<'a>(lists: &[&'a [Column]], i: usize) -> &'a [Column]
+    requires { IsTrue (list_all (λ (l : Bor (List TheColumn)). nat_le (length l.now) 9) lists.now) }
+    ensures list { result.now ≡ list_at (map (λ (l : Bor (List TheColumn)). l.now) lists.now) i }
+    ensures few { length result.now ≤ 9 }
+{
+    if i < lists.len() { lists[i] } else { &[] }
+}
+
+/// The columns of a table in the order of the standard (ECMA-335 II.22), none where there is no
+/// such table.
+#[tactic(auto, unfolding(crate::specs::Schema::columns_in))]
+pub fn columns_of(table: u8) -> &'static [Column]
+    ensures columns { result.now ≡ columns_in table }
+    ensures few { length result.now ≤ 9 }
+{
+    entry(&SCHEMA, table as usize)
+}
+
+/// A table's column, from 0. None where there is no such table or column.
+pub fn column_of(table: u8, i: u8) -> Option<Column>
+    ensures { result ≡ column_in table i }
+{
+    columns_of(table).get(i as usize).copied()
+}

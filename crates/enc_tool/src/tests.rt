@@ -1,0 +1,210 @@
+//! What the top call answers over files in memory: values from outside, and each refusal once.
+
+use enc_outside::{MemSink, MemStore};
+use enc_top::run_tool;
+use std::alloc::{AllocError, Global};
+use std::process::Abort;
+use std::test::Fail;
+
+/// A bare module of 200 bytes: a row each of Module, TypeRef and AssemblyRef.
+const M_DLL: &str = concat!(
+    "42534a4201000100000000000c00000076342e302e3330333139000000000300",
+    "5000000048000000237e0000980000002000000023537472696e677300000000",
+    "b800000010000000234755494400000000000000020000010300000008000000",
+    "0000000000000000010000000100000001000000000001000100000000000600",
+    "0e0007000400000000000000000000000000150000000000006d2e646c6c0053",
+    "797374656d004f626a656374006d73636f726c69620000000011223344556677",
+    "8899aabbccddeeff",
+);
+
+/// A run over one file `m.dll`: the module above, cut to so many bytes, with some of them replaced.
+#[derive(Drop)]
+struct Case<'a> {
+    cut: usize,
+    at: usize,
+    put: &'a str,
+    words: &'a [&'a str],
+    status: u8,
+    output: &'a str,
+}
+
+/// A run over the module as it stands.
+fn whole<'a>(words: &'a [&'a str], status: u8, output: &'a str) -> Case<'a> {
+    changed(200, 0, "", words, status, output)
+}
+
+fn changed<'a>(
+    cut: usize,
+    at: usize,
+    put: &'a str,
+    words: &'a [&'a str],
+    status: u8,
+    output: &'a str,
+) -> Case<'a> {
+    Case {
+        cut,
+        at,
+        put,
+        words,
+        status,
+        output,
+    }
+}
+
+/// The bytes with some of them replaced, and cut.
+fn edited(alloc: Global, case: &Case<'_>) -> Result<Vec<u8>, Fail> {
+    let all = hex::decode(alloc, M_DLL)?;
+    let put = hex::decode(alloc, case.put)?;
+    let mut bytes = Vec::new(alloc);
+    for (i, b) in all.iter().enumerate() {
+        if i >= case.cut {
+            break;
+        }
+        let there = if i >= case.at {
+            put.get(i - case.at)
+        } else {
+            None
+        };
+        bytes.push(*there.unwrap_or(b))?;
+    }
+    Ok(bytes)
+}
+
+fn texts(alloc: Global, words: &[&str]) -> Result<Vec<String>, AllocError> {
+    let mut all = Vec::new(alloc);
+    for word in words {
+        all.push(String::from_str(alloc, word)?)?;
+    }
+    Ok(all)
+}
+
+fn holds(rt: &(impl Abort + AllocGlobal), case: &Case<'_>) -> Result<(), Fail> {
+    let alloc = rt.alloc();
+    let mut store = MemStore::begin(alloc);
+    store.set_file("m.dll", edited(alloc, case)?.as_slice())?;
+    let mut sink = MemSink::begin(alloc);
+    let words = texts(alloc, case.words)?;
+    let status = run_tool(alloc, &words, &mut store, &mut sink);
+    assert_eq!(rt; sink.bytes(), case.output.as_bytes());
+    assert_eq!(rt; status, case.status);
+    Ok(())
+}
+
+#[test]
+fn shows_worked_rows_of_a_base(rt: HostRuntime) -> Result<(), Fail> {
+    let type_ref =
+        "01000001 TypeRef ResolutionScope=23000001 TypeName=\"Object\" TypeNamespace=\"System\" @0.1\n";
+    let assembly =
+        "23000001 AssemblyRef MajorVersion=0004 MinorVersion=0000 BuildNumber=0000 RevisionNumber=0000 Flags=00000000 PublicKeyOrToken=[] Name=\"mscorlib\" Culture=\"\" HashValue=[] @0.1\n";
+    let module =
+        "00000001 Module Generation=0000 Name=\"m.dll\" Mvid=33221100-5544-7766-8899-aabbccddeeff EncId=00000000-0000-0000-0000-000000000000 EncBaseId=00000000-0000-0000-0000-000000000000 @0.1\n";
+    let renamed =
+        "01000001 TypeRef ResolutionScope=23000001 TypeName=\"Ob\\x22e\\x5c\\x80\" TypeNamespace=\"System\" @0.1\n";
+    holds(&rt, &whole(&["show", "m", "01000001"], 0, type_ref))?;
+    holds(&rt, &whole(&["show", "m", "23000001"], 0, assembly))?;
+    holds(&rt, &whole(&["show", "m", "00000001"], 0, module))?;
+    holds(
+        &rt,
+        &changed(200, 168, "22655c80", &["show", "m", "01000001"], 0, renamed),
+    )?;
+    Ok(())
+}
+
+#[test]
+fn tells_absent_tokens(rt: HostRuntime) -> Result<(), Fail> {
+    holds(
+        &rt,
+        &whole(&["show", "m", "01000002"], 0, "absent 01000002\n"),
+    )?;
+    holds(
+        &rt,
+        &whole(&["show", "m", "01000000"], 0, "absent 01000000\n"),
+    )?;
+    holds(
+        &rt,
+        &whole(&["show", "m", "FFffFFff"], 0, "absent ffffffff\n"),
+    )?;
+    holds(
+        &rt,
+        &whole(&["show", "m", "1e000001"], 0, "absent 1e000001\n"),
+    )?;
+    Ok(())
+}
+
+#[test]
+fn names_the_first_refusal(rt: HostRuntime) -> Result<(), Fail> {
+    let words = ["show", "m", "01000001"].as_slice();
+    let refused = [
+        // the file isn't bare, or empty
+        changed(3, 0, "", words, 1, "refused m.dll U3 headers\n"),
+        changed(200, 0, "4d", words, 1, "refused m.dll U3 headers\n"),
+        // the root is cut, or has another reserved number
+        changed(31, 0, "", words, 1, "refused m.dll F1 root\n"),
+        changed(79, 0, "", words, 1, "refused m.dll F1 root\n"),
+        changed(200, 8, "01", words, 1, "refused m.dll F1 root\n"),
+        // a stream passes the end, none is a table stream, and both are there
+        changed(80, 0, "", words, 1, "refused m.dll F2 #~\n"),
+        changed(183, 0, "", words, 1, "refused m.dll F2 #Strings\n"),
+        changed(199, 0, "", words, 1, "refused m.dll F2 #GUID\n"),
+        changed(200, 40, "2358", words, 1, "refused m.dll F2 #~\n"),
+        // the table stream is too short for its rows, has no Module row, or a table past 2C
+        changed(200, 36, "3c", words, 1, "refused m.dll F6 tables\n"),
+        changed(200, 104, "02", words, 1, "refused m.dll F6 tables\n"),
+        changed(200, 93, "20", words, 1, "refused m.dll F6 tables\n"),
+        // a table that isn't read yet comes before the rest of F6
+        changed(200, 88, "07", words, 1, "refused m.dll U1 tables\n"),
+        // an index past its table, and an offset in the middle of nothing
+        changed(200, 126, "0a", words, 1, "refused m.dll U2 root\n"),
+        changed(200, 128, "1e", words, 1, "refused m.dll U2 root\n"),
+    ];
+    for case in &refused {
+        holds(&rt, case)?;
+    }
+    Ok(())
+}
+
+#[test]
+fn tells_missing_files_and_wrong_words(rt: HostRuntime) -> Result<(), Fail> {
+    let usage = "usage: enc show list check apply write run gen\n";
+    let long = "a".repeat(rt.alloc(), 201)?;
+    holds(
+        &rt,
+        &whole(&["show", "n", "01000001"], 6, "missing n.dll\n"),
+    )?;
+    holds(
+        &rt,
+        &whole(
+            &["show", "d/-_.9/m", "01000001"],
+            6,
+            "missing d/-_.9/m.dll\n",
+        ),
+    )?;
+    holds(&rt, &whole(&[], 2, usage))?;
+    holds(&rt, &whole(&["show", "m", "1"], 2, usage))?;
+    holds(&rt, &whole(&["show", "m", "0100000g"], 2, usage))?;
+    holds(&rt, &whole(&["show", "", "01000001"], 2, usage))?;
+    holds(&rt, &whole(&["show", long.as_str(), "01000001"], 2, usage))?;
+    holds(&rt, &whole(&["show", "a b", "01000001"], 2, usage))?;
+    holds(&rt, &whole(&["Show", "m", "01000001"], 2, usage))?;
+    holds(&rt, &whole(&["list", "m"], 2, usage))?;
+    Ok(())
+}
+
+#[test]
+fn tells_faults_of_store_and_sink(rt: HostRuntime) -> Result<(), Fail> {
+    let alloc = rt.alloc();
+    let case = whole(&["show", "m", "01000001"], 0, "");
+    let words = texts(alloc, case.words)?;
+    let mut store = MemStore::begin(alloc);
+    store.set_file("m.dll", edited(alloc, &case)?.as_slice())?;
+    store.fail_at(1)?;
+    let mut sink = MemSink::begin(alloc);
+    sink.fail_at(1)?;
+    assert_eq!(rt; run_tool(alloc, &words, &mut store, &mut sink), 4);
+    assert_eq!(rt; sink.bytes(), b"".as_slice());
+    assert_eq!(rt; run_tool(alloc, &words, &mut store, &mut sink), 5);
+    let line =
+        b"01000001 TypeRef ResolutionScope=23000001 TypeName=\"Object\" TypeNamespace=\"System\" @0.1\n";
+    assert!(rt; line.starts_with(sink.bytes()));
+    Ok(())
+}

@@ -1,0 +1,4 @@
+pub mod Guids
+pub mod Joined
+pub mod Saves
+pub mod Served

@@ -1,0 +1,16 @@
+//! The top call: words, a store and a sink in; a status out.
+#![tactic(auto)]
+
+mod command;
+mod ending;
+mod finish;
+mod place;
+mod plan;
+mod planning;
+mod rows;
+mod run;
+mod text;
+
+pub use place::RowPlace;
+pub use rows::row_text;
+pub use run::run_tool;

@@ -1,0 +1,29 @@
+//! What a command will save and print, before anything has happened.
+
+/// Which line of the table of statuses applies.
+#[derive(Clone, Copy, Debug, PartialEq, Eq)]
+pub enum Outcome {
+    /// All is accepted.
+    Done,
+    /// A file is refused.
+    Refused,
+    /// The words are no command.
+    Usage,
+    /// A file that must be there is absent.
+    Missing,
+}
+
+/// A file to be saved.
+#[derive(Debug, Drop)]
+pub struct Save {
+    pub name: String,
+    pub bytes: Vec<u8>,
+}
+
+/// A whole answer: what is saved, in order, and then printed. A refusal is a plan too.
+#[derive(Debug, Drop)]
+pub struct Plan {
+    pub outcome: Outcome,
+    pub saves: Vec<Save>,
+    pub output: Vec<u8>,
+}

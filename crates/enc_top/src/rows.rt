@@ -1,0 +1,127 @@
+//! The printed row of a module, over any view of one.
+ghost use Rattle.std.specs.Prelude.{◌≡◌, ◌≢◌, ℕ, ◌++◌, ◌∷◌, Some, OnOk, IsTrue, decimal, length, [], unwrap_or};
+ghost use Rattle.enc_schema.specs.Schema.{columns_in, column_in};
+ghost use Rattle.enc_schema.specs.Names.{column_name_in};
+ghost use Rattle.enc_plain.specs.Module.{has_row, cell_of};
+ghost use Rattle.enc_top.specs.RowText.{value_in, equation, joined_below, cell_text, place_text, row_text_of};
+
+use crate::place::RowPlace;
+use crate::text::{
+    push_blob, push_decimal, push_digits, push_guid, push_quoted, push_str, push_token,
+};
+use enc_base::Token;
+use enc_plain::ModuleView;
+use enc_schema::{Column, column_name, column_of, columns_of, table_name};
+use std::alloc::{AllocError, Global};
+
+/// Appends the value of a cell.
+fn push_value<V: ModuleView>(
+    alloc: Global,
+    view: &V,
+    token: Token,
+    i: u8,
+    column: Column,
+    out: &mut Vec<u8>,
+) -> Result<(), AllocError>
+    requires row { IsTrue (has_row (V.meaning view.now) token) }
+    requires column { column_in token.table i ≡ Some column }
+    requires cell { (table : ℕ) → column ≢ Column.Run table }
+    ensures { OnOk result (out.new.items ≡ out.old.items ++ value_in column (cell_of (V.meaning view.now) token i)) }
+{
+    match column {
+        Column::Num8 => push_digits(out, 2, view.num(token, i)),
+        Column::Num16 => push_digits(out, 4, view.num(token, i)),
+        Column::Num32 => push_digits(out, 8, view.num(token, i)),
+        Column::Text => push_quoted(out, view.text(token, i)),
+        Column::Guid => push_guid(out, view.guid(token, i)),
+        Column::Blob => push_blob(alloc, out, view.blob(token, i)),
+        Column::Index(_) | Column::Coded(_) => push_token(out, view.refer(token, i)),
+        Column::Run(_) => unreachable!(),
+    }
+}
+
+/// Appends ` NAME=` and the value of a cell.
+fn push_equation<V: ModuleView>(
+    alloc: Global,
+    view: &V,
+    token: Token,
+    i: u8,
+    column: Column,
+    out: &mut Vec<u8>,
+) -> Result<(), AllocError>
+    requires row { IsTrue (has_row (V.meaning view.now) token) }
+    requires column { column_in token.table i ≡ Some column }
+    requires cell { (table : ℕ) → column ≢ Column.Run table }
+    ensures { OnOk result (out.new.items ≡ out.old.items ++ equation column (unwrap_or (column_name_in token.table i) []) (cell_of (V.meaning view.now) token i)) }
+{
+    push_str(out, " ")?;
+    push_str(out, column_name(token.table, i).unwrap_or(""))?;
+    push_str(out, "=")?;
+    push_value(alloc, view, token, i, column, out)
+}
+
+/// Appends a column, where it isn't a run.
+#[tactic(auto, unfolding(crate::specs::RowText::cell_text))]
+fn push_cell<V: ModuleView>(
+    alloc: Global,
+    view: &V,
+    token: Token,
+    i: u8,
+    out: &mut Vec<u8>,
+) -> Result<(), AllocError>
+    requires { IsTrue (has_row (V.meaning view.now) token) }
+    ensures { OnOk result (out.new.items ≡ out.old.items ++ cell_text (V.meaning view.now) token i) }
+{
+    match column_of(token.table, i) {
+        None | Some(Column::Run(_)) => Ok(()),
+        Some(column) => push_equation(alloc, view, token, i, column, out),
+    }
+}
+
+/// Appends all columns.
+#[tactic(auto, using(crate::proofs::Joined::joined_none, crate::proofs::Joined::joined_more))]
+fn push_cells<V: ModuleView>(
+    alloc: Global,
+    view: &V,
+    token: Token,
+    out: &mut Vec<u8>,
+) -> Result<(), AllocError>
+    requires { IsTrue (has_row (V.meaning view.now) token) }
+    ensures { OnOk result (out.new.items ≡ out.old.items ++ joined_below (cell_text (V.meaning view.now) token) (length (columns_in token.table))) }
+{
+    for i in 0..columns_of(token.table).len() {
+        push_cell(alloc, view, token, i as u8, out)?;
+    }
+    Ok(())
+}
+
+#[tactic(auto, unfolding(crate::specs::RowText::place_text))]
+fn push_row_place(alloc: Global, place: RowPlace, out: &mut Vec<u8>) -> Result<(), AllocError>
+    ensures { OnOk result (out.new.items ≡ out.old.items ++ place_text place) }
+{
+    push_str(out, " @")?;
+    push_decimal(alloc, out, place.generation)?;
+    push_str(out, ".")?;
+    push_decimal(alloc, out, place.row)
+}
+
+/// Appends the row of a token, which stands at the place: its token, its table's name, each column
+/// with its value, and ` @G.R`. After want of memory what stands behind the old bytes is free.
+#[tactic(auto, unfolding(crate::specs::RowText::row_text_of))]
+pub fn row_text<V: ModuleView>(
+    alloc: Global,
+    view: &V,
+    place: RowPlace,
+    token: Token,
+    out: &mut Vec<u8>,
+) -> Result<(), AllocError>
+    requires { IsTrue (has_row (V.meaning view.now) token) }
+    ensures { OnOk result (out.new.items ≡ out.old.items ++ row_text_of (V.meaning view.now) place token) }
+{
+    push_token(out, token)?;
+    push_str(out, " ")?;
+    push_str(out, table_name(token.table).unwrap_or(""))?;
+    push_cells(alloc, view, token, out)?;
+    push_row_place(alloc, place, out)?;
+    push_str(out, "\n")
+}
