@@ -9,7 +9,8 @@ use Rattle.enc_schema.specs.Schema.{columns_in, column_in}
 use Rattle.enc_rows.specs.Layout.{rows_of}
 use Rattle.enc_image.specs.declared.judge.Rule.{Rule}
 use Rattle.enc_image.specs.declared.judge.Rule.TheVariants as rule
-use Rattle.enc_image.specs.Base.{Source, cell_for, raw_in, asks, cell_fault, row_token, row_fault, table_fault, first_fault, cells_fault}
+use Rattle.enc_image.specs.Base.{cell_for, asks, cell_fault, row_token, row_fault, table_fault, first_fault, cells_fault}
+use Rattle.enc_rows.specs.Source.{Source, raw_in}
 
 -- no answer below n, none at any place below
 pub silent : {A : Type 0} (rule : ℕ → Option A) (n k : ℕ) → first_below rule n ≡ None → k < n → rule k ≡ None

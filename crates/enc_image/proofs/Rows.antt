@@ -12,14 +12,16 @@ use Rattle.enc_rows.specs.Layout as rows
 use Rattle.enc_meta.specs.Heaps.{Counted}
 use Rattle.enc_schema.specs.declared.column.Coding.{Coding}
 use Rattle.enc_schema.specs.Coding.{decoded}
-use Rattle.enc_plain.specs.Cell.{Cell, Kind, number, text, blob, guid, refer, numbers, texts, blobs, guids, kind_of, kind_in}
+use Rattle.enc_plain.specs.Cell.{Cell, Kind, number, text, blob, guid, refer, numbers, texts, blobs, guids, kind_of, kind_in, cell_count}
 use Rattle.enc_plain.specs.Module.{rows_in, row_of, has_row, cell_of}
 use Rattle.enc_image.specs.declared.judge.Rule.{Rule}
 use Rattle.enc_image.specs.declared.judge.Rule.TheVariants as rule
 use Rattle.enc_meta.specs.Heaps.{text_at, blob_at, guid_at}
 use Rattle.enc_schema.specs.declared.column.Column.TheVariants.{Num8, Num16, Num32, Text, Guid, Blob, Index, Coded, Run}
 use Rattle.enc_image.proofs.Good.{good_cell, no_index_fault, no_offset_fault}
-use Rattle.enc_image.specs.Base.{Source, within, index_token, cell_for, raw_in, asks, first_fault, cells_fault, cell_in, row_token, is_part, cell_count, row_in, table_rows, module_in}
+use Rattle.enc_image.specs.Base.{cell_for, asks, first_fault, cells_fault, cell_in, row_token, is_part, row_in, table_rows, module_in}
+use Rattle.enc_rows.specs.Source.{Source, raw_in}
+use Rattle.enc_plain.specs.Reading.{within, index_token, cell_read}
 use Rattle.enc_image.proofs.Listed.{get_below, get_past, length_below}
 
 -- the rows of a table below 2D
@@ -194,21 +196,21 @@ made s token i c which f None none there column kind speaks is =
 
 -- a cell of each kind: the entry is there, and the module has the cell with it
 pub text_cell : (s : Source) (token : Token) (i n : ℕ) → cells_fault s ≡ None → IsTrue (has_row (module_in s) token) → kind_in token.table i ≡ Some texts → raw_in s token i ≡ n → MatchOption (text_at s.heaps.strings n) ⊥ (λ a. cell_of (module_in s) token i ≡ Some (text a))
-unfolding cell_for
+unfolding cell_read
 text_cell s token i n sound there kind is =
     let w = column_with _ _ kind in
     let e = w.1 ∙ ap (λ c. Some c) (text_column w.0 w.2) in
     made s token i Text rule.Offset text _ (no_offset_fault s sound) there e refl refl (rw is refl)
 
 pub blob_cell : (s : Source) (token : Token) (i n : ℕ) → cells_fault s ≡ None → IsTrue (has_row (module_in s) token) → kind_in token.table i ≡ Some blobs → raw_in s token i ≡ n → MatchOption (blob_at s.heaps.blobs n) ⊥ (λ a. cell_of (module_in s) token i ≡ Some (blob a))
-unfolding cell_for
+unfolding cell_read
 blob_cell s token i n sound there kind is =
     let w = column_with _ _ kind in
     let e = w.1 ∙ ap (λ c. Some c) (blob_column w.0 w.2) in
     made s token i Blob rule.Offset blob _ (no_offset_fault s sound) there e refl refl (rw is refl)
 
 pub guid_cell : (s : Source) (token : Token) (i n : ℕ) → cells_fault s ≡ None → IsTrue (has_row (module_in s) token) → kind_in token.table i ≡ Some guids → raw_in s token i ≡ n → MatchOption (guid_at s.heaps.guids n) ⊥ (λ a. cell_of (module_in s) token i ≡ Some (guid a))
-unfolding cell_for
+unfolding cell_read
 guid_cell s token i n sound there kind is =
     let w = column_with _ _ kind in
     let e = w.1 ∙ ap (λ c. Some c) (guid_column w.0 w.2) in
@@ -218,25 +220,25 @@ within_from : (b : Bool) (t : Token) (P : Token → Type 0) → MatchOption (if 
 within_from true t P h = h
 within_from false t P h = absurd h
 
-within_is : (l : Layout) (t : Token) (P : Token → Type 0) → MatchOption (within l t) ⊥ P → P t
+within_is : (l : Layout) (t : Token) (P : Token → Type 0) → MatchOption (within (rows_of l) t) ⊥ P → P t
 within_is l t P h = within_from (nat_le t.row (rows_of l t.table)) t P h
 
 pub index_cell : (s : Source) (token : Token) (i n table : ℕ) → cells_fault s ≡ None → IsTrue (has_row (module_in s) token) → column_in token.table i ≡ Some (Index table) → raw_in s token i ≡ n → cell_of (module_in s) token i ≡ Some (refer (index_token table n))
-unfolding cell_for
+unfolding cell_read
 index_cell s token i n table sound there column is =
     within_is s.layout (index_token table n) (λ t. cell_of (module_in s) token i ≡ Some (refer t)) (made s token i (Index table) rule.Index refer _ (no_index_fault s sound) there column refl refl (rw is refl))
 
-coded_is : (l : Layout) (o : Option Token) (P : Token → Type 0) → MatchOption (option_and_then (within l) o) ⊥ P → MatchOption o ⊥ P
+coded_is : (l : Layout) (o : Option Token) (P : Token → Type 0) → MatchOption (option_and_then (within (rows_of l)) o) ⊥ P → MatchOption o ⊥ P
 coded_is l (Some t) P h = within_is l t P h
 coded_is l None P h = h
 
 pub coded_cell : (s : Source) (token : Token) (i n : ℕ) (kind : Coding) → cells_fault s ≡ None → IsTrue (has_row (module_in s) token) → column_in token.table i ≡ Some (Coded kind) → raw_in s token i ≡ n → MatchOption (decoded kind n) ⊥ (λ t. cell_of (module_in s) token i ≡ Some (refer t))
-unfolding cell_for
+unfolding cell_read
 coded_cell s token i n kind sound there column is =
-    coded_is s.layout (decoded kind n) (λ t. cell_of (module_in s) token i ≡ Some (refer t)) (made s token i (Coded kind) rule.Index refer (option_and_then (within s.layout) (decoded kind n)) (no_index_fault s sound) there column refl refl (rw is refl))
+    coded_is s.layout (decoded kind n) (λ t. cell_of (module_in s) token i ≡ Some (refer t)) (made s token i (Coded kind) rule.Index refer (option_and_then (within (rows_of s.layout)) (decoded kind n)) (no_index_fault s sound) there column refl refl (rw is refl))
 
 number_for : (l : Layout) (h : Counted) (c : Column) (n : ℕ) → kind_of c ≡ Some numbers → cell_for l h c n ≡ Some (number n)
-unfolding cell_for
+unfolding cell_read
 number_for l h Num8 n e = refl
 number_for l h Num16 n e = refl
 number_for l h Num32 n e = refl

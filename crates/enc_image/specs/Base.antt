@@ -4,7 +4,6 @@ use Rattle.std.specs.List.{list_any, list_all, starts_with}
 use Rattle.std.specs.Int.{w64}
 use Rattle.enc_base.specs.Numbers.{number_at}
 use Rattle.enc_base.specs.Order.{or_else, first_below}
-use Rattle.enc_base.specs.Token.{nil}
 use Rattle.enc_base.specs.declared.token.Token.{Token}
 use Rattle.enc_base.specs.declared.refusal.Refusal.{Refusal}
 use Rattle.enc_base.specs.declared.refusal.Code.TheVariants.{F, U}
@@ -15,45 +14,23 @@ use Rattle.enc_meta.specs.Heaps.{Counted, heaps_of, part, text_at, blob_at, guid
 use Rattle.enc_schema.specs.declared.column.Column.{Column}
 use Rattle.enc_schema.specs.declared.column.Column.TheVariants.{Num8, Num16, Num32, Text, Guid, Blob, Index, Coded, Run}
 use Rattle.enc_schema.specs.Schema.{columns_in, column_in}
-use Rattle.enc_schema.specs.Coding.{decoded}
 use Rattle.enc_rows.specs.Sums.{below}
-use Rattle.enc_rows.specs.Layout.{Layout, tables_of, rows_of, raw_cell, has_table}
+use Rattle.enc_rows.specs.Layout.{Layout, tables_of, rows_of, has_table}
+use Rattle.enc_rows.specs.Source.{Source, raw_in}
 use Rattle.enc_rows.specs.declared.form.Form.TheVariants as form
 use Rattle.enc_image.specs.declared.judge.Rule.{Rule}
 use Rattle.enc_image.specs.declared.judge.Rule.TheVariants as rule
-use Rattle.enc_plain.specs.Cell.{Cell, number, text, blob, guid, refer, kind_of}
+use Rattle.enc_plain.specs.Cell.{Cell, number, cell_count}
+use Rattle.enc_plain.specs.Reading.{Reading, cell_read}
 use Rattle.enc_plain.specs.Module.{Module, Row}
 
--- what a module's file says by its parts: the table stream, its layout, and the heaps
-pub record Source : Type 0 where
-  pub stream : List ℕ
-  pub layout : Layout
-  pub heaps : Counted
+-- by what the numbers of a file are read: its heaps, and its own counts of rows
+abbrev pub reading_of : Layout → Counted → Reading
+reading_of l h = record { text = text_at h.strings; blob = blob_at h.blobs; guid = guid_at h.guids; count = rows_of l }
 
--- the token, where it is nil or one of the module's rows
-abbrev pub within : Layout → Token → Option Token
-within l token = if nat_le token.row (rows_of l token.table) then Some token else None
-
--- row 0 of a table is nil
-abbrev pub index_token : ℕ → ℕ → Token
-index_token table zero = nil
-index_token table (suc r) = record { table = table; row = suc r }
-
--- the cell that a column's number stands for: None where an offset isn't good, where an index is past its table or has a tag of no table, and for a run, which has no cell
-unfoldable pub cell_for : Layout → Counted → Column → ℕ → Option Cell
-cell_for l h Num8 n = Some (number n)
-cell_for l h Num16 n = Some (number n)
-cell_for l h Num32 n = Some (number n)
-cell_for l h Text n = option_map text (text_at h.strings n)
-cell_for l h Guid n = option_map guid (guid_at h.guids n)
-cell_for l h Blob n = option_map blob (blob_at h.blobs n)
-cell_for l h (Index table) n = option_map refer (within l (index_token table n))
-cell_for l h (Coded kind) n = option_map refer (option_and_then (within l) (decoded kind n))
-cell_for l h (Run table) n = None
-
--- the number in a cell
-abbrev pub raw_in : Source → Token → ℕ → ℕ
-raw_in s token i = unwrap_or (raw_cell s.stream s.layout token i) 0
+-- the cell that a column's number stands for, None where it isn't good
+abbrev pub cell_for : Layout → Counted → Column → ℕ → Option Cell
+cell_for l h c n = cell_read (reading_of l h) c n
 
 -- the cell in a column of a row
 unfoldable pub cell_in : Source → Token → ℕ → Option Cell
@@ -97,10 +74,6 @@ first_fault s rule = first_below (table_fault s rule) 0x2D
 -- the tables that are no part of a module: the Ptr tables, EncLog and EncMap
 abbrev pub is_part : ℕ → Bool
 is_part table = not (list_any (λ t. t == table) (0x03 ∷ 0x05 ∷ 0x07 ∷ 0x13 ∷ 0x16 ∷ 0x1E ∷ 0x1F ∷ []))
-
--- how many columns of a table have cells; runs stand behind them
-abbrev pub cell_count : ℕ → ℕ
-cell_count table = length (filter (λ (c : Column). is_some (kind_of c)) (columns_in table))
 
 -- the row with its cells
 abbrev pub row_in : Source → ℕ → ℕ → Row

@@ -9,7 +9,8 @@ use Rattle.enc_rows.specs.Layout.{IsWithin}
 use Rattle.enc_plain.specs.Module.{Module}
 use Rattle.enc_image.specs.declared.judge.Cells.{Cells}
 use Rattle.enc_image.specs.declared.bare.Opened.{Opened}
-use Rattle.enc_image.specs.Base.{Source, source_from, cells_fault, module_in}
+use Rattle.enc_image.specs.Base.{source_from, cells_fault, module_in}
+use Rattle.enc_rows.specs.Source.{Source}
 
 abbrev pub source_seen : Cells → Source
 source_seen c = record { stream = part c.bytes.now c.tables.now.span; layout = c.tables.now; heaps = c.heaps }

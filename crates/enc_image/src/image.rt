@@ -20,7 +20,8 @@ pub struct Image {
 }
 
 impl Model for Image {
-    ghost use Rattle.enc_image.specs.Base.{Source, source_from};
+    ghost use Rattle.enc_image.specs.Base.{source_from};
+    ghost use Rattle.enc_rows.specs.Source.{Source};
     ghost use Rattle.enc_image.specs.Seen.{IsImage};
 
     ghost Value = { Source };

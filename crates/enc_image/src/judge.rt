@@ -4,7 +4,9 @@ ghost use Rattle.enc_base.specs.Order.{or_else, first_below};
 ghost use Rattle.enc_meta.specs.Heaps.{part};
 ghost use Rattle.enc_schema.specs.Schema.{columns_in, column_in};
 ghost use Rattle.enc_rows.specs.Layout.{IsWithin, has_row, rows_of};
-ghost use Rattle.enc_image.specs.Base.{Source, within, index_token, cell_for, asks, number_of, cell_fault, row_token, row_fault, table_fault, first_fault, cells_fault, source_with};
+ghost use Rattle.enc_image.specs.Base.{cell_for, asks, number_of, cell_fault, row_token, row_fault, table_fault, first_fault, cells_fault, source_with};
+ghost use Rattle.enc_rows.specs.Source.{Source};
+ghost use Rattle.enc_plain.specs.Reading.{within, index_token};
 ghost use Rattle.enc_image.specs.Seen.{source_seen};
 
 use enc_base::{Code, Place, Refusal, Token};
@@ -44,13 +46,13 @@ impl Rule {
 
 /// The token is nil or one of the rows.
 fn is_within(tables: &Tables, token: Token) -> bool
-    ensures { result ≡ is_some (within tables.now token) }
+    ensures { result ≡ is_some (within (rows_of tables.now) token) }
 {
     token.row <= tables.count(token.table)
 }
 
 /// A number of this column stands for a cell.
-#[tactic(auto, unfolding(crate::specs::Base::cell_for))]
+#[tactic(auto, unfolding(enc_plain::specs::Reading::cell_read))]
 fn is_good(tables: &Tables, heaps: &Heaps<'_>, column: Column, number: u32) -> bool
     ensures { result ≡ is_some (cell_for tables.now heaps.now column number) }
 {

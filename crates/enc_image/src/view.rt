@@ -2,7 +2,9 @@
 ghost use Rattle.std.specs.Prelude.{◌≡◌, ◌&&◌, Some, None, IsTrue, IsSome, nat_lt};
 ghost use Rattle.enc_schema.specs.Schema.{column_in};
 ghost use Rattle.enc_plain.specs.Module.{Module, rows_in, has_row, cell_of};
-ghost use Rattle.enc_image.specs.Base.{is_part, index_token, raw_in, cells_fault, module_in};
+ghost use Rattle.enc_image.specs.Base.{is_part, cells_fault, module_in};
+ghost use Rattle.enc_plain.specs.Reading.{index_token};
+ghost use Rattle.enc_rows.specs.Source.{raw_in};
 
 use crate::image::Image;
 use enc_base::Token;

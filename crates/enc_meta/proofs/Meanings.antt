@@ -3,7 +3,7 @@ use Rattle.std.proofs.Common.{◌≡◌, ℕ, zero, suc, ◌+◌, ◌<◌, Bool,
 use Rattle.std.specs.Prelude.{◌==◌, option_map, Contains}
 use Rattle.std.proofs.lemmas.Bool.Decides.{nat_tests}
 use Rattle.enc_meta.specs.Root.{padded, before_zero, root_of, root_in, streams, version_len, headers, header_at, name_at, known, stands, fault_of, fault_at, stream_fault, has_one_table_stream, span_of, root_with, root_or_fault}
-use Rattle.enc_meta.specs.Heaps.{text_at, heaps_of, part, counted_strings}
+use Rattle.enc_meta.specs.Heaps.{text_entry, text_at, heaps_of, part, counted_strings}
 use Rattle.enc_meta.specs.Example.{ExampleReads, ExampleCounts}
 use Rattle.enc_meta.specs.Laws.{PaddedIsLeast, TextStands}
 use Rattle.enc_base.specs.Order.{first_below}
@@ -42,7 +42,7 @@ before_zero_stands [] = tt
 before_zero_stands (b ∷ rest) = begins b rest (b == 0) (before_zero rest) refl (before_zero_stands rest)
 
 pub text_stands : TextStands
-unfolding text_at
+unfolding text_at text_entry
 text_stands heap offset some =
     let e : offset == 0 ≡ false = grind (arith, nat_tests) in
     rw e (before_zero_stands (drop offset heap))

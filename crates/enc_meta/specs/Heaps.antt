@@ -40,9 +40,13 @@ pub record AreAtMost (size : ℕ) (heaps : Counted) : Type 0 where
 abbrev pub lengths_of : Counted → HeapLengths
 lengths_of heaps = record { strings = length heaps.strings; users = length heaps.users; blobs = length heaps.blobs; guids = length heaps.guids / 16 }
 
--- the text at an offset, without its zero: offset 0 is the empty one, else it begins and ends in the heap (II.24.2.3)
+-- the text that begins at an offset, without its zero (II.24.2.3)
+unfoldable pub text_entry : List ℕ → ℕ → Option (List ℕ)
+text_entry heap offset = before_zero (drop offset heap)
+
+-- the text at an offset: offset 0 is the empty one
 unfoldable pub text_at : List ℕ → ℕ → Option (List ℕ)
-text_at heap offset = if offset == 0 then Some [] else before_zero (drop offset heap)
+text_at heap offset = if offset == 0 then Some [] else text_entry heap offset
 
 -- the bytes at an offset behind their compressed length (II.24.2.4)
 unfoldable pub bytes_at : List ℕ → ℕ → Option (List ℕ)
@@ -58,8 +62,11 @@ unfoldable pub units_in : List ℕ → Option (List ℕ)
 units_in [] = Some []
 units_in (b ∷ rest) = if length rest % 2 == 0 then Some (take (length rest) (b ∷ rest)) else None
 
+unfoldable pub user_entry : List ℕ → ℕ → Option (List ℕ)
+user_entry heap offset = option_and_then units_in (bytes_at heap offset)
+
 unfoldable pub user_at : List ℕ → ℕ → Option (List ℕ)
-user_at heap offset = if offset == 0 then Some [] else option_and_then units_in (bytes_at heap offset)
+user_at heap offset = if offset == 0 then Some [] else user_entry heap offset
 
 -- the sixteen bytes behind so many sixteens
 unfoldable pub sixteen_at : List ℕ → ℕ → Option (List ℕ)

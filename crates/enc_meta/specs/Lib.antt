@@ -2,3 +2,4 @@ pub mod Root
 pub mod Heaps
 pub mod Example
 pub mod Laws
+pub mod Joined

@@ -2,7 +2,7 @@
 ghost use Rattle.std.specs.Prelude.{◌≡◌, ℕ, ◌+◌, ◌*◌, ◌/◌, ◌<◌, ◌≤◌, ◌^◌, length, Ok};
 ghost use Rattle.std.specs.Option.{option_copied};
 ghost use Rattle.enc_meta.specs.Root.{root_of, IsWithin};
-ghost use Rattle.enc_meta.specs.Heaps.{lengths_of, heaps_of, part, AreAtMost, text_at, blob_at, user_at, guid_at};
+ghost use Rattle.enc_meta.specs.Heaps.{lengths_of, heaps_of, part, AreAtMost, text_entry, bytes_at, user_entry, text_at, blob_at, user_at, guid_at};
 
 use crate::entry::{before_zero, bytes_at, counted_strings, sixteen_at, units_in};
 use crate::root::Root;
@@ -82,6 +82,14 @@ impl<'a> Heaps<'a> {
         if offset == 0 {
             return Some(&[]);
         }
+        self.text_entry(offset)
+    }
+
+    /// The text that begins at an offset of `#Strings`, also at offset 0 as it stands there.
+    #[tactic(auto, unfolding(crate::specs::Heaps::text_entry))]
+    pub fn text_entry(&self, offset: u32) -> Option<&'a [u8]>
+        ensures { option_copied result ≡ text_entry self.now.strings offset }
+    {
         before_zero(self.strings.get(offset as usize..)?)
     }
 
@@ -94,6 +102,13 @@ impl<'a> Heaps<'a> {
         if offset == 0 {
             return Some(&[]);
         }
+        self.blob_entry(offset)
+    }
+
+    /// The bytes that begin at an offset of `#Blob`, also at offset 0 as they stand there.
+    pub fn blob_entry(&self, offset: u32) -> Option<&'a [u8]>
+        ensures { option_copied result ≡ bytes_at self.now.blobs offset }
+    {
         bytes_at(self.blobs, offset as usize)
     }
 
@@ -106,6 +121,14 @@ impl<'a> Heaps<'a> {
         if offset == 0 {
             return Some(&[]);
         }
+        self.user_entry(offset)
+    }
+
+    /// The units that begin at an offset of `#US`, also at offset 0 as they stand there.
+    #[tactic(auto, unfolding(crate::specs::Heaps::user_entry))]
+    pub fn user_entry(&self, offset: u32) -> Option<&'a [u8]>
+        ensures { option_copied result ≡ user_entry self.now.users offset }
+    {
         units_in(bytes_at(self.users, offset as usize)?)
     }
 

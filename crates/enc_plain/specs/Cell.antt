@@ -1,9 +1,9 @@
 -- The cell of a row: what stands in a column, without heaps, offsets or widths.
-use Rattle.std.specs.Prelude.{ℕ, List, Option, Some, None, option_and_then}
+use Rattle.std.specs.Prelude.{ℕ, List, Option, Some, None, option_and_then, length, filter, is_some}
 use Rattle.enc_base.specs.declared.token.Token.{Token}
 use Rattle.enc_schema.specs.declared.column.Column.{Column}
 use Rattle.enc_schema.specs.declared.column.Column.TheVariants.{Num8, Num16, Num32, Text, Guid, Blob, Index, Coded, Run}
-use Rattle.enc_schema.specs.Schema.{column_in}
+use Rattle.enc_schema.specs.Schema.{columns_in, column_in}
 
 -- a number; the bytes of a text, of a blob, of a GUID; a token, where nil names nothing (ECMA-335 II.22)
 pub data Cell : Type 0 where
@@ -36,3 +36,7 @@ kind_of (Run table) = None
 -- the kind of cells in a table's column
 abbrev pub kind_in : ℕ → ℕ → Option Kind
 kind_in table i = option_and_then kind_of (column_in table i)
+
+-- how many columns of a table have cells; runs stand behind them
+abbrev pub cell_count : ℕ → ℕ
+cell_count table = length (filter (λ (c : Column). is_some (kind_of c)) (columns_in table))

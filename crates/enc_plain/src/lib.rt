@@ -1,6 +1,8 @@
-//! The plain module, and the trait of whatever means one.
+//! The plain module and the chain, and the traits of whatever means them.
 #![tactic(auto)]
 
+mod chain;
 mod view;
 
+pub use chain::ChainView;
 pub use view::{ModuleView, is_row};

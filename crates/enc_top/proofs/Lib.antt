@@ -2,3 +2,4 @@ pub mod Guids
 pub mod Joined
 pub mod Saves
 pub mod Served
+pub mod Shown

@@ -6,3 +6,4 @@ pub mod Verdict
 pub mod Ending
 pub mod Plans
 pub mod Answers
+pub mod Example

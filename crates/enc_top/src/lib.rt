@@ -4,6 +4,7 @@
 mod command;
 mod ending;
 mod finish;
+mod laws;
 mod place;
 mod plan;
 mod planning;
@@ -11,6 +12,7 @@ mod rows;
 mod run;
 mod text;
 
+pub use laws::example_row;
 pub use place::RowPlace;
 pub use rows::row_text;
 pub use run::run_tool;

@@ -1,0 +1,36 @@
+//! A view of a chain: the module after all deltas, and what their files' heaps hold together.
+ghost use Rattle.std.specs.Prelude.{◌≡◌, ◌+◌, ◌<◌, length, option_copied};
+ghost use Rattle.enc_meta.specs.Joined.{joined_text, joined_blob, joined_guid};
+ghost use Rattle.enc_plain.specs.Module.{Module};
+ghost use Rattle.enc_plain.specs.Chain.{Chain, id_of};
+
+use crate::view::ModuleView;
+
+/// Whatever means one chain: a base and the deltas applied to it. Generations count from 0, the
+/// base. No call takes memory.
+pub trait ChainView: ModuleView {
+    // The chain that is meant.
+    ghost chain: { Self → Chain };
+
+    /// The number of generations, the base among them.
+    fn generations(&self) -> u32
+        ensures count { result ≡ length (chain self.now).ids + 1 }
+        ensures heaps { result ≡ length (chain self.now).heaps };
+
+    /// The EncId of a generation, sixteen zeros for the base.
+    fn enc_id(&self, generation: u32) -> [u8; 16]
+        requires { generation < length (chain self.now).heaps }
+        ensures { result ≡ id_of (chain self.now) generation };
+
+    /// The text at an offset of the joined `#Strings`, None where the offset isn't good.
+    fn text_at(&self, offset: u32) -> Option<&[u8]>
+        ensures { option_copied result ≡ joined_text (chain self.now).heaps offset };
+
+    /// The bytes at an offset of the joined `#Blob`, None where the offset isn't good.
+    fn blob_at(&self, offset: u32) -> Option<&[u8]>
+        ensures { option_copied result ≡ joined_blob (chain self.now).heaps offset };
+
+    /// Entry k of the joined `#GUID`, from the first generation that has it; None where none has.
+    fn guid_at(&self, k: u32) -> Option<[u8; 16]>
+        ensures { result ≡ joined_guid (chain self.now).heaps k };
+}

@@ -1,0 +1,28 @@
+-- The example is read and printed by computing.
+use Rattle.std.proofs.Common.{◌≡◌, ℕ, List, Option, Some, None, Ok, Result, refl, sym, ap, ◌∙◌}
+use Rattle.std.specs.Prelude.{length}
+use Rattle.enc_base.specs.Order.{first_below}
+use Rattle.enc_meta.specs.Example.{example, example_root}
+use Rattle.enc_meta.proofs.Meanings.{example_reads}
+use Rattle.enc_meta.specs.Heaps.{part, heaps_of, counted_strings, text_entry, text_at, bytes_at, blob_at, sixteen_at}
+use Rattle.enc_meta.specs.Root.{root_of, root_in, root_or_fault, root_with, span_of, has_one_table_stream, fault_at, fault_of, stands, known, streams, version_len, headers, header_at, name_at, padded, stream_fault}
+use Rattle.enc_schema.specs.Schema.{columns_in}
+use Rattle.enc_schema.specs.Names.{names_in}
+use Rattle.enc_schema.specs.Coding.{tables_of, tag_bits, table_with, decoded}
+use Rattle.enc_schema.specs.Widths.{heap_width, index_width, coded_width, row_width, column_start}
+use Rattle.enc_rows.specs.Sums.{below, sum_below}
+use Rattle.enc_rows.specs.Layout.{tables_of as stream_tables}
+use Rattle.enc_rows.specs.Layout.{Layout, count_in, tables_below, width_count, rows_begin, table_start, form_allows, laid_out, whole_layout, layout_of, cell_place, raw_cell}
+use Rattle.enc_plain.specs.Module.{has_row, row_of, cell_of}
+use Rattle.enc_plain.specs.Reading.{cell_read}
+use Rattle.enc_image.specs.Base.{cell_in, cell_fault, row_fault, table_fault, first_fault, module_in, is_read_or_absent, has_unread, is_unread, no_counts, layout_for, source_of, cells_fault, base_of, source_from}
+use Rattle.enc_top.specs.Text.{digits, token_text, quoted, bracketed, guid_text, absent_line}
+use Rattle.enc_top.specs.RowText.{joined_below, cell_text, place_text, row_text_of}
+use Rattle.enc_top.specs.Verdict.{row_or_absent, shown}
+use Rattle.enc_top.specs.Example.{ExampleIsShown}
+use Rattle.hex.specs.Hex.{encode_with}
+use Rattle.std.specs.Fmt.{digits as decimal_digits}
+
+pub example_shown : ExampleIsShown
+unfolding shown decimal_digits stream_tables base_of source_of root_of root_in root_or_fault root_with span_of has_one_table_stream fault_at fault_of stands known streams version_len headers header_at name_at padded stream_fault layout_for is_unread has_unread is_read_or_absent no_counts part heaps_of counted_strings text_entry text_at bytes_at blob_at sixteen_at columns_in names_in tables_of tag_bits table_with decoded heap_width index_width coded_width row_width column_start below sum_below count_in tables_below width_count rows_begin table_start form_allows laid_out whole_layout layout_of cell_place raw_cell has_row row_of cell_of cell_read cell_in cell_fault row_fault table_fault first_fault module_in cells_fault digits token_text quoted bracketed guid_text absent_line joined_below cell_text place_text row_text_of row_or_absent encode_with first_below
+example_shown = refl
