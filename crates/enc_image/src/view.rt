@@ -41,7 +41,8 @@ impl Image {
         self.tables.cell(&self.bytes, row, column)
     }
 
-    fn heaps(&self) -> Heaps<'_>
+    /// The heaps by the bytes that count.
+    pub fn heaps(&self) -> Heaps<'_>
         ensures { result ≡ self.now.heaps }
     {
         Heaps::of(&self.bytes, &self.root)

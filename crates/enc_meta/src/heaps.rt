@@ -73,6 +73,34 @@ impl<'a> Heaps<'a> {
         }
     }
 
+    /// The bytes of `#Strings` that count.
+    pub fn strings(&self) -> &'a [u8]
+        ensures { result.now ≡ self.now.strings }
+    {
+        self.strings
+    }
+
+    /// The bytes of `#US`.
+    pub fn users(&self) -> &'a [u8]
+        ensures { result.now ≡ self.now.users }
+    {
+        self.users
+    }
+
+    /// The bytes of `#Blob`.
+    pub fn blobs(&self) -> &'a [u8]
+        ensures { result.now ≡ self.now.blobs }
+    {
+        self.blobs
+    }
+
+    /// The bytes of `#GUID`.
+    pub fn guids(&self) -> &'a [u8]
+        ensures { result.now ≡ self.now.guids }
+    {
+        self.guids
+    }
+
     /// The text at an offset of `#Strings`, without its zero: empty at offset 0, None where no zero
     /// follows in the bytes that count.
     #[tactic(auto, unfolding(crate::specs::Heaps::text_at))]

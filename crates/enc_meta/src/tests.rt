@@ -122,6 +122,19 @@ fn counts_strings(rt: HostRuntime) -> Result<(), Fail> {
 }
 
 #[test]
+fn passes_over_a_remainder_of_guids(rt: HostRuntime) -> Result<(), Fail> {
+    // `#GUID` one byte shorter than an entry
+    let mut bytes = EXAMPLE;
+    bytes[68] = 15;
+    let root = read_root(&bytes)?;
+    let heaps = Heaps::of(&bytes, &root);
+    assert_eq!(rt; heaps.guid(0), Some([0; 16]));
+    assert_eq!(rt; heaps.guid(1), None);
+    assert_eq!(rt; lengths_in(&bytes).map(|x| x.guids), Some(0));
+    Ok(())
+}
+
+#[test]
 fn reads_user_texts(rt: HostRuntime) -> Result<(), Fail> {
     // `#US` in place of `#GUID`, with a text of three bytes and one of two
     let mut bytes = EXAMPLE;

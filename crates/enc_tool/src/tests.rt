@@ -17,9 +17,30 @@ const M_DLL: &str = concat!(
     "8899aabbccddeeff",
 );
 
-/// A run over one file `m.dll`: the module above, cut to so many bytes, with some of them replaced.
+/// The same rows with all heap bits set, `#JTD`, and four bytes more behind the counts.
+const WIDE_DLL: &str = concat!(
+    "42534a4201000100000000000c00000076342e302e3330333139000000000400",
+    "6000000064000000232d0000c40000002000000023537472696e677300000000",
+    "e4000000100000002347554944000000f400000000000000234a544400000000",
+    "0000000002004701030000000800000000000000000000000100000001000000",
+    "01000000aabbccdd000001000000010000000000000000000000060000000e00",
+    "0000070000000400000000000000000000000000000015000000000000000000",
+    "00000000006d2e646c6c0053797374656d004f626a656374006d73636f726c69",
+    "6200000000112233445566778899aabbccddeeff",
+);
+
+/// A word of 201 characters: one more than a name may have.
+const LONG: &str = concat!(
+    "aaaaaaaaaaaaaaaaaaaaaaaaaaaaaaaaaaaaaaaaaaaaaaaaaaaaaaaaaaaaaaaaaaaaaa",
+    "aaaaaaaaaaaaaaaaaaaaaaaaaaaaaaaaaaaaaaaaaaaaaaaaaaaaaaaaaaaaaaaaaaaaaa",
+    "aaaaaaaaaaaaaaaaaaaaaaaaaaaaaaaaaaaaaaaaaaaaaaaaaaaaaaaaaaaa",
+    "a",
+);
+
+/// A run over one file `m.dll`: the file, cut to so many bytes, with some of them replaced.
 #[derive(Drop)]
 struct Case<'a> {
+    file: &'a str,
     cut: usize,
     at: usize,
     put: &'a str,
@@ -42,6 +63,7 @@ fn changed<'a>(
     output: &'a str,
 ) -> Case<'a> {
     Case {
+        file: M_DLL,
         cut,
         at,
         put,
@@ -53,7 +75,7 @@ fn changed<'a>(
 
 /// The bytes with some of them replaced, and cut.
 fn edited(alloc: Global, case: &Case<'_>) -> Result<Vec<u8>, Fail> {
-    let all = hex::decode(alloc, M_DLL)?;
+    let all = hex::decode(alloc, case.file)?;
     let put = hex::decode(alloc, case.put)?;
     let mut bytes = Vec::new(alloc);
     for (i, b) in all.iter().enumerate() {
@@ -78,16 +100,28 @@ fn texts(alloc: Global, words: &[&str]) -> Result<Vec<String>, AllocError> {
     Ok(all)
 }
 
-fn holds(rt: &(impl Abort + AllocGlobal), case: &Case<'_>) -> Result<(), Fail> {
+/// The words over one file `m.dll` with these bytes print the text and have the status.
+fn answers(
+    rt: &(impl Abort + AllocGlobal),
+    bytes: &[u8],
+    words: &[&str],
+    status: u8,
+    output: &str,
+) -> Result<(), Fail> {
     let alloc = rt.alloc();
     let mut store = MemStore::begin(alloc);
-    store.set_file("m.dll", edited(alloc, case)?.as_slice())?;
+    store.set_file("m.dll", bytes)?;
     let mut sink = MemSink::begin(alloc);
-    let words = texts(alloc, case.words)?;
-    let status = run_tool(alloc, &words, &mut store, &mut sink);
-    assert_eq!(rt; sink.bytes(), case.output.as_bytes());
-    assert_eq!(rt; status, case.status);
+    let words = texts(alloc, words)?;
+    let seen = run_tool(alloc, &words, &mut store, &mut sink);
+    assert_eq!(rt; sink.bytes(), output.as_bytes());
+    assert_eq!(rt; seen, status);
     Ok(())
+}
+
+fn holds(rt: &(impl Abort + AllocGlobal), case: &Case<'_>) -> Result<(), Fail> {
+    let bytes = edited(rt.alloc(), case)?;
+    answers(rt, bytes.as_slice(), case.words, case.status, case.output)
 }
 
 #[test]
@@ -107,6 +141,72 @@ fn shows_worked_rows_of_a_base(rt: HostRuntime) -> Result<(), Fail> {
         &rt,
         &changed(200, 168, "22655c80", &["show", "m", "01000001"], 0, renamed),
     )?;
+    Ok(())
+}
+
+#[test]
+fn reads_wide_columns(rt: HostRuntime) -> Result<(), Fail> {
+    let type_ref =
+        "01000001 TypeRef ResolutionScope=23000001 TypeName=\"Object\" TypeNamespace=\"System\" @0.1\n";
+    let assembly =
+        "23000001 AssemblyRef MajorVersion=0004 MinorVersion=0000 BuildNumber=0000 RevisionNumber=0000 Flags=00000000 PublicKeyOrToken=[] Name=\"mscorlib\" Culture=\"\" HashValue=[] @0.1\n";
+    for (token, output) in [("01000001", type_ref), ("23000001", assembly)] {
+        let words = ["show", "m", token];
+        let case = Case {
+            file: WIDE_DLL,
+            cut: 244,
+            at: 0,
+            put: "",
+            words: &words,
+            status: 0,
+            output,
+        };
+        holds(&rt, &case)?;
+    }
+    Ok(())
+}
+
+/// What a module of this length answers: the root has 80 bytes with its headers, the table stream
+/// ends at 152, `#Strings` at 184, `#GUID` at 200.
+fn answer_at(len: usize) -> (u8, &'static str) {
+    match len {
+        0..=3 => (1, "refused m.dll U3 headers\n"),
+        4..=79 => (1, "refused m.dll F1 root\n"),
+        80..=151 => (1, "refused m.dll F2 #~\n"),
+        152..=183 => (1, "refused m.dll F2 #Strings\n"),
+        184..=199 => (1, "refused m.dll F2 #GUID\n"),
+        _ => (0, "absent 01000002\n"),
+    }
+}
+
+#[test]
+fn cuts_at_every_length(rt: HostRuntime) -> Result<(), Fail> {
+    for len in 0..201 {
+        let (status, output) = answer_at(len);
+        holds(
+            &rt,
+            &changed(len, 0, "", &["show", "m", "01000002"], status, output),
+        )?;
+    }
+    Ok(())
+}
+
+#[test]
+fn cuts_the_table_stream_at_every_length(rt: HostRuntime) -> Result<(), Fail> {
+    let words = ["show", "m", "01000002"];
+    let mut bytes = hex::decode(rt.alloc(), M_DLL)?;
+    for len in 0..72u8 {
+        if let Some(size) = bytes.get_mut(36) {
+            *size = len;
+        }
+        answers(
+            &rt,
+            bytes.as_slice(),
+            words.as_slice(),
+            1,
+            "refused m.dll F6 tables\n",
+        )?;
+    }
     Ok(())
 }
 
@@ -166,7 +266,6 @@ fn names_the_first_refusal(rt: HostRuntime) -> Result<(), Fail> {
 #[test]
 fn tells_missing_files_and_wrong_words(rt: HostRuntime) -> Result<(), Fail> {
     let usage = "usage: enc show list check apply write run gen\n";
-    let long = "a".repeat(rt.alloc(), 201)?;
     holds(
         &rt,
         &whole(&["show", "n", "01000001"], 6, "missing n.dll\n"),
@@ -183,7 +282,7 @@ fn tells_missing_files_and_wrong_words(rt: HostRuntime) -> Result<(), Fail> {
     holds(&rt, &whole(&["show", "m", "1"], 2, usage))?;
     holds(&rt, &whole(&["show", "m", "0100000g"], 2, usage))?;
     holds(&rt, &whole(&["show", "", "01000001"], 2, usage))?;
-    holds(&rt, &whole(&["show", long.as_str(), "01000001"], 2, usage))?;
+    holds(&rt, &whole(&["show", LONG, "01000001"], 2, usage))?;
     holds(&rt, &whole(&["show", "a b", "01000001"], 2, usage))?;
     holds(&rt, &whole(&["Show", "m", "01000001"], 2, usage))?;
     holds(&rt, &whole(&["list", "m"], 2, usage))?;

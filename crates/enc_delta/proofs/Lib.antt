@@ -1,0 +1,12 @@
+pub mod Listed
+pub mod Joined
+pub mod Totals
+pub mod Counters
+pub mod Runs
+pub mod ListsLate
+pub mod ListsInserts
+pub mod ListsChanged
+pub mod ListsSets
+pub mod ListsLog
+pub mod ListsChildren
+pub mod Placing

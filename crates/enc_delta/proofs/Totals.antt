@@ -1,0 +1,44 @@
+-- What the heaps of a chain and a delta's have together.
+use Rattle.std.proofs.Common.{◌≡◌, ℕ, ◌+◌, ◌*◌, ◌/◌, length, map, List, [], ◌∷◌, ◌++◌, refl, ap, ◌∙◌, arith}
+use Rattle.std.specs.Prelude.{nat_lt, ◌||◌, ◌==◌, ◌^◌, not, max}
+use Rattle.std.proofs.lemmas.List.Sums.{sum_by-append}
+use Rattle.std.proofs.lemmas.Bool.Decides.{nat_tests}
+use Rattle.enc_meta.specs.Heaps.{Counted}
+use Rattle.enc_meta.specs.Joined.{joined_length}
+use Rattle.enc_plain.specs.Chain.{Chain}
+use Rattle.enc_rows.specs.Source.{Source}
+use Rattle.enc_delta.specs.declared.heap_rule.HeapTotals.{HeapTotals}
+use Rattle.enc_delta.specs.Rules.{last_byte, most, guid_entries, e5_strings, e5_users, e5_blobs, e5_guids}
+use Rattle.enc_delta.specs.Totals.{totals_of}
+
+list_more : (f : Counted → List ℕ) (xs : List Counted) (x : Counted) → map f (xs ++ x ∷ []) ≡ map f xs ++ f x ∷ []
+list_more f [] x = refl
+list_more f (y ∷ ys) x = ap (λ r. f y ∷ r) (list_more f ys x)
+
+pub length_more : (f : Counted → List ℕ) (xs : List Counted) (x : Counted) → joined_length (map f (xs ++ x ∷ [])) ≡ joined_length (map f xs) + length (f x)
+length_more f xs x =
+    let z : 0 + length (f x) ≡ length (f x) = omega arith in
+    rw (list_more f xs x) (sum_by-append (λ (h : List ℕ). length h) (map f xs) (f x ∷ []) ∙ ap (λ n. joined_length (map f xs) + n) z)
+
+most_more : (f : Counted → ℕ) (xs : List Counted) (x : Counted) → most (map f (xs ++ x ∷ [])) ≡ max (most (map f xs)) (f x)
+most_more f [] x = omega arith
+most_more f (y ∷ ys) x = rw (most_more f ys x) (omega arith)
+
+pub strings_after : (c : Chain) (s : Source) (t : HeapTotals) → t ≡ totals_of c.heaps → e5_strings c s ≡ (nat_lt (2 ^ 29) (t.strings + length s.heaps.strings) || not (last_byte s.heaps.strings == 0))
+unfolding e5_strings totals_of
+strings_after c s t e = rw (e, length_more (λ (h : Counted). h.strings) c.heaps s.heaps) refl
+
+pub users_after : (c : Chain) (s : Source) (t : HeapTotals) → t ≡ totals_of c.heaps → e5_users c s ≡ nat_lt (2 ^ 24) (t.users + length s.heaps.users)
+unfolding e5_users totals_of
+users_after c s t e = rw (e, length_more (λ (h : Counted). h.users) c.heaps s.heaps) refl
+
+pub blobs_after : (c : Chain) (s : Source) (t : HeapTotals) → t ≡ totals_of c.heaps → e5_blobs c s ≡ nat_lt (2 ^ 29) (t.blobs + length s.heaps.blobs)
+unfolding e5_blobs totals_of
+blobs_after c s t e = rw (e, length_more (λ (h : Counted). h.blobs) c.heaps s.heaps) refl
+
+limit_of : (b o : ℕ) → (nat_lt (2 ^ 29) (16 * max b o) || nat_lt o b) ≡ (nat_lt o b || nat_lt (2 ^ 29) (16 * o))
+limit_of b o = grind (arith, nat_tests)
+
+pub guids_after : (c : Chain) (s : Source) (t : HeapTotals) → t ≡ totals_of c.heaps → e5_guids c s ≡ (nat_lt (length s.heaps.guids / 16) t.guids || nat_lt (2 ^ 29) (16 * (length s.heaps.guids / 16)))
+unfolding e5_guids totals_of
+guids_after c s t e = rw (e, most_more (λ (h : Counted). length h.guids / 16) c.heaps s.heaps) (limit_of (guid_entries c.heaps) (length s.heaps.guids / 16))

@@ -1,0 +1,10 @@
+use Rattle.std.proofs.Common.{◌≡◌, map}
+use Rattle.std.specs.Prelude.{filter, not, nat_lt, IsTrue}
+use Rattle.std.specs.List.{list_all}
+use Rattle.enc_base.specs.declared.token.Token.{Token}
+use Rattle.enc_rows.specs.Sums.{below}
+use Rattle.enc_delta.specs.Delta.{token_at, is_module}
+use Rattle.enc_delta.proofs.copy.listed_of.Given as goal
+
+abbrev pub invariant-loop-i : goal.invariant-loop-i
+invariant-loop-i l = (l.tokens.items ≡ filter (λ t. not (is_module t)) (map (token_at l.delta) (below l.i))) × IsTrue (list_all (λ (t : Token). nat_lt t.row 0x1000000) l.tokens.items)

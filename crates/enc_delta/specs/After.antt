@@ -1,0 +1,28 @@
+-- By what the cells of a delta's rows are judged.
+use Rattle.std.specs.Prelude.{◌≡◌, ℕ, ◌<◌, Bool, List, [], ◌∷◌, true, ◌==◌, slice_index}
+use Rattle.enc_base.specs.declared.token.Token.{Token}
+use Rattle.enc_schema.specs.declared.column.Column.{Column}
+use Rattle.enc_plain.specs.Chain.{Chain}
+use Rattle.enc_rows.specs.Source.{Source}
+use Rattle.enc_delta.specs.declared.after.After.{After}
+use Rattle.enc_delta.specs.declared.after.Rule.{Rule}
+use Rattle.enc_delta.specs.declared.after.Rule.TheVariants as rule
+use Rattle.enc_delta.specs.Delta.{listed}
+use Rattle.enc_delta.specs.Rules.{inserts, is_index, is_offset}
+use Rattle.enc_delta.specs.Totals.{totals_of}
+
+-- what is known of a chain and a delta: the lengths before, the inserts by tables, and the delta's heaps
+pub record IsAfter (c : Chain) (s : Source) (a : After) : Type 0 where
+  pub totals : a.totals ≡ totals_of c.heaps
+  pub inserts : (t : ℕ) → t < 256 → slice_index a.inserts t ≡ inserts c (listed s) t
+  pub heaps : a.heaps ≡ s.heaps
+
+-- the columns of which a rule speaks
+abbrev pub speaks : Rule → Column → Bool
+speaks rule.Index = is_index
+speaks rule.Offset = is_offset
+
+-- the first token is of the table, where there is one
+abbrev pub begins_with : ℕ → List Token → Bool
+begins_with table [] = true
+begins_with table (t ∷ ts) = t.table == table

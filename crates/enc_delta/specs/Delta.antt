@@ -1,0 +1,67 @@
+-- What the metadata of a delta says: its EncLog, its EncMap, and which row stands for which token.
+use Rattle.std.specs.Prelude.{ℕ, ◌+◌, Bool, not, ◌&&◌, List, [], ◌∷◌, map, filter, Option, Some, None, ◌==◌, if◌then◌else◌, Result, Ok, Err, replicate}
+use Rattle.enc_base.specs.Token.{token_of}
+use Rattle.enc_base.specs.declared.token.Token.{Token}
+use Rattle.enc_base.specs.declared.refusal.Refusal.{Refusal}
+use Rattle.enc_meta.specs.declared.root.Root.{Root}
+use Rattle.enc_meta.specs.Root.{root_of}
+use Rattle.enc_meta.specs.Heaps.{part, heaps_of}
+use Rattle.enc_rows.specs.Sums.{below}
+use Rattle.enc_rows.specs.Layout.{Layout, rows_of, tables_of}
+use Rattle.enc_rows.specs.Source.{Source, raw_in}
+use Rattle.enc_delta.specs.declared.entry.Entry.{Entry}
+use Rattle.enc_rows.specs.declared.form.Form.TheVariants as form
+
+-- the n-th row of a table, n from 0
+abbrev pub nth_row : ℕ → ℕ → Token
+nth_row table n = record { table = table; row = n + 1 }
+
+-- the token of the Module row, which log and map may have and which means nothing there
+abbrev pub is_module : Token → Bool
+is_module t = t.table == 0 && t.row == 1
+
+-- the i-th entry of EncLog and the i-th token of EncMap, i from 0
+unfoldable pub entry_at : Source → ℕ → Entry
+entry_at s i = record { token = token_of (raw_in s (nth_row 0x1E i) 0); code = raw_in s (nth_row 0x1E i) 1 }
+
+unfoldable pub token_at : Source → ℕ → Token
+token_at s i = token_of (raw_in s (nth_row 0x1F i) 0)
+
+-- EncLog and EncMap as they stand
+unfoldable pub log_in : Source → List Entry
+log_in s = map (entry_at s) (below (rows_of s.layout 0x1E))
+
+unfoldable pub map_in : Source → List Token
+map_in s = map (token_at s) (below (rows_of s.layout 0x1F))
+
+-- the tokens of EncMap but the Module's
+unfoldable pub listed : Source → List Token
+listed s = filter (λ t. not (is_module t)) (map_in s)
+
+-- the tokens of one table: the k-th goes with the table's k-th row
+abbrev pub of_table : ℕ → List Token → List Token
+of_table table tokens = filter (λ (t : Token). t.table == table) tokens
+
+-- the position of a token among its table's, from 1: one more than the tokens of its table before it
+abbrev pub place_behind : ℕ → List Token → Token → Option ℕ
+place_behind n [] token = None
+place_behind n (t ∷ ts) token = if t.table == token.table then (if t.row == token.row then Some (n + 1) else place_behind (n + 1) ts token) else place_behind n ts token
+
+unfoldable pub place_in : List Token → Token → Option ℕ
+place_in tokens token = place_behind 0 tokens token
+
+-- the parts of a delta's metadata with this root and this layout
+abbrev pub source_from : List ℕ → Root → Layout → Source
+source_from bytes root l = record { stream = part bytes root.tables; layout = l; heaps = heaps_of bytes root }
+
+-- the parts of a delta's metadata, or F1, F2, F6
+abbrev pub source_with : List ℕ → Root → Result Layout Refusal → Result Source Refusal
+source_with bytes root (Ok l) = Ok (source_from bytes root l)
+source_with bytes root (Err e) = Err e
+
+abbrev pub source_in : List ℕ → Result Root Refusal → Result Source Refusal
+source_in bytes (Ok root) = source_with bytes root (tables_of bytes root.tables form.Delta root.jtd (replicate 64 0))
+source_in bytes (Err e) = Err e
+
+unfoldable pub delta_of : List ℕ → Result Source Refusal
+delta_of bytes = source_in bytes (root_of bytes)

@@ -1,0 +1,276 @@
+-- The rules of a delta's metadata after its chain, each a sentence on whole lists; the first broken one decides.
+use Rattle.std.specs.Prelude.{ℕ, ◌+◌, ◌-◌, ◌*◌, ◌/◌, ◌^◌, Bool, true, false, not, ◌&&◌, ◌||◌, List, [], ◌∷◌, ◌++◌, length, map, filter, take, drop, find, count_by, Option, Some, None, option_map, option_and_then, unwrap_or, is_some, min, max, nat_lt, nat_le, ◌==◌, if◌then◌else◌, slice_get, slice_index, bytes_eq}
+use Rattle.std.specs.List.{list_any}
+use Rattle.enc_base.specs.Token.{token_of, number_of}
+use Rattle.enc_base.specs.Order.{or_else, first_below}
+use Rattle.enc_base.specs.declared.token.Token.{Token}
+use Rattle.enc_base.specs.declared.refusal.Refusal.{Refusal}
+use Rattle.enc_base.specs.declared.refusal.Code.TheVariants.{E}
+use Rattle.enc_base.specs.declared.refusal.Place.{Place}
+use Rattle.enc_base.specs.declared.refusal.Place.TheVariants as place
+use Rattle.enc_base.specs.declared.refusal.StreamName.TheVariants as name
+use Rattle.enc_meta.specs.Heaps.{Counted}
+use Rattle.enc_meta.specs.Joined.{joined_text, joined_blob, joined_guid, joined_length}
+use Rattle.enc_schema.specs.declared.column.Column.{Column}
+use Rattle.enc_schema.specs.declared.column.Column.TheVariants.{Text, Guid, Blob, Index, Coded}
+use Rattle.enc_schema.specs.Schema.{columns_in, column_in}
+use Rattle.enc_rows.specs.Layout.{rows_of}
+use Rattle.enc_rows.specs.Source.{Source, raw_in}
+use Rattle.enc_plain.specs.Chain.{Chain, nil_guid, id_of, rows_before, mvid_of}
+use Rattle.enc_plain.specs.Reading.{Reading, cell_read}
+use Rattle.enc_delta.specs.declared.entry.Entry.{Entry}
+use Rattle.enc_delta.specs.Delta.{log_in, listed, is_module, nth_row, of_table}
+
+abbrev pub module_token : Token
+module_token = record { table = 0; row = 1 }
+
+-- the heaps of all generations with the delta's behind them
+abbrev pub heaps_after : Chain → Source → List Counted
+heaps_after c s = c.heaps ++ s.heaps ∷ []
+
+-- a GUID of the delta's Module row; one that can't be read is nil
+unfoldable pub own_guid : Chain → Source → ℕ → List ℕ
+own_guid c s i = unwrap_or (joined_guid (heaps_after c s) (raw_in s module_token i)) nil_guid
+
+abbrev pub broken : Bool → Place → Option Place
+broken true p = Some p
+broken false p = None
+
+-- E1 to E4: the base's Mvid, the next generation, the last EncId as EncBaseId, and an EncId that isn't nil and wasn't used
+unfoldable pub e1 : Chain → Source → Option Place
+e1 c s = broken (not (bytes_eq (own_guid c s 2) (mvid_of c))) (place.Row module_token)
+
+unfoldable pub e2 : Chain → Source → Option Place
+e2 c s = broken (not (raw_in s module_token 0 == length c.ids + 1)) (place.Row module_token)
+
+unfoldable pub e3 : Chain → Source → Option Place
+e3 c s = broken (not (bytes_eq (own_guid c s 4) (id_of c (length c.ids)))) (place.Row module_token)
+
+unfoldable pub e4 : Chain → Source → Option Place
+e4 c s = broken (bytes_eq (own_guid c s 3) nil_guid || list_any (λ id. bytes_eq id (own_guid c s 3)) c.ids) (place.Row module_token)
+
+-- the last byte, 0 where there is none
+abbrev pub last_byte : List ℕ → ℕ
+last_byte heap = slice_index heap (length heap - 1)
+
+-- how many entries of `#GUID` can be read
+abbrev pub most : List ℕ → ℕ
+most [] = 0
+most (n ∷ ns) = max n (most ns)
+
+abbrev pub guid_entries : List Counted → ℕ
+guid_entries heaps = most (map (λ (h : Counted). length h.guids / 16) heaps)
+
+-- E5: a joined heap passes its limit; `#Strings` has a last byte other than 0; `#GUID` has fewer entries than before
+unfoldable pub e5_strings : Chain → Source → Bool
+e5_strings c s = nat_lt (2 ^ 29) (joined_length (map (λ (h : Counted). h.strings) (heaps_after c s))) || not (last_byte s.heaps.strings == 0)
+
+unfoldable pub e5_users : Chain → Source → Bool
+e5_users c s = nat_lt (2 ^ 24) (joined_length (map (λ (h : Counted). h.users) (heaps_after c s)))
+
+unfoldable pub e5_blobs : Chain → Source → Bool
+e5_blobs c s = nat_lt (2 ^ 29) (joined_length (map (λ (h : Counted). h.blobs) (heaps_after c s)))
+
+unfoldable pub e5_guids : Chain → Source → Bool
+e5_guids c s = nat_lt (2 ^ 29) (16 * guid_entries (heaps_after c s)) || nat_lt (length s.heaps.guids / 16) (guid_entries c.heaps)
+
+unfoldable pub e5 : Chain → Source → Option Place
+e5 c s = or_else (broken (e5_strings c s) (place.Stream name.Strings)) (or_else (broken (e5_users c s) (place.Stream name.Users)) (or_else (broken (e5_blobs c s) (place.Stream name.Blobs)) (broken (e5_guids c s) (place.Stream name.Guids))))
+
+-- the least of some numbers
+abbrev pub lesser : ℕ → Option ℕ → Option ℕ
+lesser n None = Some n
+lesser n (Some m) = Some (min n m)
+
+abbrev pub least : List ℕ → Option ℕ
+least [] = None
+least (n ∷ ns) = lesser n (least ns)
+
+abbrev pub at_token : Option ℕ → Option Place
+at_token o = option_map (λ n. place.Row (token_of n)) o
+
+-- the numbers that have one before them that isn't less
+abbrev pub late : List ℕ → List ℕ → List ℕ
+late before [] = []
+late before (n ∷ ns) = if list_any (nat_le n) before then n ∷ late (before ++ n ∷ []) ns else late (before ++ n ∷ []) ns
+
+-- E6: EncMap doesn't rise strictly
+unfoldable pub late_fault : List Token → Option Place
+late_fault tokens = at_token (least (late [] (map number_of tokens)))
+
+-- EncLog, EncMap and Module have no rows that tokens stand for
+abbrev pub rows_for : Source → ℕ → ℕ
+rows_for s table = if list_any (λ t. t == table) (0x00 ∷ 0x1E ∷ 0x1F ∷ []) then 0 else rows_of s.layout table
+
+-- E7: a table's rows and its tokens differ in number
+unfoldable pub e7_at : Source → ℕ → Option Place
+e7_at s table = broken (not (rows_for s table == length (of_table table (listed s)))) (place.Row (record { table = table; row = 0 }))
+
+unfoldable pub e7 : Chain → Source → Option Place
+e7 c s = first_below (e7_at s) 0x100
+
+-- a token past the rows before is an insert, and so is row 0
+unfoldable pub is_insert : Chain → Token → Bool
+is_insert c t = t.row == 0 || nat_lt (rows_before c t.table) t.row
+
+-- how many of the tokens are inserts into a table
+unfoldable pub inserts : Chain → List Token → ℕ → ℕ
+inserts c tokens table = count_by (λ (t : Token). t.table == table && is_insert c t) tokens
+
+-- E8: an insert isn't the next row
+unfoldable pub insert_fault_of : Chain → List Token → Token → Option Place
+insert_fault_of c before t = broken (is_insert c t && not (t.row == rows_before c t.table + inserts c before t.table + 1)) (place.Row t)
+
+unfoldable pub insert_fault_at : Chain → List Token → ℕ → Option Place
+insert_fault_at c tokens k = option_and_then (insert_fault_of c (take k tokens)) (slice_get tokens k)
+
+unfoldable pub insert_fault : Chain → List Token → Option Place
+insert_fault c tokens = first_below (insert_fault_at c tokens) (length tokens)
+
+-- the numbers that stand in one of two lists alone
+abbrev pub stands_in : List ℕ → ℕ → Bool
+stands_in ns n = list_any (λ m. m == n) ns
+
+abbrev pub in_one : List ℕ → List ℕ → ℕ → Bool
+in_one ns ms n = not (stands_in ns n && stands_in ms n)
+
+-- the entries of a log that count: all but the Module's
+abbrev pub counts : Entry → Bool
+counts e = not (is_module e.token)
+
+unfoldable pub counted : List Entry → List Entry
+counted log = filter counts log
+
+-- the tokens of the entries with code 0
+unfoldable pub changed : List Entry → List Token
+changed log = map (λ (e : Entry). e.token) (filter (λ (e : Entry). counts e && e.code == 0) log)
+
+-- E9: the sets of EncMap tokens and of tokens with code 0 differ
+unfoldable pub set_fault : List ℕ → List ℕ → Option Place
+set_fault ns ms = at_token (least (filter (in_one ns ms) (ns ++ ms)))
+
+-- how many rows a table has after these tokens
+unfoldable pub rows_with : Chain → List Token → ℕ → ℕ
+rows_with c tokens table = rows_before c table + inserts c tokens table
+
+-- the tables of parent and child of an Add entry: methods, fields, parameters, properties, events
+abbrev pub parent_table : ℕ → ℕ
+parent_table code = slice_index (0 ∷ 0x02 ∷ 0x02 ∷ 0x06 ∷ 0x15 ∷ 0x12 ∷ []) code
+
+abbrev pub child_table : ℕ → ℕ
+child_table code = slice_index (0 ∷ 0x06 ∷ 0x04 ∷ 0x08 ∷ 0x17 ∷ 0x14 ∷ []) code
+
+abbrev pub is_add : ℕ → Bool
+is_add code = nat_le 1 code && nat_le code 5
+
+-- the parent is a row after the delta
+unfoldable pub has_parent : Chain → List Token → Entry → Bool
+has_parent c tokens e = e.token.table == parent_table e.code && nat_le 1 e.token.row && nat_le e.token.row (rows_with c tokens e.token.table)
+
+-- how many of the entries are Add entries with this code
+abbrev pub adds : List Entry → ℕ → ℕ
+adds log code = count_by (λ (e : Entry). counts e && e.code == code) log
+
+-- the entry that follows is code 0 with the next new row of the child's table
+unfoldable pub follows : Chain → List Entry → ℕ → Option Entry → Bool
+follows c before code None = false
+follows c before code (Some e) = e.code == 0 && e.token.table == child_table code && e.token.row == rows_before c (child_table code) + adds before code + 1
+
+-- E10: a code past 5, or an Add entry without its parent or its child
+unfoldable pub log_fault_of : Chain → List Token → List Entry → List Entry → ℕ → Entry → Option Place
+log_fault_of c tokens before behind k e = broken (counts e && (nat_lt 5 e.code || is_add e.code && not (has_parent c tokens e && follows c before e.code (find counts behind)))) (place.Log (k + 1))
+
+unfoldable pub log_fault_at : Chain → List Token → List Entry → ℕ → Option Place
+log_fault_at c tokens log k = option_and_then (log_fault_of c tokens (take k log) (drop (k + 1) log) k) (slice_get log k)
+
+unfoldable pub log_fault : Chain → List Token → List Entry → Option Place
+log_fault c tokens log = first_below (log_fault_at c tokens log) (length log)
+
+-- the children of the Add entries, each the token of the entry behind
+abbrev pub children : List Entry → List Token
+children [] = []
+children (e ∷ []) = []
+children (e ∷ f ∷ es) = if is_add e.code then f.token ∷ children (f ∷ es) else children (f ∷ es)
+
+abbrev pub is_token : Token → Token → Bool
+is_token t u = t.table == u.table && t.row == u.row
+
+-- the r-th new row of a table, r from 0
+abbrev pub new_row : Chain → ℕ → ℕ → Token
+new_row c table r = record { table = table; row = rows_before c table + r + 1 }
+
+-- E11: a new row of a table of children hasn't exactly one Add entry
+unfoldable pub child_fault_at : Chain → List Entry → ℕ → ℕ → Option Place
+child_fault_at c log table r = broken (not (count_by (is_token (new_row c table r)) (children (counted log)) == 1)) (place.Row (new_row c table r))
+
+unfoldable pub child_fault_in : Chain → List Token → List Entry → ℕ → Option Place
+child_fault_in c tokens log table = first_below (child_fault_at c log table) (inserts c tokens table)
+
+unfoldable pub child_fault : Chain → List Token → List Entry → Option Place
+child_fault c tokens log = or_else (child_fault_in c tokens log 0x04) (or_else (child_fault_in c tokens log 0x06) (or_else (child_fault_in c tokens log 0x08) (or_else (child_fault_in c tokens log 0x14) (child_fault_in c tokens log 0x17))))
+
+-- the tables that a delta may have
+abbrev pub may_change : ℕ → Bool
+may_change table = list_any (λ t. t == table) (0x00 ∷ 0x01 ∷ 0x02 ∷ 0x04 ∷ 0x06 ∷ 0x08 ∷ 0x09 ∷ 0x0A ∷ 0x0B ∷ 0x0C ∷ 0x0D ∷ 0x0E ∷ 0x0F ∷ 0x10 ∷ 0x11 ∷ 0x12 ∷ 0x14 ∷ 0x15 ∷ 0x17 ∷ 0x18 ∷ 0x19 ∷ 0x1A ∷ 0x1B ∷ 0x1C ∷ 0x1E ∷ 0x1F ∷ 0x23 ∷ 0x29 ∷ 0x2A ∷ 0x2B ∷ 0x2C ∷ [])
+
+-- E12: rows in another table
+unfoldable pub e12_at : Source → ℕ → Option Place
+e12_at s table = broken (nat_lt 0 (rows_of s.layout table) && not (may_change table)) (place.Row (record { table = table; row = 0 }))
+
+unfoldable pub e12 : Chain → Source → Option Place
+e12 c s = first_below (e12_at s) 0x40
+
+-- by what the numbers of the delta's rows are read: the joined heaps, and the rows after
+unfoldable pub reading_after : Chain → Source → Reading
+reading_after c s = record { text = joined_text (heaps_after c s); blob = joined_blob (heaps_after c s); guid = joined_guid (heaps_after c s); count = rows_with c (listed s) }
+
+abbrev pub is_index : Column → Bool
+is_index (Index table) = true
+is_index (Coded kind) = true
+is_index _ = false
+
+abbrev pub is_offset : Column → Bool
+is_offset Text = true
+is_offset Guid = true
+is_offset Blob = true
+is_offset _ = false
+
+-- a cell of these columns isn't good; its place is told by the token that its row stands for
+abbrev pub breaks : Chain → Source → (Column → Bool) → Token → ℕ → Column → Bool
+breaks c s asks row i column = asks column && not (is_some (cell_read (reading_after c s) column (raw_in s row i)))
+
+unfoldable pub cell_fault : Chain → Source → (Column → Bool) → Token → Token → ℕ → Option Place
+cell_fault c s asks token row i = option_and_then (λ (column : Column). broken (breaks c s asks row i column) (place.Cell token i)) (column_in row.table i)
+
+unfoldable pub row_fault : Chain → Source → (Column → Bool) → ℕ → ℕ → Option Place
+row_fault c s asks table r = option_and_then (λ token. first_below (cell_fault c s asks token (nth_row table r)) (length (columns_in table))) (slice_get (of_table table (listed s)) r)
+
+unfoldable pub table_fault : Chain → Source → (Column → Bool) → ℕ → Option Place
+table_fault c s asks table = first_below (row_fault c s asks table) (rows_of s.layout table)
+
+-- E13: an index past its table after, or a tag of no table; E14: an offset that isn't good in the joined heap
+unfoldable pub e13 : Chain → Source → Option Place
+e13 c s = first_below (table_fault c s is_index) 0x2D
+
+unfoldable pub e14 : Chain → Source → Option Place
+e14 c s = first_below (table_fault c s is_offset) 0x2D
+
+abbrev pub rule : ℕ → Option Place → Option Refusal
+rule n p = option_map (λ (q : Place). record { code = E n; place = q }) p
+
+-- E9 of a delta
+unfoldable pub set_meta : Source → Option Place
+set_meta s = set_fault (map number_of (listed s)) (map number_of (changed (log_in s)))
+
+-- E12 to E14
+unfoldable pub cells_meta : Chain → Source → Option Refusal
+cells_meta c s = or_else (rule 12 (e12 c s)) (or_else (rule 13 (e13 c s)) (rule 14 (e14 c s)))
+
+-- E6 to E14
+unfoldable pub lists_meta : Chain → Source → Option Refusal
+lists_meta c s =
+    or_else (rule 6 (late_fault (listed s))) (or_else (rule 7 (e7 c s)) (or_else (rule 8 (insert_fault c (listed s))) (or_else (rule 9 (set_meta s)) (or_else (rule 10 (log_fault c (listed s) (log_in s))) (or_else (rule 11 (child_fault c (listed s) (log_in s))) (cells_meta c s))))))
+
+-- the first broken rule
+unfoldable pub first_meta : Chain → Source → Option Refusal
+first_meta c s = or_else (rule 1 (e1 c s)) (or_else (rule 2 (e2 c s)) (or_else (rule 3 (e3 c s)) (or_else (rule 4 (e4 c s)) (or_else (rule 5 (e5 c s)) (lists_meta c s)))))

@@ -1,0 +1,48 @@
+//! EncLog and EncMap as lists in memory.
+ghost use Rattle.std.specs.Prelude.{◌≡◌, ◌<◌, ◌^◌, IfOk, IsTrue, length, nat_lt};
+ghost use Rattle.std.specs.List.{list_all};
+ghost use Rattle.enc_base.specs.declared.token.Token.{Token as TheToken};
+ghost use Rattle.enc_delta.specs.declared.entry.Entry.{Entry as TheEntry};
+ghost use Rattle.enc_delta.specs.Delta.{log_in, listed, is_module};
+
+use crate::delta::Delta;
+use crate::entry::Entry;
+use enc_base::Token;
+use std::alloc::{AllocError, Global};
+
+/// The token of the Module row.
+pub fn is_module(token: Token) -> bool
+    ensures { result ≡ is_module token }
+{
+    token.table == 0 && token.row == 1
+}
+
+/// The entries of EncLog.
+#[tactic(auto, using(crate::proofs::Listed::map_none, crate::proofs::Listed::map_more), unfolding(crate::specs::Delta::log_in))]
+pub fn log_of(delta: &Delta, alloc: Global) -> Result<Vec<Entry>, AllocError>
+    ensures entries { IfOk result (λ l. l.items ≡ log_in delta.now) }
+    ensures rows { IfOk result (λ l. IsTrue (list_all (λ (e : TheEntry). nat_lt e.token.row 0x1000000) l.items)) }
+    ensures few { IfOk result (λ l. length l.items < 2 ^ 24) }
+{
+    let mut log = Vec::new(alloc);
+    for i in 0..delta.log_len() {
+        log.push(delta.log(i))?;
+    }
+    Ok(log)
+}
+
+/// The tokens of EncMap but the Module's.
+#[tactic(auto, using(crate::proofs::Listed::tokens_none, crate::proofs::Listed::tokens_kept, crate::proofs::Listed::tokens_left), unfolding(crate::specs::Delta::listed, crate::specs::Delta::map_in))]
+pub fn listed_of(delta: &Delta, alloc: Global) -> Result<Vec<Token>, AllocError>
+    ensures tokens { IfOk result (λ l. l.items ≡ listed delta.now) }
+    ensures rows { IfOk result (λ l. IsTrue (list_all (λ (t : TheToken). nat_lt t.row 0x1000000) l.items)) }
+{
+    let mut tokens = Vec::new(alloc);
+    for i in 0..delta.map_len() {
+        let token = delta.map(i);
+        if !is_module(token) {
+            tokens.push(token)?;
+        }
+    }
+    Ok(tokens)
+}

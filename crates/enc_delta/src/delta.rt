@@ -1,0 +1,156 @@
+//! A delta: the metadata and the IL that one edit gives.
+ghost use Rattle.std.specs.Prelude.{◌≡◌, ◌+◌, ◌<◌, ◌^◌, Some, IsTrue, IsSome, slice_get};
+ghost use Rattle.enc_schema.specs.Schema.{column_in};
+ghost use Rattle.enc_rows.specs.Layout.{rows_of, has_row};
+ghost use Rattle.enc_rows.specs.Source.{raw_in};
+ghost use Rattle.enc_delta.specs.Delta.{delta_of, nth_row, entry_at, token_at, log_in, map_in, listed};
+ghost use Rattle.enc_delta.specs.Seen.{Reads};
+
+use crate::entry::Entry;
+use crate::open::open;
+use enc_base::{ReadFault, Steps, Token};
+use enc_meta::{Heaps, Root};
+use enc_rows::Tables;
+use enc_schema::column_of;
+use std::marker::Model;
+use std::sync::ledger::Ledger;
+
+/// The bytes of a delta, and where the parts of its metadata stand in them. Its cells aren't
+/// copied.
+#[derive(Drop)]
+pub struct Delta {
+    meta: Vec<u8>,
+    il: Vec<u8>,
+    root: Root,
+    tables: Tables,
+}
+
+impl Model for Delta {
+    ghost use Rattle.enc_rows.specs.Source.{Source};
+    ghost use Rattle.enc_delta.specs.Delta.{source_from};
+    ghost use Rattle.enc_delta.specs.Seen.{IsOpened};
+
+    ghost Value = { Source };
+
+    ghost view = { λ d. source_from d.meta.items d.root d.tables };
+
+    ghost invariant = { λ d. IsOpened d.meta.items (record { root = d.root; tables = d.tables }) };
+}
+
+impl Delta {
+    /// Reads a delta. Refused is the first of F1, F2, F6 of its metadata. It takes no memory.
+    pub fn read(meta: Vec<u8>, il: Vec<u8>) -> Result<Delta, ReadFault>
+        ensures { Reads result (delta_of meta.items) }
+    {
+        match open(&meta) {
+            Ok(opened) => Ok(Delta {
+                meta,
+                il,
+                root: opened.root,
+                tables: opened.tables,
+            }),
+            Err(refusal) => Err(ReadFault::Refused(refusal)),
+        }
+    }
+
+    /// The number of rows of a table.
+    pub fn count(&self, table: u8) -> u32
+        ensures count { result ≡ rows_of self.now.layout table }
+        ensures few { result < 2 ^ 24 }
+    {
+        self.tables.count(table)
+    }
+
+    /// The number that stands in a cell. One step.
+    pub fn raw<L: Ledger>(&self, row: Token, column: u8, steps: &mut Steps<L>) -> u32
+        requires row { IsTrue (has_row self.now.layout row) }
+        requires column { IsSome (column_in row.table column) }
+        ensures raw { result ≡ raw_in self.now row column }
+        ensures steps { steps.new ≡ steps.old + 1 }
+    {
+        self.tables.raw(&self.meta, row, column, steps)
+    }
+
+    /// The number that stands in a cell, for a caller that counts nothing; 0 where there is no such
+    /// row or column.
+    #[tactic(auto, unfolding(enc_rows::specs::Layout::raw_cell))]
+    pub fn cell(&self, row: Token, column: u8) -> u32
+        ensures { result ≡ raw_in self.now row column }
+    {
+        if row.row == 0 || row.row > self.tables.count(row.table) {
+            return 0;
+        }
+        match column_of(row.table, column) {
+            Some(_) => self.tables.cell(&self.meta, row, column),
+            None => 0,
+        }
+    }
+
+    /// The heaps by the bytes that count.
+    pub fn heaps(&self) -> Heaps<'_>
+        ensures { result ≡ self.now.heaps }
+    {
+        Heaps::of(&self.meta, &self.root)
+    }
+
+    /// The bytes of `#Blob`.
+    pub(crate) fn blobs(&self) -> &[u8]
+        ensures { result.now ≡ self.now.heaps.blobs }
+    {
+        self.heaps().blobs()
+    }
+}
+
+/// A row of a table, from 0.
+pub(crate) fn nth_row(table: u8, n: u32) -> Token
+    requires { n < 2 ^ 24 }
+    ensures { result ≡ nth_row table n }
+{
+    Token { table, row: n + 1 }
+}
+
+impl Delta {
+    /// The number of entries of EncLog.
+    pub fn log_len(&self) -> u32
+        ensures count { result ≡ rows_of self.now.layout 0x1E }
+        ensures few { result < 2 ^ 24 }
+    {
+        self.count(0x1e)
+    }
+
+    /// An entry of EncLog, from 0.
+    #[tactic(auto, unfolding(crate::specs::Delta::entry_at))]
+    pub fn log(&self, i: u32) -> Entry
+        requires there { i < rows_of self.now.layout 0x1E }
+        requires few { i < 2 ^ 24 }
+        ensures entry { slice_get (log_in self.now) i ≡ Some result }
+        ensures at { result ≡ entry_at self.now i }
+        ensures row { result.token.row < 2 ^ 24 }
+    {
+        let row = nth_row(0x1e, i);
+        Entry {
+            token: Token::of(self.cell(row, 0)),
+            code: self.cell(row, 1),
+        }
+    }
+
+    /// The number of tokens of EncMap.
+    pub fn map_len(&self) -> u32
+        ensures count { result ≡ rows_of self.now.layout 0x1F }
+        ensures few { result < 2 ^ 24 }
+    {
+        self.count(0x1f)
+    }
+
+    /// A token of EncMap, from 0.
+    #[tactic(auto, unfolding(crate::specs::Delta::token_at))]
+    pub fn map(&self, i: u32) -> Token
+        requires there { i < rows_of self.now.layout 0x1F }
+        requires few { i < 2 ^ 24 }
+        ensures token { slice_get (map_in self.now) i ≡ Some result }
+        ensures at { result ≡ token_at self.now i }
+        ensures row { result.row < 2 ^ 24 }
+    {
+        Token::of(self.cell(nth_row(0x1f, i), 0))
+    }
+}

@@ -1,0 +1,73 @@
+-- Runs: which rows of a child table belong to which owner (ECMA-335 II.22.37, II.22.26, II.22.12, II.22.35), and the Ptr tables that a run may go over.
+use Rattle.std.specs.Prelude.{ℕ, zero, suc, ◌+◌, ◌-◌, Bool, List, [], ◌∷◌, unwrap_or, nat_lt, ◌==◌, if◌then◌else◌, flat_map, count_by}
+use Rattle.std.specs.List.{range_with_len}
+use Rattle.enc_base.specs.declared.token.Token.{Token}
+use Rattle.enc_meta.specs.Heaps.{part}
+use Rattle.enc_rows.specs.Sums.{below}
+use Rattle.enc_rows.specs.Layout.{Layout, rows_of, raw_cell}
+
+-- a table stream and its layout
+pub record Rows : Type 0 where
+  pub stream : List ℕ
+  pub layout : Layout
+
+-- a layout's rows in the bytes of its file
+abbrev pub rows_with : List ℕ → Layout → Rows
+rows_with bytes l = record { stream = part bytes l.span; layout = l }
+
+-- the number in a cell
+abbrev pub number_in : Rows → Token → ℕ → ℕ
+number_in s token i = unwrap_or (raw_cell s.stream s.layout token i) 0
+
+-- the n-th row of a table, n from 0
+abbrev pub nth_row : ℕ → ℕ → Token
+nth_row table n = record { table = table; row = n + 1 }
+
+-- the Ptr table of a child table, 0 where it has none
+abbrev pub ptr_of : ℕ → ℕ
+ptr_of child = if child == 0x04 then 0x03 else if child == 0x06 then 0x05 else if child == 0x08 then 0x07 else if child == 0x14 then 0x13 else if child == 0x17 then 0x16 else 0
+
+-- runs of a child table go over its Ptr table where that has rows
+abbrev pub goes_by_ptr : Layout → ℕ → Bool
+goes_by_ptr l child = nat_lt 0 (rows_of l (ptr_of child))
+
+-- how many rows a run of a child table can name
+abbrev pub run_rows : Layout → ℕ → ℕ
+run_rows l child = if goes_by_ptr l child then rows_of l (ptr_of child) else rows_of l child
+
+-- where the run in a column of the n-th owner row begins, and where it ends: before the next row's, or behind the last row
+abbrev pub run_start : Rows → ℕ → ℕ → ℕ → ℕ
+run_start s table i n = number_in s (nth_row table n) i
+
+abbrev pub run_end : Rows → ℕ → ℕ → ℕ → ℕ → ℕ
+run_end s table i child n = if nat_lt (n + 1) (rows_of s.layout table) then run_start s table i (n + 1) else run_rows s.layout child + 1
+
+-- the child that a place of a run names: the row itself, or what the Ptr row holds; a nil Ptr row names none
+abbrev pub by_ptr : ℕ → List ℕ
+by_ptr zero = []
+by_ptr (suc r) = suc r ∷ []
+
+unfoldable pub named_at : Rows → ℕ → ℕ → List ℕ
+named_at s child p = if goes_by_ptr s.layout child then by_ptr (number_in s (record { table = ptr_of child; row = p }) 0) else p ∷ []
+
+-- the children of the n-th owner row, in order
+unfoldable pub children_of : Rows → ℕ → ℕ → ℕ → ℕ → List ℕ
+children_of s table i child n = flat_map (named_at s child) (range_with_len (run_start s table i n) (run_end s table i child n - run_start s table i n))
+
+-- the owners' table and the column of their runs, for each child table
+abbrev pub owner_table : ℕ → ℕ
+owner_table child = if child == 0x04 then 0x02 else if child == 0x06 then 0x02 else if child == 0x08 then 0x06 else if child == 0x14 then 0x12 else 0x15
+
+abbrev pub run_column : ℕ → ℕ
+run_column child = if child == 0x04 then 4 else if child == 0x06 then 5 else if child == 0x08 then 5 else 1
+
+abbrev pub is_child_table : ℕ → Bool
+is_child_table table = nat_lt 0 (ptr_of table)
+
+-- the children of all owners, one owner behind the other
+unfoldable pub all_children : Rows → ℕ → List ℕ
+all_children s child = flat_map (children_of s (owner_table child) (run_column child) child) (below (rows_of s.layout (owner_table child)))
+
+-- how often the runs name a row of a child table
+unfoldable pub times_named : Rows → ℕ → ℕ → ℕ
+times_named s child row = count_by (λ (r : ℕ). r == row) (all_children s child)
