@@ -4,5 +4,4 @@ ghost use Rattle.enc_top.specs.Example.{ExampleIsShown};
 /// `show` of the first TypeRef row of the 200 bytes of the example, by the definitions alone.
 pub fn example_row()
     ensures { ExampleIsShown }
-{
-}
+{}
