@@ -1,12 +1,29 @@
 //! Judges all indices of a bare metadata file: a program for the benchmark scripts.
 #![tactic(auto)]
 
+ghost use Rattle.std.specs.Prelude.{◌≡◌, IfOk, is_some, not};
+ghost use Rattle.enc_meta.specs.Heaps.{part};
+ghost use Rattle.enc_rows.specs.Layout.{IsWithin};
+ghost use Rattle.enc_rows.specs.Runs.{rows_with};
+ghost use Rattle.enc_rows.specs.Fault.{index_fault};
+
 use enc_base::Counts;
 use enc_meta::read_root;
 use enc_outside::{FileStore, Store};
 use enc_rows::{Form, Tables};
-use std::alloc::Global;
+use std::alloc::{AllocError, Global};
 use std::{env, io};
+
+/// No index of the tables is bad.
+fn are_good(tables: &Tables, alloc: Global, bytes: &[u8]) -> Result<bool, AllocError>
+    requires bytes { IsWithin (part bytes.now tables.now.span) tables.now }
+    ensures { IfOk result (λ good. good ≡ not (is_some (index_fault (rows_with bytes.now tables.now)))) }
+{
+    match tables.first_bad_index(alloc, bytes) {
+        Ok(place) => Ok(place.is_none()),
+        Err(error) => Err(error),
+    }
+}
 
 /// What judging a file's indices comes to.
 fn judged(alloc: Global, bytes: &[u8]) -> &'static str {
@@ -17,9 +34,9 @@ fn judged(alloc: Global, bytes: &[u8]) -> &'static str {
     let Ok(tables) = Tables::read(bytes, root.tables, Form::Base, root.jtd, &none) else {
         return "no tables";
     };
-    match tables.first_bad_index(alloc, bytes) {
-        Ok(None) => "every index is good",
-        Ok(Some(_)) => "an index is bad",
+    match are_good(&tables, alloc, bytes) {
+        Ok(true) => "every index is good",
+        Ok(false) => "an index is bad",
         Err(_) => "out of memory",
     }
 }
