@@ -53,3 +53,7 @@ one_more rule n None (Some x) h e = (n, omega arith, e, h)
 pub first_means : {A : Type 0} (rule : ℕ → Option A) (n : ℕ) → IsFirst rule n (first_below rule n)
 first_means rule zero = rw (first_none rule) (λ k h. absurd (omega arith))
 first_means rule (suc n) = rw (first_suc rule n) (one_more rule n _ (rule n) (first_means rule n) refl)
+
+-- no answer below n, none at any place below
+pub silent : {A : Type 0} (rule : ℕ → Option A) (n k : ℕ) → first_below rule n ≡ None → k < n → rule k ≡ None
+silent rule n k none lt = (rw none at (first_means rule n)) k lt

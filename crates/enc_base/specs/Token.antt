@@ -1,5 +1,5 @@
 -- Tokens and their numbers.
-use Rattle.std.specs.Prelude.{ℕ, ◌+◌, ◌*◌, ◌/◌, ◌%◌}
+use Rattle.std.specs.Prelude.{ℕ, ◌+◌, ◌*◌, ◌/◌, ◌%◌, Bool, ◌&&◌, ◌==◌}
 use Rattle.enc_base.specs.declared.token.Token.{Token}
 
 -- the table in the top byte, the row in the three below (ECMA-335 II.22)
@@ -13,3 +13,11 @@ number_of t = t.table * 0x1000000 + t.row
 -- the token that names nothing
 abbrev pub nil : Token
 nil = record { table = 0; row = 0 }
+
+-- the n-th row of a table, n from 0
+abbrev pub nth_row : ℕ → ℕ → Token
+nth_row table n = record { table = table; row = n + 1 }
+
+-- the tokens are the same
+abbrev pub is_token : Token → Token → Bool
+is_token t u = t.table == u.table && t.row == u.row

@@ -1,5 +1,5 @@
 pub mod Listed
-pub mod Joined
+pub mod Behind
 pub mod Totals
 pub mod Counters
 pub mod Runs

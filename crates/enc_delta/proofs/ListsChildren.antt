@@ -15,7 +15,8 @@ use Rattle.enc_base.proofs.First.{first_none, first_found, first_more, first_mea
 use Rattle.enc_plain.specs.Module.{Module, rows_in}
 use Rattle.enc_plain.specs.Chain.{Chain, rows_before}
 use Rattle.enc_delta.specs.declared.entry.Entry.{Entry}
-use Rattle.enc_delta.specs.Rules.{broken, counts, counted, adds, is_add, has_parent, follows, child_table, log_fault_of, log_fault_at, log_fault, children, is_token, new_row, child_fault_at, child_fault_in, inserts, insert_fault_at, insert_fault_of, insert_fault, is_insert}
+use Rattle.enc_base.specs.Token.{is_token}
+use Rattle.enc_delta.specs.Rules.{broken, counts, counted, adds, is_add, has_parent, follows, child_table, log_fault_of, log_fault_at, log_fault, children, new_row, child_fault_at, child_fault_in, inserts, insert_fault_at, insert_fault_of, insert_fault, is_insert}
 use Rattle.enc_delta.specs.Lists.{AreTokens}
 use Rattle.enc_delta.proofs.ListsInserts.{no_token, fault_is, inserts_none, into_yes, into_no}
 use Rattle.enc_delta.proofs.ListsChanged.{token_fits, take_end}

@@ -1,12 +1,79 @@
 -- The position of a token, one entry of the map after the other.
-use Rattle.std.proofs.Common.{◌≡◌, ℕ, zero, suc, ◌+◌, ◌≤◌, true, false, List, [], ◌∷◌, length, drop, map, Option, Some, None, refl, ap, arith}
-use Rattle.std.specs.Prelude.{slice_get, filter, not, ◌==◌}
+use Rattle.std.proofs.Common.{◌≡◌, ℕ, zero, suc, ◌+◌, ◌-◌, ◌<◌, ◌≤◌, Bool, true, false, List, [], ◌∷◌, length, drop, map, Option, Some, None, refl, sym, ap, ◌∙◌, arith}
+use Rattle.std.specs.Prelude.{slice_get, filter, not, ◌==◌, if◌then◌else◌, option_map}
+use Rattle.std.specs.List.{position_from, list_any}
+use Rattle.std.proofs.lemmas.Iterator.Adapters.{position_from-zero}
 use Rattle.enc_base.specs.declared.token.Token.{Token}
+use Rattle.enc_base.specs.Token.{is_token}
+use Rattle.enc_plain.proofs.Applied.{same_is}
 use Rattle.enc_rows.specs.Layout.{rows_of}
 use Rattle.enc_rows.specs.Source.{Source}
 use Rattle.std.specs.List.{range_with_len}
 use Rattle.enc_rows.specs.Sums.{below}
-use Rattle.enc_delta.specs.Delta.{token_at, is_module, map_in, listed, place_behind, place_in}
+use Rattle.enc_delta.specs.Delta.{token_at, is_module, map_in, listed, of_table, place_in}
+
+-- the position of a token among its table's where n of them stand before
+abbrev pub place_behind : ℕ → List Token → Token → Option ℕ
+place_behind n [] token = None
+place_behind n (t ∷ ts) token = if t.table == token.table then (if t.row == token.row then Some (n + 1) else place_behind (n + 1) ts token) else place_behind n ts token
+
+-- the same row
+abbrev has_row_of : Token → Token → Bool
+has_row_of u t = t.row == u.row
+
+behind_step : (n : ℕ) (t u : Token) (ts : List Token) (a b : Bool) → (t.table == u.table) ≡ a → (t.row == u.row) ≡ b → place_behind (n + 1) ts u ≡ option_map suc (position_from (has_row_of u) (n + 1) (of_table u.table ts)) → place_behind n ts u ≡ option_map suc (position_from (has_row_of u) n (of_table u.table ts)) → place_behind n (t ∷ ts) u ≡ option_map suc (position_from (has_row_of u) n (of_table u.table (t ∷ ts)))
+behind_step n t u ts true true same row next here = rw (same, row) (ap (λ k. Some k) (omega arith))
+behind_step n t u ts true false same row next here = rw (same, row) next
+behind_step n t u ts false b same row next here = rw same here
+
+behind_is : (n : ℕ) (ts : List Token) (u : Token) → place_behind n ts u ≡ option_map suc (position_from (has_row_of u) n (of_table u.table ts))
+behind_is n [] u = refl
+behind_is n (t ∷ ts) u = behind_step n t u ts (t.table == u.table) (t.row == u.row) refl refl (behind_is (n + 1) ts u) (behind_is n ts u)
+
+-- with none before them it is the position
+pub place_is : (tokens : List Token) (u : Token) → place_behind 0 tokens u ≡ place_in tokens u
+unfolding place_in
+place_is tokens u = behind_is 0 tokens u ∙ ap (λ (o : Option ℕ). option_map suc o) (sym (position_from-zero (has_row_of u) (of_table u.table tokens)))
+
+-- the k-th place from the n-th on
+abbrev IsThere : ℕ → List Token → Token → ℕ → Type 0
+IsThere n ts u k = (n < k) × (slice_get (of_table u.table ts) (k - 1 - n) ≡ Some u)
+
+there_step : (n k : ℕ) (t u : Token) (ts : List Token) (a b : Bool) → (t.table == u.table) ≡ a → (t.row == u.row) ≡ b → (place_behind (n + 1) ts u ≡ Some k → IsThere (n + 1) ts u k) → (place_behind n ts u ≡ Some k → IsThere n ts u k) → place_behind n (t ∷ ts) u ≡ Some k → IsThere n (t ∷ ts) u k
+there_step n k t u ts true true same row next here h =
+    let e : Some (n + 1) ≡ Some k = rw (same, row) at h in
+    let k_is : n + 1 ≡ k = cc in
+    let first : k - 1 - n ≡ 0 = omega arith in
+    (omega arith, rw (same, first) (ap (λ x. Some x) (same_is t u (rw (same, row) refl))))
+there_step n k t u ts true false same row next here h =
+    let there = next (rw (same, row) at h) in
+    let later : k - 1 - n ≡ suc (k - 1 - (n + 1)) = omega (arith, there.0) in
+    (omega (arith, there.0), rw (same, later) there.1)
+there_step n k t u ts false b same row next here h = rw same (here (rw same at h))
+
+there_from : (n : ℕ) (ts : List Token) (u : Token) (k : ℕ) → place_behind n ts u ≡ Some k → IsThere n ts u k
+there_from n [] u k h = absurd cc
+there_from n (t ∷ ts) u k h = there_step n k t u ts (t.table == u.table) (t.row == u.row) refl refl (there_from (n + 1) ts u k) (there_from n ts u k) h
+
+-- the token stands at its place
+pub place_there : (tokens : List Token) (u : Token) (k : ℕ) → place_in tokens u ≡ Some k → (0 < k) × (slice_get (of_table u.table tokens) (k - 1) ≡ Some u)
+place_there tokens u k h =
+    let there = there_from 0 tokens u k (place_is tokens u ∙ h) in
+    let e : k - 1 - 0 ≡ k - 1 = omega arith in
+    (there.0, ap (λ i. slice_get (of_table u.table tokens) i) (sym e) ∙ there.1)
+
+none_step : (n : ℕ) (t u : Token) (ts : List Token) (a b : Bool) → (t.table == u.table) ≡ a → (t.row == u.row) ≡ b → (place_behind (n + 1) ts u ≡ None → list_any (λ x. is_token x u) ts ≡ false) → (place_behind n ts u ≡ None → list_any (λ x. is_token x u) ts ≡ false) → place_behind n (t ∷ ts) u ≡ None → list_any (λ x. is_token x u) (t ∷ ts) ≡ false
+none_step n t u ts true true same row next here h = let e : Some (n + 1) ≡ None = rw (same, row) at h in absurd cc
+none_step n t u ts true false same row next here h = rw (same, row) (next (rw (same, row) at h))
+none_step n t u ts false b same row next here h = rw same (here (rw same at h))
+
+none_from : (n : ℕ) (ts : List Token) (u : Token) → place_behind n ts u ≡ None → list_any (λ x. is_token x u) ts ≡ false
+none_from n [] u h = refl
+none_from n (t ∷ ts) u h = none_step n t u ts (t.table == u.table) (t.row == u.row) refl refl (none_from (n + 1) ts u) (none_from n ts u) h
+
+-- a token without a place isn't in the list
+pub place_none : (tokens : List Token) (u : Token) → place_in tokens u ≡ None → list_any (λ t. is_token t u) tokens ≡ false
+place_none tokens u h = none_from 0 tokens u (place_is tokens u ∙ h)
 
 abbrev pub keep : List Token → List Token
 keep ts = filter (λ (t : Token). not (is_module t)) ts
@@ -17,8 +84,8 @@ drop_step (x ∷ xs) zero t h = let e : x ≡ t = cc in ap (λ (y : Token). y �
 drop_step (x ∷ xs) (suc i) t h = let e : suc i + 1 ≡ suc (i + 1) = omega arith in rw e (drop_step xs i t h)
 
 pub place_start : (s : Source) (u : Token) → place_behind 0 (keep (drop 0 (map_in s))) u ≡ place_in (listed s) u
-unfolding place_in listed
-place_start s u = refl
+unfolding listed
+place_start s u = place_is (listed s) u
 
 -- a token that isn't the one, or of another table, or the Module's
 pub place_module : (n i : ℕ) (xs : List Token) (t u : Token) (o : Option ℕ) → slice_get xs i ≡ Some t → is_module t ≡ true → place_behind n (keep (drop i xs)) u ≡ o → place_behind n (keep (drop (i + 1) xs)) u ≡ o

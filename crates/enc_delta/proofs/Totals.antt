@@ -24,6 +24,17 @@ most_more : (f : Counted → ℕ) (xs : List Counted) (x : Counted) → most (ma
 most_more f [] x = omega arith
 most_more f (y ∷ ys) x = rw (most_more f ys x) (omega arith)
 
+zero_more : (n : ℕ) → 0 + n ≡ n
+zero_more n = omega arith
+
+most_one : (n : ℕ) → max n 0 ≡ n
+most_one n = omega arith
+
+-- the totals of one generation
+pub totals_alone : (h : Counted) → totals_of (h ∷ []) ≡ record { strings = length h.strings; users = length h.users; blobs = length h.blobs; guids = length h.guids / 16 }
+unfolding totals_of
+totals_alone h = rw (zero_more (length h.strings), zero_more (length h.users), zero_more (length h.blobs), most_one (length h.guids / 16)) refl
+
 pub strings_after : (c : Chain) (s : Source) (t : HeapTotals) → t ≡ totals_of c.heaps → e5_strings c s ≡ (nat_lt (2 ^ 29) (t.strings + length s.heaps.strings) || not (last_byte s.heaps.strings == 0))
 unfolding e5_strings totals_of
 strings_after c s t e = rw (e, length_more (λ (h : Counted). h.strings) c.heaps s.heaps) refl

@@ -1,20 +1,19 @@
 -- What the metadata of a delta says: its EncLog, its EncMap, and which row stands for which token.
-use Rattle.std.specs.Prelude.{ℕ, ◌+◌, Bool, not, ◌&&◌, List, [], ◌∷◌, map, filter, Option, Some, None, ◌==◌, if◌then◌else◌, Result, Ok, Err, replicate}
-use Rattle.enc_base.specs.Token.{token_of}
+use Rattle.std.specs.Prelude.{ℕ, suc, Bool, not, ◌&&◌, List, map, filter, position, Option, option_map, ◌==◌, if◌then◌else◌, Result, Ok, Err, replicate}
+use Rattle.enc_base.specs.Token.{token_of, nth_row}
 use Rattle.enc_base.specs.declared.token.Token.{Token}
 use Rattle.enc_base.specs.declared.refusal.Refusal.{Refusal}
+use Rattle.enc_base.specs.declared.refusal.Code.TheVariants.{U}
+use Rattle.enc_base.specs.declared.refusal.Place.TheVariants as place
 use Rattle.enc_meta.specs.declared.root.Root.{Root}
 use Rattle.enc_meta.specs.Root.{root_of}
 use Rattle.enc_meta.specs.Heaps.{part, heaps_of}
 use Rattle.enc_rows.specs.Sums.{below}
 use Rattle.enc_rows.specs.Layout.{Layout, rows_of, tables_of}
+use Rattle.enc_rows.specs.Unread.{is_unread}
 use Rattle.enc_rows.specs.Source.{Source, raw_in}
 use Rattle.enc_delta.specs.declared.entry.Entry.{Entry}
 use Rattle.enc_rows.specs.declared.form.Form.TheVariants as form
-
--- the n-th row of a table, n from 0
-abbrev pub nth_row : ℕ → ℕ → Token
-nth_row table n = record { table = table; row = n + 1 }
 
 -- the token of the Module row, which log and map may have and which means nothing there
 abbrev pub is_module : Token → Bool
@@ -42,13 +41,9 @@ listed s = filter (λ t. not (is_module t)) (map_in s)
 abbrev pub of_table : ℕ → List Token → List Token
 of_table table tokens = filter (λ (t : Token). t.table == table) tokens
 
--- the position of a token among its table's, from 1: one more than the tokens of its table before it
-abbrev pub place_behind : ℕ → List Token → Token → Option ℕ
-place_behind n [] token = None
-place_behind n (t ∷ ts) token = if t.table == token.table then (if t.row == token.row then Some (n + 1) else place_behind (n + 1) ts token) else place_behind n ts token
-
+-- the position of a token among its table's, from 1
 unfoldable pub place_in : List Token → Token → Option ℕ
-place_in tokens token = place_behind 0 tokens token
+place_in tokens token = option_map suc (position (λ (t : Token). t.row == token.row) (of_table token.table tokens))
 
 -- the parts of a delta's metadata with this root and this layout
 abbrev pub source_from : List ℕ → Root → Layout → Source
@@ -59,8 +54,14 @@ abbrev pub source_with : List ℕ → Root → Result Layout Refusal → Result 
 source_with bytes root (Ok l) = Ok (source_from bytes root l)
 source_with bytes root (Err e) = Err e
 
+-- the layout of a delta's table stream, or F6; for now U1 in between
+unfoldable pub layout_for : List ℕ → Root → Result Layout Refusal
+layout_for bytes root =
+    if is_unread (part bytes root.tables) then Err (record { code = U 1; place = place.Tables })
+    else tables_of bytes root.tables form.Delta root.jtd (replicate 64 0)
+
 abbrev pub source_in : List ℕ → Result Root Refusal → Result Source Refusal
-source_in bytes (Ok root) = source_with bytes root (tables_of bytes root.tables form.Delta root.jtd (replicate 64 0))
+source_in bytes (Ok root) = source_with bytes root (layout_for bytes root)
 source_in bytes (Err e) = Err e
 
 unfoldable pub delta_of : List ℕ → Result Source Refusal

@@ -1,7 +1,7 @@
 -- The rules of a delta's metadata after its chain, each a sentence on whole lists; the first broken one decides.
 use Rattle.std.specs.Prelude.{ℕ, ◌+◌, ◌-◌, ◌*◌, ◌/◌, ◌^◌, Bool, true, false, not, ◌&&◌, ◌||◌, List, [], ◌∷◌, ◌++◌, length, map, filter, take, drop, find, count_by, Option, Some, None, option_map, option_and_then, unwrap_or, is_some, min, max, nat_lt, nat_le, ◌==◌, if◌then◌else◌, slice_get, slice_index, bytes_eq}
 use Rattle.std.specs.List.{list_any}
-use Rattle.enc_base.specs.Token.{token_of, number_of}
+use Rattle.enc_base.specs.Token.{token_of, number_of, nth_row, is_token}
 use Rattle.enc_base.specs.Order.{or_else, first_below}
 use Rattle.enc_base.specs.declared.token.Token.{Token}
 use Rattle.enc_base.specs.declared.refusal.Refusal.{Refusal}
@@ -19,7 +19,7 @@ use Rattle.enc_rows.specs.Source.{Source, raw_in}
 use Rattle.enc_plain.specs.Chain.{Chain, nil_guid, id_of, rows_before, mvid_of}
 use Rattle.enc_plain.specs.Reading.{Reading, cell_read}
 use Rattle.enc_delta.specs.declared.entry.Entry.{Entry}
-use Rattle.enc_delta.specs.Delta.{log_in, listed, is_module, nth_row, of_table}
+use Rattle.enc_delta.specs.Delta.{log_in, listed, is_module, of_table}
 
 abbrev pub module_token : Token
 module_token = record { table = 0; row = 1 }
@@ -89,14 +89,14 @@ least (n ∷ ns) = lesser n (least ns)
 abbrev pub at_token : Option ℕ → Option Place
 at_token o = option_map (λ n. place.Row (token_of n)) o
 
--- the numbers that have one before them that isn't less
-abbrev pub late : List ℕ → List ℕ → List ℕ
-late before [] = []
-late before (n ∷ ns) = if list_any (nat_le n) before then n ∷ late (before ++ n ∷ []) ns else late (before ++ n ∷ []) ns
+-- the numbers that have one before them that isn't less, some of them twice
+abbrev pub late : List ℕ → List ℕ
+late [] = []
+late (n ∷ ns) = filter (λ m. nat_le m n) ns ++ late ns
 
 -- E6: EncMap doesn't rise strictly
 unfoldable pub late_fault : List Token → Option Place
-late_fault tokens = at_token (least (late [] (map number_of tokens)))
+late_fault tokens = at_token (least (late (map number_of tokens)))
 
 -- EncLog, EncMap and Module have no rows that tokens stand for
 abbrev pub rows_for : Source → ℕ → ℕ
@@ -106,8 +106,8 @@ rows_for s table = if list_any (λ t. t == table) (0x00 ∷ 0x1E ∷ 0x1F ∷ []
 unfoldable pub e7_at : Source → ℕ → Option Place
 e7_at s table = broken (not (rows_for s table == length (of_table table (listed s)))) (place.Row (record { table = table; row = 0 }))
 
-unfoldable pub e7 : Chain → Source → Option Place
-e7 c s = first_below (e7_at s) 0x100
+unfoldable pub e7 : Source → Option Place
+e7 s = first_below (e7_at s) 0x100
 
 -- a token past the rows before is an insert, and so is row 0
 unfoldable pub is_insert : Chain → Token → Bool
@@ -192,9 +192,6 @@ children [] = []
 children (e ∷ []) = []
 children (e ∷ f ∷ es) = if is_add e.code then f.token ∷ children (f ∷ es) else children (f ∷ es)
 
-abbrev pub is_token : Token → Token → Bool
-is_token t u = t.table == u.table && t.row == u.row
-
 -- the r-th new row of a table, r from 0
 abbrev pub new_row : Chain → ℕ → ℕ → Token
 new_row c table r = record { table = table; row = rows_before c table + r + 1 }
@@ -217,8 +214,8 @@ may_change table = list_any (λ t. t == table) (0x00 ∷ 0x01 ∷ 0x02 ∷ 0x04 
 unfoldable pub e12_at : Source → ℕ → Option Place
 e12_at s table = broken (nat_lt 0 (rows_of s.layout table) && not (may_change table)) (place.Row (record { table = table; row = 0 }))
 
-unfoldable pub e12 : Chain → Source → Option Place
-e12 c s = first_below (e12_at s) 0x40
+unfoldable pub e12 : Source → Option Place
+e12 s = first_below (e12_at s) 0x100
 
 -- by what the numbers of the delta's rows are read: the joined heaps, and the rows after
 unfoldable pub reading_after : Chain → Source → Reading
@@ -264,12 +261,12 @@ set_meta s = set_fault (map number_of (listed s)) (map number_of (changed (log_i
 
 -- E12 to E14
 unfoldable pub cells_meta : Chain → Source → Option Refusal
-cells_meta c s = or_else (rule 12 (e12 c s)) (or_else (rule 13 (e13 c s)) (rule 14 (e14 c s)))
+cells_meta c s = or_else (rule 12 (e12 s)) (or_else (rule 13 (e13 c s)) (rule 14 (e14 c s)))
 
 -- E6 to E14
 unfoldable pub lists_meta : Chain → Source → Option Refusal
 lists_meta c s =
-    or_else (rule 6 (late_fault (listed s))) (or_else (rule 7 (e7 c s)) (or_else (rule 8 (insert_fault c (listed s))) (or_else (rule 9 (set_meta s)) (or_else (rule 10 (log_fault c (listed s) (log_in s))) (or_else (rule 11 (child_fault c (listed s) (log_in s))) (cells_meta c s))))))
+    or_else (rule 6 (late_fault (listed s))) (or_else (rule 7 (e7 s)) (or_else (rule 8 (insert_fault c (listed s))) (or_else (rule 9 (set_meta s)) (or_else (rule 10 (log_fault c (listed s) (log_in s))) (or_else (rule 11 (child_fault c (listed s) (log_in s))) (cells_meta c s))))))
 
 -- the first broken rule
 unfoldable pub first_meta : Chain → Source → Option Refusal

@@ -1,6 +1,5 @@
 //! What stands after a delta: the rows of each table, and the entries of the joined heaps.
 ghost use Rattle.std.specs.Prelude.{◌≡◌, ℕ, ◌<◌, nat_le, is_some, slice_index};
-ghost use Rattle.enc_meta.specs.Joined.{joined_text, joined_blob};
 ghost use Rattle.enc_plain.specs.Reading.{cell_read};
 ghost use Rattle.enc_delta.specs.Delta.{listed};
 ghost use Rattle.enc_delta.specs.Rules.{heaps_after, is_insert, inserts, rows_with, reading_after};
@@ -8,7 +7,7 @@ ghost use Rattle.enc_delta.specs.After.{IsAfter, speaks};
 
 use crate::delta::Delta;
 use crate::heap_rule::HeapTotals;
-use crate::identity::guid_after;
+use crate::joined::{blob_after, guid_after, text_after};
 use enc_base::Token;
 use enc_meta::Heaps;
 use enc_plain::ChainView;
@@ -46,7 +45,7 @@ pub struct After<'a> {
 
 /// A token past the rows before is an insert, and so is row 0.
 #[tactic(auto, unfolding(crate::specs::Rules::is_insert))]
-fn is_insert<C: ChainView>(chain: &C, token: Token) -> bool
+pub fn is_insert<C: ChainView>(chain: &C, token: Token) -> bool
     requires means { C.meaning chain.now ≡ (C.chain chain.now).plain }
     ensures { result ≡ is_insert (C.chain chain.now) token }
 {
@@ -81,44 +80,6 @@ fn is_within<C: ChainView>(chain: &C, delta: &Delta, after: &After<'_>, table: u
     row <= before || (row - before) as usize <= after.inserts[table as usize]
 }
 
-/// A text begins at the offset of the joined `#Strings`.
-#[tactic(auto)]
-fn is_text<C: ChainView>(chain: &C, delta: &Delta, after: &After<'_>, offset: u32) -> bool
-    requires after { IsAfter (C.chain chain.now) delta.now after.now }
-    ensures { result ≡ is_some (joined_text (heaps_after (C.chain chain.now) delta.now) offset) }
-{
-    let _ = delta;
-    if offset == 0 {
-        return true;
-    }
-    let before = after.totals.strings;
-    if u64::from(offset) < before {
-        return chain.text_at(offset).is_some();
-    }
-    let own = offset - before as u32;
-    after.heaps.text_entry(own).is_some()
-}
-
-/// A blob stands at the offset of the joined `#Blob`.
-#[tactic(auto)]
-fn is_blob<C: ChainView>(chain: &C, delta: &Delta, after: &After<'_>, offset: u32) -> bool
-    requires after { IsAfter (C.chain chain.now) delta.now after.now }
-    ensures { result ≡ is_some (joined_blob (heaps_after (C.chain chain.now) delta.now) offset) }
-{
-    if offset == 0 {
-        return true;
-    }
-    let before = after.totals.blobs;
-    if u64::from(offset) < before {
-        return chain.blob_at(offset).is_some();
-    }
-    let own = offset - before as u32;
-    if own as usize >= delta.blobs().len() {
-        return false;
-    }
-    after.heaps.blob_entry(own).is_some()
-}
-
 /// A number of this column stands for a cell after the delta.
 #[tactic(auto, unfolding(crate::specs::Rules::reading_after, enc_plain::specs::Reading::cell_read))]
 pub fn is_good<C: ChainView>(
@@ -134,9 +95,9 @@ pub fn is_good<C: ChainView>(
 {
     match column {
         Column::Num8 | Column::Num16 | Column::Num32 => true,
-        Column::Text => is_text(chain, delta, after, number),
+        Column::Text => text_after(chain, &after.heaps, &after.totals, number).is_some(),
         Column::Guid => guid_after(chain, &after.heaps, number).is_some(),
-        Column::Blob => is_blob(chain, delta, after, number),
+        Column::Blob => blob_after(chain, &after.heaps, &after.totals, number).is_some(),
         Column::Index(table) => is_within(chain, delta, after, table, number),
         Column::Coded(kind) => match decode_coded(kind, number) {
             Some(token) => is_within(chain, delta, after, token.table, token.row),

@@ -2,7 +2,8 @@
 ghost use Rattle.std.specs.Prelude.{◌≡◌, ◌<◌, ◌^◌, IsTrue, Some, length, slice_get};
 ghost use Rattle.enc_base.specs.Order.{first_below};
 ghost use Rattle.enc_schema.specs.Schema.{columns_in};
-ghost use Rattle.enc_delta.specs.Delta.{nth_row, listed, of_table};
+ghost use Rattle.enc_base.specs.Token.{nth_row};
+ghost use Rattle.enc_delta.specs.Delta.{listed, of_table};
 ghost use Rattle.enc_delta.specs.Rules.{cell_fault, row_fault, table_fault, e13, e14};
 ghost use Rattle.enc_delta.specs.After.{IsAfter, speaks, begins_with};
 

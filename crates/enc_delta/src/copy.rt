@@ -31,18 +31,21 @@ pub fn log_of(delta: &Delta, alloc: Global) -> Result<Vec<Entry>, AllocError>
     Ok(log)
 }
 
-/// The tokens of EncMap but the Module's.
-#[tactic(auto, using(crate::proofs::Listed::tokens_none, crate::proofs::Listed::tokens_kept, crate::proofs::Listed::tokens_left), unfolding(crate::specs::Delta::listed, crate::specs::Delta::map_in))]
-pub fn listed_of(delta: &Delta, alloc: Global) -> Result<Vec<Token>, AllocError>
-    ensures tokens { IfOk result (λ l. l.items ≡ listed delta.now) }
-    ensures rows { IfOk result (λ l. IsTrue (list_all (λ (t : TheToken). nat_lt t.row 0x1000000) l.items)) }
-{
-    let mut tokens = Vec::new(alloc);
-    for i in 0..delta.map_len() {
-        let token = delta.map(i);
-        if !is_module(token) {
-            tokens.push(token)?;
+impl Delta {
+    /// The tokens of EncMap but the Module's, in the map's order.
+    #[tactic(auto, using(crate::proofs::Listed::tokens_none, crate::proofs::Listed::tokens_kept, crate::proofs::Listed::tokens_left), unfolding(crate::specs::Delta::listed, crate::specs::Delta::map_in))]
+    pub fn tokens(&self, alloc: Global) -> Result<Vec<Token>, AllocError>
+        ensures tokens { IfOk result (λ l. l.items ≡ listed self.now) }
+        ensures rows { IfOk result (λ l. IsTrue (list_all (λ (t : TheToken). nat_lt t.row 0x1000000) l.items)) }
+        ensures tables { IfOk result (λ l. IsTrue (list_all (λ (t : TheToken). nat_lt t.table 0x100) l.items)) }
+    {
+        let mut tokens = Vec::new(alloc);
+        for i in 0..self.map_len() {
+            let token = self.map(i);
+            if !is_module(token) {
+                tokens.push(token)?;
+            }
         }
+        Ok(tokens)
     }
-    Ok(tokens)
 }

@@ -3,7 +3,8 @@ ghost use Rattle.std.specs.Prelude.{◌≡◌, ◌+◌, ◌<◌, ◌^◌, Some, 
 ghost use Rattle.enc_schema.specs.Schema.{column_in};
 ghost use Rattle.enc_rows.specs.Layout.{rows_of, has_row};
 ghost use Rattle.enc_rows.specs.Source.{raw_in};
-ghost use Rattle.enc_delta.specs.Delta.{delta_of, nth_row, entry_at, token_at, log_in, map_in, listed};
+ghost use Rattle.enc_base.specs.Token.{nth_row};
+ghost use Rattle.enc_delta.specs.Delta.{delta_of, entry_at, token_at, log_in, map_in, listed};
 ghost use Rattle.enc_delta.specs.Seen.{Reads};
 
 use crate::entry::Entry;
@@ -38,7 +39,7 @@ impl Model for Delta {
 }
 
 impl Delta {
-    /// Reads a delta. Refused is the first of F1, F2, F6 of its metadata. It takes no memory.
+    /// Reads a delta. Refused is the first of F1, F2, F6 of its metadata, and for now U1. It takes no memory.
     pub fn read(meta: Vec<u8>, il: Vec<u8>) -> Result<Delta, ReadFault>
         ensures { Reads result (delta_of meta.items) }
     {
@@ -149,6 +150,7 @@ impl Delta {
         requires few { i < 2 ^ 24 }
         ensures token { slice_get (map_in self.now) i ≡ Some result }
         ensures at { result ≡ token_at self.now i }
+        ensures table { result.table < 2 ^ 8 }
         ensures row { result.row < 2 ^ 24 }
     {
         Token::of(self.cell(nth_row(0x1f, i), 0))

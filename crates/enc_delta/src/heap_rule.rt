@@ -1,10 +1,11 @@
 //! The joined heaps after a delta stay within their limits.
-ghost use Rattle.std.specs.Prelude.{◌≡◌, ◌+◌, ◌*◌, ◌/◌, ◌^◌, ◌==◌, ◌||◌, length, not, nat_lt};
+ghost use Rattle.std.specs.Prelude.{◌≡◌, [], ◌∷◌, ◌+◌, ◌*◌, ◌/◌, ◌^◌, ◌==◌, ◌||◌, length, not, nat_lt};
 ghost use Rattle.enc_delta.specs.Rules.{last_byte, e5, e5_strings, e5_users, e5_blobs, e5_guids};
 ghost use Rattle.enc_delta.specs.Totals.{totals_of};
 
 use crate::delta::Delta;
 use enc_base::{Place, StreamName};
+use enc_meta::Heaps;
 use enc_plain::ChainView;
 
 /// How many bytes of `#Strings`, `#US` and `#Blob` the generations have together, and how many
@@ -15,6 +16,21 @@ pub struct HeapTotals {
     pub users: u64,
     pub blobs: u64,
     pub guids: u64,
+}
+
+impl HeapTotals {
+    /// The totals of one generation.
+    #[tactic(auto, using(crate::proofs::Totals::totals_alone))]
+    pub fn of(heaps: &Heaps<'_>) -> HeapTotals
+        ensures { result ≡ totals_of (heaps.now ∷ []) }
+    {
+        HeapTotals {
+            strings: heaps.strings().len() as u64,
+            users: heaps.users().len() as u64,
+            blobs: heaps.blobs().len() as u64,
+            guids: (heaps.guids().len() / 16) as u64,
+        }
+    }
 }
 
 /// So many bytes and so many more pass a limit.

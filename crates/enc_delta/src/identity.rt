@@ -1,27 +1,15 @@
 //! The Module row of a delta: it belongs to the chain and is the next generation.
-ghost use Rattle.std.specs.Prelude.{◌≡◌, ℕ, List, [], ◌∷◌, ◌++◌, bytes_eq};
+ghost use Rattle.std.specs.Prelude.{◌≡◌, ℕ, List, bytes_eq};
 ghost use Rattle.std.specs.List.{list_any};
-ghost use Rattle.enc_meta.specs.Joined.{joined_guid};
 ghost use Rattle.enc_plain.specs.Chain.{mvid_of};
 ghost use Rattle.enc_delta.specs.Rules.{own_guid, e1, e2, e3, e4};
 
 use crate::delta::Delta;
+use crate::joined::guid_after;
 use enc_base::{Place, Token};
-use enc_meta::Heaps;
 use enc_plain::ChainView;
 
 const MODULE: Token = Token { table: 0, row: 1 };
-
-/// Entry k of the joined `#GUID` with one heap more: the chain's, or else that heap's.
-#[tactic(auto, using(crate::proofs::Joined::guid_behind))]
-pub fn guid_after<C: ChainView>(chain: &C, heaps: &Heaps<'_>, k: u32) -> Option<[u8; 16]>
-    ensures { result ≡ joined_guid ((C.chain chain.now).heaps ++ heaps.now ∷ []) k }
-{
-    match chain.guid_at(k) {
-        Some(guid) => Some(guid),
-        None => heaps.guid(k),
-    }
-}
 
 /// A GUID of the delta's Module row; one that can't be read is nil.
 #[tactic(auto, unfolding(crate::specs::Rules::own_guid, enc_plain::specs::Chain::nil_guid))]

@@ -8,15 +8,18 @@ mod delta;
 mod entry;
 mod heap_rule;
 mod identity;
+mod joined;
 mod lists;
 mod open;
 mod place;
 mod rules;
 mod table_rule;
 
+pub use after::{inserts_of, is_insert};
 pub use delta::Delta;
 pub use entry::Entry;
 pub use heap_rule::HeapTotals;
+pub use joined::{blob_after, guid_after, text_after};
 
 #[cfg(test)]
 mod tests;

@@ -7,6 +7,8 @@ ghost use Rattle.enc_plain.specs.Chain.{Chain, rows_before};
 ghost use Rattle.enc_delta.specs.Lists.{AreTokens, AreEntries, parents, parent_in, next_is, is_pair};
 ghost use Rattle.enc_delta.specs.Rules.{at_token, lesser, least, late, late_fault, is_insert, insert_fault, counts, changed, stands_in, in_one, set_fault, inserts, rows_with, parent_table, child_table, log_fault, adds, child_fault_in, child_fault};
 
+use crate::after::is_insert;
+use crate::copy::is_module;
 use crate::entry::Entry;
 use enc_base::{Place, Token};
 use enc_plain::{ChainView, ModuleView};
@@ -35,7 +37,7 @@ fn lesser(n: u32, other: Option<u32>) -> u32
 /// The least number that has one before it that isn't less.
 fn least_late(listed: &[Token]) -> Option<u32>
     requires { AreTokens listed.now }
-    ensures { result ≡ least (late [] (map number_of listed.now)) }
+    ensures { result ≡ least (late (map number_of listed.now)) }
 {
     let mut rest = listed;
     let mut bound: u64 = 0;
@@ -59,15 +61,6 @@ pub fn late_fault(listed: &[Token]) -> Option<Place>
     ensures { result ≡ late_fault listed.now }
 {
     placed(least_late(listed))
-}
-
-/// Whether a token is past the rows before, or of row 0.
-#[tactic(auto, unfolding(crate::specs::Rules::is_insert))]
-fn is_insert<C: ChainView>(chain: &C, token: Token) -> bool
-    requires means { C.meaning chain.now ≡ (C.chain chain.now).plain }
-    ensures { result ≡ is_insert (C.chain chain.now) token }
-{
-    token.row == 0 || token.row > chain.count(token.table)
 }
 
 /// Whether a token is the next row after those before and some inserts.
@@ -110,7 +103,7 @@ pub fn insert_fault<C: ChainView>(chain: &C, listed: &[Token]) -> Option<Place>
 fn counts(entry: Entry) -> bool
     ensures { result ≡ counts entry }
 {
-    !(entry.token.table == 0 && entry.token.row == 1)
+    !is_module(entry.token)
 }
 
 /// Whether an entry counts and has code 0.

@@ -8,7 +8,7 @@ ghost use Rattle.enc_delta.specs.Totals.{totals_of};
 
 use crate::after::{After, inserts_of};
 use crate::cells::{e13, e14};
-use crate::copy::{listed_of, log_of};
+use crate::copy::log_of;
 use crate::delta::Delta;
 use crate::entry::Entry;
 use crate::heap_rule::{HeapTotals, e5};
@@ -64,7 +64,7 @@ fn cells_broken<C: ChainView>(
     requires tokens { tokens.now ≡ listed delta.now }
     ensures { result ≡ cells_meta (C.chain chain.now) delta.now }
 {
-    match e12(chain, delta) {
+    match e12(delta) {
         Some(place) => return Some(broken(12, place)),
         None => {}
     }
@@ -101,7 +101,7 @@ fn lists_broken<C: ChainView>(
         Some(place) => return Ok(Some(broken(6, place))),
         None => {}
     }
-    match e7(chain, delta, tokens) {
+    match e7(delta, tokens) {
         Some(place) => return Ok(Some(broken(7, place))),
         None => {}
     }
@@ -136,7 +136,7 @@ fn rest_broken<C: ChainView>(
     requires tied { before.now ≡ totals_of (C.chain chain.now).heaps }
     ensures { IfOk result (λ r. r ≡ lists_meta (C.chain chain.now) delta.now) }
 {
-    let tokens = match listed_of(delta, alloc) {
+    let tokens = match delta.tokens(alloc) {
         Ok(tokens) => tokens,
         Err(error) => return Err(error),
     };

@@ -5,7 +5,6 @@ ghost use Rattle.enc_delta.specs.Rules.{rows_for, may_change, e7_at, e12_at, e7,
 
 use crate::delta::Delta;
 use enc_base::{Place, Token};
-use enc_plain::ChainView;
 
 /// How many of the tokens are of each table.
 fn table_counts(tokens: &[Token]) -> [usize; 256]
@@ -44,11 +43,10 @@ fn e7_at(delta: &Delta, counts: &[usize; 256], table: u8) -> Option<Place>
 
 /// E7: the first table whose rows and tokens differ in number.
 #[tactic(auto, using(enc_base::proofs::First::first_none, enc_base::proofs::First::first_found, enc_base::proofs::First::first_more), unfolding(crate::specs::Rules::e7))]
-pub fn e7<C: ChainView>(chain: &C, delta: &Delta, tokens: &[Token]) -> Option<Place>
+pub fn e7(delta: &Delta, tokens: &[Token]) -> Option<Place>
     requires { tokens.now ≡ listed delta.now }
-    ensures { result ≡ e7 (C.chain chain.now) delta.now }
+    ensures { result ≡ e7 delta.now }
 {
-    let _ = chain;
     let counts = table_counts(tokens);
     for table in 0..256_u16 {
         match e7_at(delta, &counts, table as u8) {
@@ -94,12 +92,11 @@ fn e12_at(delta: &Delta, table: u8) -> Option<Place>
 
 /// E12: the first table with rows that a delta may not have.
 #[tactic(auto, using(enc_base::proofs::First::first_none, enc_base::proofs::First::first_found, enc_base::proofs::First::first_more), unfolding(crate::specs::Rules::e12))]
-pub fn e12<C: ChainView>(chain: &C, delta: &Delta) -> Option<Place>
-    ensures { result ≡ e12 (C.chain chain.now) delta.now }
+pub fn e12(delta: &Delta) -> Option<Place>
+    ensures { result ≡ e12 delta.now }
 {
-    let _ = chain;
-    for table in 0..0x40 {
-        match e12_at(delta, table) {
+    for table in 0..256_u16 {
+        match e12_at(delta, table as u8) {
             Some(place) => return Some(place),
             None => {}
         }

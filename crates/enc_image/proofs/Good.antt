@@ -2,19 +2,16 @@
 use Rattle.std.proofs.Common.{◌≡◌, ℕ, ◌<◌, Bool, true, false, length, Option, Some, None, refl, sym}
 use Rattle.std.specs.Prelude.{is_some, not, ◌&&◌, option_map, if◌then◌else◌}
 use Rattle.std.proofs.lemmas.Option.{slice_get_within}
-use Rattle.enc_base.specs.Order.{first_below, or_else}
-use Rattle.enc_base.proofs.First.{first_means}
+use Rattle.enc_base.specs.Token.{nth_row}
+use Rattle.enc_base.specs.Order.{or_else}
+use Rattle.enc_base.proofs.First.{silent}
 use Rattle.enc_schema.specs.declared.column.Column.{Column}
 use Rattle.enc_schema.specs.Schema.{columns_in, column_in}
 use Rattle.enc_rows.specs.Layout.{rows_of}
 use Rattle.enc_image.specs.declared.judge.Rule.{Rule}
 use Rattle.enc_image.specs.declared.judge.Rule.TheVariants as rule
-use Rattle.enc_image.specs.Base.{cell_for, asks, cell_fault, row_token, row_fault, table_fault, first_fault, cells_fault}
+use Rattle.enc_image.specs.Base.{cell_for, asks, cell_fault, row_fault, table_fault, first_fault, cells_fault}
 use Rattle.enc_rows.specs.Source.{Source, raw_in}
-
--- no answer below n, none at any place below
-pub silent : {A : Type 0} (rule : ℕ → Option A) (n k : ℕ) → first_below rule n ≡ None → k < n → rule k ≡ None
-silent rule n k none lt = (rw none at (first_means rule n)) k lt
 
 neither : {A B : Type 0} (f : A → B) (a b : Option A) → option_map f (or_else a b) ≡ None → (a ≡ None) × (b ≡ None)
 neither f None None h = (refl, refl)
@@ -39,10 +36,10 @@ if_none true x h = absurd cc
 if_none false x h = refl
 
 -- a cell of which a silent rule speaks is good
-pub good_cell : (s : Source) (which : Rule) (table r i : ℕ) (c : Column) → first_fault s which ≡ None → table < 0x2D → r < rows_of s.layout table → column_in table i ≡ Some c → asks which c ≡ true → is_some (cell_for s.layout s.heaps c (raw_in s (row_token table r) i)) ≡ true
+pub good_cell : (s : Source) (which : Rule) (table r i : ℕ) (c : Column) → first_fault s which ≡ None → table < 0x2D → r < rows_of s.layout table → column_in table i ≡ Some c → asks which c ≡ true → is_some (cell_for s.layout s.heaps c (raw_in s (nth_row table r) i)) ≡ true
 unfolding first_fault table_fault row_fault cell_fault
 good_cell s which table r i c none there row column speaks =
     let in_table = silent (table_fault s which) 0x2D table none there in
     let in_row = silent (row_fault s which table) (rows_of s.layout table) r in_table row in
-    let in_cell = silent (cell_fault s which (row_token table r)) (length (columns_in table)) i in_row (slice_get_within (columns_in table) i c column) in
+    let in_cell = silent (cell_fault s which (nth_row table r)) (length (columns_in table)) i in_row (slice_get_within (columns_in table) i c column) in
     kept (asks which c) _ speaks (if_none _ _ (rw column at in_cell))

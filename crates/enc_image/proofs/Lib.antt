@@ -1,3 +1,4 @@
 pub mod Listed
 pub mod Good
 pub mod Rows
+pub mod Alone

@@ -4,12 +4,12 @@ use Rattle.std.specs.Prelude.{is_some, not, ◌&&◌, option_map, option_and_the
 use Rattle.std.specs.List.{list_all}
 use Rattle.std.proofs.lemmas.Bool.{cases_lt}
 use Rattle.std.proofs.lemmas.Bool.Decides.{nat_tests}
+use Rattle.enc_base.specs.Token.{nth_row}
 use Rattle.enc_base.specs.declared.token.Token.{Token}
 use Rattle.enc_schema.specs.declared.column.Column.{Column}
 use Rattle.enc_schema.specs.Schema.{list_at, schema, columns_in, column_in}
 use Rattle.enc_rows.specs.Layout.{Layout, rows_of}
 use Rattle.enc_rows.specs.Layout as rows
-use Rattle.enc_meta.specs.Heaps.{Counted}
 use Rattle.enc_schema.specs.declared.column.Coding.{Coding}
 use Rattle.enc_schema.specs.Coding.{decoded}
 use Rattle.enc_plain.specs.Cell.{Cell, Kind, number, text, blob, guid, refer, numbers, texts, blobs, guids, kind_of, kind_in, cell_count}
@@ -19,9 +19,9 @@ use Rattle.enc_image.specs.declared.judge.Rule.TheVariants as rule
 use Rattle.enc_meta.specs.Heaps.{text_at, blob_at, guid_at}
 use Rattle.enc_schema.specs.declared.column.Column.TheVariants.{Num8, Num16, Num32, Text, Guid, Blob, Index, Coded, Run}
 use Rattle.enc_image.proofs.Good.{good_cell, no_index_fault, no_offset_fault}
-use Rattle.enc_image.specs.Base.{cell_for, asks, first_fault, cells_fault, cell_in, row_token, is_part, row_in, table_rows, module_in}
+use Rattle.enc_image.specs.Base.{reading_of, cell_for, asks, first_fault, cells_fault, cell_in, is_part, row_in, table_rows, module_in}
 use Rattle.enc_rows.specs.Source.{Source, raw_in}
-use Rattle.enc_plain.specs.Reading.{within, index_token, cell_read}
+use Rattle.enc_plain.specs.Reading.{Reading, within, index_token, cell_read}
 use Rattle.enc_image.proofs.Listed.{get_below, get_past, length_below}
 
 -- the rows of a table below 2D
@@ -72,15 +72,15 @@ row_stands s token h =
     ]
 
 -- the token of the row before one
-pub token_is : (token : Token) → 0 < token.row → row_token token.table (token.row - 1) ≡ token
+pub token_is : (token : Token) → 0 < token.row → nth_row token.table (token.row - 1) ≡ token
 token_is token h = let e : token.row - 1 + 1 ≡ token.row = omega arith in rw e refl
 
 -- a cell of the module is the source's
-cell_at : (s : Source) (table r i : ℕ) (cell : Cell) → table < 0x2D → is_part table ≡ true → r < rows_of s.layout table → i < cell_count table → cell_in s (row_token table r) i ≡ Some cell → cell_of (module_in s) (row_token table r) i ≡ Some cell
+cell_at : (s : Source) (table r i : ℕ) (cell : Cell) → table < 0x2D → is_part table ≡ true → r < rows_of s.layout table → i < cell_count table → cell_in s (nth_row table r) i ≡ Some cell → cell_of (module_in s) (nth_row table r) i ≡ Some cell
 unfolding cell_of row_of
 cell_at s table r i cell there part row column is =
     let e : r + 1 ≡ suc r = omega arith in
-    rw (rows_there s table there, part, e, get_below (row_in s table) (rows_of s.layout table) r row, get_below (λ (k : ℕ). unwrap_or (cell_in s (row_token table r) k) (number 0)) (cell_count table) i column, is) refl
+    rw (rows_there s table there, part, e, get_below (row_in s table) (rows_of s.layout table) r row, get_below (λ (k : ℕ). unwrap_or (cell_in s (nth_row table r) k) (number 0)) (cell_count table) i column, is) refl
 
 -- behind a run stand runs alone
 runs_last : List Column → Bool
@@ -150,11 +150,12 @@ good s which token i c none there column speaks =
     rw (token_is token row.low) at (good_cell s which token.table (token.row - 1) i c none row.table (omega (arith, row.low, row.high)) column speaks)
 
 -- the column of a cell of this kind
-column_with : (o : Option Column) (k : Kind) → option_and_then kind_of o ≡ Some k → (c : Column) × (o ≡ Some c) × (kind_of c ≡ Some k)
+pub column_with : (o : Option Column) (k : Kind) → option_and_then kind_of o ≡ Some k → (c : Column) × (o ≡ Some c) × (kind_of c ≡ Some k)
 column_with (Some c) k h = (c, refl, h)
 column_with None k h = absurd cc
 
-text_column : (c : Column) → kind_of c ≡ Some texts → c ≡ Text
+-- the one column with texts, the one with blobs, and the one with GUIDs
+pub text_column : (c : Column) → kind_of c ≡ Some texts → c ≡ Text
 text_column Text h = refl
 text_column Num8 h = absurd cc
 text_column Num16 h = absurd cc
@@ -165,7 +166,7 @@ text_column (Index t) h = absurd cc
 text_column (Coded k) h = absurd cc
 text_column (Run t) h = absurd cc
 
-blob_column : (c : Column) → kind_of c ≡ Some blobs → c ≡ Blob
+pub blob_column : (c : Column) → kind_of c ≡ Some blobs → c ≡ Blob
 blob_column Blob h = refl
 blob_column Text h = absurd cc
 blob_column Num8 h = absurd cc
@@ -176,7 +177,7 @@ blob_column (Index t) h = absurd cc
 blob_column (Coded k) h = absurd cc
 blob_column (Run t) h = absurd cc
 
-guid_column : (c : Column) → kind_of c ≡ Some guids → c ≡ Guid
+pub guid_column : (c : Column) → kind_of c ≡ Some guids → c ≡ Guid
 guid_column Guid h = refl
 guid_column Text h = absurd cc
 guid_column Num8 h = absurd cc
@@ -187,12 +188,15 @@ guid_column (Index t) h = absurd cc
 guid_column (Coded k) h = absurd cc
 guid_column (Run t) h = absurd cc
 
+-- where a cell is there and is made from an optional value, so is the value
+pub made_from : {A : Type 0} (o : Option Cell) (f : A → Cell) (x : Option A) (P : Cell → Type 0) → is_some o ≡ true → o ≡ option_map f x → ((cell : Cell) → o ≡ Some cell → P cell) → MatchOption x ⊥ (λ a. P (f a))
+made_from o f (Some a) P some is holds = holds (f a) is
+made_from o f None P some is holds = let e = rw is at some in cc
+
 -- where an optional value is there, and the cell is made from it, the module has that cell
 pub made : {A : Type 0} (s : Source) (token : Token) (i : ℕ) (c : Column) (which : Rule) (f : A → Cell) (x : Option A) → first_fault s which ≡ None → IsTrue (has_row (module_in s) token) → column_in token.table i ≡ Some c → is_some (kind_of c) ≡ true → asks which c ≡ true → cell_for s.layout s.heaps c (raw_in s token i) ≡ option_map f x → MatchOption x ⊥ (λ a. cell_of (module_in s) token i ≡ Some (f a))
-made s token i c which f (Some a) none there column kind speaks is = held s token i c (f a) there column kind is
-made s token i c which f None none there column kind speaks is =
-    let e = rw is at (good s which token i c none there column speaks) in
-    cc
+made s token i c which f x none there column kind speaks is =
+    made_from (cell_for s.layout s.heaps c (raw_in s token i)) f x (λ cell. cell_of (module_in s) token i ≡ Some cell) (good s which token i c none there column speaks) is (λ cell e. held s token i c cell there column kind e)
 
 -- a cell of each kind: the entry is there, and the module has the cell with it
 pub text_cell : (s : Source) (token : Token) (i n : ℕ) → cells_fault s ≡ None → IsTrue (has_row (module_in s) token) → kind_in token.table i ≡ Some texts → raw_in s token i ≡ n → MatchOption (text_at s.heaps.strings n) ⊥ (λ a. cell_of (module_in s) token i ≡ Some (text a))
@@ -220,39 +224,42 @@ within_from : (b : Bool) (t : Token) (P : Token → Type 0) → MatchOption (if 
 within_from true t P h = h
 within_from false t P h = absurd h
 
-within_is : (l : Layout) (t : Token) (P : Token → Type 0) → MatchOption (within (rows_of l) t) ⊥ P → P t
-within_is l t P h = within_from (nat_le t.row (rows_of l t.table)) t P h
+-- a token within the counts is the token itself
+pub within_is : (count : ℕ → ℕ) (t : Token) (P : Token → Type 0) → MatchOption (within count t) ⊥ P → P t
+within_is count t P h = within_from (nat_le t.row (count t.table)) t P h
 
 pub index_cell : (s : Source) (token : Token) (i n table : ℕ) → cells_fault s ≡ None → IsTrue (has_row (module_in s) token) → column_in token.table i ≡ Some (Index table) → raw_in s token i ≡ n → cell_of (module_in s) token i ≡ Some (refer (index_token table n))
 unfolding cell_read
 index_cell s token i n table sound there column is =
-    within_is s.layout (index_token table n) (λ t. cell_of (module_in s) token i ≡ Some (refer t)) (made s token i (Index table) rule.Index refer _ (no_index_fault s sound) there column refl refl (rw is refl))
+    within_is (rows_of s.layout) (index_token table n) (λ t. cell_of (module_in s) token i ≡ Some (refer t)) (made s token i (Index table) rule.Index refer _ (no_index_fault s sound) there column refl refl (rw is refl))
 
-coded_is : (l : Layout) (o : Option Token) (P : Token → Type 0) → MatchOption (option_and_then (within (rows_of l)) o) ⊥ P → MatchOption o ⊥ P
-coded_is l (Some t) P h = within_is l t P h
-coded_is l None P h = h
+-- the same of a coded index
+pub coded_is : (count : ℕ → ℕ) (o : Option Token) (P : Token → Type 0) → MatchOption (option_and_then (within count) o) ⊥ P → MatchOption o ⊥ P
+coded_is count (Some t) P h = within_is count t P h
+coded_is count None P h = h
 
 pub coded_cell : (s : Source) (token : Token) (i n : ℕ) (kind : Coding) → cells_fault s ≡ None → IsTrue (has_row (module_in s) token) → column_in token.table i ≡ Some (Coded kind) → raw_in s token i ≡ n → MatchOption (decoded kind n) ⊥ (λ t. cell_of (module_in s) token i ≡ Some (refer t))
 unfolding cell_read
 coded_cell s token i n kind sound there column is =
-    coded_is s.layout (decoded kind n) (λ t. cell_of (module_in s) token i ≡ Some (refer t)) (made s token i (Coded kind) rule.Index refer (option_and_then (within (rows_of s.layout)) (decoded kind n)) (no_index_fault s sound) there column refl refl (rw is refl))
+    coded_is (rows_of s.layout) (decoded kind n) (λ t. cell_of (module_in s) token i ≡ Some (refer t)) (made s token i (Coded kind) rule.Index refer (option_and_then (within (rows_of s.layout)) (decoded kind n)) (no_index_fault s sound) there column refl refl (rw is refl))
 
-number_for : (l : Layout) (h : Counted) (c : Column) (n : ℕ) → kind_of c ≡ Some numbers → cell_for l h c n ≡ Some (number n)
+-- a number stands for itself
+pub number_for : (r : Reading) (c : Column) (n : ℕ) → kind_of c ≡ Some numbers → cell_read r c n ≡ Some (number n)
 unfolding cell_read
-number_for l h Num8 n e = refl
-number_for l h Num16 n e = refl
-number_for l h Num32 n e = refl
-number_for l h Text n e = absurd cc
-number_for l h Guid n e = absurd cc
-number_for l h Blob n e = absurd cc
-number_for l h (Index t) n e = absurd cc
-number_for l h (Coded k) n e = absurd cc
-number_for l h (Run t) n e = absurd cc
+number_for r Num8 n e = refl
+number_for r Num16 n e = refl
+number_for r Num32 n e = refl
+number_for r Text n e = absurd cc
+number_for r Guid n e = absurd cc
+number_for r Blob n e = absurd cc
+number_for r (Index t) n e = absurd cc
+number_for r (Coded k) n e = absurd cc
+number_for r (Run t) n e = absurd cc
 
 pub number_cell : (s : Source) (token : Token) (i n : ℕ) → IsTrue (has_row (module_in s) token) → kind_in token.table i ≡ Some numbers → raw_in s token i ≡ n → cell_of (module_in s) token i ≡ Some (number n)
 number_cell s token i n there kind is =
     let w = column_with _ _ kind in
-    held s token i w.0 (number n) there w.1 (ap is_some w.2) (rw is (number_for s.layout s.heaps w.0 n w.2))
+    held s token i w.0 (number n) there w.1 (ap is_some w.2) (rw is (number_for (reading_of s.layout s.heaps) w.0 n w.2))
 
 -- a column with a kind is there
 pub column_there : (table i : ℕ) (k : Kind) → kind_in table i ≡ Some k → IsSome (column_in table i)
@@ -263,3 +270,8 @@ pub row_in_tables : (s : Source) (token : Token) → IsTrue (has_row (module_in 
 row_in_tables s token there =
     let row = row_stands s token there in
     grind (arith, nat_tests, row.low, row.high)
+
+-- a module has all its tables
+pub tables_there : (s : Source) → length (module_in s).tables ≡ 0x2D
+unfolding module_in
+tables_there s = length_below (table_rows s) 0x2D

@@ -1,9 +1,8 @@
 -- The plain module that a file's bytes say, or the first refusal (ECMA-335 II.22, II.24).
 use Rattle.std.specs.Prelude.{ℕ, zero, suc, ◌+◌, ◌^◌, Bool, true, false, not, ◌&&◌, ◌||◌, List, [], ◌∷◌, length, map, Option, Some, None, option_map, option_and_then, unwrap_or, is_some, Result, Ok, Err, nat_lt, nat_le, ◌==◌, if◌then◌else◌, filter, replicate, codes, nat_eq}
-use Rattle.std.specs.List.{list_any, list_all, starts_with}
-use Rattle.std.specs.Int.{w64}
-use Rattle.enc_base.specs.Numbers.{number_at}
+use Rattle.std.specs.List.{list_any, starts_with}
 use Rattle.enc_base.specs.Order.{or_else, first_below}
+use Rattle.enc_base.specs.Token.{nth_row}
 use Rattle.enc_base.specs.declared.token.Token.{Token}
 use Rattle.enc_base.specs.declared.refusal.Refusal.{Refusal}
 use Rattle.enc_base.specs.declared.refusal.Code.TheVariants.{F, U}
@@ -15,7 +14,8 @@ use Rattle.enc_schema.specs.declared.column.Column.{Column}
 use Rattle.enc_schema.specs.declared.column.Column.TheVariants.{Num8, Num16, Num32, Text, Guid, Blob, Index, Coded, Run}
 use Rattle.enc_schema.specs.Schema.{columns_in, column_in}
 use Rattle.enc_rows.specs.Sums.{below}
-use Rattle.enc_rows.specs.Layout.{Layout, tables_of, rows_of, has_table}
+use Rattle.enc_rows.specs.Layout.{Layout, tables_of, rows_of}
+use Rattle.enc_rows.specs.Unread.{is_unread}
 use Rattle.enc_rows.specs.Source.{Source, raw_in}
 use Rattle.enc_rows.specs.declared.form.Form.TheVariants as form
 use Rattle.enc_image.specs.declared.judge.Rule.{Rule}
@@ -23,6 +23,7 @@ use Rattle.enc_image.specs.declared.judge.Rule.TheVariants as rule
 use Rattle.enc_plain.specs.Cell.{Cell, number, cell_count}
 use Rattle.enc_plain.specs.Reading.{Reading, cell_read}
 use Rattle.enc_plain.specs.Module.{Module, Row}
+use Rattle.enc_plain.specs.Chain.{Chain}
 
 -- by what the numbers of a file are read: its heaps, and its own counts of rows
 abbrev pub reading_of : Layout → Counted → Reading
@@ -58,12 +59,8 @@ breaks s rule token i c = asks rule c && not (is_some (cell_for s.layout s.heaps
 unfoldable pub cell_fault : Source → Rule → Token → ℕ → Option Refusal
 cell_fault s rule token i = option_and_then (λ (c : Column). if breaks s rule token i c then Some (record { code = F (number_of rule); place = place.Cell token i }) else None) (column_in token.table i)
 
--- a row's token, of the row's number from 0
-abbrev pub row_token : ℕ → ℕ → Token
-row_token table r = record { table = table; row = r + 1 }
-
 unfoldable pub row_fault : Source → Rule → ℕ → ℕ → Option Refusal
-row_fault s rule table r = first_below (cell_fault s rule (row_token table r)) (length (columns_in table))
+row_fault s rule table r = first_below (cell_fault s rule (nth_row table r)) (length (columns_in table))
 
 unfoldable pub table_fault : Source → Rule → ℕ → Option Refusal
 table_fault s rule table = first_below (row_fault s rule table) (rows_of s.layout table)
@@ -77,7 +74,7 @@ is_part table = not (list_any (λ t. t == table) (0x03 ∷ 0x05 ∷ 0x07 ∷ 0x1
 
 -- the row with its cells
 abbrev pub row_in : Source → ℕ → ℕ → Row
-row_in s table r = record { cells = map (λ i. unwrap_or (cell_in s (row_token table r) i) (number 0)) (below (cell_count table)) }
+row_in s table r = record { cells = map (λ i. unwrap_or (cell_in s (nth_row table r) i) (number 0)) (below (cell_count table)) }
 
 abbrev pub table_rows : Source → ℕ → List Row
 table_rows s table = if is_part table then map (row_in s table) (below (rows_of s.layout table)) else []
@@ -89,24 +86,6 @@ module_in s = record { tables = map (table_rows s) (below 0x2D) }
 -- the file begins as a metadata root
 abbrev pub is_bare : List ℕ → Bool
 is_bare bytes = starts_with nat_eq bytes (codes "BSJB")
-
--- for now: the tables that are read
-abbrev pub is_read : ℕ → Bool
-is_read table = list_any (λ t. t == table) (0x00 ∷ 0x01 ∷ 0x1E ∷ 0x1F ∷ 0x23 ∷ [])
-
-unfoldable pub is_read_or_absent : ℕ → ℕ → Bool
-is_read_or_absent valid table = not (has_table valid table) || is_read table
-
--- for now: a table stream whose header is there, with no table past 2C, but with one that isn't read
-unfoldable pub has_unread : ℕ → Bool
-has_unread valid = nat_lt valid (2 ^ 0x2D) && not (list_all (is_read_or_absent valid) (below 0x2D))
-
-abbrev pub unread_by : Option ℕ → Bool
-unread_by (Some valid) = has_unread valid
-unread_by None = false
-
-unfoldable pub is_unread : List ℕ → Bool
-is_unread stream = nat_le 24 (length stream) && unread_by (number_at w64 stream 8)
 
 -- a module's widths go by its own rows alone
 unfoldable pub no_counts : List ℕ
@@ -138,14 +117,18 @@ source_of bytes = if is_bare bytes then source_in bytes (root_of bytes) else Err
 unfoldable pub cells_fault : Source → Option Refusal
 cells_fault s = option_map (λ (e : Refusal). record { code = U 2; place = place.Root }) (or_else (first_fault s rule.Index) (first_fault s rule.Offset))
 
-abbrev pub module_or : Source → Option Refusal → Result Module Refusal
-module_or s None = Ok (module_in s)
-module_or s (Some e) = Err e
+-- the chain that a source begins: its plain module, no delta, and its heaps
+unfoldable pub begun : Source → Chain
+begun s = record { plain = module_in s; ids = []; heaps = s.heaps ∷ [] }
 
-abbrev pub base_in : Result Source Refusal → Result Module Refusal
-base_in (Ok s) = module_or s (cells_fault s)
-base_in (Err e) = Err e
+abbrev pub chain_or : Source → Option Refusal → Result Chain Refusal
+chain_or s None = Ok (begun s)
+chain_or s (Some e) = Err e
 
--- the plain module of a file's bytes, or the first refusal
-unfoldable pub base_of : List ℕ → Result Module Refusal
-base_of bytes = base_in (source_of bytes)
+abbrev pub chain_in : Result Source Refusal → Result Chain Refusal
+chain_in (Ok s) = chain_or s (cells_fault s)
+chain_in (Err e) = Err e
+
+-- the chain that a file's bytes begin, or the first refusal
+unfoldable pub chain_of : List ℕ → Result Chain Refusal
+chain_of bytes = chain_in (source_of bytes)

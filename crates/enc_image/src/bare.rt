@@ -1,15 +1,13 @@
 //! Opening a bare file: its root and its tables.
-ghost use Rattle.std.specs.Prelude.{◌≡◌, ◌<◌, IfOk, not, length, nat_lt};
-ghost use Rattle.std.specs.List.{list_all};
+ghost use Rattle.std.specs.Prelude.{◌≡◌, IfOk};
 ghost use Rattle.enc_meta.specs.Heaps.{part};
-ghost use Rattle.enc_rows.specs.Sums.{below};
 ghost use Rattle.enc_rows.specs.Layout.{IsWithin};
-ghost use Rattle.enc_image.specs.Base.{is_bare, is_read, is_read_or_absent, has_unread, is_unread, layout_for, source_of};
+ghost use Rattle.enc_image.specs.Base.{is_bare, layout_for, source_of};
 ghost use Rattle.enc_image.specs.Seen.{opened_source, IsOpened};
 
-use enc_base::{Code, Counts, Place, Refusal, u64_at};
+use enc_base::{Code, Counts, Place, Refusal};
 use enc_meta::{Root, Span, read_root};
-use enc_rows::{Form, Tables};
+use enc_rows::{Form, Tables, is_unread};
 
 /// A root, and the tables in it.
 #[derive(Drop)]
@@ -22,43 +20,6 @@ fn is_bare(bytes: &[u8]) -> bool
     ensures { result ≡ is_bare bytes.now }
 {
     bytes.starts_with(b"BSJB".as_slice())
-}
-
-/// For now: the table is absent, or one that is read.
-#[tactic(auto, unfolding(crate::specs::Base::is_read_or_absent))]
-fn is_read_or_absent(valid: u64, table: u8) -> bool
-    requires { table < 64 }
-    ensures { result ≡ is_read_or_absent valid table }
-{
-    match table {
-        0x00 | 0x01 | 0x1e | 0x1f | 0x23 => true,
-        _ => (valid >> table) % 2 == 0,
-    }
-}
-
-#[tactic(auto, using(enc_rows::proofs::Below::all_none, enc_rows::proofs::Below::all_more, enc_rows::proofs::Below::all_false))]
-fn reads_all(valid: u64) -> bool
-    ensures { result ≡ list_all (is_read_or_absent valid) (below 0x2D) }
-{
-    for table in 0..0x2d {
-        if !is_read_or_absent(valid, table) {
-            return false;
-        }
-    }
-    true
-}
-
-#[tactic(auto, unfolding(crate::specs::Base::is_unread, crate::specs::Base::has_unread))]
-fn is_unread(stream: &[u8]) -> bool
-    ensures { result ≡ is_unread stream.now }
-{
-    if stream.len() < 24 {
-        return false;
-    }
-    match u64_at(stream, 8) {
-        None => false,
-        Some(valid) => valid < 1 << 0x2d && !reads_all(valid),
-    }
 }
 
 /// The tables of a root.

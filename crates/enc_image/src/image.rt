@@ -1,6 +1,6 @@
 //! An image: the bytes of a module that was accepted.
 ghost use Rattle.std.specs.Prelude.{◌≡◌};
-ghost use Rattle.enc_image.specs.Base.{base_of, module_in};
+ghost use Rattle.enc_image.specs.Base.{chain_of};
 ghost use Rattle.enc_image.specs.Seen.{Reads};
 
 use crate::bare::open;
@@ -34,9 +34,9 @@ impl Model for Image {
 impl Image {
     /// Reads a module. Refused is the first of F1, F2, F6, and so far U1 to U3 for forms that aren't
     /// read yet.
-    #[tactic(auto, unfolding(crate::specs::Base::base_of))]
+    #[tactic(auto, unfolding(crate::specs::Base::chain_of))]
     pub fn read(bytes: Vec<u8>) -> Result<Image, ReadFault>
-        ensures { Reads result (base_of bytes.items) }
+        ensures { Reads result (chain_of bytes.items) }
     {
         let opened = match open(&bytes) {
             Ok(opened) => opened,

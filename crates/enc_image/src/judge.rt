@@ -1,10 +1,11 @@
 //! Judging the cells of a module: the first that isn't good.
 ghost use Rattle.std.specs.Prelude.{◌≡◌, ℕ, ◌<◌, ◌≤◌, ◌^◌, true, false, None, length, IsTrue, is_some, Option};
+ghost use Rattle.enc_base.specs.Token.{nth_row};
 ghost use Rattle.enc_base.specs.Order.{or_else, first_below};
 ghost use Rattle.enc_meta.specs.Heaps.{part};
 ghost use Rattle.enc_schema.specs.Schema.{columns_in, column_in};
 ghost use Rattle.enc_rows.specs.Layout.{IsWithin, has_row, rows_of};
-ghost use Rattle.enc_image.specs.Base.{cell_for, asks, number_of, cell_fault, row_token, row_fault, table_fault, first_fault, cells_fault, source_with};
+ghost use Rattle.enc_image.specs.Base.{cell_for, asks, number_of, cell_fault, row_fault, table_fault, first_fault, cells_fault, source_with};
 ghost use Rattle.enc_rows.specs.Source.{Source};
 ghost use Rattle.enc_plain.specs.Reading.{within, index_token};
 ghost use Rattle.enc_image.specs.Seen.{source_seen};

@@ -2,6 +2,7 @@
 #![tactic(auto)]
 
 mod bare;
+mod chain;
 mod image;
 mod judge;
 mod view;

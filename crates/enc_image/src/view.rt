@@ -3,13 +3,12 @@ ghost use Rattle.std.specs.Prelude.{◌≡◌, ◌&&◌, Some, None, IsTrue, IsS
 ghost use Rattle.enc_schema.specs.Schema.{column_in};
 ghost use Rattle.enc_plain.specs.Module.{Module, rows_in, has_row, cell_of};
 ghost use Rattle.enc_image.specs.Base.{is_part, cells_fault, module_in};
-ghost use Rattle.enc_plain.specs.Reading.{index_token};
 ghost use Rattle.enc_rows.specs.Source.{raw_in};
 
 use crate::image::Image;
 use enc_base::Token;
 use enc_meta::Heaps;
-use enc_plain::ModuleView;
+use enc_plain::{ModuleView, index_token};
 use enc_schema::{Column, column_of, decode_coded};
 
 /// The Ptr tables, EncLog and EncMap are no part of a module.
@@ -17,17 +16,6 @@ fn is_part(table: u8) -> bool
     ensures { result ≡ is_part table }
 {
     !matches!(table, 0x03 | 0x05 | 0x07 | 0x13 | 0x16 | 0x1e | 0x1f)
-}
-
-/// The token of an index.
-fn index_token(table: u8, row: u32) -> Token
-    ensures { result ≡ index_token table row }
-{
-    if row == 0 {
-        Token { table: 0, row: 0 }
-    } else {
-        Token { table, row }
-    }
 }
 
 impl Image {

@@ -5,10 +5,11 @@ use Rattle.std.proofs.lemmas.Bool.Decides.{nat_tests}
 use Rattle.std.proofs.lemmas.Bool.{cases_eq}
 use Rattle.enc_base.specs.declared.token.Token.{Token}
 use Rattle.enc_base.specs.Order.{or_else}
+use Rattle.enc_base.specs.Token.{is_token}
 use Rattle.enc_schema.specs.Schema.{list_at}
 use Rattle.enc_plain.specs.Module.{Module, Row, rows_in, row_at, row_of}
 use Rattle.enc_plain.specs.Apply.{Change, put_row, put_in, put, apply}
-use Rattle.enc_plain.specs.Fits.{is_token, row_for, changes, FitsOne, Fits}
+use Rattle.enc_plain.specs.Fits.{row_for, changes, FitsOne, Fits}
 
 -- the row that was put
 pub put_same : (rows : List Row) (n : ℕ) (row : Row) → n ≤ length rows → slice_get (put_row rows n row) n ≡ Some row

@@ -1,13 +1,10 @@
 -- When changes fit a module: each row is one of its table or the next, and no token is changed twice.
 use Rattle.std.specs.Prelude.{◌≡◌, ℕ, zero, suc, ◌+◌, ◌<◌, ◌≤◌, Bool, true, false, ◌&&◌, List, [], ◌∷◌, length, Option, Some, None, ◌==◌, if◌then◌else◌}
 use Rattle.std.specs.List.{list_any}
+use Rattle.enc_base.specs.Token.{is_token}
 use Rattle.enc_base.specs.declared.token.Token.{Token}
 use Rattle.enc_plain.specs.Module.{Module, Row, rows_in}
 use Rattle.enc_plain.specs.Apply.{Change, put}
-
--- the tokens are the same
-abbrev pub is_token : Token → Token → Bool
-is_token t u = t.table == u.table && t.row == u.row
 
 -- the row that the changes give a token
 unfoldable pub row_for : List Change → Token → Option Row

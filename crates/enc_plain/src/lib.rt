@@ -5,4 +5,4 @@ mod chain;
 mod view;
 
 pub use chain::ChainView;
-pub use view::{ModuleView, is_row};
+pub use view::{ModuleView, index_token, is_row};

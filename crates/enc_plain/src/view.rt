@@ -2,6 +2,7 @@
 ghost use Rattle.std.specs.Prelude.{◌≡◌, Some, length, IsTrue};
 ghost use Rattle.enc_plain.specs.Cell.{number, text, blob, guid, refer, kind_in, numbers, texts, blobs, guids, references};
 ghost use Rattle.enc_plain.specs.Module.{Module, rows_in, has_row, cell_of};
+ghost use Rattle.enc_plain.specs.Reading.{index_token};
 
 use enc_base::Token;
 
@@ -53,4 +54,15 @@ pub fn is_row<V: ModuleView>(view: &V, token: Token) -> bool
     ensures { result ≡ has_row (V.meaning view.now) token }
 {
     token.row != 0 && token.row <= view.count(token.table)
+}
+
+/// The token of an index into a table: nil for row 0.
+pub fn index_token(table: u8, row: u32) -> Token
+    ensures { result ≡ index_token table row }
+{
+    if row == 0 {
+        Token { table: 0, row: 0 }
+    } else {
+        Token { table, row }
+    }
 }

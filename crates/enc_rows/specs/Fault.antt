@@ -1,6 +1,7 @@
 -- The first bad index of a module's tables (F7): by table, row and column; a child row without exactly one owner stands behind its columns.
 use Rattle.std.specs.Prelude.{ℕ, zero, suc, ◌+◌, Bool, true, false, not, ◌&&◌, ◌||◌, length, Option, Some, None, option_and_then, nat_lt, ◌==◌, if◌then◌else◌}
 use Rattle.enc_base.specs.Order.{or_else, first_below}
+use Rattle.enc_base.specs.Token.{nth_row}
 use Rattle.enc_base.specs.declared.token.Token.{Token}
 use Rattle.enc_base.specs.declared.refusal.Place.{Place}
 use Rattle.enc_base.specs.declared.refusal.Place.TheVariants as place
@@ -9,7 +10,7 @@ use Rattle.enc_schema.specs.declared.column.Column.TheVariants.{Index, Coded, Ru
 use Rattle.enc_schema.specs.Schema.{columns_in, column_in}
 use Rattle.enc_schema.specs.Coding.{decoded}
 use Rattle.enc_rows.specs.Layout.{Layout, rows_of}
-use Rattle.enc_rows.specs.Runs.{Rows, number_in, nth_row, run_rows, run_start, is_child_table, times_named}
+use Rattle.enc_rows.specs.Runs.{Rows, number_in, run_rows, run_start, is_child_table, times_named}
 
 -- a token past its table, or none
 abbrev pub is_past : Layout → Option Token → Bool

@@ -1,6 +1,7 @@
 -- Runs: which rows of a child table belong to which owner (ECMA-335 II.22.37, II.22.26, II.22.12, II.22.35), and the Ptr tables that a run may go over.
 use Rattle.std.specs.Prelude.{ℕ, zero, suc, ◌+◌, ◌-◌, Bool, List, [], ◌∷◌, unwrap_or, nat_lt, ◌==◌, if◌then◌else◌, flat_map, count_by}
 use Rattle.std.specs.List.{range_with_len}
+use Rattle.enc_base.specs.Token.{nth_row}
 use Rattle.enc_base.specs.declared.token.Token.{Token}
 use Rattle.enc_meta.specs.Heaps.{part}
 use Rattle.enc_rows.specs.Sums.{below}
@@ -18,10 +19,6 @@ rows_with bytes l = record { stream = part bytes l.span; layout = l }
 -- the number in a cell
 abbrev pub number_in : Rows → Token → ℕ → ℕ
 number_in s token i = unwrap_or (raw_cell s.stream s.layout token i) 0
-
--- the n-th row of a table, n from 0
-abbrev pub nth_row : ℕ → ℕ → Token
-nth_row table n = record { table = table; row = n + 1 }
 
 -- the Ptr table of a child table, 0 where it has none
 abbrev pub ptr_of : ℕ → ℕ

@@ -4,7 +4,8 @@ ghost use Rattle.enc_base.specs.Order.{first_below};
 ghost use Rattle.enc_meta.specs.Heaps.{part};
 ghost use Rattle.enc_schema.specs.Schema.{columns_in, column_in};
 ghost use Rattle.enc_rows.specs.Layout.{IsWithin, rows_of};
-ghost use Rattle.enc_rows.specs.Runs.{rows_with, number_in, nth_row, goes_by_ptr, ptr_of as ptr_table, run_rows as run_room};
+ghost use Rattle.enc_base.specs.Token.{nth_row};
+ghost use Rattle.enc_rows.specs.Runs.{rows_with, number_in, goes_by_ptr, ptr_of as ptr_table, run_rows as run_room};
 ghost use Rattle.enc_rows.specs.Owners.{TellsOwners};
 ghost use Rattle.enc_rows.specs.Fault.{is_past as is_token_past, is_bad_run as is_run_bad, is_bad_index as is_index_bad, index_fault_at as fault_at, index_fault_in_row, index_fault_in, index_fault};
 

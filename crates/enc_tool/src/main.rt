@@ -3,8 +3,8 @@
 
 ghost use Rattle.std.specs.Prelude.{◌≡◌, ◌≤◌, None, IfSome, true};
 ghost use Rattle.enc_top.specs.Words.{texts};
-ghost use Rattle.enc_top.specs.Verdict.{verdict_of};
-ghost use Rattle.enc_top.specs.Answers.{is_whole, status_of};
+ghost use Rattle.enc_top.specs.Verdict.{verdict_of, output_of};
+ghost use Rattle.enc_top.specs.Answers.{is_whole, status_of, Prints, Leaves};
 
 use enc_outside::{FileStore, OutSink, Sink, Store};
 use enc_top::run_tool;
@@ -29,6 +29,8 @@ fn status_of<S: Store, K: Sink>(
     ensures no_words { words ≡ None → result ≡ 3 }
     ensures nothing { words ≡ None → K.told out.new ≡ K.told out.old }
     ensures words { IfSome words (λ w. IfSome (S.told store.old) (λ files. is_whole result ≡ true → result ≡ status_of (verdict_of (texts w.items) files))) }
+    ensures prints { IfSome words (λ w. IfSome (S.told store.old) (λ files. Prints result (output_of (verdict_of (texts w.items) files)) (K.told out.old) (K.told out.new))) }
+    ensures files { IfSome words (λ w. IfSome (S.told store.old) (λ files. Leaves result (verdict_of (texts w.items) files) (S.told store.old) (S.told store.new))) }
 {
     match words {
         None => 3,

@@ -7,7 +7,7 @@ use Rattle.enc_schema.specs.Schema.{columns_in, column_in}
 use Rattle.enc_schema.specs.Names.{table_name_in, column_name_in}
 use Rattle.enc_plain.specs.Cell.{Cell, number, text, blob, guid, refer}
 use Rattle.enc_plain.specs.Module.{Module, cell_of}
-use Rattle.enc_top.specs.declared.place.RowPlace.{RowPlace}
+use Rattle.enc_agg.specs.declared.place.RowPlace.{RowPlace}
 use Rattle.enc_top.specs.Text.{digits, token_text, quoted, bracketed, guid_text}
 
 -- f 0, f 1, .. below n, one behind the other

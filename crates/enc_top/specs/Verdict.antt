@@ -1,12 +1,21 @@
 -- What a command answers for the files that are told: nothing here knows how the program works.
-use Rattle.std.specs.Prelude.{◌≡◌, ℕ, List, [], ◌++◌, Option, Some, None, Result, Ok, Err, if◌then◌else◌, codes}
+use Rattle.std.specs.Prelude.{◌≡◌, ℕ, Bool, not, ◌||◌, List, [], ◌++◌, Option, Some, None, is_some, Result, Ok, Err, if◌then◌else◌, codes}
+use Rattle.std.specs.List.{list_any}
 use Rattle.std.specs.FinMap.{get}
 use Rattle.enc_outside.specs.Outside.{Files}
 use Rattle.enc_base.specs.declared.token.Token.{Token}
 use Rattle.enc_base.specs.declared.refusal.Refusal.{Refusal}
+use Rattle.enc_base.specs.declared.refusal.Code.TheVariants.{U}
+use Rattle.enc_base.specs.declared.refusal.Place.TheVariants as place
+use Rattle.enc_rows.specs.Source.{Source}
 use Rattle.enc_plain.specs.Module.{Module, has_row}
-use Rattle.enc_image.specs.Base.{base_of}
-use Rattle.enc_top.specs.declared.place.RowPlace.{RowPlace}
+use Rattle.enc_plain.specs.Chain.{Chain}
+use Rattle.enc_image.specs.Base.{chain_of}
+use Rattle.enc_delta.specs.Delta.{delta_of, listed}
+use Rattle.enc_delta.specs.Rules.{is_insert, first_meta}
+use Rattle.enc_agg.specs.declared.place.RowPlace.{RowPlace}
+use Rattle.enc_agg.specs.Extend.{extended}
+use Rattle.enc_agg.specs.Place.{base_place, place_after}
 use Rattle.enc_top.specs.declared.plan.Outcome.{Outcome}
 use Rattle.enc_top.specs.declared.plan.Outcome.TheVariants.{Done, Refused, Usage, Missing}
 use Rattle.enc_top.specs.Words.{Job, show, job_of}
@@ -20,28 +29,61 @@ pub data Verdict : Type 0 where
   refused_file : List ℕ → Refusal → Verdict
   accepted : List ℕ → Verdict
 
--- the file of a base
+-- the file of a base, and the files of a delta
 abbrev pub dll : List ℕ → List ℕ
 dll base = base ++ codes ".dll"
 
--- a base's own rows stand in generation 0
-abbrev pub base_place : Token → RowPlace
-base_place token = record { generation = 0; row = token.row }
+abbrev pub meta : List ℕ → List ℕ
+meta delta = delta ++ codes ".meta"
+
+abbrev pub il : List ℕ → List ℕ
+il delta = delta ++ codes ".il"
 
 -- the token's row, or that the module lacks it
-unfoldable pub row_or_absent : Module → Token → List ℕ
-row_or_absent m token = if has_row m token then row_text_of m (base_place token) token else absent_line token
+unfoldable pub row_or_absent : Module → RowPlace → Token → List ℕ
+row_or_absent m place token = if has_row m token then row_text_of m place token else absent_line token
 
-abbrev pub shown_of : List ℕ → Token → Result Module Refusal → Verdict
-shown_of name token (Ok m) = accepted (row_or_absent m token)
+abbrev pub shown_of : List ℕ → Token → Result Chain Refusal → Verdict
+shown_of name token (Ok c) = accepted (row_or_absent c.plain (base_place token) token)
 shown_of name token (Err e) = refused_file name e
 
+-- a base alone
 unfoldable pub shown : List ℕ → Token → Option (List ℕ) → Verdict
-shown name token (Some bytes) = shown_of name token (base_of bytes)
+shown name token (Some bytes) = shown_of name token (chain_of bytes)
 shown name token None = absent_file name
 
+-- for now: a delta that breaks a rule, or that changes a row of the base, is refused without its place
+unfoldable pub changes_a_row : Chain → Source → Bool
+changes_a_row c s = list_any (λ (t : Token). not (is_insert c t)) (listed s)
+
+abbrev pub unplaced : Refusal
+unplaced = record { code = U 2; place = place.Root }
+
+-- the row after a delta that breaks no rule
+unfoldable pub shown_next : List ℕ → Token → Chain → Source → Verdict
+shown_next name token c s =
+    if is_some (first_meta c s) || changes_a_row c s then refused_file name unplaced
+    else accepted (row_or_absent (extended c s).plain (place_after 1 s token (base_place token)) token)
+
+abbrev pub shown_after : List ℕ → Token → Chain → Result Source Refusal → Verdict
+shown_after name token c (Ok s) = shown_next name token c s
+shown_after name token c (Err e) = refused_file name e
+
+-- the base is judged before the delta
+abbrev pub shown_both : List ℕ → List ℕ → Token → Result Chain Refusal → Result Source Refusal → Verdict
+shown_both base name token (Ok c) delta = shown_after name token c delta
+shown_both base name token (Err e) delta = refused_file base e
+
+-- a base and a delta with the names of their files: all files are there before one is judged
+unfoldable pub shown_with : List ℕ → List ℕ → List ℕ → Token → Option (List ℕ) → Option (List ℕ) → Option (List ℕ) → Verdict
+shown_with base metadata code token None m c = absent_file base
+shown_with base metadata code token (Some b) None c = absent_file metadata
+shown_with base metadata code token (Some b) (Some m) None = absent_file code
+shown_with base metadata code token (Some b) (Some m) (Some c) = shown_both base metadata token (chain_of b) (delta_of m)
+
 abbrev pub verdict_on : Files → Option Job → Verdict
-verdict_on files (Some (show base token)) = shown (dll base) token (get files (dll base))
+verdict_on files (Some (show base token None)) = shown (dll base) token (get files (dll base))
+verdict_on files (Some (show base token (Some delta))) = shown_with (dll base) (meta delta) (il delta) token (get files (dll base)) (get files (meta delta)) (get files (il delta))
 verdict_on files None = no_command
 
 -- what the words come to over these files

@@ -1,7 +1,8 @@
 //! The words of a command.
 ghost use Rattle.std.specs.Prelude.{◌≡◌, option_map, IfSome};
 ghost use Rattle.std.specs.List.{list_all};
-ghost use Rattle.enc_top.specs.Words.{is_name_byte, is_name, token_in, show_of, job_of, texts, Job};
+ghost use Rattle.std.specs.Option.{option_copied};
+ghost use Rattle.enc_top.specs.Words.{is_name_byte, is_name, is_name_or_none, token_in, show_of, job_of, texts, Job};
 ghost use Rattle.enc_top.specs.Commands.{job_seen};
 
 use enc_base::Token;
@@ -9,8 +10,12 @@ use enc_base::Token;
 /// A command with its words.
 #[derive(Clone, Copy, Debug)]
 pub enum Command<'a> {
-    /// Prints a row of a base.
-    Show { base: &'a str, token: Token },
+    /// Prints a row of a base, or of a base with a delta.
+    Show {
+        base: &'a str,
+        token: Token,
+        delta: Option<&'a str>,
+    },
 }
 
 fn is_name_byte(b: u8) -> bool
@@ -48,15 +53,29 @@ fn token_of(word: &str) -> Option<Token>
     }
 }
 
-#[tactic(auto, unfolding(crate::specs::Words::show_of))]
-fn show_of<'a>(name: &str, base: &'a str, token: &str) -> Option<Command<'a>>
-    ensures { option_map job_seen result ≡ show_of name.now base.now token.now }
+fn is_name_or_none(word: Option<&str>) -> bool
+    ensures { result ≡ is_name_or_none (option_copied word.entry) }
 {
-    if name != "show" || !is_name(base) {
+    match word {
+        Some(word) => is_name(word),
+        None => true,
+    }
+}
+
+#[tactic(auto, unfolding(crate::specs::Words::show_of))]
+fn show_of<'a>(
+    name: &str,
+    base: &'a str,
+    token: &str,
+    delta: Option<&'a str>,
+) -> Option<Command<'a>>
+    ensures { option_map job_seen result ≡ show_of name.now base.now token.now (option_copied delta.entry) }
+{
+    if name != "show" || !is_name(base) || !is_name_or_none(delta) {
         return None;
     }
     let token = token_of(token)?;
-    Some(Command::Show { base, token })
+    Some(Command::Show { base, token, delta })
 }
 
 /// The row of the command table that the words are.
@@ -64,7 +83,13 @@ pub fn command_of(words: &[String]) -> Option<Command<'_>>
     ensures { option_map job_seen result ≡ job_of (texts words.now) }
 {
     match words {
-        [name, base, token] => show_of(name.as_str(), base.as_str(), token.as_str()),
+        [name, base, token] => show_of(name.as_str(), base.as_str(), token.as_str(), None),
+        [name, base, token, delta] => show_of(
+            name.as_str(),
+            base.as_str(),
+            token.as_str(),
+            Some(delta.as_str()),
+        ),
         _ => None,
     }
 }

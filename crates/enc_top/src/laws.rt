@@ -1,7 +1,12 @@
-//! What the definitions give for the example, as the contract of a function that does nothing.
-ghost use Rattle.enc_top.specs.Example.{ExampleIsShown};
+//! What the definitions give for the examples, as the contracts of functions that do nothing.
+ghost use Rattle.enc_top.specs.Example.{ExampleIsShown, ExampleIsExtended};
 
 /// `show` of the first TypeRef row of the 200 bytes of the example, by the definitions alone.
 pub fn example_row()
     ensures { ExampleIsShown }
+{}
+
+/// `show` of the TypeRef row that the example's delta adds, by the definitions alone.
+pub fn example_delta_row()
+    ensures { ExampleIsExtended }
 {}

@@ -5,14 +5,15 @@ mod command;
 mod ending;
 mod finish;
 mod laws;
-mod place;
 mod plan;
 mod planning;
+mod plans;
 mod rows;
 mod run;
+mod show;
 mod text;
 
-pub use laws::example_row;
-pub use place::RowPlace;
+pub use enc_agg::RowPlace;
+pub use laws::{example_delta_row, example_row};
 pub use rows::row_text;
 pub use run::run_tool;

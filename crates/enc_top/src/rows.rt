@@ -5,10 +5,10 @@ ghost use Rattle.enc_schema.specs.Names.{column_name_in};
 ghost use Rattle.enc_plain.specs.Module.{has_row, cell_of};
 ghost use Rattle.enc_top.specs.RowText.{value_in, equation, joined_below, cell_text, place_text, row_text_of};
 
-use crate::place::RowPlace;
 use crate::text::{
     push_blob, push_decimal, push_digits, push_guid, push_quoted, push_str, push_token,
 };
+use enc_agg::RowPlace;
 use enc_base::Token;
 use enc_plain::ModuleView;
 use enc_schema::{Column, column_name, column_of, columns_of, table_name};

@@ -4,4 +4,4 @@ use Rattle.enc_delta.specs.Rules.{e7_at}
 use Rattle.enc_delta.proofs.table_rule.e7.Given as goal
 
 abbrev pub invariant-loop-table : goal.invariant-loop-table
-invariant-loop-table g l = first_below (e7_at l.delta) l.table ≡ None
+invariant-loop-table l = first_below (e7_at l.delta) l.table ≡ None

@@ -1,7 +1,8 @@
 use Rattle.std.proofs.Common.{◌≡◌, ◌≤◌, drop}
 use Rattle.std.specs.Prelude.{filter, not}
 use Rattle.enc_base.specs.declared.token.Token.{Token}
-use Rattle.enc_delta.specs.Delta.{is_module, map_in, place_behind, place_in, listed}
+use Rattle.enc_delta.specs.Delta.{is_module, map_in, place_in, listed}
+use Rattle.enc_delta.proofs.Placing.{place_behind}
 use Rattle.enc_delta.proofs.delta.Delta.place.Given as goal
 
 -- the position behind those so far is the position

@@ -1,0 +1,135 @@
+-- The changes of a delta that may follow a chain fit its module, and count as its inserts do.
+use Rattle.std.proofs.Common.{◌≡◌, ℕ, ◌<◌, true, List, [], ◌∷◌, ◌++◌, length, Some, None, refl, sym, ap, ◌∙◌, arith, append_assoc}
+use Rattle.std.specs.Prelude.{map, slice_get, nat_lt}
+use Rattle.std.specs.List.{list_all}
+use Rattle.std.proofs.Math.Seq.{take-append_seam}
+use Rattle.std.proofs.lemmas.Bool.{and_parts}
+use Rattle.std.proofs.lemmas.Bool.Decides.{nat_tests}
+use Rattle.enc_base.specs.declared.token.Token.{Token}
+use Rattle.enc_base.specs.Token.{number_of}
+use Rattle.enc_rows.specs.Source.{Source}
+use Rattle.enc_plain.specs.Module.{Module, Row, rows_in}
+use Rattle.enc_plain.specs.Apply.{put, apply}
+use Rattle.enc_plain.specs.Fits.{Fits, FitsOne}
+use Rattle.enc_plain.specs.Chain.{Chain}
+use Rattle.enc_delta.specs.Delta.{listed}
+use Rattle.enc_delta.specs.Rules.{late, inserts, rows_with, insert_fault_of, insert_fault_at, insert_fault}
+use Rattle.enc_agg.specs.Extend.{own_row, row_after, changes_of, extended}
+use Rattle.enc_agg.specs.Follows.{HasTables, Follows}
+use Rattle.enc_agg.proofs.Counting.{Tally, tally_none, tally_put, near, apply_tables}
+use Rattle.enc_agg.proofs.InTables.{silent, listed_tables}
+use Rattle.enc_agg.proofs.Rising.{changes_with, none_late, late_behind, fresh}
+use Rattle.enc_agg.proofs.Unbroken.{unbroken}
+
+-- each token is as the rules want it, after those before
+pub record Good (c : Chain) (before ts : List Token) : Type 0 where
+  pub tables : list_all (λ (t : Token). nat_lt t.table 0x2D) ts ≡ true
+  pub rows : list_all (λ (t : Token). nat_lt t.row 0x1000000) ts ≡ true
+  pub rising : late (map number_of ts) ≡ []
+  pub inserts : (k : ℕ) → k < length (before ++ ts) → insert_fault_at c (before ++ ts) k ≡ None
+
+seam_get : (before ts : List Token) (t : Token) → slice_get (before ++ t ∷ ts) (length before) ≡ Some t
+seam_get [] ts t = refl
+seam_get (b ∷ before) ts t = seam_get before ts t
+
+seam_within : (before ts : List Token) (t : Token) → length before < length (before ++ t ∷ ts)
+seam_within [] ts t = omega arith
+seam_within (b ∷ before) ts t = omega (arith, seam_within before ts t)
+
+fault_there : (c : Chain) (before ts : List Token) (t : Token) → insert_fault_at c (before ++ t ∷ ts) (length before) ≡ insert_fault_of c before t
+unfolding insert_fault_at
+fault_there c before ts t = rw (seam_get before ts t, take-append_seam before (t ∷ ts)) refl
+
+first_good : (c : Chain) (before ts : List Token) (t : Token) → Good c before (t ∷ ts) → insert_fault_of c before t ≡ None
+first_good c before ts t good = sym (fault_there c before ts t) ∙ good.inserts (length before) (seam_within before ts t)
+
+first_table : (c : Chain) (before ts : List Token) (t : Token) → Good c before (t ∷ ts) → t.table < 0x2D
+first_table c before ts t good =
+    let h = (and_parts (nat_lt t.table 0x2D) _ good.tables).0 in
+    grind (arith, nat_tests, h)
+
+first_row : (c : Chain) (before ts : List Token) (t : Token) → Good c before (t ∷ ts) → t.row < 0x1000000
+first_row c before ts t good =
+    let h = (and_parts (nat_lt t.row 0x1000000) _ good.rows).0 in
+    grind (arith, nat_tests, h)
+
+rest_good : (c : Chain) (before ts : List Token) (t : Token) → Good c before (t ∷ ts) → Good c (before ++ (t ∷ [])) ts
+rest_good c before ts t good = record {
+  tables = (and_parts (nat_lt t.table 0x2D) _ good.tables).1;
+  rows = (and_parts (nat_lt t.row 0x1000000) _ good.rows).1;
+  rising = late_behind t ts good.rising;
+  inserts = rw (append_assoc before (t ∷ []) ts) good.inserts;
+}
+
+fits_one : (c : Chain) (m : Module) (rows : Token → Row) (before ts : List Token) (t : Token) → Tally c m before → Good c before (t ∷ ts) → FitsOne m (record { token = t; row = rows t }) (changes_with rows ts)
+fits_one c m rows before ts t tally good =
+    let at = near c m before t tally (first_good c before ts t good) in
+    record {
+      table = omega (arith, first_table c before ts t good, tally.tables);
+      low = at.low;
+      high = at.high;
+      fresh = fresh rows t ts good.rising;
+    }
+
+next_tally : (c : Chain) (m : Module) (rows : Token → Row) (before ts : List Token) (t : Token) → Tally c m before → Good c before (t ∷ ts) → Tally c (put m (record { token = t; row = rows t })) (before ++ (t ∷ []))
+next_tally c m rows before ts t tally good = tally_put c m before t (rows t) tally (first_good c before ts t good) (first_table c before ts t good) (first_row c before ts t good)
+
+-- the rows of good tokens fit
+pub fits_from : (c : Chain) (rows : Token → Row) (ts before : List Token) (m : Module) → Tally c m before → Good c before ts → Fits m (changes_with rows ts)
+unfolding Fits
+fits_from c rows [] before m tally good = tt
+fits_from c rows (t ∷ ts) before m tally good = (fits_one c m rows before ts t tally good, fits_from c rows ts (before ++ (t ∷ [])) (put m (record { token = t; row = rows t })) (next_tally c m rows before ts t tally good) (rest_good c before ts t good))
+
+none_behind : (before : List Token) → before ++ [] ≡ before
+none_behind [] = refl
+none_behind (b ∷ before) = ap (λ bs. b ∷ bs) (none_behind before)
+
+-- and with all of them put each table's rows are told
+pub tally_from : (c : Chain) (rows : Token → Row) (ts before : List Token) (m : Module) → Tally c m before → Good c before ts → Tally c (apply m (changes_with rows ts)) (before ++ ts)
+unfolding apply
+tally_from c rows [] before m tally good = rw (none_behind before) tally
+tally_from c rows (t ∷ ts) before m tally good = rw (← append_assoc before (t ∷ []) ts) (tally_from c rows ts (before ++ (t ∷ [])) (put m (record { token = t; row = rows t })) (next_tally c m rows before ts t tally good) (rest_good c before ts t good))
+
+-- the tokens of a delta that may follow are of metadata's tables
+pub in_tables : (c : Chain) (s : Source) → Follows c s → list_all (λ (t : Token). nat_lt t.table 0x2D) (listed s) ≡ true
+in_tables c s f =
+    let u = unbroken c s f.rules in
+    listed_tables s u.tables u.cell_tables f.tables
+
+all_inserts : (c : Chain) (tokens : List Token) → insert_fault c tokens ≡ None → (k : ℕ) → k < length tokens → insert_fault_at c tokens k ≡ None
+unfolding insert_fault
+all_inserts c tokens none k lt = silent (insert_fault_at c tokens) (length tokens) k none lt
+
+good_tokens : (c : Chain) (s : Source) → Follows c s → Good c [] (listed s)
+good_tokens c s f =
+    let u = unbroken c s f.rules in
+    record {
+      tables = in_tables c s f;
+      rows = f.rows;
+      rising = none_late (listed s) u.late;
+      inserts = all_inserts c (listed s) u.inserts;
+    }
+
+-- the rows of a delta fit
+pub fits : (c : Chain) (s : Source) → HasTables c → Follows c s → Fits c.plain (changes_of c s)
+unfolding changes_of
+fits c s has f = fits_from c (λ t. row_after c s (own_row s t)) (listed s) [] c.plain (tally_none c has.count) (good_tokens c s f)
+
+after : (c : Chain) (s : Source) → HasTables c → Follows c s → Tally c (extended c s).plain (listed s)
+unfolding changes_of extended
+after c s has f = tally_from c (λ t. row_after c s (own_row s t)) (listed s) [] c.plain (tally_none c has.count) (good_tokens c s f)
+
+-- each table has its rows before and its inserts
+pub count_is : (c : Chain) (s : Source) → HasTables c → Follows c s → (t : ℕ) → length (rows_in (extended c s).plain t) ≡ rows_with c (listed s) t
+unfolding rows_with
+count_is c s has f t = (after c s has f).rows t
+
+-- a table with an insert has fewer rows than a token can name
+pub few : (c : Chain) (s : Source) → HasTables c → Follows c s → (t : ℕ) → 0 < inserts c (listed s) t → rows_with c (listed s) t < 0x1000000
+unfolding rows_with
+few c s has f t some = (after c s has f).few t some
+
+-- all tables are there after the delta
+pub has_tables : (c : Chain) (s : Source) → HasTables c → HasTables (extended c s)
+unfolding extended
+has_tables c s has = record { count = apply_tables (changes_of c s) c.plain ∙ has.count }

@@ -1,0 +1,67 @@
+-- A delta that breaks no rule breaks none of each kind.
+use Rattle.std.proofs.Common.{◌≡◌, Option, Some, None, refl}
+use Rattle.std.specs.Prelude.{ℕ}
+use Rattle.enc_base.specs.Order.{or_else}
+use Rattle.enc_base.specs.declared.refusal.Place.{Place}
+use Rattle.enc_base.specs.declared.refusal.Refusal.{Refusal}
+use Rattle.enc_rows.specs.Source.{Source}
+use Rattle.enc_plain.specs.Chain.{Chain}
+use Rattle.enc_delta.specs.Delta.{listed, log_in}
+use Rattle.enc_delta.specs.Rules.{rule, late_fault, e7, insert_fault, set_meta, log_fault, child_fault, e12, e13, e14, cells_meta, lists_meta, first_meta}
+
+-- the rules on lists and on cells, each unbroken
+pub record Unbroken (c : Chain) (s : Source) : Type 0 where
+  pub late : late_fault (listed s) ≡ None
+  pub tables : e7 s ≡ None
+  pub inserts : insert_fault c (listed s) ≡ None
+  pub sets : set_meta s ≡ None
+  pub log : log_fault c (listed s) (log_in s) ≡ None
+  pub children : child_fault c (listed s) (log_in s) ≡ None
+  pub cell_tables : e12 s ≡ None
+  pub e13 : e13 c s ≡ None
+  pub e14 : e14 c s ≡ None
+
+neither : (n : ℕ) (a : Option Place) (b : Option Refusal) → or_else (rule n a) b ≡ None → (a ≡ None) × (b ≡ None)
+neither n None b h = (refl, h)
+neither n (Some p) b h = absurd cc
+
+last : (n : ℕ) (a : Option Place) → rule n a ≡ None → a ≡ None
+last n None h = refl
+last n (Some p) h = absurd cc
+
+cells_of : (c : Chain) (s : Source) → cells_meta c s ≡ None → (e12 s ≡ None) × ((e13 c s ≡ None) × (e14 c s ≡ None))
+unfolding cells_meta
+cells_of c s h =
+    let r12 = neither 12 (e12 s) _ h in
+    let r13 = neither 13 (e13 c s) _ r12.1 in
+    (r12.0, (r13.0, last 14 (e14 c s) r13.1))
+
+lists_of : (c : Chain) (s : Source) → first_meta c s ≡ None → lists_meta c s ≡ None
+unfolding first_meta
+lists_of c s h = (neither 5 _ _ (neither 4 _ _ (neither 3 _ _ (neither 2 _ _ (neither 1 _ _ h).1).1).1).1).1
+
+by_kind : (c : Chain) (s : Source) → lists_meta c s ≡ None → Unbroken c s
+unfolding lists_meta
+by_kind c s h =
+    let r6 = neither 6 (late_fault (listed s)) _ h in
+    let r7 = neither 7 (e7 s) _ r6.1 in
+    let r8 = neither 8 (insert_fault c (listed s)) _ r7.1 in
+    let r9 = neither 9 (set_meta s) _ r8.1 in
+    let r10 = neither 10 (log_fault c (listed s) (log_in s)) _ r9.1 in
+    let r11 = neither 11 (child_fault c (listed s) (log_in s)) _ r10.1 in
+    let cells = cells_of c s r11.1 in
+    record {
+      late = r6.0;
+      tables = r7.0;
+      inserts = r8.0;
+      sets = r9.0;
+      log = r10.0;
+      children = r11.0;
+      cell_tables = cells.0;
+      e13 = cells.1.0;
+      e14 = cells.1.1;
+    }
+
+-- a delta without a broken rule has no list and no cell that breaks one
+pub unbroken : (c : Chain) (s : Source) → first_meta c s ≡ None → Unbroken c s
+unbroken c s h = by_kind c s (lists_of c s h)

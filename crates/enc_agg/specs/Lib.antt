@@ -1,0 +1,4 @@
+pub mod Extend
+pub mod Follows
+pub mod Place
+pub mod Seen

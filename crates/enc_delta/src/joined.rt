@@ -1,0 +1,67 @@
+//! The joined heaps of a chain with the heaps of one file more behind them.
+ghost use Rattle.std.specs.Prelude.{◌≡◌, [], ◌∷◌, ◌++◌, option_copied};
+ghost use Rattle.enc_meta.specs.Joined.{joined_text, joined_blob, joined_guid};
+ghost use Rattle.enc_delta.specs.Totals.{totals_of};
+
+use crate::heap_rule::HeapTotals;
+use enc_meta::Heaps;
+use enc_plain::ChainView;
+
+/// The text at an offset of the joined `#Strings` with one heap more behind the chain's, None where
+/// the offset isn't good. `before` has the lengths of the chain's joined heaps.
+#[tactic(auto)]
+pub fn text_after<'a, C: ChainView>(
+    chain: &'a C,
+    heaps: &Heaps<'a>,
+    before: &HeapTotals,
+    offset: u32,
+) -> Option<&'a [u8]>
+    requires tied { before.now ≡ totals_of (C.chain chain.now).heaps }
+    ensures { option_copied result ≡ joined_text ((C.chain chain.now).heaps ++ heaps.now ∷ []) offset }
+{
+    if offset == 0 {
+        return Some(&[]);
+    }
+    let strings = before.strings;
+    if u64::from(offset) < strings {
+        return chain.text_at(offset);
+    }
+    heaps.text_entry(offset - strings as u32)
+}
+
+/// The bytes at an offset of the joined `#Blob` with one heap more behind the chain's, None where
+/// the offset isn't good. `before` has the lengths of the chain's joined heaps.
+#[tactic(auto)]
+pub fn blob_after<'a, C: ChainView>(
+    chain: &'a C,
+    heaps: &Heaps<'a>,
+    before: &HeapTotals,
+    offset: u32,
+) -> Option<&'a [u8]>
+    requires tied { before.now ≡ totals_of (C.chain chain.now).heaps }
+    ensures { option_copied result ≡ joined_blob ((C.chain chain.now).heaps ++ heaps.now ∷ []) offset }
+{
+    if offset == 0 {
+        return Some(&[]);
+    }
+    let blobs = before.blobs;
+    if u64::from(offset) < blobs {
+        return chain.blob_at(offset);
+    }
+    let own = offset - blobs as u32;
+    if own as usize >= heaps.blobs().len() {
+        return None;
+    }
+    heaps.blob_entry(own)
+}
+
+/// Entry k of the joined `#GUID` with one heap more: the chain's, or else that heap's.
+#[tactic(auto, using(crate::proofs::Behind::guid_behind))]
+pub fn guid_after<C: ChainView>(chain: &C, heaps: &Heaps<'_>, k: u32) -> Option<[u8; 16]>
+    ensures { result ≡ joined_guid ((C.chain chain.now).heaps ++ heaps.now ∷ []) k }
+{
+    match chain.guid_at(k) {
+        Some(guid) => Some(guid),
+        None => heaps.guid(k),
+    }
+}

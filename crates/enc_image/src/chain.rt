@@ -1,0 +1,36 @@
+//! An image as the chain that it begins.
+ghost use Rattle.std.specs.Prelude.{◌≡◌};
+ghost use Rattle.enc_image.specs.Base.{begun};
+
+use crate::image::Image;
+use enc_plain::ChainView;
+
+impl ChainView for Image {
+    ghost chain = { begun };
+
+    #[tactic(auto, unfolding(crate::specs::Base::begun))]
+    fn generations(&self) -> u32 {
+        1
+    }
+
+    #[tactic(auto, unfolding(crate::specs::Base::begun, enc_plain::specs::Chain::nil_guid))]
+    fn enc_id(&self, generation: u32) -> [u8; 16] {
+        let _ = generation;
+        [0; 16]
+    }
+
+    #[tactic(auto, using(crate::proofs::Alone::text_alone), unfolding(crate::specs::Base::begun))]
+    fn text_at(&self, offset: u32) -> Option<&[u8]> {
+        self.heaps().text(offset)
+    }
+
+    #[tactic(auto, using(crate::proofs::Alone::blob_alone), unfolding(crate::specs::Base::begun))]
+    fn blob_at(&self, offset: u32) -> Option<&[u8]> {
+        self.heaps().blob(offset)
+    }
+
+    #[tactic(auto, using(crate::proofs::Alone::guid_alone), unfolding(crate::specs::Base::begun))]
+    fn guid_at(&self, k: u32) -> Option<[u8; 16]> {
+        self.heaps().guid(k)
+    }
+}

@@ -1,0 +1,68 @@
+//! A store and a sink that fail.
+use super::{D1_IL, D1_META, M_DLL, OBJECT_LINE, STRING_LINE, changed, texts};
+use enc_outside::{MemSink, MemStore};
+use enc_top::run_tool;
+use std::alloc::Global;
+use std::test::Fail;
+
+/// Words over the example base and delta, with the number of their loads and the line that they print.
+const RUNS: [(&[&str], u64, &str); 2] = [
+    (&["show", "m", "01000001"], 1, OBJECT_LINE),
+    (&["show", "m", "01000002", "d1"], 3, STRING_LINE),
+];
+
+/// The example base and delta.
+fn files(alloc: Global) -> Result<MemStore, Fail> {
+    let mut store = MemStore::begin(alloc);
+    for (name, bytes) in [("m.dll", M_DLL), ("d1.meta", D1_META), ("d1.il", D1_IL)] {
+        store.set_file(name, changed(alloc, bytes, &[])?.as_slice())?;
+    }
+    Ok(store)
+}
+
+#[test]
+fn without_a_fault_the_status_is_0_and_not_3(rt: HostRuntime) -> Result<(), Fail> {
+    let alloc = rt.alloc();
+    for (words, loads, line) in RUNS {
+        let words = texts(alloc, words)?;
+        let (mut store, mut sink) = (files(alloc)?, MemSink::begin(alloc));
+        assert_eq!(rt; run_tool(alloc, &words, &mut store, &mut sink), 0);
+        assert_eq!(rt; sink.bytes(), line.as_bytes());
+        assert_eq!(rt; store.calls(), loads);
+    }
+    Ok(())
+}
+
+#[test]
+fn a_load_that_fails_prints_nothing(rt: HostRuntime) -> Result<(), Fail> {
+    let alloc = rt.alloc();
+    for (words, loads, _) in RUNS {
+        let words = texts(alloc, words)?;
+        for call in 1..=loads {
+            let (mut store, mut sink) = (files(alloc)?, MemSink::begin(alloc));
+            store.fail_at(call)?;
+            assert_eq!(rt; run_tool(alloc, &words, &mut store, &mut sink), 4);
+            assert_eq!(rt; sink.bytes(), b"".as_slice());
+            assert_eq!(rt; sink.calls(), 0);
+            assert_eq!(rt; store.calls(), call);
+        }
+    }
+    Ok(())
+}
+
+#[test]
+fn a_put_that_fails_leaves_a_first_part(rt: HostRuntime) -> Result<(), Fail> {
+    let alloc = rt.alloc();
+    for (words, _, line) in RUNS {
+        let words = texts(alloc, words)?;
+        let mut sound = MemSink::begin(alloc);
+        assert_eq!(rt; run_tool(alloc, &words, &mut files(alloc)?, &mut sound), 0);
+        for call in 1..=sound.calls() {
+            let mut sink = MemSink::begin(alloc);
+            sink.fail_at(call)?;
+            assert_eq!(rt; run_tool(alloc, &words, &mut files(alloc)?, &mut sink), 5);
+            assert!(rt; line.as_bytes().starts_with(sink.bytes()));
+        }
+    }
+    Ok(())
+}
