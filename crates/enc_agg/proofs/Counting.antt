@@ -8,32 +8,29 @@ use Rattle.enc_base.specs.declared.refusal.Place.{Place}
 use Rattle.enc_base.specs.declared.refusal.Place.TheVariants as place
 use Rattle.enc_base.specs.declared.token.Token.{Token}
 use Rattle.enc_plain.specs.Module.{Module, Row, rows_in}
-use Rattle.enc_plain.specs.Apply.{Change, put_row, put_in, put, apply}
+use Rattle.enc_plain.specs.Cell.{Cell}
+use Rattle.enc_plain.specs.Apply.{Change, put_row, put, apply}
 use Rattle.enc_plain.specs.Chain.{Chain, rows_before}
 use Rattle.enc_plain.proofs.Applied.{table_same, table_other}
+use Rattle.enc_plain.proofs.AttachedTo.{change_length}
 use Rattle.enc_delta.specs.Rules.{broken, is_insert, inserts, insert_fault_of}
 
 -- a row in the place of another
-pub put_within : (rows : List Row) (n : ℕ) (row : Row) → n < length rows → length (put_row rows n row) ≡ length rows
-put_within [] n row h = absurd (omega arith)
-put_within (r ∷ rows) zero row h = refl
-put_within (r ∷ rows) (suc n) row h = ap suc (put_within rows n row (omega arith))
+pub put_within : (table : ℕ) (rows : List Row) (n : ℕ) (cells : List Cell) → n < length rows → length (put_row table rows n cells) ≡ length rows
+put_within table [] n cells h = absurd (omega arith)
+put_within table (r ∷ rows) zero cells h = refl
+put_within table (r ∷ rows) (suc n) cells h = ap suc (put_within table rows n cells (omega arith))
 
 -- a row at the end
-pub put_past : (rows : List Row) (n : ℕ) (row : Row) → length rows ≤ n → length (put_row rows n row) ≡ length rows + 1
-put_past [] n row h = refl
-put_past (r ∷ rows) zero row h = absurd (omega arith)
-put_past (r ∷ rows) (suc n) row h = ap suc (put_past rows n row (omega arith)) ∙ omega arith
+pub put_past : (table : ℕ) (rows : List Row) (n : ℕ) (cells : List Cell) → length rows ≤ n → length (put_row table rows n cells) ≡ length rows + 1
+put_past table [] n cells h = refl
+put_past table (r ∷ rows) zero cells h = absurd (omega arith)
+put_past table (r ∷ rows) (suc n) cells h = ap suc (put_past table rows n cells (omega arith)) ∙ omega arith
 
 -- no table more and none less
-pub tables_kept : (tables : List (List Row)) (t n : ℕ) (row : Row) → length (put_in tables t n row) ≡ length tables
-tables_kept [] t n row = refl
-tables_kept (rows ∷ tables) zero n row = refl
-tables_kept (rows ∷ tables) (suc t) n row = ap suc (tables_kept tables t n row)
-
 pub put_tables : (m : Module) (ch : Change) → length (put m ch).tables ≡ length m.tables
 unfolding put
-put_tables m ch = tables_kept m.tables ch.token.table (ch.token.row - 1) ch.row
+put_tables m ch = change_length m.tables ch.token.table (λ rows. put_row ch.token.table rows (ch.token.row - 1) ch.cells)
 
 -- the tables after all changes are as many as before
 pub apply_tables : (chs : List Change) (m : Module) → length (apply m chs).tables ≡ length m.tables
@@ -44,12 +41,12 @@ apply_tables (ch ∷ chs) m = apply_tables chs (put m ch) ∙ put_tables m ch
 -- another table keeps its rows
 pub rows_other : (m : Module) (ch : Change) (u : ℕ) → u ≢ ch.token.table → rows_in (put m ch) u ≡ rows_in m u
 unfolding put
-rows_other m ch u e = table_other m.tables ch.token.table u (ch.token.row - 1) ch.row e
+rows_other m ch u e = table_other m.tables ch.token.table u (λ rows. put_row ch.token.table rows (ch.token.row - 1) ch.cells) e
 
 -- its own has the row in it
-pub rows_same : (m : Module) (ch : Change) → ch.token.table < length m.tables → rows_in (put m ch) ch.token.table ≡ put_row (rows_in m ch.token.table) (ch.token.row - 1) ch.row
+pub rows_same : (m : Module) (ch : Change) → ch.token.table < length m.tables → rows_in (put m ch) ch.token.table ≡ put_row ch.token.table (rows_in m ch.token.table) (ch.token.row - 1) ch.cells
 unfolding put
-rows_same m ch h = table_same m.tables ch.token.table (ch.token.row - 1) ch.row h
+rows_same m ch h = table_same m.tables ch.token.table (λ rows. put_row ch.token.table rows (ch.token.row - 1) ch.cells) h
 
 -- one token more is counted or not
 pub inserts_more : (c : Chain) (before : List Token) (t : Token) (u : ℕ) → inserts c (before ++ t ∷ []) u ≡ inserts c before u + cond (t.table == u && is_insert c t) 1 0
@@ -130,25 +127,25 @@ near_by c m before t tally none false is = near_old c m before t tally is
 pub near : (c : Chain) (m : Module) (before : List Token) (t : Token) → Tally c m before → insert_fault_of c before t ≡ None → Near m t
 near c m before t tally none = near_by c m before t tally none (is_insert c t) refl
 
-grown : (m : Module) (t : Token) (row : Row) → t.table < length m.tables → length (rows_in m t.table) ≤ t.row - 1 → length (rows_in (put m (record { token = t; row = row })) t.table) ≡ length (rows_in m t.table) + 1
-grown m t row h past = rw (rows_same m (record { token = t; row = row }) h) (put_past (rows_in m t.table) (t.row - 1) row past)
+grown : (m : Module) (t : Token) (cells : List Cell) → t.table < length m.tables → length (rows_in m t.table) ≤ t.row - 1 → length (rows_in (put m (record { token = t; cells = cells })) t.table) ≡ length (rows_in m t.table) + 1
+grown m t cells h past = rw (rows_same m (record { token = t; cells = cells }) h) (put_past t.table (rows_in m t.table) (t.row - 1) cells past)
 
-kept : (m : Module) (t : Token) (row : Row) → t.table < length m.tables → t.row - 1 < length (rows_in m t.table) → length (rows_in (put m (record { token = t; row = row })) t.table) ≡ length (rows_in m t.table)
-kept m t row h within = rw (rows_same m (record { token = t; row = row }) h) (put_within (rows_in m t.table) (t.row - 1) row within)
+kept : (m : Module) (t : Token) (cells : List Cell) → t.table < length m.tables → t.row - 1 < length (rows_in m t.table) → length (rows_in (put m (record { token = t; cells = cells })) t.table) ≡ length (rows_in m t.table)
+kept m t cells h within = rw (rows_same m (record { token = t; cells = cells }) h) (put_within t.table (rows_in m t.table) (t.row - 1) cells within)
 
-other : (m : Module) (t : Token) (row : Row) (u : ℕ) → u ≢ t.table → length (rows_in (put m (record { token = t; row = row })) u) ≡ length (rows_in m u)
-other m t row u e = rw (rows_other m (record { token = t; row = row }) u e) refl
+other : (m : Module) (t : Token) (cells : List Cell) (u : ℕ) → u ≢ t.table → length (rows_in (put m (record { token = t; cells = cells })) u) ≡ length (rows_in m u)
+other m t cells u e = rw (rows_other m (record { token = t; cells = cells }) u e) refl
 
-put_new : (c : Chain) (m : Module) (before : List Token) (t : Token) (row : Row) → Tally c m before → insert_fault_of c before t ≡ None → t.table < 0x2D → t.row < 0x1000000 → is_insert c t ≡ true → Tally c (put m (record { token = t; row = row })) (before ++ t ∷ [])
-put_new c m before t row tally none there small is =
+put_new : (c : Chain) (m : Module) (before : List Token) (t : Token) (cells : List Cell) → Tally c m before → insert_fault_of c before t ≡ None → t.table < 0x2D → t.row < 0x1000000 → is_insert c t ≡ true → Tally c (put m (record { token = t; cells = cells })) (before ++ t ∷ [])
+put_new c m before t cells tally none there small is =
     let e = next_row c before t none is in
     let r = tally.rows t.table in
     let here = inserts_here c before t is in
     record {
-      tables = put_tables m (record { token = t; row = row }) ∙ tally.tables;
+      tables = put_tables m (record { token = t; cells = cells }) ∙ tally.tables;
       rows = λ u. elim (cases_eq u t.table) [
-        | inl same ↦ rw (same, here) (grown m t row (omega (arith, there, tally.tables)) (omega (arith, e, r)) ∙ omega (arith, r))
-        | inr ne ↦ rw (inserts_elsewhere c before t u ne) (other m t row u ne ∙ tally.rows u)
+        | inl same ↦ rw (same, here) (grown m t cells (omega (arith, there, tally.tables)) (omega (arith, e, r)) ∙ omega (arith, r))
+        | inr ne ↦ rw (inserts_elsewhere c before t u ne) (other m t cells u ne ∙ tally.rows u)
       ];
       few = λ u some. elim (cases_eq u t.table) [
         | inl same ↦ rw (same, here) (omega (arith, e, small))
@@ -156,26 +153,26 @@ put_new c m before t row tally none there small is =
       ];
     }
 
-put_old : (c : Chain) (m : Module) (before : List Token) (t : Token) (row : Row) → Tally c m before → t.table < 0x2D → is_insert c t ≡ false → Tally c (put m (record { token = t; row = row })) (before ++ t ∷ [])
-put_old c m before t row tally there is =
+put_old : (c : Chain) (m : Module) (before : List Token) (t : Token) (cells : List Cell) → Tally c m before → t.table < 0x2D → is_insert c t ≡ false → Tally c (put m (record { token = t; cells = cells })) (before ++ t ∷ [])
+put_old c m before t cells tally there is =
     let e = old_row c t is in
     let r = tally.rows t.table in
     record {
-      tables = put_tables m (record { token = t; row = row }) ∙ tally.tables;
+      tables = put_tables m (record { token = t; cells = cells }) ∙ tally.tables;
       rows = λ u. elim (cases_eq u t.table) [
-        | inl same ↦ rw (same, inserts_kept c before t t.table is) (kept m t row (omega (arith, there, tally.tables)) (omega (arith, e.0, e.1, r)) ∙ r)
-        | inr ne ↦ rw (inserts_kept c before t u is) (other m t row u ne ∙ tally.rows u)
+        | inl same ↦ rw (same, inserts_kept c before t t.table is) (kept m t cells (omega (arith, there, tally.tables)) (omega (arith, e.0, e.1, r)) ∙ r)
+        | inr ne ↦ rw (inserts_kept c before t u is) (other m t cells u ne ∙ tally.rows u)
       ];
       few = λ u some. rw (inserts_kept c before t u is) (tally.few u (rw (inserts_kept c before t u is) at some));
     }
 
-put_by : (c : Chain) (m : Module) (before : List Token) (t : Token) (row : Row) → Tally c m before → insert_fault_of c before t ≡ None → t.table < 0x2D → t.row < 0x1000000 → (b : Bool) → is_insert c t ≡ b → Tally c (put m (record { token = t; row = row })) (before ++ t ∷ [])
-put_by c m before t row tally none there small true is = put_new c m before t row tally none there small is
-put_by c m before t row tally none there small false is = put_old c m before t row tally there is
+put_by : (c : Chain) (m : Module) (before : List Token) (t : Token) (cells : List Cell) → Tally c m before → insert_fault_of c before t ≡ None → t.table < 0x2D → t.row < 0x1000000 → (b : Bool) → is_insert c t ≡ b → Tally c (put m (record { token = t; cells = cells })) (before ++ t ∷ [])
+put_by c m before t cells tally none there small true is = put_new c m before t cells tally none there small is
+put_by c m before t cells tally none there small false is = put_old c m before t cells tally there is
 
 -- with the token's row put, the tally is that of one token more
-pub tally_put : (c : Chain) (m : Module) (before : List Token) (t : Token) (row : Row) → Tally c m before → insert_fault_of c before t ≡ None → t.table < 0x2D → t.row < 0x1000000 → Tally c (put m (record { token = t; row = row })) (before ++ t ∷ [])
-tally_put c m before t row tally none there small = put_by c m before t row tally none there small (is_insert c t) refl
+pub tally_put : (c : Chain) (m : Module) (before : List Token) (t : Token) (cells : List Cell) → Tally c m before → insert_fault_of c before t ≡ None → t.table < 0x2D → t.row < 0x1000000 → Tally c (put m (record { token = t; cells = cells })) (before ++ t ∷ [])
+tally_put c m before t cells tally none there small = put_by c m before t cells tally none there small (is_insert c t) refl
 
 -- with nothing put, no insert was
 pub tally_none : (c : Chain) → length c.plain.tables ≡ 0x2D → Tally c c.plain []

@@ -6,3 +6,10 @@ pub mod Unbroken
 pub mod Tokens
 pub mod Viewing
 pub mod Paired
+pub mod Changed
+pub mod Pairs
+pub mod Owned
+pub mod Given
+pub mod Children
+pub mod Begun
+pub mod PairedChildren

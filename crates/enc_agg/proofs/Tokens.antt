@@ -12,13 +12,13 @@ use Rattle.enc_base.specs.declared.refusal.Place.{Place}
 use Rattle.enc_base.proofs.First.{silent}
 use Rattle.enc_rows.specs.Layout.{rows_of}
 use Rattle.enc_rows.specs.Source.{Source}
-use Rattle.enc_plain.specs.Module.{Row}
+use Rattle.enc_plain.specs.Cell.{Cell}
 use Rattle.enc_plain.specs.Chain.{Chain}
-use Rattle.enc_plain.specs.Fits.{row_for}
+use Rattle.enc_plain.specs.Fits.{cells_for}
 use Rattle.enc_plain.proofs.Applied.{same_is}
 use Rattle.enc_delta.specs.Delta.{listed, of_table, place_in}
 use Rattle.enc_delta.specs.Rules.{broken, e7_at, rows_for, e7, may_change, e12_at, e12}
-use Rattle.enc_agg.specs.Extend.{row_after, own_row, changes_of}
+use Rattle.enc_agg.specs.Extend.{cells_after, own_row, changes_of}
 use Rattle.enc_agg.specs.Follows.{Follows}
 use Rattle.enc_agg.proofs.Unbroken.{unbroken}
 
@@ -30,7 +30,8 @@ position_from false n k = behind (nat_lt n k) n (nat_lt (1 + n) (suc k)) (grind 
     behind true n d e = let more : 1 + n ≡ suc n = omega arith in rw (e, more) refl
     behind false n d e = rw e refl
 
-position_cons : {X : Type 0} (p : X → Bool) (x : X) (xs : List X) → position p (x ∷ xs) ≡ (if p x then Some 0 else option_map suc (position p xs))
+-- the first place among one more
+pub position_cons : {X : Type 0} (p : X → Bool) (x : X) (xs : List X) → position p (x ∷ xs) ≡ (if p x then Some 0 else option_map suc (position p xs))
 position_cons p x xs = position_from (p x) (position_or_len p xs) (length xs)
 
 some_suc : (o : Option ℕ) → is_some (option_map suc o) ≡ is_some o
@@ -59,27 +60,27 @@ unfolding place_in
 place_any ts u =
     some_suc _ ∙ position_any (λ (t : Token). t.row == u.row) (of_table u.table ts) ∙ any_filter (λ (t : Token). t.table == u.table) (λ (t : Token). t.row == u.row) ts
 
-row_step : (f : Token → Row) (t u : Token) (rest b : Bool) (o : Option Row) → is_token t u ≡ b → o ≡ (if rest then Some (f u) else None) → (if b then Some (f t) else o) ≡ (if b || rest then Some (f u) else None)
-row_step f t u rest true o e h = rw (same_is t u e) refl
-row_step f t u rest false o e h = h
+cells_step : (f : Token → List Cell) (t u : Token) (rest b : Bool) (o : Option (List Cell)) → is_token t u ≡ b → o ≡ (if rest then Some (f u) else None) → (if b then Some (f t) else o) ≡ (if b || rest then Some (f u) else None)
+cells_step f t u rest true o e h = rw (same_is t u e) refl
+cells_step f t u rest false o e h = h
 
--- the changes give a token the row made for it, where it is one of theirs
-row_if : (f : Token → Row) (ts : List Token) (u : Token) → row_for (map (λ (t : Token). record { token = t; row = f t }) ts) u ≡ (if list_any (λ (t : Token). is_token t u) ts then Some (f u) else None)
-unfolding row_for
-row_if f [] u = refl
-row_if f (t ∷ ts) u = row_step f t u (list_any (λ (t : Token). is_token t u) ts) (is_token t u) _ refl (row_if f ts u)
+-- the changes give a token the cells made for it, where it is one of theirs
+cells_if : (f : Token → List Cell) (ts : List Token) (u : Token) → cells_for (map (λ (t : Token). record { token = t; cells = f t }) ts) u ≡ (if list_any (λ (t : Token). is_token t u) ts then Some (f u) else None)
+unfolding cells_for
+cells_if f [] u = refl
+cells_if f (t ∷ ts) u = cells_step f t u (list_any (λ (t : Token). is_token t u) ts) (is_token t u) _ refl (cells_if f ts u)
 
-row_by : (c : Chain) (s : Source) (u : Token) → row_for (changes_of c s) u ≡ (if is_some (place_in (listed s) u) then Some (row_after c s (own_row s u)) else None)
+cells_by : (c : Chain) (s : Source) (u : Token) → cells_for (changes_of c s) u ≡ (if is_some (place_in (listed s) u) then Some (cells_after c s (own_row s u)) else None)
 unfolding changes_of
-row_by c s u = rw (place_any (listed s) u) (row_if (λ (t : Token). row_after c s (own_row s t)) (listed s) u)
+cells_by c s u = rw (place_any (listed s) u) (cells_if (λ (t : Token). cells_after c s (own_row s t)) (listed s) u)
 
--- a delta's row for a token that it lists
-pub row_for_there : (c : Chain) (s : Source) (u : Token) (k : ℕ) → place_in (listed s) u ≡ Some k → row_for (changes_of c s) u ≡ Some (row_after c s (record { table = u.table; row = k }))
-row_for_there c s u k h = row_by c s u ∙ rw h refl
+-- a delta's cells for a token that it lists
+pub cells_for_there : (c : Chain) (s : Source) (u : Token) (k : ℕ) → place_in (listed s) u ≡ Some k → cells_for (changes_of c s) u ≡ Some (cells_after c s (record { table = u.table; row = k }))
+cells_for_there c s u k h = cells_by c s u ∙ rw h refl
 
 -- and none for any other
-pub row_for_none : (c : Chain) (s : Source) (u : Token) → place_in (listed s) u ≡ None → row_for (changes_of c s) u ≡ None
-row_for_none c s u h = row_by c s u ∙ rw h refl
+pub cells_for_none : (c : Chain) (s : Source) (u : Token) → place_in (listed s) u ≡ None → cells_for (changes_of c s) u ≡ None
+cells_for_none c s u h = cells_by c s u ∙ rw h refl
 
 -- where a token's row stands in the delta
 pub record PlaceRow (s : Source) (u : Token) (k : ℕ) : Type 0 where

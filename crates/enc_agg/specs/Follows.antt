@@ -1,8 +1,10 @@
--- When a delta may follow a chain.
-use Rattle.std.specs.Prelude.{◌≡◌, ℕ, ◌<◌, List, None, IsTrue, length, nat_lt, slice_index}
+-- When a delta may follow a chain, and when each child row has just one owner.
+use Rattle.std.specs.Prelude.{◌≡◌, ℕ, ◌==◌, ◌&&◌, true, List, None, IsTrue, length, flat_map, count_by, cond, nat_lt, nat_le}
 use Rattle.std.specs.List.{list_all}
 use Rattle.enc_base.specs.declared.token.Token.{Token}
 use Rattle.enc_rows.specs.Source.{Source}
+use Rattle.enc_schema.specs.Children.{is_child_table, owner_table}
+use Rattle.enc_plain.specs.Module.{Module, Row, rows_in, kids_at}
 use Rattle.enc_plain.specs.Chain.{Chain}
 use Rattle.enc_delta.specs.Delta.{listed}
 use Rattle.enc_delta.specs.Rules.{first_meta}
@@ -16,3 +18,11 @@ pub record Follows (c : Chain) (s : Source) : Type 0 where
   pub rules : first_meta c s ≡ None
   pub tables : IsTrue (list_all (λ (t : Token). nat_lt t.table 0x100) (listed s))
   pub rows : IsTrue (list_all (λ (t : Token). nat_lt t.row 0x1000000) (listed s))
+
+-- the children in a child table of all rows of its owners' table
+abbrev pub all_kids : Module → ℕ → List ℕ
+all_kids m table = flat_map (λ (r : Row). kids_at r table) (rows_in m (owner_table table))
+
+-- each row of a child table is a child once, and nothing else is
+pub record IsOwned (m : Module) : Type 0 where
+  pub once : (table row : ℕ) → is_child_table table ≡ true → count_by (λ k. k == row) (all_kids m table) ≡ cond (nat_le 1 row && nat_le row (length (rows_in m table))) 1 0

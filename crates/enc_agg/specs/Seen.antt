@@ -1,6 +1,5 @@
 -- What the parts of the program stand for.
-use Rattle.std.specs.Prelude.{◌≡◌, ℕ, ◌<◌, List, Option, Some, None, Result, Ok, Err, slice_index}
-use Rattle.enc_base.specs.declared.token.Token.{Token}
+use Rattle.std.specs.Prelude.{◌≡◌, ℕ, ◌<◌, List, Some, None, Result, Ok, Err, slice_index}
 use Rattle.enc_base.specs.declared.refusal.Refusal.{Refusal}
 use Rattle.enc_rows.specs.Source.{Source}
 use Rattle.enc_plain.specs.Module.{Module}
@@ -25,8 +24,9 @@ chain_of_both p = extended (begun p.base) p.delta
 abbrev pub module_of_both : Pair → Module
 module_of_both p = (chain_of_both p).plain
 
--- the delta follows the base; the lengths of the base's heaps; how many rows the delta adds to each table
+-- nothing in the base is refused, and the delta follows it; the lengths of the base's heaps; how many rows the delta adds to each table
 pub record IsPair (p : Pair) (before : HeapTotals) (added : List ℕ) : Type 0 where
+  pub sound : cells_fault p.base ≡ None
   pub follows : Follows (begun p.base) p.delta
   pub totals : before ≡ totals_of (begun p.base).heaps
   pub rows : (t : ℕ) → t < 256 → slice_index added t ≡ inserts (begun p.base) (listed p.delta) t

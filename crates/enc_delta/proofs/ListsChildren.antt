@@ -21,15 +21,15 @@ use Rattle.enc_delta.specs.Lists.{AreTokens}
 use Rattle.enc_delta.proofs.ListsInserts.{no_token, fault_is, inserts_none, into_yes, into_no}
 use Rattle.enc_delta.proofs.ListsChanged.{token_fits, take_end}
 
-two : (b : Bool) → (b ≡ true) ⊎ (b ≡ false)
+pub two : (b : Bool) → (b ≡ true) ⊎ (b ≡ false)
 two true = inl refl
 two false = inr refl
 
-and_left : (a b : Bool) → (a && b) ≡ true → a ≡ true
+pub and_left : (a b : Bool) → (a && b) ≡ true → a ≡ true
 and_left true b h = refl
 and_left false b h = h
 
-and_right : (a b : Bool) → (a && b) ≡ true → b ≡ true
+pub and_right : (a b : Bool) → (a && b) ≡ true → b ≡ true
 and_right true b h = h
 and_right false b h = absurd cc
 
@@ -38,7 +38,7 @@ abbrev kid : Entry → Option Entry → List Token
 kid e None = []
 kid e (Some f) = if is_add e.code then f.token ∷ [] else []
 
-abbrev first_of : List Entry → Option Entry
+abbrev pub first_of : List Entry → Option Entry
 first_of [] = None
 first_of (e ∷ es) = Some e
 
@@ -46,16 +46,16 @@ children_cons : (e : Entry) (ys : List Entry) → children (e ∷ ys) ≡ kid e 
 children_cons e [] = refl
 children_cons e (f ∷ ys) = elim (two (is_add e.code)) [ inl a ↦ rw a refl | inr a ↦ rw a refl ]
 
-counted_first : (es : List Entry) → first_of (counted es) ≡ find counts es
+pub counted_first : (es : List Entry) → first_of (counted es) ≡ find counts es
 unfolding counted
 counted_first [] = refl
 counted_first (e ∷ es) = elim (two (counts e)) [ inl a ↦ rw a refl | inr a ↦ rw a (counted_first es) ]
 
-counted_yes : (e : Entry) (es : List Entry) → counts e ≡ true → counted (e ∷ es) ≡ e ∷ counted es
+pub counted_yes : (e : Entry) (es : List Entry) → counts e ≡ true → counted (e ∷ es) ≡ e ∷ counted es
 unfolding counted
 counted_yes e es h = rw h refl
 
-counted_no : (e : Entry) (es : List Entry) → counts e ≡ false → counted (e ∷ es) ≡ counted es
+pub counted_no : (e : Entry) (es : List Entry) → counts e ≡ false → counted (e ∷ es) ≡ counted es
 unfolding counted
 counted_no e es h = rw h refl
 
@@ -71,7 +71,7 @@ seam : {A : Type 0} (before : List A) (e : A) (es : List A) → slice_get (befor
 seam [] e es = refl
 seam (x ∷ before) e es = seam before e es
 
-at_seam : (c : Chain) (tokens : List Token) (before : List Entry) (e : Entry) (es : List Entry) → log_fault_at c tokens (before ++ e ∷ es) (length before) ≡ log_fault_of c tokens before es (length before) e
+pub at_seam : (c : Chain) (tokens : List Token) (before : List Entry) (e : Entry) (es : List Entry) → log_fault_at c tokens (before ++ e ∷ es) (length before) ≡ log_fault_of c tokens before es (length before) e
 unfolding log_fault_at
 at_seam c tokens before e es = rw (seam before e es, take-append_seam before (e ∷ es), drop-append-add before (e ∷ es) 1) refl
 
@@ -95,7 +95,7 @@ good_of c tokens before (e ∷ es) each =
     (here_good c tokens before es (length before) e at, good_of c tokens (before ++ e ∷ []) es (subst (λ (l : List Entry). (k : ℕ) → k < length l → log_fault_at c tokens l k ≡ None) (sym (append_assoc before (e ∷ []) es)) each))
 
 -- what a rule that answers nowhere says at each place
-none_at : {A : Type 0} (rule : ℕ → Option A) (n : ℕ) → first_below rule n ≡ None → (k : ℕ) → k < n → rule k ≡ None
+pub none_at : {A : Type 0} (rule : ℕ → Option A) (n : ℕ) → first_below rule n ≡ None → (k : ℕ) → k < n → rule k ≡ None
 none_at rule n h = rw h at (first_means rule n)
 
 none_of : {A : Type 0} (rule : ℕ → Option A) (n : ℕ) → ((k : ℕ) → k < n → rule k ≡ None) → first_below rule n ≡ None
@@ -104,12 +104,12 @@ none_of rule (suc n) h =
     let e : suc n ≡ n + 1 = omega arith in
     rw e (first_more rule n (none_of rule n (λ k l. h k (omega arith))) ∙ h n (omega arith))
 
-log_good : (c : Chain) (tokens : List Token) (log : List Entry) → log_fault c tokens log ≡ None → Good c [] log
+pub log_good : (c : Chain) (tokens : List Token) (log : List Entry) → log_fault c tokens log ≡ None → Good c [] log
 unfolding log_fault
 log_good c tokens log h = good_of c tokens [] log (none_at (log_fault_at c tokens log) (length log) h)
 
 -- 1 from low to below low + n
-abbrev hits : ℕ → ℕ → ℕ → ℕ
+abbrev pub hits : ℕ → ℕ → ℕ → ℕ
 hits low n r = cond (nat_le low r && nat_lt r (low + n)) 1 0
 
 hits_none : (low r : ℕ) → hits low 0 r ≡ 0
@@ -128,7 +128,7 @@ plus_none n = omega arith
 adds_head : (e : Entry) (es : List Entry) (code : ℕ) → adds (e ∷ es) code ≡ cond (counts e && e.code == code) 1 0 + adds es code
 adds_head e es code = sum_by-cons (λ (f : Entry). cond (counts f && f.code == code) 1 0) e es
 
-adds_push : (before : List Entry) (e : Entry) (code : ℕ) → adds (before ++ e ∷ []) code ≡ adds before code + cond (counts e && e.code == code) 1 0
+pub adds_push : (before : List Entry) (e : Entry) (code : ℕ) → adds (before ++ e ∷ []) code ≡ adds before code + cond (counts e && e.code == code) 1 0
 adds_push before e code = sum_by-append (λ (f : Entry). cond (counts f && f.code == code) 1 0) before (e ∷ []) ∙ ap (λ n. adds before code + n) (sum_by-cons (λ (f : Entry). cond (counts f && f.code == code) 1 0) e [] ∙ plus_none _)
 
 -- the code of a child's table
@@ -144,22 +144,22 @@ code_is (suc (suc (suc (suc zero)))) l h = refl
 code_is (suc (suc (suc (suc (suc zero))))) l h = refl
 code_is (suc (suc (suc (suc (suc (suc n)))))) l h = absurd (omega arith)
 
-codes_same : (a b : ℕ) → 1 ≤ a → a ≤ 5 → 1 ≤ b → b ≤ 5 → child_table a ≡ child_table b → a ≡ b
+pub codes_same : (a b : ℕ) → 1 ≤ a → a ≤ 5 → 1 ≤ b → b ≤ 5 → child_table a ≡ child_table b → a ≡ b
 codes_same a b l h m g e = sym (code_is a l h) ∙ ap code_of e ∙ code_is b m g
 
-add_low : (code : ℕ) → is_add code ≡ true → 1 ≤ code
+pub add_low : (code : ℕ) → is_add code ≡ true → 1 ≤ code
 add_low code h = let e = and_left (nat_le 1 code) (nat_le code 5) h in grind (arith, nat_tests)
 
-add_high : (code : ℕ) → is_add code ≡ true → code ≤ 5
+pub add_high : (code : ℕ) → is_add code ≡ true → code ≤ 5
 add_high code h = let e = and_right (nat_le 1 code) (nat_le code 5) h in grind (arith, nat_tests)
 
-equal : (a b : ℕ) → (a == b) ≡ true → a ≡ b
+pub equal : (a b : ℕ) → (a == b) ≡ true → a ≡ b
 equal a b h = grind (arith, nat_tests)
 
-equal_is : (a b : ℕ) → a ≡ b → (a == b) ≡ true
+pub equal_is : (a b : ℕ) → a ≡ b → (a == b) ≡ true
 equal_is a b h = grind (arith, nat_tests)
 
-equal_no : (a b : ℕ) → a ≢ b → (a == b) ≡ false
+pub equal_no : (a b : ℕ) → a ≢ b → (a == b) ≡ false
 equal_no a b h = grind (arith, nat_tests)
 
 shifted : (n r a : ℕ) → (n + r + 1 == n + a + 1) ≡ (r == a)
@@ -201,7 +201,7 @@ none_here : (low n r total : ℕ) (s : Bool) → s ≡ false → total ≡ hits 
 none_here low n r total true e h = absurd cc
 none_here low n r total false e h = let f : low + 0 ≡ low = omega arith in let g : 0 + n ≡ n = omega arith in rw g (rw f at h)
 
-not_code : (e : Entry) (code : ℕ) → is_add e.code ≡ false → 1 ≤ code → code ≤ 5 → (e.code == code) ≡ false
+pub not_code : (e : Entry) (code : ℕ) → is_add e.code ≡ false → 1 ≤ code → code ≤ 5 → (e.code == code) ≡ false
 not_code e code none l h = equal_no e.code code (λ same. let a : is_add code ≡ false = rw same at none in let b : nat_le 1 code ≡ true = grind (arith, nat_tests) in let d : nat_le code 5 ≡ true = grind (arith, nat_tests) in let f : true ≡ false = rw (b, d) at a in absurd cc)
 
 -- how often the pairs behind name a row: once from the first that is still to come on
@@ -209,7 +209,7 @@ named_none : (c : Chain) (before : List Entry) (code r : ℕ) → count_by (is_t
 unfolding counted
 named_none c before code r = sym (hits_none (adds before code) r)
 
-count_append : (p : Token → Bool) (xs ys : List Token) → count_by p (xs ++ ys) ≡ count_by p xs + count_by p ys
+pub count_append : (p : Token → Bool) (xs ys : List Token) → count_by p (xs ++ ys) ≡ count_by p xs + count_by p ys
 count_append p xs ys = sum_by-append (λ (t : Token). cond (p t) 1 0) xs ys
 
 sums : (a b d e : ℕ) → a ≡ d → b ≡ e → a + b ≡ d + e
@@ -243,7 +243,7 @@ pub named : (c : Chain) (before es : List Entry) → Good c before es → (code 
 named c before [] g code r l h = named_none c before code r
 named c before (e ∷ es) g code r l h = named_step c before es e g.0 code r l h (named c (before ++ e ∷ []) es g.1 code r l h)
 
-log_named : (c : Chain) (tokens : List Token) (log : List Entry) → log_fault c tokens log ≡ None → (code r : ℕ) → 1 ≤ code → code ≤ 5 → count_by (is_token (new_row c (child_table code) r)) (children (counted log)) ≡ hits 0 (adds log code) r
+pub log_named : (c : Chain) (tokens : List Token) (log : List Entry) → log_fault c tokens log ≡ None → (code r : ℕ) → 1 ≤ code → code ≤ 5 → count_by (is_token (new_row c (child_table code) r)) (children (counted log)) ≡ hits 0 (adds log code) r
 log_named c tokens log none code r l h = named c [] log (log_good c tokens log none) code r l h
 
 -- so the new rows up to the number of pairs are right, and the next isn't

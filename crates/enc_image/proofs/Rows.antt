@@ -12,16 +12,15 @@ use Rattle.enc_rows.specs.Layout.{Layout, rows_of}
 use Rattle.enc_rows.specs.Layout as rows
 use Rattle.enc_schema.specs.declared.column.Coding.{Coding}
 use Rattle.enc_schema.specs.Coding.{decoded}
-use Rattle.enc_plain.specs.Cell.{Cell, Kind, number, text, blob, guid, refer, numbers, texts, blobs, guids, kind_of, kind_in, cell_count}
-use Rattle.enc_plain.specs.Module.{rows_in, row_of, has_row, cell_of}
-use Rattle.enc_image.specs.declared.judge.Rule.{Rule}
-use Rattle.enc_image.specs.declared.judge.Rule.TheVariants as rule
+use Rattle.enc_plain.specs.Cell.{Cell, Kind, number, text, blob, guid, refer, body, field, numbers, texts, blobs, guids, references, bodies, fields, kind_of, is_body, is_field, kind_in, cell_count}
+use Rattle.enc_plain.specs.Module.{rows_in, row_at, row_of, has_row, cell_of}
 use Rattle.enc_meta.specs.Heaps.{text_at, blob_at, guid_at}
 use Rattle.enc_schema.specs.declared.column.Column.TheVariants.{Num8, Num16, Num32, Text, Guid, Blob, Index, Coded, Run}
-use Rattle.enc_image.proofs.Good.{good_cell, no_index_fault, no_offset_fault}
-use Rattle.enc_image.specs.Base.{reading_of, cell_for, asks, first_fault, cells_fault, cell_in, is_part, row_in, table_rows, module_in}
+use Rattle.enc_image.proofs.Good.{good_offset, good_index, index_there, coded_there, no_index_fault, no_offset_fault}
+use Rattle.enc_rows.specs.Fault.{is_past, is_bad_index, index_fault}
+use Rattle.enc_image.specs.Base.{reading_of, cell_for, is_offset, offset_fault, rows_from, cells_fault, cell_in, is_part, row_in, table_rows, module_in}
 use Rattle.enc_rows.specs.Source.{Source, raw_in}
-use Rattle.enc_plain.specs.Reading.{Reading, within, index_token, cell_read}
+use Rattle.enc_plain.specs.Reading.{Reading, within, index_token, cell_read, cell_with}
 use Rattle.enc_image.proofs.Listed.{get_below, get_past, length_below}
 
 -- the rows of a table below 2D
@@ -133,21 +132,70 @@ pub in_cells : (table i : ℕ) (c : Column) → column_in table i ≡ Some c →
 unfolding columns_in runs_last
 in_cells table i c e k = counted (list_at schema table) i c (each runs_last schema table all_last refl) e k
 
+-- the kinds of the columns whose numbers are no places of bytes
+abbrev is_plain : Kind → Bool
+is_plain bodies = false
+is_plain fields = false
+is_plain k = true
+
+-- a column whose number is the place of a body or of a field's bytes has no other kind
+pub record HasPlainKind (table i : ℕ) (k : Kind) : Type 0 where
+  pub body : is_body table i ≡ false
+  pub field : is_field table i ≡ false
+  pub kind : option_and_then kind_of (column_in table i) ≡ Some k
+
+plain_from : (b f : Bool) (o : Option Kind) (k : Kind) → is_plain k ≡ true → (if b then Some bodies else if f then Some fields else o) ≡ Some k → (b ≡ false) × (f ≡ false) × (o ≡ Some k)
+plain_from true f o k plain h = let e : bodies ≡ k = cc in let n = rw (← e) at plain in absurd cc
+plain_from false true o k plain h = let e : fields ≡ k = cc in let n = rw (← e) at plain in absurd cc
+plain_from false false o k plain h = (refl, refl, h)
+
+-- such a kind is that of its column
+pub plain_kind : (table i : ℕ) (k : Kind) → is_plain k ≡ true → kind_in table i ≡ Some k → HasPlainKind table i k
+plain_kind table i k plain h =
+    let p = plain_from (is_body table i) (is_field table i) (option_and_then kind_of (column_in table i)) k plain h in
+    record { body = p.0; field = p.1; kind = p.2 }
+
 -- a cell of the module, where its number stands for one
-pub held : (s : Source) (token : Token) (i : ℕ) (c : Column) (cell : Cell) → IsTrue (has_row (module_in s) token) → column_in token.table i ≡ Some c → is_some (kind_of c) ≡ true → cell_for s.layout s.heaps c (raw_in s token i) ≡ Some cell → cell_of (module_in s) token i ≡ Some cell
-unfolding cell_in
-held s token i c cell there column kind is =
+pub held : (s : Source) (token : Token) (i : ℕ) (c : Column) (cell : Cell) → IsTrue (has_row (module_in s) token) → column_in token.table i ≡ Some c → is_some (kind_of c) ≡ true → is_body token.table i ≡ false → is_field token.table i ≡ false → cell_for s.layout s.heaps c (raw_in s token i) ≡ Some cell → cell_of (module_in s) token i ≡ Some cell
+unfolding cell_in cell_with
+held s token i c cell there column kind no_body no_field is =
     let row = row_stands s token there in
     let e = token_is token row.low in
     let at = cell_at s token.table (token.row - 1) i cell row.table row.part (omega (arith, row.low, row.high)) (in_cells token.table i c column kind) in
-    let found : cell_in s token i ≡ Some cell = rw column is in
+    let found : cell_in s token i ≡ Some cell = rw (column, no_body, no_field) is in
     rw e at at found
 
--- no index and no offset of the module is bad
-pub good : (s : Source) (which : Rule) (token : Token) (i : ℕ) (c : Column) → first_fault s which ≡ None → IsTrue (has_row (module_in s) token) → column_in token.table i ≡ Some c → asks which c ≡ true → is_some (cell_for s.layout s.heaps c (raw_in s token i)) ≡ true
-good s which token i c none there column speaks =
+-- a method of bare metadata has no body
+pub body_cell : (s : Source) (token : Token) → IsTrue (has_row (module_in s) token) → token.table ≡ 0x06 → cell_of (module_in s) token 0 ≡ Some (body false)
+unfolding cell_in cell_with columns_in
+body_cell s token there is =
     let row = row_stands s token there in
-    rw (token_is token row.low) at (good_cell s which token.table (token.row - 1) i c none row.table (omega (arith, row.low, row.high)) column speaks)
+    let e = token_is token row.low in
+    let at = cell_at s token.table (token.row - 1) 0 (body false) row.table row.part (omega (arith, row.low, row.high)) (rw is (in_cells 0x06 0 Num32 refl refl)) in
+    let found : cell_in s token 0 ≡ Some (body false) = rw is refl in
+    rw e at at found
+
+-- and a field no initial bytes
+pub field_cell : (s : Source) (token : Token) → IsTrue (has_row (module_in s) token) → token.table ≡ 0x1D → cell_of (module_in s) token 0 ≡ Some (field [])
+unfolding cell_in cell_with columns_in
+field_cell s token there is =
+    let row = row_stands s token there in
+    let e = token_is token row.low in
+    let at = cell_at s token.table (token.row - 1) 0 (field []) row.table row.part (omega (arith, row.low, row.high)) (rw is (in_cells 0x1D 0 Num32 refl refl)) in
+    let found : cell_in s token 0 ≡ Some (field []) = rw is refl in
+    rw e at at found
+
+-- no offset of the module is bad
+pub good : (s : Source) (token : Token) (i : ℕ) (c : Column) → offset_fault s ≡ None → IsTrue (has_row (module_in s) token) → column_in token.table i ≡ Some c → is_offset c ≡ true → is_some (cell_for s.layout s.heaps c (raw_in s token i)) ≡ true
+good s token i c none there column speaks =
+    let row = row_stands s token there in
+    rw (token_is token row.low) at (good_offset s token.table (token.row - 1) i c none row.table (omega (arith, row.low, row.high)) column speaks)
+
+-- and no index
+pub unfaulted : (s : Source) (token : Token) (i : ℕ) (c : Column) → index_fault (rows_from s) ≡ None → IsTrue (has_row (module_in s) token) → column_in token.table i ≡ Some c → is_bad_index (rows_from s) token.table (token.row - 1) i c ≡ false
+unfaulted s token i c none there column =
+    let row = row_stands s token there in
+    good_index s token.table (token.row - 1) i c none row.table (omega (arith, row.low, row.high)) column
 
 -- the column of a cell of this kind
 pub column_with : (o : Option Column) (k : Kind) → option_and_then kind_of o ≡ Some k → (c : Column) × (o ≡ Some c) × (kind_of c ≡ Some k)
@@ -194,31 +242,34 @@ made_from o f (Some a) P some is holds = holds (f a) is
 made_from o f None P some is holds = let e = rw is at some in cc
 
 -- where an optional value is there, and the cell is made from it, the module has that cell
-pub made : {A : Type 0} (s : Source) (token : Token) (i : ℕ) (c : Column) (which : Rule) (f : A → Cell) (x : Option A) → first_fault s which ≡ None → IsTrue (has_row (module_in s) token) → column_in token.table i ≡ Some c → is_some (kind_of c) ≡ true → asks which c ≡ true → cell_for s.layout s.heaps c (raw_in s token i) ≡ option_map f x → MatchOption x ⊥ (λ a. cell_of (module_in s) token i ≡ Some (f a))
-made s token i c which f x none there column kind speaks is =
-    made_from (cell_for s.layout s.heaps c (raw_in s token i)) f x (λ cell. cell_of (module_in s) token i ≡ Some cell) (good s which token i c none there column speaks) is (λ cell e. held s token i c cell there column kind e)
+pub made : {A : Type 0} (s : Source) (token : Token) (i : ℕ) (c : Column) (k : Kind) (f : A → Cell) (x : Option A) → IsTrue (has_row (module_in s) token) → column_in token.table i ≡ Some c → is_some (kind_of c) ≡ true → HasPlainKind token.table i k → is_some (cell_for s.layout s.heaps c (raw_in s token i)) ≡ true → cell_for s.layout s.heaps c (raw_in s token i) ≡ option_map f x → MatchOption x ⊥ (λ a. cell_of (module_in s) token i ≡ Some (f a))
+made s token i c k f x there column kind plain some is =
+    made_from (cell_for s.layout s.heaps c (raw_in s token i)) f x (λ cell. cell_of (module_in s) token i ≡ Some cell) some is (λ cell e. held s token i c cell there column kind plain.body plain.field e)
 
 -- a cell of each kind: the entry is there, and the module has the cell with it
 pub text_cell : (s : Source) (token : Token) (i n : ℕ) → cells_fault s ≡ None → IsTrue (has_row (module_in s) token) → kind_in token.table i ≡ Some texts → raw_in s token i ≡ n → MatchOption (text_at s.heaps.strings n) ⊥ (λ a. cell_of (module_in s) token i ≡ Some (text a))
 unfolding cell_read
 text_cell s token i n sound there kind is =
-    let w = column_with _ _ kind in
+    let plain = plain_kind _ _ texts refl kind in
+    let w = column_with _ _ plain.kind in
     let e = w.1 ∙ ap (λ c. Some c) (text_column w.0 w.2) in
-    made s token i Text rule.Offset text _ (no_offset_fault s sound) there e refl refl (rw is refl)
+    made s token i Text texts text _ there e refl plain (good s token i Text (no_offset_fault s sound) there e refl) (rw is refl)
 
 pub blob_cell : (s : Source) (token : Token) (i n : ℕ) → cells_fault s ≡ None → IsTrue (has_row (module_in s) token) → kind_in token.table i ≡ Some blobs → raw_in s token i ≡ n → MatchOption (blob_at s.heaps.blobs n) ⊥ (λ a. cell_of (module_in s) token i ≡ Some (blob a))
 unfolding cell_read
 blob_cell s token i n sound there kind is =
-    let w = column_with _ _ kind in
+    let plain = plain_kind _ _ blobs refl kind in
+    let w = column_with _ _ plain.kind in
     let e = w.1 ∙ ap (λ c. Some c) (blob_column w.0 w.2) in
-    made s token i Blob rule.Offset blob _ (no_offset_fault s sound) there e refl refl (rw is refl)
+    made s token i Blob blobs blob _ there e refl plain (good s token i Blob (no_offset_fault s sound) there e refl) (rw is refl)
 
 pub guid_cell : (s : Source) (token : Token) (i n : ℕ) → cells_fault s ≡ None → IsTrue (has_row (module_in s) token) → kind_in token.table i ≡ Some guids → raw_in s token i ≡ n → MatchOption (guid_at s.heaps.guids n) ⊥ (λ a. cell_of (module_in s) token i ≡ Some (guid a))
 unfolding cell_read
 guid_cell s token i n sound there kind is =
-    let w = column_with _ _ kind in
+    let plain = plain_kind _ _ guids refl kind in
+    let w = column_with _ _ plain.kind in
     let e = w.1 ∙ ap (λ c. Some c) (guid_column w.0 w.2) in
-    made s token i Guid rule.Offset guid _ (no_offset_fault s sound) there e refl refl (rw is refl)
+    made s token i Guid guids guid _ there e refl plain (good s token i Guid (no_offset_fault s sound) there e refl) (rw is refl)
 
 within_from : (b : Bool) (t : Token) (P : Token → Type 0) → MatchOption (if b then Some t else None) ⊥ P → P t
 within_from true t P h = h
@@ -228,20 +279,24 @@ within_from false t P h = absurd h
 pub within_is : (count : ℕ → ℕ) (t : Token) (P : Token → Type 0) → MatchOption (within count t) ⊥ P → P t
 within_is count t P h = within_from (nat_le t.row (count t.table)) t P h
 
-pub index_cell : (s : Source) (token : Token) (i n table : ℕ) → cells_fault s ≡ None → IsTrue (has_row (module_in s) token) → column_in token.table i ≡ Some (Index table) → raw_in s token i ≡ n → cell_of (module_in s) token i ≡ Some (refer (index_token table n))
+pub index_cell : (s : Source) (token : Token) (i n table : ℕ) → cells_fault s ≡ None → IsTrue (has_row (module_in s) token) → kind_in token.table i ≡ Some references → column_in token.table i ≡ Some (Index table) → raw_in s token i ≡ n → cell_of (module_in s) token i ≡ Some (refer (index_token table n))
 unfolding cell_read
-index_cell s token i n table sound there column is =
-    within_is (rows_of s.layout) (index_token table n) (λ t. cell_of (module_in s) token i ≡ Some (refer t)) (made s token i (Index table) rule.Index refer _ (no_index_fault s sound) there column refl refl (rw is refl))
+index_cell s token i n table sound there kind column is =
+    let row = row_stands s token there in
+    let fits : nat_lt (rows_of s.layout table) (raw_in s token i) ≡ false = rw (token_is token row.low) at (unfaulted s token i (Index table) (no_index_fault s sound) there column) in
+    within_is (rows_of s.layout) (index_token table n) (λ t. cell_of (module_in s) token i ≡ Some (refer t)) (made s token i (Index table) references refer _ there column refl (plain_kind _ _ references refl kind) (index_there (reading_of s.layout s.heaps) table (raw_in s token i) fits) (rw is refl))
 
 -- the same of a coded index
 pub coded_is : (count : ℕ → ℕ) (o : Option Token) (P : Token → Type 0) → MatchOption (option_and_then (within count) o) ⊥ P → MatchOption o ⊥ P
 coded_is count (Some t) P h = within_is count t P h
 coded_is count None P h = h
 
-pub coded_cell : (s : Source) (token : Token) (i n : ℕ) (kind : Coding) → cells_fault s ≡ None → IsTrue (has_row (module_in s) token) → column_in token.table i ≡ Some (Coded kind) → raw_in s token i ≡ n → MatchOption (decoded kind n) ⊥ (λ t. cell_of (module_in s) token i ≡ Some (refer t))
+pub coded_cell : (s : Source) (token : Token) (i n : ℕ) (kind : Coding) → cells_fault s ≡ None → IsTrue (has_row (module_in s) token) → kind_in token.table i ≡ Some references → column_in token.table i ≡ Some (Coded kind) → raw_in s token i ≡ n → MatchOption (decoded kind n) ⊥ (λ t. cell_of (module_in s) token i ≡ Some (refer t))
 unfolding cell_read
-coded_cell s token i n kind sound there column is =
-    coded_is (rows_of s.layout) (decoded kind n) (λ t. cell_of (module_in s) token i ≡ Some (refer t)) (made s token i (Coded kind) rule.Index refer (option_and_then (within (rows_of s.layout)) (decoded kind n)) (no_index_fault s sound) there column refl refl (rw is refl))
+coded_cell s token i n kind sound there kinds column is =
+    let row = row_stands s token there in
+    let fits : is_past s.layout (decoded kind (raw_in s token i)) ≡ false = rw (token_is token row.low) at (unfaulted s token i (Coded kind) (no_index_fault s sound) there column) in
+    coded_is (rows_of s.layout) (decoded kind n) (λ t. cell_of (module_in s) token i ≡ Some (refer t)) (made s token i (Coded kind) references refer (option_and_then (within (rows_of s.layout)) (decoded kind n)) there column refl (plain_kind _ _ references refl kinds) (coded_there s kind (raw_in s token i) fits) (rw is refl))
 
 -- a number stands for itself
 pub number_for : (r : Reading) (c : Column) (n : ℕ) → kind_of c ≡ Some numbers → cell_read r c n ≡ Some (number n)
@@ -258,12 +313,34 @@ number_for r (Run t) n e = absurd cc
 
 pub number_cell : (s : Source) (token : Token) (i n : ℕ) → IsTrue (has_row (module_in s) token) → kind_in token.table i ≡ Some numbers → raw_in s token i ≡ n → cell_of (module_in s) token i ≡ Some (number n)
 number_cell s token i n there kind is =
-    let w = column_with _ _ kind in
-    held s token i w.0 (number n) there w.1 (ap is_some w.2) (rw is (number_for (reading_of s.layout s.heaps) w.0 n w.2))
+    let plain = plain_kind _ _ numbers refl kind in
+    let w = column_with _ _ plain.kind in
+    held s token i w.0 (number n) there w.1 (ap is_some w.2) plain.body plain.field (rw is (number_for (reading_of s.layout s.heaps) w.0 n w.2))
+
+there_from : (table i : ℕ) (k : Kind) (b f : Bool) → is_body table i ≡ b → is_field table i ≡ f → (if b then Some bodies else if f then Some fields else option_and_then kind_of (column_in table i)) ≡ Some k → IsSome (column_in table i)
+unfolding columns_in
+there_from table i k true f b1 f1 h =
+    let t : table ≡ 0x06 = grind (arith, nat_tests) in
+    let z : i ≡ 0 = grind (arith, nat_tests) in
+    rw (t, z) refl
+there_from table i k false true b1 f1 h =
+    let t : table ≡ 0x1D = grind (arith, nat_tests) in
+    let z : i ≡ 0 = grind (arith, nat_tests) in
+    rw (t, z) refl
+there_from table i k false false b1 f1 h = let w = column_with _ _ h in rw w.1 refl
 
 -- a column with a kind is there
 pub column_there : (table i : ℕ) (k : Kind) → kind_in table i ≡ Some k → IsSome (column_in table i)
-column_there table i k kind = let w = column_with _ _ kind in rw w.1 refl
+column_there table i k kind = there_from table i k (is_body table i) (is_field table i) refl refl kind
+
+-- the row of the module that a token names
+pub row_there : (s : Source) (token : Token) → IsTrue (has_row (module_in s) token) → row_of (module_in s) token ≡ Some (row_in s token.table (token.row - 1))
+unfolding row_of
+row_there s token there =
+    let row = row_stands s token there in
+    let e : token.row ≡ suc (token.row - 1) = omega (arith, row.low) in
+    let at : row_at (rows_in (module_in s) token.table) (suc (token.row - 1)) ≡ Some (row_in s token.table (token.row - 1)) = rw (rows_there s token.table row.table, row.part) (get_below (row_in s token.table) (rows_of s.layout token.table) (token.row - 1) (omega (arith, row.low, row.high))) in
+    ap (row_at (rows_in (module_in s) token.table)) e ∙ at
 
 -- a row of the module is a row of the tables
 pub row_in_tables : (s : Source) (token : Token) → IsTrue (has_row (module_in s) token) → IsTrue (rows.has_row s.layout token)

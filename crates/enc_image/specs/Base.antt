@@ -1,27 +1,28 @@
 -- The plain module that a file's bytes say, or the first refusal (ECMA-335 II.22, II.24).
-use Rattle.std.specs.Prelude.{ℕ, zero, suc, ◌+◌, ◌^◌, Bool, true, false, not, ◌&&◌, ◌||◌, List, [], ◌∷◌, length, map, Option, Some, None, option_map, option_and_then, unwrap_or, is_some, Result, Ok, Err, nat_lt, nat_le, ◌==◌, if◌then◌else◌, filter, replicate, codes, nat_eq}
+use Rattle.std.specs.Prelude.{ℕ, Bool, true, false, not, ◌&&◌, List, [], ◌∷◌, length, map, Option, Some, None, option_map, option_and_then, unwrap_or, is_some, Result, Ok, Err, ◌==◌, if◌then◌else◌, replicate, codes, nat_eq}
 use Rattle.std.specs.List.{list_any, starts_with}
 use Rattle.enc_base.specs.Order.{or_else, first_below}
 use Rattle.enc_base.specs.Token.{nth_row}
 use Rattle.enc_base.specs.declared.token.Token.{Token}
 use Rattle.enc_base.specs.declared.refusal.Refusal.{Refusal}
 use Rattle.enc_base.specs.declared.refusal.Code.TheVariants.{F, U}
+use Rattle.enc_base.specs.declared.refusal.Place.{Place}
 use Rattle.enc_base.specs.declared.refusal.Place.TheVariants as place
 use Rattle.enc_meta.specs.declared.root.Root.{Root}
 use Rattle.enc_meta.specs.Root.{root_of}
 use Rattle.enc_meta.specs.Heaps.{Counted, heaps_of, part, text_at, blob_at, guid_at}
 use Rattle.enc_schema.specs.declared.column.Column.{Column}
-use Rattle.enc_schema.specs.declared.column.Column.TheVariants.{Num8, Num16, Num32, Text, Guid, Blob, Index, Coded, Run}
+use Rattle.enc_schema.specs.declared.column.Column.TheVariants.{Text, Guid, Blob}
 use Rattle.enc_schema.specs.Schema.{columns_in, column_in}
+use Rattle.enc_schema.specs.Children.{run_column, runs_in}
 use Rattle.enc_rows.specs.Sums.{below}
 use Rattle.enc_rows.specs.Layout.{Layout, tables_of, rows_of}
-use Rattle.enc_rows.specs.Unread.{is_unread}
+use Rattle.enc_rows.specs.Runs.{Rows, children_of}
+use Rattle.enc_rows.specs.Fault.{index_fault}
 use Rattle.enc_rows.specs.Source.{Source, raw_in}
 use Rattle.enc_rows.specs.declared.form.Form.TheVariants as form
-use Rattle.enc_image.specs.declared.judge.Rule.{Rule}
-use Rattle.enc_image.specs.declared.judge.Rule.TheVariants as rule
 use Rattle.enc_plain.specs.Cell.{Cell, number, cell_count}
-use Rattle.enc_plain.specs.Reading.{Reading, cell_read}
+use Rattle.enc_plain.specs.Reading.{Reading, cell_read, cell_with}
 use Rattle.enc_plain.specs.Module.{Module, Row}
 use Rattle.enc_plain.specs.Chain.{Chain}
 
@@ -35,46 +36,55 @@ cell_for l h c n = cell_read (reading_of l h) c n
 
 -- the cell in a column of a row
 unfoldable pub cell_in : Source → Token → ℕ → Option Cell
-cell_in s token i = option_and_then (λ (c : Column). cell_for s.layout s.heaps c (raw_in s token i)) (column_in token.table i)
+cell_in s token i = option_and_then (λ (c : Column). cell_with (reading_of s.layout s.heaps) token.table i c (raw_in s token i)) (column_in token.table i)
 
--- the columns of which a rule speaks: indices, or offsets in heaps
-abbrev pub asks : Rule → Column → Bool
-asks rule.Index (Index table) = true
-asks rule.Index (Coded kind) = true
-asks rule.Offset Text = true
-asks rule.Offset Guid = true
-asks rule.Offset Blob = true
-asks _ _ = false
+abbrev pub is_offset : Column → Bool
+is_offset Text = true
+is_offset Guid = true
+is_offset Blob = true
+is_offset _ = false
 
--- F7 of indices, F8 of offsets
-abbrev pub number_of : Rule → ℕ
-number_of rule.Index = 7
-number_of rule.Offset = 8
+-- F8: the first offset that isn't good, by table, row and column
+unfoldable pub offset_fault_at : Source → Token → ℕ → Option Place
+offset_fault_at s token i = option_and_then (λ (c : Column). if is_offset c && not (is_some (cell_for s.layout s.heaps c (raw_in s token i))) then Some (place.Cell token i) else None) (column_in token.table i)
 
--- a cell of which the rule speaks isn't good
-abbrev pub breaks : Source → Rule → Token → ℕ → Column → Bool
-breaks s rule token i c = asks rule c && not (is_some (cell_for s.layout s.heaps c (raw_in s token i)))
+unfoldable pub offset_fault_in_row : Source → ℕ → ℕ → Option Place
+offset_fault_in_row s table r = first_below (offset_fault_at s (nth_row table r)) (length (columns_in table))
 
--- the first place of a rule: by table, row and column
-unfoldable pub cell_fault : Source → Rule → Token → ℕ → Option Refusal
-cell_fault s rule token i = option_and_then (λ (c : Column). if breaks s rule token i c then Some (record { code = F (number_of rule); place = place.Cell token i }) else None) (column_in token.table i)
+unfoldable pub offset_fault_in : Source → ℕ → Option Place
+offset_fault_in s table = first_below (offset_fault_in_row s table) (rows_of s.layout table)
 
-unfoldable pub row_fault : Source → Rule → ℕ → ℕ → Option Refusal
-row_fault s rule table r = first_below (cell_fault s rule (nth_row table r)) (length (columns_in table))
+unfoldable pub offset_fault : Source → Option Place
+offset_fault s = first_below (offset_fault_in s) 0x2D
 
-unfoldable pub table_fault : Source → Rule → ℕ → Option Refusal
-table_fault s rule table = first_below (row_fault s rule table) (rows_of s.layout table)
+-- F10: bare metadata has no code, so a method with a place for its body has none that is good
+unfoldable pub body_fault_at : Source → ℕ → Option Place
+body_fault_at s r = if raw_in s (nth_row 0x06 r) 0 == 0 then None else Some (place.Row (nth_row 0x06 r))
 
-unfoldable pub first_fault : Source → Rule → Option Refusal
-first_fault s rule = first_below (table_fault s rule) 0x2D
+unfoldable pub body_fault : Source → Option Place
+body_fault s = first_below (body_fault_at s) (rows_of s.layout 0x06)
+
+-- the rows of a source
+abbrev pub rows_from : Source → Rows
+rows_from s = record { stream = s.stream; layout = s.layout }
+
+abbrev pub rule : ℕ → Option Place → Option Refusal
+rule n p = option_map (λ (q : Place). record { code = F n; place = q }) p
+
+-- F7, F8, F10
+unfoldable pub cells_fault : Source → Option Refusal
+cells_fault s = or_else (rule 7 (index_fault (rows_from s))) (or_else (rule 8 (offset_fault s)) (rule 10 (body_fault s)))
 
 -- the tables that are no part of a module: the Ptr tables, EncLog and EncMap
 abbrev pub is_part : ℕ → Bool
 is_part table = not (list_any (λ t. t == table) (0x03 ∷ 0x05 ∷ 0x07 ∷ 0x13 ∷ 0x16 ∷ 0x1E ∷ 0x1F ∷ []))
 
--- the row with its cells
+-- the row with its cells and its children by runs
 abbrev pub row_in : Source → ℕ → ℕ → Row
-row_in s table r = record { cells = map (λ i. unwrap_or (cell_in s (nth_row table r) i) (number 0)) (below (cell_count table)) }
+row_in s table r = record {
+  cells = map (λ i. unwrap_or (cell_in s (nth_row table r) i) (number 0)) (below (cell_count table));
+  kids = map (λ child. children_of (rows_from s) table (run_column child) child r) (runs_in table);
+}
 
 abbrev pub table_rows : Source → ℕ → List Row
 table_rows s table = if is_part table then map (row_in s table) (below (rows_of s.layout table)) else []
@@ -91,11 +101,9 @@ is_bare bytes = starts_with nat_eq bytes (codes "BSJB")
 unfoldable pub no_counts : List ℕ
 no_counts = replicate 64 0
 
--- the layout of a root's table stream, or F6; for now U1 in between
+-- the layout of a root's table stream, or F6
 unfoldable pub layout_for : List ℕ → Root → Result Layout Refusal
-layout_for bytes root =
-    if is_unread (part bytes root.tables) then Err (record { code = U 1; place = place.Tables })
-    else tables_of bytes root.tables form.Base root.jtd no_counts
+layout_for bytes root = tables_of bytes root.tables form.Base root.jtd no_counts
 
 -- the parts of a file with this root and this layout
 abbrev pub source_from : List ℕ → Root → Layout → Source
@@ -112,10 +120,6 @@ source_in bytes (Err e) = Err e
 -- the source of a bare file, or F1, F2, F6; for now a file that isn't bare is U3
 unfoldable pub source_of : List ℕ → Result Source Refusal
 source_of bytes = if is_bare bytes then source_in bytes (root_of bytes) else Err (record { code = U 3; place = place.Headers })
-
--- F7 before F8; for now without their places
-unfoldable pub cells_fault : Source → Option Refusal
-cells_fault s = option_map (λ (e : Refusal). record { code = U 2; place = place.Root }) (or_else (first_fault s rule.Index) (first_fault s rule.Offset))
 
 -- the chain that a source begins: its plain module, no delta, and its heaps
 unfoldable pub begun : Source → Chain

@@ -7,7 +7,7 @@ ghost use Rattle.enc_image.specs.Seen.{opened_source, IsOpened};
 
 use enc_base::{Code, Counts, Place, Refusal};
 use enc_meta::{Root, Span, read_root};
-use enc_rows::{Form, Tables, is_unread};
+use enc_rows::{Form, Tables};
 
 /// A root, and the tables in it.
 #[derive(Drop)]
@@ -28,17 +28,11 @@ fn tables_in(bytes: &[u8], root: &Root) -> Result<Tables, Refusal>
     ensures tables { result ≡ layout_for bytes.now root.now }
     ensures within { IfOk result (λ l. IsWithin (part bytes.now root.now.tables) l × (l.span ≡ root.now.tables)) }
 {
-    if is_unread(root.tables.part(bytes)) {
-        return Err(Refusal {
-            code: Code::U(1),
-            place: Place::Tables,
-        });
-    }
     let none = Counts { rows: [0; 64] };
     Tables::read(bytes, root.tables, Form::Base, root.jtd, &none)
 }
 
-/// The root and the tables of a bare file: F1, F2, F6, and for now U1 and U3.
+/// The root and the tables of a bare file: F1, F2, F6, and for now U3.
 #[tactic(auto, unfolding(crate::specs::Base::source_of))]
 pub fn open(bytes: &[u8]) -> Result<Opened, Refusal>
     ensures source { opened_source bytes.now result ≡ source_of bytes.now }

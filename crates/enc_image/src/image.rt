@@ -8,6 +8,7 @@ use crate::judge::{Cells, cells_fault};
 use enc_base::ReadFault;
 use enc_meta::{Heaps, Root};
 use enc_rows::Tables;
+use std::alloc::Global;
 use std::marker::Model;
 
 /// The bytes of a module that was accepted, and where its parts stand in them. Its cells aren't
@@ -32,24 +33,26 @@ impl Model for Image {
 }
 
 impl Image {
-    /// Reads a module. Refused is the first of F1, F2, F6, and so far U1 to U3 for forms that aren't
-    /// read yet.
+    /// Reads a module. Refused is the first of F1, F2, F6, F7, F8 and F10, and so far U3 for files
+    /// that aren't bare metadata. It takes memory only where a Ptr table has rows.
     #[tactic(auto, unfolding(crate::specs::Base::chain_of))]
-    pub fn read(bytes: Vec<u8>) -> Result<Image, ReadFault>
+    pub fn read(alloc: Global, bytes: Vec<u8>) -> Result<Image, ReadFault>
         ensures { Reads result (chain_of bytes.items) }
     {
         let opened = match open(&bytes) {
             Ok(opened) => opened,
             Err(refusal) => return Err(ReadFault::Refused(refusal)),
         };
-        let fault = cells_fault(&Cells {
+        let cells = Cells {
             bytes: &bytes,
             tables: &opened.tables,
             heaps: Heaps::of(&bytes, &opened.root),
-        });
+        };
+        let fault = cells_fault(alloc, &cells);
         match fault {
-            Some(refusal) => Err(ReadFault::Refused(refusal)),
-            None => Ok(Image {
+            Err(_) => Err(ReadFault::Memory),
+            Ok(Some(refusal)) => Err(ReadFault::Refused(refusal)),
+            Ok(None) => Ok(Image {
                 bytes,
                 root: opened.root,
                 tables: opened.tables,

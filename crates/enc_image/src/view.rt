@@ -9,7 +9,7 @@ use crate::image::Image;
 use enc_base::Token;
 use enc_meta::Heaps;
 use enc_plain::{ModuleView, index_token};
-use enc_schema::{Column, column_of, decode_coded};
+use enc_schema::{Column, column_of, decode_coded, owner_table};
 
 /// The Ptr tables, EncLog and EncMap are no part of a module.
 fn is_part(table: u8) -> bool
@@ -27,6 +27,13 @@ impl Image {
         ensures sound { cells_fault self.now ≡ None }
     {
         self.tables.cell(&self.bytes, row, column)
+    }
+
+    /// Nothing in an image is refused: a law, of which a caller of the view makes use.
+    pub fn sound(&self)
+        ensures { cells_fault self.now ≡ None }
+    {
+        let _ = &self.bytes;
     }
 
     /// The heaps by the bytes that count.
@@ -83,6 +90,37 @@ impl ModuleView for Image {
                 None => unreachable!(),
             },
             _ => unreachable!(),
+        }
+    }
+
+    fn has_body(&self, method: Token) -> bool {
+        let _ = method;
+        false
+    }
+
+    fn field_bytes(&self, row: Token) -> &[u8] {
+        let _ = row;
+        &[]
+    }
+
+    fn owner(&self, child: Token) -> Token {
+        let table = owner_table(child.table);
+        for n in 0..self.tables.count(table) {
+            if self.tables.owns(&self.bytes, child.table, n, child.row) {
+                return Token { table, row: n + 1 };
+            }
+        }
+        unreachable!()
+    }
+
+    fn kids(&self, owner: Token, table: u8) -> u32 {
+        self.tables.children(&self.bytes, table, owner.row - 1)
+    }
+
+    fn kid(&self, owner: Token, table: u8, i: u32) -> Token {
+        match self.tables.child(&self.bytes, table, owner.row - 1, i) {
+            Some(row) => Token { table, row },
+            None => unreachable!(),
         }
     }
 }

@@ -1,1 +1,4 @@
 pub mod Applied
+pub mod AttachedTo
+pub mod Held
+pub mod Begun

@@ -1,30 +1,59 @@
--- Editing a plain module: rows put in place or at the end.
-use Rattle.std.specs.Prelude.{ℕ, zero, suc, ◌-◌, List, [], ◌∷◌}
+-- Editing a plain module: the cells of rows put in place or at the end, and children attached to their owners.
+use Rattle.std.specs.Prelude.{ℕ, zero, suc, ◌-◌, ◌&&◌, ◌==◌, List, [], ◌∷◌, ◌++◌, map, filter}
+use Rattle.enc_base.specs.Token.{is_token}
 use Rattle.enc_base.specs.declared.token.Token.{Token}
+use Rattle.enc_schema.specs.Children.{runs_in, run_index}
+use Rattle.enc_plain.specs.Cell.{Cell}
 use Rattle.enc_plain.specs.Module.{Module, Row}
 
--- a row for a token
+-- the cells of a row for a token
 pub record Change : Type 0 where
   pub token : Token
-  pub row : Row
+  pub cells : List Cell
 
--- the rows with this one in the place of the n-th, n from 0, or at the end where there is no n-th
-abbrev pub put_row : List Row → ℕ → Row → List Row
-put_row [] n row = row ∷ []
-put_row (r ∷ rows) zero row = row ∷ rows
-put_row (r ∷ rows) (suc n) row = r ∷ put_row rows n row
+-- a row that begins with no children
+abbrev pub childless : ℕ → List Cell → Row
+childless table cells = record { cells = cells; kids = map (λ (child : ℕ). []) (runs_in table) }
 
--- the tables with this row put into one of them
-abbrev pub put_in : List (List Row) → ℕ → ℕ → Row → List (List Row)
-put_in [] table n row = []
-put_in (rows ∷ tables) zero n row = put_row rows n row ∷ tables
-put_in (rows ∷ tables) (suc table) n row = rows ∷ put_in tables table n row
+-- the rows with these cells in the n-th, n from 0, which keeps its children, or with a row of them at the end where there is no n-th
+abbrev pub put_row : ℕ → List Row → ℕ → List Cell → List Row
+put_row table [] n cells = childless table cells ∷ []
+put_row table (r ∷ rows) zero cells = record { cells = cells; kids = r.kids } ∷ rows
+put_row table (r ∷ rows) (suc n) cells = r ∷ put_row table rows n cells
+
+-- the rows of the n-th table changed, n from 0
+abbrev pub change_at : {A : Type 0} → List A → ℕ → (A → A) → List A
+change_at [] n f = []
+change_at (x ∷ xs) zero f = f x ∷ xs
+change_at (x ∷ xs) (suc n) f = x ∷ change_at xs n f
 
 -- the module with one change made
 unfoldable pub put : Module → Change → Module
-put m c = record { tables = put_in m.tables c.token.table (c.token.row - 1) c.row }
+put m c = record { tables = change_at m.tables c.token.table (λ rows. put_row c.token.table rows (c.token.row - 1) c.cells) }
 
 -- the module with all changes made, in order
 unfoldable pub apply : Module → List Change → Module
 apply m [] = m
 apply m (c ∷ cs) = apply (put m c) cs
+
+-- a child for an owner
+pub record Attached : Type 0 where
+  pub owner : Token
+  pub child : Token
+
+-- the row with one child more, the last of its kind
+abbrev pub with_child : Token → Row → Row
+with_child child r = record { cells = r.cells; kids = change_at r.kids (run_index child.table) (λ ks. ks ++ child.row ∷ []) }
+
+-- the module with a child attached to its owner
+unfoldable pub attach : Module → Attached → Module
+attach m a = record { tables = change_at m.tables a.owner.table (λ rows. change_at rows (a.owner.row - 1) (with_child a.child)) }
+
+-- the module with all children attached, in order
+unfoldable pub attach_all : Module → List Attached → Module
+attach_all m [] = m
+attach_all m (a ∷ pairs) = attach_all (attach m a) pairs
+
+-- the children that a token's row gains in a child table, in order
+abbrev pub gained : List Attached → Token → ℕ → List ℕ
+gained pairs u child = map (λ (a : Attached). a.child.row) (filter (λ (a : Attached). is_token a.owner u && a.child.table == child) pairs)

@@ -1,17 +1,19 @@
 -- The cell of a row: what stands in a column, without heaps, offsets or widths.
-use Rattle.std.specs.Prelude.{ℕ, List, Option, Some, None, option_and_then, length, filter, is_some}
+use Rattle.std.specs.Prelude.{ℕ, Bool, ◌&&◌, ◌==◌, List, Option, Some, None, option_and_then, length, filter, is_some, if◌then◌else◌}
 use Rattle.enc_base.specs.declared.token.Token.{Token}
 use Rattle.enc_schema.specs.declared.column.Column.{Column}
 use Rattle.enc_schema.specs.declared.column.Column.TheVariants.{Num8, Num16, Num32, Text, Guid, Blob, Index, Coded, Run}
 use Rattle.enc_schema.specs.Schema.{columns_in, column_in}
 
--- a number; the bytes of a text, of a blob, of a GUID; a token, where nil names nothing (ECMA-335 II.22)
+-- a number; the bytes of a text, of a blob, of a GUID; a token, where nil names nothing; whether a method has a body; the initial bytes of a field (ECMA-335 II.22)
 pub data Cell : Type 0 where
   number : ℕ → Cell
   text : List ℕ → Cell
   blob : List ℕ → Cell
   guid : List ℕ → Cell
   refer : Token → Cell
+  body : Bool → Cell
+  field : List ℕ → Cell
 
 -- the kinds of cells
 pub data Kind : Type 0 where
@@ -20,6 +22,8 @@ pub data Kind : Type 0 where
   blobs : Kind
   guids : Kind
   references : Kind
+  bodies : Kind
+  fields : Kind
 
 -- which kind of cell a column has; a run has none
 abbrev pub kind_of : Column → Option Kind
@@ -33,9 +37,16 @@ kind_of (Index table) = Some references
 kind_of (Coded kind) = Some references
 kind_of (Run table) = None
 
+-- the columns whose numbers are places: that of a method's body (ECMA-335 II.22.26), and that of a field's bytes (II.22.18)
+abbrev pub is_body : ℕ → ℕ → Bool
+is_body table i = table == 0x06 && i == 0
+
+abbrev pub is_field : ℕ → ℕ → Bool
+is_field table i = table == 0x1D && i == 0
+
 -- the kind of cells in a table's column
 abbrev pub kind_in : ℕ → ℕ → Option Kind
-kind_in table i = option_and_then kind_of (column_in table i)
+kind_in table i = if is_body table i then Some bodies else if is_field table i then Some fields else option_and_then kind_of (column_in table i)
 
 -- how many columns of a table have cells; runs stand behind them
 abbrev pub cell_count : ℕ → ℕ

@@ -1,8 +1,7 @@
 -- A chain: a base and the deltas that were applied to it.
-use Rattle.std.specs.Prelude.{ℕ, zero, suc, List, [], length, replicate, Option, Some, None, unwrap_or, slice_get}
-use Rattle.enc_base.specs.declared.token.Token.{Token}
+use Rattle.std.specs.Prelude.{ℕ, zero, suc, List, length, replicate, Option, Some, unwrap_or, slice_get}
 use Rattle.enc_meta.specs.Heaps.{Counted}
-use Rattle.enc_plain.specs.Cell.{Cell, number, text, blob, guid, refer}
+use Rattle.enc_plain.specs.Cell.{Cell, guid}
 use Rattle.enc_plain.specs.Module.{Module, rows_in, cell_of}
 
 -- the plain module after all deltas, the EncIds of the deltas in order, and the heaps of each generation from the base on

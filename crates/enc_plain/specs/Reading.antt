@@ -1,11 +1,11 @@
 -- From a column's number to its cell: what the heaps and the counts of rows say.
-use Rattle.std.specs.Prelude.{ℕ, zero, suc, List, Option, Some, None, option_map, option_and_then, nat_le, if◌then◌else◌}
+use Rattle.std.specs.Prelude.{ℕ, zero, suc, false, List, [], Option, Some, None, option_map, option_and_then, nat_le, if◌then◌else◌}
 use Rattle.enc_base.specs.Token.{nil}
 use Rattle.enc_base.specs.declared.token.Token.{Token}
 use Rattle.enc_schema.specs.declared.column.Column.{Column}
 use Rattle.enc_schema.specs.declared.column.Column.TheVariants.{Num8, Num16, Num32, Text, Guid, Blob, Index, Coded, Run}
 use Rattle.enc_schema.specs.Coding.{decoded}
-use Rattle.enc_plain.specs.Cell.{Cell, number, text, blob, guid, refer}
+use Rattle.enc_plain.specs.Cell.{Cell, number, text, blob, guid, refer, body, field, is_body, is_field}
 
 -- by what numbers are read: the entries at an offset of each heap, and how many rows a table has
 pub record Reading : Type 0 where
@@ -34,3 +34,7 @@ cell_read r Blob n = option_map blob (r.blob n)
 cell_read r (Index table) n = option_map refer (within r.count (index_token table n))
 cell_read r (Coded kind) n = option_map refer (option_and_then (within r.count) (decoded kind n))
 cell_read r (Run table) n = None
+
+-- the cell in a table's column. Bare metadata has no bodies, and no bytes of fields
+unfoldable pub cell_with : Reading → ℕ → ℕ → Column → ℕ → Option Cell
+cell_with r table i column n = if is_body table i then Some (body false) else if is_field table i then Some (field []) else cell_read r column n

@@ -2,7 +2,12 @@
 #![tactic(auto)]
 
 mod chain;
+mod plain;
 mod view;
 
 pub use chain::ChainView;
+pub use plain::{PlainCell, PlainModule};
 pub use view::{ModuleView, index_token, is_row};
+
+#[cfg(test)]
+mod tests;

@@ -1,7 +1,8 @@
 //! A view of a module: its rows, asked for cell by cell.
-ghost use Rattle.std.specs.Prelude.{◌≡◌, Some, length, IsTrue};
-ghost use Rattle.enc_plain.specs.Cell.{number, text, blob, guid, refer, kind_in, numbers, texts, blobs, guids, references};
-ghost use Rattle.enc_plain.specs.Module.{Module, rows_in, has_row, cell_of};
+ghost use Rattle.std.specs.Prelude.{◌≡◌, ◌<◌, Some, length, slice_get, IsTrue};
+ghost use Rattle.enc_schema.specs.Children.{is_child_table, owner_table};
+ghost use Rattle.enc_plain.specs.Cell.{number, text, blob, guid, refer, body, field, kind_in, numbers, texts, blobs, guids, references};
+ghost use Rattle.enc_plain.specs.Module.{Module, rows_in, has_row, cell_of, owner_of, kids_of};
 ghost use Rattle.enc_plain.specs.Reading.{index_token};
 
 use enc_base::Token;
@@ -46,6 +47,40 @@ pub trait ModuleView {
         requires row { IsTrue (has_row (meaning self.now) row) }
         requires kind { kind_in row.table column ≡ Some references }
         ensures { cell_of (meaning self.now) row column ≡ Some (refer result) };
+
+    /// Whether a method has a body (ECMA-335 II.22.26).
+    fn has_body(&self, method: Token) -> bool
+        requires row { IsTrue (has_row (meaning self.now) method) }
+        requires table { method.table ≡ 0x06 }
+        ensures { cell_of (meaning self.now) method 0 ≡ Some (body result) };
+
+    /// The initial bytes of a field, by the row of FieldRVA (ECMA-335 II.22.18).
+    fn field_bytes(&self, row: Token) -> &[u8]
+        requires row { IsTrue (has_row (meaning self.now) row) }
+        requires table { row.table ≡ 0x1D }
+        ensures { cell_of (meaning self.now) row 0 ≡ Some (field result.now) };
+
+    /// The row that owns a row of Field, MethodDef, Param, Event or Property.
+    fn owner(&self, child: Token) -> Token
+        requires row { IsTrue (has_row (meaning self.now) child) }
+        requires table { IsTrue (is_child_table child.table) }
+        ensures { owner_of (meaning self.now) child ≡ Some result };
+
+    /// The number of a row's children in a child table.
+    fn kids(&self, owner: Token, table: u8) -> u32
+        requires row { IsTrue (has_row (meaning self.now) owner) }
+        requires table { IsTrue (is_child_table table) }
+        requires owners { owner.table ≡ owner_table table }
+        ensures { result ≡ length (kids_of (meaning self.now) owner table) };
+
+    /// A row's child in a child table, by its place in order of attachment, from 0.
+    fn kid(&self, owner: Token, table: u8, i: u32) -> Token
+        requires row { IsTrue (has_row (meaning self.now) owner) }
+        requires table { IsTrue (is_child_table table) }
+        requires owners { owner.table ≡ owner_table table }
+        requires there { i < length (kids_of (meaning self.now) owner table) }
+        ensures table { result.table ≡ table }
+        ensures row { slice_get (kids_of (meaning self.now) owner table) i ≡ Some result.row };
 }
 
 /// Whether the token names a row: its row is from 1 to its table's count.

@@ -1,6 +1,7 @@
 pub mod Below
 pub mod Places
 pub mod Runs
+pub mod Named
 pub mod Owned
 pub mod Times
 pub mod Silent

@@ -4,9 +4,10 @@ use Rattle.std.specs.Prelude.{◌||◌, ◌==◌, nat_lt, nat_le, flat_map, coun
 use Rattle.std.specs.List.{range_with_len}
 use Rattle.std.proofs.lemmas.Bool.{cases_lt}
 use Rattle.std.proofs.lemmas.Bool.Decides.{nat_tests}
+use Rattle.enc_schema.specs.Children.{owner_table, run_column}
 use Rattle.enc_rows.specs.Sums.{below}
 use Rattle.enc_rows.specs.Layout.{rows_of}
-use Rattle.enc_rows.specs.Runs.{Rows, goes_by_ptr, run_rows, run_start, named_at, children_of, owner_table, run_column, all_children, times_named}
+use Rattle.enc_rows.specs.Runs.{Rows, goes_by_ptr, run_rows, run_start, named_at, children_of, all_children, times_named}
 use Rattle.enc_rows.specs.Fault.{is_bad_run}
 use Rattle.enc_rows.specs.Owners.{run_bound, times_from}
 use Rattle.enc_rows.proofs.Runs.{telescope, flat_map_same, count_before, count_within}

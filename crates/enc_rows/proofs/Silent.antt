@@ -1,15 +1,15 @@
 -- Where no fault was found below a child table, the runs that name its rows are good.
-use Rattle.std.proofs.Common.{◌≡◌, ℕ, ◌<◌, Bool, true, false, length, inl, inr, refl, sym, arith}
-use Rattle.std.specs.Prelude.{Option, Some, None, ◌==◌, if◌then◌else◌}
-use Rattle.std.proofs.lemmas.Bool.{cases_eq}
-use Rattle.std.proofs.lemmas.Bool.Decides.{nat_tests}
+use Rattle.std.proofs.Common.{◌≡◌, ℕ, ◌<◌, Bool, true, false, length, refl, arith}
+use Rattle.std.specs.Prelude.{Option, Some, None, if◌then◌else◌}
 use Rattle.std.proofs.lemmas.Option.{slice_get_within}
 use Rattle.enc_base.specs.Order.{or_else, first_below}
 use Rattle.enc_base.proofs.First.{first_means}
 use Rattle.enc_schema.specs.declared.column.Column.TheVariants.{Index, Run}
 use Rattle.enc_schema.specs.Schema.{columns_in, column_in}
+use Rattle.enc_schema.specs.Children.{is_child_table, owner_table, run_column, ptr_of}
+use Rattle.enc_schema.proofs.ChildTables.{by_child, run_column_is}
 use Rattle.enc_rows.specs.Layout.{rows_of}
-use Rattle.enc_rows.specs.Runs.{Rows, is_child_table, owner_table, run_column, ptr_of}
+use Rattle.enc_rows.specs.Runs.{Rows}
 use Rattle.enc_rows.specs.Fault.{is_bad_run, index_fault_at, index_fault_in_row, index_fault_in}
 use Rattle.enc_rows.proofs.Owned.{AreGood}
 
@@ -35,47 +35,12 @@ good_run s t i child table n column lt none row =
     let in_cell = silent (index_fault_at s t n) (length (columns_in t)) i in_columns (slice_get_within (columns_in t) i (Run child) column) in
     if_none _ _ (rw column at in_cell)
 
-true_is_not : true ≡ false → ⊥
-true_is_not h = cc
-
-no_child : (t : ℕ) → (t == 0x04) ≡ false → (t == 0x06) ≡ false → (t == 0x08) ≡ false → (t == 0x14) ≡ false → (t == 0x17) ≡ false → is_child_table t ≡ true → true ≡ false
-no_child t a b c d e h = sym (rw (a, b, c, d, e) at h)
-
--- the five child tables
-by_child : (P : ℕ → Type 0) → P 0x04 → P 0x06 → P 0x08 → P 0x14 → P 0x17 → (t : ℕ) → is_child_table t ≡ true → P t
-by_child P a b c d e t child = elim (cases_eq t 0x04) [
-  | inl h ↦ rw h a
-  | inr n1 ↦ elim (cases_eq t 0x06) [
-    | inl h ↦ rw h b
-    | inr n2 ↦ elim (cases_eq t 0x08) [
-      | inl h ↦ rw h c
-      | inr n3 ↦ elim (cases_eq t 0x14) [
-        | inl h ↦ rw h d
-        | inr n4 ↦ elim (cases_eq t 0x17) [
-          | inl h ↦ rw h e
-          | inr n5 ↦
-              let e1 : (t == 0x04) ≡ false = grind (arith, nat_tests) in
-              let e2 : (t == 0x06) ≡ false = grind (arith, nat_tests) in
-              let e3 : (t == 0x08) ≡ false = grind (arith, nat_tests) in
-              let e4 : (t == 0x14) ≡ false = grind (arith, nat_tests) in
-              let e5 : (t == 0x17) ≡ false = grind (arith, nat_tests) in
-              absurd (true_is_not (no_child t e1 e2 e3 e4 e5 child))
-        ]
-      ]
-    ]
-  ]
-]
-
--- the owners' table is a lower one, whose column names the child table
-pub run_column_is : (child : ℕ) → is_child_table child ≡ true → column_in (owner_table child) (run_column child) ≡ Some (Run child)
-unfolding columns_in
-run_column_is child there = by_child (λ k. column_in (owner_table k) (run_column k) ≡ Some (Run k)) refl refl refl refl refl child there
-
 -- the only column of a Ptr table
 pub ptr_column_is : (child : ℕ) → is_child_table child ≡ true → column_in (ptr_of child) 0 ≡ Some (Index child)
 unfolding columns_in
 ptr_column_is child there = by_child (λ k. column_in (ptr_of k) 0 ≡ Some (Index k)) refl refl refl refl refl child there
 
+-- the owners' table is a lower one
 pub owner_lower : (child : ℕ) → is_child_table child ≡ true → owner_table child < child
 owner_lower child there = by_child (λ k. owner_table k < k) (omega arith) (omega arith) (omega arith) (omega arith) (omega arith) child there
 

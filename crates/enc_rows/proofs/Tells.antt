@@ -4,8 +4,9 @@ use Rattle.std.specs.Prelude.{not, ◌==◌, nat_lt, nat_le, slice_index, Vec}
 use Rattle.std.proofs.lemmas.Bool.Decides.{nat_tests}
 use Rattle.std.specs.declared.alloc.Global.{Global}
 use Rattle.enc_base.specs.Order.{first_below}
+use Rattle.enc_schema.specs.Children.{is_child_table, ptr_of}
 use Rattle.enc_rows.specs.Layout.{Layout, rows_of}
-use Rattle.enc_rows.specs.Runs.{Rows, is_child_table, goes_by_ptr, ptr_of, run_rows, times_named}
+use Rattle.enc_rows.specs.Runs.{Rows, goes_by_ptr, run_rows, times_named}
 use Rattle.enc_rows.specs.Fault.{index_fault_in}
 use Rattle.enc_rows.specs.Owners.{run_bound, times_from, few, TellsOwners}
 use Rattle.enc_rows.specs.declared.owners.Owners.TheVariants as owners

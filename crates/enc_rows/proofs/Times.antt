@@ -3,8 +3,9 @@ use Rattle.std.proofs.Common.{◌≡◌, ℕ, zero, suc, ◌+◌, ◌-◌, ◌<�
 use Rattle.std.specs.Prelude.{Some, ◌==◌, if◌then◌else◌, count_by}
 use Rattle.std.proofs.lemmas.Bool.Decides.{nat_tests}
 use Rattle.std.proofs.lemmas.List.{length-replicate, get_or-replicate}
+use Rattle.enc_schema.specs.Children.{ptr_of}
 use Rattle.enc_rows.specs.Layout.{rows_of, raw_cell}
-use Rattle.enc_rows.specs.Runs.{Rows, number_in, ptr_of, goes_by_ptr, by_ptr, named_at}
+use Rattle.enc_rows.specs.Runs.{Rows, number_in, goes_by_ptr, by_ptr, named_at}
 use Rattle.enc_rows.specs.Owners.{times_from, few, one_more}
 use Rattle.enc_rows.proofs.Runs.{count_more}
 

@@ -9,8 +9,9 @@ use Rattle.enc_schema.specs.declared.column.Column.{Column}
 use Rattle.enc_schema.specs.declared.column.Column.TheVariants.{Index, Coded, Run}
 use Rattle.enc_schema.specs.Schema.{columns_in, column_in}
 use Rattle.enc_schema.specs.Coding.{decoded}
+use Rattle.enc_schema.specs.Children.{is_child_table}
 use Rattle.enc_rows.specs.Layout.{Layout, rows_of}
-use Rattle.enc_rows.specs.Runs.{Rows, number_in, run_rows, run_start, is_child_table, times_named}
+use Rattle.enc_rows.specs.Runs.{Rows, number_in, run_rows, run_start, times_named}
 
 -- a token past its table, or none
 abbrev pub is_past : Layout → Option Token → Bool

@@ -1,8 +1,9 @@
 -- How the owners of a child table's rows are known, once all runs are good.
 use Rattle.std.specs.Prelude.{◌≡◌, ℕ, zero, suc, ◌+◌, ◌-◌, ◌<◌, Bool, true, not, flat_map, count_by, ◌&&◌, nat_lt, nat_le, ◌==◌, if◌then◌else◌, slice_index}
 use Rattle.std.specs.List.{range_with_len}
+use Rattle.enc_schema.specs.Children.{owner_table, run_column, is_child_table}
 use Rattle.enc_rows.specs.Layout.{rows_of}
-use Rattle.enc_rows.specs.Runs.{Rows, run_rows, run_start, owner_table, run_column, named_at, is_child_table, times_named}
+use Rattle.enc_rows.specs.Runs.{Rows, run_rows, run_start, named_at, times_named}
 use Rattle.enc_rows.specs.declared.owners.Owners.{Owners}
 use Rattle.enc_rows.specs.declared.owners.Owners.TheVariants as owners
 

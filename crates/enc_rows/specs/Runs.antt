@@ -4,6 +4,7 @@ use Rattle.std.specs.List.{range_with_len}
 use Rattle.enc_base.specs.Token.{nth_row}
 use Rattle.enc_base.specs.declared.token.Token.{Token}
 use Rattle.enc_meta.specs.Heaps.{part}
+use Rattle.enc_schema.specs.Children.{ptr_of, owner_table, run_column}
 use Rattle.enc_rows.specs.Sums.{below}
 use Rattle.enc_rows.specs.Layout.{Layout, rows_of, raw_cell}
 
@@ -19,10 +20,6 @@ rows_with bytes l = record { stream = part bytes l.span; layout = l }
 -- the number in a cell
 abbrev pub number_in : Rows → Token → ℕ → ℕ
 number_in s token i = unwrap_or (raw_cell s.stream s.layout token i) 0
-
--- the Ptr table of a child table, 0 where it has none
-abbrev pub ptr_of : ℕ → ℕ
-ptr_of child = if child == 0x04 then 0x03 else if child == 0x06 then 0x05 else if child == 0x08 then 0x07 else if child == 0x14 then 0x13 else if child == 0x17 then 0x16 else 0
 
 -- runs of a child table go over its Ptr table where that has rows
 abbrev pub goes_by_ptr : Layout → ℕ → Bool
@@ -47,19 +44,13 @@ by_ptr (suc r) = suc r ∷ []
 unfoldable pub named_at : Rows → ℕ → ℕ → List ℕ
 named_at s child p = if goes_by_ptr s.layout child then by_ptr (number_in s (record { table = ptr_of child; row = p }) 0) else p ∷ []
 
+-- the children that the places from the first one up to the end name, in order
+abbrev pub named_in : Rows → ℕ → ℕ → ℕ → List ℕ
+named_in s child first end = flat_map (named_at s child) (range_with_len first (end - first))
+
 -- the children of the n-th owner row, in order
 unfoldable pub children_of : Rows → ℕ → ℕ → ℕ → ℕ → List ℕ
-children_of s table i child n = flat_map (named_at s child) (range_with_len (run_start s table i n) (run_end s table i child n - run_start s table i n))
-
--- the owners' table and the column of their runs, for each child table
-abbrev pub owner_table : ℕ → ℕ
-owner_table child = if child == 0x04 then 0x02 else if child == 0x06 then 0x02 else if child == 0x08 then 0x06 else if child == 0x14 then 0x12 else 0x15
-
-abbrev pub run_column : ℕ → ℕ
-run_column child = if child == 0x04 then 4 else if child == 0x06 then 5 else if child == 0x08 then 5 else 1
-
-abbrev pub is_child_table : ℕ → Bool
-is_child_table table = nat_lt 0 (ptr_of table)
+children_of s table i child n = named_in s child (run_start s table i n) (run_end s table i child n)
 
 -- the children of all owners, one owner behind the other
 unfoldable pub all_children : Rows → ℕ → List ℕ

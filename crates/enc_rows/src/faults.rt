@@ -5,37 +5,22 @@ ghost use Rattle.enc_meta.specs.Heaps.{part};
 ghost use Rattle.enc_schema.specs.Schema.{columns_in, column_in};
 ghost use Rattle.enc_rows.specs.Layout.{IsWithin, rows_of};
 ghost use Rattle.enc_base.specs.Token.{nth_row};
-ghost use Rattle.enc_rows.specs.Runs.{rows_with, number_in, goes_by_ptr, ptr_of as ptr_table, run_rows as run_room};
+ghost use Rattle.enc_rows.specs.Runs.{rows_with, number_in, goes_by_ptr, run_rows as run_room};
 ghost use Rattle.enc_rows.specs.Owners.{TellsOwners};
 ghost use Rattle.enc_rows.specs.Fault.{is_past as is_token_past, is_bad_run as is_run_bad, is_bad_index as is_index_bad, index_fault_at as fault_at, index_fault_in_row, index_fault_in, index_fault};
 
 use crate::owners::{Owners, owners_of};
 use crate::tables::Tables;
 use enc_base::{Place, Token};
-use enc_schema::{Column, column_of, columns_of, decode_coded};
+use enc_schema::{Column, column_of, columns_of, decode_coded, ptr_table};
 use std::alloc::{AllocError, Global};
-
-/// The Ptr table of a child table, 0 where it has none.
-pub(crate) fn ptr_of(child: u8) -> u8
-    ensures ptr { result ≡ ptr_table child }
-    ensures few { result < 64 }
-{
-    match child {
-        0x04 => 0x03,
-        0x06 => 0x05,
-        0x08 => 0x07,
-        0x14 => 0x13,
-        0x17 => 0x16,
-        _ => 0,
-    }
-}
 
 /// How many rows a run of a child table can name: those of its Ptr table where that has rows.
 pub(crate) fn run_rows(tables: &Tables, child: u8) -> u32
     ensures rows { result ≡ run_room tables.now child }
     ensures few { result < 2 ^ 24 }
 {
-    let through = tables.count(ptr_of(child));
+    let through = tables.count(ptr_table(child));
     if through > 0 {
         through
     } else {

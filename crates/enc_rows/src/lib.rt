@@ -1,6 +1,7 @@
 //! The table stream: its rows, and the number that stands in a cell (ECMA-335 II.24.2.6).
 #![tactic(auto)]
 
+mod children;
 mod faults;
 mod form;
 mod header;

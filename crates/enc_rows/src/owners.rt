@@ -4,13 +4,15 @@ ghost use Rattle.std.specs.Prelude.{◌≡◌, ℕ, ◌+◌, ◌<◌, ◌≤◌,
 ghost use Rattle.enc_base.specs.Order.{first_below};
 ghost use Rattle.enc_meta.specs.Heaps.{part};
 ghost use Rattle.enc_rows.specs.Layout.{IsWithin, rows_of};
-ghost use Rattle.enc_rows.specs.Runs.{rows_with, goes_by_ptr, owner_table as table_of_owners, run_column as column_of_runs, run_rows as run_room, is_child_table};
+ghost use Rattle.enc_schema.specs.Children.{is_child_table};
+ghost use Rattle.enc_rows.specs.Runs.{rows_with, goes_by_ptr, run_rows as run_room};
 ghost use Rattle.enc_rows.specs.Fault.{index_fault_in};
 ghost use Rattle.enc_rows.specs.Owners.{run_bound, times_from, few, one_more, names_once, TellsOwners};
 
-use crate::faults::{number_of, ptr_of, run_rows};
+use crate::faults::{number_of, run_rows};
 use crate::tables::Tables;
 use enc_base::Token;
+use enc_schema::{owner_table, ptr_table, run_column};
 use std::alloc::{AllocError, Global};
 
 /// How often the runs name each row of a table.
@@ -46,29 +48,6 @@ fn is_one(times: &[u8], n: u32) -> bool
         times[n as usize] == 1
     } else {
         false
-    }
-}
-
-/// The table whose rows own the rows of a child table.
-fn owner_table(child: u8) -> u8
-    ensures { result ≡ table_of_owners child }
-{
-    match child {
-        0x04 | 0x06 => 0x02,
-        0x08 => 0x06,
-        0x14 => 0x12,
-        _ => 0x15,
-    }
-}
-
-/// The column of their runs.
-fn run_column(child: u8) -> u8
-    ensures { result ≡ column_of_runs child }
-{
-    match child {
-        0x04 => 4,
-        0x06 | 0x08 => 5,
-        _ => 1,
     }
 }
 
@@ -116,7 +95,7 @@ fn times_of(
     ensures { IfOk result (λ times. (n : ℕ) → n < rows_of tables.now child → slice_index times.items n ≡ few (times_from (rows_with bytes.now tables.now) child first (run_room tables.now child + 1) (n + 1))) }
 {
     let mut times = vec![in alloc; 0u8; tables.count(child) as usize]?;
-    let through = ptr_of(child);
+    let through = ptr_table(child);
     for p in first..run_rows(tables, child) + 1 {
         let token = Token {
             table: through,
@@ -138,7 +117,7 @@ pub(crate) fn owners_of(
     requires good { first_below (index_fault_in (rows_with bytes.now tables.now)) table ≡ None }
     ensures { IfOk result (λ owners. TellsOwners (rows_with bytes.now tables.now) table owners) }
 {
-    let through = ptr_of(table);
+    let through = ptr_table(table);
     if through == 0 {
         return Ok(Owners::Free);
     }

@@ -2,3 +2,4 @@ pub mod Shift
 pub mod Kept
 pub mod Codes
 pub mod Tables
+pub mod ChildTables

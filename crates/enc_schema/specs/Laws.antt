@@ -1,10 +1,11 @@
 -- What the tables of data mean together.
-use Rattle.std.specs.Prelude.{◌≡◌, ℕ, ◌≤◌, ◌^◌, Bool, true, length, is_some, nat_lt, nat_le, ◌&&◌, ◌||◌, IfSome, IsTrue}
+use Rattle.std.specs.Prelude.{◌≡◌, ℕ, ◌≤◌, ◌^◌, Bool, true, List, [], ◌∷◌, Some, length, flat_map, is_some, nat_lt, nat_le, ◌&&◌, ◌||◌, IfSome, IsTrue}
 use Rattle.enc_schema.specs.declared.column.Column.{Column}
 use Rattle.enc_schema.specs.declared.column.Column.TheVariants.{Num8, Num16, Num32, Text, Guid, Blob, Index, Coded, Run}
 use Rattle.enc_schema.specs.declared.column.Coding.{Coding}
 use Rattle.enc_schema.specs.Schema.{columns_in, column_in}
 use Rattle.enc_schema.specs.Names.{table_name_in, column_name_in}
+use Rattle.enc_schema.specs.Children.{is_child_table, owner_table, run_column, runs_in}
 use Rattle.enc_schema.specs.Coding.{tables_of, each_table, tag_bits}
 
 -- whether a table has columns
@@ -41,3 +42,16 @@ ColumnsAreNamed = (t i : ℕ) → is_some (column_name_in t i) ≡ is_some (colu
 -- the tags of a coding's tables fit its bits
 abbrev pub TagsFit : Type 0
 TagsFit = (kind : Coding) → length (tables_of kind) ≤ 2 ^ tag_bits kind
+
+-- each child table has a column of runs in its owners' table
+abbrev pub RunsHaveColumns : Type 0
+RunsHaveColumns = (child : ℕ) → is_child_table child ≡ true → column_in (owner_table child) (run_column child) ≡ Some (Run child)
+
+-- the child table of a column of runs
+abbrev pub child_in : Column → List ℕ
+child_in (Run child) = child ∷ []
+child_in _ = []
+
+-- the child tables of a table are those of its columns of runs, in order
+abbrev pub RunsAreColumns : Type 0
+RunsAreColumns = (t : ℕ) → runs_in t ≡ flat_map child_in (columns_in t)

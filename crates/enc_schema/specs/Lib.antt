@@ -3,3 +3,4 @@ pub mod Schema
 pub mod Names
 pub mod Widths
 pub mod Laws
+pub mod Children

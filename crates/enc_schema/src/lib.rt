@@ -2,6 +2,7 @@
 //! Portable PDB).
 #![tactic(auto)]
 
+mod children;
 mod coding;
 mod column;
 mod laws;
@@ -9,9 +10,10 @@ mod names;
 mod schema;
 mod widths;
 
+pub use children::{is_child_table, owner_table, ptr_table, run_column, run_index, runs_of};
 pub use coding::{decode_coded, encode_coded};
 pub use column::{Coding, Column};
-pub use laws::{coding_laws, table_laws};
+pub use laws::{child_laws, coding_laws, table_laws};
 pub use names::{column_name, table_name};
 pub use schema::{column_of, columns_of};
 pub use widths::{Widths, widths_of};

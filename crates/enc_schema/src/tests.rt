@@ -334,3 +334,26 @@ fn lays_out_rows(rt: HostRuntime) -> Result<(), Fail> {
     assert_eq!(rt; wide.row(0xff), 0);
     Ok(())
 }
+
+#[test]
+fn tells_owners(rt: HostRuntime) -> Result<(), Fail> {
+    // a child table, its Ptr table, its owners' table, and the column there
+    for (child, ptr, owner, column) in [
+        (0x04, 0x03, 0x02, "FieldList"),
+        (0x06, 0x05, 0x02, "MethodList"),
+        (0x08, 0x07, 0x06, "ParamList"),
+        (0x14, 0x13, 0x12, "EventList"),
+        (0x17, 0x16, 0x15, "PropertyList"),
+    ] {
+        assert!(rt; is_child_table(child));
+        assert_eq!(rt; ptr_table(child), ptr);
+        assert_eq!(rt; owner_table(child), owner);
+        assert_eq!(rt; column_name(owner, run_column(child)), Some(column));
+        assert!(rt; runs_of(owner).contains(&child));
+        assert_eq!(rt; ptr_table(owner) > 0, owner == 0x06);
+    }
+    assert_eq!(rt; runs_of(0x02).len(), 2);
+    assert_eq!(rt; runs_of(0x04).len(), 0);
+    assert!(rt; !is_child_table(0x09));
+    Ok(())
+}

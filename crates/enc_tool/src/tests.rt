@@ -10,6 +10,7 @@ mod base;
 mod delta;
 mod faults;
 mod memory;
+mod owners;
 
 /// A bare module of 200 bytes: a row each of Module, TypeRef and AssemblyRef.
 const M_DLL: &str = concat!(

@@ -3,3 +3,4 @@ pub mod Joined
 pub mod Saves
 pub mod Served
 pub mod Shown
+pub mod KidTexts

@@ -1,12 +1,14 @@
 -- The printed row of a plain module.
-use Rattle.std.specs.Prelude.{ℕ, zero, suc, List, [], ◌∷◌, ◌++◌, length, Option, Some, None, unwrap_or, decimal, codes}
+use Rattle.std.specs.Prelude.{ℕ, zero, suc, true, false, List, [], ◌∷◌, ◌++◌, length, flat_map, Option, Some, None, unwrap_or, decimal, codes, ◌==◌, if◌then◌else◌}
+use Rattle.enc_base.specs.Token.{nil}
 use Rattle.enc_base.specs.declared.token.Token.{Token}
 use Rattle.enc_schema.specs.declared.column.Column.{Column}
 use Rattle.enc_schema.specs.declared.column.Column.TheVariants.{Num8, Num16, Run}
 use Rattle.enc_schema.specs.Schema.{columns_in, column_in}
 use Rattle.enc_schema.specs.Names.{table_name_in, column_name_in}
-use Rattle.enc_plain.specs.Cell.{Cell, number, text, blob, guid, refer}
-use Rattle.enc_plain.specs.Module.{Module, cell_of}
+use Rattle.enc_schema.specs.Children.{is_child_table, runs_in}
+use Rattle.enc_plain.specs.Cell.{Cell, number, text, blob, guid, refer, body, field}
+use Rattle.enc_plain.specs.Module.{Module, cell_of, owner_of, kids_of}
 use Rattle.enc_agg.specs.declared.place.RowPlace.{RowPlace}
 use Rattle.enc_top.specs.Text.{digits, token_text, quoted, bracketed, guid_text}
 
@@ -27,6 +29,9 @@ value_text c (text bytes) = quoted bytes
 value_text c (blob bytes) = bracketed bytes
 value_text c (guid bytes) = guid_text bytes
 value_text c (refer token) = token_text token
+value_text c (body true) = codes "body"
+value_text c (body false) = codes "none"
+value_text c (field bytes) = bracketed bytes
 
 abbrev pub value_in : Column → Option Cell → List ℕ
 value_in c (Some cell) = value_text c cell
@@ -50,6 +55,30 @@ unfoldable pub place_text : RowPlace → List ℕ
 place_text place = codes " @" ++ decimal place.generation ++ 0x2e ∷ decimal place.row
 
 -- the row's line: its token, its table's name, each column, and its place
-unfoldable pub row_text_of : Module → RowPlace → Token → List ℕ
-row_text_of m place token =
+unfoldable pub line_text : Module → RowPlace → Token → List ℕ
+line_text m place token =
     token_text token ++ 0x20 ∷ unwrap_or (table_name_in token.table) [] ++ joined_below (cell_text m token) (length (columns_in token.table)) ++ place_text place ++ 0x0a ∷ []
+
+-- the line of a child row's owner
+unfoldable pub owner_text : Module → Token → List ℕ
+owner_text m token = if is_child_table token.table then codes "  owner " ++ token_text (unwrap_or (owner_of m token) nil) ++ 0x0a ∷ [] else []
+
+-- what the children in a table are called
+abbrev pub kids_name : ℕ → List ℕ
+kids_name child = if child == 0x04 then codes "fields" else if child == 0x06 then codes "methods" else if child == 0x08 then codes "params" else if child == 0x14 then codes "events" else codes "properties"
+
+-- ` TOKEN`
+abbrev pub kid_text : ℕ → ℕ → List ℕ
+kid_text child row = 0x20 ∷ token_text (record { table = child; row = row })
+
+abbrev pub kids_line : ℕ → List ℕ → List ℕ
+kids_line child [] = []
+kids_line child (k ∷ ks) = 0x20 ∷ 0x20 ∷ kids_name child ++ flat_map (kid_text child) (k ∷ ks) ++ 0x0a ∷ []
+
+-- the line of a row's children in a table, where it has any
+unfoldable pub kids_text : Module → Token → ℕ → List ℕ
+kids_text m token child = kids_line child (kids_of m token child)
+
+-- the row's line, its owner's line, and the lines of its children
+unfoldable pub row_text_of : Module → RowPlace → Token → List ℕ
+row_text_of m place token = line_text m place token ++ owner_text m token ++ flat_map (kids_text m token) (runs_in token.table)

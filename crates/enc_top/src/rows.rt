@@ -1,9 +1,10 @@
 //! The printed row of a module, over any view of one.
-ghost use Rattle.std.specs.Prelude.{◌≡◌, ◌≢◌, ℕ, ◌++◌, ◌∷◌, Some, OnOk, IsTrue, decimal, length, [], unwrap_or};
+ghost use Rattle.std.specs.Prelude.{◌≡◌, ◌≢◌, ℕ, ◌++◌, ◌∷◌, Some, OnOk, IsTrue, decimal, flat_map, length, [], unwrap_or};
 ghost use Rattle.enc_schema.specs.Schema.{columns_in, column_in};
 ghost use Rattle.enc_schema.specs.Names.{column_name_in};
-ghost use Rattle.enc_plain.specs.Module.{has_row, cell_of};
-ghost use Rattle.enc_top.specs.RowText.{value_in, equation, joined_below, cell_text, place_text, row_text_of};
+ghost use Rattle.enc_plain.specs.Module.{has_row, cell_of, kids_of};
+ghost use Rattle.enc_schema.specs.Children.{is_child_table as is_of_children, owner_table, runs_in};
+ghost use Rattle.enc_top.specs.RowText.{value_in, equation, joined_below, cell_text, place_text, line_text, owner_text, kids_name as name_of_kids, kid_text, kids_text, row_text_of};
 
 use crate::text::{
     push_blob, push_decimal, push_digits, push_guid, push_quoted, push_str, push_token,
@@ -11,7 +12,7 @@ use crate::text::{
 use enc_agg::RowPlace;
 use enc_base::Token;
 use enc_plain::ModuleView;
-use enc_schema::{Column, column_name, column_of, columns_of, table_name};
+use enc_schema::{Column, column_name, column_of, columns_of, is_child_table, table_name};
 use std::alloc::{AllocError, Global};
 
 /// Appends the value of a cell.
@@ -28,6 +29,12 @@ fn push_value<V: ModuleView>(
     requires cell { (table : ℕ) → column ≢ Column.Run table }
     ensures { OnOk result (out.new.items ≡ out.old.items ++ value_in column (cell_of (V.meaning view.now) token i)) }
 {
+    if token.table == 0x06 && i == 0 {
+        return push_str(out, if view.has_body(token) { "body" } else { "none" });
+    }
+    if token.table == 0x1d && i == 0 {
+        return push_blob(alloc, out, view.field_bytes(token));
+    }
     match column {
         Column::Num8 => push_digits(out, 2, view.num(token, i)),
         Column::Num16 => push_digits(out, 4, view.num(token, i)),
@@ -105,8 +112,116 @@ fn push_row_place(alloc: Global, place: RowPlace, out: &mut Vec<u8>) -> Result<(
     push_decimal(alloc, out, place.row)
 }
 
-/// Appends the row of a token, which stands at the place: its token, its table's name, each column
-/// with its value, and ` @G.R`. After want of memory what stands behind the old bytes is free.
+/// Appends the line of a row.
+#[tactic(auto, unfolding(crate::specs::RowText::line_text))]
+fn push_line<V: ModuleView>(
+    alloc: Global,
+    view: &V,
+    place: RowPlace,
+    token: Token,
+    out: &mut Vec<u8>,
+) -> Result<(), AllocError>
+    requires { IsTrue (has_row (V.meaning view.now) token) }
+    ensures { OnOk result (out.new.items ≡ out.old.items ++ line_text (V.meaning view.now) place token) }
+{
+    push_token(out, token)?;
+    push_str(out, " ")?;
+    push_str(out, table_name(token.table).unwrap_or(""))?;
+    push_cells(alloc, view, token, out)?;
+    push_row_place(alloc, place, out)?;
+    push_str(out, "\n")
+}
+
+/// Appends the line of a child row's owner.
+#[tactic(auto, unfolding(crate::specs::RowText::owner_text))]
+fn push_owner<V: ModuleView>(view: &V, token: Token, out: &mut Vec<u8>) -> Result<(), AllocError>
+    requires { IsTrue (has_row (V.meaning view.now) token) }
+    ensures { OnOk result (out.new.items ≡ out.old.items ++ owner_text (V.meaning view.now) token) }
+{
+    if !is_child_table(token.table) {
+        return Ok(());
+    }
+    push_str(out, "  owner ")?;
+    push_token(out, view.owner(token))?;
+    push_str(out, "\n")
+}
+
+/// What the children in a table are called.
+fn kids_name(child: u8) -> &'static str
+    ensures { result.now ≡ name_of_kids child }
+{
+    match child {
+        0x04 => "fields",
+        0x06 => "methods",
+        0x08 => "params",
+        0x14 => "events",
+        _ => "properties",
+    }
+}
+
+/// Appends ` TOKEN` for each child of a row in a table.
+#[tactic(auto)]
+fn push_each_kid<V: ModuleView>(
+    view: &V,
+    token: Token,
+    child: u8,
+    out: &mut Vec<u8>,
+) -> Result<(), AllocError>
+    requires row { IsTrue (has_row (V.meaning view.now) token) }
+    requires child { IsTrue (is_of_children child) }
+    requires owners { token.table ≡ owner_table child }
+    ensures { OnOk result (out.new.items ≡ out.old.items ++ flat_map (kid_text child) (kids_of (V.meaning view.now) token child)) }
+{
+    for i in 0..view.kids(token, child) {
+        push_str(out, " ")?;
+        push_token(out, view.kid(token, child, i))?;
+    }
+    Ok(())
+}
+
+/// Appends the line of a row's children in a table, where it has any.
+#[tactic(auto, unfolding(crate::specs::RowText::kids_text))]
+fn push_kids<V: ModuleView>(
+    view: &V,
+    token: Token,
+    child: u8,
+    out: &mut Vec<u8>,
+) -> Result<(), AllocError>
+    requires row { IsTrue (has_row (V.meaning view.now) token) }
+    requires child { IsTrue (is_of_children child) }
+    requires owners { token.table ≡ owner_table child }
+    ensures { OnOk result (out.new.items ≡ out.old.items ++ kids_text (V.meaning view.now) token child) }
+{
+    if view.kids(token, child) == 0 {
+        return Ok(());
+    }
+    push_str(out, "  ")?;
+    push_str(out, kids_name(child))?;
+    push_each_kid(view, token, child, out)?;
+    push_str(out, "\n")
+}
+
+/// Appends the lines of a row's children.
+#[tactic(auto)]
+fn push_all_kids<V: ModuleView>(view: &V, token: Token, out: &mut Vec<u8>) -> Result<(), AllocError>
+    requires { IsTrue (has_row (V.meaning view.now) token) }
+    ensures { OnOk result (out.new.items ≡ out.old.items ++ flat_map (kids_text (V.meaning view.now) token) (runs_in token.table)) }
+{
+    match token.table {
+        0x02 => {
+            push_kids(view, token, 0x04, out)?;
+            push_kids(view, token, 0x06, out)
+        }
+        0x06 => push_kids(view, token, 0x08, out),
+        0x12 => push_kids(view, token, 0x14, out),
+        0x15 => push_kids(view, token, 0x17, out),
+        _ => Ok(()),
+    }
+}
+
+/// Appends the row of a token, which stands at the place: a line with its token, its table's name,
+/// each column with its value and ` @G.R`, then a line with its owner, and one for its children in
+/// each table. After want of memory what stands behind the old bytes is free.
 #[tactic(auto, unfolding(crate::specs::RowText::row_text_of))]
 pub fn row_text<V: ModuleView>(
     alloc: Global,
@@ -118,10 +233,7 @@ pub fn row_text<V: ModuleView>(
     requires { IsTrue (has_row (V.meaning view.now) token) }
     ensures { OnOk result (out.new.items ≡ out.old.items ++ row_text_of (V.meaning view.now) place token) }
 {
-    push_token(out, token)?;
-    push_str(out, " ")?;
-    push_str(out, table_name(token.table).unwrap_or(""))?;
-    push_cells(alloc, view, token, out)?;
-    push_row_place(alloc, place, out)?;
-    push_str(out, "\n")
+    push_line(alloc, view, place, token, out)?;
+    push_owner(view, token, out)?;
+    push_all_kids(view, token, out)
 }

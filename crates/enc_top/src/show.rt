@@ -67,7 +67,7 @@ fn show_bytes(alloc: Global, name: &str, token: Token, bytes: Vec<u8>) -> Result
         generation: 0,
         row: token.row,
     };
-    match Image::read(bytes) {
+    match Image::read(alloc, bytes) {
         Ok(image) => row(alloc, &image, place, token),
         Err(ReadFault::Memory) => Err(AllocError),
         Err(ReadFault::Refused(refusal)) => refused(alloc, name, refusal),
@@ -170,7 +170,7 @@ fn show_both(
     ensures plan { IfOk result (λ plan. IsPlanOf (shown_both (string_bytes base.name) (string_bytes metadata.name) token (chain_of base.bytes.items) (delta_of metadata.bytes.items)) plan) }
     ensures outcome { IfOk result (λ plan. plan.outcome ≢ Outcome.Usage) }
 {
-    let image = match Image::read(base.bytes) {
+    let image = match Image::read(alloc, base.bytes) {
         Ok(image) => image,
         Err(ReadFault::Memory) => return Err(AllocError),
         Err(ReadFault::Refused(refusal)) => return refused(alloc, base.name.as_str(), refusal),

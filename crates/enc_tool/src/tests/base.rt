@@ -197,11 +197,25 @@ fn names_the_first_refusal(rt: HostRuntime) -> Result<(), Fail> {
         changed(200, 36, "3c", words, 1, "refused m.dll F6 tables\n"),
         changed(200, 104, "02", words, 1, "refused m.dll F6 tables\n"),
         changed(200, 93, "20", words, 1, "refused m.dll F6 tables\n"),
-        // a table that isn't read yet comes before the rest of F6
-        changed(200, 88, "07", words, 1, "refused m.dll U1 tables\n"),
+        // one table more, whose rows don't stand in the stream
+        changed(200, 88, "07", words, 1, "refused m.dll F6 tables\n"),
         // an index past its table, and an offset in the middle of nothing
-        changed(200, 126, "0a", words, 1, "refused m.dll U2 root\n"),
-        changed(200, 128, "1e", words, 1, "refused m.dll U2 root\n"),
+        changed(
+            200,
+            126,
+            "0a",
+            words,
+            1,
+            "refused m.dll F7 01000001.ResolutionScope\n",
+        ),
+        changed(
+            200,
+            128,
+            "1e",
+            words,
+            1,
+            "refused m.dll F8 01000001.TypeName\n",
+        ),
     ];
     for case in &refused {
         holds(&rt, case)?;

@@ -1,5 +1,5 @@
 use Rattle.std.proofs.Common.{refl}
-use Rattle.enc_rows.proofs.Silent.{run_column_is}
+use Rattle.enc_schema.proofs.ChildTables.{run_column_is}
 use Rattle.enc_rows.proofs.owners.first_start.Goals as goal
 
 pub number_of-requires-clause-column : goal.number_of-requires-clause-column

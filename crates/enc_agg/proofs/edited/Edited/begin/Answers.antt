@@ -19,6 +19,7 @@ pub invariant_of-result : goal.invariant_of-result
 unfolding begun
 invariant_of-result c =
     record {
+      sound = c.sound.ensures;
       follows = record {
         rules = sym (rw c.in-Ok-None.field-0-is at c.in-Ok-None.ensures);
         tables = rw c.in-Ok.ensures.tokens at c.in-Ok.ensures.tables;

@@ -1,4 +1,4 @@
-use Rattle.std.proofs.Common.{sym, ap, ◌∙◌, Some}
+use Rattle.std.proofs.Common.{sym, ◌∙◌}
 use Rattle.enc_agg.proofs.Paired.{changes_fit, row_kept, cell_kept}
 use Rattle.enc_agg.proofs.Viewing.{blob_listed}
 use Rattle.enc_agg.proofs.edited.EditedModuleView.blob.Goals as goal

@@ -1,4 +1,4 @@
-use Rattle.std.proofs.Common.{◌≡◌, ◌+◌, ◌<◌, sym, ◌∙◌, arith}
+use Rattle.std.proofs.Common.{◌≡◌, ◌+◌, sym, ◌∙◌, arith}
 use Rattle.enc_agg.proofs.Paired.{count_after, few_after}
 use Rattle.enc_agg.proofs.edited.EditedModuleView.count.Goals as goal
 

@@ -12,16 +12,16 @@ returns-in_default c = rw (← c.self.view_is) (cell_kept _ _ c.args.row c.args.
 pub unreachable-requires : goal.unreachable-requires
 unreachable-requires c =
     let column = sym c.in-Some-Coded.ensures ∙ ap (λ x. Some x) c.in-Some-Coded.field-0-is in
-    let cell = coded_listed _ _ c.args.row c.in-Some.k c.args.column _ _ c.self.invariant.follows (changes_fit _ _ c.self.invariant.follows) (sym c.place.ensures ∙ c.in-Some.is) column (rw (← c.self.view_is) at c.number-number.ensures) in
+    let cell = coded_listed _ _ c.args.row c.in-Some.k c.args.column _ _ c.self.invariant.follows (changes_fit _ _ c.self.invariant.follows) (sym c.place.ensures ∙ c.in-Some.is) c.requires.kind column (rw (← c.self.view_is) at c.number-number.ensures) in
     rw (← c.in-None.ensures.token) at cell
 
 pub returns-in-Some-Index : goal.returns-in-Some-Index
 returns-in-Some-Index c =
     let column = sym c.in-Some-Index.ensures ∙ ap (λ x. Some x) c.in-Some-Index.field-0-is in
-    rw (← c.self.view_is, c.index_token.ensures) (index_listed _ _ c.args.row c.in-Some.k c.args.column _ _ c.self.invariant.follows (changes_fit _ _ c.self.invariant.follows) (sym c.place.ensures ∙ c.in-Some.is) column (rw (← c.self.view_is) at c.number-number.ensures))
+    rw (← c.self.view_is, c.index_token.ensures) (index_listed _ _ c.args.row c.in-Some.k c.args.column _ _ c.self.invariant.follows (changes_fit _ _ c.self.invariant.follows) (sym c.place.ensures ∙ c.in-Some.is) c.requires.kind column (rw (← c.self.view_is) at c.number-number.ensures))
 
 pub returns-in-Some-decode_coded : goal.returns-in-Some-decode_coded
 returns-in-Some-decode_coded c =
     let column = sym c.in-Some-Coded.ensures ∙ ap (λ x. Some x) c.in-Some-Coded.field-0-is in
-    let cell = coded_listed _ _ c.args.row c.in-Some.k c.args.column _ _ c.self.invariant.follows (changes_fit _ _ c.self.invariant.follows) (sym c.place.ensures ∙ c.in-Some.is) column (rw (← c.self.view_is) at c.number-number.ensures) in
+    let cell = coded_listed _ _ c.args.row c.in-Some.k c.args.column _ _ c.self.invariant.follows (changes_fit _ _ c.self.invariant.follows) (sym c.place.ensures ∙ c.in-Some.is) c.requires.kind column (rw (← c.self.view_is) at c.number-number.ensures) in
     rw (← c.self.view_is) (rw (← c.in-Some-decode_coded.ensures.token) at cell)

@@ -1,0 +1,297 @@
+-- The children and the owners in a base with a delta.
+use Rattle.std.proofs.Common.{◌≡◌, ℕ, zero, suc, ◌+◌, ◌-◌, ◌<◌, ◌≤◌, Bool, true, false, List, [], ◌∷◌, ◌++◌, length, Option, Some, None, refl, sym, ap, ◌∙◌, inl, inr, arith}
+use Rattle.std.specs.Prelude.{IsTrue, ◌≢◌, ◌==◌, ◌&&◌, ◌^◌, cond, not, nat_le, if◌then◌else◌, filter, flat_map, count_by, slice_get, option_map}
+use Rattle.std.proofs.lemmas.Bool.{cases_lt, cases_eq}
+use Rattle.std.proofs.lemmas.Bool.Decides.{nat_tests}
+use Rattle.std.proofs.lemmas.List.{length-append}
+use Rattle.std.proofs.lemmas.Option.{slice_get_past}
+use Rattle.enc_base.specs.declared.token.Token.{Token}
+use Rattle.enc_base.specs.Token.{is_token}
+use Rattle.enc_schema.specs.Children.{is_child_table, owner_table}
+use Rattle.enc_schema.proofs.ChildTables.{by_child}
+use Rattle.enc_rows.specs.Layout.{rows_of}
+use Rattle.enc_rows.specs.Source.{Source}
+use Rattle.enc_plain.specs.Module.{Module, Row, rows_in, row_at, row_of, has_row, kids_at, kids_with, kids_of, owner_of}
+use Rattle.enc_plain.specs.Apply.{gained}
+use Rattle.enc_plain.specs.Fits.{HasRuns}
+use Rattle.enc_delta.specs.declared.entry.Entry.{Entry}
+use Rattle.enc_delta.specs.Delta.{entry_at, listed, log_in}
+use Rattle.enc_delta.specs.Rules.{adds, inserts, rows_with, child_table}
+use Rattle.enc_delta.proofs.ListsChildren.{log_good, Good}
+use Rattle.enc_image.specs.Base.{cells_fault, module_in, begun}
+use Rattle.enc_image.proofs.Listed.{length_below}
+use Rattle.enc_agg.specs.Extend.{attached_of, extended, add_code, gives, gives_to, rows_given}
+use Rattle.enc_agg.specs.Follows.{Follows, all_kids, IsOwned}
+use Rattle.enc_agg.proofs.Unbroken.{unbroken}
+use Rattle.enc_agg.proofs.Fitting.{count_is, few}
+use Rattle.enc_agg.proofs.Paired.{base_tables}
+use Rattle.enc_agg.proofs.Owned.{count_cons}
+use Rattle.enc_agg.proofs.Begun.{begun_runs, begun_owned}
+use Rattle.enc_agg.proofs.Given.{gained_rows, rows_many, pair_at, given_many}
+use Rattle.enc_agg.proofs.Children.{kids_after, owner_kept, owner_new, adds_are}
+
+-- the log has as many entries as EncLog has rows
+pub log_length : (d : Source) → length (log_in d) ≡ rows_of d.layout 0x1E
+unfolding log_in
+log_length d = length_below (entry_at d) (rows_of d.layout 0x1E)
+
+-- a row from 1 to the last is there
+pub has_old : (m : Module) (u : Token) (n : ℕ) → n ≡ length (rows_in m u.table) → 0 < u.row → u.row ≤ n → IsTrue (has_row m u)
+unfolding has_row
+has_old m u n e low high = rw (← e) (grind (arith, nat_tests))
+
+past_row : (rows : List Row) (row : ℕ) → length rows < row → row_at rows row ≡ None
+past_row rows zero h = absurd (omega arith)
+past_row rows (suc i) h = slice_get_past rows i (omega arith)
+
+no_kids : (b : Bool) (o : Option Row) (t : ℕ) → o ≡ None → (if b then kids_with o t else []) ≡ []
+no_kids true o t h = rw h refl
+no_kids false o t h = refl
+
+-- a row past the last has no children
+pub kids_past : (m : Module) (u : Token) (t n : ℕ) → n ≡ length (rows_in m u.table) → n < u.row → kids_of m u t ≡ []
+unfolding kids_of row_of
+kids_past m u t n e past = no_kids _ (row_at (rows_in m u.table) u.row) t (past_row (rows_in m u.table) u.row (omega arith))
+
+-- an owner that has a child is a row
+pub kids_row : (m : Module) (u : Token) (t i n : ℕ) → n ≡ length (rows_in m u.table) → 0 < u.row → i < length (kids_of m u t) → IsTrue (has_row m u)
+kids_row m u t i n e low h =
+    elim (cases_lt n u.row) [
+      | inl past ↦ let none = ap (λ (xs : List ℕ). length xs) (kids_past m u t n e past) in absurd (omega arith)
+      | inr high ↦ has_old m u n e low high
+    ]
+
+code_there : (t : ℕ) → is_child_table t ≡ true → (1 ≤ add_code t) × (add_code t ≤ 5) × (child_table (add_code t) ≡ t)
+code_there t there = by_child (λ k. (1 ≤ add_code k) × (add_code k ≤ 5) × (child_table (add_code k) ≡ k)) (omega arith, omega arith, refl) (omega arith, omega arith, refl) (omega arith, omega arith, refl) (omega arith, omega arith, refl) (omega arith, omega arith, refl) t there
+
+good_log : (b d : Source) → Follows (begun b) d → Good (begun b) [] (log_in d)
+good_log b d f = log_good (begun b) (listed d) (log_in d) (unbroken (begun b) d f.rules).log
+
+-- the rows that an owner gains are those that the log gives it
+pub gained_is : (b d : Source) (u : Token) (t : ℕ) → Follows (begun b) d → is_child_table t ≡ true → gained (attached_of d) u t ≡ rows_given (length (rows_in (module_in b) t)) u (add_code t) (log_in d)
+unfolding attached_of begun
+gained_is b d u t f there =
+    let code = code_there t there in
+    let rows = gained_rows (begun b) (log_in d) (good_log b d f) u (add_code t) code.0 code.1 in
+    rw code.2 at rows
+
+-- a row's children are those in the base, and behind them those that the log gives it
+pub kids_both : (b d : Source) (u : Token) (t : ℕ) → Follows (begun b) d → is_child_table t ≡ true → kids_of (extended (begun b) d).plain u t ≡ kids_of (module_in b) u t ++ rows_given (length (rows_in (module_in b) t)) u (add_code t) (log_in d)
+unfolding begun
+kids_both b d u t f there = kids_after (begun b) d (base_tables b) f (begun_runs b) u t there ∙ ap (λ xs. kids_of (module_in b) u t ++ xs) (gained_is b d u t f there)
+
+-- so they are as many
+pub kids_sum : (b d : Source) (u : Token) (t x y : ℕ) → Follows (begun b) d → is_child_table t ≡ true → x ≡ length (kids_of (module_in b) u t) → y ≡ count_by (gives_to u (add_code t)) (log_in d) → x + y ≡ length (kids_of (extended (begun b) d).plain u t)
+kids_sum b d u t x y f there old new =
+    let rows = rows_given (length (rows_in (module_in b) t)) u (add_code t) (log_in d) in
+    let whole = ap (λ (xs : List ℕ). length xs) (kids_both b d u t f there) ∙ length-append (kids_of (module_in b) u t) rows in
+    let many = rows_many (length (rows_in (module_in b) t)) u (add_code t) (log_in d) in
+    omega arith
+
+get_left : (xs ys : List ℕ) (i : ℕ) (x : ℕ) → slice_get xs i ≡ Some x → slice_get (xs ++ ys) i ≡ Some x
+get_left [] ys i x h = absurd cc
+get_left (y ∷ xs) ys zero x h = h
+get_left (y ∷ xs) ys (suc i) x h = get_left xs ys i x h
+
+get_right : (xs ys : List ℕ) (i : ℕ) → length xs ≤ i → slice_get (xs ++ ys) i ≡ slice_get ys (i - length xs)
+get_right [] ys i h = let z : i - 0 ≡ i = omega arith in rw z refl
+get_right (x ∷ xs) ys zero h = absurd (omega arith)
+get_right (x ∷ xs) ys (suc i) h = let z : suc i - suc (length xs) ≡ i - length xs = omega arith in get_right xs ys i (omega arith) ∙ ap (slice_get ys) (sym z)
+
+-- a child of the base keeps its place
+pub kid_old : (b d : Source) (u : Token) (t i row : ℕ) → Follows (begun b) d → is_child_table t ≡ true → slice_get (kids_of (module_in b) u t) i ≡ Some row → slice_get (kids_of (extended (begun b) d).plain u t) i ≡ Some row
+kid_old b d u t i row f there at = ap (λ xs. slice_get xs i) (kids_both b d u t f there) ∙ get_left (kids_of (module_in b) u t) (rows_given (length (rows_in (module_in b) t)) u (add_code t) (log_in d)) i row at
+
+-- behind them stand those that the log gives
+pub kid_new : (b d : Source) (u : Token) (t i n row : ℕ) → Follows (begun b) d → is_child_table t ≡ true → n ≡ length (kids_of (module_in b) u t) → n ≤ i → slice_get (rows_given (length (rows_in (module_in b) t)) u (add_code t) (log_in d)) (i - n) ≡ Some row → slice_get (kids_of (extended (begun b) d).plain u t) i ≡ Some row
+kid_new b d u t i n row f there e le at =
+    let rows = rows_given (length (rows_in (module_in b) t)) u (add_code t) (log_in d) in
+    ap (λ xs. slice_get xs i) (kids_both b d u t f there) ∙ get_right (kids_of (module_in b) u t) rows i (omega arith) ∙ rw (← e) at
+
+-- and there are as many
+pub kid_within : (b d : Source) (u : Token) (t i n : ℕ) → Follows (begun b) d → is_child_table t ≡ true → n ≡ length (kids_of (module_in b) u t) → n ≤ i → i < length (kids_of (extended (begun b) d).plain u t) → i - n < length (rows_given (length (rows_in (module_in b) t)) u (add_code t) (log_in d))
+kid_within b d u t i n f there e le h =
+    let rows = rows_given (length (rows_in (module_in b) t)) u (add_code t) (log_in d) in
+    let whole = ap (λ (xs : List ℕ). length xs) (kids_both b d u t f there) ∙ length-append (kids_of (module_in b) u t) rows in
+    omega arith
+
+-- the log gives a child table as many rows as are inserted
+pub given_are : (b d : Source) (t : ℕ) → Follows (begun b) d → is_child_table t ≡ true → length (filter (gives (add_code t)) (log_in d)) ≡ inserts (begun b) (listed d) t
+given_are b d t f there =
+    let code = code_there t there in
+    let same : adds (log_in d) (add_code t) ≡ inserts (begun b) (listed d) (child_table (add_code t)) = adds_are (begun b) d (add_code t) f code.0 code.1 (ap is_child_table code.2 ∙ there) in
+    given_many (add_code t) (log_in d) ∙ same ∙ ap (inserts (begun b) (listed d)) code.2
+
+owned_both : (b : Source) → cells_fault b ≡ None → IsOwned (begun b).plain
+unfolding begun
+owned_both b sound = begun_owned b sound
+
+runs_both : (b : Source) → HasRuns (begun b).plain
+unfolding begun
+runs_both b = begun_runs b
+
+-- an old row has the owner that it has in the base
+pub old_owner : (b d : Source) (u : Token) (n : ℕ) (o : Token) → cells_fault b ≡ None → Follows (begun b) d → is_child_table u.table ≡ true → 0 < u.row → n ≡ length (rows_in (module_in b) u.table) → u.row ≤ n → owner_of (module_in b) u ≡ Some o → owner_of (extended (begun b) d).plain u ≡ Some o
+unfolding begun
+old_owner b d u n o sound f there low e high is = owner_kept (begun b) d (base_tables b) f (runs_both b) (owned_both b sound) u there (omega arith) (omega arith) ∙ is
+
+some_owner : (o : Option Entry) (t : Token) → option_map (λ (e : Entry). e.token) o ≡ Some t → (e : Entry) × (o ≡ Some e) × (e.token ≡ t)
+some_owner None t h = absurd cc
+some_owner (Some e) t h = let is : e.token ≡ t = cc in (e, refl, is)
+
+-- a new row has the one whose Add entry it is
+pub new_owner : (b d : Source) (u : Token) (n : ℕ) (o : Token) → cells_fault b ≡ None → Follows (begun b) d → is_child_table u.table ≡ true → n ≡ length (rows_in (module_in b) u.table) → n < u.row → option_map (λ (e : Entry). e.token) (slice_get (filter (gives (add_code u.table)) (log_in d)) (u.row - n - 1)) ≡ Some o → owner_of (extended (begun b) d).plain u ≡ Some o
+unfolding begun attached_of
+new_owner b d u n o sound f there e past is =
+    let w = some_owner _ o is in
+    let code = code_there u.table there in
+    let at = pair_at (begun b) (log_in d) (good_log b d f) (add_code u.table) (u.row - n - 1) w.0 code.0 code.1 w.1 in
+    let row : n + (u.row - n - 1) + 1 ≡ u.row = omega arith in
+    let found = owner_new (begun b) d (base_tables b) f (runs_both b) (owned_both b sound) at.0 _ at.1 in
+    rw (code.2, ← e, row, w.2) at found
+
+-- a new row is one of those that the log gives
+pub new_within : (b d : Source) (u : Token) (n : ℕ) → Follows (begun b) d → is_child_table u.table ≡ true → n ≡ length (rows_in (module_in b) u.table) → n < u.row → IsTrue (has_row (extended (begun b) d).plain u) → u.row - n - 1 < length (filter (gives (add_code u.table)) (log_in d))
+unfolding begun has_row rows_with
+new_within b d u n f there e past h =
+    let many = given_are b d u.table f there in
+    let count = count_is (begun b) d (base_tables b) f u.table in
+    let high : u.row ≤ length (rows_in (extended (begun b) d).plain u.table) = grind (arith, nat_tests) in
+    omega arith
+
+-- the rows after are few where the log gives some
+pub given_few : (b d : Source) (t : ℕ) → Follows (begun b) d → is_child_table t ≡ true → 0 < length (filter (gives (add_code t)) (log_in d)) → length (rows_in (module_in b) t) + length (filter (gives (add_code t)) (log_in d)) < 0x1000000
+unfolding begun rows_with
+given_few b d t f there some =
+    let many = given_are b d t f there in
+    let less = few (begun b) d (base_tables b) f t (omega arith) in
+    omega arith
+
+-- rows count from 1
+pub some_row : (m : Module) (u : Token) → IsTrue (has_row m u) → 0 < u.row
+unfolding has_row
+some_row m u h = grind (arith, nat_tests)
+
+-- the numbers of a list without one number
+abbrev others : ℕ → List ℕ → List ℕ
+others n xs = filter (λ k. not (k == n)) xs
+
+split_step : (b : Bool) (x m : ℕ) (xs ys : List ℕ) → length xs ≡ m + length ys → suc (length xs) ≡ cond b 1 0 + m + length (cond (not b) (x ∷ ys) ys)
+split_step true x m xs ys h = omega arith
+split_step false x m xs ys h = omega arith
+
+split : (n : ℕ) (xs : List ℕ) → length xs ≡ count_by (λ k. k == n) xs + length (others n xs)
+split n [] = omega arith
+split n (x ∷ xs) = split_step (x == n) x (count_by (λ k. k == n) xs) xs (others n xs) (split n xs) ∙ ap (λ m. m + length (others n (x ∷ xs))) (sym (count_cons (λ k. k == n) x xs))
+
+others_step : (r n x : ℕ) (b : Bool) (ys : List ℕ) (m : ℕ) → r ≢ n → (x == n) ≡ b → count_by (λ k. k == r) ys ≡ m → count_by (λ k. k == r) (cond (not b) (x ∷ ys) ys) ≡ cond (x == r) 1 0 + m
+others_step r n x true ys m d e h =
+    let is : x ≡ n = grind (arith, nat_tests) in
+    let other : (x == r) ≡ false = differs x r (λ f. d (omega arith)) in
+    rw other (h ∙ omega arith)
+  where
+    differs : (a b : ℕ) → (a ≡ b → ⊥) → (a == b) ≡ false
+    differs a b h = grind (arith, nat_tests)
+others_step r n x false ys m d e h = count_cons (λ k. k == r) x ys ∙ ap (λ k. cond (x == r) 1 0 + k) h
+
+count_others : (r n : ℕ) (xs : List ℕ) → r ≢ n → count_by (λ k. k == r) (others n xs) ≡ count_by (λ k. k == r) xs
+count_others r n [] d = refl
+count_others r n (x ∷ xs) d = others_step r n x (x == n) (others n xs) (count_by (λ k. k == r) xs) d refl (count_others r n xs d) ∙ sym (count_cons (λ k. k == r) x xs)
+
+none_step : (n x : ℕ) (b : Bool) (ys : List ℕ) → (x == n) ≡ b → count_by (λ k. k == n) ys ≡ 0 → count_by (λ k. k == n) (cond (not b) (x ∷ ys) ys) ≡ 0
+none_step n x true ys e h = h
+none_step n x false ys e h = count_cons (λ k. k == n) x ys ∙ rw (e, h) refl
+
+count_none : (n : ℕ) (xs : List ℕ) → count_by (λ k. k == n) (others n xs) ≡ 0
+count_none n [] = refl
+count_none n (x ∷ xs) = none_step n x (x == n) (others n xs) refl (count_none n xs)
+
+no_numbers : (xs : List ℕ) → ((r : ℕ) → count_by (λ k. k == r) xs ≡ 0) → length xs ≤ 0
+no_numbers [] h = omega arith
+no_numbers (x ∷ xs) h =
+    let same : (x == x) ≡ true = grind (arith, nat_tests) in
+    let none = sym (count_cons (λ k. k == x) x xs) ∙ h x in
+    absurd (one_there (x == x) (count_by (λ k. k == x) xs) same none)
+  where
+    one_there : (b : Bool) (n : ℕ) → b ≡ true → cond b 1 0 + n ≡ 0 → ⊥
+    one_there true n e h = absurd (omega arith)
+    one_there false n e h = absurd cc
+
+-- a list of numbers of which each is at most n, and stands in it once, isn't longer
+at_most : (n : ℕ) (xs : List ℕ) → ((r : ℕ) → count_by (λ k. k == r) xs ≤ 1) → ((r : ℕ) → n < r → count_by (λ k. k == r) xs ≡ 0) → count_by (λ k. k == 0) xs ≡ 0 → length xs ≤ n
+at_most zero xs once past none = no_numbers xs (λ r. elim (cases_lt 0 r) [ inl h ↦ past r h | inr h ↦ let z : r ≡ 0 = omega arith in rw z none ])
+at_most (suc n) xs once past none =
+    let rest = at_most n (others (suc n) xs) (λ r. elim (cases_eq r (suc n)) [ inl e ↦ rw (e, count_none (suc n) xs) (omega arith) | inr d ↦ rw (count_others r (suc n) xs d) (once r) ]) (λ r low. elim (cases_eq r (suc n)) [ inl e ↦ rw e (count_none (suc n) xs) | inr d ↦ rw (count_others r (suc n) xs d) (past r (omega arith)) ]) (count_others 0 (suc n) xs (λ e. absurd (omega arith)) ∙ none) in
+    let here = once (suc n) in
+    let whole = split (suc n) xs in
+    omega arith
+
+row_part : (f : Row → List ℕ) (rows : List Row) (i : ℕ) (x : Row) → slice_get rows i ≡ Some x → length (f x) ≤ length (flat_map f rows)
+row_part f [] i x e = absurd cc
+row_part f (r ∷ rows) zero x e =
+    let is : r ≡ x = cc in
+    rw (length-append (f r) (flat_map f rows), is) (omega arith)
+row_part f (r ∷ rows) (suc i) x e =
+    let rest = row_part f rows i x e in
+    rw (length-append (f r) (flat_map f rows)) (omega arith)
+
+row_kids_part : (rows : List Row) (row t : ℕ) (o : Option Row) → row_at rows row ≡ o → length (kids_with o t) ≤ length (flat_map (λ (r : Row). kids_at r t) rows)
+row_kids_part rows row t None e = omega arith
+row_kids_part rows zero t (Some x) e = absurd cc
+row_kids_part rows (suc i) t (Some x) e = row_part (λ (r : Row). kids_at r t) rows i x e
+
+kids_part_if : (m : Module) (u : Token) (t : ℕ) (b : Bool) → (u.table == owner_table t) ≡ b → length (if b then kids_with (row_at (rows_in m u.table) u.row) t else []) ≤ length (all_kids m t)
+kids_part_if m u t true e = let is : u.table ≡ owner_table t = grind (arith, nat_tests) in rw is (row_kids_part (rows_in m (owner_table t)) u.row t _ refl)
+kids_part_if m u t false e = omega arith
+
+kids_part : (m : Module) (u : Token) (t : ℕ) → length (kids_of m u t) ≤ length (all_kids m t)
+unfolding kids_of row_of
+kids_part m u t = kids_part_if m u t (u.table == owner_table t) refl
+
+once_le : (b : Bool) (n : ℕ) → n ≡ cond b 1 0 → n ≤ 1
+once_le true n e = omega arith
+once_le false n e = omega arith
+
+past_none : (r n x : ℕ) → x ≡ cond (nat_le 1 r && nat_le r n) 1 0 → n < r → x ≡ 0
+past_none zero n x e h = absurd (omega arith)
+past_none (suc r) n x e h = let a : nat_le (suc r) n ≡ false = grind (arith, nat_tests) in let b : nat_le 1 (suc r) ≡ true = grind (arith, nat_tests) in e ∙ rw (a, b) refl
+
+zero_none : (n x : ℕ) → x ≡ cond (nat_le 1 0 && nat_le 0 n) 1 0 → x ≡ 0
+zero_none n x e = e
+
+-- where each child row has just one owner, no row has more children than there are rows
+pub few_kids : (m : Module) (u : Token) (t : ℕ) → IsOwned m → is_child_table t ≡ true → length (kids_of m u t) ≤ length (rows_in m t)
+few_kids m u t owned there =
+    let all = at_most (length (rows_in m t)) (all_kids m t) (λ r. once_le _ _ (owned.once t r there)) (λ r h. past_none r (length (rows_in m t)) _ (owned.once t r there) h) (zero_none (length (rows_in m t)) _ (owned.once t 0 there)) in
+    let part = kids_part m u t in
+    omega arith
+
+given_step : (g s : Bool) (e : Entry) (n : ℕ) (es : List Entry) → n ≤ length es → cond (g && s) 1 0 + n ≤ length (cond g (e ∷ es) es)
+given_step true true e n es h = omega arith
+given_step true false e n es h = omega arith
+given_step false s e n es h = omega arith
+
+-- a row is given no more than all are
+pub given_part : (u : Token) (code : ℕ) (es : List Entry) → count_by (gives_to u code) es ≤ length (filter (gives code) es)
+given_part u code [] = omega arith
+given_part u code (e ∷ es) = rw (count_cons (gives_to u code) e es) (given_step (gives code e) (is_token e.token u) e (count_by (gives_to u code) es) (filter (gives code) es) (given_part u code es))
+
+-- the children before and those that the log gives are few together
+pub kids_few : (b d : Source) (u : Token) (t x y : ℕ) → cells_fault b ≡ None → Follows (begun b) d → is_child_table t ≡ true → x ≡ length (kids_of (module_in b) u t) → y ≡ count_by (gives_to u (add_code t)) (log_in d) → x < 2 ^ 32 → x + y < 2 ^ 32
+kids_few b d u t x y sound f there old new fits =
+    elim (cases_lt 0 y) [
+      | inr none ↦ omega arith
+      | inl some ↦
+          let part = given_part u (add_code t) (log_in d) in
+          let less = given_few b d t f there (omega arith) in
+          let kids = few_kids (module_in b) u t (begun_owned b sound) there in
+          omega arith
+    ]
+
+-- the rows that the log gives are few
+pub rows_few : (b d : Source) (u : Token) (t n : ℕ) → Follows (begun b) d → is_child_table t ≡ true → n < length (rows_given (length (rows_in (module_in b) t)) u (add_code t) (log_in d)) → length (rows_in (module_in b) t) + length (filter (gives (add_code t)) (log_in d)) < 2 ^ 32
+rows_few b d u t n f there h =
+    let many = rows_many (length (rows_in (module_in b) t)) u (add_code t) (log_in d) in
+    let part = given_part u (add_code t) (log_in d) in
+    let less = given_few b d t f there (omega arith) in
+    omega arith

@@ -1,0 +1,157 @@
+//! A case: its files, and what its runs printed.
+
+use crate::line::Line;
+use enc_outside::{MemSink, MemStore};
+use enc_top::run_tool;
+use std::alloc::{AllocError, Global};
+
+/// The case that is being read.
+#[derive(Drop)]
+pub struct Case {
+    alloc: Global,
+    name: String,
+    runs: u32,
+    store: MemStore,
+    words: Vec<String>,
+    is_bad: bool,
+}
+
+/// The bytes with some of them replaced from an offset on, as far as they are there.
+fn poked(alloc: Global, bytes: &[u8], at: usize, new: &[u8]) -> Result<Vec<u8>, AllocError> {
+    let mut all = Vec::new(alloc);
+    for (i, b) in bytes.iter().enumerate() {
+        let there = if i >= at { new.get(i - at) } else { None };
+        all.push(*there.unwrap_or(b))?;
+    }
+    Ok(all)
+}
+
+impl Case {
+    /// No case yet.
+    pub fn begin(alloc: Global) -> Case {
+        Case {
+            alloc,
+            name: String::new(alloc),
+            runs: 0,
+            store: MemStore::begin(alloc),
+            words: Vec::new(alloc),
+            is_bad: false,
+        }
+    }
+
+    /// The bytes of a file, none where it isn't there.
+    fn bytes_of(&self, name: &str) -> &[u8] {
+        self.store.file(name).unwrap_or(&[])
+    }
+
+    /// The words of a run.
+    fn words_of(&mut self, text: &str) -> Result<Vec<String>, AllocError> {
+        let mut words = Vec::new(self.alloc);
+        std::mem::swap(&mut words, &mut self.words);
+        if text.is_empty() {
+            return Ok(words);
+        }
+        for word in text.split(' ') {
+            words.push(String::from_str(self.alloc, word)?)?;
+        }
+        Ok(words)
+    }
+
+    /// Runs the top call; the line of its status, and what it printed.
+    fn run(&mut self, text: &str) -> Result<Vec<u8>, AllocError> {
+        let words = self.words_of(text)?;
+        let mut sink = MemSink::begin(self.alloc);
+        let status = run_tool(self.alloc, &words, &mut self.store, &mut sink);
+        self.runs = self.runs.wrapping_add(1);
+        let mut printed = Vec::new(self.alloc);
+        let head = format!(in self.alloc;
+            "{} {} status {}\n",
+            self.name.as_str(),
+            self.runs,
+            status
+        )?;
+        printed.extend_from_slice(head.as_bytes())?;
+        printed.extend_from_slice(sink.bytes())?;
+        if printed.last() != Some(&b'\n') {
+            printed.push(b'\n')?;
+        }
+        Ok(printed)
+    }
+
+    /// Begins the next case.
+    fn next(&mut self, name: &str) -> Result<(), AllocError> {
+        self.name = String::from_str(self.alloc, name)?;
+        self.runs = 0;
+        self.store = MemStore::begin(self.alloc);
+        self.words = Vec::new(self.alloc);
+        self.is_bad = false;
+        Ok(())
+    }
+
+    /// Changes a file, or keeps a word for the next run. False where the digits aren't hexadecimal.
+    fn change(&mut self, line: Line<'_>) -> Result<bool, AllocError> {
+        match line {
+            Line::File { name, digits } => {
+                let Ok(bytes) = hex::decode(self.alloc, digits) else {
+                    return Ok(false);
+                };
+                self.store.set_file(name, &bytes)?;
+            }
+            Line::Same { name, other } => {
+                let bytes = poked(self.alloc, self.bytes_of(other), 0, &[])?;
+                self.store.set_file(name, &bytes)?;
+            }
+            Line::Cut { name, len } => {
+                let old = self.bytes_of(name);
+                let bytes = poked(self.alloc, old.get(..len).unwrap_or(old), 0, &[])?;
+                self.store.set_file(name, &bytes)?;
+            }
+            Line::Poke { name, at, digits } => {
+                let Ok(new) = hex::decode(self.alloc, digits) else {
+                    return Ok(false);
+                };
+                let bytes = poked(self.alloc, self.bytes_of(name), at, &new)?;
+                self.store.set_file(name, &bytes)?;
+            }
+            Line::Word(digits) => return self.keep_word(digits),
+            _ => return Ok(false),
+        }
+        Ok(true)
+    }
+
+    /// Keeps a word for the next run. False where the digits aren't those of a text.
+    fn keep_word(&mut self, digits: &str) -> Result<bool, AllocError> {
+        let Ok(bytes) = hex::decode(self.alloc, digits) else {
+            return Ok(false);
+        };
+        let Ok(word) = String::from_utf8(bytes) else {
+            return Ok(false);
+        };
+        self.words.push(word)?;
+        Ok(true)
+    }
+
+    /// Does what a line asks for, and gives what is to be printed.
+    pub fn take_line(&mut self, text: &str, number: u64) -> Result<Vec<u8>, AllocError> {
+        let line = Line::of(text);
+        if let Line::Case(name) = line {
+            self.next(name)?;
+            return Ok(Vec::new(self.alloc));
+        }
+        if self.is_bad {
+            return Ok(Vec::new(self.alloc));
+        }
+        match line {
+            Line::Run(words) => self.run(words),
+            _ => {
+                let mut printed = Vec::new(self.alloc);
+                if !self.change(line)? {
+                    self.is_bad = true;
+                    let text = format!(in self.alloc; "bad line {number}\n")?;
+                    printed.extend_from_slice(text.as_bytes())?;
+                }
+                Ok(printed)
+            }
+        }
+    }
+}

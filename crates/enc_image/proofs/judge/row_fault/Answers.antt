@@ -1,8 +1,0 @@
-use Rattle.std.proofs.Common.{refl, sym, ◌∙◌, arith}
-use Rattle.enc_base.proofs.First.{first_found}
-use Rattle.enc_image.specs.Base.{row_fault}
-use Rattle.enc_image.proofs.judge.row_fault.Goals as goal
-
-pub returns-in-Some : goal.returns-in-Some
-unfolding row_fault
-returns-in-Some c = first_found _ _ c.loop-i.i _ (rw (← c.columns_of-i-end.ensures.columns) (omega arith)) c.loop-i.invariant (sym c.in-Some.is ∙ c.cell_fault.ensures) refl
