@@ -1,5 +1,5 @@
 -- The children that a log gives in one table, entry by entry.
-use Rattle.std.proofs.Common.{◌≡◌, ◌≢◌, ℕ, zero, suc, ◌+◌, ◌-◌, ◌<◌, ◌≤◌, Bool, true, false, List, [], ◌∷◌, ◌++◌, length, map, drop, Option, Some, None, refl, sym, ap, ◌∙◌, inl, inr, cond, arith}
+use Rattle.std.proofs.Common.{◌≡◌, ◌≢◌, ℕ, zero, suc, ◌+◌, ◌-◌, ◌<◌, ◌≤◌, Bool, true, false, List, [], ◌∷◌, ◌++◌, length, map, drop, Option, Some, None, refl, sym, ap, ◌∙◌, append_assoc, append-nil, inl, inr, cond, arith}
 use Rattle.std.specs.Prelude.{◌==◌, ◌&&◌, if◌then◌else◌, filter, find, count_by, slice_get}
 use Rattle.std.proofs.lemmas.Bool.{cases_eq}
 use Rattle.std.proofs.lemmas.Bool.Decides.{nat_tests}
@@ -11,7 +11,8 @@ use Rattle.enc_plain.specs.Chain.{Chain, rows_before}
 use Rattle.enc_delta.specs.declared.entry.Entry.{Entry}
 use Rattle.enc_delta.specs.Rules.{counts, counted, adds, is_add, follows, child_table}
 use Rattle.enc_delta.proofs.ListsChildren.{two, counted_no, Good, add_low, add_high, adds_push, codes_same, not_code}
-use Rattle.enc_agg.specs.Extend.{pairs_in, gives, gives_to, rows_given}
+use Rattle.enc_agg.specs.Extend.{pairs_in}
+use Rattle.enc_agg.specs.Given.{gives, gives_to, rows_given}
 use Rattle.enc_agg.proofs.Pairs.{pair_of, pairs_yes, child_is}
 use Rattle.enc_agg.proofs.Owned.{count_cons}
 
@@ -272,3 +273,19 @@ pub not_past : {X : Type 0} (xs : List X) (n : ℕ) → n < length xs → slice_
 not_past [] n h e = absurd (omega arith)
 not_past (x ∷ xs) zero h e = absurd cc
 not_past (x ∷ xs) (suc n) h e = not_past xs n (omega arith) e
+
+-- the rows so far and those that the entries left give: behind an entry without the code
+pub push_less : (row : ℕ) (owner : Token) (code : ℕ) (es : List Entry) (i : ℕ) (e : Entry) (all now : List ℕ) → slice_get es i ≡ Some e → gives code e ≡ false → all ≡ now ++ rows_given row owner code (drop i es) → all ≡ now ++ rows_given row owner code (drop (i + 1) es)
+push_less row owner code es i e all now at is before = before ∙ rw (drop_at es i e at, is) refl
+
+-- behind the row of another owner
+pub push_other : (row : ℕ) (owner : Token) (code : ℕ) (es : List Entry) (i : ℕ) (e : Entry) (all now : List ℕ) → slice_get es i ≡ Some e → gives code e ≡ true → is_token e.token owner ≡ false → all ≡ now ++ rows_given row owner code (drop i es) → all ≡ now ++ rows_given (row + 1) owner code (drop (i + 1) es)
+push_other row owner code es i e all now at is other before = before ∙ rw (drop_at es i e at, is, other) refl
+
+-- and with a row of this owner
+pub push_more : (row : ℕ) (owner : Token) (code : ℕ) (es : List Entry) (i : ℕ) (e : Entry) (all now new : List ℕ) → slice_get es i ≡ Some e → gives code e ≡ true → is_token e.token owner ≡ true → new ≡ now ++ (row + 1) ∷ [] → all ≡ now ++ rows_given row owner code (drop i es) → all ≡ new ++ rows_given (row + 1) owner code (drop (i + 1) es)
+push_more row owner code es i e all now new at is same pushed before = before ∙ rw (drop_at es i e at, is, same, pushed) (sym (append_assoc now ((row + 1) ∷ []) (rows_given (row + 1) owner code (drop (i + 1) es))))
+
+-- at the end they are all
+pub push_all : (row : ℕ) (owner : Token) (code : ℕ) (es : List Entry) (i : ℕ) (all now : List ℕ) → length es ≤ i → all ≡ now ++ rows_given row owner code (drop i es) → now ≡ all
+push_all row owner code es i all now past before = sym (before ∙ rw (drop_all i es past) (append-nil now))

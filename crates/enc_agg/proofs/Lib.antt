@@ -13,3 +13,7 @@ pub mod Given
 pub mod Children
 pub mod Begun
 pub mod PairedChildren
+pub mod Histories
+pub mod Asked
+pub mod Generations
+pub mod HeapPlaces

@@ -7,7 +7,7 @@ use Rattle.enc_base.specs.declared.refusal.Refusal.{Refusal}
 use Rattle.enc_rows.specs.Source.{Source}
 use Rattle.enc_plain.specs.Chain.{Chain}
 use Rattle.enc_delta.specs.Delta.{listed, log_in}
-use Rattle.enc_delta.specs.Rules.{rule, late_fault, e7, insert_fault, set_meta, log_fault, child_fault, e12, e13, e14, cells_meta, lists_meta, first_meta}
+use Rattle.enc_delta.specs.Rules.{rule, e5, late_fault, e7, insert_fault, set_meta, log_fault, child_fault, e12, e13, e14, e24, cells_meta, lists_meta, first_meta}
 
 -- the rules on lists and on cells, each unbroken
 pub record Unbroken (c : Chain) (s : Source) : Type 0 where
@@ -20,25 +20,23 @@ pub record Unbroken (c : Chain) (s : Source) : Type 0 where
   pub cell_tables : e12 s ≡ None
   pub e13 : e13 c s ≡ None
   pub e14 : e14 c s ≡ None
+  pub limit : e24 c s ≡ None
 
 neither : (n : ℕ) (a : Option Place) (b : Option Refusal) → or_else (rule n a) b ≡ None → (a ≡ None) × (b ≡ None)
 neither n None b h = (refl, h)
 neither n (Some p) b h = absurd cc
 
-last : (n : ℕ) (a : Option Place) → rule n a ≡ None → a ≡ None
-last n None h = refl
-last n (Some p) h = absurd cc
-
-cells_of : (c : Chain) (s : Source) → cells_meta c s ≡ None → (e12 s ≡ None) × ((e13 c s ≡ None) × (e14 c s ≡ None))
+cells_of : (c : Chain) (s : Source) → cells_meta c s ≡ None → (e12 s ≡ None) × ((e13 c s ≡ None) × ((e14 c s ≡ None) × (e24 c s ≡ None)))
 unfolding cells_meta
 cells_of c s h =
     let r12 = neither 12 (e12 s) _ h in
     let r13 = neither 13 (e13 c s) _ r12.1 in
-    (r12.0, (r13.0, last 14 (e14 c s) r13.1))
+    let r14 = neither 14 (e14 c s) _ r13.1 in
+    (r12.0, (r13.0, (r14.0, (neither 24 (e24 c s) _ r14.1).0)))
 
-lists_of : (c : Chain) (s : Source) → first_meta c s ≡ None → lists_meta c s ≡ None
+heaps_and_lists : (c : Chain) (s : Source) → first_meta c s ≡ None → (e5 c s ≡ None) × (lists_meta c s ≡ None)
 unfolding first_meta
-lists_of c s h = (neither 5 _ _ (neither 4 _ _ (neither 3 _ _ (neither 2 _ _ (neither 1 _ _ h).1).1).1).1).1
+heaps_and_lists c s h = neither 5 _ _ (neither 4 _ _ (neither 3 _ _ (neither 2 _ _ (neither 1 _ _ h).1).1).1).1
 
 by_kind : (c : Chain) (s : Source) → lists_meta c s ≡ None → Unbroken c s
 unfolding lists_meta
@@ -59,9 +57,14 @@ by_kind c s h =
       children = r11.0;
       cell_tables = cells.0;
       e13 = cells.1.0;
-      e14 = cells.1.1;
+      e14 = cells.1.1.0;
+      limit = cells.1.1.1;
     }
 
 -- a delta without a broken rule has no list and no cell that breaks one
 pub unbroken : (c : Chain) (s : Source) → first_meta c s ≡ None → Unbroken c s
-unbroken c s h = by_kind c s (lists_of c s h)
+unbroken c s h = by_kind c s (heaps_and_lists c s h).1
+
+-- and its heaps keep the limits
+pub heaps_unbroken : (c : Chain) (s : Source) → first_meta c s ≡ None → e5 c s ≡ None
+heaps_unbroken c s h = (heaps_and_lists c s h).0

@@ -1,7 +1,6 @@
 -- A chain with one delta more: one plain module is edited directly, and the delta's heaps stand behind those before.
-use Rattle.std.specs.Prelude.{ℕ, ◌+◌, ◌==◌, ◌&&◌, Bool, List, [], ◌∷◌, ◌++◌, map, Option, option_and_then, unwrap_or, if◌then◌else◌}
+use Rattle.std.specs.Prelude.{ℕ, List, [], ◌∷◌, ◌++◌, map, Option, option_and_then, unwrap_or, if◌then◌else◌}
 use Rattle.enc_base.specs.declared.token.Token.{Token}
-use Rattle.enc_base.specs.Token.{is_token}
 use Rattle.enc_schema.specs.declared.column.Column.{Column}
 use Rattle.enc_schema.specs.Schema.{column_in}
 use Rattle.enc_rows.specs.Sums.{below}
@@ -10,9 +9,10 @@ use Rattle.enc_plain.specs.Cell.{Cell, number, cell_count}
 use Rattle.enc_plain.specs.Chain.{Chain}
 use Rattle.enc_plain.specs.Reading.{cell_with}
 use Rattle.enc_plain.specs.Apply.{Change, Attached, apply, attach_all}
+use Rattle.enc_image.specs.Base.{begun}
 use Rattle.enc_delta.specs.declared.entry.Entry.{Entry}
 use Rattle.enc_delta.specs.Delta.{log_in, listed, place_in}
-use Rattle.enc_delta.specs.Rules.{is_add, counts, counted, heaps_after, own_guid, reading_after}
+use Rattle.enc_delta.specs.Rules.{is_add, counted, heaps_after, own_guid, reading_after}
 
 -- the cell in a column of a delta's row, read in all heaps up to the delta's
 unfoldable pub cell_after : Chain → Source → Token → ℕ → Option Cell
@@ -44,19 +44,7 @@ attached_of s = pairs_in (counted (log_in s))
 unfoldable pub extended : Chain → Source → Chain
 extended c s = record { plain = attach_all (apply c.plain (changes_of c s)) (attached_of s); ids = c.ids ++ own_guid c s 3 ∷ []; heaps = heaps_after c s }
 
--- the code of the Add entries whose children are of a table
-abbrev pub add_code : ℕ → ℕ
-add_code table = if table == 0x06 then 1 else if table == 0x04 then 2 else if table == 0x08 then 3 else if table == 0x17 then 4 else 5
-
--- an entry that counts has this code
-abbrev pub gives : ℕ → Entry → Bool
-gives code e = counts e && e.code == code
-
--- and its token is this one
-abbrev pub gives_to : Token → ℕ → Entry → Bool
-gives_to owner code e = gives code e && is_token e.token owner
-
--- the new rows that entries with a code give an owner, where each gives the row behind the one before
-abbrev pub rows_given : ℕ → Token → ℕ → List Entry → List ℕ
-rows_given row owner code [] = []
-rows_given row owner code (e ∷ es) = if gives code e then (if is_token e.token owner then (row + 1) ∷ rows_given (row + 1) owner code es else rows_given (row + 1) owner code es) else rows_given row owner code es
+-- a base with deltas, the newest first: each extends the chain of those before it
+unfoldable pub chain_with : Source → List Source → Chain
+chain_with base [] = begun base
+chain_with base (d ∷ older) = extended (chain_with base older) d

@@ -5,6 +5,7 @@ use Rattle.enc_base.specs.declared.token.Token.{Token}
 use Rattle.enc_rows.specs.Source.{Source}
 use Rattle.enc_schema.specs.Children.{is_child_table, owner_table}
 use Rattle.enc_plain.specs.Module.{Module, Row, rows_in, kids_at}
+use Rattle.enc_plain.specs.Fits.{HasRuns}
 use Rattle.enc_plain.specs.Chain.{Chain}
 use Rattle.enc_delta.specs.Delta.{listed}
 use Rattle.enc_delta.specs.Rules.{first_meta}
@@ -26,3 +27,9 @@ all_kids m table = flat_map (λ (r : Row). kids_at r table) (rows_in m (owner_ta
 -- each row of a child table is a child once, and nothing else is
 pub record IsOwned (m : Module) : Type 0 where
   pub once : (table row : ℕ) → is_child_table table ≡ true → count_by (λ k. k == row) (all_kids m table) ≡ cond (nat_le 1 row && nat_le row (length (rows_in m table))) 1 0
+
+-- what holds of each chain of a sound base: all tables are there, each row has its runs, and each child row has just one owner
+pub record IsSound (c : Chain) : Type 0 where
+  pub tables : HasTables c
+  pub runs : HasRuns c.plain
+  pub owned : IsOwned c.plain

@@ -1,37 +1,96 @@
 -- What the parts of the program stand for.
-use Rattle.std.specs.Prelude.{◌≡◌, ℕ, ◌<◌, List, Some, None, Result, Ok, Err, slice_index}
-use Rattle.enc_base.specs.declared.refusal.Refusal.{Refusal}
-use Rattle.enc_rows.specs.Source.{Source}
-use Rattle.enc_plain.specs.Module.{Module}
+use Rattle.std.specs.Prelude.{◌≡◌, ℕ, zero, suc, ◌*◌, ◌<◌, List, [], ◌∷◌, map, length, reverse, Option, Some, None, nat_lt, nat_le, slice_index, if◌then◌else◌}
+use Rattle.enc_base.specs.declared.token.Token.{Token}
+use Rattle.enc_base.specs.declared.refusal.StreamName.{StreamName}
+use Rattle.enc_base.specs.declared.refusal.StreamName.TheVariants as stream
+use Rattle.enc_meta.specs.Heaps.{Counted}
+use Rattle.enc_rows.specs.Source.{Source, raw_in}
+use Rattle.enc_plain.specs.Module.{Module, rows_in}
 use Rattle.enc_plain.specs.Chain.{Chain}
-use Rattle.enc_image.specs.Base.{begun, cells_fault}
-use Rattle.enc_delta.specs.declared.heap_rule.HeapTotals.{HeapTotals}
-use Rattle.enc_delta.specs.Delta.{listed}
-use Rattle.enc_delta.specs.Rules.{inserts, first_meta}
+use Rattle.enc_image.specs.Base.{cells_fault}
+use Rattle.enc_delta.specs.Delta.{listed, place_in}
+use Rattle.enc_delta.specs.Rules.{own_guid}
 use Rattle.enc_delta.specs.Totals.{totals_of}
-use Rattle.enc_agg.specs.Extend.{extended}
+use Rattle.enc_delta.specs.declared.heap_rule.HeapTotals.{HeapTotals}
+use Rattle.enc_agg.specs.declared.added.Added.{Added}
+use Rattle.enc_agg.specs.declared.added.Found.{Found}
+use Rattle.enc_agg.specs.declared.place.HeapPlace.{HeapPlace}
+use Rattle.enc_agg.specs.Extend.{extended, chain_with}
 use Rattle.enc_agg.specs.Follows.{Follows}
 
--- a base and a delta
-pub record Pair : Type 0 where
+-- a base and the deltas that follow it, the newest first, and room for so many more
+pub record History : Type 0 where
   pub base : Source
-  pub delta : Source
+  pub deltas : List Source
+  pub room : ℕ
 
--- the chain of both, and its module
-abbrev pub chain_of_both : Pair → Chain
-chain_of_both p = extended (begun p.base) p.delta
+-- their chain, and its module
+abbrev pub chain_of_all : History → Chain
+chain_of_all h = chain_with h.base h.deltas
 
-abbrev pub module_of_both : Pair → Module
-module_of_both p = (chain_of_both p).plain
+abbrev pub module_of_all : History → Module
+module_of_all h = (chain_of_all h).plain
 
--- nothing in the base is refused, and the delta follows it; the lengths of the base's heaps; how many rows the delta adds to each table
-pub record IsPair (p : Pair) (before : HeapTotals) (added : List ℕ) : Type 0 where
-  pub sound : cells_fault p.base ≡ None
-  pub follows : Follows (begun p.base) p.delta
-  pub totals : before ≡ totals_of (begun p.base).heaps
-  pub rows : (t : ℕ) → t < 256 → slice_index added t ≡ inserts (begun p.base) (listed p.delta) t
+abbrev pub sources : List Added → List Source
+sources added = map (λ (a : Added). a.delta) added
 
--- the delta follows, or breaks this rule first
-abbrev pub Begins : Source → Source → Result Pair Refusal → Type 0
-Begins base delta (Ok p) = (first_meta (begun base) delta ≡ None) × (p ≡ record { base = base; delta = delta })
-Begins base delta (Err e) = first_meta (begun base) delta ≡ Some e
+-- the delta follows the chain; the lengths of the heaps before it; its EncId; and the rows of each table after it
+pub record IsAdded (c : Chain) (a : Added) : Type 0 where
+  pub follows : Follows c a.delta
+  pub before : a.before ≡ totals_of c.heaps
+  pub id : a.id ≡ own_guid c a.delta 3
+  pub counts : (t : ℕ) → t < 64 → slice_index a.counts.rows t ≡ length (rows_in (extended c a.delta).plain t)
+
+-- so it is of all, the newest first
+unfoldable pub AllAdded : Source → List Added → Type 0
+AllAdded base [] = Unit {0}
+AllAdded base (a ∷ older) = IsAdded (chain_with base (sources older)) a × AllAdded base older
+
+-- nothing in the base is refused, and each delta follows those before it
+pub record IsAggregate (base : Source) (added : List Added) : Type 0 where
+  pub sound : cells_fault base ≡ None
+  pub all : AllAdded base added
+
+-- the newest of the deltas that lists a token, with those before it, and the token's position there
+abbrev pub found_or : List Added → Option ℕ → Option (List Added × ℕ) → Option (List Added × ℕ)
+found_or added (Some row) older = Some (added, row)
+found_or added None older = older
+
+unfoldable pub found_in : List Added → Token → Option (List Added × ℕ)
+found_in [] token = None
+found_in (a ∷ older) token = found_or (a ∷ older) (place_in (listed a.delta) token) (found_in older token)
+
+abbrev pub found_seen : Found → List Added × ℕ
+found_seen f = (reverse f.upto.now, f.row)
+
+-- the number in a column of a row of the newest of some deltas
+abbrev pub number_in : List Added → Token → ℕ → ℕ
+number_in [] row column = 0
+number_in (a ∷ older) row column = raw_in a.delta row column
+
+-- what was prepared is a delta after this history
+abbrev pub IsReady : History → Source → Added → Type 0
+IsReady h d a = (a.delta ≡ d) × IsAdded (chain_of_all h) a
+
+-- the heap of a stream whose entries go by offsets; other streams have none
+abbrev pub heap_named : StreamName → Counted → List ℕ
+heap_named stream.Strings h = h.strings
+heap_named stream.Users h = h.users
+heap_named stream.Blobs h = h.blobs
+heap_named _ h = []
+
+-- how many bytes such heaps have together
+abbrev pub total_named : StreamName → HeapTotals → ℕ
+total_named stream.Strings t = t.strings
+total_named stream.Users t = t.users
+total_named stream.Blobs t = t.blobs
+total_named _ t = 0
+
+-- the place of an offset in a generation's own heap
+abbrev pub own_place : List ℕ → ℕ → ℕ → Option HeapPlace
+own_place heap generation offset = if nat_lt offset (length heap) then Some (record { generation = generation; offset = offset }) else None
+
+-- and of entry k of its `#GUID`
+abbrev pub own_guid_place : List ℕ → ℕ → ℕ → Option HeapPlace
+own_guid_place heap generation zero = None
+own_guid_place heap generation (suc k) = if nat_le (16 * suc k) (length heap) then Some (record { generation = generation; offset = suc k }) else None

@@ -1,8 +1,11 @@
 //! A base with the deltas that follow it: a view of the module that they mean together.
 #![tactic(auto)]
 
-mod edited;
+mod added;
+mod aggregate;
+mod log;
 mod place;
+mod view;
 
-pub use edited::Edited;
-pub use place::RowPlace;
+pub use aggregate::{Aggregate, Ready};
+pub use place::{HeapPlace, RowPlace};

@@ -10,8 +10,8 @@ use Rattle.std.proofs.lemmas.List.{take_all, drop_all}
 use Rattle.std.proofs.lemmas.List.Sums.{sum_by-append}
 use Rattle.std.proofs.lemmas.Bool.Decides.{nat_tests, eqb_tells}
 use Rattle.enc_base.specs.Order.{or_else}
-use Rattle.enc_meta.specs.Heaps.{Counted, sixteen_at, guid_at, text_entry, bytes_at}
-use Rattle.enc_meta.specs.Joined.{first_guid, joined_guid, joined_length, entry_in, joined_entry, joined_text, joined_blob}
+use Rattle.enc_meta.specs.Heaps.{Counted, sixteen_at, guid_at, text_entry, bytes_at, user_entry}
+use Rattle.enc_meta.specs.Joined.{first_guid, joined_guid, joined_length, entry_in, joined_entry, joined_text, joined_blob, joined_user}
 use Rattle.enc_delta.specs.declared.heap_rule.HeapTotals.{HeapTotals}
 use Rattle.enc_delta.specs.Totals.{totals_of}
 use Rattle.enc_plain.specs.Chain.{Chain, id_of, nil_guid, mvid_of}
@@ -171,3 +171,37 @@ unfolding totals_of entry_in
 blob_past xs x t o is some le high =
     let here : nat_lt (o - t.blobs) (length x.blobs) ≡ false = grind (arith, nat_tests, high) in
     joined_behind bytes_at (λ (c : Counted). c.blobs) xs x t.blobs o (ap (λ (u : HeapTotals). u.blobs) is) some le ∙ rw here refl
+
+pub user_before : (xs : List Counted) (x : Counted) (t : HeapTotals) (o : ℕ) → t ≡ totals_of xs → o < t.users → joined_user (xs ++ x ∷ []) o ≡ joined_user xs o
+unfolding totals_of
+user_before xs x t o is lt = joined_before user_entry (λ (c : Counted). c.users) xs x t.users o (ap (λ (u : HeapTotals). u.users) is) lt
+
+pub user_behind : (xs : List Counted) (x : Counted) (t : HeapTotals) (o : ℕ) → t ≡ totals_of xs → o ≢ 0 → t.users ≤ o → o - t.users < length x.users → joined_user (xs ++ x ∷ []) o ≡ user_entry x.users (o - t.users)
+unfolding totals_of entry_in
+user_behind xs x t o is some le low =
+    let here : nat_lt (o - t.users) (length x.users) ≡ true = grind (arith, nat_tests, low) in
+    joined_behind user_entry (λ (c : Counted). c.users) xs x t.users o (ap (λ (u : HeapTotals). u.users) is) some le ∙ rw here refl
+
+pub user_past : (xs : List Counted) (x : Counted) (t : HeapTotals) (o : ℕ) → t ≡ totals_of xs → o ≢ 0 → t.users ≤ o → length x.users ≤ o - t.users → joined_user (xs ++ x ∷ []) o ≡ None
+unfolding totals_of entry_in
+user_past xs x t o is some le high =
+    let here : nat_lt (o - t.users) (length x.users) ≡ false = grind (arith, nat_tests, high) in
+    joined_behind user_entry (λ (c : Counted). c.users) xs x t.users o (ap (λ (u : HeapTotals). u.users) is) some le ∙ rw here refl
+
+entry_stays : (entry : List ℕ → ℕ → Option (List ℕ)) (heaps : List (List ℕ)) (heap : List ℕ) (o : ℕ) (x : List ℕ) → entry_in entry heaps o ≡ Some x → entry_in entry (heaps ++ heap ∷ []) o ≡ Some x
+unfolding entry_in
+entry_stays entry [] heap o x h = absurd cc
+entry_stays entry (h ∷ hs) heap o x is = stays_if (nat_lt o (length h)) (entry h o) (entry_in entry hs (o - length h)) (entry_in entry (hs ++ heap ∷ []) (o - length h)) x (entry_stays entry hs heap (o - length h) x) is
+  where
+    stays_if : (b : Bool) (here rest more : Option (List ℕ)) (x : List ℕ) → (rest ≡ Some x → more ≡ Some x) → (if b then here else rest) ≡ Some x → (if b then here else more) ≡ Some x
+    stays_if true here rest more x f h = h
+    stays_if false here rest more x f h = f h
+
+-- a user text that is there stays, whatever heap comes behind
+pub user_stays : (xs : List Counted) (x : Counted) (o : ℕ) (units : List ℕ) → joined_user xs o ≡ Some units → joined_user (xs ++ x ∷ []) o ≡ Some units
+unfolding joined_entry
+user_stays xs x o units is = by_zero (o == 0) (entry_in user_entry (map (λ (c : Counted). c.users) xs) o) (entry_in user_entry (map (λ (c : Counted). c.users) (xs ++ x ∷ [])) o) (λ h. ap (λ hs. entry_in user_entry hs o) (field_more (λ (c : Counted). c.users) xs x) ∙ entry_stays user_entry (map (λ (c : Counted). c.users) xs) x.users o units h) is
+  where
+    by_zero : (b : Bool) (before after : Option (List ℕ)) → (before ≡ Some units → after ≡ Some units) → (if b then Some [] else before) ≡ Some units → (if b then Some [] else after) ≡ Some units
+    by_zero true before after f h = h
+    by_zero false before after f h = f h

@@ -10,3 +10,4 @@ pub mod ListsSets
 pub mod ListsLog
 pub mod ListsChildren
 pub mod Placing
+pub mod Halves

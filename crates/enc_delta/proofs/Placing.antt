@@ -2,6 +2,7 @@
 use Rattle.std.proofs.Common.{◌≡◌, ℕ, zero, suc, ◌+◌, ◌-◌, ◌<◌, ◌≤◌, Bool, true, false, List, [], ◌∷◌, length, drop, map, Option, Some, None, refl, sym, ap, ◌∙◌, arith}
 use Rattle.std.specs.Prelude.{slice_get, filter, not, ◌==◌, if◌then◌else◌, option_map}
 use Rattle.std.specs.List.{position_from, list_any}
+use Rattle.std.proofs.lemmas.Option.{slice_get_past}
 use Rattle.std.proofs.lemmas.Iterator.Adapters.{position_from-zero}
 use Rattle.enc_base.specs.declared.token.Token.{Token}
 use Rattle.enc_base.specs.Token.{is_token}
@@ -113,6 +114,10 @@ from_length f a (suc n) = omega (arith, from_length f (a + 1) n)
 length_below : {X : Type 0} (f : ℕ → X) (n : ℕ) → length (map f (below n)) ≡ n
 unfolding below
 length_below f n = from_length f 0 n
+
+pub map_past : (s : Source) (i : ℕ) → rows_of s.layout 0x1F ≤ i → slice_get (map_in s) i ≡ None
+unfolding map_in
+map_past s i h = slice_get_past _ i (omega (arith, length_below (token_at s) (rows_of s.layout 0x1F)))
 
 -- behind the last entry there is none
 pub place_end : (n i : ℕ) (s : Source) (u : Token) (o : Option ℕ) → rows_of s.layout 0x1F ≤ i → place_behind n (keep (drop i (map_in s))) u ≡ o → None ≡ o

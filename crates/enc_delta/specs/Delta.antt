@@ -1,16 +1,13 @@
 -- What the metadata of a delta says: its EncLog, its EncMap, and which row stands for which token.
-use Rattle.std.specs.Prelude.{ℕ, suc, Bool, not, ◌&&◌, List, map, filter, position, Option, option_map, ◌==◌, if◌then◌else◌, Result, Ok, Err, replicate}
+use Rattle.std.specs.Prelude.{ℕ, suc, Bool, not, ◌&&◌, List, map, filter, position, Option, option_map, ◌==◌, Result, Ok, Err, replicate}
 use Rattle.enc_base.specs.Token.{token_of, nth_row}
 use Rattle.enc_base.specs.declared.token.Token.{Token}
 use Rattle.enc_base.specs.declared.refusal.Refusal.{Refusal}
-use Rattle.enc_base.specs.declared.refusal.Code.TheVariants.{U}
-use Rattle.enc_base.specs.declared.refusal.Place.TheVariants as place
 use Rattle.enc_meta.specs.declared.root.Root.{Root}
 use Rattle.enc_meta.specs.Root.{root_of}
 use Rattle.enc_meta.specs.Heaps.{part, heaps_of}
 use Rattle.enc_rows.specs.Sums.{below}
 use Rattle.enc_rows.specs.Layout.{Layout, rows_of, tables_of}
-use Rattle.enc_rows.specs.Unread.{is_unread}
 use Rattle.enc_rows.specs.Source.{Source, raw_in}
 use Rattle.enc_delta.specs.declared.entry.Entry.{Entry}
 use Rattle.enc_rows.specs.declared.form.Form.TheVariants as form
@@ -54,11 +51,9 @@ abbrev pub source_with : List ℕ → Root → Result Layout Refusal → Result 
 source_with bytes root (Ok l) = Ok (source_from bytes root l)
 source_with bytes root (Err e) = Err e
 
--- the layout of a delta's table stream, or F6; for now U1 in between
+-- the layout of a delta's table stream, or F6
 unfoldable pub layout_for : List ℕ → Root → Result Layout Refusal
-layout_for bytes root =
-    if is_unread (part bytes root.tables) then Err (record { code = U 1; place = place.Tables })
-    else tables_of bytes root.tables form.Delta root.jtd (replicate 64 0)
+layout_for bytes root = tables_of bytes root.tables form.Delta root.jtd (replicate 64 0)
 
 abbrev pub source_in : List ℕ → Result Root Refusal → Result Source Refusal
 source_in bytes (Ok root) = source_with bytes root (layout_for bytes root)

@@ -5,7 +5,7 @@ use Rattle.enc_base.specs.Token.{token_of, number_of, nth_row, is_token}
 use Rattle.enc_base.specs.Order.{or_else, first_below}
 use Rattle.enc_base.specs.declared.token.Token.{Token}
 use Rattle.enc_base.specs.declared.refusal.Refusal.{Refusal}
-use Rattle.enc_base.specs.declared.refusal.Code.TheVariants.{E}
+use Rattle.enc_base.specs.declared.refusal.Code.TheVariants.{E, U}
 use Rattle.enc_base.specs.declared.refusal.Place.{Place}
 use Rattle.enc_base.specs.declared.refusal.Place.TheVariants as place
 use Rattle.enc_base.specs.declared.refusal.StreamName.TheVariants as name
@@ -252,6 +252,23 @@ e13 c s = first_below (table_fault c s is_index) 0x2D
 unfoldable pub e14 : Chain → Source → Option Place
 e14 c s = first_below (table_fault c s is_offset) 0x2D
 
+-- E24: more than 65,535 deltas, or more than 2^24 - 1 rows in a table after. No file reaches it: E2 and E8 come first
+unfoldable pub e24_at : Chain → Source → ℕ → Option Place
+e24_at c s table = broken (nat_lt 0xFFFFFF (rows_with c (listed s) table)) (place.Row module_token)
+
+unfoldable pub e24 : Chain → Source → Option Place
+e24 c s = or_else (broken (nat_lt 65535 (length c.ids + 1)) (place.Row module_token)) (first_below (e24_at c s) 0x2D)
+
+-- for now: the first row of MethodDef with a place for its body, by its token
+unfoldable pub body_at : Source → ℕ → Option Place
+body_at s r = if raw_in s (nth_row 0x06 r) 0 == 0 then None else option_map (λ t. place.Row t) (slice_get (of_table 0x06 (listed s)) r)
+
+unfoldable pub first_body : Source → Option Place
+first_body s = first_below (body_at s) (rows_of s.layout 0x06)
+
+abbrev pub unread : Option Place → Option Refusal
+unread p = option_map (λ (q : Place). record { code = U 4; place = q }) p
+
 abbrev pub rule : ℕ → Option Place → Option Refusal
 rule n p = option_map (λ (q : Place). record { code = E n; place = q }) p
 
@@ -259,11 +276,11 @@ rule n p = option_map (λ (q : Place). record { code = E n; place = q }) p
 unfoldable pub set_meta : Source → Option Place
 set_meta s = set_fault (map number_of (listed s)) (map number_of (changed (log_in s)))
 
--- E12 to E14
+-- E12 to E14 and E24, and for now U4 after all rules
 unfoldable pub cells_meta : Chain → Source → Option Refusal
-cells_meta c s = or_else (rule 12 (e12 s)) (or_else (rule 13 (e13 c s)) (rule 14 (e14 c s)))
+cells_meta c s = or_else (rule 12 (e12 s)) (or_else (rule 13 (e13 c s)) (or_else (rule 14 (e14 c s)) (or_else (rule 24 (e24 c s)) (unread (first_body s)))))
 
--- E6 to E14
+-- E6 to E14 and E24
 unfoldable pub lists_meta : Chain → Source → Option Refusal
 lists_meta c s =
     or_else (rule 6 (late_fault (listed s))) (or_else (rule 7 (e7 s)) (or_else (rule 8 (insert_fault c (listed s))) (or_else (rule 9 (set_meta s)) (or_else (rule 10 (log_fault c (listed s) (log_in s))) (or_else (rule 11 (child_fault c (listed s) (log_in s))) (cells_meta c s))))))

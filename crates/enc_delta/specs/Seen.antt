@@ -1,25 +1,36 @@
 -- What the parts of the program stand for.
-use Rattle.std.specs.Prelude.{◌≡◌, ℕ, List, Result, Ok, Err}
+use Rattle.std.specs.Prelude.{◌≡◌, ◌↔◌, ℕ, ◌<◌, Bool, IsTrue, List, Result, Ok, Err}
 use Rattle.enc_base.specs.declared.refusal.Refusal.{Refusal}
 use Rattle.enc_base.specs.declared.refusal.ReadFault.{ReadFault}
 use Rattle.enc_base.specs.declared.refusal.ReadFault.TheVariants.{Memory, Refused}
+use Rattle.enc_base.specs.Token.{number_of}
 use Rattle.enc_meta.specs.Root.{root_of}
-use Rattle.enc_meta.specs.Heaps.{part}
-use Rattle.enc_rows.specs.Layout.{IsWithin}
+use Rattle.enc_meta.specs.Heaps.{part, ends_of}
+use Rattle.enc_rows.specs.Layout.{IsWithin, rows_of}
 use Rattle.enc_rows.specs.Source.{Source}
 use Rattle.enc_delta.specs.declared.open.Opened.{Opened}
-use Rattle.enc_delta.specs.Delta.{source_from}
+use Rattle.enc_delta.specs.Delta.{source_from, token_at}
 
 -- a root and its tables with the file's bytes
 abbrev pub opened_source : List ℕ → Result Opened Refusal → Result Source Refusal
 opened_source bytes (Ok o) = Ok (source_from bytes o.root o.tables)
 opened_source bytes (Err e) = Err e
 
--- the root and the tables were read from these bytes
+-- the root, the ends of its texts and the tables were read from these bytes
 pub record IsOpened (bytes : List ℕ) (o : Opened) : Type 0 where
   pub root : root_of bytes ≡ Ok o.root
+  pub ends : o.ends ≡ ends_of bytes o.root
   pub span : o.tables.span ≡ o.root.tables
   pub within : IsWithin (part bytes o.tables.span) o.tables
+
+-- each token of EncMap has a greater number than those before it
+abbrev pub IsRising : Source → Type 0
+IsRising s = (i j : ℕ) → i < j → j < rows_of s.layout 0x1F → number_of (token_at s i) < number_of (token_at s j)
+
+-- the root and the tables of a delta, and whether its map rises
+pub record IsRead (bytes : List ℕ) (o : Opened) (rises : Bool) : Type 0 where
+  pub opened : IsOpened bytes o
+  pub rising : IsTrue rises ↔ IsRising (source_from bytes o.root o.tables)
 
 -- what was read is the delta; what was refused is refused by the first rule; want of memory tells nothing
 abbrev pub Reads : Result Source ReadFault → Result Source Refusal → Type 0

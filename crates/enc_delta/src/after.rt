@@ -7,7 +7,7 @@ ghost use Rattle.enc_delta.specs.After.{IsAfter, speaks};
 
 use crate::delta::Delta;
 use crate::heap_rule::HeapTotals;
-use crate::joined::{blob_after, guid_after, text_after};
+use crate::joined::{blob_after, guid_after, has_text_after};
 use enc_base::Token;
 use enc_meta::Heaps;
 use enc_plain::ChainView;
@@ -95,7 +95,7 @@ pub fn is_good<C: ChainView>(
 {
     match column {
         Column::Num8 | Column::Num16 | Column::Num32 => true,
-        Column::Text => text_after(chain, &after.heaps, &after.totals, number).is_some(),
+        Column::Text => has_text_after(chain, &after.heaps, &after.totals, number),
         Column::Guid => guid_after(chain, &after.heaps, number).is_some(),
         Column::Blob => blob_after(chain, &after.heaps, &after.totals, number).is_some(),
         Column::Index(table) => is_within(chain, delta, after, table, number),

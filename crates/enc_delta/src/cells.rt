@@ -4,7 +4,7 @@ ghost use Rattle.enc_base.specs.Order.{first_below};
 ghost use Rattle.enc_schema.specs.Schema.{columns_in};
 ghost use Rattle.enc_base.specs.Token.{nth_row};
 ghost use Rattle.enc_delta.specs.Delta.{listed, of_table};
-ghost use Rattle.enc_delta.specs.Rules.{cell_fault, row_fault, table_fault, e13, e14};
+ghost use Rattle.enc_delta.specs.Rules.{cell_fault, row_fault, table_fault, e13, e14, e24_at, e24, first_body};
 ghost use Rattle.enc_delta.specs.After.{IsAfter, speaks, begins_with};
 
 use crate::after::{After, Rule, is_good};
@@ -12,6 +12,8 @@ use crate::delta::{Delta, nth_row};
 use enc_base::{Place, Token};
 use enc_plain::ChainView;
 use enc_schema::{column_of, columns_of};
+
+const MODULE: Token = Token { table: 0, row: 1 };
 
 /// What is wrong with a cell of a row that stands for a token.
 #[tactic(auto, unfolding(crate::specs::Rules::cell_fault))]
@@ -179,4 +181,58 @@ pub fn e14<C: ChainView>(
     ensures { result ≡ e14 (C.chain chain.now) delta.now }
 {
     first_fault(chain, delta, after, Rule::Offset, tokens)
+}
+
+/// More rows than a token can name stand in a table after the delta.
+#[tactic(auto, unfolding(crate::specs::Rules::e24_at, crate::specs::Rules::rows_with))]
+fn e24_at<C: ChainView>(chain: &C, delta: &Delta, after: &After<'_>, table: u8) -> Option<Place>
+    requires means { C.meaning chain.now ≡ (C.chain chain.now).plain }
+    requires after { IsAfter (C.chain chain.now) delta.now after.now }
+    ensures { result ≡ e24_at (C.chain chain.now) delta.now table }
+{
+    let _ = delta;
+    let before = chain.count(table) as usize;
+    if before > 0xff_ffff || after.inserts[table as usize] > 0xff_ffff - before {
+        Some(Place::Row(MODULE))
+    } else {
+        None
+    }
+}
+
+/// E24: there are more deltas than Generation can count, or more rows than a token can name.
+#[tactic(auto, using(enc_base::proofs::First::first_none, enc_base::proofs::First::first_found, enc_base::proofs::First::first_more), unfolding(crate::specs::Rules::e24))]
+pub fn e24<C: ChainView>(chain: &C, delta: &Delta, after: &After<'_>) -> Option<Place>
+    requires means { C.meaning chain.now ≡ (C.chain chain.now).plain }
+    requires after { IsAfter (C.chain chain.now) delta.now after.now }
+    ensures { result ≡ e24 (C.chain chain.now) delta.now }
+{
+    if chain.generations() > 0xffff {
+        return Some(Place::Row(MODULE));
+    }
+    for table in 0..0x2d {
+        match e24_at(chain, delta, after, table) {
+            Some(place) => return Some(place),
+            None => {}
+        }
+    }
+    None
+}
+
+/// The first row of MethodDef with a place for its body, by its token.
+#[tactic(auto, using(enc_base::proofs::First::first_none, enc_base::proofs::First::first_found, enc_base::proofs::First::first_more), unfolding(crate::specs::Rules::first_body, crate::specs::Rules::body_at))]
+pub fn first_body(delta: &Delta, tokens: &[Token]) -> Option<Place>
+    requires tokens { tokens.now ≡ listed delta.now }
+    ensures { result ≡ first_body delta.now }
+{
+    let mut rest = tokens;
+    for r in 0..delta.count(0x06) {
+        let [token, tail @ ..] = next_of(rest, 0x06) else {
+            return None;
+        };
+        if delta.cell(nth_row(0x06, r), 0) != 0 {
+            return Some(Place::Row(*token));
+        }
+        rest = tail;
+    }
+    None
 }

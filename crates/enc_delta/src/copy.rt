@@ -41,7 +41,7 @@ impl Delta {
     {
         let mut tokens = Vec::new(alloc);
         for i in 0..self.map_len() {
-            let token = self.map(i);
+            let token = self.token(i);
             if !is_module(token) {
                 tokens.push(token)?;
             }

@@ -1,57 +1,74 @@
 //! A delta: the metadata and the IL that one edit gives.
-ghost use Rattle.std.specs.Prelude.{◌≡◌, ◌+◌, ◌<◌, ◌^◌, Some, IsTrue, IsSome, slice_get};
+ghost use Rattle.std.specs.Prelude.{◌≡◌, ◌↔◌, ◌+◌, ◌<◌, ◌^◌, Some, IsTrue, IsSome, slice_get};
+ghost use Rattle.enc_meta.specs.Heaps.{lengths_of};
 ghost use Rattle.enc_schema.specs.Schema.{column_in};
 ghost use Rattle.enc_rows.specs.Layout.{rows_of, has_row};
 ghost use Rattle.enc_rows.specs.Source.{raw_in};
 ghost use Rattle.enc_base.specs.Token.{nth_row};
 ghost use Rattle.enc_delta.specs.Delta.{delta_of, entry_at, token_at, log_in, map_in, listed};
-ghost use Rattle.enc_delta.specs.Seen.{Reads};
+ghost use Rattle.enc_delta.specs.Seen.{Reads, IsRising};
 
 use crate::entry::Entry;
-use crate::open::open;
+use crate::open::{is_rising, open};
 use enc_base::{ReadFault, Steps, Token};
-use enc_meta::{Heaps, Root};
+use enc_meta::{HeapLengths, Heaps, Root, TextEnds, heaps_law};
 use enc_rows::Tables;
 use enc_schema::column_of;
 use std::marker::Model;
 use std::sync::ledger::Ledger;
 
 /// The bytes of a delta, and where the parts of its metadata stand in them. Its cells aren't
-/// copied.
+/// copied. `rises` says whether each token of EncMap has a greater number than those before it.
 #[derive(Drop)]
 pub struct Delta {
     meta: Vec<u8>,
     il: Vec<u8>,
     root: Root,
+    ends: TextEnds,
     tables: Tables,
+    rises: bool,
 }
 
 impl Model for Delta {
     ghost use Rattle.enc_rows.specs.Source.{Source};
     ghost use Rattle.enc_delta.specs.Delta.{source_from};
-    ghost use Rattle.enc_delta.specs.Seen.{IsOpened};
+    ghost use Rattle.enc_delta.specs.Seen.{IsRead};
 
     ghost Value = { Source };
 
     ghost view = { λ d. source_from d.meta.items d.root d.tables };
 
-    ghost invariant = { λ d. IsOpened d.meta.items (record { root = d.root; tables = d.tables }) };
+    ghost invariant = { λ d. IsRead d.meta.items (record { root = d.root; ends = d.ends; tables = d.tables }) d.rises };
 }
 
 impl Delta {
-    /// Reads a delta. Refused is the first of F1, F2, F6 of its metadata, and for now U1. It takes no memory.
+    /// Reads a delta. Refused is the first of F1, F2, F6 of its metadata. It takes no memory, and goes
+    /// over EncMap once.
     pub fn read(meta: Vec<u8>, il: Vec<u8>) -> Result<Delta, ReadFault>
         ensures { Reads result (delta_of meta.items) }
     {
         match open(&meta) {
-            Ok(opened) => Ok(Delta {
-                meta,
-                il,
-                root: opened.root,
-                tables: opened.tables,
-            }),
+            Ok(opened) => {
+                let rises = is_rising(&meta, &opened);
+                Ok(Delta {
+                    meta,
+                    il,
+                    root: opened.root,
+                    ends: opened.ends,
+                    tables: opened.tables,
+                    rises,
+                })
+            }
             Err(refusal) => Err(ReadFault::Refused(refusal)),
         }
+    }
+
+    /// Whether each token of EncMap has a greater number than those before it. It was found when the
+    /// delta was read.
+    pub(crate) fn rises(&self) -> bool
+        ensures { IsTrue result ↔ IsRising self.now }
+    {
+        self.rises
     }
 
     /// The number of rows of a table.
@@ -91,7 +108,7 @@ impl Delta {
     pub fn heaps(&self) -> Heaps<'_>
         ensures { result ≡ self.now.heaps }
     {
-        Heaps::of(&self.meta, &self.root)
+        Heaps::with(&self.meta, &self.root, self.ends)
     }
 
     /// The bytes of `#Blob`.
@@ -99,6 +116,14 @@ impl Delta {
         ensures { result.now ≡ self.now.heaps.blobs }
     {
         self.heaps().blobs()
+    }
+
+    /// How many bytes of `#Strings`, `#US` and `#Blob` count, and how many whole entries `#GUID` has.
+    pub fn lengths(&self) -> HeapLengths
+        ensures { result ≡ lengths_of self.now.heaps }
+    {
+        heaps_law(&self.meta, &self.root);
+        self.heaps().lengths()
     }
 }
 
@@ -143,9 +168,9 @@ impl Delta {
         self.count(0x1f)
     }
 
-    /// A token of EncMap, from 0.
+    /// A token of EncMap, from 0, for a caller that counts nothing.
     #[tactic(auto, unfolding(crate::specs::Delta::token_at))]
-    pub fn map(&self, i: u32) -> Token
+    pub fn token(&self, i: u32) -> Token
         requires there { i < rows_of self.now.layout 0x1F }
         requires few { i < 2 ^ 24 }
         ensures token { slice_get (map_in self.now) i ≡ Some result }
@@ -154,5 +179,16 @@ impl Delta {
         ensures row { result.row < 2 ^ 24 }
     {
         Token::of(self.cell(nth_row(0x1f, i), 0))
+    }
+
+    /// A token of EncMap, from 0. One step.
+    pub fn map<L: Ledger>(&self, i: u32, steps: &mut Steps<L>) -> Token
+        requires there { i < rows_of self.now.layout 0x1F }
+        requires few { i < 2 ^ 24 }
+        ensures token { slice_get (map_in self.now) i ≡ Some result }
+        ensures steps { steps.new ≡ steps.old + 1 }
+    {
+        steps.tick();
+        self.token(i)
     }
 }

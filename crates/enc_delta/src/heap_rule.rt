@@ -1,5 +1,5 @@
 //! The joined heaps after a delta stay within their limits.
-ghost use Rattle.std.specs.Prelude.{◌≡◌, [], ◌∷◌, ◌+◌, ◌*◌, ◌/◌, ◌^◌, ◌==◌, ◌||◌, length, not, nat_lt};
+ghost use Rattle.std.specs.Prelude.{◌≡◌, [], ◌∷◌, ◌+◌, ◌*◌, ◌/◌, ◌^◌, ◌==◌, ◌||◌, ◌<◌, length, max, not, nat_lt};
 ghost use Rattle.enc_delta.specs.Rules.{last_byte, e5, e5_strings, e5_users, e5_blobs, e5_guids};
 ghost use Rattle.enc_delta.specs.Totals.{totals_of};
 
@@ -29,6 +29,24 @@ impl HeapTotals {
             users: heaps.users().len() as u64,
             blobs: heaps.blobs().len() as u64,
             guids: (heaps.guids().len() / 16) as u64,
+        }
+    }
+
+    /// The totals with one generation more, which keeps its limits.
+    pub fn with(&self, heaps: &Heaps<'_>) -> HeapTotals
+        requires strings { self.now.strings + length heaps.now.strings < 2 ^ 64 }
+        requires users { self.now.users + length heaps.now.users < 2 ^ 64 }
+        requires blobs { self.now.blobs + length heaps.now.blobs < 2 ^ 64 }
+        ensures strings { result.strings ≡ self.now.strings + length heaps.now.strings }
+        ensures users { result.users ≡ self.now.users + length heaps.now.users }
+        ensures blobs { result.blobs ≡ self.now.blobs + length heaps.now.blobs }
+        ensures guids { result.guids ≡ max self.now.guids (length heaps.now.guids / 16) }
+    {
+        HeapTotals {
+            strings: self.strings + heaps.strings().len() as u64,
+            users: self.users + heaps.users().len() as u64,
+            blobs: self.blobs + heaps.blobs().len() as u64,
+            guids: self.guids.max((heaps.guids().len() / 16) as u64),
         }
     }
 }

@@ -22,6 +22,13 @@ fn own_guid<C: ChainView>(chain: &C, delta: &Delta, column: u8) -> [u8; 16]
     }
 }
 
+/// The EncId of a delta after its chain; nil where it can't be read.
+pub fn enc_id_of<C: ChainView>(chain: &C, delta: &Delta) -> [u8; 16]
+    ensures { result ≡ own_guid (C.chain chain.now) delta.now 3 }
+{
+    own_guid(chain, delta, 3)
+}
+
 /// The Mvid of the module before; nil where it has no Module row.
 #[tactic(auto, unfolding(enc_plain::specs::Chain::nil_guid, enc_plain::specs::Module::has_row))]
 fn mvid_of<C: ChainView>(chain: &C) -> [u8; 16]

@@ -1,5 +1,5 @@
 //! The joined heaps of a chain with the heaps of one file more behind them.
-ghost use Rattle.std.specs.Prelude.{◌≡◌, [], ◌∷◌, ◌++◌, option_copied};
+ghost use Rattle.std.specs.Prelude.{◌≡◌, [], ◌∷◌, ◌++◌, is_some, option_copied};
 ghost use Rattle.enc_meta.specs.Joined.{joined_text, joined_blob, joined_guid};
 ghost use Rattle.enc_delta.specs.Totals.{totals_of};
 
@@ -27,6 +27,28 @@ pub fn text_after<'a, C: ChainView>(
         return chain.text_at(offset);
     }
     heaps.text_entry(offset - strings as u32)
+}
+
+/// Whether a text stands at an offset of the joined `#Strings` with one heap more behind the
+/// chain's. It reads no text. `before` has the lengths of the chain's joined heaps.
+#[tactic(auto)]
+pub fn has_text_after<C: ChainView>(
+    chain: &C,
+    heaps: &Heaps<'_>,
+    before: &HeapTotals,
+    offset: u32,
+) -> bool
+    requires tied { before.now ≡ totals_of (C.chain chain.now).heaps }
+    ensures { result ≡ is_some (joined_text ((C.chain chain.now).heaps ++ heaps.now ∷ []) offset) }
+{
+    if offset == 0 {
+        return true;
+    }
+    let strings = before.strings;
+    if u64::from(offset) < strings {
+        return chain.has_text(offset);
+    }
+    heaps.has_text_entry(offset - strings as u32)
 }
 
 /// The bytes at an offset of the joined `#Blob` with one heap more behind the chain's, None where

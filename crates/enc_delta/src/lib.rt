@@ -19,7 +19,8 @@ pub use after::{inserts_of, is_insert};
 pub use delta::Delta;
 pub use entry::Entry;
 pub use heap_rule::HeapTotals;
-pub use joined::{blob_after, guid_after, text_after};
+pub use identity::enc_id_of;
+pub use joined::{blob_after, guid_after, has_text_after, text_after};
 
 #[cfg(test)]
 mod tests;

@@ -1,18 +1,20 @@
-//! Opening a delta's metadata: its root and its tables.
-ghost use Rattle.std.specs.Prelude.{◌≡◌, IfOk};
+//! Opening a delta's metadata: its root, the ends of its texts and its tables.
+ghost use Rattle.std.specs.Prelude.{◌≡◌, ◌↔◌, IfOk, IsTrue};
 ghost use Rattle.enc_meta.specs.Heaps.{part};
 ghost use Rattle.enc_rows.specs.Layout.{IsWithin};
-ghost use Rattle.enc_delta.specs.Delta.{layout_for, delta_of};
-ghost use Rattle.enc_delta.specs.Seen.{opened_source, IsOpened};
+ghost use Rattle.enc_delta.specs.Delta.{layout_for, delta_of, source_from};
+ghost use Rattle.enc_delta.specs.Seen.{opened_source, IsOpened, IsRising};
 
-use enc_base::{Code, Counts, Place, Refusal};
-use enc_meta::{Root, read_root};
-use enc_rows::{Form, Tables, is_unread};
+use crate::delta::nth_row;
+use enc_base::{Counts, Refusal};
+use enc_meta::{Root, TextEnds, read_root};
+use enc_rows::{Form, Tables};
 
-/// A root, and the tables in it.
+/// A root, and the ends of the texts and the tables in it.
 #[derive(Drop)]
 pub struct Opened {
     pub root: Root,
+    pub ends: TextEnds,
     pub tables: Tables,
 }
 
@@ -22,17 +24,11 @@ fn tables_in(bytes: &[u8], root: &Root) -> Result<Tables, Refusal>
     ensures tables { result ≡ layout_for bytes.now root.now }
     ensures within { IfOk result (λ l. IsWithin (part bytes.now root.now.tables) l × (l.span ≡ root.now.tables)) }
 {
-    if is_unread(root.tables.part(bytes)) {
-        return Err(Refusal {
-            code: Code::U(1),
-            place: Place::Tables,
-        });
-    }
     let none = Counts { rows: [0; 64] };
     Tables::read(bytes, root.tables, Form::Delta, root.jtd, &none)
 }
 
-/// The root and the tables of a delta's metadata: F1, F2, F6, and for now U1.
+/// The root, the ends of the texts and the tables of a delta's metadata: F1, F2 or F6.
 #[tactic(auto, unfolding(crate::specs::Delta::delta_of))]
 pub fn open(bytes: &[u8]) -> Result<Opened, Refusal>
     ensures source { opened_source bytes.now result ≡ delta_of bytes.now }
@@ -42,8 +38,25 @@ pub fn open(bytes: &[u8]) -> Result<Opened, Refusal>
         Ok(root) => root,
         Err(refusal) => return Err(refusal),
     };
+    let ends = TextEnds::of(bytes, &root);
     match tables_in(bytes, &root) {
-        Ok(tables) => Ok(Opened { root, tables }),
+        Ok(tables) => Ok(Opened { root, ends, tables }),
         Err(refusal) => Err(refusal),
     }
+}
+
+/// Whether each token of EncMap has a greater number than those before it.
+pub fn is_rising(bytes: &[u8], opened: &Opened) -> bool
+    requires { IsOpened bytes.now opened.now }
+    ensures { IsTrue result ↔ IsRising (source_from bytes.now opened.now.root opened.now.tables) }
+{
+    let mut least: u64 = 0;
+    for i in 0..opened.tables.count(0x1f) {
+        let n = u64::from(opened.tables.cell(bytes, nth_row(0x1f, i), 0));
+        if n < least {
+            return false;
+        }
+        least = n + 1;
+    }
+    true
 }

@@ -3,11 +3,11 @@ ghost use Rattle.std.specs.Prelude.{◌≡◌, ◌<◌, ◌^◌, IfOk, IsTrue, S
 ghost use Rattle.enc_delta.specs.Delta.{listed, log_in};
 ghost use Rattle.enc_delta.specs.After.{IsAfter};
 ghost use Rattle.enc_delta.specs.Lists.{AreTokens, AreEntries};
-ghost use Rattle.enc_delta.specs.Rules.{rule, set_meta, cells_meta, lists_meta, first_meta};
+ghost use Rattle.enc_delta.specs.Rules.{rule, unread, set_meta, cells_meta, lists_meta, first_meta};
 ghost use Rattle.enc_delta.specs.Totals.{totals_of};
 
 use crate::after::{After, inserts_of};
-use crate::cells::{e13, e14};
+use crate::cells::{e13, e14, e24, first_body};
 use crate::copy::log_of;
 use crate::delta::Delta;
 use crate::entry::Entry;
@@ -25,6 +25,16 @@ fn broken(n: u8, place: Place) -> Refusal
 {
     Refusal {
         code: Code::E(n),
+        place,
+    }
+}
+
+/// A body that isn't read so far.
+fn unread(place: Place) -> Refusal
+    ensures { Some result ≡ unread (Some place) }
+{
+    Refusal {
+        code: Code::U(4),
         place,
     }
 }
@@ -51,7 +61,7 @@ fn set_broken(
     set_fault(alloc, tokens, &changed)
 }
 
-/// E12 to E14: tables and cells.
+/// E12 to E14 and E24, and for now U4: tables and cells.
 #[tactic(auto, unfolding(crate::specs::Rules::cells_meta))]
 fn cells_broken<C: ChainView>(
     chain: &C,
@@ -73,12 +83,20 @@ fn cells_broken<C: ChainView>(
         None => {}
     }
     match e14(chain, delta, after, tokens) {
-        Some(place) => Some(broken(14, place)),
+        Some(place) => return Some(broken(14, place)),
+        None => {}
+    }
+    match e24(chain, delta, after) {
+        Some(place) => return Some(broken(24, place)),
+        None => {}
+    }
+    match first_body(delta, tokens) {
+        Some(place) => Some(unread(place)),
         None => None,
     }
 }
 
-/// E6 to E14: the lists of tokens and entries, then tables and cells.
+/// E6 to E14 and E24: the lists of tokens and entries, then tables and cells.
 #[tactic(auto, unfolding(crate::specs::Rules::lists_meta))]
 fn lists_broken<C: ChainView>(
     alloc: Global,
@@ -153,8 +171,9 @@ fn rest_broken<C: ChainView>(
 }
 
 impl Delta {
-    /// The first rule of E1 to E14 that the delta's metadata breaks after the chain. `before` has
-    /// the lengths of the chain's joined heaps.
+    /// The first rule of E1 to E14 and E24 that the delta's metadata breaks after the chain, and for
+    /// now U4 for a method with a place for its body. `before` has the lengths of the chain's joined
+    /// heaps.
     #[tactic(auto, unfolding(crate::specs::Rules::first_meta))]
     pub fn first_broken<C: ChainView>(
         &self,

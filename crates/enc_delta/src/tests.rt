@@ -26,6 +26,39 @@ fn read(rt: &impl AllocGlobal, len: usize) -> Result<Result<Delta, ReadFault>, F
     Ok(Delta::read(meta, Vec::new(rt.alloc())))
 }
 
+// Whether a text begins at each of four offsets of the `#Strings`, as it stands there.
+fn texts_in(delta: &Delta, offsets: [u32; 4]) -> [bool; 4] {
+    let heaps = delta.heaps();
+    [
+        heaps.has_text_entry(offsets[0]),
+        heaps.has_text_entry(offsets[1]),
+        heaps.has_text_entry(offsets[2]),
+        heaps.has_text_entry(offsets[3]),
+    ]
+}
+
+#[test]
+fn tells_where_texts_stand(rt: HostRuntime) -> Result<(), Fail> {
+    match read(&rt, 220)? {
+        Ok(delta) => {
+            assert_eq!(rt; texts_in(&delta, [0, 1, 7, 8]), [true, true, true, false]);
+        }
+        Err(_) => panic!(rt; "refused"),
+    }
+    // a `#Strings` without a zero at its end
+    let mut bytes = EXAMPLE;
+    bytes[187] = b's';
+    let mut meta = Vec::new(rt.alloc());
+    meta.extend_from_slice(&bytes)?;
+    match Delta::read(meta, Vec::new(rt.alloc())) {
+        Ok(delta) => {
+            assert_eq!(rt; texts_in(&delta, [0, 1, 7, 8]), [true, false, false, false]);
+        }
+        Err(_) => panic!(rt; "refused"),
+    }
+    Ok(())
+}
+
 #[test]
 fn reads_log_and_map(rt: HostRuntime) -> Result<(), Fail> {
     let added = Token {
@@ -43,7 +76,7 @@ fn reads_log_and_map(rt: HostRuntime) -> Result<(), Fail> {
                 }
             );
             assert_eq!(rt; delta.map_len(), 1);
-            assert_eq!(rt; delta.map(0), added);
+            assert_eq!(rt; delta.token(0), added);
             assert_eq!(rt; delta.place(added), Some(1));
             assert_eq!(rt;
                 delta.place(Token {
@@ -77,6 +110,92 @@ fn refuses_a_cut_delta(rt: HostRuntime) -> Result<(), Fail> {
             assert_eq!(rt; place, Place::Root);
         }
         _ => panic!(rt; "not refused"),
+    }
+    Ok(())
+}
+
+// The metadata of a delta with a map of six tokens and no log, up to the map.
+const UP_TO_MAP: [u8; 146] = [
+    0x42, 0x53, 0x4a, 0x42, 0x01, 0x00, 0x01, 0x00, 0x00, 0x00, 0x00, 0x00, 0x0c, 0x00, 0x00, 0x00,
+    0x76, 0x34, 0x2e, 0x30, 0x2e, 0x33, 0x30, 0x33, 0x31, 0x39, 0x00, 0x00, 0x00, 0x00, 0x04, 0x00,
+    0x60, 0x00, 0x00, 0x00, 0x4c, 0x00, 0x00, 0x00, 0x23, 0x2d, 0x00, 0x00, 0xac, 0x00, 0x00, 0x00,
+    0x08, 0x00, 0x00, 0x00, 0x23, 0x53, 0x74, 0x72, 0x69, 0x6e, 0x67, 0x73, 0x00, 0x00, 0x00, 0x00,
+    0xb4, 0x00, 0x00, 0x00, 0x20, 0x00, 0x00, 0x00, 0x23, 0x47, 0x55, 0x49, 0x44, 0x00, 0x00, 0x00,
+    0xd4, 0x00, 0x00, 0x00, 0x00, 0x00, 0x00, 0x00, 0x23, 0x4a, 0x54, 0x44, 0x00, 0x00, 0x00, 0x00,
+    0x00, 0x00, 0x00, 0x00, 0x02, 0x00, 0xa7, 0x01, 0x01, 0x00, 0x00, 0x80, 0x00, 0x00, 0x00, 0x00,
+    0x00, 0x00, 0x00, 0x00, 0x00, 0x00, 0x00, 0x00, 0x01, 0x00, 0x00, 0x00, 0x06, 0x00, 0x00, 0x00,
+    0x01, 0x00, 0x01, 0x00, 0x00, 0x00, 0x01, 0x00, 0x00, 0x00, 0x02, 0x00, 0x00, 0x00, 0x00, 0x00,
+    0x00, 0x00,
+];
+
+fn read_map(rt: &impl AllocGlobal, map: [u32; 6]) -> Result<Result<Delta, ReadFault>, Fail> {
+    let mut meta = Vec::new(rt.alloc());
+    meta.extend_from_slice(&UP_TO_MAP)?;
+    for number in map {
+        meta.extend_from_slice(&number.to_le_bytes())?;
+    }
+    meta.extend_from_slice(EXAMPLE.get(178..).unwrap_or(&[]))?;
+    Ok(Delta::read(meta, Vec::new(rt.alloc())))
+}
+
+#[test]
+fn places_in_a_map_that_rises(rt: HostRuntime) -> Result<(), Fail> {
+    let map = [
+        0x0000_0001,
+        0x0200_0003,
+        0x0200_0005,
+        0x0200_0009,
+        0x0600_0001,
+        0x0600_0004,
+    ];
+    match read_map(&rt, map)? {
+        Ok(delta) => {
+            for (table, row, place) in [
+                (0x00, 1, None),
+                (0x01, 1, None),
+                (0x02, 2, None),
+                (0x02, 3, Some(1)),
+                (0x02, 4, None),
+                (0x02, 5, Some(2)),
+                (0x02, 9, Some(3)),
+                (0x05, 0x100_0001, None),
+                (0x06, 1, Some(1)),
+                (0x06, 4, Some(2)),
+                (0x06, 5, None),
+                (0xff, u32::MAX, None),
+            ] {
+                assert_eq!(rt; delta.place(Token { table, row }), place);
+            }
+        }
+        Err(_) => panic!(rt; "refused"),
+    }
+    Ok(())
+}
+
+#[test]
+fn places_in_a_map_that_does_not_rise(rt: HostRuntime) -> Result<(), Fail> {
+    let map = [
+        0x0600_0004,
+        0x0200_0009,
+        0x0200_0003,
+        0x0000_0001,
+        0x0600_0001,
+        0x0200_0009,
+    ];
+    match read_map(&rt, map)? {
+        Ok(delta) => {
+            for (table, row, place) in [
+                (0x00, 1, None),
+                (0x02, 3, Some(2)),
+                (0x02, 5, None),
+                (0x02, 9, Some(1)),
+                (0x06, 1, Some(2)),
+                (0x06, 4, Some(1)),
+            ] {
+                assert_eq!(rt; delta.place(Token { table, row }), place);
+            }
+        }
+        Err(_) => panic!(rt; "refused"),
     }
     Ok(())
 }

@@ -1,11 +1,11 @@
 -- The joined heaps of one generation are its own.
-use Rattle.std.proofs.Common.{◌≡◌, ℕ, zero, suc, ◌+◌, ◌*◌, length, List, [], ◌∷◌, Bool, true, false, Option, None, refl, sym, arith}
-use Rattle.std.specs.Prelude.{nat_le, nat_lt, if◌then◌else◌}
+use Rattle.std.proofs.Common.{◌≡◌, ℕ, zero, suc, ◌+◌, ◌*◌, length, List, [], ◌∷◌, Bool, true, false, Option, None, refl, sym, ap, arith}
+use Rattle.std.specs.Prelude.{nat_le, nat_lt, if◌then◌else◌, option_and_then}
 use Rattle.std.proofs.lemmas.List.{drop_all}
 use Rattle.std.proofs.lemmas.Bool.Decides.{nat_tests}
-use Rattle.enc_meta.specs.Heaps.{Counted, sixteen_at, guid_at, text_entry, bytes_at, text_at, blob_at}
+use Rattle.enc_meta.specs.Heaps.{Counted, sixteen_at, guid_at, text_entry, bytes_at, user_entry, units_in, text_at, blob_at, user_at}
 use Rattle.enc_meta.specs.Root.{◌>>=◌}
-use Rattle.enc_meta.specs.Joined.{first_guid, joined_guid, entry_in, joined_entry, joined_text, joined_blob}
+use Rattle.enc_meta.specs.Joined.{first_guid, joined_guid, entry_in, joined_entry, joined_text, joined_blob, joined_user}
 
 if_twice : (b : Bool) (x : Option (List ℕ)) → (if b then (if b then x else None) else None) ≡ (if b then x else None)
 if_twice true x = refl
@@ -37,3 +37,12 @@ blob_here false x o is = rw (drop_all o x (grind (arith, nat_tests, is))) (sym (
 pub blob_alone : (h : Counted) (o : ℕ) → joined_blob (h ∷ []) o ≡ blob_at h.blobs o
 unfolding joined_entry entry_in blob_at
 blob_alone h o = rw (blob_here (nat_lt o (length h.blobs)) h.blobs o refl) refl
+
+user_here : (b : Bool) (x : List ℕ) (o : ℕ) → nat_lt o (length x) ≡ b → (if b then user_entry x o else None) ≡ user_entry x o
+unfolding user_entry bytes_at
+user_here true x o is = refl
+user_here false x o is = rw (drop_all o x (grind (arith, nat_tests, is))) (sym (ap (option_and_then units_in) (none_at (nat_le o (length x)) _)))
+
+pub user_alone : (h : Counted) (o : ℕ) → joined_user (h ∷ []) o ≡ user_at h.users o
+unfolding joined_entry entry_in user_at
+user_alone h o = rw (user_here (nat_lt o (length h.users)) h.users o refl) refl

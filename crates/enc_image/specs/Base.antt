@@ -125,14 +125,14 @@ source_of bytes = if is_bare bytes then source_in bytes (root_of bytes) else Err
 unfoldable pub begun : Source → Chain
 begun s = record { plain = module_in s; ids = []; heaps = s.heaps ∷ [] }
 
-abbrev pub chain_or : Source → Option Refusal → Result Chain Refusal
-chain_or s None = Ok (begun s)
-chain_or s (Some e) = Err e
+abbrev pub source_or : Source → Option Refusal → Result Source Refusal
+source_or s None = Ok s
+source_or s (Some e) = Err e
 
-abbrev pub chain_in : Result Source Refusal → Result Chain Refusal
-chain_in (Ok s) = chain_or s (cells_fault s)
-chain_in (Err e) = Err e
+abbrev pub base_in : Result Source Refusal → Result Source Refusal
+base_in (Ok s) = source_or s (cells_fault s)
+base_in (Err e) = Err e
 
--- the chain that a file's bytes begin, or the first refusal
-unfoldable pub chain_of : List ℕ → Result Chain Refusal
-chain_of bytes = chain_in (source_of bytes)
+-- the base that a file's bytes say, or the first refusal
+unfoldable pub base_of : List ℕ → Result Source Refusal
+base_of bytes = base_in (source_of bytes)

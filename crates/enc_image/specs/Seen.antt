@@ -4,12 +4,12 @@ use Rattle.enc_base.specs.declared.refusal.Refusal.{Refusal}
 use Rattle.enc_base.specs.declared.refusal.ReadFault.{ReadFault}
 use Rattle.enc_base.specs.declared.refusal.ReadFault.TheVariants.{Memory, Refused}
 use Rattle.enc_meta.specs.Root.{root_of}
-use Rattle.enc_meta.specs.Heaps.{part}
+use Rattle.enc_meta.specs.Heaps.{part, ends_of}
+use Rattle.enc_meta.specs.declared.ends.TextEnds.{TextEnds}
 use Rattle.enc_rows.specs.Layout.{IsWithin}
-use Rattle.enc_plain.specs.Chain.{Chain}
 use Rattle.enc_image.specs.declared.judge.Cells.{Cells}
 use Rattle.enc_image.specs.declared.bare.Opened.{Opened}
-use Rattle.enc_image.specs.Base.{source_from, cells_fault, begun}
+use Rattle.enc_image.specs.Base.{source_from, cells_fault}
 use Rattle.enc_rows.specs.Source.{Source}
 
 abbrev pub source_seen : Cells → Source
@@ -26,13 +26,14 @@ pub record IsOpened (bytes : List ℕ) (o : Opened) : Type 0 where
   pub span : o.tables.span ≡ o.root.tables
   pub within : IsWithin (part bytes o.tables.span) o.tables
 
--- what was read begins the chain; what was refused is refused by the first rule; want of memory tells nothing
-abbrev pub Reads : Result Source ReadFault → Result Chain Refusal → Type 0
-Reads (Ok s) chain = chain ≡ Ok (begun s)
-Reads (Err (Refused e)) chain = chain ≡ Err e
-Reads (Err Memory) chain = Unit {0}
+-- what was read is the base; what was refused is refused by the first rule; want of memory tells nothing
+abbrev pub Reads : Result Source ReadFault → Result Source Refusal → Type 0
+Reads (Ok s) base = base ≡ Ok s
+Reads (Err (Refused e)) base = base ≡ Err e
+Reads (Err Memory) base = Unit {0}
 
--- the parts of an image's file were read from its bytes, and each of its cells is good
-pub record IsImage (bytes : List ℕ) (o : Opened) : Type 0 where
+-- the parts of an image's file were read from its bytes, as the ends of its texts were, and each of its cells is good
+pub record IsImage (bytes : List ℕ) (o : Opened) (ends : TextEnds) : Type 0 where
   pub opened : IsOpened bytes o
+  pub texts : ends ≡ ends_of bytes o.root
   pub cells : cells_fault (source_from bytes o.root o.tables) ≡ None

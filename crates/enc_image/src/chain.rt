@@ -24,6 +24,11 @@ impl ChainView for Image {
         self.heaps().text(offset)
     }
 
+    #[tactic(auto, using(crate::proofs::Alone::text_alone), unfolding(crate::specs::Base::begun))]
+    fn has_text(&self, offset: u32) -> bool {
+        self.heaps().has_text(offset)
+    }
+
     #[tactic(auto, using(crate::proofs::Alone::blob_alone), unfolding(crate::specs::Base::begun))]
     fn blob_at(&self, offset: u32) -> Option<&[u8]> {
         self.heaps().blob(offset)

@@ -29,7 +29,7 @@ fn is_bad_offset(tables: &Tables, heaps: &Heaps<'_>, column: Column, number: u32
 {
     let _ = tables;
     match column {
-        Column::Text => heaps.text(number).is_none(),
+        Column::Text => !heaps.has_text(number),
         Column::Guid => heaps.guid(number).is_none(),
         Column::Blob => heaps.blob(number).is_none(),
         _ => false,

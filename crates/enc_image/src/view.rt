@@ -1,5 +1,6 @@
 //! An image as a view of its plain module.
 ghost use Rattle.std.specs.Prelude.{◌≡◌, ◌&&◌, Some, None, IsTrue, IsSome, nat_lt};
+ghost use Rattle.enc_meta.specs.Heaps.{lengths_of};
 ghost use Rattle.enc_schema.specs.Schema.{column_in};
 ghost use Rattle.enc_plain.specs.Module.{Module, rows_in, has_row, cell_of};
 ghost use Rattle.enc_image.specs.Base.{is_part, cells_fault, module_in};
@@ -7,9 +8,10 @@ ghost use Rattle.enc_rows.specs.Source.{raw_in};
 
 use crate::image::Image;
 use enc_base::Token;
-use enc_meta::Heaps;
+use enc_meta::{HeapLengths, Heaps, heaps_law};
 use enc_plain::{ModuleView, index_token};
 use enc_schema::{Column, column_of, decode_coded, owner_table};
+use std::alloc::{AllocError, Global};
 
 /// The Ptr tables, EncLog and EncMap are no part of a module.
 fn is_part(table: u8) -> bool
@@ -40,7 +42,15 @@ impl Image {
     pub fn heaps(&self) -> Heaps<'_>
         ensures { result ≡ self.now.heaps }
     {
-        Heaps::of(&self.bytes, &self.root)
+        Heaps::with(&self.bytes, &self.root, self.ends)
+    }
+
+    /// How many bytes of `#Strings`, `#US` and `#Blob` count, and how many whole entries `#GUID` has.
+    pub fn lengths(&self) -> HeapLengths
+        ensures { result ≡ lengths_of self.now.heaps }
+    {
+        heaps_law(&self.bytes, &self.root);
+        self.heaps().lengths()
     }
 }
 
@@ -122,5 +132,12 @@ impl ModuleView for Image {
             Some(row) => Token { table, row },
             None => unreachable!(),
         }
+    }
+
+    fn kid_rows(&self, alloc: Global, owner: Token, table: u8) -> Result<Vec<u32>, AllocError> {
+        let mut rows = Vec::new(alloc);
+        self.tables
+            .push_children(&self.bytes, table, owner.row - 1, &mut rows)?;
+        Ok(rows)
     }
 }

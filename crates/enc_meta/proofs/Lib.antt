@@ -1,4 +1,6 @@
 pub mod Bytes
+pub mod Texts
 pub mod Headers
 pub mod Within
+pub mod Lengths
 pub mod Meanings

@@ -1,7 +1,8 @@
 -- The heaps of a root and the entries in them (ECMA-335 II.24.2.3 to II.24.2.5).
-use Rattle.std.specs.Prelude.{◌≤◌, ℕ, zero, suc, ◌+◌, ◌*◌, ◌/◌, ◌%◌, ◌&&◌, List, [], ◌∷◌, length, take, drop, replicate, Option, Some, None, option_and_then, nat_le, ◌==◌, if◌then◌else◌}
+use Rattle.std.specs.Prelude.{◌≤◌, ℕ, zero, suc, ◌+◌, ◌*◌, ◌/◌, ◌%◌, ◌&&◌, not, List, [], ◌∷◌, length, take, drop, replicate, Option, Some, None, option_and_then, nat_le, ◌==◌, if◌then◌else◌}
 use Rattle.enc_base.specs.Numbers.{compressed_at}
 use Rattle.enc_meta.specs.Root.{◌>>=◌, before_zero}
+use Rattle.enc_meta.specs.declared.ends.TextEnds.{TextEnds}
 use Rattle.enc_meta.specs.declared.heaps.HeapLengths.{HeapLengths}
 use Rattle.enc_meta.specs.declared.root.Root.{Root}
 use Rattle.enc_meta.specs.declared.span.Span.{Span}
@@ -22,12 +23,25 @@ filled (b ∷ rest) = if filled rest == 0 && b == 0 then 0 else suc (filled rest
 unfoldable pub counted_strings : List ℕ → List ℕ
 counted_strings heap = take (filled heap + 1) heap
 
+-- how many bytes stand up to and with the last zero
+abbrev pub to_last_zero : List ℕ → ℕ
+to_last_zero [] = 0
+to_last_zero (b ∷ rest) = if to_last_zero rest == 0 && not (b == 0) then 0 else suc (to_last_zero rest)
+
+-- how many bytes of a `#Strings` count, and where the last text that counts ends
+unfoldable pub text_ends : List ℕ → TextEnds
+text_ends heap = record { counted = length (counted_strings heap); last = to_last_zero (counted_strings heap) }
+
 -- the bytes of a range
 unfoldable pub part : List ℕ → Span → List ℕ
 part bytes s = take s.len (drop s.start bytes)
 
 unfoldable pub heaps_of : List ℕ → Root → Counted
 heaps_of bytes root = record { strings = counted_strings (part bytes root.strings); users = part bytes root.users; blobs = part bytes root.blobs; guids = part bytes root.guids }
+
+-- the ends of a root's texts
+unfoldable pub ends_of : List ℕ → Root → TextEnds
+ends_of bytes root = text_ends (part bytes root.strings)
 
 -- no heap is longer than this
 pub record AreAtMost (size : ℕ) (heaps : Counted) : Type 0 where

@@ -2,7 +2,7 @@
 ghost use Rattle.std.specs.Prelude.{◌≡◌, ℕ, ◌+◌, ◌*◌, ◌<◌, ◌≤◌, ◌^◌, ◌==◌, option_map, length, position, IfSome};
 ghost use Rattle.std.specs.Option.{option_copied};
 ghost use Rattle.enc_meta.specs.Root.{before_zero};
-ghost use Rattle.enc_meta.specs.Heaps.{filled, counted_strings, bytes_at, units_in, sixteen_at};
+ghost use Rattle.enc_meta.specs.Heaps.{bytes_at, units_in, sixteen_at};
 
 use enc_base::read_unsigned;
 
@@ -23,32 +23,6 @@ pub fn before_zero(bytes: &[u8]) -> Option<&[u8]>
     match zero_at(bytes) {
         None => None,
         Some(end) => Some(&bytes[..end]),
-    }
-}
-
-/// How many bytes stand up to the last that isn't zero.
-#[tactic(auto, using(crate::proofs::Bytes::filled_less, crate::proofs::Bytes::filled_there))]
-fn filled(heap: &[u8]) -> usize
-    ensures { result ≡ filled heap.now }
-{
-    let mut len = heap.len();
-    while len > 0 && heap[len - 1] == 0 {
-        len -= 1;
-    }
-    len
-}
-
-/// The bytes of a `#Strings` that count: of the zeros at its end only the first.
-#[tactic(auto, unfolding(crate::specs::Heaps::counted_strings))]
-pub fn counted_strings(heap: &[u8]) -> &[u8]
-    ensures counted { result.now ≡ counted_strings heap.now }
-    ensures few { length result.now ≤ length heap.now }
-{
-    let len = filled(heap);
-    if len < heap.len() {
-        &heap[..len + 1]
-    } else {
-        heap
     }
 }
 

@@ -1,10 +1,11 @@
 //! The heaps of a metadata root (ECMA-335 II.24.2.3 to II.24.2.5).
-ghost use Rattle.std.specs.Prelude.{◌≡◌, ℕ, ◌+◌, ◌*◌, ◌/◌, ◌<◌, ◌≤◌, ◌^◌, length, Ok};
+ghost use Rattle.std.specs.Prelude.{◌≡◌, ℕ, ◌+◌, ◌*◌, ◌/◌, ◌<◌, ◌≤◌, ◌^◌, length, is_some, Ok};
 ghost use Rattle.std.specs.Option.{option_copied};
 ghost use Rattle.enc_meta.specs.Root.{root_of, IsWithin};
-ghost use Rattle.enc_meta.specs.Heaps.{lengths_of, heaps_of, part, AreAtMost, text_entry, bytes_at, user_entry, text_at, blob_at, user_at, guid_at};
+ghost use Rattle.enc_meta.specs.Heaps.{lengths_of, heaps_of, ends_of, part, AreAtMost, text_entry, bytes_at, user_entry, text_at, blob_at, user_at, guid_at};
 
-use crate::entry::{before_zero, bytes_at, counted_strings, sixteen_at, units_in};
+use crate::ends::{TextEnds, counted_strings};
+use crate::entry::{before_zero, bytes_at, sixteen_at, units_in};
 use crate::root::Root;
 use crate::span::Span;
 use std::marker::Model;
@@ -13,6 +14,8 @@ use std::marker::Model;
 #[derive(Drop)]
 pub struct Heaps<'a> {
     strings: &'a [u8],
+    // how many bytes of the texts stand up to and with the last zero
+    last: usize,
     users: &'a [u8],
     blobs: &'a [u8],
     guids: &'a [u8],
@@ -28,7 +31,8 @@ pub struct HeapLengths {
 }
 
 impl<'a> Model for Heaps<'a> {
-    ghost use Rattle.enc_meta.specs.Heaps.{Counted};
+    ghost use Rattle.std.specs.Prelude.{◌≡◌};
+    ghost use Rattle.enc_meta.specs.Heaps.{Counted, to_last_zero};
 
     ghost Value = { Counted };
 
@@ -38,19 +42,33 @@ impl<'a> Model for Heaps<'a> {
       blobs = h.blobs.now;
       guids = h.guids.now;
     } };
+
+    ghost invariant = { λ h. h.last ≡ to_last_zero h.strings.now };
 }
 
 impl<'a> Heaps<'a> {
     /// The heaps of the root that was read from these bytes. Of the zeros at the end of `#Strings`
     /// only the first counts.
-    #[tactic(auto, unfolding(crate::specs::Heaps::heaps_of))]
     pub fn of(bytes: &'a [u8], root: &Root) -> Heaps<'a>
         requires { root_of bytes.now ≡ Ok root.now }
         ensures heaps { result ≡ heaps_of bytes.now root.now }
         ensures few { AreAtMost (length bytes.now) result }
     {
+        Heaps::with(bytes, root, TextEnds::of(bytes, root))
+    }
+
+    /// The heaps of the root that was read from these bytes, where the ends of its texts are known:
+    /// it goes over no byte.
+    #[tactic(auto, unfolding(crate::specs::Heaps::heaps_of, crate::specs::Heaps::ends_of))]
+    pub fn with(bytes: &'a [u8], root: &Root, ends: TextEnds) -> Heaps<'a>
+        requires root { root_of bytes.now ≡ Ok root.now }
+        requires ends { ends ≡ ends_of bytes.now root.now }
+        ensures heaps { result ≡ heaps_of bytes.now root.now }
+        ensures few { AreAtMost (length bytes.now) result }
+    {
         Heaps {
-            strings: counted_strings(root.strings.part(bytes)),
+            strings: counted_strings(root.strings.part(bytes), ends),
+            last: ends.last,
             users: root.users.part(bytes),
             blobs: root.blobs.part(bytes),
             guids: root.guids.part(bytes),
@@ -119,6 +137,23 @@ impl<'a> Heaps<'a> {
         ensures { option_copied result ≡ text_entry self.now.strings offset }
     {
         before_zero(self.strings.get(offset as usize..)?)
+    }
+
+    /// Whether a text stands at an offset of `#Strings`. One comparison, whatever the text's length.
+    #[tactic(auto, using(crate::proofs::Texts::text_there))]
+    pub fn has_text(&self, offset: u32) -> bool
+        ensures { result ≡ is_some (text_at self.now.strings offset) }
+    {
+        offset == 0 || self.has_text_entry(offset)
+    }
+
+    /// Whether a text begins at an offset of `#Strings`, also at offset 0 as it stands there. One
+    /// comparison, whatever the text's length.
+    #[tactic(auto, using(crate::proofs::Texts::entry_there))]
+    pub fn has_text_entry(&self, offset: u32) -> bool
+        ensures { result ≡ is_some (text_entry self.now.strings offset) }
+    {
+        (offset as usize) < self.last
     }
 
     /// The bytes at an offset of `#Blob`, without their length: empty at offset 0, None where they

@@ -1,6 +1,7 @@
 //! The metadata root and its heaps: what stands at an offset.
 #![tactic(auto)]
 
+mod ends;
 mod entry;
 mod header;
 mod heaps;
@@ -9,8 +10,9 @@ mod root;
 mod span;
 mod streams;
 
+pub use ends::TextEnds;
 pub use heaps::{HeapLengths, Heaps};
-pub use laws::{example_root, padded_law, text_law};
+pub use laws::{example_root, heaps_law, padded_law, text_law};
 pub use root::{Root, read_root};
 pub use span::Span;
 

@@ -121,6 +121,81 @@ fn counts_strings(rt: HostRuntime) -> Result<(), Fail> {
     Ok(())
 }
 
+fn ends_in(bytes: &[u8]) -> Option<TextEnds> {
+    match read_root(bytes) {
+        Ok(root) => Some(TextEnds::of(bytes, &root)),
+        Err(_) => None,
+    }
+}
+
+// Whether a text stands at an offset, as it stands there, and as reading it says.
+fn text_in(bytes: &[u8], offset: u32) -> Option<(bool, bool, bool)> {
+    match read_root(bytes) {
+        Ok(root) => {
+            let heaps = Heaps::with(bytes, &root, TextEnds::of(bytes, &root));
+            let read = heaps.text(offset).is_some();
+            Some((heaps.has_text(offset), heaps.has_text_entry(offset), read))
+        }
+        Err(_) => None,
+    }
+}
+
+const THERE: Option<(bool, bool, bool)> = Some((true, true, true));
+
+const NOT_THERE: Option<(bool, bool, bool)> = Some((false, false, false));
+
+const EMPTY_AT_0: Option<(bool, bool, bool)> = Some((true, false, true));
+
+#[test]
+fn tells_where_texts_stand(rt: HostRuntime) -> Result<(), Fail> {
+    let (counted, last) = (30, 30);
+    assert_eq!(rt; ends_in(&EXAMPLE), Some(TextEnds { counted, last }));
+    assert_eq!(rt; text_in(&EXAMPLE, 0), THERE);
+    assert_eq!(rt; text_in(&EXAMPLE, 28), THERE);
+    assert_eq!(rt; text_in(&EXAMPLE, 29), THERE);
+    assert_eq!(rt; text_in(&EXAMPLE, 30), NOT_THERE);
+    assert_eq!(rt; text_in(&EXAMPLE, 31), NOT_THERE);
+    Ok(())
+}
+
+#[test]
+fn tells_where_texts_stand_without_a_zero_at_the_end(rt: HostRuntime) -> Result<(), Fail> {
+    let mut bytes = EXAMPLE;
+    for i in 181..184 {
+        bytes[i] = b'a';
+    }
+    let (counted, last) = (32, 21);
+    assert_eq!(rt; ends_in(&bytes), Some(TextEnds { counted, last }));
+    assert_eq!(rt; text_in(&bytes, 0), THERE);
+    assert_eq!(rt; text_in(&bytes, 19), THERE);
+    assert_eq!(rt; text_in(&bytes, 20), THERE);
+    assert_eq!(rt; text_in(&bytes, 21), NOT_THERE);
+    assert_eq!(rt; text_in(&bytes, 31), NOT_THERE);
+    assert_eq!(rt; text_in(&bytes, 32), NOT_THERE);
+    assert_eq!(rt; text_in(&bytes, 0xffff_ffff), NOT_THERE);
+    Ok(())
+}
+
+#[test]
+fn tells_where_texts_stand_among_zeros_alone_or_none(rt: HostRuntime) -> Result<(), Fail> {
+    let mut bytes = EXAMPLE;
+    for i in 152..184 {
+        bytes[i] = 0;
+    }
+    let (counted, last) = (1, 1);
+    assert_eq!(rt; ends_in(&bytes), Some(TextEnds { counted, last }));
+    assert_eq!(rt; text_in(&bytes, 0), THERE);
+    assert_eq!(rt; text_in(&bytes, 1), NOT_THERE);
+    for i in 152..184 {
+        bytes[i] = b'a';
+    }
+    let (counted, last) = (32, 0);
+    assert_eq!(rt; ends_in(&bytes), Some(TextEnds { counted, last }));
+    assert_eq!(rt; text_in(&bytes, 0), EMPTY_AT_0);
+    assert_eq!(rt; text_in(&bytes, 1), NOT_THERE);
+    Ok(())
+}
+
 #[test]
 fn passes_over_a_remainder_of_guids(rt: HostRuntime) -> Result<(), Fail> {
     // `#GUID` one byte shorter than an entry

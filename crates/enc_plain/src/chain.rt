@@ -1,5 +1,5 @@
 //! A view of a chain: the module after all deltas, and what their files' heaps hold together.
-ghost use Rattle.std.specs.Prelude.{◌≡◌, ◌+◌, ◌<◌, length, option_copied};
+ghost use Rattle.std.specs.Prelude.{◌≡◌, ◌+◌, ◌<◌, length, is_some, option_copied};
 ghost use Rattle.enc_meta.specs.Joined.{joined_text, joined_blob, joined_guid};
 ghost use Rattle.enc_plain.specs.Module.{Module};
 ghost use Rattle.enc_plain.specs.Chain.{Chain, id_of};
@@ -7,7 +7,7 @@ ghost use Rattle.enc_plain.specs.Chain.{Chain, id_of};
 use crate::view::ModuleView;
 
 /// Whatever means one chain: a base and the deltas applied to it. Generations count from 0, the
-/// base. No call takes memory.
+/// base. None of these calls takes memory.
 pub trait ChainView: ModuleView {
     // The chain that is meant.
     ghost chain: { Self → Chain };
@@ -25,6 +25,11 @@ pub trait ChainView: ModuleView {
     /// The text at an offset of the joined `#Strings`, None where the offset isn't good.
     fn text_at(&self, offset: u32) -> Option<&[u8]>
         ensures { option_copied result ≡ joined_text (chain self.now).heaps offset };
+
+    /// Whether a text stands at an offset of the joined `#Strings`; asks no more than where heaps
+    /// end.
+    fn has_text(&self, offset: u32) -> bool
+        ensures { result ≡ is_some (joined_text (chain self.now).heaps offset) };
 
     /// The bytes at an offset of the joined `#Blob`, None where the offset isn't good.
     fn blob_at(&self, offset: u32) -> Option<&[u8]>

@@ -364,4 +364,10 @@ impl ModuleView for PlainModule {
             row: kids[i as usize],
         }
     }
+
+    fn kid_rows(&self, alloc: Global, owner: Token, table: u8) -> Result<Vec<u32>, AllocError> {
+        let mut rows = Vec::new(alloc);
+        rows.extend_from_slice(self.kids_in(owner, table))?;
+        Ok(rows)
+    }
 }

@@ -1,15 +1,16 @@
 //! A view of a module: its rows, asked for cell by cell.
-ghost use Rattle.std.specs.Prelude.{◌≡◌, ◌<◌, Some, length, slice_get, IsTrue};
+ghost use Rattle.std.specs.Prelude.{◌≡◌, ◌<◌, Some, length, slice_get, IsTrue, IfOk};
 ghost use Rattle.enc_schema.specs.Children.{is_child_table, owner_table};
 ghost use Rattle.enc_plain.specs.Cell.{number, text, blob, guid, refer, body, field, kind_in, numbers, texts, blobs, guids, references};
 ghost use Rattle.enc_plain.specs.Module.{Module, rows_in, has_row, cell_of, owner_of, kids_of};
 ghost use Rattle.enc_plain.specs.Reading.{index_token};
 
 use enc_base::Token;
+use std::alloc::{AllocError, Global};
 
 /// Whatever means one plain module. Rows count from 1, columns from 0 in the order of ECMA-335
 /// II.22. A cell may be asked for where the row is there and the column is of that kind. No call
-/// takes memory.
+/// but `kid_rows` takes memory.
 pub trait ModuleView {
     // The module that is meant.
     ghost meaning: { Self → Module };
@@ -81,6 +82,14 @@ pub trait ModuleView {
         requires there { i < length (kids_of (meaning self.now) owner table) }
         ensures table { result.table ≡ table }
         ensures row { slice_get (kids_of (meaning self.now) owner table) i ≡ Some result.row };
+
+    /// The rows of a row's children in a child table, in order of attachment. Unlike `kid` it goes
+    /// over them once.
+    fn kid_rows(&self, alloc: Global, owner: Token, table: u8) -> Result<Vec<u32>, AllocError>
+        requires row { IsTrue (has_row (meaning self.now) owner) }
+        requires table { IsTrue (is_child_table table) }
+        requires owners { owner.table ≡ owner_table table }
+        ensures { IfOk result (λ rows. rows.items ≡ kids_of (meaning self.now) owner table) };
 }
 
 /// Whether the token names a row: its row is from 1 to its table's count.

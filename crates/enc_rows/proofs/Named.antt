@@ -1,5 +1,5 @@
 -- What the places of a run name, one place behind the other.
-use Rattle.std.proofs.Common.{◌≡◌, ℕ, zero, suc, ◌+◌, ◌-◌, ◌<◌, ◌≤◌, Bool, true, false, List, [], ◌∷◌, ◌++◌, length, refl, sym, ap, ◌∙◌, arith}
+use Rattle.std.proofs.Common.{◌≡◌, ℕ, zero, suc, ◌+◌, ◌-◌, ◌<◌, ◌≤◌, Bool, true, false, List, [], ◌∷◌, ◌++◌, length, refl, sym, ap, ◌∙◌, append_assoc, arith}
 use Rattle.std.specs.Prelude.{Option, Some, None, ◌&&◌, ◌||◌, ◌==◌, nat_lt, nat_le, slice_get}
 use Rattle.std.specs.List.{range_with_len, list_any}
 use Rattle.std.proofs.lemmas.List.Concat.{flat_map-cons}
@@ -7,7 +7,7 @@ use Rattle.std.proofs.lemmas.List.FromFn.{length-range_with_len}
 use Rattle.std.proofs.lemmas.Bool.Decides.{nat_tests}
 use Rattle.enc_schema.specs.Children.{is_child_table, ptr_of}
 use Rattle.enc_rows.specs.Layout.{rows_of, has_row, raw_cell}
-use Rattle.enc_rows.specs.Runs.{Rows, number_in, goes_by_ptr, by_ptr, named_at, named_in}
+use Rattle.enc_rows.specs.Runs.{Rows, number_in, goes_by_ptr, by_ptr, named_at, named_in, run_start, run_end, children_of}
 use Rattle.enc_rows.proofs.Runs.{flat_map_same}
 use Rattle.enc_rows.proofs.Silent.{ptr_column_is}
 
@@ -133,3 +133,23 @@ direct_many s child first end direct = rw (named_direct s child first end direct
 -- and whether a row is one of them
 pub direct_any : (s : Rows) (child first end row : ℕ) → goes_by_ptr s.layout child ≡ false → (nat_le first row && nat_lt row end) ≡ list_any (λ (k : ℕ). k == row) (named_in s child first end)
 direct_any s child first end row direct = rw (named_direct s child first end direct) (sym (range_any first end row))
+
+-- the children so far and those that the places left name: behind a nil Ptr row
+pub push_skipped : (row : ℕ) (here rest next all now : List ℕ) → row ≡ 0 → by_ptr row ≡ here → rest ≡ here ++ next → all ≡ now ++ rest → all ≡ now ++ next
+push_skipped row here rest next all now none is more before = before ∙ ap (λ xs. now ++ xs) (skipped row here rest next none is more)
+
+-- and with the child of another one
+pub push_passed : (row : ℕ) (here rest next all now new : List ℕ) → (row ≡ 0 → ⊥) → by_ptr row ≡ here → rest ≡ here ++ next → new ≡ now ++ row ∷ [] → all ≡ now ++ rest → all ≡ new ++ next
+push_passed row here rest next all now new some is more pushed before = before ∙ ap (λ xs. now ++ xs) (passed row here rest next some is more) ∙ sym (append_assoc now (row ∷ []) next) ∙ ap (λ xs. xs ++ next) (sym pushed)
+
+-- one place more of those from one up to the end
+pub place_more : (p end : ℕ) (all now new : List ℕ) → p < end → new ≡ now ++ p ∷ [] → all ≡ now ++ range_with_len p (end - p) → all ≡ new ++ range_with_len (p + 1) (end - (p + 1))
+place_more p end all now new low pushed before =
+    let e : end - p ≡ suc (end - (p + 1)) = omega arith in
+    let next : range_with_len p (end - p) ≡ p ∷ range_with_len (p + 1) (end - (p + 1)) = rw e refl in
+    before ∙ ap (λ xs. now ++ xs) next ∙ sym (append_assoc now (p ∷ []) (range_with_len (p + 1) (end - (p + 1)))) ∙ ap (λ xs. xs ++ range_with_len (p + 1) (end - (p + 1))) (sym pushed)
+
+-- where there is no Ptr table, a run's places are its children
+pub direct_all : (s : Rows) (table i child n first end : ℕ) → goes_by_ptr s.layout child ≡ false → first ≡ run_start s table i n → end ≡ run_end s table i child n → children_of s table i child n ≡ range_with_len first (end - first)
+unfolding children_of
+direct_all s table i child n first end direct starts ends = rw (starts, ends) (named_direct s child (run_start s table i n) (run_end s table i child n) direct)

@@ -4,4 +4,3 @@ pub mod Source
 pub mod Runs
 pub mod Fault
 pub mod Owners
-pub mod Unread

@@ -1,6 +1,6 @@
 //! The children of an owner, by its run (ECMA-335 II.22.37, II.22.26, II.22.12, II.22.35).
-ghost use Rattle.std.specs.Prelude.{◌≡◌, ℕ, ◌<◌, ◌^◌, ◌==◌, IsTrue, length, slice_get};
-ghost use Rattle.std.specs.List.{list_any};
+ghost use Rattle.std.specs.Prelude.{◌≡◌, ℕ, ◌<◌, ◌-◌, ◌^◌, ◌==◌, ◌++◌, IsTrue, OnOk, length, slice_get};
+ghost use Rattle.std.specs.List.{list_any, range_with_len};
 ghost use Rattle.enc_meta.specs.Heaps.{part};
 ghost use Rattle.enc_schema.specs.Children.{is_child_table, owner_table as table_of_owners, run_column as column_of_runs};
 ghost use Rattle.enc_rows.specs.Layout.{IsWithin, rows_of};
@@ -10,6 +10,7 @@ use crate::faults::{number_of, run_rows};
 use crate::tables::Tables;
 use enc_base::Token;
 use enc_schema::{owner_table, ptr_table, run_column};
+use std::alloc::AllocError;
 
 /// The places of a run: from the first one up to the end, which is none of them.
 #[derive(Clone, Copy, Debug, PartialEq, Eq)]
@@ -111,6 +112,39 @@ fn is_pointed(tables: &Tables, bytes: &[u8], child: u8, run: Run, row: u32) -> b
     false
 }
 
+/// Appends the children that the Ptr rows of a run hold.
+fn push_pointed(
+    tables: &Tables,
+    bytes: &[u8],
+    child: u8,
+    run: Run,
+    out: &mut Vec<u32>,
+) -> Result<(), AllocError>
+    requires bytes { IsWithin (part bytes.now tables.now.span) tables.now }
+    requires child { IsTrue (is_child_table child) }
+    requires ptr { IsTrue (goes_by_ptr tables.now child) }
+    ensures { OnOk result (out.new.items ≡ out.old.items ++ named_in (rows_with bytes.now tables.now) child run.first run.end) }
+{
+    for p in run.first..run.end {
+        let row = pointed(tables, bytes, child, p);
+        if row == 0 {
+            continue;
+        }
+        out.push(row)?;
+    }
+    Ok(())
+}
+
+/// Appends the places of a run.
+fn push_places(run: Run, out: &mut Vec<u32>) -> Result<(), AllocError>
+    ensures { OnOk result (out.new.items ≡ out.old.items ++ range_with_len run.first (run.end - run.first)) }
+{
+    for p in run.first..run.end {
+        out.push(p)?;
+    }
+    Ok(())
+}
+
 impl Tables {
     /// How many rows of a child table the n-th row of its owners' table owns, n from 0. `bytes` are
     /// those from which the tables were read.
@@ -161,5 +195,26 @@ impl Tables {
             return is_pointed(self, bytes, child, run, row);
         }
         run.first <= row && row < run.end
+    }
+
+    /// Appends all of these children in order.
+    #[tactic(auto, unfolding(crate::specs::Runs::children_of))]
+    pub fn push_children(
+        &self,
+        bytes: &[u8],
+        child: u8,
+        n: u32,
+        out: &mut Vec<u32>,
+    ) -> Result<(), AllocError>
+        requires bytes { IsWithin (part bytes.now self.now.span) self.now }
+        requires child { IsTrue (is_child_table child) }
+        requires row { n < rows_of self.now (table_of_owners child) }
+        ensures { OnOk result (out.new.items ≡ out.old.items ++ children_of (rows_with bytes.now self.now) (table_of_owners child) (column_of_runs child) child n) }
+    {
+        let run = run_of(self, bytes, child, n);
+        if goes_by_ptr(self, child) {
+            return push_pointed(self, bytes, child, run, out);
+        }
+        push_places(run, out)
     }
 }

@@ -7,11 +7,9 @@ mod form;
 mod header;
 mod owners;
 mod tables;
-mod unread;
 
 pub use form::Form;
 pub use tables::Tables;
-pub use unread::is_unread;
 
 #[cfg(test)]
 mod tests;

@@ -9,8 +9,11 @@ use std::test::Fail;
 mod base;
 mod delta;
 mod faults;
+mod generations;
 mod memory;
 mod owners;
+mod rules;
+mod worked;
 
 /// A bare module of 200 bytes: a row each of Module, TypeRef and AssemblyRef.
 const M_DLL: &str = concat!(
@@ -43,6 +46,13 @@ const OBJECT_LINE: &str =
 
 const STRING_LINE: &str =
     "01000002 TypeRef ResolutionScope=23000001 TypeName=\"String\" TypeNamespace=\"System\" @1.1\n";
+
+/// The listing of the base and the delta.
+const D1_LIST: &str = concat!(
+    "generation 0 rows 3 strings 30 users 0 blobs 0 guids 1\n",
+    "generation 1 04030201-0605-0807-090a-0b0c0d0e0f10 rows 1 strings 8 users 0 blobs 0 guids 2\n",
+    "  01000002 insert 1.1 newest 1.1\n",
+);
 
 /// A word of 201 characters: one more than a name may have.
 const LONG: &str = concat!(

@@ -3,4 +3,5 @@ pub mod Joined
 pub mod Saves
 pub mod Served
 pub mod Shown
-pub mod KidTexts
+pub mod Loading
+pub mod Lines

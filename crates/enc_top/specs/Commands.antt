@@ -1,8 +1,8 @@
 -- A command of the program as the job that it is.
-use Rattle.std.specs.Option.{option_copied}
 use Rattle.enc_top.specs.declared.command.Command.{Command}
-use Rattle.enc_top.specs.declared.command.Command.TheVariants.{Show}
-use Rattle.enc_top.specs.Words.{Job, show}
+use Rattle.enc_top.specs.declared.command.Command.TheVariants.{Show, List}
+use Rattle.enc_top.specs.Words.{Job, show, list, texts}
 
 abbrev pub job_seen : Command → Job
-job_seen (Show base token delta) = show base.now token (option_copied delta)
+job_seen (Show base token deltas) = show base.now token (texts deltas.now)
+job_seen (List base deltas) = list base.now (texts deltas.now)

@@ -1,8 +1,9 @@
 -- The examples, a base of 200 bytes and a delta of 220, read and printed by computing on the definitions alone.
-use Rattle.std.specs.Prelude.{◌≡◌, ℕ, List, [], ◌∷◌, ◌++◌, Some, codes}
+use Rattle.std.specs.Prelude.{◌≡◌, ℕ, List, [], ◌∷◌, ◌++◌, codes}
 use Rattle.enc_base.specs.declared.token.Token.{Token}
 use Rattle.enc_meta.specs.Example.{example}
-use Rattle.enc_top.specs.Verdict.{accepted, shown, shown_with}
+use Rattle.enc_top.specs.Text.{guid_text}
+use Rattle.enc_top.specs.Verdict.{accepted, answer, judge_all, shown, listed_as}
 
 -- row 1 of TypeRef
 abbrev pub example_token : Token
@@ -13,7 +14,7 @@ abbrev pub example_line : List ℕ
 example_line = codes "01000001 TypeRef ResolutionScope=23000001 TypeName=\"Object\" TypeNamespace=\"System\" @0.1" ++ 0x0a ∷ []
 
 abbrev pub ExampleIsShown : Type 0
-ExampleIsShown = shown (codes "m.dll") example_token (Some example) ≡ accepted example_line
+ExampleIsShown = answer (judge_all (codes "m") example []) (shown example_token) ≡ accepted example_line
 
 -- a delta that adds row 2 of TypeRef
 abbrev pub example_delta : List ℕ
@@ -40,4 +41,16 @@ abbrev pub example_added_line : List ℕ
 example_added_line = codes "01000002 TypeRef ResolutionScope=23000001 TypeName=\"String\" TypeNamespace=\"System\" @1.1" ++ 0x0a ∷ []
 
 abbrev pub ExampleIsExtended : Type 0
-ExampleIsExtended = shown_with (codes "m.dll") (codes "d1.meta") (codes "d1.il") example_added (Some example) (Some example_delta) (Some []) ≡ accepted example_added_line
+ExampleIsExtended = answer (judge_all (codes "m") example (record { name = codes "d1.meta"; metadata = example_delta; code = 0 ∷ 0 ∷ 0 ∷ 0 ∷ [] } ∷ [])) (shown example_added) ≡ accepted example_added_line
+
+-- the delta's EncId
+abbrev pub example_id : List ℕ
+example_id = 0x01 ∷ 0x02 ∷ 0x03 ∷ 0x04 ∷ 0x05 ∷ 0x06 ∷ 0x07 ∷ 0x08 ∷ 0x09 ∷ 0x0a ∷ 0x0b ∷ 0x0c ∷ 0x0d ∷ 0x0e ∷ 0x0f ∷ 0x10 ∷ []
+
+-- the listing of both
+abbrev pub example_lines : List ℕ
+example_lines =
+    codes "generation 0 rows 3 strings 30 users 0 blobs 0 guids 1\ngeneration 1 " ++ ((guid_text example_id ++ codes " rows 1 strings 8 users 0 blobs 0 guids 2\n") ++ codes "  01000002 insert 1.1 newest 1.1\n")
+
+abbrev pub ExampleIsListed : Type 0
+ExampleIsListed = answer (judge_all (codes "m") example (record { name = codes "d1.meta"; metadata = example_delta; code = 0 ∷ 0 ∷ 0 ∷ 0 ∷ [] } ∷ [])) listed_as ≡ accepted example_lines

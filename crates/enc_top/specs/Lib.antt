@@ -2,8 +2,10 @@ pub mod Words
 pub mod Commands
 pub mod Text
 pub mod RowText
+pub mod Listing
 pub mod Verdict
 pub mod Ending
 pub mod Plans
+pub mod Loads
 pub mod Answers
 pub mod Example

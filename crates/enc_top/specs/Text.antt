@@ -13,6 +13,8 @@ use Rattle.enc_base.specs.declared.refusal.StreamName.{StreamName}
 use Rattle.enc_base.specs.declared.refusal.StreamName.TheVariants as stream
 use Rattle.enc_base.specs.declared.refusal.Refusal.{Refusal}
 use Rattle.enc_schema.specs.Names.{column_name_in}
+use Rattle.enc_top.specs.declared.limits.Limit.{Limit}
+use Rattle.enc_top.specs.declared.limits.Limit.TheVariants as limit
 
 -- the last so many of the eight lower case hexadecimal digits of a number
 unfoldable pub digits : ℕ → ℕ → List ℕ
@@ -78,6 +80,14 @@ place_text (place.Log k) = codes "log " ++ decimal k
 -- the line of a refused file
 unfoldable pub refused_line : List ℕ → Refusal → List ℕ
 refused_line name e = codes "refused " ++ name ++ 0x20 ∷ code_text e.code ++ 0x20 ∷ place_text e.place ++ 0x0a ∷ []
+
+abbrev pub limit_text : Limit → List ℕ
+limit_text limit.Length = codes "L1 length"
+limit_text limit.Total = codes "L2 total"
+
+-- the line of a file that is too long, or with which all are
+unfoldable pub limit_line : List ℕ → Limit → List ℕ
+limit_line name l = codes "refused " ++ name ++ 0x20 ∷ limit_text l ++ 0x0a ∷ []
 
 -- the line of a file that isn't there
 unfoldable pub missing_line : List ℕ → List ℕ

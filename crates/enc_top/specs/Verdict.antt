@@ -1,33 +1,40 @@
 -- What a command answers for the files that are told: nothing here knows how the program works.
-use Rattle.std.specs.Prelude.{◌≡◌, ℕ, Bool, not, ◌||◌, List, [], ◌++◌, Option, Some, None, is_some, Result, Ok, Err, if◌then◌else◌, codes}
-use Rattle.std.specs.List.{list_any}
+use Rattle.std.specs.Prelude.{◌≡◌, ℕ, ◌+◌, List, [], ◌∷◌, ◌++◌, length, Option, Some, None, Result, Ok, Err, nat_lt, if◌then◌else◌, codes}
 use Rattle.std.specs.FinMap.{get}
 use Rattle.enc_outside.specs.Outside.{Files}
 use Rattle.enc_base.specs.declared.token.Token.{Token}
 use Rattle.enc_base.specs.declared.refusal.Refusal.{Refusal}
-use Rattle.enc_base.specs.declared.refusal.Code.TheVariants.{U}
-use Rattle.enc_base.specs.declared.refusal.Place.TheVariants as place
 use Rattle.enc_rows.specs.Source.{Source}
 use Rattle.enc_plain.specs.Module.{Module, has_row}
 use Rattle.enc_plain.specs.Chain.{Chain}
-use Rattle.enc_image.specs.Base.{chain_of}
-use Rattle.enc_delta.specs.Delta.{delta_of, listed}
-use Rattle.enc_delta.specs.Rules.{is_insert, first_meta}
+use Rattle.enc_image.specs.Base.{base_of}
+use Rattle.enc_delta.specs.Delta.{delta_of}
+use Rattle.enc_delta.specs.Rules.{first_meta}
 use Rattle.enc_agg.specs.declared.place.RowPlace.{RowPlace}
-use Rattle.enc_agg.specs.Extend.{extended}
-use Rattle.enc_agg.specs.Place.{base_place, place_after}
+use Rattle.enc_agg.specs.Extend.{chain_with}
+use Rattle.enc_agg.specs.Place.{place_of}
+use Rattle.enc_top.specs.declared.limits.Limit.{Limit}
+use Rattle.enc_top.specs.declared.limits.Limit.TheVariants as limit
 use Rattle.enc_top.specs.declared.plan.Outcome.{Outcome}
 use Rattle.enc_top.specs.declared.plan.Outcome.TheVariants.{Done, Refused, Usage, Missing}
-use Rattle.enc_top.specs.Words.{Job, show, job_of}
-use Rattle.enc_top.specs.Text.{refused_line, missing_line, absent_line, usage_line}
+use Rattle.enc_top.specs.Words.{Job, show, list, job_of}
+use Rattle.enc_top.specs.Text.{refused_line, limit_line, missing_line, absent_line, usage_line}
 use Rattle.enc_top.specs.RowText.{row_text_of}
+use Rattle.enc_top.specs.Listing.{listing_of}
 
--- the words are no command; a file that must be there is absent; a file is refused; or all is accepted, and this is the output
+-- the words are no command; a file that must be there is absent; a file is refused, by a rule or by its length; or all is accepted, and this is the output
 pub data Verdict : Type 0 where
   no_command : Verdict
   absent_file : List ℕ → Verdict
   refused_file : List ℕ → Refusal → Verdict
+  past_limit : List ℕ → Limit → Verdict
   accepted : List ℕ → Verdict
+
+-- one thing after the other, up to the first verdict
+infixl 10 ◌>>=◌
+abbrev pub ◌>>=◌ : {A B : Type 0} → Result A Verdict → (A → Result B Verdict) → Result B Verdict
+(Ok a) >>= f = f a
+(Err v) >>= f = Err v
 
 -- the file of a base, and the files of a delta
 abbrev pub dll : List ℕ → List ℕ
@@ -39,51 +46,105 @@ meta delta = delta ++ codes ".meta"
 abbrev pub il : List ℕ → List ℕ
 il delta = delta ++ codes ".il"
 
+-- the most bytes of a file, and of all files that are loaded
+abbrev pub file_limit : ℕ
+file_limit = 67108864
+
+abbrev pub total_limit : ℕ
+total_limit = 536870912
+
+-- a file is there and not too long, with those loaded before it, which had so many bytes
+unfoldable pub taken : List ℕ → ℕ → Option (List ℕ) → Result (List ℕ) Verdict
+taken name before None = Err (absent_file name)
+taken name before (Some bytes) =
+    if nat_lt file_limit (length bytes) then Err (past_limit name limit.Length)
+    else if nat_lt total_limit (before + length bytes) then Err (past_limit name limit.Total)
+    else Ok bytes
+
+unfoldable pub load_one : Files → List ℕ → ℕ → Result (List ℕ) Verdict
+load_one files name before = taken name before (get files name)
+
+-- the files of a delta, with the name of its metadata's
+pub record DeltaFiles : Type 0 where
+  pub name : List ℕ
+  pub metadata : List ℕ
+  pub code : List ℕ
+
+unfoldable pub load_delta : Files → List ℕ → ℕ → Result DeltaFiles Verdict
+load_delta files delta before = do
+  metadata ← load_one files (meta delta) before
+  code ← load_one files (il delta) (before + length metadata)
+  Ok (record { name = meta delta; metadata = metadata; code = code })
+
+-- how many bytes they have
+abbrev pub size_of : DeltaFiles → ℕ
+size_of f = length f.metadata + length f.code
+
+-- all files are loaded before one is judged
+unfoldable pub load_deltas : Files → List (List ℕ) → ℕ → Result (List DeltaFiles) Verdict
+load_deltas files [] before = Ok []
+load_deltas files (delta ∷ deltas) before = do
+  f ← load_delta files delta before
+  fs ← load_deltas files deltas (before + size_of f)
+  Ok (f ∷ fs)
+
+-- a refusal, of the file with this name
+abbrev pub in_file : {A : Type 0} → List ℕ → Result A Refusal → Result A Verdict
+in_file name (Ok a) = Ok a
+in_file name (Err e) = Err (refused_file name e)
+
+abbrev pub unless : {A : Type 0} → Option Refusal → A → Result A Refusal
+unless None a = Ok a
+unless (Some e) a = Err e
+
+-- a delta that breaks no rule after the chain
+abbrev pub judged : Chain → Result Source Refusal → Result Source Refusal
+judged c (Ok d) = unless (first_meta c d) d
+judged c (Err e) = Err e
+
+-- the deltas judged in order, each after those before it, which stand the newest first
+unfoldable pub judge_deltas : Source → List Source → List DeltaFiles → Result (List Source) Verdict
+judge_deltas base deltas [] = Ok deltas
+judge_deltas base deltas (f ∷ fs) = do
+  d ← in_file f.name (judged (chain_with base deltas) (delta_of f.metadata))
+  judge_deltas base (d ∷ deltas) fs
+
+-- a base with the deltas that follow it, the newest first
+pub record Followed : Type 0 where
+  pub base : Source
+  pub deltas : List Source
+
+unfoldable pub judge_all : List ℕ → List ℕ → List DeltaFiles → Result Followed Verdict
+judge_all base bytes fs = do
+  b ← in_file (dll base) (base_of bytes)
+  deltas ← judge_deltas b [] fs
+  Ok (record { base = b; deltas = deltas })
+
+-- the files loaded, the base first, and then judged, the base first
+unfoldable pub accept : Files → List ℕ → List (List ℕ) → Result Followed Verdict
+accept files base deltas = do
+  bytes ← load_one files (dll base) 0
+  fs ← load_deltas files deltas (length bytes)
+  judge_all base bytes fs
+
+-- the output for what was accepted
+abbrev pub answer : Result Followed Verdict → (Followed → List ℕ) → Verdict
+answer (Ok f) output = accepted (output f)
+answer (Err v) output = v
+
 -- the token's row, or that the module lacks it
 unfoldable pub row_or_absent : Module → RowPlace → Token → List ℕ
 row_or_absent m place token = if has_row m token then row_text_of m place token else absent_line token
 
-abbrev pub shown_of : List ℕ → Token → Result Chain Refusal → Verdict
-shown_of name token (Ok c) = accepted (row_or_absent c.plain (base_place token) token)
-shown_of name token (Err e) = refused_file name e
+unfoldable pub shown : Token → Followed → List ℕ
+shown token f = row_or_absent (chain_with f.base f.deltas).plain (place_of f.deltas token) token
 
--- a base alone
-unfoldable pub shown : List ℕ → Token → Option (List ℕ) → Verdict
-shown name token (Some bytes) = shown_of name token (chain_of bytes)
-shown name token None = absent_file name
-
--- for now: a delta that breaks a rule, or that changes a row of the base, is refused without its place
-unfoldable pub changes_a_row : Chain → Source → Bool
-changes_a_row c s = list_any (λ (t : Token). not (is_insert c t)) (listed s)
-
-abbrev pub unplaced : Refusal
-unplaced = record { code = U 2; place = place.Root }
-
--- the row after a delta that breaks no rule
-unfoldable pub shown_next : List ℕ → Token → Chain → Source → Verdict
-shown_next name token c s =
-    if is_some (first_meta c s) || changes_a_row c s then refused_file name unplaced
-    else accepted (row_or_absent (extended c s).plain (place_after 1 s token (base_place token)) token)
-
-abbrev pub shown_after : List ℕ → Token → Chain → Result Source Refusal → Verdict
-shown_after name token c (Ok s) = shown_next name token c s
-shown_after name token c (Err e) = refused_file name e
-
--- the base is judged before the delta
-abbrev pub shown_both : List ℕ → List ℕ → Token → Result Chain Refusal → Result Source Refusal → Verdict
-shown_both base name token (Ok c) delta = shown_after name token c delta
-shown_both base name token (Err e) delta = refused_file base e
-
--- a base and a delta with the names of their files: all files are there before one is judged
-unfoldable pub shown_with : List ℕ → List ℕ → List ℕ → Token → Option (List ℕ) → Option (List ℕ) → Option (List ℕ) → Verdict
-shown_with base metadata code token None m c = absent_file base
-shown_with base metadata code token (Some b) None c = absent_file metadata
-shown_with base metadata code token (Some b) (Some m) None = absent_file code
-shown_with base metadata code token (Some b) (Some m) (Some c) = shown_both base metadata token (chain_of b) (delta_of m)
+unfoldable pub listed_as : Followed → List ℕ
+listed_as f = listing_of f.base f.deltas
 
 abbrev pub verdict_on : Files → Option Job → Verdict
-verdict_on files (Some (show base token None)) = shown (dll base) token (get files (dll base))
-verdict_on files (Some (show base token (Some delta))) = shown_with (dll base) (meta delta) (il delta) token (get files (dll base)) (get files (meta delta)) (get files (il delta))
+verdict_on files (Some (show base token deltas)) = answer (accept files base deltas) (shown token)
+verdict_on files (Some (list base deltas)) = answer (accept files base deltas) listed_as
 verdict_on files None = no_command
 
 -- what the words come to over these files
@@ -94,6 +155,7 @@ abbrev pub outcome_of : Verdict → Outcome
 outcome_of no_command = Usage
 outcome_of (absent_file name) = Missing
 outcome_of (refused_file name e) = Refused
+outcome_of (past_limit name l) = Refused
 outcome_of (accepted output) = Done
 
 -- the defined output
@@ -101,6 +163,7 @@ abbrev pub output_of : Verdict → List ℕ
 output_of no_command = usage_line
 output_of (absent_file name) = missing_line name
 output_of (refused_file name e) = refused_line name e
+output_of (past_limit name l) = limit_line name l
 output_of (accepted output) = output
 
 -- what may be saved, in order, each a name and its bytes: so far no command saves

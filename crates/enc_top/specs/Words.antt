@@ -1,5 +1,5 @@
 -- What a list of words asks for: a row of the command table, or none.
-use Rattle.std.specs.Prelude.{ℕ, Bool, true, ◌&&◌, ◌||◌, List, [], ◌∷◌, length, map, Option, Some, None, option_map, Result, Ok, Err, nat_le, ◌==◌, if◌then◌else◌, codes, bytes_eq, String, string_bytes}
+use Rattle.std.specs.Prelude.{ℕ, Bool, ◌&&◌, ◌||◌, List, [], ◌∷◌, length, map, Option, Some, None, option_map, Result, Ok, Err, nat_le, ◌==◌, if◌then◌else◌, codes, bytes_eq, String, string_bytes}
 use Rattle.std.specs.List.{list_all}
 use Rattle.std.specs.Int.{w32, from_be_bytes}
 use Rattle.std.specs.declared.alloc.Global.{Global}
@@ -8,9 +8,10 @@ use Rattle.hex.specs.declared.error.FromHexError.{FromHexError}
 use Rattle.enc_base.specs.Token.{token_of}
 use Rattle.enc_base.specs.declared.token.Token.{Token}
 
--- what a command asks for: a base, a token, and perhaps a delta
+-- what a command asks for: a row of a base with deltas, or their listing
 pub data Job : Type 0 where
-  show : List ℕ → Token → Option (List ℕ) → Job
+  show : List ℕ → Token → List (List ℕ) → Job
+  list : List ℕ → List (List ℕ) → Job
 
 -- an ASCII letter, a digit, or one of _ - . /
 abbrev pub is_name_byte : ℕ → Bool
@@ -28,20 +29,24 @@ token_with (Err e) = None
 unfoldable pub token_in : List ℕ → Option Token
 token_in word = token_with (decode_sized word 4)
 
--- no word, or one that is a name
-abbrev pub is_name_or_none : Option (List ℕ) → Bool
-is_name_or_none None = true
-is_name_or_none (Some word) = is_name word
+-- a base and deltas, each a name
+unfoldable pub are_names : List ℕ → List (List ℕ) → Bool
+are_names base deltas = is_name base && list_all is_name deltas
 
--- the job of `show BASE TOKEN`, or of `show BASE TOKEN DELTA`
-unfoldable pub show_of : List ℕ → List ℕ → List ℕ → Option (List ℕ) → Option Job
-show_of name base token delta = if bytes_eq name (codes "show") && is_name base && is_name_or_none delta then option_map (λ t. show base t delta) (token_in token) else None
+-- `show BASE TOKEN DELTA..`
+abbrev pub show_of : List (List ℕ) → Option Job
+show_of (base ∷ token ∷ deltas) = if are_names base deltas then option_map (λ t. show base t deltas) (token_in token) else None
+show_of _ = None
+
+-- `list BASE DELTA..`
+abbrev pub list_of : List (List ℕ) → Option Job
+list_of (base ∷ deltas) = if are_names base deltas then Some (list base deltas) else None
+list_of [] = None
 
 -- the row of the command table that the words are
 abbrev pub job_of : List (List ℕ) → Option Job
-job_of (name ∷ base ∷ token ∷ []) = show_of name base token None
-job_of (name ∷ base ∷ token ∷ delta ∷ []) = show_of name base token (Some delta)
-job_of _ = None
+job_of (name ∷ words) = if bytes_eq name (codes "show") then show_of words else if bytes_eq name (codes "list") then list_of words else None
+job_of [] = None
 
 -- the words as lists of bytes
 abbrev pub texts : List (String Global) → List (List ℕ)

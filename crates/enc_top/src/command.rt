@@ -1,8 +1,7 @@
 //! The words of a command.
-ghost use Rattle.std.specs.Prelude.{◌≡◌, option_map, IfSome};
+ghost use Rattle.std.specs.Prelude.{◌≡◌, option_map, map};
 ghost use Rattle.std.specs.List.{list_all};
-ghost use Rattle.std.specs.Option.{option_copied};
-ghost use Rattle.enc_top.specs.Words.{is_name_byte, is_name, is_name_or_none, token_in, show_of, job_of, texts, Job};
+ghost use Rattle.enc_top.specs.Words.{is_name_byte, is_name, are_names, token_in, show_of, list_of, job_of, texts};
 ghost use Rattle.enc_top.specs.Commands.{job_seen};
 
 use enc_base::Token;
@@ -10,11 +9,16 @@ use enc_base::Token;
 /// A command with its words.
 #[derive(Clone, Copy, Debug)]
 pub enum Command<'a> {
-    /// Prints a row of a base, or of a base with a delta.
+    /// Prints a row of a base with deltas.
     Show {
         base: &'a str,
         token: Token,
-        delta: Option<&'a str>,
+        deltas: &'a [String],
+    },
+    /// Lists a base and its deltas.
+    List {
+        base: &'a str,
+        deltas: &'a [String],
     },
 }
 
@@ -53,43 +57,68 @@ fn token_of(word: &str) -> Option<Token>
     }
 }
 
-fn is_name_or_none(word: Option<&str>) -> bool
-    ensures { result ≡ is_name_or_none (option_copied word.entry) }
+fn are_all_names(words: &[String]) -> bool
+    ensures { result ≡ list_all is_name (texts words.now) }
 {
-    match word {
-        Some(word) => is_name(word),
-        None => true,
+    for word in words {
+        if !is_name(word.as_str()) {
+            return false;
+        }
     }
+    true
 }
 
-#[tactic(auto, unfolding(crate::specs::Words::show_of))]
-fn show_of<'a>(
-    name: &str,
-    base: &'a str,
-    token: &str,
-    delta: Option<&'a str>,
-) -> Option<Command<'a>>
-    ensures { option_map job_seen result ≡ show_of name.now base.now token.now (option_copied delta.entry) }
+#[tactic(auto, unfolding(crate::specs::Words::are_names))]
+fn are_names(base: &str, deltas: &[String]) -> bool
+    ensures { result ≡ are_names base.now (texts deltas.now) }
 {
-    if name != "show" || !is_name(base) || !is_name_or_none(delta) {
+    is_name(base) && are_all_names(deltas)
+}
+
+/// The words of `show`.
+fn show_of(words: &[String]) -> Option<Command<'_>>
+    ensures { option_map job_seen result ≡ show_of (texts words.now) }
+{
+    let [base, token, deltas @ ..] = words else {
+        return None;
+    };
+    if !are_names(base.as_str(), deltas) {
         return None;
     }
-    let token = token_of(token)?;
-    Some(Command::Show { base, token, delta })
+    let token = token_of(token.as_str())?;
+    Some(Command::Show {
+        base: base.as_str(),
+        token,
+        deltas,
+    })
+}
+
+/// The words of `list`.
+fn list_of(words: &[String]) -> Option<Command<'_>>
+    ensures { option_map job_seen result ≡ list_of (texts words.now) }
+{
+    let [base, deltas @ ..] = words else {
+        return None;
+    };
+    if !are_names(base.as_str(), deltas) {
+        return None;
+    }
+    Some(Command::List {
+        base: base.as_str(),
+        deltas,
+    })
 }
 
 /// The row of the command table that the words are.
 pub fn command_of(words: &[String]) -> Option<Command<'_>>
     ensures { option_map job_seen result ≡ job_of (texts words.now) }
 {
-    match words {
-        [name, base, token] => show_of(name.as_str(), base.as_str(), token.as_str(), None),
-        [name, base, token, delta] => show_of(
-            name.as_str(),
-            base.as_str(),
-            token.as_str(),
-            Some(delta.as_str()),
-        ),
+    let [name, words @ ..] = words else {
+        return None;
+    };
+    match name.as_str() {
+        "show" => show_of(words),
+        "list" => list_of(words),
         _ => None,
     }
 }

@@ -1,5 +1,5 @@
 //! What the definitions give for the examples, as the contracts of functions that do nothing.
-ghost use Rattle.enc_top.specs.Example.{ExampleIsShown, ExampleIsExtended};
+ghost use Rattle.enc_top.specs.Example.{ExampleIsShown, ExampleIsExtended, ExampleIsListed};
 
 /// `show` of the first TypeRef row of the 200 bytes of the example, by the definitions alone.
 pub fn example_row()
@@ -9,4 +9,9 @@ pub fn example_row()
 /// `show` of the TypeRef row that the example's delta adds, by the definitions alone.
 pub fn example_delta_row()
     ensures { ExampleIsExtended }
+{}
+
+/// `list` of the example and its delta, by the definitions alone.
+pub fn example_listing()
+    ensures { ExampleIsListed }
 {}

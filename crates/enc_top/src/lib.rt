@@ -4,7 +4,11 @@
 mod command;
 mod ending;
 mod finish;
+mod judge;
 mod laws;
+mod limits;
+mod listing;
+mod load;
 mod plan;
 mod planning;
 mod plans;
@@ -14,6 +18,6 @@ mod show;
 mod text;
 
 pub use enc_agg::RowPlace;
-pub use laws::{example_delta_row, example_row};
+pub use laws::{example_delta_row, example_listing, example_row};
 pub use rows::row_text;
 pub use run::run_tool;

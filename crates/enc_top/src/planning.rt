@@ -8,7 +8,7 @@ ghost use Rattle.enc_top.specs.Plans.{IsPlanOf};
 use crate::command::{Command, command_of};
 use crate::plan::{Outcome, Plan};
 use crate::plans::unknown;
-use crate::show::{show, show_with};
+use crate::show::{list, show};
 use enc_outside::{LoadError, Store};
 use std::alloc::Global;
 
@@ -29,15 +29,9 @@ pub fn plan_of<S: Store>(alloc: Global, words: &[String], store: &mut S) -> Resu
             Command::Show {
                 base,
                 token,
-                delta: None,
+                deltas,
             },
-        ) => show(alloc, base, token, store),
-        Some(
-            Command::Show {
-                base,
-                token,
-                delta: Some(delta),
-            },
-        ) => show_with(alloc, base, token, delta, store),
+        ) => show(alloc, base, token, deltas, store),
+        Some(Command::List { base, deltas }) => list(alloc, base, deltas, store),
     }
 }

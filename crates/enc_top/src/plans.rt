@@ -1,10 +1,11 @@
 //! Plans that save nothing.
 ghost use Rattle.std.specs.Prelude.{◌≡◌, [], IfOk};
-ghost use Rattle.enc_top.specs.Verdict.{no_command, absent_file, refused_file};
+ghost use Rattle.enc_top.specs.Verdict.{no_command, absent_file, refused_file, past_limit};
 ghost use Rattle.enc_top.specs.Plans.{IsPlanOf};
 
+use crate::limits::Limit;
 use crate::plan::{Outcome, Plan};
-use crate::text::{missing_line, refused_line, usage_line};
+use crate::text::{limit_line, missing_line, refused_line, usage_line};
 use enc_base::Refusal;
 use std::alloc::{AllocError, Global};
 
@@ -26,6 +27,14 @@ pub fn refused(alloc: Global, name: &str, refusal: Refusal) -> Result<Plan, Allo
     ensures { IfOk result (λ plan. IsPlanOf (refused_file name.now refusal) plan) }
 {
     let line = refused_line(alloc, name, refusal)?;
+    Ok(saving_nothing(alloc, Outcome::Refused, line))
+}
+
+/// The plan of a file that is too long, or with which all are.
+pub fn too_long(alloc: Global, name: &str, limit: Limit) -> Result<Plan, AllocError>
+    ensures plan { IfOk result (λ plan. IsPlanOf (past_limit name.now limit) plan) }
+{
+    let line = limit_line(alloc, name, limit)?;
     Ok(saving_nothing(alloc, Outcome::Refused, line))
 }
 

@@ -2,7 +2,7 @@
 ghost use Rattle.std.specs.Prelude.{◌≡◌, ◌≢◌, ℕ, ◌++◌, ◌∷◌, Some, OnOk, IsTrue, decimal, flat_map, length, [], unwrap_or};
 ghost use Rattle.enc_schema.specs.Schema.{columns_in, column_in};
 ghost use Rattle.enc_schema.specs.Names.{column_name_in};
-ghost use Rattle.enc_plain.specs.Module.{has_row, cell_of, kids_of};
+ghost use Rattle.enc_plain.specs.Module.{has_row, cell_of};
 ghost use Rattle.enc_schema.specs.Children.{is_child_table as is_of_children, owner_table, runs_in};
 ghost use Rattle.enc_top.specs.RowText.{value_in, equation, joined_below, cell_text, place_text, line_text, owner_text, kids_name as name_of_kids, kid_text, kids_text, row_text_of};
 
@@ -159,22 +159,20 @@ fn kids_name(child: u8) -> &'static str
     }
 }
 
-/// Appends ` TOKEN` for each child of a row in a table.
+/// Appends ` TOKEN` for each child row of a table.
 #[tactic(auto)]
-fn push_each_kid<V: ModuleView>(
-    view: &V,
-    token: Token,
-    child: u8,
-    out: &mut Vec<u8>,
-) -> Result<(), AllocError>
-    requires row { IsTrue (has_row (V.meaning view.now) token) }
-    requires child { IsTrue (is_of_children child) }
-    requires owners { token.table ≡ owner_table child }
-    ensures { OnOk result (out.new.items ≡ out.old.items ++ flat_map (kid_text child) (kids_of (V.meaning view.now) token child)) }
+fn push_each_kid(child: u8, rows: &[u32], out: &mut Vec<u8>) -> Result<(), AllocError>
+    ensures { OnOk result (out.new.items ≡ out.old.items ++ flat_map (kid_text child) rows.now) }
 {
-    for i in 0..view.kids(token, child) {
+    for row in rows {
         push_str(out, " ")?;
-        push_token(out, view.kid(token, child, i))?;
+        push_token(
+            out,
+            Token {
+                table: child,
+                row: *row,
+            },
+        )?;
     }
     Ok(())
 }
@@ -182,6 +180,7 @@ fn push_each_kid<V: ModuleView>(
 /// Appends the line of a row's children in a table, where it has any.
 #[tactic(auto, unfolding(crate::specs::RowText::kids_text))]
 fn push_kids<V: ModuleView>(
+    alloc: Global,
     view: &V,
     token: Token,
     child: u8,
@@ -192,29 +191,35 @@ fn push_kids<V: ModuleView>(
     requires owners { token.table ≡ owner_table child }
     ensures { OnOk result (out.new.items ≡ out.old.items ++ kids_text (V.meaning view.now) token child) }
 {
-    if view.kids(token, child) == 0 {
+    let rows = view.kid_rows(alloc, token, child)?;
+    if rows.is_empty() {
         return Ok(());
     }
     push_str(out, "  ")?;
     push_str(out, kids_name(child))?;
-    push_each_kid(view, token, child, out)?;
+    push_each_kid(child, &rows, out)?;
     push_str(out, "\n")
 }
 
 /// Appends the lines of a row's children.
 #[tactic(auto)]
-fn push_all_kids<V: ModuleView>(view: &V, token: Token, out: &mut Vec<u8>) -> Result<(), AllocError>
+fn push_all_kids<V: ModuleView>(
+    alloc: Global,
+    view: &V,
+    token: Token,
+    out: &mut Vec<u8>,
+) -> Result<(), AllocError>
     requires { IsTrue (has_row (V.meaning view.now) token) }
     ensures { OnOk result (out.new.items ≡ out.old.items ++ flat_map (kids_text (V.meaning view.now) token) (runs_in token.table)) }
 {
     match token.table {
         0x02 => {
-            push_kids(view, token, 0x04, out)?;
-            push_kids(view, token, 0x06, out)
+            push_kids(alloc, view, token, 0x04, out)?;
+            push_kids(alloc, view, token, 0x06, out)
         }
-        0x06 => push_kids(view, token, 0x08, out),
-        0x12 => push_kids(view, token, 0x14, out),
-        0x15 => push_kids(view, token, 0x17, out),
+        0x06 => push_kids(alloc, view, token, 0x08, out),
+        0x12 => push_kids(alloc, view, token, 0x14, out),
+        0x15 => push_kids(alloc, view, token, 0x17, out),
         _ => Ok(()),
     }
 }
@@ -235,5 +240,5 @@ pub fn row_text<V: ModuleView>(
 {
     push_line(alloc, view, place, token, out)?;
     push_owner(view, token, out)?;
-    push_all_kids(view, token, out)
+    push_all_kids(alloc, view, token, out)
 }

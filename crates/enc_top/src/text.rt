@@ -1,8 +1,9 @@
 //! Tokens, texts, blobs, GUIDs and refusals as printed bytes. Each call appends, and after want of
 //! memory what stands behind the old bytes is free.
 ghost use Rattle.std.specs.Prelude.{◌≡◌, ◌≤◌, ◌++◌, ◌∷◌, [], length, OnOk, IfOk, flat_map, decimal, codes};
-ghost use Rattle.enc_top.specs.Text.{digits, token_text, escaped, quoted, bracketed, guid_text, code_text, stream_text, cell_place_text, place_text, refused_line, missing_line, absent_line, usage_line};
+ghost use Rattle.enc_top.specs.Text.{digits, token_text, escaped, quoted, bracketed, guid_text, code_text, stream_text, cell_place_text, place_text, refused_line, limit_text, limit_line, missing_line, absent_line, usage_line};
 
+use crate::limits::Limit;
 use enc_base::{Code, Place, Refusal, StreamName, Token};
 use enc_schema::column_name;
 use std::alloc::{AllocError, Global};
@@ -35,6 +36,13 @@ pub fn push_token(out: &mut Vec<u8>, token: Token) -> Result<(), AllocError>
 {
     push_digits(out, 2, u32::from(token.table))?;
     push_digits(out, 6, token.row)
+}
+
+/// Appends a number in decimal digits.
+pub fn push_long(alloc: Global, out: &mut Vec<u8>, number: u64) -> Result<(), AllocError>
+    ensures { OnOk result (out.new.items ≡ out.old.items ++ decimal number) }
+{
+    push_str(out, number.to_string(alloc)?.as_str())
 }
 
 /// Appends a number in decimal digits.
@@ -175,6 +183,29 @@ pub fn refused_line(alloc: Global, name: &str, refusal: Refusal) -> Result<Vec<u
     push_code(alloc, &mut line, refusal.code)?;
     push_str(&mut line, " ")?;
     push_place(alloc, &mut line, refusal.place)?;
+    push_str(&mut line, "\n")?;
+    Ok(line)
+}
+
+fn limit_text(limit: Limit) -> &'static str
+    ensures { result.now ≡ limit_text limit }
+{
+    match limit {
+        Limit::Length => "L1 length",
+        Limit::Total => "L2 total",
+    }
+}
+
+/// The line of a file that is too long, or with which all are.
+#[tactic(auto, unfolding(crate::specs::Text::limit_line))]
+pub fn limit_line(alloc: Global, name: &str, limit: Limit) -> Result<Vec<u8>, AllocError>
+    ensures { IfOk result (λ line. line.items ≡ limit_line name.now limit) }
+{
+    let mut line = Vec::new(alloc);
+    push_str(&mut line, "refused ")?;
+    push_str(&mut line, name)?;
+    push_str(&mut line, " ")?;
+    push_str(&mut line, limit_text(limit))?;
     push_str(&mut line, "\n")?;
     Ok(line)
 }

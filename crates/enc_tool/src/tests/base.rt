@@ -199,6 +199,17 @@ fn names_the_first_refusal(rt: HostRuntime) -> Result<(), Fail> {
         changed(200, 93, "20", words, 1, "refused m.dll F6 tables\n"),
         // one table more, whose rows don't stand in the stream
         changed(200, 88, "07", words, 1, "refused m.dll F6 tables\n"),
+    ];
+    for case in &refused {
+        holds(&rt, case)?;
+    }
+    Ok(())
+}
+
+#[test]
+fn names_the_first_cell(rt: HostRuntime) -> Result<(), Fail> {
+    let words = ["show", "m", "01000001"].as_slice();
+    let refused = [
         // an index past its table, and an offset in the middle of nothing
         changed(
             200,
@@ -245,6 +256,10 @@ fn tells_missing_files_and_wrong_words(rt: HostRuntime) -> Result<(), Fail> {
     holds(&rt, &whole(&["show", LONG, "01000001"], 2, usage))?;
     holds(&rt, &whole(&["show", "a b", "01000001"], 2, usage))?;
     holds(&rt, &whole(&["Show", "m", "01000001"], 2, usage))?;
-    holds(&rt, &whole(&["list", "m"], 2, usage))?;
+    holds(&rt, &whole(&["list"], 2, usage))?;
+    holds(&rt, &whole(&["list", "a b"], 2, usage))?;
+    holds(&rt, &whole(&["list", LONG], 2, usage))?;
+    holds(&rt, &whole(&["list", "n"], 6, "missing n.dll\n"))?;
+    holds(&rt, &whole(&["check", "m"], 2, usage))?;
     Ok(())
 }

@@ -6,8 +6,6 @@ use enc_outside::MemStore;
 use std::process::Abort;
 use std::test::Fail;
 
-const REFUSED: &str = "refused d1.meta U2 root\n";
-
 /// A second log row and a second map row: both lists begin with the Module row.
 const MODULE_LISTED: [(usize, &str); 2] = [
     (0x20, "dc0000005e000000"),
@@ -40,7 +38,7 @@ const TWO_TABLES: [(usize, &str); 2] = [
 ];
 
 /// The words over the example with these changes of the delta.
-fn over(
+pub fn over(
     rt: &(impl Abort + AllocGlobal),
     changes: &[(usize, &str)],
     words: &[&str],
@@ -105,96 +103,133 @@ fn passes_over_the_module_in_log_and_map(rt: HostRuntime) -> Result<(), Fail> {
     )
 }
 
+/// The table stream behind the delta, with two log entries of the same token.
+const LOGGED_TWICE: [(usize, &str); 2] = [
+    (0x20, "dc0000005a000000"),
+    (
+        220,
+        concat!(
+            "000000000200a701030000c000000000000000000000000001000000",
+            "010000000200000001000000",
+            "010001000000010000000200000000000000060000001f00000007000000",
+            "02000001000000000200000100000000",
+            "02000001",
+        ),
+    ),
+];
+
+/// The delta with these changes is refused, by this rule at this place.
+fn refuses(
+    rt: &(impl Abort + AllocGlobal),
+    changes: &[(usize, &str)],
+    refusal: &str,
+) -> Result<(), Fail> {
+    let line = format!(in rt.alloc(); "refused d1.meta {refusal}\n")?;
+    let words = ["show", "m", "01000002", "d1"];
+    over(rt, changes, &words, 1, line.as_str())
+}
+
 #[test]
 fn refuses_a_delta_by_each_rule(rt: HostRuntime) -> Result<(), Fail> {
-    let words = ["show", "m", "01000002", "d1"];
-    let [moved, two_tables] = TWO_TABLES;
-    let falling = [moved, two_tables, (310, "0200002302000001")];
-    let refused: [&[(usize, &str)]; 21] = [
-        // E1: the Mvid is the EncId's, and nil
-        &[(0x8e, "02")],
-        &[(0x8e, "00")],
-        // E2: the generation is the base's, and the one after next
-        &[(0x88, "00")],
-        &[(0x88, "02")],
-        // E3: the EncBaseId isn't nil
-        &[(0x96, "02")],
-        // E4: the EncId is nil, and can't be read
-        &[(0x92, "00")],
-        &[(0x92, "03")],
-        // E5: `#Strings` ends in a byte other than 0; `#GUID` has fewer entries than the base's
-        &[(0xbb, "21")],
-        &[(0x44, "00"), (0x92, "01")],
-        // E6: the map falls
-        &falling,
-        // E7: a row without its token
-        &[(0xb1, "23")],
-        &[(0x84, "00")],
-        // E8: a row that isn't the next, and row 0
-        &[(0xa6, "03"), (0xae, "03")],
-        &[(0xa6, "00"), (0xae, "00")],
-        // E9: the log hasn't the map's token, or has it with another code
-        &[(0xa6, "03")],
-        &[(0xa6, "01")],
-        &[(0xaa, "06")],
-        // E10: the log has the token twice, first with a code past 5, then with an Add code
-        &[
-            (0x20, "dc0000005a000000"),
-            (
-                220,
-                concat!(
-                    "000000000200a701030000c000000000000000000000000001000000",
-                    "010000000200000001000000",
-                    "010001000000010000000200000000000000060000001f00000007000000",
-                    "02000001060000000200000100000000",
-                    "02000001",
-                ),
-            ),
-        ],
-        &[
-            (0x20, "dc0000005a000000"),
-            (
-                220,
-                concat!(
-                    "000000000200a701030000c000000000000000000000000001000000",
-                    "010000000200000001000000",
-                    "010001000000010000000200000000000000060000001f00000007000000",
-                    "02000001020000000200000100000000",
-                    "02000001",
-                ),
-            ),
-        ],
-        // E13: a scope past its table
-        &[(0x9a, "0a")],
-        // E14: a name past the joined heap
-        &[(0x9e, "30")],
+    let refused: [(&[(usize, &str)], &str); 18] = [
+        // the Mvid is the EncId's, and nil
+        (&[(0x8e, "02")], "E1 00000001"),
+        (&[(0x8e, "00")], "E1 00000001"),
+        // the generation is the base's, and the one after next
+        (&[(0x88, "00")], "E2 00000001"),
+        (&[(0x88, "02")], "E2 00000001"),
+        // the EncBaseId isn't nil
+        (&[(0x96, "02")], "E3 00000001"),
+        // the EncId is nil, and can't be read
+        (&[(0x92, "00")], "E4 00000001"),
+        (&[(0x92, "03")], "E4 00000001"),
+        // `#Strings` ends in a byte other than 0; `#GUID` has fewer entries than the base's
+        (&[(0xbb, "21")], "E5 #Strings"),
+        (&[(0x44, "00"), (0x92, "01")], "E5 #GUID"),
+        // a row without its token
+        (&[(0xb1, "23")], "E7 01000000"),
+        (&[(0x84, "00")], "E7 01000000"),
+        // a row that isn't the next, and row 0
+        (&[(0xa6, "03"), (0xae, "03")], "E8 01000003"),
+        (&[(0xa6, "00"), (0xae, "00")], "E8 01000000"),
+        // the log hasn't the map's token, or has it with another code
+        (&[(0xa6, "03")], "E9 01000002"),
+        (&[(0xa6, "01")], "E9 01000001"),
+        (&[(0xaa, "06")], "E9 01000002"),
+        // a scope past its table
+        (&[(0x9a, "0a")], "E13 01000002.ResolutionScope"),
+        // a name past the joined heap
+        (&[(0x9e, "30")], "E14 01000002.TypeName"),
     ];
-    for changes in refused {
-        over(&rt, changes, &words, 1, REFUSED)?;
+    for (changes, refusal) in refused {
+        refuses(&rt, changes, refusal)?;
     }
     Ok(())
 }
 
 #[test]
-fn refuses_a_delta_that_changes_a_row(rt: HostRuntime) -> Result<(), Fail> {
+fn refuses_a_delta_by_a_longer_log_or_map(rt: HostRuntime) -> Result<(), Fail> {
+    let [moved, two_tables] = TWO_TABLES;
+    // the map falls
+    refuses(
+        &rt,
+        &[moved, two_tables, (310, "0200002302000001")],
+        "E6 01000002",
+    )?;
+    let [moved, twice] = LOGGED_TWICE;
     over(
         &rt,
-        &[(0xa6, "01"), (0xae, "01")],
-        &["show", "m", "01000001", "d1"],
-        1,
-        REFUSED,
-    )
+        &LOGGED_TWICE,
+        &["show", "m", "01000002", "d1"],
+        0,
+        STRING_LINE,
+    )?;
+    // the log has the token with a code past 5 too, or with that of an Add entry
+    refuses(&rt, &[moved, twice, (0x126, "06")], "E10 log 1")?;
+    refuses(&rt, &[moved, twice, (0x126, "02")], "E10 log 1")?;
+    refuses(&rt, &[moved, twice, (0x12e, "06")], "E10 log 2")?;
+    refuses(&rt, &[moved, twice, (0x12e, "02")], "E10 log 2")
+}
+
+/// The delta's row stands for the base's TypeRef, with the same cells.
+#[test]
+fn shows_a_row_that_a_delta_lists_again(rt: HostRuntime) -> Result<(), Fail> {
+    let changes = [(0xa6, "01"), (0xae, "01"), (0x9e, "0e")];
+    let again =
+        "01000001 TypeRef ResolutionScope=23000001 TypeName=\"Object\" TypeNamespace=\"System\" @1.1\n";
+    let listing = concat!(
+        "generation 0 rows 3 strings 30 users 0 blobs 0 guids 1\n",
+        "generation 1 04030201-0605-0807-090a-0b0c0d0e0f10 rows 1 strings 8 users 0 blobs 0 guids 2\n",
+        "  01000001 update 1.1 newest 1.1\n",
+    );
+    for (words, output) in [
+        (["show", "m", "01000001", "d1"].as_slice(), again),
+        (&["show", "m", "01000002", "d1"], "absent 01000002\n"),
+        (&["list", "m", "d1"], listing),
+    ] {
+        over(&rt, &changes, words, 0, output)?;
+    }
+    Ok(())
 }
 
 #[test]
-fn refuses_a_table_that_is_not_read(rt: HostRuntime) -> Result<(), Fail> {
-    over(
-        &rt,
-        &[(0x68, "07")],
-        &["show", "m", "01000002", "d1"],
-        1,
-        "refused d1.meta U1 tables\n",
-    )
+fn refuses_a_delta_whose_tables_are_not_there(rt: HostRuntime) -> Result<(), Fail> {
+    for (at, put) in [
+        // TypeDef too, whose rows don't fit
+        (0x68, "07"),
+        // no Module, and two of it
+        (0x78, "00"),
+        (0x78, "02"),
+        // a table past the last
+        (0x6d, "20"),
+        // too many rows, and a stream that ends in its counts and in its rows
+        (0x7c, "00000001"),
+        (0x24, "27"),
+        (0x24, "51"),
+    ] {
+        refuses(&rt, &[(at, put)], "F6 tables")?;
+    }
+    Ok(())
 }
 
 /// What a delta of this length answers: the root has 96 bytes with its headers, the table stream
@@ -294,15 +329,70 @@ fn loads_all_files_before_it_judges_the_base_first(rt: HostRuntime) -> Result<()
     Ok(())
 }
 
+/// The files of the first delta's metadata and of the second delta, and what `show` answers.
+const TWO_DELTAS: [(&str, Option<&str>, Option<&str>, u8, &str); 6] = [
+    (D1_META, None, None, 6, "missing d2.meta\n"),
+    (D1_META, Some(D1_META), None, 6, "missing d2.il\n"),
+    // the first delta isn't good: all files are loaded before it is judged, and it decides
+    ("4d5a", Some(D1_META), None, 6, "missing d2.il\n"),
+    (
+        "4d5a",
+        Some("4d5a"),
+        Some(D1_IL),
+        1,
+        "refused d1.meta F1 root\n",
+    ),
+    // the second isn't good, or doesn't follow the first
+    (
+        D1_META,
+        Some("4d5a"),
+        Some(D1_IL),
+        1,
+        "refused d2.meta F1 root\n",
+    ),
+    (
+        D1_META,
+        Some(D1_META),
+        Some(D1_IL),
+        1,
+        "refused d2.meta E2 00000001\n",
+    ),
+];
+
+#[test]
+fn loads_two_deltas_before_it_judges_one(rt: HostRuntime) -> Result<(), Fail> {
+    let alloc = rt.alloc();
+    for (first, second, code, status, output) in TWO_DELTAS {
+        let mut store = MemStore::begin(alloc);
+        for (name, file) in [
+            ("m.dll", Some(M_DLL)),
+            ("d1.meta", Some(first)),
+            ("d1.il", Some(D1_IL)),
+            ("d2.meta", second),
+            ("d2.il", code),
+        ] {
+            if let Some(text) = file {
+                store.set_file(name, changed(alloc, text, &[])?.as_slice())?;
+            }
+        }
+        let words = ["show", "m", "01000002", "d1", "d2"];
+        answers_over(&rt, &mut store, &words, status, output)?;
+    }
+    Ok(())
+}
+
 #[test]
 fn tells_wrong_words_behind_a_token(rt: HostRuntime) -> Result<(), Fail> {
     let usage = "usage: enc show list check apply write run gen\n";
-    let wrong: [&[&str]; 5] = [
+    let wrong: [&[&str]; 8] = [
         &["show", "m", "01000002", LONG],
         &["show", "m", "01000002", "d 1"],
         &["show", "m", "01000002", ""],
         &["show", "m", "0100002", "d1"],
-        &["show", "m", "01000002", "d1", "d2"],
+        &["show", "m", "01000002", "d1", "d 2"],
+        &["show", "m", "01000002", "d1", "d1", LONG],
+        &["list", "m", "d1", ""],
+        &["list", "", "d1"],
     ];
     for words in wrong {
         over(&rt, &[], words, 2, usage)?;

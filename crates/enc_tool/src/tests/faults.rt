@@ -1,14 +1,22 @@
 //! A store and a sink that fail.
-use super::{D1_IL, D1_META, M_DLL, OBJECT_LINE, STRING_LINE, changed, texts};
+use super::{D1_IL, D1_LIST, D1_META, M_DLL, OBJECT_LINE, STRING_LINE, changed, texts};
 use enc_outside::{MemSink, MemStore};
 use enc_top::run_tool;
 use std::alloc::Global;
 use std::test::Fail;
 
-/// Words over the example base and delta, with the number of their loads and the line that they print.
-const RUNS: [(&[&str], u64, &str); 2] = [
-    (&["show", "m", "01000001"], 1, OBJECT_LINE),
-    (&["show", "m", "01000002", "d1"], 3, STRING_LINE),
+/// Words over the example base and delta, with the number of their loads, their status and what
+/// they print.
+const RUNS: [(&[&str], u64, u8, &str); 4] = [
+    (&["show", "m", "01000001"], 1, 0, OBJECT_LINE),
+    (&["show", "m", "01000002", "d1"], 3, 0, STRING_LINE),
+    (&["list", "m", "d1"], 3, 0, D1_LIST),
+    (
+        &["show", "m", "01000002", "d1", "d1"],
+        5,
+        1,
+        "refused d1.meta E2 00000001\n",
+    ),
 ];
 
 /// The example base and delta.
@@ -21,13 +29,13 @@ fn files(alloc: Global) -> Result<MemStore, Fail> {
 }
 
 #[test]
-fn without_a_fault_the_status_is_0_and_not_3(rt: HostRuntime) -> Result<(), Fail> {
+fn without_a_fault_the_status_is_not_3(rt: HostRuntime) -> Result<(), Fail> {
     let alloc = rt.alloc();
-    for (words, loads, line) in RUNS {
+    for (words, loads, status, output) in RUNS {
         let words = texts(alloc, words)?;
         let (mut store, mut sink) = (files(alloc)?, MemSink::begin(alloc));
-        assert_eq!(rt; run_tool(alloc, &words, &mut store, &mut sink), 0);
-        assert_eq!(rt; sink.bytes(), line.as_bytes());
+        assert_eq!(rt; run_tool(alloc, &words, &mut store, &mut sink), status);
+        assert_eq!(rt; sink.bytes(), output.as_bytes());
         assert_eq!(rt; store.calls(), loads);
     }
     Ok(())
@@ -36,7 +44,7 @@ fn without_a_fault_the_status_is_0_and_not_3(rt: HostRuntime) -> Result<(), Fail
 #[test]
 fn a_load_that_fails_prints_nothing(rt: HostRuntime) -> Result<(), Fail> {
     let alloc = rt.alloc();
-    for (words, loads, _) in RUNS {
+    for (words, loads, _, _) in RUNS {
         let words = texts(alloc, words)?;
         for call in 1..=loads {
             let (mut store, mut sink) = (files(alloc)?, MemSink::begin(alloc));
@@ -53,15 +61,19 @@ fn a_load_that_fails_prints_nothing(rt: HostRuntime) -> Result<(), Fail> {
 #[test]
 fn a_put_that_fails_leaves_a_first_part(rt: HostRuntime) -> Result<(), Fail> {
     let alloc = rt.alloc();
-    for (words, _, line) in RUNS {
+    for (words, _, status, output) in RUNS {
         let words = texts(alloc, words)?;
         let mut sound = MemSink::begin(alloc);
-        assert_eq!(rt; run_tool(alloc, &words, &mut files(alloc)?, &mut sound), 0);
+        assert_eq!(rt;
+            run_tool(alloc, &words, &mut files(alloc)?, &mut sound),
+            status
+        );
         for call in 1..=sound.calls() {
             let mut sink = MemSink::begin(alloc);
             sink.fail_at(call)?;
             assert_eq!(rt; run_tool(alloc, &words, &mut files(alloc)?, &mut sink), 5);
-            assert!(rt; line.as_bytes().starts_with(sink.bytes()));
+            assert!(rt; output.as_bytes().starts_with(sink.bytes()));
+            assert!(rt; sink.bytes().len() < output.len());
         }
     }
     Ok(())

@@ -1,5 +1,5 @@
 //! Each allocation of a call made to fail: tried with `rt try --test --fail-alloc N`.
-use super::{D1_IL, D1_META, M_DLL, OBJECT_LINE, STRING_LINE, texts};
+use super::{D1_IL, D1_LIST, D1_META, M_DLL, OBJECT_LINE, STRING_LINE, texts};
 use enc_outside::{MemSink, MemStore};
 use enc_top::run_tool;
 use std::alloc::Global;
@@ -57,6 +57,17 @@ fn shows_a_row_of_a_delta_or_runs_out(rt: HostRuntime) {
         &["show", "m", "01000002", "d1"],
         0,
         STRING_LINE,
+    );
+}
+
+#[test]
+fn lists_a_delta_or_runs_out(rt: HostRuntime) {
+    answers_or_runs_out(
+        &rt,
+        &[("m.dll", M_DLL), ("d1.meta", D1_META), ("d1.il", D1_IL)],
+        &["list", "m", "d1"],
+        0,
+        D1_LIST,
     );
 }
 

@@ -5,7 +5,7 @@ use std::test::Fail;
 
 /// Two types with two methods each, by a MethodPtr table that holds 3, 1, 4, 2. The rows of TypeDef
 /// begin at 146, those of MethodPtr at 174, those of MethodDef at 182.
-const CROSSED: &str = concat!(
+pub const CROSSED: &str = concat!(
     "42534a4201000100000000000c00000076342e302e3330333139000000000400",
     "600000008e000000237e0000f00000001500000023537472696e677300000000",
     "08010000100000002347554944000000180100000800000023426c6f62000000",
@@ -90,43 +90,45 @@ fn shows_the_owner_of_a_child(rt: HostRuntime) -> Result<(), Fail> {
     Ok(())
 }
 
+/// A file, a place in it, what is put there, and the answer.
+const REFUSED: [(&str, usize, &str, &str); 9] = [
+    // a method in no run, one that a Ptr row names twice, a Ptr row past its table
+    (IN_NO_RUN, 0, "", "refused b.dll F7 06000001.owner\n"),
+    (CROSSED, 174, "0100", "refused b.dll F7 06000001.owner\n"),
+    (CROSSED, 174, "0500", "refused b.dll F7 05000001.Method\n"),
+    // a run that begins at 0, that falls, that begins behind the place after the last
+    (
+        CROSSED,
+        158,
+        "0000",
+        "refused b.dll F7 02000001.MethodList\n",
+    ),
+    (
+        CROSSED,
+        158,
+        "0400",
+        "refused b.dll F7 02000002.MethodList\n",
+    ),
+    (
+        CROSSED,
+        172,
+        "0600",
+        "refused b.dll F7 02000002.MethodList\n",
+    ),
+    // an index before an offset, an offset before a body, a body
+    (CROSSED, 154, "ff", "refused b.dll F7 02000001.Extends\n"),
+    (
+        CROSSED,
+        182,
+        "010000000000000099",
+        "refused b.dll F8 06000001.Name\n",
+    ),
+    (CROSSED, 196, "01", "refused b.dll F10 06000002\n"),
+];
+
 #[test]
 fn refuses_runs_and_bodies(rt: HostRuntime) -> Result<(), Fail> {
-    let refused = [
-        // a method in no run, one that a Ptr row names twice, a Ptr row past its table
-        (IN_NO_RUN, 0, "", "refused b.dll F7 06000001.owner\n"),
-        (CROSSED, 174, "0100", "refused b.dll F7 06000001.owner\n"),
-        (CROSSED, 174, "0500", "refused b.dll F7 05000001.Method\n"),
-        // a run that begins at 0, that falls, that begins behind the place after the last
-        (
-            CROSSED,
-            158,
-            "0000",
-            "refused b.dll F7 02000001.MethodList\n",
-        ),
-        (
-            CROSSED,
-            158,
-            "0400",
-            "refused b.dll F7 02000002.MethodList\n",
-        ),
-        (
-            CROSSED,
-            172,
-            "0600",
-            "refused b.dll F7 02000002.MethodList\n",
-        ),
-        // an index before an offset, an offset before a body, a body
-        (CROSSED, 154, "ff", "refused b.dll F7 02000001.Extends\n"),
-        (
-            CROSSED,
-            182,
-            "010000000000000099",
-            "refused b.dll F8 06000001.Name\n",
-        ),
-        (CROSSED, 196, "01", "refused b.dll F10 06000002\n"),
-    ];
-    for (file, at, put, output) in refused {
+    for (file, at, put, output) in REFUSED {
         shows(&rt, file, &[(at, put)], "02000001", 1, output)?;
     }
     Ok(())

@@ -17,14 +17,14 @@ loop-i-init c = record {
 pub loop-i-preserved : goal.loop-i-preserved
 loop-i-preserved c = elim c.if-not-is_module.branch [
   | then-not-is_module+in_ok-push w ↦
-      let kept = more_kept (λ t. not (is_module t)) (λ (t : Token). nat_lt t.row 0x1000000) (token_at c.args.self.now) c.loop-i.i c.loop-i.tokens.items c.if-not-is_module.tokens.items c.map-token.result c.loop-i.invariant.items c.loop-i.invariant.rows c.map-token.ensures.at (ap not (sym c.is_module.ensures ∙ w.if-not-is_module.true)) (grind (arith, nat_tests, c.map-token.ensures.row)) (rw w.tokens-is w.in_ok-push.ensures.items) in
+      let kept = more_kept (λ t. not (is_module t)) (λ (t : Token). nat_lt t.row 0x1000000) (token_at c.args.self.now) c.loop-i.i c.loop-i.tokens.items c.if-not-is_module.tokens.items c.token-token.result c.loop-i.invariant.items c.loop-i.invariant.rows c.token-token.ensures.at (ap not (sym c.is_module.ensures ∙ w.if-not-is_module.true)) (grind (arith, nat_tests, c.token-token.ensures.row)) (rw w.tokens-is w.in_ok-push.ensures.items) in
       record {
         items = kept.0;
         rows = kept.1;
-        tables = more_rows (λ (t : Token). nat_lt t.table 0x100) c.loop-i.tokens.items c.if-not-is_module.tokens.items c.map-token.result c.loop-i.invariant.tables (grind (arith, nat_tests, c.map-token.ensures.table)) (rw w.tokens-is w.in_ok-push.ensures.items);
+        tables = more_rows (λ (t : Token). nat_lt t.table 0x100) c.loop-i.tokens.items c.if-not-is_module.tokens.items c.token-token.result c.loop-i.invariant.tables (grind (arith, nat_tests, c.token-token.ensures.table)) (rw w.tokens-is w.in_ok-push.ensures.items);
       }
   | else-not-is_module w ↦
-      let left = more_left (λ t. not (is_module t)) (λ (t : Token). nat_lt t.row 0x1000000) (token_at c.args.self.now) c.loop-i.i c.loop-i.tokens.items c.if-not-is_module.tokens.items c.map-token.result c.loop-i.invariant.items c.loop-i.invariant.rows c.map-token.ensures.at (ap not (sym c.is_module.ensures ∙ w.if-not-is_module.false)) (ap (λ v. v.items) w.tokens-is) in
+      let left = more_left (λ t. not (is_module t)) (λ (t : Token). nat_lt t.row 0x1000000) (token_at c.args.self.now) c.loop-i.i c.loop-i.tokens.items c.if-not-is_module.tokens.items c.token-token.result c.loop-i.invariant.items c.loop-i.invariant.rows c.token-token.ensures.at (ap not (sym c.is_module.ensures ∙ w.if-not-is_module.false)) (ap (λ v. v.items) w.tokens-is) in
       record {
         items = left.0;
         rows = left.1;

@@ -1,0 +1,91 @@
+-- A look-up of the program: where one of the deltas was found, and where none was.
+use Rattle.std.proofs.Common.{◌≡◌, ℕ, false, List, [], ◌∷◌, reverse, Option, Some, None, sym, ap, ◌∙◌}
+use Rattle.std.specs.Prelude.{IsTrue, MatchOption, option_map}
+use Rattle.enc_base.specs.declared.token.Token.{Token}
+use Rattle.enc_meta.specs.Joined.{joined_text, joined_blob, joined_guid}
+use Rattle.enc_schema.specs.declared.column.Column.TheVariants.{Index, Coded}
+use Rattle.enc_schema.specs.declared.column.Coding.{Coding}
+use Rattle.enc_schema.specs.Coding.{decoded}
+use Rattle.enc_schema.specs.Schema.{column_in}
+use Rattle.enc_rows.specs.Source.{Source, raw_in}
+use Rattle.enc_plain.specs.Cell.{Cell, number, text, blob, guid, refer, body, field, numbers, texts, blobs, guids, references, kind_in}
+use Rattle.enc_plain.specs.Module.{has_row, cell_of}
+use Rattle.enc_plain.specs.Reading.{index_token}
+use Rattle.enc_image.specs.Base.{module_in}
+use Rattle.enc_agg.specs.declared.added.Added.{Added}
+use Rattle.enc_agg.specs.declared.added.Found.{Found}
+use Rattle.enc_agg.specs.Extend.{extended, chain_with}
+use Rattle.enc_agg.specs.Seen.{sources, IsAggregate, found_in, found_seen, number_in}
+use Rattle.enc_agg.proofs.Histories.{IsFound, is_found, unfound_row, unfound_cell}
+use Rattle.enc_agg.proofs.Paired.{changes_fit}
+use Rattle.enc_agg.proofs.Viewing.{text_listed, blob_listed, guid_listed, number_listed, index_listed, coded_listed, body_listed, field_listed}
+
+none_found : (o : Option Found) (r : Option (List Added × ℕ)) → option_map found_seen o ≡ r → o ≡ None → r ≡ None
+none_found o r is none = sym is ∙ ap (option_map found_seen) none
+
+-- none was found: row and cells are the base's
+pub base_row : (b : Source) (added : List Added) (u : Token) → IsAggregate b added → (o : Option Found) → option_map found_seen o ≡ found_in added u → o ≡ None → IsTrue (has_row (chain_with b (sources added)).plain u) → IsTrue (has_row (module_in b) u)
+base_row b added u agg o is none there = unfound_row b added u agg.sound agg.all (none_found o _ is none) there
+
+pub base_cell : (b : Source) (added : List Added) (u : Token) (i : ℕ) (cell : Cell) → IsAggregate b added → (o : Option Found) → option_map found_seen o ≡ found_in added u → o ≡ None → cell_of (module_in b) u i ≡ Some cell → cell_of (chain_with b (sources added)).plain u i ≡ Some cell
+base_cell b added u i cell agg o is none here = unfound_cell b added u i cell agg.sound agg.all (none_found o _ is none) here
+
+-- one was found
+pub the_found : (b : Source) (added : List Added) (u : Token) → IsAggregate b added → (o : Option Found) (f : Found) → option_map found_seen o ≡ found_in added u → o ≡ Some f → IsFound b added u (reverse f.upto.now) f.row
+the_found b added u agg o f is some = is_found b added u (reverse f.upto.now) f.row agg.sound agg.all (sym is ∙ ap (option_map found_seen) some)
+
+also : {A : Type 0} (o : Option A) (P Q : A → Type 0) → ((a : A) → P a → Q a) → MatchOption o ⊥ P → MatchOption o ⊥ Q
+also None P Q more h = h
+also (Some a) P Q more h = more a h
+
+raw_found : (b : Source) (added upto : List Added) (u : Token) (k i n : ℕ) (found : IsFound b added u upto k) → number_in upto (record { table = u.table; row = k }) i ≡ n → raw_in found.last.delta (record { table = u.table; row = k }) i ≡ n
+raw_found b added upto u k i n found is = rw found.upto_is at is
+
+-- the cell of the newest delta's row is the module's
+cell_found : (b : Source) (added upto : List Added) (u : Token) (k i : ℕ) (cell : Cell) (found : IsFound b added u upto k) → cell_of (extended (chain_with b (sources found.older)) found.last.delta).plain u i ≡ Some cell → cell_of (chain_with b (sources added)).plain u i ≡ Some cell
+unfolding chain_with
+cell_found b added upto u k i cell found is = found.cells i cell (rw found.upto_is is)
+
+pub text_found : (b : Source) (added upto : List Added) (u : Token) (k i n : ℕ) → IsFound b added u upto k → kind_in u.table i ≡ Some texts → number_in upto (record { table = u.table; row = k }) i ≡ n → MatchOption (joined_text (chain_with b (sources upto)).heaps n) ⊥ (λ a. cell_of (chain_with b (sources added)).plain u i ≡ Some (text a))
+unfolding chain_with extended
+text_found b added upto u k i n found kind is =
+    let c = chain_with b (sources found.older) in
+    rw found.upto_is (also (joined_text (chain_with b (sources (found.last ∷ found.older))).heaps n) _ _ (λ a h. cell_found b added upto u k i (text a) found h) (text_listed c found.last.delta u k i n found.is_added.follows (changes_fit c found.last.delta found.sound found.is_added.follows) found.place kind (raw_found b added upto u k i n found is)))
+
+pub blob_found : (b : Source) (added upto : List Added) (u : Token) (k i n : ℕ) → IsFound b added u upto k → kind_in u.table i ≡ Some blobs → number_in upto (record { table = u.table; row = k }) i ≡ n → MatchOption (joined_blob (chain_with b (sources upto)).heaps n) ⊥ (λ a. cell_of (chain_with b (sources added)).plain u i ≡ Some (blob a))
+unfolding chain_with extended
+blob_found b added upto u k i n found kind is =
+    let c = chain_with b (sources found.older) in
+    rw found.upto_is (also (joined_blob (chain_with b (sources (found.last ∷ found.older))).heaps n) _ _ (λ a h. cell_found b added upto u k i (blob a) found h) (blob_listed c found.last.delta u k i n found.is_added.follows (changes_fit c found.last.delta found.sound found.is_added.follows) found.place kind (raw_found b added upto u k i n found is)))
+
+pub guid_found : (b : Source) (added upto : List Added) (u : Token) (k i n : ℕ) → IsFound b added u upto k → kind_in u.table i ≡ Some guids → number_in upto (record { table = u.table; row = k }) i ≡ n → MatchOption (joined_guid (chain_with b (sources upto)).heaps n) ⊥ (λ a. cell_of (chain_with b (sources added)).plain u i ≡ Some (guid a))
+unfolding chain_with extended
+guid_found b added upto u k i n found kind is =
+    let c = chain_with b (sources found.older) in
+    rw found.upto_is (also (joined_guid (chain_with b (sources (found.last ∷ found.older))).heaps n) _ _ (λ a h. cell_found b added upto u k i (guid a) found h) (guid_listed c found.last.delta u k i n found.is_added.follows (changes_fit c found.last.delta found.sound found.is_added.follows) found.place kind (raw_found b added upto u k i n found is)))
+
+pub number_found : (b : Source) (added upto : List Added) (u : Token) (k i n : ℕ) → IsFound b added u upto k → kind_in u.table i ≡ Some numbers → number_in upto (record { table = u.table; row = k }) i ≡ n → cell_of (chain_with b (sources added)).plain u i ≡ Some (number n)
+number_found b added upto u k i n found kind is =
+    let c = chain_with b (sources found.older) in
+    cell_found b added upto u k i (number n) found (number_listed c found.last.delta u k i n found.is_added.follows (changes_fit c found.last.delta found.sound found.is_added.follows) found.place kind (raw_found b added upto u k i n found is))
+
+pub index_found : (b : Source) (added upto : List Added) (u : Token) (k i n table : ℕ) → IsFound b added u upto k → kind_in u.table i ≡ Some references → column_in u.table i ≡ Some (Index table) → number_in upto (record { table = u.table; row = k }) i ≡ n → cell_of (chain_with b (sources added)).plain u i ≡ Some (refer (index_token table n))
+index_found b added upto u k i n table found kind column is =
+    let c = chain_with b (sources found.older) in
+    cell_found b added upto u k i (refer (index_token table n)) found (index_listed c found.last.delta u k i n table found.is_added.follows (changes_fit c found.last.delta found.sound found.is_added.follows) found.place kind column (raw_found b added upto u k i n found is))
+
+pub coded_found : (b : Source) (added upto : List Added) (u : Token) (k i n : ℕ) (coding : Coding) → IsFound b added u upto k → kind_in u.table i ≡ Some references → column_in u.table i ≡ Some (Coded coding) → number_in upto (record { table = u.table; row = k }) i ≡ n → MatchOption (decoded coding n) ⊥ (λ t. cell_of (chain_with b (sources added)).plain u i ≡ Some (refer t))
+coded_found b added upto u k i n coding found kind column is =
+    let c = chain_with b (sources found.older) in
+    also (decoded coding n) _ _ (λ t h. cell_found b added upto u k i (refer t) found h) (coded_listed c found.last.delta u k i n coding found.is_added.follows (changes_fit c found.last.delta found.sound found.is_added.follows) found.place kind column (raw_found b added upto u k i n found is))
+
+-- a method that a delta lists has no body so far, and a field no initial bytes
+pub body_found : (b : Source) (added upto : List Added) (u : Token) (k : ℕ) → IsFound b added u upto k → u.table ≡ 0x06 → cell_of (chain_with b (sources added)).plain u 0 ≡ Some (body false)
+body_found b added upto u k found is =
+    let c = chain_with b (sources found.older) in
+    cell_found b added upto u k 0 (body false) found (body_listed c found.last.delta u k (changes_fit c found.last.delta found.sound found.is_added.follows) found.place is)
+
+pub field_found : (b : Source) (added upto : List Added) (u : Token) (k : ℕ) → IsFound b added u upto k → u.table ≡ 0x1D → cell_of (chain_with b (sources added)).plain u 0 ≡ Some (field [])
+field_found b added upto u k found is =
+    let c = chain_with b (sources found.older) in
+    cell_found b added upto u k 0 (field []) found (field_listed c found.last.delta u k (changes_fit c found.last.delta found.sound found.is_added.follows) found.place is)

@@ -1,0 +1,233 @@
+-- The deltas after a base, the newest first.
+use Rattle.std.proofs.Common.{◌≡◌, ℕ, suc, ◌+◌, ◌<◌, ◌≤◌, Bool, true, false, List, [], ◌∷◌, ◌++◌, length, map, reverse, Option, Some, None, refl, sym, ap, ◌∙◌, arith}
+use Rattle.std.specs.Prelude.{IsTrue, unwrap_or, slice_get, slice_index, nat_lt}
+use Rattle.std.proofs.lemmas.Option.{slice_get_past}
+use Rattle.std.proofs.lemmas.List.{reverse-append, reverse-reverse, map-append, length-append, length-map, length-reverse}
+use Rattle.std.proofs.lemmas.Bool.Decides.{nat_tests}
+use Rattle.enc_base.specs.declared.token.Token.{Token}
+use Rattle.enc_rows.specs.Source.{Source}
+use Rattle.enc_meta.specs.Joined.{joined_user}
+use Rattle.enc_delta.proofs.Behind.{user_stays}
+use Rattle.enc_plain.specs.Cell.{Cell}
+use Rattle.enc_plain.specs.Chain.{Chain, id_of}
+use Rattle.enc_schema.specs.Schema.{list_at}
+use Rattle.enc_plain.specs.Module.{Row, rows_in, has_row, cell_of}
+use Rattle.enc_image.specs.Base.{cells_fault, module_in, begun}
+use Rattle.enc_image.proofs.Rows.{tables_there}
+use Rattle.enc_delta.specs.Delta.{listed, place_in}
+use Rattle.enc_delta.specs.Rules.{module_token, own_guid, broken, e24_at, e24}
+use Rattle.enc_agg.specs.declared.added.Added.{Added}
+use Rattle.enc_agg.specs.Extend.{extended, chain_with}
+use Rattle.enc_agg.specs.Follows.{HasTables, Follows, IsSound}
+use Rattle.enc_agg.specs.Seen.{sources, IsAdded, AllAdded, found_or, found_in}
+use Rattle.enc_base.specs.Order.{or_else, first_below}
+use Rattle.enc_base.specs.declared.refusal.Place.TheVariants as place
+use Rattle.enc_base.specs.declared.refusal.Place.{Place}
+use Rattle.enc_delta.proofs.Totals.{Limited, limited}
+use Rattle.enc_agg.proofs.Unbroken.{unbroken, heaps_unbroken}
+use Rattle.enc_agg.proofs.Begun.{begun_runs, begun_owned}
+use Rattle.enc_agg.proofs.Fitting.{has_tables, has_runs}
+use Rattle.enc_agg.proofs.Children.{owned_after}
+use Rattle.enc_agg.proofs.Paired.{row_kept, cell_kept}
+
+-- a base that isn't refused begins a sound chain
+begun_sound : (b : Source) → cells_fault b ≡ None → IsSound (begun b)
+unfolding begun
+begun_sound b sound = record { tables = record { count = tables_there b }; runs = begun_runs b; owned = begun_owned b sound }
+
+-- a delta that follows it leaves it so
+extended_sound : (c : Chain) (d : Source) → IsSound c → Follows c d → IsSound (extended c d)
+extended_sound c d sound follows = record {
+  tables = has_tables c d sound.tables;
+  runs = has_runs c d sound.tables follows sound.runs;
+  owned = owned_after c d sound.tables follows sound.runs sound.owned;
+}
+
+-- the newest delta, and those before it
+pub last_added : (b : Source) (a : Added) (older : List Added) → AllAdded b (a ∷ older) → IsAdded (chain_with b (sources older)) a × AllAdded b older
+unfolding AllAdded
+last_added b a older all = all
+
+pub with_sound : (b : Source) (added : List Added) → cells_fault b ≡ None → AllAdded b added → IsSound (chain_with b (sources added))
+unfolding chain_with
+with_sound b [] sound all = begun_sound b sound
+with_sound b (a ∷ older) sound all =
+    let parts = last_added b a older all in
+    extended_sound (chain_with b (sources older)) a.delta (with_sound b older sound parts.1) parts.0.follows
+
+-- none of the deltas lists the token: its row and its cells are the base's
+not_found : (a : Added) (older : List Added) (o : Option ℕ) (rest : Option (List Added × ℕ)) → found_or (a ∷ older) o rest ≡ None → (o ≡ None) × (rest ≡ None)
+not_found a older None rest h = (refl, h)
+not_found a older (Some k) rest h = absurd cc
+
+pub unfound_row : (b : Source) (added : List Added) (u : Token) → cells_fault b ≡ None → AllAdded b added → found_in added u ≡ None → IsTrue (has_row (chain_with b (sources added)).plain u) → IsTrue (has_row (module_in b) u)
+unfolding chain_with found_in begun
+unfound_row b [] u sound all none there = there
+unfound_row b (a ∷ older) u sound all none there =
+    let parts = last_added b a older all in
+    let o = not_found a older (place_in (listed a.delta) u) (found_in older u) none in
+    unfound_row b older u sound parts.1 o.1 (row_kept (chain_with b (sources older)) a.delta u (with_sound b older sound parts.1) parts.0.follows o.0 there)
+
+pub unfound_cell : (b : Source) (added : List Added) (u : Token) (i : ℕ) (cell : Cell) → cells_fault b ≡ None → AllAdded b added → found_in added u ≡ None → cell_of (module_in b) u i ≡ Some cell → cell_of (chain_with b (sources added)).plain u i ≡ Some cell
+unfolding chain_with found_in begun
+unfound_cell b [] u i cell sound all none is = is
+unfound_cell b (a ∷ older) u i cell sound all none is =
+    let parts = last_added b a older all in
+    let o = not_found a older (place_in (listed a.delta) u) (found_in older u) none in
+    cell_kept (chain_with b (sources older)) a.delta u i cell (with_sound b older sound parts.1) parts.0.follows o.0 (unfound_cell b older u i cell sound parts.1 o.1 is)
+
+-- what is known where one was found
+pub record IsFound (b : Source) (added : List Added) (u : Token) (upto : List Added) (k : ℕ) : Type 0 where
+  pub last : Added
+  pub older : List Added
+  pub upto_is : upto ≡ last ∷ older
+  pub is_added : IsAdded (chain_with b (sources older)) last
+  pub all : AllAdded b upto
+  pub sound : IsSound (chain_with b (sources older))
+  pub place : place_in (listed last.delta) u ≡ Some k
+  pub cells : (i : ℕ) (cell : Cell) → cell_of (chain_with b (sources upto)).plain u i ≡ Some cell → cell_of (chain_with b (sources added)).plain u i ≡ Some cell
+
+some_first : {X : Type 0} (p q : X × ℕ) → Some p ≡ Some q → p.0 ≡ q.0
+some_first p q h = ap (λ o. (unwrap_or o p).0) h
+
+some_second : {X : Type 0} (p q : X × ℕ) → Some p ≡ Some q → p.1 ≡ q.1
+some_second p q h = ap (λ o. (unwrap_or o p).1) h
+
+found_step : (b : Source) (a : Added) (older : List Added) (u : Token) (o : Option ℕ) (upto : List Added) (k : ℕ) → cells_fault b ≡ None → AllAdded b (a ∷ older) → place_in (listed a.delta) u ≡ o → found_or (a ∷ older) o (found_in older u) ≡ Some (upto, k) → (found_in older u ≡ Some (upto, k) → IsFound b older u upto k) → IsFound b (a ∷ older) u upto k
+unfolding chain_with
+found_step b a older u (Some k2) upto k sound all place h rest =
+    let same_upto = some_first (a ∷ older, k2) (upto, k) h in
+    let same_k = some_second (a ∷ older, k2) (upto, k) h in
+    let parts = last_added b a older all in
+    record {
+      last = a;
+      older = older;
+      upto_is = sym same_upto;
+      is_added = parts.0;
+      all = rw (← same_upto) all;
+      sound = with_sound b older sound parts.1;
+      place = rw same_k at place;
+      cells = λ i cell is. rw (← same_upto) at is;
+    }
+found_step b a older u None upto k sound all place h rest =
+    let found = rest h in
+    let parts = last_added b a older all in
+    record {
+      last = found.last;
+      older = found.older;
+      upto_is = found.upto_is;
+      is_added = found.is_added;
+      all = found.all;
+      sound = found.sound;
+      place = found.place;
+      cells = λ i cell is. cell_kept (chain_with b (sources older)) a.delta u i cell (with_sound b older sound parts.1) parts.0.follows place (found.cells i cell is);
+    }
+
+pub is_found : (b : Source) (added : List Added) (u : Token) (upto : List Added) (k : ℕ) → cells_fault b ≡ None → AllAdded b added → found_in added u ≡ Some (upto, k) → IsFound b added u upto k
+unfolding found_in
+is_found b [] u upto k sound all h = absurd cc
+is_found b (a ∷ older) u upto k sound all h = found_step b a older u (place_in (listed a.delta) u) upto k sound all refl h (is_found b older u upto k sound (last_added b a older all).1)
+
+-- the heaps of a chain with one delta more
+pub heaps_with : (b d : Source) (older : List Source) → (chain_with b (d ∷ older)).heaps ≡ (chain_with b older).heaps ++ d.heaps ∷ []
+unfolding chain_with extended
+heaps_with b d older = refl
+
+pub heaps_alone : (b : Source) → (chain_with b []).heaps ≡ b.heaps ∷ []
+unfolding chain_with begun
+heaps_alone b = refl
+
+-- the heaps of all: the base's and then each delta's, oldest first
+heaps_by : (b : Source) (added : List Added) → (chain_with b (sources added)).heaps ≡ b.heaps ∷ map (λ (a : Added). a.delta.heaps) (reverse added)
+heaps_by b [] = heaps_alone b
+heaps_by b (a ∷ older) =
+    rw (heaps_with b a.delta (sources older), heaps_by b older, reverse-append (a ∷ []) older, map-append (λ (x : Added). x.delta.heaps) (reverse older) (a ∷ [])) refl
+
+pub heaps_are : (b : Source) (added : List Added) → (chain_with b (sources (reverse added))).heaps ≡ b.heaps ∷ map (λ (a : Added). a.delta.heaps) added
+heaps_are b added = heaps_by b (reverse added) ∙ ap (λ xs. b.heaps ∷ map (λ (a : Added). a.delta.heaps) xs) (reverse-reverse added)
+
+-- the rows of a table after the newest delta
+pub counts_are : (b : Source) (a : Added) (older : List Added) (t : ℕ) → AllAdded b (a ∷ older) → t < 64 → slice_index a.counts.rows t ≡ length (rows_in (chain_with b (sources (a ∷ older))).plain t)
+unfolding chain_with
+counts_are b a older t all low = (last_added b a older all).0.counts t low
+
+-- and of one that no module has
+pub no_table : (c : Chain) (t : ℕ) → HasTables c → 0x2D ≤ t → 0 ≡ length (rows_in c.plain t)
+no_table c t tables high = sym (ap (λ (xs : List Row). length xs) (past_tables c.plain.tables t (omega (arith, tables.count))))
+  where
+    past_tables : {X : Type 0} (xs : List (List X)) (t : ℕ) → length xs ≤ t → list_at xs t ≡ []
+    past_tables xs t h = rw (slice_get_past xs t h) refl
+
+-- all tables are there, whatever the deltas
+pub with_tables : (b : Source) (ds : List Source) → HasTables (chain_with b ds)
+unfolding chain_with begun
+with_tables b [] = record { count = tables_there b }
+with_tables b (d ∷ older) = has_tables (chain_with b older) d (with_tables b older)
+
+-- the newest delta follows a sound chain
+pub lasted : (b : Source) (a : Added) (older : List Added) → cells_fault b ≡ None → AllAdded b (a ∷ older) → IsSound (chain_with b (sources older)) × Follows (chain_with b (sources older)) a.delta
+lasted b a older sound all =
+    let parts = last_added b a older all in
+    (with_sound b older sound parts.1, parts.0.follows)
+
+-- the EncIds are those that are kept, oldest first
+pub ids_are : (b : Source) (added : List Added) → AllAdded b added → (chain_with b (sources added)).ids ≡ map (λ (a : Added). a.id) (reverse added)
+unfolding chain_with begun extended
+ids_are b [] all = refl
+ids_are b (a ∷ older) all =
+    let parts = last_added b a older all in
+    rw (reverse-append (a ∷ []) older, map-append (λ (x : Added). x.id) (reverse older) (a ∷ [])) (ap (λ (x : List ℕ). (chain_with b (sources older)).ids ++ x ∷ []) (sym parts.0.id) ∙ ap (λ (xs : List (List ℕ)). xs ++ a.id ∷ []) (ids_are b older parts.1))
+
+-- there are as many as deltas
+pub ids_count : (b : Source) (ds : List Source) → length (chain_with b ds).ids ≡ length ds
+unfolding chain_with begun extended
+ids_count b [] = refl
+ids_count b (d ∷ older) = length-append (chain_with b older).ids (own_guid (chain_with b older) d 3 ∷ []) ∙ omega (arith, ids_count b older)
+
+-- and heaps of one more
+pub heaps_count : (b : Source) (ds : List Source) → length (chain_with b ds).heaps ≡ length ds + 1
+unfolding chain_with begun extended
+heaps_count b [] = refl
+heaps_count b (d ∷ older) = length-append (chain_with b older).heaps (d.heaps ∷ []) ∙ omega (arith, heaps_count b older)
+
+limit_is : (n : ℕ) (p : Place) (rest : Option Place) → or_else (broken (nat_lt 65535 n) p) rest ≡ None → n ≤ 65535
+limit_is n p rest h = by_test (nat_lt 65535 n) refl h
+  where
+    by_test : (t : Bool) → nat_lt 65535 n ≡ t → or_else (broken t p) rest ≡ None → n ≤ 65535
+    by_test true e h = absurd cc
+    by_test false e h = grind (arith, nat_tests)
+
+-- no more deltas follow than Generation counts
+pub few_deltas : (b : Source) (added : List Added) → AllAdded b added → length added ≤ 65535
+unfolding e24
+few_deltas b [] all = omega arith
+few_deltas b (a ∷ older) all =
+    let limit = limit_is (length (chain_with b (sources older)).ids + 1) (place.Row module_token) (first_below (e24_at (chain_with b (sources older)) a.delta) 0x2D) (unbroken (chain_with b (sources older)) a.delta (last_added b a older all).0.follows.rules).limit in
+    omega (arith, limit, ids_count b (sources older), length-map older (λ (x : Added). x.delta))
+
+-- the EncId of a generation past the base
+pub id_at : (b : Source) (added : List Added) (g : ℕ) (id : List ℕ) → AllAdded b (reverse added) → Some id ≡ slice_get (map (λ (a : Added). a.id) added) g → id ≡ id_of (chain_with b (sources (reverse added))) (suc g)
+id_at b added g id all is =
+    let ids : (chain_with b (sources (reverse added))).ids ≡ map (λ (a : Added). a.id) added = ids_are b (reverse added) all ∙ ap (map (λ (a : Added). a.id)) (reverse-reverse added) in
+    rw (ids, ← is) refl
+
+-- as many EncIds and heaps as there are deltas
+pub ids_many : (b : Source) (added : List Added) → length added + 1 ≡ length (chain_with b (sources (reverse added))).ids + 1
+ids_many b added = omega (arith, ids_count b (sources (reverse added)), length-map (reverse added) (λ (x : Added). x.delta), length-reverse added)
+
+pub heaps_many : (b : Source) (added : List Added) → length added + 1 ≡ length (chain_with b (sources (reverse added))).heaps
+heaps_many b added = omega (arith, heaps_count b (sources (reverse added)), length-map (reverse added) (λ (x : Added). x.delta), length-reverse added)
+
+pub few_added : (b : Source) (added : List Added) → AllAdded b (reverse added) → length added ≤ 65535
+few_added b added all = omega (arith, few_deltas b (reverse added) all, length-reverse added)
+
+-- with the newest delta the heaps keep their limits
+pub last_limited : (b : Source) (a : Added) (older : List Added) → AllAdded b (a ∷ older) → Limited (chain_with b (sources older)) a.delta a.before
+last_limited b a older all =
+    let last = (last_added b a older all).0 in
+    limited (chain_with b (sources older)) a.delta a.before last.before (heaps_unbroken (chain_with b (sources older)) a.delta last.follows.rules)
+
+-- a user text that is there stays with one delta more
+pub user_kept : (b : Source) (added more : List Added) (a : Added) → more ≡ added ++ a ∷ [] → (o : ℕ) (units : List ℕ) → joined_user (chain_with b (sources (reverse added))).heaps o ≡ Some units → joined_user (chain_with b (sources (reverse more))).heaps o ≡ Some units
+unfolding chain_with extended
+user_kept b added more a e o units is = rw (e, reverse-append added (a ∷ [])) (user_stays (chain_with b (sources (reverse added))).heaps a.delta.heaps o units is)

@@ -1,0 +1,26 @@
+use Rattle.std.proofs.Common.{length, ◌<◌, sym, ◌∙◌, arith}
+use Rattle.enc_image.proofs.Alone.{text_alone}
+use Rattle.enc_delta.proofs.Behind.{zero_entry, text_before, text_behind}
+use Rattle.enc_agg.proofs.Histories.{last_added, heaps_with, heaps_alone}
+use Rattle.enc_agg.proofs.added.+text_in.Goals as goal
+
+pub returns-in_default : goal.returns-in_default
+returns-in_default t c = rw (c.in_default.ensures.parts, heaps_alone c.args.image.now) ((rw c.heaps.ensures at c.text.ensures) ∙ sym (text_alone c.args.image.now.heaps c.args.offset))
+
+pub returns-then-offset-eq0 : goal.returns-then-offset-eq0
+returns-then-offset-eq0 t c = zero_entry _ _ c.args.offset c.if-offset-eq0.true
+
+pub text_in-requires : goal.text_in-requires
+text_in-requires t c =
+    let less : length c.in-Some.older.now < t = omega (arith, c.decreases, c.in-Some.ensures.fewer) in
+    (less, (last_added c.args.image.now _ _ (rw c.in-Some.ensures.parts at c.requires)).1)
+
+pub returns-then-from-strings : goal.returns-then-from-strings
+returns-then-from-strings t c =
+    let last = last_added c.args.image.now _ _ (rw c.in-Some.ensures.parts at c.requires) in
+    rw (c.in-Some.ensures.parts, heaps_with c.args.image.now _ _) (c.text_in.ensures ∙ sym (text_before _ _ _ c.args.offset last.0.before (omega (arith, c.from.ensures, c.if-from-strings.true))))
+
+pub returns : goal.returns
+returns t c =
+    let last = last_added c.args.image.now _ _ (rw c.in-Some.ensures.parts at c.requires) in
+    rw (c.in-Some.ensures.parts, heaps_with c.args.image.now _ _) ((rw c.heaps-2.ensures at c.text_entry.ensures) ∙ sym (text_behind _ _ _ c.args.offset last.0.before c.if-offset-eq0.false (omega (arith, c.from.ensures, c.if-from-strings.false))))

@@ -1,0 +1,396 @@
+//! The deltas of an aggregate, asked from the newest to the oldest.
+ghost use Rattle.std.specs.Prelude.{◌≡◌, ◌<◌, ◌-◌, ◌+◌, [], ◌∷◌, Some, None, IfSome, MatchOption, IfOk, IsTrue, is_some, length, map, reverse, option_map, option_copied, slice_get};
+ghost use Rattle.enc_meta.specs.Heaps.{Counted};
+ghost use Rattle.enc_meta.specs.Joined.{joined_text, joined_blob, joined_user, joined_guid};
+ghost use Rattle.enc_schema.specs.Children.{is_child_table, owner_table};
+ghost use Rattle.enc_plain.specs.Module.{rows_in, has_row, owner_of, kids_of};
+ghost use Rattle.enc_delta.specs.Totals.{totals_of};
+ghost use Rattle.enc_image.specs.Base.{cells_fault};
+ghost use Rattle.enc_agg.specs.Extend.{chain_with};
+ghost use Rattle.enc_agg.specs.Seen.{sources, AllAdded, found_in, found_seen, number_in, heap_named, total_named, own_place, own_guid_place};
+ghost use Rattle.enc_agg.specs.Place.{heap_place, guid_place};
+
+use crate::log::{count_given, given, owner_given, push_given};
+use crate::place::HeapPlace;
+use enc_base::{Counts, StreamName, Token};
+use enc_delta::{Delta, HeapTotals};
+use enc_image::Image;
+use enc_meta::Heaps;
+use enc_plain::ModuleView;
+use std::alloc::{AllocError, Global};
+use std::marker::Model;
+
+/// A delta that was accepted, with what is asked for often: the lengths of the joined heaps before
+/// it, its EncId, and how many rows each table has after it.
+#[derive(Drop)]
+pub struct Added {
+    pub delta: Delta,
+    pub before: HeapTotals,
+    pub id: [u8; 16],
+    pub counts: Counts,
+}
+
+/// The deltas up to the newest that lists a token, and the token's position there.
+#[derive(Drop)]
+pub struct Found<'a> {
+    pub upto: &'a [Added],
+    pub row: u32,
+}
+
+/// The newest delta, and those before it.
+fn newest(added: &[Added]) -> Option<(&Added, &[Added])>
+    ensures parts { MatchOption result (reverse added.now ≡ []) (λ r. reverse added.now ≡ r.0.now ∷ reverse r.1.now) }
+    ensures fewer { IfSome result (λ r. length r.1.now < length added.now) }
+{
+    match added {
+        [] => None,
+        [older @ .., last] => Some((last, older)),
+    }
+}
+
+/// The newest delta that lists a token.
+pub fn find(added: &[Added], token: Token) -> Option<Found<'_>>
+    ensures { option_map found_seen result ≡ found_in (reverse added.now) token }
+{
+    let Some((last, older)) = newest(added) else {
+        return None;
+    };
+    match last.delta.place(token) {
+        Some(row) => Some(Found { upto: added, row }),
+        None => find(older, token),
+    }
+}
+
+/// The number in a column of a row of the newest delta.
+pub fn number(added: &[Added], row: Token, column: u8) -> u32
+    ensures { number_in (reverse added.now) row column ≡ result }
+{
+    match newest(added) {
+        Some((last, _)) => last.delta.cell(row, column),
+        None => 0,
+    }
+}
+
+/// The text at an offset of the joined `#Strings`, None where the offset isn't good.
+pub fn text_in<'a>(image: &'a Image, added: &'a [Added], offset: u32) -> Option<&'a [u8]>
+    requires { AllAdded image.now (reverse added.now) }
+    ensures { option_copied result ≡ joined_text (chain_with image.now (sources (reverse added.now))).heaps offset }
+{
+    let Some((last, older)) = newest(added) else {
+        return image.heaps().text(offset);
+    };
+    if offset == 0 {
+        return Some(&[]);
+    }
+    let strings = last.before.strings;
+    if u64::from(offset) < strings {
+        return text_in(image, older, offset);
+    }
+    last.delta.heaps().text_entry(offset - strings as u32)
+}
+
+/// Whether a text stands at an offset of the joined `#Strings`.
+pub fn has_text_in(image: &Image, added: &[Added], offset: u32) -> bool
+    requires { AllAdded image.now (reverse added.now) }
+    ensures { result ≡ is_some (joined_text (chain_with image.now (sources (reverse added.now))).heaps offset) }
+{
+    let Some((last, older)) = newest(added) else {
+        return image.heaps().has_text(offset);
+    };
+    if offset == 0 {
+        return true;
+    }
+    let strings = last.before.strings;
+    if u64::from(offset) < strings {
+        return has_text_in(image, older, offset);
+    }
+    last.delta.heaps().has_text_entry(offset - strings as u32)
+}
+
+/// The bytes at an offset of the joined `#Blob`, None where the offset isn't good.
+pub fn blob_in<'a>(image: &'a Image, added: &'a [Added], offset: u32) -> Option<&'a [u8]>
+    requires { AllAdded image.now (reverse added.now) }
+    ensures { option_copied result ≡ joined_blob (chain_with image.now (sources (reverse added.now))).heaps offset }
+{
+    let Some((last, older)) = newest(added) else {
+        return image.heaps().blob(offset);
+    };
+    if offset == 0 {
+        return Some(&[]);
+    }
+    let blobs = last.before.blobs;
+    if u64::from(offset) < blobs {
+        return blob_in(image, older, offset);
+    }
+    let own = offset - blobs as u32;
+    if own as usize >= last.delta.heaps().blobs().len() {
+        return None;
+    }
+    last.delta.heaps().blob_entry(own)
+}
+
+/// The bytes of the units at an offset of the joined `#US`, None where the offset isn't good.
+pub fn user_in<'a>(image: &'a Image, added: &'a [Added], offset: u32) -> Option<&'a [u8]>
+    requires { AllAdded image.now (reverse added.now) }
+    ensures { option_copied result ≡ joined_user (chain_with image.now (sources (reverse added.now))).heaps offset }
+{
+    let Some((last, older)) = newest(added) else {
+        return image.heaps().user(offset);
+    };
+    if offset == 0 {
+        return Some(&[]);
+    }
+    let users = last.before.users;
+    if u64::from(offset) < users {
+        return user_in(image, older, offset);
+    }
+    let own = offset - users as u32;
+    if own as usize >= last.delta.heaps().users().len() {
+        return None;
+    }
+    last.delta.heaps().user_entry(own)
+}
+
+/// Entry k of the joined `#GUID`, from the first generation that has it; None where none has.
+pub fn guid_in(image: &Image, added: &[Added], k: u32) -> Option<[u8; 16]>
+    requires { AllAdded image.now (reverse added.now) }
+    ensures { result ≡ joined_guid (chain_with image.now (sources (reverse added.now))).heaps k }
+{
+    let Some((last, older)) = newest(added) else {
+        return image.heaps().guid(k);
+    };
+    match guid_in(image, older, k) {
+        Some(guid) => Some(guid),
+        None => last.delta.heaps().guid(k),
+    }
+}
+
+/// How many bytes of a heap count whose entries go by offsets; 0 for other streams.
+fn len_of(heaps: &Heaps<'_>, heap: StreamName) -> usize
+    ensures { result ≡ length (heap_named heap heaps.now) }
+{
+    match heap {
+        StreamName::Strings => heaps.strings().len(),
+        StreamName::Users => heaps.users().len(),
+        StreamName::Blobs => heaps.blobs().len(),
+        _ => 0,
+    }
+}
+
+/// How many bytes such heaps have together.
+fn total_of(totals: &HeapTotals, heap: StreamName) -> u64
+    ensures { result ≡ total_named heap totals.now }
+{
+    match heap {
+        StreamName::Strings => totals.strings,
+        StreamName::Users => totals.users,
+        StreamName::Blobs => totals.blobs,
+        _ => 0,
+    }
+}
+
+/// The place of an offset in a generation's own heap; None past its end.
+fn own_place(heaps: &Heaps<'_>, heap: StreamName, generation: u32, offset: u32) -> Option<HeapPlace>
+    ensures { result ≡ own_place (heap_named heap heaps.now) generation offset }
+{
+    if (offset as usize) < len_of(heaps, heap) {
+        Some(HeapPlace { generation, offset })
+    } else {
+        None
+    }
+}
+
+/// Where an offset of a joined heap stands. None where it is past the heap, and for streams whose
+/// entries don't go by offsets.
+pub fn heap_place_in(
+    image: &Image,
+    added: &[Added],
+    heap: StreamName,
+    offset: u32,
+) -> Option<HeapPlace>
+    requires { AllAdded image.now (reverse added.now) }
+    ensures { result ≡ heap_place (map (λ (h : Counted). heap_named heap h) (chain_with image.now (sources (reverse added.now))).heaps) offset }
+{
+    let Some((last, older)) = newest(added) else {
+        return own_place(&image.heaps(), heap, 0, offset);
+    };
+    let before = total_of(&last.before, heap);
+    if u64::from(offset) < before {
+        return heap_place_in(image, older, heap, offset);
+    }
+    let own = offset - before as u32;
+    own_place(&last.delta.heaps(), heap, added.len() as u32, own)
+}
+
+/// The place of entry k of a generation's own `#GUID`, k from 1; None where it has fewer.
+fn own_guid_place(heaps: &Heaps<'_>, generation: u32, k: u32) -> Option<HeapPlace>
+    ensures { result ≡ own_guid_place heaps.now.guids generation k }
+{
+    if k == 0 || k as usize > heaps.guids().len() / 16 {
+        return None;
+    }
+    Some(HeapPlace {
+        generation,
+        offset: k,
+    })
+}
+
+/// The place of entry k of `#GUID`, k from 1, in the first generation that has it; None where none
+/// has.
+pub fn guid_place_in(image: &Image, added: &[Added], k: u32) -> Option<HeapPlace>
+    requires { AllAdded image.now (reverse added.now) }
+    ensures { result ≡ guid_place (map (λ (h : Counted). h.guids) (chain_with image.now (sources (reverse added.now))).heaps) k }
+{
+    let Some((last, older)) = newest(added) else {
+        return own_guid_place(&image.heaps(), 0, k);
+    };
+    match guid_place_in(image, older, k) {
+        Some(place) => Some(place),
+        None => own_guid_place(&last.delta.heaps(), added.len() as u32, k),
+    }
+}
+
+/// The lengths of the joined heaps.
+pub fn totals_in(image: &Image, added: &[Added]) -> HeapTotals
+    requires { AllAdded image.now (reverse added.now) }
+    ensures { result ≡ totals_of (chain_with image.now (sources (reverse added.now))).heaps }
+{
+    match newest(added) {
+        None => HeapTotals::of(&image.heaps()),
+        Some((last, _)) => last.before.with(&last.delta.heaps()),
+    }
+}
+
+/// The EncId of a delta, from 0.
+pub fn id_in(added: &[Added], n: u32) -> [u8; 16]
+    requires { n < length added.now }
+    ensures { Some result ≡ slice_get (map (λ (a : Added). a.id) added.now) n }
+{
+    added[n as usize].id
+}
+
+/// The number of rows of a table.
+pub fn count_in(image: &Image, added: &[Added], table: u8) -> u32
+    requires { AllAdded image.now (reverse added.now) }
+    ensures { result ≡ length (rows_in (chain_with image.now (sources (reverse added.now))).plain table) }
+{
+    let Some((last, _)) = newest(added) else {
+        return image.count(table);
+    };
+    if table < 64 {
+        last.counts.rows[table as usize]
+    } else {
+        0
+    }
+}
+
+/// The owner of a row of a child table.
+pub fn owner_in(image: &Image, added: &[Added], child: Token) -> Token
+    requires sound { cells_fault image.now ≡ None }
+    requires added { AllAdded image.now (reverse added.now) }
+    requires row { IsTrue (has_row (chain_with image.now (sources (reverse added.now))).plain child) }
+    requires table { IsTrue (is_child_table child.table) }
+    ensures { owner_of (chain_with image.now (sources (reverse added.now))).plain child ≡ Some result }
+{
+    let Some((last, older)) = newest(added) else {
+        return image.owner(child);
+    };
+    let before = count_in(image, older, child.table);
+    if child.row <= before {
+        return owner_in(image, older, child);
+    }
+    owner_given(&last.delta, child.table, child.row - before - 1)
+}
+
+/// How many children in a child table a row has in the base; a new row has none.
+fn kids_of_image(image: &Image, owner: Token, table: u8) -> u32
+    requires row { 0 < owner.row }
+    requires table { IsTrue (is_child_table table) }
+    requires owners { owner.table ≡ owner_table table }
+    ensures { result ≡ length (kids_of (chain_with image.now []).plain owner table) }
+{
+    if owner.row <= image.count(owner.table) {
+        image.kids(owner, table)
+    } else {
+        0
+    }
+}
+
+/// How many children in a child table a row has.
+pub fn kids_in(image: &Image, added: &[Added], owner: Token, table: u8) -> u32
+    requires sound { cells_fault image.now ≡ None }
+    requires added { AllAdded image.now (reverse added.now) }
+    requires row { 0 < owner.row }
+    requires table { IsTrue (is_child_table table) }
+    requires owners { owner.table ≡ owner_table table }
+    ensures { result ≡ length (kids_of (chain_with image.now (sources (reverse added.now))).plain owner table) }
+{
+    let Some((last, older)) = newest(added) else {
+        return kids_of_image(image, owner, table);
+    };
+    kids_in(image, older, owner, table) + count_given(&last.delta, owner, table)
+}
+
+/// A row's child in a child table, by its place from the last one back, from 0.
+pub fn kid_back(image: &Image, added: &[Added], owner: Token, table: u8, back: u32) -> u32
+    requires sound { cells_fault image.now ≡ None }
+    requires added { AllAdded image.now (reverse added.now) }
+    requires row { 0 < owner.row }
+    requires table { IsTrue (is_child_table table) }
+    requires owners { owner.table ≡ owner_table table }
+    requires there { back < length (kids_of (chain_with image.now (sources (reverse added.now))).plain owner table) }
+    ensures { slice_get (kids_of (chain_with image.now (sources (reverse added.now))).plain owner table) (length (kids_of (chain_with image.now (sources (reverse added.now))).plain owner table) - 1 - back) ≡ Some result }
+{
+    let Some((last, older)) = newest(added) else {
+        let last = image.kids(owner, table) - 1;
+        return image.kid(owner, table, last - back).row;
+    };
+    let own = count_given(&last.delta, owner, table);
+    if back >= own {
+        return kid_back(image, older, owner, table, back - own);
+    }
+    let before = count_in(image, older, table);
+    given(&last.delta, before, owner, table, own - 1 - back)
+}
+
+/// The rows of a row's children in a child table in the base; a new row has none.
+fn kid_rows_of_image(
+    alloc: Global,
+    image: &Image,
+    owner: Token,
+    table: u8,
+) -> Result<Vec<u32>, AllocError>
+    requires row { 0 < owner.row }
+    requires table { IsTrue (is_child_table table) }
+    requires owners { owner.table ≡ owner_table table }
+    ensures { IfOk result (λ rows. rows.items ≡ kids_of (chain_with image.now []).plain owner table) }
+{
+    if owner.row > image.count(owner.table) {
+        return Ok(Vec::new(alloc));
+    }
+    image.kid_rows(alloc, owner, table)
+}
+
+/// The rows of a row's children in a child table, in order of attachment.
+pub fn kid_rows_in(
+    alloc: Global,
+    image: &Image,
+    added: &[Added],
+    owner: Token,
+    table: u8,
+) -> Result<Vec<u32>, AllocError>
+    requires sound { cells_fault image.now ≡ None }
+    requires added { AllAdded image.now (reverse added.now) }
+    requires row { 0 < owner.row }
+    requires table { IsTrue (is_child_table table) }
+    requires owners { owner.table ≡ owner_table table }
+    ensures { IfOk result (λ rows. rows.items ≡ kids_of (chain_with image.now (sources (reverse added.now))).plain owner table) }
+{
+    let Some((last, older)) = newest(added) else {
+        return kid_rows_of_image(alloc, image, owner, table);
+    };
+    let before = count_in(image, older, table);
+    let mut rows = kid_rows_in(alloc, image, older, owner, table)?;
+    push_given(&last.delta, before, owner, table, &mut rows)?;
+    Ok(rows)
+}

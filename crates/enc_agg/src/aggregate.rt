@@ -1,0 +1,227 @@
+//! A base with the deltas that follow it.
+ghost use Rattle.std.specs.Prelude.{◌≡◌, ◌+◌, ◌<◌, ◌≤◌, ◌∷◌, [], ℕ, List, None, Some, IfOk, length, drop, ◌-◌, reverse, option_copied, option_map, slice_get, slice_index, if◌then◌else◌};
+ghost use Rattle.enc_meta.specs.Heaps.{Counted, lengths_of};
+ghost use Rattle.enc_meta.specs.Joined.{joined_user};
+ghost use Rattle.enc_plain.specs.Module.{rows_in, has_row};
+ghost use Rattle.enc_delta.specs.Delta.{listed};
+ghost use Rattle.enc_delta.specs.Totals.{totals_of};
+ghost use Rattle.enc_delta.specs.Rules.{first_meta, inserts};
+ghost use Rattle.enc_image.specs.Base.{cells_fault};
+ghost use Rattle.enc_agg.specs.Extend.{extended, chain_with};
+ghost use Rattle.enc_agg.specs.Follows.{Follows};
+ghost use Rattle.enc_agg.specs.Place.{place_of, place_in_heaps, delta_at};
+ghost use Rattle.enc_agg.specs.Seen.{chain_of_all, module_of_all, sources, AllAdded, IsAdded, IsReady};
+
+use crate::added::{Added, count_in, find, guid_place_in, heap_place_in, totals_in, user_in};
+use crate::place::{HeapPlace, RowPlace};
+use enc_base::{Counts, StreamName, Token};
+use enc_delta::{Delta, HeapTotals, enc_id_of, inserts_of};
+use enc_image::Image;
+use enc_meta::HeapLengths;
+use enc_plain::is_row;
+use std::alloc::{AllocError, Global};
+use std::marker::Model;
+
+/// A base and the deltas that follow it, oldest first. All keep their files' bytes; a row is looked
+/// for from the newest delta to the base.
+#[derive(Drop)]
+pub struct Aggregate {
+    pub(crate) image: Image,
+    pub(crate) added: Vec<Added>,
+    alloc: Global,
+}
+
+impl Model for Aggregate {
+    ghost use Rattle.std.specs.Prelude.{◌-◌, reverse, vec_len, vec_capacity};
+    ghost use Rattle.enc_agg.specs.Seen.{History, sources, IsAggregate};
+
+    ghost Value = { History };
+
+    ghost view = { λ a. record { base = a.image; deltas = sources (reverse a.added.items); room = vec_capacity a.added - vec_len a.added } };
+
+    ghost invariant = { λ a. IsAggregate a.image (reverse a.added.items) };
+}
+
+/// A delta that may be committed.
+#[derive(Drop)]
+pub struct Ready {
+    added: Added,
+}
+
+/// How many rows a table has after a delta with these inserts.
+fn count_after(image: &Image, added: &[Added], delta: &Delta, more: &[usize; 256], table: u8) -> u32
+    requires sound { cells_fault image.now ≡ None }
+    requires added { AllAdded image.now (reverse added.now) }
+    requires follows { Follows (chain_with image.now (sources (reverse added.now))) delta.now }
+    requires more { (t : ℕ) → t < 256 → slice_index more.now t ≡ inserts (chain_with image.now (sources (reverse added.now))) (listed delta.now) t }
+    ensures { result ≡ length (rows_in (extended (chain_with image.now (sources (reverse added.now))) delta.now).plain table) }
+{
+    let _ = delta;
+    let before = count_in(image, added, table);
+    let own = more[table as usize];
+    if own == 0 {
+        return before;
+    }
+    before + own as u32
+}
+
+/// How many rows each table has after it.
+fn counts_after(image: &Image, added: &[Added], delta: &Delta, more: &[usize; 256]) -> Counts
+    requires sound { cells_fault image.now ≡ None }
+    requires added { AllAdded image.now (reverse added.now) }
+    requires follows { Follows (chain_with image.now (sources (reverse added.now))) delta.now }
+    requires more { (t : ℕ) → t < 256 → slice_index more.now t ≡ inserts (chain_with image.now (sources (reverse added.now))) (listed delta.now) t }
+    ensures { (t : ℕ) → t < 64 → slice_index result.rows t ≡ length (rows_in (extended (chain_with image.now (sources (reverse added.now))) delta.now).plain t) }
+{
+    let mut rows = [0; 64];
+    for t in 0..64_u8 {
+        rows[t as usize] = count_after(image, added, delta, more, t);
+    }
+    Counts { rows }
+}
+
+impl Aggregate {
+    /// A base without deltas.
+    pub fn begin(alloc: Global, image: Image) -> Result<Aggregate, AllocError>
+        ensures base { IfOk result (λ a. a.base ≡ image) }
+        ensures deltas { IfOk result (λ a. a.deltas ≡ []) }
+    {
+        image.sound();
+        Ok(Aggregate {
+            image,
+            added: Vec::new(alloc),
+            alloc,
+        })
+    }
+
+    /// Makes a delta ready that breaks no rule, and room for it: all memory is taken here, and
+    /// nothing else that is seen changes.
+    pub fn prepare(&mut self, delta: Delta) -> Result<Ready, AllocError>
+        requires { first_meta (chain_of_all self.old) delta ≡ None }
+        ensures base { self.new.base ≡ self.old.base }
+        ensures deltas { self.new.deltas ≡ self.old.deltas }
+        ensures room { IfOk result (λ r. 0 < self.new.room) }
+        ensures kept { self.old.room ≤ self.new.room }
+        ensures ready { IfOk result (λ r. IsReady self.old delta r.added) }
+    {
+        let tokens = match delta.tokens(self.alloc) {
+            Ok(tokens) => tokens,
+            Err(error) => return Err(error),
+        };
+        let more = inserts_of(self, &tokens);
+        let counts = counts_after(&self.image, &self.added, &delta, &more);
+        let before = totals_in(&self.image, &self.added);
+        let id = enc_id_of(self, &delta);
+        match self.added.reserve(1) {
+            Ok(()) => {}
+            Err(error) => return Err(error),
+        }
+        Ok(Ready {
+            added: Added {
+                delta,
+                before,
+                id,
+                counts,
+            },
+        })
+    }
+
+    /// Adds the delta that was made ready from this state. It can't fail.
+    pub fn commit(&mut self, ready: Ready)
+        requires ready { IsAdded (chain_of_all self.old) ready.added }
+        requires room { 0 < self.old.room }
+        ensures base { self.new.base ≡ self.old.base }
+        ensures deltas { self.new.deltas ≡ ready.added.delta ∷ self.old.deltas }
+        ensures room { self.new.room + 1 ≡ self.old.room }
+        ensures texts { (offset : ℕ) (units : List ℕ) → joined_user (chain_of_all self.old).heaps offset ≡ Some units → joined_user (chain_of_all self.new).heaps offset ≡ Some units }
+    {
+        self.added.push_reserved(ready.added);
+    }
+
+    /// The bytes of the UTF-16 units at an offset of the joined `#US`, without their length and the
+    /// byte behind them; None where the offset isn't good. A text that is there stays whatever is
+    /// committed.
+    pub fn user_text(&self, offset: u32) -> Option<&[u8]>
+        ensures { option_copied result ≡ joined_user (chain_of_all self.now).heaps offset }
+    {
+        user_in(&self.image, &self.added, offset)
+    }
+
+    /// Where a row stands: in the newest generation whose map has its token, else in the base. None
+    /// where the module lacks it.
+    pub fn locate(&self, token: Token) -> Option<RowPlace>
+        ensures { result ≡ (if has_row (module_of_all self.now) token then Some (place_of self.now.deltas token) else None) }
+    {
+        if !is_row(self, token) {
+            return None;
+        }
+        Some(self.place(token))
+    }
+
+    /// Where a token stands: in the newest generation whose map has it, and else in the base, at its
+    /// own row.
+    pub fn place(&self, token: Token) -> RowPlace
+        ensures { result ≡ place_of self.now.deltas token }
+    {
+        match find(&self.added, token) {
+            Some(found) => RowPlace {
+                generation: found.upto.len() as u32,
+                row: found.row,
+            },
+            None => RowPlace {
+                generation: 0,
+                row: token.row,
+            },
+        }
+    }
+
+    /// The lengths of the joined heaps.
+    pub fn totals(&self) -> HeapTotals
+        ensures { result ≡ totals_of (chain_of_all self.now).heaps }
+    {
+        totals_in(&self.image, &self.added)
+    }
+
+    /// The number of rows of a table up to a generation.
+    pub fn count_at(&self, generation: u32, table: u8) -> u32
+        requires { generation ≤ length self.now.deltas }
+        ensures { result ≡ length (rows_in (chain_with self.now.base (drop (length self.now.deltas - generation) self.now.deltas)).plain table) }
+    {
+        count_in(&self.image, &self.added[..generation as usize], table)
+    }
+
+    /// The delta of a generation; None for the base and past the last.
+    pub fn delta(&self, generation: u32) -> Option<&Delta>
+        ensures { option_copied result ≡ delta_at self.now.deltas generation }
+    {
+        let n = generation.checked_sub(1)?;
+        Some(&self.added.get(n as usize)?.delta)
+    }
+
+    /// How many bytes of `#Strings`, `#US` and `#Blob` count in a generation's own file, and how many
+    /// whole entries its `#GUID` has.
+    pub fn heap_lengths(&self, generation: u32) -> HeapLengths
+        requires { generation ≤ length self.now.deltas }
+        ensures { Some result ≡ option_map (λ (h : Counted). lengths_of h) (slice_get (chain_of_all self.now).heaps generation) }
+    {
+        match generation.checked_sub(1) {
+            None => self.image.lengths(),
+            Some(n) => self.added[n as usize].delta.lengths(),
+        }
+    }
+
+    /// Where an offset of a joined heap stands: its generation, and the offset in that generation's
+    /// heap. Of `#GUID` the offset is the entry's number, from 1. None where the offset is past the
+    /// joined heap, where no generation has the entry, and for all other streams.
+    pub fn locate_heap(&self, heap: StreamName, offset: u32) -> Option<HeapPlace>
+        ensures { result ≡ place_in_heaps (chain_of_all self.now).heaps heap offset }
+    {
+        match heap {
+            StreamName::Strings | StreamName::Users | StreamName::Blobs => {
+                heap_place_in(&self.image, &self.added, heap, offset)
+            }
+            StreamName::Guids => guid_place_in(&self.image, &self.added, offset),
+            _ => None,
+        }
+    }
+}

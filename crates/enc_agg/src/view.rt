@@ -1,0 +1,149 @@
+//! An aggregate as a view of its plain module and of its chain.
+ghost use Rattle.std.specs.Prelude.{◌≡◌};
+ghost use Rattle.enc_agg.specs.Seen.{module_of_all, chain_of_all};
+
+use crate::added::{
+    Added, blob_in, count_in, find, guid_in, has_text_in, id_in, kid_back, kid_rows_in, kids_in,
+    number, owner_in, text_in,
+};
+use crate::aggregate::Aggregate;
+use enc_base::Token;
+use enc_plain::{ChainView, ModuleView, index_token};
+use enc_schema::{Column, column_of, decode_coded};
+use std::alloc::{AllocError, Global};
+
+/// A row of a table.
+fn row_found(table: u8, row: u32) -> Token
+    ensures { result ≡ record { table = table; row = row } }
+{
+    Token { table, row }
+}
+
+impl ModuleView for Aggregate {
+    ghost meaning = { module_of_all };
+
+    fn count(&self, table: u8) -> u32 {
+        count_in(&self.image, &self.added, table)
+    }
+
+    fn num(&self, row: Token, column: u8) -> u32 {
+        match find(&self.added, row) {
+            None => self.image.num(row, column),
+            Some(found) => number(found.upto, row_found(row.table, found.row), column),
+        }
+    }
+
+    fn text(&self, row: Token, column: u8) -> &[u8] {
+        let Some(found) = find(&self.added, row) else {
+            return self.image.text(row, column);
+        };
+        let offset = number(found.upto, row_found(row.table, found.row), column);
+        match text_in(&self.image, found.upto, offset) {
+            Some(text) => text,
+            None => unreachable!(),
+        }
+    }
+
+    fn blob(&self, row: Token, column: u8) -> &[u8] {
+        let Some(found) = find(&self.added, row) else {
+            return self.image.blob(row, column);
+        };
+        let offset = number(found.upto, row_found(row.table, found.row), column);
+        match blob_in(&self.image, found.upto, offset) {
+            Some(blob) => blob,
+            None => unreachable!(),
+        }
+    }
+
+    fn guid(&self, row: Token, column: u8) -> [u8; 16] {
+        let Some(found) = find(&self.added, row) else {
+            return self.image.guid(row, column);
+        };
+        let entry = number(found.upto, row_found(row.table, found.row), column);
+        match guid_in(&self.image, found.upto, entry) {
+            Some(guid) => guid,
+            None => unreachable!(),
+        }
+    }
+
+    fn refer(&self, row: Token, column: u8) -> Token {
+        let Some(found) = find(&self.added, row) else {
+            return self.image.refer(row, column);
+        };
+        let number = number(found.upto, row_found(row.table, found.row), column);
+        match column_of(row.table, column) {
+            Some(Column::Index(table)) => index_token(table, number),
+            Some(Column::Coded(kind)) => match decode_coded(kind, number) {
+                Some(token) => token,
+                None => unreachable!(),
+            },
+            _ => unreachable!(),
+        }
+    }
+
+    fn has_body(&self, method: Token) -> bool {
+        match find(&self.added, method) {
+            None => self.image.has_body(method),
+            Some(_) => false,
+        }
+    }
+
+    fn field_bytes(&self, row: Token) -> &[u8] {
+        match find(&self.added, row) {
+            None => self.image.field_bytes(row),
+            Some(_) => &[],
+        }
+    }
+
+    fn owner(&self, child: Token) -> Token {
+        owner_in(&self.image, &self.added, child)
+    }
+
+    fn kids(&self, owner: Token, table: u8) -> u32 {
+        kids_in(&self.image, &self.added, owner, table)
+    }
+
+    fn kid(&self, owner: Token, table: u8, i: u32) -> Token {
+        let last = kids_in(&self.image, &self.added, owner, table) - 1;
+        Token {
+            table,
+            row: kid_back(&self.image, &self.added, owner, table, last - i),
+        }
+    }
+
+    fn kid_rows(&self, alloc: Global, owner: Token, table: u8) -> Result<Vec<u32>, AllocError> {
+        kid_rows_in(alloc, &self.image, &self.added, owner, table)
+    }
+}
+
+impl ChainView for Aggregate {
+    ghost chain = { chain_of_all };
+
+    fn generations(&self) -> u32 {
+        let added: &[Added] = &self.added;
+        added.len() as u32 + 1
+    }
+
+    fn enc_id(&self, generation: u32) -> [u8; 16] {
+        if generation == 0 {
+            return [0; 16];
+        }
+        id_in(&self.added, generation - 1)
+    }
+
+    fn text_at(&self, offset: u32) -> Option<&[u8]> {
+        text_in(&self.image, &self.added, offset)
+    }
+
+    fn has_text(&self, offset: u32) -> bool {
+        has_text_in(&self.image, &self.added, offset)
+    }
+
+    fn blob_at(&self, offset: u32) -> Option<&[u8]> {
+        blob_in(&self.image, &self.added, offset)
+    }
+
+    fn guid_at(&self, k: u32) -> Option<[u8; 16]> {
+        guid_in(&self.image, &self.added, k)
+    }
+}

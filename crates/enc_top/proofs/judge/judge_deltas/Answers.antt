@@ -1,0 +1,25 @@
+use Rattle.std.proofs.Common.{◌≡◌, ◌+◌, ◌∷◌, [], ◌∙◌, length, arith}
+use Rattle.enc_top.specs.Loads.{file_seen}
+use Rattle.enc_top.proofs.Loading.{judged_more, judging_stops, judged_none, none_left}
+use Rattle.enc_top.proofs.judge.judge_deltas.Goals as goal
+
+pub loop-file-preserved : goal.loop-file-preserved
+loop-file-preserved c =
+    let items : c.loop-file.file-iterator.rest.items ≡ c.in-Some.file ∷ c.next.new.self.rest.items = c.in-Some.ensures.steps.0 in
+    record {
+      next = tt;
+      finite = tt;
+      many = let one : length c.loop-file.file-iterator.rest.items ≡ length c.next.new.self.rest.items + 1 = rw items (omega arith) in omega (arith, one, c.in-Some.ensures.steps.1, c.loop-file.invariant.many);
+      base = c.judge_delta.ensures.base ∙ c.loop-file.invariant.base;
+      judged = c.loop-file.invariant.judged ∙ rw items (judged_more {U = Unit {0}} c.loop-file.agg c.judge_delta.new.agg (file_seen c.in-Some.file) _ tt (rw c.in-Ok-Ok.field-0-is at c.in-Ok-Ok.ensures.step) c.judge_delta.ensures.base);
+    }
+
+pub returns-in-Ok-Err-clause-step : goal.returns-in-Ok-Err-clause-step
+returns-in-Ok-Err-clause-step c =
+    let items : c.loop-file.file-iterator.rest.items ≡ c.in-Some.file ∷ c.next.new.self.rest.items = c.in-Some.ensures.steps.0 in
+    rw (c.loop-file.invariant.judged, items) (judging_stops _ _ (file_seen c.in-Some.file) _ _ (rw c.in-Ok-Err.field-0-is at c.in-Ok-Err.ensures.step))
+
+pub returns-clause-step : goal.returns-clause-step
+returns-clause-step c =
+    let none : c.loop-file.file-iterator.rest.items ≡ [] = none_left _ (omega (arith, c.in-None.ensures.steps.0, c.loop-file.invariant.many)) in
+    c.loop-file.invariant.judged ∙ rw none (judged_none _ _)
