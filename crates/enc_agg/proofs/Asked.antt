@@ -1,8 +1,15 @@
 -- A look-up of the program: where one of the deltas was found, and where none was.
-use Rattle.std.proofs.Common.{◌≡◌, ℕ, false, List, [], ◌∷◌, reverse, Option, Some, None, sym, ap, ◌∙◌}
+use Rattle.std.proofs.Common.{◌≡◌, ℕ, true, List, [], ◌∷◌, reverse, Option, Some, None, refl, sym, ap, ◌∙◌}
 use Rattle.std.specs.Prelude.{IsTrue, MatchOption, option_map}
 use Rattle.enc_base.specs.declared.token.Token.{Token}
-use Rattle.enc_meta.specs.Joined.{joined_text, joined_blob, joined_guid}
+use Rattle.enc_meta.specs.Joined.{joined_text, joined_blob, joined_user, joined_guid}
+use Rattle.enc_opcodes.specs.declared.code.CodeRef.{CodeRef}
+use Rattle.enc_opcodes.specs.Body.{Code, code_seen, body_of, texts_are_there}
+use Rattle.enc_opcodes.proofs.Bodies.{body_told_alike}
+use Rattle.enc_plain.specs.Bodies.{code_loaded, body_loaded}
+use Rattle.enc_delta.specs.Rules.{users_after}
+use Rattle.enc_image.proofs.Codes.{code_cell}
+use Rattle.enc_image.proofs.Texts.{image_texts}
 use Rattle.enc_schema.specs.declared.column.Column.TheVariants.{Index, Coded}
 use Rattle.enc_schema.specs.declared.column.Coding.{Coding}
 use Rattle.enc_schema.specs.Coding.{decoded}
@@ -11,14 +18,14 @@ use Rattle.enc_rows.specs.Source.{Source, raw_in}
 use Rattle.enc_plain.specs.Cell.{Cell, number, text, blob, guid, refer, body, field, numbers, texts, blobs, guids, references, kind_in}
 use Rattle.enc_plain.specs.Module.{has_row, cell_of}
 use Rattle.enc_plain.specs.Reading.{index_token}
-use Rattle.enc_image.specs.Base.{module_in}
+use Rattle.enc_image.specs.Base.{users_of, module_in}
 use Rattle.enc_agg.specs.declared.added.Added.{Added}
 use Rattle.enc_agg.specs.declared.added.Found.{Found}
 use Rattle.enc_agg.specs.Extend.{extended, chain_with}
-use Rattle.enc_agg.specs.Seen.{sources, IsAggregate, found_in, found_seen, number_in}
-use Rattle.enc_agg.proofs.Histories.{IsFound, is_found, unfound_row, unfound_cell}
+use Rattle.enc_agg.specs.Seen.{sources, IsAggregate, found_in, found_seen, number_in, code_in}
+use Rattle.enc_agg.proofs.Histories.{IsFound, is_found, unfound_row, unfound_cell, base_users}
 use Rattle.enc_agg.proofs.Paired.{changes_fit}
-use Rattle.enc_agg.proofs.Viewing.{text_listed, blob_listed, guid_listed, number_listed, index_listed, coded_listed, body_listed, field_listed}
+use Rattle.enc_agg.proofs.Viewing.{text_listed, blob_listed, guid_listed, number_listed, index_listed, coded_listed, body_listed, field_listed, texts_listed}
 
 none_found : (o : Option Found) (r : Option (List Added × ℕ)) → option_map found_seen o ≡ r → o ≡ None → r ≡ None
 none_found o r is none = sym is ∙ ap (option_map found_seen) none
@@ -79,12 +86,42 @@ coded_found b added upto u k i n coding found kind column is =
     let c = chain_with b (sources found.older) in
     also (decoded coding n) _ _ (λ t h. cell_found b added upto u k i (refer t) found h) (coded_listed c found.last.delta u k i n coding found.is_added.follows (changes_fit c found.last.delta found.sound found.is_added.follows) found.place kind column (raw_found b added upto u k i n found is))
 
--- a method that a delta lists has no body so far, and a field no initial bytes
-pub body_found : (b : Source) (added upto : List Added) (u : Token) (k : ℕ) → IsFound b added u upto k → u.table ≡ 0x06 → cell_of (chain_with b (sources added)).plain u 0 ≡ Some (body false)
-body_found b added upto u k found is =
-    let c = chain_with b (sources found.older) in
-    cell_found b added upto u k 0 (body false) found (body_listed c found.last.delta u k (changes_fit c found.last.delta found.sound found.is_added.follows) found.place is)
+mapped : {A B C : Type 0} (f : B → C) (g : A → B) (o : Option A) → option_map f (option_map g o) ≡ option_map (λ x. f (g x)) o
+mapped f g None = refl
+mapped f g (Some x) = refl
 
+-- the body that parts mean is the same with more user texts, where those that it names are there
+told_more : (f g : ℕ → Option (List ℕ)) (o : Option Code) → ((code : Code) → o ≡ Some code → texts_are_there f code.code ≡ true) → ((n : ℕ) (x : List ℕ) → f n ≡ Some x → g n ≡ Some x) → option_map (body_of f) o ≡ option_map (body_of g) o
+told_more f g None there more = refl
+told_more f g (Some code) there more = ap Some (body_told_alike f g code (there code refl) more)
+
+read_as : (f : ℕ → Option (List ℕ)) (o : Option Code) (r : Option CodeRef) → option_map code_seen r ≡ o → option_map (body_of f) o ≡ option_map (λ c. body_of f (code_seen c)) r
+read_as f o r is = ap (option_map (body_of f)) (sym is) ∙ mapped (body_of f) code_seen r
+
+-- the body of a method that a delta lists, in that delta's code
+pub body_found : (b : Source) (added upto : List Added) (u : Token) (k n : ℕ) (r : Option CodeRef) → IsFound b added u upto k → u.table ≡ 0x06 → number_in upto (record { table = u.table; row = k }) 0 ≡ n → option_map code_seen r ≡ code_in upto n → cell_of (chain_with b (sources added)).plain u 0 ≡ Some (body (option_map (λ c. body_of (joined_user (chain_with b (sources added)).heaps) (code_seen c)) r))
+unfolding body_loaded
+body_found b added upto u k n r found is told code =
+    let c = chain_with b (sources found.older) in
+    let d = found.last.delta in
+    let raw = raw_found b added upto u k 0 n found told in
+    let all = joined_user (chain_with b (sources added)).heaps in
+    let cell = cell_found b added upto u k 0 (body (body_loaded d.loaded (users_after c d) n)) found (body_listed c d u k n (changes_fit c d found.sound found.is_added.follows) found.place is raw) in
+    let parts : option_map code_seen r ≡ code_loaded d.loaded n = rw found.upto_is at code in
+    let same : body_loaded d.loaded (users_after c d) n ≡ option_map (body_of all) (code_loaded d.loaded n) = loaded_as d n (users_after c d) all (λ code there. texts_listed c d u k n code found.is_added.follows found.place is raw there) found.users in
+    cell ∙ ap (λ o. Some (body o)) (same ∙ read_as all (code_loaded d.loaded n) r parts)
+  where
+    loaded_as : (d : Source) (n : ℕ) (f g : ℕ → Option (List ℕ)) → ((code : Code) → code_loaded d.loaded n ≡ Some code → texts_are_there f code.code ≡ true) → ((o : ℕ) (x : List ℕ) → f o ≡ Some x → g o ≡ Some x) → body_loaded d.loaded f n ≡ option_map (body_of g) (code_loaded d.loaded n)
+    loaded_as d n f g there more = told_more f g (code_loaded d.loaded n) there more
+
+-- and of one that no delta lists, in the image
+pub base_body : (b : Source) (added : List Added) (u : Token) (r : Option CodeRef) → IsAggregate b added → (o : Option Found) → option_map found_seen o ≡ found_in added u → o ≡ None → IsTrue (has_row (module_in b) u) → u.table ≡ 0x06 → option_map code_seen r ≡ code_loaded b.loaded (raw_in b u 0) → cell_of (chain_with b (sources added)).plain u 0 ≡ Some (body (option_map (λ c. body_of (joined_user (chain_with b (sources added)).heaps) (code_seen c)) r))
+base_body b added u r agg o is none there table code =
+    let all = joined_user (chain_with b (sources added)).heaps in
+    let same = told_more (users_of b) all (code_loaded b.loaded (raw_in b u 0)) (λ c here. image_texts b u c agg.sound there table here) (base_users b added) in
+    base_cell b added u 0 (body (option_map (λ c. body_of all (code_seen c)) r)) agg o is none (code_cell b u (raw_in b u 0) r there table refl code ∙ ap (λ o. Some (body o)) (sym (read_as (users_of b) (code_loaded b.loaded (raw_in b u 0)) r code) ∙ same ∙ read_as all (code_loaded b.loaded (raw_in b u 0)) r code))
+
+-- a field that a delta lists has no initial bytes
 pub field_found : (b : Source) (added upto : List Added) (u : Token) (k : ℕ) → IsFound b added u upto k → u.table ≡ 0x1D → cell_of (chain_with b (sources added)).plain u 0 ≡ Some (field [])
 field_found b added upto u k found is =
     let c = chain_with b (sources found.older) in

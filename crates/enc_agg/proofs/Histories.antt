@@ -1,5 +1,5 @@
 -- The deltas after a base, the newest first.
-use Rattle.std.proofs.Common.{◌≡◌, ℕ, suc, ◌+◌, ◌<◌, ◌≤◌, Bool, true, false, List, [], ◌∷◌, ◌++◌, length, map, reverse, Option, Some, None, refl, sym, ap, ◌∙◌, arith}
+use Rattle.std.proofs.Common.{◌≡◌, ℕ, suc, ◌+◌, ◌<◌, ◌≤◌, Bool, true, false, List, [], ◌∷◌, ◌++◌, length, map, reverse, Option, Some, None, refl, sym, ap, ◌∙◌, inl, inr, arith}
 use Rattle.std.specs.Prelude.{IsTrue, unwrap_or, slice_get, slice_index, nat_lt}
 use Rattle.std.proofs.lemmas.Option.{slice_get_past}
 use Rattle.std.proofs.lemmas.List.{reverse-append, reverse-reverse, map-append, length-append, length-map, length-reverse}
@@ -11,13 +11,18 @@ use Rattle.enc_delta.proofs.Behind.{user_stays}
 use Rattle.enc_plain.specs.Cell.{Cell}
 use Rattle.enc_plain.specs.Chain.{Chain, id_of}
 use Rattle.enc_schema.specs.Schema.{list_at}
-use Rattle.enc_plain.specs.Module.{Row, rows_in, has_row, cell_of}
-use Rattle.enc_image.specs.Base.{cells_fault, module_in, begun}
+use Rattle.enc_plain.specs.Module.{Module, Row, rows_in, has_row, cell_of}
+use Rattle.enc_image.specs.Base.{users_of, cells_fault, module_in, begun}
+use Rattle.enc_image.proofs.Alone.{user_alone}
+use Rattle.enc_base.proofs.First.{silent}
+use Rattle.std.proofs.lemmas.Bool.{cases_lt}
+use Rattle.enc_plain.specs.Apply.{Change, put, apply, Attached, attach, attach_all}
+use Rattle.enc_agg.proofs.Fitting.{count_is}
 use Rattle.enc_image.proofs.Rows.{tables_there}
 use Rattle.enc_delta.specs.Delta.{listed, place_in}
 use Rattle.enc_delta.specs.Rules.{module_token, own_guid, broken, e24_at, e24}
 use Rattle.enc_agg.specs.declared.added.Added.{Added}
-use Rattle.enc_agg.specs.Extend.{extended, chain_with}
+use Rattle.enc_agg.specs.Extend.{changes_of, attached_of, extended, chain_with}
 use Rattle.enc_agg.specs.Follows.{HasTables, Follows, IsSound}
 use Rattle.enc_agg.specs.Seen.{sources, IsAdded, AllAdded, found_or, found_in}
 use Rattle.enc_base.specs.Order.{or_else, first_below}
@@ -86,6 +91,7 @@ pub record IsFound (b : Source) (added : List Added) (u : Token) (upto : List Ad
   pub sound : IsSound (chain_with b (sources older))
   pub place : place_in (listed last.delta) u ≡ Some k
   pub cells : (i : ℕ) (cell : Cell) → cell_of (chain_with b (sources upto)).plain u i ≡ Some cell → cell_of (chain_with b (sources added)).plain u i ≡ Some cell
+  pub users : (o : ℕ) (x : List ℕ) → joined_user ((chain_with b (sources older)).heaps ++ last.delta.heaps ∷ []) o ≡ Some x → joined_user (chain_with b (sources added)).heaps o ≡ Some x
 
 some_first : {X : Type 0} (p q : X × ℕ) → Some p ≡ Some q → p.0 ≡ q.0
 some_first p q h = ap (λ o. (unwrap_or o p).0) h
@@ -94,7 +100,7 @@ some_second : {X : Type 0} (p q : X × ℕ) → Some p ≡ Some q → p.1 ≡ q.
 some_second p q h = ap (λ o. (unwrap_or o p).1) h
 
 found_step : (b : Source) (a : Added) (older : List Added) (u : Token) (o : Option ℕ) (upto : List Added) (k : ℕ) → cells_fault b ≡ None → AllAdded b (a ∷ older) → place_in (listed a.delta) u ≡ o → found_or (a ∷ older) o (found_in older u) ≡ Some (upto, k) → (found_in older u ≡ Some (upto, k) → IsFound b older u upto k) → IsFound b (a ∷ older) u upto k
-unfolding chain_with
+unfolding chain_with extended
 found_step b a older u (Some k2) upto k sound all place h rest =
     let same_upto = some_first (a ∷ older, k2) (upto, k) h in
     let same_k = some_second (a ∷ older, k2) (upto, k) h in
@@ -108,6 +114,7 @@ found_step b a older u (Some k2) upto k sound all place h rest =
       sound = with_sound b older sound parts.1;
       place = rw same_k at place;
       cells = λ i cell is. rw (← same_upto) at is;
+      users = λ o x is. is;
     }
 found_step b a older u None upto k sound all place h rest =
     let found = rest h in
@@ -121,6 +128,7 @@ found_step b a older u None upto k sound all place h rest =
       sound = found.sound;
       place = found.place;
       cells = λ i cell is. cell_kept (chain_with b (sources older)) a.delta u i cell (with_sound b older sound parts.1) parts.0.follows place (found.cells i cell is);
+      users = λ o x is. user_stays (chain_with b (sources older)).heaps a.delta.heaps o x (found.users o x is);
     }
 
 pub is_found : (b : Source) (added : List Added) (u : Token) (upto : List Added) (k : ℕ) → cells_fault b ≡ None → AllAdded b added → found_in added u ≡ Some (upto, k) → IsFound b added u upto k
@@ -231,3 +239,57 @@ last_limited b a older all =
 pub user_kept : (b : Source) (added more : List Added) (a : Added) → more ≡ added ++ a ∷ [] → (o : ℕ) (units : List ℕ) → joined_user (chain_with b (sources (reverse added))).heaps o ≡ Some units → joined_user (chain_with b (sources (reverse more))).heaps o ≡ Some units
 unfolding chain_with extended
 user_kept b added more a e o units is = rw (e, reverse-append added (a ∷ [])) (user_stays (chain_with b (sources (reverse added))).heaps a.delta.heaps o units is)
+
+-- a user text of the base is one of all
+pub base_users : (b : Source) (added : List Added) (o : ℕ) (x : List ℕ) → users_of b o ≡ Some x → joined_user (chain_with b (sources added)).heaps o ≡ Some x
+unfolding chain_with extended begun
+base_users b [] o x is = user_alone b.heaps o ∙ is
+base_users b (a ∷ older) o x is = user_stays (chain_with b (sources older)).heaps a.delta.heaps o x (base_users b older o x is)
+
+-- a delta changes neither the resources nor the entry point
+applied_else : (m : Module) (cs : List Change) → ((apply m cs).resources ≡ m.resources) × ((apply m cs).entry ≡ m.entry)
+unfolding apply put
+applied_else m [] = (refl, refl)
+applied_else m (c ∷ cs) = applied_else (put m c) cs
+
+attached_else : (m : Module) (pairs : List Attached) → ((attach_all m pairs).resources ≡ m.resources) × ((attach_all m pairs).entry ≡ m.entry)
+unfolding attach_all attach
+attached_else m [] = (refl, refl)
+attached_else m (a ∷ pairs) = attached_else (attach m a) pairs
+
+pub all_else : (b : Source) (added : List Added) → ((chain_with b (sources added)).plain.resources ≡ (module_in b).resources) × ((chain_with b (sources added)).plain.entry ≡ (module_in b).entry)
+unfolding chain_with extended begun
+all_else b [] = (refl, refl)
+all_else b (a ∷ older) =
+    let c = chain_with b (sources older) in
+    let m = apply c.plain (changes_of c a.delta) in
+    let put_else = applied_else c.plain (changes_of c a.delta) in
+    let set_else = attached_else m (attached_of a.delta) in
+    let before = all_else b older in
+    (set_else.0 ∙ put_else.0 ∙ before.0, set_else.1 ∙ put_else.1 ∙ before.1)
+
+limited_at : (n : ℕ) (p : Place) → broken (nat_lt 0xFFFFFF n) p ≡ None → n < 0x1000000
+limited_at n p h = by_test (nat_lt 0xFFFFFF n) refl h
+  where
+    by_test : (t : Bool) → nat_lt 0xFFFFFF n ≡ t → broken t p ≡ None → n < 0x1000000
+    by_test true is h = absurd cc
+    by_test false is h = grind (arith, nat_tests)
+
+second_none : {A : Type 0} (a b : Option A) → or_else a b ≡ None → b ≡ None
+second_none None b h = h
+second_none (Some x) b h = absurd cc
+
+-- a table has fewer rows after a delta than a token can name
+after_few : (c : Chain) (d : Source) (t : ℕ) → HasTables c → Follows c d → length (rows_in (extended c d).plain t) < 0x1000000
+unfolding e24 e24_at
+after_few c d t tables follows =
+    elim (cases_lt t 0x2D) [
+      | inl low ↦ rw (count_is c d tables follows t) (limited_at _ _ (silent (e24_at c d) 0x2D t (second_none _ _ (unbroken c d follows.rules).limit) low))
+      | inr high ↦ rw (← (no_table (extended c d) t (has_tables c d tables) high)) (omega arith)
+    ]
+
+pub rows_few : (b : Source) (a : Added) (older : List Added) (t : ℕ) → cells_fault b ≡ None → AllAdded b (a ∷ older) → length (rows_in (chain_with b (sources (a ∷ older))).plain t) < 0x1000000
+unfolding chain_with
+rows_few b a older t sound all =
+    let parts = last_added b a older all in
+    after_few (chain_with b (sources older)) a.delta t (with_sound b older sound parts.1).tables parts.0.follows

@@ -7,7 +7,7 @@ use Rattle.enc_base.specs.declared.refusal.Refusal.{Refusal}
 use Rattle.enc_rows.specs.Source.{Source}
 use Rattle.enc_plain.specs.Chain.{Chain}
 use Rattle.enc_delta.specs.Delta.{listed, log_in}
-use Rattle.enc_delta.specs.Rules.{rule, e5, late_fault, e7, insert_fault, set_meta, log_fault, child_fault, e12, e13, e14, e24, cells_meta, lists_meta, first_meta}
+use Rattle.enc_delta.specs.Rules.{rule, e5, late_fault, e7, insert_fault, set_meta, log_fault, child_fault, e12, e13, e14, e16, e17, e24, bodies_meta, cells_meta, lists_meta, first_meta}
 
 -- the rules on lists and on cells, each unbroken
 pub record Unbroken (c : Chain) (s : Source) : Type 0 where
@@ -20,19 +20,29 @@ pub record Unbroken (c : Chain) (s : Source) : Type 0 where
   pub cell_tables : e12 s ≡ None
   pub e13 : e13 c s ≡ None
   pub e14 : e14 c s ≡ None
+  pub e16 : e16 c s ≡ None
   pub limit : e24 c s ≡ None
 
 neither : (n : ℕ) (a : Option Place) (b : Option Refusal) → or_else (rule n a) b ≡ None → (a ≡ None) × (b ≡ None)
 neither n None b h = (refl, h)
 neither n (Some p) b h = absurd cc
 
-cells_of : (c : Chain) (s : Source) → cells_meta c s ≡ None → (e12 s ≡ None) × ((e13 c s ≡ None) × ((e14 c s ≡ None) × (e24 c s ≡ None)))
+bodies_of : (c : Chain) (s : Source) → bodies_meta c s ≡ None → (e16 c s ≡ None) × (e24 c s ≡ None)
+unfolding bodies_meta
+bodies_of c s h =
+    let r16 = neither 16 (e16 c s) _ h in
+    (r16.0, (neither 24 (e24 c s) None (rest24 (neither 17 (e17 c s) _ r16.1).1)).0)
+  where
+    rest24 : rule 24 (e24 c s) ≡ None → or_else (rule 24 (e24 c s)) None ≡ None
+    rest24 e = rw e refl
+
+cells_of : (c : Chain) (s : Source) → cells_meta c s ≡ None → (e12 s ≡ None) × ((e13 c s ≡ None) × ((e14 c s ≡ None) × (bodies_meta c s ≡ None)))
 unfolding cells_meta
 cells_of c s h =
     let r12 = neither 12 (e12 s) _ h in
     let r13 = neither 13 (e13 c s) _ r12.1 in
     let r14 = neither 14 (e14 c s) _ r13.1 in
-    (r12.0, (r13.0, (r14.0, (neither 24 (e24 c s) _ r14.1).0)))
+    (r12.0, (r13.0, (r14.0, r14.1)))
 
 heaps_and_lists : (c : Chain) (s : Source) → first_meta c s ≡ None → (e5 c s ≡ None) × (lists_meta c s ≡ None)
 unfolding first_meta
@@ -48,6 +58,7 @@ by_kind c s h =
     let r10 = neither 10 (log_fault c (listed s) (log_in s)) _ r9.1 in
     let r11 = neither 11 (child_fault c (listed s) (log_in s)) _ r10.1 in
     let cells = cells_of c s r11.1 in
+    let bodies = bodies_of c s cells.1.1.1 in
     record {
       late = r6.0;
       tables = r7.0;
@@ -58,7 +69,8 @@ by_kind c s h =
       cell_tables = cells.0;
       e13 = cells.1.0;
       e14 = cells.1.1.0;
-      limit = cells.1.1.1;
+      e16 = bodies.0;
+      limit = bodies.1;
     }
 
 -- a delta without a broken rule has no list and no cell that breaks one

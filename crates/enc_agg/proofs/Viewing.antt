@@ -1,5 +1,5 @@
 -- What the rows and cells of a chain with one delta more are.
-use Rattle.std.proofs.Common.{◌≡◌, ℕ, zero, suc, ◌+◌, ◌-◌, ◌<◌, Bool, true, false, List, [], ◌∷◌, length, Option, Some, None, refl, sym, ap, ◌∙◌, arith}
+use Rattle.std.proofs.Common.{◌≡◌, ℕ, zero, suc, ◌+◌, ◌≤◌, ◌-◌, ◌<◌, Bool, true, false, List, [], ◌∷◌, length, Option, Some, None, refl, sym, ap, ◌∙◌, arith}
 use Rattle.std.specs.Prelude.{is_some, not, ◌&&◌, option_map, option_and_then, unwrap_or, slice_get, IsTrue, IsSome, MatchOption, nat_lt, nat_le}
 use Rattle.std.proofs.lemmas.Bool.Decides.{nat_tests}
 use Rattle.std.proofs.lemmas.Option.{slice_get_within}
@@ -20,12 +20,15 @@ use Rattle.enc_plain.specs.Cell.{Cell, Kind, number, text, blob, guid, refer, bo
 use Rattle.enc_plain.specs.Module.{Module, Row, rows_in, row_at, row_of, cells_of, has_row, cell_of}
 use Rattle.enc_plain.specs.Chain.{Chain}
 use Rattle.enc_plain.specs.Reading.{within, index_token, cell_read, cell_with}
+use Rattle.enc_plain.specs.Bodies.{code_loaded, body_loaded, body_is_good}
+use Rattle.enc_opcodes.specs.Body.{Code, texts_are_there}
+use Rattle.enc_image.proofs.Texts.{good_texts}
 use Rattle.enc_plain.specs.Apply.{apply}
 use Rattle.enc_plain.specs.Fits.{Fits}
 use Rattle.enc_plain.proofs.Applied.{applied}
 use Rattle.enc_plain.proofs.AttachedTo.{cells_attached}
-use Rattle.enc_delta.specs.Delta.{listed, place_in}
-use Rattle.enc_delta.specs.Rules.{broken, heaps_after, rows_with, reading_after, is_index, is_offset, cell_fault, row_fault, table_fault, e13, e14}
+use Rattle.enc_delta.specs.Delta.{listed, place_in, of_table}
+use Rattle.enc_delta.specs.Rules.{broken, heaps_after, rows_with, reading_after, is_index, is_offset, cell_fault, row_fault, table_fault, e13, e14, users_after, body_stands, e16_at, e16}
 use Rattle.enc_image.proofs.Listed.{get_below}
 use Rattle.enc_image.proofs.Rows.{HasPlainKind, plain_kind, column_with, text_column, blob_column, guid_column, in_cells, made_from, within_is, coded_is, number_for, column_there}
 use Rattle.enc_agg.specs.Extend.{cell_after, cells_after, changes_of, attached_of, extended}
@@ -170,12 +173,31 @@ unfolding cell_read reading_after
 coded_listed c s u k i n kind follows fits place kinds column is =
     coded_is (rows_with c (listed s)) (decoded kind n) (λ t. cell_of (extended c s).plain u i ≡ Some (refer t)) (made_after c s is_index u k i (Coded kind) references refer (option_and_then (within (rows_with c (listed s))) (decoded kind n)) (no_index c s follows) follows fits place column refl (plain_kind _ _ references refl kinds) refl (rw is refl))
 
--- a method of bare metadata has no body
-pub body_listed : (c : Chain) (s : Source) (u : Token) (k : ℕ) → Fits c.plain (changes_of c s) → place_in (listed s) u ≡ Some k → u.table ≡ 0x06 → cell_of (extended c s).plain u 0 ≡ Some (body false)
-unfolding cell_after cell_with columns_in
-body_listed c s u k fits place is = listed_cell c s u k 0 (body false) fits place (rw is (in_cells 0x06 0 Num32 refl refl)) (rw is refl)
+-- the body of a method that a delta lists is the one at its place in the delta's code
+pub body_listed : (c : Chain) (s : Source) (u : Token) (k n : ℕ) → Fits c.plain (changes_of c s) → place_in (listed s) u ≡ Some k → u.table ≡ 0x06 → raw_in s (record { table = u.table; row = k }) 0 ≡ n → cell_of (extended c s).plain u 0 ≡ Some (body (body_loaded s.loaded (users_after c s) n))
+unfolding cell_after cell_with columns_in reading_after
+body_listed c s u k n fits place is raw =
+    let number : raw_in s (record { table = 0x06; row = k }) 0 ≡ n = rw is at raw in
+    listed_cell c s u k 0 (body (body_loaded s.loaded (users_after c s) n)) fits place (rw is (in_cells 0x06 0 Num32 refl refl)) (rw (is, number) refl)
 
--- and a field no initial bytes
+-- and a field has no initial bytes
 pub field_listed : (c : Chain) (s : Source) (u : Token) (k : ℕ) → Fits c.plain (changes_of c s) → place_in (listed s) u ≡ Some k → u.table ≡ 0x1D → cell_of (extended c s).plain u 0 ≡ Some (field [])
-unfolding cell_after cell_with columns_in
+unfolding cell_after cell_with columns_in reading_after
 field_listed c s u k fits place is = listed_cell c s u k 0 (field []) fits place (rw is (in_cells 0x1D 0 Num32 refl refl)) (rw is refl)
+
+unbroken_is : (b : Bool) (p : Place) → broken (not b) p ≡ None → b ≡ true
+unbroken_is true p h = refl
+unbroken_is false p h = absurd cc
+
+-- the user texts that its body names are there
+pub texts_listed : (c : Chain) (s : Source) (u : Token) (k n : ℕ) (code : Code) → Follows c s → place_in (listed s) u ≡ Some k → u.table ≡ 0x06 → raw_in s (record { table = u.table; row = k }) 0 ≡ n → code_loaded s.loaded n ≡ Some code → texts_are_there (users_after c s) code.code ≡ true
+unfolding e16 e16_at body_stands
+texts_listed c s u k n code follows place is raw there =
+    let at = place_row c s u k follows place in
+    let e : k - 1 + 1 ≡ k = omega (arith, at.low) in
+    let high : k ≤ rows_of s.layout 0x06 = rw is at at.high in
+    let token : slice_get (of_table 0x06 (listed s)) (k - 1) ≡ Some u = ap (λ t. slice_get (of_table t (listed s)) (k - 1)) (sym is) ∙ at.token in
+    let number : raw_in s (record { table = 0x06; row = k }) 0 ≡ n = rw is at raw in
+    let row = silent (e16_at c s) (rows_of s.layout 0x06) (k - 1) (unbroken c s follows.rules).e16 (omega (arith, at.low, high)) in
+    let good : body_is_good (rows_with c (listed s)) (users_after c s) s.loaded (raw_in s (record { table = 0x06; row = k - 1 + 1 }) 0) (raw_in s (record { table = 0x06; row = k - 1 + 1 }) 1) ≡ true = unbroken_is _ _ (rw token at row) in
+    good_texts (rows_with c (listed s)) (users_after c s) s.loaded n (raw_in s (record { table = 0x06; row = k }) 1) code (rw (e, number) at good) there

@@ -14,9 +14,9 @@ use Rattle.enc_delta.specs.declared.entry.Entry.{Entry}
 use Rattle.enc_delta.specs.Delta.{log_in, listed, place_in}
 use Rattle.enc_delta.specs.Rules.{is_add, counted, heaps_after, own_guid, reading_after}
 
--- the cell in a column of a delta's row, read in all heaps up to the delta's
+-- the cell in a column of a delta's row, read in all heaps up to the delta's, and in its own code
 unfoldable pub cell_after : Chain → Source → Token → ℕ → Option Cell
-cell_after c s row i = option_and_then (λ (column : Column). cell_with (reading_after c s) row.table i column (raw_in s row i)) (column_in row.table i)
+cell_after c s row i = option_and_then (λ (column : Column). cell_with (reading_after c s) row i column (raw_in s row i)) (column_in row.table i)
 
 -- the cells of a delta's row
 abbrev pub cells_after : Chain → Source → Token → List Cell

@@ -4,6 +4,9 @@ use Rattle.enc_base.specs.declared.token.Token.{Token}
 use Rattle.enc_base.specs.declared.refusal.StreamName.{StreamName}
 use Rattle.enc_base.specs.declared.refusal.StreamName.TheVariants as stream
 use Rattle.enc_meta.specs.Heaps.{Counted}
+use Rattle.enc_meta.specs.Joined.{joined_user}
+use Rattle.enc_opcodes.specs.Body.{Code}
+use Rattle.enc_plain.specs.Bodies.{code_loaded}
 use Rattle.enc_rows.specs.Source.{Source, raw_in}
 use Rattle.enc_plain.specs.Module.{Module, rows_in}
 use Rattle.enc_plain.specs.Chain.{Chain}
@@ -67,6 +70,15 @@ found_seen f = (reverse f.upto.now, f.row)
 abbrev pub number_in : List Added → Token → ℕ → ℕ
 number_in [] row column = 0
 number_in (a ∷ older) row column = raw_in a.delta row column
+
+-- the parts of the body at a place of the newest delta's code
+abbrev pub code_in : List Added → ℕ → Option Code
+code_in [] n = None
+code_in (a ∷ older) n = code_loaded a.delta.loaded n
+
+-- the user texts of all
+abbrev pub users_of_all : History → ℕ → Option (List ℕ)
+users_of_all h = joined_user (chain_of_all h).heaps
 
 -- what was prepared is a delta after this history
 abbrev pub IsReady : History → Source → Added → Type 0

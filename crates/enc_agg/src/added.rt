@@ -1,13 +1,14 @@
 //! The deltas of an aggregate, asked from the newest to the oldest.
-ghost use Rattle.std.specs.Prelude.{◌≡◌, ◌<◌, ◌-◌, ◌+◌, [], ◌∷◌, Some, None, IfSome, MatchOption, IfOk, IsTrue, is_some, length, map, reverse, option_map, option_copied, slice_get};
+ghost use Rattle.std.specs.Prelude.{◌≡◌, ◌<◌, ◌-◌, ◌+◌, ◌^◌, [], ◌∷◌, Some, None, IfSome, MatchOption, IfOk, IsTrue, is_some, length, map, reverse, option_map, option_copied, slice_get};
 ghost use Rattle.enc_meta.specs.Heaps.{Counted};
 ghost use Rattle.enc_meta.specs.Joined.{joined_text, joined_blob, joined_user, joined_guid};
+ghost use Rattle.enc_opcodes.specs.Body.{code_seen};
 ghost use Rattle.enc_schema.specs.Children.{is_child_table, owner_table};
 ghost use Rattle.enc_plain.specs.Module.{rows_in, has_row, owner_of, kids_of};
 ghost use Rattle.enc_delta.specs.Totals.{totals_of};
 ghost use Rattle.enc_image.specs.Base.{cells_fault};
 ghost use Rattle.enc_agg.specs.Extend.{chain_with};
-ghost use Rattle.enc_agg.specs.Seen.{sources, AllAdded, found_in, found_seen, number_in, heap_named, total_named, own_place, own_guid_place};
+ghost use Rattle.enc_agg.specs.Seen.{sources, AllAdded, found_in, found_seen, number_in, code_in, heap_named, total_named, own_place, own_guid_place};
 ghost use Rattle.enc_agg.specs.Place.{heap_place, guid_place};
 
 use crate::log::{count_given, given, owner_given, push_given};
@@ -16,6 +17,7 @@ use enc_base::{Counts, StreamName, Token};
 use enc_delta::{Delta, HeapTotals};
 use enc_image::Image;
 use enc_meta::Heaps;
+use enc_opcodes::CodeRef;
 use enc_plain::ModuleView;
 use std::alloc::{AllocError, Global};
 use std::marker::Model;
@@ -68,6 +70,17 @@ pub fn number(added: &[Added], row: Token, column: u8) -> u32
     match newest(added) {
         Some((last, _)) => last.delta.cell(row, column),
         None => 0,
+    }
+}
+
+/// The parts of the body at a place of the newest delta's code, None where none stands whole there.
+pub fn body_in(added: &[Added], place: u32) -> Option<CodeRef<'_>>
+    ensures code { option_map code_seen result ≡ code_in (reverse added.now) place }
+    ensures few { IfSome result (λ c. length c.code.now < 2 ^ 32) }
+{
+    match newest(added) {
+        Some((last, _)) => last.delta.code(place),
+        None => None,
     }
 }
 
@@ -272,8 +285,10 @@ pub fn id_in(added: &[Added], n: u32) -> [u8; 16]
 /// The number of rows of a table.
 pub fn count_in(image: &Image, added: &[Added], table: u8) -> u32
     requires { AllAdded image.now (reverse added.now) }
-    ensures { result ≡ length (rows_in (chain_with image.now (sources (reverse added.now))).plain table) }
+    ensures count { result ≡ length (rows_in (chain_with image.now (sources (reverse added.now))).plain table) }
+    ensures few { result < 2 ^ 24 }
 {
+    image.sound();
     let Some((last, _)) = newest(added) else {
         return image.count(table);
     };

@@ -12,7 +12,7 @@ ghost use Rattle.enc_agg.specs.Follows.{Follows};
 ghost use Rattle.enc_agg.specs.Place.{place_of, place_in_heaps, delta_at};
 ghost use Rattle.enc_agg.specs.Seen.{chain_of_all, module_of_all, sources, AllAdded, IsAdded, IsReady};
 
-use crate::added::{Added, count_in, find, guid_place_in, heap_place_in, totals_in, user_in};
+use crate::added::{Added, count_in, find, guid_place_in, heap_place_in, totals_in};
 use crate::place::{HeapPlace, RowPlace};
 use enc_base::{Counts, StreamName, Token};
 use enc_delta::{Delta, HeapTotals, enc_id_of, inserts_of};
@@ -136,15 +136,6 @@ impl Aggregate {
         ensures texts { (offset : ℕ) (units : List ℕ) → joined_user (chain_of_all self.old).heaps offset ≡ Some units → joined_user (chain_of_all self.new).heaps offset ≡ Some units }
     {
         self.added.push_reserved(ready.added);
-    }
-
-    /// The bytes of the UTF-16 units at an offset of the joined `#US`, without their length and the
-    /// byte behind them; None where the offset isn't good. A text that is there stays whatever is
-    /// committed.
-    pub fn user_text(&self, offset: u32) -> Option<&[u8]>
-        ensures { option_copied result ≡ joined_user (chain_of_all self.now).heaps offset }
-    {
-        user_in(&self.image, &self.added, offset)
     }
 
     /// Where a row stands: in the newest generation whose map has its token, else in the base. None

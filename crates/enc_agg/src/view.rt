@@ -1,13 +1,14 @@
 //! An aggregate as a view of its plain module and of its chain.
 ghost use Rattle.std.specs.Prelude.{◌≡◌};
-ghost use Rattle.enc_agg.specs.Seen.{module_of_all, chain_of_all};
+ghost use Rattle.enc_agg.specs.Seen.{module_of_all, chain_of_all, users_of_all};
 
 use crate::added::{
-    Added, blob_in, count_in, find, guid_in, has_text_in, id_in, kid_back, kid_rows_in, kids_in,
-    number, owner_in, text_in,
+    Added, blob_in, body_in, count_in, find, guid_in, has_text_in, id_in, kid_back, kid_rows_in,
+    kids_in, number, owner_in, text_in, user_in,
 };
 use crate::aggregate::Aggregate;
 use enc_base::Token;
+use enc_opcodes::CodeRef;
 use enc_plain::{ChainView, ModuleView, index_token};
 use enc_schema::{Column, column_of, decode_coded};
 use std::alloc::{AllocError, Global};
@@ -21,6 +22,8 @@ fn row_found(table: u8, row: u32) -> Token
 
 impl ModuleView for Aggregate {
     ghost meaning = { module_of_all };
+
+    ghost users = { users_of_all };
 
     fn count(&self, table: u8) -> u32 {
         count_in(&self.image, &self.added, table)
@@ -81,11 +84,12 @@ impl ModuleView for Aggregate {
         }
     }
 
-    fn has_body(&self, method: Token) -> bool {
-        match find(&self.added, method) {
-            None => self.image.has_body(method),
-            Some(_) => false,
-        }
+    fn code(&self, method: Token) -> Option<CodeRef<'_>> {
+        let Some(found) = find(&self.added, method) else {
+            return self.image.body(method);
+        };
+        let place = number(found.upto, row_found(method.table, found.row), 0);
+        body_in(found.upto, place)
     }
 
     fn field_bytes(&self, row: Token) -> &[u8] {
@@ -93,6 +97,20 @@ impl ModuleView for Aggregate {
             None => self.image.field_bytes(row),
             Some(_) => &[],
         }
+    }
+
+    fn user_text(&self, offset: u32) -> Option<&[u8]> {
+        user_in(&self.image, &self.added, offset)
+    }
+
+    fn resources(&self) -> &[u8] {
+        let _ = &self.added;
+        self.image.resources()
+    }
+
+    fn entry(&self) -> u32 {
+        let _ = &self.added;
+        self.image.entry()
     }
 
     fn owner(&self, child: Token) -> Token {
@@ -137,6 +155,10 @@ impl ChainView for Aggregate {
 
     fn has_text(&self, offset: u32) -> bool {
         has_text_in(&self.image, &self.added, offset)
+    }
+
+    fn user_at(&self, offset: u32) -> Option<&[u8]> {
+        user_in(&self.image, &self.added, offset)
     }
 
     fn blob_at(&self, offset: u32) -> Option<&[u8]> {

@@ -1,12 +1,11 @@
 use crate::token::Token;
 
 /// The number of the rule that a file breaks: F for a file by itself, E for a delta after its
-/// chain, U for a form that isn't read yet.
+/// chain.
 #[derive(Clone, Copy, Debug, PartialEq, Eq)]
 pub enum Code {
     F(u8),
     E(u8),
-    U(u8),
 }
 
 /// The streams of a metadata root that are known by name (ECMA-335 II.24.2.2, Portable PDB).

@@ -24,9 +24,9 @@ unfolding columns_in
 map_column = refl
 
 -- a token's number is the number that stands in the map
-pub number_read : (bytes : List ℕ) (o : Opened) (i n : ℕ) → IsOpened bytes o → raw_cell (part bytes o.tables.span) o.tables (nth_row 0x1F i) 0 ≡ Some n → number_of (token_at (source_from bytes o.root o.tables) i) ≡ n
+pub number_read : (bytes il : List ℕ) (o : Opened) (i n : ℕ) → IsOpened bytes o → raw_cell (part bytes o.tables.span) o.tables (nth_row 0x1F i) 0 ≡ Some n → number_of (token_at (source_from bytes il o.root o.tables) i) ≡ n
 unfolding token_at
-number_read bytes o i n opened e = rw (← opened.span, e) (omega arith)
+number_read bytes il o i n opened e = rw (← opened.span, e) (omega arith)
 
 -- one number more, not less than a bound past those before it
 pub rise_more : (f : ℕ → ℕ) (i least n : ℕ) → ((k : ℕ) → k < i → f k < least) → ((j k : ℕ) → j < k → k < i → f j < f k) → f i ≡ n → least ≤ n → ((k : ℕ) → k < i + 1 → f k < n + 1) × ((j k : ℕ) → j < k → k < i + 1 → f j < f k)

@@ -3,6 +3,7 @@ pub mod Behind
 pub mod Totals
 pub mod Counters
 pub mod Runs
+pub mod Methods
 pub mod ListsLate
 pub mod ListsInserts
 pub mod ListsChanged

@@ -1,20 +1,18 @@
 -- The tokens of one table, one behind the other.
-use Rattle.std.proofs.Common.{◌≡◌, ℕ, zero, suc, ◌+◌, ◌-◌, ◌<◌, ◌≤◌, ◌≢◌, length, List, [], ◌∷◌, Bool, true, false, Option, Some, None, refl, sym, ◌∙◌, arith, drop, take, get_or}
-use Rattle.std.specs.Prelude.{slice_get, ◌==◌, nat_lt, if◌then◌else◌}
+use Rattle.std.proofs.Common.{◌≡◌, ℕ, zero, suc, ◌+◌, ◌-◌, ◌<◌, ◌≤◌, length, List, [], ◌∷◌, Bool, true, false, Option, Some, None, refl, sym, ◌∙◌, arith, drop, take, get_or}
+use Rattle.std.specs.Prelude.{slice_get, ◌==◌, nat_lt}
 use Rattle.std.proofs.lemmas.Option.{slice_get_past}
 use Rattle.enc_base.specs.declared.token.Token.{Token}
 use Rattle.std.proofs.lemmas.Bool.Decides.{nat_tests}
 use Rattle.enc_base.specs.Order.{or_else, first_below}
-use Rattle.enc_base.specs.Token.{nth_row}
 use Rattle.enc_base.specs.declared.refusal.Place.{Place}
-use Rattle.enc_base.specs.declared.refusal.Place.TheVariants as place
 use Rattle.enc_base.proofs.First.{first_more}
 use Rattle.enc_schema.specs.declared.column.Column.{Column}
 use Rattle.enc_plain.specs.Chain.{Chain}
-use Rattle.enc_rows.specs.Source.{Source, raw_in}
+use Rattle.enc_rows.specs.Source.{Source}
 use Rattle.enc_delta.specs.Delta.{of_table, listed}
 use Rattle.std.proofs.lemmas.List.{take_all}
-use Rattle.enc_delta.specs.Rules.{broken, row_fault, body_at}
+use Rattle.enc_delta.specs.Rules.{broken, row_fault, e16_at, e17_at}
 use Rattle.enc_delta.specs.After.{begins_with}
 
 pub not_of : (table : ℕ) (t : Token) (ts : List Token) → (t.table == table) ≡ false → of_table table (t ∷ ts) ≡ of_table table ts
@@ -64,51 +62,35 @@ no_token : (c : Chain) (s : Source) (asks : Column → Bool) (table r : ℕ) →
 unfolding row_fault
 no_token c s asks table r h = rw h refl
 
-further : (c : Chain) (s : Source) (asks : Column → Bool) (table r d : ℕ) → length (of_table table (listed s)) ≤ r → first_below (row_fault c s asks table) r ≡ None → first_below (row_fault c s asks table) (r + d) ≡ None
-further c s asks table r zero past h = let e : r + 0 ≡ r = omega arith in rw e h
-further c s asks table r (suc d) past h =
+further : (rule : ℕ → Option Place) (tokens : List Token) (r d : ℕ) → ((k : ℕ) → slice_get tokens k ≡ None → rule k ≡ None) → length tokens ≤ r → first_below rule r ≡ None → first_below rule (r + d) ≡ None
+further rule tokens r zero silent past h = let e : r + 0 ≡ r = omega arith in rw e h
+further rule tokens r (suc d) silent past h =
     let e : r + suc d ≡ r + d + 1 = omega arith in
-    rw e (first_more (row_fault c s asks table) (r + d) (further c s asks table r d past h) ∙ no_token c s asks table (r + d) (slice_get_past _ (r + d) (omega arith)))
+    rw e (first_more rule (r + d) (further rule tokens r d silent past h) ∙ silent (r + d) (slice_get_past tokens (r + d) (omega arith)))
 
--- past the tokens of a table no row has a fault
-pub past_tokens : (c : Chain) (s : Source) (asks : Column → Bool) (table r n : ℕ) → r ≤ n → length (of_table table (listed s)) ≤ r → first_below (row_fault c s asks table) r ≡ None → first_below (row_fault c s asks table) n ≡ None
-past_tokens c s asks table r n le past h =
+-- past the tokens of a table a rule that asks for one answers nothing
+pub past_all : (rule : ℕ → Option Place) (tokens : List Token) (r n : ℕ) → ((k : ℕ) → slice_get tokens k ≡ None → rule k ≡ None) → r ≤ n → length tokens ≤ r → first_below rule r ≡ None → first_below rule n ≡ None
+past_all rule tokens r n silent le past h =
     let e : n ≡ r + (n - r) = omega arith in
-    rw e (further c s asks table r (n - r) past h)
+    rw e (further rule tokens r (n - r) silent past h)
+
+pub past_tokens : (c : Chain) (s : Source) (asks : Column → Bool) (table r n : ℕ) → r ≤ n → length (of_table table (listed s)) ≤ r → first_below (row_fault c s asks table) r ≡ None → first_below (row_fault c s asks table) n ≡ None
+past_tokens c s asks table r n le past h = past_all (row_fault c s asks table) (of_table table (listed s)) r n (no_token c s asks table) le past h
+
+no_body : (c : Chain) (s : Source) (r : ℕ) → slice_get (of_table 0x06 (listed s)) r ≡ None → e16_at c s r ≡ None
+unfolding e16_at
+no_body c s r h = rw h refl
+
+pub past_bodies : (c : Chain) (s : Source) (r n : ℕ) → r ≤ n → length (of_table 0x06 (listed s)) ≤ r → first_below (e16_at c s) r ≡ None → first_below (e16_at c s) n ≡ None
+past_bodies c s r n le past h = past_all (e16_at c s) (of_table 0x06 (listed s)) r n (no_body c s) le past h
+
+no_loss : (c : Chain) (s : Source) (r : ℕ) → slice_get (of_table 0x06 (listed s)) r ≡ None → e17_at c s r ≡ None
+unfolding e17_at
+no_loss c s r h = rw h refl
+
+pub past_losses : (c : Chain) (s : Source) (r n : ℕ) → r ≤ n → length (of_table 0x06 (listed s)) ≤ r → first_below (e17_at c s) r ≡ None → first_below (e17_at c s) n ≡ None
+past_losses c s r n le past h = past_all (e17_at c s) (of_table 0x06 (listed s)) r n (no_loss c s) le past h
 
 -- as long as the deltas are few, the tables decide
 pub within_limit : (c : Chain) (p : Place) (tables o : Option Place) → length c.ids + 1 ≤ 65535 → o ≡ tables → o ≡ or_else (broken (nat_lt 65535 (length c.ids + 1)) p) tables
 within_limit c p tables o few is = let e : nat_lt 65535 (length c.ids + 1) ≡ false = grind (arith, nat_tests) in rw e is
-
--- a method with a place for its body, and one without
-pub with_body : (s : Source) (r : ℕ) (t : Token) → slice_get (of_table 0x06 (listed s)) r ≡ Some t → raw_in s (nth_row 0x06 r) 0 ≢ 0 → body_at s r ≡ Some (place.Row t)
-unfolding body_at
-with_body s r t there h =
-    let e : (raw_in s (nth_row 0x06 r) 0 == 0) ≡ false = grind (arith, nat_tests) in
-    rw (e, there) refl
-
-pub no_body : (s : Source) (r : ℕ) → raw_in s (nth_row 0x06 r) 0 ≡ 0 → body_at s r ≡ None
-unfolding body_at
-no_body s r h =
-    let e : (raw_in s (nth_row 0x06 r) 0 == 0) ≡ true = grind (arith, nat_tests) in
-    rw e refl
-
-either_none : (b : Bool) (o : Option Place) → o ≡ None → (if b then None else o) ≡ None
-either_none true o e = refl
-either_none false o e = e
-
-no_method : (s : Source) (r : ℕ) → slice_get (of_table 0x06 (listed s)) r ≡ None → body_at s r ≡ None
-unfolding body_at
-no_method s r h = rw h (either_none (raw_in s (nth_row 0x06 r) 0 == 0) None refl)
-
-no_further : (s : Source) (r d : ℕ) → length (of_table 0x06 (listed s)) ≤ r → first_below (body_at s) r ≡ None → first_below (body_at s) (r + d) ≡ None
-no_further s r zero past h = let e : r + 0 ≡ r = omega arith in rw e h
-no_further s r (suc d) past h =
-    let e : r + suc d ≡ r + d + 1 = omega arith in
-    rw e (first_more (body_at s) (r + d) (no_further s r d past h) ∙ no_method s (r + d) (slice_get_past _ (r + d) (omega arith)))
-
--- past the tokens of methods no row has one
-pub past_bodies : (s : Source) (r n : ℕ) → r ≤ n → length (of_table 0x06 (listed s)) ≤ r → first_below (body_at s) r ≡ None → first_below (body_at s) n ≡ None
-past_bodies s r n le past h =
-    let e : n ≡ r + (n - r) = omega arith in
-    rw e (no_further s r (n - r) past h)

@@ -8,13 +8,14 @@ use Rattle.enc_delta.specs.declared.after.After.{After}
 use Rattle.enc_delta.specs.declared.after.Rule.{Rule}
 use Rattle.enc_delta.specs.declared.after.Rule.TheVariants as rule
 use Rattle.enc_delta.specs.Delta.{listed}
-use Rattle.enc_delta.specs.Rules.{inserts, is_index, is_offset}
+use Rattle.enc_delta.specs.Rules.{inserts, rows_with, is_index, is_offset}
 use Rattle.enc_delta.specs.Totals.{totals_of}
 
--- what is known of a chain and a delta: the lengths before, the inserts by tables, and the delta's heaps
+-- what is known of a chain and a delta: the lengths before, the inserts by tables, the rows after by tables, and the delta's heaps
 pub record IsAfter (c : Chain) (s : Source) (a : After) : Type 0 where
   pub totals : a.totals ≡ totals_of c.heaps
   pub inserts : (t : ℕ) → t < 256 → slice_index a.inserts t ≡ inserts c (listed s) t
+  pub counts : (t : ℕ) → t < 64 → slice_index a.counts.rows t ≡ rows_with c (listed s) t
   pub heaps : a.heaps ≡ s.heaps
 
 -- the columns of which a rule speaks

@@ -1,10 +1,11 @@
 -- What the metadata of a delta says: its EncLog, its EncMap, and which row stands for which token.
-use Rattle.std.specs.Prelude.{ℕ, suc, Bool, not, ◌&&◌, List, map, filter, position, Option, option_map, ◌==◌, Result, Ok, Err, replicate}
+use Rattle.std.specs.Prelude.{ℕ, suc, Bool, true, not, ◌&&◌, List, [], ◌∷◌, map, filter, position, Option, option_map, ◌==◌, Result, Ok, Err, replicate}
 use Rattle.enc_base.specs.Token.{token_of, nth_row}
 use Rattle.enc_base.specs.declared.token.Token.{Token}
 use Rattle.enc_base.specs.declared.refusal.Refusal.{Refusal}
 use Rattle.enc_meta.specs.declared.root.Root.{Root}
 use Rattle.enc_meta.specs.Root.{root_of}
+use Rattle.enc_meta.specs.Regions.{Region}
 use Rattle.enc_meta.specs.Heaps.{part, heaps_of}
 use Rattle.enc_rows.specs.Sums.{below}
 use Rattle.enc_rows.specs.Layout.{Layout, rows_of, tables_of}
@@ -42,22 +43,26 @@ of_table table tokens = filter (λ (t : Token). t.table == table) tokens
 unfoldable pub place_in : List Token → Token → Option ℕ
 place_in tokens token = option_map suc (position (λ (t : Token). t.row == token.row) (of_table token.table tokens))
 
--- the parts of a delta's metadata with this root and this layout
-abbrev pub source_from : List ℕ → Root → Layout → Source
-source_from bytes root l = record { stream = part bytes root.tables; layout = l; heaps = heaps_of bytes root }
+-- a delta's code stands from 0 on
+abbrev pub loaded_code : List ℕ → List Region
+loaded_code il = record { address = 0; bytes = il } ∷ []
 
--- the parts of a delta's metadata, or F1, F2, F6
-abbrev pub source_with : List ℕ → Root → Result Layout Refusal → Result Source Refusal
-source_with bytes root (Ok l) = Ok (source_from bytes root l)
-source_with bytes root (Err e) = Err e
+-- the parts of a delta with this code, and metadata with this root and this layout
+abbrev pub source_from : List ℕ → List ℕ → Root → Layout → Source
+source_from bytes il root l = record { stream = part bytes root.tables; layout = l; heaps = heaps_of bytes root; loaded = loaded_code il; resources = []; entry = 0; bare = true }
+
+-- the parts of a delta, or F1, F2, F6 of its metadata
+abbrev pub source_with : List ℕ → List ℕ → Root → Result Layout Refusal → Result Source Refusal
+source_with bytes il root (Ok l) = Ok (source_from bytes il root l)
+source_with bytes il root (Err e) = Err e
 
 -- the layout of a delta's table stream, or F6
 unfoldable pub layout_for : List ℕ → Root → Result Layout Refusal
 layout_for bytes root = tables_of bytes root.tables form.Delta root.jtd (replicate 64 0)
 
-abbrev pub source_in : List ℕ → Result Root Refusal → Result Source Refusal
-source_in bytes (Ok root) = source_with bytes root (layout_for bytes root)
-source_in bytes (Err e) = Err e
+abbrev pub source_in : List ℕ → List ℕ → Result Root Refusal → Result Source Refusal
+source_in bytes il (Ok root) = source_with bytes il root (layout_for bytes root)
+source_in bytes il (Err e) = Err e
 
-unfoldable pub delta_of : List ℕ → Result Source Refusal
-delta_of bytes = source_in bytes (root_of bytes)
+unfoldable pub delta_of : List ℕ → List ℕ → Result Source Refusal
+delta_of bytes il = source_in bytes il (root_of bytes)

@@ -5,12 +5,12 @@ use Rattle.enc_base.specs.Token.{token_of, number_of, nth_row, is_token}
 use Rattle.enc_base.specs.Order.{or_else, first_below}
 use Rattle.enc_base.specs.declared.token.Token.{Token}
 use Rattle.enc_base.specs.declared.refusal.Refusal.{Refusal}
-use Rattle.enc_base.specs.declared.refusal.Code.TheVariants.{E, U}
+use Rattle.enc_base.specs.declared.refusal.Code.TheVariants.{E}
 use Rattle.enc_base.specs.declared.refusal.Place.{Place}
 use Rattle.enc_base.specs.declared.refusal.Place.TheVariants as place
 use Rattle.enc_base.specs.declared.refusal.StreamName.TheVariants as name
 use Rattle.enc_meta.specs.Heaps.{Counted}
-use Rattle.enc_meta.specs.Joined.{joined_text, joined_blob, joined_guid, joined_length}
+use Rattle.enc_meta.specs.Joined.{joined_text, joined_blob, joined_user, joined_guid, joined_length}
 use Rattle.enc_schema.specs.declared.column.Column.{Column}
 use Rattle.enc_schema.specs.declared.column.Column.TheVariants.{Text, Guid, Blob, Index, Coded}
 use Rattle.enc_schema.specs.Schema.{columns_in, column_in}
@@ -18,6 +18,9 @@ use Rattle.enc_rows.specs.Layout.{rows_of}
 use Rattle.enc_rows.specs.Source.{Source, raw_in}
 use Rattle.enc_plain.specs.Chain.{Chain, nil_guid, id_of, rows_before, mvid_of}
 use Rattle.enc_plain.specs.Reading.{Reading, cell_read}
+use Rattle.enc_plain.specs.Cell.{Cell, body}
+use Rattle.enc_plain.specs.Module.{cell_of}
+use Rattle.enc_plain.specs.Bodies.{body_loaded, body_is_good}
 use Rattle.enc_delta.specs.declared.entry.Entry.{Entry}
 use Rattle.enc_delta.specs.Delta.{log_in, listed, is_module, of_table}
 
@@ -217,9 +220,13 @@ e12_at s table = broken (nat_lt 0 (rows_of s.layout table) && not (may_change ta
 unfoldable pub e12 : Source → Option Place
 e12 s = first_below (e12_at s) 0x100
 
--- by what the numbers of the delta's rows are read: the joined heaps, and the rows after
+-- the user texts of all generations with the delta's behind them
+abbrev pub users_after : Chain → Source → ℕ → Option (List ℕ)
+users_after c s = joined_user (heaps_after c s)
+
+-- by what the numbers of the delta's rows are read: the joined heaps, the rows after, and the delta's code. A delta has no rows of FieldRVA
 unfoldable pub reading_after : Chain → Source → Reading
-reading_after c s = record { text = joined_text (heaps_after c s); blob = joined_blob (heaps_after c s); guid = joined_guid (heaps_after c s); count = rows_with c (listed s) }
+reading_after c s = record { text = joined_text (heaps_after c s); blob = joined_blob (heaps_after c s); guid = joined_guid (heaps_after c s); count = rows_with c (listed s); code = body_loaded s.loaded (users_after c s); field = λ row. [] }
 
 abbrev pub is_index : Column → Bool
 is_index (Index table) = true
@@ -259,15 +266,28 @@ e24_at c s table = broken (nat_lt 0xFFFFFF (rows_with c (listed s) table)) (plac
 unfoldable pub e24 : Chain → Source → Option Place
 e24 c s = or_else (broken (nat_lt 65535 (length c.ids + 1)) (place.Row module_token)) (first_below (e24_at c s) 0x2D)
 
--- for now: the first row of MethodDef with a place for its body, by its token
-unfoldable pub body_at : Source → ℕ → Option Place
-body_at s r = if raw_in s (nth_row 0x06 r) 0 == 0 then None else option_map (λ t. place.Row t) (slice_get (of_table 0x06 (listed s)) r)
+-- the method of a row has no place for a body, or a good one in the delta's code
+unfoldable pub body_stands : Chain → Source → ℕ → Bool
+body_stands c s r = body_is_good (rows_with c (listed s)) (users_after c s) s.loaded (raw_in s (nth_row 0x06 r) 0) (raw_in s (nth_row 0x06 r) 1)
 
-unfoldable pub first_body : Source → Option Place
-first_body s = first_below (body_at s) (rows_of s.layout 0x06)
+-- E16: a body isn't good
+unfoldable pub e16_at : Chain → Source → ℕ → Option Place
+e16_at c s r = option_and_then (λ (t : Token). broken (not (body_stands c s r)) (place.Row t)) (slice_get (of_table 0x06 (listed s)) r)
 
-abbrev pub unread : Option Place → Option Refusal
-unread p = option_map (λ (q : Place). record { code = U 4; place = q }) p
+unfoldable pub e16 : Chain → Source → Option Place
+e16 c s = first_below (e16_at c s) (rows_of s.layout 0x06)
+
+-- the cell is a body that is there
+abbrev pub has_body : Option Cell → Bool
+has_body (Some (body (Some b))) = true
+has_body _ = false
+
+-- E17: no place for a body where the method had one
+unfoldable pub e17_at : Chain → Source → ℕ → Option Place
+e17_at c s r = option_and_then (λ (t : Token). broken (raw_in s (nth_row 0x06 r) 0 == 0 && has_body (cell_of c.plain t 0)) (place.Row t)) (slice_get (of_table 0x06 (listed s)) r)
+
+unfoldable pub e17 : Chain → Source → Option Place
+e17 c s = first_below (e17_at c s) (rows_of s.layout 0x06)
 
 abbrev pub rule : ℕ → Option Place → Option Refusal
 rule n p = option_map (λ (q : Place). record { code = E n; place = q }) p
@@ -276,11 +296,15 @@ rule n p = option_map (λ (q : Place). record { code = E n; place = q }) p
 unfoldable pub set_meta : Source → Option Place
 set_meta s = set_fault (map number_of (listed s)) (map number_of (changed (log_in s)))
 
--- E12 to E14 and E24, and for now U4 after all rules
-unfoldable pub cells_meta : Chain → Source → Option Refusal
-cells_meta c s = or_else (rule 12 (e12 s)) (or_else (rule 13 (e13 c s)) (or_else (rule 14 (e14 c s)) (or_else (rule 24 (e24 c s)) (unread (first_body s)))))
+-- E16, E17 and E24
+unfoldable pub bodies_meta : Chain → Source → Option Refusal
+bodies_meta c s = or_else (rule 16 (e16 c s)) (or_else (rule 17 (e17 c s)) (rule 24 (e24 c s)))
 
--- E6 to E14 and E24
+-- E12 to E14, E16, E17 and E24
+unfoldable pub cells_meta : Chain → Source → Option Refusal
+cells_meta c s = or_else (rule 12 (e12 s)) (or_else (rule 13 (e13 c s)) (or_else (rule 14 (e14 c s)) (bodies_meta c s)))
+
+-- E6 to E14, E16, E17 and E24
 unfoldable pub lists_meta : Chain → Source → Option Refusal
 lists_meta c s =
     or_else (rule 6 (late_fault (listed s))) (or_else (rule 7 (e7 s)) (or_else (rule 8 (insert_fault c (listed s))) (or_else (rule 9 (set_meta s)) (or_else (rule 10 (log_fault c (listed s) (log_in s))) (or_else (rule 11 (child_fault c (listed s) (log_in s))) (cells_meta c s))))))

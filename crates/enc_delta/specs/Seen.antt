@@ -12,9 +12,9 @@ use Rattle.enc_delta.specs.declared.open.Opened.{Opened}
 use Rattle.enc_delta.specs.Delta.{source_from, token_at}
 
 -- a root and its tables with the file's bytes
-abbrev pub opened_source : List ℕ → Result Opened Refusal → Result Source Refusal
-opened_source bytes (Ok o) = Ok (source_from bytes o.root o.tables)
-opened_source bytes (Err e) = Err e
+abbrev pub opened_source : List ℕ → List ℕ → Result Opened Refusal → Result Source Refusal
+opened_source bytes il (Ok o) = Ok (source_from bytes il o.root o.tables)
+opened_source bytes il (Err e) = Err e
 
 -- the root, the ends of its texts and the tables were read from these bytes
 pub record IsOpened (bytes : List ℕ) (o : Opened) : Type 0 where
@@ -28,9 +28,9 @@ abbrev pub IsRising : Source → Type 0
 IsRising s = (i j : ℕ) → i < j → j < rows_of s.layout 0x1F → number_of (token_at s i) < number_of (token_at s j)
 
 -- the root and the tables of a delta, and whether its map rises
-pub record IsRead (bytes : List ℕ) (o : Opened) (rises : Bool) : Type 0 where
+pub record IsRead (bytes il : List ℕ) (o : Opened) (rises : Bool) : Type 0 where
   pub opened : IsOpened bytes o
-  pub rising : IsTrue rises ↔ IsRising (source_from bytes o.root o.tables)
+  pub rising : IsTrue rises ↔ IsRising (source_from bytes il o.root o.tables)
 
 -- what was read is the delta; what was refused is refused by the first rule; want of memory tells nothing
 abbrev pub Reads : Result Source ReadFault → Result Source Refusal → Type 0

@@ -1,5 +1,5 @@
 //! What stands after a delta: the rows of each table, and the entries of the joined heaps.
-ghost use Rattle.std.specs.Prelude.{◌≡◌, ℕ, ◌<◌, nat_le, is_some, slice_index};
+ghost use Rattle.std.specs.Prelude.{◌≡◌, ℕ, ◌<◌, ◌^◌, length, nat_le, is_some, slice_index};
 ghost use Rattle.enc_plain.specs.Reading.{cell_read};
 ghost use Rattle.enc_delta.specs.Delta.{listed};
 ghost use Rattle.enc_delta.specs.Rules.{heaps_after, is_insert, inserts, rows_with, reading_after};
@@ -8,7 +8,7 @@ ghost use Rattle.enc_delta.specs.After.{IsAfter, speaks};
 use crate::delta::Delta;
 use crate::heap_rule::HeapTotals;
 use crate::joined::{blob_after, guid_after, has_text_after};
-use enc_base::Token;
+use enc_base::{Counts, Token};
 use enc_meta::Heaps;
 use enc_plain::ChainView;
 use enc_schema::{Column, decode_coded};
@@ -34,12 +34,13 @@ impl Rule {
     }
 }
 
-/// What cells are judged by: the lengths of the joined heaps before, how many inserts go into each
-/// table, and the delta's own heaps.
+/// What cells and bodies are judged by: the lengths of the joined heaps before, how many inserts go
+/// into each table, how many rows each has after, and the delta's own heaps.
 #[derive(Drop)]
 pub struct After<'a> {
     pub totals: HeapTotals,
     pub inserts: [usize; 256],
+    pub counts: Counts,
     pub heaps: Heaps<'a>,
 }
 
@@ -64,6 +65,23 @@ pub fn inserts_of<C: ChainView>(chain: &C, tokens: &[Token]) -> [usize; 256]
             let table = tokens[i].table as usize;
             counts[table] += 1;
         }
+    }
+    counts
+}
+
+/// How many rows each table has after the delta.
+#[tactic(auto, unfolding(crate::specs::Rules::rows_with))]
+pub fn counts_of<C: ChainView>(chain: &C, tokens: &[Token], added: &[usize; 256]) -> Counts
+    requires added { (t : ℕ) → t < 256 → slice_index added.now t ≡ inserts (C.chain chain.now) tokens.now t }
+    requires means { C.meaning chain.now ≡ (C.chain chain.now).plain }
+    requires few { length tokens.now < 2 ^ 24 }
+    ensures { (t : ℕ) → t < 64 → slice_index result.rows t ≡ rows_with (C.chain chain.now) tokens.now t }
+{
+    let _ = tokens;
+    let mut counts = Counts { rows: [0; 64] };
+    for table in 0..64_u8 {
+        let more = added[table as usize] as u32;
+        counts.rows[table as usize] = chain.count(table) + more;
     }
     counts
 }

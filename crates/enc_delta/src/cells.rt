@@ -4,7 +4,7 @@ ghost use Rattle.enc_base.specs.Order.{first_below};
 ghost use Rattle.enc_schema.specs.Schema.{columns_in};
 ghost use Rattle.enc_base.specs.Token.{nth_row};
 ghost use Rattle.enc_delta.specs.Delta.{listed, of_table};
-ghost use Rattle.enc_delta.specs.Rules.{cell_fault, row_fault, table_fault, e13, e14, e24_at, e24, first_body};
+ghost use Rattle.enc_delta.specs.Rules.{cell_fault, row_fault, table_fault, e13, e14, e24_at, e24};
 ghost use Rattle.enc_delta.specs.After.{IsAfter, speaks, begins_with};
 
 use crate::after::{After, Rule, is_good};
@@ -85,7 +85,7 @@ fn row_fault<C: ChainView>(
 
 /// The tokens from the first of this table on.
 #[tactic(auto, using(crate::proofs::Runs::not_of))]
-fn next_of(tokens: &[Token], table: u8) -> &[Token]
+pub fn next_of(tokens: &[Token], table: u8) -> &[Token]
     ensures same { of_table table result.now ≡ of_table table tokens.now }
     ensures first { IsTrue (begins_with table result.now) }
 {
@@ -214,25 +214,6 @@ pub fn e24<C: ChainView>(chain: &C, delta: &Delta, after: &After<'_>) -> Option<
             Some(place) => return Some(place),
             None => {}
         }
-    }
-    None
-}
-
-/// The first row of MethodDef with a place for its body, by its token.
-#[tactic(auto, using(enc_base::proofs::First::first_none, enc_base::proofs::First::first_found, enc_base::proofs::First::first_more), unfolding(crate::specs::Rules::first_body, crate::specs::Rules::body_at))]
-pub fn first_body(delta: &Delta, tokens: &[Token]) -> Option<Place>
-    requires tokens { tokens.now ≡ listed delta.now }
-    ensures { result ≡ first_body delta.now }
-{
-    let mut rest = tokens;
-    for r in 0..delta.count(0x06) {
-        let [token, tail @ ..] = next_of(rest, 0x06) else {
-            return None;
-        };
-        if delta.cell(nth_row(0x06, r), 0) != 0 {
-            return Some(Place::Row(*token));
-        }
-        rest = tail;
     }
     None
 }

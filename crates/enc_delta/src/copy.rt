@@ -38,6 +38,7 @@ impl Delta {
         ensures tokens { IfOk result (λ l. l.items ≡ listed self.now) }
         ensures rows { IfOk result (λ l. IsTrue (list_all (λ (t : TheToken). nat_lt t.row 0x1000000) l.items)) }
         ensures tables { IfOk result (λ l. IsTrue (list_all (λ (t : TheToken). nat_lt t.table 0x100) l.items)) }
+        ensures few { IfOk result (λ l. length l.items < 2 ^ 24) }
     {
         let mut tokens = Vec::new(alloc);
         for i in 0..self.map_len() {

@@ -1,6 +1,8 @@
 //! A delta: the metadata and the IL that one edit gives.
-ghost use Rattle.std.specs.Prelude.{◌≡◌, ◌↔◌, ◌+◌, ◌<◌, ◌^◌, Some, IsTrue, IsSome, slice_get};
+ghost use Rattle.std.specs.Prelude.{◌≡◌, ◌↔◌, ◌+◌, ◌<◌, ◌^◌, Some, IsTrue, IsSome, IfSome, length, option_map, slice_get};
 ghost use Rattle.enc_meta.specs.Heaps.{lengths_of};
+ghost use Rattle.enc_opcodes.specs.Body.{code_seen};
+ghost use Rattle.enc_plain.specs.Bodies.{code_there, code_loaded};
 ghost use Rattle.enc_schema.specs.Schema.{column_in};
 ghost use Rattle.enc_rows.specs.Layout.{rows_of, has_row};
 ghost use Rattle.enc_rows.specs.Source.{raw_in};
@@ -8,10 +10,12 @@ ghost use Rattle.enc_base.specs.Token.{nth_row};
 ghost use Rattle.enc_delta.specs.Delta.{delta_of, entry_at, token_at, log_in, map_in, listed};
 ghost use Rattle.enc_delta.specs.Seen.{Reads, IsRising};
 
+use crate::code::{body_from, code_at};
 use crate::entry::Entry;
 use crate::open::{is_rising, open};
 use enc_base::{ReadFault, Steps, Token};
 use enc_meta::{HeapLengths, Heaps, Root, TextEnds, heaps_law};
+use enc_opcodes::CodeRef;
 use enc_rows::Tables;
 use enc_schema::column_of;
 use std::marker::Model;
@@ -36,20 +40,20 @@ impl Model for Delta {
 
     ghost Value = { Source };
 
-    ghost view = { λ d. source_from d.meta.items d.root d.tables };
+    ghost view = { λ d. source_from d.meta.items d.il.items d.root d.tables };
 
-    ghost invariant = { λ d. IsRead d.meta.items (record { root = d.root; ends = d.ends; tables = d.tables }) d.rises };
+    ghost invariant = { λ d. IsRead d.meta.items d.il.items (record { root = d.root; ends = d.ends; tables = d.tables }) d.rises };
 }
 
 impl Delta {
     /// Reads a delta. Refused is the first of F1, F2, F6 of its metadata. It takes no memory, and goes
     /// over EncMap once.
     pub fn read(meta: Vec<u8>, il: Vec<u8>) -> Result<Delta, ReadFault>
-        ensures { Reads result (delta_of meta.items) }
+        ensures { Reads result (delta_of meta.items il.items) }
     {
-        match open(&meta) {
+        match open(&meta, &il) {
             Ok(opened) => {
-                let rises = is_rising(&meta, &opened);
+                let rises = is_rising(&meta, &il, &opened);
                 Ok(Delta {
                     meta,
                     il,
@@ -102,6 +106,23 @@ impl Delta {
             Some(_) => self.tables.cell(&self.meta, row, column),
             None => 0,
         }
+    }
+
+    /// The parts of the body at an offset of the delta's code, None where none stands whole there
+    /// (ECMA-335 II.25.4).
+    pub fn body(&self, offset: u32) -> Option<CodeRef<'_>>
+        ensures code { option_map code_seen result ≡ code_there self.now.loaded offset }
+        ensures few { IfSome result (λ c. length c.code.now < 2 ^ 32) }
+    {
+        body_from(&self.il, offset)
+    }
+
+    /// The parts of the body at a method's place in the delta's code, of which 0 is none.
+    pub fn code(&self, place: u32) -> Option<CodeRef<'_>>
+        ensures code { option_map code_seen result ≡ code_loaded self.now.loaded place }
+        ensures few { IfSome result (λ c. length c.code.now < 2 ^ 32) }
+    {
+        code_at(&self.il, place)
     }
 
     /// The heaps by the bytes that count.

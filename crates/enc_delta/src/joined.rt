@@ -1,6 +1,6 @@
 //! The joined heaps of a chain with the heaps of one file more behind them.
 ghost use Rattle.std.specs.Prelude.{◌≡◌, [], ◌∷◌, ◌++◌, is_some, option_copied};
-ghost use Rattle.enc_meta.specs.Joined.{joined_text, joined_blob, joined_guid};
+ghost use Rattle.enc_meta.specs.Joined.{joined_text, joined_blob, joined_user, joined_guid};
 ghost use Rattle.enc_delta.specs.Totals.{totals_of};
 
 use crate::heap_rule::HeapTotals;
@@ -75,6 +75,32 @@ pub fn blob_after<'a, C: ChainView>(
         return None;
     }
     heaps.blob_entry(own)
+}
+
+/// The bytes of the UTF-16 units at an offset of the joined `#US` with one heap more behind the
+/// chain's, None where the offset isn't good. `before` has the lengths of the chain's joined heaps.
+#[tactic(auto)]
+pub fn user_after<'a, C: ChainView>(
+    chain: &'a C,
+    heaps: &Heaps<'a>,
+    before: &HeapTotals,
+    offset: u32,
+) -> Option<&'a [u8]>
+    requires tied { before.now ≡ totals_of (C.chain chain.now).heaps }
+    ensures { option_copied result ≡ joined_user ((C.chain chain.now).heaps ++ heaps.now ∷ []) offset }
+{
+    if offset == 0 {
+        return Some(&[]);
+    }
+    let users = before.users;
+    if u64::from(offset) < users {
+        return chain.user_at(offset);
+    }
+    let own = offset - users as u32;
+    if own as usize >= heaps.users().len() {
+        return None;
+    }
+    heaps.user_entry(own)
 }
 
 /// Entry k of the joined `#GUID` with one heap more: the chain's, or else that heap's.

@@ -1,8 +1,10 @@
-//! A delta's metadata: its log, its map, its rows, and the first rule that it breaks after a chain.
+//! A delta: its log, its map, its rows, its bodies, and the first rule that it breaks after a chain.
 #![tactic(auto)]
 
 mod after;
+mod bodies;
 mod cells;
+mod code;
 mod copy;
 mod delta;
 mod entry;

@@ -28,12 +28,14 @@ fn tables_in(bytes: &[u8], root: &Root) -> Result<Tables, Refusal>
     Tables::read(bytes, root.tables, Form::Delta, root.jtd, &none)
 }
 
-/// The root, the ends of the texts and the tables of a delta's metadata: F1, F2 or F6.
+/// The root, the ends of the texts and the tables of a delta's metadata: F1, F2 or F6. Of the code
+/// that goes with it nothing is read.
 #[tactic(auto, unfolding(crate::specs::Delta::delta_of))]
-pub fn open(bytes: &[u8]) -> Result<Opened, Refusal>
-    ensures source { opened_source bytes.now result ≡ delta_of bytes.now }
+pub fn open(bytes: &[u8], il: &[u8]) -> Result<Opened, Refusal>
+    ensures source { opened_source bytes.now il.now result ≡ delta_of bytes.now il.now }
     ensures opened { IfOk result (IsOpened bytes.now) }
 {
+    let _ = il;
     let root = match read_root(bytes) {
         Ok(root) => root,
         Err(refusal) => return Err(refusal),
@@ -45,11 +47,13 @@ pub fn open(bytes: &[u8]) -> Result<Opened, Refusal>
     }
 }
 
-/// Whether each token of EncMap has a greater number than those before it.
-pub fn is_rising(bytes: &[u8], opened: &Opened) -> bool
+/// Whether each token of EncMap has a greater number than those before it. Of the code nothing is
+/// read.
+pub fn is_rising(bytes: &[u8], il: &[u8], opened: &Opened) -> bool
     requires { IsOpened bytes.now opened.now }
-    ensures { IsTrue result ↔ IsRising (source_from bytes.now opened.now.root opened.now.tables) }
+    ensures { IsTrue result ↔ IsRising (source_from bytes.now il.now opened.now.root opened.now.tables) }
 {
+    let _ = il;
     let mut least: u64 = 0;
     for i in 0..opened.tables.count(0x1f) {
         let n = u64::from(opened.tables.cell(bytes, nth_row(0x1f, i), 0));

@@ -3,11 +3,12 @@ ghost use Rattle.std.specs.Prelude.{◌≡◌, ◌<◌, ◌^◌, IfOk, IsTrue, S
 ghost use Rattle.enc_delta.specs.Delta.{listed, log_in};
 ghost use Rattle.enc_delta.specs.After.{IsAfter};
 ghost use Rattle.enc_delta.specs.Lists.{AreTokens, AreEntries};
-ghost use Rattle.enc_delta.specs.Rules.{rule, unread, set_meta, cells_meta, lists_meta, first_meta};
+ghost use Rattle.enc_delta.specs.Rules.{rule, set_meta, bodies_meta, cells_meta, lists_meta, first_meta};
 ghost use Rattle.enc_delta.specs.Totals.{totals_of};
 
-use crate::after::{After, inserts_of};
-use crate::cells::{e13, e14, e24, first_body};
+use crate::after::{After, counts_of, inserts_of};
+use crate::bodies::{e16, e17};
+use crate::cells::{e13, e14, e24};
 use crate::copy::log_of;
 use crate::delta::Delta;
 use crate::entry::Entry;
@@ -25,16 +26,6 @@ fn broken(n: u8, place: Place) -> Refusal
 {
     Refusal {
         code: Code::E(n),
-        place,
-    }
-}
-
-/// A body that isn't read so far.
-fn unread(place: Place) -> Refusal
-    ensures { Some result ≡ unread (Some place) }
-{
-    Refusal {
-        code: Code::U(4),
         place,
     }
 }
@@ -61,42 +52,65 @@ fn set_broken(
     set_fault(alloc, tokens, &changed)
 }
 
-/// E12 to E14 and E24, and for now U4: tables and cells.
-#[tactic(auto, unfolding(crate::specs::Rules::cells_meta))]
-fn cells_broken<C: ChainView>(
+/// E16, E17 and E24: bodies, and how many deltas and rows there are.
+#[tactic(auto, unfolding(crate::specs::Rules::bodies_meta))]
+fn bodies_broken<C: ChainView>(
+    alloc: Global,
     chain: &C,
     delta: &Delta,
     after: &After<'_>,
     tokens: &[Token],
-) -> Option<Refusal>
+) -> Result<Option<Refusal>, AllocError>
     requires means { C.meaning chain.now ≡ (C.chain chain.now).plain }
     requires after { IsAfter (C.chain chain.now) delta.now after.now }
     requires tokens { tokens.now ≡ listed delta.now }
-    ensures { result ≡ cells_meta (C.chain chain.now) delta.now }
+    ensures { IfOk result (λ r. r ≡ bodies_meta (C.chain chain.now) delta.now) }
 {
-    match e12(delta) {
-        Some(place) => return Some(broken(12, place)),
-        None => {}
+    match e16(alloc, chain, delta, after, tokens) {
+        Err(error) => return Err(error),
+        Ok(Some(place)) => return Ok(Some(broken(16, place))),
+        Ok(None) => {}
     }
-    match e13(chain, delta, after, tokens) {
-        Some(place) => return Some(broken(13, place)),
-        None => {}
-    }
-    match e14(chain, delta, after, tokens) {
-        Some(place) => return Some(broken(14, place)),
+    match e17(chain, delta, tokens) {
+        Some(place) => return Ok(Some(broken(17, place))),
         None => {}
     }
     match e24(chain, delta, after) {
-        Some(place) => return Some(broken(24, place)),
-        None => {}
-    }
-    match first_body(delta, tokens) {
-        Some(place) => Some(unread(place)),
-        None => None,
+        Some(place) => Ok(Some(broken(24, place))),
+        None => Ok(None),
     }
 }
 
-/// E6 to E14 and E24: the lists of tokens and entries, then tables and cells.
+/// E12 to E14, E16, E17 and E24: tables and cells, then bodies.
+#[tactic(auto, unfolding(crate::specs::Rules::cells_meta))]
+fn cells_broken<C: ChainView>(
+    alloc: Global,
+    chain: &C,
+    delta: &Delta,
+    after: &After<'_>,
+    tokens: &[Token],
+) -> Result<Option<Refusal>, AllocError>
+    requires means { C.meaning chain.now ≡ (C.chain chain.now).plain }
+    requires after { IsAfter (C.chain chain.now) delta.now after.now }
+    requires tokens { tokens.now ≡ listed delta.now }
+    ensures { IfOk result (λ r. r ≡ cells_meta (C.chain chain.now) delta.now) }
+{
+    match e12(delta) {
+        Some(place) => return Ok(Some(broken(12, place))),
+        None => {}
+    }
+    match e13(chain, delta, after, tokens) {
+        Some(place) => return Ok(Some(broken(13, place))),
+        None => {}
+    }
+    match e14(chain, delta, after, tokens) {
+        Some(place) => return Ok(Some(broken(14, place))),
+        None => {}
+    }
+    bodies_broken(alloc, chain, delta, after, tokens)
+}
+
+/// E6 to E14, E16, E17 and E24: the lists of tokens and entries, then tables, cells and bodies.
 #[tactic(auto, unfolding(crate::specs::Rules::lists_meta))]
 fn lists_broken<C: ChainView>(
     alloc: Global,
@@ -140,10 +154,10 @@ fn lists_broken<C: ChainView>(
         Some(place) => return Ok(Some(broken(11, place))),
         None => {}
     }
-    Ok(cells_broken(chain, delta, after, tokens))
+    cells_broken(alloc, chain, delta, after, tokens)
 }
 
-/// E6 to E14, where E1 to E5 aren't broken.
+/// E6 to E14, E16, E17 and E24, where E1 to E5 aren't broken.
 fn rest_broken<C: ChainView>(
     alloc: Global,
     chain: &C,
@@ -162,18 +176,19 @@ fn rest_broken<C: ChainView>(
         Ok(log) => log,
         Err(error) => return Err(error),
     };
+    let inserts = inserts_of(chain, &tokens);
     let after = After {
         totals: *before,
-        inserts: inserts_of(chain, &tokens),
+        counts: counts_of(chain, &tokens, &inserts),
+        inserts,
         heaps: delta.heaps(),
     };
     lists_broken(alloc, chain, delta, &after, &tokens, &log)
 }
 
 impl Delta {
-    /// The first rule of E1 to E14 and E24 that the delta's metadata breaks after the chain, and for
-    /// now U4 for a method with a place for its body. `before` has the lengths of the chain's joined
-    /// heaps.
+    /// The first rule of E1 to E14, E16, E17 and E24 that the delta breaks after the chain. `before` has
+    /// the lengths of the chain's joined heaps.
     #[tactic(auto, unfolding(crate::specs::Rules::first_meta))]
     pub fn first_broken<C: ChainView>(
         &self,

@@ -50,7 +50,7 @@ if_none true x h = absurd cc
 if_none false x h = refl
 
 -- an offset at which a silent rule looks is good
-pub good_offset : (s : Source) (table r i : ℕ) (c : Column) → offset_fault s ≡ None → table < 0x2D → r < rows_of s.layout table → column_in table i ≡ Some c → is_offset c ≡ true → is_some (cell_for s.layout s.heaps c (raw_in s (nth_row table r) i)) ≡ true
+pub good_offset : (s : Source) (table r i : ℕ) (c : Column) → offset_fault s ≡ None → table < 0x2D → r < rows_of s.layout table → column_in table i ≡ Some c → is_offset c ≡ true → is_some (cell_for s c (raw_in s (nth_row table r) i)) ≡ true
 unfolding offset_fault offset_fault_in offset_fault_in_row offset_fault_at
 good_offset s table r i c none there row column speaks =
     let in_table = silent (offset_fault_in s) 0x2D table none there in
@@ -97,6 +97,6 @@ mapped f (Some x) h = refl
 mapped f None h = h
 
 -- and so does a coded one
-pub coded_there : (s : Source) (kind : Coding) (n : ℕ) → is_past s.layout (decoded kind n) ≡ false → is_some (cell_for s.layout s.heaps (Coded kind) n) ≡ true
+pub coded_there : (s : Source) (kind : Coding) (n : ℕ) → is_past s.layout (decoded kind n) ≡ false → is_some (cell_for s (Coded kind) n) ≡ true
 unfolding cell_read
 coded_there s kind n h = mapped _ _ (coded_within s.layout (decoded kind n) h)

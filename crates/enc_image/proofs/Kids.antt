@@ -16,8 +16,8 @@ use Rattle.enc_rows.specs.Runs.{rows_with, children_of, all_children, times_name
 use Rattle.enc_rows.proofs.Runs.{count_more}
 use Rattle.enc_rows.specs.Source.{Source}
 use Rattle.enc_plain.specs.Module.{Row, rows_in, row_of, has_row, kids_at, kids_of, has_kid, owner_of}
-use Rattle.enc_image.specs.declared.bare.Opened.{Opened}
-use Rattle.enc_image.specs.Base.{rows_from, source_from, cells_fault, is_part, row_in, module_in}
+use Rattle.enc_image.specs.declared.open.Opened.{Opened}
+use Rattle.enc_image.specs.Base.{rows_from, metadata_of, source_from, cells_fault, is_part, row_in, module_in}
 use Rattle.enc_image.specs.Seen.{IsOpened}
 use Rattle.enc_image.proofs.Listed.{length_below}
 use Rattle.enc_image.proofs.Good.{named_once, no_index_fault}
@@ -44,7 +44,7 @@ kids_are s owner child row there owners =
     rw (same, at) (row_kids s child (owner.row - 1) there)
 
 -- and they are those that the tables tell of its bytes
-pub kids_seen : (bytes seen : List ℕ) (o : Opened) (child n : ℕ) → IsOpened bytes o → seen ≡ bytes → children_of (rows_with seen o.tables) (owner_table child) (run_column child) child n ≡ kids_from (source_from bytes o.root o.tables) child n
+pub kids_seen : (bytes seen : List ℕ) (o : Opened) (child n : ℕ) → IsOpened bytes o → seen ≡ metadata_of bytes o.container → children_of (rows_with seen o.tables) (owner_table child) (run_column child) child n ≡ kids_from (source_from bytes o.container o.root o.tables) child n
 kids_seen bytes seen o child n opened same = rw (same, opened.span) refl
 
 -- an owner is a row of its table

@@ -1,5 +1,9 @@
-pub mod Listed
-pub mod Good
-pub mod Rows
-pub mod Kids
 pub mod Alone
+pub mod Codes
+pub mod Good
+pub mod Kids
+pub mod Listed
+pub mod Locals
+pub mod Rows
+pub mod Sizes
+pub mod Texts

@@ -18,8 +18,9 @@ use Rattle.enc_meta.specs.Heaps.{text_at, blob_at, guid_at}
 use Rattle.enc_schema.specs.declared.column.Column.TheVariants.{Num8, Num16, Num32, Text, Guid, Blob, Index, Coded, Run}
 use Rattle.enc_image.proofs.Good.{good_offset, good_index, index_there, coded_there, no_index_fault, no_offset_fault}
 use Rattle.enc_rows.specs.Fault.{is_past, is_bad_index, index_fault}
-use Rattle.enc_image.specs.Base.{reading_of, cell_for, is_offset, offset_fault, rows_from, cells_fault, cell_in, is_part, row_in, table_rows, module_in}
+use Rattle.enc_image.specs.Base.{users_of, field_bytes, reading_of, cell_for, is_offset, offset_fault, rows_from, cells_fault, cell_in, is_part, row_in, table_rows, module_in}
 use Rattle.enc_rows.specs.Source.{Source, raw_in}
+use Rattle.enc_plain.specs.Bodies.{body_loaded}
 use Rattle.enc_plain.specs.Reading.{Reading, within, index_token, cell_read, cell_with}
 use Rattle.enc_image.proofs.Listed.{get_below, get_past, length_below}
 
@@ -156,7 +157,7 @@ plain_kind table i k plain h =
     record { body = p.0; field = p.1; kind = p.2 }
 
 -- a cell of the module, where its number stands for one
-pub held : (s : Source) (token : Token) (i : ℕ) (c : Column) (cell : Cell) → IsTrue (has_row (module_in s) token) → column_in token.table i ≡ Some c → is_some (kind_of c) ≡ true → is_body token.table i ≡ false → is_field token.table i ≡ false → cell_for s.layout s.heaps c (raw_in s token i) ≡ Some cell → cell_of (module_in s) token i ≡ Some cell
+pub held : (s : Source) (token : Token) (i : ℕ) (c : Column) (cell : Cell) → IsTrue (has_row (module_in s) token) → column_in token.table i ≡ Some c → is_some (kind_of c) ≡ true → is_body token.table i ≡ false → is_field token.table i ≡ false → cell_for s c (raw_in s token i) ≡ Some cell → cell_of (module_in s) token i ≡ Some cell
 unfolding cell_in cell_with
 held s token i c cell there column kind no_body no_field is =
     let row = row_stands s token there in
@@ -165,28 +166,28 @@ held s token i c cell there column kind no_body no_field is =
     let found : cell_in s token i ≡ Some cell = rw (column, no_body, no_field) is in
     rw e at at found
 
--- a method of bare metadata has no body
-pub body_cell : (s : Source) (token : Token) → IsTrue (has_row (module_in s) token) → token.table ≡ 0x06 → cell_of (module_in s) token 0 ≡ Some (body false)
+-- the body of a method is the one at its place
+pub body_cell : (s : Source) (token : Token) → IsTrue (has_row (module_in s) token) → token.table ≡ 0x06 → cell_of (module_in s) token 0 ≡ Some (body (body_loaded s.loaded (users_of s) (raw_in s token 0)))
 unfolding cell_in cell_with columns_in
 body_cell s token there is =
     let row = row_stands s token there in
     let e = token_is token row.low in
-    let at = cell_at s token.table (token.row - 1) 0 (body false) row.table row.part (omega (arith, row.low, row.high)) (rw is (in_cells 0x06 0 Num32 refl refl)) in
-    let found : cell_in s token 0 ≡ Some (body false) = rw is refl in
+    let at = cell_at s token.table (token.row - 1) 0 (body (body_loaded s.loaded (users_of s) (raw_in s token 0))) row.table row.part (omega (arith, row.low, row.high)) (rw is (in_cells 0x06 0 Num32 refl refl)) in
+    let found : cell_in s token 0 ≡ Some (body (body_loaded s.loaded (users_of s) (raw_in s token 0))) = rw is refl in
     rw e at at found
 
--- and a field no initial bytes
-pub field_cell : (s : Source) (token : Token) → IsTrue (has_row (module_in s) token) → token.table ≡ 0x1D → cell_of (module_in s) token 0 ≡ Some (field [])
+-- and the initial bytes of a field are those of its row
+pub field_cell : (s : Source) (token : Token) → IsTrue (has_row (module_in s) token) → token.table ≡ 0x1D → cell_of (module_in s) token 0 ≡ Some (field (field_bytes s token))
 unfolding cell_in cell_with columns_in
 field_cell s token there is =
     let row = row_stands s token there in
     let e = token_is token row.low in
-    let at = cell_at s token.table (token.row - 1) 0 (field []) row.table row.part (omega (arith, row.low, row.high)) (rw is (in_cells 0x1D 0 Num32 refl refl)) in
-    let found : cell_in s token 0 ≡ Some (field []) = rw is refl in
+    let at = cell_at s token.table (token.row - 1) 0 (field (field_bytes s token)) row.table row.part (omega (arith, row.low, row.high)) (rw is (in_cells 0x1D 0 Num32 refl refl)) in
+    let found : cell_in s token 0 ≡ Some (field (field_bytes s token)) = rw is refl in
     rw e at at found
 
 -- no offset of the module is bad
-pub good : (s : Source) (token : Token) (i : ℕ) (c : Column) → offset_fault s ≡ None → IsTrue (has_row (module_in s) token) → column_in token.table i ≡ Some c → is_offset c ≡ true → is_some (cell_for s.layout s.heaps c (raw_in s token i)) ≡ true
+pub good : (s : Source) (token : Token) (i : ℕ) (c : Column) → offset_fault s ≡ None → IsTrue (has_row (module_in s) token) → column_in token.table i ≡ Some c → is_offset c ≡ true → is_some (cell_for s c (raw_in s token i)) ≡ true
 good s token i c none there column speaks =
     let row = row_stands s token there in
     rw (token_is token row.low) at (good_offset s token.table (token.row - 1) i c none row.table (omega (arith, row.low, row.high)) column speaks)
@@ -242,9 +243,9 @@ made_from o f (Some a) P some is holds = holds (f a) is
 made_from o f None P some is holds = let e = rw is at some in cc
 
 -- where an optional value is there, and the cell is made from it, the module has that cell
-pub made : {A : Type 0} (s : Source) (token : Token) (i : ℕ) (c : Column) (k : Kind) (f : A → Cell) (x : Option A) → IsTrue (has_row (module_in s) token) → column_in token.table i ≡ Some c → is_some (kind_of c) ≡ true → HasPlainKind token.table i k → is_some (cell_for s.layout s.heaps c (raw_in s token i)) ≡ true → cell_for s.layout s.heaps c (raw_in s token i) ≡ option_map f x → MatchOption x ⊥ (λ a. cell_of (module_in s) token i ≡ Some (f a))
+pub made : {A : Type 0} (s : Source) (token : Token) (i : ℕ) (c : Column) (k : Kind) (f : A → Cell) (x : Option A) → IsTrue (has_row (module_in s) token) → column_in token.table i ≡ Some c → is_some (kind_of c) ≡ true → HasPlainKind token.table i k → is_some (cell_for s c (raw_in s token i)) ≡ true → cell_for s c (raw_in s token i) ≡ option_map f x → MatchOption x ⊥ (λ a. cell_of (module_in s) token i ≡ Some (f a))
 made s token i c k f x there column kind plain some is =
-    made_from (cell_for s.layout s.heaps c (raw_in s token i)) f x (λ cell. cell_of (module_in s) token i ≡ Some cell) some is (λ cell e. held s token i c cell there column kind plain.body plain.field e)
+    made_from (cell_for s c (raw_in s token i)) f x (λ cell. cell_of (module_in s) token i ≡ Some cell) some is (λ cell e. held s token i c cell there column kind plain.body plain.field e)
 
 -- a cell of each kind: the entry is there, and the module has the cell with it
 pub text_cell : (s : Source) (token : Token) (i n : ℕ) → cells_fault s ≡ None → IsTrue (has_row (module_in s) token) → kind_in token.table i ≡ Some texts → raw_in s token i ≡ n → MatchOption (text_at s.heaps.strings n) ⊥ (λ a. cell_of (module_in s) token i ≡ Some (text a))
@@ -284,7 +285,7 @@ unfolding cell_read
 index_cell s token i n table sound there kind column is =
     let row = row_stands s token there in
     let fits : nat_lt (rows_of s.layout table) (raw_in s token i) ≡ false = rw (token_is token row.low) at (unfaulted s token i (Index table) (no_index_fault s sound) there column) in
-    within_is (rows_of s.layout) (index_token table n) (λ t. cell_of (module_in s) token i ≡ Some (refer t)) (made s token i (Index table) references refer _ there column refl (plain_kind _ _ references refl kind) (index_there (reading_of s.layout s.heaps) table (raw_in s token i) fits) (rw is refl))
+    within_is (rows_of s.layout) (index_token table n) (λ t. cell_of (module_in s) token i ≡ Some (refer t)) (made s token i (Index table) references refer _ there column refl (plain_kind _ _ references refl kind) (index_there (reading_of s) table (raw_in s token i) fits) (rw is refl))
 
 -- the same of a coded index
 pub coded_is : (count : ℕ → ℕ) (o : Option Token) (P : Token → Type 0) → MatchOption (option_and_then (within count) o) ⊥ P → MatchOption o ⊥ P
@@ -315,7 +316,7 @@ pub number_cell : (s : Source) (token : Token) (i n : ℕ) → IsTrue (has_row (
 number_cell s token i n there kind is =
     let plain = plain_kind _ _ numbers refl kind in
     let w = column_with _ _ plain.kind in
-    held s token i w.0 (number n) there w.1 (ap is_some w.2) plain.body plain.field (rw is (number_for (reading_of s.layout s.heaps) w.0 n w.2))
+    held s token i w.0 (number n) there w.1 (ap is_some w.2) plain.body plain.field (rw is (number_for (reading_of s) w.0 n w.2))
 
 there_from : (table i : ℕ) (k : Kind) (b f : Bool) → is_body table i ≡ b → is_field table i ≡ f → (if b then Some bodies else if f then Some fields else option_and_then kind_of (column_in table i)) ≡ Some k → IsSome (column_in table i)
 unfolding columns_in

@@ -1,16 +1,16 @@
 -- The plain module that a file's bytes say, or the first refusal (ECMA-335 II.22, II.24).
-use Rattle.std.specs.Prelude.{ℕ, Bool, true, false, not, ◌&&◌, List, [], ◌∷◌, length, map, Option, Some, None, option_map, option_and_then, unwrap_or, is_some, Result, Ok, Err, ◌==◌, if◌then◌else◌, replicate, codes, nat_eq}
-use Rattle.std.specs.List.{list_any, starts_with}
+use Rattle.std.specs.Prelude.{ℕ, Bool, true, false, not, ◌&&◌, List, [], ◌∷◌, length, map, Option, Some, None, option_map, option_and_then, unwrap_or, is_some, Result, Ok, Err, ◌==◌, ◌||◌, ◌-◌, slice_get, if◌then◌else◌, replicate, nat_lt}
+use Rattle.std.specs.List.{list_any}
 use Rattle.enc_base.specs.Order.{or_else, first_below}
 use Rattle.enc_base.specs.Token.{nth_row}
 use Rattle.enc_base.specs.declared.token.Token.{Token}
 use Rattle.enc_base.specs.declared.refusal.Refusal.{Refusal}
-use Rattle.enc_base.specs.declared.refusal.Code.TheVariants.{F, U}
+use Rattle.enc_base.specs.declared.refusal.Code.TheVariants.{F}
 use Rattle.enc_base.specs.declared.refusal.Place.{Place}
 use Rattle.enc_base.specs.declared.refusal.Place.TheVariants as place
 use Rattle.enc_meta.specs.declared.root.Root.{Root}
 use Rattle.enc_meta.specs.Root.{root_of}
-use Rattle.enc_meta.specs.Heaps.{Counted, heaps_of, part, text_at, blob_at, guid_at}
+use Rattle.enc_meta.specs.Heaps.{heaps_of, part, text_at, blob_at, user_at, guid_at}
 use Rattle.enc_schema.specs.declared.column.Column.{Column}
 use Rattle.enc_schema.specs.declared.column.Column.TheVariants.{Text, Guid, Blob}
 use Rattle.enc_schema.specs.Schema.{columns_in, column_in}
@@ -25,18 +25,79 @@ use Rattle.enc_plain.specs.Cell.{Cell, number, cell_count}
 use Rattle.enc_plain.specs.Reading.{Reading, cell_read, cell_with}
 use Rattle.enc_plain.specs.Module.{Module, Row}
 use Rattle.enc_plain.specs.Chain.{Chain}
+use Rattle.enc_plain.specs.Bodies.{code_loaded, body_loaded, body_is_good}
+use Rattle.enc_opcodes.specs.Body.{Code, begins_locals}
+use Rattle.enc_pe.specs.declared.container.Container.{Container}
+use Rattle.enc_pe.specs.Container.{container_of}
+use Rattle.enc_pe.specs.Loaded.{regions_of}
+use Rattle.enc_image.specs.declared.extent.Extent.{Extent}
+use Rattle.enc_image.specs.declared.extent.Extent.TheVariants.{Bytes, Class}
+use Rattle.enc_base.specs.Numbers.{compressed}
+use Rattle.enc_meta.specs.Regions.{range_loaded}
+use Rattle.enc_schema.specs.Coding.{decoded}
+use Rattle.enc_schema.specs.declared.column.Coding.TheVariants.{TypeDefOrRef}
 
--- by what the numbers of a file are read: its heaps, and its own counts of rows
-abbrev pub reading_of : Layout → Counted → Reading
-reading_of l h = record { text = text_at h.strings; blob = blob_at h.blobs; guid = guid_at h.guids; count = rows_of l }
+-- the user texts of a file
+abbrev pub users_of : Source → ℕ → Option (List ℕ)
+users_of s = user_at s.heaps.users
+
+-- the bytes of a blob, none where its offset isn't good
+abbrev pub blob_or_none : Source → ℕ → List ℕ
+blob_or_none s offset = unwrap_or (blob_at s.heaps.blobs offset) []
+
+-- how many bytes a kind of integer or float takes, from boolean to R8 (II.23.1.16)
+unfoldable pub size_of_kind : ℕ → Option ℕ
+size_of_kind kind = if nat_lt kind 0x02 then None else slice_get (1 ∷ 2 ∷ 1 ∷ 1 ∷ 2 ∷ 2 ∷ 4 ∷ 4 ∷ 8 ∷ 8 ∷ 4 ∷ 8 ∷ []) (kind - 0x02)
+
+-- the type that a token in a signature names, where it is one of this file's (II.23.2.8)
+abbrev pub class_of : Option Token → Option Extent
+class_of (Some t) = if t.table == 0x02 then Some (Class t.row) else None
+class_of None = None
+
+unfoldable pub class_in : List ℕ → Option Extent
+class_in bytes = option_and_then (λ (x : ℕ × ℕ). class_of (decoded TypeDefOrRef x.0)) (compressed bytes)
+
+-- what tells the size of a field of this signature: its kind, or the type of its value; of another none is known (II.23.2.4, II.22.18)
+unfoldable pub extent_in : List ℕ → Option Extent
+extent_in (first ∷ kind ∷ rest) = if first == 0x06 then (if kind == 0x11 then class_in rest else option_map (λ n. Bytes n) (size_of_kind kind)) else None
+extent_in _ = None
+
+-- the size that a row of ClassLayout tells, where it is the type's (II.22.8)
+unfoldable pub layout_size : Source → ℕ → ℕ → Option ℕ
+layout_size s type k = if raw_in s (nth_row 0x0F k) 2 == type then Some (raw_in s (nth_row 0x0F k) 1) else None
+
+-- the size that the first such row tells
+unfoldable pub size_of_class : Source → ℕ → Option ℕ
+size_of_class s type = first_below (layout_size s type) (rows_of s.layout 0x0F)
+
+abbrev pub size_of : Source → Option Extent → Option ℕ
+size_of s (Some (Bytes n)) = Some n
+size_of s (Some (Class type)) = size_of_class s type
+size_of s None = None
+
+-- what tells the size of the field that a row of FieldRVA names
+unfoldable pub extent_of : Source → Token → Option Extent
+extent_of s row = if raw_in s row 1 == 0 then None else extent_in (blob_or_none s (raw_in s (record { table = 0x04; row = raw_in s row 1 }) 2))
+
+-- the bytes that such a row has at its RVA, where they are loaded
+unfoldable pub bytes_of_field : Source → Token → Option (List ℕ)
+bytes_of_field s row = option_and_then (range_loaded s.loaded (raw_in s row 0)) (size_of s (extent_of s row))
+
+-- a field without an RVA has none
+unfoldable pub field_bytes : Source → Token → List ℕ
+field_bytes s row = if raw_in s row 0 == 0 then [] else unwrap_or (bytes_of_field s row) []
+
+-- by what the numbers of a file are read: its heaps, its own counts of rows, and what is loaded
+abbrev pub reading_of : Source → Reading
+reading_of s = record { text = text_at s.heaps.strings; blob = blob_at s.heaps.blobs; guid = guid_at s.heaps.guids; count = rows_of s.layout; code = body_loaded s.loaded (users_of s); field = field_bytes s }
 
 -- the cell that a column's number stands for, None where it isn't good
-abbrev pub cell_for : Layout → Counted → Column → ℕ → Option Cell
-cell_for l h c n = cell_read (reading_of l h) c n
+abbrev pub cell_for : Source → Column → ℕ → Option Cell
+cell_for s c n = cell_read (reading_of s) c n
 
 -- the cell in a column of a row
 unfoldable pub cell_in : Source → Token → ℕ → Option Cell
-cell_in s token i = option_and_then (λ (c : Column). cell_with (reading_of s.layout s.heaps) token.table i c (raw_in s token i)) (column_in token.table i)
+cell_in s token i = option_and_then (λ (c : Column). cell_with (reading_of s) token i c (raw_in s token i)) (column_in token.table i)
 
 abbrev pub is_offset : Column → Bool
 is_offset Text = true
@@ -46,7 +107,7 @@ is_offset _ = false
 
 -- F8: the first offset that isn't good, by table, row and column
 unfoldable pub offset_fault_at : Source → Token → ℕ → Option Place
-offset_fault_at s token i = option_and_then (λ (c : Column). if is_offset c && not (is_some (cell_for s.layout s.heaps c (raw_in s token i))) then Some (place.Cell token i) else None) (column_in token.table i)
+offset_fault_at s token i = option_and_then (λ (c : Column). if is_offset c && not (is_some (cell_for s c (raw_in s token i))) then Some (place.Cell token i) else None) (column_in token.table i)
 
 unfoldable pub offset_fault_in_row : Source → ℕ → ℕ → Option Place
 offset_fault_in_row s table r = first_below (offset_fault_at s (nth_row table r)) (length (columns_in table))
@@ -57,12 +118,24 @@ offset_fault_in s table = first_below (offset_fault_in_row s table) (rows_of s.l
 unfoldable pub offset_fault : Source → Option Place
 offset_fault s = first_below (offset_fault_in s) 0x2D
 
--- F10: bare metadata has no code, so a method with a place for its body has none that is good
+-- a body's local signature is nil or is one of locals (II.23.2.6)
+abbrev pub has_locals : Source → Option Code → Bool
+has_locals s None = true
+has_locals s (Some c) = c.locals.row == 0 || begins_locals (blob_or_none s (raw_in s c.locals 0))
+
+-- F10: the first method with a place for its body, but none that is good there
 unfoldable pub body_fault_at : Source → ℕ → Option Place
-body_fault_at s r = if raw_in s (nth_row 0x06 r) 0 == 0 then None else Some (place.Row (nth_row 0x06 r))
+body_fault_at s r = if body_is_good (rows_of s.layout) (users_of s) s.loaded (raw_in s (nth_row 0x06 r) 0) (raw_in s (nth_row 0x06 r) 1) && has_locals s (code_loaded s.loaded (raw_in s (nth_row 0x06 r) 0)) then None else Some (place.Row (nth_row 0x06 r))
 
 unfoldable pub body_fault : Source → Option Place
 body_fault s = first_below (body_fault_at s) (rows_of s.layout 0x06)
+
+-- F5 of fields: the first row of FieldRVA with an RVA, but no bytes of its field's size there. It isn't asked of bare metadata
+unfoldable pub field_fault_at : Source → ℕ → Option Place
+field_fault_at s r = if raw_in s (nth_row 0x1D r) 0 == 0 || is_some (bytes_of_field s (nth_row 0x1D r)) then None else Some (place.Row (nth_row 0x1D r))
+
+unfoldable pub field_fault : Source → Option Place
+field_fault s = if s.bare then None else first_below (field_fault_at s) (rows_of s.layout 0x1D)
 
 -- the rows of a source
 abbrev pub rows_from : Source → Rows
@@ -71,9 +144,9 @@ rows_from s = record { stream = s.stream; layout = s.layout }
 abbrev pub rule : ℕ → Option Place → Option Refusal
 rule n p = option_map (λ (q : Place). record { code = F n; place = q }) p
 
--- F7, F8, F10
+-- F7, F8, F10, and then F5 of fields
 unfoldable pub cells_fault : Source → Option Refusal
-cells_fault s = or_else (rule 7 (index_fault (rows_from s))) (or_else (rule 8 (offset_fault s)) (rule 10 (body_fault s)))
+cells_fault s = or_else (rule 7 (index_fault (rows_from s))) (or_else (rule 8 (offset_fault s)) (or_else (rule 10 (body_fault s)) (rule 5 (field_fault s))))
 
 -- the tables that are no part of a module: the Ptr tables, EncLog and EncMap
 abbrev pub is_part : ℕ → Bool
@@ -91,11 +164,7 @@ table_rows s table = if is_part table then map (row_in s table) (below (rows_of 
 
 -- the plain module of a source
 unfoldable pub module_in : Source → Module
-module_in s = record { tables = map (table_rows s) (below 0x2D) }
-
--- the file begins as a metadata root
-abbrev pub is_bare : List ℕ → Bool
-is_bare bytes = starts_with nat_eq bytes (codes "BSJB")
+module_in s = record { tables = map (table_rows s) (below 0x2D); resources = s.resources; entry = s.entry }
 
 -- a module's widths go by its own rows alone
 unfoldable pub no_counts : List ℕ
@@ -105,21 +174,27 @@ no_counts = replicate 64 0
 unfoldable pub layout_for : List ℕ → Root → Result Layout Refusal
 layout_for bytes root = tables_of bytes root.tables form.Base root.jtd no_counts
 
--- the parts of a file with this root and this layout
-abbrev pub source_from : List ℕ → Root → Layout → Source
-source_from bytes root l = record { stream = part bytes root.tables; layout = l; heaps = heaps_of bytes root }
+-- the metadata root of a file with this container
+abbrev pub metadata_of : List ℕ → Container → List ℕ
+metadata_of bytes c = part bytes c.metadata
 
-abbrev pub source_with : List ℕ → Root → Result Layout Refusal → Result Source Refusal
-source_with bytes root (Ok l) = Ok (source_from bytes root l)
-source_with bytes root (Err e) = Err e
+-- the parts of a file with this container, this root and this layout
+abbrev pub source_from : List ℕ → Container → Root → Layout → Source
+source_from bytes c root l = record { stream = part (metadata_of bytes c) root.tables; layout = l; heaps = heaps_of (metadata_of bytes c) root; loaded = regions_of bytes c.sections; resources = part bytes c.resources; entry = c.entry; bare = c.bare }
 
-abbrev pub source_in : List ℕ → Result Root Refusal → Result Source Refusal
-source_in bytes (Ok root) = source_with bytes root (layout_for bytes root)
-source_in bytes (Err e) = Err e
+-- one step after the other, up to the first refusal
+infixl 10 ◌>>=◌
+abbrev pub ◌>>=◌ : {A B : Type 0} → Result A Refusal → (A → Result B Refusal) → Result B Refusal
+(Ok a) >>= f = f a
+(Err e) >>= f = Err e
 
--- the source of a bare file, or F1, F2, F6; for now a file that isn't bare is U3
+-- the source of a file, or F3, F4, F5, F9, F1, F2, F6
 unfoldable pub source_of : List ℕ → Result Source Refusal
-source_of bytes = if is_bare bytes then source_in bytes (root_of bytes) else Err (record { code = U 3; place = place.Headers })
+source_of bytes = do
+  c ← container_of bytes
+  root ← root_of (metadata_of bytes c)
+  l ← layout_for (metadata_of bytes c) root
+  Ok (source_from bytes c root l)
 
 -- the chain that a source begins: its plain module, no delta, and its heaps
 unfoldable pub begun : Source → Chain
@@ -129,10 +204,6 @@ abbrev pub source_or : Source → Option Refusal → Result Source Refusal
 source_or s None = Ok s
 source_or s (Some e) = Err e
 
-abbrev pub base_in : Result Source Refusal → Result Source Refusal
-base_in (Ok s) = source_or s (cells_fault s)
-base_in (Err e) = Err e
-
 -- the base that a file's bytes say, or the first refusal
 unfoldable pub base_of : List ℕ → Result Source Refusal
-base_of bytes = base_in (source_of bytes)
+base_of bytes = source_of bytes >>= λ s. source_or s (cells_fault s)

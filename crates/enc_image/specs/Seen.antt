@@ -8,23 +8,26 @@ use Rattle.enc_meta.specs.Heaps.{part, ends_of}
 use Rattle.enc_meta.specs.declared.ends.TextEnds.{TextEnds}
 use Rattle.enc_rows.specs.Layout.{IsWithin}
 use Rattle.enc_image.specs.declared.judge.Cells.{Cells}
-use Rattle.enc_image.specs.declared.bare.Opened.{Opened}
-use Rattle.enc_image.specs.Base.{source_from, cells_fault}
+use Rattle.enc_image.specs.declared.open.Opened.{Opened}
+use Rattle.enc_pe.specs.Container.{container_of}
+use Rattle.enc_pe.specs.Loaded.{regions_of}
+use Rattle.enc_image.specs.Base.{metadata_of, source_from, cells_fault}
 use Rattle.enc_rows.specs.Source.{Source}
 
 abbrev pub source_seen : Cells → Source
-source_seen c = record { stream = part c.bytes.now c.tables.now.span; layout = c.tables.now; heaps = c.heaps }
+source_seen c = record { stream = part c.bytes.now c.tables.now.span; layout = c.tables.now; heaps = c.heaps; loaded = regions_of c.file.now c.container.sections; resources = part c.file.now c.container.resources; entry = c.container.entry; bare = c.container.bare }
 
--- a root and its tables with the file's bytes
+-- a container, its root and its tables with the file's bytes
 abbrev pub opened_source : List ℕ → Result Opened Refusal → Result Source Refusal
-opened_source bytes (Ok o) = Ok (source_from bytes o.root o.tables)
+opened_source bytes (Ok o) = Ok (source_from bytes o.container o.root o.tables)
 opened_source bytes (Err e) = Err e
 
--- the root and the tables were read from these bytes
+-- the container, the root and the tables were read from these bytes
 pub record IsOpened (bytes : List ℕ) (o : Opened) : Type 0 where
-  pub root : root_of bytes ≡ Ok o.root
+  pub container : container_of bytes ≡ Ok o.container
+  pub root : root_of (metadata_of bytes o.container) ≡ Ok o.root
   pub span : o.tables.span ≡ o.root.tables
-  pub within : IsWithin (part bytes o.tables.span) o.tables
+  pub within : IsWithin (part (metadata_of bytes o.container) o.tables.span) o.tables
 
 -- what was read is the base; what was refused is refused by the first rule; want of memory tells nothing
 abbrev pub Reads : Result Source ReadFault → Result Source Refusal → Type 0
@@ -35,5 +38,5 @@ Reads (Err Memory) base = Unit {0}
 -- the parts of an image's file were read from its bytes, as the ends of its texts were, and each of its cells is good
 pub record IsImage (bytes : List ℕ) (o : Opened) (ends : TextEnds) : Type 0 where
   pub opened : IsOpened bytes o
-  pub texts : ends ≡ ends_of bytes o.root
-  pub cells : cells_fault (source_from bytes o.root o.tables) ≡ None
+  pub texts : ends ≡ ends_of (metadata_of bytes o.container) o.root
+  pub cells : cells_fault (source_from bytes o.container o.root o.tables) ≡ None

@@ -34,6 +34,11 @@ impl ChainView for Image {
         self.heaps().blob(offset)
     }
 
+    #[tactic(auto, using(crate::proofs::Alone::user_alone), unfolding(crate::specs::Base::begun))]
+    fn user_at(&self, offset: u32) -> Option<&[u8]> {
+        self.heaps().user(offset)
+    }
+
     #[tactic(auto, using(crate::proofs::Alone::guid_alone), unfolding(crate::specs::Base::begun))]
     fn guid_at(&self, k: u32) -> Option<[u8; 16]> {
         self.heaps().guid(k)

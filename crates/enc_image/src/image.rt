@@ -3,10 +3,11 @@ ghost use Rattle.std.specs.Prelude.{◌≡◌};
 ghost use Rattle.enc_image.specs.Base.{base_of};
 ghost use Rattle.enc_image.specs.Seen.{Reads};
 
-use crate::bare::open;
 use crate::judge::{Cells, cells_fault};
+use crate::open::{metadata, open};
 use enc_base::ReadFault;
 use enc_meta::{Heaps, Root, TextEnds};
+use enc_pe::Container;
 use enc_rows::Tables;
 use std::alloc::Global;
 use std::marker::Model;
@@ -16,6 +17,7 @@ use std::marker::Model;
 #[derive(Drop)]
 pub struct Image {
     pub(crate) bytes: Vec<u8>,
+    pub(crate) container: Container,
     pub(crate) root: Root,
     pub(crate) ends: TextEnds,
     pub(crate) tables: Tables,
@@ -28,14 +30,14 @@ impl Model for Image {
 
     ghost Value = { Source };
 
-    ghost view = { λ i. source_from i.bytes.items i.root i.tables };
+    ghost view = { λ i. source_from i.bytes.items i.container i.root i.tables };
 
-    ghost invariant = { λ i. IsImage i.bytes.items (record { root = i.root; tables = i.tables }) i.ends };
+    ghost invariant = { λ i. IsImage i.bytes.items (record { container = i.container; root = i.root; tables = i.tables }) i.ends };
 }
 
 impl Image {
-    /// Reads a module. Refused is the first of F1, F2, F6, F7, F8 and F10, and so far U3 for files
-    /// that aren't bare metadata. It takes memory only where a Ptr table has rows.
+    /// Reads a module. Refused is the first of F3, F4, F5, F9, F1, F2, F6, F7, F8 and F10, and then
+    /// F5 of a field's bytes.
     #[tactic(auto, unfolding(crate::specs::Base::base_of))]
     pub fn read(alloc: Global, bytes: Vec<u8>) -> Result<Image, ReadFault>
         ensures { Reads result (base_of bytes.items) }
@@ -44,11 +46,14 @@ impl Image {
             Ok(opened) => opened,
             Err(refusal) => return Err(ReadFault::Refused(refusal)),
         };
-        let ends = TextEnds::of(&bytes, &opened.root);
+        let root = metadata(&bytes, &opened.container);
+        let ends = TextEnds::of(root, &opened.root);
         let cells = Cells {
-            bytes: &bytes,
+            file: &bytes,
+            container: opened.container,
+            bytes: root,
             tables: &opened.tables,
-            heaps: Heaps::with(&bytes, &opened.root, ends),
+            heaps: Heaps::with(root, &opened.root, ends),
         };
         let fault = cells_fault(alloc, &cells);
         match fault {
@@ -56,6 +61,7 @@ impl Image {
             Ok(Some(refusal)) => Err(ReadFault::Refused(refusal)),
             Ok(None) => Ok(Image {
                 bytes,
+                container: opened.container,
                 root: opened.root,
                 ends,
                 tables: opened.tables,

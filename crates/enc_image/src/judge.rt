@@ -8,15 +8,20 @@ ghost use Rattle.enc_rows.specs.Layout.{IsWithin, has_row, rows_of};
 ghost use Rattle.enc_image.specs.Base.{cell_for, is_offset, offset_fault_at, offset_fault_in_row, offset_fault_in, offset_fault, body_fault_at, body_fault, rule, cells_fault};
 ghost use Rattle.enc_image.specs.Seen.{source_seen};
 
+use crate::bodies::body_fault;
+use crate::fields::field_fault;
 use enc_base::{Code, Place, Refusal, Token};
 use enc_meta::Heaps;
+use enc_pe::Container;
 use enc_rows::Tables;
 use enc_schema::{Column, column_of, columns_of};
 use std::alloc::{AllocError, Global};
 
-/// What is judged: a module's bytes, its tables and its heaps.
+/// What is judged: a module's file and its container, its metadata, its tables and its heaps.
 #[derive(Drop)]
 pub struct Cells<'a> {
+    pub file: &'a [u8],
+    pub container: Container,
     pub bytes: &'a [u8],
     pub tables: &'a Tables,
     pub heaps: Heaps<'a>,
@@ -24,14 +29,13 @@ pub struct Cells<'a> {
 
 /// The column is an offset in a heap, and no entry stands there.
 #[tactic(auto, unfolding(enc_plain::specs::Reading::cell_read))]
-fn is_bad_offset(tables: &Tables, heaps: &Heaps<'_>, column: Column, number: u32) -> bool
-    ensures { result ≡ (is_offset column && not (is_some (cell_for tables.now heaps.now column number))) }
+fn is_bad_offset(cells: &Cells<'_>, column: Column, number: u32) -> bool
+    ensures { result ≡ (is_offset column && not (is_some (cell_for (source_seen cells.now) column number))) }
 {
-    let _ = tables;
     match column {
-        Column::Text => !heaps.has_text(number),
-        Column::Guid => heaps.guid(number).is_none(),
-        Column::Blob => heaps.blob(number).is_none(),
+        Column::Text => !cells.heaps.has_text(number),
+        Column::Guid => cells.heaps.guid(number).is_none(),
+        Column::Blob => cells.heaps.blob(number).is_none(),
         _ => false,
     }
 }
@@ -45,7 +49,7 @@ fn offset_fault_at(cells: &Cells<'_>, token: Token, i: u8) -> Option<Place>
 {
     let column = column_of(token.table, i)?;
     let number = cells.tables.cell(cells.bytes, token, i);
-    if is_bad_offset(cells.tables, &cells.heaps, column, number) {
+    if is_bad_offset(cells, column, number) {
         return Some(Place::Cell(token, i));
     }
     None
@@ -99,40 +103,6 @@ fn offset_fault(cells: &Cells<'_>) -> Option<Place>
     None
 }
 
-/// The place of a method that has a place for its body.
-#[tactic(auto, unfolding(crate::specs::Base::body_fault_at))]
-fn body_fault_at(cells: &Cells<'_>, r: u32) -> Option<Place>
-    requires bytes { IsWithin (part cells.now.bytes.now cells.now.tables.now.span) cells.now.tables.now }
-    requires row { r < rows_of cells.now.tables.now 0x06 }
-    requires few { r < 2 ^ 24 }
-    ensures { result ≡ body_fault_at (source_seen cells.now) r }
-{
-    let method = Token {
-        table: 0x06,
-        row: r + 1,
-    };
-    if cells.tables.cell(cells.bytes, method, 0) == 0 {
-        None
-    } else {
-        Some(Place::Row(method))
-    }
-}
-
-/// F10: the first method with a place for its body, since bare metadata has no code.
-#[tactic(auto, using(enc_base::proofs::First::first_none, enc_base::proofs::First::first_found, enc_base::proofs::First::first_more), unfolding(crate::specs::Base::body_fault))]
-fn body_fault(cells: &Cells<'_>) -> Option<Place>
-    requires { IsWithin (part cells.now.bytes.now cells.now.tables.now.span) cells.now.tables.now }
-    ensures { result ≡ body_fault (source_seen cells.now) }
-{
-    for r in 0..cells.tables.count(0x06) {
-        match body_fault_at(cells, r) {
-            Some(place) => return Some(place),
-            None => {}
-        }
-    }
-    None
-}
-
 /// The refusal by a rule at a place.
 fn broken(n: u8, place: Place) -> Refusal
     ensures { Some result ≡ rule n (Some place) }
@@ -143,7 +113,7 @@ fn broken(n: u8, place: Place) -> Refusal
     }
 }
 
-/// What is wrong with the cells: F7 of indices, F8 of offsets, F10 of bodies.
+/// What is wrong with the cells: F7 of indices, F8 of offsets, F10 of bodies, and then F5 of fields.
 #[tactic(auto, unfolding(crate::specs::Base::cells_fault))]
 pub fn cells_fault(alloc: Global, cells: &Cells<'_>) -> Result<Option<Refusal>, AllocError>
     requires { IsWithin (part cells.now.bytes.now cells.now.tables.now.span) cells.now.tables.now }
@@ -158,8 +128,14 @@ pub fn cells_fault(alloc: Global, cells: &Cells<'_>) -> Result<Option<Refusal>, 
         Some(place) => return Ok(Some(broken(8, place))),
         None => {}
     }
-    match body_fault(cells) {
-        Some(place) => Ok(Some(broken(10, place))),
-        None => Ok(None),
+    match body_fault(alloc, cells) {
+        Err(error) => return Err(error),
+        Ok(Some(place)) => return Ok(Some(broken(10, place))),
+        Ok(None) => {}
+    }
+    match field_fault(alloc, cells) {
+        Err(error) => Err(error),
+        Ok(Some(place)) => Ok(Some(broken(5, place))),
+        Ok(None) => Ok(None),
     }
 }

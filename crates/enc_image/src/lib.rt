@@ -1,10 +1,14 @@
 //! A module's file: accepted or refused, and then a view of its plain module.
 #![tactic(auto)]
 
-mod bare;
+mod bodies;
 mod chain;
+mod code;
+mod extent;
+mod fields;
 mod image;
 mod judge;
+mod open;
 mod view;
 
 pub use image::Image;

@@ -1,14 +1,23 @@
 //! An image as a view of its plain module.
-ghost use Rattle.std.specs.Prelude.{◌≡◌, ◌&&◌, Some, None, IsTrue, IsSome, nat_lt};
-ghost use Rattle.enc_meta.specs.Heaps.{lengths_of};
+ghost use Rattle.std.specs.Prelude.{◌≡◌, ◌&&◌, ◌<◌, ◌^◌, Some, None, IsTrue, IsSome, IfSome, length, option_map, nat_lt};
+ghost use Rattle.enc_opcodes.specs.Body.{code_seen};
+ghost use Rattle.enc_plain.specs.Bodies.{code_loaded};
+ghost use Rattle.enc_meta.specs.Heaps.{lengths_of, part};
+ghost use Rattle.enc_rows.specs.Layout.{IsWithin};
 ghost use Rattle.enc_schema.specs.Schema.{column_in};
 ghost use Rattle.enc_plain.specs.Module.{Module, rows_in, has_row, cell_of};
-ghost use Rattle.enc_image.specs.Base.{is_part, cells_fault, module_in};
+ghost use Rattle.enc_image.specs.Base.{is_part, cells_fault, module_in, users_of};
+ghost use Rattle.enc_image.specs.Seen.{source_seen};
 ghost use Rattle.enc_rows.specs.Source.{raw_in};
 
+use crate::code::code_at;
+use crate::fields::field_bytes;
 use crate::image::Image;
+use crate::judge::Cells;
+use crate::open::metadata;
 use enc_base::Token;
 use enc_meta::{HeapLengths, Heaps, heaps_law};
+use enc_opcodes::CodeRef;
 use enc_plain::{ModuleView, index_token};
 use enc_schema::{Column, column_of, decode_coded, owner_table};
 use std::alloc::{AllocError, Global};
@@ -21,6 +30,20 @@ fn is_part(table: u8) -> bool
 }
 
 impl Image {
+    /// The parts that cells are read from.
+    fn cells(&self) -> Cells<'_>
+        ensures source { source_seen result ≡ self.now }
+        ensures within { IsWithin (part result.bytes.now result.tables.now.span) result.tables.now }
+    {
+        Cells {
+            file: &self.bytes,
+            container: self.container,
+            bytes: metadata(&self.bytes, &self.container),
+            tables: &self.tables,
+            heaps: self.heaps(),
+        }
+    }
+
     /// The number that stands in a cell.
     fn number(&self, row: Token, column: u8) -> u32
         requires row { IsTrue (has_row (module_in self.now) row) }
@@ -28,7 +51,19 @@ impl Image {
         ensures raw { raw_in self.now row column ≡ result }
         ensures sound { cells_fault self.now ≡ None }
     {
-        self.tables.cell(&self.bytes, row, column)
+        self.tables
+            .cell(metadata(&self.bytes, &self.container), row, column)
+    }
+
+    /// The parts of a method's body, None where it has none.
+    pub fn body(&self, method: Token) -> Option<CodeRef<'_>>
+        requires row { IsTrue (has_row (module_in self.now) method) }
+        requires table { method.table ≡ 0x06 }
+        ensures code { option_map code_seen result ≡ code_loaded self.now.loaded (raw_in self.now method 0) }
+        ensures few { IfSome result (λ c. length c.code.now < 2 ^ 32) }
+        ensures sound { cells_fault self.now ≡ None }
+    {
+        code_at(&self.bytes, &self.container, self.number(method, 0))
     }
 
     /// Nothing in an image is refused: a law, of which a caller of the view makes use.
@@ -42,20 +77,26 @@ impl Image {
     pub fn heaps(&self) -> Heaps<'_>
         ensures { result ≡ self.now.heaps }
     {
-        Heaps::with(&self.bytes, &self.root, self.ends)
+        Heaps::with(
+            metadata(&self.bytes, &self.container),
+            &self.root,
+            self.ends,
+        )
     }
 
     /// How many bytes of `#Strings`, `#US` and `#Blob` count, and how many whole entries `#GUID` has.
     pub fn lengths(&self) -> HeapLengths
         ensures { result ≡ lengths_of self.now.heaps }
     {
-        heaps_law(&self.bytes, &self.root);
+        heaps_law(metadata(&self.bytes, &self.container), &self.root);
         self.heaps().lengths()
     }
 }
 
 impl ModuleView for Image {
     ghost meaning = { module_in };
+
+    ghost users = { users_of };
 
     #[tactic(auto, using(crate::proofs::Rows::count_there, crate::proofs::Rows::count_other, crate::proofs::Rows::count_past))]
     fn count(&self, table: u8) -> u32 {
@@ -103,20 +144,36 @@ impl ModuleView for Image {
         }
     }
 
-    fn has_body(&self, method: Token) -> bool {
-        let _ = method;
-        false
+    fn code(&self, method: Token) -> Option<CodeRef<'_>> {
+        self.body(method)
     }
 
     fn field_bytes(&self, row: Token) -> &[u8] {
-        let _ = row;
-        &[]
+        field_bytes(&self.cells(), row)
+    }
+
+    fn user_text(&self, offset: u32) -> Option<&[u8]> {
+        self.heaps().user(offset)
+    }
+
+    fn resources(&self) -> &[u8] {
+        self.container.resources.part(&self.bytes)
+    }
+
+    fn entry(&self) -> u32 {
+        let _ = &self.bytes;
+        self.container.entry
     }
 
     fn owner(&self, child: Token) -> Token {
         let table = owner_table(child.table);
         for n in 0..self.tables.count(table) {
-            if self.tables.owns(&self.bytes, child.table, n, child.row) {
+            if self.tables.owns(
+                metadata(&self.bytes, &self.container),
+                child.table,
+                n,
+                child.row,
+            ) {
                 return Token { table, row: n + 1 };
             }
         }
@@ -124,11 +181,16 @@ impl ModuleView for Image {
     }
 
     fn kids(&self, owner: Token, table: u8) -> u32 {
-        self.tables.children(&self.bytes, table, owner.row - 1)
+        self.tables.children(metadata(&self.bytes, &self.container), table, owner.row - 1)
     }
 
     fn kid(&self, owner: Token, table: u8, i: u32) -> Token {
-        match self.tables.child(&self.bytes, table, owner.row - 1, i) {
+        match self.tables.child(
+            metadata(&self.bytes, &self.container),
+            table,
+            owner.row - 1,
+            i,
+        ) {
             Some(row) => Token { table, row },
             None => unreachable!(),
         }
@@ -136,8 +198,12 @@ impl ModuleView for Image {
 
     fn kid_rows(&self, alloc: Global, owner: Token, table: u8) -> Result<Vec<u32>, AllocError> {
         let mut rows = Vec::new(alloc);
-        self.tables
-            .push_children(&self.bytes, table, owner.row - 1, &mut rows)?;
+        self.tables.push_children(
+            metadata(&self.bytes, &self.container),
+            table,
+            owner.row - 1,
+            &mut rows,
+        )?;
         Ok(rows)
     }
 }

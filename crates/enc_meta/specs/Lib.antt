@@ -1,3 +1,4 @@
+pub mod Regions
 pub mod Root
 pub mod Heaps
 pub mod Example

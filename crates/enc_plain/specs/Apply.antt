@@ -29,7 +29,7 @@ change_at (x ∷ xs) (suc n) f = x ∷ change_at xs n f
 
 -- the module with one change made
 unfoldable pub put : Module → Change → Module
-put m c = record { tables = change_at m.tables c.token.table (λ rows. put_row c.token.table rows (c.token.row - 1) c.cells) }
+put m c = record { tables = change_at m.tables c.token.table (λ rows. put_row c.token.table rows (c.token.row - 1) c.cells); resources = m.resources; entry = m.entry }
 
 -- the module with all changes made, in order
 unfoldable pub apply : Module → List Change → Module
@@ -47,7 +47,7 @@ with_child child r = record { cells = r.cells; kids = change_at r.kids (run_inde
 
 -- the module with a child attached to its owner
 unfoldable pub attach : Module → Attached → Module
-attach m a = record { tables = change_at m.tables a.owner.table (λ rows. change_at rows (a.owner.row - 1) (with_child a.child)) }
+attach m a = record { tables = change_at m.tables a.owner.table (λ rows. change_at rows (a.owner.row - 1) (with_child a.child)); resources = m.resources; entry = m.entry }
 
 -- the module with all children attached, in order
 unfoldable pub attach_all : Module → List Attached → Module

@@ -1,5 +1,5 @@
 -- The module that a plain module in memory begins with.
-use Rattle.std.specs.Prelude.{ℕ, List, [], ◌∷◌, replicate}
+use Rattle.std.specs.Prelude.{ℕ, List, [], ◌∷◌, replicate, Option, Some, None, ◌==◌, if◌then◌else◌}
 use Rattle.enc_plain.specs.Cell.{number, text, guid}
 use Rattle.enc_plain.specs.Chain.{nil_guid}
 use Rattle.enc_plain.specs.Module.{Module, Row}
@@ -8,6 +8,10 @@ use Rattle.enc_plain.specs.Module.{Module, Row}
 abbrev pub module_row : List ℕ → List ℕ → Row
 module_row name mvid = record { cells = number 0 ∷ text name ∷ guid mvid ∷ guid nil_guid ∷ guid nil_guid ∷ []; kids = [] }
 
--- the module with this row and nothing else
+-- the module with this row and nothing else: no resources, and no entry point
 abbrev pub begun : List ℕ → List ℕ → Module
-begun name mvid = record { tables = (module_row name mvid ∷ []) ∷ replicate 0x2C [] }
+begun name mvid = record { tables = (module_row name mvid ∷ []) ∷ replicate 0x2C []; resources = []; entry = 0 }
+
+-- no user text but the empty one at offset 0
+abbrev pub no_users : ℕ → Option (List ℕ)
+no_users offset = if offset == 0 then Some [] else None

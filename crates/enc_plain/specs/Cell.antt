@@ -1,18 +1,19 @@
 -- The cell of a row: what stands in a column, without heaps, offsets or widths.
+use Rattle.enc_opcodes.specs.Body.{Body}
 use Rattle.std.specs.Prelude.{ℕ, Bool, ◌&&◌, ◌==◌, List, Option, Some, None, option_and_then, length, filter, is_some, if◌then◌else◌}
 use Rattle.enc_base.specs.declared.token.Token.{Token}
 use Rattle.enc_schema.specs.declared.column.Column.{Column}
 use Rattle.enc_schema.specs.declared.column.Column.TheVariants.{Num8, Num16, Num32, Text, Guid, Blob, Index, Coded, Run}
 use Rattle.enc_schema.specs.Schema.{columns_in, column_in}
 
--- a number; the bytes of a text, of a blob, of a GUID; a token, where nil names nothing; whether a method has a body; the initial bytes of a field (ECMA-335 II.22)
+-- a number; the bytes of a text, of a blob, of a GUID; a token, where nil names nothing; the body of a method, or that it has none; the initial bytes of a field (ECMA-335 II.22)
 pub data Cell : Type 0 where
   number : ℕ → Cell
   text : List ℕ → Cell
   blob : List ℕ → Cell
   guid : List ℕ → Cell
   refer : Token → Cell
-  body : Bool → Cell
+  body : Option Body → Cell
   field : List ℕ → Cell
 
 -- the kinds of cells

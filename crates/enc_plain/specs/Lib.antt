@@ -1,3 +1,4 @@
+pub mod Bodies
 pub mod Cell
 pub mod Module
 pub mod Reading

@@ -1,4 +1,5 @@
 -- The cell that is meant by what is held of it.
+use Rattle.std.specs.Prelude.{None}
 use Rattle.enc_plain.specs.Cell.{Cell, number, text, blob, guid, refer, body, field}
 use Rattle.enc_plain.specs.declared.plain.PlainCell.{PlainCell}
 use Rattle.enc_plain.specs.declared.plain.PlainCell.TheVariants as plain
@@ -9,5 +10,5 @@ cell_meant (plain.Text bytes) = text bytes.items
 cell_meant (plain.Blob bytes) = blob bytes.items
 cell_meant (plain.Guid bytes) = guid bytes
 cell_meant (plain.Refer token) = refer token
-cell_meant (plain.Body there) = body there
+cell_meant plain.NoBody = body None
 cell_meant (plain.Field bytes) = field bytes.items

@@ -12,9 +12,11 @@ pub record Row : Type 0 where
   pub cells : List Cell
   pub kids : List (List ℕ)
 
--- a module: the rows of each table, by the table's number
+-- a module: the rows of each table, by the table's number, the bytes of its managed resources, and the number of its entry point (II.25.3.3)
 pub record Module : Type 0 where
   pub tables : List (List Row)
+  pub resources : List ℕ
+  pub entry : ℕ
 
 abbrev pub rows_in : Module → ℕ → List Row
 rows_in m table = list_at m.tables table

@@ -1,5 +1,6 @@
 -- From a column's number to its cell: what the heaps and the counts of rows say.
-use Rattle.std.specs.Prelude.{ℕ, zero, suc, false, List, [], Option, Some, None, option_map, option_and_then, nat_le, if◌then◌else◌}
+use Rattle.std.specs.Prelude.{ℕ, zero, suc, List, Option, Some, None, option_map, option_and_then, nat_le, if◌then◌else◌}
+use Rattle.enc_opcodes.specs.Body.{Body}
 use Rattle.enc_base.specs.Token.{nil}
 use Rattle.enc_base.specs.declared.token.Token.{Token}
 use Rattle.enc_schema.specs.declared.column.Column.{Column}
@@ -7,12 +8,14 @@ use Rattle.enc_schema.specs.declared.column.Column.TheVariants.{Num8, Num16, Num
 use Rattle.enc_schema.specs.Coding.{decoded}
 use Rattle.enc_plain.specs.Cell.{Cell, number, text, blob, guid, refer, body, field, is_body, is_field}
 
--- by what numbers are read: the entries at an offset of each heap, and how many rows a table has
+-- by what numbers are read: the entries at an offset of each heap, how many rows a table has, the body at a place, and the bytes of a field by its row of FieldRVA
 pub record Reading : Type 0 where
   pub text : ℕ → Option (List ℕ)
   pub blob : ℕ → Option (List ℕ)
   pub guid : ℕ → Option (List ℕ)
   pub count : ℕ → ℕ
+  pub code : ℕ → Option Body
+  pub field : Token → List ℕ
 
 -- the token, where it is nil or one of the rows
 abbrev pub within : (ℕ → ℕ) → Token → Option Token
@@ -35,6 +38,6 @@ cell_read r (Index table) n = option_map refer (within r.count (index_token tabl
 cell_read r (Coded kind) n = option_map refer (option_and_then (within r.count) (decoded kind n))
 cell_read r (Run table) n = None
 
--- the cell in a table's column. Bare metadata has no bodies, and no bytes of fields
-unfoldable pub cell_with : Reading → ℕ → ℕ → Column → ℕ → Option Cell
-cell_with r table i column n = if is_body table i then Some (body false) else if is_field table i then Some (field []) else cell_read r column n
+-- the cell in a row's column
+unfoldable pub cell_with : Reading → Token → ℕ → Column → ℕ → Option Cell
+cell_with r row i column n = if is_body row.table i then Some (body (r.code n)) else if is_field row.table i then Some (field (r.field row)) else cell_read r column n

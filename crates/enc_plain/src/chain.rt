@@ -1,6 +1,6 @@
 //! A view of a chain: the module after all deltas, and what their files' heaps hold together.
 ghost use Rattle.std.specs.Prelude.{◌≡◌, ◌+◌, ◌<◌, length, is_some, option_copied};
-ghost use Rattle.enc_meta.specs.Joined.{joined_text, joined_blob, joined_guid};
+ghost use Rattle.enc_meta.specs.Joined.{joined_text, joined_blob, joined_user, joined_guid};
 ghost use Rattle.enc_plain.specs.Module.{Module};
 ghost use Rattle.enc_plain.specs.Chain.{Chain, id_of};
 
@@ -30,6 +30,11 @@ pub trait ChainView: ModuleView {
     /// end.
     fn has_text(&self, offset: u32) -> bool
         ensures { result ≡ is_some (joined_text (chain self.now).heaps offset) };
+
+    /// The bytes of the UTF-16 units of the user text at an offset of the joined `#US`, None where
+    /// the offset isn't good.
+    fn user_at(&self, offset: u32) -> Option<&[u8]>
+        ensures { option_copied result ≡ joined_user (chain self.now).heaps offset };
 
     /// The bytes at an offset of the joined `#Blob`, None where the offset isn't good.
     fn blob_at(&self, offset: u32) -> Option<&[u8]>

@@ -4,10 +4,11 @@ ghost use Rattle.std.specs.List.{list_any};
 ghost use Rattle.enc_plain.specs.Cell.{kind_in};
 ghost use Rattle.enc_plain.specs.Module.{rows_in, row_at, row_of, has_row, cell_of, owner_of, kids_of, kids_at, has_kid};
 ghost use Rattle.enc_plain.specs.Plain.{cell_kind};
-ghost use Rattle.enc_plain.specs.Begun.{module_row as row_of_module, begun};
+ghost use Rattle.enc_plain.specs.Begun.{module_row as row_of_module, begun, no_users};
 
 use crate::view::ModuleView;
 use enc_base::Token;
+use enc_opcodes::CodeRef;
 use enc_schema::{owner_table, run_index};
 use std::alloc::{AllocError, Global};
 use std::marker::Model;
@@ -22,8 +23,8 @@ pub enum PlainCell {
     Guid([u8; 16]),
     /// Nil is 00000000.
     Refer(Token),
-    /// Whether a method has a body.
-    Body(bool),
+    /// That a method has no body.
+    NoBody,
     /// The initial bytes of a field.
     Field(Vec<u8>),
 }
@@ -97,12 +98,13 @@ pub struct PlainModule {
 impl Model for PlainModule {
     ghost use Rattle.enc_plain.specs.Module.{Module};
     ghost use Rattle.enc_plain.specs.Plain.{IsPlain};
+    ghost use Rattle.std.specs.Prelude.{[]};
 
     ghost Value = { Module };
 
-    ghost view = { λ m. record { tables = m.tables.items } };
+    ghost view = { λ m. record { tables = m.tables.items; resources = []; entry = 0 } };
 
-    ghost invariant = { λ m. IsPlain (record { tables = m.tables.items }) };
+    ghost invariant = { λ m. IsPlain (record { tables = m.tables.items; resources = []; entry = 0 }) };
 }
 
 impl PlainRow {
@@ -280,6 +282,8 @@ impl PlainModule {
 impl ModuleView for PlainModule {
     ghost meaning = { λ m. m };
 
+    ghost users = { λ m. no_users };
+
     fn count(&self, table: u8) -> u32 {
         let _ = &self.tables;
         match self.tables.get(table as usize) {
@@ -328,10 +332,10 @@ impl ModuleView for PlainModule {
         }
     }
 
-    fn has_body(&self, method: Token) -> bool {
+    fn code(&self, method: Token) -> Option<CodeRef<'_>> {
         let held = self.cell(method, 0);
         match &held.cell {
-            PlainCell::Body(there) => *there,
+            PlainCell::NoBody => None,
             _ => unreachable!(),
         }
     }
@@ -342,6 +346,21 @@ impl ModuleView for PlainModule {
             PlainCell::Field(bytes) => bytes,
             _ => unreachable!(),
         }
+    }
+
+    fn user_text(&self, offset: u32) -> Option<&[u8]> {
+        let _ = &self.tables;
+        if offset == 0 { Some(&[]) } else { None }
+    }
+
+    fn resources(&self) -> &[u8] {
+        let _ = &self.tables;
+        &[]
+    }
+
+    fn entry(&self) -> u32 {
+        let _ = &self.tables;
+        0
     }
 
     fn owner(&self, child: Token) -> Token {

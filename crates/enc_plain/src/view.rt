@@ -1,11 +1,13 @@
 //! A view of a module: its rows, asked for cell by cell.
-ghost use Rattle.std.specs.Prelude.{◌≡◌, ◌<◌, Some, length, slice_get, IsTrue, IfOk};
+ghost use Rattle.std.specs.Prelude.{◌≡◌, ℕ, ◌<◌, ◌^◌, List, Option, Some, length, slice_get, option_map, option_copied, IsTrue, IfOk, IfSome};
+ghost use Rattle.enc_opcodes.specs.Body.{body_of, code_seen};
 ghost use Rattle.enc_schema.specs.Children.{is_child_table, owner_table};
 ghost use Rattle.enc_plain.specs.Cell.{number, text, blob, guid, refer, body, field, kind_in, numbers, texts, blobs, guids, references};
 ghost use Rattle.enc_plain.specs.Module.{Module, rows_in, has_row, cell_of, owner_of, kids_of};
 ghost use Rattle.enc_plain.specs.Reading.{index_token};
 
 use enc_base::Token;
+use enc_opcodes::CodeRef;
 use std::alloc::{AllocError, Global};
 
 /// Whatever means one plain module. Rows count from 1, columns from 0 in the order of ECMA-335
@@ -14,10 +16,13 @@ use std::alloc::{AllocError, Global};
 pub trait ModuleView {
     // The module that is meant.
     ghost meaning: { Self → Module };
+    // The bytes of the user texts, by the offsets that the code of its bodies has.
+    ghost users: { Self → ℕ → Option (List ℕ) };
 
     /// The number of rows of a table.
     fn count(&self, table: u8) -> u32
-        ensures { result ≡ length (rows_in (meaning self.now) table) };
+        ensures count { result ≡ length (rows_in (meaning self.now) table) }
+        ensures few { result < 2 ^ 24 };
 
     /// The number in a column.
     fn num(&self, row: Token, column: u8) -> u32
@@ -49,17 +54,31 @@ pub trait ModuleView {
         requires kind { kind_in row.table column ≡ Some references }
         ensures { cell_of (meaning self.now) row column ≡ Some (refer result) };
 
-    /// Whether a method has a body (ECMA-335 II.22.26).
-    fn has_body(&self, method: Token) -> bool
+    /// The body of a method, None where it has none (ECMA-335 II.25.4). The user texts that its
+    /// code names are those of `user_text`.
+    fn code(&self, method: Token) -> Option<CodeRef<'_>>
         requires row { IsTrue (has_row (meaning self.now) method) }
         requires table { method.table ≡ 0x06 }
-        ensures { cell_of (meaning self.now) method 0 ≡ Some (body result) };
+        ensures body { cell_of (meaning self.now) method 0 ≡ Some (body (option_map (λ c. body_of (users self.now) (code_seen c)) result)) }
+        ensures few { IfSome result (λ c. length c.code.now < 2 ^ 32) };
 
     /// The initial bytes of a field, by the row of FieldRVA (ECMA-335 II.22.18).
     fn field_bytes(&self, row: Token) -> &[u8]
         requires row { IsTrue (has_row (meaning self.now) row) }
         requires table { row.table ≡ 0x1D }
         ensures { cell_of (meaning self.now) row 0 ≡ Some (field result.now) };
+
+    /// The bytes of the UTF-16 units of the user text at an offset, None where none stands there.
+    fn user_text(&self, offset: u32) -> Option<&[u8]>
+        ensures { option_copied result ≡ users self.now offset };
+
+    /// The bytes of the managed resources (ECMA-335 II.25.3.3).
+    fn resources(&self) -> &[u8]
+        ensures { result.now ≡ (meaning self.now).resources };
+
+    /// The number of the entry point, a token or 0; it isn't judged (ECMA-335 II.25.3.3.2).
+    fn entry(&self) -> u32
+        ensures { result ≡ (meaning self.now).entry };
 
     /// The row that owns a row of Field, MethodDef, Param, Event or Property.
     fn owner(&self, child: Token) -> Token

@@ -1,14 +1,19 @@
--- What a metadata file says by its parts.
-use Rattle.std.specs.Prelude.{ℕ, List, unwrap_or}
+-- What a file says by its parts.
+use Rattle.std.specs.Prelude.{ℕ, Bool, List, unwrap_or}
 use Rattle.enc_base.specs.declared.token.Token.{Token}
 use Rattle.enc_meta.specs.Heaps.{Counted}
+use Rattle.enc_meta.specs.Regions.{Region}
 use Rattle.enc_rows.specs.Layout.{Layout, raw_cell}
 
--- the table stream, its layout, and the heaps
+-- the table stream, its layout, the heaps, and what is loaded at which addresses; of an image also its managed resources and its entry point, which bare metadata hasn't, a delta's like a module's
 pub record Source : Type 0 where
   pub stream : List ℕ
   pub layout : Layout
   pub heaps : Counted
+  pub loaded : List Region
+  pub resources : List ℕ
+  pub entry : ℕ
+  pub bare : Bool
 
 -- the number in a cell
 abbrev pub raw_in : Source → Token → ℕ → ℕ

@@ -103,6 +103,13 @@ impl Tables {
         }
     }
 
+    /// The number of rows of each table.
+    pub fn counts(&self) -> &Counts
+        ensures { result.now.rows ≡ self.now.counts }
+    {
+        &self.counts
+    }
+
     /// Where a cell stands in the stream.
     fn place(&self, token: Token, column: u8) -> usize
         requires row { IsTrue (has_row self.now token) }

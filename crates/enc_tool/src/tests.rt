@@ -7,9 +7,12 @@ use std::process::Abort;
 use std::test::Fail;
 
 mod base;
+mod bodies;
 mod delta;
 mod faults;
 mod generations;
+mod image_rules;
+mod images;
 mod memory;
 mod owners;
 mod rules;

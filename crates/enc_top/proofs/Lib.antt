@@ -5,3 +5,4 @@ pub mod Served
 pub mod Shown
 pub mod Loading
 pub mod Lines
+pub mod BodyLists

@@ -45,14 +45,14 @@ unfolding load_deltas
 loading_stops files delta deltas n done plan h = stops_after plan done _ (stops_then plan (load_delta files delta n) _ h)
 
 -- a delta that was added, and those behind it
-pub judged_more : {U : Type 0} (old new : History) (f : DeltaFiles) (fs : List DeltaFiles) (u : U) → Adds old new (Ok u) (in_file f.name (judged (chain_of_all old) (delta_of f.metadata))) → new.base ≡ old.base → judge_deltas old.base old.deltas (f ∷ fs) ≡ judge_deltas new.base new.deltas fs
+pub judged_more : {U : Type 0} (old new : History) (f : DeltaFiles) (fs : List DeltaFiles) (u : U) → Adds old new (Ok u) (in_file f.name (judged (chain_of_all old) (delta_of f.metadata f.code))) → new.base ≡ old.base → judge_deltas old.base old.deltas (f ∷ fs) ≡ judge_deltas new.base new.deltas fs
 unfolding judge_deltas
 judged_more old new f fs u added base = rw (added.1, base, added.2) refl
 
 -- a delta at which judging stops
-pub judging_stops : (base : Source) (deltas : List Source) (f : DeltaFiles) (fs : List DeltaFiles) (plan : Plan) → StopsWith plan (in_file f.name (judged (chain_with base deltas) (delta_of f.metadata))) → StopsWith plan (judge_deltas base deltas (f ∷ fs))
+pub judging_stops : (base : Source) (deltas : List Source) (f : DeltaFiles) (fs : List DeltaFiles) (plan : Plan) → StopsWith plan (in_file f.name (judged (chain_with base deltas) (delta_of f.metadata f.code))) → StopsWith plan (judge_deltas base deltas (f ∷ fs))
 unfolding judge_deltas
-judging_stops base deltas f fs plan h = stops_then plan (in_file f.name (judged (chain_with base deltas) (delta_of f.metadata))) _ h
+judging_stops base deltas f fs plan h = stops_then plan (in_file f.name (judged (chain_with base deltas) (delta_of f.metadata f.code))) _ h
 
 pub judged_none : (base : Source) (deltas : List Source) → judge_deltas base deltas [] ≡ Ok deltas
 unfolding judge_deltas

@@ -1,6 +1,7 @@
 pub mod Words
 pub mod Commands
 pub mod Text
+pub mod BodyText
 pub mod RowText
 pub mod Listing
 pub mod Verdict

@@ -1,5 +1,5 @@
 -- The printed row of a plain module.
-use Rattle.std.specs.Prelude.{ℕ, zero, suc, true, false, List, [], ◌∷◌, ◌++◌, length, flat_map, Option, Some, None, unwrap_or, decimal, codes, ◌==◌, if◌then◌else◌}
+use Rattle.std.specs.Prelude.{ℕ, zero, suc, List, [], ◌∷◌, ◌++◌, length, flat_map, Option, Some, None, unwrap_or, decimal, codes, ◌==◌, if◌then◌else◌}
 use Rattle.enc_base.specs.Token.{nil}
 use Rattle.enc_base.specs.declared.token.Token.{Token}
 use Rattle.enc_schema.specs.declared.column.Column.{Column}
@@ -10,6 +10,7 @@ use Rattle.enc_schema.specs.Children.{is_child_table, runs_in}
 use Rattle.enc_plain.specs.Cell.{Cell, number, text, blob, guid, refer, body, field}
 use Rattle.enc_plain.specs.Module.{Module, cell_of, owner_of, kids_of}
 use Rattle.enc_agg.specs.declared.place.RowPlace.{RowPlace}
+use Rattle.enc_top.specs.BodyText.{body_text}
 use Rattle.enc_top.specs.Text.{digits, token_text, quoted, bracketed, guid_text}
 
 -- f 0, f 1, .. below n, one behind the other
@@ -29,8 +30,8 @@ value_text c (text bytes) = quoted bytes
 value_text c (blob bytes) = bracketed bytes
 value_text c (guid bytes) = guid_text bytes
 value_text c (refer token) = token_text token
-value_text c (body true) = codes "body"
-value_text c (body false) = codes "none"
+value_text c (body (Some b)) = codes "body"
+value_text c (body None) = codes "none"
 value_text c (field bytes) = bracketed bytes
 
 abbrev pub value_in : Column → Option Cell → List ℕ
@@ -79,6 +80,15 @@ kids_line child (k ∷ ks) = 0x20 ∷ 0x20 ∷ kids_name child ++ flat_map (kid_
 unfoldable pub kids_text : Module → Token → ℕ → List ℕ
 kids_text m token child = kids_line child (kids_of m token child)
 
--- the row's line, its owner's line, and the lines of its children
+-- the lines of a cell that is a body
+abbrev pub code_lines : Option Cell → List ℕ
+code_lines (Some (body (Some b))) = body_text b
+code_lines _ = []
+
+-- the lines of a method's body, where it has one
+unfoldable pub code_text : Module → Token → List ℕ
+code_text m token = if token.table == 0x06 then code_lines (cell_of m token 0) else []
+
+-- the row's line, its owner's line, the lines of its children, and those of its body
 unfoldable pub row_text_of : Module → RowPlace → Token → List ℕ
-row_text_of m place token = line_text m place token ++ owner_text m token ++ flat_map (kids_text m token) (runs_in token.table)
+row_text_of m place token = line_text m place token ++ owner_text m token ++ flat_map (kids_text m token) (runs_in token.table) ++ code_text m token

@@ -6,7 +6,7 @@ use Rattle.uuid.specs.Text.{hyphenated_text, lower}
 use Rattle.uuid.specs.Parts.{swap_fields}
 use Rattle.enc_base.specs.declared.token.Token.{Token}
 use Rattle.enc_base.specs.declared.refusal.Code.{Code}
-use Rattle.enc_base.specs.declared.refusal.Code.TheVariants.{F, E, U}
+use Rattle.enc_base.specs.declared.refusal.Code.TheVariants.{F, E}
 use Rattle.enc_base.specs.declared.refusal.Place.{Place}
 use Rattle.enc_base.specs.declared.refusal.Place.TheVariants as place
 use Rattle.enc_base.specs.declared.refusal.StreamName.{StreamName}
@@ -46,7 +46,6 @@ guid_text bytes = hyphenated_text lower (swap_fields bytes)
 abbrev pub code_text : Code → List ℕ
 code_text (F n) = 0x46 ∷ decimal n
 code_text (E n) = 0x45 ∷ decimal n
-code_text (U n) = 0x55 ∷ decimal n
 
 abbrev pub stream_text : StreamName → List ℕ
 stream_text stream.Compressed = codes "#~"

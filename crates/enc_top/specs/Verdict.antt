@@ -106,7 +106,7 @@ judged c (Err e) = Err e
 unfoldable pub judge_deltas : Source → List Source → List DeltaFiles → Result (List Source) Verdict
 judge_deltas base deltas [] = Ok deltas
 judge_deltas base deltas (f ∷ fs) = do
-  d ← in_file f.name (judged (chain_with base deltas) (delta_of f.metadata))
+  d ← in_file f.name (judged (chain_with base deltas) (delta_of f.metadata f.code))
   judge_deltas base (d ∷ deltas) fs
 
 -- a base with the deltas that follow it, the newest first

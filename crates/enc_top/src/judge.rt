@@ -48,7 +48,7 @@ fn judge_delta(
     file: DeltaFile,
 ) -> Result<Result<(), Plan>, AllocError>
     ensures base { agg.new.base ≡ agg.old.base }
-    ensures step { IfOk result (λ r. Adds agg.old agg.new r (in_file (string_bytes file.name) (judged (chain_of_all agg.old) (delta_of file.metadata.items)))) }
+    ensures step { IfOk result (λ r. Adds agg.old agg.new r (in_file (string_bytes file.name) (judged (chain_of_all agg.old) (delta_of file.metadata.items file.code.items)))) }
     ensures quiet { IfOk result StopsQuietly }
 {
     let DeltaFile {

@@ -1,6 +1,7 @@
 //! The top call: words, a store and a sink in; a status out.
 #![tactic(auto)]
 
+mod body;
 mod command;
 mod ending;
 mod finish;
@@ -9,6 +10,7 @@ mod laws;
 mod limits;
 mod listing;
 mod load;
+mod operand;
 mod plan;
 mod planning;
 mod plans;

@@ -1,16 +1,21 @@
 //! The printed row of a module, over any view of one.
-ghost use Rattle.std.specs.Prelude.{◌≡◌, ◌≢◌, ℕ, ◌++◌, ◌∷◌, Some, OnOk, IsTrue, decimal, flat_map, length, [], unwrap_or};
+ghost use Rattle.std.specs.Prelude.{◌≡◌, ◌≢◌, ℕ, List, Option, option_map, ◌++◌, ◌∷◌, Some, OnOk, IsTrue, decimal, flat_map, length, [], unwrap_or};
 ghost use Rattle.enc_schema.specs.Schema.{columns_in, column_in};
 ghost use Rattle.enc_schema.specs.Names.{column_name_in};
 ghost use Rattle.enc_plain.specs.Module.{has_row, cell_of};
 ghost use Rattle.enc_schema.specs.Children.{is_child_table as is_of_children, owner_table, runs_in};
-ghost use Rattle.enc_top.specs.RowText.{value_in, equation, joined_below, cell_text, place_text, line_text, owner_text, kids_name as name_of_kids, kid_text, kids_text, row_text_of};
+ghost use Rattle.enc_top.specs.RowText.{value_in, equation, joined_below, cell_text, place_text, line_text, owner_text, kids_name as name_of_kids, kid_text, kids_text, code_text, value_text, row_text_of};
+ghost use Rattle.enc_opcodes.specs.Body.{body_of, code_seen};
+ghost use Rattle.enc_plain.specs.Cell.{body};
+ghost use Rattle.enc_schema.specs.declared.column.Column.{Column as TheColumn};
 
+use crate::body::push_body;
 use crate::text::{
     push_blob, push_decimal, push_digits, push_guid, push_quoted, push_str, push_token,
 };
 use enc_agg::RowPlace;
 use enc_base::Token;
+use enc_opcodes::CodeRef;
 use enc_plain::ModuleView;
 use enc_schema::{Column, column_name, column_of, columns_of, is_child_table, table_name};
 use std::alloc::{AllocError, Global};
@@ -30,7 +35,10 @@ fn push_value<V: ModuleView>(
     ensures { OnOk result (out.new.items ≡ out.old.items ++ value_in column (cell_of (V.meaning view.now) token i)) }
 {
     if token.table == 0x06 && i == 0 {
-        return push_str(out, if view.has_body(token) { "body" } else { "none" });
+        return match view.code(token) {
+            Some(_) => push_str(out, "body"),
+            None => push_str(out, "none"),
+        };
     }
     if token.table == 0x1d && i == 0 {
         return push_blob(alloc, out, view.field_bytes(token));
@@ -224,9 +232,29 @@ fn push_all_kids<V: ModuleView>(
     }
 }
 
+/// Appends the lines of a method's body, where it has one.
+#[tactic(auto, unfolding(crate::specs::RowText::code_text))]
+fn push_code<V: ModuleView>(
+    alloc: Global,
+    view: &V,
+    token: Token,
+    out: &mut Vec<u8>,
+) -> Result<(), AllocError>
+    requires { IsTrue (has_row (V.meaning view.now) token) }
+    ensures { OnOk result (out.new.items ≡ out.old.items ++ code_text (V.meaning view.now) token) }
+{
+    if token.table != 0x06 {
+        return Ok(());
+    }
+    match view.code(token) {
+        Some(code) => push_body(alloc, view, &code, out),
+        None => Ok(()),
+    }
+}
+
 /// Appends the row of a token, which stands at the place: a line with its token, its table's name,
-/// each column with its value and ` @G.R`, then a line with its owner, and one for its children in
-/// each table. After want of memory what stands behind the old bytes is free.
+/// each column with its value and ` @G.R`, then a line with its owner, one for its children in each
+/// table, and the lines of its body. After want of memory what stands behind the old bytes is free.
 #[tactic(auto, unfolding(crate::specs::RowText::row_text_of))]
 pub fn row_text<V: ModuleView>(
     alloc: Global,
@@ -240,5 +268,6 @@ pub fn row_text<V: ModuleView>(
 {
     push_line(alloc, view, place, token, out)?;
     push_owner(view, token, out)?;
-    push_all_kids(alloc, view, token, out)
+    push_all_kids(alloc, view, token, out)?;
+    push_code(alloc, view, token, out)
 }

@@ -107,7 +107,6 @@ fn push_code(alloc: Global, out: &mut Vec<u8>, code: Code) -> Result<(), AllocEr
     let (letter, number) = match code {
         Code::F(number) => ("F", number),
         Code::E(number) => ("E", number),
-        Code::U(number) => ("U", number),
     };
     push_str(out, letter)?;
     push_decimal(alloc, out, u32::from(number))

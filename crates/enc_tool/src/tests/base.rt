@@ -116,7 +116,7 @@ fn reads_wide_columns(rt: HostRuntime) -> Result<(), Fail> {
 /// ends at 152, `#Strings` at 184, `#GUID` at 200.
 fn answer_at(len: usize) -> (u8, &'static str) {
     match len {
-        0..=3 => (1, "refused m.dll U3 headers\n"),
+        0..=3 => (1, "refused m.dll F3 headers\n"),
         4..=79 => (1, "refused m.dll F1 root\n"),
         80..=151 => (1, "refused m.dll F2 #~\n"),
         152..=183 => (1, "refused m.dll F2 #Strings\n"),
@@ -181,9 +181,9 @@ fn tells_absent_tokens(rt: HostRuntime) -> Result<(), Fail> {
 fn names_the_first_refusal(rt: HostRuntime) -> Result<(), Fail> {
     let words = ["show", "m", "01000001"].as_slice();
     let refused = [
-        // the file isn't bare, or empty
-        changed(3, 0, "", words, 1, "refused m.dll U3 headers\n"),
-        changed(200, 0, "4d", words, 1, "refused m.dll U3 headers\n"),
+        // neither an image nor bare
+        changed(3, 0, "", words, 1, "refused m.dll F3 headers\n"),
+        changed(200, 0, "4d", words, 1, "refused m.dll F3 headers\n"),
         // the root is cut, or has another reserved number
         changed(31, 0, "", words, 1, "refused m.dll F1 root\n"),
         changed(79, 0, "", words, 1, "refused m.dll F1 root\n"),

@@ -308,8 +308,8 @@ fn loads_all_files_before_it_judges_the_base_first(rt: HostRuntime) -> Result<()
         present_files(base, meta, None, 6, "missing d1.il\n"),
         present_files(bad, meta, None, 6, "missing d1.il\n"),
         present_files(base, bad, None, 6, "missing d1.il\n"),
-        present_files(bad, meta, il, 1, "refused m.dll U3 headers\n"),
-        present_files(bad, bad, il, 1, "refused m.dll U3 headers\n"),
+        present_files(bad, meta, il, 1, "refused m.dll F3 headers\n"),
+        present_files(bad, bad, il, 1, "refused m.dll F3 headers\n"),
         present_files(base, bad, il, 1, "refused d1.meta F1 root\n"),
     ];
     for case in &cases {

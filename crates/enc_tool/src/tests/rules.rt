@@ -163,9 +163,9 @@ const CELLS: [Broken; 23] = [
     (&[(0xda, "ffff")], "E14 04000002.Signature"),
     (&[(0x142, "1f")], "E14 17000002.Type"),
     (&[(0x11a, "19")], "E14 0c000001.Value"),
-    // U4: a method with a place for its body, by its token
-    (&[(0xdc, "01")], "U4 06000001"),
-    (&[(0xfc, "00000001")], "U4 06000004"),
+    // E16: no body stands at a method's place
+    (&[(0xdc, "01")], "E16 06000001"),
+    (&[(0xfc, "00000001")], "E16 06000004"),
     // an earlier rule of two, whatever the places
     (&[(0xdc, "01"), (0x142, "1f")], "E14 17000002.Type"),
     (&[(0xc6, "2e"), (0x136, "04")], "E13 15000002.Parent"),

@@ -60,7 +60,7 @@ given-requires-clause-there t c = given_there c.count_in-before.result c.args.ow
 pub given-requires-clause-few : goal.given-requires-clause-few
 given-requires-clause-few t c =
     let step = lasted c.args.image.now _ _ c.requires.sound (rw c.in-Some.ensures.parts at c.requires.added) in
-    rw c.count_in-before.ensures (rows_few _ c.in-Some.last.now.delta c.args.owner c.args.table _ step.0 step.1 c.requires.table (given_there (length (rows_in (chain_with c.args.image.now (sources (reverse c.in-Some.older.now))).plain c.args.table)) c.args.owner (add_code c.args.table) c.count_given-own.result c.args.back (log_in c.in-Some.last.now.delta) c.count_given-own.ensures.count c.if-back-own.false))
+    rw c.count_in-before.ensures.count (rows_few _ c.in-Some.last.now.delta c.args.owner c.args.table _ step.0 step.1 c.requires.table (given_there (length (rows_in (chain_with c.args.image.now (sources (reverse c.in-Some.older.now))).plain c.args.table)) c.args.owner (add_code c.args.table) c.count_given-own.result c.args.back (log_in c.in-Some.last.now.delta) c.count_given-own.ensures.count c.if-back-own.false))
 
 pub returns : goal.returns
 unfolding chain_with
@@ -68,5 +68,5 @@ returns t c =
     let step = lasted c.args.image.now _ _ c.requires.sound (rw c.in-Some.ensures.parts at c.requires.added) in
     let before = chain_with c.args.image.now (sources (reverse c.in-Some.older.now)) in
     let sum = kids_sum before c.in-Some.last.now.delta c.args.owner c.args.table _ _ step.0 step.1 c.requires.table refl c.count_given-own.ensures.count in
-    let given = rw c.count_in-before.ensures at c.given.ensures in
+    let given = rw c.count_in-before.ensures.count at c.given.ensures in
     rw c.in-Some.ensures.parts (kid_new before c.in-Some.last.now.delta c.args.owner c.args.table _ _ _ step.0 step.1 c.requires.table refl (omega (arith, sum, c.if-back-own.false)) (new_from_end _ _ _ c.count_given-own.result c.args.back _ sum c.if-back-own.false given))

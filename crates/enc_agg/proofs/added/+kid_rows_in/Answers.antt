@@ -19,10 +19,10 @@ kid_rows_in-requires t c =
 pub push_given-requires : goal.push_given-requires
 push_given-requires t c =
     let step = lasted c.args.image.now _ _ c.requires.sound (rw c.in-Some.ensures.parts at c.requires.added) in
-    all_few _ c.in-Some.last.now.delta c.args.table _ step.0 step.1 c.requires.table c.count_in-before.ensures (omega arith)
+    all_few _ c.in-Some.last.now.delta c.args.table _ step.0 step.1 c.requires.table c.count_in-before.ensures.count (omega arith)
 
 pub returns : goal.returns
 unfolding chain_with
 returns t c =
     let step = lasted c.args.image.now _ _ c.requires.sound (rw c.in-Some.ensures.parts at c.requires.added) in
-    rw c.in-Some.ensures.parts (kids_pushed _ c.in-Some.last.now.delta c.args.owner c.args.table _ _ _ step.0 step.1 c.requires.table c.count_in-before.ensures c.in_ok-rows.ensures c.in_ok-push_given.ensures)
+    rw c.in-Some.ensures.parts (kids_pushed _ c.in-Some.last.now.delta c.args.owner c.args.table _ _ _ step.0 step.1 c.requires.table c.count_in-before.ensures.count c.in_ok-rows.ensures c.in_ok-push_given.ensures)

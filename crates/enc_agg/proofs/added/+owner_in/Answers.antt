@@ -20,23 +20,23 @@ pub owner_in-requires : goal.owner_in-requires
 owner_in-requires t c =
     let less : length c.in-Some.older.now < t = omega (arith, c.decreases, c.in-Some.ensures.fewer) in
     let all = (last_added c.args.image.now _ _ (rw c.in-Some.ensures.parts at c.requires.added)).1 in
-    (less, (c.requires.sound, (all, (has_old _ c.args.child _ c.count_in-before.ensures (some_row _ c.args.child c.requires.row) c.if-child-before.true, c.requires.table))))
+    (less, (c.requires.sound, (all, (has_old _ c.args.child _ c.count_in-before.ensures.count (some_row _ c.args.child c.requires.row) c.if-child-before.true, c.requires.table))))
 
 pub returns-then-child-before : goal.returns-then-child-before
 unfolding chain_with
 returns-then-child-before t c =
     let step = lasted c.args.image.now _ _ c.requires.sound (rw c.in-Some.ensures.parts at c.requires.added) in
-    rw c.in-Some.ensures.parts (old_owner _ c.in-Some.last.now.delta c.args.child _ _ step.0 step.1 c.requires.table (some_row _ c.args.child c.requires.row) c.count_in-before.ensures c.if-child-before.true c.owner_in.ensures)
+    rw c.in-Some.ensures.parts (old_owner _ c.in-Some.last.now.delta c.args.child _ _ step.0 step.1 c.requires.table (some_row _ c.args.child c.requires.row) c.count_in-before.ensures.count c.if-child-before.true c.owner_in.ensures)
 
 pub owner_given-requires : goal.owner_given-requires
 unfolding chain_with
 owner_given-requires t c =
     let step = lasted c.args.image.now _ _ c.requires.sound (rw c.in-Some.ensures.parts at c.requires.added) in
     let row = rw c.in-Some.ensures.parts at c.requires.row in
-    record { there = new_within _ c.in-Some.last.now.delta c.args.child _ step.0 step.1 c.requires.table c.count_in-before.ensures c.if-child-before.false row }
+    record { there = new_within _ c.in-Some.last.now.delta c.args.child _ step.0 step.1 c.requires.table c.count_in-before.ensures.count c.if-child-before.false row }
 
 pub returns : goal.returns
 unfolding chain_with
 returns t c =
     let step = lasted c.args.image.now _ _ c.requires.sound (rw c.in-Some.ensures.parts at c.requires.added) in
-    rw c.in-Some.ensures.parts (new_owner _ c.in-Some.last.now.delta c.args.child _ _ step.0 step.1 c.requires.table c.count_in-before.ensures c.if-child-before.false c.owner_given.ensures)
+    rw c.in-Some.ensures.parts (new_owner _ c.in-Some.last.now.delta c.args.child _ _ step.0 step.1 c.requires.table c.count_in-before.ensures.count c.if-child-before.false c.owner_given.ensures)

@@ -6,10 +6,10 @@ use Rattle.enc_agg.proofs.added.kid_rows_of_image.Goals as goal
 
 pub returns-then-owner-count : goal.returns-then-owner-count
 unfolding chain_with begun
-returns-then-owner-count c = c.new.ensures.items ∙ sym (kids_past (module_in c.args.image.now) c.args.owner c.args.table _ c.count.ensures c.if-owner-count.true)
+returns-then-owner-count c = c.new.ensures.items ∙ sym (kids_past (module_in c.args.image.now) c.args.owner c.args.table _ c.count.ensures.count c.if-owner-count.true)
 
 pub kid_rows-requires-clause-row : goal.kid_rows-requires-clause-row
-kid_rows-requires-clause-row c = has_old (module_in c.args.image.now) c.args.owner _ c.count.ensures c.requires.row c.if-owner-count.false
+kid_rows-requires-clause-row c = has_old (module_in c.args.image.now) c.args.owner _ c.count.ensures.count c.requires.row c.if-owner-count.false
 
 pub returns : goal.returns
 unfolding chain_with begun

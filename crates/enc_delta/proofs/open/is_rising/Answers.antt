@@ -17,8 +17,8 @@ cell-requires-clause-column c = rw c.nth_row.ensures map_column
 
 pub loop-i-preserved : goal.loop-i-preserved
 loop-i-preserved c =
-    let number = λ (k : ℕ). number_of (token_at (source_from c.args.bytes.now c.args.opened.now.root c.args.opened.now.tables) k) in
-    let read : number c.loop-i.i ≡ c.from-n.result = number_read c.args.bytes.now c.args.opened.now c.loop-i.i c.cell.result c.requires (rw c.nth_row.ensures at c.cell.ensures) ∙ sym c.from-n.ensures in
+    let number = λ (k : ℕ). number_of (token_at (source_from c.args.bytes.now c.args.il.now c.args.opened.now.root c.args.opened.now.tables) k) in
+    let read : number c.loop-i.i ≡ c.from-n.result = number_read c.args.bytes.now c.args.il.now c.args.opened.now c.loop-i.i c.cell.result c.requires (rw c.nth_row.ensures at c.cell.ensures) ∙ sym c.from-n.ensures in
     let more = rise_more number c.loop-i.i c.loop-i.least c.from-n.result c.loop-i.invariant.under c.loop-i.invariant.rising read c.if-n-least.false in
     let i_is : c.loop-i.i + 1 - 1 ≡ c.loop-i.i = omega arith in
     record {
@@ -30,8 +30,8 @@ loop-i-preserved c =
 
 pub returns-then-n-least : goal.returns-then-n-least
 returns-then-n-least c =
-    let number = λ (k : ℕ). number_of (token_at (source_from c.args.bytes.now c.args.opened.now.root c.args.opened.now.tables) k) in
-    let read : number c.loop-i.i ≡ c.from-n.result = number_read c.args.bytes.now c.args.opened.now c.loop-i.i c.cell.result c.requires (rw c.nth_row.ensures at c.cell.ensures) ∙ sym c.from-n.ensures in
+    let number = λ (k : ℕ). number_of (token_at (source_from c.args.bytes.now c.args.il.now c.args.opened.now.root c.args.opened.now.tables) k) in
+    let read : number c.loop-i.i ≡ c.from-n.result = number_read c.args.bytes.now c.args.il.now c.args.opened.now c.loop-i.i c.cell.result c.requires (rw c.nth_row.ensures at c.cell.ensures) ∙ sym c.from-n.ensures in
     (λ h. absurd cc, λ up. absurd (falls_back number c.loop-i.i c.loop-i.least c.from-n.result c.loop-i.invariant.none c.loop-i.invariant.last read c.if-n-least.true (λ j a. up j c.loop-i.i a (omega (arith, c.count-i-end.ensures.count)))))
 
 pub returns : goal.returns

@@ -5,4 +5,4 @@ pub count_in-requires : goal.count_in-requires
 count_in-requires c = rw c.deref.ensures.value (all_upto c.self.inside.image c.self.inside.added.items c.args.generation c.self.invariant.all)
 
 pub returns : goal.returns
-returns c = rw (← c.self.view_is, ← sources_upto c.self.inside.added.items c.args.generation) (rw c.deref.ensures.value at c.count_in.ensures)
+returns c = rw (← c.self.view_is, ← sources_upto c.self.inside.added.items c.args.generation) (rw c.deref.ensures.value at c.count_in.ensures.count)

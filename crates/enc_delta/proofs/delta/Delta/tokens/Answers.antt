@@ -1,9 +1,9 @@
-use Rattle.std.proofs.Common.{refl, sym, ap, ◌∙◌, arith}
+use Rattle.std.proofs.Common.{length, refl, sym, ap, ◌∙◌, arith}
 use Rattle.std.specs.Prelude.{not, nat_lt}
 use Rattle.std.proofs.lemmas.Bool.Decides.{nat_tests}
 use Rattle.enc_base.specs.declared.token.Token.{Token}
 use Rattle.enc_delta.specs.Delta.{is_module, token_at}
-use Rattle.enc_delta.proofs.Listed.{tokens_none, more_kept, more_left, more_rows}
+use Rattle.enc_delta.proofs.Listed.{tokens_none, more_kept, more_left, more_rows, more_few}
 use Rattle.enc_delta.proofs.delta.Delta.tokens.Goals as goal
 use Rattle.enc_delta.proofs.delta.Delta.tokens.Goals.{then-not-is_module+in_ok-push, else-not-is_module}
 
@@ -12,6 +12,7 @@ loop-i-init c = record {
   items = rw c.new-tokens.ensures.items (sym (tokens_none _ _));
   rows = rw c.new-tokens.ensures.items refl;
   tables = rw c.new-tokens.ensures.items refl;
+  few = rw c.new-tokens.ensures.items (omega arith);
 }
 
 pub loop-i-preserved : goal.loop-i-preserved
@@ -22,6 +23,7 @@ loop-i-preserved c = elim c.if-not-is_module.branch [
         items = kept.0;
         rows = kept.1;
         tables = more_rows (λ (t : Token). nat_lt t.table 0x100) c.loop-i.tokens.items c.if-not-is_module.tokens.items c.token-token.result c.loop-i.invariant.tables (grind (arith, nat_tests, c.token-token.ensures.table)) (rw w.tokens-is w.in_ok-push.ensures.items);
+        few = omega (arith, more_few (length c.loop-i.tokens.items) c.loop-i.tokens.items c.if-not-is_module.tokens.items c.token-token.result refl (rw w.tokens-is w.in_ok-push.ensures.items), c.loop-i.invariant.few);
       }
   | else-not-is_module w ↦
       let left = more_left (λ t. not (is_module t)) (λ (t : Token). nat_lt t.row 0x1000000) (token_at c.args.self.now) c.loop-i.i c.loop-i.tokens.items c.if-not-is_module.tokens.items c.token-token.result c.loop-i.invariant.items c.loop-i.invariant.rows c.token-token.ensures.at (ap not (sym c.is_module.ensures ∙ w.if-not-is_module.false)) (ap (λ v. v.items) w.tokens-is) in
@@ -29,5 +31,6 @@ loop-i-preserved c = elim c.if-not-is_module.branch [
         items = left.0;
         rows = left.1;
         tables = rw w.tokens-is c.loop-i.invariant.tables;
+        few = rw w.tokens-is (omega (arith, c.loop-i.invariant.few));
       }
 ]

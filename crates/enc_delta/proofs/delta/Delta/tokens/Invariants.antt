@@ -1,4 +1,4 @@
-use Rattle.std.proofs.Common.{◌≡◌, map}
+use Rattle.std.proofs.Common.{◌≡◌, ◌≤◌, length, map}
 use Rattle.std.specs.Prelude.{filter, not, nat_lt, IsTrue}
 use Rattle.std.specs.List.{list_all}
 use Rattle.enc_base.specs.declared.token.Token.{Token}
@@ -11,4 +11,5 @@ invariant-loop-i l = record {
   items : l.tokens.items ≡ filter (λ t. not (is_module t)) (map (token_at l.self) (below l.i));
   rows : IsTrue (list_all (λ (t : Token). nat_lt t.row 0x1000000) l.tokens.items);
   tables : IsTrue (list_all (λ (t : Token). nat_lt t.table 0x100) l.tokens.items);
+  few : length l.tokens.items ≤ l.i;
 }

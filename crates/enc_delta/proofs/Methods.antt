@@ -1,0 +1,45 @@
+-- The methods of a chain and a delta: their rows, their tokens and their user texts.
+use Rattle.std.proofs.Common.{◌≡◌, ℕ, zero, suc, ◌<◌, ◌≤◌, length, List, Bool, true, false, Option, Some, None, refl, arith}
+use Rattle.std.specs.Prelude.{not, ◌==◌, ◌&&◌, nat_lt, nat_le}
+use Rattle.std.proofs.lemmas.Option.{slice_get_past}
+use Rattle.std.proofs.lemmas.Bool.Decides.{nat_tests}
+use Rattle.enc_base.specs.declared.token.Token.{Token}
+use Rattle.std.proofs.lemmas.List.Sums.{count_by-le-length}
+use Rattle.enc_opcodes.specs.Body.{Code, is_good, texts_are_there}
+use Rattle.enc_opcodes.proofs.Bodies.{good_alike}
+use Rattle.enc_plain.specs.Bodies.{code_is_good}
+use Rattle.enc_plain.specs.Chain.{Chain}
+use Rattle.enc_plain.specs.Module.{Row, Module, rows_in, row_at, row_of, has_row, cell_of}
+use Rattle.enc_delta.specs.Rules.{is_insert, inserts, has_body}
+
+no_row : (rows : List Row) (r : ℕ) → (nat_lt 0 r && nat_le r (length rows)) ≡ false → row_at rows r ≡ None
+no_row rows zero h = refl
+no_row rows (suc i) h = let past : length rows ≤ i = grind (arith, nat_tests) in slice_get_past rows i past
+
+-- what isn't a row has no cells
+no_cell : (m : Module) (t : Token) (i : ℕ) → has_row m t ≡ false → cell_of m t i ≡ None
+unfolding has_row cell_of row_of
+no_cell m t i h = rw (no_row (rows_in m t.table) t.row h) refl
+
+pub no_body_before : (m : Module) (t : Token) → has_row m t ≡ false → false ≡ has_body (cell_of m t 0)
+no_body_before m t h = rw (no_cell m t 0 h) refl
+
+-- no more inserts than tokens
+pub inserts_few : (c : Chain) (tokens : List Token) (table n : ℕ) → n ≡ inserts c tokens table → n ≤ length tokens
+unfolding inserts
+inserts_few c tokens table n is = omega (arith, is, count_by-le-length (λ (t : Token). t.table == table && is_insert c t) tokens)
+
+both_no : (good there : Bool) → true ≡ not good → false ≡ (good && there)
+both_no true there h = absurd cc
+both_no false there h = refl
+
+both_yes : (good there : Bool) → false ≡ not good → there ≡ (good && there)
+both_yes true there h = refl
+both_yes false there h = absurd cc
+
+-- a body that is bad by some numbers of rows, and one that is good by them, by numbers that agree on the tables of metadata
+pub bad_body : (f g : ℕ → ℕ) (texts : ℕ → Option (List ℕ)) (c : Code) → ((t : ℕ) → t < 64 → f t ≡ g t) → true ≡ not (is_good f c) → false ≡ code_is_good g texts (Some c)
+bad_body f g texts c same h = both_no (is_good g c) (texts_are_there texts c.code) (rw (good_alike f g c same) at h)
+
+pub good_body : (f g : ℕ → ℕ) (texts : ℕ → Option (List ℕ)) (c : Code) → ((t : ℕ) → t < 64 → f t ≡ g t) → false ≡ not (is_good f c) → texts_are_there texts c.code ≡ code_is_good g texts (Some c)
+good_body f g texts c same h = both_yes (is_good g c) (texts_are_there texts c.code) (rw (good_alike f g c same) at h)

@@ -1,8 +1,0 @@
-use Rattle.std.proofs.Common.{◌≡◌, None, drop}
-use Rattle.enc_base.specs.Order.{first_below}
-use Rattle.enc_delta.specs.Delta.{of_table, listed}
-use Rattle.enc_delta.specs.Rules.{body_at}
-use Rattle.enc_delta.proofs.cells.first_body.Given as goal
-
-abbrev pub invariant-loop-r : goal.invariant-loop-r
-invariant-loop-r l = record { none : first_below (body_at l.delta) l.r ≡ None; rest : of_table 0x06 l.rest ≡ drop l.r (of_table 0x06 (listed l.delta)) }

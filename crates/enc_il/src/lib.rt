@@ -1,0 +1,27 @@
+//! Method bodies: their headers, instructions and exception clauses (ECMA-335 II.25.4, III.1.2).
+#![tactic(auto)]
+
+mod arg;
+mod body;
+mod bytes;
+mod clauses;
+mod instr;
+mod judge;
+mod laws;
+mod marks;
+mod section;
+mod texts;
+
+pub use body::{BodyFault, read_body};
+pub use bytes::rest_at;
+pub use clauses::{clause, clause_front};
+pub use instr::instr_at;
+pub use judge::first_bad;
+pub use laws::body_law;
+pub use section::{SectionRef, behind_sections, clause_size, section_front};
+pub use texts::{UserTexts, texts_are_there};
+
+#[cfg(test)]
+mod judge_tests;
+#[cfg(test)]
+mod tests;

@@ -1,0 +1,5 @@
+mod Named
+pub mod Chains
+pub mod Instructions
+pub mod Bodies
+pub mod Example

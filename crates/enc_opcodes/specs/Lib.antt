@@ -1,0 +1,7 @@
+pub mod Table
+pub mod Opcodes
+pub mod Laws
+pub mod Body
+pub mod Clause
+pub mod Instruction
+pub mod Example

@@ -1,0 +1,21 @@
+//! What the table of instructions means as a whole, each as the contract of a function that does
+//! nothing.
+ghost use Rattle.enc_opcodes.specs.Example.{ExampleIsRead};
+ghost use Rattle.enc_opcodes.specs.Laws.{CodesTell, NamesTell, NamedAreFound};
+
+/// An instruction is the one with its code.
+pub fn code_laws()
+    ensures { CodesTell }
+{}
+
+/// Each instruction is found by its name, and what is found by a name is an instruction of that name.
+/// So no two instructions have the same name.
+pub fn name_laws()
+    ensures found { NamesTell }
+    ensures named { NamedAreFound }
+{}
+
+/// The example body means what is written down of it: the definitions compute it.
+pub fn example_body()
+    ensures { ExampleIsRead }
+{}

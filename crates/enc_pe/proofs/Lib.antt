@@ -1,0 +1,4 @@
+pub mod Loaded
+pub mod Meanings
+pub mod Parts
+pub mod Search

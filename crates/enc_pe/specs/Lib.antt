@@ -1,0 +1,5 @@
+pub mod Sections
+pub mod Headers
+pub mod Container
+pub mod Loaded
+pub mod Laws
