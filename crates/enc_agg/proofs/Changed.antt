@@ -13,7 +13,8 @@ use Rattle.enc_rows.specs.Sums.{below}
 use Rattle.enc_plain.specs.Chain.{Chain, rows_before}
 use Rattle.enc_delta.specs.declared.entry.Entry.{Entry}
 use Rattle.enc_delta.specs.Delta.{listed, log_in, entry_at}
-use Rattle.enc_delta.specs.Rules.{is_insert, inserts, rows_with, counts, changed, stands_in, in_one, set_fault, set_meta}
+use Rattle.enc_delta.specs.Rules.{is_insert, inserts, rows_with, counts, changed, stands_in, in_one, set_fault}
+use Rattle.enc_delta.specs.Judged.{set_meta}
 use Rattle.enc_agg.specs.Follows.{Follows}
 use Rattle.enc_agg.proofs.Counting.{next_row, old_row, inserts_here}
 use Rattle.enc_agg.proofs.Fitting.{Good, first_good, first_row, rest_good, good_tokens}

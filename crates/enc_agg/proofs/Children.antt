@@ -20,7 +20,8 @@ use Rattle.enc_delta.specs.declared.entry.Entry.{Entry}
 use Rattle.enc_delta.specs.Delta.{listed, log_in}
 use Rattle.enc_delta.specs.Rules.{counted, inserts, rows_with, child_table, adds, children, child_fault_in, child_fault}
 use Rattle.enc_delta.proofs.ListsChildren.{hits, log_named, one_unnamed}
-use Rattle.enc_agg.specs.Extend.{changes_of, attached_of, pairs_in, extended}
+use Rattle.enc_agg.specs.Extend.{changes_of, extended}
+use Rattle.enc_delta.specs.Pairs.{attached_of, pairs_in}
 use Rattle.enc_agg.specs.Follows.{HasTables, Follows, all_kids, IsOwned}
 use Rattle.enc_agg.proofs.Unbroken.{unbroken}
 use Rattle.enc_agg.proofs.Counting.{apply_tables}

@@ -17,7 +17,9 @@ use Rattle.enc_plain.proofs.Applied.{runs_applied}
 use Rattle.enc_plain.proofs.AttachedTo.{change_length, count_attached, runs_attached}
 use Rattle.enc_delta.specs.Delta.{listed}
 use Rattle.enc_delta.specs.Rules.{late, inserts, rows_with, insert_fault_of, insert_fault_at, insert_fault}
-use Rattle.enc_agg.specs.Extend.{own_row, cells_after, changes_of, attached_of, extended}
+use Rattle.enc_agg.specs.Extend.{changes_of, extended}
+use Rattle.enc_delta.specs.Rows.{own_row, cells_after}
+use Rattle.enc_delta.specs.Pairs.{attached_of}
 use Rattle.enc_agg.specs.Follows.{HasTables, Follows}
 use Rattle.enc_agg.proofs.Counting.{Tally, tally_none, tally_put, near, apply_tables}
 use Rattle.enc_agg.proofs.InTables.{silent, listed_tables}

@@ -11,7 +11,7 @@ use Rattle.enc_plain.specs.Chain.{Chain, rows_before}
 use Rattle.enc_delta.specs.declared.entry.Entry.{Entry}
 use Rattle.enc_delta.specs.Rules.{counts, counted, adds, is_add, follows, child_table}
 use Rattle.enc_delta.proofs.ListsChildren.{two, counted_no, Good, add_low, add_high, adds_push, codes_same, not_code}
-use Rattle.enc_agg.specs.Extend.{pairs_in}
+use Rattle.enc_delta.specs.Pairs.{pairs_in}
 use Rattle.enc_agg.specs.Given.{gives, gives_to, rows_given}
 use Rattle.enc_agg.proofs.Pairs.{pair_of, pairs_yes, child_is}
 use Rattle.enc_agg.proofs.Owned.{count_cons}

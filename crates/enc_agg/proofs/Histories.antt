@@ -22,7 +22,8 @@ use Rattle.enc_image.proofs.Rows.{tables_there}
 use Rattle.enc_delta.specs.Delta.{listed, place_in}
 use Rattle.enc_delta.specs.Rules.{module_token, own_guid, broken, e24_at, e24}
 use Rattle.enc_agg.specs.declared.added.Added.{Added}
-use Rattle.enc_agg.specs.Extend.{changes_of, attached_of, extended, chain_with}
+use Rattle.enc_agg.specs.Extend.{changes_of, extended, chain_with}
+use Rattle.enc_delta.specs.Pairs.{attached_of}
 use Rattle.enc_agg.specs.Follows.{HasTables, Follows, IsSound}
 use Rattle.enc_agg.specs.Seen.{sources, IsAdded, AllAdded, found_or, found_in}
 use Rattle.enc_base.specs.Order.{or_else, first_below}

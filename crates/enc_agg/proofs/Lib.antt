@@ -17,3 +17,4 @@ pub mod Histories
 pub mod Asked
 pub mod Generations
 pub mod HeapPlaces
+pub mod Judged

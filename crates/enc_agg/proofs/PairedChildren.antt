@@ -19,7 +19,8 @@ use Rattle.enc_delta.specs.Rules.{adds, inserts, rows_with, child_table}
 use Rattle.enc_delta.proofs.ListsChildren.{log_good, Good}
 use Rattle.enc_plain.specs.Chain.{Chain}
 use Rattle.enc_image.proofs.Listed.{length_below}
-use Rattle.enc_agg.specs.Extend.{attached_of, extended}
+use Rattle.enc_agg.specs.Extend.{extended}
+use Rattle.enc_delta.specs.Pairs.{attached_of}
 use Rattle.enc_agg.specs.Given.{add_code, gives, gives_to, rows_given}
 use Rattle.enc_agg.specs.Follows.{Follows, all_kids, IsOwned, IsSound}
 use Rattle.enc_agg.proofs.Unbroken.{unbroken}

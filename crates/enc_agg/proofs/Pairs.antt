@@ -16,7 +16,7 @@ use Rattle.enc_plain.proofs.AttachedTo.{count_attached}
 use Rattle.enc_delta.specs.declared.entry.Entry.{Entry}
 use Rattle.enc_delta.specs.Rules.{broken, counts, counted, adds, is_add, rows_with, has_parent, follows, parent_table, child_table, log_fault_of, log_fault_at, log_fault, children}
 use Rattle.enc_delta.proofs.ListsChildren.{two, first_of, counted_first, counted_yes, counted_no, Good, at_seam, none_at, log_good, equal, add_low, add_high}
-use Rattle.enc_agg.specs.Extend.{pairs_in}
+use Rattle.enc_delta.specs.Pairs.{pairs_in}
 use Rattle.enc_agg.proofs.Fitting.{attach_tables}
 use Rattle.enc_agg.proofs.Changed.{Names, found_named}
 

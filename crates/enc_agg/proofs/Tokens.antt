@@ -18,7 +18,8 @@ use Rattle.enc_plain.specs.Fits.{cells_for}
 use Rattle.enc_plain.proofs.Applied.{same_is}
 use Rattle.enc_delta.specs.Delta.{listed, of_table, place_in}
 use Rattle.enc_delta.specs.Rules.{broken, e7_at, rows_for, e7, may_change, e12_at, e12}
-use Rattle.enc_agg.specs.Extend.{cells_after, own_row, changes_of}
+use Rattle.enc_agg.specs.Extend.{changes_of}
+use Rattle.enc_delta.specs.Rows.{cells_after, own_row}
 use Rattle.enc_agg.specs.Follows.{Follows}
 use Rattle.enc_agg.proofs.Unbroken.{unbroken}
 

@@ -7,7 +7,9 @@ use Rattle.enc_base.specs.declared.refusal.Refusal.{Refusal}
 use Rattle.enc_rows.specs.Source.{Source}
 use Rattle.enc_plain.specs.Chain.{Chain}
 use Rattle.enc_delta.specs.Delta.{listed, log_in}
-use Rattle.enc_delta.specs.Rules.{rule, e5, late_fault, e7, insert_fault, set_meta, log_fault, child_fault, e12, e13, e14, e16, e17, e24, bodies_meta, cells_meta, lists_meta, first_meta}
+use Rattle.enc_delta.specs.Rules.{e5, late_fault, e7, insert_fault, log_fault, child_fault, e12, e13, e14, e16, e17, e24}
+use Rattle.enc_delta.specs.Changes.{e15, e18, e19, e20, e21, e23}
+use Rattle.enc_delta.specs.Judged.{rule, set_meta, signatures_meta, members_meta, changes_meta, cells_meta, lists_meta, first_meta}
 
 -- the rules on lists and on cells, each unbroken
 pub record Unbroken (c : Chain) (s : Source) : Type 0 where
@@ -27,16 +29,26 @@ neither : (n : ℕ) (a : Option Place) (b : Option Refusal) → or_else (rule n 
 neither n None b h = (refl, h)
 neither n (Some p) b h = absurd cc
 
-bodies_of : (c : Chain) (s : Source) → bodies_meta c s ≡ None → (e16 c s ≡ None) × (e24 c s ≡ None)
-unfolding bodies_meta
-bodies_of c s h =
-    let r16 = neither 16 (e16 c s) _ h in
-    (r16.0, (neither 24 (e24 c s) None (rest24 (neither 17 (e17 c s) _ r16.1).1)).0)
-  where
-    rest24 : rule 24 (e24 c s) ≡ None → or_else (rule 24 (e24 c s)) None ≡ None
-    rest24 e = rw e refl
+last : (n : ℕ) (a : Option Place) → rule n a ≡ None → a ≡ None
+last n None h = refl
+last n (Some p) h = absurd cc
 
-cells_of : (c : Chain) (s : Source) → cells_meta c s ≡ None → (e12 s ≡ None) × ((e13 c s ≡ None) × ((e14 c s ≡ None) × (bodies_meta c s ≡ None)))
+limit_of : (c : Chain) (s : Source) → members_meta c s ≡ None → e24 c s ≡ None
+unfolding members_meta signatures_meta
+limit_of c s h =
+    let r19 = (neither 18 (e18 c s) _ h).1 in
+    let r20 = (neither 19 (e19 c s) _ r19).1 in
+    let r21 = (neither 20 (e20 c s) _ r20).1 in
+    let r23 = (neither 21 (e21 c s) _ r21).1 in
+    last 24 (e24 c s) ((neither 23 (e23 c s) _ r23).1)
+
+bodies_of : (c : Chain) (s : Source) → changes_meta c s ≡ None → (e16 c s ≡ None) × (e24 c s ≡ None)
+unfolding changes_meta
+bodies_of c s h =
+    let r16 = neither 16 (e16 c s) _ ((neither 15 (e15 c s) _ h).1) in
+    (r16.0, limit_of c s ((neither 17 (e17 c s) _ r16.1).1))
+
+cells_of : (c : Chain) (s : Source) → cells_meta c s ≡ None → (e12 s ≡ None) × ((e13 c s ≡ None) × ((e14 c s ≡ None) × (changes_meta c s ≡ None)))
 unfolding cells_meta
 cells_of c s h =
     let r12 = neither 12 (e12 s) _ h in

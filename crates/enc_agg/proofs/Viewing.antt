@@ -30,8 +30,11 @@ use Rattle.enc_plain.proofs.AttachedTo.{cells_attached}
 use Rattle.enc_delta.specs.Delta.{listed, place_in, of_table}
 use Rattle.enc_delta.specs.Rules.{broken, heaps_after, rows_with, reading_after, is_index, is_offset, cell_fault, row_fault, table_fault, e13, e14, users_after, body_stands, e16_at, e16}
 use Rattle.enc_image.proofs.Listed.{get_below}
-use Rattle.enc_image.proofs.Rows.{HasPlainKind, plain_kind, column_with, text_column, blob_column, guid_column, in_cells, made_from, within_is, coded_is, number_for, column_there}
-use Rattle.enc_agg.specs.Extend.{cell_after, cells_after, changes_of, attached_of, extended}
+use Rattle.enc_plain.proofs.Columns.{HasPlainKind, plain_kind, column_with, text_column, blob_column, guid_column, in_cells, number_for, column_there}
+use Rattle.enc_image.proofs.Rows.{made_from, within_is, coded_is}
+use Rattle.enc_agg.specs.Extend.{changes_of, extended}
+use Rattle.enc_delta.specs.Rows.{cell_after, cells_after}
+use Rattle.enc_delta.specs.Pairs.{attached_of}
 use Rattle.enc_agg.specs.Follows.{Follows}
 use Rattle.enc_agg.proofs.Unbroken.{unbroken}
 use Rattle.enc_agg.proofs.Tokens.{cells_for_there, cells_for_none, PlaceRow, place_row}

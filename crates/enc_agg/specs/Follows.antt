@@ -8,7 +8,7 @@ use Rattle.enc_plain.specs.Module.{Module, Row, rows_in, kids_at}
 use Rattle.enc_plain.specs.Fits.{HasRuns}
 use Rattle.enc_plain.specs.Chain.{Chain}
 use Rattle.enc_delta.specs.Delta.{listed}
-use Rattle.enc_delta.specs.Rules.{first_meta}
+use Rattle.enc_delta.specs.Judged.{first_meta}
 
 -- the chain's module has all tables
 pub record HasTables (c : Chain) : Type 0 where

@@ -3,3 +3,4 @@ pub mod Follows
 pub mod Given
 pub mod Place
 pub mod Seen
+pub mod Laws

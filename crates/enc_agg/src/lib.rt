@@ -3,9 +3,11 @@
 
 mod added;
 mod aggregate;
+mod laws;
 mod log;
 mod place;
 mod view;
 
 pub use aggregate::{Aggregate, Ready};
+pub use laws::judged_rows_law;
 pub use place::{HeapPlace, RowPlace};

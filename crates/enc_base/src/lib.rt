@@ -9,8 +9,8 @@ mod steps;
 mod token;
 
 pub use counts::Counts;
-pub use laws::{compressed_laws, first_below_law};
-pub use number::{read_unsigned, u16_at, u32_at, u64_at};
+pub use laws::{compressed_laws, first_below_law, written_laws};
+pub use number::{push_signed, push_unsigned, read_signed, read_unsigned, u16_at, u32_at, u64_at};
 pub use refusal::{Code, Place, ReadFault, Refusal, StreamName};
 pub use steps::Steps;
 pub use token::Token;

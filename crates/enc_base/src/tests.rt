@@ -1,4 +1,5 @@
 use super::*;
+use std::alloc::{AllocError, Global};
 use std::test::Fail;
 
 #[test]
@@ -23,4 +24,75 @@ fn takes_tokens_apart(rt: HostRuntime) {
     assert_eq!(rt; token.table, 0x23);
     assert_eq!(rt; token.row, 1);
     assert_eq!(rt; token.number(), 0x2300_0001);
+}
+
+/// The spelling of an unsigned number.
+fn unsigned(alloc: Global, value: u32) -> Result<Vec<u8>, AllocError> {
+    let mut out = Vec::new(alloc);
+    if value < 0x2000_0000 {
+        push_unsigned(value, &mut out)?;
+    }
+    Ok(out)
+}
+
+#[test]
+fn writes_unsigned_numbers(rt: HostRuntime) -> Result<(), Fail> {
+    let alloc = rt.alloc();
+    assert_eq!(rt; unsigned(alloc, 0x03)?.as_slice(), [0x03].as_slice());
+    assert_eq!(rt; unsigned(alloc, 0x7f)?.as_slice(), [0x7f].as_slice());
+    assert_eq!(rt; unsigned(alloc, 0x80)?.as_slice(), [0x80, 0x80].as_slice());
+    assert_eq!(rt;
+        unsigned(alloc, 0x2e57)?.as_slice(),
+        [0xae, 0x57].as_slice()
+    );
+    assert_eq!(rt;
+        unsigned(alloc, 0x3fff)?.as_slice(),
+        [0xbf, 0xff].as_slice()
+    );
+    assert_eq!(rt;
+        unsigned(alloc, 0x4000)?.as_slice(),
+        [0xc0, 0, 0x40, 0].as_slice()
+    );
+    assert_eq!(rt;
+        unsigned(alloc, 0x1fff_ffff)?.as_slice(),
+        [0xdf, 0xff, 0xff, 0xff].as_slice()
+    );
+    Ok(())
+}
+
+/// The spelling of a signed number, and the number that stands there.
+fn signed(alloc: Global, value: i32) -> Result<(Vec<u8>, Option<(i32, usize)>), AllocError> {
+    let mut out = Vec::new(alloc);
+    let bits = value.cast_unsigned();
+    if bits < 0x1000_0000 || 0xefff_ffff < bits {
+        push_signed(value, &mut out)?;
+    }
+    let back = read_signed(&out, 0);
+    Ok((out, back))
+}
+
+#[test]
+fn writes_and_reads_signed_numbers(rt: HostRuntime) -> Result<(), Fail> {
+    let alloc = rt.alloc();
+    let examples: [(i32, &[u8]); 10] = [
+        (3, &[0x06]),
+        (-3, &[0x7b]),
+        (-64, &[0x01]),
+        (64, &[0x80, 0x80]),
+        (-65, &[0xbf, 0x7f]),
+        (8191, &[0xbf, 0xfe]),
+        (-8192, &[0x80, 0x01]),
+        (8192, &[0xc0, 0x00, 0x40, 0x00]),
+        (268_435_455, &[0xdf, 0xff, 0xff, 0xfe]),
+        (-268_435_456, &[0xc0, 0x00, 0x00, 0x01]),
+    ];
+    for (value, bytes) in examples {
+        let (out, back) = signed(alloc, value)?;
+        assert_eq!(rt; out.as_slice(), bytes);
+        assert_eq!(rt; back, Some((value, bytes.len())));
+    }
+    assert_eq!(rt; read_signed(&[0x80, 0x7b], 0), Some((-8131, 2)));
+    assert_eq!(rt; read_signed(&[0, 0xc0, 0, 0], 1), None);
+    assert_eq!(rt; read_signed(&[0xe0], 0), None);
+    Ok(())
 }

@@ -12,3 +12,12 @@ pub mod ListsLog
 pub mod ListsChildren
 pub mod Placing
 pub mod Halves
+pub mod Besides
+pub mod Bucketed
+pub mod PairsIn
+pub mod TwinsTold
+pub mod LeastTwin
+pub mod LeastChild
+pub mod MemberKinds
+pub mod OwnRows
+pub mod SignaturesAfter

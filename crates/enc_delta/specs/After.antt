@@ -1,5 +1,7 @@
 -- By what the cells of a delta's rows are judged.
-use Rattle.std.specs.Prelude.{◌≡◌, ℕ, ◌<◌, Bool, List, [], ◌∷◌, true, ◌==◌, slice_index}
+use Rattle.std.specs.Prelude.{◌≡◌, ℕ, ◌<◌, Bool, List, [], ◌∷◌, true, ◌==◌, slice_index, Option, option_and_then, unwrap_or}
+use Rattle.enc_base.specs.Token.{nil}
+use Rattle.enc_plain.specs.Reading.{within}
 use Rattle.enc_base.specs.declared.token.Token.{Token}
 use Rattle.enc_schema.specs.declared.column.Column.{Column}
 use Rattle.enc_plain.specs.Chain.{Chain}
@@ -10,6 +12,8 @@ use Rattle.enc_delta.specs.declared.after.Rule.TheVariants as rule
 use Rattle.enc_delta.specs.Delta.{listed}
 use Rattle.enc_delta.specs.Rules.{inserts, rows_with, is_index, is_offset}
 use Rattle.enc_delta.specs.Totals.{totals_of}
+use Rattle.enc_plain.specs.Rows.{Rows}
+use Rattle.enc_delta.specs.Rows.{rows_after}
 
 -- what is known of a chain and a delta: the lengths before, the inserts by tables, the rows after by tables, and the delta's heaps
 pub record IsAfter (c : Chain) (s : Source) (a : After) : Type 0 where
@@ -27,3 +31,16 @@ speaks rule.Offset = is_offset
 abbrev pub begins_with : ℕ → List Token → Bool
 begins_with table [] = true
 begins_with table (t ∷ ts) = t.table == table
+
+-- a chain, and a delta after it
+pub record Joined : Type 0 where
+  pub chain : Chain
+  pub delta : Source
+
+-- the rows after it
+abbrev pub joined_rows : Joined → Rows
+joined_rows j = rows_after j.chain j.delta
+
+-- a token, where it names a row after; else nil
+abbrev pub row_or_nil : Joined → Option Token → Token
+row_or_nil j o = unwrap_or (option_and_then (within (rows_with j.chain (listed j.delta))) o) nil

@@ -4,3 +4,11 @@ pub mod Seen
 pub mod Totals
 pub mod After
 pub mod Lists
+pub mod Pairs
+pub mod Twins
+pub mod Members
+pub mod TwinLaw
+pub mod Changes
+pub mod Gains
+pub mod Judged
+pub mod Rows

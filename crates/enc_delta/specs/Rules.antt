@@ -4,8 +4,6 @@ use Rattle.std.specs.List.{list_any}
 use Rattle.enc_base.specs.Token.{token_of, number_of, nth_row, is_token}
 use Rattle.enc_base.specs.Order.{or_else, first_below}
 use Rattle.enc_base.specs.declared.token.Token.{Token}
-use Rattle.enc_base.specs.declared.refusal.Refusal.{Refusal}
-use Rattle.enc_base.specs.declared.refusal.Code.TheVariants.{E}
 use Rattle.enc_base.specs.declared.refusal.Place.{Place}
 use Rattle.enc_base.specs.declared.refusal.Place.TheVariants as place
 use Rattle.enc_base.specs.declared.refusal.StreamName.TheVariants as name
@@ -22,7 +20,7 @@ use Rattle.enc_plain.specs.Cell.{Cell, body}
 use Rattle.enc_plain.specs.Module.{cell_of}
 use Rattle.enc_plain.specs.Bodies.{body_loaded, body_is_good}
 use Rattle.enc_delta.specs.declared.entry.Entry.{Entry}
-use Rattle.enc_delta.specs.Delta.{log_in, listed, is_module, of_table}
+use Rattle.enc_delta.specs.Delta.{listed, is_module, of_table}
 
 abbrev pub module_token : Token
 module_token = record { table = 0; row = 1 }
@@ -288,27 +286,3 @@ e17_at c s r = option_and_then (λ (t : Token). broken (raw_in s (nth_row 0x06 r
 
 unfoldable pub e17 : Chain → Source → Option Place
 e17 c s = first_below (e17_at c s) (rows_of s.layout 0x06)
-
-abbrev pub rule : ℕ → Option Place → Option Refusal
-rule n p = option_map (λ (q : Place). record { code = E n; place = q }) p
-
--- E9 of a delta
-unfoldable pub set_meta : Source → Option Place
-set_meta s = set_fault (map number_of (listed s)) (map number_of (changed (log_in s)))
-
--- E16, E17 and E24
-unfoldable pub bodies_meta : Chain → Source → Option Refusal
-bodies_meta c s = or_else (rule 16 (e16 c s)) (or_else (rule 17 (e17 c s)) (rule 24 (e24 c s)))
-
--- E12 to E14, E16, E17 and E24
-unfoldable pub cells_meta : Chain → Source → Option Refusal
-cells_meta c s = or_else (rule 12 (e12 s)) (or_else (rule 13 (e13 c s)) (or_else (rule 14 (e14 c s)) (bodies_meta c s)))
-
--- E6 to E14, E16, E17 and E24
-unfoldable pub lists_meta : Chain → Source → Option Refusal
-lists_meta c s =
-    or_else (rule 6 (late_fault (listed s))) (or_else (rule 7 (e7 s)) (or_else (rule 8 (insert_fault c (listed s))) (or_else (rule 9 (set_meta s)) (or_else (rule 10 (log_fault c (listed s) (log_in s))) (or_else (rule 11 (child_fault c (listed s) (log_in s))) (cells_meta c s))))))
-
--- the first broken rule
-unfoldable pub first_meta : Chain → Source → Option Refusal
-first_meta c s = or_else (rule 1 (e1 c s)) (or_else (rule 2 (e2 c s)) (or_else (rule 3 (e3 c s)) (or_else (rule 4 (e4 c s)) (or_else (rule 5 (e5 c s)) (lists_meta c s)))))

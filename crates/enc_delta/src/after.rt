@@ -88,7 +88,13 @@ pub fn counts_of<C: ChainView>(chain: &C, tokens: &[Token], added: &[usize; 256]
 
 /// Row 0 or a row of the table after the delta.
 #[tactic(auto, unfolding(crate::specs::Rules::rows_with))]
-fn is_within<C: ChainView>(chain: &C, delta: &Delta, after: &After<'_>, table: u8, row: u32) -> bool
+pub fn is_within<C: ChainView>(
+    chain: &C,
+    delta: &Delta,
+    after: &After<'_>,
+    table: u8,
+    row: u32,
+) -> bool
     requires means { C.meaning chain.now ≡ (C.chain chain.now).plain }
     requires after { IsAfter (C.chain chain.now) delta.now after.now }
     ensures { result ≡ nat_le row (rows_with (C.chain chain.now) (listed delta.now) table) }

@@ -3,7 +3,9 @@
 
 mod after;
 mod bodies;
+mod buckets;
 mod cells;
+mod changed;
 mod code;
 mod copy;
 mod delta;
@@ -12,10 +14,17 @@ mod heap_rule;
 mod identity;
 mod joined;
 mod lists;
+mod locals;
+mod members;
 mod open;
+mod pairs;
 mod place;
+mod rows;
 mod rules;
+mod siblings;
+mod signatures;
 mod table_rule;
+mod twins;
 
 pub use after::{inserts_of, is_insert};
 pub use delta::Delta;

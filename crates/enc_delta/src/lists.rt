@@ -15,7 +15,7 @@ use enc_plain::{ChainView, ModuleView};
 use std::alloc::{AllocError, Global};
 
 /// The place of a token by its number.
-fn placed(number: Option<u32>) -> Option<Place>
+pub fn placed(number: Option<u32>) -> Option<Place>
     ensures { result ≡ at_token number }
 {
     match number {
@@ -25,7 +25,7 @@ fn placed(number: Option<u32>) -> Option<Place>
 }
 
 /// The lesser of a number and perhaps another.
-fn lesser(n: u32, other: Option<u32>) -> u32
+pub fn lesser(n: u32, other: Option<u32>) -> u32
     ensures { Some result ≡ lesser n other }
 {
     match other {

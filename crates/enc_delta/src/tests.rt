@@ -1,4 +1,5 @@
 use super::*;
+use crate::pairs::{Pair, pairs_of};
 use enc_base::{Code, Place, ReadFault, Refusal, Token};
 use std::test::Fail;
 
@@ -197,5 +198,61 @@ fn places_in_a_map_that_does_not_rise(rt: HostRuntime) -> Result<(), Fail> {
         }
         Err(_) => panic!(rt; "refused"),
     }
+    Ok(())
+}
+
+const fn entry(table: u8, row: u32, code: u32) -> Entry {
+    Entry {
+        token: Token { table, row },
+        code,
+    }
+}
+
+const fn pair(owner: Entry, child: Entry) -> Pair {
+    Pair {
+        owner: owner.token,
+        child: child.token,
+    }
+}
+
+#[test]
+fn pairs_owners_with_children(rt: HostRuntime) -> Result<(), Fail> {
+    let module = entry(0x00, 1, 0);
+    let added_method = entry(0x02, 3, 1);
+    let method = entry(0x06, 8, 0);
+    let added_param = entry(0x06, 8, 3);
+    let param = entry(0x08, 5, 0);
+    let added_field = entry(0x02, 3, 2);
+    let field = entry(0x04, 2, 0);
+    let log = [
+        module,
+        added_method,
+        method,
+        added_param,
+        // the Module's entry stands between the two
+        module,
+        param,
+        added_field,
+        field,
+        // nothing stands behind it
+        entry(0x02, 4, 2),
+    ];
+    let pairs = pairs_of(rt.alloc(), &log)?;
+    assert_eq!(rt; pairs.len(), 3);
+    assert_eq!(rt; pairs[0], pair(added_method, method));
+    assert_eq!(rt; pairs[1], pair(added_param, param));
+    assert_eq!(rt; pairs[2], pair(added_field, field));
+    Ok(())
+}
+
+#[test]
+fn pairs_by_codes_one_to_five_alone(rt: HostRuntime) -> Result<(), Fail> {
+    let owner = entry(0x15, 1, 4);
+    let child = entry(0x17, 1, 6);
+    let pairs = pairs_of(rt.alloc(), &[entry(0x02, 1, 0), owner, child, child])?;
+    assert_eq!(rt; pairs.len(), 1);
+    assert_eq!(rt; pairs[0], pair(owner, child));
+    assert_eq!(rt; pairs_of(rt.alloc(), &[])?.len(), 0);
+    assert_eq!(rt; pairs_of(rt.alloc(), &[owner])?.len(), 0);
     Ok(())
 }

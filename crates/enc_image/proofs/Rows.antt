@@ -1,27 +1,27 @@
 -- The rows and cells of the module in a source.
-use Rattle.std.proofs.Common.{◌≡◌, ℕ, zero, suc, ◌+◌, ◌-◌, ◌<◌, ◌≤◌, Bool, true, false, List, [], ◌∷◌, length, Option, Some, None, refl, ap, ◌∙◌, inl, inr, arith}
-use Rattle.std.specs.Prelude.{is_some, not, ◌&&◌, option_map, option_and_then, unwrap_or, slice_get, filter, if◌then◌else◌, IsTrue, nat_lt, nat_le, ◌⊎◌, MatchOption, IsSome}
-use Rattle.std.specs.List.{list_all}
+use Rattle.std.proofs.Common.{◌≡◌, ℕ, suc, ◌+◌, ◌-◌, ◌<◌, ◌≤◌, Bool, true, false, [], length, Option, Some, None, refl, ap, ◌∙◌, inl, inr, arith}
+use Rattle.std.specs.Prelude.{is_some, ◌&&◌, option_map, option_and_then, unwrap_or, if◌then◌else◌, IsTrue, nat_lt, nat_le, ◌⊎◌, MatchOption}
 use Rattle.std.proofs.lemmas.Bool.{cases_lt}
 use Rattle.std.proofs.lemmas.Bool.Decides.{nat_tests}
 use Rattle.enc_base.specs.Token.{nth_row}
 use Rattle.enc_base.specs.declared.token.Token.{Token}
 use Rattle.enc_schema.specs.declared.column.Column.{Column}
-use Rattle.enc_schema.specs.Schema.{list_at, schema, columns_in, column_in}
+use Rattle.enc_schema.specs.Schema.{columns_in, column_in}
 use Rattle.enc_rows.specs.Layout.{Layout, rows_of}
 use Rattle.enc_rows.specs.Layout as rows
 use Rattle.enc_schema.specs.declared.column.Coding.{Coding}
 use Rattle.enc_schema.specs.Coding.{decoded}
-use Rattle.enc_plain.specs.Cell.{Cell, Kind, number, text, blob, guid, refer, body, field, numbers, texts, blobs, guids, references, bodies, fields, kind_of, is_body, is_field, kind_in, cell_count}
+use Rattle.enc_plain.specs.Cell.{Cell, Kind, number, text, blob, guid, refer, body, field, numbers, texts, blobs, guids, references, kind_of, is_body, is_field, kind_in, cell_count}
 use Rattle.enc_plain.specs.Module.{rows_in, row_at, row_of, has_row, cell_of}
 use Rattle.enc_meta.specs.Heaps.{text_at, blob_at, guid_at}
-use Rattle.enc_schema.specs.declared.column.Column.TheVariants.{Num8, Num16, Num32, Text, Guid, Blob, Index, Coded, Run}
+use Rattle.enc_schema.specs.declared.column.Column.TheVariants.{Num32, Text, Guid, Blob, Index, Coded}
 use Rattle.enc_image.proofs.Good.{good_offset, good_index, index_there, coded_there, no_index_fault, no_offset_fault}
 use Rattle.enc_rows.specs.Fault.{is_past, is_bad_index, index_fault}
 use Rattle.enc_image.specs.Base.{users_of, field_bytes, reading_of, cell_for, is_offset, offset_fault, rows_from, cells_fault, cell_in, is_part, row_in, table_rows, module_in}
 use Rattle.enc_rows.specs.Source.{Source, raw_in}
 use Rattle.enc_plain.specs.Bodies.{body_loaded}
-use Rattle.enc_plain.specs.Reading.{Reading, within, index_token, cell_read, cell_with}
+use Rattle.enc_plain.specs.Reading.{within, index_token, cell_read, cell_with}
+use Rattle.enc_plain.proofs.Columns.{HasPlainKind, plain_kind, column_with, text_column, blob_column, guid_column, in_cells, number_for}
 use Rattle.enc_image.proofs.Listed.{get_below, get_past, length_below}
 
 -- the rows of a table below 2D
@@ -82,80 +82,6 @@ cell_at s table r i cell there part row column is =
     let e : r + 1 ≡ suc r = omega arith in
     rw (rows_there s table there, part, e, get_below (row_in s table) (rows_of s.layout table) r row, get_below (λ (k : ℕ). unwrap_or (cell_in s (nth_row table r) k) (number 0)) (cell_count table) i column, is) refl
 
--- behind a run stand runs alone
-runs_last : List Column → Bool
-runs_last [] = true
-runs_last (c ∷ cs) = if is_some (kind_of c) then runs_last cs else list_all (λ (d : Column). not (is_some (kind_of d))) cs
-
-all_last : list_all runs_last schema ≡ true
-unfolding runs_last
-all_last = refl
-
-both_left : (a b : Bool) → (a && b) ≡ true → a ≡ true
-both_left true b h = refl
-both_left false b h = h
-
-both_right : (a b : Bool) → (a && b) ≡ true → b ≡ true
-both_right true b h = h
-both_right false b h = absurd cc
-
-not_both : (a : Bool) → not a ≡ true → a ≡ true → ⊥
-not_both true h k = absurd cc
-not_both false h k = absurd cc
-
-each : {A : Type 0} (p : List A → Bool) (xs : List (List A)) (i : ℕ) → list_all p xs ≡ true → p [] ≡ true → p (list_at xs i) ≡ true
-each p [] i h e = e
-each p (x ∷ xs) zero h e = both_left (p x) (list_all p xs) h
-each p (x ∷ xs) (suc i) h e = each p xs i (both_right (p x) (list_all p xs) h) e
-
-none_last : (cs : List Column) (i : ℕ) (c : Column) → list_all (λ (d : Column). not (is_some (kind_of d))) cs ≡ true → slice_get cs i ≡ Some c → is_some (kind_of c) ≡ true → ⊥
-none_last [] i c h e k = absurd cc
-none_last (x ∷ xs) zero c h e k =
-    let is : x ≡ c = cc in
-    let n : not (is_some (kind_of x)) ≡ true = both_left _ _ h in
-    not_both _ (rw is at n) k
-none_last (x ∷ xs) (suc i) c h e k = none_last xs i c (both_right _ _ h) e k
-
-counted : (cs : List Column) (i : ℕ) (c : Column) → runs_last cs ≡ true → slice_get cs i ≡ Some c → is_some (kind_of c) ≡ true → i < length (filter (λ (d : Column). is_some (kind_of d)) cs)
-unfolding runs_last
-counted [] i c h e k = absurd cc
-counted (x ∷ xs) zero c h e k =
-    let is : x ≡ c = cc in
-    rw (is, k) (omega arith)
-counted (x ∷ xs) (suc i) c h e k =
-    elim (part_cases (is_some (kind_of x))) [
-      | inl cell ↦ rw cell (omega (arith, counted xs i c (rw cell at h) e k))
-      | inr run ↦ absurd (none_last xs i c (rw run at h) e k)
-    ]
-
--- a column with a kind is one of those with cells
-pub in_cells : (table i : ℕ) (c : Column) → column_in table i ≡ Some c → is_some (kind_of c) ≡ true → i < cell_count table
-unfolding columns_in runs_last
-in_cells table i c e k = counted (list_at schema table) i c (each runs_last schema table all_last refl) e k
-
--- the kinds of the columns whose numbers are no places of bytes
-abbrev is_plain : Kind → Bool
-is_plain bodies = false
-is_plain fields = false
-is_plain k = true
-
--- a column whose number is the place of a body or of a field's bytes has no other kind
-pub record HasPlainKind (table i : ℕ) (k : Kind) : Type 0 where
-  pub body : is_body table i ≡ false
-  pub field : is_field table i ≡ false
-  pub kind : option_and_then kind_of (column_in table i) ≡ Some k
-
-plain_from : (b f : Bool) (o : Option Kind) (k : Kind) → is_plain k ≡ true → (if b then Some bodies else if f then Some fields else o) ≡ Some k → (b ≡ false) × (f ≡ false) × (o ≡ Some k)
-plain_from true f o k plain h = let e : bodies ≡ k = cc in let n = rw (← e) at plain in absurd cc
-plain_from false true o k plain h = let e : fields ≡ k = cc in let n = rw (← e) at plain in absurd cc
-plain_from false false o k plain h = (refl, refl, h)
-
--- such a kind is that of its column
-pub plain_kind : (table i : ℕ) (k : Kind) → is_plain k ≡ true → kind_in table i ≡ Some k → HasPlainKind table i k
-plain_kind table i k plain h =
-    let p = plain_from (is_body table i) (is_field table i) (option_and_then kind_of (column_in table i)) k plain h in
-    record { body = p.0; field = p.1; kind = p.2 }
-
 -- a cell of the module, where its number stands for one
 pub held : (s : Source) (token : Token) (i : ℕ) (c : Column) (cell : Cell) → IsTrue (has_row (module_in s) token) → column_in token.table i ≡ Some c → is_some (kind_of c) ≡ true → is_body token.table i ≡ false → is_field token.table i ≡ false → cell_for s c (raw_in s token i) ≡ Some cell → cell_of (module_in s) token i ≡ Some cell
 unfolding cell_in cell_with
@@ -197,45 +123,6 @@ pub unfaulted : (s : Source) (token : Token) (i : ℕ) (c : Column) → index_fa
 unfaulted s token i c none there column =
     let row = row_stands s token there in
     good_index s token.table (token.row - 1) i c none row.table (omega (arith, row.low, row.high)) column
-
--- the column of a cell of this kind
-pub column_with : (o : Option Column) (k : Kind) → option_and_then kind_of o ≡ Some k → (c : Column) × (o ≡ Some c) × (kind_of c ≡ Some k)
-column_with (Some c) k h = (c, refl, h)
-column_with None k h = absurd cc
-
--- the one column with texts, the one with blobs, and the one with GUIDs
-pub text_column : (c : Column) → kind_of c ≡ Some texts → c ≡ Text
-text_column Text h = refl
-text_column Num8 h = absurd cc
-text_column Num16 h = absurd cc
-text_column Num32 h = absurd cc
-text_column Guid h = absurd cc
-text_column Blob h = absurd cc
-text_column (Index t) h = absurd cc
-text_column (Coded k) h = absurd cc
-text_column (Run t) h = absurd cc
-
-pub blob_column : (c : Column) → kind_of c ≡ Some blobs → c ≡ Blob
-blob_column Blob h = refl
-blob_column Text h = absurd cc
-blob_column Num8 h = absurd cc
-blob_column Num16 h = absurd cc
-blob_column Num32 h = absurd cc
-blob_column Guid h = absurd cc
-blob_column (Index t) h = absurd cc
-blob_column (Coded k) h = absurd cc
-blob_column (Run t) h = absurd cc
-
-pub guid_column : (c : Column) → kind_of c ≡ Some guids → c ≡ Guid
-guid_column Guid h = refl
-guid_column Text h = absurd cc
-guid_column Num8 h = absurd cc
-guid_column Num16 h = absurd cc
-guid_column Num32 h = absurd cc
-guid_column Blob h = absurd cc
-guid_column (Index t) h = absurd cc
-guid_column (Coded k) h = absurd cc
-guid_column (Run t) h = absurd cc
 
 -- where a cell is there and is made from an optional value, so is the value
 pub made_from : {A : Type 0} (o : Option Cell) (f : A → Cell) (x : Option A) (P : Cell → Type 0) → is_some o ≡ true → o ≡ option_map f x → ((cell : Cell) → o ≡ Some cell → P cell) → MatchOption x ⊥ (λ a. P (f a))
@@ -299,40 +186,11 @@ coded_cell s token i n kind sound there kinds column is =
     let fits : is_past s.layout (decoded kind (raw_in s token i)) ≡ false = rw (token_is token row.low) at (unfaulted s token i (Coded kind) (no_index_fault s sound) there column) in
     coded_is (rows_of s.layout) (decoded kind n) (λ t. cell_of (module_in s) token i ≡ Some (refer t)) (made s token i (Coded kind) references refer (option_and_then (within (rows_of s.layout)) (decoded kind n)) there column refl (plain_kind _ _ references refl kinds) (coded_there s kind (raw_in s token i) fits) (rw is refl))
 
--- a number stands for itself
-pub number_for : (r : Reading) (c : Column) (n : ℕ) → kind_of c ≡ Some numbers → cell_read r c n ≡ Some (number n)
-unfolding cell_read
-number_for r Num8 n e = refl
-number_for r Num16 n e = refl
-number_for r Num32 n e = refl
-number_for r Text n e = absurd cc
-number_for r Guid n e = absurd cc
-number_for r Blob n e = absurd cc
-number_for r (Index t) n e = absurd cc
-number_for r (Coded k) n e = absurd cc
-number_for r (Run t) n e = absurd cc
-
 pub number_cell : (s : Source) (token : Token) (i n : ℕ) → IsTrue (has_row (module_in s) token) → kind_in token.table i ≡ Some numbers → raw_in s token i ≡ n → cell_of (module_in s) token i ≡ Some (number n)
 number_cell s token i n there kind is =
     let plain = plain_kind _ _ numbers refl kind in
     let w = column_with _ _ plain.kind in
     held s token i w.0 (number n) there w.1 (ap is_some w.2) plain.body plain.field (rw is (number_for (reading_of s) w.0 n w.2))
-
-there_from : (table i : ℕ) (k : Kind) (b f : Bool) → is_body table i ≡ b → is_field table i ≡ f → (if b then Some bodies else if f then Some fields else option_and_then kind_of (column_in table i)) ≡ Some k → IsSome (column_in table i)
-unfolding columns_in
-there_from table i k true f b1 f1 h =
-    let t : table ≡ 0x06 = grind (arith, nat_tests) in
-    let z : i ≡ 0 = grind (arith, nat_tests) in
-    rw (t, z) refl
-there_from table i k false true b1 f1 h =
-    let t : table ≡ 0x1D = grind (arith, nat_tests) in
-    let z : i ≡ 0 = grind (arith, nat_tests) in
-    rw (t, z) refl
-there_from table i k false false b1 f1 h = let w = column_with _ _ h in rw w.1 refl
-
--- a column with a kind is there
-pub column_there : (table i : ℕ) (k : Kind) → kind_in table i ≡ Some k → IsSome (column_in table i)
-column_there table i k kind = there_from table i k (is_body table i) (is_field table i) refl refl kind
 
 -- the row of the module that a token names
 pub row_there : (s : Source) (token : Token) → IsTrue (has_row (module_in s) token) → row_of (module_in s) token ≡ Some (row_in s token.table (token.row - 1))

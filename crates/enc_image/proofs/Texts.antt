@@ -1,22 +1,18 @@
 -- The user texts that bodies name are there.
-use Rattle.std.proofs.Common.{◌≡◌, ℕ, zero, suc, ◌+◌, ◌-◌, ◌<◌, ◌≤◌, Bool, true, false, List, [], ◌∷◌, ◌++◌, map, length, Option, Some, None, refl, sym, ap, ◌∙◌, arith}
-use Rattle.std.specs.Prelude.{◌&&◌, ◌==◌, ◌%◌, nat_lt, option_map, if◌then◌else◌, IsTrue}
-use Rattle.std.proofs.lemmas.List.{map-append}
+use Rattle.std.proofs.Common.{◌≡◌, ℕ, zero, suc, ◌-◌, ◌≤◌, Bool, true, false, List, Option, Some, None, refl, sym, ap, ◌∙◌, arith}
+use Rattle.std.specs.Prelude.{◌&&◌, ◌==◌, ◌%◌, if◌then◌else◌, IsTrue}
 use Rattle.enc_base.specs.Token.{nth_row}
 use Rattle.enc_base.specs.declared.token.Token.{Token}
-use Rattle.enc_base.specs.declared.refusal.Refusal.{Refusal}
 use Rattle.enc_base.specs.declared.refusal.Place.{Place}
 use Rattle.enc_base.specs.Order.{or_else}
 use Rattle.enc_base.proofs.First.{silent}
-use Rattle.enc_meta.specs.Heaps.{Counted, user_entry}
-use Rattle.enc_meta.specs.Joined.{entry_in, joined_entry, joined_user}
 use Rattle.enc_meta.specs.Regions.{Region}
 use Rattle.enc_opcodes.specs.Body.{Code, is_good, texts_are_there}
 use Rattle.enc_rows.specs.Layout.{rows_of}
 use Rattle.enc_rows.specs.Source.{Source, raw_in}
-use Rattle.enc_plain.specs.Bodies.{code_loaded, code_is_good, body_is_good}
+use Rattle.enc_plain.specs.Bodies.{code_loaded, body_is_good}
 use Rattle.enc_plain.specs.Module.{has_row}
-use Rattle.enc_image.specs.Base.{users_of, has_locals, body_fault_at, body_fault, rule, cells_fault, module_in}
+use Rattle.enc_image.specs.Base.{signature_fault, rule, users_of, has_locals, body_fault_at, body_fault, rule, cells_fault, module_in}
 use Rattle.enc_image.proofs.Rows.{row_stands, token_is}
 
 right : (a b : Bool) → (a && b) ≡ true → b ≡ true
@@ -48,7 +44,10 @@ no_place n (Some x) h = absurd cc
 
 no_body_fault : (s : Source) → cells_fault s ≡ None → body_fault s ≡ None
 unfolding cells_fault
-no_body_fault s h = no_place 10 _ (neither _ _ (neither _ _ (neither _ _ h).1).1).0
+no_body_fault s h =
+    let signatures = (neither _ _ (neither _ _ h).1).1 in
+    let bodies = (neither (rule 11 (signature_fault s)) _ signatures).1 in
+    no_place 10 _ (neither (rule 10 (body_fault s)) _ bodies).0
 
 if_some : {A : Type 0} (b : Bool) (x : A) → (if b then None else Some x) ≡ None → b ≡ true
 if_some true x h = refl

@@ -25,6 +25,7 @@ use Rattle.enc_plain.specs.Cell.{Cell, number, cell_count}
 use Rattle.enc_plain.specs.Reading.{Reading, cell_read, cell_with}
 use Rattle.enc_plain.specs.Module.{Module, Row}
 use Rattle.enc_plain.specs.Chain.{Chain}
+use Rattle.enc_plain.specs.Signatures.{signature_column, is_signature}
 use Rattle.enc_plain.specs.Bodies.{code_loaded, body_loaded, body_is_good}
 use Rattle.enc_opcodes.specs.Body.{Code, begins_locals}
 use Rattle.enc_pe.specs.declared.container.Container.{Container}
@@ -118,6 +119,16 @@ offset_fault_in s table = first_below (offset_fault_in_row s table) (rows_of s.l
 unfoldable pub offset_fault : Source → Option Place
 offset_fault s = first_below (offset_fault_in s) 0x2D
 
+-- F11: the first signature that isn't one of its kind, by the file's own rows (II.23.2)
+unfoldable pub signature_fault_at : Source → ℕ → ℕ → ℕ → Option Place
+signature_fault_at s table i r = if is_signature (rows_of s.layout) table (blob_or_none s (raw_in s (nth_row table r) i)) then None else Some (place.Cell (nth_row table r) i)
+
+unfoldable pub signature_fault_in : Source → ℕ → Option Place
+signature_fault_in s table = option_and_then (λ i. first_below (signature_fault_at s table i) (rows_of s.layout table)) (signature_column table)
+
+unfoldable pub signature_fault : Source → Option Place
+signature_fault s = first_below (signature_fault_in s) 0x2D
+
 -- a body's local signature is nil or is one of locals (II.23.2.6)
 abbrev pub has_locals : Source → Option Code → Bool
 has_locals s None = true
@@ -144,9 +155,9 @@ rows_from s = record { stream = s.stream; layout = s.layout }
 abbrev pub rule : ℕ → Option Place → Option Refusal
 rule n p = option_map (λ (q : Place). record { code = F n; place = q }) p
 
--- F7, F8, F10, and then F5 of fields
+-- F7, F8, F11, F10, and then F5 of fields
 unfoldable pub cells_fault : Source → Option Refusal
-cells_fault s = or_else (rule 7 (index_fault (rows_from s))) (or_else (rule 8 (offset_fault s)) (or_else (rule 10 (body_fault s)) (rule 5 (field_fault s))))
+cells_fault s = or_else (rule 7 (index_fault (rows_from s))) (or_else (rule 8 (offset_fault s)) (or_else (rule 11 (signature_fault s)) (or_else (rule 10 (body_fault s)) (rule 5 (field_fault s)))))
 
 -- the tables that are no part of a module: the Ptr tables, EncLog and EncMap
 abbrev pub is_part : ℕ → Bool

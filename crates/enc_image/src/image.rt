@@ -36,7 +36,7 @@ impl Model for Image {
 }
 
 impl Image {
-    /// Reads a module. Refused is the first of F3, F4, F5, F9, F1, F2, F6, F7, F8 and F10, and then
+    /// Reads a module. Refused is the first of F3, F4, F5, F9, F1, F2, F6, F7, F8, F11 and F10, and then
     /// F5 of a field's bytes.
     #[tactic(auto, unfolding(crate::specs::Base::base_of))]
     pub fn read(alloc: Global, bytes: Vec<u8>) -> Result<Image, ReadFault>

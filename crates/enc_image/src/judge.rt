@@ -1,4 +1,4 @@
-//! Judging the cells of a module: the first index, offset or body that isn't good.
+//! Judging the cells of a module: the first index, offset, signature or body that isn't good.
 ghost use Rattle.std.specs.Prelude.{◌≡◌, ℕ, ◌<◌, ◌^◌, IfOk, IsTrue, None, Some, length, is_some, not, ◌&&◌};
 ghost use Rattle.enc_base.specs.Order.{first_below};
 ghost use Rattle.enc_base.specs.Token.{nth_row};
@@ -10,6 +10,7 @@ ghost use Rattle.enc_image.specs.Seen.{source_seen};
 
 use crate::bodies::body_fault;
 use crate::fields::field_fault;
+use crate::signatures::signature_fault;
 use enc_base::{Code, Place, Refusal, Token};
 use enc_meta::Heaps;
 use enc_pe::Container;
@@ -113,7 +114,8 @@ fn broken(n: u8, place: Place) -> Refusal
     }
 }
 
-/// What is wrong with the cells: F7 of indices, F8 of offsets, F10 of bodies, and then F5 of fields.
+/// What is wrong with the cells: F7 of indices, F8 of offsets, F11 of signatures, F10 of bodies, and
+/// then F5 of fields.
 #[tactic(auto, unfolding(crate::specs::Base::cells_fault))]
 pub fn cells_fault(alloc: Global, cells: &Cells<'_>) -> Result<Option<Refusal>, AllocError>
     requires { IsWithin (part cells.now.bytes.now cells.now.tables.now.span) cells.now.tables.now }
@@ -127,6 +129,11 @@ pub fn cells_fault(alloc: Global, cells: &Cells<'_>) -> Result<Option<Refusal>, 
     match offset_fault(cells) {
         Some(place) => return Ok(Some(broken(8, place))),
         None => {}
+    }
+    match signature_fault(alloc, cells) {
+        Err(error) => return Err(error),
+        Ok(Some(place)) => return Ok(Some(broken(11, place))),
+        Ok(None) => {}
     }
     match body_fault(alloc, cells) {
         Err(error) => return Err(error),

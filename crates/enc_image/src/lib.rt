@@ -9,6 +9,7 @@ mod fields;
 mod image;
 mod judge;
 mod open;
+mod signatures;
 mod view;
 
 pub use image::Image;

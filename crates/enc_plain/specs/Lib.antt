@@ -8,3 +8,7 @@ pub mod Fits
 pub mod Plain
 pub mod Meant
 pub mod Begun
+pub mod Rows
+pub mod Signatures
+pub mod Alike
+pub mod AlikeLaws

@@ -1,12 +1,20 @@
 //! The plain module and the chain, and the traits of whatever means them.
 #![tactic(auto)]
 
+mod cells;
 mod chain;
+mod laws;
+mod likeness;
 mod plain;
+mod signature;
 mod view;
 
+pub use cells::{CellView, Viewed};
 pub use chain::ChainView;
+pub use laws::likeness_laws;
+pub use likeness::{alike, signatures_alike, tokens_alike};
 pub use plain::{PlainCell, PlainModule};
+pub use signature::{is_signature, kind_in_table, signature_column};
 pub use view::{ModuleView, index_token, is_row};
 
 #[cfg(test)]

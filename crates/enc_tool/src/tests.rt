@@ -8,14 +8,22 @@ use std::test::Fail;
 
 mod base;
 mod bodies;
+mod check;
 mod delta;
+mod depth;
 mod faults;
 mod generations;
 mod image_rules;
 mod images;
+mod later;
+mod likeness;
+mod members;
 mod memory;
 mod owners;
 mod rules;
+mod siblings;
+mod signatures;
+mod updates;
 mod worked;
 
 /// A bare module of 200 bytes: a row each of Module, TypeRef and AssemblyRef.

@@ -8,7 +8,8 @@ use Rattle.enc_rows.specs.Source.{Source}
 use Rattle.enc_delta.specs.Delta.{delta_of}
 use Rattle.enc_agg.specs.Extend.{chain_with}
 use Rattle.enc_agg.specs.Seen.{History, chain_of_all}
-use Rattle.enc_top.specs.Verdict.{Verdict, ◌>>=◌, DeltaFiles, size_of, load_delta, load_deltas, in_file, judged, judge_deltas}
+use Rattle.enc_top.specs.Verdict.{Verdict, ◌>>=◌, DeltaFiles, size_of, load_delta, load_deltas, in_file, judge_deltas}
+use Rattle.enc_checker.specs.Check.{judged}
 use Rattle.enc_top.specs.declared.load.DeltaFile.{DeltaFile}
 use Rattle.enc_top.specs.Loads.{file_seen, Adds}
 use Rattle.enc_top.specs.Plans.{StopsWith}

@@ -1,8 +1,9 @@
 -- A command of the program as the job that it is.
 use Rattle.enc_top.specs.declared.command.Command.{Command}
-use Rattle.enc_top.specs.declared.command.Command.TheVariants.{Show, List}
-use Rattle.enc_top.specs.Words.{Job, show, list, texts}
+use Rattle.enc_top.specs.declared.command.Command.TheVariants.{Show, List, Check}
+use Rattle.enc_top.specs.Words.{Job, show, list, check, texts}
 
 abbrev pub job_seen : Command → Job
 job_seen (Show base token deltas) = show base.now token (texts deltas.now)
 job_seen (List base deltas) = list base.now (texts deltas.now)
+job_seen (Check base deltas) = check base.now (texts deltas.now)

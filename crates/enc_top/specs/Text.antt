@@ -96,6 +96,10 @@ missing_line name = codes "missing " ++ name ++ 0x0a ∷ []
 unfoldable pub absent_line : Token → List ℕ
 absent_line token = codes "absent " ++ token_text token ++ 0x0a ∷ []
 
+-- the line of so many deltas that are accepted
+unfoldable pub accepted_line : ℕ → List ℕ
+accepted_line count = codes "accepted " ++ decimal count ++ 0x0a ∷ []
+
 -- the line of words that are no command
 unfoldable pub usage_line : List ℕ
 usage_line = codes "usage: enc show list check apply write run gen" ++ 0x0a ∷ []

@@ -6,10 +6,9 @@ use Rattle.enc_base.specs.declared.token.Token.{Token}
 use Rattle.enc_base.specs.declared.refusal.Refusal.{Refusal}
 use Rattle.enc_rows.specs.Source.{Source}
 use Rattle.enc_plain.specs.Module.{Module, has_row}
-use Rattle.enc_plain.specs.Chain.{Chain}
 use Rattle.enc_image.specs.Base.{base_of}
 use Rattle.enc_delta.specs.Delta.{delta_of}
-use Rattle.enc_delta.specs.Rules.{first_meta}
+use Rattle.enc_checker.specs.Check.{judged}
 use Rattle.enc_agg.specs.declared.place.RowPlace.{RowPlace}
 use Rattle.enc_agg.specs.Extend.{chain_with}
 use Rattle.enc_agg.specs.Place.{place_of}
@@ -17,8 +16,8 @@ use Rattle.enc_top.specs.declared.limits.Limit.{Limit}
 use Rattle.enc_top.specs.declared.limits.Limit.TheVariants as limit
 use Rattle.enc_top.specs.declared.plan.Outcome.{Outcome}
 use Rattle.enc_top.specs.declared.plan.Outcome.TheVariants.{Done, Refused, Usage, Missing}
-use Rattle.enc_top.specs.Words.{Job, show, list, job_of}
-use Rattle.enc_top.specs.Text.{refused_line, limit_line, missing_line, absent_line, usage_line}
+use Rattle.enc_top.specs.Words.{Job, show, list, check, job_of}
+use Rattle.enc_top.specs.Text.{refused_line, limit_line, missing_line, absent_line, accepted_line, usage_line}
 use Rattle.enc_top.specs.RowText.{row_text_of}
 use Rattle.enc_top.specs.Listing.{listing_of}
 
@@ -93,15 +92,6 @@ abbrev pub in_file : {A : Type 0} → List ℕ → Result A Refusal → Result A
 in_file name (Ok a) = Ok a
 in_file name (Err e) = Err (refused_file name e)
 
-abbrev pub unless : {A : Type 0} → Option Refusal → A → Result A Refusal
-unless None a = Ok a
-unless (Some e) a = Err e
-
--- a delta that breaks no rule after the chain
-abbrev pub judged : Chain → Result Source Refusal → Result Source Refusal
-judged c (Ok d) = unless (first_meta c d) d
-judged c (Err e) = Err e
-
 -- the deltas judged in order, each after those before it, which stand the newest first
 unfoldable pub judge_deltas : Source → List Source → List DeltaFiles → Result (List Source) Verdict
 judge_deltas base deltas [] = Ok deltas
@@ -142,9 +132,14 @@ shown token f = row_or_absent (chain_with f.base f.deltas).plain (place_of f.del
 unfoldable pub listed_as : Followed → List ℕ
 listed_as f = listing_of f.base f.deltas
 
+-- how many deltas are accepted: all
+unfoldable pub counted_as : Followed → List ℕ
+counted_as f = accepted_line (length f.deltas)
+
 abbrev pub verdict_on : Files → Option Job → Verdict
 verdict_on files (Some (show base token deltas)) = answer (accept files base deltas) (shown token)
 verdict_on files (Some (list base deltas)) = answer (accept files base deltas) listed_as
+verdict_on files (Some (check base deltas)) = answer (accept files base deltas) counted_as
 verdict_on files None = no_command
 
 -- what the words come to over these files

@@ -8,10 +8,11 @@ use Rattle.hex.specs.declared.error.FromHexError.{FromHexError}
 use Rattle.enc_base.specs.Token.{token_of}
 use Rattle.enc_base.specs.declared.token.Token.{Token}
 
--- what a command asks for: a row of a base with deltas, or their listing
+-- what a command asks for: a row of a base with deltas, their listing, or whether all are accepted
 pub data Job : Type 0 where
   show : List ℕ → Token → List (List ℕ) → Job
   list : List ℕ → List (List ℕ) → Job
+  check : List ℕ → List (List ℕ) → Job
 
 -- an ASCII letter, a digit, or one of _ - . /
 abbrev pub is_name_byte : ℕ → Bool
@@ -43,9 +44,14 @@ abbrev pub list_of : List (List ℕ) → Option Job
 list_of (base ∷ deltas) = if are_names base deltas then Some (list base deltas) else None
 list_of [] = None
 
+-- `check BASE DELTA..`
+abbrev pub check_of : List (List ℕ) → Option Job
+check_of (base ∷ deltas) = if are_names base deltas then Some (check base deltas) else None
+check_of [] = None
+
 -- the row of the command table that the words are
 abbrev pub job_of : List (List ℕ) → Option Job
-job_of (name ∷ words) = if bytes_eq name (codes "show") then show_of words else if bytes_eq name (codes "list") then list_of words else None
+job_of (name ∷ words) = if bytes_eq name (codes "show") then show_of words else if bytes_eq name (codes "list") then list_of words else if bytes_eq name (codes "check") then check_of words else None
 job_of [] = None
 
 -- the words as lists of bytes

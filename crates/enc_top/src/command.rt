@@ -1,7 +1,7 @@
 //! The words of a command.
 ghost use Rattle.std.specs.Prelude.{◌≡◌, option_map, map};
 ghost use Rattle.std.specs.List.{list_all};
-ghost use Rattle.enc_top.specs.Words.{is_name_byte, is_name, are_names, token_in, show_of, list_of, job_of, texts};
+ghost use Rattle.enc_top.specs.Words.{is_name_byte, is_name, are_names, token_in, show_of, list_of, check_of, job_of, texts};
 ghost use Rattle.enc_top.specs.Commands.{job_seen};
 
 use enc_base::Token;
@@ -17,6 +17,11 @@ pub enum Command<'a> {
     },
     /// Lists a base and its deltas.
     List {
+        base: &'a str,
+        deltas: &'a [String],
+    },
+    /// Tells whether a base and its deltas are accepted.
+    Check {
         base: &'a str,
         deltas: &'a [String],
     },
@@ -109,6 +114,22 @@ fn list_of(words: &[String]) -> Option<Command<'_>>
     })
 }
 
+/// The words of `check`.
+fn check_of(words: &[String]) -> Option<Command<'_>>
+    ensures { option_map job_seen result ≡ check_of (texts words.now) }
+{
+    let [base, deltas @ ..] = words else {
+        return None;
+    };
+    if !are_names(base.as_str(), deltas) {
+        return None;
+    }
+    Some(Command::Check {
+        base: base.as_str(),
+        deltas,
+    })
+}
+
 /// The row of the command table that the words are.
 pub fn command_of(words: &[String]) -> Option<Command<'_>>
     ensures { option_map job_seen result ≡ job_of (texts words.now) }
@@ -119,6 +140,7 @@ pub fn command_of(words: &[String]) -> Option<Command<'_>>
     match name.as_str() {
         "show" => show_of(words),
         "list" => list_of(words),
+        "check" => check_of(words),
         _ => None,
     }
 }

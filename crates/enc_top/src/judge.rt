@@ -1,9 +1,11 @@
 //! Judging a base and its deltas, each after those before it.
-ghost use Rattle.std.specs.Prelude.{◌≡◌, ◌∷◌, [], ℕ, List, map, Ok, IfOk, string_bytes};
+ghost use Rattle.std.specs.Prelude.{◌≡◌, ◌∷◌, [], ℕ, List, map, None, Ok, IfOk, string_bytes};
+ghost use Rattle.enc_delta.specs.Judged.{first_meta};
 ghost use Rattle.enc_image.specs.Base.{base_of};
 ghost use Rattle.enc_delta.specs.Delta.{delta_of};
 ghost use Rattle.enc_agg.specs.Seen.{chain_of_all};
-ghost use Rattle.enc_top.specs.Verdict.{in_file, judged, judge_deltas as deltas_judged, judge_all as all_judged};
+ghost use Rattle.enc_checker.specs.Check.{judged};
+ghost use Rattle.enc_top.specs.Verdict.{in_file, judge_deltas as deltas_judged, judge_all as all_judged};
 ghost use Rattle.enc_top.specs.Plans.{Comes, StopsQuietly};
 ghost use Rattle.enc_top.specs.Loads.{file_seen, followed, Adds};
 
@@ -12,33 +14,23 @@ use crate::plan::Plan;
 use crate::plans::refused;
 use enc_agg::Aggregate;
 use enc_base::ReadFault;
+use enc_checker::{Checked, Files, check};
 use enc_delta::Delta;
 use enc_image::Image;
 use std::alloc::{AllocError, Global};
 
-/// A delta that was read, judged and added, or the plan of its refusal.
-fn add(
-    alloc: Global,
-    agg: &mut Aggregate,
-    name: &str,
-    delta: Delta,
-) -> Result<Result<(), Plan>, AllocError>
+/// Adds a delta that breaks no rule.
+fn add(agg: &mut Aggregate, delta: Delta) -> Result<(), AllocError>
+    requires { first_meta (chain_of_all agg.old) delta ≡ None }
     ensures base { agg.new.base ≡ agg.old.base }
-    ensures step { IfOk result (λ r. Adds agg.old agg.new r (in_file name.now (judged (chain_of_all agg.old) (Ok delta)))) }
-    ensures quiet { IfOk result StopsQuietly }
+    ensures added { IfOk result (λ u. agg.new.deltas ≡ delta ∷ agg.old.deltas) }
 {
-    let before = agg.totals();
-    match delta.first_broken(alloc, agg, &before) {
-        Err(error) => return Err(error),
-        Ok(Some(refusal)) => return Ok(Err(refused(alloc, name, refusal)?)),
-        Ok(None) => {}
-    }
     let ready = match agg.prepare(delta) {
         Err(error) => return Err(error),
         Ok(ready) => ready,
     };
     agg.commit(ready);
-    Ok(Ok(()))
+    Ok(())
 }
 
 /// The files of a delta judged after the deltas before it, and added; or the plan of its refusal.
@@ -56,8 +48,15 @@ fn judge_delta(
         metadata,
         code,
     } = file;
-    match Delta::read(metadata, code) {
-        Ok(delta) => add(alloc, agg, name.as_str(), delta),
+    let files = Files {
+        meta: metadata,
+        il: code,
+    };
+    match check(alloc, agg, files) {
+        Ok(Checked { delta }) => match add(agg, delta) {
+            Ok(()) => Ok(Ok(())),
+            Err(error) => Err(error),
+        },
         Err(ReadFault::Memory) => Err(AllocError),
         Err(ReadFault::Refused(refusal)) => Ok(Err(refused(alloc, name.as_str(), refusal)?)),
     }

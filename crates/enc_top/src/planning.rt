@@ -8,7 +8,7 @@ ghost use Rattle.enc_top.specs.Plans.{IsPlanOf};
 use crate::command::{Command, command_of};
 use crate::plan::{Outcome, Plan};
 use crate::plans::unknown;
-use crate::show::{list, show};
+use crate::show::{check, list, show};
 use enc_outside::{LoadError, Store};
 use std::alloc::Global;
 
@@ -33,5 +33,6 @@ pub fn plan_of<S: Store>(alloc: Global, words: &[String], store: &mut S) -> Resu
             },
         ) => show(alloc, base, token, deltas, store),
         Some(Command::List { base, deltas }) => list(alloc, base, deltas, store),
+        Some(Command::Check { base, deltas }) => check(alloc, base, deltas, store),
     }
 }

@@ -1,7 +1,7 @@
 //! Tokens, texts, blobs, GUIDs and refusals as printed bytes. Each call appends, and after want of
 //! memory what stands behind the old bytes is free.
 ghost use Rattle.std.specs.Prelude.{◌≡◌, ◌≤◌, ◌++◌, ◌∷◌, [], length, OnOk, IfOk, flat_map, decimal, codes};
-ghost use Rattle.enc_top.specs.Text.{digits, token_text, escaped, quoted, bracketed, guid_text, code_text, stream_text, cell_place_text, place_text, refused_line, limit_text, limit_line, missing_line, absent_line, usage_line};
+ghost use Rattle.enc_top.specs.Text.{digits, token_text, escaped, quoted, bracketed, guid_text, code_text, stream_text, cell_place_text, place_text, refused_line, limit_text, limit_line, missing_line, absent_line, accepted_line, usage_line};
 
 use crate::limits::Limit;
 use enc_base::{Code, Place, Refusal, StreamName, Token};
@@ -228,6 +228,16 @@ pub fn push_absent(out: &mut Vec<u8>, token: Token) -> Result<(), AllocError>
 {
     push_str(out, "absent ")?;
     push_token(out, token)?;
+    push_str(out, "\n")
+}
+
+/// Appends the line of so many deltas that are accepted.
+#[tactic(auto, unfolding(crate::specs::Text::accepted_line))]
+pub fn push_accepted(alloc: Global, out: &mut Vec<u8>, count: u32) -> Result<(), AllocError>
+    ensures { OnOk result (out.new.items ≡ out.old.items ++ accepted_line count) }
+{
+    push_str(out, "accepted ")?;
+    push_decimal(alloc, out, count)?;
     push_str(out, "\n")
 }
 

@@ -260,6 +260,6 @@ fn tells_missing_files_and_wrong_words(rt: HostRuntime) -> Result<(), Fail> {
     holds(&rt, &whole(&["list", "a b"], 2, usage))?;
     holds(&rt, &whole(&["list", LONG], 2, usage))?;
     holds(&rt, &whole(&["list", "n"], 6, "missing n.dll\n"))?;
-    holds(&rt, &whole(&["check", "m"], 2, usage))?;
+    holds(&rt, &whole(&["apply", "m"], 2, usage))?;
     Ok(())
 }

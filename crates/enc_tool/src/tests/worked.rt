@@ -4,7 +4,7 @@ use super::{D1_LIST, STRING_LINE};
 use std::test::Fail;
 
 /// The table stream behind the delta, with two tokens in EncMap, both 01000002.
-const MAPPED_TWICE: [(usize, &str); 2] = [
+pub const MAPPED_TWICE: [(usize, &str); 2] = [
     (0x20, "dc00000056000000"),
     (
         220,

@@ -2,7 +2,6 @@ use Rattle.std.proofs.Common.{◌≡◌, refl, sym, ap, ◌∙◌}
 use Rattle.std.specs.Prelude.{option_map}
 use Rattle.enc_schema.specs.Schema.{columns_in}
 use Rattle.enc_opcodes.specs.Body.{code_seen}
-use Rattle.enc_pe.specs.Loaded.{regions_of}
 use Rattle.enc_plain.specs.Bodies.{code_loaded}
 use Rattle.enc_image.specs.Base.{source_from}
 use Rattle.enc_rows.specs.Source.{Source, raw_in}

@@ -1,4 +1,4 @@
-use Rattle.std.proofs.Common.{refl, sym, ap, ◌∙◌, Some}
+use Rattle.std.proofs.Common.{sym, ap, ◌∙◌, Some}
 use Rattle.enc_plain.specs.Cell.{field}
 use Rattle.enc_image.specs.Base.{field_bytes}
 use Rattle.enc_image.proofs.Rows.{field_cell}

@@ -1,0 +1,7 @@
+//! The files of a delta judged after a base and the deltas before them: what they hold, or the first
+//! rule that they break.
+#![tactic(auto)]
+
+mod judging;
+
+pub use judging::{Checked, Files, check};

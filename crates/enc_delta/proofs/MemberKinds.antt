@@ -1,0 +1,86 @@
+-- The kinds of the columns by which members are judged.
+use Rattle.std.proofs.Common.{◌≡◌, ℕ, Bool, true, false, Some, refl, inl, inr, arith}
+use Rattle.std.specs.Prelude.{◌==◌, ◌||◌, ◌&&◌, ◌⊎◌, unwrap_or, IsTrue}
+use Rattle.std.proofs.lemmas.Bool.Decides.{nat_tests}
+use Rattle.enc_base.specs.declared.token.Token.{Token}
+use Rattle.enc_schema.specs.Schema.{columns_in}
+use Rattle.enc_plain.specs.Cell.{numbers, texts, blobs, references, kind_in}
+use Rattle.enc_plain.specs.Rows.{Rows}
+use Rattle.enc_plain.specs.Signatures.{signature_column}
+use Rattle.enc_delta.specs.Changes.{is_member, name_column}
+use Rattle.enc_delta.specs.Gains.{has_signature}
+
+pub field_flags : (t : ℕ) → t ≡ 0x04 → kind_in t 0 ≡ Some numbers
+unfolding columns_in
+field_flags t e = rw e refl
+
+pub method_flags : (t : ℕ) → t ≡ 0x06 → kind_in t 2 ≡ Some numbers
+unfolding columns_in
+method_flags t e = rw e refl
+
+pub type_flags : (t : ℕ) → t ≡ 0x02 → kind_in t 0 ≡ Some numbers
+unfolding columns_in
+type_flags t e = rw e refl
+
+pub type_base : (t : ℕ) → t ≡ 0x02 → kind_in t 3 ≡ Some references
+unfolding columns_in
+type_base t e = rw e refl
+
+pub reference_name : (t : ℕ) → t ≡ 0x01 → kind_in t 1 ≡ Some texts
+unfolding columns_in
+reference_name t e = rw e refl
+
+pub reference_space : (t : ℕ) → t ≡ 0x01 → kind_in t 2 ≡ Some texts
+unfolding columns_in
+reference_space t e = rw e refl
+
+-- a member is of one of four tables
+tables : (t : ℕ) (f m : Bool) → (t == 0x04 && f || t == 0x06 && m || t == 0x14 || t == 0x17) ≡ true → (t ≡ 0x04) ⊎ (t ≡ 0x06) ⊎ (t ≡ 0x14) ⊎ (t ≡ 0x17)
+tables t f m h = grind (arith, nat_tests)
+
+named : (t : ℕ) → (t ≡ 0x04) ⊎ (t ≡ 0x06) ⊎ (t ≡ 0x14) ⊎ (t ≡ 0x17) → kind_in t (name_column t) ≡ Some texts
+unfolding columns_in
+named t h =
+    elim h [
+      | inl e ↦ rw e refl
+      | inr w ↦ elim w [
+        | inl e ↦ rw e refl
+        | inr w ↦ elim w [ inl e ↦ rw e refl | inr e ↦ rw e refl ]
+      ]
+    ]
+
+-- it has a name
+pub name_kind : (rows : Rows) (t : Token) → IsTrue (is_member rows t) → kind_in t.table (name_column t.table) ≡ Some texts
+unfolding is_member
+name_kind rows t h = named t.table (tables t.table _ _ h)
+
+-- and a signature, where it is no event
+signed : (t : ℕ) → (t ≡ 0x04) ⊎ (t ≡ 0x06) ⊎ (t ≡ 0x14) ⊎ (t ≡ 0x17) → (t == 0x14) ≡ false → has_signature t ≡ true
+signed t h other = grind (arith, nat_tests)
+
+pub told_by_signature : (rows : Rows) (t : Token) → IsTrue (is_member rows t) → (t.table == 0x14) ≡ false → IsTrue (has_signature t.table)
+unfolding is_member
+told_by_signature rows t h other = signed t.table (tables t.table _ _ h) other
+
+two : (t : ℕ) → IsTrue (has_signature t) → (t == 0x06) ≡ false → (t ≡ 0x04) ⊎ (t ≡ 0x17)
+two t h other = grind (arith, nat_tests)
+
+pub signature_kind : (t : ℕ) → IsTrue (has_signature t) → (t == 0x06) ≡ false → kind_in t 2 ≡ Some blobs
+unfolding columns_in
+signature_kind t h other = elim (two t h other) [ inl e ↦ rw e refl | inr e ↦ rw e refl ]
+
+pub method_signature : (t : ℕ) → t ≡ 0x06 → kind_in t 4 ≡ Some blobs
+unfolding columns_in
+method_signature t e = rw e refl
+
+pub signature_two : (t : ℕ) → IsTrue (has_signature t) → (t == 0x06) ≡ false → unwrap_or (signature_column t) 0 ≡ 2
+unfolding signature_column
+signature_two t h other = elim (two t h other) [ inl e ↦ rw e refl | inr e ↦ rw e refl ]
+
+pub signature_four : (t : ℕ) → t ≡ 0x06 → unwrap_or (signature_column t) 0 ≡ 4
+unfolding signature_column
+signature_four t e = rw e refl
+
+pub alone_kind : (t : ℕ) → t ≡ 0x11 → kind_in t 0 ≡ Some blobs
+unfolding columns_in
+alone_kind t e = rw e refl

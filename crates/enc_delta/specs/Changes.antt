@@ -1,0 +1,132 @@
+-- What a delta may do to rows that are there, to the owners of its new rows, and with signatures.
+use Rattle.std.specs.Prelude.{ℕ, ◌/◌, ◌%◌, Bool, true, not, ◌&&◌, ◌||◌, ◌==◌, length, map, filter, Option, Some, None, option_and_then, unwrap_or, if◌then◌else◌, slice_get, bytes_eq, codes}
+use Rattle.enc_base.specs.Order.{first_below}
+use Rattle.enc_base.specs.Token.{number_of}
+use Rattle.enc_base.specs.declared.token.Token.{Token}
+use Rattle.enc_base.specs.declared.refusal.Place.{Place}
+use Rattle.enc_base.specs.declared.refusal.Place.TheVariants as place
+use Rattle.enc_schema.specs.Schema.{columns_in}
+use Rattle.enc_opcodes.specs.Body.{Code, has_flag, begins_locals}
+use Rattle.enc_rows.specs.Source.{Source, raw_in}
+use Rattle.enc_plain.specs.Cell.{Kind, numbers, texts, blobs, references, kind_in}
+use Rattle.enc_plain.specs.Rows.{Rows, number_at, bytes_at, token_at}
+use Rattle.enc_plain.specs.Signatures.{signature_column, is_signature}
+use Rattle.enc_plain.specs.Alike.{tokens_alike, signatures_alike}
+use Rattle.enc_plain.specs.Apply.{Attached}
+use Rattle.enc_plain.specs.Bodies.{code_loaded}
+use Rattle.enc_plain.specs.Chain.{Chain}
+use Rattle.enc_delta.specs.Delta.{listed}
+use Rattle.enc_delta.specs.Rules.{broken, at_token, least, is_insert, rows_with}
+use Rattle.enc_delta.specs.Pairs.{attached_of}
+use Rattle.enc_delta.specs.Rows.{own_row, rows_of_chain, rows_after}
+use Rattle.enc_delta.specs.Twins.{Asked, twin_fault}
+
+-- the columns in which an update may say something else: the flags and the name of a parameter (II.22.33), and those of a custom attribute (II.22.10)
+abbrev pub may_differ : ℕ → ℕ → Bool
+may_differ table i = table == 0x08 && (i == 0 || i == 2) || table == 0x0C
+
+-- the column holds the signature of its table
+abbrev pub is_signature_column : ℕ → ℕ → Bool
+is_signature_column table i = unwrap_or (signature_column table) 0xFF == i
+
+-- a cell says what it said: numbers, texts and blobs are equal, tokens and signatures alike. A body may change (II.22.26); no update has a GUID or the bytes of a field
+abbrev pub is_kept : Rows → Rows → Token → ℕ → Option Kind → Bool
+is_kept old new t i (Some numbers) = number_at old t i == number_at new t i
+is_kept old new t i (Some texts) = bytes_eq (bytes_at old t i) (bytes_at new t i)
+is_kept old new t i (Some blobs) = if is_signature_column t.table i then signatures_alike new t.table (bytes_at old t i) (bytes_at new t i) else bytes_eq (bytes_at old t i) (bytes_at new t i)
+is_kept old new t i (Some references) = tokens_alike new (token_at old t i) (token_at new t i)
+is_kept old new t i _ = true
+
+-- E15: an updated row says something else in a column that may not differ
+unfoldable pub e15_cell : Chain → Source → Token → ℕ → Option Place
+e15_cell c s t i = broken (not (may_differ t.table i) && not (is_kept (rows_of_chain c) (rows_after c s) t i (kind_in t.table i))) (place.Cell t i)
+
+unfoldable pub e15_row : Chain → Source → Token → Option Place
+e15_row c s t = if is_insert c t then None else first_below (e15_cell c s t) (length (columns_in t.table))
+
+-- what a rule on rows says of the k-th token of EncMap
+abbrev pub of_nth : (Token → Option Place) → Source → ℕ → Option Place
+of_nth rule s k = option_and_then rule (slice_get (listed s) k)
+
+unfoldable pub e15 : Chain → Source → Option Place
+e15 c s = first_below (of_nth (e15_row c s) s) (length (listed s))
+
+-- the least child of the Add entries of which a rule says so
+abbrev pub least_child : (Attached → Bool) → Source → Option Place
+least_child breaks s = at_token (least (map (λ (a : Attached). number_of a.child) (filter breaks (attached_of s))))
+
+-- the type extends a TypeRef that is named System.ValueType or System.Enum, whatever its scope (II.10.1.3)
+unfoldable pub is_value_type : Rows → Token → Bool
+is_value_type rows t =
+    (token_at rows t 3).table == 0x01
+    && bytes_eq (bytes_at rows (token_at rows t 3) 2) (codes "System")
+    && (bytes_eq (bytes_at rows (token_at rows t 3) 1) (codes "ValueType") || bytes_eq (bytes_at rows (token_at rows t 3) 1) (codes "Enum"))
+
+-- the type says how its fields are laid out, by either bit of 18 (II.23.1.15)
+abbrev pub has_layout : Rows → Token → Bool
+has_layout rows t = not (number_at rows t 0 / 8 % 4 == 0)
+
+-- E18: a new field that isn't static (flag 10, II.23.1.5), in a type that was there and has a layout or is a value type
+unfoldable pub breaks_layout : Chain → Source → Attached → Bool
+breaks_layout c s a =
+    a.child.table == 0x04 && a.owner.table == 0x02 && not (is_insert c a.owner)
+    && not (has_flag 0x10 (number_at (rows_after c s) a.child 0))
+    && (has_layout (rows_after c s) a.owner || is_value_type (rows_after c s) a.owner)
+
+unfoldable pub e18 : Chain → Source → Option Place
+e18 c s = least_child (breaks_layout c s) s
+
+-- E19: a new virtual method (flag 40, II.23.1.10) in an interface (flag 20, II.23.1.15) that was there, or one that is abstract too (flag 400) in any type that was there
+unfoldable pub breaks_slots : Chain → Source → Attached → Bool
+breaks_slots c s a =
+    a.child.table == 0x06 && a.owner.table == 0x02 && not (is_insert c a.owner)
+    && has_flag 0x40 (number_at (rows_after c s) a.child 2)
+    && (has_flag 0x20 (number_at (rows_after c s) a.owner 0) || has_flag 0x400 (number_at (rows_after c s) a.child 2))
+
+unfoldable pub e19 : Chain → Source → Option Place
+e19 c s = least_child (breaks_slots c s) s
+
+-- the column of a member's name
+abbrev pub name_column : ℕ → ℕ
+name_column table = if table == 0x06 then 3 else 1
+
+-- fields and methods of which the low three bits of the flags are 0 are known to the compiler alone (II.23.1.5, II.23.1.10) and don't count; properties and events do
+unfoldable pub is_member : Rows → Token → Bool
+is_member rows t = t.table == 0x04 && not (number_at rows t 0 % 8 == 0) || t.table == 0x06 && not (number_at rows t 2 % 8 == 0) || t.table == 0x14 || t.table == 0x17
+
+-- an event is told by its name alone
+unfoldable pub same_signature : Rows → Token → Token → Bool
+same_signature rows t u = t.table == 0x14 || signatures_alike rows t.table (bytes_at rows t (unwrap_or (signature_column t.table) 0)) (bytes_at rows u (unwrap_or (signature_column t.table) 0))
+
+abbrev pub asked_of : Rows → Asked
+asked_of rows = record { counts = is_member rows; name = λ t. bytes_at rows t (name_column t.table); alike = same_signature rows }
+
+-- E20: a new field, method, property or event with a sibling of equal name and, but for an event, alike signature
+unfoldable pub e20 : Chain → Source → Option Place
+e20 c s = twin_fault (asked_of (rows_after c s)) c.plain (attached_of s)
+
+-- E21: a signature isn't one, by the rows after
+unfoldable pub e21_at : Chain → Source → Token → ℕ → Option Place
+e21_at c s t i = broken (not (is_signature (rows_with c (listed s)) t.table (bytes_at (rows_after c s) t i))) (place.Cell t i)
+
+unfoldable pub e21_row : Chain → Source → Token → Option Place
+e21_row c s t = option_and_then (e21_at c s t) (signature_column t.table)
+
+unfoldable pub e21 : Chain → Source → Option Place
+e21 c s = first_below (of_nth (e21_row c s) s) (length (listed s))
+
+-- the parts of the body that the delta's row gives a method
+abbrev pub own_code : Source → Token → Option Code
+own_code s t = code_loaded s.loaded (raw_in s (own_row s t) 0)
+
+-- a body's local signature is nil, or one of StandAloneSig that begins as one of locals (II.23.2.6)
+abbrev pub locals_begin : Rows → Option Code → Bool
+locals_begin rows None = true
+locals_begin rows (Some c) = c.locals.row == 0 || c.locals.table == 0x11 && begins_locals (bytes_at rows c.locals 0)
+
+-- E23: a method's local signature that isn't one of locals
+unfoldable pub e23_row : Chain → Source → Token → Option Place
+e23_row c s t = broken (t.table == 0x06 && not (locals_begin (rows_after c s) (own_code s t))) (place.Row t)
+
+unfoldable pub e23 : Chain → Source → Option Place
+e23 c s = first_below (of_nth (e23_row c s) s) (length (listed s))

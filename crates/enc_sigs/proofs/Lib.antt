@@ -1,0 +1,9 @@
+pub mod Many
+pub mod Walks
+pub mod Agreed
+pub mod Spelled
+pub mod InStep
+pub mod Back
+pub mod Written
+pub mod Named
+pub mod Depth

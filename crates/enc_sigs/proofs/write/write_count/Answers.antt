@@ -1,0 +1,5 @@
+use Rattle.enc_sigs.proofs.Spelled.{length_spellings}
+use Rattle.enc_sigs.proofs.write.write_count.Goals as goal
+
+pub returns : goal.returns
+returns c = rw length_spellings c.write_number.ensures

@@ -1,0 +1,18 @@
+//! What is known of signatures, each as the contract of a function that does nothing.
+ghost use Rattle.enc_sigs.specs.Laws.{WrittenReadsBack, TestsNameTables, DepthIsBounded};
+
+use enc_base::written_laws;
+
+/// No type that is read stands deeper in others than 100.
+pub fn depth_law()
+    ensures { DepthIsBounded }
+{}
+
+/// What `write_sig` writes of a signature that was read is read as the same tree, with any test of
+/// tokens with which it was read, and the tests of this crate are such tests.
+pub fn signature_laws()
+    ensures back { WrittenReadsBack }
+    ensures tests { TestsNameTables }
+{
+    written_laws();
+}

@@ -1,0 +1,27 @@
+//! Signatures: what the bytes of a signature blob say, and whether two say the same (ECMA-335
+//! II.23.2).
+#![tactic(auto)]
+
+mod agree;
+mod elem;
+mod form;
+mod held;
+mod kind;
+mod laws;
+mod number;
+mod read;
+mod sig;
+mod sigs;
+mod walk;
+mod write;
+
+pub use agree::sigs_agree;
+pub use elem::Elem;
+pub use kind::{SigFault, SigKind};
+pub use laws::{depth_law, signature_laws};
+pub use sig::Sig;
+pub use sigs::{field_sig, locals_sig, method_sig, method_spec, property_sig, read_sig, type_spec};
+pub use write::write_sig;
+
+#[cfg(test)]
+mod tests;

@@ -1,0 +1,143 @@
+//! What stands in a signature beside types: bytes, numbers and tokens.
+ghost use Rattle.std.specs.Prelude.{◌≡◌, ◌<◌, ◌^◌, ◌/◌, ◌%◌, option_map, if◌then◌else◌, IfSome};
+ghost use Rattle.enc_sigs.specs.Grammar.{byte_in, number_in, signed_in, numeral_in, token_in, table_of, is_coded, is_counted, in_counts, form_of, is_calling, calling_in, has_flag};
+
+use crate::form::{Form, Numeral};
+use enc_base::{Counts, Token, read_signed, read_unsigned};
+
+/// The compressed number at the front and what is behind it.
+#[tactic(auto, unfolding(crate::specs::Grammar::number_in))]
+pub fn number(bytes: &[u8]) -> Option<(u32, &[u8])>
+    ensures read { option_map (λ x. (x.0, x.1.now)) result ≡ number_in bytes.now }
+    ensures few { IfSome result (λ x. x.0 < 2 ^ 29) }
+{
+    let (value, end) = read_unsigned(bytes, 0)?;
+    Some((value, bytes.get(end..)?))
+}
+
+/// The 32 bits of the compressed signed number at the front and what is behind it.
+#[tactic(auto, unfolding(crate::specs::Grammar::signed_in))]
+fn signed(bytes: &[u8]) -> Option<(u32, &[u8])>
+    ensures { option_map (λ x. (x.0, x.1.now)) result ≡ signed_in bytes.now }
+{
+    let (value, end) = read_signed(bytes, 0)?;
+    let bits = value.cast_unsigned();
+    if bits < 0x1000_0000 || 0xf000_0000 <= bits {
+        return Some((bits, bytes.get(end..)?));
+    }
+    None
+}
+
+/// A size or a lower bound at the front.
+pub fn numeral(kind: Numeral, bytes: &[u8]) -> Option<(u32, &[u8])>
+    ensures { option_map (λ x. (x.0, x.1.now)) result ≡ numeral_in kind bytes.now }
+{
+    match kind {
+        Numeral::Size => number(bytes),
+        Numeral::Bound => signed(bytes),
+    }
+}
+
+/// The table that a token's number names.
+#[tactic(auto, unfolding(crate::specs::Grammar::is_coded))]
+fn table_of(number: u32) -> Option<u8>
+    ensures { result ≡ (if is_coded number then Some (table_of (number % 4)) else None) }
+{
+    match number % 4 {
+        0 => Some(0x02),
+        1 => Some(0x01),
+        2 => Some(0x1b),
+        _ => None,
+    }
+}
+
+/// The token at the front, the range of its row aside (ECMA-335 II.23.2.8).
+#[tactic(auto, unfolding(crate::specs::Grammar::token_in))]
+pub fn coded_token(bytes: &[u8]) -> Option<(Token, &[u8])>
+    ensures { option_map (λ x. (x.0, x.1.now)) result ≡ token_in is_coded bytes.now }
+{
+    let (number, rest) = number(bytes)?;
+    let table = table_of(number)?;
+    Some((
+        Token {
+            table,
+            row: number / 4,
+        },
+        rest,
+    ))
+}
+
+/// Whether the number of a token names a row.
+#[tactic(auto, unfolding(crate::specs::Grammar::is_coded, crate::specs::Grammar::is_counted))]
+fn is_row(number: u32, counts: &Counts) -> bool
+    ensures { result ≡ in_counts counts.now number }
+{
+    let row = number / 4;
+    match table_of(number) {
+        Some(table) => 1 <= row && row <= counts.rows[table as usize],
+        None => false,
+    }
+}
+
+/// The token of a row at the front (ECMA-335 II.23.2.8).
+#[tactic(auto, unfolding(crate::specs::Grammar::token_in, crate::specs::Grammar::is_counted))]
+pub fn token<'a>(bytes: &'a [u8], counts: &Counts) -> Option<(Token, &'a [u8])>
+    ensures { option_map (λ x. (x.0, x.1.now)) result ≡ token_in (in_counts counts.now) bytes.now }
+{
+    let (number, rest) = number(bytes)?;
+    if !is_row(number, counts) {
+        return None;
+    }
+    let table = table_of(number)?;
+    Some((
+        Token {
+            table,
+            row: number / 4,
+        },
+        rest,
+    ))
+}
+
+/// What follows a type's first byte, None where it begins no type.
+#[tactic(auto, unfolding(crate::specs::Grammar::form_of))]
+pub fn form_by(b: u8) -> Option<Form>
+    ensures { result ≡ form_of b }
+{
+    match b {
+        0x01..=0x0e | 0x16 | 0x18 | 0x19 | 0x1c => Some(Form::Bare),
+        0x0f | 0x10 | 0x1d | 0x45 => Some(Form::Wrapped),
+        0x11 | 0x12 => Some(Form::Named),
+        0x1f | 0x20 => Some(Form::Modified),
+        0x13 | 0x1e => Some(Form::Numbered),
+        0x14 => Some(Form::Array),
+        0x15 => Some(Form::Instance),
+        0x1b => Some(Form::Pointer),
+        _ => None,
+    }
+}
+
+/// Whether a method may begin with the byte.
+#[tactic(auto, unfolding(crate::specs::Grammar::is_calling))]
+fn is_calling(b: u8) -> bool
+    ensures { result ≡ is_calling b }
+{
+    b < 0x80 && (b % 0x10 <= 5 || b % 0x10 == 9)
+}
+
+/// The first byte of a method and the count of its generic parameters.
+#[tactic(auto, unfolding(crate::specs::Grammar::calling_in, crate::specs::Grammar::byte_in, crate::specs::Grammar::generics_in))]
+pub fn calling(bytes: &[u8]) -> Option<((u8, u32), &[u8])>
+    ensures { option_map (λ x. ((x.0.0, x.0.1), x.1.now)) result ≡ calling_in bytes.now }
+{
+    let [b, rest @ ..] = bytes else {
+        return None;
+    };
+    if !is_calling(*b) {
+        return None;
+    }
+    if *b / 0x10 % 2 == 1 {
+        let (generics, rest) = number(rest)?;
+        return Some(((*b, generics), rest));
+    }
+    Some(((*b, 0), rest))
+}

@@ -1,0 +1,293 @@
+//! Writing signatures in their shortest spelling (ECMA-335 II.23.2).
+ghost use Rattle.std.specs.Prelude.{◌≡◌, ℕ, ◌++◌, ◌∷◌, [], ◌%◌, ◌-◌, length, slice_get, IfOk, is_ok, if◌then◌else◌};
+ghost use Rattle.enc_sigs.specs.Tree.{forest_of, trees};
+ghost use Rattle.enc_sigs.specs.Spelling.{number_bytes, signed_bytes, token_bytes, numeral_bytes, each_numeral, numerals_bytes, joined, counted_bytes, generics_bytes, parts_bytes, array_bytes, numerals_of, front_of, pointer_bytes, formed_bytes, spellings, tree_bytes, front_bytes, sig_bytes};
+ghost use Rattle.enc_sigs.specs.Grammar.{has_flag};
+
+use crate::elem::Elem;
+use crate::form::{Form, Numeral};
+use crate::kind::SigKind;
+use crate::number::form_by;
+use crate::sig::Sig;
+use enc_base::{Token, push_signed, push_unsigned};
+use std::alloc::{AllocError, Global};
+
+/// Appends a number, where it can be spelled.
+#[tactic(auto, unfolding(crate::specs::Spelling::number_bytes))]
+fn write_number(value: usize, out: &mut Vec<u8>) -> Result<(), AllocError>
+    ensures { IfOk result (λ _. out.new.items ≡ out.old.items ++ number_bytes value) }
+{
+    if value < 0x2000_0000 {
+        return push_unsigned(value as u32, out);
+    }
+    Ok(())
+}
+
+/// Appends a signed number by its 32 bits, where it can be spelled.
+#[tactic(auto, unfolding(crate::specs::Spelling::signed_bytes))]
+fn write_signed(bits: u32, out: &mut Vec<u8>) -> Result<(), AllocError>
+    ensures { IfOk result (λ _. out.new.items ≡ out.old.items ++ signed_bytes bits) }
+{
+    if bits < 0x1000_0000 || 0xf000_0000 <= bits {
+        return push_signed(bits.cast_signed(), out);
+    }
+    Ok(())
+}
+
+/// Appends a size or a lower bound.
+fn write_numeral(kind: Numeral, value: u32, out: &mut Vec<u8>) -> Result<(), AllocError>
+    ensures { IfOk result (λ _. out.new.items ≡ out.old.items ++ numeral_bytes kind value) }
+{
+    match kind {
+        Numeral::Size => write_number(value as usize, out),
+        Numeral::Bound => write_signed(value, out),
+    }
+}
+
+/// Appends a token's number.
+#[tactic(auto, unfolding(crate::specs::Spelling::token_bytes))]
+fn write_token(token: Token, out: &mut Vec<u8>) -> Result<(), AllocError>
+    ensures { IfOk result (λ _. out.new.items ≡ out.old.items ++ token_bytes token) }
+{
+    let row = token.row as usize * 4;
+    match token.table {
+        0x02 => write_number(row, out),
+        0x01 => write_number(row + 1, out),
+        _ => write_number(row + 2, out),
+    }
+}
+
+/// Appends a byte.
+fn write_byte(byte: u8, out: &mut Vec<u8>) -> Result<(), AllocError>
+    ensures { IfOk result (λ _. out.new.items ≡ out.old.items ++ byte ∷ []) }
+{
+    out.extend_from_slice(&[byte])
+}
+
+/// Appends the numbers of these.
+fn write_each(kind: Numeral, kids: &[Elem], out: &mut Vec<u8>) -> Result<(), AllocError>
+    ensures { IfOk result (λ _. out.new.items ≡ out.old.items ++ each_numeral kind kids.now) }
+{
+    let mut rest = kids;
+    while let [kid, more @ ..] = rest {
+        write_numeral(kind, kid.number, out)?;
+        rest = more;
+    }
+    Ok(())
+}
+
+/// Appends a count and so many sizes or lower bounds.
+#[tactic(auto, unfolding(crate::specs::Spelling::numerals_bytes))]
+fn write_numerals(kind: Numeral, elem: &Elem, out: &mut Vec<u8>) -> Result<(), AllocError>
+    ensures { IfOk result (λ _. out.new.items ≡ out.old.items ++ numerals_bytes kind elem.now) }
+{
+    let kids = elem.kids();
+    write_number(kids.len(), out)?;
+    write_each(kind, kids, out)
+}
+
+/// Appends the sizes or the lower bounds at this place, where any are.
+fn write_numerals_at(
+    kind: Numeral,
+    kids: &[Elem],
+    i: usize,
+    out: &mut Vec<u8>,
+) -> Result<(), AllocError>
+    ensures { IfOk result (λ _. out.new.items ≡ out.old.items ++ numerals_of kind (slice_get kids.now i)) }
+{
+    match kids.get(i) {
+        Some(elem) => write_numerals(kind, elem, out),
+        None => Ok(()),
+    }
+}
+
+/// Appends the count of generic parameters, where the first byte says that there are any.
+#[tactic(auto, unfolding(crate::specs::Spelling::generics_bytes))]
+fn write_generics(calling: u32, generics: u32, out: &mut Vec<u8>) -> Result<(), AllocError>
+    ensures { IfOk result (λ _. out.new.items ≡ out.old.items ++ generics_bytes calling generics) }
+{
+    if calling / 0x10 % 2 == 1 {
+        return write_number(generics as usize, out);
+    }
+    Ok(())
+}
+
+/// Appends how many types these are.
+fn write_count(kids: &[Elem], out: &mut Vec<u8>) -> Result<(), AllocError>
+    ensures { IfOk result (λ _. out.new.items ≡ out.old.items ++ number_bytes (length (spellings (forest_of kids.now)))) }
+{
+    write_number(kids.len(), out)
+}
+
+/// Appends how many types these are without the first.
+fn write_count_behind(kids: &[Elem], out: &mut Vec<u8>) -> Result<(), AllocError>
+    ensures { IfOk result (λ _. out.new.items ≡ out.old.items ++ number_bytes (length (spellings (forest_of kids.now)) - 1)) }
+{
+    write_number(kids.len().saturating_sub(1), out)
+}
+
+/// Appends a type.
+#[cycle(writer)]
+#[tactic(auto, unfolding(crate::specs::Spelling::tree_bytes))]
+fn write_elem(elem: &Elem, out: &mut Vec<u8>) -> Result<(), AllocError>
+    ensures { IfOk result (λ _. out.new.items ≡ out.old.items ++ tree_bytes elem.now) }
+{
+    write_byte(elem.element, out)?;
+    write_within(form_by(elem.element), elem, out)
+}
+
+/// Appends what stands behind a type's first byte.
+#[cycle(writer)]
+#[tactic(auto, unfolding(crate::specs::Spelling::formed_bytes))]
+fn write_within(form: Option<Form>, elem: &Elem, out: &mut Vec<u8>) -> Result<(), AllocError>
+    ensures { IfOk result (λ _. out.new.items ≡ out.old.items ++ formed_bytes form elem.now.token elem.now.number (trees elem.now.kids) (spellings elem.now.kids)) }
+{
+    let kids = elem.kids();
+    let Some(form) = form else {
+        return write_elems(kids, out);
+    };
+    match form {
+        Form::Bare => Ok(()),
+        Form::Wrapped => write_elems(kids, out),
+        Form::Named => write_token(elem.token, out),
+        Form::Modified => {
+            write_token(elem.token, out)?;
+            write_elems(kids, out)
+        }
+        Form::Numbered => write_number(elem.number as usize, out),
+        Form::Array => write_array(elem.number, kids, out),
+        Form::Instance => write_instance(elem.number, elem.token, kids, out),
+        Form::Pointer => write_pointer(elem.number, kids, out),
+    }
+}
+
+/// Appends these types.
+#[cycle(writer)]
+#[tactic(auto, unfolding(crate::specs::Spelling::spellings, crate::specs::Spelling::tree_bytes))]
+fn write_elems(kids: &[Elem], out: &mut Vec<u8>) -> Result<(), AllocError>
+    ensures { IfOk result (λ _. out.new.items ≡ out.old.items ++ joined (spellings (forest_of kids.now))) }
+{
+    let mut rest = kids;
+    while let [kid, more @ ..] = rest {
+        write_elem(kid, out)?;
+        rest = more;
+    }
+    Ok(())
+}
+
+/// Appends the first of these types.
+#[cycle(writer)]
+#[tactic(auto, unfolding(crate::specs::Spelling::spellings, crate::specs::Spelling::tree_bytes))]
+fn write_first(kids: &[Elem], out: &mut Vec<u8>) -> Result<(), AllocError>
+    ensures { IfOk result (λ _. out.new.items ≡ out.old.items ++ front_of (spellings (forest_of kids.now))) }
+{
+    match kids {
+        [kid, ..] => write_elem(kid, out),
+        [] => Ok(()),
+    }
+}
+
+/// Appends an array's type, rank, sizes and lower bounds.
+#[cycle(writer)]
+#[tactic(auto, unfolding(crate::specs::Spelling::array_bytes))]
+fn write_array(rank: u32, kids: &[Elem], out: &mut Vec<u8>) -> Result<(), AllocError>
+    ensures { IfOk result (λ _. out.new.items ≡ out.old.items ++ array_bytes rank kids.now (spellings (forest_of kids.now))) }
+{
+    write_first(kids, out)?;
+    write_number(rank as usize, out)?;
+    write_numerals_at(Numeral::Size, kids, 1, out)?;
+    write_numerals_at(Numeral::Bound, kids, 2, out)
+}
+
+/// Appends a count and so many types.
+#[cycle(writer)]
+#[tactic(auto, unfolding(crate::specs::Spelling::counted_bytes))]
+fn write_counted(kids: &[Elem], out: &mut Vec<u8>) -> Result<(), AllocError>
+    ensures { IfOk result (λ _. out.new.items ≡ out.old.items ++ counted_bytes (spellings (forest_of kids.now))) }
+{
+    write_count(kids, out)?;
+    write_elems(kids, out)
+}
+
+/// Appends what stands behind a generic instance's first byte.
+#[cycle(writer)]
+fn write_instance(
+    class: u32,
+    token: Token,
+    kids: &[Elem],
+    out: &mut Vec<u8>,
+) -> Result<(), AllocError>
+    ensures { IfOk result (λ _. out.new.items ≡ out.old.items ++ (class % 0x100) ∷ (token_bytes token ++ counted_bytes (spellings (forest_of kids.now)))) }
+{
+    write_byte((class % 0x100) as u8, out)?;
+    write_token(token, out)?;
+    write_counted(kids, out)
+}
+
+/// Appends the count of parameters, the return type or the type, and the parameters.
+#[cycle(writer)]
+#[tactic(auto, unfolding(crate::specs::Spelling::parts_bytes))]
+fn write_parts(kids: &[Elem], out: &mut Vec<u8>) -> Result<(), AllocError>
+    ensures { IfOk result (λ _. out.new.items ≡ out.old.items ++ parts_bytes (spellings (forest_of kids.now))) }
+{
+    write_count_behind(kids, out)?;
+    write_elems(kids, out)
+}
+
+/// Appends the signature of a function pointer.
+#[cycle(writer)]
+#[tactic(auto, unfolding(crate::specs::Spelling::pointer_bytes, crate::specs::Spelling::spellings))]
+fn write_pointer(calling: u32, kids: &[Elem], out: &mut Vec<u8>) -> Result<(), AllocError>
+    ensures { IfOk result (λ _. out.new.items ≡ out.old.items ++ pointer_bytes calling kids.now (spellings (forest_of kids.now))) }
+{
+    let [generics, parts @ ..] = kids else {
+        return Ok(());
+    };
+    write_byte((calling % 0x100) as u8, out)?;
+    write_generics(calling, generics.number, out)?;
+    write_parts(parts, out)
+}
+
+/// Appends the parts of a signature of this kind.
+#[tactic(auto, unfolding(crate::specs::Spelling::front_bytes))]
+fn write_front(sig: &Sig, out: &mut Vec<u8>) -> Result<(), AllocError>
+    ensures { IfOk result (λ _. out.new.items ≡ out.old.items ++ front_bytes sig.now.form sig.now.kind sig.now.generics (spellings (forest_of sig.now.parts))) }
+{
+    let parts = sig.parts.as_slice();
+    match sig.form {
+        SigKind::TypeSpec => write_elems(parts, out),
+        SigKind::Method => {
+            write_byte(sig.kind, out)?;
+            write_generics(u32::from(sig.kind), sig.generics, out)?;
+            write_parts(parts, out)
+        }
+        SigKind::Field => {
+            write_byte(sig.kind, out)?;
+            write_elems(parts, out)
+        }
+        SigKind::Property => {
+            write_byte(sig.kind, out)?;
+            write_parts(parts, out)
+        }
+        SigKind::Locals => {
+            write_byte(sig.kind, out)?;
+            write_counted(parts, out)
+        }
+        SigKind::MethodSpec => {
+            write_byte(sig.kind, out)?;
+            write_counted(parts, out)
+        }
+    }
+}
+
+/// Appends the signature's shortest spelling (ECMA-335 II.23.2). Without memory nothing is
+/// appended. What is appended is read as the same tree, with any counts with which it was read
+/// (`signature_laws`).
+#[tactic(auto, unfolding(crate::specs::Spelling::sig_bytes))]
+pub fn write_sig(alloc: Global, sig: &Sig, out: &mut Vec<u8>) -> Result<(), AllocError>
+    ensures { out.new.items ≡ (if is_ok result then out.old.items ++ sig_bytes sig.now else out.old.items) }
+{
+    let mut bytes = Vec::new(alloc);
+    write_front(sig, &mut bytes)?;
+    out.extend_from_slice(bytes.as_slice())
+}
