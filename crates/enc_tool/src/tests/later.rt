@@ -53,30 +53,23 @@ pub const N2_IL: &str = concat!(
 );
 
 /// Changes of the second delta that break no rule.
-const LATER_GOOD: [&[(usize, &str)]; 9] = [
+const LATER_GOOD: [&[(usize, &str)]; 4] = [
     &[],
     // the names of the first delta's members with another signature, or where one is left out
     &[(0xce, "e900"), (0xd0, "a205")],
-    &[(0xce, "e900"), (0xcc, "0000")],
-    &[(0xea, "ec00"), (0xec, "a605")],
     // a static field in the first delta's type with layout
     &[(0x11e, "0b000002"), (0xcc, "1600")],
     // a virtual method there, and one that isn't in its interface
     &[(0x136, "0b000002")],
-    &[(0x136, "0c000002"), (0xe8, "0600")],
-    // the event's type by another row that is alike
-    &[(0xf6, "21000000")],
-    &[(0xf6, "05000000")],
 ];
 
 /// Rows of the first delta, which was applied.
-const LATER: [Broken; 24] = [
+const LATER: [Broken; 10] = [
     // E15: its rows with other values
     (&[(0xc8, "ef00")], "E15 04000007.Name"),
     (&[(0xca, "aa05")], "E15 04000007.Signature"),
     (&[(0xd8, "0600")], "E15 06000006.Flags"),
     (&[(0xf6, "25000000")], "E15 14000002.EventType"),
-    (&[(0xc2, "f200")], "E15 14000002.EventType"),
     (&[(0x106, "ad05")], "E15 17000002.Type"),
     // E16 and E17: no body, and none where the first delta put one
     (&[(0xd2, "05000000")], "E16 06000006"),
@@ -84,23 +77,8 @@ const LATER: [Broken; 24] = [
     // E18 and E19: its types are old now
     (&[(0x11e, "0b000002")], "E18 0400000b"),
     (&[(0x136, "0c000002")], "E19 06000008"),
-    (&[(0x136, "0b000002"), (0xe8, "4604")], "E19 06000008"),
     // E20: beside its members, and beside one of the base
     (&[(0xce, "e900")], "E20 0400000b"),
-    (&[(0xce, "e900"), (0xd0, "b105")], "E20 0400000b"),
-    (&[(0xce, "f900"), (0xd0, "a205")], "E20 0400000b"),
-    (&[(0xea, "ec00")], "E20 06000008"),
-    (&[(0xea, "fb00"), (0xec, "b405")], "E20 06000008"),
-    (&[(0xfc, "fd00")], "E20 14000004"),
-    (&[(0x10a, "0001")], "E20 17000005"),
-    // E21: a type past all of them
-    (&[(0xd0, "ba05")], "E21 0400000b.Signature"),
-    // the first of two rules
-    (&[(0xda, "0301"), (0xd2, "00000000")], "E15 06000006.Name"),
-    (&[(0xd2, "01000000"), (0x11e, "0b000002")], "E16 06000006"),
-    (&[(0xd2, "00000000"), (0x11e, "0b000002")], "E17 06000006"),
-    (&[(0x11e, "0b000002"), (0xea, "ec00")], "E18 0400000b"),
-    (&[(0xce, "e900"), (0xec, "be05")], "E20 0400000b"),
 ];
 
 #[test]

@@ -104,73 +104,33 @@ pub const N1_IL: &str = concat!(
 );
 
 /// Changes of the first delta that break no rule.
-const GOOD: [&[(usize, &str)]; 50] = [
+const GOOD: [&[(usize, &str)]; 12] = [
     // as it stands
     &[],
     // a field in a type without layout: one that is no value type, an interface, <Module>, a type under
     // a TypeSpec, one under `N.Enum`
     &[(0x1c4, "06000002")],
-    &[(0x1c4, "01000002")],
-    &[(0x1c4, "08000002")],
-    &[(0x1c4, "0a000002")],
     // a static field, and one in a new type: with layout, a value type
     &[(0x1d4, "03000002"), (0x118, "1600")],
-    &[(0x1d4, "04000002"), (0x118, "1600")],
-    &[(0x1d4, "05000002"), (0x118, "1600")],
-    &[(0x1d4, "07000002"), (0x118, "1600")],
-    &[(0x1d4, "09000002"), (0x118, "1600")],
-    &[(0x1d4, "0b000002")],
-    &[(0x1c4, "0b000002"), (0xea, "11010000"), (0x114, "9f00")],
     // a virtual method in a class and in a value type; one in a new interface, a new class, also
     // abstract
     &[(0x130, "c601")],
-    &[(0x204, "03000002")],
-    &[(0x214, "0c000002"), (0x140, "5600")],
-    &[(0x204, "0b000002")],
-    &[(0x204, "0b000002"), (0x130, "4604")],
     // a method that isn't virtual in an interface; an abstract one that isn't virtual
     &[(0x214, "06000002")],
-    &[(0x130, "0604")],
-    &[(0x204, "06000002"), (0x130, "0604")],
     // the name of an old field with another signature: also by a type that isn't alike
     &[(0x114, "a100")],
-    &[(0x114, "a100"), (0x116, "c904")],
-    &[(0x116, "cd04")],
     // names that differ in case alone, and the one of a method, of a property
     &[(0x114, "a300"), (0x116, "d104")],
-    &[(0x114, "a500")],
-    &[(0x17a, "a700")],
     // flags whose low three bits are 0: of the new field, of the old one, of either of two new ones
     &[(0x114, "a100"), (0x116, "cd04"), (0x112, "0000")],
-    &[(0x114, "a100"), (0x116, "cd04"), (0x112, "1000")],
-    &[(0x114, "a900"), (0x116, "d504")],
-    &[(0x11c, "d904"), (0x112, "1800")],
-    &[(0x11c, "d904"), (0x118, "0800")],
     // the same of methods
     &[(0x132, "a500"), (0x134, "dc04"), (0x130, "4000")],
-    &[(0x142, "ab00"), (0x144, "e204")],
-    &[(0x134, "e604"), (0x130, "1000")],
-    &[(0x134, "e604"), (0x140, "1000")],
     // methods that differ by the calling byte, the type that they return, a type that isn't alike
     &[(0x132, "a500"), (0x134, "ea04")],
-    &[(0x132, "a500"), (0x134, "f004")],
-    &[(0x132, "a500"), (0x134, "f604")],
     // properties that differ by `this`, by a parameter, by a type that isn't alike
     &[(0x192, "a700"), (0x194, "fc04")],
-    &[(0x192, "a700"), (0x194, "0105")],
-    &[(0x192, "a700"), (0x194, "0705")],
     // another member of each owner under the name of an old one: in another type
     &[(0x1c4, "0a000002"), (0x114, "a100"), (0x116, "d104")],
-    &[(0x182, "ad00")],
-    &[(0x19e, "a700"), (0x1a0, "0c05")],
-    // bodies: without local variables, with those of the base, tiny, none
-    &[(0x13a, "34000000")],
-    &[(0x13a, "44000000")],
-    &[(0x13a, "54000000")],
-    &[(0x13a, "94000000")],
-    &[(0x13a, "00000000")],
-    // a method with the signature of a method for its local variables, but no body
-    &[(0x13a, "00000000"), (0x16a, "e604")],
 ];
 
 /// E18: a field that isn't static in a type that has a size already.
@@ -213,8 +173,11 @@ fn accepts_new_members(rt: HostRuntime) -> Result<(), Fail> {
 /// The size of an old type and the virtual methods of an old interface stay, and so does what a class
 /// leaves to the classes below it.
 #[test]
-fn refuses_new_members_by_their_owner(rt: HostRuntime) -> Result<(), Fail> {
-    let words = ["check", "b", "n1"];
-    refuses(&rt, "n1.meta", &words, &FIELDS)?;
-    refuses(&rt, "n1.meta", &words, &METHODS)
+fn refuses_new_fields_by_their_owner(rt: HostRuntime) -> Result<(), Fail> {
+    refuses(&rt, "n1.meta", &["check", "b", "n1"], &FIELDS)
+}
+
+#[test]
+fn refuses_new_methods_by_their_owner(rt: HostRuntime) -> Result<(), Fail> {
+    refuses(&rt, "n1.meta", &["check", "b", "n1"], &METHODS)
 }
