@@ -22,11 +22,11 @@ use Rattle.enc_rows.proofs.Silent.{ptr_column_is, good_runs}
 use Rattle.enc_rows.proofs.Owned.{AreGood, bound_some, bound_limit, all_children_are}
 use Rattle.enc_plain.specs.Module.{Row, rows_in, kids_at}
 use Rattle.enc_plain.specs.Fits.{HasRuns}
-use Rattle.enc_image.specs.Base.{rows_from, cells_fault, is_part, row_in, module_in}
+use Rattle.enc_image.specs.Base.{rows_from, cells_fault, row_in, module_in}
+use Rattle.enc_plain.specs.Sound.{is_part, all_kids, IsOwned}
 use Rattle.enc_image.proofs.Good.{good_index, named_once, no_index_fault}
 use Rattle.enc_image.proofs.Rows.{rows_there, rows_past, count_there}
 use Rattle.enc_image.proofs.Kids.{row_kids, owner_rows}
-use Rattle.enc_agg.specs.Follows.{all_kids, IsOwned}
 use Rattle.enc_agg.proofs.Owned.{count_cons}
 
 made_by : {X Y : Type 0} (f : X → Y) (xs : List X) (n : ℕ) (y : Y) → slice_get (map f xs) n ≡ Some y → (x : X) × (f x ≡ y)

@@ -22,7 +22,8 @@ use Rattle.enc_delta.specs.Rules.{counted, inserts, rows_with, child_table, adds
 use Rattle.enc_delta.proofs.ListsChildren.{hits, log_named, one_unnamed}
 use Rattle.enc_agg.specs.Extend.{changes_of, extended}
 use Rattle.enc_delta.specs.Pairs.{attached_of, pairs_in}
-use Rattle.enc_agg.specs.Follows.{HasTables, Follows, all_kids, IsOwned}
+use Rattle.enc_agg.specs.Follows.{HasTables, Follows}
+use Rattle.enc_plain.specs.Sound.{all_kids, IsOwned}
 use Rattle.enc_agg.proofs.Unbroken.{unbroken}
 use Rattle.enc_agg.proofs.Counting.{apply_tables}
 use Rattle.enc_agg.proofs.Fitting.{fits, put_all, count_is}

@@ -16,7 +16,7 @@ use Rattle.enc_plain.specs.Fits.{Fits, Attaches, AllAttach, HasRuns}
 use Rattle.enc_plain.proofs.Applied.{table_same, table_other}
 use Rattle.enc_plain.proofs.AttachedTo.{run_at, place_differs, runs_attached}
 use Rattle.std.proofs.lemmas.Option.{slice_get_within}
-use Rattle.enc_agg.specs.Follows.{all_kids, IsOwned}
+use Rattle.enc_plain.specs.Sound.{all_kids, IsOwned}
 use Rattle.enc_agg.proofs.Counting.{rows_same, rows_other}
 use Rattle.enc_agg.proofs.Tokens.{position_cons}
 

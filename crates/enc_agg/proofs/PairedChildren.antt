@@ -22,7 +22,8 @@ use Rattle.enc_image.proofs.Listed.{length_below}
 use Rattle.enc_agg.specs.Extend.{extended}
 use Rattle.enc_delta.specs.Pairs.{attached_of}
 use Rattle.enc_agg.specs.Given.{add_code, gives, gives_to, rows_given}
-use Rattle.enc_agg.specs.Follows.{Follows, all_kids, IsOwned, IsSound}
+use Rattle.enc_agg.specs.Follows.{Follows, IsSound}
+use Rattle.enc_plain.specs.Sound.{all_kids, IsOwned}
 use Rattle.enc_agg.proofs.Unbroken.{unbroken}
 use Rattle.enc_agg.proofs.Fitting.{count_is, few}
 use Rattle.enc_agg.proofs.Owned.{count_cons}

@@ -7,6 +7,7 @@ use Rattle.enc_schema.specs.Children.{is_child_table, owner_table}
 use Rattle.enc_plain.specs.Module.{Module, Row, rows_in, kids_at}
 use Rattle.enc_plain.specs.Fits.{HasRuns}
 use Rattle.enc_plain.specs.Chain.{Chain}
+use Rattle.enc_plain.specs.Sound.{IsOwned}
 use Rattle.enc_delta.specs.Delta.{listed}
 use Rattle.enc_delta.specs.Judged.{first_meta}
 
@@ -19,14 +20,6 @@ pub record Follows (c : Chain) (s : Source) : Type 0 where
   pub rules : first_meta c s ≡ None
   pub tables : IsTrue (list_all (λ (t : Token). nat_lt t.table 0x100) (listed s))
   pub rows : IsTrue (list_all (λ (t : Token). nat_lt t.row 0x1000000) (listed s))
-
--- the children in a child table of all rows of its owners' table
-abbrev pub all_kids : Module → ℕ → List ℕ
-all_kids m table = flat_map (λ (r : Row). kids_at r table) (rows_in m (owner_table table))
-
--- each row of a child table is a child once, and nothing else is
-pub record IsOwned (m : Module) : Type 0 where
-  pub once : (table row : ℕ) → is_child_table table ≡ true → count_by (λ k. k == row) (all_kids m table) ≡ cond (nat_le 1 row && nat_le row (length (rows_in m table))) 1 0
 
 -- what holds of each chain of a sound base: all tables are there, each row has its runs, and each child row has just one owner
 pub record IsSound (c : Chain) : Type 0 where

@@ -96,3 +96,19 @@ fn writes_and_reads_signed_numbers(rt: HostRuntime) -> Result<(), Fail> {
     assert_eq!(rt; read_signed(&[0xe0], 0), None);
     Ok(())
 }
+
+#[test]
+fn grows_bytes(rt: HostRuntime) -> Result<(), Fail> {
+    let mut bytes = Bytes::begin(rt.alloc());
+    assert_eq!(rt; bytes.len(), 0);
+    bytes.push(0x4d)?;
+    bytes.push(0x5a)?;
+    assert_eq!(rt; bytes.len(), 2);
+    assert_eq!(rt; bytes.get(1), Some(&0x5a));
+    assert_eq!(rt; bytes.get(2), None);
+    assert_eq!(rt; bytes.as_slice(), [0x4d, 0x5a].as_slice());
+    let mut more = Bytes::from_vec(bytes.into_vec());
+    more.push(0x90)?;
+    assert_eq!(rt; more.as_slice(), [0x4d, 0x5a, 0x90].as_slice());
+    Ok(())
+}

@@ -13,7 +13,7 @@ use enc_opcodes::CodeRef;
 pub struct BodyFault;
 
 /// The token, nil where its row is 0.
-fn nil_or(token: Token) -> Token
+pub fn nil_or(token: Token) -> Token
     ensures { result ≡ nil_or token }
 {
     if token.row == 0 {
@@ -23,7 +23,7 @@ fn nil_or(token: Token) -> Token
 }
 
 /// The next multiple of four.
-fn padded(n: usize) -> usize
+pub fn padded(n: usize) -> usize
     requires { n < 2 ^ 32 }
     ensures padded { result ≡ padded_to n }
     ensures few { result < n + 4 }

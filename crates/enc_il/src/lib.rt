@@ -9,19 +9,24 @@ mod instr;
 mod judge;
 mod laws;
 mod marks;
+mod pushes;
 mod section;
 mod texts;
+mod write;
 
 pub use body::{BodyFault, read_body};
 pub use bytes::rest_at;
 pub use clauses::{clause, clause_front};
 pub use instr::instr_at;
 pub use judge::first_bad;
-pub use laws::body_law;
+pub use laws::{body_law, written_body_law, written_clauses_law};
 pub use section::{SectionRef, behind_sections, clause_size, section_front};
 pub use texts::{UserTexts, texts_are_there};
+pub use write::write_body;
 
 #[cfg(test)]
 mod judge_tests;
 #[cfg(test)]
 mod tests;
+#[cfg(test)]
+mod write_tests;

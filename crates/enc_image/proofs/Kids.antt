@@ -17,7 +17,8 @@ use Rattle.enc_rows.proofs.Runs.{count_more}
 use Rattle.enc_rows.specs.Source.{Source}
 use Rattle.enc_plain.specs.Module.{Row, rows_in, row_of, has_row, kids_at, kids_of, has_kid, owner_of}
 use Rattle.enc_image.specs.declared.open.Opened.{Opened}
-use Rattle.enc_image.specs.Base.{rows_from, metadata_of, source_from, cells_fault, is_part, row_in, module_in}
+use Rattle.enc_image.specs.Base.{rows_from, metadata_of, source_from, cells_fault, row_in, module_in}
+use Rattle.enc_plain.specs.Sound.{is_part}
 use Rattle.enc_image.specs.Seen.{IsOpened}
 use Rattle.enc_image.proofs.Listed.{length_below}
 use Rattle.enc_image.proofs.Good.{named_once, no_index_fault}

@@ -17,7 +17,8 @@ use Rattle.enc_meta.specs.Heaps.{text_at, blob_at, guid_at}
 use Rattle.enc_schema.specs.declared.column.Column.TheVariants.{Num32, Text, Guid, Blob, Index, Coded}
 use Rattle.enc_image.proofs.Good.{good_offset, good_index, index_there, coded_there, no_index_fault, no_offset_fault}
 use Rattle.enc_rows.specs.Fault.{is_past, is_bad_index, index_fault}
-use Rattle.enc_image.specs.Base.{users_of, field_bytes, reading_of, cell_for, is_offset, offset_fault, rows_from, cells_fault, cell_in, is_part, row_in, table_rows, module_in}
+use Rattle.enc_image.specs.Base.{users_of, field_bytes, reading_of, cell_for, is_offset, offset_fault, rows_from, cells_fault, cell_in, row_in, table_rows, module_in}
+use Rattle.enc_plain.specs.Sound.{is_part}
 use Rattle.enc_rows.specs.Source.{Source, raw_in}
 use Rattle.enc_plain.specs.Bodies.{body_loaded}
 use Rattle.enc_plain.specs.Reading.{within, index_token, cell_read, cell_with}

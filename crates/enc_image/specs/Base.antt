@@ -25,18 +25,17 @@ use Rattle.enc_plain.specs.Cell.{Cell, number, cell_count}
 use Rattle.enc_plain.specs.Reading.{Reading, cell_read, cell_with}
 use Rattle.enc_plain.specs.Module.{Module, Row}
 use Rattle.enc_plain.specs.Chain.{Chain}
+use Rattle.enc_plain.specs.Sound.{is_part}
 use Rattle.enc_plain.specs.Signatures.{signature_column, is_signature}
 use Rattle.enc_plain.specs.Bodies.{code_loaded, body_loaded, body_is_good}
 use Rattle.enc_opcodes.specs.Body.{Code, begins_locals}
 use Rattle.enc_pe.specs.declared.container.Container.{Container}
 use Rattle.enc_pe.specs.Container.{container_of}
 use Rattle.enc_pe.specs.Loaded.{regions_of}
-use Rattle.enc_image.specs.declared.extent.Extent.{Extent}
-use Rattle.enc_image.specs.declared.extent.Extent.TheVariants.{Bytes, Class}
-use Rattle.enc_base.specs.Numbers.{compressed}
 use Rattle.enc_meta.specs.Regions.{range_loaded}
-use Rattle.enc_schema.specs.Coding.{decoded}
-use Rattle.enc_schema.specs.declared.column.Coding.TheVariants.{TypeDefOrRef}
+use Rattle.enc_plain.specs.Extent.{extent_in}
+use Rattle.enc_plain.specs.declared.extent.Extent.{Extent}
+use Rattle.enc_plain.specs.declared.extent.Extent.TheVariants.{Bytes, Class}
 
 -- the user texts of a file
 abbrev pub users_of : Source → ℕ → Option (List ℕ)
@@ -45,23 +44,6 @@ users_of s = user_at s.heaps.users
 -- the bytes of a blob, none where its offset isn't good
 abbrev pub blob_or_none : Source → ℕ → List ℕ
 blob_or_none s offset = unwrap_or (blob_at s.heaps.blobs offset) []
-
--- how many bytes a kind of integer or float takes, from boolean to R8 (II.23.1.16)
-unfoldable pub size_of_kind : ℕ → Option ℕ
-size_of_kind kind = if nat_lt kind 0x02 then None else slice_get (1 ∷ 2 ∷ 1 ∷ 1 ∷ 2 ∷ 2 ∷ 4 ∷ 4 ∷ 8 ∷ 8 ∷ 4 ∷ 8 ∷ []) (kind - 0x02)
-
--- the type that a token in a signature names, where it is one of this file's (II.23.2.8)
-abbrev pub class_of : Option Token → Option Extent
-class_of (Some t) = if t.table == 0x02 then Some (Class t.row) else None
-class_of None = None
-
-unfoldable pub class_in : List ℕ → Option Extent
-class_in bytes = option_and_then (λ (x : ℕ × ℕ). class_of (decoded TypeDefOrRef x.0)) (compressed bytes)
-
--- what tells the size of a field of this signature: its kind, or the type of its value; of another none is known (II.23.2.4, II.22.18)
-unfoldable pub extent_in : List ℕ → Option Extent
-extent_in (first ∷ kind ∷ rest) = if first == 0x06 then (if kind == 0x11 then class_in rest else option_map (λ n. Bytes n) (size_of_kind kind)) else None
-extent_in _ = None
 
 -- the size that a row of ClassLayout tells, where it is the type's (II.22.8)
 unfoldable pub layout_size : Source → ℕ → ℕ → Option ℕ
@@ -158,10 +140,6 @@ rule n p = option_map (λ (q : Place). record { code = F n; place = q }) p
 -- F7, F8, F11, F10, and then F5 of fields
 unfoldable pub cells_fault : Source → Option Refusal
 cells_fault s = or_else (rule 7 (index_fault (rows_from s))) (or_else (rule 8 (offset_fault s)) (or_else (rule 11 (signature_fault s)) (or_else (rule 10 (body_fault s)) (rule 5 (field_fault s)))))
-
--- the tables that are no part of a module: the Ptr tables, EncLog and EncMap
-abbrev pub is_part : ℕ → Bool
-is_part table = not (list_any (λ t. t == table) (0x03 ∷ 0x05 ∷ 0x07 ∷ 0x13 ∷ 0x16 ∷ 0x1E ∷ 0x1F ∷ []))
 
 -- the row with its cells and its children by runs
 abbrev pub row_in : Source → ℕ → ℕ → Row

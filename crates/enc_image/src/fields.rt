@@ -11,10 +11,10 @@ ghost use Rattle.enc_rows.specs.Source.{raw_in};
 ghost use Rattle.enc_image.specs.Base.{blob_or_none, extent_of, layout_size, size_of_class, size_of, bytes_of_field, field_bytes, field_fault_at, field_fault};
 ghost use Rattle.enc_image.specs.Seen.{source_seen};
 
-use crate::extent::{Extent, extent_in};
 use crate::judge::Cells;
 use enc_base::{Place, Token};
 use enc_pe::at_rva;
+use enc_plain::{Extent, extent_in};
 use enc_schema::column_of;
 use std::alloc::{AllocError, Global};
 

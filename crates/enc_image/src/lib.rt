@@ -4,7 +4,6 @@
 mod bodies;
 mod chain;
 mod code;
-mod extent;
 mod fields;
 mod image;
 mod judge;

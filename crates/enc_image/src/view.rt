@@ -6,7 +6,8 @@ ghost use Rattle.enc_meta.specs.Heaps.{lengths_of, part};
 ghost use Rattle.enc_rows.specs.Layout.{IsWithin};
 ghost use Rattle.enc_schema.specs.Schema.{column_in};
 ghost use Rattle.enc_plain.specs.Module.{Module, rows_in, has_row, cell_of};
-ghost use Rattle.enc_image.specs.Base.{is_part, cells_fault, module_in, users_of};
+ghost use Rattle.enc_image.specs.Base.{cells_fault, module_in, users_of};
+ghost use Rattle.enc_plain.specs.Sound.{is_part};
 ghost use Rattle.enc_image.specs.Seen.{source_seen};
 ghost use Rattle.enc_rows.specs.Source.{raw_in};
 

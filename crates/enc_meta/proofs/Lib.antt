@@ -1,4 +1,15 @@
 pub mod Bytes
+pub mod Places
+pub mod Entries
+pub mod Units
+pub mod Joining
+pub mod Standing
+pub mod Reading
+pub mod Sixteens
+pub mod Counting
+pub mod Staying
+pub mod BuiltMeanings
+pub mod Tied
 pub mod Texts
 pub mod Headers
 pub mod Within

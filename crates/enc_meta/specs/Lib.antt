@@ -4,3 +4,7 @@ pub mod Heaps
 pub mod Example
 pub mod Laws
 pub mod Joined
+pub mod Built
+pub mod Pools
+pub mod BuiltLaws
+pub mod BuiltSeen

@@ -1,5 +1,6 @@
 //! What the definitions of this crate mean, each as the contract of a function that does nothing.
 ghost use Rattle.std.specs.Prelude.{◌≡◌, Ok};
+ghost use Rattle.enc_meta.specs.BuiltLaws.{TextsAreRead, UsersAreRead, BlobsAreRead, GuidsAreRead, TextsCount, OffsetsStay, NumbersStay, OffsetsTell, UserOffsetsTell, BlobOffsetsTell, GuidNumbersTell};
 ghost use Rattle.enc_meta.specs.Example.{ExampleReads, ExampleCounts};
 ghost use Rattle.enc_meta.specs.Heaps.{heaps_of, AreAtMost};
 ghost use Rattle.enc_meta.specs.Laws.{PaddedIsLeast, TextStands};
@@ -31,3 +32,27 @@ pub fn heaps_law(bytes: &[u8], root: &Root)
     let _ = bytes;
     let _ = root;
 }
+
+/// Every value is read at its offset in the joined heaps, whatever heaps stand before, and every byte
+/// of the texts counts.
+pub fn built_laws()
+    ensures texts { TextsAreRead }
+    ensures users { UsersAreRead }
+    ensures blobs { BlobsAreRead }
+    ensures guids { GuidsAreRead }
+    ensures count { TextsCount }
+{}
+
+/// Offsets and GUID numbers that were given stay when more values come.
+pub fn offsets_stay_law()
+    ensures offsets { OffsetsStay }
+    ensures numbers { NumbersStay }
+{}
+
+/// Different values of a heap have different offsets.
+pub fn offsets_law()
+    ensures texts { OffsetsTell }
+    ensures users { UserOffsetsTell }
+    ensures blobs { BlobOffsetsTell }
+    ensures guids { GuidNumbersTell }
+{}

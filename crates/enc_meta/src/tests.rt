@@ -227,3 +227,173 @@ fn reads_user_texts(rt: HostRuntime) -> Result<(), Fail> {
     assert_eq!(rt; heaps.user(5), None);
     Ok(())
 }
+
+/// Joined heaps of these lengths, of which `#GUID` has so many entries.
+fn lengths(strings: u32, users: u32, blobs: u32, guids: u32) -> HeapLengths {
+    HeapLengths {
+        strings,
+        users,
+        blobs,
+        guids,
+    }
+}
+
+#[test]
+fn gives_equal_values_one_offset(rt: HostRuntime) -> Result<(), Fail> {
+    let mut heaps = HeapBuilder::begin(rt.alloc(), lengths(0, 0, 0, 0))?;
+    assert_eq!(rt; heaps.add_text(b"ab"), Ok(1));
+    assert_eq!(rt; heaps.add_text(b"c"), Ok(4));
+    assert_eq!(rt; heaps.add_text(b"ab"), Ok(1));
+    assert_eq!(rt; heaps.add_text(b""), Ok(0));
+    assert_eq!(rt; heaps.add_blob(&[7; 0x80]), Ok(1));
+    assert_eq!(rt; heaps.add_blob(&[0]), Ok(0x83));
+    assert_eq!(rt; heaps.add_blob(&[7; 0x80]), Ok(1));
+    assert_eq!(rt; heaps.add_blob(&[]), Ok(0));
+    Ok(())
+}
+
+#[test]
+fn gives_equal_units_and_guids_one_place(rt: HostRuntime) -> Result<(), Fail> {
+    let mut heaps = HeapBuilder::begin(rt.alloc(), lengths(0, 0, 0, 0))?;
+    assert_eq!(rt; heaps.add_user(&[0x61, 0x62]), Ok(1));
+    assert_eq!(rt; heaps.add_user(&[0x100]), Ok(7));
+    assert_eq!(rt; heaps.add_units(b"a\0b\0"), Ok(1));
+    assert_eq!(rt; heaps.add_user(&[]), Ok(0));
+    assert_eq!(rt; heaps.add_guid([1; 16]), Ok(1));
+    assert_eq!(rt; heaps.add_guid([2; 16]), Ok(2));
+    assert_eq!(rt; heaps.add_guid([1; 16]), Ok(1));
+    assert_eq!(rt; heaps.add_guid([0; 16]), Ok(0));
+    Ok(())
+}
+
+#[test]
+fn counts_on_from_the_chain(rt: HostRuntime) -> Result<(), Fail> {
+    let mut heaps = HeapBuilder::begin(rt.alloc(), lengths(10, 20, 30, 2))?;
+    assert_eq!(rt; heaps.add_text(b"a"), Ok(11));
+    assert_eq!(rt; heaps.add_text(b"b"), Ok(13));
+    assert_eq!(rt; heaps.add_user(&[0x61]), Ok(21));
+    assert_eq!(rt; heaps.add_blob(&[1, 2]), Ok(31));
+    assert_eq!(rt; heaps.add_blob(&[3]), Ok(34));
+    assert_eq!(rt; heaps.add_guid([1; 16]), Ok(3));
+    assert_eq!(rt; heaps.add_guid([2; 16]), Ok(4));
+    Ok(())
+}
+
+#[test]
+fn writes_texts_and_blobs(rt: HostRuntime) -> Result<(), Fail> {
+    let mut heaps = HeapBuilder::begin(rt.alloc(), lengths(5, 5, 5, 0))?;
+    heaps.add_text(b"ab")?;
+    heaps.add_text(b"c")?;
+    heaps.add_text(b"ab")?;
+    heaps.add_blob(&[0])?;
+    heaps.add_blob(&[1, 2])?;
+    let bytes = heaps.finish()?;
+    assert_eq!(rt; bytes.strings.as_slice(), b"\0ab\0c\0".as_slice());
+    assert_eq!(rt; bytes.blobs.as_slice(), [0, 1, 0, 2, 1, 2].as_slice());
+    assert_eq!(rt; bytes.users.as_slice(), [0].as_slice());
+    assert_eq!(rt; bytes.guids.len(), 0);
+    Ok(())
+}
+
+#[test]
+fn marks_user_texts(rt: HostRuntime) -> Result<(), Fail> {
+    let mut heaps = HeapBuilder::begin(rt.alloc(), lengths(0, 0, 0, 0))?;
+    heaps.add_user(&[0x100])?;
+    heaps.add_user(&[0x61])?;
+    heaps.add_user(&[0x61, 0x27])?;
+    heaps.add_user(&[0x09])?;
+    heaps.add_user(&[0x7f])?;
+    let bytes = heaps.finish()?;
+    let units: [&[u8]; 6] = [
+        &[0],
+        &[3, 0, 1, 1],
+        &[3, 0x61, 0, 0],
+        &[5, 0x61, 0, 0x27, 0, 1],
+        &[3, 9, 0, 0],
+        &[3, 0x7f, 0, 1],
+    ];
+    assert_eq!(rt;
+        bytes.users.as_slice(),
+        units.concat(rt.alloc())?.as_slice()
+    );
+    Ok(())
+}
+
+#[test]
+fn writes_guids_behind_the_chain(rt: HostRuntime) -> Result<(), Fail> {
+    let mut heaps = HeapBuilder::begin(rt.alloc(), lengths(0, 0, 0, 1))?;
+    heaps.add_guid([0; 16])?;
+    heaps.add_guid([3; 16])?;
+    heaps.add_guid([4; 16])?;
+    heaps.add_guid([3; 16])?;
+    let bytes = heaps.finish()?;
+    let entries = [[0; 16], [3; 16], [4; 16]];
+    assert_eq!(rt;
+        bytes.guids.as_slice(),
+        entries.concat(rt.alloc())?.as_slice()
+    );
+    Ok(())
+}
+
+#[test]
+fn fills_heaps_to_their_limits(rt: HostRuntime) -> Result<(), Fail> {
+    let starts = lengths(0x1fff_fffd, 0xff_fffb, 0x1fff_fffd, 0x1ff_ffff);
+    let mut heaps = HeapBuilder::begin(rt.alloc(), starts)?;
+    assert_eq!(rt; heaps.add_text(b"a"), Ok(0x1fff_fffe));
+    assert_eq!(rt; heaps.add_user(&[0x61]), Ok(0xff_fffc));
+    assert_eq!(rt; heaps.add_blob(&[1]), Ok(0x1fff_fffe));
+    assert_eq!(rt; heaps.add_guid([1; 16]), Ok(0x200_0000));
+    assert_eq!(rt;
+        heaps.add_text(b"b"),
+        Err(BuildFault::TooLarge(StreamName::Strings))
+    );
+    assert_eq!(rt; heaps.add_text(b"a"), Ok(0x1fff_fffe));
+    assert_eq!(rt;
+        heaps.add_guid([2; 16]),
+        Err(BuildFault::TooLarge(StreamName::Guids))
+    );
+    assert_eq!(rt; heaps.add_guid([1; 16]), Ok(0x200_0000));
+    Ok(())
+}
+
+#[test]
+fn passes_no_limit(rt: HostRuntime) -> Result<(), Fail> {
+    let starts = lengths(0x1fff_fffe, 0xff_fffc, 0x1fff_fffe, 0x200_0000);
+    let mut heaps = HeapBuilder::begin(rt.alloc(), starts)?;
+    assert_eq!(rt;
+        heaps.add_text(b"a"),
+        Err(BuildFault::TooLarge(StreamName::Strings))
+    );
+    assert_eq!(rt;
+        heaps.add_user(&[0x61]),
+        Err(BuildFault::TooLarge(StreamName::Users))
+    );
+    assert_eq!(rt;
+        heaps.add_blob(&[1]),
+        Err(BuildFault::TooLarge(StreamName::Blobs))
+    );
+    assert_eq!(rt;
+        heaps.add_guid([1; 16]),
+        Err(BuildFault::TooLarge(StreamName::Guids))
+    );
+    assert_eq!(rt; heaps.add_text(b""), Ok(0));
+    assert_eq!(rt; heaps.add_user(&[]), Ok(0));
+    assert_eq!(rt; heaps.add_guid([0; 16]), Ok(0));
+    Ok(())
+}
+
+#[test]
+fn begins_behind_any_length(rt: HostRuntime) -> Result<(), Fail> {
+    let most = 0xffff_ffff;
+    let mut heaps = HeapBuilder::begin(rt.alloc(), lengths(most, most, most, most))?;
+    assert_eq!(rt;
+        heaps.add_text(b"a"),
+        Err(BuildFault::TooLarge(StreamName::Strings))
+    );
+    assert_eq!(rt;
+        heaps.add_guid([1; 16]),
+        Err(BuildFault::TooLarge(StreamName::Guids))
+    );
+    assert_eq!(rt; heaps.add_blob(&[]), Ok(0));
+    Ok(())
+}

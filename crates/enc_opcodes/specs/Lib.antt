@@ -5,3 +5,4 @@ pub mod Body
 pub mod Clause
 pub mod Instruction
 pub mod Example
+pub mod Sound

@@ -1,4 +1,9 @@
+pub mod HeadersRead
+pub mod HeadersWritten
+pub mod ImagesRead
 pub mod Loaded
 pub mod Meanings
+pub mod Numbers
 pub mod Parts
 pub mod Search
+pub mod SectionsWritten

@@ -3,3 +3,4 @@ pub mod Headers
 pub mod Container
 pub mod Loaded
 pub mod Laws
+pub mod Written

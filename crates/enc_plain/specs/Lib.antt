@@ -12,3 +12,5 @@ pub mod Rows
 pub mod Signatures
 pub mod Alike
 pub mod AlikeLaws
+pub mod Extent
+pub mod Sound

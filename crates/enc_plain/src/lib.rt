@@ -3,6 +3,7 @@
 
 mod cells;
 mod chain;
+mod extent;
 mod laws;
 mod likeness;
 mod plain;
@@ -11,6 +12,7 @@ mod view;
 
 pub use cells::{CellView, Viewed};
 pub use chain::ChainView;
+pub use extent::{Extent, extent_in};
 pub use laws::likeness_laws;
 pub use likeness::{alike, signatures_alike, tokens_alike};
 pub use plain::{PlainCell, PlainModule};

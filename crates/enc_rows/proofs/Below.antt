@@ -1,8 +1,8 @@
 -- Lists and sums over the numbers below one.
 use Rattle.std.proofs.Common.{◌≡◌, ℕ, zero, suc, ◌+◌, ◌-◌, ◌<◌, ◌≤◌, List, length, map, get_or, refl, ap, ◌∙◌, arith}
 use Rattle.std.proofs.Common.{Bool, true, false}
-use Rattle.std.specs.Prelude.{◌&&◌}
-use Rattle.std.specs.List.{list_all, range_with_len}
+use Rattle.std.specs.Prelude.{◌&&◌, ◌||◌}
+use Rattle.std.specs.List.{list_all, list_any, range_with_len}
 use Rattle.std.proofs.lemmas.List.FromFn.{fill_by_all}
 use Rattle.enc_rows.specs.Sums.{below, sum_below}
 
@@ -74,3 +74,43 @@ stays_false p n (suc d) h =
 -- one that fails is enough
 pub all_false : (p : ℕ → Bool) (n m : ℕ) → n < m → p n ≡ false → list_all p (below m) ≡ false
 all_false p n m lt h = let e : m ≡ n + 1 + (m - (n + 1)) = omega arith in rw e (stays_false p n (m - (n + 1)) h)
+
+-- some number below one passes a test
+pub any_none : (p : ℕ → Bool) → list_any p (below 0) ≡ false
+unfolding below
+any_none p = refl
+
+or_end : (b : Bool) → (b || false) ≡ (false || b)
+or_end true = refl
+or_end false = refl
+
+or_true : (b : Bool) → (b || true) ≡ true
+or_true true = refl
+or_true false = refl
+
+or_three : (a b c : Bool) → (a || (b || c)) ≡ ((a || b) || c)
+or_three true b c = refl
+or_three false b c = refl
+
+any_from : (p : ℕ → Bool) (a n : ℕ) → list_any p (range_with_len a (suc n)) ≡ (list_any p (range_with_len a n) || p (a + n))
+any_from p a zero = let e : a + 0 ≡ a = omega arith in rw e (or_end (p a))
+any_from p a (suc n) =
+    let e : a + suc n ≡ a + 1 + n = omega arith in
+    rw e (ap (λ b. p a || b) (any_from p (a + 1) n) ∙ or_three (p a) (list_any p (range_with_len (a + 1) n)) (p (a + 1 + n)))
+
+pub any_more : (p : ℕ → Bool) (n : ℕ) → list_any p (below (n + 1)) ≡ (list_any p (below n) || p n)
+unfolding below
+any_more p n =
+    let e : n + 1 ≡ suc n = omega arith in
+    let z : 0 + n ≡ n = omega arith in
+    rw e (any_from p 0 n ∙ ap (λ k. list_any p (range_with_len 0 n) || p k) z)
+
+stays_true : (p : ℕ → Bool) (n d : ℕ) → p n ≡ true → list_any p (below (n + 1 + d)) ≡ true
+stays_true p n zero h = let e : n + 1 + 0 ≡ n + 1 = omega arith in rw (e, any_more p n, h) (or_true (list_any p (below n)))
+stays_true p n (suc d) h =
+    let e : n + 1 + suc d ≡ n + 1 + d + 1 = omega arith in
+    rw (e, any_more p (n + 1 + d), stays_true p n d h) refl
+
+-- one that passes is enough
+pub any_true : (p : ℕ → Bool) (n m : ℕ) → n < m → p n ≡ true → list_any p (below m) ≡ true
+any_true p n m lt h = let e : m ≡ n + 1 + (m - (n + 1)) = omega arith in rw e (stays_true p n (m - (n + 1)) h)

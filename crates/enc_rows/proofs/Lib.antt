@@ -7,3 +7,14 @@ pub mod Times
 pub mod Silent
 pub mod Tells
 pub mod Whole
+pub mod Pieces
+pub mod Rows
+pub mod Cells
+pub mod Bits
+pub mod Streams
+pub mod Stands
+pub mod Lengths
+pub mod Layouts
+pub mod CellsRead
+pub mod Small
+pub mod HeapBits

@@ -4,3 +4,4 @@ pub mod Source
 pub mod Runs
 pub mod Fault
 pub mod Owners
+pub mod Written

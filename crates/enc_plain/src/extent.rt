@@ -1,6 +1,6 @@
 //! What tells the size of a field's initial bytes: its signature (ECMA-335 II.22.18, II.23.2.4).
 ghost use Rattle.std.specs.Prelude.{◌≡◌, slice_get};
-ghost use Rattle.enc_image.specs.Base.{size_of_kind, class_of, class_in, extent_in};
+ghost use Rattle.enc_plain.specs.Extent.{size_of_kind, class_of, class_in, extent_in};
 
 use enc_base::{Token, read_unsigned};
 use enc_schema::{Coding, decode_coded};
@@ -25,7 +25,7 @@ fn entry(sizes: &[u32], i: u8) -> Option<u32>
 }
 
 /// How many bytes a kind of integer or float takes (ECMA-335 II.23.1.16), None of any other kind.
-#[tactic(auto, unfolding(crate::specs::Base::size_of_kind))]
+#[tactic(auto, unfolding(crate::specs::Extent::size_of_kind))]
 fn size_of_kind(kind: u8) -> Option<u32>
     ensures { result ≡ size_of_kind kind }
 {
@@ -46,7 +46,7 @@ fn class_of(token: Token) -> Option<Extent>
 }
 
 /// The type that a signature names, where it is one of this file's (ECMA-335 II.23.2.8).
-#[tactic(auto, unfolding(crate::specs::Base::class_in))]
+#[tactic(auto, unfolding(crate::specs::Extent::class_in))]
 fn class_in(bytes: &[u8]) -> Option<Extent>
     ensures { result ≡ class_in bytes.now }
 {
@@ -61,7 +61,7 @@ fn class_in(bytes: &[u8]) -> Option<Extent>
 
 /// What tells the size of a field of this signature: its kind, or the type of its value. None where
 /// nothing does, or where this isn't the signature of a field.
-#[tactic(auto, unfolding(crate::specs::Base::extent_in))]
+#[tactic(auto, unfolding(crate::specs::Extent::extent_in))]
 pub fn extent_in(signature: &[u8]) -> Option<Extent>
     ensures { result ≡ extent_in signature.now }
 {

@@ -1,0 +1,5 @@
+pub mod Rests
+pub mod Names
+pub mod Five
+pub mod Good
+pub mod Read

@@ -1,0 +1,9 @@
+//! What is built of a metadata file: its root, with its heaps and its tables.
+#![tactic(auto)]
+
+mod laws;
+mod root;
+mod written;
+
+pub use laws::root_law;
+pub use root::RootBuilder;

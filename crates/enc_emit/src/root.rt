@@ -1,0 +1,97 @@
+//! A metadata root that is built: its heaps, its tables, and then its bytes (ECMA-335 II.24.2.1).
+ghost use Rattle.std.specs.Prelude.{◌≡◌, ◌<◌, ◌^◌, ◌||◌, [], IfOk};
+ghost use Rattle.enc_meta.specs.Built.{none_from};
+ghost use Rattle.enc_rows.specs.Written.{IndicesFit};
+ghost use Rattle.enc_emit.specs.Written.{has_ptr_rows as ptrs_have_rows, root_built, built_size};
+
+use crate::written::root_bytes;
+use enc_meta::{HeapBuilder, HeapLengths};
+use enc_rows::{TableBuilder, heap_bits_law};
+use std::alloc::{AllocError, Global};
+use std::marker::Model;
+
+/// A metadata root that is built.
+#[derive(Drop)]
+pub struct RootBuilder {
+    heaps: HeapBuilder,
+    tables: TableBuilder,
+}
+
+impl Model for RootBuilder {
+    ghost use Rattle.enc_emit.specs.Written.{Parts};
+
+    ghost Value = { Parts };
+
+    ghost view = { λ b. record { heaps = b.heaps; rows = b.tables } };
+}
+
+/// Whether a Ptr table has rows.
+#[tactic(auto, unfolding(crate::specs::Written::has_ptr_rows))]
+fn has_ptr_rows(tables: &TableBuilder) -> bool
+    ensures { result ≡ ptrs_have_rows tables.now }
+{
+    tables.count(0x03) > 0
+        || tables.count(0x05) > 0
+        || tables.count(0x07) > 0
+        || tables.count(0x13) > 0
+        || tables.count(0x16) > 0
+}
+
+/// Whether the tables are in the uncompressed form.
+fn is_uncompressed(jtd: bool, tables: &TableBuilder) -> bool
+    ensures { result ≡ (jtd || ptrs_have_rows tables.now) }
+{
+    jtd || has_ptr_rows(tables)
+}
+
+impl RootBuilder {
+    ghost use Rattle.std.specs.Borrow.{sem};
+    ghost use Rattle.enc_emit.specs.Lending.{LendsHeaps, LendsTables};
+
+    /// A root without values and rows, whose heaps begin at these offsets of the joined ones, all 0
+    /// for a module.
+    pub fn begin(alloc: Global, starts: HeapLengths) -> Result<RootBuilder, AllocError>
+        ensures heaps { IfOk result (λ b. b.heaps ≡ none_from starts) }
+        ensures rows { IfOk result (λ b. b.rows ≡ []) }
+    {
+        Ok(RootBuilder {
+            heaps: HeapBuilder::begin(alloc, starts)?,
+            tables: TableBuilder::begin(alloc),
+        })
+    }
+
+    /// The heaps, to add values.
+    pub fn heaps(&mut self) -> &mut HeapBuilder
+        ensures* writes_back { sem 𝓛 (LendsHeaps self.entry result) }
+        ensures value { result.now ≡ self.old.heaps }
+    {
+        &mut self.heaps
+    }
+
+    /// The tables, to add rows.
+    pub fn tables(&mut self) -> &mut TableBuilder
+        ensures* writes_back { sem 𝓛 (LendsTables self.entry result) }
+        ensures value { result.now ≡ self.old.rows }
+    {
+        &mut self.tables
+    }
+
+    /// The bytes of the root. With `jtd` all indices take four bytes and a stream `#JTD` says so,
+    /// as in the metadata of a delta. Offsets take four bytes in the columns of a heap where one of
+    /// them needs more than two. The table stream is `#-` with `jtd` or where a Ptr table has rows,
+    /// and else `#~`.
+    #[tactic(auto, unfolding(crate::specs::Written::root_built))]
+    pub fn finish(self, alloc: Global, jtd: bool) -> Result<Vec<u8>, AllocError>
+        requires fit { IndicesFit self.rows jtd }
+        requires size { built_size self jtd < 2 ^ 32 }
+        ensures { IfOk result (λ v. v.items ≡ root_built self jtd) }
+    {
+        self.tables.laws();
+        heap_bits_law();
+        let uncompressed = is_uncompressed(jtd, &self.tables);
+        let flags = self.tables.heap_bits();
+        let stream = self.tables.finish(alloc, jtd, flags)?;
+        let heaps = self.heaps.finish()?;
+        root_bytes(alloc, jtd, uncompressed, &stream, &heaps)
+    }
+}
