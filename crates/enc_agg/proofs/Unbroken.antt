@@ -7,23 +7,23 @@ use Rattle.enc_base.specs.declared.refusal.Refusal.{Refusal}
 use Rattle.enc_rows.specs.Source.{Source}
 use Rattle.enc_plain.specs.Chain.{Chain}
 use Rattle.enc_delta.specs.Delta.{listed, log_in}
-use Rattle.enc_delta.specs.Rules.{e5, late_fault, e7, insert_fault, log_fault, child_fault, e12, e13, e14, e16, e17, e24}
-use Rattle.enc_delta.specs.Changes.{e15, e18, e19, e20, e21, e23}
+use Rattle.enc_delta.specs.Rules.{heap_fault, late_fault, uneven_table, insert_fault, log_fault, child_fault, closed_table, bad_index, bad_offset, broken_body, lost_body, too_many}
+use Rattle.enc_delta.specs.Changes.{altered_cell, field_out_of_layout, method_without_slot, twin_member, bad_signature, bad_locals}
 use Rattle.enc_delta.specs.Judged.{rule, set_meta, signatures_meta, members_meta, changes_meta, cells_meta, lists_meta, first_meta}
 
 -- the rules on lists and on cells, each unbroken
 pub record Unbroken (c : Chain) (s : Source) : Type 0 where
   pub late : late_fault (listed s) ≡ None
-  pub tables : e7 s ≡ None
+  pub tables : uneven_table s ≡ None
   pub inserts : insert_fault c (listed s) ≡ None
   pub sets : set_meta s ≡ None
   pub log : log_fault c (listed s) (log_in s) ≡ None
   pub children : child_fault c (listed s) (log_in s) ≡ None
-  pub cell_tables : e12 s ≡ None
-  pub e13 : e13 c s ≡ None
-  pub e14 : e14 c s ≡ None
-  pub e16 : e16 c s ≡ None
-  pub limit : e24 c s ≡ None
+  pub cell_tables : closed_table s ≡ None
+  pub bad_index : bad_index c s ≡ None
+  pub bad_offset : bad_offset c s ≡ None
+  pub broken_body : broken_body c s ≡ None
+  pub limit : too_many c s ≡ None
 
 neither : (n : ℕ) (a : Option Place) (b : Option Refusal) → or_else (rule n a) b ≡ None → (a ≡ None) × (b ≡ None)
 neither n None b h = (refl, h)
@@ -33,30 +33,30 @@ last : (n : ℕ) (a : Option Place) → rule n a ≡ None → a ≡ None
 last n None h = refl
 last n (Some p) h = absurd cc
 
-limit_of : (c : Chain) (s : Source) → members_meta c s ≡ None → e24 c s ≡ None
+limit_of : (c : Chain) (s : Source) → members_meta c s ≡ None → too_many c s ≡ None
 unfolding members_meta signatures_meta
 limit_of c s h =
-    let r19 = (neither 18 (e18 c s) _ h).1 in
-    let r20 = (neither 19 (e19 c s) _ r19).1 in
-    let r21 = (neither 20 (e20 c s) _ r20).1 in
-    let r23 = (neither 21 (e21 c s) _ r21).1 in
-    last 24 (e24 c s) ((neither 23 (e23 c s) _ r23).1)
+    let r19 = (neither 18 (field_out_of_layout c s) _ h).1 in
+    let r20 = (neither 19 (method_without_slot c s) _ r19).1 in
+    let r21 = (neither 20 (twin_member c s) _ r20).1 in
+    let r23 = (neither 21 (bad_signature c s) _ r21).1 in
+    last 24 (too_many c s) ((neither 23 (bad_locals c s) _ r23).1)
 
-bodies_of : (c : Chain) (s : Source) → changes_meta c s ≡ None → (e16 c s ≡ None) × (e24 c s ≡ None)
+bodies_of : (c : Chain) (s : Source) → changes_meta c s ≡ None → (broken_body c s ≡ None) × (too_many c s ≡ None)
 unfolding changes_meta
 bodies_of c s h =
-    let r16 = neither 16 (e16 c s) _ ((neither 15 (e15 c s) _ h).1) in
-    (r16.0, limit_of c s ((neither 17 (e17 c s) _ r16.1).1))
+    let r16 = neither 16 (broken_body c s) _ ((neither 15 (altered_cell c s) _ h).1) in
+    (r16.0, limit_of c s ((neither 17 (lost_body c s) _ r16.1).1))
 
-cells_of : (c : Chain) (s : Source) → cells_meta c s ≡ None → (e12 s ≡ None) × ((e13 c s ≡ None) × ((e14 c s ≡ None) × (changes_meta c s ≡ None)))
+cells_of : (c : Chain) (s : Source) → cells_meta c s ≡ None → (closed_table s ≡ None) × ((bad_index c s ≡ None) × ((bad_offset c s ≡ None) × (changes_meta c s ≡ None)))
 unfolding cells_meta
 cells_of c s h =
-    let r12 = neither 12 (e12 s) _ h in
-    let r13 = neither 13 (e13 c s) _ r12.1 in
-    let r14 = neither 14 (e14 c s) _ r13.1 in
+    let r12 = neither 12 (closed_table s) _ h in
+    let r13 = neither 13 (bad_index c s) _ r12.1 in
+    let r14 = neither 14 (bad_offset c s) _ r13.1 in
     (r12.0, (r13.0, (r14.0, r14.1)))
 
-heaps_and_lists : (c : Chain) (s : Source) → first_meta c s ≡ None → (e5 c s ≡ None) × (lists_meta c s ≡ None)
+heaps_and_lists : (c : Chain) (s : Source) → first_meta c s ≡ None → (heap_fault c s ≡ None) × (lists_meta c s ≡ None)
 unfolding first_meta
 heaps_and_lists c s h = neither 5 _ _ (neither 4 _ _ (neither 3 _ _ (neither 2 _ _ (neither 1 _ _ h).1).1).1).1
 
@@ -64,7 +64,7 @@ by_kind : (c : Chain) (s : Source) → lists_meta c s ≡ None → Unbroken c s
 unfolding lists_meta
 by_kind c s h =
     let r6 = neither 6 (late_fault (listed s)) _ h in
-    let r7 = neither 7 (e7 s) _ r6.1 in
+    let r7 = neither 7 (uneven_table s) _ r6.1 in
     let r8 = neither 8 (insert_fault c (listed s)) _ r7.1 in
     let r9 = neither 9 (set_meta s) _ r8.1 in
     let r10 = neither 10 (log_fault c (listed s) (log_in s)) _ r9.1 in
@@ -79,9 +79,9 @@ by_kind c s h =
       log = r10.0;
       children = r11.0;
       cell_tables = cells.0;
-      e13 = cells.1.0;
-      e14 = cells.1.1.0;
-      e16 = bodies.0;
+      bad_index = cells.1.0;
+      bad_offset = cells.1.1.0;
+      broken_body = bodies.0;
       limit = bodies.1;
     }
 
@@ -90,5 +90,5 @@ pub unbroken : (c : Chain) (s : Source) → first_meta c s ≡ None → Unbroken
 unbroken c s h = by_kind c s (heaps_and_lists c s h).1
 
 -- and its heaps keep the limits
-pub heaps_unbroken : (c : Chain) (s : Source) → first_meta c s ≡ None → e5 c s ≡ None
+pub heaps_unbroken : (c : Chain) (s : Source) → first_meta c s ≡ None → heap_fault c s ≡ None
 heaps_unbroken c s h = (heaps_and_lists c s h).0

@@ -12,8 +12,8 @@ use Rattle.std.proofs.lemmas.Bool.Decides.{nat_tests, eqb_tells}
 use Rattle.enc_base.specs.Order.{or_else}
 use Rattle.enc_meta.specs.Heaps.{Counted, sixteen_at, guid_at, text_entry, bytes_at, user_entry}
 use Rattle.enc_meta.specs.Joined.{first_guid, joined_guid, joined_length, entry_in, joined_entry, joined_text, joined_blob, joined_user}
-use Rattle.enc_delta.specs.declared.heap_rule.HeapTotals.{HeapTotals}
-use Rattle.enc_delta.specs.Totals.{totals_of}
+use Rattle.enc_meta.specs.declared.heaps.HeapLengths.{HeapLengths}
+use Rattle.enc_meta.specs.Joined.{joined_lengths}
 use Rattle.enc_plain.specs.Chain.{Chain, id_of, nil_guid, mvid_of}
 use Rattle.enc_plain.specs.Module.{Row, row_at, row_of, rows_in, cell_of}
 
@@ -148,45 +148,45 @@ joined_behind entry f xs x n o is some le =
     let high : joined_length (map f xs) ≤ o = rw is at le in
     rw (field_more f xs x, above_zero o some, is) (entry_behind entry (map f xs) (f x) o high)
 
-pub text_before : (xs : List Counted) (x : Counted) (t : HeapTotals) (o : ℕ) → t ≡ totals_of xs → o < t.strings → joined_text (xs ++ x ∷ []) o ≡ joined_text xs o
-unfolding totals_of
-text_before xs x t o is lt = joined_before text_entry (λ (c : Counted). c.strings) xs x t.strings o (ap (λ (u : HeapTotals). u.strings) is) lt
+pub text_before : (xs : List Counted) (x : Counted) (t : HeapLengths) (o : ℕ) → t ≡ joined_lengths xs → o < t.strings → joined_text (xs ++ x ∷ []) o ≡ joined_text xs o
+unfolding joined_lengths
+text_before xs x t o is lt = joined_before text_entry (λ (c : Counted). c.strings) xs x t.strings o (ap (λ (u : HeapLengths). u.strings) is) lt
 
-pub text_behind : (xs : List Counted) (x : Counted) (t : HeapTotals) (o : ℕ) → t ≡ totals_of xs → o ≢ 0 → t.strings ≤ o → joined_text (xs ++ x ∷ []) o ≡ text_entry x.strings (o - t.strings)
-unfolding totals_of
-text_behind xs x t o is some le = joined_behind text_entry (λ (c : Counted). c.strings) xs x t.strings o (ap (λ (u : HeapTotals). u.strings) is) some le ∙ text_alone x.strings (o - t.strings)
+pub text_behind : (xs : List Counted) (x : Counted) (t : HeapLengths) (o : ℕ) → t ≡ joined_lengths xs → o ≢ 0 → t.strings ≤ o → joined_text (xs ++ x ∷ []) o ≡ text_entry x.strings (o - t.strings)
+unfolding joined_lengths
+text_behind xs x t o is some le = joined_behind text_entry (λ (c : Counted). c.strings) xs x t.strings o (ap (λ (u : HeapLengths). u.strings) is) some le ∙ text_alone x.strings (o - t.strings)
 
-pub blob_before : (xs : List Counted) (x : Counted) (t : HeapTotals) (o : ℕ) → t ≡ totals_of xs → o < t.blobs → joined_blob (xs ++ x ∷ []) o ≡ joined_blob xs o
-unfolding totals_of
-blob_before xs x t o is lt = joined_before bytes_at (λ (c : Counted). c.blobs) xs x t.blobs o (ap (λ (u : HeapTotals). u.blobs) is) lt
+pub blob_before : (xs : List Counted) (x : Counted) (t : HeapLengths) (o : ℕ) → t ≡ joined_lengths xs → o < t.blobs → joined_blob (xs ++ x ∷ []) o ≡ joined_blob xs o
+unfolding joined_lengths
+blob_before xs x t o is lt = joined_before bytes_at (λ (c : Counted). c.blobs) xs x t.blobs o (ap (λ (u : HeapLengths). u.blobs) is) lt
 
-pub blob_behind : (xs : List Counted) (x : Counted) (t : HeapTotals) (o : ℕ) → t ≡ totals_of xs → o ≢ 0 → t.blobs ≤ o → o - t.blobs < length x.blobs → joined_blob (xs ++ x ∷ []) o ≡ bytes_at x.blobs (o - t.blobs)
-unfolding totals_of entry_in
+pub blob_behind : (xs : List Counted) (x : Counted) (t : HeapLengths) (o : ℕ) → t ≡ joined_lengths xs → o ≢ 0 → t.blobs ≤ o → o - t.blobs < length x.blobs → joined_blob (xs ++ x ∷ []) o ≡ bytes_at x.blobs (o - t.blobs)
+unfolding joined_lengths entry_in
 blob_behind xs x t o is some le low =
     let here : nat_lt (o - t.blobs) (length x.blobs) ≡ true = grind (arith, nat_tests, low) in
-    joined_behind bytes_at (λ (c : Counted). c.blobs) xs x t.blobs o (ap (λ (u : HeapTotals). u.blobs) is) some le ∙ rw here refl
+    joined_behind bytes_at (λ (c : Counted). c.blobs) xs x t.blobs o (ap (λ (u : HeapLengths). u.blobs) is) some le ∙ rw here refl
 
-pub blob_past : (xs : List Counted) (x : Counted) (t : HeapTotals) (o : ℕ) → t ≡ totals_of xs → o ≢ 0 → t.blobs ≤ o → length x.blobs ≤ o - t.blobs → joined_blob (xs ++ x ∷ []) o ≡ None
-unfolding totals_of entry_in
+pub blob_past : (xs : List Counted) (x : Counted) (t : HeapLengths) (o : ℕ) → t ≡ joined_lengths xs → o ≢ 0 → t.blobs ≤ o → length x.blobs ≤ o - t.blobs → joined_blob (xs ++ x ∷ []) o ≡ None
+unfolding joined_lengths entry_in
 blob_past xs x t o is some le high =
     let here : nat_lt (o - t.blobs) (length x.blobs) ≡ false = grind (arith, nat_tests, high) in
-    joined_behind bytes_at (λ (c : Counted). c.blobs) xs x t.blobs o (ap (λ (u : HeapTotals). u.blobs) is) some le ∙ rw here refl
+    joined_behind bytes_at (λ (c : Counted). c.blobs) xs x t.blobs o (ap (λ (u : HeapLengths). u.blobs) is) some le ∙ rw here refl
 
-pub user_before : (xs : List Counted) (x : Counted) (t : HeapTotals) (o : ℕ) → t ≡ totals_of xs → o < t.users → joined_user (xs ++ x ∷ []) o ≡ joined_user xs o
-unfolding totals_of
-user_before xs x t o is lt = joined_before user_entry (λ (c : Counted). c.users) xs x t.users o (ap (λ (u : HeapTotals). u.users) is) lt
+pub user_before : (xs : List Counted) (x : Counted) (t : HeapLengths) (o : ℕ) → t ≡ joined_lengths xs → o < t.users → joined_user (xs ++ x ∷ []) o ≡ joined_user xs o
+unfolding joined_lengths
+user_before xs x t o is lt = joined_before user_entry (λ (c : Counted). c.users) xs x t.users o (ap (λ (u : HeapLengths). u.users) is) lt
 
-pub user_behind : (xs : List Counted) (x : Counted) (t : HeapTotals) (o : ℕ) → t ≡ totals_of xs → o ≢ 0 → t.users ≤ o → o - t.users < length x.users → joined_user (xs ++ x ∷ []) o ≡ user_entry x.users (o - t.users)
-unfolding totals_of entry_in
+pub user_behind : (xs : List Counted) (x : Counted) (t : HeapLengths) (o : ℕ) → t ≡ joined_lengths xs → o ≢ 0 → t.users ≤ o → o - t.users < length x.users → joined_user (xs ++ x ∷ []) o ≡ user_entry x.users (o - t.users)
+unfolding joined_lengths entry_in
 user_behind xs x t o is some le low =
     let here : nat_lt (o - t.users) (length x.users) ≡ true = grind (arith, nat_tests, low) in
-    joined_behind user_entry (λ (c : Counted). c.users) xs x t.users o (ap (λ (u : HeapTotals). u.users) is) some le ∙ rw here refl
+    joined_behind user_entry (λ (c : Counted). c.users) xs x t.users o (ap (λ (u : HeapLengths). u.users) is) some le ∙ rw here refl
 
-pub user_past : (xs : List Counted) (x : Counted) (t : HeapTotals) (o : ℕ) → t ≡ totals_of xs → o ≢ 0 → t.users ≤ o → length x.users ≤ o - t.users → joined_user (xs ++ x ∷ []) o ≡ None
-unfolding totals_of entry_in
+pub user_past : (xs : List Counted) (x : Counted) (t : HeapLengths) (o : ℕ) → t ≡ joined_lengths xs → o ≢ 0 → t.users ≤ o → length x.users ≤ o - t.users → joined_user (xs ++ x ∷ []) o ≡ None
+unfolding joined_lengths entry_in
 user_past xs x t o is some le high =
     let here : nat_lt (o - t.users) (length x.users) ≡ false = grind (arith, nat_tests, high) in
-    joined_behind user_entry (λ (c : Counted). c.users) xs x t.users o (ap (λ (u : HeapTotals). u.users) is) some le ∙ rw here refl
+    joined_behind user_entry (λ (c : Counted). c.users) xs x t.users o (ap (λ (u : HeapLengths). u.users) is) some le ∙ rw here refl
 
 entry_stays : (entry : List ℕ → ℕ → Option (List ℕ)) (heaps : List (List ℕ)) (heap : List ℕ) (o : ℕ) (x : List ℕ) → entry_in entry heaps o ≡ Some x → entry_in entry (heaps ++ heap ∷ []) o ≡ Some x
 unfolding entry_in

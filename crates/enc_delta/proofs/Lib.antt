@@ -1,6 +1,6 @@
 pub mod Listed
 pub mod Behind
-pub mod Totals
+pub mod HeapLimits
 pub mod Counters
 pub mod Runs
 pub mod Methods

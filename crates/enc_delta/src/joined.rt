@@ -1,10 +1,8 @@
 //! The joined heaps of a chain with the heaps of one file more behind them.
 ghost use Rattle.std.specs.Prelude.{◌≡◌, [], ◌∷◌, ◌++◌, is_some, option_copied};
-ghost use Rattle.enc_meta.specs.Joined.{joined_text, joined_blob, joined_user, joined_guid};
-ghost use Rattle.enc_delta.specs.Totals.{totals_of};
+ghost use Rattle.enc_meta.specs.Joined.{joined_text, joined_blob, joined_user, joined_guid, joined_lengths};
 
-use crate::heap_rule::HeapTotals;
-use enc_meta::Heaps;
+use enc_meta::{HeapLengths, Heaps};
 use enc_plain::ChainView;
 
 /// The text at an offset of the joined `#Strings` with one heap more behind the chain's, None where
@@ -13,20 +11,20 @@ use enc_plain::ChainView;
 pub fn text_after<'a, C: ChainView>(
     chain: &'a C,
     heaps: &Heaps<'a>,
-    before: &HeapTotals,
+    before: &HeapLengths,
     offset: u32,
 ) -> Option<&'a [u8]>
-    requires tied { before.now ≡ totals_of (C.chain chain.now).heaps }
+    requires tied { before.now ≡ joined_lengths (C.chain chain.now).heaps }
     ensures { option_copied result ≡ joined_text ((C.chain chain.now).heaps ++ heaps.now ∷ []) offset }
 {
     if offset == 0 {
         return Some(&[]);
     }
     let strings = before.strings;
-    if u64::from(offset) < strings {
+    if offset < strings {
         return chain.text_at(offset);
     }
-    heaps.text_entry(offset - strings as u32)
+    heaps.text_entry(offset - strings)
 }
 
 /// Whether a text stands at an offset of the joined `#Strings` with one heap more behind the
@@ -35,20 +33,20 @@ pub fn text_after<'a, C: ChainView>(
 pub fn has_text_after<C: ChainView>(
     chain: &C,
     heaps: &Heaps<'_>,
-    before: &HeapTotals,
+    before: &HeapLengths,
     offset: u32,
 ) -> bool
-    requires tied { before.now ≡ totals_of (C.chain chain.now).heaps }
+    requires tied { before.now ≡ joined_lengths (C.chain chain.now).heaps }
     ensures { result ≡ is_some (joined_text ((C.chain chain.now).heaps ++ heaps.now ∷ []) offset) }
 {
     if offset == 0 {
         return true;
     }
     let strings = before.strings;
-    if u64::from(offset) < strings {
+    if offset < strings {
         return chain.has_text(offset);
     }
-    heaps.has_text_entry(offset - strings as u32)
+    heaps.has_text_entry(offset - strings)
 }
 
 /// The bytes at an offset of the joined `#Blob` with one heap more behind the chain's, None where
@@ -57,20 +55,20 @@ pub fn has_text_after<C: ChainView>(
 pub fn blob_after<'a, C: ChainView>(
     chain: &'a C,
     heaps: &Heaps<'a>,
-    before: &HeapTotals,
+    before: &HeapLengths,
     offset: u32,
 ) -> Option<&'a [u8]>
-    requires tied { before.now ≡ totals_of (C.chain chain.now).heaps }
+    requires tied { before.now ≡ joined_lengths (C.chain chain.now).heaps }
     ensures { option_copied result ≡ joined_blob ((C.chain chain.now).heaps ++ heaps.now ∷ []) offset }
 {
     if offset == 0 {
         return Some(&[]);
     }
     let blobs = before.blobs;
-    if u64::from(offset) < blobs {
+    if offset < blobs {
         return chain.blob_at(offset);
     }
-    let own = offset - blobs as u32;
+    let own = offset - blobs;
     if own as usize >= heaps.blobs().len() {
         return None;
     }
@@ -83,20 +81,20 @@ pub fn blob_after<'a, C: ChainView>(
 pub fn user_after<'a, C: ChainView>(
     chain: &'a C,
     heaps: &Heaps<'a>,
-    before: &HeapTotals,
+    before: &HeapLengths,
     offset: u32,
 ) -> Option<&'a [u8]>
-    requires tied { before.now ≡ totals_of (C.chain chain.now).heaps }
+    requires tied { before.now ≡ joined_lengths (C.chain chain.now).heaps }
     ensures { option_copied result ≡ joined_user ((C.chain chain.now).heaps ++ heaps.now ∷ []) offset }
 {
     if offset == 0 {
         return Some(&[]);
     }
     let users = before.users;
-    if u64::from(offset) < users {
-        return chain.user_at(offset);
+    if offset < users {
+        return chain.user_text(offset);
     }
-    let own = offset - users as u32;
+    let own = offset - users;
     if own as usize >= heaps.users().len() {
         return None;
     }

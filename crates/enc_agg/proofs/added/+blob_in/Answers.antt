@@ -1,5 +1,5 @@
 use Rattle.std.proofs.Common.{length, ◌<◌, sym, ◌∙◌, arith}
-use Rattle.enc_image.proofs.Alone.{blob_alone}
+use Rattle.enc_meta.proofs.Alone.{blob_alone}
 use Rattle.enc_delta.proofs.Behind.{zero_entry, blob_before, blob_behind, blob_past}
 use Rattle.enc_agg.proofs.Histories.{last_added, heaps_with, heaps_alone}
 use Rattle.enc_agg.proofs.added.+blob_in.Goals as goal

@@ -1,5 +1,5 @@
 use Rattle.std.proofs.Common.{length, ◌<◌, sym, ◌∙◌, arith}
-use Rattle.enc_image.proofs.Alone.{text_alone}
+use Rattle.enc_meta.proofs.Alone.{text_alone}
 use Rattle.enc_delta.proofs.Behind.{zero_entry, text_before, text_behind}
 use Rattle.enc_agg.proofs.Histories.{last_added, heaps_with, heaps_alone}
 use Rattle.enc_agg.proofs.added.+text_in.Goals as goal
