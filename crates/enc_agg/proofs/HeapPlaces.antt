@@ -10,7 +10,7 @@ use Rattle.enc_base.specs.declared.refusal.StreamName.TheVariants as stream
 use Rattle.enc_meta.specs.Heaps.{Counted}
 use Rattle.enc_meta.specs.Joined.{joined_length}
 use Rattle.enc_rows.specs.Source.{Source}
-use Rattle.enc_delta.specs.Totals.{totals_of}
+use Rattle.enc_meta.specs.Joined.{joined_lengths}
 use Rattle.enc_agg.specs.declared.added.Added.{Added}
 use Rattle.enc_agg.specs.declared.place.HeapPlace.{HeapPlace}
 use Rattle.enc_agg.specs.Extend.{chain_with}
@@ -66,8 +66,8 @@ none_joined : (heaps : List Counted) → 0 ≡ joined_length (map (λ (h : Count
 none_joined [] = refl
 none_joined (h ∷ hs) = omega (arith, none_joined hs)
 
-total_joined : (name : StreamName) (heaps : List Counted) → total_named name (totals_of heaps) ≡ joined_length (map (λ (h : Counted). heap_named name h) heaps)
-unfolding totals_of
+total_joined : (name : StreamName) (heaps : List Counted) → total_named name (joined_lengths heaps) ≡ joined_length (map (λ (h : Counted). heap_named name h) heaps)
+unfolding joined_lengths
 total_joined stream.Compressed heaps = none_joined heaps
 total_joined stream.Uncompressed heaps = none_joined heaps
 total_joined stream.Strings heaps = refl

@@ -29,8 +29,8 @@ use Rattle.enc_agg.specs.Seen.{sources, IsAdded, AllAdded, found_or, found_in}
 use Rattle.enc_base.specs.Order.{or_else, first_below}
 use Rattle.enc_base.specs.declared.refusal.Place.TheVariants as place
 use Rattle.enc_base.specs.declared.refusal.Place.{Place}
-use Rattle.enc_delta.proofs.Totals.{Limited, limited}
-use Rattle.enc_agg.proofs.Unbroken.{unbroken, heaps_unbroken}
+use Rattle.enc_delta.proofs.HeapLimits.{Limited, limited}
+use Rattle.enc_delta.proofs.Unbroken.{unbroken, heaps_unbroken}
 use Rattle.enc_agg.proofs.Begun.{begun_runs, begun_owned}
 use Rattle.enc_agg.proofs.Fitting.{has_tables, has_runs}
 use Rattle.enc_agg.proofs.Children.{owned_after}

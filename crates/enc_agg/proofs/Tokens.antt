@@ -21,7 +21,7 @@ use Rattle.enc_delta.specs.Rules.{broken, uneven_at, rows_for, uneven_table, may
 use Rattle.enc_agg.specs.Extend.{changes_of}
 use Rattle.enc_delta.specs.Rows.{cells_after, own_row}
 use Rattle.enc_agg.specs.Follows.{Follows}
-use Rattle.enc_agg.proofs.Unbroken.{unbroken}
+use Rattle.enc_delta.proofs.Unbroken.{unbroken}
 
 position_from : (b : Bool) (n k : ℕ) → (if nat_lt (if not b then 1 + n else 0) (suc k) then Some (if not b then 1 + n else 0) else None) ≡ (if b then Some 0 else option_map suc (if nat_lt n k then Some n else None))
 position_from true n k = let less : nat_lt 0 (suc k) ≡ true = grind (arith, nat_tests) in rw less refl

@@ -36,7 +36,7 @@ use Rattle.enc_agg.specs.Extend.{changes_of, extended}
 use Rattle.enc_delta.specs.Rows.{cell_after, cells_after}
 use Rattle.enc_delta.specs.Pairs.{attached_of}
 use Rattle.enc_agg.specs.Follows.{Follows}
-use Rattle.enc_agg.proofs.Unbroken.{unbroken}
+use Rattle.enc_delta.proofs.Unbroken.{unbroken}
 use Rattle.enc_agg.proofs.Tokens.{cells_for_there, cells_for_none, PlaceRow, place_row}
 
 -- a listed token's cells are those of the delta's row

@@ -13,8 +13,8 @@ use Rattle.enc_plain.specs.Chain.{Chain}
 use Rattle.enc_image.specs.Base.{cells_fault}
 use Rattle.enc_delta.specs.Delta.{listed, place_in}
 use Rattle.enc_delta.specs.Rules.{own_guid}
-use Rattle.enc_delta.specs.Totals.{totals_of}
-use Rattle.enc_delta.specs.declared.heap_rule.HeapTotals.{HeapTotals}
+use Rattle.enc_meta.specs.Joined.{joined_lengths}
+use Rattle.enc_meta.specs.declared.heaps.HeapLengths.{HeapLengths}
 use Rattle.enc_agg.specs.declared.added.Added.{Added}
 use Rattle.enc_agg.specs.declared.added.Found.{Found}
 use Rattle.enc_agg.specs.declared.place.HeapPlace.{HeapPlace}
@@ -40,7 +40,7 @@ sources added = map (λ (a : Added). a.delta) added
 -- the delta follows the chain; the lengths of the heaps before it; its EncId; and the rows of each table after it
 pub record IsAdded (c : Chain) (a : Added) : Type 0 where
   pub follows : Follows c a.delta
-  pub before : a.before ≡ totals_of c.heaps
+  pub before : a.before ≡ joined_lengths c.heaps
   pub id : a.id ≡ own_guid c a.delta 3
   pub counts : (t : ℕ) → t < 64 → slice_index a.counts.rows t ≡ length (rows_in (extended c a.delta).plain t)
 
@@ -92,7 +92,7 @@ heap_named stream.Blobs h = h.blobs
 heap_named _ h = []
 
 -- how many bytes such heaps have together
-abbrev pub total_named : StreamName → HeapTotals → ℕ
+abbrev pub total_named : StreamName → HeapLengths → ℕ
 total_named stream.Strings t = t.strings
 total_named stream.Users t = t.users
 total_named stream.Blobs t = t.blobs

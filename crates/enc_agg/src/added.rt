@@ -1,11 +1,11 @@
 //! The deltas of an aggregate, asked from the newest to the oldest.
-ghost use Rattle.std.specs.Prelude.{◌≡◌, ◌<◌, ◌-◌, ◌+◌, ◌^◌, [], ◌∷◌, Some, None, IfSome, MatchOption, IfOk, IsTrue, is_some, length, map, reverse, option_map, option_copied, slice_get};
+ghost use Rattle.std.specs.Prelude.{◌≡◌, ◌<◌, ◌-◌, ◌+◌, ◌/◌, ◌^◌, max, [], ◌∷◌, Some, None, IfSome, MatchOption, IfOk, IsTrue, is_some, length, map, reverse, option_map, option_copied, slice_get};
 ghost use Rattle.enc_meta.specs.Heaps.{Counted};
 ghost use Rattle.enc_meta.specs.Joined.{joined_text, joined_blob, joined_user, joined_guid};
 ghost use Rattle.enc_opcodes.specs.Body.{code_seen};
 ghost use Rattle.enc_schema.specs.Children.{is_child_table, owner_table};
 ghost use Rattle.enc_plain.specs.Module.{rows_in, has_row, owner_of, kids_of};
-ghost use Rattle.enc_delta.specs.Totals.{totals_of};
+ghost use Rattle.enc_meta.specs.Joined.{joined_lengths};
 ghost use Rattle.enc_image.specs.Base.{cells_fault};
 ghost use Rattle.enc_agg.specs.Extend.{chain_with};
 ghost use Rattle.enc_agg.specs.Seen.{sources, AllAdded, found_in, found_seen, number_in, code_in, heap_named, total_named, own_place, own_guid_place};
@@ -14,9 +14,9 @@ ghost use Rattle.enc_agg.specs.Place.{heap_place, guid_place};
 use crate::log::{count_given, given, owner_given, push_given};
 use crate::place::HeapPlace;
 use enc_base::{Counts, StreamName, Token};
-use enc_delta::{Delta, HeapTotals};
+use enc_delta::Delta;
 use enc_image::Image;
-use enc_meta::Heaps;
+use enc_meta::{HeapLengths, Heaps};
 use enc_opcodes::CodeRef;
 use enc_plain::ModuleView;
 use std::alloc::{AllocError, Global};
@@ -27,7 +27,7 @@ use std::marker::Model;
 #[derive(Drop)]
 pub struct Added {
     pub delta: Delta,
-    pub before: HeapTotals,
+    pub before: HeapLengths,
     pub id: [u8; 16],
     pub counts: Counts,
 }
@@ -96,10 +96,10 @@ pub fn text_in<'a>(image: &'a Image, added: &'a [Added], offset: u32) -> Option<
         return Some(&[]);
     }
     let strings = last.before.strings;
-    if u64::from(offset) < strings {
+    if offset < strings {
         return text_in(image, older, offset);
     }
-    last.delta.heaps().text_entry(offset - strings as u32)
+    last.delta.heaps().text_entry(offset - strings)
 }
 
 /// Whether a text stands at an offset of the joined `#Strings`.
@@ -114,10 +114,10 @@ pub fn has_text_in(image: &Image, added: &[Added], offset: u32) -> bool
         return true;
     }
     let strings = last.before.strings;
-    if u64::from(offset) < strings {
+    if offset < strings {
         return has_text_in(image, older, offset);
     }
-    last.delta.heaps().has_text_entry(offset - strings as u32)
+    last.delta.heaps().has_text_entry(offset - strings)
 }
 
 /// The bytes at an offset of the joined `#Blob`, None where the offset isn't good.
@@ -132,10 +132,10 @@ pub fn blob_in<'a>(image: &'a Image, added: &'a [Added], offset: u32) -> Option<
         return Some(&[]);
     }
     let blobs = last.before.blobs;
-    if u64::from(offset) < blobs {
+    if offset < blobs {
         return blob_in(image, older, offset);
     }
-    let own = offset - blobs as u32;
+    let own = offset - blobs;
     if own as usize >= last.delta.heaps().blobs().len() {
         return None;
     }
@@ -154,10 +154,10 @@ pub fn user_in<'a>(image: &'a Image, added: &'a [Added], offset: u32) -> Option<
         return Some(&[]);
     }
     let users = last.before.users;
-    if u64::from(offset) < users {
+    if offset < users {
         return user_in(image, older, offset);
     }
-    let own = offset - users as u32;
+    let own = offset - users;
     if own as usize >= last.delta.heaps().users().len() {
         return None;
     }
@@ -191,7 +191,7 @@ fn len_of(heaps: &Heaps<'_>, heap: StreamName) -> usize
 }
 
 /// How many bytes such heaps have together.
-fn total_of(totals: &HeapTotals, heap: StreamName) -> u64
+fn total_of(totals: &HeapLengths, heap: StreamName) -> u32
     ensures { result ≡ total_named heap totals.now }
 {
     match heap {
@@ -228,10 +228,10 @@ pub fn heap_place_in(
         return own_place(&image.heaps(), heap, 0, offset);
     };
     let before = total_of(&last.before, heap);
-    if u64::from(offset) < before {
+    if offset < before {
         return heap_place_in(image, older, heap, offset);
     }
-    let own = offset - before as u32;
+    let own = offset - before;
     own_place(&last.delta.heaps(), heap, added.len() as u32, own)
 }
 
@@ -263,14 +263,33 @@ pub fn guid_place_in(image: &Image, added: &[Added], k: u32) -> Option<HeapPlace
     }
 }
 
+/// The lengths of joined heaps with one generation more.
+fn longer(before: &HeapLengths, heaps: &Heaps<'_>) -> HeapLengths
+    requires strings { before.now.strings + length heaps.now.strings < 2 ^ 32 }
+    requires users { before.now.users + length heaps.now.users < 2 ^ 32 }
+    requires blobs { before.now.blobs + length heaps.now.blobs < 2 ^ 32 }
+    requires guids { length heaps.now.guids < 2 ^ 32 }
+    ensures strings { result.strings ≡ before.now.strings + length heaps.now.strings }
+    ensures users { result.users ≡ before.now.users + length heaps.now.users }
+    ensures blobs { result.blobs ≡ before.now.blobs + length heaps.now.blobs }
+    ensures guids { result.guids ≡ max before.now.guids (length heaps.now.guids / 16) }
+{
+    HeapLengths {
+        strings: before.strings + heaps.strings().len() as u32,
+        users: before.users + heaps.users().len() as u32,
+        blobs: before.blobs + heaps.blobs().len() as u32,
+        guids: before.guids.max((heaps.guids().len() / 16) as u32),
+    }
+}
+
 /// The lengths of the joined heaps.
-pub fn totals_in(image: &Image, added: &[Added]) -> HeapTotals
+pub fn lengths_in(image: &Image, added: &[Added]) -> HeapLengths
     requires { AllAdded image.now (reverse added.now) }
-    ensures { result ≡ totals_of (chain_with image.now (sources (reverse added.now))).heaps }
+    ensures { result ≡ joined_lengths (chain_with image.now (sources (reverse added.now))).heaps }
 {
     match newest(added) {
-        None => HeapTotals::of(&image.heaps()),
-        Some((last, _)) => last.before.with(&last.delta.heaps()),
+        None => image.lengths(),
+        Some((last, _)) => longer(&last.before, &last.delta.heaps()),
     }
 }
 

@@ -4,7 +4,6 @@ ghost use Rattle.enc_meta.specs.Heaps.{Counted, lengths_of};
 ghost use Rattle.enc_meta.specs.Joined.{joined_user};
 ghost use Rattle.enc_plain.specs.Module.{rows_in, has_row};
 ghost use Rattle.enc_delta.specs.Delta.{listed};
-ghost use Rattle.enc_delta.specs.Totals.{totals_of};
 ghost use Rattle.enc_delta.specs.Rules.{inserts};
 ghost use Rattle.enc_delta.specs.Judged.{first_meta};
 ghost use Rattle.enc_image.specs.Base.{cells_fault};
@@ -13,10 +12,10 @@ ghost use Rattle.enc_agg.specs.Follows.{Follows};
 ghost use Rattle.enc_agg.specs.Place.{place_of, place_in_heaps, delta_at};
 ghost use Rattle.enc_agg.specs.Seen.{chain_of_all, module_of_all, sources, AllAdded, IsAdded, IsReady};
 
-use crate::added::{Added, count_in, find, guid_place_in, heap_place_in, totals_in};
+use crate::added::{Added, count_in, find, guid_place_in, heap_place_in, lengths_in};
 use crate::place::{HeapPlace, RowPlace};
 use enc_base::{Counts, StreamName, Token};
-use enc_delta::{Delta, HeapTotals, enc_id_of, inserts_of};
+use enc_delta::{Delta, enc_id_of, inserts_of};
 use enc_image::Image;
 use enc_meta::HeapLengths;
 use enc_plain::is_row;
@@ -111,7 +110,7 @@ impl Aggregate {
         };
         let more = inserts_of(self, &tokens);
         let counts = counts_after(&self.image, &self.added, &delta, &more);
-        let before = totals_in(&self.image, &self.added);
+        let before = lengths_in(&self.image, &self.added);
         let id = enc_id_of(self, &delta);
         match self.added.reserve(1) {
             Ok(()) => {}
@@ -165,13 +164,6 @@ impl Aggregate {
                 row: token.row,
             },
         }
-    }
-
-    /// The lengths of the joined heaps.
-    pub fn totals(&self) -> HeapTotals
-        ensures { result ≡ totals_of (chain_of_all self.now).heaps }
-    {
-        totals_in(&self.image, &self.added)
     }
 
     /// The number of rows of a table up to a generation.

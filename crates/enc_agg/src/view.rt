@@ -1,13 +1,14 @@
 //! An aggregate as a view of its plain module and of its chain.
-ghost use Rattle.std.specs.Prelude.{◌≡◌};
+ghost use Rattle.std.specs.Prelude.{◌≡◌, refl};
 ghost use Rattle.enc_agg.specs.Seen.{module_of_all, chain_of_all, users_of_all};
 
 use crate::added::{
     Added, blob_in, body_in, count_in, find, guid_in, has_text_in, id_in, kid_back, kid_rows_in,
-    kids_in, number, owner_in, text_in, user_in,
+    kids_in, lengths_in, number, owner_in, text_in, user_in,
 };
 use crate::aggregate::Aggregate;
 use enc_base::Token;
+use enc_meta::HeapLengths;
 use enc_opcodes::CodeRef;
 use enc_plain::{ChainView, ModuleView, index_token};
 use enc_schema::{Column, column_of, decode_coded};
@@ -149,16 +150,16 @@ impl ChainView for Aggregate {
         id_in(&self.added, generation - 1)
     }
 
+    fn lengths(&self) -> HeapLengths {
+        lengths_in(&self.image, &self.added)
+    }
+
     fn text_at(&self, offset: u32) -> Option<&[u8]> {
         text_in(&self.image, &self.added, offset)
     }
 
     fn has_text(&self, offset: u32) -> bool {
         has_text_in(&self.image, &self.added, offset)
-    }
-
-    fn user_at(&self, offset: u32) -> Option<&[u8]> {
-        user_in(&self.image, &self.added, offset)
     }
 
     fn blob_at(&self, offset: u32) -> Option<&[u8]> {
@@ -168,4 +169,8 @@ impl ChainView for Aggregate {
     fn guid_at(&self, k: u32) -> Option<[u8; 16]> {
         guid_in(&self.image, &self.added, k)
     }
+
+    ghost means = { λ h. refl };
+
+    ghost tells = { λ h offset. refl };
 }

@@ -21,3 +21,4 @@ pub mod LeastChild
 pub mod MemberKinds
 pub mod OwnRows
 pub mod SignaturesAfter
+pub mod Unbroken

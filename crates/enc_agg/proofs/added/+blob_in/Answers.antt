@@ -15,19 +15,19 @@ blob_in-requires t c =
     let less : length c.in-Some.older.now < t = omega (arith, c.decreases, c.in-Some.ensures.fewer) in
     (less, (last_added c.args.image.now _ _ (rw c.in-Some.ensures.parts at c.requires)).1)
 
-pub returns-then-from-blobs : goal.returns-then-from-blobs
-returns-then-from-blobs t c =
+pub returns-then-offset-blobs : goal.returns-then-offset-blobs
+returns-then-offset-blobs t c =
     let last = last_added c.args.image.now _ _ (rw c.in-Some.ensures.parts at c.requires) in
-    rw (c.in-Some.ensures.parts, heaps_with c.args.image.now _ _) (c.blob_in.ensures ∙ sym (blob_before _ _ _ c.args.offset last.0.before (omega (arith, c.from.ensures, c.if-from-blobs.true))))
+    rw (c.in-Some.ensures.parts, heaps_with c.args.image.now _ _) (c.blob_in.ensures ∙ sym (blob_before _ _ _ c.args.offset last.0.before (omega (arith, c.if-offset-blobs.true))))
 
 pub returns-then-own-blobs : goal.returns-then-own-blobs
 returns-then-own-blobs t c =
     let last = last_added c.args.image.now _ _ (rw c.in-Some.ensures.parts at c.requires) in
     let own = rw (c.blobs.ensures, c.heaps-2.ensures) at c.if-own-blobs.true in
-    rw (c.in-Some.ensures.parts, heaps_with c.args.image.now _ _) (sym (blob_past _ _ _ c.args.offset last.0.before c.if-offset-eq0.false (omega (arith, c.from.ensures, c.if-from-blobs.false)) own))
+    rw (c.in-Some.ensures.parts, heaps_with c.args.image.now _ _) (sym (blob_past _ _ _ c.args.offset last.0.before c.if-offset-eq0.false (omega (arith, c.if-offset-blobs.false)) own))
 
 pub returns : goal.returns
 returns t c =
     let last = last_added c.args.image.now _ _ (rw c.in-Some.ensures.parts at c.requires) in
     let own = rw (c.blobs.ensures, c.heaps-2.ensures) at c.if-own-blobs.false in
-    rw (c.in-Some.ensures.parts, heaps_with c.args.image.now _ _) ((rw c.heaps-3.ensures at c.blob_entry.ensures) ∙ sym (blob_behind _ _ _ c.args.offset last.0.before c.if-offset-eq0.false (omega (arith, c.from.ensures, c.if-from-blobs.false)) own))
+    rw (c.in-Some.ensures.parts, heaps_with c.args.image.now _ _) ((rw c.heaps-3.ensures at c.blob_entry.ensures) ∙ sym (blob_behind _ _ _ c.args.offset last.0.before c.if-offset-eq0.false (omega (arith, c.if-offset-blobs.false)) own))

@@ -15,19 +15,19 @@ user_in-requires t c =
     let less : length c.in-Some.older.now < t = omega (arith, c.decreases, c.in-Some.ensures.fewer) in
     (less, (last_added c.args.image.now _ _ (rw c.in-Some.ensures.parts at c.requires)).1)
 
-pub returns-then-from-users : goal.returns-then-from-users
-returns-then-from-users t c =
+pub returns-then-offset-users : goal.returns-then-offset-users
+returns-then-offset-users t c =
     let last = last_added c.args.image.now _ _ (rw c.in-Some.ensures.parts at c.requires) in
-    rw (c.in-Some.ensures.parts, heaps_with c.args.image.now _ _) (c.user_in.ensures ∙ sym (user_before _ _ _ c.args.offset last.0.before (omega (arith, c.from.ensures, c.if-from-users.true))))
+    rw (c.in-Some.ensures.parts, heaps_with c.args.image.now _ _) (c.user_in.ensures ∙ sym (user_before _ _ _ c.args.offset last.0.before (omega (arith, c.if-offset-users.true))))
 
 pub returns-then-own-users : goal.returns-then-own-users
 returns-then-own-users t c =
     let last = last_added c.args.image.now _ _ (rw c.in-Some.ensures.parts at c.requires) in
     let own = rw (c.users.ensures, c.heaps-2.ensures) at c.if-own-users.true in
-    rw (c.in-Some.ensures.parts, heaps_with c.args.image.now _ _) (sym (user_past _ _ _ c.args.offset last.0.before c.if-offset-eq0.false (omega (arith, c.from.ensures, c.if-from-users.false)) own))
+    rw (c.in-Some.ensures.parts, heaps_with c.args.image.now _ _) (sym (user_past _ _ _ c.args.offset last.0.before c.if-offset-eq0.false (omega (arith, c.if-offset-users.false)) own))
 
 pub returns : goal.returns
 returns t c =
     let last = last_added c.args.image.now _ _ (rw c.in-Some.ensures.parts at c.requires) in
     let own = rw (c.users.ensures, c.heaps-2.ensures) at c.if-own-users.false in
-    rw (c.in-Some.ensures.parts, heaps_with c.args.image.now _ _) ((rw c.heaps-3.ensures at c.user_entry.ensures) ∙ sym (user_behind _ _ _ c.args.offset last.0.before c.if-offset-eq0.false (omega (arith, c.from.ensures, c.if-from-users.false)) own))
+    rw (c.in-Some.ensures.parts, heaps_with c.args.image.now _ _) ((rw c.heaps-3.ensures at c.user_entry.ensures) ∙ sym (user_behind _ _ _ c.args.offset last.0.before c.if-offset-eq0.false (omega (arith, c.if-offset-users.false)) own))
