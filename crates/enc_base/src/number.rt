@@ -1,6 +1,6 @@
 //! Numbers at a place, and numbers appended: little-endian ones of fixed width, and compressed ones.
 ghost use Rattle.std.specs.Prelude.{◌≡◌, ℕ, ◌+◌, ◌^◌, ◌<◌, ◌≤◌, ◌++◌, length, drop, is_ok, if◌then◌else◌, IfSome, IsTrue, OnOk, option_map, replicate};
-ghost use Rattle.std.specs.Int.{w8, w16, w32, w64, cast_unsigned, to_le_bytes};
+ghost use Rattle.std.specs.Int.{w8, w16, w32, w64, cast_unsigned, from_le_bytes, to_le_bytes};
 ghost use Rattle.enc_base.specs.Numbers.{number_at, compressed, compressed_at, signed_of, half_of, signed_at, is_within, rotated, one_byte, two_bytes, four_bytes, spelled, spelled_signed};
 
 use byteorder::{ByteOrder, LittleEndian};
@@ -32,6 +32,20 @@ pub fn u64_at(bytes: &[u8], at: usize) -> Option<u64>
     ensures { result ≡ number_at w64 bytes.now at }
 {
     Some(LittleEndian::read_u64(bytes.get(at..)?.get(..8)?))
+}
+
+/// The little-endian number that two bytes spell.
+pub fn u16_of(bytes: [u8; 2]) -> u16
+    ensures { result ≡ from_le_bytes w16 bytes }
+{
+    LittleEndian::read_u16(&bytes)
+}
+
+/// The little-endian number that four bytes spell.
+pub fn u32_of(bytes: [u8; 4]) -> u32
+    ensures { result ≡ from_le_bytes w32 bytes }
+{
+    LittleEndian::read_u32(&bytes)
 }
 
 /// The compressed number at the front, and how many bytes spell it.
