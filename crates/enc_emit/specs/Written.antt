@@ -27,7 +27,8 @@ version = codes "v4.0.30319" ++ replicate 2 0
 
 -- the root's header up to the streams' headers: the magic, version 1.1, the version's length and text, and so many streams (II.24.2.1)
 unfoldable pub front_written : ℕ → List ℕ
-front_written count = codes "BSJB" ++ to_le_bytes w16 1 ++ to_le_bytes w16 1 ++ to_le_bytes w32 0 ++ to_le_bytes w32 12 ++ version ++ to_le_bytes w16 0 ++ to_le_bytes w16 count
+front_written count = codes "BSJB" ++ to_le_bytes w16 1 ++ to_le_bytes w16 1 ++ to_le_bytes w32 0 ++ to_le_bytes w32 12 ++ version ++ to_le_bytes w16 0
+    ++ to_le_bytes w16 count
 
 -- where the streams begin: behind the header's 32 bytes, the 76 of five streams' headers, and the 16 of that of `#JTD`
 abbrev pub streams_begin : Bool → ℕ
@@ -94,4 +95,6 @@ pub record HoldsStreams (bytes : List ℕ) (jtd uncompressed : Bool) (stream : L
 
 -- a root that was written is read back, where every byte of its texts counts
 abbrev pub RootIsRead : Type 0
-RootIsRead = (jtd uncompressed : Bool) (stream : List ℕ) (h : Counted) → root_size jtd stream h < 2 ^ 32 → counted_strings h.strings ≡ h.strings → (root : Root) × (root_of (root_written jtd uncompressed stream h) ≡ Ok root) × HoldsStreams (root_written jtd uncompressed stream h) jtd uncompressed stream h root
+RootIsRead = (jtd uncompressed : Bool) (stream : List ℕ) (h : Counted) → root_size jtd stream h < 2 ^ 32 → counted_strings h.strings ≡ h.strings
+    → (root : Root) × (root_of (root_written jtd uncompressed stream h) ≡ Ok root)
+    × HoldsStreams (root_written jtd uncompressed stream h) jtd uncompressed stream h root

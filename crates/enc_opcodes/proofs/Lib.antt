@@ -3,3 +3,4 @@ pub mod Chains
 pub mod Instructions
 pub mod Bodies
 pub mod Example
+mod Targets

@@ -8,7 +8,7 @@ use denote.Enum.Declared.{tag_of}
 use Rattle.enc_schema.specs.declared.column.Coding.{Coding}
 use Rattle.enc_schema.specs.declared.column.Coding.TheVariants.{TypeDefOrRef, HasConstant, HasCustomAttribute, HasFieldMarshal, HasDeclSecurity, MemberRefParent, HasSemantics, MethodDefOrRef, MemberForwarded, Implementation, CustomAttributeType, ResolutionScope, TypeOrMethodDef, HasCustomDebugInformation}
 use Rattle.enc_schema.specs.contracts.column.Coding.{the_type}
-use Rattle.enc_schema.proofs.Tables.{columns_few}
+use Rattle.enc_schema.proofs.TableNames.{columns_few}
 use Rattle.enc_schema.specs.Widths.{Shape, narrow, coded_width, coded_widths, heap_width, index_width, space_of, row_width, row_widths, column_start}
 use Rattle.enc_schema.specs.declared.column.Column.{Column}
 use Rattle.enc_schema.specs.declared.column.Column.TheVariants.{Num8, Num16, Num32, Text, Guid, Blob, Index, Coded, Run}

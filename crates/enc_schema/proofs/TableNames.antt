@@ -10,6 +10,7 @@ use Rattle.enc_schema.specs.declared.column.Column.{Column}
 use Rattle.enc_schema.specs.declared.column.Coding.{Coding}
 use Rattle.enc_schema.specs.declared.column.Coding.TheVariants.{TypeDefOrRef, HasConstant, HasCustomAttribute, HasFieldMarshal, HasDeclSecurity, MemberRefParent, HasSemantics, MethodDefOrRef, MemberForwarded, Implementation, CustomAttributeType, ResolutionScope, TypeOrMethodDef, HasCustomDebugInformation}
 use Rattle.enc_schema.specs.Schema.{list_at, schema, columns_in, column_in}
+use Rattle.enc_schema.specs.Tables.{table_count, document, custom_debug_information}
 use Rattle.enc_schema.specs.Names.{names, names_in, table_name_in, column_name_in}
 use Rattle.enc_schema.specs.Coding.{tables_of, tag_bits}
 use Rattle.enc_schema.specs.Laws.{is_table, names_tables}
@@ -126,7 +127,7 @@ column_named t i =
 
 -- which tables are there
 abbrev there_at : ℕ → Bool
-there_at t = nat_lt t 0x2D || (nat_le 0x30 t && nat_lt t 0x38)
+there_at t = nat_lt t table_count || (nat_le document t && nat_le t custom_debug_information)
 
 some_at : {X : Type 0} (lists : List (List X)) (t : ℕ) → nat_lt 0 (length (list_at lists t)) ≡ get_or (map (λ (l : List X). nat_lt 0 (length l)) lists) t false
 some_at [] t = refl
