@@ -80,9 +80,9 @@ code_in (a ∷ older) n = code_loaded a.delta.loaded n
 abbrev pub users_of_all : History → ℕ → Option (List ℕ)
 users_of_all h = joined_user (chain_of_all h).heaps
 
--- what was prepared is a delta after this history
-abbrev pub IsReady : History → Source → Added → Type 0
-IsReady h d a = (a.delta ≡ d) × IsAdded (chain_of_all h) a
+-- what was made ready was prepared from this chain
+unfoldable pub IsPrepared : Chain → Added → Type 0
+IsPrepared c a = IsAdded c a
 
 -- the heap of a stream whose entries go by offsets; other streams have none
 abbrev pub heap_named : StreamName → Counted → List ℕ
