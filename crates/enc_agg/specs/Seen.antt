@@ -84,20 +84,6 @@ users_of_all h = joined_user (chain_of_all h).heaps
 unfoldable pub IsPrepared : Chain → Added → Type 0
 IsPrepared c a = IsAdded c a
 
--- the heap of a stream whose entries go by offsets; other streams have none
-abbrev pub heap_named : StreamName → Counted → List ℕ
-heap_named stream.Strings h = h.strings
-heap_named stream.Users h = h.users
-heap_named stream.Blobs h = h.blobs
-heap_named _ h = []
-
--- how many bytes such heaps have together
-abbrev pub total_named : StreamName → HeapLengths → ℕ
-total_named stream.Strings t = t.strings
-total_named stream.Users t = t.users
-total_named stream.Blobs t = t.blobs
-total_named _ t = 0
-
 -- the place of an offset in a generation's own heap
 abbrev pub own_place : List ℕ → ℕ → ℕ → Option HeapPlace
 own_place heap generation offset = if nat_lt offset (length heap) then Some (record { generation = generation; offset = offset }) else None

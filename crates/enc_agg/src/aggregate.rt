@@ -17,7 +17,7 @@ use crate::place::{HeapPlace, RowPlace};
 use enc_base::{Counts, StreamName, Token};
 use enc_delta::{Delta, enc_id_of, inserts_of};
 use enc_image::Image;
-use enc_meta::HeapLengths;
+use enc_meta::{Heap, HeapLengths};
 use enc_plain::is_row;
 use std::alloc::{AllocError, Global};
 use std::marker::Model;
@@ -213,9 +213,9 @@ impl Aggregate {
         ensures { result ≡ place_in_heaps (chain_of_all self.now).heaps heap offset }
     {
         match heap {
-            StreamName::Strings | StreamName::Users | StreamName::Blobs => {
-                heap_place_in(&self.image, &self.added, heap, offset)
-            }
+            StreamName::Strings => heap_place_in(&self.image, &self.added, Heap::Strings, offset),
+            StreamName::Users => heap_place_in(&self.image, &self.added, Heap::Users, offset),
+            StreamName::Blobs => heap_place_in(&self.image, &self.added, Heap::Blobs, offset),
             StreamName::Guids => guid_place_in(&self.image, &self.added, offset),
             _ => None,
         }

@@ -10,7 +10,7 @@ ghost use Rattle.enc_delta.specs.Cells.{speaks, begins_with};
 
 use crate::context::Context;
 use crate::delta::nth_row;
-use crate::joined::{blob_after, guid_after, has_text_after};
+use crate::joined::{guid_after, has_text_after};
 use enc_base::{Place, Token};
 use enc_plain::ChainView;
 use enc_schema::{Column, column_of, columns_of, decode_coded};
@@ -50,7 +50,7 @@ fn is_good<C: ChainView>(context: &Context<'_, C>, column: Column, number: u32) 
         Column::Num8 | Column::Num16 | Column::Num32 => true,
         Column::Text => has_text_after(chain, &heaps, before, number),
         Column::Guid => guid_after(chain, &heaps, number).is_some(),
-        Column::Blob => blob_after(chain, &heaps, before, number).is_some(),
+        Column::Blob => context.has_blob(number),
         Column::Index(table) => context.is_within(table, number),
         Column::Coded(kind) => match decode_coded(kind, number) {
             Some(token) => context.is_within(token.table, token.row),

@@ -1,7 +1,8 @@
 //! A delta after its chain: what its rules ask, and the rows that are there afterwards, asked for
 //! cell by cell.
-ghost use Rattle.std.specs.Prelude.{◌≡◌, ℕ, ◌<◌, ◌^◌, ◌+◌, [], Some, IfSome, length, map, nat_le, option_map, slice_index, unwrap_or};
-ghost use Rattle.enc_meta.specs.Joined.{joined_text, joined_blob, joined_user};
+ghost use Rattle.std.specs.Prelude.{◌≡◌, ℕ, ◌<◌, ◌^◌, ◌+◌, [], Some, IfSome, is_some, length, map, nat_le, option_copied, option_map, slice_index, unwrap_or};
+ghost use Rattle.enc_meta.specs.HeapKinds.{joined_at};
+ghost use Rattle.enc_meta.specs.Joined.{joined_text, joined_blob};
 ghost use Rattle.enc_opcodes.specs.Body.{code_seen};
 ghost use Rattle.enc_plain.specs.Bodies.{code_loaded};
 ghost use Rattle.enc_schema.specs.Coding.{decoded};
@@ -16,11 +17,12 @@ ghost use Rattle.enc_delta.specs.Context.{joined_rows, row_or_nil};
 
 use crate::delta::Delta;
 use crate::entry::Entry;
-use crate::joined::{blob_after, text_after, user_after};
+use crate::joined::entry_after;
 use crate::known::Known;
 use crate::pairs::Pair;
 use enc_base::{Counts, Token};
 use enc_il::UserTexts;
+use enc_meta::Heap;
 use enc_opcodes::CodeRef;
 use enc_plain::{CellView, ChainView, Viewed, index_token};
 use enc_schema::{Coding, Column, column_of, decode_coded};
@@ -122,24 +124,49 @@ impl<C: ChainView> Context<'_, C> {
         self.delta.cell(own, column)
     }
 
+    /// The entry at an offset of a joined heap, None where the offset isn't good.
+    pub fn entry(&self, heap: Heap, offset: u32) -> Option<&[u8]>
+        ensures { option_copied result ≡ joined_at heap (heaps_after self.now.chain self.now.delta) offset }
+    {
+        entry_after(self.old.view, &self.delta.heaps(), &self.known.before, heap, offset)
+    }
+
+    /// The same, no bytes where the offset isn't good.
+    fn entry_or_none(&self, heap: Heap, offset: u32) -> &[u8]
+        ensures { result.now ≡ unwrap_or (joined_at heap (heaps_after self.now.chain self.now.delta) offset) [] }
+    {
+        match self.entry(heap, offset) {
+            Some(bytes) => bytes,
+            None => &[],
+        }
+    }
+
     /// The text at an offset of the joined `#Strings`, none where the offset isn't good.
     fn text_or_none(&self, offset: u32) -> &[u8]
         ensures { result.now ≡ unwrap_or (joined_text (heaps_after self.now.chain self.now.delta) offset) [] }
     {
-        match text_after(self.old.view, &self.delta.heaps(), &self.known.before, offset) {
-            Some(text) => text,
-            None => &[],
-        }
+        self.entry_or_none(Heap::Strings, offset)
     }
 
     /// The bytes at an offset of the joined `#Blob`, none where the offset isn't good.
     fn blob_or_none(&self, offset: u32) -> &[u8]
         ensures { result.now ≡ unwrap_or (joined_blob (heaps_after self.now.chain self.now.delta) offset) [] }
     {
-        match blob_after(self.old.view, &self.delta.heaps(), &self.known.before, offset) {
-            Some(blob) => blob,
-            None => &[],
-        }
+        self.entry_or_none(Heap::Blobs, offset)
+    }
+
+    /// The bytes at an offset of the joined `#Blob`, None where the offset isn't good.
+    fn blob_there(&self, offset: u32) -> Option<&[u8]>
+        ensures { option_copied result ≡ joined_blob (heaps_after self.now.chain self.now.delta) offset }
+    {
+        self.entry(Heap::Blobs, offset)
+    }
+
+    /// Whether a blob stands whole at an offset of the joined `#Blob`.
+    pub fn has_blob(&self, offset: u32) -> bool
+        ensures { result ≡ is_some (joined_blob (heaps_after self.now.chain self.now.delta) offset) }
+    {
+        self.blob_there(offset).is_some()
     }
 
     /// The token that a coded index stands for, where it names a row after the delta; else nil.
@@ -168,7 +195,7 @@ impl<C: ChainView> UserTexts for Context<'_, C> {
     ghost texts = { λ j. users_after j.chain j.delta };
 
     fn has_user(&self, offset: u32) -> bool {
-        user_after(self.old.view, &self.delta.heaps(), &self.known.before, offset).is_some()
+        self.entry(Heap::Users, offset).is_some()
     }
 }
 

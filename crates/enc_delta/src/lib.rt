@@ -30,7 +30,7 @@ pub use delta::Delta;
 pub use entry::Entry;
 pub use identity::enc_id_of;
 pub use known::{inserts_of, is_insert};
-pub use joined::{blob_after, guid_after, has_text_after, text_after};
+pub use joined::{entry_after, guid_after, has_text_after};
 
 #[cfg(test)]
 mod tests;

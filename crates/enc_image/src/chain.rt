@@ -4,7 +4,7 @@ ghost use Rattle.enc_image.specs.Base.{begun};
 ghost use Rattle.enc_image.specs.Begun.{begun_means, begun_tells};
 
 use crate::image::Image;
-use enc_meta::HeapLengths;
+use enc_meta::{Heap, HeapLengths};
 use enc_plain::ChainView;
 
 impl ChainView for Image {
@@ -26,19 +26,14 @@ impl ChainView for Image {
         Image::lengths(self)
     }
 
-    #[tactic(auto, using(enc_meta::proofs::Alone::text_alone), unfolding(crate::specs::Base::begun))]
-    fn text_at(&self, offset: u32) -> Option<&[u8]> {
-        self.heaps().text(offset)
+    #[tactic(auto, using(enc_meta::proofs::Alone::heap_alone), unfolding(crate::specs::Base::begun))]
+    fn entry_at(&self, heap: Heap, offset: u32) -> Option<&[u8]> {
+        self.heaps().at(heap, offset)
     }
 
     #[tactic(auto, using(enc_meta::proofs::Alone::text_alone), unfolding(crate::specs::Base::begun))]
     fn has_text(&self, offset: u32) -> bool {
         self.heaps().has_text(offset)
-    }
-
-    #[tactic(auto, using(enc_meta::proofs::Alone::blob_alone), unfolding(crate::specs::Base::begun))]
-    fn blob_at(&self, offset: u32) -> Option<&[u8]> {
-        self.heaps().blob(offset)
     }
 
     #[tactic(auto, using(enc_meta::proofs::Alone::guid_alone), unfolding(crate::specs::Base::begun))]

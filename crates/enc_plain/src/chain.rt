@@ -1,11 +1,12 @@
 //! A view of a chain: the module after all deltas, and what their files' heaps hold together.
 ghost use Rattle.std.specs.Prelude.{◌≡◌, ℕ, ◌+◌, ◌<◌, length, is_some, option_copied};
 ghost use Rattle.enc_meta.specs.Joined.{joined_text, joined_blob, joined_user, joined_guid, joined_lengths};
+ghost use Rattle.enc_meta.specs.HeapKinds.{joined_at};
 ghost use Rattle.enc_plain.specs.Module.{Module};
 ghost use Rattle.enc_plain.specs.Chain.{Chain, id_of};
 
 use crate::view::ModuleView;
-use enc_meta::HeapLengths;
+use enc_meta::{Heap, HeapLengths};
 
 /// Whatever means one chain: a base and the deltas applied to it. As a view of a module it means the
 /// plain module of that chain, and its user texts are those of the joined `#US`. Generations count
@@ -29,18 +30,28 @@ pub trait ChainView: ModuleView {
     fn lengths(&self) -> HeapLengths
         ensures { result ≡ joined_lengths (chain self.now).heaps };
 
+    /// The entry at an offset of a joined heap, None where the offset isn't good.
+    fn entry_at(&self, heap: Heap, offset: u32) -> Option<&[u8]>
+        ensures { option_copied result ≡ joined_at heap (chain self.now).heaps offset };
+
     /// The text at an offset of the joined `#Strings`, None where the offset isn't good.
     fn text_at(&self, offset: u32) -> Option<&[u8]>
-        ensures { option_copied result ≡ joined_text (chain self.now).heaps offset };
+        ensures { option_copied result ≡ joined_text (chain self.now).heaps offset }
+    {
+        self.entry_at(Heap::Strings, offset)
+    }
+
+    /// The bytes at an offset of the joined `#Blob`, None where the offset isn't good.
+    fn blob_at(&self, offset: u32) -> Option<&[u8]>
+        ensures { option_copied result ≡ joined_blob (chain self.now).heaps offset }
+    {
+        self.entry_at(Heap::Blobs, offset)
+    }
 
     /// Whether a text stands at an offset of the joined `#Strings`; asks no more than where heaps
     /// end.
     fn has_text(&self, offset: u32) -> bool
         ensures { result ≡ is_some (joined_text (chain self.now).heaps offset) };
-
-    /// The bytes at an offset of the joined `#Blob`, None where the offset isn't good.
-    fn blob_at(&self, offset: u32) -> Option<&[u8]>
-        ensures { option_copied result ≡ joined_blob (chain self.now).heaps offset };
 
     /// Entry k of the joined `#GUID`, from the first generation that has it; None where none has.
     fn guid_at(&self, k: u32) -> Option<[u8; 16]>

@@ -6,7 +6,7 @@ use Rattle.enc_agg.proofs.aggregate.Aggregate.commit.Goals as goal
 
 pub invariant_of-self : goal.invariant_of-self
 unfolding IsPrepared
-invariant_of-self c = rw c.push_reserved.ensures.items (one_more c.self.inside.image c.self.inside.added.items c.ready.inside.added c.self.invariant (rw (c.ready.view_is, ← c.self.view_is) at c.requires.ready))
+invariant_of-self c = rw c.push_reserved.ensures.items (one_more c.self.inside.image c.self.inside.added.items c.ready.inside.added c.self.invariant (rw (← c.ready.view_is, ← c.self.view_is) at c.requires.ready))
 
 pub returns-clause-room : goal.returns-clause-room
 returns-clause-room c =
