@@ -45,10 +45,7 @@ fn accessed<'a>(
     let Some((count, rest)) = number(bytes) else {
         return Err(SigFault::Grammar);
     };
-    let (first, rest) = match elem(alloc, DEPTH, rest, counts) {
-        Ok(read) => read,
-        Err(fault) => return Err(fault),
-    };
+    let (first, rest) = elem(alloc, DEPTH, rest, counts)?;
     let Ok(first) = added(Vec::new(alloc), first) else {
         return Err(SigFault::Memory);
     };
@@ -80,10 +77,7 @@ fn method_front<'a>(
     let Some(((kind, generics), rest)) = calling(blob) else {
         return Err(SigFault::Grammar);
     };
-    let (parts, rest) = match method_parts(alloc, rest, counts) {
-        Ok(read) => read,
-        Err(fault) => return Err(fault),
-    };
+    let (parts, rest) = method_parts(alloc, rest, counts)?;
     Ok((
         Front {
             form: SigKind::Method,
@@ -107,10 +101,7 @@ fn field_front<'a>(
     let [0x06, rest @ ..] = blob else {
         return Err(SigFault::Grammar);
     };
-    let (part, rest) = match elem(alloc, DEPTH, rest, counts) {
-        Ok(read) => read,
-        Err(fault) => return Err(fault),
-    };
+    let (part, rest) = elem(alloc, DEPTH, rest, counts)?;
     let Ok(parts) = added(Vec::new(alloc), part) else {
         return Err(SigFault::Memory);
     };
@@ -137,10 +128,7 @@ fn locals_front<'a>(
     let [0x07, rest @ ..] = blob else {
         return Err(SigFault::Grammar);
     };
-    let (parts, rest) = match counted_elems(alloc, rest, counts) {
-        Ok(read) => read,
-        Err(fault) => return Err(fault),
-    };
+    let (parts, rest) = counted_elems(alloc, rest, counts)?;
     Ok((
         Front {
             form: SigKind::Locals,
@@ -167,10 +155,7 @@ fn property_front<'a>(
     if *kind != 0x08 && *kind != 0x28 {
         return Err(SigFault::Grammar);
     }
-    let (parts, rest) = match accessed(alloc, rest, counts) {
-        Ok(read) => read,
-        Err(fault) => return Err(fault),
-    };
+    let (parts, rest) = accessed(alloc, rest, counts)?;
     Ok((
         Front {
             form: SigKind::Property,
@@ -191,10 +176,7 @@ fn type_front<'a>(
 ) -> Result<(Front, &'a [u8]), SigFault>
     ensures { Reads result (front_in (in_counts counts.now) sigs.TypeSpec blob.now) }
 {
-    let (part, rest) = match elem(alloc, DEPTH, blob, counts) {
-        Ok(read) => read,
-        Err(fault) => return Err(fault),
-    };
+    let (part, rest) = elem(alloc, DEPTH, blob, counts)?;
     let Ok(parts) = added(Vec::new(alloc), part) else {
         return Err(SigFault::Memory);
     };
@@ -221,10 +203,7 @@ fn method_spec_front<'a>(
     let [0x0a, rest @ ..] = blob else {
         return Err(SigFault::Grammar);
     };
-    let (parts, rest) = match counted_elems(alloc, rest, counts) {
-        Ok(read) => read,
-        Err(fault) => return Err(fault),
-    };
+    let (parts, rest) = counted_elems(alloc, rest, counts)?;
     Ok((
         Front {
             form: SigKind::MethodSpec,
@@ -261,10 +240,7 @@ pub fn read_sig(alloc: Global, kind: SigKind, blob: &[u8], counts: &Counts) -> R
     ensures { Gives result (sig_in (in_counts counts.now) kind blob.now) }
 {
     written_laws();
-    let (front, rest) = match read_front(alloc, kind, blob, counts) {
-        Ok(read) => read,
-        Err(fault) => return Err(fault),
-    };
+    let (front, rest) = read_front(alloc, kind, blob, counts)?;
     match rest {
         [] => Ok(Sig { front }),
         _ => Err(SigFault::Grammar),

@@ -8,5 +8,5 @@ pub invariant_of-result : goal.invariant_of-result
 invariant_of-result c =
     let laws = c.written_laws.ensures in
     let counts = c.args.counts.now in
-    let read = c.in-Ok.read in
-    read_is_spelled laws.back laws.signed_back (in_counts counts) c.args.kind c.args.blob.now read.0 read.1.now (counted_names (λ t. slice_index counts.rows t)) c.in-Ok.ensures (nothing_left read.1.now c.in-empty.len_below)
+    let read = c.in_ok-front in
+    read_is_spelled laws.back laws.signed_back (in_counts counts) c.args.kind c.args.blob.now read.front read.rest.now (counted_names (λ t. slice_index counts.rows t)) read.ensures (nothing_left read.rest.now c.in-empty.len_below)
