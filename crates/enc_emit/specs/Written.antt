@@ -6,6 +6,7 @@ use Rattle.enc_meta.specs.Root.{padded, root_of}
 use Rattle.enc_meta.specs.Heaps.{Counted, counted_strings, heaps_of, part}
 use Rattle.enc_meta.specs.Built.{Built, heaps_built}
 use Rattle.enc_meta.specs.declared.root.Root.{Root}
+use Rattle.enc_schema.specs.Tables.{field_ptr, method_ptr, param_ptr, event_ptr, property_ptr}
 use Rattle.enc_rows.specs.Written.{count_at, stream_of, heap_bits}
 
 -- what a root is built from: its heaps, and the rows of its tables
@@ -76,7 +77,7 @@ root_written jtd uncompressed stream h =
 
 -- a Ptr table has rows
 unfoldable pub has_ptr_rows : List (List (List ℕ)) → Bool
-has_ptr_rows rows = list_any (λ table. nat_lt 0 (count_at rows table)) (0x03 ∷ 0x05 ∷ 0x07 ∷ 0x13 ∷ 0x16 ∷ [])
+has_ptr_rows rows = list_any (λ table. nat_lt 0 (count_at rows table)) (field_ptr ∷ method_ptr ∷ param_ptr ∷ event_ptr ∷ property_ptr ∷ [])
 
 -- the root with `#JTD`, for a delta, or without; the tables of a delta, and those with Ptr rows, are in the uncompressed form
 unfoldable pub root_built : Parts → Bool → List ℕ

@@ -87,7 +87,7 @@ total_few : (s : Shape) (xs : List Column) → sum_by (space_of s) xs ≤ 4 * le
 total_few s [] = omega arith
 total_few s (x ∷ xs) = rw (sum_by-cons (space_of s) x xs) (omega (arith, space_few s x, total_few s xs))
 
-row_few : (s : Shape) (t : ℕ) → row_width s t ≤ 36
+pub row_few : (s : Shape) (t : ℕ) → row_width s t ≤ 36
 unfolding row_width
 row_few s t = omega (arith, total_few s (columns_in t), columns_few t)
 

@@ -7,3 +7,5 @@ pub mod Back
 pub mod Written
 pub mod Named
 pub mod Depth
+pub mod Wider
+mod ReadBack
