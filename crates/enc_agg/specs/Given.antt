@@ -1,4 +1,4 @@
--- What a delta's log gives the owners, as the program counts it.
+-- For the contracts of private functions: what a delta's log gives the owners, as the program counts it.
 use Rattle.std.specs.Prelude.{ℕ, ◌+◌, ◌==◌, ◌&&◌, Bool, List, [], ◌∷◌, if◌then◌else◌}
 use Rattle.enc_base.specs.declared.token.Token.{Token}
 use Rattle.enc_base.specs.Token.{is_token}

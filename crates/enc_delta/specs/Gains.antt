@@ -1,4 +1,4 @@
--- Which rule is asked of a new child and its owner.
+-- For the contracts of private functions: which rule is asked of a new child and its owner.
 use Rattle.std.specs.Prelude.{ℕ, Bool, ◌||◌, ◌==◌}
 use Rattle.enc_plain.specs.Apply.{Attached}
 use Rattle.enc_delta.specs.declared.members.Gain.{Gain}

@@ -1,4 +1,4 @@
--- What the rules on whole lists are told of the tokens and entries that they are given.
+-- For the contracts of private functions: what the rules on whole lists are told of the tokens and entries that they are given.
 use Rattle.std.specs.Prelude.{ℕ, ◌+◌, Bool, false, ◌&&◌, ◌==◌, List, [], ◌∷◌, Option, Some, None, IsTrue, nat_lt, nat_le, slice_index, find}
 use Rattle.std.specs.List.{list_all}
 use Rattle.enc_base.specs.declared.token.Token.{Token}
