@@ -14,12 +14,12 @@ ghost use Rattle.enc_agg.specs.Place.{place_of, place_in_heaps, delta_at};
 ghost use Rattle.enc_agg.specs.Seen.{chain_of_all, module_of_all, sources, AllAdded, IsAdded, IsReady};
 
 use crate::added::{Added, count_in, find, guid_place_in, heap_place_in, totals_in};
-use crate::place::{HeapPlace, RowPlace};
+use crate::place::HeapPlace;
 use enc_base::{Counts, StreamName, Token};
 use enc_delta::{Delta, HeapTotals, enc_id_of, inserts_of};
 use enc_image::Image;
 use enc_meta::HeapLengths;
-use enc_plain::is_row;
+use enc_plain::{RowPlace, is_row};
 use std::alloc::{AllocError, Global};
 use std::marker::Model;
 

@@ -10,7 +10,7 @@ use Rattle.enc_opcodes.specs.Body.{instruction_told, handler_meant}
 use Rattle.enc_opcodes.proofs.Instructions.{rest_none, rest_more}
 use Rattle.enc_il.specs.Seen.{all_sections, behind_all}
 use Rattle.enc_il.proofs.Sections.{all_none, behind_is, clauses_held, clauses_none, clauses_last, clauses_more}
-use Rattle.enc_top.specs.BodyText.{instruction_text, handler_text}
+use Rattle.enc_text.specs.BodyText.{instruction_text, handler_text}
 
 -- the lines of instructions, and of clauses
 abbrev pub lines : (ℕ → Option (List ℕ)) → List (ℕ × Instruction ℕ) → List ℕ

@@ -1,6 +1,6 @@
 -- Texts one behind the other.
 use Rattle.std.proofs.Common.{◌≡◌, ℕ, suc, ◌+◌, List, [], ◌++◌, refl, sym, ◌∙◌, append_assoc, append-nil, arith}
-use Rattle.enc_top.specs.RowText.{joined_below}
+use Rattle.enc_text.specs.RowText.{joined_below}
 
 pub joined_none : (f : ℕ → List ℕ) → joined_below f 0 ≡ []
 unfolding joined_below

@@ -8,7 +8,7 @@ use Rattle.enc_base.specs.declared.token.Token.{Token}
 use Rattle.enc_opcodes.specs.Opcodes.{name_of}
 use Rattle.enc_opcodes.specs.Instruction.{Argument, nothing, number, target, targets, token, text, raw, Instruction}
 use Rattle.enc_opcodes.specs.Body.{Body, Handler, HandlerKind, catching, filtering, finishing, faulting}
-use Rattle.enc_top.specs.Text.{digits, token_text, quoted}
+use Rattle.enc_text.specs.Text.{digits, token_text, quoted}
 
 -- how many hexadecimal digits an offset is written with: four, or as many as it has
 abbrev pub label_digits : ℕ → ℕ

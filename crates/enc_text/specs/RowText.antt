@@ -9,9 +9,9 @@ use Rattle.enc_schema.specs.Names.{table_name_in, column_name_in}
 use Rattle.enc_schema.specs.Children.{is_child_table, runs_in}
 use Rattle.enc_plain.specs.Cell.{Cell, number, text, blob, guid, refer, body, field}
 use Rattle.enc_plain.specs.Module.{Module, cell_of, owner_of, kids_of}
-use Rattle.enc_agg.specs.declared.place.RowPlace.{RowPlace}
-use Rattle.enc_top.specs.BodyText.{body_text}
-use Rattle.enc_top.specs.Text.{digits, token_text, quoted, bracketed, guid_text}
+use Rattle.enc_plain.specs.declared.place.RowPlace.{RowPlace}
+use Rattle.enc_text.specs.BodyText.{body_text}
+use Rattle.enc_text.specs.Text.{digits, token_text, quoted, bracketed, guid_text}
 
 -- f 0, f 1, .. below n, one behind the other
 unfoldable pub joined_below : (ℕ → List ℕ) → ℕ → List ℕ

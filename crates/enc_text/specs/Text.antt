@@ -13,8 +13,6 @@ use Rattle.enc_base.specs.declared.refusal.StreamName.{StreamName}
 use Rattle.enc_base.specs.declared.refusal.StreamName.TheVariants as stream
 use Rattle.enc_base.specs.declared.refusal.Refusal.{Refusal}
 use Rattle.enc_schema.specs.Names.{column_name_in}
-use Rattle.enc_top.specs.declared.limits.Limit.{Limit}
-use Rattle.enc_top.specs.declared.limits.Limit.TheVariants as limit
 
 -- the last so many of the eight lower case hexadecimal digits of a number
 unfoldable pub digits : ℕ → ℕ → List ℕ
@@ -79,27 +77,3 @@ place_text (place.Log k) = codes "log " ++ decimal k
 -- the line of a refused file
 unfoldable pub refused_line : List ℕ → Refusal → List ℕ
 refused_line name e = codes "refused " ++ name ++ 0x20 ∷ code_text e.code ++ 0x20 ∷ place_text e.place ++ 0x0a ∷ []
-
-abbrev pub limit_text : Limit → List ℕ
-limit_text limit.Length = codes "L1 length"
-limit_text limit.Total = codes "L2 total"
-
--- the line of a file that is too long, or with which all are
-unfoldable pub limit_line : List ℕ → Limit → List ℕ
-limit_line name l = codes "refused " ++ name ++ 0x20 ∷ limit_text l ++ 0x0a ∷ []
-
--- the line of a file that isn't there
-unfoldable pub missing_line : List ℕ → List ℕ
-missing_line name = codes "missing " ++ name ++ 0x0a ∷ []
-
--- the line of a token that the module lacks
-unfoldable pub absent_line : Token → List ℕ
-absent_line token = codes "absent " ++ token_text token ++ 0x0a ∷ []
-
--- the line of so many deltas that are accepted
-unfoldable pub accepted_line : ℕ → List ℕ
-accepted_line count = codes "accepted " ++ decimal count ++ 0x0a ∷ []
-
--- the line of words that are no command
-unfoldable pub usage_line : List ℕ
-usage_line = codes "usage: enc show list check apply write run gen" ++ 0x0a ∷ []

@@ -6,7 +6,7 @@ ghost use Rattle.enc_opcodes.specs.Instruction.{instructions_of};
 ghost use Rattle.enc_opcodes.specs.Clause.{clauses_in, clauses_of};
 ghost use Rattle.enc_opcodes.specs.Body.{code_seen, instruction_told, kind_meant, handler_meant, body_of};
 ghost use Rattle.enc_il.specs.Seen.{all_sections, instr_seen};
-ghost use Rattle.enc_top.specs.BodyText.{instruction_text, range_text, kind_text, extra_text, handler_text, stack_text, init_text, locals_text, header_text, body_text};
+ghost use Rattle.enc_text.specs.BodyText.{instruction_text, range_text, kind_text, extra_text, handler_text, stack_text, init_text, locals_text, header_text, body_text};
 
 use crate::operand::{push_argument, push_label, push_named, push_target};
 use crate::text::{push_decimal, push_str, push_token};

@@ -6,8 +6,8 @@ ghost use Rattle.hex.specs.Hex.{encode_lower};
 ghost use Rattle.enc_opcodes.specs.Instruction.{all_reached, reached as reached_from};
 ghost use Rattle.enc_opcodes.specs.Body.{told};
 ghost use Rattle.enc_il.specs.Seen.{arg_seen};
-ghost use Rattle.enc_top.specs.Text.{token_text, quoted};
-ghost use Rattle.enc_top.specs.BodyText.{label_digits, label, more_labels, labels, units_of, utf8_of, argument_text};
+ghost use Rattle.enc_text.specs.Text.{token_text, quoted};
+ghost use Rattle.enc_text.specs.BodyText.{label_digits, label, more_labels, labels, units_of, utf8_of, argument_text};
 
 use crate::text::{push_digits, push_quoted, push_str, push_token};
 use enc_base::Token;

@@ -1,10 +1,10 @@
 //! The printed row of a module, over any view of one.
-ghost use Rattle.std.specs.Prelude.{◌≡◌, ◌≢◌, ℕ, List, Option, option_map, ◌++◌, ◌∷◌, Some, OnOk, IsTrue, decimal, flat_map, length, [], unwrap_or};
+ghost use Rattle.std.specs.Prelude.{◌≡◌, ◌≢◌, ℕ, List, Option, option_map, ◌++◌, ◌∷◌, Some, OnOk, OnErr, IsTrue, decimal, flat_map, length, [], unwrap_or};
 ghost use Rattle.enc_schema.specs.Schema.{columns_in, column_in};
 ghost use Rattle.enc_schema.specs.Names.{column_name_in};
 ghost use Rattle.enc_plain.specs.Module.{has_row, cell_of};
 ghost use Rattle.enc_schema.specs.Children.{is_child_table as is_of_children, owner_table, runs_in};
-ghost use Rattle.enc_top.specs.RowText.{value_in, equation, joined_below, cell_text, place_text, line_text, owner_text, kids_name as name_of_kids, kid_text, kids_text, code_text, value_text, row_text_of};
+ghost use Rattle.enc_text.specs.RowText.{value_in, equation, joined_below, cell_text, place_text, line_text, owner_text, kids_name as name_of_kids, kid_text, kids_text, code_text, value_text, row_text_of};
 ghost use Rattle.enc_opcodes.specs.Body.{body_of, code_seen};
 ghost use Rattle.enc_plain.specs.Cell.{body};
 ghost use Rattle.enc_schema.specs.declared.column.Column.{Column as TheColumn};
@@ -13,10 +13,9 @@ use crate::body::push_body;
 use crate::text::{
     push_blob, push_decimal, push_digits, push_guid, push_quoted, push_str, push_token,
 };
-use enc_agg::RowPlace;
 use enc_base::Token;
 use enc_opcodes::CodeRef;
-use enc_plain::ModuleView;
+use enc_plain::{ModuleView, RowPlace};
 use enc_schema::{Column, column_name, column_of, columns_of, is_child_table, table_name};
 use std::alloc::{AllocError, Global};
 
@@ -252,11 +251,9 @@ fn push_code<V: ModuleView>(
     }
 }
 
-/// Appends the row of a token, which stands at the place: a line with its token, its table's name,
-/// each column with its value and ` @G.R`, then a line with its owner, one for its children in each
-/// table, and the lines of its body. After want of memory what stands behind the old bytes is free.
+/// The lines of a row behind those of a text.
 #[tactic(auto, unfolding(crate::specs::RowText::row_text_of))]
-pub fn row_text<V: ModuleView>(
+fn push_row<V: ModuleView>(
     alloc: Global,
     view: &V,
     place: RowPlace,
@@ -270,4 +267,23 @@ pub fn row_text<V: ModuleView>(
     push_owner(view, token, out)?;
     push_all_kids(alloc, view, token, out)?;
     push_code(alloc, view, token, out)
+}
+
+/// Appends the row of a token, which stands at the place: a line with its token, its table's name,
+/// each column with its value and ` @G.R`, then a line with its owner, one for its children in each
+/// table, and the lines of its body. Where memory runs out, nothing is appended.
+pub fn row_text<V: ModuleView>(
+    alloc: Global,
+    view: &V,
+    place: RowPlace,
+    token: Token,
+    out: &mut Vec<u8>,
+) -> Result<(), AllocError>
+    requires { IsTrue (has_row (V.meaning view.now) token) }
+    ensures text { OnOk result (out.new.items ≡ out.old.items ++ row_text_of (V.meaning view.now) place token) }
+    ensures memory { OnErr result (out.new.items ≡ out.old.items) }
+{
+    let mut text = Vec::new(alloc);
+    push_row(alloc, view, place, token, &mut text)?;
+    out.extend_from_slice(&text)
 }

@@ -9,11 +9,11 @@ use Rattle.enc_plain.specs.Chain.{Chain}
 use Rattle.enc_image.specs.Base.{module_in}
 use Rattle.enc_delta.specs.Delta.{listed, place_in}
 use Rattle.enc_delta.specs.Rules.{is_insert, own_guid}
-use Rattle.enc_agg.specs.declared.place.RowPlace.{RowPlace}
+use Rattle.enc_plain.specs.declared.place.RowPlace.{RowPlace}
 use Rattle.enc_agg.specs.Extend.{chain_with}
 use Rattle.enc_agg.specs.Place.{place_of}
 use Rattle.enc_agg.specs.Seen.{History}
-use Rattle.enc_top.specs.Text.{token_text, guid_text}
+use Rattle.enc_text.specs.Text.{token_text, guid_text}
 
 -- ` rows N strings A users B blobs C guids D`: counted bytes of three heaps, and entries of `#GUID`
 unfoldable pub counts_text : ℕ → HeapLengths → List ℕ

@@ -1,25 +1,24 @@
 //! The top call: words, a store and a sink in; a status out.
 #![tactic(auto)]
 
-mod body;
 mod command;
+mod commands;
 mod ending;
 mod finish;
+mod generations;
 mod judge;
 mod laws;
 mod limits;
-mod listing;
-mod load;
-mod operand;
-mod plan;
-mod planning;
-mod plans;
-mod rows;
-mod run;
-mod show;
-mod text;
+mod lines;
 
-pub use enc_agg::RowPlace;
+mod load;
+mod plan;
+mod plans;
+mod run;
+mod stop;
+
+pub use enc_plain::RowPlace;
+pub use enc_text::row_text;
 pub use laws::{example_delta_row, example_listing, example_row};
-pub use rows::row_text;
+pub use generations::listing;
 pub use run::run_tool;

@@ -1,8 +1,8 @@
 use Rattle.std.proofs.Common.{arith}
 use Rattle.enc_il.specs.Seen.{instr_seen}
 use Rattle.enc_il.proofs.Starts.{behind}
-use Rattle.enc_top.proofs.BodyLists.{instruction_more, instruction_none}
-use Rattle.enc_top.proofs.body.push_instructions.Goals as goal
+use Rattle.enc_text.proofs.BodyLists.{instruction_more, instruction_none}
+use Rattle.enc_text.proofs.body.push_instructions.Goals as goal
 
 pub loop-instr-smaller : goal.loop-instr-smaller
 loop-instr-smaller g c =

@@ -1,7 +1,7 @@
 use Rattle.std.proofs.Common.{◌≡◌, ◌++◌, ◌-◌, length}
 use Rattle.enc_opcodes.specs.Instruction.{rest_of}
-use Rattle.enc_top.proofs.BodyLists.{lines}
-use Rattle.enc_top.proofs.body.push_instructions.Given as goal
+use Rattle.enc_text.proofs.BodyLists.{lines}
+use Rattle.enc_text.proofs.body.push_instructions.Given as goal
 
 -- what is appended, and the instructions that are left
 abbrev pub invariant-loop-instr : goal.invariant-loop-instr

@@ -1,6 +1,6 @@
 use Rattle.std.proofs.Common.{◌+◌, ◌-◌, drop, ap, ◌∙◌, arith}
-use Rattle.enc_top.proofs.BodyLists.{clause_more, clause_none}
-use Rattle.enc_top.proofs.body.push_section.Goals as goal
+use Rattle.enc_text.proofs.BodyLists.{clause_more, clause_none}
+use Rattle.enc_text.proofs.body.push_section.Goals as goal
 
 pub loop-i-preserved : goal.loop-i-preserved
 loop-i-preserved c =

@@ -1,7 +1,7 @@
 use Rattle.std.proofs.Common.{◌≡◌, ◌++◌, ◌-◌}
 use Rattle.enc_opcodes.specs.Clause.{clauses_in}
-use Rattle.enc_top.proofs.BodyLists.{clause_lines}
-use Rattle.enc_top.proofs.body.push_section.Given as goal
+use Rattle.enc_text.proofs.BodyLists.{clause_lines}
+use Rattle.enc_text.proofs.body.push_section.Given as goal
 
 -- what is appended, and the clauses that are left
 abbrev pub invariant-loop-i : goal.invariant-loop-i

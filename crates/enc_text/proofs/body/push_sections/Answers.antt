@@ -2,8 +2,8 @@ use Rattle.std.proofs.Common.{ℕ, List, sym, ◌∙◌}
 use Rattle.enc_opcodes.specs.Clause.{Section}
 use Rattle.enc_il.specs.Seen.{section_seen}
 use Rattle.enc_il.proofs.Sections.{whole_more}
-use Rattle.enc_top.proofs.BodyLists.{section_last, section_more, never_none}
-use Rattle.enc_top.proofs.body.push_sections.Goals as goal
+use Rattle.enc_text.proofs.BodyLists.{section_last, section_more, never_none}
+use Rattle.enc_text.proofs.body.push_sections.Goals as goal
 
 pub returns-then-not-section : goal.returns-then-not-section
 returns-then-not-section c =

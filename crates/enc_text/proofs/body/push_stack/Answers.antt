@@ -1,7 +1,7 @@
 use Rattle.std.specs.Prelude.{decimal, codes}
-use Rattle.enc_top.specs.BodyText.{stack_text}
-use Rattle.enc_top.proofs.Lines.{on_ok, both_pieces}
-use Rattle.enc_top.proofs.body.push_stack.Goals as goal
+use Rattle.enc_text.specs.BodyText.{stack_text}
+use Rattle.enc_text.proofs.Pieces.{on_ok, both_pieces}
+use Rattle.enc_text.proofs.body.push_stack.Goals as goal
 
 pub returns : goal.returns
 unfolding stack_text

@@ -1,7 +1,7 @@
 use Rattle.std.proofs.Common.{◌≡◌, ◌++◌, length}
 use Rattle.enc_opcodes.specs.Instruction.{all_reached}
-use Rattle.enc_top.specs.BodyText.{more_labels}
-use Rattle.enc_top.proofs.operand.push_more_targets.Given as goal
+use Rattle.enc_text.specs.BodyText.{more_labels}
+use Rattle.enc_text.proofs.operand.push_more_targets.Given as goal
 
 -- what is appended, and the targets that are left
 abbrev pub invariant-loop-rest : goal.invariant-loop-rest

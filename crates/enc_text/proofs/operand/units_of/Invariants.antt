@@ -1,6 +1,6 @@
 use Rattle.std.proofs.Common.{◌≡◌, ◌++◌, length}
-use Rattle.enc_top.specs.BodyText.{units_of}
-use Rattle.enc_top.proofs.operand.units_of.Given as goal
+use Rattle.enc_text.specs.BodyText.{units_of}
+use Rattle.enc_text.proofs.operand.units_of.Given as goal
 
 -- the units so far, and those of the bytes that are left
 abbrev pub invariant-loop-rest : goal.invariant-loop-rest

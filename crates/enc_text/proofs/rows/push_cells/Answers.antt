@@ -1,5 +1,5 @@
-use Rattle.enc_top.proofs.Joined.{joined_start, joined_step}
-use Rattle.enc_top.proofs.rows.push_cells.Goals as goal
+use Rattle.enc_text.proofs.Joined.{joined_start, joined_step}
+use Rattle.enc_text.proofs.rows.push_cells.Goals as goal
 
 pub loop-i-init : goal.loop-i-init
 loop-i-init g c = joined_start _ _

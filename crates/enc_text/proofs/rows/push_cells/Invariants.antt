@@ -1,6 +1,6 @@
 use Rattle.std.proofs.Common.{◌≡◌, ◌++◌}
-use Rattle.enc_top.specs.RowText.{joined_below, cell_text}
-use Rattle.enc_top.proofs.rows.push_cells.Given as goal
+use Rattle.enc_text.specs.RowText.{joined_below, cell_text}
+use Rattle.enc_text.proofs.rows.push_cells.Given as goal
 
 -- the columns so far are appended
 abbrev pub invariant-loop-i : goal.invariant-loop-i

@@ -1,7 +1,7 @@
 use Rattle.std.proofs.Common.{◌≡◌, ◌++◌, take}
 use Rattle.std.specs.Prelude.{flat_map}
-use Rattle.enc_top.specs.RowText.{kid_text}
-use Rattle.enc_top.proofs.rows.push_each_kid.Given as goal
+use Rattle.enc_text.specs.RowText.{kid_text}
+use Rattle.enc_text.proofs.rows.push_each_kid.Given as goal
 
 -- the children so far are appended
 abbrev pub invariant-loop-row : goal.invariant-loop-row

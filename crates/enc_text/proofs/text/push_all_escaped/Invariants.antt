@@ -1,7 +1,7 @@
 use Rattle.std.proofs.Common.{◌≡◌, ◌++◌, take}
 use Rattle.std.specs.Prelude.{flat_map}
-use Rattle.enc_top.specs.Text.{escaped}
-use Rattle.enc_top.proofs.text.push_all_escaped.Given as goal
+use Rattle.enc_text.specs.Text.{escaped}
+use Rattle.enc_text.proofs.text.push_all_escaped.Given as goal
 
 -- the bytes so far are appended
 abbrev pub invariant-loop-b : goal.invariant-loop-b
