@@ -48,8 +48,6 @@ pub fn check(alloc: Global, agg: &Aggregate, files: Files) -> Result<Checked, Re
     ensures rules { IfOk result (λ c. first_meta (chain_of_all agg.now) c.delta ≡ None) }
 {
     let Files { meta, il } = files;
-    match Delta::read(meta, il) {
-        Ok(delta) => judge(alloc, agg, delta),
-        Err(fault) => Err(fault),
-    }
+    let delta = Delta::read(meta, il)?;
+    judge(alloc, agg, delta)
 }

@@ -2,6 +2,6 @@
 //! call of it, so that more than one can be run on stored words.
 #![tactic(auto)]
 
-mod main_call;
+mod program;
 
-pub use main_call::{run_program, status_of};
+pub use program::{run_program, status_of};

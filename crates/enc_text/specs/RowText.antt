@@ -58,7 +58,8 @@ place_text place = codes " @" ++ decimal place.generation ++ 0x2e ∷ decimal pl
 -- the row's line: its token, its table's name, each column, and its place
 unfoldable pub line_text : Module → RowPlace → Token → List ℕ
 line_text m place token =
-    token_text token ++ 0x20 ∷ unwrap_or (table_name_in token.table) [] ++ joined_below (cell_text m token) (length (columns_in token.table)) ++ place_text place ++ 0x0a ∷ []
+    token_text token ++ 0x20 ∷ unwrap_or (table_name_in token.table) [] ++
+    joined_below (cell_text m token) (length (columns_in token.table)) ++ place_text place ++ 0x0a ∷ []
 
 -- the line of a child row's owner
 unfoldable pub owner_text : Module → Token → List ℕ
@@ -66,7 +67,12 @@ owner_text m token = if is_child_table token.table then codes "  owner " ++ toke
 
 -- what the children in a table are called
 abbrev pub kids_name : ℕ → List ℕ
-kids_name child = if child == 0x04 then codes "fields" else if child == 0x06 then codes "methods" else if child == 0x08 then codes "params" else if child == 0x14 then codes "events" else codes "properties"
+kids_name child =
+    if child == 0x04 then codes "fields"
+    else if child == 0x06 then codes "methods"
+    else if child == 0x08 then codes "params"
+    else if child == 0x14 then codes "events"
+    else codes "properties"
 
 -- ` TOKEN`
 abbrev pub kid_text : ℕ → ℕ → List ℕ

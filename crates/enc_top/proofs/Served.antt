@@ -1,5 +1,5 @@
 -- From a plan that is carried out to the answer.
-use Rattle.std.proofs.Common.{◌≡◌, ℕ, ◌≤◌, List, [], Option, Some, None, refl, ◌∙◌, inl, inr, arith}
+use Rattle.std.proofs.Common.{◌≡◌, ℕ, List, [], Option, Some, None, refl, ◌∙◌, inl, inr}
 use Rattle.std.specs.Prelude.{◌⊎◌, IfSome, IsSome}
 use Rattle.enc_outside.specs.Outside.{Files}
 use Rattle.enc_top.specs.declared.plan.Save.{Save}

@@ -1,5 +1,5 @@
 -- What a status says of the answer, the printed bytes and the files.
-use Rattle.std.specs.Prelude.{◌≡◌, ◌⊎◌, ℕ, Bool, true, false, ◌||◌, List, Option, ◌==◌}
+use Rattle.std.specs.Prelude.{◌≡◌, ◌⊎◌, ℕ, Bool, true, ◌||◌, List, Option, ◌==◌}
 use Rattle.enc_outside.specs.Outside.{Files, with_piece, GrowsInPart}
 use Rattle.enc_top.specs.declared.ending.Ending.{Ending}
 use Rattle.enc_top.specs.declared.ending.Ending.TheVariants.{Whole, Memory, StoreFault, SinkFault}

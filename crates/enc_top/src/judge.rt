@@ -54,11 +54,7 @@ fn judge_delta(alloc: Global, agg: &mut Aggregate, file: DeltaFile) -> Result<()
 }
 
 /// All deltas, in order.
-fn judge_deltas(
-    alloc: Global,
-    agg: &mut Aggregate,
-    files: Vec<DeltaFile>,
-) -> Result<(), Stop>
+fn judge_deltas(alloc: Global, agg: &mut Aggregate, files: Vec<DeltaFile>) -> Result<(), Stop>
     ensures base { agg.new.base ≡ agg.old.base }
     ensures step { Comes (λ u. agg.new.deltas) result (deltas_judged agg.old.base agg.old.deltas (map file_seen files.items)) }
     ensures quiet { StopsQuietly result }

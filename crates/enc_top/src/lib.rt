@@ -10,7 +10,6 @@ mod judge;
 mod laws;
 mod limits;
 mod lines;
-
 mod load;
 mod plan;
 mod plans;
@@ -19,6 +18,6 @@ mod stop;
 
 pub use enc_plain::RowPlace;
 pub use enc_text::row_text;
-pub use laws::{example_delta_row, example_listing, example_row};
 pub use generations::listing;
+pub use laws::{example_delta_row, example_listing, example_row};
 pub use run::run_tool;

@@ -58,12 +58,7 @@ impl Loaded {
 
     /// What the store had of a file is there, and not too long with what was loaded before it.
     #[tactic(auto, unfolding(crate::specs::Verdict::taken))]
-    fn take(
-        &mut self,
-        alloc: Global,
-        name: &str,
-        bytes: Option<Vec<u8>>,
-    ) -> Result<Vec<u8>, Stop>
+    fn take(&mut self, alloc: Global, name: &str, bytes: Option<Vec<u8>>) -> Result<Vec<u8>, Stop>
         ensures step { Comes (λ b. b.items) result (taken_from name.now self.old (option_map (λ b. b.items) bytes)) }
         ensures quiet { StopsQuietly result }
         ensures no_fault { ¬ (IsErrOf result Stop.Failed) }

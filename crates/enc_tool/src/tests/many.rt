@@ -7,6 +7,7 @@ use std::test::Fail;
 
 /// How many rows TypeRef has in the base, and how many the delta adds.
 const ROWS: u32 = 100_000;
+
 const NEW: u32 = 5_000;
 
 /// The base's front: its root, the counts of its tables, and the Module row.
@@ -111,6 +112,9 @@ fn many_tokens_are_listed(rt: HostRuntime) -> Result<(), Fail> {
     store.set_file("d.il", &[0, 0, 0, 0])?;
     let words = texts(alloc, &["list", "m", "d"])?;
     assert_eq!(rt; run_tool(alloc, &words, &mut store, &mut sink), 0);
-    assert!(rt; sink.bytes().ends_with(b"  01019a28 insert 1.5000 newest 1.5000\n"));
+    assert!(rt;
+        sink.bytes()
+            .ends_with(b"  01019a28 insert 1.5000 newest 1.5000\n")
+    );
     Ok(())
 }

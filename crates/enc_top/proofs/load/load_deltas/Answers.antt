@@ -1,4 +1,4 @@
-use Rattle.std.proofs.Common.{◌≡◌, ◌+◌, drop, map, refl, ap, sym, subst, ◌∙◌, arith, Ok, Err}
+use Rattle.std.proofs.Common.{◌≡◌, drop, map, refl, ap, sym, subst, ◌∙◌, arith, Ok, Err}
 use Rattle.std.specs.Prelude.{IfSome, string_bytes}
 use Rattle.std.proofs.lemmas.Option.{slice_get_read}
 use Rattle.enc_top.specs.Loads.{file_seen}

@@ -1,7 +1,7 @@
 use Rattle.enc_top.specs.Words.{texts}
 use Rattle.enc_top.specs.Verdict.{verdict_of}
 use Rattle.enc_top.specs.Plans.{IsPlanOf}
-use Rattle.enc_top.proofs.Served.{if_some, leaves_at, prints_for, unchanged_by, asked_for}
+use Rattle.enc_top.proofs.Served.{if_some, leaves_at, unchanged_by}
 use Rattle.enc_top.proofs.run.serve.Goals as goal
 
 pub returns-in-Ok-clause-files : goal.returns-in-Ok-clause-files
