@@ -1,6 +1,5 @@
 //! Judging a base and its deltas, each after those before it.
-ghost use Rattle.std.specs.Prelude.{◌≡◌, ◌∷◌, [], ℕ, List, map, None, IfOk, IsErrOf, string_bytes};
-ghost use Rattle.enc_delta.specs.Judged.{first_meta};
+ghost use Rattle.std.specs.Prelude.{◌≡◌, ◌∷◌, [], ℕ, List, map, Ok, IfOk, IsErrOf, string_bytes};
 ghost use Rattle.enc_image.specs.Base.{base_of};
 ghost use Rattle.enc_delta.specs.Delta.{delta_of};
 ghost use Rattle.enc_agg.specs.Seen.{chain_of_all};
@@ -22,7 +21,7 @@ use std::alloc::{AllocError, Global};
 
 /// Adds a delta that breaks no rule.
 fn add(agg: &mut Aggregate, delta: Delta) -> Result<(), AllocError>
-    requires { first_meta (chain_of_all agg.old) delta ≡ None }
+    requires { judged (chain_of_all agg.old) (Ok delta) ≡ Ok delta }
     ensures base { agg.new.base ≡ agg.old.base }
     ensures added { IfOk result (λ u. agg.new.deltas ≡ delta ∷ agg.old.deltas) }
 {
