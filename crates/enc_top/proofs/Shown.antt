@@ -30,10 +30,12 @@ use Rattle.enc_agg.specs.Extend.{changes_of, extended, chain_with}
 use Rattle.enc_delta.specs.Rows.{cell_after}
 use Rattle.enc_delta.specs.Pairs.{attached_of}
 use Rattle.enc_agg.specs.Place.{place_of}
-use Rattle.enc_top.specs.Text.{digits, token_text, quoted, bracketed, guid_text, absent_line}
+use Rattle.enc_text.specs.Text.{digits, token_text, quoted, bracketed, guid_text}
+use Rattle.enc_top.specs.Lines.{absent_line}
 use Rattle.enc_top.specs.Listing.{counts_text, base_text, head_text, token_line, delta_text, lines_upto, listing_of}
-use Rattle.enc_top.specs.RowText.{joined_below, cell_text, place_text, line_text, owner_text, kids_text, code_text, row_text_of}
-use Rattle.enc_top.specs.Verdict.{row_or_absent, shown, listed_as, judge_deltas, judge_all}
+use Rattle.enc_text.specs.RowText.{joined_below, cell_text, place_text, line_text, owner_text, kids_text, code_text, row_text_of}
+use Rattle.enc_top.specs.Verdict.{judge_deltas, judge_all}
+use Rattle.enc_top.specs.Done.{row_or_absent, shown, listed_as}
 use Rattle.enc_top.specs.Example.{ExampleIsShown, ExampleIsExtended, ExampleIsListed}
 use Rattle.hex.specs.Hex.{encode_with}
 use Rattle.std.specs.Fmt.{digits as decimal_digits}
