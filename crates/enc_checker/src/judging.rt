@@ -28,8 +28,7 @@ fn judge(alloc: Global, agg: &Aggregate, delta: Delta) -> Result<Checked, ReadFa
     ensures answer { Answers result (judged (chain_of_all agg.now) (Ok delta)) }
     ensures delta { IfOk result (λ c. c.delta ≡ delta) }
 {
-    let before = agg.totals();
-    match delta.first_broken(alloc, agg, &before) {
+    match delta.first_broken(alloc, agg) {
         Err(AllocError) => Err(ReadFault::Memory),
         Ok(Some(refusal)) => Err(ReadFault::Refused(refusal)),
         Ok(None) => Ok(Checked { delta }),
