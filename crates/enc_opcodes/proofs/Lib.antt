@@ -3,3 +3,5 @@ pub mod Chains
 pub mod Instructions
 pub mod Bodies
 pub mod Example
+pub mod Whole
+pub mod Sounds

@@ -7,3 +7,4 @@ pub mod Back
 pub mod Written
 pub mod Named
 pub mod Depth
+pub mod Wider
