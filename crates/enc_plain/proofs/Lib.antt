@@ -6,3 +6,4 @@ pub mod CellsOf
 pub mod Scopes
 pub mod AlikeLaws
 pub mod Columns
+pub mod ReadCells

@@ -100,15 +100,31 @@ all_kids m table = flat_map (λ (r : Row). kids_at r table) (rows_in m (owner_ta
 pub record IsOwned (m : Module) : Type 0 where
   pub once : (table row : ℕ) → is_child_table table ≡ true → count_by (λ k. k == row) (all_kids m table) ≡ cond (nat_le 1 row && nat_le row (length (rows_in m table))) 1 0
 
--- all tables are there, and those that are no part of a module are empty; Module has one row and no table more than 2^24 - 1; each row has a cell of its kind in each of its columns that has one, and a list of children for each of its runs; what a cell says fits its column; each child row stands once, in one owner's list; each signature is one by the module's own rows
-pub record IsSound (m : Module) : Type 0 where
-  pub tables : length m.tables ≡ 0x2D
+-- all tables are there, and those that are no part of a module are empty; Module has one row, and no table more than 2^24 - 1
+pub record HasTables (m : Module) : Type 0 where
+  pub all : length m.tables ≡ 0x2D
   pub absent : (t : ℕ) → is_part t ≡ false → rows_in m t ≡ []
   pub single : row_count m 0 ≡ 1
   pub few : (t : ℕ) → row_count m t < 2 ^ 24
+
+-- each row has a cell in each of its columns that has one, of the column's kind
+pub record HasKinds (m : Module) : Type 0 where
   pub lengths : (t n : ℕ) (r : Row) → slice_get (rows_in m t) n ≡ Some r → length r.cells ≡ cell_count t
   pub kinds : (u : Token) (i : ℕ) (k : Kind) → has_row m u ≡ true → kind_in u.table i ≡ Some k → option_map cell_kind (cell_of m u i) ≡ Some k
-  pub cells : (u : Token) (i : ℕ) (column : Column) (c : Cell) → has_row m u ≡ true → column_in u.table i ≡ Some column → cell_of m u i ≡ Some c → cell_is_sound m u column c ≡ true
+
+-- what a cell says fits its column
+pub record HasCells (m : Module) : Type 0 where
+  pub each : (u : Token) (i : ℕ) (column : Column) (c : Cell) → has_row m u ≡ true → column_in u.table i ≡ Some column → cell_of m u i ≡ Some c → cell_is_sound m u column c ≡ true
+
+-- each signature is one of its table's kind, by the module's own rows
+pub record HasSignatures (m : Module) : Type 0 where
+  pub each : (u : Token) (i : ℕ) → has_row m u ≡ true → signature_column u.table ≡ Some i → is_signature (row_count m) u.table (bytes_at (cells_of m) u i) ≡ true
+
+-- the tables are a module's, with a cell of its kind in each column and a list of children for each run; what a cell says fits its column; each child row stands once, in one owner's list; each signature is one
+pub record IsSound (m : Module) : Type 0 where
+  pub tables : HasTables m
+  pub kinds : HasKinds m
+  pub cells : HasCells m
   pub runs : HasRuns m
   pub owned : IsOwned m
-  pub signatures : (u : Token) (i : ℕ) → has_row m u ≡ true → signature_column u.table ≡ Some i → is_signature (row_count m) u.table (bytes_at (cells_of m) u i) ≡ true
+  pub signatures : HasSignatures m
