@@ -7,3 +7,7 @@ pub mod Locals
 pub mod Rows
 pub mod Sizes
 pub mod Texts
+pub mod Opens
+pub mod SoundTables
+pub mod Told
+pub mod SoundBodies

@@ -42,14 +42,14 @@ no_place : (n : ℕ) (p : Option Place) → rule n p ≡ None → p ≡ None
 no_place n None h = refl
 no_place n (Some x) h = absurd cc
 
-no_body_fault : (s : Source) → cells_fault s ≡ None → body_fault s ≡ None
+pub no_body_fault : (s : Source) → cells_fault s ≡ None → body_fault s ≡ None
 unfolding cells_fault
 no_body_fault s h =
     let signatures = (neither _ _ (neither _ _ h).1).1 in
     let bodies = (neither (rule 11 (signature_fault s)) _ signatures).1 in
     no_place 10 _ (neither (rule 10 (body_fault s)) _ bodies).0
 
-if_some : {A : Type 0} (b : Bool) (x : A) → (if b then None else Some x) ≡ None → b ≡ true
+pub if_some : {A : Type 0} (b : Bool) (x : A) → (if b then None else Some x) ≡ None → b ≡ true
 if_some true x h = refl
 if_some false x h = absurd cc
 

@@ -5,3 +5,4 @@ pub mod Bodies
 pub mod Example
 pub mod Whole
 pub mod Sounds
+pub mod CodeBytes

@@ -1,5 +1,5 @@
 -- When a body is sound: where its code is good, and as long as no table has fewer rows.
-use Rattle.std.proofs.Common.{◌≡◌, ℕ, zero, suc, ◌≤◌, Bool, true, false, cond, List, [], ◌∷◌, length, map, Option, Some, None, refl, sym, ap, ◌∙◌, arith}
+use Rattle.std.proofs.Common.{◌≡◌, ℕ, zero, suc, ◌<◌, ◌≤◌, Bool, true, false, cond, List, [], ◌∷◌, length, map, Option, Some, None, refl, sym, ap, ◌∙◌, arith}
 use Rattle.std.specs.Prelude.{nat_le, not, ◌==◌, ◌&&◌, ◌||◌, if◌then◌else◌}
 use Rattle.std.specs.List.{list_all, list_any}
 use Rattle.std.proofs.lemmas.Bool.Decides.{nat_tests}
@@ -175,3 +175,15 @@ sound_kept f g b grow h =
     let instructions = all_kept (instruction_is_sound f (begins_at b.code)) (instruction_is_sound g (begins_at b.code)) b.code (λ x e. instruction_kept f g (begins_at b.code) x grow e) a.1 in
     let handlers = all_kept (handler_is_sound f (begins_at b.code) b.size) (handler_is_sound g (begins_at b.code) b.size) b.handlers (λ x e. handler_kept f g (begins_at b.code) b.size x grow e) c.1 in
     true_both _ _ (true_both _ _ (true_both _ _ a.0 instructions) handlers) (locals_kept f g b.locals grow d.1)
+
+-- the local signature of good code is nil or a row
+pub good_locals_of : (f : ℕ → ℕ) (c : Code) → is_good f c ≡ true → locals_are_good f c.locals ≡ true
+unfolding is_good
+good_locals_of f c h = (both_true (end_of c.code 0 == length c.code && list_all (instruction_is_good f (stands (instructions_of c.code))) (instructions_of c.code) && list_all (clause_is_good f (stands (instructions_of c.code)) (length c.code)) (clauses_of c.sections)) (locals_are_good f c.locals) h).1
+
+pub good_local : (f : ℕ → ℕ) (t : Token) → locals_are_good f t ≡ true → (t.row == 0) ≡ false → (t.table ≡ 0x11) × (0 < t.row) × (t.row ≤ f 0x11)
+unfolding locals_are_good
+good_local f t good some = parts t.table t.row (f 0x11) good some
+  where
+    parts : (table row n : ℕ) → (row == 0 || table == 0x11 && nat_le row n) ≡ true → (row == 0) ≡ false → (table ≡ 0x11) × (0 < row) × (row ≤ n)
+    parts table row n good some = (grind (arith, nat_tests), grind (arith, nat_tests), grind (arith, nat_tests))

@@ -7,3 +7,5 @@ pub mod Scopes
 pub mod AlikeLaws
 pub mod Columns
 pub mod ReadCells
+pub mod LoadedBytes
+pub mod SignatureRows
