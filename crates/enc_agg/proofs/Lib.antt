@@ -11,7 +11,6 @@ pub mod Pairs
 pub mod Owned
 pub mod Given
 pub mod Children
-pub mod Begun
 pub mod PairedChildren
 pub mod Histories
 pub mod Asked

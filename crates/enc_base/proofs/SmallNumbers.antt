@@ -103,3 +103,33 @@ spelled_few (a ∷ rest) x all is = by_first a rest x (nat_lt a 0x80) (nat_lt a 
 
 pub compressed_few : (bytes : List ℕ) (x : ℕ × ℕ) → EachIsByte bytes → compressed bytes ≡ Some x → x.0 < 2 ^ 29
 compressed_few bytes x all is = spelled_few bytes x all.at is
+
+-- and it takes a byte at least
+two_long : (a : ℕ) (rest : List ℕ) (x : ℕ × ℕ) → in_two a rest ≡ Some x → 0 < x.1
+two_long a [] x is = absurd cc
+two_long a (b ∷ rest) x is =
+    let e : ((a - 0x80) * 256 + b, 2) ≡ x = cc in
+    let f : 2 ≡ x.1 = ap (λ (y : ℕ × ℕ). y.1) e in
+    omega arith
+
+four_long : (a : ℕ) (rest : List ℕ) (x : ℕ × ℕ) → in_four a rest ≡ Some x → 0 < x.1
+four_long a [] x is = absurd cc
+four_long a (b ∷ []) x is = absurd cc
+four_long a (b ∷ c ∷ []) x is = absurd cc
+four_long a (b ∷ c ∷ d ∷ rest) x is =
+    let e : ((((a - 0xC0) * 256 + b) * 256 + c) * 256 + d, 4) ≡ x = cc in
+    let f : 4 ≡ x.1 = ap (λ (y : ℕ × ℕ). y.1) e in
+    omega arith
+
+long_by : (a : ℕ) (rest : List ℕ) (x : ℕ × ℕ) (s t u : Bool) → cond s (Some (a, 1)) (cond t (in_two a rest) (cond u (in_four a rest) None)) ≡ Some x → 0 < x.1
+long_by a rest x true t u is =
+    let e : (a, 1) ≡ x = cc in
+    let f : 1 ≡ x.1 = ap (λ (y : ℕ × ℕ). y.1) e in
+    omega arith
+long_by a rest x false true u is = two_long a rest x is
+long_by a rest x false false true is = four_long a rest x is
+long_by a rest x false false false is = absurd cc
+
+pub compressed_long : (bytes : List ℕ) (x : ℕ × ℕ) → compressed bytes ≡ Some x → 0 < x.1
+compressed_long [] x is = absurd cc
+compressed_long (a ∷ rest) x is = long_by a rest x (nat_lt a 0x80) (nat_lt a 0xC0) (nat_lt a 0xE0) is

@@ -11,3 +11,5 @@ pub mod Opens
 pub mod SoundTables
 pub mod Told
 pub mod SoundBodies
+pub mod SoundOwners
+pub mod SoundSignatures

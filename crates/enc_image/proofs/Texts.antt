@@ -33,12 +33,12 @@ unfolding body_is_good
 good_texts count texts regions zero flags c good is = no_code regions c _ is
 good_texts count texts regions (suc n) flags c good is = right (is_good count c) _ (rw is at (right (flags % 4 == 0) _ good))
 
-neither : {A : Type 0} (a b : Option A) → or_else a b ≡ None → (a ≡ None) × (b ≡ None)
+pub neither : {A : Type 0} (a b : Option A) → or_else a b ≡ None → (a ≡ None) × (b ≡ None)
 neither None None h = (refl, refl)
 neither (Some x) b h = absurd cc
 neither None (Some x) h = absurd cc
 
-no_place : (n : ℕ) (p : Option Place) → rule n p ≡ None → p ≡ None
+pub no_place : (n : ℕ) (p : Option Place) → rule n p ≡ None → p ≡ None
 no_place n None h = refl
 no_place n (Some x) h = absurd cc
 

@@ -15,3 +15,4 @@ pub mod Headers
 pub mod Within
 pub mod Lengths
 pub mod Meanings
+pub mod EntryLengths

@@ -9,3 +9,5 @@ pub mod Columns
 pub mod ReadCells
 pub mod LoadedBytes
 pub mod SignatureRows
+pub mod SignatureColumns
+pub mod FieldExtents
