@@ -31,7 +31,7 @@ use Rattle.enc_base.specs.declared.refusal.Place.TheVariants as place
 use Rattle.enc_base.specs.declared.refusal.Place.{Place}
 use Rattle.enc_delta.proofs.Totals.{Limited, limited}
 use Rattle.enc_agg.proofs.Unbroken.{unbroken, heaps_unbroken}
-use Rattle.enc_agg.proofs.Begun.{begun_runs, begun_owned}
+use Rattle.enc_image.proofs.SoundOwners.{begun_runs, begun_owned}
 use Rattle.enc_agg.proofs.Fitting.{has_tables, has_runs}
 use Rattle.enc_agg.proofs.Children.{owned_after}
 use Rattle.enc_agg.proofs.Paired.{row_kept, cell_kept}

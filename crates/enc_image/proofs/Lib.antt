@@ -13,3 +13,6 @@ pub mod Told
 pub mod SoundBodies
 pub mod SoundOwners
 pub mod SoundSignatures
+pub mod SoundFields
+pub mod SoundCells
+pub mod SoundBases

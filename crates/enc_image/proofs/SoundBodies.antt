@@ -64,7 +64,7 @@ locals_begin s t sound good h = begins_by (t.row == 0) true (blob_or_none s (raw
 all_three : (a b c : Bool) → a ≡ true → b ≡ true → c ≡ true → (a && b && c) ≡ true
 all_three a b c e f g = rw (e, f, g) refl
 
-code_sound : (s : Source) (u : Token) (column : Column) (o : Option Code) → IsBase s → IsTrue (has_row (module_in s) u) → u.table ≡ 0x06 → code_loaded s.loaded (raw_in s u 0) ≡ o → cell_is_sound (module_in s) u column (body (option_map (body_of (users_of s)) o)) ≡ true
+pub code_sound : (s : Source) (u : Token) (column : Column) (o : Option Code) → IsBase s → IsTrue (has_row (module_in s) u) → u.table ≡ 0x06 → code_loaded s.loaded (raw_in s u 0) ≡ o → cell_is_sound (module_in s) u column (body (option_map (body_of (users_of s)) o)) ≡ true
 unfolding method_is_sound columns_in body_of
 code_sound s u column None base there table is = refl
 code_sound s u column (Some c) base there table is =
