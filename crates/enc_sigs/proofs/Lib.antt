@@ -8,3 +8,4 @@ pub mod Written
 pub mod Named
 pub mod Depth
 pub mod Wider
+pub mod Fronts
