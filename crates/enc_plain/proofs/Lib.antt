@@ -11,3 +11,5 @@ pub mod LoadedBytes
 pub mod SignatureRows
 pub mod SignatureColumns
 pub mod FieldExtents
+pub mod AlikeKept
+pub mod KindsOf
