@@ -17,3 +17,5 @@ pub mod Asked
 pub mod Generations
 pub mod HeapPlaces
 pub mod Judged
+pub mod SoundTables
+pub mod SoundKinds

@@ -25,6 +25,12 @@ pub record Unbroken (c : Chain) (s : Source) : Type 0 where
   pub e16 : e16 c s ≡ None
   pub limit : e24 c s ≡ None
 
+-- the rules on what updates say and on signatures, each unbroken
+pub record SaysSame (c : Chain) (s : Source) : Type 0 where
+  pub e15 : e15 c s ≡ None
+  pub e21 : e21 c s ≡ None
+  pub e23 : e23 c s ≡ None
+
 neither : (n : ℕ) (a : Option Place) (b : Option Refusal) → or_else (rule n a) b ≡ None → (a ≡ None) × (b ≡ None)
 neither n None b h = (refl, h)
 neither n (Some p) b h = absurd cc
@@ -92,3 +98,20 @@ unbroken c s h = by_kind c s (heaps_and_lists c s h).1
 -- and its heaps keep the limits
 pub heaps_unbroken : (c : Chain) (s : Source) → first_meta c s ≡ None → e5 c s ≡ None
 heaps_unbroken c s h = (heaps_and_lists c s h).0
+
+same_of : (c : Chain) (s : Source) → changes_meta c s ≡ None → SaysSame c s
+unfolding changes_meta members_meta signatures_meta
+same_of c s h =
+    let r15 = neither 15 (e15 c s) _ h in
+    let r18 = (neither 17 (e17 c s) _ (neither 16 (e16 c s) _ r15.1).1).1 in
+    let r20 = (neither 19 (e19 c s) _ (neither 18 (e18 c s) _ r18).1).1 in
+    let r21 = neither 21 (e21 c s) _ ((neither 20 (e20 c s) _ r20).1) in
+    record { e15 = r15.0; e21 = r21.0; e23 = (neither 23 (e23 c s) _ r21.1).0 }
+
+in_lists : (c : Chain) (s : Source) → lists_meta c s ≡ None → cells_meta c s ≡ None
+unfolding lists_meta
+in_lists c s h = (neither 11 _ _ (neither 10 _ _ (neither 9 _ _ (neither 8 _ _ (neither 7 _ _ (neither 6 _ _ h).1).1).1).1).1).1
+
+-- and its updates and signatures break none
+pub says_same : (c : Chain) (s : Source) → first_meta c s ≡ None → SaysSame c s
+says_same c s h = same_of c s (cells_of c s (in_lists c s (heaps_and_lists c s h).1)).1.1.1

@@ -64,7 +64,7 @@ lengths_at s t n r e =
     ]
 
 -- a cell that is there with a value is of the value's kind
-kind_there : {A : Type 0} (f : A → Cell) (k : Kind) (x : Option A) (o : Option Cell) → ((a : A) → cell_kind (f a) ≡ k) → MatchOption x ⊥ (λ a. o ≡ Some (f a)) → option_map cell_kind o ≡ Some k
+pub kind_there : {A : Type 0} (f : A → Cell) (k : Kind) (x : Option A) (o : Option Cell) → ((a : A) → cell_kind (f a) ≡ k) → MatchOption x ⊥ (λ a. o ≡ Some (f a)) → option_map cell_kind o ≡ Some k
 kind_there f k (Some a) o same h = rw (h, same a) refl
 kind_there f k None o same h = absurd h
 
@@ -93,17 +93,17 @@ no_fields (Some (Index t)) h = absurd cc
 no_fields (Some (Coded k)) h = absurd cc
 no_fields (Some (Run t)) h = absurd cc
 
-body_from : (b f : Bool) (o : Option Column) → (if b then Some bodies else if f then Some fields else option_and_then kind_of o) ≡ Some bodies → b ≡ true
+pub body_from : (b f : Bool) (o : Option Column) → (if b then Some bodies else if f then Some fields else option_and_then kind_of o) ≡ Some bodies → b ≡ true
 body_from true f o h = refl
 body_from false true o h = absurd cc
 body_from false false o h = absurd (no_bodies o h)
 
-field_from : (b f : Bool) (o : Option Column) → (if b then Some bodies else if f then Some fields else option_and_then kind_of o) ≡ Some fields → f ≡ true
+pub field_from : (b f : Bool) (o : Option Column) → (if b then Some bodies else if f then Some fields else option_and_then kind_of o) ≡ Some fields → f ≡ true
 field_from true f o h = absurd cc
 field_from false true o h = refl
 field_from false false o h = absurd (no_fields o h)
 
-place_of : (table i k : ℕ) → (table == k && i == 0) ≡ true → (table ≡ k) × (i ≡ 0)
+pub place_of : (table i k : ℕ) → (table == k && i == 0) ≡ true → (table ≡ k) × (i ≡ 0)
 place_of table i k h = (grind (arith, nat_tests), grind (arith, nat_tests))
 
 body_kind : (s : Source) (u : Token) (i : ℕ) → IsTrue (has_row (module_in s) u) → kind_in u.table i ≡ Some bodies → option_map cell_kind (cell_of (module_in s) u i) ≡ Some bodies
