@@ -19,3 +19,5 @@ pub mod HeapPlaces
 pub mod Judged
 pub mod SoundTables
 pub mod SoundKinds
+pub mod KeptRows
+pub mod SoundSignatures

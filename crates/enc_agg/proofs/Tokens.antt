@@ -120,7 +120,7 @@ before (Some n) k h =
     (omega arith, ap (λ m. Some m) e)
 
 -- the token at a place among its table's
-place_token : (ts : List Token) (u : Token) (k : ℕ) → place_in ts u ≡ Some k → (0 < k) × (slice_get (of_table u.table ts) (k - 1) ≡ Some u)
+pub place_token : (ts : List Token) (u : Token) (k : ℕ) → place_in ts u ≡ Some k → (0 < k) × (slice_get (of_table u.table ts) (k - 1) ≡ Some u)
 unfolding place_in
 place_token ts u k h =
     let b = before _ k h in
