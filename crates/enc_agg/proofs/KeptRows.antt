@@ -18,6 +18,7 @@ use Rattle.enc_plain.specs.Chain.{Chain, rows_before}
 use Rattle.enc_plain.specs.Fits.{Fits}
 use Rattle.enc_plain.specs.Module.{rows_in, has_row, cells_of}
 use Rattle.enc_plain.specs.Rows.{Rows, cell_at, number_at, bytes_at, token_at}
+use Rattle.enc_plain.specs.Signatures.{signature_column}
 use Rattle.enc_plain.specs.Sound.{row_count}
 use Rattle.enc_plain.proofs.AlikeLaws.{each_is_alike_itself}
 use Rattle.enc_plain.proofs.KindsOf.{row_bounds, row_there}
@@ -136,3 +137,10 @@ pub row_stays : (c : Chain) (s : Source) (u : Token) → ((k : ℕ) → length (
 row_stays c s u counts there =
     let b = row_bounds c.plain u there in
     row_there (extended c s).plain u b.0 (omega (arith, b.1, rows_grow c s u.table counts))
+
+-- the column of a table's signature
+pub signs : (table i : ℕ) → signature_column table ≡ Some i → is_signature_column table i ≡ true
+signs table i h = rw h (self i)
+  where
+    self : (n : ℕ) → (n == n) ≡ true
+    self n = grind (arith, nat_tests)

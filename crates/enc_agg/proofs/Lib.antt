@@ -21,3 +21,6 @@ pub mod SoundTables
 pub mod SoundKinds
 pub mod KeptRows
 pub mod SoundSignatures
+pub mod SoundBodies
+pub mod SoundFields
+pub mod SoundCells

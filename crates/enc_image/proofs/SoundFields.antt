@@ -28,7 +28,7 @@ use Rattle.enc_image.proofs.Rows.{row_stands, token_is, count_there, unfaulted}
 use Rattle.enc_image.proofs.Told.{row_is_there, number_is, blob_is, index_is}
 
 -- rules that answer the same answer the same first
-first_same : {A : Type 0} (f g : ℕ → Option A) (n : ℕ) → ((k : ℕ) → k < n → f k ≡ g k) → first_below f n ≡ first_below g n
+pub first_same : {A : Type 0} (f g : ℕ → Option A) (n : ℕ) → ((k : ℕ) → k < n → f k ≡ g k) → first_below f n ≡ first_below g n
 first_same f g zero same = first_none f ∙ sym (first_none g)
 first_same f g (suc n) same = first_suc f n ∙ rw (first_same f g n (λ k lt. same k (omega arith)), same n (omega arith)) (sym (first_suc g n))
 

@@ -187,3 +187,8 @@ good_local f t good some = parts t.table t.row (f 0x11) good some
   where
     parts : (table row n : ℕ) → (row == 0 || table == 0x11 && nat_le row n) ≡ true → (row == 0) ≡ false → (table ≡ 0x11) × (0 < row) × (row ≤ n)
     parts table row n good some = (grind (arith, nat_tests), grind (arith, nat_tests), grind (arith, nat_tests))
+
+-- and so is that of a sound body
+pub sound_locals : (f : ℕ → ℕ) (b : Body) → body_is_sound f b ≡ true → locals_are_good f b.locals ≡ true
+unfolding body_is_sound
+sound_locals f b h = (both_true (are_whole b.size 0 b.code && list_all (instruction_is_sound f (begins_at b.code)) b.code && list_all (handler_is_sound f (begins_at b.code) b.size) b.handlers) (locals_are_good f b.locals) h).1
