@@ -9,5 +9,5 @@ mod place;
 mod view;
 
 pub use aggregate::{Aggregate, Ready};
-pub use laws::judged_rows_law;
+pub use laws::{delta_keeps_sound_law, judged_rows_law};
 pub use place::{HeapPlace, RowPlace};
