@@ -1,6 +1,6 @@
 -- What the rows of a chain keep after a delta that says the same of them.
-use Rattle.std.proofs.Common.{◌≡◌, ℕ, zero, suc, ◌+◌, ◌-◌, ◌<◌, ◌≤◌, Bool, true, false, cond, List, [], ◌∷◌, length, Option, Some, None, refl, sym, ap, ◌∙◌, arith}
-use Rattle.std.specs.Prelude.{◌==◌, ◌&&◌, ◌||◌, not, nat_lt, nat_le, slice_get, filter, option_and_then, unwrap_or, bytes_eq, if◌then◌else◌}
+use Rattle.std.proofs.Common.{◌≡◌, ℕ, zero, suc, ◌-◌, ◌<◌, ◌≤◌, Bool, true, false, cond, List, [], ◌∷◌, length, Option, Some, None, refl, sym, ◌∙◌, arith}
+use Rattle.std.specs.Prelude.{◌==◌, ◌&&◌, ◌||◌, not, nat_lt, slice_get, filter, bytes_eq}
 use Rattle.std.proofs.lemmas.Bool.Decides.{nat_tests}
 use Rattle.std.proofs.lemmas.Option.{slice_get_within}
 use Rattle.std.proofs.lemmas.Slice.Eq.{bytes_eq-Decides}
@@ -12,17 +12,16 @@ use Rattle.enc_schema.specs.declared.column.Column.{Column}
 use Rattle.enc_schema.specs.Schema.{columns_in, column_in}
 use Rattle.enc_rows.specs.Source.{Source}
 use Rattle.enc_plain.specs.Alike.{tokens_alike, signatures_alike}
-use Rattle.enc_plain.specs.AlikeLaws.{EachIsAlikeItself}
-use Rattle.enc_plain.specs.Cell.{Kind, numbers, blobs, references, kind_in}
+use Rattle.enc_plain.specs.Cell.{numbers, blobs, references, kind_in}
 use Rattle.enc_plain.specs.Chain.{Chain, rows_before}
 use Rattle.enc_plain.specs.Fits.{Fits}
 use Rattle.enc_plain.specs.Module.{rows_in, has_row, cells_of}
-use Rattle.enc_plain.specs.Rows.{Rows, cell_at, number_at, bytes_at, token_at}
+use Rattle.enc_plain.specs.Rows.{Rows, number_at, bytes_at, token_at}
 use Rattle.enc_plain.specs.Signatures.{signature_column}
 use Rattle.enc_plain.specs.Sound.{row_count}
 use Rattle.enc_plain.proofs.AlikeLaws.{each_is_alike_itself}
 use Rattle.enc_plain.proofs.KindsOf.{row_bounds, row_there}
-use Rattle.enc_delta.specs.Delta.{listed, of_table, place_in}
+use Rattle.enc_delta.specs.Delta.{listed, place_in}
 use Rattle.enc_delta.specs.Rules.{broken, is_insert, rows_with}
 use Rattle.enc_delta.specs.Changes.{may_differ, is_signature_column, is_kept, e15_cell, e15_row, of_nth, e15}
 use Rattle.enc_delta.specs.Rows.{rows_of_chain, rows_after}

@@ -1,36 +1,33 @@
 -- The bodies of a module stay sound after a delta, and the delta's own are.
-use Rattle.std.proofs.Common.{◌≡◌, ℕ, zero, suc, ◌+◌, ◌-◌, ◌<◌, ◌≤◌, Bool, true, false, List, length, Option, Some, None, refl, sym, ap, subst, ◌∙◌, arith}
-use Rattle.std.specs.Prelude.{◌==◌, ◌&&◌, ◌||◌, ◌%◌, not, nat_le, option_map, option_and_then, slice_get, unwrap_or}
-use Rattle.std.proofs.lemmas.Bool.Decides.{nat_tests}
-use Rattle.enc_base.specs.Token.{nth_row}
+use Rattle.std.proofs.Common.{◌≡◌, ℕ, ◌+◌, ◌-◌, ◌≤◌, Bool, true, false, List, Option, Some, None, refl, sym, ap, subst, ◌∙◌, arith}
+use Rattle.std.specs.Prelude.{◌==◌, ◌&&◌, ◌||◌, ◌%◌, not, option_map, slice_get}
 use Rattle.enc_base.specs.declared.refusal.Place.{Place}
 use Rattle.enc_base.specs.declared.token.Token.{Token}
 use Rattle.enc_base.proofs.First.{silent}
 use Rattle.enc_schema.specs.declared.column.Column.{Column}
 use Rattle.enc_schema.specs.declared.column.Column.TheVariants.{Blob}
 use Rattle.enc_schema.specs.Schema.{columns_in}
-use Rattle.enc_opcodes.specs.Body.{Code, Body, may_name, is_good, body_of, locals_are_good, begins_locals}
-use Rattle.enc_opcodes.specs.Sound.{are_whole, instruction_is_sound, begins_at, handler_is_sound, body_is_sound}
-use Rattle.enc_opcodes.proofs.Sounds.{Grow, good_is_sound, good_locals_of, good_local, sound_kept, sound_locals}
+use Rattle.enc_opcodes.specs.Body.{Code, Body, body_of, locals_are_good, begins_locals}
+use Rattle.enc_opcodes.specs.Sound.{body_is_sound}
+use Rattle.enc_opcodes.proofs.Sounds.{Grow, good_is_sound, good_local, sound_kept, sound_locals}
 use Rattle.enc_rows.specs.Layout.{rows_of}
 use Rattle.enc_rows.specs.Source.{Source, raw_in}
 use Rattle.enc_plain.specs.Alike.{signatures_alike}
 use Rattle.enc_plain.specs.Bodies.{code_loaded, body_is_good}
-use Rattle.enc_plain.specs.Cell.{body, numbers, blobs, kind_in}
+use Rattle.enc_plain.specs.Cell.{body}
 use Rattle.enc_plain.specs.Chain.{Chain}
-use Rattle.enc_plain.specs.Module.{Module, rows_in, has_row, cells_of}
+use Rattle.enc_plain.specs.Module.{Module, has_row, cells_of}
 use Rattle.enc_plain.specs.Rows.{number_at, bytes_at}
 use Rattle.enc_plain.specs.Signatures.{signature_column}
 use Rattle.enc_plain.specs.Sound.{row_count, method_is_sound, cell_is_sound}
 use Rattle.enc_plain.proofs.AlikeKept.{locals_alike}
-use Rattle.enc_plain.proofs.CellsOf.{number_there}
 use Rattle.enc_plain.proofs.KindsOf.{row_there}
 use Rattle.enc_plain.proofs.LoadedBytes.{AreLoaded, code_bytes}
 use Rattle.enc_image.proofs.SoundBodies.{there_good}
 use Rattle.enc_delta.specs.Delta.{listed, of_table, place_in}
 use Rattle.enc_delta.specs.Rules.{broken, users_after, rows_with, body_stands, e16_at, e16}
 use Rattle.enc_delta.specs.Changes.{own_code, locals_begin, e23_row, e23}
-use Rattle.enc_delta.specs.Rows.{own_row, rows_after}
+use Rattle.enc_delta.specs.Rows.{rows_after}
 use Rattle.enc_agg.specs.Extend.{extended}
 use Rattle.enc_agg.proofs.KeptRows.{signs, JudgedBy, silent_of, same_bytes, signature_kept, rows_grow}
 use Rattle.enc_agg.proofs.SoundSignatures.{Counted}

@@ -1,13 +1,11 @@
 -- What each cell of a module says fits its column after a delta too.
-use Rattle.std.proofs.Common.{◌≡◌, ℕ, zero, suc, ◌+◌, ◌^◌, ◌<◌, ◌≤◌, Bool, true, false, List, [], length, map, Option, Some, None, refl, sym, ap, ◌∙◌, inl, inr, ◌⊎◌, arith}
-use Rattle.std.specs.Prelude.{◌==◌, ◌&&◌, ◌||◌, nat_lt, slice_get, option_map, option_and_then, unwrap_or, if◌then◌else◌}
+use Rattle.std.proofs.Common.{◌≡◌, ℕ, ◌^◌, ◌≤◌, Bool, true, false, [], map, Option, Some, None, refl, sym, ◌∙◌, inl, inr, arith}
+use Rattle.std.specs.Prelude.{◌&&◌, ◌||◌, nat_lt, slice_get, unwrap_or, if◌then◌else◌}
 use Rattle.std.proofs.lemmas.Bool.{cases_lt, or_cases}
 use Rattle.std.proofs.lemmas.Bool.Decides.{nat_tests}
 use Rattle.enc_base.specs.Token.{nil, is_token}
 use Rattle.enc_base.specs.Order.{or_else}
 use Rattle.enc_base.specs.declared.refusal.Place.{Place}
-use Rattle.enc_base.specs.declared.refusal.Place.TheVariants as place
-use Rattle.enc_base.specs.declared.refusal.StreamName.TheVariants as name
 use Rattle.enc_base.specs.declared.token.Token.{Token}
 use Rattle.enc_base.proofs.SmallNumbers.{EachIsByte}
 use Rattle.enc_meta.specs.Heaps.{Counted}
@@ -15,27 +13,26 @@ use Rattle.enc_meta.specs.Joined.{joined_length}
 use Rattle.enc_meta.proofs.EntryLengths.{joined_zero, joined_few, joined_long}
 use Rattle.enc_schema.specs.declared.column.Column.{Column}
 use Rattle.enc_schema.specs.Schema.{columns_in, column_in}
-use Rattle.enc_opcodes.specs.Body.{Body, body_of}
 use Rattle.enc_rows.specs.Source.{Source, raw_in}
 use Rattle.enc_plain.specs.Bodies.{code_loaded, body_loaded}
-use Rattle.enc_plain.specs.Cell.{Cell, number, text, blob, guid, refer, body, field, numbers, fields, is_body, is_field, kind_in, cell_count}
+use Rattle.enc_plain.specs.Cell.{Cell, number, text, blob, guid, refer, body, field, fields, is_body, is_field, kind_in, cell_count}
 use Rattle.enc_plain.specs.Chain.{Chain}
 use Rattle.enc_plain.specs.Fits.{Fits}
-use Rattle.enc_plain.specs.Module.{Module, rows_in, has_row, cells_of, cell_of}
+use Rattle.enc_plain.specs.Module.{Module, has_row, cells_of, cell_of}
 use Rattle.enc_plain.specs.Reading.{cell_read, cell_with}
 use Rattle.enc_plain.specs.Rows.{cell_at, number_at}
-use Rattle.enc_plain.specs.Sound.{row_count, is_part, can_name, is_reference, field_is_sound, cell_is_sound, HasTables, HasKinds, HasCells}
+use Rattle.enc_plain.specs.Sound.{can_name, is_reference, field_is_sound, cell_is_sound, HasTables, HasKinds, HasCells}
 use Rattle.enc_plain.proofs.CellsOf.{cell_there, number_there}
 use Rattle.enc_plain.proofs.KindsOf.{kind_of_cell, row_table}
 use Rattle.enc_plain.proofs.LoadedBytes.{AreLoaded}
 use Rattle.enc_plain.proofs.ReadCells.{ReadsFor, read_fits}
 use Rattle.enc_delta.specs.Delta.{listed, place_in}
-use Rattle.enc_delta.specs.Rules.{broken, heaps_after, users_after, reading_after, rows_with, e5_strings, e5_users, e5_blobs, e5_guids, e5, e16}
+use Rattle.enc_delta.specs.Rules.{broken, heaps_after, users_after, reading_after, e5_blobs, e5, e16}
 use Rattle.enc_delta.specs.Changes.{e23}
 use Rattle.enc_delta.specs.Rows.{cell_after, cells_after}
 use Rattle.enc_image.proofs.Listed.{get_below, get_past}
 use Rattle.enc_image.proofs.SoundCells.{raw_fits}
-use Rattle.enc_image.proofs.SoundTables.{body_from, field_from, place_of}
+use Rattle.enc_image.proofs.SoundTables.{field_from, place_of}
 use Rattle.enc_agg.specs.Extend.{changes_of, extended}
 use Rattle.enc_agg.specs.Follows.{Follows}
 use Rattle.enc_agg.proofs.KeptRows.{JudgedBy, row_stays}
@@ -139,6 +136,7 @@ reference_kept c s column t counts h =
     both_true : (a b : Bool) → (a && b) ≡ true → (a ≡ true) × (b ≡ true)
     both_true true b h = (refl, h)
     both_true false b h = absurd cc
+
     or_right : (a b : Bool) → b ≡ true → (a || b) ≡ true
     or_right true b h = refl
     or_right false b h = h

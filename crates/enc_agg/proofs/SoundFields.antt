@@ -1,13 +1,11 @@
 -- The bytes of fields keep their size after a delta.
-use Rattle.std.proofs.Common.{◌≡◌, ℕ, zero, suc, ◌+◌, ◌<◌, ◌≤◌, Bool, true, false, List, [], length, Option, Some, None, refl, sym, ap, subst, ◌∙◌, ◌⊎◌, inl, inr, arith}
-use Rattle.std.specs.Prelude.{◌==◌, ◌&&◌, ◌||◌, nat_lt, nat_le, option_map, if◌then◌else◌}
+use Rattle.std.proofs.Common.{◌≡◌, ℕ, ◌<◌, Bool, true, false, List, length, Option, Some, None, refl, sym, ap, subst, ◌∙◌, ◌⊎◌, inl, inr, arith}
+use Rattle.std.specs.Prelude.{◌==◌, ◌&&◌, ◌||◌, option_map, if◌then◌else◌}
 use Rattle.std.proofs.lemmas.Bool.{or_cases}
 use Rattle.std.proofs.lemmas.Bool.Decides.{nat_tests}
 use Rattle.enc_base.specs.Token.{nth_row, nil, is_token}
-use Rattle.enc_base.specs.Order.{first_below}
 use Rattle.enc_base.specs.declared.token.Token.{Token}
 use Rattle.enc_base.proofs.First.{first_kept}
-use Rattle.enc_schema.specs.declared.column.Column.{Column}
 use Rattle.enc_schema.specs.declared.column.Column.TheVariants.{Num32, Blob, Index}
 use Rattle.enc_schema.specs.Schema.{columns_in, column_in}
 use Rattle.enc_rows.specs.Source.{Source}
@@ -15,11 +13,11 @@ use Rattle.enc_plain.specs.Alike.{tokens_alike, signatures_alike}
 use Rattle.enc_plain.specs.Cell.{Cell, refer, references, kind_in}
 use Rattle.enc_plain.specs.Chain.{Chain}
 use Rattle.enc_plain.specs.Extent.{extent_in}
-use Rattle.enc_plain.specs.Module.{Module, rows_in, has_row, cells_of, cell_of}
+use Rattle.enc_plain.specs.Module.{Module, has_row, cells_of, cell_of}
 use Rattle.enc_plain.specs.Plain.{cell_kind}
 use Rattle.enc_plain.specs.Rows.{number_at, bytes_at, token_at}
 use Rattle.enc_plain.specs.Signatures.{signature_column}
-use Rattle.enc_plain.specs.Sound.{row_count, can_name, is_reference, class_size_at, class_size, size_of, extent_of, is_size, field_is_sound, HasKinds, HasCells}
+use Rattle.enc_plain.specs.Sound.{row_count, is_reference, class_size_at, class_size, size_of, extent_of, is_size, field_is_sound, HasKinds, HasCells}
 use Rattle.enc_plain.specs.declared.extent.Extent.{Extent}
 use Rattle.enc_plain.specs.declared.extent.Extent.TheVariants.{Bytes, Class}
 use Rattle.enc_plain.proofs.AlikeKept.{no_definitions, no_nil, alike_same, extent_alike}

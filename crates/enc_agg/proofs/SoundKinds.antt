@@ -1,7 +1,6 @@
 -- The rows of a module keep a cell of its kind in each column after a delta.
-use Rattle.std.proofs.Common.{◌≡◌, ℕ, zero, suc, ◌+◌, ◌-◌, ◌<◌, Bool, true, false, List, [], ◌∷◌, length, Option, Some, None, refl, sym, ap, ◌∙◌, inl, inr, arith}
-use Rattle.std.specs.Prelude.{◌==◌, ◌&&◌, MatchOption, option_map, slice_get, if◌then◌else◌}
-use Rattle.std.proofs.lemmas.Bool.Decides.{nat_tests}
+use Rattle.std.proofs.Common.{◌≡◌, ℕ, suc, ◌+◌, true, List, length, Option, Some, None, refl, sym, ap, ◌∙◌, inl, inr, arith}
+use Rattle.std.specs.Prelude.{option_map, slice_get}
 use Rattle.enc_base.specs.Token.{nth_row}
 use Rattle.enc_base.specs.declared.token.Token.{Token}
 use Rattle.enc_schema.specs.Coding.{decoded}
@@ -11,13 +10,12 @@ use Rattle.enc_rows.specs.Source.{Source, raw_in}
 use Rattle.enc_plain.specs.Cell.{Cell, text, blob, guid, refer, Kind, numbers, texts, blobs, guids, references, bodies, fields, is_body, is_field, kind_in, cell_count}
 use Rattle.enc_plain.specs.Chain.{Chain}
 use Rattle.enc_plain.specs.Fits.{Fits}
-use Rattle.enc_plain.specs.Module.{Module, Row, rows_in, row_at, row_of, has_row, cells_of, cell_of}
+use Rattle.enc_plain.specs.Module.{Module, Row, rows_in, row_of, has_row, cells_of, cell_of}
 use Rattle.enc_plain.specs.Plain.{cell_kind}
 use Rattle.enc_plain.specs.Sound.{HasKinds}
 use Rattle.enc_plain.proofs.Columns.{plain_kind, column_with, reference_column}
 use Rattle.enc_delta.specs.Delta.{listed, place_in}
 use Rattle.enc_delta.specs.Rules.{heaps_after}
-use Rattle.enc_delta.specs.Rows.{cells_after}
 use Rattle.enc_image.proofs.Listed.{length_below}
 use Rattle.enc_image.proofs.SoundTables.{kind_there, body_from, field_from, place_of}
 use Rattle.enc_agg.specs.Extend.{changes_of, extended}

@@ -1,7 +1,6 @@
 -- The signatures of a module stay ones after a delta.
-use Rattle.std.proofs.Common.{◌≡◌, ℕ, ◌≤◌, Bool, true, false, List, length, Option, Some, None, refl, sym, ap, ◌∙◌, arith}
-use Rattle.std.specs.Prelude.{not, option_and_then}
-use Rattle.enc_base.specs.Order.{first_below}
+use Rattle.std.proofs.Common.{◌≡◌, ℕ, ◌≤◌, Bool, true, false, length, Option, Some, None, refl, arith}
+use Rattle.std.specs.Prelude.{not}
 use Rattle.enc_base.specs.declared.refusal.Place.{Place}
 use Rattle.enc_base.specs.declared.token.Token.{Token}
 use Rattle.enc_rows.specs.Source.{Source}
@@ -13,7 +12,7 @@ use Rattle.enc_plain.specs.Sound.{row_count, HasSignatures}
 use Rattle.enc_plain.proofs.SignatureRows.{TypesGrow, signature_kept}
 use Rattle.enc_delta.specs.Delta.{listed, place_in}
 use Rattle.enc_delta.specs.Rules.{broken, rows_with}
-use Rattle.enc_delta.specs.Changes.{of_nth, e21_at, e21_row, e21}
+use Rattle.enc_delta.specs.Changes.{e21_at, e21_row, e21}
 use Rattle.enc_delta.specs.Rows.{rows_after}
 use Rattle.enc_agg.specs.Extend.{extended}
 use Rattle.enc_agg.proofs.KeptRows.{JudgedBy, silent_of, same_bytes, rows_grow}
@@ -28,6 +27,7 @@ types_after c s counts = record { definitions = at 0x02; references = at 0x01; s
   where
     le : (a b : ℕ) → b ≡ a → a ≤ b
     le a b h = omega arith
+
     at : (t : ℕ) → rows_with c (listed s) t ≤ row_count (extended c s).plain t
     at t = le _ _ (counts t)
 

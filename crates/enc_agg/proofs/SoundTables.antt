@@ -1,10 +1,10 @@
 -- The tables of a module stay a module's after a delta.
-use Rattle.std.proofs.Common.{◌≡◌, ℕ, zero, suc, ◌+◌, ◌^◌, ◌<◌, ◌≤◌, Bool, true, false, cond, List, [], ◌∷◌, length, Option, Some, None, refl, sym, ap, ◌∙◌, inl, inr, arith}
-use Rattle.std.specs.Prelude.{◌==◌, ◌&&◌, ◌||◌, not, nat_lt, nat_le, count_by, filter, if◌then◌else◌}
+use Rattle.std.proofs.Common.{◌≡◌, ℕ, zero, suc, ◌+◌, ◌^◌, ◌<◌, ◌≤◌, Bool, true, false, cond, List, [], ◌∷◌, length, Option, Some, None, refl, ap, ◌∙◌, inl, inr, arith}
+use Rattle.std.specs.Prelude.{◌==◌, ◌&&◌, ◌||◌, not, nat_lt, count_by, if◌then◌else◌}
 use Rattle.std.specs.List.{list_any, list_all}
 use Rattle.std.proofs.lemmas.Bool.{cases_lt}
 use Rattle.std.proofs.lemmas.Bool.Decides.{nat_tests}
-use Rattle.enc_base.specs.Order.{or_else, first_below}
+use Rattle.enc_base.specs.Order.{or_else}
 use Rattle.enc_base.specs.declared.refusal.Place.{Place}
 use Rattle.enc_base.specs.declared.token.Token.{Token}
 use Rattle.enc_base.proofs.First.{silent}
@@ -12,7 +12,7 @@ use Rattle.enc_rows.specs.Layout.{rows_of}
 use Rattle.enc_rows.specs.Source.{Source}
 use Rattle.enc_schema.specs.Schema.{list_at}
 use Rattle.enc_plain.specs.Chain.{Chain, rows_before}
-use Rattle.enc_plain.specs.Module.{Module, Row, rows_in}
+use Rattle.enc_plain.specs.Module.{Row, rows_in}
 use Rattle.enc_plain.specs.Sound.{is_part, row_count}
 use Rattle.enc_plain.specs.Sound as sound
 use Rattle.enc_delta.specs.Delta.{listed, of_table}

@@ -1,10 +1,8 @@
 -- The body of a method in a base is sound.
-use Rattle.std.proofs.Common.{◌≡◌, ℕ, zero, suc, ◌-◌, ◌<◌, ◌≤◌, Bool, true, false, List, [], ◌∷◌, length, Option, Some, None, refl, sym, ap, ◌∙◌, arith}
-use Rattle.std.specs.Prelude.{◌==◌, ◌&&◌, ◌||◌, ◌%◌, IsTrue, option_map, unwrap_or, nat_le, if◌then◌else◌}
-use Rattle.std.proofs.lemmas.Bool.Decides.{nat_tests}
+use Rattle.std.proofs.Common.{◌≡◌, ℕ, zero, suc, ◌-◌, ◌≤◌, Bool, true, false, List, Option, Some, None, refl, sym, ap, ◌∙◌, arith}
+use Rattle.std.specs.Prelude.{◌==◌, ◌&&◌, ◌||◌, ◌%◌, IsTrue, option_map}
 use Rattle.enc_base.specs.Token.{nth_row}
 use Rattle.enc_base.specs.declared.token.Token.{Token}
-use Rattle.enc_base.specs.declared.refusal.Place.{Place}
 use Rattle.enc_base.proofs.First.{silent}
 use Rattle.enc_meta.specs.Regions.{Region}
 use Rattle.enc_schema.specs.declared.column.Column.{Column}
@@ -14,8 +12,8 @@ use Rattle.enc_opcodes.specs.Sound.{body_is_sound}
 use Rattle.enc_opcodes.proofs.Sounds.{good_is_sound, good_local, good_locals_of}
 use Rattle.enc_rows.specs.Layout.{rows_of}
 use Rattle.enc_rows.specs.Source.{Source, raw_in}
-use Rattle.enc_plain.specs.Bodies.{code_loaded, code_is_good, body_is_good}
-use Rattle.enc_plain.specs.Cell.{Cell, body, numbers, blobs, kind_in}
+use Rattle.enc_plain.specs.Bodies.{code_loaded, body_is_good}
+use Rattle.enc_plain.specs.Cell.{body}
 use Rattle.enc_plain.specs.Module.{has_row, cells_of}
 use Rattle.enc_plain.specs.Rows.{number_at, bytes_at}
 use Rattle.enc_plain.specs.Sound.{row_count, method_is_sound, cell_is_sound}

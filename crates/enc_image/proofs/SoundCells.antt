@@ -1,6 +1,6 @@
 -- What each cell of a base says fits its column.
-use Rattle.std.proofs.Common.{◌≡◌, ℕ, zero, suc, ◌-◌, ◌^◌, ◌<◌, ◌≤◌, Bool, true, false, List, length, Option, Some, None, refl, sym, ap, ◌∙◌, arith}
-use Rattle.std.specs.Prelude.{◌==◌, ◌&&◌, IsTrue, option_map, option_and_then, unwrap_or, nat_lt, nat_le, slice_get, if◌then◌else◌}
+use Rattle.std.proofs.Common.{◌≡◌, ℕ, ◌^◌, ◌<◌, ◌≤◌, Bool, true, false, List, Option, Some, None, refl, sym, ◌∙◌, arith}
+use Rattle.std.specs.Prelude.{◌==◌, ◌&&◌, IsTrue, option_map, unwrap_or, nat_lt, slice_get, if◌then◌else◌}
 use Rattle.std.specs.Int.{w16, w32}
 use Rattle.std.proofs.lemmas.Bool.Decides.{nat_tests}
 use Rattle.enc_base.specs.Numbers.{number_at}
@@ -11,15 +11,14 @@ use Rattle.enc_schema.specs.declared.column.Column.{Column}
 use Rattle.enc_schema.specs.declared.column.Column.TheVariants.{Num8, Num16, Num32, Text, Guid, Blob, Index, Coded, Run}
 use Rattle.enc_schema.specs.Schema.{column_in}
 use Rattle.enc_schema.specs.Widths.{width_of}
-use Rattle.enc_rows.specs.Layout.{rows_of, number_of_width, cell_place, raw_cell, has_row}
+use Rattle.enc_rows.specs.Layout.{number_of_width, cell_place, raw_cell, has_row}
 use Rattle.enc_rows.specs.Source.{Source, raw_in}
-use Rattle.enc_opcodes.specs.Body.{body_of}
 use Rattle.enc_plain.specs.Bodies.{code_loaded, body_loaded}
 use Rattle.enc_plain.specs.Cell.{Cell, number, body, field, is_body, is_field}
 use Rattle.enc_plain.specs.Module as plain
 use Rattle.enc_plain.specs.Module.{cell_of}
 use Rattle.enc_plain.specs.Reading.{cell_read, cell_with}
-use Rattle.enc_plain.specs.Sound.{row_count, is_part, number_fits, cell_is_sound, HasCells}
+use Rattle.enc_plain.specs.Sound.{number_fits, cell_is_sound, HasCells}
 use Rattle.enc_plain.proofs.ReadCells.{ReadsFor, read_fits}
 use Rattle.enc_image.specs.Base.{users_of, field_bytes, reading_of, module_in}
 use Rattle.enc_image.proofs.Rows.{row_stands, count_there}

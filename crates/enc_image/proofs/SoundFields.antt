@@ -2,17 +2,15 @@
 use Rattle.std.proofs.Common.{◌≡◌, ℕ, zero, suc, ◌+◌, ◌-◌, ◌<◌, ◌≤◌, Bool, true, false, cond, List, [], ◌∷◌, length, take, drop, Option, Some, None, refl, sym, ap, ◌∙◌, arith}
 use Rattle.std.specs.Prelude.{◌==◌, ◌&&◌, ◌||◌, IsTrue, option_map, option_and_then, unwrap_or, find, nat_lt, nat_le, if◌then◌else◌}
 use Rattle.std.proofs.lemmas.Bool.Decides.{nat_tests}
-use Rattle.enc_base.specs.Token.{nth_row, nil, is_token}
-use Rattle.enc_base.specs.Order.{or_else, first_below}
+use Rattle.enc_base.specs.Token.{nth_row, is_token}
+use Rattle.enc_base.specs.Order.{first_below}
 use Rattle.enc_base.specs.declared.token.Token.{Token}
 use Rattle.enc_base.proofs.First.{first_none, first_suc}
 use Rattle.enc_meta.specs.Regions.{Region, holds, range_loaded}
-use Rattle.enc_schema.specs.declared.column.Column.{Column}
 use Rattle.enc_schema.specs.declared.column.Column.TheVariants.{Index}
 use Rattle.enc_schema.specs.Schema.{columns_in, column_in}
 use Rattle.enc_rows.specs.Layout.{rows_of}
 use Rattle.enc_rows.specs.Source.{Source, raw_in}
-use Rattle.enc_plain.specs.Cell.{Cell, field, numbers, blobs, references, kind_in}
 use Rattle.enc_plain.specs.Extent.{extent_in}
 use Rattle.enc_plain.specs.Module.{has_row, cells_of}
 use Rattle.enc_plain.specs.Reading.{index_token}
@@ -22,7 +20,7 @@ use Rattle.enc_plain.specs.Sound as sound
 use Rattle.enc_plain.specs.declared.extent.Extent.{Extent}
 use Rattle.enc_plain.specs.declared.extent.Extent.TheVariants.{Bytes, Class}
 use Rattle.enc_plain.proofs.FieldExtents.{names_row, extent_row}
-use Rattle.enc_image.specs.Base.{blob_or_none, layout_size, size_of_class, size_of, extent_of, bytes_of_field, field_bytes, rows_from, cells_fault, module_in}
+use Rattle.enc_image.specs.Base.{blob_or_none, layout_size, size_of_class, size_of, extent_of, bytes_of_field, field_bytes, cells_fault, module_in}
 use Rattle.enc_image.proofs.Good.{no_index_fault}
 use Rattle.enc_image.proofs.Rows.{row_stands, token_is, count_there, unfaulted}
 use Rattle.enc_image.proofs.Told.{row_is_there, number_is, blob_is, index_is}

@@ -1,16 +1,12 @@
 -- The signatures of a base are ones by its module's rows.
-use Rattle.std.proofs.Common.{◌≡◌, ℕ, zero, suc, ◌-◌, ◌<◌, ◌≤◌, Bool, true, false, List, length, Option, Some, None, refl, sym, ap, ◌∙◌, arith}
-use Rattle.std.specs.Prelude.{◌==◌, ◌||◌, IsTrue, option_and_then, if◌then◌else◌}
-use Rattle.std.proofs.lemmas.Bool.Decides.{nat_tests}
+use Rattle.std.proofs.Common.{◌≡◌, ℕ, ◌-◌, true, Some, None, arith}
+use Rattle.std.specs.Prelude.{IsTrue}
 use Rattle.enc_base.specs.Token.{nth_row}
 use Rattle.enc_base.specs.Order.{or_else, first_below}
 use Rattle.enc_base.specs.declared.token.Token.{Token}
-use Rattle.enc_base.specs.declared.refusal.Place.{Place}
 use Rattle.enc_base.proofs.First.{silent}
-use Rattle.enc_schema.specs.Schema.{columns_in}
 use Rattle.enc_rows.specs.Layout.{rows_of}
 use Rattle.enc_rows.specs.Source.{Source, raw_in}
-use Rattle.enc_plain.specs.Cell.{blobs, kind_in}
 use Rattle.enc_plain.specs.Module.{has_row, cells_of}
 use Rattle.enc_plain.specs.Rows.{bytes_at}
 use Rattle.enc_plain.specs.Signatures.{signature_column, is_signature}

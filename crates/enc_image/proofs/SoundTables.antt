@@ -1,5 +1,5 @@
 -- The tables of a base: a module's, with a cell of its kind in each column.
-use Rattle.std.proofs.Common.{◌≡◌, ℕ, zero, suc, ◌-◌, ◌^◌, ◌<◌, Bool, true, false, List, [], ◌∷◌, length, map, Option, Some, None, refl, sym, ap, ◌∙◌, inl, inr, arith}
+use Rattle.std.proofs.Common.{◌≡◌, ℕ, zero, suc, ◌^◌, ◌<◌, Bool, true, false, List, [], ◌∷◌, length, map, Option, Some, None, refl, ap, ◌∙◌, inl, inr, arith}
 use Rattle.std.specs.Prelude.{◌==◌, ◌&&◌, ◌⊎◌, MatchOption, IsTrue, option_map, option_and_then, unwrap_or, slice_get, if◌then◌else◌}
 use Rattle.std.proofs.lemmas.Bool.{cases_lt}
 use Rattle.std.proofs.lemmas.Bool.Decides.{nat_tests}
@@ -7,19 +7,17 @@ use Rattle.enc_base.specs.Token.{nth_row}
 use Rattle.enc_base.specs.declared.token.Token.{Token}
 use Rattle.enc_schema.specs.declared.column.Column.{Column}
 use Rattle.enc_schema.specs.declared.column.Column.TheVariants.{Num8, Num16, Num32, Text, Guid, Blob, Index, Coded, Run}
-use Rattle.enc_schema.specs.declared.column.Coding.{Coding}
 use Rattle.enc_schema.specs.Schema.{column_in}
 use Rattle.enc_schema.specs.Coding.{decoded}
 use Rattle.enc_rows.specs.Sums.{below}
 use Rattle.enc_rows.specs.Layout.{rows_of}
 use Rattle.enc_rows.specs.Source.{Source, raw_in}
 use Rattle.enc_meta.specs.Heaps.{text_at, blob_at, guid_at}
-use Rattle.enc_plain.specs.Cell.{Cell, number, text, blob, guid, refer, body, field, Kind, numbers, texts, blobs, guids, references, bodies, fields, kind_of, is_body, is_field, kind_in, cell_count}
+use Rattle.enc_plain.specs.Cell.{Cell, number, text, blob, guid, refer, Kind, numbers, texts, blobs, guids, references, bodies, fields, kind_of, is_body, is_field, kind_in, cell_count}
 use Rattle.enc_plain.specs.Module.{Row, rows_in, has_row, cell_of}
 use Rattle.enc_plain.specs.Plain.{cell_kind}
-use Rattle.enc_plain.specs.Reading.{index_token}
 use Rattle.enc_plain.specs.Sound.{is_part, row_count, HasTables, HasKinds}
-use Rattle.enc_plain.proofs.Columns.{HasPlainKind, plain_kind, column_with, reference_column}
+use Rattle.enc_plain.proofs.Columns.{plain_kind, column_with, reference_column}
 use Rattle.enc_image.specs.Base.{cells_fault, cell_in, row_in, module_in}
 use Rattle.enc_image.proofs.Listed.{length_below}
 use Rattle.enc_image.proofs.Rows.{rows_there, rows_past, count_there, count_other, count_past, tables_there, body_cell, field_cell, text_cell, blob_cell, guid_cell, index_cell, coded_cell, number_cell}

@@ -1,6 +1,6 @@
 -- What a base's module tells in its columns, as the file's numbers stand for it.
-use Rattle.std.proofs.Common.{◌≡◌, ℕ, zero, suc, ◌-◌, ◌<◌, ◌≤◌, Bool, true, false, List, [], ◌∷◌, length, map, Option, Some, None, refl, sym, ap, ◌∙◌, inl, inr, arith}
-use Rattle.std.specs.Prelude.{◌==◌, ◌&&◌, ◌||◌, ◌⊎◌, MatchOption, IsTrue, option_map, option_and_then, unwrap_or, nat_le, nat_lt, slice_get, if◌then◌else◌}
+use Rattle.std.proofs.Common.{◌≡◌, ℕ, ◌-◌, ◌<◌, ◌≤◌, Bool, true, false, List, [], ◌∷◌, Option, Some, None, refl, sym, ◌∙◌, inl, inr, arith}
+use Rattle.std.specs.Prelude.{◌==◌, ◌&&◌, ◌||◌, MatchOption, IsTrue, unwrap_or, nat_le, nat_lt, slice_get}
 use Rattle.std.specs.List.{list_any, list_all}
 use Rattle.std.proofs.lemmas.Bool.{cases_lt}
 use Rattle.std.proofs.lemmas.Bool.Decides.{nat_tests}
@@ -10,13 +10,11 @@ use Rattle.enc_schema.specs.declared.column.Column.{Column}
 use Rattle.enc_schema.specs.declared.column.Column.TheVariants.{Index}
 use Rattle.enc_schema.specs.Schema.{column_in}
 use Rattle.enc_meta.specs.Heaps.{blob_at}
-use Rattle.enc_rows.specs.Sums.{below}
 use Rattle.enc_rows.specs.Layout.{rows_of}
 use Rattle.enc_rows.specs.Source.{Source, raw_in}
-use Rattle.enc_opcodes.specs.Body.{may_name}
 use Rattle.enc_opcodes.proofs.Sounds.{Grow}
-use Rattle.enc_plain.specs.Cell.{Cell, number, blob, refer, Kind, numbers, blobs, references, kind_in, cell_count}
-use Rattle.enc_plain.specs.Module.{Row, rows_in, row_of, has_row, cells_of, cell_of}
+use Rattle.enc_plain.specs.Cell.{Cell, number, blob, numbers, blobs, references, kind_in, cell_count}
+use Rattle.enc_plain.specs.Module.{has_row, cells_of, cell_of}
 use Rattle.enc_plain.specs.Reading.{index_token, cell_with}
 use Rattle.enc_plain.specs.Rows.{number_at, bytes_at, token_at}
 use Rattle.enc_plain.specs.Sound.{is_part, row_count}

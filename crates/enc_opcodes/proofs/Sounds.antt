@@ -1,5 +1,5 @@
 -- When a body is sound: where its code is good, and as long as no table has fewer rows.
-use Rattle.std.proofs.Common.{◌≡◌, ℕ, zero, suc, ◌<◌, ◌≤◌, Bool, true, false, cond, List, [], ◌∷◌, length, map, Option, Some, None, refl, sym, ap, ◌∙◌, arith}
+use Rattle.std.proofs.Common.{◌≡◌, ℕ, ◌<◌, ◌≤◌, Bool, true, false, List, [], ◌∷◌, length, map, Option, refl, ap, ◌∙◌, arith}
 use Rattle.std.specs.Prelude.{nat_le, not, ◌==◌, ◌&&◌, ◌||◌, if◌then◌else◌}
 use Rattle.std.specs.List.{list_all, list_any}
 use Rattle.std.proofs.lemmas.Bool.Decides.{nat_tests}
@@ -10,7 +10,7 @@ use Rattle.enc_opcodes.specs.declared.op.Operand.{Operand}
 use Rattle.enc_opcodes.specs.declared.code.Clause.{Clause}
 use Rattle.enc_opcodes.specs.Clause.{clauses_of}
 use Rattle.enc_opcodes.specs.Instruction.{Argument, nothing, number, target, targets, token, text, raw, Instruction, end_of, instructions_of}
-use Rattle.enc_opcodes.specs.Body.{Code, Body, Handler, HandlerKind, catching, filtering, finishing, faulting, told, instruction_told, kind_meant, handler_meant, body_of, may_name, is_named, is_user, stands, arg_is_good, instruction_is_good, range_is_good, extra_is_good, clause_is_good, locals_are_good, is_good}
+use Rattle.enc_opcodes.specs.Body.{Code, Body, Handler, HandlerKind, catching, filtering, finishing, faulting, told, instruction_told, handler_meant, body_of, may_name, is_named, is_user, stands, arg_is_good, instruction_is_good, range_is_good, extra_is_good, clause_is_good, locals_are_good, is_good}
 use Rattle.enc_opcodes.specs.Sound.{begins_at, argument_is_sound, instruction_is_sound, handler_kind_is_sound, handler_is_sound, are_whole, body_is_sound}
 use Rattle.enc_opcodes.proofs.Instructions.{instructions_are_chain}
 use Rattle.enc_opcodes.proofs.Whole.{chain_whole}

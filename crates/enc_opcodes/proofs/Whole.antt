@@ -1,7 +1,7 @@
 -- Whole code: each instruction takes the bytes of its code and of its operand, and the next stands behind it.
-use Rattle.std.proofs.Common.{◌≡◌, ℕ, zero, suc, ◌+◌, ◌-◌, ◌*◌, ◌^◌, ◌<◌, ◌≤◌, Bool, true, false, cond, List, [], ◌∷◌, length, map, take, drop, get_or, Option, Some, None, option_map, refl, sym, ap, ◌∙◌, arith}
-use Rattle.std.specs.Prelude.{option_and_then, nat_le, nat_lt, ◌==◌, ◌&&◌, if◌then◌else◌}
-use Rattle.std.specs.Int.{Width, byte_len, w8, w16, w32, w64}
+use Rattle.std.proofs.Common.{◌≡◌, ℕ, zero, suc, ◌+◌, ◌-◌, ◌*◌, ◌^◌, ◌<◌, ◌≤◌, Bool, true, false, cond, List, [], ◌∷◌, length, map, take, drop, Option, Some, None, option_map, refl, sym, ap, ◌∙◌, arith}
+use Rattle.std.specs.Prelude.{option_and_then, nat_le, ◌==◌, ◌&&◌, if◌then◌else◌}
+use Rattle.std.specs.Int.{w8, w16, w32, w64}
 use Rattle.std.proofs.lemmas.Bool.Decides.{nat_tests}
 use Rattle.enc_base.specs.Numbers.{number_at}
 use Rattle.enc_base.proofs.SmallNumbers.{EachIsByte, number8_few}
@@ -13,7 +13,6 @@ use Rattle.enc_opcodes.specs.Opcodes.{entry_of, with_code, code_of, op_at}
 use Rattle.enc_opcodes.specs.Instruction.{Argument, nothing, number, target, targets, token, text, raw, Instruction, range_at, all_reached, switch_in, arg_in, op_in, instr_in, IsChain}
 use Rattle.enc_opcodes.specs.Body.{told, instruction_told}
 use Rattle.enc_opcodes.specs.Sound.{target_count, operand_size, instruction_size, are_whole}
-use Rattle.enc_opcodes.proofs.Instructions.{range_there}
 
 -- what is read, and the place behind it
 pair_is : {X : Type 0} (p q : X × ℕ) → Some p ≡ Some q → (p.0 ≡ q.0) × (p.1 ≡ q.1)

@@ -1,24 +1,22 @@
 -- What alike tokens and signatures keep: a TypeDef, that locals are locals, and what tells the size of a field.
-use Rattle.std.proofs.Common.{◌≡◌, ℕ, zero, suc, ◌/◌, ◌%◌, ◌^◌, ◌<◌, Bool, true, false, List, [], ◌∷◌, Option, Some, None, refl, sym, ap, ◌∙◌, inl, inr, ◌⊎◌, arith}
-use Rattle.std.specs.Prelude.{◌&&◌, ◌||◌, ◌==◌, not, bytes_eq, is_some, option_map, option_and_then, if◌then◌else◌}
+use Rattle.std.proofs.Common.{◌≡◌, ℕ, zero, suc, ◌/◌, ◌%◌, ◌<◌, Bool, true, false, List, [], ◌∷◌, Option, Some, None, refl, sym, ap, ◌∙◌, inl, inr, arith}
+use Rattle.std.specs.Prelude.{◌&&◌, ◌==◌, not, bytes_eq, option_map, if◌then◌else◌}
 use Rattle.std.proofs.Math.Nat.{mod-lt}
 use Rattle.std.proofs.lemmas.Bool.{or_cases}
 use Rattle.std.proofs.lemmas.Bool.Decides.{nat_tests}
 use Rattle.std.proofs.lemmas.Slice.Eq.{bytes_eq-Decides}
-use Rattle.enc_base.specs.Numbers.{compressed}
 use Rattle.enc_base.specs.Token.{nil, is_token}
 use Rattle.enc_base.specs.declared.token.Token.{Token}
 use Rattle.enc_schema.specs.declared.column.Coding.TheVariants.{TypeDefOrRef}
 use Rattle.enc_schema.specs.Coding.{tables_of, tag_bits, table_with, decoded}
-use Rattle.enc_sigs.specs.declared.kind.SigKind.{SigKind}
 use Rattle.enc_sigs.specs.declared.kind.SigKind.TheVariants as kind
-use Rattle.enc_sigs.specs.Tree.{Tree, Forest, none, SigTree, forest_of}
+use Rattle.enc_sigs.specs.Tree.{Tree, SigTree, forest_of}
 use Rattle.enc_sigs.specs.Grammar.{table_of, token_named, is_coded, sig_in}
 use Rattle.enc_sigs.specs.Agree.{tokens_agree, forests_agree, sig_trees_agree, if_both, sigs_agree}
-use Rattle.enc_sigs.proofs.Fronts.{NumberAt, TypeAt, FieldAt, field_first, locals_first}
+use Rattle.enc_sigs.proofs.Fronts.{NumberAt, field_first, locals_first}
 use Rattle.enc_opcodes.specs.Body.{begins_locals}
 use Rattle.enc_plain.specs.Rows.{Rows}
-use Rattle.enc_plain.specs.Alike.{are_rows, tokens_alike, blobs_alike, alike_in_table, signatures_alike}
+use Rattle.enc_plain.specs.Alike.{are_rows, tokens_alike, alike_in_table, signatures_alike}
 use Rattle.enc_plain.specs.Signatures.{kind_in_table, alone_kind}
 use Rattle.enc_plain.specs.Extent.{size_of_kind, class_of, class_in, extent_in}
 use Rattle.enc_plain.specs.declared.extent.Extent.{Extent}

@@ -1,6 +1,6 @@
 -- Which kind of cell stands where, in a module with a cell of its kind in each column.
-use Rattle.std.proofs.Common.{◌≡◌, ℕ, zero, suc, ◌-◌, ◌<◌, ◌≤◌, Bool, true, false, List, [], ◌∷◌, length, Option, Some, None, refl, sym, ap, ◌∙◌, inl, inr, arith}
-use Rattle.std.specs.Prelude.{◌==◌, ◌&&◌, not, is_some, nat_lt, nat_le, option_map, option_and_then, slice_get, filter, if◌then◌else◌}
+use Rattle.std.proofs.Common.{◌≡◌, ℕ, zero, suc, ◌<◌, ◌≤◌, Bool, true, false, List, [], ◌∷◌, length, Option, Some, None, refl, ap, ◌∙◌, inl, inr, arith}
+use Rattle.std.specs.Prelude.{◌&&◌, not, is_some, nat_lt, nat_le, option_map, option_and_then, slice_get, filter, if◌then◌else◌}
 use Rattle.std.specs.List.{list_all}
 use Rattle.std.proofs.lemmas.Bool.{cases_lt}
 use Rattle.std.proofs.lemmas.Bool.Decides.{nat_tests}
@@ -11,7 +11,7 @@ use Rattle.enc_plain.specs.Cell.{Cell, Kind, bodies, fields, kind_of, is_body, i
 use Rattle.enc_plain.specs.Module.{Module, Row, rows_in, row_at, row_of, has_row, cell_of}
 use Rattle.enc_plain.specs.Plain.{cell_kind}
 use Rattle.enc_plain.specs.Sound.{row_count, is_part, HasTables, HasKinds}
-use Rattle.enc_plain.proofs.Columns.{part_cases, runs_last, all_last, each, none_last}
+use Rattle.enc_plain.proofs.Columns.{part_cases, runs_last, all_last, each}
 
 -- a run stands behind all columns with cells
 both_true : (a b : Bool) → (a && b) ≡ true → (a ≡ true) × (b ≡ true)

@@ -1,5 +1,5 @@
 -- What is loaded are bytes, and so is the code at a method's place.
-use Rattle.std.proofs.Common.{◌≡◌, ℕ, zero, suc, ◌-◌, Bool, true, false, List, [], ◌∷◌, length, drop, Option, Some, None, refl, ap}
+use Rattle.std.proofs.Common.{◌≡◌, ℕ, zero, suc, ◌-◌, Bool, List, drop, Option, Some, None, refl}
 use Rattle.std.specs.Prelude.{option_map, option_and_then, find}
 use Rattle.enc_base.proofs.SmallNumbers.{EachIsByte, each_drop}
 use Rattle.enc_meta.specs.Regions.{Region, holds, rest_loaded}

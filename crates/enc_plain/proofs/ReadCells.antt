@@ -1,6 +1,6 @@
 -- A cell that is read fits its column, where what it is read by fits the module.
-use Rattle.std.proofs.Common.{◌≡◌, ℕ, zero, suc, ◌+◌, ◌/◌, ◌%◌, ◌<◌, ◌≤◌, ◌^◌, Bool, true, false, List, [], ◌∷◌, length, Option, Some, None, refl, sym, ap, ◌∙◌, inl, inr, arith}
-use Rattle.std.specs.Prelude.{◌&&◌, ◌||◌, ◌==◌, not, option_map, option_and_then, unwrap_or, nat_lt, nat_le, slice_get, if◌then◌else◌, ◌⊎◌}
+use Rattle.std.proofs.Common.{◌≡◌, ℕ, zero, suc, ◌+◌, ◌/◌, ◌%◌, ◌<◌, ◌≤◌, ◌^◌, Bool, true, false, List, [], ◌∷◌, length, Option, Some, None, refl, arith}
+use Rattle.std.specs.Prelude.{◌&&◌, ◌||◌, ◌==◌, not, option_map, option_and_then, unwrap_or, nat_lt, nat_le, slice_get, if◌then◌else◌}
 use Rattle.std.specs.List.{list_all, list_any}
 use Rattle.std.specs.Option.{option_map_or}
 use Rattle.std.proofs.lemmas.Bool.Decides.{nat_tests}
@@ -11,7 +11,7 @@ use Rattle.enc_schema.specs.declared.column.Column.TheVariants.{Num8, Num16, Num
 use Rattle.enc_schema.specs.declared.column.Coding.{Coding}
 use Rattle.enc_schema.specs.Schema.{list_at, schema, columns_in, column_in}
 use Rattle.enc_schema.specs.Coding.{tables_of, each_table, table_with, tag_bits, decoded}
-use Rattle.enc_plain.specs.Cell.{Cell, number, text, blob, guid, refer}
+use Rattle.enc_plain.specs.Cell.{number, text, blob, guid, refer}
 use Rattle.enc_plain.specs.Module.{Module, has_row}
 use Rattle.enc_plain.specs.Reading.{Reading, within, index_token, cell_read}
 use Rattle.enc_plain.specs.Sound.{row_count, is_part, is_tables, can_name, is_reference, number_fits, cell_is_sound}

@@ -1,9 +1,9 @@
 -- A signature stays one where the tables of types have no fewer rows.
-use Rattle.std.proofs.Common.{◌≡◌, ℕ, ◌%◌, ◌/◌, ◌≤◌, Bool, true, false, List, refl, inl, inr, ◌⊎◌, arith}
-use Rattle.std.specs.Prelude.{◌&&◌, ◌==◌, nat_le, is_some, if◌then◌else◌}
+use Rattle.std.proofs.Common.{◌≡◌, ℕ, ◌%◌, ◌/◌, ◌≤◌, Bool, true, false, List, refl, arith}
+use Rattle.std.specs.Prelude.{◌&&◌, ◌==◌, nat_le, if◌then◌else◌}
 use Rattle.std.proofs.lemmas.Bool.Decides.{nat_tests}
 use Rattle.enc_sigs.specs.Grammar.{table_of, is_coded, is_counted}
-use Rattle.enc_sigs.proofs.Wider.{More, sig_kept}
+use Rattle.enc_sigs.proofs.Wider.{sig_kept}
 use Rattle.enc_plain.specs.Signatures.{kind_in_table, is_signature}
 
 -- TypeDef, TypeRef and TypeSpec have no fewer rows

@@ -1,16 +1,14 @@
 -- With what the signature of a field and that of locals begin.
-use Rattle.std.proofs.Common.{◌≡◌, ℕ, zero, suc, Bool, true, false, cond, List, [], ◌∷◌, drop, Option, Some, None, refl, sym, ap, subst, ◌∙◌, arith}
-use Rattle.std.specs.Prelude.{◌&&◌, ◌==◌, option_map, option_and_then, nat_lt, if◌then◌else◌}
+use Rattle.std.proofs.Common.{◌≡◌, ℕ, zero, suc, Bool, true, false, List, [], ◌∷◌, drop, Option, Some, None, refl, sym, ap, ◌∙◌, arith}
+use Rattle.std.specs.Prelude.{◌==◌, option_map, option_and_then, nat_lt, if◌then◌else◌}
 use Rattle.std.proofs.lemmas.Bool.Decides.{nat_tests}
 use Rattle.enc_base.specs.Numbers.{compressed}
-use Rattle.enc_base.specs.Token.{nil}
 use Rattle.enc_base.specs.declared.token.Token.{Token}
-use Rattle.enc_sigs.specs.declared.kind.SigKind.{SigKind}
 use Rattle.enc_sigs.specs.declared.kind.SigKind.TheVariants.{Field, Locals}
 use Rattle.enc_sigs.specs.declared.form.Form.{Form}
 use Rattle.enc_sigs.specs.declared.form.Form.TheVariants as form
 use Rattle.enc_sigs.specs.Tree.{Tree, SigTree}
-use Rattle.enc_sigs.specs.Grammar.{Reader, giving, both, counted, tree, number_in, byte_in, is_coded, token_named, token_in, named_in, form_of, formed_in, elem_in, type_in, front_in, unless_more, all_of, sig_in}
+use Rattle.enc_sigs.specs.Grammar.{Reader, both, counted, tree, number_in, byte_in, is_coded, token_named, token_in, named_in, form_of, formed_in, elem_in, type_in, front_in, unless_more, all_of, sig_in}
 use Rattle.enc_sigs.proofs.Agreed.{formed_element}
 
 -- a token's number is spelled at the front

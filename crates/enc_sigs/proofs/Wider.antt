@@ -1,5 +1,5 @@
 -- A signature by one test of its tokens is the same signature by a test that lets through more.
-use Rattle.std.proofs.Common.{◌≡◌, ℕ, zero, suc, Bool, true, false, List, [], ◌∷◌, drop, Option, Some, None, refl, ap, ◌∙◌}
+use Rattle.std.proofs.Common.{◌≡◌, ℕ, zero, suc, Bool, true, false, List, [], ◌∷◌, drop, Option, Some, None, refl}
 use Rattle.std.specs.Prelude.{option_map, option_and_then, is_some, if◌then◌else◌}
 use Rattle.enc_base.specs.declared.token.Token.{Token}
 use Rattle.enc_sigs.specs.declared.kind.SigKind.{SigKind}
@@ -8,7 +8,7 @@ use Rattle.enc_sigs.specs.declared.form.Form.{Form}
 use Rattle.enc_sigs.specs.declared.form.Form.TheVariants as form
 use Rattle.enc_sigs.specs.declared.form.Numeral.TheVariants.{Size, Bound}
 use Rattle.enc_sigs.specs.Tree.{Tree, SigTree}
-use Rattle.enc_sigs.specs.Grammar.{Reader, giving, both, upon, many, more_in, counted, number_in, numerals_in, byte_in, token_named, wrapped_in, named_in, modified_in, numbered_in, array_in, instance_in, pointer_in, method_in, calling_in, parts_in, params, marked_in, accessed_in, begins, token_in, form_of, formed_in, elem_in, type_in, front_in, all_of, sig_in}
+use Rattle.enc_sigs.specs.Grammar.{Reader, giving, both, upon, many, more_in, counted, number_in, numerals_in, byte_in, token_named, wrapped_in, named_in, modified_in, array_in, instance_in, pointer_in, method_in, calling_in, parts_in, params, marked_in, accessed_in, begins, token_in, form_of, formed_in, elem_in, type_in, front_in, all_of, sig_in}
 
 -- what one reads, the other reads
 pub record Wider {A : Type 0} (r s : Reader A) : Type 0 where
