@@ -24,7 +24,7 @@ use Rattle.enc_agg.specs.Extend.{changes_of, extended}
 use Rattle.enc_delta.specs.Pairs.{attached_of, pairs_in}
 use Rattle.enc_agg.specs.Follows.{HasTables, Follows}
 use Rattle.enc_plain.specs.Sound.{all_kids, IsOwned}
-use Rattle.enc_agg.proofs.Unbroken.{unbroken}
+use Rattle.enc_delta.proofs.Unbroken.{unbroken}
 use Rattle.enc_agg.proofs.Counting.{apply_tables}
 use Rattle.enc_agg.proofs.Fitting.{fits, put_all, count_is}
 use Rattle.enc_agg.proofs.Changed.{log_names}

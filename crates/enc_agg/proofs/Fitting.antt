@@ -24,7 +24,7 @@ use Rattle.enc_agg.specs.Follows.{HasTables, Follows}
 use Rattle.enc_agg.proofs.Counting.{Tally, tally_none, tally_put, near, apply_tables}
 use Rattle.enc_agg.proofs.InTables.{silent, listed_tables}
 use Rattle.enc_agg.proofs.Rising.{changes_with, none_late, late_behind, fresh}
-use Rattle.enc_agg.proofs.Unbroken.{unbroken}
+use Rattle.enc_delta.proofs.Unbroken.{unbroken}
 
 -- each token is as the rules want it, after those before
 pub record Good (c : Chain) (before ts : List Token) : Type 0 where

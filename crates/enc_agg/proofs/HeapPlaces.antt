@@ -5,17 +5,18 @@ use Rattle.std.proofs.lemmas.Bool.Decides.{nat_tests}
 use Rattle.std.proofs.lemmas.List.{map-append, length-map, length-reverse}
 use Rattle.std.proofs.lemmas.List.Sums.{sum_by-append}
 use Rattle.enc_base.specs.Order.{or_else}
-use Rattle.enc_base.specs.declared.refusal.StreamName.{StreamName}
-use Rattle.enc_base.specs.declared.refusal.StreamName.TheVariants as stream
+use Rattle.enc_meta.specs.declared.heap.Heap.{Heap}
+use Rattle.enc_meta.specs.declared.heap.Heap.TheVariants as heap
+use Rattle.enc_meta.specs.HeapKinds.{bytes_in, length_in}
 use Rattle.enc_meta.specs.Heaps.{Counted}
 use Rattle.enc_meta.specs.Joined.{joined_length}
 use Rattle.enc_rows.specs.Source.{Source}
-use Rattle.enc_delta.specs.Totals.{totals_of}
+use Rattle.enc_meta.specs.Joined.{joined_lengths}
 use Rattle.enc_agg.specs.declared.added.Added.{Added}
 use Rattle.enc_agg.specs.declared.place.HeapPlace.{HeapPlace}
 use Rattle.enc_agg.specs.Extend.{chain_with}
 use Rattle.enc_agg.specs.Place.{later, heap_place, guid_place}
-use Rattle.enc_agg.specs.Seen.{sources, AllAdded, heap_named, total_named, own_place, own_guid_place}
+use Rattle.enc_agg.specs.Seen.{sources, AllAdded, own_place, own_guid_place}
 use Rattle.enc_agg.proofs.Histories.{last_added, heaps_with, heaps_alone, heaps_count}
 
 one_later : (t : Bool) (n k : ℕ) → option_map later (if t then Some (record { generation = n; offset = k }) else None) ≡ (if t then Some (record { generation = suc n; offset = k }) else None)
@@ -61,21 +62,12 @@ place_behind (h ∷ hs) heap offset high =
     not_less : (offset first more : ℕ) → first + more ≤ offset → nat_lt offset first ≡ false
     not_less offset first more high = grind (arith, nat_tests)
 
--- what the heaps of a stream have together
-none_joined : (heaps : List Counted) → 0 ≡ joined_length (map (λ (h : Counted). []) heaps)
-none_joined [] = refl
-none_joined (h ∷ hs) = omega (arith, none_joined hs)
-
-total_joined : (name : StreamName) (heaps : List Counted) → total_named name (totals_of heaps) ≡ joined_length (map (λ (h : Counted). heap_named name h) heaps)
-unfolding totals_of
-total_joined stream.Compressed heaps = none_joined heaps
-total_joined stream.Uncompressed heaps = none_joined heaps
-total_joined stream.Strings heaps = refl
-total_joined stream.Users heaps = refl
-total_joined stream.Blobs heaps = refl
-total_joined stream.Guids heaps = none_joined heaps
-total_joined stream.Pdb heaps = none_joined heaps
-total_joined stream.Jtd heaps = none_joined heaps
+-- what the heaps have together
+total_joined : (k : Heap) (heaps : List Counted) → length_in k (joined_lengths heaps) ≡ joined_length (map (bytes_in k) heaps)
+unfolding joined_lengths
+total_joined heap.Strings heaps = refl
+total_joined heap.Users heaps = refl
+total_joined heap.Blobs heaps = refl
 
 heaps_many : (b : Source) (older : List Added) (f : Counted → List ℕ) → length (map f (chain_with b (sources older)).heaps) ≡ suc (length older)
 heaps_many b older f = omega (arith, length-map (chain_with b (sources older)).heaps f, heaps_count b (sources older), length-map older (λ (x : Added). x.delta))
@@ -83,25 +75,25 @@ heaps_many b older f = omega (arith, length-map (chain_with b (sources older)).h
 heaps_more : (b : Source) (a : Added) (older : List Added) (f : Counted → List ℕ) → map f (chain_with b (sources (a ∷ older))).heaps ≡ map f (chain_with b (sources older)).heaps ++ f a.delta.heaps ∷ []
 heaps_more b a older f = ap (map f) (heaps_with b a.delta (sources older)) ∙ map-append f (chain_with b (sources older)).heaps (a.delta.heaps ∷ [])
 
-total_is : (b : Source) (a : Added) (older : List Added) (name : StreamName) → AllAdded b (a ∷ older) → total_named name a.before ≡ joined_length (map (λ (h : Counted). heap_named name h) (chain_with b (sources older)).heaps)
-total_is b a older name all = ap (total_named name) (last_added b a older all).0.before ∙ total_joined name (chain_with b (sources older)).heaps
+total_is : (b : Source) (a : Added) (older : List Added) (k : Heap) → AllAdded b (a ∷ older) → length_in k a.before ≡ joined_length (map (bytes_in k) (chain_with b (sources older)).heaps)
+total_is b a older k all = ap (length_in k) (last_added b a older all).0.before ∙ total_joined k (chain_with b (sources older)).heaps
 
 pub many_parts : (added : List Added) (a : Added) (older : List Added) → reverse added ≡ a ∷ older → length added ≡ length (a ∷ older)
 many_parts added a older parts = sym (length-reverse added) ∙ ap length parts
 
 -- the same of a base's heaps and with the newest delta's
-pub base_place : (b : Source) (name : StreamName) (offset : ℕ) → heap_place (map (λ (h : Counted). heap_named name h) (chain_with b []).heaps) offset ≡ own_place (heap_named name b.heaps) 0 offset
-base_place b name offset = rw (heaps_alone b) (place_alone (heap_named name b.heaps) offset)
+pub base_place : (b : Source) (k : Heap) (offset : ℕ) → heap_place (map (bytes_in k) (chain_with b []).heaps) offset ≡ own_place (bytes_in k b.heaps) 0 offset
+base_place b k offset = rw (heaps_alone b) (place_alone (bytes_in k b.heaps) offset)
 
-pub older_place : (b : Source) (a : Added) (older : List Added) (name : StreamName) (offset : ℕ) → AllAdded b (a ∷ older) → offset < total_named name a.before → heap_place (map (λ (h : Counted). heap_named name h) (chain_with b (sources (a ∷ older))).heaps) offset ≡ heap_place (map (λ (h : Counted). heap_named name h) (chain_with b (sources older)).heaps) offset
-older_place b a older name offset all low =
-    let total = total_is b a older name all in
-    rw (heaps_more b a older (λ (h : Counted). heap_named name h)) (place_before _ (heap_named name a.delta.heaps) offset (omega (arith, low, total)))
+pub older_place : (b : Source) (a : Added) (older : List Added) (k : Heap) (offset : ℕ) → AllAdded b (a ∷ older) → offset < length_in k a.before → heap_place (map (bytes_in k) (chain_with b (sources (a ∷ older))).heaps) offset ≡ heap_place (map (bytes_in k) (chain_with b (sources older)).heaps) offset
+older_place b a older k offset all low =
+    let total = total_is b a older k all in
+    rw (heaps_more b a older (bytes_in k)) (place_before _ (bytes_in k a.delta.heaps) offset (omega (arith, low, total)))
 
-pub newest_place : (b : Source) (a : Added) (older : List Added) (name : StreamName) (offset : ℕ) → AllAdded b (a ∷ older) → total_named name a.before ≤ offset → heap_place (map (λ (h : Counted). heap_named name h) (chain_with b (sources (a ∷ older))).heaps) offset ≡ own_place (heap_named name a.delta.heaps) (length (a ∷ older)) (offset - total_named name a.before)
-newest_place b a older name offset all high =
-    let total = total_is b a older name all in
-    rw (heaps_more b a older (λ (h : Counted). heap_named name h), total, ← heaps_many b older (λ (h : Counted). heap_named name h)) (place_behind _ (heap_named name a.delta.heaps) offset (omega (arith, high, total)))
+pub newest_place : (b : Source) (a : Added) (older : List Added) (k : Heap) (offset : ℕ) → AllAdded b (a ∷ older) → length_in k a.before ≤ offset → heap_place (map (bytes_in k) (chain_with b (sources (a ∷ older))).heaps) offset ≡ own_place (bytes_in k a.delta.heaps) (length (a ∷ older)) (offset - length_in k a.before)
+newest_place b a older k offset all high =
+    let total = total_is b a older k all in
+    rw (heaps_more b a older (bytes_in k), total, ← heaps_many b older (bytes_in k)) (place_behind _ (bytes_in k a.delta.heaps) offset (omega (arith, high, total)))
 
 -- an entry of `#GUID` stands where it was before, and else in the last
 guid_alone : (heap : List ℕ) (k : ℕ) → guid_place (heap ∷ []) k ≡ own_guid_place heap 0 k

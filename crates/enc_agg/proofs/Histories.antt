@@ -13,14 +13,14 @@ use Rattle.enc_plain.specs.Chain.{Chain, id_of}
 use Rattle.enc_schema.specs.Schema.{list_at}
 use Rattle.enc_plain.specs.Module.{Module, Row, rows_in, has_row, cell_of}
 use Rattle.enc_image.specs.Base.{users_of, cells_fault, module_in, begun}
-use Rattle.enc_image.proofs.Alone.{user_alone}
+use Rattle.enc_meta.proofs.Alone.{user_alone}
 use Rattle.enc_base.proofs.First.{silent}
 use Rattle.std.proofs.lemmas.Bool.{cases_lt}
 use Rattle.enc_plain.specs.Apply.{Change, put, apply, Attached, attach, attach_all}
 use Rattle.enc_agg.proofs.Fitting.{count_is}
 use Rattle.enc_image.proofs.Rows.{tables_there}
 use Rattle.enc_delta.specs.Delta.{listed, place_in}
-use Rattle.enc_delta.specs.Rules.{module_token, own_guid, broken, e24_at, e24}
+use Rattle.enc_delta.specs.Rules.{module_token, own_guid, broken, too_many_in, too_many}
 use Rattle.enc_agg.specs.declared.added.Added.{Added}
 use Rattle.enc_agg.specs.Extend.{changes_of, extended, chain_with}
 use Rattle.enc_delta.specs.Pairs.{attached_of}
@@ -29,8 +29,8 @@ use Rattle.enc_agg.specs.Seen.{sources, IsAdded, AllAdded, found_or, found_in}
 use Rattle.enc_base.specs.Order.{or_else, first_below}
 use Rattle.enc_base.specs.declared.refusal.Place.TheVariants as place
 use Rattle.enc_base.specs.declared.refusal.Place.{Place}
-use Rattle.enc_delta.proofs.Totals.{Limited, limited}
-use Rattle.enc_agg.proofs.Unbroken.{unbroken, heaps_unbroken}
+use Rattle.enc_delta.proofs.HeapLimits.{Limited, limited}
+use Rattle.enc_delta.proofs.Unbroken.{unbroken, heaps_unbroken}
 use Rattle.enc_image.proofs.SoundOwners.{begun_runs, begun_owned}
 use Rattle.enc_agg.proofs.Fitting.{has_tables, has_runs}
 use Rattle.enc_agg.proofs.Children.{owned_after}
@@ -208,10 +208,10 @@ limit_is n p rest h = by_test (nat_lt 65535 n) refl h
 
 -- no more deltas follow than Generation counts
 pub few_deltas : (b : Source) (added : List Added) → AllAdded b added → length added ≤ 65535
-unfolding e24
+unfolding too_many
 few_deltas b [] all = omega arith
 few_deltas b (a ∷ older) all =
-    let limit = limit_is (length (chain_with b (sources older)).ids + 1) (place.Row module_token) (first_below (e24_at (chain_with b (sources older)) a.delta) 0x2D) (unbroken (chain_with b (sources older)) a.delta (last_added b a older all).0.follows.rules).limit in
+    let limit = limit_is (length (chain_with b (sources older)).ids + 1) (place.Row module_token) (first_below (too_many_in (chain_with b (sources older)) a.delta) 0x2D) (unbroken (chain_with b (sources older)) a.delta (last_added b a older all).0.follows.rules).limit in
     omega (arith, limit, ids_count b (sources older), length-map older (λ (x : Added). x.delta))
 
 -- the EncId of a generation past the base
@@ -282,10 +282,10 @@ second_none (Some x) b h = absurd cc
 
 -- a table has fewer rows after a delta than a token can name
 after_few : (c : Chain) (d : Source) (t : ℕ) → HasTables c → Follows c d → length (rows_in (extended c d).plain t) < 0x1000000
-unfolding e24 e24_at
+unfolding too_many too_many_in
 after_few c d t tables follows =
     elim (cases_lt t 0x2D) [
-      | inl low ↦ rw (count_is c d tables follows t) (limited_at _ _ (silent (e24_at c d) 0x2D t (second_none _ _ (unbroken c d follows.rules).limit) low))
+      | inl low ↦ rw (count_is c d tables follows t) (limited_at _ _ (silent (too_many_in c d) 0x2D t (second_none _ _ (unbroken c d follows.rules).limit) low))
       | inr high ↦ rw (← (no_table (extended c d) t (has_tables c d tables) high)) (omega arith)
     ]
 

@@ -12,7 +12,7 @@ use Rattle.enc_base.proofs.First.{first_means}
 use Rattle.enc_rows.specs.Layout.{rows_of}
 use Rattle.enc_rows.specs.Source.{Source}
 use Rattle.enc_delta.specs.Delta.{listed, of_table}
-use Rattle.enc_delta.specs.Rules.{broken, rows_for, e7_at, e7, may_change, e12_at, e12}
+use Rattle.enc_delta.specs.Rules.{broken, rows_for, uneven_at, uneven_table, may_change, closed_at, closed_table}
 
 -- no answer below n, none at any place below
 pub silent : {A : Type 0} (rule : ℕ → Option A) (n k : ℕ) → first_below rule n ≡ None → k < n → rule k ≡ None
@@ -28,9 +28,9 @@ equal p a b h =
     grind (arith, nat_tests)
 
 -- a table has as many rows as tokens
-pub rows_are : (s : Source) (t : ℕ) → e7 s ≡ None → t < 0x100 → rows_for s t ≡ length (of_table t (listed s))
-unfolding e7 e7_at
-rows_are s t none h = equal (place.Row (record { table = t; row = 0 })) (rows_for s t) (length (of_table t (listed s))) (silent (e7_at s) 0x100 t none h)
+pub rows_are : (s : Source) (t : ℕ) → uneven_table s ≡ None → t < 0x100 → rows_for s t ≡ length (of_table t (listed s))
+unfolding uneven_table uneven_at
+rows_are s t none h = equal (place.Row (record { table = t; row = 0 })) (rows_for s t) (length (of_table t (listed s))) (silent (uneven_at s) 0x100 t none h)
 
 some_rows : (b : Bool) (n : ℕ) → 0 < cond b 0 n → 0 < n
 some_rows true n h = absurd (omega arith)
@@ -43,9 +43,9 @@ allowed p n false h lt =
     grind (arith, nat_tests)
 
 -- a table with rows is one that may change
-pub may_be : (s : Source) (t : ℕ) → e12 s ≡ None → t < 0x100 → 0 < rows_of s.layout t → may_change t ≡ true
-unfolding e12 e12_at
-may_be s t none h some = allowed (place.Row (record { table = t; row = 0 })) (rows_of s.layout t) (may_change t) (silent (e12_at s) 0x100 t none h) some
+pub may_be : (s : Source) (t : ℕ) → closed_table s ≡ None → t < 0x100 → 0 < rows_of s.layout t → may_change t ≡ true
+unfolding closed_table closed_at
+may_be s t none h some = allowed (place.Row (record { table = t; row = 0 })) (rows_of s.layout t) (may_change t) (silent (closed_at s) 0x100 t none h) some
 
 one_small : (u t n : ℕ) (rest : Bool) → ((u == t) || rest) ≡ true → nat_lt u n ≡ true → (rest ≡ true → nat_lt t n ≡ true) → nat_lt t n ≡ true
 one_small u t n true h small f = f refl
@@ -79,5 +79,5 @@ small_tables (t ∷ ts) f h =
     and_from (nat_lt t.table 0x2D) (list_all (λ (u : Token). nat_lt u.table 0x2D) ts) (f t.table within (some_here t ts)) (small_tables ts (λ u lt some. f u lt (omega (arith, some, longer (t.table == u) t (of_table u ts)))) both.1)
 
 -- the tokens of a delta whose tables are as many as its tokens, and none of another kind
-pub listed_tables : (s : Source) → e7 s ≡ None → e12 s ≡ None → list_all (λ (t : Token). nat_lt t.table 0x100) (listed s) ≡ true → list_all (λ (t : Token). nat_lt t.table 0x2D) (listed s) ≡ true
+pub listed_tables : (s : Source) → uneven_table s ≡ None → closed_table s ≡ None → list_all (λ (t : Token). nat_lt t.table 0x100) (listed s) ≡ true → list_all (λ (t : Token). nat_lt t.table 0x2D) (listed s) ≡ true
 listed_tables s equal_rows allowed_rows h = small_tables (listed s) (λ t lt some. may_small t (may_be s t allowed_rows lt (some_rows _ (rows_of s.layout t) (rw (← rows_are s t equal_rows lt) at some)))) h

@@ -23,7 +23,7 @@ use Rattle.enc_plain.proofs.AlikeLaws.{each_is_alike_itself}
 use Rattle.enc_plain.proofs.KindsOf.{row_bounds, row_there}
 use Rattle.enc_delta.specs.Delta.{listed, place_in}
 use Rattle.enc_delta.specs.Rules.{broken, is_insert, rows_with}
-use Rattle.enc_delta.specs.Changes.{may_differ, is_signature_column, is_kept, e15_cell, e15_row, of_nth, e15}
+use Rattle.enc_delta.specs.Changes.{may_differ, is_signature_column, is_kept, altered_at, altered_in, of_nth, altered_cell}
 use Rattle.enc_delta.specs.Rows.{rows_of_chain, rows_after}
 use Rattle.enc_agg.specs.Extend.{changes_of, extended}
 use Rattle.enc_agg.proofs.Tokens.{place_token}
@@ -60,18 +60,18 @@ held p a true h e = refl
 held p true false h e = absurd cc
 held p false false h e = absurd cc
 
-updated : (c : Chain) (s : Source) (u : Token) (k i : ℕ) (column : Column) → e15 c s ≡ None → has_row c.plain u ≡ true → place_in (listed s) u ≡ Some k → column_in u.table i ≡ Some column → may_differ u.table i ≡ false → is_kept (rows_of_chain c) (rows_after c s) u i (kind_in u.table i) ≡ true
-unfolding e15 e15_row e15_cell
+updated : (c : Chain) (s : Source) (u : Token) (k i : ℕ) (column : Column) → altered_cell c s ≡ None → has_row c.plain u ≡ true → place_in (listed s) u ≡ Some k → column_in u.table i ≡ Some column → may_differ u.table i ≡ false → is_kept (rows_of_chain c) (rows_after c s) u i (kind_in u.table i) ≡ true
+unfolding altered_cell altered_in altered_at
 updated c s u k i column none there place e same =
-    let row : e15_row c s u ≡ None = silent_of (e15_row c s) s u k none place in
-    let cells : first_below (e15_cell c s u) (length (columns_in u.table)) ≡ None = rw (not_insert c u there) at row in
-    held _ (may_differ u.table i) (is_kept (rows_of_chain c) (rows_after c s) u i (kind_in u.table i)) (silent (e15_cell c s u) (length (columns_in u.table)) i cells (slice_get_within (columns_in u.table) i column e)) same
+    let row : altered_in c s u ≡ None = silent_of (altered_in c s) s u k none place in
+    let cells : first_below (altered_at c s u) (length (columns_in u.table)) ≡ None = rw (not_insert c u there) at row in
+    held _ (may_differ u.table i) (is_kept (rows_of_chain c) (rows_after c s) u i (kind_in u.table i)) (silent (altered_at c s u) (length (columns_in u.table)) i cells (slice_get_within (columns_in u.table) i column e)) same
 
 -- the rows by which a delta is judged are those of the module after it
 pub record JudgedBy (c : Chain) (s : Source) : Type 0 where
   pub fit : Fits c.plain (changes_of c s)
   pub rows : (t : Token) → rows_after c s t ≡ cells_of (extended c s).plain t
-  pub same : e15 c s ≡ None
+  pub same : altered_cell c s ≡ None
 
 same_number : (r q : Rows) (t : Token) (i : ℕ) → r t ≡ q t → number_at r t i ≡ number_at q t i
 unfolding number_at

@@ -24,7 +24,7 @@ use Rattle.enc_delta.specs.Pairs.{attached_of}
 use Rattle.enc_agg.specs.Given.{add_code, gives, gives_to, rows_given}
 use Rattle.enc_agg.specs.Follows.{Follows, IsSound}
 use Rattle.enc_plain.specs.Sound.{all_kids, IsOwned}
-use Rattle.enc_agg.proofs.Unbroken.{unbroken}
+use Rattle.enc_delta.proofs.Unbroken.{unbroken}
 use Rattle.enc_agg.proofs.Fitting.{count_is, few}
 use Rattle.enc_agg.proofs.Owned.{count_cons}
 use Rattle.enc_agg.proofs.Given.{gained_rows, rows_many, pair_at, given_many}

@@ -25,8 +25,8 @@ use Rattle.enc_plain.proofs.KindsOf.{row_there}
 use Rattle.enc_plain.proofs.LoadedBytes.{AreLoaded, code_bytes}
 use Rattle.enc_image.proofs.SoundBodies.{there_good}
 use Rattle.enc_delta.specs.Delta.{listed, of_table, place_in}
-use Rattle.enc_delta.specs.Rules.{broken, users_after, rows_with, body_stands, e16_at, e16}
-use Rattle.enc_delta.specs.Changes.{own_code, locals_begin, e23_row, e23}
+use Rattle.enc_delta.specs.Rules.{broken, users_after, rows_with, body_stands, broken_body_at, broken_body}
+use Rattle.enc_delta.specs.Changes.{own_code, locals_begin, bad_locals_in, bad_locals}
 use Rattle.enc_delta.specs.Rows.{rows_after}
 use Rattle.enc_agg.specs.Extend.{extended}
 use Rattle.enc_agg.proofs.KeptRows.{signs, JudgedBy, silent_of, same_bytes, signature_kept, rows_grow}
@@ -85,13 +85,13 @@ unbroken : (b : Bool) (p : Place) → broken (not b) p ≡ None → b ≡ true
 unbroken true p h = refl
 unbroken false p h = absurd cc
 
-listed_good : (c : Chain) (s : Source) (u : Token) (k : ℕ) → e16 c s ≡ None → PlaceRow s u k → u.table ≡ 0x06 → body_is_good (rows_with c (listed s)) (users_after c s) s.loaded (raw_in s (record { table = u.table; row = k }) 0) (raw_in s (record { table = u.table; row = k }) 1) ≡ true
-unfolding e16 e16_at body_stands
+listed_good : (c : Chain) (s : Source) (u : Token) (k : ℕ) → broken_body c s ≡ None → PlaceRow s u k → u.table ≡ 0x06 → body_is_good (rows_with c (listed s)) (users_after c s) s.loaded (raw_in s (record { table = u.table; row = k }) 0) (raw_in s (record { table = u.table; row = k }) 1) ≡ true
+unfolding broken_body broken_body_at body_stands
 listed_good c s u k none at is =
     let e : k - 1 + 1 ≡ k = omega (arith, at.low) in
     let high : k ≤ rows_of s.layout 0x06 = rw is at at.high in
     let token : slice_get (of_table 0x06 (listed s)) (k - 1) ≡ Some u = ap (λ t. slice_get (of_table t (listed s)) (k - 1)) (sym is) ∙ at.token in
-    let row = silent (e16_at c s) (rows_of s.layout 0x06) (k - 1) none (omega (arith, at.low, high)) in
+    let row = silent (broken_body_at c s) (rows_of s.layout 0x06) (k - 1) none (omega (arith, at.low, high)) in
     let good : body_is_good (rows_with c (listed s)) (users_after c s) s.loaded (raw_in s (record { table = 0x06; row = k - 1 + 1 }) 0) (raw_in s (record { table = 0x06; row = k - 1 + 1 }) 1) ≡ true = unbroken _ _ (rw token at row) in
     rw is (rw e at good)
 
@@ -105,17 +105,17 @@ also true true p h e = refl
 also true false p h e = absurd cc
 also false b p h e = absurd cc
 
-listed_locals : (c : Chain) (s : Source) (u : Token) (k : ℕ) (code : Code) → JudgedBy c s → e23 c s ≡ None → place_in (listed s) u ≡ Some k → u.table ≡ 0x06 → code_loaded s.loaded (raw_in s (record { table = u.table; row = k }) 0) ≡ Some code → (code.locals.row == 0 || begins_locals (bytes_at (cells_of (extended c s).plain) code.locals 0)) ≡ true
-unfolding e23 e23_row
+listed_locals : (c : Chain) (s : Source) (u : Token) (k : ℕ) (code : Code) → JudgedBy c s → bad_locals c s ≡ None → place_in (listed s) u ≡ Some k → u.table ≡ 0x06 → code_loaded s.loaded (raw_in s (record { table = u.table; row = k }) 0) ≡ Some code → (code.locals.row == 0 || begins_locals (bytes_at (cells_of (extended c s).plain) code.locals 0)) ≡ true
+unfolding bad_locals bad_locals_in
 listed_locals c s u k code j none place is there =
-    let row : e23_row c s u ≡ None = silent_of (e23_row c s) s u k none place in
+    let row : bad_locals_in c s u ≡ None = silent_of (bad_locals_in c s) s u k none place in
     let method : (u.table == 0x06) ≡ true = rw is refl in
     let begins : locals_begin (rows_after c s) (own_code s u) ≡ true = also (u.table == 0x06) (locals_begin (rows_after c s) (own_code s u)) _ row method in
     let code_is : locals_begin (rows_after c s) (Some code) ≡ true = rw (place, there) at begins in
     rw (← same_bytes (rows_after c s) (cells_of (extended c s).plain) code.locals 0 (j.rows code.locals)) (locals_of (code.locals.row == 0) (code.locals.table == 0x11) (begins_locals (bytes_at (rows_after c s) code.locals 0)) code_is)
 
 -- the body that the delta gives a method
-pub method_listed : (c : Chain) (s : Source) (u : Token) (column : Column) (k : ℕ) (o : Option Code) → JudgedBy c s → Counted c s → AreLoaded s.loaded → e16 c s ≡ None → e23 c s ≡ None → PlaceRow s u k → place_in (listed s) u ≡ Some k → u.table ≡ 0x06 → number_at (cells_of (extended c s).plain) u 1 ≡ raw_in s (record { table = u.table; row = k }) 1 → code_loaded s.loaded (raw_in s (record { table = u.table; row = k }) 0) ≡ o → cell_is_sound (extended c s).plain u column (body (option_map (body_of (users_after c s)) o)) ≡ true
+pub method_listed : (c : Chain) (s : Source) (u : Token) (column : Column) (k : ℕ) (o : Option Code) → JudgedBy c s → Counted c s → AreLoaded s.loaded → broken_body c s ≡ None → bad_locals c s ≡ None → PlaceRow s u k → place_in (listed s) u ≡ Some k → u.table ≡ 0x06 → number_at (cells_of (extended c s).plain) u 1 ≡ raw_in s (record { table = u.table; row = k }) 1 → code_loaded s.loaded (raw_in s (record { table = u.table; row = k }) 0) ≡ o → cell_is_sound (extended c s).plain u column (body (option_map (body_of (users_after c s)) o)) ≡ true
 unfolding method_is_sound body_of
 method_listed c s u column k None j counts bytes bodies locals at place is flags there = refl
 method_listed c s u column k (Some code) j counts bytes bodies locals at place is flags there =

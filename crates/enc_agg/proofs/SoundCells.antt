@@ -27,8 +27,8 @@ use Rattle.enc_plain.proofs.KindsOf.{kind_of_cell, row_table}
 use Rattle.enc_plain.proofs.LoadedBytes.{AreLoaded}
 use Rattle.enc_plain.proofs.ReadCells.{ReadsFor, read_fits}
 use Rattle.enc_delta.specs.Delta.{listed, place_in}
-use Rattle.enc_delta.specs.Rules.{broken, heaps_after, users_after, reading_after, e5_blobs, e5, e16}
-use Rattle.enc_delta.specs.Changes.{e23}
+use Rattle.enc_delta.specs.Rules.{broken, heaps_after, users_after, reading_after, blobs_break, heap_fault, broken_body}
+use Rattle.enc_delta.specs.Changes.{bad_locals}
 use Rattle.enc_delta.specs.Rows.{cell_after, cells_after}
 use Rattle.enc_image.proofs.Listed.{get_below, get_past}
 use Rattle.enc_image.proofs.SoundCells.{raw_fits}
@@ -52,8 +52,8 @@ unbroken : (b : Bool) (p : Place) → broken b p ≡ None → b ≡ false
 unbroken true p h = absurd cc
 unbroken false p h = refl
 
-few_blobs : (c : Chain) (s : Source) → e5 c s ≡ None → joined_length (map (λ (h : Counted). h.blobs) (heaps_after c s)) ≤ 2 ^ 29
-unfolding e5 e5_blobs
+few_blobs : (c : Chain) (s : Source) → heap_fault c s ≡ None → joined_length (map (λ (h : Counted). h.blobs) (heaps_after c s)) ≤ 2 ^ 29
+unfolding heap_fault blobs_break
 few_blobs c s none =
     let strings = neither _ _ none in
     let users = neither _ _ strings.1 in
@@ -66,7 +66,7 @@ few_blobs c s none =
 at_most : (a b : ℕ) → b ≡ a → a ≤ b
 at_most a b h = omega arith
 
-delta_reads : (c : Chain) (s : Source) → e5 c s ≡ None → IsCounted c s → ReadsFor (extended c s).plain (reading_after c s)
+delta_reads : (c : Chain) (s : Source) → heap_fault c s ≡ None → IsCounted c s → ReadsFor (extended c s).plain (reading_after c s)
 unfolding reading_after
 delta_reads c s none counts = record { texts = λ n x h. joined_zero (heaps_after c s) n x h; blobs = λ n x h. joined_few (heaps_after c s) n x (few_blobs c s none) h; guids = λ n x h. joined_long (heaps_after c s) n x h; rows = λ t part low. at_most _ _ (counts t) }
 
@@ -90,9 +90,9 @@ pub record Says (c : Chain) (s : Source) : Type 0 where
   pub follows : Follows c s
   pub judged : JudgedBy c s
   pub counts : IsCounted c s
-  pub heaps : e5 c s ≡ None
-  pub bodies : e16 c s ≡ None
-  pub locals : e23 c s ≡ None
+  pub heaps : heap_fault c s ≡ None
+  pub bodies : broken_body c s ≡ None
+  pub locals : bad_locals c s ≡ None
   pub places : (u : Token) (k : ℕ) → place_in (listed s) u ≡ Some k → PlaceRow s u k
   pub stream : EachIsByte s.stream
   pub loaded : AreLoaded s.loaded

@@ -35,7 +35,7 @@ use Rattle.enc_agg.proofs.SoundKinds.{kinds_after}
 use Rattle.enc_agg.proofs.SoundSignatures.{signatures_after}
 use Rattle.enc_agg.proofs.SoundTables.{tables_after}
 use Rattle.enc_agg.proofs.Tokens.{all_filter, place_row}
-use Rattle.enc_agg.proofs.Unbroken.{unbroken, says_same, heaps_unbroken}
+use Rattle.enc_delta.proofs.Unbroken.{unbroken}
 
 -- its numbers and its code are bytes
 pub record IsOfBytes (s : Source) : Type 0 where
@@ -46,19 +46,18 @@ pub keeps_sound : (c : Chain) (s : Source) → IsOfBytes s → Follows c s → I
 keeps_sound c s bytes follows sound =
     let has : HasTables c = record { count = sound.tables.all } in
     let u = unbroken c s follows.rules in
-    let same = says_same c s follows.rules in
     let fit = fits c s has follows in
-    let judged : JudgedBy c s = record { fit = fit; rows = λ t. judged_rows c s t has follows; same = same.e15 } in
+    let judged : JudgedBy c s = record { fit = fit; rows = λ t. judged_rows c s t has follows; same = u.altered } in
     let counts = count_is c s has follows in
     let tables = tables_after c s u.tables u.cell_tables u.limit (has_tables c s has).count counts sound.tables in
-    let says : Says c s = record { follows = follows; judged = judged; counts = counts; heaps = heaps_unbroken c s follows.rules; bodies = u.e16; locals = same.e23; places = λ t k place. place_row c s t k follows place; stream = bytes.stream; loaded = bytes.loaded } in
+    let says : Says c s = record { follows = follows; judged = judged; counts = counts; heaps = u.heaps; bodies = u.broken_body; locals = u.locals; places = λ t k place. place_row c s t k follows place; stream = bytes.stream; loaded = bytes.loaded } in
     record {
       tables = tables;
       kinds = kinds_after c s follows fit sound.kinds;
       cells = cells_after_are c s says tables sound.kinds sound.cells;
       runs = has_runs c s has follows sound.runs;
       owned = owned_after c s has follows sound.runs sound.owned;
-      signatures = signatures_after c s judged counts same.e21 sound.signatures;
+      signatures = signatures_after c s judged counts u.signatures sound.signatures;
     }
 
 -- the parts of a delta's files are bytes

@@ -28,7 +28,7 @@ use Rattle.enc_plain.specs.Fits.{Fits}
 use Rattle.enc_plain.proofs.Applied.{applied}
 use Rattle.enc_plain.proofs.AttachedTo.{cells_attached}
 use Rattle.enc_delta.specs.Delta.{listed, place_in, of_table}
-use Rattle.enc_delta.specs.Rules.{broken, heaps_after, rows_with, reading_after, is_index, is_offset, cell_fault, row_fault, table_fault, e13, e14, users_after, body_stands, e16_at, e16}
+use Rattle.enc_delta.specs.Rules.{broken, heaps_after, rows_with, reading_after, is_index, is_offset, cell_fault, row_fault, table_fault, bad_index, bad_offset, users_after, body_stands, broken_body_at, broken_body}
 use Rattle.enc_image.proofs.Listed.{get_below}
 use Rattle.enc_plain.proofs.Columns.{HasPlainKind, plain_kind, column_with, text_column, blob_column, guid_column, in_cells, number_for, column_there}
 use Rattle.enc_image.proofs.Rows.{made_from, within_is, coded_is}
@@ -36,7 +36,7 @@ use Rattle.enc_agg.specs.Extend.{changes_of, extended}
 use Rattle.enc_delta.specs.Rows.{cell_after, cells_after}
 use Rattle.enc_delta.specs.Pairs.{attached_of}
 use Rattle.enc_agg.specs.Follows.{Follows}
-use Rattle.enc_agg.proofs.Unbroken.{unbroken}
+use Rattle.enc_delta.proofs.Unbroken.{unbroken}
 use Rattle.enc_agg.proofs.Tokens.{cells_for_there, cells_for_none, PlaceRow, place_row}
 
 -- a listed token's cells are those of the delta's row
@@ -128,12 +128,12 @@ made_after c s asks u k i column kind f x none follows fits place there some pla
     made_from (cell_read (reading_after c s) column (raw_in s (record { table = u.table; row = k }) i)) f x (λ cell. cell_of (extended c s).plain u i ≡ Some cell) (good_after c s asks u k i column (place_row c s u k follows place) none there speaks) is (λ cell e. held_after c s u k i column kind cell fits place there some plain e)
 
 no_index : (c : Chain) (s : Source) → Follows c s → first_below (table_fault c s is_index) 0x2D ≡ None
-unfolding e13
-no_index c s follows = (unbroken c s follows.rules).e13
+unfolding bad_index
+no_index c s follows = (unbroken c s follows.rules).bad_index
 
 no_offset : (c : Chain) (s : Source) → Follows c s → first_below (table_fault c s is_offset) 0x2D ≡ None
-unfolding e14
-no_offset c s follows = (unbroken c s follows.rules).e14
+unfolding bad_offset
+no_offset c s follows = (unbroken c s follows.rules).bad_offset
 
 -- a cell of each kind: the entry is there, and the chain has the cell with it
 pub text_listed : (c : Chain) (s : Source) (u : Token) (k i n : ℕ) → Follows c s → Fits c.plain (changes_of c s) → place_in (listed s) u ≡ Some k → kind_in u.table i ≡ Some texts → raw_in s (record { table = u.table; row = k }) i ≡ n → MatchOption (joined_text (heaps_after c s) n) ⊥ (λ a. cell_of (extended c s).plain u i ≡ Some (text a))
@@ -194,13 +194,13 @@ unbroken_is false p h = absurd cc
 
 -- the user texts that its body names are there
 pub texts_listed : (c : Chain) (s : Source) (u : Token) (k n : ℕ) (code : Code) → Follows c s → place_in (listed s) u ≡ Some k → u.table ≡ 0x06 → raw_in s (record { table = u.table; row = k }) 0 ≡ n → code_loaded s.loaded n ≡ Some code → texts_are_there (users_after c s) code.code ≡ true
-unfolding e16 e16_at body_stands
+unfolding broken_body broken_body_at body_stands
 texts_listed c s u k n code follows place is raw there =
     let at = place_row c s u k follows place in
     let e : k - 1 + 1 ≡ k = omega (arith, at.low) in
     let high : k ≤ rows_of s.layout 0x06 = rw is at at.high in
     let token : slice_get (of_table 0x06 (listed s)) (k - 1) ≡ Some u = ap (λ t. slice_get (of_table t (listed s)) (k - 1)) (sym is) ∙ at.token in
     let number : raw_in s (record { table = 0x06; row = k }) 0 ≡ n = rw is at raw in
-    let row = silent (e16_at c s) (rows_of s.layout 0x06) (k - 1) (unbroken c s follows.rules).e16 (omega (arith, at.low, high)) in
+    let row = silent (broken_body_at c s) (rows_of s.layout 0x06) (k - 1) (unbroken c s follows.rules).broken_body (omega (arith, at.low, high)) in
     let good : body_is_good (rows_with c (listed s)) (users_after c s) s.loaded (raw_in s (record { table = 0x06; row = k - 1 + 1 }) 0) (raw_in s (record { table = 0x06; row = k - 1 + 1 }) 1) ≡ true = unbroken_is _ _ (rw token at row) in
     good_texts (rows_with c (listed s)) (users_after c s) s.loaded n (raw_in s (record { table = 0x06; row = k }) 1) code (rw (e, number) at good) there

@@ -13,8 +13,8 @@ use Rattle.enc_plain.specs.Chain.{Chain}
 use Rattle.enc_image.specs.Base.{cells_fault}
 use Rattle.enc_delta.specs.Delta.{listed, place_in}
 use Rattle.enc_delta.specs.Rules.{own_guid}
-use Rattle.enc_delta.specs.Totals.{totals_of}
-use Rattle.enc_delta.specs.declared.heap_rule.HeapTotals.{HeapTotals}
+use Rattle.enc_meta.specs.Joined.{joined_lengths}
+use Rattle.enc_meta.specs.declared.heaps.HeapLengths.{HeapLengths}
 use Rattle.enc_agg.specs.declared.added.Added.{Added}
 use Rattle.enc_agg.specs.declared.added.Found.{Found}
 use Rattle.enc_agg.specs.declared.place.HeapPlace.{HeapPlace}
@@ -40,7 +40,7 @@ sources added = map (λ (a : Added). a.delta) added
 -- the delta follows the chain; the lengths of the heaps before it; its EncId; and the rows of each table after it
 pub record IsAdded (c : Chain) (a : Added) : Type 0 where
   pub follows : Follows c a.delta
-  pub before : a.before ≡ totals_of c.heaps
+  pub before : a.before ≡ joined_lengths c.heaps
   pub id : a.id ≡ own_guid c a.delta 3
   pub counts : (t : ℕ) → t < 64 → slice_index a.counts.rows t ≡ length (rows_in (extended c a.delta).plain t)
 
@@ -80,23 +80,9 @@ code_in (a ∷ older) n = code_loaded a.delta.loaded n
 abbrev pub users_of_all : History → ℕ → Option (List ℕ)
 users_of_all h = joined_user (chain_of_all h).heaps
 
--- what was prepared is a delta after this history
-abbrev pub IsReady : History → Source → Added → Type 0
-IsReady h d a = (a.delta ≡ d) × IsAdded (chain_of_all h) a
-
--- the heap of a stream whose entries go by offsets; other streams have none
-abbrev pub heap_named : StreamName → Counted → List ℕ
-heap_named stream.Strings h = h.strings
-heap_named stream.Users h = h.users
-heap_named stream.Blobs h = h.blobs
-heap_named _ h = []
-
--- how many bytes such heaps have together
-abbrev pub total_named : StreamName → HeapTotals → ℕ
-total_named stream.Strings t = t.strings
-total_named stream.Users t = t.users
-total_named stream.Blobs t = t.blobs
-total_named _ t = 0
+-- what was made ready was prepared from this chain
+unfoldable pub IsPrepared : Chain → Added → Type 0
+IsPrepared c a = IsAdded c a
 
 -- the place of an offset in a generation's own heap
 abbrev pub own_place : List ℕ → ℕ → ℕ → Option HeapPlace

@@ -1,22 +1,23 @@
 //! The deltas of an aggregate, asked from the newest to the oldest.
-ghost use Rattle.std.specs.Prelude.{◌≡◌, ◌<◌, ◌-◌, ◌+◌, ◌^◌, [], ◌∷◌, Some, None, IfSome, MatchOption, IfOk, IsTrue, is_some, length, map, reverse, option_map, option_copied, slice_get};
+ghost use Rattle.std.specs.Prelude.{◌≡◌, ◌<◌, ◌-◌, ◌+◌, ◌/◌, ◌^◌, max, [], ◌∷◌, Some, None, IfSome, MatchOption, IfOk, IsTrue, is_some, length, map, reverse, option_map, option_copied, slice_get};
 ghost use Rattle.enc_meta.specs.Heaps.{Counted};
-ghost use Rattle.enc_meta.specs.Joined.{joined_text, joined_blob, joined_user, joined_guid};
+ghost use Rattle.enc_meta.specs.Joined.{joined_text, joined_guid};
 ghost use Rattle.enc_opcodes.specs.Body.{code_seen};
 ghost use Rattle.enc_schema.specs.Children.{is_child_table, owner_table};
 ghost use Rattle.enc_plain.specs.Module.{rows_in, has_row, owner_of, kids_of};
-ghost use Rattle.enc_delta.specs.Totals.{totals_of};
+ghost use Rattle.enc_meta.specs.Joined.{joined_lengths};
+ghost use Rattle.enc_meta.specs.HeapKinds.{bytes_in, joined_at};
 ghost use Rattle.enc_image.specs.Base.{cells_fault};
 ghost use Rattle.enc_agg.specs.Extend.{chain_with};
-ghost use Rattle.enc_agg.specs.Seen.{sources, AllAdded, found_in, found_seen, number_in, code_in, heap_named, total_named, own_place, own_guid_place};
+ghost use Rattle.enc_agg.specs.Seen.{sources, AllAdded, found_in, found_seen, number_in, code_in, own_place, own_guid_place};
 ghost use Rattle.enc_agg.specs.Place.{heap_place, guid_place};
 
 use crate::log::{count_given, given, owner_given, push_given};
 use crate::place::HeapPlace;
-use enc_base::{Counts, StreamName, Token};
-use enc_delta::{Delta, HeapTotals};
+use enc_base::{Counts, Token};
+use enc_delta::Delta;
 use enc_image::Image;
-use enc_meta::Heaps;
+use enc_meta::{Heap, HeapLengths, Heaps};
 use enc_opcodes::CodeRef;
 use enc_plain::ModuleView;
 use std::alloc::{AllocError, Global};
@@ -27,7 +28,7 @@ use std::marker::Model;
 #[derive(Drop)]
 pub struct Added {
     pub delta: Delta,
-    pub before: HeapTotals,
+    pub before: HeapLengths,
     pub id: [u8; 16],
     pub counts: Counts,
 }
@@ -84,22 +85,27 @@ pub fn body_in(added: &[Added], place: u32) -> Option<CodeRef<'_>>
     }
 }
 
-/// The text at an offset of the joined `#Strings`, None where the offset isn't good.
-pub fn text_in<'a>(image: &'a Image, added: &'a [Added], offset: u32) -> Option<&'a [u8]>
+/// The entry at an offset of a joined heap, None where the offset isn't good.
+pub fn entry_in<'a>(
+    image: &'a Image,
+    added: &'a [Added],
+    heap: Heap,
+    offset: u32,
+) -> Option<&'a [u8]>
     requires { AllAdded image.now (reverse added.now) }
-    ensures { option_copied result ≡ joined_text (chain_with image.now (sources (reverse added.now))).heaps offset }
+    ensures { option_copied result ≡ joined_at heap (chain_with image.now (sources (reverse added.now))).heaps offset }
 {
     let Some((last, older)) = newest(added) else {
-        return image.heaps().text(offset);
+        return image.heaps().at(heap, offset);
     };
     if offset == 0 {
         return Some(&[]);
     }
-    let strings = last.before.strings;
-    if u64::from(offset) < strings {
-        return text_in(image, older, offset);
+    let before = last.before.of(heap);
+    if offset < before {
+        return entry_in(image, older, heap, offset);
     }
-    last.delta.heaps().text_entry(offset - strings as u32)
+    last.delta.heaps().entry(heap, offset - before)
 }
 
 /// Whether a text stands at an offset of the joined `#Strings`.
@@ -114,54 +120,10 @@ pub fn has_text_in(image: &Image, added: &[Added], offset: u32) -> bool
         return true;
     }
     let strings = last.before.strings;
-    if u64::from(offset) < strings {
+    if offset < strings {
         return has_text_in(image, older, offset);
     }
-    last.delta.heaps().has_text_entry(offset - strings as u32)
-}
-
-/// The bytes at an offset of the joined `#Blob`, None where the offset isn't good.
-pub fn blob_in<'a>(image: &'a Image, added: &'a [Added], offset: u32) -> Option<&'a [u8]>
-    requires { AllAdded image.now (reverse added.now) }
-    ensures { option_copied result ≡ joined_blob (chain_with image.now (sources (reverse added.now))).heaps offset }
-{
-    let Some((last, older)) = newest(added) else {
-        return image.heaps().blob(offset);
-    };
-    if offset == 0 {
-        return Some(&[]);
-    }
-    let blobs = last.before.blobs;
-    if u64::from(offset) < blobs {
-        return blob_in(image, older, offset);
-    }
-    let own = offset - blobs as u32;
-    if own as usize >= last.delta.heaps().blobs().len() {
-        return None;
-    }
-    last.delta.heaps().blob_entry(own)
-}
-
-/// The bytes of the units at an offset of the joined `#US`, None where the offset isn't good.
-pub fn user_in<'a>(image: &'a Image, added: &'a [Added], offset: u32) -> Option<&'a [u8]>
-    requires { AllAdded image.now (reverse added.now) }
-    ensures { option_copied result ≡ joined_user (chain_with image.now (sources (reverse added.now))).heaps offset }
-{
-    let Some((last, older)) = newest(added) else {
-        return image.heaps().user(offset);
-    };
-    if offset == 0 {
-        return Some(&[]);
-    }
-    let users = last.before.users;
-    if u64::from(offset) < users {
-        return user_in(image, older, offset);
-    }
-    let own = offset - users as u32;
-    if own as usize >= last.delta.heaps().users().len() {
-        return None;
-    }
-    last.delta.heaps().user_entry(own)
+    last.delta.heaps().has_text_entry(offset - strings)
 }
 
 /// Entry k of the joined `#GUID`, from the first generation that has it; None where none has.
@@ -178,60 +140,35 @@ pub fn guid_in(image: &Image, added: &[Added], k: u32) -> Option<[u8; 16]>
     }
 }
 
-/// How many bytes of a heap count whose entries go by offsets; 0 for other streams.
-fn len_of(heaps: &Heaps<'_>, heap: StreamName) -> usize
-    ensures { result ≡ length (heap_named heap heaps.now) }
-{
-    match heap {
-        StreamName::Strings => heaps.strings().len(),
-        StreamName::Users => heaps.users().len(),
-        StreamName::Blobs => heaps.blobs().len(),
-        _ => 0,
-    }
-}
-
-/// How many bytes such heaps have together.
-fn total_of(totals: &HeapTotals, heap: StreamName) -> u64
-    ensures { result ≡ total_named heap totals.now }
-{
-    match heap {
-        StreamName::Strings => totals.strings,
-        StreamName::Users => totals.users,
-        StreamName::Blobs => totals.blobs,
-        _ => 0,
-    }
-}
-
 /// The place of an offset in a generation's own heap; None past its end.
-fn own_place(heaps: &Heaps<'_>, heap: StreamName, generation: u32, offset: u32) -> Option<HeapPlace>
-    ensures { result ≡ own_place (heap_named heap heaps.now) generation offset }
+fn own_place(heaps: &Heaps<'_>, heap: Heap, generation: u32, offset: u32) -> Option<HeapPlace>
+    ensures { result ≡ own_place (bytes_in heap heaps.now) generation offset }
 {
-    if (offset as usize) < len_of(heaps, heap) {
+    if (offset as usize) < heaps.bytes(heap).len() {
         Some(HeapPlace { generation, offset })
     } else {
         None
     }
 }
 
-/// Where an offset of a joined heap stands. None where it is past the heap, and for streams whose
-/// entries don't go by offsets.
+/// Where an offset of a joined heap stands. None where it is past the heap.
 pub fn heap_place_in(
     image: &Image,
     added: &[Added],
-    heap: StreamName,
+    heap: Heap,
     offset: u32,
 ) -> Option<HeapPlace>
     requires { AllAdded image.now (reverse added.now) }
-    ensures { result ≡ heap_place (map (λ (h : Counted). heap_named heap h) (chain_with image.now (sources (reverse added.now))).heaps) offset }
+    ensures { result ≡ heap_place (map (bytes_in heap) (chain_with image.now (sources (reverse added.now))).heaps) offset }
 {
     let Some((last, older)) = newest(added) else {
         return own_place(&image.heaps(), heap, 0, offset);
     };
-    let before = total_of(&last.before, heap);
-    if u64::from(offset) < before {
+    let before = last.before.of(heap);
+    if offset < before {
         return heap_place_in(image, older, heap, offset);
     }
-    let own = offset - before as u32;
+    let own = offset - before;
     own_place(&last.delta.heaps(), heap, added.len() as u32, own)
 }
 
@@ -263,14 +200,33 @@ pub fn guid_place_in(image: &Image, added: &[Added], k: u32) -> Option<HeapPlace
     }
 }
 
+/// The lengths of joined heaps with one generation more.
+fn longer(before: &HeapLengths, heaps: &Heaps<'_>) -> HeapLengths
+    requires strings { before.now.strings + length heaps.now.strings < 2 ^ 32 }
+    requires users { before.now.users + length heaps.now.users < 2 ^ 32 }
+    requires blobs { before.now.blobs + length heaps.now.blobs < 2 ^ 32 }
+    requires guids { length heaps.now.guids < 2 ^ 32 }
+    ensures strings { result.strings ≡ before.now.strings + length heaps.now.strings }
+    ensures users { result.users ≡ before.now.users + length heaps.now.users }
+    ensures blobs { result.blobs ≡ before.now.blobs + length heaps.now.blobs }
+    ensures guids { result.guids ≡ max before.now.guids (length heaps.now.guids / 16) }
+{
+    HeapLengths {
+        strings: before.strings + heaps.strings().len() as u32,
+        users: before.users + heaps.users().len() as u32,
+        blobs: before.blobs + heaps.blobs().len() as u32,
+        guids: before.guids.max((heaps.guids().len() / 16) as u32),
+    }
+}
+
 /// The lengths of the joined heaps.
-pub fn totals_in(image: &Image, added: &[Added]) -> HeapTotals
+pub fn lengths_in(image: &Image, added: &[Added]) -> HeapLengths
     requires { AllAdded image.now (reverse added.now) }
-    ensures { result ≡ totals_of (chain_with image.now (sources (reverse added.now))).heaps }
+    ensures { result ≡ joined_lengths (chain_with image.now (sources (reverse added.now))).heaps }
 {
     match newest(added) {
-        None => HeapTotals::of(&image.heaps()),
-        Some((last, _)) => last.before.with(&last.delta.heaps()),
+        None => image.lengths(),
+        Some((last, _)) => longer(&last.before, &last.delta.heaps()),
     }
 }
 

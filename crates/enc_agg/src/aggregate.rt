@@ -4,21 +4,20 @@ ghost use Rattle.enc_meta.specs.Heaps.{Counted, lengths_of};
 ghost use Rattle.enc_meta.specs.Joined.{joined_user};
 ghost use Rattle.enc_plain.specs.Module.{rows_in, has_row};
 ghost use Rattle.enc_delta.specs.Delta.{listed};
-ghost use Rattle.enc_delta.specs.Totals.{totals_of};
 ghost use Rattle.enc_delta.specs.Rules.{inserts};
 ghost use Rattle.enc_delta.specs.Judged.{first_meta};
 ghost use Rattle.enc_image.specs.Base.{cells_fault};
 ghost use Rattle.enc_agg.specs.Extend.{extended, chain_with};
 ghost use Rattle.enc_agg.specs.Follows.{Follows};
 ghost use Rattle.enc_agg.specs.Place.{place_of, place_in_heaps, delta_at};
-ghost use Rattle.enc_agg.specs.Seen.{chain_of_all, module_of_all, sources, AllAdded, IsAdded, IsReady};
+ghost use Rattle.enc_agg.specs.Seen.{chain_of_all, module_of_all, sources, AllAdded, IsPrepared};
 
-use crate::added::{Added, count_in, find, guid_place_in, heap_place_in, totals_in};
+use crate::added::{Added, count_in, find, guid_place_in, heap_place_in, lengths_in};
 use crate::place::{HeapPlace, RowPlace};
 use enc_base::{Counts, StreamName, Token};
-use enc_delta::{Delta, HeapTotals, enc_id_of, inserts_of};
+use enc_delta::{Delta, enc_id_of, inserts_of};
 use enc_image::Image;
-use enc_meta::HeapLengths;
+use enc_meta::{Heap, HeapLengths};
 use enc_plain::is_row;
 use std::alloc::{AllocError, Global};
 use std::marker::Model;
@@ -43,10 +42,19 @@ impl Model for Aggregate {
     ghost invariant = { λ a. IsAggregate a.image (reverse a.added.items) };
 }
 
-/// A delta that may be committed.
+/// A delta that may be committed to the state that it was prepared from. What stands beside the
+/// delta is the aggregate's own; callers know of it by `IsPrepared` alone.
 #[derive(Drop)]
 pub struct Ready {
     added: Added,
+}
+
+impl Model for Ready {
+    ghost use Rattle.enc_agg.specs.declared.added.Added.{Added as TheAdded};
+
+    ghost Value = { TheAdded };
+
+    ghost view = { λ r. r.added };
 }
 
 /// How many rows a table has after a delta with these inserts.
@@ -97,13 +105,15 @@ impl Aggregate {
 
     /// Makes a delta ready that breaks no rule, and room for it: all memory is taken here, and
     /// nothing else that is seen changes.
+    #[tactic(auto, unfolding(crate::specs::Seen::IsPrepared))]
     pub fn prepare(&mut self, delta: Delta) -> Result<Ready, AllocError>
         requires { first_meta (chain_of_all self.old) delta ≡ None }
         ensures base { self.new.base ≡ self.old.base }
         ensures deltas { self.new.deltas ≡ self.old.deltas }
         ensures room { IfOk result (λ r. 0 < self.new.room) }
         ensures kept { self.old.room ≤ self.new.room }
-        ensures ready { IfOk result (λ r. IsReady self.old delta r.added) }
+        ensures delta { IfOk result (λ r. r.delta ≡ delta) }
+        ensures ready { IfOk result (IsPrepared (chain_of_all self.old)) }
     {
         let tokens = match delta.tokens(self.alloc) {
             Ok(tokens) => tokens,
@@ -111,7 +121,7 @@ impl Aggregate {
         };
         let more = inserts_of(self, &tokens);
         let counts = counts_after(&self.image, &self.added, &delta, &more);
-        let before = totals_in(&self.image, &self.added);
+        let before = lengths_in(&self.image, &self.added);
         let id = enc_id_of(self, &delta);
         match self.added.reserve(1) {
             Ok(()) => {}
@@ -128,11 +138,12 @@ impl Aggregate {
     }
 
     /// Adds the delta that was made ready from this state. It can't fail.
+    #[tactic(auto, unfolding(crate::specs::Seen::IsPrepared))]
     pub fn commit(&mut self, ready: Ready)
-        requires ready { IsAdded (chain_of_all self.old) ready.added }
+        requires ready { IsPrepared (chain_of_all self.old) ready }
         requires room { 0 < self.old.room }
         ensures base { self.new.base ≡ self.old.base }
-        ensures deltas { self.new.deltas ≡ ready.added.delta ∷ self.old.deltas }
+        ensures deltas { self.new.deltas ≡ ready.delta ∷ self.old.deltas }
         ensures room { self.new.room + 1 ≡ self.old.room }
         ensures texts { (offset : ℕ) (units : List ℕ) → joined_user (chain_of_all self.old).heaps offset ≡ Some units → joined_user (chain_of_all self.new).heaps offset ≡ Some units }
     {
@@ -165,13 +176,6 @@ impl Aggregate {
                 row: token.row,
             },
         }
-    }
-
-    /// The lengths of the joined heaps.
-    pub fn totals(&self) -> HeapTotals
-        ensures { result ≡ totals_of (chain_of_all self.now).heaps }
-    {
-        totals_in(&self.image, &self.added)
     }
 
     /// The number of rows of a table up to a generation.
@@ -209,9 +213,9 @@ impl Aggregate {
         ensures { result ≡ place_in_heaps (chain_of_all self.now).heaps heap offset }
     {
         match heap {
-            StreamName::Strings | StreamName::Users | StreamName::Blobs => {
-                heap_place_in(&self.image, &self.added, heap, offset)
-            }
+            StreamName::Strings => heap_place_in(&self.image, &self.added, Heap::Strings, offset),
+            StreamName::Users => heap_place_in(&self.image, &self.added, Heap::Users, offset),
+            StreamName::Blobs => heap_place_in(&self.image, &self.added, Heap::Blobs, offset),
             StreamName::Guids => guid_place_in(&self.image, &self.added, offset),
             _ => None,
         }

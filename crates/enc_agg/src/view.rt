@@ -1,13 +1,14 @@
 //! An aggregate as a view of its plain module and of its chain.
-ghost use Rattle.std.specs.Prelude.{◌≡◌};
+ghost use Rattle.std.specs.Prelude.{◌≡◌, refl};
 ghost use Rattle.enc_agg.specs.Seen.{module_of_all, chain_of_all, users_of_all};
 
 use crate::added::{
-    Added, blob_in, body_in, count_in, find, guid_in, has_text_in, id_in, kid_back, kid_rows_in,
-    kids_in, number, owner_in, text_in, user_in,
+    Added, body_in, count_in, entry_in, find, guid_in, has_text_in, id_in, kid_back, kid_rows_in,
+    kids_in, lengths_in, number, owner_in,
 };
 use crate::aggregate::Aggregate;
 use enc_base::Token;
+use enc_meta::{Heap, HeapLengths};
 use enc_opcodes::CodeRef;
 use enc_plain::{ChainView, ModuleView, index_token};
 use enc_schema::{Column, column_of, decode_coded};
@@ -41,7 +42,7 @@ impl ModuleView for Aggregate {
             return self.image.text(row, column);
         };
         let offset = number(found.upto, row_found(row.table, found.row), column);
-        match text_in(&self.image, found.upto, offset) {
+        match entry_in(&self.image, found.upto, Heap::Strings, offset) {
             Some(text) => text,
             None => unreachable!(),
         }
@@ -52,7 +53,7 @@ impl ModuleView for Aggregate {
             return self.image.blob(row, column);
         };
         let offset = number(found.upto, row_found(row.table, found.row), column);
-        match blob_in(&self.image, found.upto, offset) {
+        match entry_in(&self.image, found.upto, Heap::Blobs, offset) {
             Some(blob) => blob,
             None => unreachable!(),
         }
@@ -100,7 +101,7 @@ impl ModuleView for Aggregate {
     }
 
     fn user_text(&self, offset: u32) -> Option<&[u8]> {
-        user_in(&self.image, &self.added, offset)
+        entry_in(&self.image, &self.added, Heap::Users, offset)
     }
 
     fn resources(&self) -> &[u8] {
@@ -149,23 +150,23 @@ impl ChainView for Aggregate {
         id_in(&self.added, generation - 1)
     }
 
-    fn text_at(&self, offset: u32) -> Option<&[u8]> {
-        text_in(&self.image, &self.added, offset)
+    fn lengths(&self) -> HeapLengths {
+        lengths_in(&self.image, &self.added)
+    }
+
+    fn entry_at(&self, heap: Heap, offset: u32) -> Option<&[u8]> {
+        entry_in(&self.image, &self.added, heap, offset)
     }
 
     fn has_text(&self, offset: u32) -> bool {
         has_text_in(&self.image, &self.added, offset)
     }
 
-    fn user_at(&self, offset: u32) -> Option<&[u8]> {
-        user_in(&self.image, &self.added, offset)
-    }
-
-    fn blob_at(&self, offset: u32) -> Option<&[u8]> {
-        blob_in(&self.image, &self.added, offset)
-    }
-
     fn guid_at(&self, k: u32) -> Option<[u8; 16]> {
         guid_in(&self.image, &self.added, k)
     }
+
+    ghost means = { λ h. refl };
+
+    ghost tells = { λ h offset. refl };
 }

@@ -83,7 +83,8 @@ rotated half bits = if nat_lt bits half then bits * 2 else (bits - (2 ^ 32 - hal
 
 -- the shortest spelling of the signed number whose 32 bits these are
 abbrev pub spelled_signed : ℕ → List ℕ
-spelled_signed bits = if is_within 0x40 bits then one_byte (rotated 0x40 bits) else if is_within 0x2000 bits then two_bytes (rotated 0x2000 bits) else four_bytes (rotated 0x10000000 bits)
+spelled_signed bits = if is_within 0x40 bits then one_byte (rotated 0x40 bits) else if is_within 0x2000 bits then two_bytes (rotated 0x2000 bits)
+    else four_bytes (rotated 0x10000000 bits)
 
 -- each number is a byte
 abbrev pub AreBytes : List ℕ → Type 0
@@ -99,8 +100,10 @@ WrittenIsShortest = (n : ℕ) (front : List ℕ) → AreBytes front → IsCompre
 
 -- what is written of a signed number reads back, whatever follows it
 abbrev pub SignedWrittenIsRead : Type 0
-SignedWrittenIsRead = (bits : ℕ) (rest : List ℕ) → bits < 2 ^ 32 → IsTrue (is_within 0x10000000 bits) → signed (spelled_signed bits ++ rest) ≡ Some (cast_signed w32 bits, length (spelled_signed bits))
+SignedWrittenIsRead = (bits : ℕ) (rest : List ℕ) → bits < 2 ^ 32 → IsTrue (is_within 0x10000000 bits)
+    → signed (spelled_signed bits ++ rest) ≡ Some (cast_signed w32 bits, length (spelled_signed bits))
 
 -- and no spelling of it is shorter
 abbrev pub SignedWrittenIsShortest : Type 0
-SignedWrittenIsShortest = (bits n : ℕ) (front : List ℕ) → AreBytes front → bits < 2 ^ 32 → IsCompressed front n → signed_of (half_of (length front)) n ≡ cast_signed w32 bits → length (spelled_signed bits) ≤ length front
+SignedWrittenIsShortest = (bits n : ℕ) (front : List ℕ) → AreBytes front → bits < 2 ^ 32 → IsCompressed front n
+    → signed_of (half_of (length front)) n ≡ cast_signed w32 bits → length (spelled_signed bits) ≤ length front

@@ -1,29 +1,51 @@
-//! Numbers at a place: little-endian ones of fixed width, and compressed ones.
-ghost use Rattle.std.specs.Prelude.{◌≡◌, ℕ, ◌+◌, ◌^◌, ◌<◌, ◌≤◌, ◌++◌, length, drop, is_ok, if◌then◌else◌, IfSome, IsTrue, option_map};
-ghost use Rattle.std.specs.Int.{w16, w32, w64, cast_unsigned};
+//! Numbers at a place, and numbers appended: little-endian ones of fixed width, and compressed ones.
+ghost use Rattle.std.specs.Prelude.{◌≡◌, ℕ, ◌+◌, ◌^◌, ◌<◌, ◌≤◌, ◌++◌, length, drop, is_ok, if◌then◌else◌, IfSome, IsTrue, OnOk, option_map, replicate};
+ghost use Rattle.std.specs.Int.{w8, w16, w32, w64, cast_unsigned, from_le_bytes, to_le_bytes};
 ghost use Rattle.enc_base.specs.Numbers.{number_at, compressed, compressed_at, signed_of, half_of, signed_at, is_within, rotated, one_byte, two_bytes, four_bytes, spelled, spelled_signed};
 
+use byteorder::{ByteOrder, LittleEndian};
 use std::alloc::AllocError;
+
+/// The byte at the place, None past the end.
+pub fn u8_at(bytes: &[u8], at: usize) -> Option<u8>
+    ensures { result ≡ number_at w8 bytes.now at }
+{
+    Some(*bytes.get(at..)?.first()?)
+}
 
 /// The little-endian number in the two bytes at the place, None where they don't stand whole there.
 pub fn u16_at(bytes: &[u8], at: usize) -> Option<u16>
     ensures { result ≡ number_at w16 bytes.now at }
 {
-    Some(u16::from_le_bytes(*bytes.get(at..)?.first_chunk::<2>()?))
+    Some(LittleEndian::read_u16(bytes.get(at..)?.get(..2)?))
 }
 
 /// The little-endian number in the four bytes at the place, None where they don't stand whole there.
 pub fn u32_at(bytes: &[u8], at: usize) -> Option<u32>
     ensures { result ≡ number_at w32 bytes.now at }
 {
-    Some(u32::from_le_bytes(*bytes.get(at..)?.first_chunk::<4>()?))
+    Some(LittleEndian::read_u32(bytes.get(at..)?.get(..4)?))
 }
 
 /// The little-endian number in the eight bytes at the place, None where they don't stand whole there.
 pub fn u64_at(bytes: &[u8], at: usize) -> Option<u64>
     ensures { result ≡ number_at w64 bytes.now at }
 {
-    Some(u64::from_le_bytes(*bytes.get(at..)?.first_chunk::<8>()?))
+    Some(LittleEndian::read_u64(bytes.get(at..)?.get(..8)?))
+}
+
+/// The little-endian number that two bytes spell.
+pub fn u16_of(bytes: [u8; 2]) -> u16
+    ensures { result ≡ from_le_bytes w16 bytes }
+{
+    LittleEndian::read_u16(&bytes)
+}
+
+/// The little-endian number that four bytes spell.
+pub fn u32_of(bytes: [u8; 4]) -> u32
+    ensures { result ≡ from_le_bytes w32 bytes }
+{
+    LittleEndian::read_u32(&bytes)
 }
 
 /// The compressed number at the front, and how many bytes spell it.
@@ -92,6 +114,42 @@ pub fn read_signed(bytes: &[u8], at: usize) -> Option<(i32, usize)>
 {
     let (bits, len) = read_front(bytes.get(at..)?)?;
     Some((signed_of(half_of(len), bits), at + len))
+}
+
+/// Appends a number in two bytes, the lower first.
+pub fn push_half(n: u16, out: &mut Vec<u8>) -> Result<(), AllocError>
+    ensures { OnOk result (out.new.items ≡ out.old.items ++ to_le_bytes w16 n) }
+{
+    let mut bytes = [0; 2];
+    LittleEndian::write_u16(&mut bytes, n);
+    out.extend_from_slice(&bytes)
+}
+
+/// Appends a number in four bytes, the lowest first.
+pub fn push_word(n: u32, out: &mut Vec<u8>) -> Result<(), AllocError>
+    ensures { OnOk result (out.new.items ≡ out.old.items ++ to_le_bytes w32 n) }
+{
+    let mut bytes = [0; 4];
+    LittleEndian::write_u32(&mut bytes, n);
+    out.extend_from_slice(&bytes)
+}
+
+/// Appends a number in eight bytes, the lowest first.
+pub fn push_long(n: u64, out: &mut Vec<u8>) -> Result<(), AllocError>
+    ensures { OnOk result (out.new.items ≡ out.old.items ++ to_le_bytes w64 n) }
+{
+    let mut bytes = [0; 8];
+    LittleEndian::write_u64(&mut bytes, n);
+    out.extend_from_slice(&bytes)
+}
+
+/// Appends so many zeros.
+pub fn push_zeros(n: usize, out: &mut Vec<u8>) -> Result<(), AllocError>
+    requires { n < 2 ^ 32 }
+    ensures { OnOk result (out.new.items ≡ out.old.items ++ replicate n 0) }
+{
+    let len = out.len();
+    out.resize(len + n, 0)
 }
 
 /// Appends the number in one byte.

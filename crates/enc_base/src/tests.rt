@@ -112,3 +112,31 @@ fn grows_bytes(rt: HostRuntime) -> Result<(), Fail> {
     assert_eq!(rt; more.as_slice(), [0x4d, 0x5a, 0x90].as_slice());
     Ok(())
 }
+
+#[test]
+fn writes_fixed_numbers(rt: HostRuntime) -> Result<(), Fail> {
+    let mut out = Vec::new(rt.alloc());
+    push_half(0x0201, &mut out)?;
+    push_word(0x0605_0403, &mut out)?;
+    push_zeros(2, &mut out)?;
+    push_long(0x0e0d_0c0b_0a09_0807, &mut out)?;
+    assert_eq!(rt;
+        out.as_slice(),
+        [1, 2, 3, 4, 5, 6, 0, 0, 7, 8, 9, 10, 11, 12, 13, 14].as_slice()
+    );
+    assert_eq!(rt; u8_at(&out, 15), Some(14));
+    assert_eq!(rt; u8_at(&out, 16), None);
+    Ok(())
+}
+
+#[test]
+fn keeps_units(rt: HostRuntime) -> Result<(), Fail> {
+    let mut units = Units::begin(rt.alloc());
+    units.push(0xd800)?;
+    units.push(0x41)?;
+    assert_eq!(rt; units.len(), 2);
+    assert_eq!(rt; units.get(0), Some(&0xd800));
+    assert_eq!(rt; units.get(2), None);
+    assert_eq!(rt; units.as_slice(), [0xd800, 0x41].as_slice());
+    Ok(())
+}

@@ -11,9 +11,13 @@ use Rattle.std.proofs.lemmas.List.Sums.{sum_by-append}
 use Rattle.std.proofs.lemmas.Bool.Decides.{nat_tests, eqb_tells}
 use Rattle.enc_base.specs.Order.{or_else}
 use Rattle.enc_meta.specs.Heaps.{Counted, sixteen_at, guid_at, text_entry, bytes_at, user_entry}
+use Rattle.enc_meta.specs.declared.heap.Heap.{Heap}
+use Rattle.enc_meta.specs.declared.heap.Heap.TheVariants as heap
+use Rattle.enc_meta.specs.HeapKinds.{bytes_in, entry_at, joined_at, length_in}
+use Rattle.enc_meta.proofs.Alone.{entry_here}
 use Rattle.enc_meta.specs.Joined.{first_guid, joined_guid, joined_length, entry_in, joined_entry, joined_text, joined_blob, joined_user}
-use Rattle.enc_delta.specs.declared.heap_rule.HeapTotals.{HeapTotals}
-use Rattle.enc_delta.specs.Totals.{totals_of}
+use Rattle.enc_meta.specs.declared.heaps.HeapLengths.{HeapLengths}
+use Rattle.enc_meta.specs.Joined.{joined_lengths}
 use Rattle.enc_plain.specs.Chain.{Chain, id_of, nil_guid, mvid_of}
 use Rattle.enc_plain.specs.Module.{Row, row_at, row_of, rows_in, cell_of}
 
@@ -119,15 +123,6 @@ field_more : (f : Counted → List ℕ) (xs : List Counted) (x : Counted) → ma
 field_more f [] x = refl
 field_more f (y ∷ ys) x = ap (λ r. f y ∷ r) (field_more f ys x)
 
-text_here : (b : Bool) (x : List ℕ) (o : ℕ) → nat_lt o (length x) ≡ b → (if b then text_entry x o else None) ≡ text_entry x o
-unfolding text_entry
-text_here true x o is = refl
-text_here false x o is = rw (drop_all o x (grind (arith, nat_tests, is))) refl
-
-text_alone : (x : List ℕ) (o : ℕ) → entry_in text_entry (x ∷ []) o ≡ text_entry x o
-unfolding entry_in
-text_alone x o = text_here (nat_lt o (length x)) x o refl
-
 above_zero : (o : ℕ) → o ≢ 0 → (o == 0) ≡ false
 above_zero o h = elim (eqb_tells o 0) [ inl e ↦ absurd (h e.1) | inr e ↦ e.0 ]
 
@@ -148,45 +143,28 @@ joined_behind entry f xs x n o is some le =
     let high : joined_length (map f xs) ≤ o = rw is at le in
     rw (field_more f xs x, above_zero o some, is) (entry_behind entry (map f xs) (f x) o high)
 
-pub text_before : (xs : List Counted) (x : Counted) (t : HeapTotals) (o : ℕ) → t ≡ totals_of xs → o < t.strings → joined_text (xs ++ x ∷ []) o ≡ joined_text xs o
-unfolding totals_of
-text_before xs x t o is lt = joined_before text_entry (λ (c : Counted). c.strings) xs x t.strings o (ap (λ (u : HeapTotals). u.strings) is) lt
+-- an entry of a joined heap is read in the heaps before, or in the last heap
+of_lengths : (k : Heap) (heaps : List Counted) (t : HeapLengths) → t ≡ joined_lengths heaps → length_in k t ≡ joined_length (map (bytes_in k) heaps)
+unfolding joined_lengths
+of_lengths heap.Strings heaps t is = ap (λ (u : HeapLengths). u.strings) is
+of_lengths heap.Users heaps t is = ap (λ (u : HeapLengths). u.users) is
+of_lengths heap.Blobs heaps t is = ap (λ (u : HeapLengths). u.blobs) is
 
-pub text_behind : (xs : List Counted) (x : Counted) (t : HeapTotals) (o : ℕ) → t ≡ totals_of xs → o ≢ 0 → t.strings ≤ o → joined_text (xs ++ x ∷ []) o ≡ text_entry x.strings (o - t.strings)
-unfolding totals_of
-text_behind xs x t o is some le = joined_behind text_entry (λ (c : Counted). c.strings) xs x t.strings o (ap (λ (u : HeapTotals). u.strings) is) some le ∙ text_alone x.strings (o - t.strings)
+pub heap_before : (k : Heap) (xs : List Counted) (x : Counted) (t : HeapLengths) (o : ℕ) → t ≡ joined_lengths xs → o < length_in k t → joined_at k (xs ++ x ∷ []) o ≡ joined_at k xs o
+heap_before k xs x t o is lt = joined_before (entry_at k) (bytes_in k) xs x (length_in k t) o (of_lengths k xs t is) lt
 
-pub blob_before : (xs : List Counted) (x : Counted) (t : HeapTotals) (o : ℕ) → t ≡ totals_of xs → o < t.blobs → joined_blob (xs ++ x ∷ []) o ≡ joined_blob xs o
-unfolding totals_of
-blob_before xs x t o is lt = joined_before bytes_at (λ (c : Counted). c.blobs) xs x t.blobs o (ap (λ (u : HeapTotals). u.blobs) is) lt
+entry_alone : (k : Heap) (x : List ℕ) (o : ℕ) → entry_in (entry_at k) (x ∷ []) o ≡ entry_at k x o
+unfolding entry_in
+entry_alone k x o = entry_here k x o
 
-pub blob_behind : (xs : List Counted) (x : Counted) (t : HeapTotals) (o : ℕ) → t ≡ totals_of xs → o ≢ 0 → t.blobs ≤ o → o - t.blobs < length x.blobs → joined_blob (xs ++ x ∷ []) o ≡ bytes_at x.blobs (o - t.blobs)
-unfolding totals_of entry_in
-blob_behind xs x t o is some le low =
-    let here : nat_lt (o - t.blobs) (length x.blobs) ≡ true = grind (arith, nat_tests, low) in
-    joined_behind bytes_at (λ (c : Counted). c.blobs) xs x t.blobs o (ap (λ (u : HeapTotals). u.blobs) is) some le ∙ rw here refl
+pub heap_behind : (k : Heap) (xs : List Counted) (x : Counted) (t : HeapLengths) (o : ℕ) → t ≡ joined_lengths xs → o ≢ 0 → length_in k t ≤ o → joined_at k (xs ++ x ∷ []) o ≡ entry_at k (bytes_in k x) (o - length_in k t)
+heap_behind k xs x t o is some le = joined_behind (entry_at k) (bytes_in k) xs x (length_in k t) o (of_lengths k xs t is) some le ∙ entry_alone k (bytes_in k x) (o - length_in k t)
 
-pub blob_past : (xs : List Counted) (x : Counted) (t : HeapTotals) (o : ℕ) → t ≡ totals_of xs → o ≢ 0 → t.blobs ≤ o → length x.blobs ≤ o - t.blobs → joined_blob (xs ++ x ∷ []) o ≡ None
-unfolding totals_of entry_in
-blob_past xs x t o is some le high =
-    let here : nat_lt (o - t.blobs) (length x.blobs) ≡ false = grind (arith, nat_tests, high) in
-    joined_behind bytes_at (λ (c : Counted). c.blobs) xs x t.blobs o (ap (λ (u : HeapTotals). u.blobs) is) some le ∙ rw here refl
+pub text_before : (xs : List Counted) (x : Counted) (t : HeapLengths) (o : ℕ) → t ≡ joined_lengths xs → o < t.strings → joined_text (xs ++ x ∷ []) o ≡ joined_text xs o
+text_before xs x t o is lt = heap_before heap.Strings xs x t o is lt
 
-pub user_before : (xs : List Counted) (x : Counted) (t : HeapTotals) (o : ℕ) → t ≡ totals_of xs → o < t.users → joined_user (xs ++ x ∷ []) o ≡ joined_user xs o
-unfolding totals_of
-user_before xs x t o is lt = joined_before user_entry (λ (c : Counted). c.users) xs x t.users o (ap (λ (u : HeapTotals). u.users) is) lt
-
-pub user_behind : (xs : List Counted) (x : Counted) (t : HeapTotals) (o : ℕ) → t ≡ totals_of xs → o ≢ 0 → t.users ≤ o → o - t.users < length x.users → joined_user (xs ++ x ∷ []) o ≡ user_entry x.users (o - t.users)
-unfolding totals_of entry_in
-user_behind xs x t o is some le low =
-    let here : nat_lt (o - t.users) (length x.users) ≡ true = grind (arith, nat_tests, low) in
-    joined_behind user_entry (λ (c : Counted). c.users) xs x t.users o (ap (λ (u : HeapTotals). u.users) is) some le ∙ rw here refl
-
-pub user_past : (xs : List Counted) (x : Counted) (t : HeapTotals) (o : ℕ) → t ≡ totals_of xs → o ≢ 0 → t.users ≤ o → length x.users ≤ o - t.users → joined_user (xs ++ x ∷ []) o ≡ None
-unfolding totals_of entry_in
-user_past xs x t o is some le high =
-    let here : nat_lt (o - t.users) (length x.users) ≡ false = grind (arith, nat_tests, high) in
-    joined_behind user_entry (λ (c : Counted). c.users) xs x t.users o (ap (λ (u : HeapTotals). u.users) is) some le ∙ rw here refl
+pub text_behind : (xs : List Counted) (x : Counted) (t : HeapLengths) (o : ℕ) → t ≡ joined_lengths xs → o ≢ 0 → t.strings ≤ o → joined_text (xs ++ x ∷ []) o ≡ text_entry x.strings (o - t.strings)
+text_behind xs x t o is some le = heap_behind heap.Strings xs x t o is some le
 
 entry_stays : (entry : List ℕ → ℕ → Option (List ℕ)) (heaps : List (List ℕ)) (heap : List ℕ) (o : ℕ) (x : List ℕ) → entry_in entry heaps o ≡ Some x → entry_in entry (heaps ++ heap ∷ []) o ≡ Some x
 unfolding entry_in

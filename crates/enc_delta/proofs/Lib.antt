@@ -1,6 +1,6 @@
 pub mod Listed
 pub mod Behind
-pub mod Totals
+pub mod HeapLimits
 pub mod Counters
 pub mod Runs
 pub mod Methods
@@ -21,3 +21,4 @@ pub mod LeastChild
 pub mod MemberKinds
 pub mod OwnRows
 pub mod SignaturesAfter
+pub mod Unbroken

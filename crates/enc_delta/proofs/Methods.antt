@@ -1,13 +1,14 @@
 -- The methods of a chain and a delta: their rows, their tokens and their user texts.
-use Rattle.std.proofs.Common.{◌≡◌, ℕ, zero, suc, ◌<◌, ◌≤◌, length, List, Bool, true, false, Option, Some, None, refl, arith}
-use Rattle.std.specs.Prelude.{not, ◌==◌, ◌&&◌, nat_lt, nat_le}
+use Rattle.std.proofs.Common.{◌≡◌, ◌≢◌, ℕ, zero, suc, ◌<◌, ◌≤◌, length, List, Bool, true, false, Option, Some, None, refl, ◌∙◌, arith}
+use Rattle.std.specs.Prelude.{not, ◌==◌, ◌%◌, ◌&&◌, nat_lt, nat_le, Result, Ok, Err, IfOk}
 use Rattle.std.proofs.lemmas.Option.{slice_get_past}
 use Rattle.std.proofs.lemmas.Bool.Decides.{nat_tests}
 use Rattle.enc_base.specs.declared.token.Token.{Token}
 use Rattle.std.proofs.lemmas.List.Sums.{count_by-le-length}
 use Rattle.enc_opcodes.specs.Body.{Code, is_good, texts_are_there}
 use Rattle.enc_opcodes.proofs.Bodies.{good_alike}
-use Rattle.enc_plain.specs.Bodies.{code_is_good}
+use Rattle.enc_meta.specs.Regions.{Region}
+use Rattle.enc_plain.specs.Bodies.{code_is_good, code_loaded, body_is_good}
 use Rattle.enc_plain.specs.Chain.{Chain}
 use Rattle.enc_plain.specs.Module.{Row, Module, rows_in, row_at, row_of, has_row, cell_of}
 use Rattle.enc_delta.specs.Rules.{is_insert, inserts, has_body}
@@ -43,3 +44,13 @@ bad_body f g texts c same h = both_no (is_good g c) (texts_are_there texts c.cod
 
 pub good_body : (f g : ℕ → ℕ) (texts : ℕ → Option (List ℕ)) (c : Code) → ((t : ℕ) → t < 64 → f t ≡ g t) → false ≡ not (is_good f c) → texts_are_there texts c.code ≡ code_is_good g texts (Some c)
 good_body f g texts c same h = both_yes (is_good g c) (texts_are_there texts c.code) (rw (good_alike f g c same) at h)
+
+-- a body that stands at a place is judged there
+judged_at : (count : ℕ → ℕ) (texts : ℕ → Option (List ℕ)) (regions : List Region) (place flags : ℕ) (code : Code) → place ≢ 0 → (flags % 4 == 0) ≡ true → Some code ≡ code_loaded regions place → code_is_good count texts (Some code) ≡ body_is_good count texts regions place flags
+unfolding body_is_good
+judged_at count texts regions zero flags code some il at = absurd (some refl)
+judged_at count texts regions (suc n) flags code some il at = rw (il, ← at) refl
+
+pub judged_there : {E : Type 0} (count : ℕ → ℕ) (texts : ℕ → Option (List ℕ)) (regions : List Region) (place flags : ℕ) (code : Code) (r : Result Bool E) → place ≢ 0 → (flags % 4 == 0) ≡ true → Some code ≡ code_loaded regions place → IfOk r (λ good. good ≡ code_is_good count texts (Some code)) → IfOk r (λ good. good ≡ body_is_good count texts regions place flags)
+judged_there count texts regions place flags code (Ok good) some il at h = h ∙ judged_at count texts regions place flags code some il at
+judged_there count texts regions place flags code (Err e) some il at h = tt

@@ -17,7 +17,7 @@ use Rattle.enc_plain.specs.Reading.{within, index_token, cell_read, cell_with}
 use Rattle.enc_plain.specs.Rows.{cell_at, number_at, bytes_at, token_at, token_of_cell, bytes_of_cell}
 use Rattle.enc_plain.proofs.Columns.{HasPlainKind, plain_kind, column_with, text_column, blob_column, in_cells, number_for}
 use Rattle.enc_delta.specs.Delta.{listed, place_in}
-use Rattle.enc_delta.specs.After.{row_or_nil}
+use Rattle.enc_delta.specs.Context.{row_or_nil}
 use Rattle.enc_delta.specs.Rules.{heaps_after, reading_after, rows_with}
 use Rattle.enc_delta.specs.Rows.{cell_after, cells_after, rows_after}
 use Rattle.enc_delta.proofs.Listed.{get_below}

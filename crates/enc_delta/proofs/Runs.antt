@@ -12,8 +12,8 @@ use Rattle.enc_plain.specs.Chain.{Chain}
 use Rattle.enc_rows.specs.Source.{Source}
 use Rattle.enc_delta.specs.Delta.{of_table, listed}
 use Rattle.std.proofs.lemmas.List.{take_all}
-use Rattle.enc_delta.specs.Rules.{broken, row_fault, e16_at, e17_at}
-use Rattle.enc_delta.specs.After.{begins_with}
+use Rattle.enc_delta.specs.Rules.{broken, row_fault, broken_body_at, lost_body_at}
+use Rattle.enc_delta.specs.Cells.{begins_with}
 
 pub not_of : (table : ℕ) (t : Token) (ts : List Token) → (t.table == table) ≡ false → of_table table (t ∷ ts) ≡ of_table table ts
 not_of table t ts h = rw h refl
@@ -77,19 +77,19 @@ past_all rule tokens r n silent le past h =
 pub past_tokens : (c : Chain) (s : Source) (asks : Column → Bool) (table r n : ℕ) → r ≤ n → length (of_table table (listed s)) ≤ r → first_below (row_fault c s asks table) r ≡ None → first_below (row_fault c s asks table) n ≡ None
 past_tokens c s asks table r n le past h = past_all (row_fault c s asks table) (of_table table (listed s)) r n (no_token c s asks table) le past h
 
-no_body : (c : Chain) (s : Source) (r : ℕ) → slice_get (of_table 0x06 (listed s)) r ≡ None → e16_at c s r ≡ None
-unfolding e16_at
+no_body : (c : Chain) (s : Source) (r : ℕ) → slice_get (of_table 0x06 (listed s)) r ≡ None → broken_body_at c s r ≡ None
+unfolding broken_body_at
 no_body c s r h = rw h refl
 
-pub past_bodies : (c : Chain) (s : Source) (r n : ℕ) → r ≤ n → length (of_table 0x06 (listed s)) ≤ r → first_below (e16_at c s) r ≡ None → first_below (e16_at c s) n ≡ None
-past_bodies c s r n le past h = past_all (e16_at c s) (of_table 0x06 (listed s)) r n (no_body c s) le past h
+pub past_bodies : (c : Chain) (s : Source) (r n : ℕ) → r ≤ n → length (of_table 0x06 (listed s)) ≤ r → first_below (broken_body_at c s) r ≡ None → first_below (broken_body_at c s) n ≡ None
+past_bodies c s r n le past h = past_all (broken_body_at c s) (of_table 0x06 (listed s)) r n (no_body c s) le past h
 
-no_loss : (c : Chain) (s : Source) (r : ℕ) → slice_get (of_table 0x06 (listed s)) r ≡ None → e17_at c s r ≡ None
-unfolding e17_at
+no_loss : (c : Chain) (s : Source) (r : ℕ) → slice_get (of_table 0x06 (listed s)) r ≡ None → lost_body_at c s r ≡ None
+unfolding lost_body_at
 no_loss c s r h = rw h refl
 
-pub past_losses : (c : Chain) (s : Source) (r n : ℕ) → r ≤ n → length (of_table 0x06 (listed s)) ≤ r → first_below (e17_at c s) r ≡ None → first_below (e17_at c s) n ≡ None
-past_losses c s r n le past h = past_all (e17_at c s) (of_table 0x06 (listed s)) r n (no_loss c s) le past h
+pub past_losses : (c : Chain) (s : Source) (r n : ℕ) → r ≤ n → length (of_table 0x06 (listed s)) ≤ r → first_below (lost_body_at c s) r ≡ None → first_below (lost_body_at c s) n ≡ None
+past_losses c s r n le past h = past_all (lost_body_at c s) (of_table 0x06 (listed s)) r n (no_loss c s) le past h
 
 -- as long as the deltas are few, the tables decide
 pub within_limit : (c : Chain) (p : Place) (tables o : Option Place) → length c.ids + 1 ≤ 65535 → o ≡ tables → o ≡ or_else (broken (nat_lt 65535 (length c.ids + 1)) p) tables

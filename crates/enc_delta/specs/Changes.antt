@@ -38,18 +38,18 @@ is_kept old new t i (Some references) = tokens_alike new (token_at old t i) (tok
 is_kept old new t i _ = true
 
 -- E15: an updated row says something else in a column that may not differ
-unfoldable pub e15_cell : Chain → Source → Token → ℕ → Option Place
-e15_cell c s t i = broken (not (may_differ t.table i) && not (is_kept (rows_of_chain c) (rows_after c s) t i (kind_in t.table i))) (place.Cell t i)
+unfoldable pub altered_at : Chain → Source → Token → ℕ → Option Place
+altered_at c s t i = broken (not (may_differ t.table i) && not (is_kept (rows_of_chain c) (rows_after c s) t i (kind_in t.table i))) (place.Cell t i)
 
-unfoldable pub e15_row : Chain → Source → Token → Option Place
-e15_row c s t = if is_insert c t then None else first_below (e15_cell c s t) (length (columns_in t.table))
+unfoldable pub altered_in : Chain → Source → Token → Option Place
+altered_in c s t = if is_insert c t then None else first_below (altered_at c s t) (length (columns_in t.table))
 
 -- what a rule on rows says of the k-th token of EncMap
 abbrev pub of_nth : (Token → Option Place) → Source → ℕ → Option Place
 of_nth rule s k = option_and_then rule (slice_get (listed s) k)
 
-unfoldable pub e15 : Chain → Source → Option Place
-e15 c s = first_below (of_nth (e15_row c s) s) (length (listed s))
+unfoldable pub altered_cell : Chain → Source → Option Place
+altered_cell c s = first_below (of_nth (altered_in c s) s) (length (listed s))
 
 -- the least child of the Add entries of which a rule says so
 abbrev pub least_child : (Attached → Bool) → Source → Option Place
@@ -73,8 +73,8 @@ breaks_layout c s a =
     && not (has_flag 0x10 (number_at (rows_after c s) a.child 0))
     && (has_layout (rows_after c s) a.owner || is_value_type (rows_after c s) a.owner)
 
-unfoldable pub e18 : Chain → Source → Option Place
-e18 c s = least_child (breaks_layout c s) s
+unfoldable pub field_out_of_layout : Chain → Source → Option Place
+field_out_of_layout c s = least_child (breaks_layout c s) s
 
 -- E19: a new virtual method (flag 40, II.23.1.10) in an interface (flag 20, II.23.1.15) that was there, or one that is abstract too (flag 400) in any type that was there
 unfoldable pub breaks_slots : Chain → Source → Attached → Bool
@@ -83,8 +83,8 @@ breaks_slots c s a =
     && has_flag 0x40 (number_at (rows_after c s) a.child 2)
     && (has_flag 0x20 (number_at (rows_after c s) a.owner 0) || has_flag 0x400 (number_at (rows_after c s) a.child 2))
 
-unfoldable pub e19 : Chain → Source → Option Place
-e19 c s = least_child (breaks_slots c s) s
+unfoldable pub method_without_slot : Chain → Source → Option Place
+method_without_slot c s = least_child (breaks_slots c s) s
 
 -- the column of a member's name
 abbrev pub name_column : ℕ → ℕ
@@ -102,18 +102,18 @@ abbrev pub asked_of : Rows → Asked
 asked_of rows = record { counts = is_member rows; name = λ t. bytes_at rows t (name_column t.table); alike = same_signature rows }
 
 -- E20: a new field, method, property or event with a sibling of equal name and, but for an event, alike signature
-unfoldable pub e20 : Chain → Source → Option Place
-e20 c s = twin_fault (asked_of (rows_after c s)) c.plain (attached_of s)
+unfoldable pub twin_member : Chain → Source → Option Place
+twin_member c s = twin_fault (asked_of (rows_after c s)) c.plain (attached_of s)
 
 -- E21: a signature isn't one, by the rows after
-unfoldable pub e21_at : Chain → Source → Token → ℕ → Option Place
-e21_at c s t i = broken (not (is_signature (rows_with c (listed s)) t.table (bytes_at (rows_after c s) t i))) (place.Cell t i)
+unfoldable pub bad_signature_at : Chain → Source → Token → ℕ → Option Place
+bad_signature_at c s t i = broken (not (is_signature (rows_with c (listed s)) t.table (bytes_at (rows_after c s) t i))) (place.Cell t i)
 
-unfoldable pub e21_row : Chain → Source → Token → Option Place
-e21_row c s t = option_and_then (e21_at c s t) (signature_column t.table)
+unfoldable pub bad_signature_in : Chain → Source → Token → Option Place
+bad_signature_in c s t = option_and_then (bad_signature_at c s t) (signature_column t.table)
 
-unfoldable pub e21 : Chain → Source → Option Place
-e21 c s = first_below (of_nth (e21_row c s) s) (length (listed s))
+unfoldable pub bad_signature : Chain → Source → Option Place
+bad_signature c s = first_below (of_nth (bad_signature_in c s) s) (length (listed s))
 
 -- the parts of the body that the delta's row gives a method
 abbrev pub own_code : Source → Token → Option Code
@@ -125,8 +125,8 @@ locals_begin rows None = true
 locals_begin rows (Some c) = c.locals.row == 0 || c.locals.table == 0x11 && begins_locals (bytes_at rows c.locals 0)
 
 -- E23: a method's local signature that isn't one of locals
-unfoldable pub e23_row : Chain → Source → Token → Option Place
-e23_row c s t = broken (t.table == 0x06 && not (locals_begin (rows_after c s) (own_code s t))) (place.Row t)
+unfoldable pub bad_locals_in : Chain → Source → Token → Option Place
+bad_locals_in c s t = broken (t.table == 0x06 && not (locals_begin (rows_after c s) (own_code s t))) (place.Row t)
 
-unfoldable pub e23 : Chain → Source → Option Place
-e23 c s = first_below (of_nth (e23_row c s) s) (length (listed s))
+unfoldable pub bad_locals : Chain → Source → Option Place
+bad_locals c s = first_below (of_nth (bad_locals_in c s) s) (length (listed s))

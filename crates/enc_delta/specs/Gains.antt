@@ -3,7 +3,7 @@ use Rattle.std.specs.Prelude.{ℕ, Bool, ◌||◌, ◌==◌}
 use Rattle.enc_plain.specs.Apply.{Attached}
 use Rattle.enc_delta.specs.declared.members.Gain.{Gain}
 use Rattle.enc_delta.specs.declared.members.Gain.TheVariants as gain
-use Rattle.enc_delta.specs.After.{Joined}
+use Rattle.enc_delta.specs.Context.{Joined}
 use Rattle.enc_delta.specs.Changes.{breaks_layout, breaks_slots}
 
 abbrev pub breaks : Joined → Gain → Attached → Bool

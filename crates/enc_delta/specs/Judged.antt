@@ -1,5 +1,5 @@
--- The first rule that a delta breaks after its chain: E1 to E24 in their order.
-use Rattle.std.specs.Prelude.{ℕ, map, Option, option_map}
+-- The first rule that a delta breaks after its chain.
+use Rattle.std.specs.Prelude.{ℕ, List, [], ◌∷◌, map, Option, None, option_map}
 use Rattle.enc_base.specs.Token.{number_of}
 use Rattle.enc_base.specs.Order.{or_else}
 use Rattle.enc_base.specs.declared.refusal.Refusal.{Refusal}
@@ -8,37 +8,69 @@ use Rattle.enc_base.specs.declared.refusal.Place.{Place}
 use Rattle.enc_rows.specs.Source.{Source}
 use Rattle.enc_plain.specs.Chain.{Chain}
 use Rattle.enc_delta.specs.Delta.{log_in, listed}
-use Rattle.enc_delta.specs.Rules.{e1, e2, e3, e4, e5, late_fault, e7, insert_fault, changed, set_fault, log_fault, child_fault, e12, e13, e14, e16, e17, e24}
-use Rattle.enc_delta.specs.Changes.{e15, e18, e19, e20, e21, e23}
+use Rattle.enc_delta.specs.Rules.{other_module, not_next, other_base, id_taken, heap_fault, late_fault, uneven_table, insert_fault, changed, set_fault, log_fault, child_fault, closed_table, bad_index, bad_offset, broken_body, lost_body, too_many}
+use Rattle.enc_delta.specs.Changes.{altered_cell, field_out_of_layout, method_without_slot, twin_member, bad_signature, bad_locals}
 
-abbrev pub rule : ℕ → Option Place → Option Refusal
-rule n p = option_map (λ (q : Place). record { code = E n; place = q }) p
+-- what a rule says of a delta after a chain: nothing, or the first place at which it is broken
+abbrev pub Rule : Type 0
+Rule = Chain → Source → Option Place
 
--- E9 of a delta
-unfoldable pub set_meta : Source → Option Place
-set_meta s = set_fault (map number_of (listed s)) (map number_of (changed (log_in s)))
+-- EncMap doesn't rise strictly
+unfoldable pub late_token : Rule
+late_token c s = late_fault (listed s)
 
--- E21, E23 and E24: signatures, and how many deltas and rows there are
-unfoldable pub signatures_meta : Chain → Source → Option Refusal
-signatures_meta c s = or_else (rule 21 (e21 c s)) (or_else (rule 23 (e23 c s)) (rule 24 (e24 c s)))
+-- a new row isn't the next of its table
+unfoldable pub skipped_row : Rule
+skipped_row c s = insert_fault c (listed s)
 
--- E18 to E24: new members, and then those
-unfoldable pub members_meta : Chain → Source → Option Refusal
-members_meta c s = or_else (rule 18 (e18 c s)) (or_else (rule 19 (e19 c s)) (or_else (rule 20 (e20 c s)) (signatures_meta c s)))
+-- the sets of EncMap tokens and of tokens with code 0 differ
+unfoldable pub unmatched_token : Rule
+unmatched_token c s = set_fault (map number_of (listed s)) (map number_of (changed (log_in s)))
 
--- E15 to E24: updates, bodies, and then those
-unfoldable pub changes_meta : Chain → Source → Option Refusal
-changes_meta c s = or_else (rule 15 (e15 c s)) (or_else (rule 16 (e16 c s)) (or_else (rule 17 (e17 c s)) (members_meta c s)))
+-- an entry of the log isn't in order
+unfoldable pub bad_entry : Rule
+bad_entry c s = log_fault c (listed s) (log_in s)
 
--- E12 to E24: tables, cells, and then those
-unfoldable pub cells_meta : Chain → Source → Option Refusal
-cells_meta c s = or_else (rule 12 (e12 s)) (or_else (rule 13 (e13 c s)) (or_else (rule 14 (e14 c s)) (changes_meta c s)))
+-- a new row of a table of children hasn't exactly one Add entry
+unfoldable pub unowned_child : Rule
+unowned_child c s = child_fault c (listed s) (log_in s)
 
--- E6 to E24: lists, and then those
-unfoldable pub lists_meta : Chain → Source → Option Refusal
-lists_meta c s =
-    or_else (rule 6 (late_fault (listed s))) (or_else (rule 7 (e7 s)) (or_else (rule 8 (insert_fault c (listed s))) (or_else (rule 9 (set_meta s)) (or_else (rule 10 (log_fault c (listed s) (log_in s))) (or_else (rule 11 (child_fault c (listed s) (log_in s))) (cells_meta c s))))))
+-- the rules with their numbers, in the order in which they are asked; rule 22 is one of PDBs
+abbrev pub rules : List (ℕ × Rule)
+rules =
+    (1, other_module)
+    ∷ (2, not_next)
+    ∷ (3, other_base)
+    ∷ (4, id_taken)
+    ∷ (5, heap_fault)
+    ∷ (6, late_token)
+    ∷ (7, λ c s. uneven_table s)
+    ∷ (8, skipped_row)
+    ∷ (9, unmatched_token)
+    ∷ (10, bad_entry)
+    ∷ (11, unowned_child)
+    ∷ (12, λ c s. closed_table s)
+    ∷ (13, bad_index)
+    ∷ (14, bad_offset)
+    ∷ (15, altered_cell)
+    ∷ (16, broken_body)
+    ∷ (17, lost_body)
+    ∷ (18, field_out_of_layout)
+    ∷ (19, method_without_slot)
+    ∷ (20, twin_member)
+    ∷ (21, bad_signature)
+    ∷ (23, bad_locals)
+    ∷ (24, too_many)
+    ∷ []
+
+abbrev pub refused : ℕ → Option Place → Option Refusal
+refused n p = option_map (λ (q : Place). record { code = E n; place = q }) p
+
+-- the first of some rules that is broken
+abbrev pub first_of : List (ℕ × Rule) → Chain → Source → Option Refusal
+first_of [] c s = None
+first_of (r ∷ rs) c s = or_else (refused r.0 (r.1 c s)) (first_of rs c s)
 
 -- the first broken rule
 unfoldable pub first_meta : Chain → Source → Option Refusal
-first_meta c s = or_else (rule 1 (e1 c s)) (or_else (rule 2 (e2 c s)) (or_else (rule 3 (e3 c s)) (or_else (rule 4 (e4 c s)) (or_else (rule 5 (e5 c s)) (lists_meta c s)))))
+first_meta c s = first_of rules c s

@@ -1,8 +1,8 @@
 pub mod Delta
 pub mod Rules
 pub mod Seen
-pub mod Totals
-pub mod After
+pub mod Cells
+pub mod Context
 pub mod Lists
 pub mod Pairs
 pub mod Twins
@@ -12,3 +12,4 @@ pub mod Changes
 pub mod Gains
 pub mod Judged
 pub mod Rows
+pub mod Stops

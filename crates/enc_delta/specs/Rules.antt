@@ -8,7 +8,7 @@ use Rattle.enc_base.specs.declared.refusal.Place.{Place}
 use Rattle.enc_base.specs.declared.refusal.Place.TheVariants as place
 use Rattle.enc_base.specs.declared.refusal.StreamName.TheVariants as name
 use Rattle.enc_meta.specs.Heaps.{Counted}
-use Rattle.enc_meta.specs.Joined.{joined_text, joined_blob, joined_user, joined_guid, joined_length}
+use Rattle.enc_meta.specs.Joined.{joined_text, joined_blob, joined_user, joined_guid, joined_length, guid_entries}
 use Rattle.enc_schema.specs.declared.column.Column.{Column}
 use Rattle.enc_schema.specs.declared.column.Column.TheVariants.{Text, Guid, Blob, Index, Coded}
 use Rattle.enc_schema.specs.Schema.{columns_in, column_in}
@@ -38,45 +38,37 @@ broken true p = Some p
 broken false p = None
 
 -- E1 to E4: the base's Mvid, the next generation, the last EncId as EncBaseId, and an EncId that isn't nil and wasn't used
-unfoldable pub e1 : Chain → Source → Option Place
-e1 c s = broken (not (bytes_eq (own_guid c s 2) (mvid_of c))) (place.Row module_token)
+unfoldable pub other_module : Chain → Source → Option Place
+other_module c s = broken (not (bytes_eq (own_guid c s 2) (mvid_of c))) (place.Row module_token)
 
-unfoldable pub e2 : Chain → Source → Option Place
-e2 c s = broken (not (raw_in s module_token 0 == length c.ids + 1)) (place.Row module_token)
+unfoldable pub not_next : Chain → Source → Option Place
+not_next c s = broken (not (raw_in s module_token 0 == length c.ids + 1)) (place.Row module_token)
 
-unfoldable pub e3 : Chain → Source → Option Place
-e3 c s = broken (not (bytes_eq (own_guid c s 4) (id_of c (length c.ids)))) (place.Row module_token)
+unfoldable pub other_base : Chain → Source → Option Place
+other_base c s = broken (not (bytes_eq (own_guid c s 4) (id_of c (length c.ids)))) (place.Row module_token)
 
-unfoldable pub e4 : Chain → Source → Option Place
-e4 c s = broken (bytes_eq (own_guid c s 3) nil_guid || list_any (λ id. bytes_eq id (own_guid c s 3)) c.ids) (place.Row module_token)
+unfoldable pub id_taken : Chain → Source → Option Place
+id_taken c s = broken (bytes_eq (own_guid c s 3) nil_guid || list_any (λ id. bytes_eq id (own_guid c s 3)) c.ids) (place.Row module_token)
 
 -- the last byte, 0 where there is none
 abbrev pub last_byte : List ℕ → ℕ
 last_byte heap = slice_index heap (length heap - 1)
 
--- how many entries of `#GUID` can be read
-abbrev pub most : List ℕ → ℕ
-most [] = 0
-most (n ∷ ns) = max n (most ns)
-
-abbrev pub guid_entries : List Counted → ℕ
-guid_entries heaps = most (map (λ (h : Counted). length h.guids / 16) heaps)
-
 -- E5: a joined heap passes its limit; `#Strings` has a last byte other than 0; `#GUID` has fewer entries than before
-unfoldable pub e5_strings : Chain → Source → Bool
-e5_strings c s = nat_lt (2 ^ 29) (joined_length (map (λ (h : Counted). h.strings) (heaps_after c s))) || not (last_byte s.heaps.strings == 0)
+unfoldable pub strings_break : Chain → Source → Bool
+strings_break c s = nat_lt (2 ^ 29) (joined_length (map (λ (h : Counted). h.strings) (heaps_after c s))) || not (last_byte s.heaps.strings == 0)
 
-unfoldable pub e5_users : Chain → Source → Bool
-e5_users c s = nat_lt (2 ^ 24) (joined_length (map (λ (h : Counted). h.users) (heaps_after c s)))
+unfoldable pub users_break : Chain → Source → Bool
+users_break c s = nat_lt (2 ^ 24) (joined_length (map (λ (h : Counted). h.users) (heaps_after c s)))
 
-unfoldable pub e5_blobs : Chain → Source → Bool
-e5_blobs c s = nat_lt (2 ^ 29) (joined_length (map (λ (h : Counted). h.blobs) (heaps_after c s)))
+unfoldable pub blobs_break : Chain → Source → Bool
+blobs_break c s = nat_lt (2 ^ 29) (joined_length (map (λ (h : Counted). h.blobs) (heaps_after c s)))
 
-unfoldable pub e5_guids : Chain → Source → Bool
-e5_guids c s = nat_lt (2 ^ 29) (16 * guid_entries (heaps_after c s)) || nat_lt (length s.heaps.guids / 16) (guid_entries c.heaps)
+unfoldable pub guids_break : Chain → Source → Bool
+guids_break c s = nat_lt (2 ^ 29) (16 * guid_entries (heaps_after c s)) || nat_lt (length s.heaps.guids / 16) (guid_entries c.heaps)
 
-unfoldable pub e5 : Chain → Source → Option Place
-e5 c s = or_else (broken (e5_strings c s) (place.Stream name.Strings)) (or_else (broken (e5_users c s) (place.Stream name.Users)) (or_else (broken (e5_blobs c s) (place.Stream name.Blobs)) (broken (e5_guids c s) (place.Stream name.Guids))))
+unfoldable pub heap_fault : Chain → Source → Option Place
+heap_fault c s = or_else (broken (strings_break c s) (place.Stream name.Strings)) (or_else (broken (users_break c s) (place.Stream name.Users)) (or_else (broken (blobs_break c s) (place.Stream name.Blobs)) (broken (guids_break c s) (place.Stream name.Guids))))
 
 -- the least of some numbers
 abbrev pub lesser : ℕ → Option ℕ → Option ℕ
@@ -104,11 +96,11 @@ abbrev pub rows_for : Source → ℕ → ℕ
 rows_for s table = if list_any (λ t. t == table) (0x00 ∷ 0x1E ∷ 0x1F ∷ []) then 0 else rows_of s.layout table
 
 -- E7: a table's rows and its tokens differ in number
-unfoldable pub e7_at : Source → ℕ → Option Place
-e7_at s table = broken (not (rows_for s table == length (of_table table (listed s)))) (place.Row (record { table = table; row = 0 }))
+unfoldable pub uneven_at : Source → ℕ → Option Place
+uneven_at s table = broken (not (rows_for s table == length (of_table table (listed s)))) (place.Row (record { table = table; row = 0 }))
 
-unfoldable pub e7 : Source → Option Place
-e7 s = first_below (e7_at s) 0x100
+unfoldable pub uneven_table : Source → Option Place
+uneven_table s = first_below (uneven_at s) 0x100
 
 -- a token past the rows before is an insert, and so is row 0
 unfoldable pub is_insert : Chain → Token → Bool
@@ -212,11 +204,11 @@ abbrev pub may_change : ℕ → Bool
 may_change table = list_any (λ t. t == table) (0x00 ∷ 0x01 ∷ 0x02 ∷ 0x04 ∷ 0x06 ∷ 0x08 ∷ 0x09 ∷ 0x0A ∷ 0x0B ∷ 0x0C ∷ 0x0D ∷ 0x0E ∷ 0x0F ∷ 0x10 ∷ 0x11 ∷ 0x12 ∷ 0x14 ∷ 0x15 ∷ 0x17 ∷ 0x18 ∷ 0x19 ∷ 0x1A ∷ 0x1B ∷ 0x1C ∷ 0x1E ∷ 0x1F ∷ 0x23 ∷ 0x29 ∷ 0x2A ∷ 0x2B ∷ 0x2C ∷ [])
 
 -- E12: rows in another table
-unfoldable pub e12_at : Source → ℕ → Option Place
-e12_at s table = broken (nat_lt 0 (rows_of s.layout table) && not (may_change table)) (place.Row (record { table = table; row = 0 }))
+unfoldable pub closed_at : Source → ℕ → Option Place
+closed_at s table = broken (nat_lt 0 (rows_of s.layout table) && not (may_change table)) (place.Row (record { table = table; row = 0 }))
 
-unfoldable pub e12 : Source → Option Place
-e12 s = first_below (e12_at s) 0x100
+unfoldable pub closed_table : Source → Option Place
+closed_table s = first_below (closed_at s) 0x100
 
 -- the user texts of all generations with the delta's behind them
 abbrev pub users_after : Chain → Source → ℕ → Option (List ℕ)
@@ -251,29 +243,29 @@ unfoldable pub table_fault : Chain → Source → (Column → Bool) → ℕ → 
 table_fault c s asks table = first_below (row_fault c s asks table) (rows_of s.layout table)
 
 -- E13: an index past its table after, or a tag of no table; E14: an offset that isn't good in the joined heap
-unfoldable pub e13 : Chain → Source → Option Place
-e13 c s = first_below (table_fault c s is_index) 0x2D
+unfoldable pub bad_index : Chain → Source → Option Place
+bad_index c s = first_below (table_fault c s is_index) 0x2D
 
-unfoldable pub e14 : Chain → Source → Option Place
-e14 c s = first_below (table_fault c s is_offset) 0x2D
+unfoldable pub bad_offset : Chain → Source → Option Place
+bad_offset c s = first_below (table_fault c s is_offset) 0x2D
 
 -- E24: more than 65,535 deltas, or more than 2^24 - 1 rows in a table after. No file reaches it: E2 and E8 come first
-unfoldable pub e24_at : Chain → Source → ℕ → Option Place
-e24_at c s table = broken (nat_lt 0xFFFFFF (rows_with c (listed s) table)) (place.Row module_token)
+unfoldable pub too_many_in : Chain → Source → ℕ → Option Place
+too_many_in c s table = broken (nat_lt 0xFFFFFF (rows_with c (listed s) table)) (place.Row module_token)
 
-unfoldable pub e24 : Chain → Source → Option Place
-e24 c s = or_else (broken (nat_lt 65535 (length c.ids + 1)) (place.Row module_token)) (first_below (e24_at c s) 0x2D)
+unfoldable pub too_many : Chain → Source → Option Place
+too_many c s = or_else (broken (nat_lt 65535 (length c.ids + 1)) (place.Row module_token)) (first_below (too_many_in c s) 0x2D)
 
 -- the method of a row has no place for a body, or a good one in the delta's code
 unfoldable pub body_stands : Chain → Source → ℕ → Bool
 body_stands c s r = body_is_good (rows_with c (listed s)) (users_after c s) s.loaded (raw_in s (nth_row 0x06 r) 0) (raw_in s (nth_row 0x06 r) 1)
 
 -- E16: a body isn't good
-unfoldable pub e16_at : Chain → Source → ℕ → Option Place
-e16_at c s r = option_and_then (λ (t : Token). broken (not (body_stands c s r)) (place.Row t)) (slice_get (of_table 0x06 (listed s)) r)
+unfoldable pub broken_body_at : Chain → Source → ℕ → Option Place
+broken_body_at c s r = option_and_then (λ (t : Token). broken (not (body_stands c s r)) (place.Row t)) (slice_get (of_table 0x06 (listed s)) r)
 
-unfoldable pub e16 : Chain → Source → Option Place
-e16 c s = first_below (e16_at c s) (rows_of s.layout 0x06)
+unfoldable pub broken_body : Chain → Source → Option Place
+broken_body c s = first_below (broken_body_at c s) (rows_of s.layout 0x06)
 
 -- the cell is a body that is there
 abbrev pub has_body : Option Cell → Bool
@@ -281,8 +273,8 @@ has_body (Some (body (Some b))) = true
 has_body _ = false
 
 -- E17: no place for a body where the method had one
-unfoldable pub e17_at : Chain → Source → ℕ → Option Place
-e17_at c s r = option_and_then (λ (t : Token). broken (raw_in s (nth_row 0x06 r) 0 == 0 && has_body (cell_of c.plain t 0)) (place.Row t)) (slice_get (of_table 0x06 (listed s)) r)
+unfoldable pub lost_body_at : Chain → Source → ℕ → Option Place
+lost_body_at c s r = option_and_then (λ (t : Token). broken (raw_in s (nth_row 0x06 r) 0 == 0 && has_body (cell_of c.plain t 0)) (place.Row t)) (slice_get (of_table 0x06 (listed s)) r)
 
-unfoldable pub e17 : Chain → Source → Option Place
-e17 c s = first_below (e17_at c s) (rows_of s.layout 0x06)
+unfoldable pub lost_body : Chain → Source → Option Place
+lost_body c s = first_below (lost_body_at c s) (rows_of s.layout 0x06)

@@ -1,40 +1,81 @@
 //! Judging the cells of a delta's rows after its chain.
-ghost use Rattle.std.specs.Prelude.{◌≡◌, ◌<◌, ◌^◌, IsTrue, Some, length, slice_get};
+ghost use Rattle.std.specs.Prelude.{◌≡◌, ◌<◌, ◌^◌, IsTrue, Some, is_some, length, slice_get};
 ghost use Rattle.enc_base.specs.Order.{first_below};
 ghost use Rattle.enc_schema.specs.Schema.{columns_in};
 ghost use Rattle.enc_base.specs.Token.{nth_row};
 ghost use Rattle.enc_delta.specs.Delta.{listed, of_table};
-ghost use Rattle.enc_delta.specs.Rules.{cell_fault, row_fault, table_fault, e13, e14, e24_at, e24};
-ghost use Rattle.enc_delta.specs.After.{IsAfter, speaks, begins_with};
+ghost use Rattle.enc_delta.specs.Rules.{reading_after, cell_fault, row_fault, table_fault, bad_index, bad_offset, too_many_in, too_many};
+ghost use Rattle.enc_plain.specs.Reading.{cell_read};
+ghost use Rattle.enc_delta.specs.Cells.{speaks, begins_with};
 
-use crate::after::{After, Rule, is_good};
-use crate::delta::{Delta, nth_row};
+use crate::context::Context;
+use crate::delta::nth_row;
+use crate::joined::{guid_after, has_text_after};
 use enc_base::{Place, Token};
 use enc_plain::ChainView;
-use enc_schema::{column_of, columns_of};
+use enc_schema::{Column, column_of, columns_of, decode_coded};
 
 const MODULE: Token = Token { table: 0, row: 1 };
+
+/// Which cells are judged.
+#[derive(Clone, Copy, Debug, PartialEq, Eq)]
+pub enum CellRule {
+    /// An index is past its table, or has a tag of no table.
+    Index,
+    /// An offset isn't good in the joined heap.
+    Offset,
+}
+
+impl CellRule {
+    fn asks(self, column: Column) -> bool
+        ensures { result ≡ speaks self column }
+    {
+        match (self, column) {
+            (CellRule::Index, Column::Index(_) | Column::Coded(_)) => true,
+            (CellRule::Offset, Column::Text | Column::Guid | Column::Blob) => true,
+            _ => false,
+        }
+    }
+}
+
+/// A number of this column stands for a cell after the delta.
+#[tactic(auto, unfolding(crate::specs::Rules::reading_after, enc_plain::specs::Reading::cell_read))]
+fn is_good<C: ChainView>(context: &Context<'_, C>, column: Column, number: u32) -> bool
+    ensures { result ≡ is_some (cell_read (reading_after context.now.chain context.now.delta) column number) }
+{
+    let chain = context.old.view;
+    let heaps = context.delta.heaps();
+    let before = &context.known.before;
+    match column {
+        Column::Num8 | Column::Num16 | Column::Num32 => true,
+        Column::Text => has_text_after(chain, &heaps, before, number),
+        Column::Guid => guid_after(chain, &heaps, number).is_some(),
+        Column::Blob => context.has_blob(number),
+        Column::Index(table) => context.is_within(table, number),
+        Column::Coded(kind) => match decode_coded(kind, number) {
+            Some(token) => context.is_within(token.table, token.row),
+            None => false,
+        },
+        Column::Run(_) => false,
+    }
+}
 
 /// What is wrong with a cell of a row that stands for a token.
 #[tactic(auto, unfolding(crate::specs::Rules::cell_fault))]
 fn cell_fault<C: ChainView>(
-    chain: &C,
-    delta: &Delta,
-    after: &After<'_>,
-    rule: Rule,
+    context: &Context<'_, C>,
+    rule: CellRule,
     token: Token,
     row: Token,
     i: u8,
 ) -> Option<Place>
-    requires means { C.meaning chain.now ≡ (C.chain chain.now).plain }
-    requires after { IsAfter (C.chain chain.now) delta.now after.now }
-    ensures { result ≡ cell_fault (C.chain chain.now) delta.now (speaks rule) token row i }
+    ensures { result ≡ cell_fault context.now.chain context.now.delta (speaks rule) token row i }
 {
     let column = column_of(row.table, i)?;
     if !rule.asks(column) {
         return None;
     }
-    if is_good(chain, delta, after, column, delta.cell(row, i)) {
+    if is_good(context, column, context.delta.cell(row, i)) {
         return None;
     }
     Some(Place::Cell(token, i))
@@ -43,19 +84,15 @@ fn cell_fault<C: ChainView>(
 /// The first cell of a row that breaks the rule.
 #[tactic(auto, using(enc_base::proofs::First::first_none, enc_base::proofs::First::first_found, enc_base::proofs::First::first_more))]
 fn cells_fault<C: ChainView>(
-    chain: &C,
-    delta: &Delta,
-    after: &After<'_>,
-    rule: Rule,
+    context: &Context<'_, C>,
+    rule: CellRule,
     token: Token,
     row: Token,
 ) -> Option<Place>
-    requires means { C.meaning chain.now ≡ (C.chain chain.now).plain }
-    requires after { IsAfter (C.chain chain.now) delta.now after.now }
-    ensures { result ≡ first_below (cell_fault (C.chain chain.now) delta.now (speaks rule) token row) (length (columns_in row.table)) }
+    ensures { result ≡ first_below (cell_fault context.now.chain context.now.delta (speaks rule) token row) (length (columns_in row.table)) }
 {
     for i in 0..columns_of(row.table).len() {
-        match cell_fault(chain, delta, after, rule, token, row, i as u8) {
+        match cell_fault(context, rule, token, row, i as u8) {
             Some(place) => return Some(place),
             None => {}
         }
@@ -66,21 +103,17 @@ fn cells_fault<C: ChainView>(
 /// What is wrong with row r of a table, from 0; its token is the r-th of the table's.
 #[tactic(auto, unfolding(crate::specs::Rules::row_fault))]
 fn row_fault<C: ChainView>(
-    chain: &C,
-    delta: &Delta,
-    after: &After<'_>,
-    rule: Rule,
+    context: &Context<'_, C>,
+    rule: CellRule,
     table: u8,
     r: u32,
     token: Token,
 ) -> Option<Place>
-    requires means { C.meaning chain.now ≡ (C.chain chain.now).plain }
-    requires after { IsAfter (C.chain chain.now) delta.now after.now }
     requires few { r < 2 ^ 24 }
-    requires token { slice_get (of_table table (listed delta.now)) r ≡ Some token }
-    ensures { result ≡ row_fault (C.chain chain.now) delta.now (speaks rule) table r }
+    requires token { slice_get (of_table table (listed context.now.delta)) r ≡ Some token }
+    ensures { result ≡ row_fault context.now.chain context.now.delta (speaks rule) table r }
 {
-    cells_fault(chain, delta, after, rule, token, nth_row(table, r))
+    cells_fault(context, rule, token, nth_row(table, r))
 }
 
 /// The tokens from the first of this table on.
@@ -102,24 +135,18 @@ pub fn next_of(tokens: &[Token], table: u8) -> &[Token]
 /// The first cell of a table that breaks the rule.
 #[tactic(auto, using(enc_base::proofs::First::first_none, enc_base::proofs::First::first_found, enc_base::proofs::First::first_more), unfolding(crate::specs::Rules::table_fault))]
 fn table_fault<C: ChainView>(
-    chain: &C,
-    delta: &Delta,
-    after: &After<'_>,
-    rule: Rule,
+    context: &Context<'_, C>,
+    rule: CellRule,
     table: u8,
-    tokens: &[Token],
 ) -> Option<Place>
-    requires means { C.meaning chain.now ≡ (C.chain chain.now).plain }
-    requires after { IsAfter (C.chain chain.now) delta.now after.now }
-    requires tokens { tokens.now ≡ listed delta.now }
-    ensures { result ≡ table_fault (C.chain chain.now) delta.now (speaks rule) table }
+    ensures { result ≡ table_fault context.now.chain context.now.delta (speaks rule) table }
 {
-    let mut rest = tokens;
-    for r in 0..delta.count(table) {
+    let mut rest = context.tokens();
+    for r in 0..context.own_count(table) {
         let [token, tail @ ..] = next_of(rest, table) else {
             return None;
         };
-        match row_fault(chain, delta, after, rule, table, r, *token) {
+        match row_fault(context, rule, table, r, *token) {
             Some(place) => return Some(place),
             None => {}
         }
@@ -131,19 +158,13 @@ fn table_fault<C: ChainView>(
 /// The first cell that breaks the rule.
 #[tactic(auto, using(enc_base::proofs::First::first_none, enc_base::proofs::First::first_found, enc_base::proofs::First::first_more))]
 fn first_fault<C: ChainView>(
-    chain: &C,
-    delta: &Delta,
-    after: &After<'_>,
-    rule: Rule,
-    tokens: &[Token],
+    context: &Context<'_, C>,
+    rule: CellRule,
 ) -> Option<Place>
-    requires means { C.meaning chain.now ≡ (C.chain chain.now).plain }
-    requires after { IsAfter (C.chain chain.now) delta.now after.now }
-    requires tokens { tokens.now ≡ listed delta.now }
-    ensures { result ≡ first_below (table_fault (C.chain chain.now) delta.now (speaks rule)) 0x2D }
+    ensures { result ≡ first_below (table_fault context.now.chain context.now.delta (speaks rule)) 0x2D }
 {
     for table in 0..0x2d {
-        match table_fault(chain, delta, after, rule, table, tokens) {
+        match table_fault(context, rule, table) {
             Some(place) => return Some(place),
             None => {}
         }
@@ -151,66 +172,45 @@ fn first_fault<C: ChainView>(
     None
 }
 
-/// E13: the first index past its table after, or with a tag of no table.
-#[tactic(auto, unfolding(crate::specs::Rules::e13))]
-pub fn e13<C: ChainView>(
-    chain: &C,
-    delta: &Delta,
-    after: &After<'_>,
-    tokens: &[Token],
-) -> Option<Place>
-    requires means { C.meaning chain.now ≡ (C.chain chain.now).plain }
-    requires after { IsAfter (C.chain chain.now) delta.now after.now }
-    requires tokens { tokens.now ≡ listed delta.now }
-    ensures { result ≡ e13 (C.chain chain.now) delta.now }
+/// The first index past its table after, or with a tag of no table.
+#[tactic(auto, unfolding(crate::specs::Rules::bad_index))]
+pub fn bad_index<C: ChainView>(context: &Context<'_, C>) -> Option<Place>
+    ensures { result ≡ bad_index context.now.chain context.now.delta }
 {
-    first_fault(chain, delta, after, Rule::Index, tokens)
+    first_fault(context, CellRule::Index)
 }
 
-/// E14: the first offset that isn't good in the joined heap.
-#[tactic(auto, unfolding(crate::specs::Rules::e14))]
-pub fn e14<C: ChainView>(
-    chain: &C,
-    delta: &Delta,
-    after: &After<'_>,
-    tokens: &[Token],
-) -> Option<Place>
-    requires means { C.meaning chain.now ≡ (C.chain chain.now).plain }
-    requires after { IsAfter (C.chain chain.now) delta.now after.now }
-    requires tokens { tokens.now ≡ listed delta.now }
-    ensures { result ≡ e14 (C.chain chain.now) delta.now }
+/// The first offset that isn't good in the joined heap.
+#[tactic(auto, unfolding(crate::specs::Rules::bad_offset))]
+pub fn bad_offset<C: ChainView>(context: &Context<'_, C>) -> Option<Place>
+    ensures { result ≡ bad_offset context.now.chain context.now.delta }
 {
-    first_fault(chain, delta, after, Rule::Offset, tokens)
+    first_fault(context, CellRule::Offset)
 }
 
 /// More rows than a token can name stand in a table after the delta.
-#[tactic(auto, unfolding(crate::specs::Rules::e24_at, crate::specs::Rules::rows_with))]
-fn e24_at<C: ChainView>(chain: &C, delta: &Delta, after: &After<'_>, table: u8) -> Option<Place>
-    requires means { C.meaning chain.now ≡ (C.chain chain.now).plain }
-    requires after { IsAfter (C.chain chain.now) delta.now after.now }
-    ensures { result ≡ e24_at (C.chain chain.now) delta.now table }
+#[tactic(auto, unfolding(crate::specs::Rules::too_many_in, crate::specs::Rules::rows_with))]
+fn too_many_in<C: ChainView>(context: &Context<'_, C>, table: u8) -> Option<Place>
+    ensures { result ≡ too_many_in context.now.chain context.now.delta table }
 {
-    let _ = delta;
-    let before = chain.count(table) as usize;
-    if before > 0xff_ffff || after.inserts[table as usize] > 0xff_ffff - before {
+    let before = context.old.view.count(table) as usize;
+    if before > 0xff_ffff || context.known.inserts[table as usize] > 0xff_ffff - before {
         Some(Place::Row(MODULE))
     } else {
         None
     }
 }
 
-/// E24: there are more deltas than Generation can count, or more rows than a token can name.
-#[tactic(auto, using(enc_base::proofs::First::first_none, enc_base::proofs::First::first_found, enc_base::proofs::First::first_more), unfolding(crate::specs::Rules::e24))]
-pub fn e24<C: ChainView>(chain: &C, delta: &Delta, after: &After<'_>) -> Option<Place>
-    requires means { C.meaning chain.now ≡ (C.chain chain.now).plain }
-    requires after { IsAfter (C.chain chain.now) delta.now after.now }
-    ensures { result ≡ e24 (C.chain chain.now) delta.now }
+/// There are more deltas than Generation can count, or more rows than a token can name.
+#[tactic(auto, using(enc_base::proofs::First::first_none, enc_base::proofs::First::first_found, enc_base::proofs::First::first_more), unfolding(crate::specs::Rules::too_many))]
+pub fn too_many<C: ChainView>(context: &Context<'_, C>) -> Option<Place>
+    ensures { result ≡ too_many context.now.chain context.now.delta }
 {
-    if chain.generations() > 0xffff {
+    if context.generations() > 0xffff {
         return Some(Place::Row(MODULE));
     }
     for table in 0..0x2d {
-        match e24_at(chain, delta, after, table) {
+        match too_many_in(context, table) {
             Some(place) => return Some(place),
             None => {}
         }

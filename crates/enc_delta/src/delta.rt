@@ -14,7 +14,7 @@ use crate::code::{body_from, code_at};
 use crate::entry::Entry;
 use crate::open::{is_rising, open};
 use enc_base::{ReadFault, Steps, Token};
-use enc_meta::{HeapLengths, Heaps, Root, TextEnds, heaps_law};
+use enc_meta::{HeapLengths, Heaps, Root, TextEnds};
 use enc_opcodes::CodeRef;
 use enc_rows::Tables;
 use enc_schema::column_of;
@@ -143,7 +143,6 @@ impl Delta {
     pub fn lengths(&self) -> HeapLengths
         ensures { result ≡ lengths_of self.now.heaps }
     {
-        heaps_law(&self.meta, &self.root);
         self.heaps().lengths()
     }
 }

@@ -2,8 +2,9 @@
 ghost use Rattle.std.specs.Prelude.{◌≡◌, ℕ, List, bytes_eq};
 ghost use Rattle.std.specs.List.{list_any};
 ghost use Rattle.enc_plain.specs.Chain.{mvid_of};
-ghost use Rattle.enc_delta.specs.Rules.{own_guid, e1, e2, e3, e4};
+ghost use Rattle.enc_delta.specs.Rules.{own_guid, other_module, not_next, other_base, id_taken};
 
+use crate::context::Context;
 use crate::delta::Delta;
 use crate::joined::guid_after;
 use enc_base::{Place, Token};
@@ -32,7 +33,6 @@ pub fn enc_id_of<C: ChainView>(chain: &C, delta: &Delta) -> [u8; 16]
 /// The Mvid of the module before; nil where it has no Module row.
 #[tactic(auto, unfolding(enc_plain::specs::Chain::nil_guid, enc_plain::specs::Module::has_row))]
 fn mvid_of<C: ChainView>(chain: &C) -> [u8; 16]
-    requires means { C.meaning chain.now ≡ (C.chain chain.now).plain }
     ensures { result ≡ mvid_of (C.chain chain.now) }
 {
     if chain.count(0) == 0 {
@@ -41,38 +41,38 @@ fn mvid_of<C: ChainView>(chain: &C) -> [u8; 16]
     chain.guid(MODULE, 2)
 }
 
-/// E1: the delta is of another module.
-#[tactic(auto, unfolding(crate::specs::Rules::e1))]
-pub fn e1<C: ChainView>(chain: &C, delta: &Delta) -> Option<Place>
-    requires means { C.meaning chain.now ≡ (C.chain chain.now).plain }
-    ensures { result ≡ e1 (C.chain chain.now) delta.now }
+/// The delta is of another module.
+#[tactic(auto, unfolding(crate::specs::Rules::other_module))]
+pub fn other_module<C: ChainView>(context: &Context<'_, C>) -> Option<Place>
+    ensures { result ≡ other_module context.now.chain context.now.delta }
 {
-    if own_guid(chain, delta, 2).as_slice() == mvid_of(chain).as_slice() {
+    if own_guid(context.old.view, context.delta, 2).as_slice() == mvid_of(context.old.view).as_slice() {
         None
     } else {
         Some(Place::Row(MODULE))
     }
 }
 
-/// E2: it isn't the next generation.
-#[tactic(auto, unfolding(crate::specs::Rules::e2))]
-pub fn e2<C: ChainView>(chain: &C, delta: &Delta) -> Option<Place>
-    ensures { result ≡ e2 (C.chain chain.now) delta.now }
+/// It isn't the next generation.
+#[tactic(auto, unfolding(crate::specs::Rules::not_next))]
+pub fn not_next<C: ChainView>(context: &Context<'_, C>) -> Option<Place>
+    ensures { result ≡ not_next context.now.chain context.now.delta }
 {
-    if delta.cell(MODULE, 0) == chain.generations() {
+    if context.delta.cell(MODULE, 0) == context.generations() {
         None
     } else {
         Some(Place::Row(MODULE))
     }
 }
 
-/// E3: its EncBaseId isn't the last EncId.
-#[tactic(auto, unfolding(crate::specs::Rules::e3))]
-pub fn e3<C: ChainView>(chain: &C, delta: &Delta) -> Option<Place>
-    ensures { result ≡ e3 (C.chain chain.now) delta.now }
+/// Its EncBaseId isn't the last EncId.
+#[tactic(auto, unfolding(crate::specs::Rules::other_base))]
+pub fn other_base<C: ChainView>(context: &Context<'_, C>) -> Option<Place>
+    ensures { result ≡ other_base context.now.chain context.now.delta }
 {
+    let chain = context.old.view;
     let last = chain.enc_id(chain.generations() - 1);
-    if own_guid(chain, delta, 4).as_slice() == last.as_slice() {
+    if own_guid(chain, context.delta, 4).as_slice() == last.as_slice() {
         None
     } else {
         Some(Place::Row(MODULE))
@@ -92,13 +92,13 @@ fn is_used<C: ChainView>(chain: &C, id: &[u8]) -> bool
     false
 }
 
-/// E4: its EncId is nil or was used.
-#[tactic(auto, unfolding(crate::specs::Rules::e4, enc_plain::specs::Chain::nil_guid))]
-pub fn e4<C: ChainView>(chain: &C, delta: &Delta) -> Option<Place>
-    ensures { result ≡ e4 (C.chain chain.now) delta.now }
+/// Its EncId is nil or was used.
+#[tactic(auto, unfolding(crate::specs::Rules::id_taken, enc_plain::specs::Chain::nil_guid))]
+pub fn id_taken<C: ChainView>(context: &Context<'_, C>) -> Option<Place>
+    ensures { result ≡ id_taken context.now.chain context.now.delta }
 {
-    let id = own_guid(chain, delta, 3);
-    if id.as_slice() == [0; 16].as_slice() || is_used(chain, id.as_slice()) {
+    let id = own_guid(context.old.view, context.delta, 3);
+    if id.as_slice() == [0; 16].as_slice() || is_used(context.old.view, id.as_slice()) {
         Some(Place::Row(MODULE))
     } else {
         None

@@ -1,106 +1,52 @@
 //! The joined heaps of a chain with the heaps of one file more behind them.
 ghost use Rattle.std.specs.Prelude.{◌≡◌, [], ◌∷◌, ◌++◌, is_some, option_copied};
-ghost use Rattle.enc_meta.specs.Joined.{joined_text, joined_blob, joined_user, joined_guid};
-ghost use Rattle.enc_delta.specs.Totals.{totals_of};
+ghost use Rattle.enc_meta.specs.HeapKinds.{joined_at};
+ghost use Rattle.enc_meta.specs.Joined.{joined_text, joined_guid, joined_lengths};
 
-use crate::heap_rule::HeapTotals;
-use enc_meta::Heaps;
+use enc_meta::{Heap, HeapLengths, Heaps};
 use enc_plain::ChainView;
 
-/// The text at an offset of the joined `#Strings` with one heap more behind the chain's, None where
-/// the offset isn't good. `before` has the lengths of the chain's joined heaps.
-#[tactic(auto)]
-pub fn text_after<'a, C: ChainView>(
+/// The entry at an offset of a joined heap with one heap more behind the chain's, None where the
+/// offset isn't good. `before` has the lengths of the chain's joined heaps.
+pub fn entry_after<'a, C: ChainView>(
     chain: &'a C,
     heaps: &Heaps<'a>,
-    before: &HeapTotals,
+    before: &HeapLengths,
+    heap: Heap,
     offset: u32,
 ) -> Option<&'a [u8]>
-    requires tied { before.now ≡ totals_of (C.chain chain.now).heaps }
-    ensures { option_copied result ≡ joined_text ((C.chain chain.now).heaps ++ heaps.now ∷ []) offset }
+    requires tied { before.now ≡ joined_lengths (C.chain chain.now).heaps }
+    ensures { option_copied result ≡ joined_at heap ((C.chain chain.now).heaps ++ heaps.now ∷ []) offset }
 {
     if offset == 0 {
         return Some(&[]);
     }
-    let strings = before.strings;
-    if u64::from(offset) < strings {
-        return chain.text_at(offset);
+    let older = before.of(heap);
+    if offset < older {
+        return chain.entry_at(heap, offset);
     }
-    heaps.text_entry(offset - strings as u32)
+    heaps.entry(heap, offset - older)
 }
 
 /// Whether a text stands at an offset of the joined `#Strings` with one heap more behind the
 /// chain's. It reads no text. `before` has the lengths of the chain's joined heaps.
-#[tactic(auto)]
 pub fn has_text_after<C: ChainView>(
     chain: &C,
     heaps: &Heaps<'_>,
-    before: &HeapTotals,
+    before: &HeapLengths,
     offset: u32,
 ) -> bool
-    requires tied { before.now ≡ totals_of (C.chain chain.now).heaps }
+    requires tied { before.now ≡ joined_lengths (C.chain chain.now).heaps }
     ensures { result ≡ is_some (joined_text ((C.chain chain.now).heaps ++ heaps.now ∷ []) offset) }
 {
     if offset == 0 {
         return true;
     }
     let strings = before.strings;
-    if u64::from(offset) < strings {
+    if offset < strings {
         return chain.has_text(offset);
     }
-    heaps.has_text_entry(offset - strings as u32)
-}
-
-/// The bytes at an offset of the joined `#Blob` with one heap more behind the chain's, None where
-/// the offset isn't good. `before` has the lengths of the chain's joined heaps.
-#[tactic(auto)]
-pub fn blob_after<'a, C: ChainView>(
-    chain: &'a C,
-    heaps: &Heaps<'a>,
-    before: &HeapTotals,
-    offset: u32,
-) -> Option<&'a [u8]>
-    requires tied { before.now ≡ totals_of (C.chain chain.now).heaps }
-    ensures { option_copied result ≡ joined_blob ((C.chain chain.now).heaps ++ heaps.now ∷ []) offset }
-{
-    if offset == 0 {
-        return Some(&[]);
-    }
-    let blobs = before.blobs;
-    if u64::from(offset) < blobs {
-        return chain.blob_at(offset);
-    }
-    let own = offset - blobs as u32;
-    if own as usize >= heaps.blobs().len() {
-        return None;
-    }
-    heaps.blob_entry(own)
-}
-
-/// The bytes of the UTF-16 units at an offset of the joined `#US` with one heap more behind the
-/// chain's, None where the offset isn't good. `before` has the lengths of the chain's joined heaps.
-#[tactic(auto)]
-pub fn user_after<'a, C: ChainView>(
-    chain: &'a C,
-    heaps: &Heaps<'a>,
-    before: &HeapTotals,
-    offset: u32,
-) -> Option<&'a [u8]>
-    requires tied { before.now ≡ totals_of (C.chain chain.now).heaps }
-    ensures { option_copied result ≡ joined_user ((C.chain chain.now).heaps ++ heaps.now ∷ []) offset }
-{
-    if offset == 0 {
-        return Some(&[]);
-    }
-    let users = before.users;
-    if u64::from(offset) < users {
-        return chain.user_at(offset);
-    }
-    let own = offset - users as u32;
-    if own as usize >= heaps.users().len() {
-        return None;
-    }
-    heaps.user_entry(own)
+    heaps.has_text_entry(offset - strings)
 }
 
 /// Entry k of the joined `#GUID` with one heap more: the chain's, or else that heap's.

@@ -4,12 +4,14 @@ ghost use Rattle.std.specs.List.Sorted.{IsStrictlyIncreasing};
 ghost use Rattle.enc_base.specs.Token.{number_of};
 ghost use Rattle.enc_base.specs.declared.refusal.Place.TheVariants.{Log};
 ghost use Rattle.enc_plain.specs.Chain.{Chain, rows_before};
+ghost use Rattle.enc_delta.specs.Judged.{late_token, skipped_row, unmatched_token, bad_entry, unowned_child};
 ghost use Rattle.enc_delta.specs.Lists.{AreTokens, AreEntries, parents, parent_in, next_is, is_pair};
 ghost use Rattle.enc_delta.specs.Rules.{at_token, lesser, least, late, late_fault, is_insert, insert_fault, counts, changed, stands_in, in_one, set_fault, inserts, rows_with, parent_table, child_table, log_fault, adds, child_fault_in, child_fault};
 
-use crate::after::is_insert;
+use crate::context::Context;
 use crate::copy::is_module;
 use crate::entry::Entry;
+use crate::known::is_insert;
 use enc_base::{Place, Token};
 use enc_plain::{ChainView, ModuleView};
 use std::alloc::{AllocError, Global};
@@ -55,17 +57,15 @@ fn least_late(listed: &[Token]) -> Option<u32>
 }
 
 /// The least token of EncMap that has one before it that isn't less.
-#[tactic(auto, unfolding(crate::specs::Rules::late_fault))]
-pub fn late_fault(listed: &[Token]) -> Option<Place>
-    requires { AreTokens listed.now }
-    ensures { result ≡ late_fault listed.now }
+#[tactic(auto, unfolding(crate::specs::Rules::late_fault, crate::specs::Judged::late_token))]
+pub fn late_token<C: ChainView>(context: &Context<'_, C>) -> Option<Place>
+    ensures { result ≡ late_token context.now.chain context.now.delta }
 {
-    placed(least_late(listed))
+    placed(least_late(context.tokens()))
 }
 
 /// Whether a token is the next row after those before and some inserts.
 fn is_next<C: ChainView>(chain: &C, inserts: u32, token: Token) -> bool
-    requires means { C.meaning chain.now ≡ (C.chain chain.now).plain }
     ensures { result ≡ (token.row == rows_before (C.chain chain.now) token.table + inserts + 1) }
 {
     u64::from(token.row) == u64::from(chain.count(token.table)) + u64::from(inserts) + 1
@@ -81,8 +81,7 @@ fn none_seen() -> [u32; 256]
 
 /// The first insert that isn't the next row of its table.
 #[tactic(auto, unfolding(crate::specs::Rules::insert_fault))]
-pub fn insert_fault<C: ChainView>(chain: &C, listed: &[Token]) -> Option<Place>
-    requires means { C.meaning chain.now ≡ (C.chain chain.now).plain }
+fn insert_fault<C: ChainView>(chain: &C, listed: &[Token]) -> Option<Place>
     ensures { result ≡ insert_fault (C.chain chain.now) listed.now }
 {
     let mut seen = none_seen();
@@ -97,6 +96,14 @@ pub fn insert_fault<C: ChainView>(chain: &C, listed: &[Token]) -> Option<Place>
         }
     }
     None
+}
+
+/// The first new row that isn't the next of its table.
+#[tactic(auto, unfolding(crate::specs::Judged::skipped_row))]
+pub fn skipped_row<C: ChainView>(context: &Context<'_, C>) -> Option<Place>
+    ensures { result ≡ skipped_row context.now.chain context.now.delta }
+{
+    insert_fault(context.old.view, context.tokens())
 }
 
 /// Whether an entry counts: its token isn't the Module's.
@@ -114,7 +121,7 @@ fn is_change(entry: Entry) -> bool
 }
 
 /// The tokens of the entries with code 0.
-pub fn changed_of(alloc: Global, log: &[Entry]) -> Result<Vec<Token>, AllocError>
+fn changed_of(alloc: Global, log: &[Entry]) -> Result<Vec<Token>, AllocError>
     requires rows { AreEntries log.now }
     ensures tokens { IfOk result (λ l. l.items ≡ changed log.now) }
     ensures rows { IfOk result (λ l. AreTokens l.items) }
@@ -177,7 +184,7 @@ fn least_apart(left: &[u32], right: &[u32]) -> Option<u32>
 }
 
 /// The least token that stands in EncMap alone or with code 0 in the log alone.
-pub fn set_fault(
+fn set_fault(
     alloc: Global,
     listed: &[Token],
     changed: &[Token],
@@ -191,9 +198,21 @@ pub fn set_fault(
     Ok(placed(least_apart(&left, &right)))
 }
 
+/// The least token that stands in EncMap alone or with code 0 in the log alone. It takes memory for
+/// both sets.
+#[tactic(auto, unfolding(crate::specs::Judged::unmatched_token))]
+pub fn unmatched_token<C: ChainView>(
+    alloc: Global,
+    context: &Context<'_, C>,
+) -> Result<Option<Place>, AllocError>
+    ensures { IfOk result (λ p. p ≡ unmatched_token context.now.chain context.now.delta) }
+{
+    let changed = changed_of(alloc, context.log())?;
+    set_fault(alloc, context.tokens(), &changed)
+}
+
 /// Whether a token is an insert into a table.
 fn is_insert_into<C: ChainView>(chain: &C, token: Token, table: u8) -> bool
-    requires means { C.meaning chain.now ≡ (C.chain chain.now).plain }
     ensures { result ≡ (token.table == table && is_insert (C.chain chain.now) token) }
 {
     token.table == table && is_insert(chain, token)
@@ -201,7 +220,6 @@ fn is_insert_into<C: ChainView>(chain: &C, token: Token, table: u8) -> bool
 
 /// How many of the tokens are inserts into a table.
 fn inserts<C: ChainView>(chain: &C, listed: &[Token], table: u8) -> u64
-    requires means { C.meaning chain.now ≡ (C.chain chain.now).plain }
     ensures number { result ≡ inserts (C.chain chain.now) listed.now table }
     ensures few { result ≤ length listed.now }
 {
@@ -218,7 +236,6 @@ fn inserts<C: ChainView>(chain: &C, listed: &[Token], table: u8) -> u64
 /// How many rows a table has after the delta.
 #[tactic(auto, unfolding(crate::specs::Rules::rows_with))]
 fn rows_with<C: ChainView>(chain: &C, listed: &[Token], table: u8) -> u64
-    requires means { C.meaning chain.now ≡ (C.chain chain.now).plain }
     ensures { result ≡ rows_with (C.chain chain.now) listed.now table }
 {
     u64::from(chain.count(table)) + inserts(chain, listed, table)
@@ -226,7 +243,6 @@ fn rows_with<C: ChainView>(chain: &C, listed: &[Token], table: u8) -> u64
 
 /// By code, how many rows the parent's table of an Add entry has after the delta.
 fn parents<C: ChainView>(chain: &C, listed: &[Token]) -> [u64; 6]
-    requires means { C.meaning chain.now ≡ (C.chain chain.now).plain }
     ensures { result ≡ parents (C.chain chain.now) listed.now }
 {
     let types = rows_with(chain, listed, 0x02);
@@ -297,7 +313,6 @@ fn is_pair<C: ChainView>(
     log: &[Entry],
     from: usize,
 ) -> bool
-    requires means { C.meaning chain.now ≡ (C.chain chain.now).plain }
     requires code { entry.code ≤ 5 }
     requires from { from ≤ length log.now }
     ensures { result ≡ is_pair (C.chain chain.now) parents.now pairs (drop from log.now) entry }
@@ -320,8 +335,7 @@ fn log_place(k: usize) -> Place
 
 /// The first entry of the log that counts and is neither a change nor an Add entry with its parent
 /// and its child.
-pub fn log_fault<C: ChainView>(chain: &C, listed: &[Token], log: &[Entry]) -> Option<Place>
-    requires means { C.meaning chain.now ≡ (C.chain chain.now).plain }
+fn log_fault<C: ChainView>(chain: &C, listed: &[Token], log: &[Entry]) -> Option<Place>
     requires few { length log.now < 2 ^ 32 }
     ensures { result ≡ log_fault (C.chain chain.now) listed.now log.now }
 {
@@ -343,6 +357,14 @@ pub fn log_fault<C: ChainView>(chain: &C, listed: &[Token], log: &[Entry]) -> Op
         }
     }
     None
+}
+
+/// The first entry of the log that isn't in order.
+#[tactic(auto, unfolding(crate::specs::Judged::bad_entry))]
+pub fn bad_entry<C: ChainView>(context: &Context<'_, C>) -> Option<Place>
+    ensures { result ≡ bad_entry context.now.chain context.now.delta }
+{
+    log_fault(context.old.view, context.tokens(), context.log())
 }
 
 /// How many Add entries have a code.
@@ -373,7 +395,6 @@ fn child_fault_in<C: ChainView>(
     log: &[Entry],
     code: u32,
 ) -> Option<Place>
-    requires means { C.meaning chain.now ≡ (C.chain chain.now).plain }
     requires rows { AreTokens listed.now }
     requires inserts { insert_fault (C.chain chain.now) listed.now ≡ None }
     requires log { log_fault (C.chain chain.now) listed.now log.now ≡ None }
@@ -392,8 +413,7 @@ fn child_fault_in<C: ChainView>(
 
 /// The first new row of a table of children without its one Add entry.
 #[tactic(auto, unfolding(crate::specs::Rules::child_fault))]
-pub fn child_fault<C: ChainView>(chain: &C, listed: &[Token], log: &[Entry]) -> Option<Place>
-    requires means { C.meaning chain.now ≡ (C.chain chain.now).plain }
+fn child_fault<C: ChainView>(chain: &C, listed: &[Token], log: &[Entry]) -> Option<Place>
     requires rows { AreTokens listed.now }
     requires inserts { insert_fault (C.chain chain.now) listed.now ≡ None }
     requires log { log_fault (C.chain chain.now) listed.now log.now ≡ None }
@@ -412,4 +432,15 @@ pub fn child_fault<C: ChainView>(chain: &C, listed: &[Token], log: &[Entry]) -> 
         return Some(fault);
     }
     child_fault_in(chain, listed, log, 4)
+}
+
+/// The first new row of a table of children without its one Add entry, where the new rows and the
+/// log are in order.
+#[tactic(auto, unfolding(crate::specs::Judged::unowned_child, crate::specs::Judged::skipped_row, crate::specs::Judged::bad_entry))]
+pub fn unowned_child<C: ChainView>(context: &Context<'_, C>) -> Option<Place>
+    requires inserts { skipped_row context.now.chain context.now.delta ≡ None }
+    requires log { bad_entry context.now.chain context.now.delta ≡ None }
+    ensures { result ≡ unowned_child context.now.chain context.now.delta }
+{
+    child_fault(context.old.view, context.tokens(), context.log())
 }

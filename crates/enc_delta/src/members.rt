@@ -1,21 +1,21 @@
-//! Judging new fields and methods by the types that gain them (E18, E19), and new members by their
-//! siblings (E20).
+//! Judging new fields and methods by the types that gain them , and new members by their
+//! siblings.
 ghost use Rattle.std.specs.Prelude.{◌≡◌, ◌<◌, ◌==◌, ◌&&◌, ◌||◌, not, map, unwrap_or, IfOk, IsTrue};
 ghost use Rattle.enc_plain.specs.Rows.{bytes_at};
 ghost use Rattle.enc_plain.specs.Signatures.{signature_column};
 ghost use Rattle.enc_delta.specs.Gains.{breaks, has_signature};
 ghost use Rattle.enc_delta.specs.Rules.{is_insert};
 ghost use Rattle.enc_opcodes.specs.Body.{has_flag};
-ghost use Rattle.enc_delta.specs.After.{joined_rows};
+ghost use Rattle.enc_delta.specs.Context.{joined_rows};
 ghost use Rattle.enc_delta.specs.Pairs.{attached_of};
 ghost use Rattle.enc_delta.specs.Members.{pair_seen, ArePairs};
-ghost use Rattle.enc_delta.specs.Changes.{is_value_type, has_layout, breaks_layout, breaks_slots, least_child, is_member, asked_of, name_column, same_signature, e18, e19, e20};
+ghost use Rattle.enc_delta.specs.Changes.{is_value_type, has_layout, breaks_layout, breaks_slots, least_child, is_member, asked_of, name_column, same_signature, field_out_of_layout, method_without_slot, twin_member};
 
-use crate::after::is_insert;
 use crate::lists::{lesser, placed};
 use crate::pairs::Pair;
-use crate::rows::RowsAfter;
 use crate::twins::{Members, twin_fault};
+use crate::context::Context;
+use crate::known::is_insert;
 use enc_base::{Place, Token};
 use enc_plain::{CellView, ChainView, signatures_alike};
 use std::alloc::{AllocError, Global};
@@ -52,89 +52,84 @@ fn is_laid_out<R: CellView>(rows: &R, owner: Token) -> bool
 }
 
 /// The pair gives a child of a table to a type that was there.
-fn gives_to_old<C: ChainView>(rows: &RowsAfter<'_, C>, pair: Pair, table: u8) -> bool
-    ensures given { result ≡ (pair.child.table == table && pair.owner.table == 0x02 && not (is_insert rows.now.chain pair.owner)) }
+fn gives_to_old<C: ChainView>(context: &Context<'_, C>, pair: Pair, table: u8) -> bool
+    ensures given { result ≡ (pair.child.table == table && pair.owner.table == 0x02 && not (is_insert context.now.chain pair.owner)) }
     ensures child { IsTrue result → pair.child.table ≡ table }
     ensures owner { IsTrue result → pair.owner.table ≡ 0x02 }
 {
-    pair.child.table == table && pair.owner.table == 0x02 && !is_insert(rows.old.view, pair.owner)
+    pair.child.table == table && pair.owner.table == 0x02 && !is_insert(context.old.view, pair.owner)
 }
 
 /// A new field that isn't static, in a type that was there and is laid out.
 #[tactic(auto, using(crate::proofs::MemberKinds::field_flags), unfolding(crate::specs::Changes::breaks_layout))]
-fn breaks_layout<C: ChainView>(rows: &RowsAfter<'_, C>, pair: Pair) -> bool
-    ensures { result ≡ breaks_layout rows.now.chain rows.now.delta (pair_seen pair) }
+fn breaks_layout<C: ChainView>(context: &Context<'_, C>, pair: Pair) -> bool
+    ensures { result ≡ breaks_layout context.now.chain context.now.delta (pair_seen pair) }
 {
-    gives_to_old(rows, pair, 0x04)
-        && !has_flag(0x10, rows.number(pair.child, 0))
-        && is_laid_out(rows, pair.owner)
+    gives_to_old(context, pair, 0x04)
+        && !has_flag(0x10, context.number(pair.child, 0))
+        && is_laid_out(context, pair.owner)
 }
 
 /// A new virtual method in an interface that was there, or a new abstract one in a type that was.
 #[tactic(auto, using(crate::proofs::MemberKinds::method_flags, crate::proofs::MemberKinds::type_flags), unfolding(crate::specs::Changes::breaks_slots))]
-fn breaks_slots<C: ChainView>(rows: &RowsAfter<'_, C>, pair: Pair) -> bool
-    ensures { result ≡ breaks_slots rows.now.chain rows.now.delta (pair_seen pair) }
+fn breaks_slots<C: ChainView>(context: &Context<'_, C>, pair: Pair) -> bool
+    ensures { result ≡ breaks_slots context.now.chain context.now.delta (pair_seen pair) }
 {
-    if !gives_to_old(rows, pair, 0x06) {
+    if !gives_to_old(context, pair, 0x06) {
         return false;
     }
-    let flags = rows.number(pair.child, 2);
-    has_flag(0x40, flags) && (has_flag(0x20, rows.number(pair.owner, 0)) || has_flag(0x400, flags))
+    let flags = context.number(pair.child, 2);
+    has_flag(0x40, flags) && (has_flag(0x20, context.number(pair.owner, 0)) || has_flag(0x400, flags))
 }
 
 /// Which gains are judged.
 #[derive(Clone, Copy, Debug, PartialEq, Eq)]
 enum Gain {
-    /// E18: fields of types that are laid out.
+    /// Fields of types that are laid out.
     Field,
-    /// E19: methods that take a place among a type's virtual ones.
+    /// Methods that take a place among a type's virtual ones.
     Method,
 }
 
 /// The pair breaks the rule.
-fn breaks<C: ChainView>(rows: &RowsAfter<'_, C>, gain: Gain, pair: Pair) -> bool
-    ensures { result ≡ breaks rows.now gain (pair_seen pair) }
+fn breaks<C: ChainView>(context: &Context<'_, C>, gain: Gain, pair: Pair) -> bool
+    ensures { result ≡ breaks context.now gain (pair_seen pair) }
 {
     match gain {
-        Gain::Field => breaks_layout(rows, pair),
-        Gain::Method => breaks_slots(rows, pair),
+        Gain::Field => breaks_layout(context, pair),
+        Gain::Method => breaks_slots(context, pair),
     }
 }
 
 /// The least child whose pair breaks the rule.
-fn least_child<C: ChainView>(rows: &RowsAfter<'_, C>, gain: Gain, pairs: &[Pair]) -> Option<Place>
-    requires pairs { map pair_seen pairs.now ≡ attached_of rows.now.delta }
-    requires few { ArePairs pairs.now }
-    ensures { result ≡ least_child (breaks rows.now gain) rows.now.delta }
+fn least_child<C: ChainView>(context: &Context<'_, C>, gain: Gain) -> Option<Place>
+    ensures { result ≡ least_child (breaks context.now gain) context.now.delta }
 {
     let mut best: Option<u32> = None;
+    let pairs = context.pairs();
     for k in 0..pairs.len() {
         let pair = pairs[k];
-        if breaks(rows, gain, pair) {
+        if breaks(context, gain, pair) {
             best = Some(lesser(pair.child.number(), best));
         }
     }
     placed(best)
 }
 
-/// E18: the least new field that isn't static, in a type that was there and is laid out.
-#[tactic(auto, unfolding(crate::specs::Changes::e18))]
-pub fn e18<C: ChainView>(rows: &RowsAfter<'_, C>, pairs: &[Pair]) -> Option<Place>
-    requires pairs { map pair_seen pairs.now ≡ attached_of rows.now.delta }
-    requires few { ArePairs pairs.now }
-    ensures { result ≡ e18 rows.now.chain rows.now.delta }
+/// The least new field that isn't static, in a type that was there and is laid out.
+#[tactic(auto, unfolding(crate::specs::Changes::field_out_of_layout))]
+pub fn field_out_of_layout<C: ChainView>(context: &Context<'_, C>) -> Option<Place>
+    ensures { result ≡ field_out_of_layout context.now.chain context.now.delta }
 {
-    least_child(rows, Gain::Field, pairs)
+    least_child(context, Gain::Field)
 }
 
-/// E19: the least new method that takes a place in a type that was there.
-#[tactic(auto, unfolding(crate::specs::Changes::e19))]
-pub fn e19<C: ChainView>(rows: &RowsAfter<'_, C>, pairs: &[Pair]) -> Option<Place>
-    requires pairs { map pair_seen pairs.now ≡ attached_of rows.now.delta }
-    requires few { ArePairs pairs.now }
-    ensures { result ≡ e19 rows.now.chain rows.now.delta }
+/// The least new method that takes a place in a type that was there.
+#[tactic(auto, unfolding(crate::specs::Changes::method_without_slot))]
+pub fn method_without_slot<C: ChainView>(context: &Context<'_, C>) -> Option<Place>
+    ensures { result ≡ method_without_slot context.now.chain context.now.delta }
 {
-    least_child(rows, Gain::Method, pairs)
+    least_child(context, Gain::Method)
 }
 
 /// The column of a member's name.
@@ -171,7 +166,7 @@ fn same_signature<R: CellView>(rows: &R, member: Token, other: Token) -> bool
     signatures_alike(rows, member.table, left, right)
 }
 
-impl<C: ChainView> Members for RowsAfter<'_, C> {
+impl<C: ChainView> Members for Context<'_, C> {
     ghost asked = { λ r. asked_of (joined_rows r) };
 
     #[tactic(auto, using(crate::proofs::MemberKinds::field_flags, crate::proofs::MemberKinds::method_flags), unfolding(crate::specs::Changes::is_member))]
@@ -193,17 +188,14 @@ impl<C: ChainView> Members for RowsAfter<'_, C> {
     }
 }
 
-/// E20: the least new member with a sibling of equal name and, but for an event, alike signature. It
+/// The least new member with a sibling of equal name and, but for an event, alike signature. It
 /// takes memory for each new member and each old one beside it.
-#[tactic(auto, unfolding(crate::specs::Changes::e20))]
-pub fn e20<C: ChainView>(
+#[tactic(auto, unfolding(crate::specs::Changes::twin_member))]
+pub fn twin_member<C: ChainView>(
     alloc: Global,
-    rows: &RowsAfter<'_, C>,
-    pairs: &[Pair],
+    context: &Context<'_, C>,
 ) -> Result<Option<Place>, AllocError>
-    requires pairs { map pair_seen pairs.now ≡ attached_of rows.now.delta }
-    requires few { ArePairs pairs.now }
-    ensures { IfOk result (λ p. p ≡ e20 rows.now.chain rows.now.delta) }
+    ensures { IfOk result (λ p. p ≡ twin_member context.now.chain context.now.delta) }
 {
-    twin_fault(alloc, rows.old.view, rows, pairs)
+    twin_fault(alloc, context.old.view, context, context.pairs())
 }

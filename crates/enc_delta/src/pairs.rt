@@ -1,10 +1,13 @@
 //! The children that a delta's log gives to their owners.
 ghost use Rattle.std.specs.Prelude.{◌≡◌, ◌++◌, map, IfOk};
-ghost use Rattle.enc_delta.specs.Members.{pair_seen, pair_behind};
-ghost use Rattle.enc_delta.specs.Pairs.{pairs_in};
+ghost use Rattle.enc_delta.specs.Delta.{log_in};
+ghost use Rattle.enc_delta.specs.Lists.{AreEntries};
+ghost use Rattle.enc_delta.specs.Members.{pair_seen, pair_behind, ArePairs};
+ghost use Rattle.enc_delta.specs.Pairs.{pairs_in, attached_of};
 ghost use Rattle.enc_delta.specs.Rules.{counted, is_add};
 
 use crate::copy::is_module;
+use crate::delta::Delta;
 use crate::entry::Entry;
 use enc_base::Token;
 use std::alloc::{AllocError, Global};
@@ -42,7 +45,7 @@ fn add_pair(pairs: &mut Vec<Pair>, last: Option<Entry>, entry: Entry) -> Result<
 
 /// The children of the Add entries with their owners, in the order of the log; the Module's entries
 /// are passed over.
-pub fn pairs_of(alloc: Global, log: &[Entry]) -> Result<Vec<Pair>, AllocError>
+fn pairs_of(alloc: Global, log: &[Entry]) -> Result<Vec<Pair>, AllocError>
     ensures { IfOk result (λ p. map pair_seen p.items ≡ pairs_in (counted log.now)) }
 {
     let mut pairs = Vec::new(alloc);
@@ -55,4 +58,16 @@ pub fn pairs_of(alloc: Global, log: &[Entry]) -> Result<Vec<Pair>, AllocError>
         }
     }
     Ok(pairs)
+}
+
+/// The children that the Add entries of a delta's log give to their owners.
+#[tactic(auto, using(crate::proofs::PairsIn::pairs_fit), unfolding(crate::specs::Pairs::attached_of))]
+pub fn attached_of(alloc: Global, delta: &Delta, log: &[Entry]) -> Result<Vec<Pair>, AllocError>
+    requires log { log.now ≡ log_in delta.now }
+    requires rows { AreEntries log.now }
+    ensures pairs { IfOk result (λ p. map pair_seen p.items ≡ attached_of delta.now) }
+    ensures few { IfOk result (λ p. ArePairs p.items) }
+{
+    let _ = delta;
+    pairs_of(alloc, log)
 }

@@ -53,7 +53,6 @@ fn grouped<M: Members>(alloc: Global, members: &M, pairs: &[Pair]) -> Result<Vec
 /// The rows of the old members beside a pair's child.
 #[tactic(auto, unfolding(crate::specs::Members::old_rows, enc_plain::specs::Module::kids_of))]
 fn old_rows<C: ChainView>(alloc: Global, chain: &C, pair: Pair) -> Result<Vec<u32>, AllocError>
-    requires means { C.meaning chain.now ≡ (C.chain chain.now).plain }
     ensures { IfOk result (λ l. l.items ≡ old_rows (C.chain chain.now).plain pair) }
 {
     let table = pair.child.table;
@@ -93,7 +92,6 @@ fn add_old<C: ChainView>(
     all: &mut Vec<Pair>,
     pair: Pair,
 ) -> Result<(), AllocError>
-    requires means { C.meaning chain.now ≡ (C.chain chain.now).plain }
     ensures { IfOk result (λ _. all.new.items ≡ all.old.items ++ map (row_beside pair) (old_rows (C.chain chain.now).plain pair)) }
 {
     let rows = old_rows(alloc, chain, pair)?;
@@ -108,7 +106,6 @@ fn add_all_old<C: ChainView>(
     all: &mut Vec<Pair>,
     pairs: &[Pair],
 ) -> Result<(), AllocError>
-    requires means { C.meaning chain.now ≡ (C.chain chain.now).plain }
     ensures { IfOk result (λ _. AreAdded (C.chain chain.now).plain all.old.items pairs.now all.new.items) }
 {
     let mut last: Option<Pair> = None;
@@ -129,7 +126,6 @@ pub fn members_of<C: ChainView, M: Members>(
     members: &M,
     pairs: &[Pair],
 ) -> Result<Vec<Pair>, AllocError>
-    requires means { C.meaning chain.now ≡ (C.chain chain.now).plain }
     ensures { IfOk result (λ all. AreMembers (M.asked members.now) (C.chain chain.now).plain pairs.now all.items) }
 {
     let grouped = grouped(alloc, members, pairs)?;

@@ -116,7 +116,6 @@ pub fn twin_fault<C: ChainView, M: Members>(
     members: &M,
     pairs: &[Pair],
 ) -> Result<Option<Place>, AllocError>
-    requires means { C.meaning chain.now ≡ (C.chain chain.now).plain }
     requires rows { ArePairs pairs.now }
     ensures { IfOk result (λ p. p ≡ twin_fault (M.asked members.now) (C.chain chain.now).plain (map pair_seen pairs.now)) }
 {

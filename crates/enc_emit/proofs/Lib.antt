@@ -3,3 +3,4 @@ pub mod Names
 pub mod Five
 pub mod Good
 pub mod Read
+pub mod Little

@@ -6,6 +6,7 @@ use Rattle.enc_meta.specs.Root.{padded, root_of}
 use Rattle.enc_meta.specs.Heaps.{Counted, counted_strings, heaps_of, part}
 use Rattle.enc_meta.specs.Built.{Built, heaps_built}
 use Rattle.enc_meta.specs.declared.root.Root.{Root}
+use Rattle.enc_schema.specs.Tables.{field_ptr, method_ptr, param_ptr, event_ptr, property_ptr}
 use Rattle.enc_rows.specs.Written.{count_at, stream_of, heap_bits}
 
 -- what a root is built from: its heaps, and the rows of its tables
@@ -27,7 +28,8 @@ version = codes "v4.0.30319" ++ replicate 2 0
 
 -- the root's header up to the streams' headers: the magic, version 1.1, the version's length and text, and so many streams (II.24.2.1)
 unfoldable pub front_written : ℕ → List ℕ
-front_written count = codes "BSJB" ++ to_le_bytes w16 1 ++ to_le_bytes w16 1 ++ to_le_bytes w32 0 ++ to_le_bytes w32 12 ++ version ++ to_le_bytes w16 0 ++ to_le_bytes w16 count
+front_written count = codes "BSJB" ++ to_le_bytes w16 1 ++ to_le_bytes w16 1 ++ to_le_bytes w32 0 ++ to_le_bytes w32 12 ++ version ++ to_le_bytes w16 0
+    ++ to_le_bytes w16 count
 
 -- where the streams begin: behind the header's 32 bytes, the 76 of five streams' headers, and the 16 of that of `#JTD`
 abbrev pub streams_begin : Bool → ℕ
@@ -75,7 +77,7 @@ root_written jtd uncompressed stream h =
 
 -- a Ptr table has rows
 unfoldable pub has_ptr_rows : List (List (List ℕ)) → Bool
-has_ptr_rows rows = list_any (λ table. nat_lt 0 (count_at rows table)) (0x03 ∷ 0x05 ∷ 0x07 ∷ 0x13 ∷ 0x16 ∷ [])
+has_ptr_rows rows = list_any (λ table. nat_lt 0 (count_at rows table)) (field_ptr ∷ method_ptr ∷ param_ptr ∷ event_ptr ∷ property_ptr ∷ [])
 
 -- the root with `#JTD`, for a delta, or without; the tables of a delta, and those with Ptr rows, are in the uncompressed form
 unfoldable pub root_built : Parts → Bool → List ℕ
@@ -94,4 +96,6 @@ pub record HoldsStreams (bytes : List ℕ) (jtd uncompressed : Bool) (stream : L
 
 -- a root that was written is read back, where every byte of its texts counts
 abbrev pub RootIsRead : Type 0
-RootIsRead = (jtd uncompressed : Bool) (stream : List ℕ) (h : Counted) → root_size jtd stream h < 2 ^ 32 → counted_strings h.strings ≡ h.strings → (root : Root) × (root_of (root_written jtd uncompressed stream h) ≡ Ok root) × HoldsStreams (root_written jtd uncompressed stream h) jtd uncompressed stream h root
+RootIsRead = (jtd uncompressed : Bool) (stream : List ℕ) (h : Counted) → root_size jtd stream h < 2 ^ 32 → counted_strings h.strings ≡ h.strings
+    → (root : Root) × (root_of (root_written jtd uncompressed stream h) ≡ Ok root)
+    × HoldsStreams (root_written jtd uncompressed stream h) jtd uncompressed stream h root

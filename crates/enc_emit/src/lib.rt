@@ -7,3 +7,6 @@ mod written;
 
 pub use laws::root_law;
 pub use root::RootBuilder;
+
+#[cfg(test)]
+mod tests;

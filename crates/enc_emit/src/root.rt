@@ -7,6 +7,7 @@ ghost use Rattle.enc_emit.specs.Written.{has_ptr_rows as ptrs_have_rows, root_bu
 use crate::written::root_bytes;
 use enc_meta::{HeapBuilder, HeapLengths};
 use enc_rows::{TableBuilder, heap_bits_law};
+use enc_schema::tables::{EVENT_PTR, FIELD_PTR, METHOD_PTR, PARAM_PTR, PROPERTY_PTR};
 use std::alloc::{AllocError, Global};
 use std::marker::Model;
 
@@ -30,11 +31,11 @@ impl Model for RootBuilder {
 fn has_ptr_rows(tables: &TableBuilder) -> bool
     ensures { result ≡ ptrs_have_rows tables.now }
 {
-    tables.count(0x03) > 0
-        || tables.count(0x05) > 0
-        || tables.count(0x07) > 0
-        || tables.count(0x13) > 0
-        || tables.count(0x16) > 0
+    tables.count(FIELD_PTR) > 0
+        || tables.count(METHOD_PTR) > 0
+        || tables.count(PARAM_PTR) > 0
+        || tables.count(EVENT_PTR) > 0
+        || tables.count(PROPERTY_PTR) > 0
 }
 
 /// Whether the tables are in the uncompressed form.

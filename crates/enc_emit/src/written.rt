@@ -5,6 +5,7 @@ ghost use Rattle.enc_meta.specs.Root.{padded as fours_of};
 ghost use Rattle.enc_meta.specs.BuiltSeen.{heap_bytes_seen};
 ghost use Rattle.enc_emit.specs.Written.{in_fours, header_written, front_written, streams_begin as begin_of, root_size, table_name as name_of_tables, jtd_written, headers_written, root_written};
 
+use enc_base::{push_half, push_word, push_zeros};
 use enc_meta::HeapBytes;
 use std::alloc::{AllocError, Global};
 
@@ -17,15 +18,6 @@ fn padded(n: usize) -> usize
     ensures near { result < n + 4 }
 {
     (n + 3) / 4 * 4
-}
-
-/// Appends zeros.
-fn push_zeros(count: usize, out: &mut Vec<u8>) -> Result<(), AllocError>
-    requires { count < 2 ^ 32 }
-    ensures { OnOk result (out.new.items ≡ out.old.items ++ replicate count 0) }
-{
-    let len = out.len();
-    out.resize(len + count, 0)
 }
 
 /// Appends bytes with zeros up to a multiple of four.
@@ -45,8 +37,8 @@ fn push_header(name: &[u8], start: usize, size: usize, out: &mut Vec<u8>) -> Res
     requires size { size < 2 ^ 32 }
     ensures { OnOk result (out.new.items ≡ out.old.items ++ header_written name.now start size) }
 {
-    out.extend_from_slice(&(start as u32).to_le_bytes())?;
-    out.extend_from_slice(&(size as u32).to_le_bytes())?;
+    push_word(start as u32, out)?;
+    push_word(size as u32, out)?;
     out.extend_from_slice(name)?;
     push_zeros(padded(name.len() + 1) - name.len(), out)
 }
@@ -60,7 +52,7 @@ fn push_front(count: u16, out: &mut Vec<u8>) -> Result<(), AllocError>
     out.extend_from_slice(&[1, 0, 1, 0, 0, 0, 0, 0, 12, 0, 0, 0])?;
     out.extend_from_slice("v4.0.30319".as_bytes())?;
     out.extend_from_slice(&[0, 0, 0, 0])?;
-    out.extend_from_slice(&count.to_le_bytes())
+    push_half(count, out)
 }
 
 /// Where the streams begin.

@@ -12,4 +12,5 @@ ReadIsChain = (code : List ℕ) → end_of code 0 ≡ length code → IsChain (i
 
 -- and what stands one behind the other, up to the end of the code, is what is read
 abbrev pub ChainIsRead : Type 0
-ChainIsRead = (code : List ℕ) (all : List (ℕ × Instruction ℕ)) → IsChain (instr_in code) (length code) 0 all → (all ≡ instructions_of code) × (end_of code 0 ≡ length code)
+ChainIsRead = (code : List ℕ) (all : List (ℕ × Instruction ℕ)) → IsChain (instr_in code) (length code) 0 all → (all ≡ instructions_of code)
+    × (end_of code 0 ≡ length code)

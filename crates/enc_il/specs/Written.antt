@@ -34,7 +34,8 @@ section_written more clauses = (if more then 0xC1 else 0x41) ∷ (size_bytes (4 
 -- sections with all clauses, each with as many as it takes; each takes one, so there are at most as many as clauses
 unfoldable pub sections_for : ℕ → List Clause → List ℕ
 sections_for zero clauses = []
-sections_for (suc n) clauses = if nat_le (length clauses) most_clauses then section_written false clauses else section_written true (take most_clauses clauses) ++ sections_for n (drop most_clauses clauses)
+sections_for (suc n) clauses = if nat_le (length clauses) most_clauses then section_written false clauses
+    else section_written true (take most_clauses clauses) ++ sections_for n (drop most_clauses clauses)
 
 -- without clauses there is no section
 unfoldable pub sections_written : List Clause → List ℕ
@@ -90,15 +91,18 @@ pub record IsWritable (c : Code) : Type 0 where
 
 -- a clause whose numbers fit four bytes
 abbrev pub clause_fits : Clause → Bool
-clause_fits c = nat_lt c.kind (2 ^ 32) && nat_lt c.tries.0 (2 ^ 32) && nat_lt c.tries.1 (2 ^ 32) && nat_lt c.handler.0 (2 ^ 32) && nat_lt c.handler.1 (2 ^ 32) && nat_lt c.extra (2 ^ 32)
+clause_fits c = nat_lt c.kind (2 ^ 32) && nat_lt c.tries.0 (2 ^ 32) && nat_lt c.tries.1 (2 ^ 32) && nat_lt c.handler.0 (2 ^ 32)
+    && nat_lt c.handler.1 (2 ^ 32) && nat_lt c.extra (2 ^ 32)
 
 -- the body as it is read back: with its own sections, and its local signature nil where that names no row
 abbrev pub code_again : Code → List Clause → Code
 code_again c clauses = record { max = c.max; init = c.init; locals = nil_or c.locals; code = c.code; sections = sections_written clauses }
 
--- a written body is read back, whatever stands before and behind it, and at whichever place of an image these bytes are, if that is a multiple of four as far from their front as it is from the image's
+-- a written body is read back, whatever stands before and behind it, at any place of an image that keeps the multiples of four
 abbrev pub BodyIsRead : Type 0
-BodyIsRead = (bytes rest : List ℕ) (c : Code) (clauses : List Clause) (first : ℕ) → IsWritable c → first % 4 ≡ 0 → body_at (with_body bytes c clauses ++ rest) (place_for (length bytes) c clauses) (first + place_for (length bytes) c clauses) ≡ Some (code_again c clauses)
+BodyIsRead = (bytes rest : List ℕ) (c : Code) (clauses : List Clause) (first : ℕ) → IsWritable c → first % 4 ≡ 0
+    → body_at (with_body bytes c clauses ++ rest) (place_for (length bytes) c clauses) (first + place_for (length bytes) c clauses)
+    ≡ Some (code_again c clauses)
 
 -- and its clauses are those that were written
 abbrev pub ClausesAreRead : Type 0

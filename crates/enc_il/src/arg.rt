@@ -1,11 +1,11 @@
 //! What stands behind an instruction's code (ECMA-335 III.1.9).
 ghost use Rattle.std.specs.Prelude.{◌≡◌, ◌<◌, ◌≤◌, ◌^◌, option_map, length, IfSome};
 ghost use Rattle.enc_opcodes.specs.declared.op.Operand.TheVariants as operand;
-ghost use Rattle.enc_opcodes.specs.Instruction.{arg_in, switch_in, widened as widened_byte, reached as reached_from};
+ghost use Rattle.enc_opcodes.specs.Instruction.{arg_in, switch_in, widened as widened_byte, target_at as target_from, are_reached as all_are_reached};
 ghost use Rattle.enc_il.specs.Seen.{operand_seen};
 
-use crate::bytes::{range_at, u8_at};
-use enc_base::{Token, u16_at, u32_at, u64_at};
+use crate::bytes::range_at;
+use enc_base::{Token, u8_at, u16_at, u32_at, u32_of, u64_at};
 use enc_opcodes::{Arg, Operand};
 
 /// A signed number of one byte.
@@ -89,11 +89,14 @@ fn widened(distance: u8) -> u32
     }
 }
 
-/// The offset at a signed distance from the end of an instruction.
-fn reached(end: u32, distance: u32) -> u32
-    ensures { result ≡ reached_from end distance }
+/// The offset at a signed distance from the end of an instruction, None where the sum isn't one.
+fn target_at(end: u32, distance: u32) -> Option<u32>
+    ensures { result ≡ target_from end distance }
 {
-    end.wrapping_add(distance)
+    if distance < 0x8000_0000 {
+        return end.checked_add(distance);
+    }
+    end.checked_sub(0xffff_ffff - distance + 1)
 }
 
 /// The target at a signed distance of one byte.
@@ -105,7 +108,8 @@ fn branch8_arg(code: &[u8], at: usize) -> Option<(Arg<'_>, usize)>
 {
     let distance = u8_at(code, at)?;
     let end = at + 1;
-    Some((Arg::Target(reached(end as u32, widened(distance))), end))
+    let target = target_at(end as u32, widened(distance))?;
+    Some((Arg::Target(target), end))
 }
 
 /// The target at a signed distance of four bytes.
@@ -117,18 +121,39 @@ fn branch32_arg(code: &[u8], at: usize) -> Option<(Arg<'_>, usize)>
 {
     let distance = u32_at(code, at)?;
     let end = at + 4;
-    Some((Arg::Target(reached(end as u32, distance)), end))
+    let target = target_at(end as u32, distance)?;
+    Some((Arg::Target(target), end))
 }
 
-/// The distances of a `switch`.
+/// Whether a `switch` that ends there has a target at each of these distances of four bytes.
+#[tactic(auto, unfolding(enc_opcodes::specs::Instruction::are_reached))]
+fn are_reached(end: u32, distances: &[u8]) -> bool
+    ensures { result ≡ all_are_reached end distances.now }
+{
+    let mut rest = distances;
+    while let [a, b, c, d, tail @ ..] = rest {
+        if target_at(end, u32_of([*a, *b, *c, *d])).is_none() {
+            return false;
+        }
+        rest = tail;
+    }
+    true
+}
+
+/// The distances of a `switch`, each with a target.
 #[tactic(auto, unfolding(enc_opcodes::specs::Instruction::switch_in, enc_opcodes::specs::Instruction::range_at))]
 fn switch_arg(code: &[u8], at: usize) -> Option<(Arg<'_>, usize)>
+    requires few { length code.now < 2 ^ 32 }
     ensures arg { option_map operand_seen result ≡ switch_in code.now at }
     ensures within { IfSome result (λ x. x.1 ≤ length code.now) }
 {
     let size = 4 * u32_at(code, at)? as usize;
     let distances = range_at(code, at + 4, size)?;
-    Some((Arg::Targets(distances), at + 4 + size))
+    let end = at + 4 + size;
+    if !are_reached(end as u32, distances) {
+        return None;
+    }
+    Some((Arg::Targets(distances), end))
 }
 
 /// A metadata token.

@@ -3,9 +3,9 @@ ghost use Rattle.std.specs.Prelude.{◌≡◌, ◌+◌, ◌*◌, ◌<◌, ◌≤
 ghost use Rattle.enc_opcodes.specs.Body.{code_seen, nil_or, padded as padded_to, sections_behind as behind, tiny_at, fat_at, body_at};
 ghost use Rattle.enc_il.specs.Seen.{body_seen};
 
-use crate::bytes::{range_at, rest_at, u8_at};
+use crate::bytes::{range_at, rest_at};
 use crate::section::sections_front;
-use enc_base::{Token, u16_at, u32_at};
+use enc_base::{Token, u8_at, u16_at, u32_at};
 use enc_opcodes::CodeRef;
 
 /// No header, code and sections of a body stand whole there.

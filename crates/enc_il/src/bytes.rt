@@ -1,15 +1,6 @@
-//! Bytes at a place: one, so many, or all from there.
+//! Bytes at a place: so many, or all from there.
 ghost use Rattle.std.specs.Prelude.{◌≡◌, ◌≤◌, length, drop, option_map, IfSome};
-ghost use Rattle.std.specs.Int.{w8};
-ghost use Rattle.enc_base.specs.Numbers.{number_at};
 ghost use Rattle.enc_opcodes.specs.Instruction.{range_at};
-
-/// The byte at the place, None past the end.
-pub fn u8_at(bytes: &[u8], at: usize) -> Option<u8>
-    ensures { result ≡ number_at w8 bytes.now at }
-{
-    Some(u8::from_le_bytes(*bytes.get(at..)?.first_chunk::<1>()?))
-}
 
 /// So many bytes at the place, None where they don't stand whole there.
 #[tactic(auto, unfolding(enc_opcodes::specs::Instruction::range_at))]

@@ -4,9 +4,9 @@ ghost use Rattle.std.specs.Int.{w8, w16, w32};
 ghost use Rattle.enc_opcodes.specs.Clause.{number_or_zero, range_of, clause_in, clauses_in, clauses_of};
 ghost use Rattle.enc_il.specs.Seen.{all_sections};
 
-use crate::bytes::{rest_at, u8_at};
+use crate::bytes::rest_at;
 use crate::section::{behind_sections, clause_size, section_front};
-use enc_base::{u16_at, u32_at};
+use enc_base::{u8_at, u16_at, u32_at};
 use enc_opcodes::{Clause, CodeRef};
 
 /// The byte at a place, 0 past the end.

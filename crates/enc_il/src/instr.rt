@@ -5,7 +5,7 @@ ghost use Rattle.enc_opcodes.specs.Opcodes.{is_op};
 ghost use Rattle.enc_il.specs.Seen.{instr_seen};
 
 use crate::arg::arg_at;
-use crate::bytes::u8_at;
+use enc_base::u8_at;
 use enc_opcodes::{CodeRef, Instr, Op, op_from};
 
 /// The instruction's code at a place, of one byte or of two, and the place behind it. None where

@@ -11,8 +11,11 @@ use crate::clauses::clause_front;
 use crate::instr::instr_at;
 use crate::marks::starts_of;
 use crate::section::{SectionRef, behind_sections, clause_size, section_front};
-use enc_base::{Counts, Token};
+use enc_base::{Counts, Token, u32_of};
 use enc_opcodes::{Arg, Clause, CodeRef, Operand};
+use enc_schema::tables::{
+    FIELD, MEMBER_REF, METHOD_DEF, METHOD_SPEC, STAND_ALONE_SIG, TYPE_DEF, TYPE_REF, TYPE_SPEC,
+};
 use std::alloc::{AllocError, Global};
 
 /// Whether an instruction begins at an offset.
@@ -31,9 +34,14 @@ fn is_named(counts: &Counts, token: Token) -> bool
     ensures { result ≡ is_row (slice_index counts.now.rows) token }
 {
     match token.table {
-        0x01 | 0x02 | 0x04 | 0x06 | 0x0a | 0x11 | 0x1b | 0x2b => {
-            1 <= token.row && token.row <= counts.rows[usize::from(token.table)]
-        }
+        TYPE_REF
+        | TYPE_DEF
+        | FIELD
+        | METHOD_DEF
+        | MEMBER_REF
+        | STAND_ALONE_SIG
+        | TYPE_SPEC
+        | METHOD_SPEC => { 1 <= token.row && token.row <= counts.rows[usize::from(token.table)] }
         _ => false,
     }
 }
@@ -52,7 +60,7 @@ fn are_starts(marks: &[bool], end: u32, distances: &[u8]) -> bool
 {
     let mut rest = distances;
     while let [a, b, c, d, tail @ ..] = rest {
-        let distance = u32::from_le_bytes([*a, *b, *c, *d]);
+        let distance = u32_of([*a, *b, *c, *d]);
         if !is_start(marks, end.wrapping_add(distance)) {
             return false;
         }
@@ -93,7 +101,8 @@ fn are_instructions_good(code: &CodeRef<'_>, counts: &Counts, marks: &[bool]) ->
 fn locals_are_good(counts: &Counts, locals: Token) -> bool
     ensures { result ≡ are_good_locals (slice_index counts.now.rows) locals }
 {
-    locals.row == 0 || locals.table == 0x11 && locals.row <= counts.rows[0x11]
+    locals.row == 0
+        || locals.table == STAND_ALONE_SIG && locals.row <= counts.rows[STAND_ALONE_SIG as usize]
 }
 
 /// Whether a range begins at an instruction, and ends at one or with the code, and not before it

@@ -9,7 +9,6 @@ mod instr;
 mod judge;
 mod laws;
 mod marks;
-mod pushes;
 mod section;
 mod texts;
 mod write;

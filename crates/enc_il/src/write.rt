@@ -6,7 +6,7 @@ ghost use Rattle.enc_opcodes.specs.Body.{code_seen};
 ghost use Rattle.enc_il.specs.Written.{range_length, clause_bytes, most_clauses as most, size_bytes, section_written, sections_written, is_tiny as tiny_serves, flags_written, code_written, fat_written, tiny_written, body_written, place_for as place_behind, with_body};
 
 use crate::body::{nil_or, padded};
-use crate::pushes::{push_half, push_word, push_zeros};
+use enc_base::{push_half, push_word, push_zeros};
 use enc_opcodes::{Clause, CodeRef};
 use std::alloc::{AllocError, Global};
 

@@ -1,4 +1,3 @@
-pub mod Alone
 pub mod Codes
 pub mod Good
 pub mod Kids

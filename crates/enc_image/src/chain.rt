@@ -1,8 +1,10 @@
 //! An image as the chain that it begins.
 ghost use Rattle.std.specs.Prelude.{◌≡◌};
 ghost use Rattle.enc_image.specs.Base.{begun};
+ghost use Rattle.enc_image.specs.Begun.{begun_means, begun_tells};
 
 use crate::image::Image;
+use enc_meta::{Heap, HeapLengths};
 use enc_plain::ChainView;
 
 impl ChainView for Image {
@@ -19,28 +21,27 @@ impl ChainView for Image {
         [0; 16]
     }
 
-    #[tactic(auto, using(crate::proofs::Alone::text_alone), unfolding(crate::specs::Base::begun))]
-    fn text_at(&self, offset: u32) -> Option<&[u8]> {
-        self.heaps().text(offset)
+    #[tactic(auto, using(enc_meta::proofs::JoinedLengths::lengths_alone), unfolding(crate::specs::Base::begun))]
+    fn lengths(&self) -> HeapLengths {
+        Image::lengths(self)
     }
 
-    #[tactic(auto, using(crate::proofs::Alone::text_alone), unfolding(crate::specs::Base::begun))]
+    #[tactic(auto, using(enc_meta::proofs::Alone::heap_alone), unfolding(crate::specs::Base::begun))]
+    fn entry_at(&self, heap: Heap, offset: u32) -> Option<&[u8]> {
+        self.heaps().at(heap, offset)
+    }
+
+    #[tactic(auto, using(enc_meta::proofs::Alone::text_alone), unfolding(crate::specs::Base::begun))]
     fn has_text(&self, offset: u32) -> bool {
         self.heaps().has_text(offset)
     }
 
-    #[tactic(auto, using(crate::proofs::Alone::blob_alone), unfolding(crate::specs::Base::begun))]
-    fn blob_at(&self, offset: u32) -> Option<&[u8]> {
-        self.heaps().blob(offset)
-    }
-
-    #[tactic(auto, using(crate::proofs::Alone::user_alone), unfolding(crate::specs::Base::begun))]
-    fn user_at(&self, offset: u32) -> Option<&[u8]> {
-        self.heaps().user(offset)
-    }
-
-    #[tactic(auto, using(crate::proofs::Alone::guid_alone), unfolding(crate::specs::Base::begun))]
+    #[tactic(auto, using(enc_meta::proofs::Alone::guid_alone), unfolding(crate::specs::Base::begun))]
     fn guid_at(&self, k: u32) -> Option<[u8; 16]> {
         self.heaps().guid(k)
     }
+
+    ghost means = { begun_means };
+
+    ghost tells = { begun_tells };
 }

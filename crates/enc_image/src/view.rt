@@ -17,7 +17,7 @@ use crate::image::Image;
 use crate::judge::Cells;
 use crate::open::metadata;
 use enc_base::Token;
-use enc_meta::{HeapLengths, Heaps, heaps_law};
+use enc_meta::{HeapLengths, Heaps};
 use enc_opcodes::CodeRef;
 use enc_plain::{ModuleView, index_token};
 use enc_schema::{Column, column_of, decode_coded, owner_table};
@@ -89,7 +89,6 @@ impl Image {
     pub fn lengths(&self) -> HeapLengths
         ensures { result ≡ lengths_of self.now.heaps }
     {
-        heaps_law(metadata(&self.bytes, &self.container), &self.root);
         self.heaps().lengths()
     }
 }

@@ -2,6 +2,8 @@ pub mod Bytes
 pub mod Places
 pub mod Entries
 pub mod Units
+pub mod JoinedLengths
+pub mod Alone
 pub mod Joining
 pub mod Standing
 pub mod Reading

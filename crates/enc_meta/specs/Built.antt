@@ -48,7 +48,8 @@ blob_bytes b = spelled (length b) ++ b
 
 -- a unit asks for the mark: it has a high byte, or is 01 to 08, 0E to 1F, 27, 2D or 7F (II.24.2.4)
 unfoldable pub asks_mark : ℕ → ℕ → Bool
-asks_mark low high = not (high == 0) || (nat_le 0x01 low && nat_le low 0x08) || (nat_le 0x0E low && nat_le low 0x1F) || low == 0x27 || low == 0x2D || low == 0x7F
+asks_mark low high = not (high == 0) || (nat_le 0x01 low && nat_le low 0x08) || (nat_le 0x0E low && nat_le low 0x1F) || low == 0x27 || low == 0x2D
+    || low == 0x7F
 
 abbrev pub any_asks_mark : List ℕ → Bool
 any_asks_mark (low ∷ high ∷ rest) = asks_mark low high || any_asks_mark rest

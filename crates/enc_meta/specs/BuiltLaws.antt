@@ -25,16 +25,20 @@ abbrev pub joined : List Counted → Built → List Counted
 joined before b = before ++ heaps_built b ∷ []
 
 abbrev pub TextsAreRead : Type 0
-TextsAreRead = (before : List Counted) (b : Built) (v : List ℕ) → IsGood b → ArePast before b.starts → IsTrue (is_kept b.texts v) → joined_text (joined before b) (text_offset b v) ≡ Some v
+TextsAreRead = (before : List Counted) (b : Built) (v : List ℕ) → IsGood b → ArePast before b.starts → IsTrue (is_kept b.texts v)
+    → joined_text (joined before b) (text_offset b v) ≡ Some v
 
 abbrev pub UsersAreRead : Type 0
-UsersAreRead = (before : List Counted) (b : Built) (v : List ℕ) → IsGood b → ArePast before b.starts → IsTrue (is_kept b.users v) → joined_user (joined before b) (user_offset b v) ≡ Some v
+UsersAreRead = (before : List Counted) (b : Built) (v : List ℕ) → IsGood b → ArePast before b.starts → IsTrue (is_kept b.users v)
+    → joined_user (joined before b) (user_offset b v) ≡ Some v
 
 abbrev pub BlobsAreRead : Type 0
-BlobsAreRead = (before : List Counted) (b : Built) (v : List ℕ) → IsGood b → ArePast before b.starts → IsTrue (is_kept b.blobs v) → joined_blob (joined before b) (blob_offset b v) ≡ Some v
+BlobsAreRead = (before : List Counted) (b : Built) (v : List ℕ) → IsGood b → ArePast before b.starts → IsTrue (is_kept b.blobs v)
+    → joined_blob (joined before b) (blob_offset b v) ≡ Some v
 
 abbrev pub GuidsAreRead : Type 0
-GuidsAreRead = (before : List Counted) (b : Built) (g : List ℕ) → IsGood b → ArePast before b.starts → IsTrue (is_guid_kept b.guids g) → joined_guid (joined before b) (guid_number b g) ≡ Some g
+GuidsAreRead = (before : List Counted) (b : Built) (g : List ℕ) → IsGood b → ArePast before b.starts → IsTrue (is_guid_kept b.guids g)
+    → joined_guid (joined before b) (guid_number b g) ≡ Some g
 
 -- every byte of the built texts counts
 abbrev pub TextsCount : Type 0
@@ -42,7 +46,8 @@ TextsCount = (b : Built) → IsGood b → counted_strings (heaps_built b).string
 
 -- an offset that was given stays
 abbrev pub OffsetsStay : Type 0
-OffsetsStay = (encode : List ℕ → List ℕ) (start : ℕ) (values : List (List ℕ)) (v w : List ℕ) → IsTrue (is_kept values v) → offset_in encode start (with_value values w) v ≡ offset_in encode start values v
+OffsetsStay = (encode : List ℕ → List ℕ) (start : ℕ) (values : List (List ℕ)) (v w : List ℕ) → IsTrue (is_kept values v)
+    → offset_in encode start (with_value values w) v ≡ offset_in encode start values v
 
 abbrev pub NumbersStay : Type 0
 NumbersStay = (b : Built) (g h : List ℕ) → IsTrue (is_guid_kept b.guids g) → guid_number (with_guid b h) g ≡ guid_number b g
@@ -58,4 +63,5 @@ abbrev pub BlobOffsetsTell : Type 0
 BlobOffsetsTell = (b : Built) (v w : List ℕ) → IsGood b → IsTrue (is_kept b.blobs v) → IsTrue (is_kept b.blobs w) → blob_offset b v ≡ blob_offset b w → v ≡ w
 
 abbrev pub GuidNumbersTell : Type 0
-GuidNumbersTell = (b : Built) (g h : List ℕ) → IsGood b → IsTrue (is_guid_kept b.guids g) → IsTrue (is_guid_kept b.guids h) → guid_number b g ≡ guid_number b h → g ≡ h
+GuidNumbersTell = (b : Built) (g h : List ℕ) → IsGood b → IsTrue (is_guid_kept b.guids g) → IsTrue (is_guid_kept b.guids h)
+    → guid_number b g ≡ guid_number b h → g ≡ h

@@ -37,7 +37,12 @@ unfoldable pub part : List ℕ → Span → List ℕ
 part bytes s = take s.len (drop s.start bytes)
 
 unfoldable pub heaps_of : List ℕ → Root → Counted
-heaps_of bytes root = record { strings = counted_strings (part bytes root.strings); users = part bytes root.users; blobs = part bytes root.blobs; guids = part bytes root.guids }
+heaps_of bytes root = record {
+  strings = counted_strings (part bytes root.strings);
+  users = part bytes root.users;
+  blobs = part bytes root.blobs;
+  guids = part bytes root.guids;
+}
 
 -- the ends of a root's texts
 unfoldable pub ends_of : List ℕ → Root → TextEnds

@@ -1,6 +1,7 @@
 -- The joined heaps of several generations: their counted heaps one behind the other.
-use Rattle.std.specs.Prelude.{ℕ, zero, suc, ◌-◌, ◌+◌, ◌*◌, List, [], ◌∷◌, length, map, replicate, Option, Some, None, nat_lt, nat_le, ◌==◌, if◌then◌else◌, sum_by}
+use Rattle.std.specs.Prelude.{ℕ, zero, suc, ◌-◌, ◌+◌, ◌*◌, ◌/◌, max, List, [], ◌∷◌, length, map, replicate, Option, Some, None, nat_lt, nat_le, ◌==◌, if◌then◌else◌, sum_by}
 use Rattle.enc_meta.specs.Heaps.{Counted, text_entry, bytes_at, user_entry, sixteen_at}
+use Rattle.enc_meta.specs.declared.heaps.HeapLengths.{HeapLengths}
 
 -- the entry at an offset that counts from the front of the first heap; it lies whole in the heap in which it begins
 unfoldable pub entry_in : (List ℕ → ℕ → Option (List ℕ)) → List (List ℕ) → ℕ → Option (List ℕ)
@@ -32,3 +33,21 @@ joined_guid all (suc k) = first_guid (map (λ (c : Counted). c.guids) all) k
 -- the bytes of the joined heaps
 abbrev pub joined_length : List (List ℕ) → ℕ
 joined_length heaps = sum_by (λ (h : List ℕ). length h) heaps
+
+-- the greatest of some numbers
+abbrev pub most : List ℕ → ℕ
+most [] = 0
+most (n ∷ ns) = max n (most ns)
+
+-- how many entries of the joined `#GUID` can be read
+abbrev pub guid_entries : List Counted → ℕ
+guid_entries heaps = most (map (λ (h : Counted). length h.guids / 16) heaps)
+
+-- how long the joined heaps are; of `#GUID` the entries count
+unfoldable pub joined_lengths : List Counted → HeapLengths
+joined_lengths heaps = record {
+  strings = joined_length (map (λ (h : Counted). h.strings) heaps);
+  users = joined_length (map (λ (h : Counted). h.users) heaps);
+  blobs = joined_length (map (λ (h : Counted). h.blobs) heaps);
+  guids = guid_entries heaps;
+}

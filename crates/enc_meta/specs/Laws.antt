@@ -9,4 +9,5 @@ PaddedIsLeast = (n : ℕ) → (padded n % 4 ≡ 0) × (n ≤ padded n) × (padde
 
 -- the text at an offset above 0 has no zero, and stands there with a zero behind it
 abbrev pub TextStands : Type 0
-TextStands = (heap : List ℕ) (offset : ℕ) → 0 < offset → IfSome (text_at heap offset) (λ t. (¬ Contains t 0) × (take (length t + 1) (drop offset heap) ≡ t ++ 0 ∷ []))
+TextStands = (heap : List ℕ) (offset : ℕ) → 0 < offset
+    → IfSome (text_at heap offset) (λ t. (¬ Contains t 0) × (take (length t + 1) (drop offset heap) ≡ t ++ 0 ∷ []))

@@ -8,3 +8,4 @@ pub mod Built
 pub mod Pools
 pub mod BuiltLaws
 pub mod BuiltSeen
+pub mod HeapKinds

@@ -32,7 +32,7 @@ pub struct HeapLengths {
 
 impl<'a> Model for Heaps<'a> {
     ghost use Rattle.std.specs.Prelude.{◌≡◌};
-    ghost use Rattle.enc_meta.specs.Heaps.{Counted, to_last_zero};
+    ghost use Rattle.enc_meta.specs.Heaps.{AreAtMost, Counted, to_last_zero};
 
     ghost Value = { Counted };
 
@@ -43,7 +43,13 @@ impl<'a> Model for Heaps<'a> {
       guids = h.guids.now;
     } };
 
-    ghost invariant = { λ h. h.last ≡ to_last_zero h.strings.now };
+    // a root gives its heaps' lengths in four bytes
+    ghost invariant = { λ h. (h.last ≡ to_last_zero h.strings.now) × AreAtMost 0xFFFFFFFF (record {
+      strings = h.strings.now;
+      users = h.users.now;
+      blobs = h.blobs.now;
+      guids = h.guids.now;
+    }) };
 }
 
 impl<'a> Heaps<'a> {
@@ -77,10 +83,6 @@ impl<'a> Heaps<'a> {
 
     /// How many bytes of `#Strings`, `#US` and `#Blob` count, and how many whole entries `#GUID` has.
     pub fn lengths(&self) -> HeapLengths
-        requires strings { length self.now.strings < 2 ^ 32 }
-        requires users { length self.now.users < 2 ^ 32 }
-        requires blobs { length self.now.blobs < 2 ^ 32 }
-        requires guids { length self.now.guids < 2 ^ 32 }
         ensures { result ≡ lengths_of self.now }
     {
         HeapLengths {

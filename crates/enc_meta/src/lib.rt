@@ -7,6 +7,7 @@ mod entry;
 mod form;
 mod guids;
 mod header;
+mod heap;
 mod heaps;
 mod laws;
 mod pool;
@@ -16,9 +17,10 @@ mod streams;
 
 pub use builder::{BuildFault, HeapBuilder, HeapBytes};
 pub use ends::TextEnds;
+pub use heap::Heap;
 pub use heaps::{HeapLengths, Heaps};
 pub use laws::{
-    built_laws, example_root, heaps_law, offsets_law, offsets_stay_law, padded_law, text_law,
+    built_laws, example_root, offsets_law, offsets_stay_law, padded_law, text_law,
 };
 pub use root::{Root, read_root};
 pub use span::Span;

@@ -1,5 +1,3 @@
-ghost use Rattle.std.specs.Prelude.{◌<◌, ◌^◌, length};
-
 use super::*;
 use enc_base::{Code, Place, Refusal, StreamName};
 use std::test::Fail;
@@ -31,9 +29,7 @@ const NOT_ONE_TABLE_STREAM: Refusal = Refusal {
     place: Place::Stream(StreamName::Compressed),
 };
 
-fn lengths_in(bytes: &[u8]) -> Option<HeapLengths>
-    requires { length bytes.now < 2 ^ 32 }
-{
+fn lengths_in(bytes: &[u8]) -> Option<HeapLengths> {
     match read_root(bytes) {
         Ok(root) => Some(Heaps::of(bytes, &root).lengths()),
         Err(_) => None,

@@ -8,7 +8,7 @@ use Rattle.enc_opcodes.specs.declared.op.Op.{Op}
 use Rattle.enc_opcodes.specs.declared.op.Operand.{Operand}
 use Rattle.enc_opcodes.specs.declared.op.Operand.TheVariants as operand
 use Rattle.enc_opcodes.specs.Opcodes.{op_at}
-use Rattle.enc_opcodes.specs.Instruction.{Argument, nothing, targets, Instruction, range_at, all_reached, switch_in, arg_in, op_in, instr_in, IsChain, rest_of, end_of, instructions_of}
+use Rattle.enc_opcodes.specs.Instruction.{Argument, nothing, target, targets, Instruction, range_at, targets_at, switch_in, arg_in, op_in, instr_in, IsChain, rest_of, end_of, instructions_of}
 use Rattle.enc_opcodes.proofs.Chains.{GoesOn, chain_none, end_none, chain_more, end_more, read_is_chain, chain_is_read, chain_ends}
 
 is_true : {A : Type 0} (b : Bool) (x y : A) → cond b (Some x) None ≡ Some y → b ≡ true
@@ -49,14 +49,33 @@ range_moves f code at many a n h =
     let e : at + many ≤ length code = range_there code at many m.0 m.1 in
     (omega (arith, m.2), omega (arith, m.2, e))
 
+-- where something comes behind a first reading, that was there
+first_there : {X Y : Type 0} (o : Option X) (f : X → Option Y) (y : Y) → option_and_then f o ≡ Some y → (x : X) × (o ≡ Some x)
+first_there None f y h = absurd (cc)
+first_there (Some x) f y h = (x, refl)
+
+branch_moves : (w : Width) (f : ℕ → Option ℕ) (code : List ℕ) (at many : ℕ) (a : Argument ℕ) (n : ℕ) → byte_len w ≡ many → option_map {U = Argument ℕ × ℕ} (λ t. (target t, at + many)) (option_and_then f (number_at w code at)) ≡ Some (a, n) → Between code at n
+branch_moves w f code at many a n is h =
+    let m = mapped (option_and_then f (number_at w code at)) target (at + many) a n h in
+    let first = first_there (number_at w code at) f m.0 m.1 in
+    let e : at + byte_len w ≤ length code = number_there w code at first.0 first.1 in
+    (omega (arith, m.2), omega (arith, m.2, e, is))
+
+abbrev switch_with : ℕ → Option (List ℕ) → Option (Argument ℕ × ℕ)
+switch_with behind offsets = option_and_then (λ (ts : List ℕ). Some (targets ts, behind)) offsets
+
 abbrev switch_of : ℕ → ℕ → Option (List ℕ) → Option (Argument ℕ × ℕ)
-switch_of at count range = option_and_then (λ (distances : List ℕ). Some (targets (all_reached (at + 4 + 4 * count) distances), at + 4 + 4 * count)) range
+switch_of at count range = option_and_then (λ (distances : List ℕ). switch_with (at + 4 + 4 * count) (targets_at (at + 4 + 4 * count) distances)) range
+
+switch_ends : (behind : ℕ) (offsets : Option (List ℕ)) (a : Argument ℕ) (n : ℕ) → switch_with behind offsets ≡ Some (a, n) → behind ≡ n
+switch_ends behind None a n h = absurd (cc)
+switch_ends behind (Some ts) a n h = same_place {X = Argument ℕ} (targets ts, behind) (a, n) h
 
 switch_range : (code : List ℕ) (at count : ℕ) (range : Option (List ℕ)) (a : Argument ℕ) (n : ℕ) → range_at code (at + 4) (4 * count) ≡ range → switch_of at count range ≡ Some (a, n) → Between code at n
 switch_range code at count None a n is h = absurd (cc)
 switch_range code at count (Some r) a n is h =
     let e : at + 4 + 4 * count ≤ length code = range_there code (at + 4) (4 * count) r is in
-    let m = same_place {X = Argument ℕ} (targets (all_reached (at + 4 + 4 * count) r), at + 4 + 4 * count) (a, n) h in
+    let m = switch_ends (at + 4 + 4 * count) (targets_at (at + 4 + 4 * count) r) a n h in
     (omega (arith, m), omega (arith, m, e))
 
 switch_count : (code : List ℕ) (at : ℕ) (count : Option ℕ) (a : Argument ℕ) (n : ℕ) → option_and_then (λ (k : ℕ). switch_of at k (range_at code (at + 4) (4 * k))) count ≡ Some (a, n) → Between code at n
@@ -77,8 +96,8 @@ arg_moves operand.I32 code at a n le h = number_moves w32 _ code at 4 a n refl h
 arg_moves operand.I64 code at a n le h = number_moves w64 _ code at 8 a n refl h
 arg_moves operand.R4 code at a n le h = range_moves _ code at 4 a n h
 arg_moves operand.R8 code at a n le h = range_moves _ code at 8 a n h
-arg_moves operand.Branch8 code at a n le h = number_moves w8 _ code at 1 a n refl h
-arg_moves operand.Branch32 code at a n le h = number_moves w32 _ code at 4 a n refl h
+arg_moves operand.Branch8 code at a n le h = branch_moves w8 _ code at 1 a n refl h
+arg_moves operand.Branch32 code at a n le h = branch_moves w32 _ code at 4 a n refl h
 arg_moves operand.Switch code at a n le h = switch_moves code at a n h
 arg_moves operand.Token code at a n le h = number_moves w32 _ code at 4 a n refl h
 arg_moves operand.User code at a n le h = number_moves w32 _ code at 4 a n refl h

@@ -6,3 +6,4 @@ pub mod Example
 pub mod Whole
 pub mod Sounds
 pub mod CodeBytes
+mod Targets

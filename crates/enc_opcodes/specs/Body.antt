@@ -5,6 +5,7 @@ use Rattle.std.specs.Int.{w8, w16, w32}
 use Rattle.enc_base.specs.Numbers.{number_at}
 use Rattle.enc_base.specs.Token.{token_of, nil}
 use Rattle.enc_base.specs.declared.token.Token.{Token}
+use Rattle.enc_schema.specs.Tables.{type_ref, type_def, field, method_def, member_ref, stand_alone_sig, type_spec, method_spec}
 use Rattle.enc_opcodes.specs.declared.op.Operand.{Operand}
 use Rattle.enc_opcodes.specs.declared.op.Operand.TheVariants as operand
 use Rattle.enc_opcodes.specs.declared.code.Clause.{Clause}
@@ -29,7 +30,8 @@ nil_or t = if t.row == 0 then nil else t
 
 -- a tiny header: the code's size in its upper six bits
 abbrev pub tiny_at : List ℕ → ℕ → ℕ → Option Code
-tiny_at bytes at size = option_map (λ (code : List ℕ). record { max = 8; init = false; locals = nil; code = code; sections = [] }) (range_at bytes (at + 1) size)
+tiny_at bytes at size =
+    option_map (λ (code : List ℕ). record { max = 8; init = false; locals = nil; code = code; sections = [] }) (range_at bytes (at + 1) size)
 
 -- the bytes of the sections at the front, up to the end of the last
 unfoldable pub sections_at : List ℕ → Option (List ℕ)
@@ -56,9 +58,10 @@ fat_at bytes at = do
   locals ← number_at w32 bytes (at + 8)
   code ← range_at bytes (at + 12) size
   sections ← sections_behind bytes (at + 12 + padded size) (has_flag 8 flags)
-  if flags / 0x1000 == 3 then Some (record { max = max; init = has_flag 0x10 flags; locals = nil_or (token_of locals); code = code; sections = sections }) else None
+  if flags / 0x1000 == 3 then Some (record { max = max; init = has_flag 0x10 flags; locals = nil_or (token_of locals); code = code; sections = sections })
+      else None
 
--- the body whose header stands at a place of the bytes, which is this place of the image or of the delta's code: a fat one begins at a multiple of four of the latter
+-- the body whose header stands at a place of the bytes, which is this place of the image or of the delta's code: a multiple of four for a fat one
 unfoldable pub body_at : List ℕ → ℕ → ℕ → Option Code
 body_at bytes at place = do
   first ← number_at w8 bytes at
@@ -118,7 +121,7 @@ body_of texts c = record {
 
 -- the tables whose rows an instruction may name
 abbrev pub may_name : ℕ → Bool
-may_name table = list_any (λ t. t == table) (0x01 ∷ 0x02 ∷ 0x04 ∷ 0x06 ∷ 0x0A ∷ 0x11 ∷ 0x1B ∷ 0x2B ∷ [])
+may_name table = list_any (λ t. t == table) (type_ref ∷ type_def ∷ field ∷ method_def ∷ member_ref ∷ stand_alone_sig ∷ type_spec ∷ method_spec ∷ [])
 
 -- a row of such a table, by the number of rows of each table
 unfoldable pub is_named : (ℕ → ℕ) → Token → Bool
@@ -154,9 +157,9 @@ clause_is_good count starts size c = range_is_good starts size c.tries && range_
 
 -- the local signature is nil or a row of StandAloneSig
 unfoldable pub locals_are_good : (ℕ → ℕ) → Token → Bool
-locals_are_good count t = t.row == 0 || t.table == 0x11 && nat_le t.row (count 0x11)
+locals_are_good count t = t.row == 0 || t.table == stand_alone_sig && nat_le t.row (count stand_alone_sig)
 
--- a body is good, by the numbers of rows: its code is whole instructions, and each instruction, each clause and the local signature are good. What it names in heaps is judged apart
+-- a body is good, by the numbers of rows and apart from heaps: its code is whole instructions, and each of them, each clause and the local signature are good
 unfoldable pub is_good : (ℕ → ℕ) → Code → Bool
 is_good count c =
     end_of c.code 0 == length c.code

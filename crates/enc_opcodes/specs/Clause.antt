@@ -24,7 +24,9 @@ counted_in false a b c = a / 12
 
 -- the section with these clauses, and the bytes behind them, which end the section whatever its size says
 abbrev pub with_clauses : Bool → Bool → ℕ → List ℕ → Option (Section × List ℕ)
-with_clauses fat more count rest = option_map (λ (bytes : List ℕ). (record { fat = fat; more = more; count = count; clauses = bytes }, drop (clause_size fat * count) rest)) (range_at rest 0 (clause_size fat * count))
+with_clauses fat more count rest =
+    option_map (λ (bytes : List ℕ). (record { fat = fat; more = more; count = count; clauses = bytes }, drop (clause_size fat * count) rest))
+    (range_at rest 0 (clause_size fat * count))
 
 -- the section behind a kind byte: 1, with 40 added where its clauses are fat and 80 where another section follows
 unfoldable pub section_of_kind : ℕ → ℕ → ℕ → ℕ → List ℕ → Option (Section × List ℕ)

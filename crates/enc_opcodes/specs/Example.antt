@@ -1,11 +1,11 @@
 -- A body of forty bytes read by the definitions: a fat header, four instructions, and a small section with one clause.
-use Rattle.std.specs.Prelude.{◌≡◌, ℕ, List, [], ◌∷◌, Option, Some, None, option_map, true, ◌==◌, if◌then◌else◌, codes}
+use Rattle.std.specs.Prelude.{◌≡◌, ℕ, List, [], ◌∷◌, Option, Some, None, option_map, true, ◌==◌, if◌then◌else◌}
 use Rattle.enc_base.specs.Token.{token_of}
 use Rattle.enc_opcodes.specs.declared.op.Operand.TheVariants.{None as Bare, Branch8, User}
 use Rattle.enc_opcodes.specs.Instruction.{nothing, target, text}
 use Rattle.enc_opcodes.specs.Body.{Body, catching, body_at, body_of}
 
--- flags 301b, at most two values, nine bytes of code, local signature 11000001; ldstr 70000001, leave.s to the end, pop, ret; at the next multiple of four a section of one clause, whose class is 01000001
+-- flags 301b, two values, nine bytes of code, locals 11000001; ldstr 70000001, leave.s to the end, pop, ret; a section of one clause, of class 01000001
 abbrev pub example : List ℕ
 example =
     0x1b ∷ 0x30 ∷ 0x02 ∷ 0x00 ∷ 0x09 ∷ 0x00 ∷ 0x00 ∷ 0x00 ∷ 0x01 ∷ 0x00 ∷ 0x00 ∷ 0x11 ∷

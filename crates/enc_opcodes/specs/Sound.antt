@@ -1,10 +1,9 @@
 -- When a body is good wherever it stands: by its instructions, its clauses and the numbers of rows alone (ECMA-335 II.25.4.6, III.1.7).
-use Rattle.std.specs.Prelude.{ℕ, ◌+◌, ◌*◌, Bool, true, false, not, ◌&&◌, ◌||◌, List, [], ◌∷◌, length, nat_le, ◌==◌, if◌then◌else◌}
+use Rattle.std.specs.Prelude.{ℕ, ◌+◌, ◌*◌, Bool, true, not, ◌&&◌, List, [], ◌∷◌, length, nat_le, ◌==◌, if◌then◌else◌}
 use Rattle.std.specs.List.{list_all, list_any}
-use Rattle.enc_opcodes.specs.declared.op.Op.{Op}
 use Rattle.enc_opcodes.specs.declared.op.Operand.{Operand}
 use Rattle.enc_opcodes.specs.declared.op.Operand.TheVariants as operand
-use Rattle.enc_opcodes.specs.Instruction.{Argument, nothing, number, target, targets, token, text, raw, Instruction}
+use Rattle.enc_opcodes.specs.Instruction.{Argument, target, targets, token, Instruction}
 use Rattle.enc_opcodes.specs.Body.{Body, Handler, HandlerKind, catching, filtering, finishing, faulting, is_user, is_named, range_is_good, locals_are_good}
 
 -- how many targets a `switch` has

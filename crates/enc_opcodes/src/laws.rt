@@ -1,7 +1,7 @@
-//! What the table of instructions means as a whole, each as the contract of a function that does
+//! What the table of instructions means as a whole and what a target is, each as the contract of a function that does
 //! nothing.
 ghost use Rattle.enc_opcodes.specs.Example.{ExampleIsRead};
-ghost use Rattle.enc_opcodes.specs.Laws.{CodesTell, NamesTell, NamedAreFound};
+ghost use Rattle.enc_opcodes.specs.Laws.{CodesTell, NamesTell, NamedAreFound, TargetsAreSums};
 
 /// An instruction is the one with its code.
 pub fn code_laws()
@@ -13,6 +13,12 @@ pub fn code_laws()
 pub fn name_laws()
     ensures found { NamesTell }
     ensures named { NamedAreFound }
+{}
+
+/// A branch goes to the sum of its distance and the offset behind it, and there is none where that sum
+/// isn't a number of four bytes (ECMA-335 III.3).
+pub fn target_law()
+    ensures { TargetsAreSums }
 {}
 
 /// The example body means what is written down of it: the definitions compute it.

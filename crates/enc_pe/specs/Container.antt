@@ -50,7 +50,8 @@ image_of bytes = do
   root ← ok_or (span_at bytes h.sections cli.metadata.rva cli.metadata.size) (refusal 5 place.Metadata)
   kept ← ok_or (directory_span bytes h.sections cli.resources) (refusal 5 place.Resources)
   debug ← ok_or (directory_span bytes h.sections h.debug) (refusal 5 place.Debug)
-  if embeds (part bytes debug) (length (part bytes debug) / 28) then Err (refusal 9 place.Debug) else Ok (record { metadata = root; resources = kept; entry = cli.entry; sections = h.sections; bare = false })
+  if embeds (part bytes debug) (length (part bytes debug) / 28) then Err (refusal 9 place.Debug)
+      else Ok (record { metadata = root; resources = kept; entry = cli.entry; sections = h.sections; bare = false })
 
 -- the file begins as a metadata root (II.24.2.1)
 abbrev pub is_bare : List ℕ → Bool

@@ -46,8 +46,11 @@ holds first many s = nat_le s.rva first && nat_le (first - s.rva + many) s.raw.l
 
 -- where a range of RVAs stands in the file: in the first section that holds it whole
 unfoldable pub span_at : List ℕ → Span → ℕ → ℕ → Option Span
-span_at bytes headers first many = option_map (λ (s : Section). record { start = s.raw.start + (first - s.rva); len = many }) (find (holds first many) (sections_of bytes headers))
+span_at bytes headers first many =
+    option_map (λ (s : Section). record { start = s.raw.start + (first - s.rva); len = many }) (find (holds first many) (sections_of bytes headers))
 
 -- where the bytes from an RVA on stand: up to the end of the raw part of the first section that holds the byte there
 unfoldable pub span_from : List ℕ → Span → ℕ → Option Span
-span_from bytes headers first = option_map (λ (s : Section). record { start = s.raw.start + (first - s.rva); len = s.raw.len - (first - s.rva) }) (find (holds first 1) (sections_of bytes headers))
+span_from bytes headers first =
+    option_map (λ (s : Section). record { start = s.raw.start + (first - s.rva); len = s.raw.len - (first - s.rva) })
+      (find (holds first 1) (sections_of bytes headers))

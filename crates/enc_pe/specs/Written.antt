@@ -43,7 +43,7 @@ root_place code resources = resources_place code + rounded 4 (length resources)
 abbrev pub resources_rva : List ℕ → List ℕ → ℕ
 resources_rva code resources = if length resources == 0 then 0 else code_rva + resources_place code
 
--- a CLI header: runtime version 2.5, the RVA and the size of the metadata, ILONLY, the entry point, the RVA and the size of the resources, and no other directory (II.25.3.3)
+-- a CLI header: runtime version 2.5, where the metadata is, ILONLY, the entry point, where the resources are, and no other directory (II.25.3.3)
 unfoldable pub cli_header : ℕ → ℕ → ℕ → ℕ → ℕ → List ℕ
 cli_header metadata many entry resources few =
     word 72 ++ half 2 ++ half 5 ++ word metadata ++ word many ++ word 1 ++ word entry ++ word resources ++ word few ++ replicate 40 0
@@ -126,4 +126,5 @@ pub record Holds (image root code kept : List ℕ) (start : ℕ) (c : Container)
 
 -- an image that was written is read back
 abbrev pub ImageIsRead : Type 0
-ImageIsRead = (root code resources : List ℕ) (entry : ℕ) → image_size root code resources ≤ most_bytes → entry < 2 ^ 32 → (c : Container) × (container_of (image_written root code resources entry) ≡ Ok c) × Holds (image_written root code resources entry) root code resources entry c
+ImageIsRead = (root code resources : List ℕ) (entry : ℕ) → image_size root code resources ≤ most_bytes → entry < 2 ^ 32 → (c : Container)
+    × (container_of (image_written root code resources entry) ≡ Ok c) × Holds (image_written root code resources entry) root code resources entry c

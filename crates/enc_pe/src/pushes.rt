@@ -1,7 +1,8 @@
-//! Bytes at the end of others: numbers, and zeros.
-ghost use Rattle.std.specs.Prelude.{◌≡◌, ◌++◌, ◌<◌, ◌^◌, flat_map, replicate, OnOk};
-ghost use Rattle.enc_pe.specs.Written.{word, filled_to, rounded as rounded_to};
+//! Words at the end of other bytes.
+ghost use Rattle.std.specs.Prelude.{◌≡◌, ◌++◌, flat_map, OnOk};
+ghost use Rattle.enc_pe.specs.Written.{word};
 
+use enc_base::push_word;
 use std::alloc::AllocError;
 
 /// Appends numbers of four bytes.
@@ -9,16 +10,7 @@ pub fn push_words(words: &[u32], out: &mut Vec<u8>) -> Result<(), AllocError>
     ensures { OnOk result (out.new.items ≡ out.old.items ++ flat_map word words.now) }
 {
     for n in words {
-        out.extend_from_slice(&n.to_le_bytes())?;
+        push_word(*n, out)?;
     }
     Ok(())
-}
-
-/// Appends zeros.
-pub fn push_zeros(n: usize, out: &mut Vec<u8>) -> Result<(), AllocError>
-    requires { n < 2 ^ 32 }
-    ensures { OnOk result (out.new.items ≡ out.old.items ++ replicate n 0) }
-{
-    let len = out.len();
-    out.resize(len + n, 0)
 }

@@ -3,7 +3,8 @@
 ghost use Rattle.std.specs.Prelude.{◌≡◌, ◌+◌, ◌<◌, ◌≤◌, ◌^◌, ◌++◌, length, nat_lt, IfOk, OnOk};
 ghost use Rattle.enc_pe.specs.Written.{code_rva, rounded, cli_place as place_of_cli, resources_place as place_of_resources, root_place as place_of_root, resources_rva as rva_of_resources, section_size as size_of_section, raw_size as size_in_file, filled_to, cli_header, section_written, dos_header, coff_header, standard_fields, nt_fields, directories, section_header, headers_written, image_written, image_size, most_bytes, is_too_large};
 
-use crate::pushes::{push_words, push_zeros};
+use crate::pushes::push_words;
+use enc_base::push_zeros;
 use std::alloc::{AllocError, Global};
 
 /// The RVA of the code in an image that is written.

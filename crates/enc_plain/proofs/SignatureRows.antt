@@ -1,9 +1,9 @@
 -- A signature stays one where the tables of types have no fewer rows.
-use Rattle.std.proofs.Common.{◌≡◌, ℕ, ◌%◌, ◌/◌, ◌≤◌, Bool, true, false, List, refl, arith}
-use Rattle.std.specs.Prelude.{◌&&◌, ◌==◌, nat_le, if◌then◌else◌}
+use Rattle.std.proofs.Common.{◌≡◌, ℕ, ◌%◌, ◌/◌, ◌≤◌, Bool, true, false, List, Option, Some, None, refl, arith}
+use Rattle.std.specs.Prelude.{◌&&◌, ◌==◌, nat_le, is_some, if◌then◌else◌}
 use Rattle.std.proofs.lemmas.Bool.Decides.{nat_tests}
-use Rattle.enc_sigs.specs.Grammar.{table_of, is_coded, is_counted}
-use Rattle.enc_sigs.proofs.Wider.{sig_kept}
+use Rattle.enc_sigs.specs.Grammar.{table_of, is_coded, is_counted, sig_in}
+use Rattle.enc_sigs.proofs.Wider.{sig_keeps}
 use Rattle.enc_plain.specs.Signatures.{kind_in_table, is_signature}
 
 -- TypeDef, TypeRef and TypeSpec have no fewer rows
@@ -34,6 +34,10 @@ counted_kept : (f g : ℕ → ℕ) (n : ℕ) → TypesGrow f g → is_counted f 
 unfolding is_counted
 counted_kept f g n grow h = still (is_coded n) (nat_le 1 (n / 4)) (n / 4) (f (table_of (n % 4))) (g (table_of (n % 4))) (by_tag f g (n % 4 == 0) (n % 4 == 1) grow) h
 
+some_kept : {A : Type 0} (o q : Option A) → ((x : A) → o ≡ Some x → q ≡ Some x) → is_some o ≡ true → is_some q ≡ true
+some_kept None q keeps e = absurd cc
+some_kept (Some x) q keeps e = rw (keeps x refl) refl
+
 pub signature_kept : (f g : ℕ → ℕ) (table : ℕ) (blob : List ℕ) → TypesGrow f g → is_signature f table blob ≡ true → is_signature g table blob ≡ true
 unfolding is_signature
-signature_kept f g table blob grow h = sig_kept (is_counted f) (is_counted g) (kind_in_table table blob) blob (record { each = λ n e. counted_kept f g n grow e }) h
+signature_kept f g table blob grow h = some_kept (sig_in (is_counted f) (kind_in_table table blob) blob) (sig_in (is_counted g) (kind_in_table table blob) blob) (λ t e. sig_keeps (is_counted f) (is_counted g) (kind_in_table table blob) blob t (λ n c. counted_kept f g n grow c) e) h

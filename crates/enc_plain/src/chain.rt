@@ -1,13 +1,16 @@
 //! A view of a chain: the module after all deltas, and what their files' heaps hold together.
-ghost use Rattle.std.specs.Prelude.{◌≡◌, ◌+◌, ◌<◌, length, is_some, option_copied};
-ghost use Rattle.enc_meta.specs.Joined.{joined_text, joined_blob, joined_user, joined_guid};
+ghost use Rattle.std.specs.Prelude.{◌≡◌, ℕ, ◌+◌, ◌<◌, length, is_some, option_copied};
+ghost use Rattle.enc_meta.specs.Joined.{joined_text, joined_blob, joined_user, joined_guid, joined_lengths};
+ghost use Rattle.enc_meta.specs.HeapKinds.{joined_at};
 ghost use Rattle.enc_plain.specs.Module.{Module};
 ghost use Rattle.enc_plain.specs.Chain.{Chain, id_of};
 
 use crate::view::ModuleView;
+use enc_meta::{Heap, HeapLengths};
 
-/// Whatever means one chain: a base and the deltas applied to it. Generations count from 0, the
-/// base. None of these calls takes memory.
+/// Whatever means one chain: a base and the deltas applied to it. As a view of a module it means the
+/// plain module of that chain, and its user texts are those of the joined `#US`. Generations count
+/// from 0, the base. None of these calls takes memory.
 pub trait ChainView: ModuleView {
     // The chain that is meant.
     ghost chain: { Self → Chain };
@@ -22,25 +25,41 @@ pub trait ChainView: ModuleView {
         requires { generation < length (chain self.now).heaps }
         ensures { result ≡ id_of (chain self.now) generation };
 
+    /// How many bytes of `#Strings`, `#US` and `#Blob` the generations have together, and how many
+    /// entries of `#GUID` can be read.
+    fn lengths(&self) -> HeapLengths
+        ensures { result ≡ joined_lengths (chain self.now).heaps };
+
+    /// The entry at an offset of a joined heap, None where the offset isn't good.
+    fn entry_at(&self, heap: Heap, offset: u32) -> Option<&[u8]>
+        ensures { option_copied result ≡ joined_at heap (chain self.now).heaps offset };
+
     /// The text at an offset of the joined `#Strings`, None where the offset isn't good.
     fn text_at(&self, offset: u32) -> Option<&[u8]>
-        ensures { option_copied result ≡ joined_text (chain self.now).heaps offset };
+        ensures { option_copied result ≡ joined_text (chain self.now).heaps offset }
+    {
+        self.entry_at(Heap::Strings, offset)
+    }
+
+    /// The bytes at an offset of the joined `#Blob`, None where the offset isn't good.
+    fn blob_at(&self, offset: u32) -> Option<&[u8]>
+        ensures { option_copied result ≡ joined_blob (chain self.now).heaps offset }
+    {
+        self.entry_at(Heap::Blobs, offset)
+    }
 
     /// Whether a text stands at an offset of the joined `#Strings`; asks no more than where heaps
     /// end.
     fn has_text(&self, offset: u32) -> bool
         ensures { result ≡ is_some (joined_text (chain self.now).heaps offset) };
 
-    /// The bytes of the UTF-16 units of the user text at an offset of the joined `#US`, None where
-    /// the offset isn't good.
-    fn user_at(&self, offset: u32) -> Option<&[u8]>
-        ensures { option_copied result ≡ joined_user (chain self.now).heaps offset };
-
-    /// The bytes at an offset of the joined `#Blob`, None where the offset isn't good.
-    fn blob_at(&self, offset: u32) -> Option<&[u8]>
-        ensures { option_copied result ≡ joined_blob (chain self.now).heaps offset };
-
     /// Entry k of the joined `#GUID`, from the first generation that has it; None where none has.
     fn guid_at(&self, k: u32) -> Option<[u8; 16]>
         ensures { result ≡ joined_guid (chain self.now).heaps k };
+
+    // The module is that of the chain.
+    ghost means: { (c : Self) → Self.meaning c ≡ (chain c).plain };
+
+    // The user texts are those of the joined `#US`.
+    ghost tells: { (c : Self) (offset : ℕ) → Self.users c offset ≡ joined_user (chain c).heaps offset };
 }

@@ -131,8 +131,8 @@ row_fits_so counts jtd flags wide (c ∷ columns) (n ∷ cells) bits h words nar
     let fit = and_parts (index_fits (record { counts = counts; jtd = jtd; flags = 0 }) c n) (row_indices_fit (record { counts = counts; jtd = jtd; flags = 0 }) columns cells) h in
     let word = and_parts (is_word n) (list_all is_word cells) words in
     and_from _ _
-      (column_fits counts jtd flags wide c n bits fit.0 word.0 (λ bit e. (wide_parts bit c columns n cells (narrow bit e)).0))
-      (row_fits_so counts jtd flags wide columns cells bits fit.1 word.1 (λ bit e. (wide_parts bit c columns n cells (narrow bit e)).1))
+    (column_fits counts jtd flags wide c n bits fit.0 word.0 (λ bit e. (wide_parts bit c columns n cells (narrow bit e)).0))
+    (row_fits_so counts jtd flags wide columns cells bits fit.1 word.1 (λ bit e. (wide_parts bit c columns n cells (narrow bit e)).1))
 
 any_parts : (bit : ℕ) (columns : List Column) (row : List ℕ) (rows : List (List ℕ)) → list_any (row_is_wide bit columns) (row ∷ rows) ≡ false → (row_is_wide bit columns row ≡ false) × (list_any (row_is_wide bit columns) rows ≡ false)
 any_parts bit columns row rows h = or_parts (row_is_wide bit columns row) (list_any (row_is_wide bit columns) rows) h
@@ -144,8 +144,8 @@ table_fits_so counts jtd flags wide columns (row ∷ rows) bits h words narrow =
     let fit = and_parts (row_indices_fit (record { counts = counts; jtd = jtd; flags = 0 }) columns row) (list_all (row_indices_fit (record { counts = counts; jtd = jtd; flags = 0 }) columns) rows) h in
     let word = and_parts (list_all is_word row) (list_all (list_all is_word) rows) words in
     and_from _ _
-      (row_fits_so counts jtd flags wide columns row bits fit.0 word.0 (λ bit e. (any_parts bit columns row rows (narrow bit e)).0))
-      (table_fits_so counts jtd flags wide columns rows bits fit.1 word.1 (λ bit e. (any_parts bit columns row rows (narrow bit e)).1))
+    (row_fits_so counts jtd flags wide columns row bits fit.0 word.0 (λ bit e. (any_parts bit columns row rows (narrow bit e)).0))
+    (table_fits_so counts jtd flags wide columns rows bits fit.1 word.1 (λ bit e. (any_parts bit columns row rows (narrow bit e)).1))
 
 bits_of : (all : List (List (List ℕ))) (jtd : Bool) → Bits (shape_of all jtd (heap_bits all)) (is_wide all)
 unfolding heap_bits

@@ -12,6 +12,7 @@ use Rattle.enc_schema.specs.Schema.{columns_in}
 use Rattle.enc_schema.specs.Widths.{row_width}
 use Rattle.enc_rows.specs.Sums.{below}
 use Rattle.enc_rows.specs.declared.form.Form.{Form}
+use Rattle.enc_schema.specs.Tables.{table_count}
 use Rattle.enc_rows.specs.Layout.{Layout, one, has_table, tables_below, count_in, width_count, rows_begin, table_bytes, table_start, form_allows, laid_out, is_whole, whole_layout, layout_of}
 use Rattle.enc_rows.specs.Written.{rows_at, count_at, counts_of, valid_of, shape_of, table_written, count_written, more_data, header_written, stream_of, AreRows, layout_written}
 use Rattle.enc_rows.proofs.Below.{sum_none, sum_more, filled_below}
@@ -116,10 +117,14 @@ width_by : (there : Bool) (n x y : ℕ) → there ≡ nat_lt 0 n → x ≡ n →
 width_by true n x y e a b = a
 width_by false n x y e a b = omega (arith, ltb-false 0 n (sym e))
 
+none_by : (b : Bool) (n : ℕ) → n ≡ 0 → (if b then n else 0) ≡ 0
+none_by true n e = e
+none_by false n e = refl
+
 width_read : (all : List (List (List ℕ))) (jtd : Bool) (flags t : ℕ) → AreRows all → t < 64 → width_count (stream_of all jtd flags) (valid_of all) (replicate 64 0) t ≡ count_at all t
 unfolding width_count
 width_read all jtd flags t rows lt =
-    width_by (has_table (valid_of all) t) (count_at all t) _ _ (valid_tells all t lt) (count_read all jtd flags t rows lt) (get_or-replicate 64 t 0 0 lt)
+    width_by (has_table (valid_of all) t) (count_at all t) _ _ (valid_tells all t lt) (count_read all jtd flags t rows lt) (none_by (nat_lt t table_count) _ (get_or-replicate 64 t 0 0 lt))
 
 -- a table is as long as its layout says, and so are all of them
 pub table_length : (all : List (List (List ℕ))) (span : Span) (jtd : Bool) (flags t : ℕ) → AreRows all → t < 64 → length (table_written all (shape_of all jtd flags) t) ≡ table_bytes (layout_written all span jtd flags) t

@@ -21,7 +21,8 @@ is_past l None = true
 -- a run begins outside 1 to the count plus 1, or before the run of the row before
 abbrev pub is_bad_run : Rows → ℕ → ℕ → ℕ → ℕ → Bool
 is_bad_run s table i child zero = run_start s table i zero == 0 || nat_lt (run_rows s.layout child + 1) (run_start s table i zero)
-is_bad_run s table i child (suc n) = run_start s table i (suc n) == 0 || nat_lt (run_rows s.layout child + 1) (run_start s table i (suc n)) || nat_lt (run_start s table i (suc n)) (run_start s table i n)
+is_bad_run s table i child (suc n) = run_start s table i (suc n) == 0 || nat_lt (run_rows s.layout child + 1) (run_start s table i (suc n))
+    || nat_lt (run_start s table i (suc n)) (run_start s table i n)
 
 -- the index in a column of the n-th row of a table is bad
 abbrev pub is_bad_index : Rows → ℕ → ℕ → ℕ → Column → Bool
@@ -31,7 +32,8 @@ is_bad_index s table n i (Run child) = is_bad_run s table i child n
 is_bad_index s table n i _ = false
 
 unfoldable pub index_fault_at : Rows → ℕ → ℕ → ℕ → Option Place
-index_fault_at s table n i = option_and_then (λ (c : Column). if is_bad_index s table n i c then Some (place.Cell (nth_row table n) i) else None) (column_in table i)
+index_fault_at s table n i = option_and_then (λ (c : Column). if is_bad_index s table n i c then Some (place.Cell (nth_row table n) i)
+    else None) (column_in table i)
 
 -- a child row isn't named by the runs exactly once
 unfoldable pub owner_fault : Rows → ℕ → ℕ → Option Place

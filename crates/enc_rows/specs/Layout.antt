@@ -9,6 +9,7 @@ use Rattle.enc_base.specs.declared.refusal.Code.TheVariants.{F}
 use Rattle.enc_base.specs.declared.refusal.Place.TheVariants as place
 use Rattle.enc_meta.specs.declared.span.Span.{Span}
 use Rattle.enc_meta.specs.Heaps.{part}
+use Rattle.enc_schema.specs.Tables.{table_count, «module», enc_log, enc_map, document, method_debug_information, local_scope, local_variable, local_constant, import_scope, state_machine_method, custom_debug_information}
 use Rattle.enc_schema.specs.Schema.{column_in}
 use Rattle.enc_schema.specs.Widths.{Shape, width_of, row_width, column_start}
 use Rattle.enc_rows.specs.Sums.{sum_below, below}
@@ -31,9 +32,12 @@ tables_below valid table = sum_below (λ k. one (has_table valid k)) table
 unfoldable pub count_in : List ℕ → ℕ → ℕ → ℕ
 count_in stream valid table = if has_table valid table then unwrap_or (number_at w32 stream (24 + 4 * tables_below valid table)) 0 else 0
 
--- the numbers of rows by which widths go: the stream's own, and those of another module where it hasn't the table
+-- the numbers of rows by which widths go: the stream's own, and where it lacks a module's table those of another module
 unfoldable pub width_count : List ℕ → ℕ → List ℕ → ℕ → ℕ
-width_count stream valid outer table = if has_table valid table then count_in stream valid table else slice_index outer table
+width_count stream valid outer table =
+    if has_table valid table then count_in stream valid table
+    else if nat_lt table table_count then slice_index outer table
+    else 0
 
 -- where the rows begin: behind the counts, and four bytes more where heap bit 40 is set
 unfoldable pub rows_begin : ℕ → ℕ → ℕ
@@ -57,17 +61,24 @@ table_bytes l table = rows_of l table * row_width l.shape table
 unfoldable pub table_start : Layout → ℕ → ℕ
 table_start l table = l.first + sum_below (table_bytes l) table
 
+-- the tables that a PDB may have
+abbrev pub pdb_tables : List ℕ
+pdb_tables =
+    enc_log ∷ enc_map ∷ document ∷ method_debug_information ∷ local_scope ∷ local_variable ∷ local_constant ∷ import_scope ∷ state_machine_method
+    ∷ custom_debug_information ∷ []
+
 abbrev pub is_pdb_table : ℕ → Bool
-is_pdb_table table = list_any (λ t. t == table) (0x1E ∷ 0x1F ∷ 0x30 ∷ 0x31 ∷ 0x32 ∷ 0x33 ∷ 0x34 ∷ 0x35 ∷ 0x36 ∷ 0x37 ∷ [])
+is_pdb_table table = list_any (λ t. t == table) pdb_tables
 
 -- a stream of a PDB may have this table
 unfoldable pub is_expected : ℕ → ℕ → Bool
 is_expected valid table = not (has_table valid table) || is_pdb_table table
 
--- which tables a stream of this form may have, and how many rows of some: a module has one row of Module, a base none of EncLog and EncMap, a PDB its own tables alone
+-- which tables a stream of this form may have: a module has one row of Module, a base none of EncLog and EncMap, a PDB its own tables alone
 unfoldable pub form_allows : Form → ℕ → List ℕ → Bool
-form_allows form.Base valid counts = nat_lt valid (2 ^ 0x2D) && slice_index counts 0x00 == 1 && slice_index counts 0x1E == 0 && slice_index counts 0x1F == 0
-form_allows form.Delta valid counts = nat_lt valid (2 ^ 0x2D) && slice_index counts 0x00 == 1
+form_allows form.Base valid counts =
+    nat_lt valid (2 ^ table_count) && slice_index counts «module» == 1 && slice_index counts enc_log == 0 && slice_index counts enc_map == 0
+form_allows form.Delta valid counts = nat_lt valid (2 ^ table_count) && slice_index counts «module» == 1
 form_allows form.Pdb valid counts = list_all (is_expected valid) (below 64)
 
 -- the stream laid out by its header
@@ -90,7 +101,8 @@ whole_layout stream form valid l = if is_whole (length stream) form valid l.coun
 -- the layout of a table stream, where it is whole
 unfoldable pub layout_of : List ℕ → Span → Form → Bool → List ℕ → Option Layout
 layout_of stream span form jtd outer =
-    option_and_then (λ valid. option_and_then (λ flags. whole_layout stream form valid (laid_out stream span valid flags jtd outer)) (slice_get stream 6)) (number_at w64 stream 8)
+    option_and_then (λ valid. option_and_then (λ flags. whole_layout stream form valid (laid_out stream span valid flags jtd outer)) (slice_get stream 6))
+    (number_at w64 stream 8)
 
 -- the layout, or F6
 abbrev pub tables_or_fault : Option Layout → Result Layout Refusal
@@ -102,7 +114,8 @@ tables_of bytes span form jtd outer = tables_or_fault (layout_of (part bytes spa
 
 -- the number of one, two or four bytes at a place
 abbrev pub number_of_width : ℕ → List ℕ → ℕ → Option ℕ
-number_of_width w stream at = if w == 1 then slice_get stream at else if w == 2 then option_map (λ (n : ℕ). n) (number_at w16 stream at) else number_at w32 stream at
+number_of_width w stream at = if w == 1 then slice_get stream at else if w == 2 then option_map (λ (n : ℕ). n) (number_at w16 stream at)
+    else number_at w32 stream at
 
 -- where a cell stands in the stream
 unfoldable pub cell_place : Layout → Token → ℕ → ℕ
@@ -114,7 +127,8 @@ has_row l token = nat_lt 0 token.row && nat_le token.row (rows_of l token.table)
 
 -- the number that stands in a cell, where the table has the row and the column
 unfoldable pub raw_cell : List ℕ → Layout → Token → ℕ → Option ℕ
-raw_cell stream l token i = option_and_then (λ column. if has_row l token then number_of_width (width_of l.shape column) stream (cell_place l token i) else None) (column_in token.table i)
+raw_cell stream l token i = option_and_then (λ column. if has_row l token then number_of_width (width_of l.shape column) stream (cell_place l token i)
+    else None) (column_in token.table i)
 
 -- the rows stand in the stream
 abbrev pub IsWithin : List ℕ → Layout → Type 0

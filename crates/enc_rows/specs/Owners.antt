@@ -9,7 +9,8 @@ use Rattle.enc_rows.specs.declared.owners.Owners.TheVariants as owners
 
 -- where the n-th owner's run begins, and the place behind the last one where there is no such owner
 abbrev pub run_bound : Rows → ℕ → ℕ → ℕ
-run_bound s child n = if nat_lt n (rows_of s.layout (owner_table child)) then run_start s (owner_table child) (run_column child) n else run_rows s.layout child + 1
+run_bound s child n = if nat_lt n (rows_of s.layout (owner_table child)) then run_start s (owner_table child) (run_column child) n
+    else run_rows s.layout child + 1
 
 -- how often the places from the first one up to the end name a row
 unfoldable pub times_from : Rows → ℕ → ℕ → ℕ → ℕ → ℕ

@@ -5,7 +5,7 @@ use Rattle.enc_meta.specs.Heaps.{Counted}
 use Rattle.enc_meta.specs.Regions.{Region}
 use Rattle.enc_rows.specs.Layout.{Layout, raw_cell}
 
--- the table stream, its layout, the heaps, and what is loaded at which addresses; of an image also its managed resources and its entry point, which bare metadata hasn't, a delta's like a module's
+-- the table stream, its layout, the heaps, what is loaded at which addresses, and of an image its managed resources and its entry point
 pub record Source : Type 0 where
   pub stream : List ℕ
   pub layout : Layout

@@ -123,11 +123,15 @@ layout_written all span jtd flags = record { span = span; counts = counts_of all
 
 -- the stream is read back, where the form allows its tables
 abbrev pub StreamIsRead : Type 0
-StreamIsRead = (all : List (List (List ℕ))) (span : Span) (form : Form) (jtd : Bool) (flags : ℕ) → AreRows all → flags < 0x100 → IsTrue (form_allows form (valid_of all) (counts_of all)) → layout_of (stream_of all jtd flags) span form jtd (replicate 64 0) ≡ Some (layout_written all span jtd flags)
+StreamIsRead = (all : List (List (List ℕ))) (span : Span) (form : Form) (jtd : Bool) (flags : ℕ) → AreRows all → flags < 0x100
+    → IsTrue (form_allows form (valid_of all) (counts_of all))
+    → layout_of (stream_of all jtd flags) span form jtd (replicate 64 0) ≡ Some (layout_written all span jtd flags)
 
 -- and so is every number
 abbrev pub CellsAreRead : Type 0
-CellsAreRead = (all : List (List (List ℕ))) (span : Span) (jtd : Bool) (flags : ℕ) (table n i : ℕ) (cells : List ℕ) (x : ℕ) → AreRows all → AllFit all jtd flags → flags < 0x100 → slice_get (rows_at all table) n ≡ Some cells → slice_get cells i ≡ Some x → raw_cell (stream_of all jtd flags) (layout_written all span jtd flags) (nth_row table n) i ≡ Some x
+CellsAreRead = (all : List (List (List ℕ))) (span : Span) (jtd : Bool) (flags : ℕ) (table n i : ℕ) (cells : List ℕ) (x : ℕ) → AreRows all
+    → AllFit all jtd flags → flags < 0x100 → slice_get (rows_at all table) n ≡ Some cells → slice_get cells i ≡ Some x
+    → raw_cell (stream_of all jtd flags) (layout_written all span jtd flags) (nth_row table n) i ≡ Some x
 
 -- each number fits its column but for those of heaps
 unfoldable pub index_fits : Shape → Column → ℕ → Bool

@@ -6,6 +6,9 @@ ghost use Rattle.enc_rows.specs.Layout.{has_table, tables_below, count_in, width
 
 use crate::form::Form;
 use enc_base::{Counts, u32_at};
+use enc_schema::tables::{
+    CUSTOM_DEBUG_INFORMATION, DOCUMENT, ENC_LOG, ENC_MAP, MODULE, TABLE_COUNT,
+};
 
 /// Whether the valid bits say that the stream has this table.
 pub fn is_there(valid: u64, table: u8) -> bool
@@ -62,9 +65,12 @@ fn width_count_of(stream: &[u8], valid: u64, outer: &Counts, table: u8) -> u32
     ensures { result ≡ width_count stream.now valid outer.now.rows table }
 {
     if is_there(valid, table) {
-        count_of(stream, valid, table)
-    } else {
+        return count_of(stream, valid, table);
+    }
+    if table < TABLE_COUNT {
         outer.rows[table as usize]
+    } else {
+        0
     }
 }
 
@@ -109,7 +115,7 @@ fn is_expected(valid: u64, table: u8) -> bool
     ensures { result ≡ is_expected valid table }
 {
     match table {
-        0x1e | 0x1f | 0x30..=0x37 => true,
+        ENC_LOG | ENC_MAP | DOCUMENT..=CUSTOM_DEBUG_INFORMATION => true,
         _ => !is_there(valid, table),
     }
 }
@@ -134,8 +140,13 @@ fn is_allowed(form: Form, valid: u64, counts: &Counts) -> bool
 {
     let rows = &counts.rows;
     match form {
-        Form::Base => valid < 1 << 0x2d && rows[0x00] == 1 && rows[0x1e] == 0 && rows[0x1f] == 0,
-        Form::Delta => valid < 1 << 0x2d && rows[0x00] == 1,
+        Form::Base => {
+            valid < 1 << TABLE_COUNT
+                && rows[MODULE as usize] == 1
+                && rows[ENC_LOG as usize] == 0
+                && rows[ENC_MAP as usize] == 0
+        }
+        Form::Delta => valid < 1 << TABLE_COUNT && rows[MODULE as usize] == 1,
         Form::Pdb => has_pdb_tables_alone(valid),
     }
 }

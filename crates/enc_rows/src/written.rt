@@ -6,7 +6,7 @@ ghost use Rattle.enc_rows.specs.Sums.{below};
 ghost use Rattle.enc_rows.specs.Written.{rows_at, count_at, counts_of, bit_of, valid_of, cell_bytes, row_bytes, table_written, count_written, more_data, header_written, stream_of, fits, row_fits, AreRows, AllFit};
 
 use crate::row::{Row, TableRows};
-use enc_base::Counts;
+use enc_base::{Counts, push_half, push_long, push_word, push_zeros};
 use enc_schema::{Column, Widths, columns_of, widths_of};
 use std::alloc::AllocError;
 
@@ -70,8 +70,8 @@ fn push_header(valid: u64, flags: u8, out: &mut Vec<u8>) -> Result<(), AllocErro
     ensures { OnOk result (out.new.items ≡ out.old.items ++ header_written valid flags) }
 {
     out.extend_from_slice(&[0, 0, 0, 0, 2, 0, flags, 1])?;
-    out.extend_from_slice(&valid.to_le_bytes())?;
-    out.extend_from_slice(&[0; 8])?;
+    push_long(valid, out)?;
+    push_zeros(8, out)?;
     Ok(())
 }
 
@@ -84,7 +84,7 @@ fn push_count(tables: &[TableRows], table: u8, out: &mut Vec<u8>) -> Result<(), 
     if count == 0 {
         return Ok(());
     }
-    out.extend_from_slice(&(count as u32).to_le_bytes())
+    push_word(count as u32, out)
 }
 
 /// Appends the numbers of rows of the tables that are there.
@@ -104,7 +104,7 @@ fn push_more(flags: u8, out: &mut Vec<u8>) -> Result<(), AllocError>
     ensures { OnOk result (out.new.items ≡ out.old.items ++ more_data flags) }
 {
     if (flags / 0x40) % 2 == 1 {
-        return out.extend_from_slice(&[0; 4]);
+        return push_zeros(4, out);
     }
     Ok(())
 }
@@ -121,9 +121,9 @@ fn push_cell(
     ensures { OnOk result (out.new.items ≡ out.old.items ++ cell_bytes widths.now column number) }
 {
     if widths.width(column) == 4 {
-        return out.extend_from_slice(&number.to_le_bytes());
+        return push_word(number, out);
     }
-    out.extend_from_slice(&(number as u16).to_le_bytes())
+    push_half(number as u16, out)
 }
 
 /// Appends a row.

@@ -7,7 +7,7 @@ use Rattle.std.proofs.lemmas.Bool.{ne_eqb, eqb-false}
 use Rattle.enc_base.specs.declared.token.Token.{Token}
 use Rattle.enc_base.specs.Token.{nil}
 use Rattle.enc_schema.specs.declared.column.Coding.{Coding}
-use Rattle.enc_schema.specs.Coding.{tables_of, tag_bits, table_with, decoded}
+use Rattle.enc_schema.specs.Coding.{tables_of, tag_bits, table_with, decoded, named}
 
 at_place : (xs : List (Option ℕ)) (i : ℕ) → option_and_then (λ (t : Option ℕ). t) (slice_get xs i) ≡ get_or xs i None
 at_place [] i = refl
@@ -49,28 +49,23 @@ decodes kind v token h =
       | inr w ↦ inr (v % m, sym (with_tag kind (v % m)) ∙ w.1, above_none (v / m) token.row (eqb-false (v / m) 0 w.0) w.2)
     ]
 
--- nothing decodes to row 0 of a table past the first, nor to a row of a table with no tag
-pub none_to_nil : (kind : Coding) (token : Token) → token.row ≡ 0 → token.table ≢ 0 → (v : ℕ) → decoded kind v ≢ Some token
-none_to_nil kind token row other v h =
-    elim (decodes kind v token h) [
-      | inl w ↦ other (sym (ap (λ (t : Token). t.table) w))
-      | inr w ↦ absurd (omega (arith, w.2))
-    ]
+-- a token with a row names that row
+pub named_row : (token : Token) → token.row ≢ 0 → named token ≡ token
+named_row token some = rw (ne_eqb token.row 0 some) refl
 
-pub none_to_row : (kind : Coding) (token : Token) → token.row ≢ 0 → ((tag : ℕ) → get_or (tables_of kind) tag None ≢ Some token.table) → (v : ℕ) → decoded kind v ≢ Some token
+-- nothing decodes to a row of a table with no tag
+pub none_to_row : (kind : Coding) (token : Token) → token.row ≢ 0 → ((tag : ℕ) → get_or (tables_of kind) tag None ≢ Some token.table) → (v : ℕ) → decoded kind v ≢ Some (named token)
 none_to_row kind token row none v h =
-    elim (decodes kind v token h) [
+    elim (decodes kind v token (h ∙ ap (λ t. Some t) (named_row token row))) [
       | inl w ↦ row (sym (ap (λ (t : Token). t.row) w))
       | inr w ↦ none w.0 w.1
     ]
 
-same : (table row : ℕ) → table ≡ 0 → row ≡ 0 → Some nil ≡ Some (record { table = table; row = row })
-same table row e f = cc
+-- row 0 is nil
+pub zero_to_nil : (kind : Coding) (token : Token) → token.row ≡ 0 → decoded kind 0 ≡ Some (named token)
+zero_to_nil kind token e = decoded_zero kind ∙ sym (rw e refl)
 
-pub zero_to_nil : (kind : Coding) (token : Token) → token.table ≡ 0 → token.row ≡ 0 → decoded kind 0 ≡ Some token
-zero_to_nil kind token e f = decoded_zero kind ∙ same token.table token.row e f
-
-pub found : (kind : Coding) (token : Token) (tables : List (Option ℕ)) (bits tag v : ℕ) → bits ≡ tag_bits kind → tables ≡ tables_of kind → tag < length tables → length tables ≤ 2 ^ tag_bits kind → token.row ≢ 0 → get_or tables tag None ≡ Some token.table → v ≡ token.row * 2 ^ bits + tag → decoded kind v ≡ Some token
+pub found : (kind : Coding) (token : Token) (tables : List (Option ℕ)) (bits tag v : ℕ) → bits ≡ tag_bits kind → tables ≡ tables_of kind → tag < length tables → length tables ≤ 2 ^ tag_bits kind → token.row ≢ 0 → get_or tables tag None ≡ Some token.table → v ≡ token.row * 2 ^ bits + tag → decoded kind v ≡ Some (named token)
 found kind token tables bits tag v eb et lt few some is ev =
     let e : 2 ^ bits ≡ 2 ^ tag_bits kind = ap (λ n. 2 ^ n) eb in
-    rw ev (decoded_at kind (2 ^ bits) tag token.row token.table e (omega arith) (omega arith) (rw et at is))
+    rw ev (decoded_at kind (2 ^ bits) tag token.row token.table e (omega arith) (omega arith) (rw et at is)) ∙ sym (ap (λ t. Some t) (named_row token some))

@@ -8,7 +8,7 @@ use denote.Enum.Declared.{tag_of}
 use Rattle.enc_schema.specs.declared.column.Coding.{Coding}
 use Rattle.enc_schema.specs.declared.column.Coding.TheVariants.{TypeDefOrRef, HasConstant, HasCustomAttribute, HasFieldMarshal, HasDeclSecurity, MemberRefParent, HasSemantics, MethodDefOrRef, MemberForwarded, Implementation, CustomAttributeType, ResolutionScope, TypeOrMethodDef, HasCustomDebugInformation}
 use Rattle.enc_schema.specs.contracts.column.Coding.{the_type}
-use Rattle.enc_schema.proofs.Tables.{columns_few}
+use Rattle.enc_schema.proofs.TableNames.{columns_few}
 use Rattle.enc_schema.specs.Widths.{Shape, narrow, coded_width, coded_widths, heap_width, index_width, space_of, row_width, row_widths, column_start}
 use Rattle.enc_schema.specs.declared.column.Column.{Column}
 use Rattle.enc_schema.specs.declared.column.Column.TheVariants.{Num8, Num16, Num32, Text, Guid, Blob, Index, Coded, Run}
@@ -87,7 +87,7 @@ total_few : (s : Shape) (xs : List Column) → sum_by (space_of s) xs ≤ 4 * le
 total_few s [] = omega arith
 total_few s (x ∷ xs) = rw (sum_by-cons (space_of s) x xs) (omega (arith, space_few s x, total_few s xs))
 
-row_few : (s : Shape) (t : ℕ) → row_width s t ≤ 36
+pub row_few : (s : Shape) (t : ℕ) → row_width s t ≤ 36
 unfolding row_width
 row_few s t = omega (arith, total_few s (columns_in t), columns_few t)
 

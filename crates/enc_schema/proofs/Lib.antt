@@ -1,5 +1,5 @@
 pub mod Shift
 pub mod Kept
 pub mod Codes
-pub mod Tables
+pub mod TableNames
 pub mod ChildTables

@@ -4,29 +4,32 @@ use Rattle.std.specs.List.{list_all}
 use Rattle.std.specs.Option.{option_map_or}
 use Rattle.enc_base.specs.declared.token.Token.{Token}
 use Rattle.enc_base.specs.Token.{nil}
+use Rattle.enc_schema.specs.Tables.{«module», type_ref, type_def, field, method_def, param, interface_impl, member_ref, decl_security, stand_alone_sig, event, property, module_ref, type_spec, assembly, assembly_ref, file, exported_type, manifest_resource, generic_param, method_spec, generic_param_constraint, document, local_scope, local_variable, local_constant, import_scope}
 use Rattle.enc_schema.specs.declared.column.Coding.{Coding}
 use Rattle.enc_schema.specs.declared.column.Coding.TheVariants.{TypeDefOrRef, HasConstant, HasCustomAttribute, HasFieldMarshal, HasDeclSecurity, MemberRefParent, HasSemantics, MethodDefOrRef, MemberForwarded, Implementation, CustomAttributeType, ResolutionScope, TypeOrMethodDef, HasCustomDebugInformation}
 
 -- what can have custom attributes, by tag
 abbrev pub attributed : List ℕ
-attributed = 0x06 ∷ 0x04 ∷ 0x01 ∷ 0x02 ∷ 0x08 ∷ 0x09 ∷ 0x0A ∷ 0x00 ∷ 0x0E ∷ 0x17 ∷ 0x14 ∷ 0x11 ∷ 0x1A ∷ 0x1B ∷ 0x20 ∷ 0x23 ∷ 0x26 ∷ 0x27 ∷ 0x28 ∷ 0x2A ∷ 0x2C ∷ 0x2B ∷ []
+attributed =
+    method_def ∷ field ∷ type_ref ∷ type_def ∷ param ∷ interface_impl ∷ member_ref ∷ «module» ∷ decl_security ∷ property ∷ event
+    ∷ stand_alone_sig ∷ module_ref ∷ type_spec ∷ assembly ∷ assembly_ref ∷ file ∷ exported_type ∷ manifest_resource ∷ generic_param ∷ generic_param_constraint ∷ method_spec ∷ []
 
 -- the tables of a coding by tag; a tag with none is of no table
 unfoldable pub tables_of : Coding → List (Option ℕ)
-tables_of TypeDefOrRef = map Some (0x02 ∷ 0x01 ∷ 0x1B ∷ [])
-tables_of HasConstant = map Some (0x04 ∷ 0x08 ∷ 0x17 ∷ [])
+tables_of TypeDefOrRef = map Some (type_def ∷ type_ref ∷ type_spec ∷ [])
+tables_of HasConstant = map Some (field ∷ param ∷ property ∷ [])
 tables_of HasCustomAttribute = map Some attributed
-tables_of HasFieldMarshal = map Some (0x04 ∷ 0x08 ∷ [])
-tables_of HasDeclSecurity = map Some (0x02 ∷ 0x06 ∷ 0x20 ∷ [])
-tables_of MemberRefParent = map Some (0x02 ∷ 0x01 ∷ 0x1A ∷ 0x06 ∷ 0x1B ∷ [])
-tables_of HasSemantics = map Some (0x14 ∷ 0x17 ∷ [])
-tables_of MethodDefOrRef = map Some (0x06 ∷ 0x0A ∷ [])
-tables_of MemberForwarded = map Some (0x04 ∷ 0x06 ∷ [])
-tables_of Implementation = map Some (0x26 ∷ 0x23 ∷ 0x27 ∷ [])
-tables_of CustomAttributeType = None ∷ None ∷ Some 0x06 ∷ Some 0x0A ∷ []
-tables_of ResolutionScope = map Some (0x00 ∷ 0x1A ∷ 0x23 ∷ 0x01 ∷ [])
-tables_of TypeOrMethodDef = map Some (0x02 ∷ 0x06 ∷ [])
-tables_of HasCustomDebugInformation = map Some (attributed ++ 0x30 ∷ 0x32 ∷ 0x33 ∷ 0x34 ∷ 0x35 ∷ [])
+tables_of HasFieldMarshal = map Some (field ∷ param ∷ [])
+tables_of HasDeclSecurity = map Some (type_def ∷ method_def ∷ assembly ∷ [])
+tables_of MemberRefParent = map Some (type_def ∷ type_ref ∷ module_ref ∷ method_def ∷ type_spec ∷ [])
+tables_of HasSemantics = map Some (event ∷ property ∷ [])
+tables_of MethodDefOrRef = map Some (method_def ∷ member_ref ∷ [])
+tables_of MemberForwarded = map Some (field ∷ method_def ∷ [])
+tables_of Implementation = map Some (file ∷ assembly_ref ∷ exported_type ∷ [])
+tables_of CustomAttributeType = None ∷ None ∷ Some method_def ∷ Some member_ref ∷ []
+tables_of ResolutionScope = map Some («module» ∷ module_ref ∷ assembly_ref ∷ type_ref ∷ [])
+tables_of TypeOrMethodDef = map Some (type_def ∷ method_def ∷ [])
+tables_of HasCustomDebugInformation = map Some (attributed ++ document ∷ local_scope ∷ local_variable ∷ local_constant ∷ import_scope ∷ [])
 
 -- whether all of the tables pass the test
 abbrev pub each_table : (ℕ → Bool) → List (Option ℕ) → Bool
@@ -58,3 +61,7 @@ unfoldable pub decoded : Coding → ℕ → Option Token
 decoded kind value =
     if value / 2 ^ tag_bits kind == 0 then Some nil
     else option_map (λ (t : ℕ). record { table = t; row = value / 2 ^ tag_bits kind }) (table_with kind (value % 2 ^ tag_bits kind))
+
+-- the row that a token names: with row 0 it is nil, whatever its table
+abbrev pub named : Token → Token
+named token = if token.row == 0 then nil else token

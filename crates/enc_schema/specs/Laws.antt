@@ -3,6 +3,7 @@ use Rattle.std.specs.Prelude.{◌≡◌, ℕ, ◌≤◌, ◌^◌, Bool, true, Li
 use Rattle.enc_schema.specs.declared.column.Column.{Column}
 use Rattle.enc_schema.specs.declared.column.Column.TheVariants.{Num8, Num16, Num32, Text, Guid, Blob, Index, Coded, Run}
 use Rattle.enc_schema.specs.declared.column.Coding.{Coding}
+use Rattle.enc_schema.specs.Tables.{table_count, document, custom_debug_information}
 use Rattle.enc_schema.specs.Schema.{columns_in, column_in}
 use Rattle.enc_schema.specs.Names.{table_name_in, column_name_in}
 use Rattle.enc_schema.specs.Children.{is_child_table, owner_table, run_column, runs_in}
@@ -24,9 +25,9 @@ names_tables (Index t) = is_table t
 names_tables (Coded kind) = each_table is_table (tables_of kind)
 names_tables (Run t) = is_table t
 
--- the tables are 00 to 2C and 30 to 37
+-- the tables are those of a module, from 0 on, and those of a PDB, from Document to CustomDebugInformation
 abbrev pub WhichTables : Type 0
-WhichTables = (t : ℕ) → is_table t ≡ (nat_lt t 0x2D || (nat_le 0x30 t && nat_lt t 0x38))
+WhichTables = (t : ℕ) → is_table t ≡ (nat_lt t table_count || (nat_le document t && nat_le t custom_debug_information))
 
 -- every column that names rows names those of tables that are there
 abbrev pub ColumnsName : Type 0

@@ -4,3 +4,5 @@ pub mod Names
 pub mod Widths
 pub mod Laws
 pub mod Children
+pub mod Tables
+pub mod Columns

@@ -37,10 +37,12 @@ names =
     (codes "FieldRVA" ∷ codes "RVA" ∷ codes "Field" ∷ []) ∷
     (codes "EncLog" ∷ codes "Token" ∷ codes "FuncCode" ∷ []) ∷
     (codes "EncMap" ∷ codes "Token" ∷ []) ∷
-    (codes "Assembly" ∷ codes "HashAlgId" ∷ codes "MajorVersion" ∷ codes "MinorVersion" ∷ codes "BuildNumber" ∷ codes "RevisionNumber" ∷ codes "Flags" ∷ codes "PublicKey" ∷ codes "Name" ∷ codes "Culture" ∷ []) ∷
+    (codes "Assembly" ∷ codes "HashAlgId" ∷ codes "MajorVersion" ∷ codes "MinorVersion" ∷ codes "BuildNumber" ∷ codes "RevisionNumber" ∷ codes "Flags"
+    ∷ codes "PublicKey" ∷ codes "Name" ∷ codes "Culture" ∷ []) ∷
     (codes "AssemblyProcessor" ∷ codes "Processor" ∷ []) ∷
     (codes "AssemblyOS" ∷ codes "OSPlatformId" ∷ codes "OSMajorVersion" ∷ codes "OSMinorVersion" ∷ []) ∷
-    (codes "AssemblyRef" ∷ codes "MajorVersion" ∷ codes "MinorVersion" ∷ codes "BuildNumber" ∷ codes "RevisionNumber" ∷ codes "Flags" ∷ codes "PublicKeyOrToken" ∷ codes "Name" ∷ codes "Culture" ∷ codes "HashValue" ∷ []) ∷
+    (codes "AssemblyRef" ∷ codes "MajorVersion" ∷ codes "MinorVersion" ∷ codes "BuildNumber" ∷ codes "RevisionNumber" ∷ codes "Flags"
+    ∷ codes "PublicKeyOrToken" ∷ codes "Name" ∷ codes "Culture" ∷ codes "HashValue" ∷ []) ∷
     (codes "AssemblyRefProcessor" ∷ codes "Processor" ∷ codes "AssemblyRef" ∷ []) ∷
     (codes "AssemblyRefOS" ∷ codes "OSPlatformId" ∷ codes "OSMajorVersion" ∷ codes "OSMinorVersion" ∷ codes "AssemblyRef" ∷ []) ∷
     (codes "File" ∷ codes "Flags" ∷ codes "Name" ∷ codes "HashValue" ∷ []) ∷

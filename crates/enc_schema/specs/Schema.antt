@@ -1,5 +1,6 @@
 -- The columns of every table in the order of the standard (ECMA-335 II.22; Portable PDB from 30 on).
 use Rattle.std.specs.Prelude.{ℕ, List, [], ◌∷◌, Option, unwrap_or, slice_get}
+use Rattle.enc_schema.specs.Tables.{type_def, field, method_def, param, event, property, module_ref, assembly_ref, generic_param, document, local_variable, local_constant, import_scope}
 use Rattle.enc_schema.specs.declared.column.Column.{Column}
 use Rattle.enc_schema.specs.declared.column.Column.TheVariants.{Num8, Num16, Num32, Text, Guid, Blob, Index, Coded, Run}
 use Rattle.enc_schema.specs.declared.column.Coding.TheVariants as coding
@@ -16,21 +17,21 @@ schema =
     -- 01 TypeRef
     ((Coded coding.ResolutionScope) ∷ Text ∷ Text ∷ []) ∷
     -- 02 TypeDef
-    (Num32 ∷ Text ∷ Text ∷ (Coded coding.TypeDefOrRef) ∷ (Run 0x04) ∷ (Run 0x06) ∷ []) ∷
+    (Num32 ∷ Text ∷ Text ∷ (Coded coding.TypeDefOrRef) ∷ (Run field) ∷ (Run method_def) ∷ []) ∷
     -- 03 FieldPtr
-    ((Index 0x04) ∷ []) ∷
+    ((Index field) ∷ []) ∷
     -- 04 Field
     (Num16 ∷ Text ∷ Blob ∷ []) ∷
     -- 05 MethodPtr
-    ((Index 0x06) ∷ []) ∷
+    ((Index method_def) ∷ []) ∷
     -- 06 MethodDef
-    (Num32 ∷ Num16 ∷ Num16 ∷ Text ∷ Blob ∷ (Run 0x08) ∷ []) ∷
+    (Num32 ∷ Num16 ∷ Num16 ∷ Text ∷ Blob ∷ (Run param) ∷ []) ∷
     -- 07 ParamPtr
-    ((Index 0x08) ∷ []) ∷
+    ((Index param) ∷ []) ∷
     -- 08 Param
     (Num16 ∷ Num16 ∷ Text ∷ []) ∷
     -- 09 InterfaceImpl
-    ((Index 0x02) ∷ (Coded coding.TypeDefOrRef) ∷ []) ∷
+    ((Index type_def) ∷ (Coded coding.TypeDefOrRef) ∷ []) ∷
     -- 0A MemberRef
     ((Coded coding.MemberRefParent) ∷ Text ∷ Blob ∷ []) ∷
     -- 0B Constant
@@ -42,35 +43,35 @@ schema =
     -- 0E DeclSecurity
     (Num16 ∷ (Coded coding.HasDeclSecurity) ∷ Blob ∷ []) ∷
     -- 0F ClassLayout
-    (Num16 ∷ Num32 ∷ (Index 0x02) ∷ []) ∷
+    (Num16 ∷ Num32 ∷ (Index type_def) ∷ []) ∷
     -- 10 FieldLayout
-    (Num32 ∷ (Index 0x04) ∷ []) ∷
+    (Num32 ∷ (Index field) ∷ []) ∷
     -- 11 StandAloneSig
     (Blob ∷ []) ∷
     -- 12 EventMap
-    ((Index 0x02) ∷ (Run 0x14) ∷ []) ∷
+    ((Index type_def) ∷ (Run event) ∷ []) ∷
     -- 13 EventPtr
-    ((Index 0x14) ∷ []) ∷
+    ((Index event) ∷ []) ∷
     -- 14 Event
     (Num16 ∷ Text ∷ (Coded coding.TypeDefOrRef) ∷ []) ∷
     -- 15 PropertyMap
-    ((Index 0x02) ∷ (Run 0x17) ∷ []) ∷
+    ((Index type_def) ∷ (Run property) ∷ []) ∷
     -- 16 PropertyPtr
-    ((Index 0x17) ∷ []) ∷
+    ((Index property) ∷ []) ∷
     -- 17 Property
     (Num16 ∷ Text ∷ Blob ∷ []) ∷
     -- 18 MethodSemantics
-    (Num16 ∷ (Index 0x06) ∷ (Coded coding.HasSemantics) ∷ []) ∷
+    (Num16 ∷ (Index method_def) ∷ (Coded coding.HasSemantics) ∷ []) ∷
     -- 19 MethodImpl
-    ((Index 0x02) ∷ (Coded coding.MethodDefOrRef) ∷ (Coded coding.MethodDefOrRef) ∷ []) ∷
+    ((Index type_def) ∷ (Coded coding.MethodDefOrRef) ∷ (Coded coding.MethodDefOrRef) ∷ []) ∷
     -- 1A ModuleRef
     (Text ∷ []) ∷
     -- 1B TypeSpec
     (Blob ∷ []) ∷
     -- 1C ImplMap
-    (Num16 ∷ (Coded coding.MemberForwarded) ∷ Text ∷ (Index 0x1A) ∷ []) ∷
+    (Num16 ∷ (Coded coding.MemberForwarded) ∷ Text ∷ (Index module_ref) ∷ []) ∷
     -- 1D FieldRVA
-    (Num32 ∷ (Index 0x04) ∷ []) ∷
+    (Num32 ∷ (Index field) ∷ []) ∷
     -- 1E EncLog
     (Num32 ∷ Num32 ∷ []) ∷
     -- 1F EncMap
@@ -84,9 +85,9 @@ schema =
     -- 23 AssemblyRef
     (Num16 ∷ Num16 ∷ Num16 ∷ Num16 ∷ Num32 ∷ Blob ∷ Text ∷ Text ∷ Blob ∷ []) ∷
     -- 24 AssemblyRefProcessor
-    (Num32 ∷ (Index 0x23) ∷ []) ∷
+    (Num32 ∷ (Index assembly_ref) ∷ []) ∷
     -- 25 AssemblyRefOS
-    (Num32 ∷ Num32 ∷ Num32 ∷ (Index 0x23) ∷ []) ∷
+    (Num32 ∷ Num32 ∷ Num32 ∷ (Index assembly_ref) ∷ []) ∷
     -- 26 File
     (Num32 ∷ Text ∷ Blob ∷ []) ∷
     -- 27 ExportedType
@@ -94,13 +95,13 @@ schema =
     -- 28 ManifestResource
     (Num32 ∷ Num32 ∷ Text ∷ (Coded coding.Implementation) ∷ []) ∷
     -- 29 NestedClass
-    ((Index 0x02) ∷ (Index 0x02) ∷ []) ∷
+    ((Index type_def) ∷ (Index type_def) ∷ []) ∷
     -- 2A GenericParam
     (Num16 ∷ Num16 ∷ (Coded coding.TypeOrMethodDef) ∷ Text ∷ []) ∷
     -- 2B MethodSpec
     ((Coded coding.MethodDefOrRef) ∷ Blob ∷ []) ∷
     -- 2C GenericParamConstraint
-    ((Index 0x2A) ∷ (Coded coding.TypeDefOrRef) ∷ []) ∷
+    ((Index generic_param) ∷ (Coded coding.TypeDefOrRef) ∷ []) ∷
     -- 2D
     [] ∷
     -- 2E
@@ -110,17 +111,17 @@ schema =
     -- 30 Document
     (Blob ∷ Guid ∷ Blob ∷ Guid ∷ []) ∷
     -- 31 MethodDebugInformation
-    ((Index 0x30) ∷ Blob ∷ []) ∷
+    ((Index document) ∷ Blob ∷ []) ∷
     -- 32 LocalScope
-    ((Index 0x06) ∷ (Index 0x35) ∷ (Index 0x33) ∷ (Index 0x34) ∷ Num32 ∷ Num32 ∷ []) ∷
+    ((Index method_def) ∷ (Index import_scope) ∷ (Index local_variable) ∷ (Index local_constant) ∷ Num32 ∷ Num32 ∷ []) ∷
     -- 33 LocalVariable
     (Num16 ∷ Num16 ∷ Text ∷ []) ∷
     -- 34 LocalConstant
     (Text ∷ Blob ∷ []) ∷
     -- 35 ImportScope
-    ((Index 0x35) ∷ Blob ∷ []) ∷
+    ((Index import_scope) ∷ Blob ∷ []) ∷
     -- 36 StateMachineMethod
-    ((Index 0x06) ∷ (Index 0x06) ∷ []) ∷
+    ((Index method_def) ∷ (Index method_def) ∷ []) ∷
     -- 37 CustomDebugInformation
     ((Coded coding.HasCustomDebugInformation) ∷ Guid ∷ Blob ∷ []) ∷
     []

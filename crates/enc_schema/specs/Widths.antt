@@ -69,7 +69,8 @@ column_start s table i = sum_by (space_of s) (take i (columns_in table))
 
 -- every coding, in the order of the enum
 abbrev pub codings : List Coding
-codings = TypeDefOrRef ∷ HasConstant ∷ HasCustomAttribute ∷ HasFieldMarshal ∷ HasDeclSecurity ∷ MemberRefParent ∷ HasSemantics ∷ MethodDefOrRef ∷ MemberForwarded ∷ Implementation ∷ CustomAttributeType ∷ ResolutionScope ∷ TypeOrMethodDef ∷ HasCustomDebugInformation ∷ []
+codings = TypeDefOrRef ∷ HasConstant ∷ HasCustomAttribute ∷ HasFieldMarshal ∷ HasDeclSecurity ∷ MemberRefParent ∷ HasSemantics ∷ MethodDefOrRef
+    ∷ MemberForwarded ∷ Implementation ∷ CustomAttributeType ∷ ResolutionScope ∷ TypeOrMethodDef ∷ HasCustomDebugInformation ∷ []
 
 -- the widths of all codings, and of all tables' rows
 unfoldable pub coded_widths : Shape → List ℕ

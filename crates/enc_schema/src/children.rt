@@ -3,17 +3,26 @@
 ghost use Rattle.std.specs.Prelude.{◌≡◌, ◌<◌};
 ghost use Rattle.enc_schema.specs.Children.{ptr_of, is_child_table as has_owners, owner_table as table_of_owners, run_column as column_of_runs, run_index as index_of_runs, runs_in};
 
+use crate::columns::{
+    EVENT_MAP_EVENT_LIST, METHOD_DEF_PARAM_LIST, PROPERTY_MAP_PROPERTY_LIST, TYPE_DEF_FIELD_LIST,
+    TYPE_DEF_METHOD_LIST,
+};
+use crate::tables::{
+    EVENT, EVENT_MAP, EVENT_PTR, FIELD, FIELD_PTR, METHOD_DEF, METHOD_PTR, PARAM, PARAM_PTR,
+    PROPERTY, PROPERTY_MAP, PROPERTY_PTR, TYPE_DEF,
+};
+
 /// The Ptr table of a child table, 0 where it has none.
 pub fn ptr_table(child: u8) -> u8
     ensures ptr { result ≡ ptr_of child }
     ensures few { result < 64 }
 {
     match child {
-        0x04 => 0x03,
-        0x06 => 0x05,
-        0x08 => 0x07,
-        0x14 => 0x13,
-        0x17 => 0x16,
+        FIELD => FIELD_PTR,
+        METHOD_DEF => METHOD_PTR,
+        PARAM => PARAM_PTR,
+        EVENT => EVENT_PTR,
+        PROPERTY => PROPERTY_PTR,
         _ => 0,
     }
 }
@@ -30,10 +39,10 @@ pub fn owner_table(child: u8) -> u8
     ensures { result ≡ table_of_owners child }
 {
     match child {
-        0x04 | 0x06 => 0x02,
-        0x08 => 0x06,
-        0x14 => 0x12,
-        _ => 0x15,
+        FIELD | METHOD_DEF => TYPE_DEF,
+        PARAM => METHOD_DEF,
+        EVENT => EVENT_MAP,
+        _ => PROPERTY_MAP,
     }
 }
 
@@ -42,9 +51,11 @@ pub fn run_column(child: u8) -> u8
     ensures { result ≡ column_of_runs child }
 {
     match child {
-        0x04 => 4,
-        0x06 | 0x08 => 5,
-        _ => 1,
+        FIELD => TYPE_DEF_FIELD_LIST,
+        METHOD_DEF => TYPE_DEF_METHOD_LIST,
+        PARAM => METHOD_DEF_PARAM_LIST,
+        EVENT => EVENT_MAP_EVENT_LIST,
+        _ => PROPERTY_MAP_PROPERTY_LIST,
     }
 }
 
@@ -52,7 +63,7 @@ pub fn run_column(child: u8) -> u8
 pub fn run_index(child: u8) -> u8
     ensures { result ≡ index_of_runs child }
 {
-    if child == 0x06 { 1 } else { 0 }
+    if child == METHOD_DEF { 1 } else { 0 }
 }
 
 /// The child tables of a table, in the order of its runs.
@@ -60,10 +71,10 @@ pub fn runs_of(table: u8) -> &'static [u8]
     ensures { result.now ≡ runs_in table }
 {
     match table {
-        0x02 => &[0x04, 0x06],
-        0x06 => &[0x08],
-        0x12 => &[0x14],
-        0x15 => &[0x17],
+        TYPE_DEF => &[FIELD, METHOD_DEF],
+        METHOD_DEF => &[PARAM],
+        EVENT_MAP => &[EVENT],
+        PROPERTY_MAP => &[PROPERTY],
         _ => &[],
     }
 }

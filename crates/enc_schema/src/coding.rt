@@ -1,9 +1,14 @@
 //! Coded indices: a row of one of several tables, told by a tag in the low bits (ECMA-335 II.24.2.6).
 ghost use Rattle.std.specs.Prelude.{◌≡◌, ℕ, ◌+◌, ◌*◌, ◌/◌, ◌%◌, ◌<◌, ◌≤◌, ◌^◌, ◌≢◌, true, length, slice_index_or, Option, option_and_then, slice_get, nat_lt, IfSome, IfNone, IsTrue};
-ghost use Rattle.enc_base.specs.Token.{nil};
-ghost use Rattle.enc_schema.specs.Coding.{tables_of as tables_by_tag, each_table, tag_bits as bits_of_tag, table_with as table_by_tag, decoded};
+ghost use Rattle.enc_schema.specs.Coding.{tables_of as tables_by_tag, each_table, tag_bits as bits_of_tag, table_with as table_by_tag, decoded, named};
 
 use crate::column::Coding;
+use crate::tables::{
+    ASSEMBLY, ASSEMBLY_REF, DECL_SECURITY, DOCUMENT, EVENT, EXPORTED_TYPE, FIELD, FILE,
+    GENERIC_PARAM, GENERIC_PARAM_CONSTRAINT, IMPORT_SCOPE, INTERFACE_IMPL, LOCAL_CONSTANT,
+    LOCAL_SCOPE, LOCAL_VARIABLE, MANIFEST_RESOURCE, MEMBER_REF, METHOD_DEF, METHOD_SPEC, MODULE,
+    MODULE_REF, PARAM, PROPERTY, STAND_ALONE_SIG, TYPE_DEF, TYPE_REF, TYPE_SPEC,
+};
 use enc_base::Token;
 
 /// The tables of a coding by tag. A tag with none is of no table.
@@ -14,70 +19,81 @@ pub(crate) fn tables_of(kind: Coding) -> &'static [Option<u8>]
     ensures known { IsTrue (each_table (λ (n : ℕ). nat_lt n 56) result.now) }
 {
     match kind {
-        Coding::TypeDefOrRef => &[Some(0x02), Some(0x01), Some(0x1B)],
-        Coding::HasConstant => &[Some(0x04), Some(0x08), Some(0x17)],
+        Coding::TypeDefOrRef => &[Some(TYPE_DEF), Some(TYPE_REF), Some(TYPE_SPEC)],
+        Coding::HasConstant => &[Some(FIELD), Some(PARAM), Some(PROPERTY)],
         Coding::HasCustomAttribute => &[
-            Some(0x06),
-            Some(0x04),
-            Some(0x01),
-            Some(0x02),
-            Some(0x08),
-            Some(0x09),
-            Some(0x0A),
-            Some(0x00),
-            Some(0x0E),
-            Some(0x17),
-            Some(0x14),
-            Some(0x11),
-            Some(0x1A),
-            Some(0x1B),
-            Some(0x20),
-            Some(0x23),
-            Some(0x26),
-            Some(0x27),
-            Some(0x28),
-            Some(0x2A),
-            Some(0x2C),
-            Some(0x2B),
+            Some(METHOD_DEF),
+            Some(FIELD),
+            Some(TYPE_REF),
+            Some(TYPE_DEF),
+            Some(PARAM),
+            Some(INTERFACE_IMPL),
+            Some(MEMBER_REF),
+            Some(MODULE),
+            Some(DECL_SECURITY),
+            Some(PROPERTY),
+            Some(EVENT),
+            Some(STAND_ALONE_SIG),
+            Some(MODULE_REF),
+            Some(TYPE_SPEC),
+            Some(ASSEMBLY),
+            Some(ASSEMBLY_REF),
+            Some(FILE),
+            Some(EXPORTED_TYPE),
+            Some(MANIFEST_RESOURCE),
+            Some(GENERIC_PARAM),
+            Some(GENERIC_PARAM_CONSTRAINT),
+            Some(METHOD_SPEC),
         ],
-        Coding::HasFieldMarshal => &[Some(0x04), Some(0x08)],
-        Coding::HasDeclSecurity => &[Some(0x02), Some(0x06), Some(0x20)],
-        Coding::MemberRefParent => &[Some(0x02), Some(0x01), Some(0x1A), Some(0x06), Some(0x1B)],
-        Coding::HasSemantics => &[Some(0x14), Some(0x17)],
-        Coding::MethodDefOrRef => &[Some(0x06), Some(0x0A)],
-        Coding::MemberForwarded => &[Some(0x04), Some(0x06)],
-        Coding::Implementation => &[Some(0x26), Some(0x23), Some(0x27)],
-        Coding::CustomAttributeType => &[None, None, Some(0x06), Some(0x0A)],
-        Coding::ResolutionScope => &[Some(0x00), Some(0x1A), Some(0x23), Some(0x01)],
-        Coding::TypeOrMethodDef => &[Some(0x02), Some(0x06)],
+        Coding::HasFieldMarshal => &[Some(FIELD), Some(PARAM)],
+        Coding::HasDeclSecurity => &[Some(TYPE_DEF), Some(METHOD_DEF), Some(ASSEMBLY)],
+        Coding::MemberRefParent => &[
+            Some(TYPE_DEF),
+            Some(TYPE_REF),
+            Some(MODULE_REF),
+            Some(METHOD_DEF),
+            Some(TYPE_SPEC),
+        ],
+        Coding::HasSemantics => &[Some(EVENT), Some(PROPERTY)],
+        Coding::MethodDefOrRef => &[Some(METHOD_DEF), Some(MEMBER_REF)],
+        Coding::MemberForwarded => &[Some(FIELD), Some(METHOD_DEF)],
+        Coding::Implementation => &[Some(FILE), Some(ASSEMBLY_REF), Some(EXPORTED_TYPE)],
+        Coding::CustomAttributeType => &[None, None, Some(METHOD_DEF), Some(MEMBER_REF)],
+        Coding::ResolutionScope => &[
+            Some(MODULE),
+            Some(MODULE_REF),
+            Some(ASSEMBLY_REF),
+            Some(TYPE_REF),
+        ],
+        Coding::TypeOrMethodDef => &[Some(TYPE_DEF), Some(METHOD_DEF)],
         Coding::HasCustomDebugInformation => &[
-            Some(0x06),
-            Some(0x04),
-            Some(0x01),
-            Some(0x02),
-            Some(0x08),
-            Some(0x09),
-            Some(0x0A),
-            Some(0x00),
-            Some(0x0E),
-            Some(0x17),
-            Some(0x14),
-            Some(0x11),
-            Some(0x1A),
-            Some(0x1B),
-            Some(0x20),
-            Some(0x23),
-            Some(0x26),
-            Some(0x27),
-            Some(0x28),
-            Some(0x2A),
-            Some(0x2C),
-            Some(0x2B),
-            Some(0x30),
-            Some(0x32),
-            Some(0x33),
-            Some(0x34),
-            Some(0x35),
+            Some(METHOD_DEF),
+            Some(FIELD),
+            Some(TYPE_REF),
+            Some(TYPE_DEF),
+            Some(PARAM),
+            Some(INTERFACE_IMPL),
+            Some(MEMBER_REF),
+            Some(MODULE),
+            Some(DECL_SECURITY),
+            Some(PROPERTY),
+            Some(EVENT),
+            Some(STAND_ALONE_SIG),
+            Some(MODULE_REF),
+            Some(TYPE_SPEC),
+            Some(ASSEMBLY),
+            Some(ASSEMBLY_REF),
+            Some(FILE),
+            Some(EXPORTED_TYPE),
+            Some(MANIFEST_RESOURCE),
+            Some(GENERIC_PARAM),
+            Some(GENERIC_PARAM_CONSTRAINT),
+            Some(METHOD_SPEC),
+            Some(DOCUMENT),
+            Some(LOCAL_SCOPE),
+            Some(LOCAL_VARIABLE),
+            Some(LOCAL_CONSTANT),
+            Some(IMPORT_SCOPE),
         ],
     }
 }
@@ -180,17 +196,17 @@ fn above(bits: u32, row: u32, tag: u32) -> u32
     row * (1 << bits) + tag
 }
 
-/// The coded index that stands for this token, 0 for the nil token. None where there is none, as
-/// the token's table is none of the coding's.
+/// The coded index that stands for this token, 0 where it has row 0, whatever its table. None where
+/// there is none, as the token's table is none of the coding's.
 pub fn encode_coded(kind: Coding, token: Token) -> Option<u32>
     requires { token.row < 2 ^ 24 }
-    ensures some { IfSome result (λ v. decoded kind v ≡ Some token) }
-    ensures none { IfNone result ((v : ℕ) → decoded kind v ≢ Some token) }
-    ensures nil { token ≡ nil → result ≡ Some 0 }
+    ensures some { IfSome result (λ v. decoded kind v ≡ Some (named token)) }
+    ensures none { IfNone result ((v : ℕ) → decoded kind v ≢ Some (named token)) }
+    ensures nil { token.row ≡ 0 → result ≡ Some 0 }
     ensures fits { IfSome result (λ v. v < (token.row + 1) * 2 ^ bits_of_tag kind) }
 {
     if token.row == 0 {
-        return if token.table == 0 { Some(0) } else { None };
+        return Some(0);
     }
     match tag_in(tables_of(kind), token.table) {
         None => None,

@@ -5,9 +5,11 @@
 mod children;
 mod coding;
 mod column;
+pub mod columns;
 mod laws;
 mod names;
 mod schema;
+pub mod tables;
 mod widths;
 
 pub use children::{is_child_table, owner_table, ptr_table, run_column, run_index, runs_of};

@@ -7,6 +7,10 @@ ghost use Rattle.enc_schema.specs.Schema.{list_at, columns_in, column_in};
 
 use crate::column::Coding;
 use crate::column::Column::{self, Blob, Coded, Guid, Index, Num8, Num16, Num32, Run, Text};
+use crate::tables::{
+    ASSEMBLY_REF, DOCUMENT, EVENT, FIELD, GENERIC_PARAM, IMPORT_SCOPE, LOCAL_CONSTANT,
+    LOCAL_VARIABLE, METHOD_DEF, MODULE_REF, PARAM, PROPERTY, TYPE_DEF,
+};
 
 /// By table number.
 static SCHEMA: [&[Column]; 56] = [
@@ -20,23 +24,23 @@ static SCHEMA: [&[Column]; 56] = [
         Text,
         Text,
         Coded(Coding::TypeDefOrRef),
-        Run(0x04),
-        Run(0x06),
+        Run(FIELD),
+        Run(METHOD_DEF),
     ],
     // 03 FieldPtr
-    &[Index(0x04)],
+    &[Index(FIELD)],
     // 04 Field
     &[Num16, Text, Blob],
     // 05 MethodPtr
-    &[Index(0x06)],
+    &[Index(METHOD_DEF)],
     // 06 MethodDef
-    &[Num32, Num16, Num16, Text, Blob, Run(0x08)],
+    &[Num32, Num16, Num16, Text, Blob, Run(PARAM)],
     // 07 ParamPtr
-    &[Index(0x08)],
+    &[Index(PARAM)],
     // 08 Param
     &[Num16, Num16, Text],
     // 09 InterfaceImpl
-    &[Index(0x02), Coded(Coding::TypeDefOrRef)],
+    &[Index(TYPE_DEF), Coded(Coding::TypeDefOrRef)],
     // 0A MemberRef
     &[Coded(Coding::MemberRefParent), Text, Blob],
     // 0B Constant
@@ -52,28 +56,28 @@ static SCHEMA: [&[Column]; 56] = [
     // 0E DeclSecurity
     &[Num16, Coded(Coding::HasDeclSecurity), Blob],
     // 0F ClassLayout
-    &[Num16, Num32, Index(0x02)],
+    &[Num16, Num32, Index(TYPE_DEF)],
     // 10 FieldLayout
-    &[Num32, Index(0x04)],
+    &[Num32, Index(FIELD)],
     // 11 StandAloneSig
     &[Blob],
     // 12 EventMap
-    &[Index(0x02), Run(0x14)],
+    &[Index(TYPE_DEF), Run(EVENT)],
     // 13 EventPtr
-    &[Index(0x14)],
+    &[Index(EVENT)],
     // 14 Event
     &[Num16, Text, Coded(Coding::TypeDefOrRef)],
     // 15 PropertyMap
-    &[Index(0x02), Run(0x17)],
+    &[Index(TYPE_DEF), Run(PROPERTY)],
     // 16 PropertyPtr
-    &[Index(0x17)],
+    &[Index(PROPERTY)],
     // 17 Property
     &[Num16, Text, Blob],
     // 18 MethodSemantics
-    &[Num16, Index(0x06), Coded(Coding::HasSemantics)],
+    &[Num16, Index(METHOD_DEF), Coded(Coding::HasSemantics)],
     // 19 MethodImpl
     &[
-        Index(0x02),
+        Index(TYPE_DEF),
         Coded(Coding::MethodDefOrRef),
         Coded(Coding::MethodDefOrRef),
     ],
@@ -82,9 +86,14 @@ static SCHEMA: [&[Column]; 56] = [
     // 1B TypeSpec
     &[Blob],
     // 1C ImplMap
-    &[Num16, Coded(Coding::MemberForwarded), Text, Index(0x1A)],
+    &[
+        Num16,
+        Coded(Coding::MemberForwarded),
+        Text,
+        Index(MODULE_REF),
+    ],
     // 1D FieldRVA
-    &[Num32, Index(0x04)],
+    &[Num32, Index(FIELD)],
     // 1E EncLog
     &[Num32, Num32],
     // 1F EncMap
@@ -98,9 +107,9 @@ static SCHEMA: [&[Column]; 56] = [
     // 23 AssemblyRef
     &[Num16, Num16, Num16, Num16, Num32, Blob, Text, Text, Blob],
     // 24 AssemblyRefProcessor
-    &[Num32, Index(0x23)],
+    &[Num32, Index(ASSEMBLY_REF)],
     // 25 AssemblyRefOS
-    &[Num32, Num32, Num32, Index(0x23)],
+    &[Num32, Num32, Num32, Index(ASSEMBLY_REF)],
     // 26 File
     &[Num32, Text, Blob],
     // 27 ExportedType
@@ -108,13 +117,13 @@ static SCHEMA: [&[Column]; 56] = [
     // 28 ManifestResource
     &[Num32, Num32, Text, Coded(Coding::Implementation)],
     // 29 NestedClass
-    &[Index(0x02), Index(0x02)],
+    &[Index(TYPE_DEF), Index(TYPE_DEF)],
     // 2A GenericParam
     &[Num16, Num16, Coded(Coding::TypeOrMethodDef), Text],
     // 2B MethodSpec
     &[Coded(Coding::MethodDefOrRef), Blob],
     // 2C GenericParamConstraint
-    &[Index(0x2A), Coded(Coding::TypeDefOrRef)],
+    &[Index(GENERIC_PARAM), Coded(Coding::TypeDefOrRef)],
     // 2D
     &[],
     // 2E
@@ -124,13 +133,13 @@ static SCHEMA: [&[Column]; 56] = [
     // 30 Document
     &[Blob, Guid, Blob, Guid],
     // 31 MethodDebugInformation
-    &[Index(0x30), Blob],
+    &[Index(DOCUMENT), Blob],
     // 32 LocalScope
     &[
-        Index(0x06),
-        Index(0x35),
-        Index(0x33),
-        Index(0x34),
+        Index(METHOD_DEF),
+        Index(IMPORT_SCOPE),
+        Index(LOCAL_VARIABLE),
+        Index(LOCAL_CONSTANT),
         Num32,
         Num32,
     ],
@@ -139,9 +148,9 @@ static SCHEMA: [&[Column]; 56] = [
     // 34 LocalConstant
     &[Text, Blob],
     // 35 ImportScope
-    &[Index(0x35), Blob],
+    &[Index(IMPORT_SCOPE), Blob],
     // 36 StateMachineMethod
-    &[Index(0x06), Index(0x06)],
+    &[Index(METHOD_DEF), Index(METHOD_DEF)],
     // 37 CustomDebugInformation
     &[Coded(Coding::HasCustomDebugInformation), Guid, Blob],
 ];

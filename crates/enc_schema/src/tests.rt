@@ -215,7 +215,7 @@ fn decodes_every_tag(rt: HostRuntime) -> Result<(), Fail> {
                     row: 0
                 }
             ),
-            None
+            Some(0)
         );
         assert_eq!(rt;
             encode_coded(
@@ -355,5 +355,351 @@ fn tells_owners(rt: HostRuntime) -> Result<(), Fail> {
     assert_eq!(rt; runs_of(0x02).len(), 2);
     assert_eq!(rt; runs_of(0x04).len(), 0);
     assert!(rt; !is_child_table(0x09));
+    Ok(())
+}
+
+/// The tables by their constants.
+static TABLES: [(u8, &str); 53] = [
+    (tables::MODULE, "Module"),
+    (tables::TYPE_REF, "TypeRef"),
+    (tables::TYPE_DEF, "TypeDef"),
+    (tables::FIELD_PTR, "FieldPtr"),
+    (tables::FIELD, "Field"),
+    (tables::METHOD_PTR, "MethodPtr"),
+    (tables::METHOD_DEF, "MethodDef"),
+    (tables::PARAM_PTR, "ParamPtr"),
+    (tables::PARAM, "Param"),
+    (tables::INTERFACE_IMPL, "InterfaceImpl"),
+    (tables::MEMBER_REF, "MemberRef"),
+    (tables::CONSTANT, "Constant"),
+    (tables::CUSTOM_ATTRIBUTE, "CustomAttribute"),
+    (tables::FIELD_MARSHAL, "FieldMarshal"),
+    (tables::DECL_SECURITY, "DeclSecurity"),
+    (tables::CLASS_LAYOUT, "ClassLayout"),
+    (tables::FIELD_LAYOUT, "FieldLayout"),
+    (tables::STAND_ALONE_SIG, "StandAloneSig"),
+    (tables::EVENT_MAP, "EventMap"),
+    (tables::EVENT_PTR, "EventPtr"),
+    (tables::EVENT, "Event"),
+    (tables::PROPERTY_MAP, "PropertyMap"),
+    (tables::PROPERTY_PTR, "PropertyPtr"),
+    (tables::PROPERTY, "Property"),
+    (tables::METHOD_SEMANTICS, "MethodSemantics"),
+    (tables::METHOD_IMPL, "MethodImpl"),
+    (tables::MODULE_REF, "ModuleRef"),
+    (tables::TYPE_SPEC, "TypeSpec"),
+    (tables::IMPL_MAP, "ImplMap"),
+    (tables::FIELD_RVA, "FieldRVA"),
+    (tables::ENC_LOG, "EncLog"),
+    (tables::ENC_MAP, "EncMap"),
+    (tables::ASSEMBLY, "Assembly"),
+    (tables::ASSEMBLY_PROCESSOR, "AssemblyProcessor"),
+    (tables::ASSEMBLY_OS, "AssemblyOS"),
+    (tables::ASSEMBLY_REF, "AssemblyRef"),
+    (tables::ASSEMBLY_REF_PROCESSOR, "AssemblyRefProcessor"),
+    (tables::ASSEMBLY_REF_OS, "AssemblyRefOS"),
+    (tables::FILE, "File"),
+    (tables::EXPORTED_TYPE, "ExportedType"),
+    (tables::MANIFEST_RESOURCE, "ManifestResource"),
+    (tables::NESTED_CLASS, "NestedClass"),
+    (tables::GENERIC_PARAM, "GenericParam"),
+    (tables::METHOD_SPEC, "MethodSpec"),
+    (tables::GENERIC_PARAM_CONSTRAINT, "GenericParamConstraint"),
+    (tables::DOCUMENT, "Document"),
+    (tables::METHOD_DEBUG_INFORMATION, "MethodDebugInformation"),
+    (tables::LOCAL_SCOPE, "LocalScope"),
+    (tables::LOCAL_VARIABLE, "LocalVariable"),
+    (tables::LOCAL_CONSTANT, "LocalConstant"),
+    (tables::IMPORT_SCOPE, "ImportScope"),
+    (tables::STATE_MACHINE_METHOD, "StateMachineMethod"),
+    (tables::CUSTOM_DEBUG_INFORMATION, "CustomDebugInformation"),
+];
+
+/// The columns by their constants.
+static COLUMNS: [(u8, u8, &str); 97] = [
+    (tables::MODULE, columns::MODULE_GENERATION, "Generation"),
+    (tables::MODULE, columns::MODULE_NAME, "Name"),
+    (tables::MODULE, columns::MODULE_MVID, "Mvid"),
+    (tables::MODULE, columns::MODULE_ENC_ID, "EncId"),
+    (tables::MODULE, columns::MODULE_ENC_BASE_ID, "EncBaseId"),
+    (
+        tables::TYPE_REF,
+        columns::TYPE_REF_RESOLUTION_SCOPE,
+        "ResolutionScope",
+    ),
+    (tables::TYPE_REF, columns::TYPE_REF_TYPE_NAME, "TypeName"),
+    (
+        tables::TYPE_REF,
+        columns::TYPE_REF_TYPE_NAMESPACE,
+        "TypeNamespace",
+    ),
+    (tables::TYPE_DEF, columns::TYPE_DEF_FLAGS, "Flags"),
+    (tables::TYPE_DEF, columns::TYPE_DEF_TYPE_NAME, "TypeName"),
+    (
+        tables::TYPE_DEF,
+        columns::TYPE_DEF_TYPE_NAMESPACE,
+        "TypeNamespace",
+    ),
+    (tables::TYPE_DEF, columns::TYPE_DEF_EXTENDS, "Extends"),
+    (tables::TYPE_DEF, columns::TYPE_DEF_FIELD_LIST, "FieldList"),
+    (
+        tables::TYPE_DEF,
+        columns::TYPE_DEF_METHOD_LIST,
+        "MethodList",
+    ),
+    (tables::FIELD, columns::FIELD_FLAGS, "Flags"),
+    (tables::FIELD, columns::FIELD_NAME, "Name"),
+    (tables::FIELD, columns::FIELD_SIGNATURE, "Signature"),
+    (tables::METHOD_DEF, columns::METHOD_DEF_RVA, "RVA"),
+    (
+        tables::METHOD_DEF,
+        columns::METHOD_DEF_IMPL_FLAGS,
+        "ImplFlags",
+    ),
+    (tables::METHOD_DEF, columns::METHOD_DEF_FLAGS, "Flags"),
+    (tables::METHOD_DEF, columns::METHOD_DEF_NAME, "Name"),
+    (
+        tables::METHOD_DEF,
+        columns::METHOD_DEF_SIGNATURE,
+        "Signature",
+    ),
+    (
+        tables::METHOD_DEF,
+        columns::METHOD_DEF_PARAM_LIST,
+        "ParamList",
+    ),
+    (tables::PARAM, columns::PARAM_FLAGS, "Flags"),
+    (tables::PARAM, columns::PARAM_SEQUENCE, "Sequence"),
+    (tables::PARAM, columns::PARAM_NAME, "Name"),
+    (tables::MEMBER_REF, columns::MEMBER_REF_CLASS, "Class"),
+    (tables::MEMBER_REF, columns::MEMBER_REF_NAME, "Name"),
+    (
+        tables::MEMBER_REF,
+        columns::MEMBER_REF_SIGNATURE,
+        "Signature",
+    ),
+    (
+        tables::CUSTOM_ATTRIBUTE,
+        columns::CUSTOM_ATTRIBUTE_PARENT,
+        "Parent",
+    ),
+    (
+        tables::CUSTOM_ATTRIBUTE,
+        columns::CUSTOM_ATTRIBUTE_TYPE,
+        "Type",
+    ),
+    (
+        tables::CUSTOM_ATTRIBUTE,
+        columns::CUSTOM_ATTRIBUTE_VALUE,
+        "Value",
+    ),
+    (
+        tables::CLASS_LAYOUT,
+        columns::CLASS_LAYOUT_PACKING_SIZE,
+        "PackingSize",
+    ),
+    (
+        tables::CLASS_LAYOUT,
+        columns::CLASS_LAYOUT_CLASS_SIZE,
+        "ClassSize",
+    ),
+    (tables::CLASS_LAYOUT, columns::CLASS_LAYOUT_PARENT, "Parent"),
+    (
+        tables::STAND_ALONE_SIG,
+        columns::STAND_ALONE_SIG_SIGNATURE,
+        "Signature",
+    ),
+    (tables::EVENT_MAP, columns::EVENT_MAP_PARENT, "Parent"),
+    (
+        tables::EVENT_MAP,
+        columns::EVENT_MAP_EVENT_LIST,
+        "EventList",
+    ),
+    (tables::EVENT, columns::EVENT_EVENT_FLAGS, "EventFlags"),
+    (tables::EVENT, columns::EVENT_NAME, "Name"),
+    (tables::EVENT, columns::EVENT_EVENT_TYPE, "EventType"),
+    (tables::PROPERTY_MAP, columns::PROPERTY_MAP_PARENT, "Parent"),
+    (
+        tables::PROPERTY_MAP,
+        columns::PROPERTY_MAP_PROPERTY_LIST,
+        "PropertyList",
+    ),
+    (tables::PROPERTY, columns::PROPERTY_FLAGS, "Flags"),
+    (tables::PROPERTY, columns::PROPERTY_NAME, "Name"),
+    (tables::PROPERTY, columns::PROPERTY_TYPE, "Type"),
+    (tables::MODULE_REF, columns::MODULE_REF_NAME, "Name"),
+    (tables::TYPE_SPEC, columns::TYPE_SPEC_SIGNATURE, "Signature"),
+    (tables::FIELD_RVA, columns::FIELD_RVA_RVA, "RVA"),
+    (tables::FIELD_RVA, columns::FIELD_RVA_FIELD, "Field"),
+    (tables::ENC_LOG, columns::ENC_LOG_TOKEN, "Token"),
+    (tables::ENC_LOG, columns::ENC_LOG_FUNC_CODE, "FuncCode"),
+    (tables::ENC_MAP, columns::ENC_MAP_TOKEN, "Token"),
+    (tables::ASSEMBLY, columns::ASSEMBLY_HASH_ALG_ID, "HashAlgId"),
+    (
+        tables::ASSEMBLY,
+        columns::ASSEMBLY_MAJOR_VERSION,
+        "MajorVersion",
+    ),
+    (
+        tables::ASSEMBLY,
+        columns::ASSEMBLY_MINOR_VERSION,
+        "MinorVersion",
+    ),
+    (
+        tables::ASSEMBLY,
+        columns::ASSEMBLY_BUILD_NUMBER,
+        "BuildNumber",
+    ),
+    (
+        tables::ASSEMBLY,
+        columns::ASSEMBLY_REVISION_NUMBER,
+        "RevisionNumber",
+    ),
+    (tables::ASSEMBLY, columns::ASSEMBLY_FLAGS, "Flags"),
+    (tables::ASSEMBLY, columns::ASSEMBLY_PUBLIC_KEY, "PublicKey"),
+    (tables::ASSEMBLY, columns::ASSEMBLY_NAME, "Name"),
+    (tables::ASSEMBLY, columns::ASSEMBLY_CULTURE, "Culture"),
+    (
+        tables::ASSEMBLY_REF,
+        columns::ASSEMBLY_REF_MAJOR_VERSION,
+        "MajorVersion",
+    ),
+    (
+        tables::ASSEMBLY_REF,
+        columns::ASSEMBLY_REF_MINOR_VERSION,
+        "MinorVersion",
+    ),
+    (
+        tables::ASSEMBLY_REF,
+        columns::ASSEMBLY_REF_BUILD_NUMBER,
+        "BuildNumber",
+    ),
+    (
+        tables::ASSEMBLY_REF,
+        columns::ASSEMBLY_REF_REVISION_NUMBER,
+        "RevisionNumber",
+    ),
+    (tables::ASSEMBLY_REF, columns::ASSEMBLY_REF_FLAGS, "Flags"),
+    (
+        tables::ASSEMBLY_REF,
+        columns::ASSEMBLY_REF_PUBLIC_KEY_OR_TOKEN,
+        "PublicKeyOrToken",
+    ),
+    (tables::ASSEMBLY_REF, columns::ASSEMBLY_REF_NAME, "Name"),
+    (
+        tables::ASSEMBLY_REF,
+        columns::ASSEMBLY_REF_CULTURE,
+        "Culture",
+    ),
+    (
+        tables::ASSEMBLY_REF,
+        columns::ASSEMBLY_REF_HASH_VALUE,
+        "HashValue",
+    ),
+    (tables::METHOD_SPEC, columns::METHOD_SPEC_METHOD, "Method"),
+    (
+        tables::METHOD_SPEC,
+        columns::METHOD_SPEC_INSTANTIATION,
+        "Instantiation",
+    ),
+    (tables::DOCUMENT, columns::DOCUMENT_NAME, "Name"),
+    (
+        tables::DOCUMENT,
+        columns::DOCUMENT_HASH_ALGORITHM,
+        "HashAlgorithm",
+    ),
+    (tables::DOCUMENT, columns::DOCUMENT_HASH, "Hash"),
+    (tables::DOCUMENT, columns::DOCUMENT_LANGUAGE, "Language"),
+    (
+        tables::METHOD_DEBUG_INFORMATION,
+        columns::METHOD_DEBUG_INFORMATION_DOCUMENT,
+        "Document",
+    ),
+    (
+        tables::METHOD_DEBUG_INFORMATION,
+        columns::METHOD_DEBUG_INFORMATION_SEQUENCE_POINTS,
+        "SequencePoints",
+    ),
+    (tables::LOCAL_SCOPE, columns::LOCAL_SCOPE_METHOD, "Method"),
+    (
+        tables::LOCAL_SCOPE,
+        columns::LOCAL_SCOPE_IMPORT_SCOPE,
+        "ImportScope",
+    ),
+    (
+        tables::LOCAL_SCOPE,
+        columns::LOCAL_SCOPE_VARIABLE_LIST,
+        "VariableList",
+    ),
+    (
+        tables::LOCAL_SCOPE,
+        columns::LOCAL_SCOPE_CONSTANT_LIST,
+        "ConstantList",
+    ),
+    (
+        tables::LOCAL_SCOPE,
+        columns::LOCAL_SCOPE_START_OFFSET,
+        "StartOffset",
+    ),
+    (tables::LOCAL_SCOPE, columns::LOCAL_SCOPE_LENGTH, "Length"),
+    (
+        tables::LOCAL_VARIABLE,
+        columns::LOCAL_VARIABLE_ATTRIBUTES,
+        "Attributes",
+    ),
+    (
+        tables::LOCAL_VARIABLE,
+        columns::LOCAL_VARIABLE_INDEX,
+        "Index",
+    ),
+    (tables::LOCAL_VARIABLE, columns::LOCAL_VARIABLE_NAME, "Name"),
+    (tables::LOCAL_CONSTANT, columns::LOCAL_CONSTANT_NAME, "Name"),
+    (
+        tables::LOCAL_CONSTANT,
+        columns::LOCAL_CONSTANT_SIGNATURE,
+        "Signature",
+    ),
+    (tables::IMPORT_SCOPE, columns::IMPORT_SCOPE_PARENT, "Parent"),
+    (
+        tables::IMPORT_SCOPE,
+        columns::IMPORT_SCOPE_IMPORTS,
+        "Imports",
+    ),
+    (
+        tables::STATE_MACHINE_METHOD,
+        columns::STATE_MACHINE_METHOD_MOVE_NEXT_METHOD,
+        "MoveNextMethod",
+    ),
+    (
+        tables::STATE_MACHINE_METHOD,
+        columns::STATE_MACHINE_METHOD_KICKOFF_METHOD,
+        "KickoffMethod",
+    ),
+    (
+        tables::CUSTOM_DEBUG_INFORMATION,
+        columns::CUSTOM_DEBUG_INFORMATION_PARENT,
+        "Parent",
+    ),
+    (
+        tables::CUSTOM_DEBUG_INFORMATION,
+        columns::CUSTOM_DEBUG_INFORMATION_KIND,
+        "Kind",
+    ),
+    (
+        tables::CUSTOM_DEBUG_INFORMATION,
+        columns::CUSTOM_DEBUG_INFORMATION_VALUE,
+        "Value",
+    ),
+];
+
+#[test]
+fn numbers_by_name(rt: HostRuntime) -> Result<(), Fail> {
+    for (table, name) in &TABLES {
+        assert_eq!(rt; table_name(*table), Some(*name));
+    }
+    for (table, column, name) in &COLUMNS {
+        assert_eq!(rt; column_name(*table, *column), Some(*name));
+    }
+    assert_eq!(rt; tables::TABLE_COUNT, tables::GENERIC_PARAM_CONSTRAINT + 1);
     Ok(())
 }

@@ -9,3 +9,4 @@ pub mod Named
 pub mod Depth
 pub mod Wider
 pub mod Fronts
+mod ReadBack

@@ -1,6 +1,6 @@
--- A signature by one test of its tokens is the same signature by a test that lets through more.
-use Rattle.std.proofs.Common.{◌≡◌, ℕ, zero, suc, Bool, true, false, List, [], ◌∷◌, drop, Option, Some, None, refl}
-use Rattle.std.specs.Prelude.{option_map, option_and_then, is_some, if◌then◌else◌}
+-- What is read with a test of tokens is read the same with any wider test.
+use Rattle.std.proofs.Common.{◌≡◌, ℕ, zero, suc, Bool, true, false, cond, List, [], ◌∷◌, drop, Option, Some, None, refl}
+use Rattle.std.specs.Prelude.{◌==◌, ◌||◌, option_map, option_and_then, if◌then◌else◌}
 use Rattle.enc_base.specs.declared.token.Token.{Token}
 use Rattle.enc_sigs.specs.declared.kind.SigKind.{SigKind}
 use Rattle.enc_sigs.specs.declared.kind.SigKind.TheVariants.{Method, Field, Locals, Property, TypeSpec, MethodSpec}
@@ -8,158 +8,166 @@ use Rattle.enc_sigs.specs.declared.form.Form.{Form}
 use Rattle.enc_sigs.specs.declared.form.Form.TheVariants as form
 use Rattle.enc_sigs.specs.declared.form.Numeral.TheVariants.{Size, Bound}
 use Rattle.enc_sigs.specs.Tree.{Tree, SigTree}
-use Rattle.enc_sigs.specs.Grammar.{Reader, giving, both, upon, many, more_in, counted, number_in, numerals_in, byte_in, token_named, wrapped_in, named_in, modified_in, array_in, instance_in, pointer_in, method_in, calling_in, parts_in, params, marked_in, accessed_in, begins, token_in, form_of, formed_in, elem_in, type_in, front_in, all_of, sig_in}
+use Rattle.enc_base.specs.Token.{nil}
+use Rattle.enc_sigs.specs.Grammar.{Reader, giving, both, upon, many, counted, number_in, byte_in, token_in, token_named, tree, form_of, wrapped_in, named_in, modified_in, numbered_in, numerals_in, array_in, instance_in, begins, more_in, marked_in, params, calling_in, parts_in, method_in, pointer_in, formed_in, elem_in, type_in, accessed_in, front_in, all_of, sig_in}
 
--- what one reads, the other reads
-pub record Wider {A : Type 0} (r s : Reader A) : Type 0 where
-  pub each : (bytes : List ℕ) (p : A × List ℕ) → r bytes ≡ Some p → s bytes ≡ Some p
+-- what the first reads the second reads too
+abbrev pub Keeps : {A : Type 0} → Reader A → Reader A → Type 0
+Keeps {A} r s = (bytes : List ℕ) (p : A × List ℕ) → r bytes ≡ Some p → s bytes ≡ Some p
 
--- what one test lets through, the other does
-pub record More (f g : ℕ → Bool) : Type 0 where
-  pub each : (n : ℕ) → f n ≡ true → g n ≡ true
+-- each number that passes the first test passes the second
+abbrev pub Wider : (ℕ → Bool) → (ℕ → Bool) → Type 0
+Wider good test = (n : ℕ) → good n ≡ true → test n ≡ true
 
-same_wider : {A : Type 0} (r : Reader A) → Wider r r
-same_wider r = record { each = λ bytes p e. e }
+same_keeps : {A : Type 0} (r : Reader A) → Keeps r r
+same_keeps r bytes p e = e
 
-mapped : {A B : Type 0} (f : A → B) (o q : Option A) (y : B) → ((x : A) → o ≡ Some x → q ≡ Some x) → option_map f o ≡ Some y → option_map f q ≡ Some y
-mapped f None q y keeps e = absurd cc
-mapped f (Some x) q y keeps e = rw (keeps x refl) e
+given_keeps : {A B : Type 0} (h : A → B) (r s : Reader A) (bytes : List ℕ) (o : Option (A × List ℕ)) (p : B × List ℕ) → Keeps r s → r bytes ≡ o → option_map {T = A × List ℕ} (λ q. (h q.0, q.1)) o ≡ Some p → giving h s bytes ≡ Some p
+given_keeps h r s bytes None p keep is e = absurd (cc)
+given_keeps h r s bytes (Some q) p keep is e = rw (keep bytes q is) e
 
-onward : {A B : Type 0} (f g : A → Option B) (o q : Option A) (y : B) → ((x : A) → o ≡ Some x → q ≡ Some x) → ((x : A) → f x ≡ Some y → g x ≡ Some y) → option_and_then f o ≡ Some y → option_and_then g q ≡ Some y
-onward f g None q y keeps after e = absurd cc
-onward f g (Some x) q y keeps after e = rw (keeps x refl) (after x e)
+giving_keeps : {A B : Type 0} (h : A → B) (r s : Reader A) → Keeps r s → Keeps (giving h r) (giving h s)
+giving_keeps h r s keep bytes p e = given_keeps h r s bytes (r bytes) p keep refl e
 
-giving_wider : {A B : Type 0} (f : A → B) (r s : Reader A) → Wider r s → Wider (giving f r) (giving f s)
-giving_wider {A} f r s w = record { each = λ bytes p e. mapped (λ (q : A × List ℕ). (f q.0, q.1)) (r bytes) (s bytes) p (w.each bytes) e }
+second_keeps : {A B : Type 0} (s v : Reader B) (x : A) (bytes : List ℕ) (o : Option (B × List ℕ)) (p : (A × B) × List ℕ) → Keeps s v → s bytes ≡ o → option_map {T = B × List ℕ} (λ q. ((x, q.0), q.1)) o ≡ Some p → option_map {T = B × List ℕ} (λ q. ((x, q.0), q.1)) (v bytes) ≡ Some p
+second_keeps s v x bytes None p keep is e = absurd (cc)
+second_keeps s v x bytes (Some y) p keep is e = rw (keep bytes y is) e
 
-both_wider : {A B : Type 0} (r s : Reader A) (t u : Reader B) → Wider r s → Wider t u → Wider (both r t) (both s u)
-both_wider {A} {B} r s t u v w = record { each = λ bytes p e. onward (λ (x : A × List ℕ). option_map {T = B × List ℕ} (λ q. ((x.0, q.0), q.1)) (t x.1)) (λ (x : A × List ℕ). option_map {T = B × List ℕ} (λ q. ((x.0, q.0), q.1)) (u x.1)) (r bytes) (s bytes) p (v.each bytes) (λ x f. mapped (λ (q : B × List ℕ). ((x.0, q.0), q.1)) (t x.1) (u x.1) p (w.each x.1) f) e }
+first_keeps : {A B : Type 0} (r u : Reader A) (s v : Reader B) (bytes : List ℕ) (o : Option (A × List ℕ)) (p : (A × B) × List ℕ) → Keeps r u → Keeps s v → r bytes ≡ o → option_and_then {T = A × List ℕ} (λ p. option_map {T = B × List ℕ} (λ q. ((p.0, q.0), q.1)) (s p.1)) o ≡ Some p → both u v bytes ≡ Some p
+first_keeps r u s v bytes None p one two is e = absurd (cc)
+first_keeps r u s v bytes (Some x) p one two is e = rw (one bytes x is) (second_keeps s v x.0 x.1 (s x.1) p two refl e)
 
-upon_wider : {B : Type 0} (r : Reader ℕ) (t u : ℕ → Reader B) → ((n : ℕ) → Wider (t n) (u n)) → Wider (upon r t) (upon r u)
-upon_wider {B} r t u w = record { each = λ bytes p e. onward (λ (x : ℕ × List ℕ). option_map {T = B × List ℕ} (λ q. ((x.0, q.0), q.1)) (t x.0 x.1)) (λ (x : ℕ × List ℕ). option_map {T = B × List ℕ} (λ q. ((x.0, q.0), q.1)) (u x.0 x.1)) (r bytes) (r bytes) p (λ x f. f) (λ x f. mapped (λ (q : B × List ℕ). ((x.0, q.0), q.1)) (t x.0 x.1) (u x.0 x.1) p ((w x.0).each x.1) f) e }
+both_keeps : {A B : Type 0} (r u : Reader A) (s v : Reader B) → Keeps r u → Keeps s v → Keeps (both r s) (both u v)
+both_keeps r u s v one two bytes p e = first_keeps r u s v bytes (r bytes) p one two refl e
 
-token_test : (f g : ℕ → Bool) (n : ℕ) (b : Bool) (t : Token) (rest : List ℕ) (y : Token × List ℕ) → f n ≡ b → More f g → (if b then Some (t, rest) else None) ≡ Some y → (if g n then Some (t, rest) else None) ≡ Some y
-token_test f g n true t rest y is more e = rw (more.each n is) e
-token_test f g n false t rest y is more e = absurd cc
+behind_keeps : {B : Type 0} (r : Reader ℕ) (s v : ℕ → Reader B) (bytes : List ℕ) (o : Option (ℕ × List ℕ)) (p : (ℕ × B) × List ℕ) → ((n : ℕ) → Keeps (s n) (v n)) → r bytes ≡ o → option_and_then {T = ℕ × List ℕ} (λ p. option_map {T = B × List ℕ} (λ q. ((p.0, q.0), q.1)) (s p.0 p.1)) o ≡ Some p → upon r v bytes ≡ Some p
+behind_keeps r s v bytes None p each is e = absurd (cc)
+behind_keeps r s v bytes (Some x) p each is e = rw is (second_keeps (s x.0) (v x.0) x.0 x.1 (s x.0 x.1) p (each x.0) refl e)
 
-token_wider : (f g : ℕ → Bool) → More f g → Wider (token_in f) (token_in g)
-unfolding token_in
-token_wider f g more = record { each = λ bytes y e. onward (λ (p : ℕ × List ℕ). if f p.0 then Some (token_named p.0, p.1) else None) (λ (p : ℕ × List ℕ). if g p.0 then Some (token_named p.0, p.1) else None) (number_in bytes) (number_in bytes) y (λ x h. h) (λ x h. token_test f g x.0 (f x.0) (token_named x.0) x.1 y refl more h) e }
+upon_keeps : {B : Type 0} (r : Reader ℕ) (s v : ℕ → Reader B) → ((n : ℕ) → Keeps (s n) (v n)) → Keeps (upon r s) (upon r v)
+upon_keeps r s v each bytes p e = behind_keeps r s v bytes (r bytes) p each refl e
 
-none_wider : {A : Type 0} (x : A) → Wider (λ bytes. Some (x, bytes)) (λ bytes. Some (x, bytes))
-none_wider x = same_wider (λ bytes. Some (x, bytes))
-
-many_wider : {A : Type 0} (r s : Reader A) (n : ℕ) → Wider r s → Wider (many r n) (many s n)
+many_keeps : {A : Type 0} (r s : Reader A) (n : ℕ) → Keeps r s → Keeps (many r n) (many s n)
 unfolding many
-many_wider r s zero w = record { each = λ bytes p e. e }
-many_wider {A} r s (suc n) w = record { each = (giving_wider (λ (p : A × List A). p.0 ∷ p.1) (both r (many r n)) (both s (many s n)) (both_wider r s (many r n) (many s n) w (many_wider r s n w))).each }
+many_keeps r s zero keep bytes p e = e
+many_keeps {A} r s (suc n) keep bytes p e = giving_keeps (λ (p : A × List A). p.0 ∷ p.1) (both r (many r n)) (both s (many s n)) (both_keeps r s (many r n) (many s n) keep (many_keeps r s n keep)) bytes p e
 
-counted_wider : {A : Type 0} (r s : Reader A) → Wider r s → Wider (counted r) (counted s)
+counted_keeps : {A : Type 0} (r s : Reader A) → Keeps r s → Keeps (counted r) (counted s)
 unfolding counted
-counted_wider {A} r s w = giving_wider (λ (p : ℕ × List A). p.1) (upon number_in (many r)) (upon number_in (many s)) (upon_wider number_in (many r) (many s) (λ n. many_wider r s n w))
+counted_keeps {A} r s keep = giving_keeps (λ (p : ℕ × List A). p.1) (upon number_in (many r)) (upon number_in (many s)) (upon_keeps number_in (many r) (many s) (λ n. many_keeps r s n keep))
 
-more_wider : (r s : Reader Tree) (t u : Reader (List Tree)) → Wider r s → Wider t u → Wider (more_in r t) (more_in s u)
-more_wider r s t u v w = giving_wider (λ (p : Tree × List Tree). p.0 ∷ p.1) (both r t) (both s u) (both_wider r s t u v w)
+named_by : (good test : ℕ → Bool) (n : ℕ) (b : Bool) (t : Token) (rest : List ℕ) (p : Token × List ℕ) → Wider good test → good n ≡ b → cond b (Some (t, rest)) None ≡ Some p → cond (test n) (Some (t, rest)) None ≡ Some p
+named_by good test n true t rest p wider is e = rw (wider n is) e
+named_by good test n false t rest p wider is e = absurd (cc)
 
-wrapped_wider : (r s : Reader Tree) (b : ℕ) → Wider r s → Wider (wrapped_in r b) (wrapped_in s b)
+token_from : (good test : ℕ → Bool) (bytes : List ℕ) (o : Option (ℕ × List ℕ)) (p : Token × List ℕ) → Wider good test → number_in bytes ≡ o → option_and_then {T = ℕ × List ℕ} (λ p. if good p.0 then Some (token_named p.0, p.1) else None) o ≡ Some p → token_in test bytes ≡ Some p
+unfolding token_in
+token_from good test bytes None p wider is e = absurd (cc)
+token_from good test bytes (Some x) p wider is e = rw is (named_by good test x.0 (good x.0) (token_named x.0) x.1 p wider refl e)
+
+token_keeps : (good test : ℕ → Bool) → Wider good test → Keeps (token_in good) (token_in test)
+unfolding token_in
+token_keeps good test wider bytes p e = token_from good test bytes (number_in bytes) p wider refl e
+
+wrapped_keeps : (r s : Reader Tree) (b : ℕ) → Keeps r s → Keeps (wrapped_in r b) (wrapped_in s b)
 unfolding wrapped_in
-wrapped_wider r s b w = giving_wider _ r s w
+wrapped_keeps r s b keep = giving_keeps (λ x. tree b nil 0 (x ∷ [])) r s keep
 
-marked_wider : (r s : Reader Tree) (n : ℕ) → Wider r s → Wider (marked_in r n) (marked_in s n)
-unfolding marked_in
-marked_wider r s n w = more_wider (wrapped_in r 0x41) (wrapped_in s 0x41) (many r n) (many s n) (wrapped_wider r s 0x41 w) (many_wider r s n w)
-
-params_test : (r s : Reader Tree) (t u : Reader (List Tree)) (n : ℕ) (bytes : List ℕ) (p : List Tree × List ℕ) (b : Bool) → Wider r s → Wider t u → (if b then marked_in r n (drop 1 bytes) else more_in r t bytes) ≡ Some p → (if b then marked_in s n (drop 1 bytes) else more_in s u bytes) ≡ Some p
-params_test r s t u n bytes p true w v e = (marked_wider r s n w).each (drop 1 bytes) p e
-params_test r s t u n bytes p false w v e = (more_wider r s t u w v).each bytes p e
-
-params_wider : (r s : Reader Tree) (n : ℕ) → Wider r s → Wider (params r n) (params s n)
-unfolding params
-params_wider r s zero w = record { each = λ bytes p e. e }
-params_wider r s (suc n) w = record { each = λ bytes p e. params_test r s (params r n) (params s n) n bytes p (begins 0x41 bytes) w (params_wider r s n w) e }
-
-parts_wider : (r s : Reader Tree) → Wider r s → Wider (parts_in r) (parts_in s)
-unfolding parts_in
-parts_wider r s w = giving_wider _ (upon number_in (λ n. both r (params r n))) (upon number_in (λ n. both s (params s n))) (upon_wider number_in (λ n. both r (params r n)) (λ n. both s (params s n)) (λ n. both_wider r s (params r n) (params s n) w (params_wider r s n w)))
-
-method_wider : (r s : Reader Tree) → Wider r s → Wider (method_in r) (method_in s)
-unfolding method_in
-method_wider r s w = both_wider calling_in calling_in (parts_in r) (parts_in s) (same_wider calling_in) (parts_wider r s w)
-
-pointer_wider : (r s : Reader Tree) (b : ℕ) → Wider r s → Wider (pointer_in r b) (pointer_in s b)
-unfolding pointer_in
-pointer_wider r s b w = giving_wider _ (method_in r) (method_in s) (method_wider r s w)
-
-named_wider : (f g : ℕ → Bool) (b : ℕ) → More f g → Wider (named_in f b) (named_in g b)
+named_keeps : (good test : ℕ → Bool) (b : ℕ) → Wider good test → Keeps (named_in good b) (named_in test b)
 unfolding named_in
-named_wider f g b more = giving_wider _ (token_in f) (token_in g) (token_wider f g more)
+named_keeps good test b wider = giving_keeps (λ t. tree b t 0 []) (token_in good) (token_in test) (token_keeps good test wider)
 
-modified_wider : (f g : ℕ → Bool) (r s : Reader Tree) (b : ℕ) → More f g → Wider r s → Wider (modified_in f r b) (modified_in g s b)
+modified_keeps : (good test : ℕ → Bool) (r s : Reader Tree) (b : ℕ) → Wider good test → Keeps r s → Keeps (modified_in good r b) (modified_in test s b)
 unfolding modified_in
-modified_wider f g r s b more w = giving_wider _ (both (token_in f) r) (both (token_in g) s) (both_wider (token_in f) (token_in g) r s (token_wider f g more) w)
+modified_keeps good test r s b wider keep = giving_keeps (λ (p : Token × Tree). tree b p.0 0 (p.1 ∷ [])) (both (token_in good) r) (both (token_in test) s) (both_keeps (token_in good) (token_in test) r s (token_keeps good test wider) keep)
 
-array_wider : (r s : Reader Tree) (b : ℕ) → Wider r s → Wider (array_in r b) (array_in s b)
+array_keeps : (r s : Reader Tree) (b : ℕ) → Keeps r s → Keeps (array_in r b) (array_in s b)
 unfolding array_in
-array_wider r s b w = giving_wider _ (both r (both number_in (both (numerals_in Size) (numerals_in Bound)))) (both s (both number_in (both (numerals_in Size) (numerals_in Bound)))) (both_wider r s (both number_in (both (numerals_in Size) (numerals_in Bound))) (both number_in (both (numerals_in Size) (numerals_in Bound))) w (same_wider (both number_in (both (numerals_in Size) (numerals_in Bound)))))
+array_keeps r s b keep =
+    let behind = both number_in (both (numerals_in Size) (numerals_in Bound)) in
+    giving_keeps (λ (p : Tree × (ℕ × (Tree × Tree))). tree b nil p.1.0 (p.0 ∷ p.1.1.0 ∷ p.1.1.1 ∷ [])) (both r behind) (both s behind) (both_keeps r s behind behind keep (same_keeps behind))
 
-instance_wider : (f g : ℕ → Bool) (r s : Reader Tree) (b : ℕ) → More f g → Wider r s → Wider (instance_in f r b) (instance_in g s b)
+instance_keeps : (good test : ℕ → Bool) (r s : Reader Tree) (b : ℕ) → Wider good test → Keeps r s → Keeps (instance_in good r b) (instance_in test s b)
 unfolding instance_in
-instance_wider f g r s b more w = giving_wider _ (both (byte_in _) (both (token_in f) (counted r))) (both (byte_in _) (both (token_in g) (counted s))) (both_wider (byte_in _) (byte_in _) (both (token_in f) (counted r)) (both (token_in g) (counted s)) (same_wider (byte_in _)) (both_wider (token_in f) (token_in g) (counted r) (counted s) (token_wider f g more) (counted_wider r s w)))
+instance_keeps good test r s b wider keep =
+    let class = byte_in (λ c. c == 0x11 || c == 0x12) in
+    let lasts = both_keeps (token_in good) (token_in test) (counted r) (counted s) (token_keeps good test wider) (counted_keeps r s keep) in
+    giving_keeps (λ (p : ℕ × (Token × List Tree)). tree b p.1.0 p.0 p.1.1) (both class (both (token_in good) (counted r))) (both class (both (token_in test) (counted s))) (both_keeps class class (both (token_in good) (counted r)) (both (token_in test) (counted s)) (same_keeps class) lasts)
 
-formed_wider : (f g : ℕ → Bool) (r s : Reader Tree) (k : Form) (b : ℕ) → More f g → Wider r s → Wider (formed_in f r k b) (formed_in g s k b)
-unfolding formed_in
-formed_wider f g r s form.Bare b more w = record { each = λ bytes p e. e }
-formed_wider f g r s form.Wrapped b more w = record { each = (wrapped_wider r s b w).each }
-formed_wider f g r s form.Named b more w = record { each = (named_wider f g b more).each }
-formed_wider f g r s form.Modified b more w = record { each = (modified_wider f g r s b more w).each }
-formed_wider f g r s form.Numbered b more w = record { each = λ bytes p e. e }
-formed_wider f g r s form.Array b more w = record { each = (array_wider r s b w).each }
-formed_wider f g r s form.Instance b more w = record { each = (instance_wider f g r s b more w).each }
-formed_wider f g r s form.Pointer b more w = record { each = (pointer_wider r s b w).each }
+more_keeps : (r s : Reader Tree) (v w : Reader (List Tree)) → Keeps r s → Keeps v w → Keeps (more_in r v) (more_in s w)
+more_keeps r s v w one two = giving_keeps (λ (p : Tree × List Tree). p.0 ∷ p.1) (both r v) (both s w) (both_keeps r s v w one two)
 
-by_form : (f g : ℕ → Bool) (r s : Reader Tree) (o : Option Form) (b : ℕ) (rest : List ℕ) (p : Tree × List ℕ) → More f g → Wider r s → option_and_then (λ k. formed_in f r k b rest) o ≡ Some p → option_and_then (λ k. formed_in g s k b rest) o ≡ Some p
-by_form f g r s None b rest p more w e = absurd cc
-by_form f g r s (Some k) b rest p more w e = (formed_wider f g r s k b more w).each rest p e
+marked_keeps : (r s : Reader Tree) (n : ℕ) → Keeps r s → Keeps (marked_in r n) (marked_in s n)
+unfolding marked_in
+marked_keeps r s n keep = more_keeps (wrapped_in r 0x41) (wrapped_in s 0x41) (many r n) (many s n) (wrapped_keeps r s 0x41 keep) (many_keeps r s n keep)
 
-by_bytes : (f g : ℕ → Bool) (depth : ℕ) (bytes : List ℕ) (p : Tree × List ℕ) → More f g → Wider (elem_in f depth) (elem_in g depth) → elem_in f (suc depth) bytes ≡ Some p → elem_in g (suc depth) bytes ≡ Some p
-unfolding elem_in
-by_bytes f g depth [] p more w e = absurd cc
-by_bytes f g depth (b ∷ rest) p more w e = by_form f g (elem_in f depth) (elem_in g depth) (form_of b) b rest p more w e
+by_test : (b : Bool) (r s v w : Reader (List Tree)) (x y : List ℕ) (p : List Tree × List ℕ) → Keeps r s → Keeps v w → cond b (r x) (v y) ≡ Some p → cond b (s x) (w y) ≡ Some p
+by_test true r s v w x y p one two e = one x p e
+by_test false r s v w x y p one two e = two y p e
 
-elem_wider : (f g : ℕ → Bool) (depth : ℕ) → More f g → Wider (elem_in f depth) (elem_in g depth)
-unfolding elem_in
-elem_wider f g zero more = record { each = λ bytes p e. absurd cc }
-elem_wider f g (suc depth) more = record { each = λ bytes p e. by_bytes f g depth bytes p more (elem_wider f g depth more) e }
+params_keeps : (r s : Reader Tree) (n : ℕ) → Keeps r s → Keeps (params r n) (params s n)
+unfolding params
+params_keeps r s zero keep bytes p e = e
+params_keeps r s (suc n) keep bytes p e = by_test (begins 0x41 bytes) (marked_in r n) (marked_in s n) (more_in r (params r n)) (more_in s (params s n)) (drop 1 bytes) bytes p (marked_keeps r s n keep) (more_keeps r s (params r n) (params s n) keep (params_keeps r s n keep)) e
 
-type_wider : (f g : ℕ → Bool) → More f g → Wider (type_in f) (type_in g)
-unfolding type_in
-type_wider f g more = record { each = (elem_wider f g 100 more).each }
+parts_keeps : (r s : Reader Tree) → Keeps r s → Keeps (parts_in r) (parts_in s)
+unfolding parts_in
+parts_keeps r s keep = giving_keeps (λ (p : ℕ × (Tree × List Tree)). p.1.0 ∷ p.1.1) (upon number_in (λ n. both r (params r n))) (upon number_in (λ n. both s (params s n))) (upon_keeps number_in (λ n. both r (params r n)) (λ n. both s (params s n)) (λ n. both_keeps r s (params r n) (params s n) keep (params_keeps r s n keep)))
 
-accessed_wider : (r s : Reader Tree) → Wider r s → Wider (accessed_in r) (accessed_in s)
+method_keeps : (r s : Reader Tree) → Keeps r s → Keeps (method_in r) (method_in s)
+unfolding method_in
+method_keeps r s keep = both_keeps calling_in calling_in (parts_in r) (parts_in s) (same_keeps calling_in) (parts_keeps r s keep)
+
+pointer_keeps : (r s : Reader Tree) (b : ℕ) → Keeps r s → Keeps (pointer_in r b) (pointer_in s b)
+unfolding pointer_in
+pointer_keeps r s b keep = giving_keeps (λ (p : (ℕ × ℕ) × List Tree). tree b nil p.0.0 (tree 0 nil p.0.1 [] ∷ p.1)) (method_in r) (method_in s) (method_keeps r s keep)
+
+accessed_keeps : (r s : Reader Tree) → Keeps r s → Keeps (accessed_in r) (accessed_in s)
 unfolding accessed_in
-accessed_wider r s w = giving_wider _ (upon number_in (λ n. both r (many r n))) (upon number_in (λ n. both s (many s n))) (upon_wider number_in (λ n. both r (many r n)) (λ n. both s (many s n)) (λ n. both_wider r s (many r n) (many s n) w (many_wider r s n w)))
+accessed_keeps r s keep = giving_keeps (λ (p : ℕ × (Tree × List Tree)). p.1.0 ∷ p.1.1) (upon number_in (λ n. both r (many r n))) (upon number_in (λ n. both s (many s n))) (upon_keeps number_in (λ n. both r (many r n)) (λ n. both s (many s n)) (λ n. both_keeps r s (many r n) (many s n) keep (many_keeps r s n keep)))
 
-front_wider : (f g : ℕ → Bool) (k : SigKind) → More f g → Wider (front_in f k) (front_in g k)
+formed_keeps : (good test : ℕ → Bool) (r s : Reader Tree) (f : Form) (b : ℕ) → Wider good test → Keeps r s → Keeps (formed_in good r f b) (formed_in test s f b)
+unfolding formed_in
+formed_keeps good test r s form.Bare b wider keep = same_keeps (λ bytes. Some (tree b nil 0 [], bytes))
+formed_keeps good test r s form.Wrapped b wider keep = wrapped_keeps r s b keep
+formed_keeps good test r s form.Named b wider keep = named_keeps good test b wider
+formed_keeps good test r s form.Modified b wider keep = modified_keeps good test r s b wider keep
+formed_keeps good test r s form.Numbered b wider keep = same_keeps (numbered_in b number_in)
+formed_keeps good test r s form.Array b wider keep = array_keeps r s b keep
+formed_keeps good test r s form.Instance b wider keep = instance_keeps good test r s b wider keep
+formed_keeps good test r s form.Pointer b wider keep = pointer_keeps r s b keep
+
+opened_keeps : (good test : ℕ → Bool) (r s : Reader Tree) (o : Option Form) (b : ℕ) (rest : List ℕ) (p : Tree × List ℕ) → Wider good test → Keeps r s → option_and_then {T = Form} (λ f. formed_in good r f b rest) o ≡ Some p → option_and_then {T = Form} (λ f. formed_in test s f b rest) o ≡ Some p
+opened_keeps good test r s None b rest p wider keep e = absurd (cc)
+opened_keeps good test r s (Some f) b rest p wider keep e = formed_keeps good test r s f b wider keep rest p e
+
+elem_keeps : (good test : ℕ → Bool) (depth : ℕ) → Wider good test → Keeps (elem_in good depth) (elem_in test depth)
+unfolding elem_in
+elem_keeps good test zero wider bytes p e = absurd (cc)
+elem_keeps good test (suc depth) wider [] p e = absurd (cc)
+elem_keeps good test (suc depth) wider (b ∷ rest) p e = opened_keeps good test (elem_in good depth) (elem_in test depth) (form_of b) b rest p wider (elem_keeps good test depth wider) e
+
+type_keeps : (good test : ℕ → Bool) → Wider good test → Keeps (type_in good) (type_in test)
+unfolding type_in
+type_keeps good test wider = elem_keeps good test 100 wider
+
+tagged_keeps : (kind : SigKind) (tag : ℕ → Bool) (r s : Reader (List Tree)) → Keeps r s → Keeps {A = SigTree} (giving (λ (p : ℕ × List Tree). record { form = kind; kind = p.0; generics = 0; parts = p.1 }) (both (byte_in tag) r)) (giving (λ (p : ℕ × List Tree). record { form = kind; kind = p.0; generics = 0; parts = p.1 }) (both (byte_in tag) s))
+tagged_keeps kind tag r s keep = giving_keeps (λ (p : ℕ × List Tree). record { form = kind; kind = p.0; generics = 0; parts = p.1 }) (both (byte_in tag) r) (both (byte_in tag) s) (both_keeps (byte_in tag) (byte_in tag) r s (same_keeps (byte_in tag)) keep)
+
+front_keeps : (good test : ℕ → Bool) (kind : SigKind) → Wider good test → Keeps (front_in good kind) (front_in test kind)
 unfolding front_in
-front_wider f g Method more = record { each = (giving_wider _ (method_in (type_in f)) (method_in (type_in g)) (method_wider (type_in f) (type_in g) (type_wider f g more))).each }
-front_wider f g Field more = record { each = (giving_wider _ (both (byte_in _) (type_in f)) (both (byte_in _) (type_in g)) (both_wider (byte_in _) (byte_in _) (type_in f) (type_in g) (same_wider (byte_in _)) (type_wider f g more))).each }
-front_wider f g Locals more = record { each = (giving_wider _ (both (byte_in _) (counted (type_in f))) (both (byte_in _) (counted (type_in g))) (both_wider (byte_in _) (byte_in _) (counted (type_in f)) (counted (type_in g)) (same_wider (byte_in _)) (counted_wider (type_in f) (type_in g) (type_wider f g more)))).each }
-front_wider f g Property more = record { each = (giving_wider _ (both (byte_in _) (accessed_in (type_in f))) (both (byte_in _) (accessed_in (type_in g))) (both_wider (byte_in _) (byte_in _) (accessed_in (type_in f)) (accessed_in (type_in g)) (same_wider (byte_in _)) (accessed_wider (type_in f) (type_in g) (type_wider f g more)))).each }
-front_wider f g TypeSpec more = record { each = (giving_wider _ (type_in f) (type_in g) (type_wider f g more)).each }
-front_wider f g MethodSpec more = record { each = (giving_wider _ (both (byte_in _) (counted (type_in f))) (both (byte_in _) (counted (type_in g))) (both_wider (byte_in _) (byte_in _) (counted (type_in f)) (counted (type_in g)) (same_wider (byte_in _)) (counted_wider (type_in f) (type_in g) (type_wider f g more)))).each }
+front_keeps good test Method wider = giving_keeps (λ (p : (ℕ × ℕ) × List Tree). record { form = Method; kind = p.0.0; generics = p.0.1; parts = p.1 }) (method_in (type_in good)) (method_in (type_in test)) (method_keeps (type_in good) (type_in test) (type_keeps good test wider))
+front_keeps good test Field wider = giving_keeps (λ (p : ℕ × Tree). record { form = Field; kind = p.0; generics = 0; parts = p.1 ∷ [] }) (both (byte_in (λ b. b == 0x06)) (type_in good)) (both (byte_in (λ b. b == 0x06)) (type_in test)) (both_keeps (byte_in (λ b. b == 0x06)) (byte_in (λ b. b == 0x06)) (type_in good) (type_in test) (same_keeps (byte_in (λ b. b == 0x06))) (type_keeps good test wider))
+front_keeps good test Locals wider = tagged_keeps Locals (λ b. b == 0x07) (counted (type_in good)) (counted (type_in test)) (counted_keeps (type_in good) (type_in test) (type_keeps good test wider))
+front_keeps good test Property wider = tagged_keeps Property (λ b. b == 0x08 || b == 0x28) (accessed_in (type_in good)) (accessed_in (type_in test)) (accessed_keeps (type_in good) (type_in test) (type_keeps good test wider))
+front_keeps good test TypeSpec wider = giving_keeps (λ (t : Tree). record { form = TypeSpec; kind = 0; generics = 0; parts = t ∷ [] }) (type_in good) (type_in test) (type_keeps good test wider)
+front_keeps good test MethodSpec wider = tagged_keeps MethodSpec (λ b. b == 0x0A) (counted (type_in good)) (counted (type_in test)) (counted_keeps (type_in good) (type_in test) (type_keeps good test wider))
 
-all_kept : {A : Type 0} (o q : Option (A × List ℕ)) (x : A) → ((p : A × List ℕ) → o ≡ Some p → q ≡ Some p) → all_of o ≡ Some x → all_of q ≡ Some x
-all_kept None q x keeps e = absurd cc
-all_kept (Some p) q x keeps e = rw (keeps p refl) e
+whole_keeps : (good test : ℕ → Bool) (kind : SigKind) (bytes : List ℕ) (o : Option (SigTree × List ℕ)) (s : SigTree) → Wider good test → front_in good kind bytes ≡ o → all_of o ≡ Some s → all_of (front_in test kind bytes) ≡ Some s
+whole_keeps good test kind bytes None s wider is e = absurd (cc)
+whole_keeps good test kind bytes (Some p) s wider is e = rw (front_keeps good test kind wider bytes p is) e
 
-pub sig_wider : (f g : ℕ → Bool) (k : SigKind) (bytes : List ℕ) (t : SigTree) → More f g → sig_in f k bytes ≡ Some t → sig_in g k bytes ≡ Some t
+-- a signature is read the same with a wider test
+pub sig_keeps : (good test : ℕ → Bool) (kind : SigKind) (bytes : List ℕ) (s : SigTree) → Wider good test → sig_in good kind bytes ≡ Some s → sig_in test kind bytes ≡ Some s
 unfolding sig_in
-sig_wider f g k bytes t more e = all_kept (front_in f k bytes) (front_in g k bytes) t ((front_wider f g k more).each bytes) e
-
-some_kept : {A : Type 0} (o q : Option A) → ((x : A) → o ≡ Some x → q ≡ Some x) → is_some o ≡ true → is_some q ≡ true
-some_kept None q keeps e = absurd cc
-some_kept (Some x) q keeps e = rw (keeps x refl) refl
-
--- so a signature stays one
-pub sig_kept : (f g : ℕ → Bool) (k : SigKind) (bytes : List ℕ) → More f g → is_some (sig_in f k bytes) ≡ true → is_some (sig_in g k bytes) ≡ true
-sig_kept f g k bytes more e = some_kept (sig_in f k bytes) (sig_in g k bytes) (λ t h. sig_wider f g k bytes t more h) e
+sig_keeps good test kind bytes s wider e = whole_keeps good test kind bytes (front_in good kind bytes) s wider refl e

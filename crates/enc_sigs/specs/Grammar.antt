@@ -5,6 +5,7 @@ use Rattle.enc_base.specs.Numbers.{compressed, signed, is_within}
 use Rattle.enc_base.specs.Token.{nil}
 use Rattle.enc_base.specs.declared.token.Token.{Token}
 use Rattle.enc_base.specs.declared.counts.Counts.{Counts}
+use Rattle.enc_schema.specs.Tables.{type_def, type_ref, type_spec}
 use Rattle.enc_sigs.specs.declared.kind.SigKind.{SigKind}
 use Rattle.enc_sigs.specs.declared.kind.SigKind.TheVariants.{Method, Field, Locals, Property, TypeSpec, MethodSpec}
 use Rattle.enc_sigs.specs.declared.form.Form.{Form}
@@ -56,7 +57,7 @@ signed_in bytes = option_and_then (λ (x : ℤ × ℕ). if is_small (bits_of x.0
 
 -- the table that the two low bits of a token's number name: TypeDef, TypeRef, TypeSpec (II.23.2.8)
 abbrev pub table_of : ℕ → ℕ
-table_of tag = if tag == 0 then 0x02 else if tag == 1 then 0x01 else 0x1B
+table_of tag = if tag == 0 then type_def else if tag == 1 then type_ref else type_spec
 
 -- the token with such a number
 abbrev pub token_named : ℕ → Token
@@ -127,11 +128,14 @@ numerals_in kind = giving (λ ts. tree 0 nil 0 ts) (counted (numbered_in 0 (nume
 
 -- an array: the type, the rank, sizes and lower bounds (II.23.2.13)
 unfoldable pub array_in : Reader Tree → ℕ → Reader Tree
-array_in one b = giving (λ (p : Tree × (ℕ × (Tree × Tree))). tree b nil p.1.0 (p.0 ∷ p.1.1.0 ∷ p.1.1.1 ∷ [])) (both one (both number_in (both (numerals_in Size) (numerals_in Bound))))
+array_in one b =
+    giving (λ (p : Tree × (ℕ × (Tree × Tree))). tree b nil p.1.0 (p.0 ∷ p.1.1.0 ∷ p.1.1.1 ∷ []))
+    (both one (both number_in (both (numerals_in Size) (numerals_in Bound))))
 
 -- a generic instance: a class or a value type, and the arguments (II.23.2.12)
 unfoldable pub instance_in : (ℕ → Bool) → Reader Tree → ℕ → Reader Tree
-instance_in good one b = giving (λ (p : ℕ × (Token × List Tree)). tree b p.1.0 p.0 p.1.1) (both (byte_in (λ c. c == 0x11 || c == 0x12)) (both (token_in good) (counted one)))
+instance_in good one b =
+    giving (λ (p : ℕ × (Token × List Tree)). tree b p.1.0 p.0 p.1.1) (both (byte_in (λ c. c == 0x11 || c == 0x12)) (both (token_in good) (counted one)))
 
 -- a flag of a calling byte stands
 abbrev pub has_flag : ℕ → ℕ → Bool
@@ -207,11 +211,17 @@ accessed_in one = giving (λ (p : ℕ × (Tree × List Tree)). p.1.0 ∷ p.1.1) 
 -- a signature of each kind (II.23.2.1 to II.23.2.6, II.23.2.14, II.23.2.15)
 unfoldable pub front_in : (ℕ → Bool) → SigKind → Reader SigTree
 front_in good Method = giving (λ (p : (ℕ × ℕ) × List Tree). record { form = Method; kind = p.0.0; generics = p.0.1; parts = p.1 }) (method_in (type_in good))
-front_in good Field = giving (λ (p : ℕ × Tree). record { form = Field; kind = p.0; generics = 0; parts = p.1 ∷ [] }) (both (byte_in (λ b. b == 0x06)) (type_in good))
-front_in good Locals = giving (λ (p : ℕ × List Tree). record { form = Locals; kind = p.0; generics = 0; parts = p.1 }) (both (byte_in (λ b. b == 0x07)) (counted (type_in good)))
-front_in good Property = giving (λ (p : ℕ × List Tree). record { form = Property; kind = p.0; generics = 0; parts = p.1 }) (both (byte_in (λ b. b == 0x08 || b == 0x28)) (accessed_in (type_in good)))
+front_in good Field =
+    giving (λ (p : ℕ × Tree). record { form = Field; kind = p.0; generics = 0; parts = p.1 ∷ [] }) (both (byte_in (λ b. b == 0x06)) (type_in good))
+front_in good Locals =
+    giving (λ (p : ℕ × List Tree). record { form = Locals; kind = p.0; generics = 0; parts = p.1 }) (both (byte_in (λ b. b == 0x07)) (counted (type_in good)))
+front_in good Property =
+    giving (λ (p : ℕ × List Tree). record { form = Property; kind = p.0; generics = 0; parts = p.1 })
+    (both (byte_in (λ b. b == 0x08 || b == 0x28)) (accessed_in (type_in good)))
 front_in good TypeSpec = giving (λ (t : Tree). record { form = TypeSpec; kind = 0; generics = 0; parts = t ∷ [] }) (type_in good)
-front_in good MethodSpec = giving (λ (p : ℕ × List Tree). record { form = MethodSpec; kind = p.0; generics = 0; parts = p.1 }) (both (byte_in (λ b. b == 0x0A)) (counted (type_in good)))
+front_in good MethodSpec =
+    giving (λ (p : ℕ × List Tree). record { form = MethodSpec; kind = p.0; generics = 0; parts = p.1 })
+    (both (byte_in (λ b. b == 0x0A)) (counted (type_in good)))
 
 -- nothing may stand behind it
 abbrev pub unless_more : {A : Type 0} → A → List ℕ → Option A

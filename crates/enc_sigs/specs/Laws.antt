@@ -7,7 +7,13 @@ use Rattle.enc_sigs.specs.Spelling.{sig_bytes}
 
 -- what is written of a signature that was read is read as the same tree
 abbrev pub WrittenReadsBack : Type 0
-WrittenReadsBack = (good : ℕ → Bool) (kind : SigKind) (bytes : List ℕ) (s : SigTree) → NamesTables good → sig_in good kind bytes ≡ Some s → sig_in good kind (sig_bytes s) ≡ Some s
+WrittenReadsBack = (good : ℕ → Bool) (kind : SigKind) (bytes : List ℕ) (s : SigTree) → NamesTables good → sig_in good kind bytes ≡ Some s
+    → sig_in good kind (sig_bytes s) ≡ Some s
+
+-- what is read with one test of a token is read the same with a wider one
+abbrev pub WiderTestsRead : Type 0
+WiderTestsRead = (good test : ℕ → Bool) (kind : SigKind) (bytes : List ℕ) (s : SigTree) → ((n : ℕ) → good n ≡ true → test n ≡ true)
+    → sig_in good kind bytes ≡ Some s → sig_in test kind bytes ≡ Some s
 
 -- the two tests of a token let through only numbers that name a table
 abbrev pub TestsNameTables : Type 0

@@ -1,7 +1,8 @@
 -- The shortest spelling of a signature (ECMA-335 II.23.2).
-use Rattle.std.specs.Prelude.{ℕ, ◌+◌, ◌-◌, ◌*◌, ◌%◌, List, [], ◌∷◌, ◌++◌, length, slice_get, Option, Some, None, nat_lt, ◌==◌, if◌then◌else◌}
+use Rattle.std.specs.Prelude.{◌≡◌, ℕ, ◌+◌, ◌-◌, ◌*◌, ◌%◌, List, [], ◌∷◌, ◌++◌, length, slice_get, Option, Some, None, nat_lt, ◌==◌, if◌then◌else◌}
 use Rattle.enc_base.specs.Numbers.{spelled, spelled_signed}
 use Rattle.enc_base.specs.declared.token.Token.{Token}
+use Rattle.enc_schema.specs.Tables.{type_def, type_ref}
 use Rattle.enc_sigs.specs.declared.kind.SigKind.{SigKind}
 use Rattle.enc_sigs.specs.declared.kind.SigKind.TheVariants.{Method, Field, Locals, Property, TypeSpec, MethodSpec}
 use Rattle.enc_sigs.specs.declared.form.Form.{Form}
@@ -9,7 +10,7 @@ use Rattle.enc_sigs.specs.declared.form.Form.TheVariants as form
 use Rattle.enc_sigs.specs.declared.form.Numeral.{Numeral}
 use Rattle.enc_sigs.specs.declared.form.Numeral.TheVariants.{Size, Bound}
 use Rattle.enc_sigs.specs.Tree.{Forest, none, more, Tree, SigTree, trees, forest_of}
-use Rattle.enc_sigs.specs.Grammar.{form_of, has_flag, is_small}
+use Rattle.enc_sigs.specs.Grammar.{form_of, has_flag, is_small, is_coded, sig_in}
 
 -- a number, where it can be spelled
 unfoldable pub number_bytes : ℕ → List ℕ
@@ -21,7 +22,7 @@ signed_bytes bits = if is_small bits then spelled_signed bits else []
 
 -- the number of a token: its row, and in the two low bits its table (II.23.2.8)
 abbrev pub token_number : Token → ℕ
-token_number t = t.row * 4 + (if t.table == 0x02 then 0 else if t.table == 0x01 then 1 else 2)
+token_number t = t.row * 4 + (if t.table == type_def then 0 else if t.table == type_ref then 1 else 2)
 
 -- a token (II.23.2.8)
 unfoldable pub token_bytes : Token → List ℕ
@@ -110,3 +111,7 @@ front_bytes MethodSpec kind generics parts = kind ∷ counted_bytes parts
 -- by its tree
 unfoldable pub sig_bytes : SigTree → List ℕ
 sig_bytes s = front_bytes s.form s.kind s.generics (spellings (forest_of s.parts))
+
+-- the shortest spelling of a tree is read as the tree, by the grammar of its kind, the range of its tokens aside
+abbrev pub IsSpelled : SigTree → Type 0
+IsSpelled s = sig_in is_coded s.form (sig_bytes s) ≡ Some s

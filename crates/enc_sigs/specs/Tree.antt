@@ -96,10 +96,15 @@ run_steps (more e t n k r) stack =
 
 -- how forests, types and signatures are stored
 abbrev pub coded_forest : Coded Forest
-coded_forest = code_by (List Step) (coded_list (coded_option (coded× coded_ℕ (coded× (coded× coded_ℕ coded_ℕ) coded_ℕ)))) steps (λ ss. top (run ss [])) (λ f. ap top (run_steps f []))
+coded_forest =
+    code_by (List Step) (coded_list (coded_option (coded× coded_ℕ (coded× (coded× coded_ℕ coded_ℕ) coded_ℕ))))
+    steps (λ ss. top (run ss [])) (λ f. ap top (run_steps f []))
 
 abbrev pub coded_tree : Coded Tree
-coded_tree = code_by (ℕ × ((ℕ × ℕ) × (ℕ × Forest))) (coded× coded_ℕ (coded× (coded× coded_ℕ coded_ℕ) (coded× coded_ℕ coded_forest))) (λ t. (t.element, ((t.token.table, t.token.row), (t.number, t.kids)))) (λ p. record { element = p.0; token = record { table = p.1.0.0; row = p.1.0.1 }; number = p.1.1.0; kids = p.1.1.1 }) (λ _. refl)
+coded_tree =
+    code_by (ℕ × ((ℕ × ℕ) × (ℕ × Forest))) (coded× coded_ℕ (coded× (coded× coded_ℕ coded_ℕ) (coded× coded_ℕ coded_forest)))
+    (λ t. (t.element, ((t.token.table, t.token.row), (t.number, t.kids))))
+    (λ p. record { element = p.0; token = record { table = p.1.0.0; row = p.1.0.1 }; number = p.1.1.0; kids = p.1.1.1 }) (λ _. refl)
 
 -- kinds of signatures by number
 abbrev pub form_number : SigKind → ℕ
@@ -130,4 +135,6 @@ abbrev pub coded_form : Coded SigKind
 coded_form = code_by ℕ coded_ℕ form_number nth_form nth_form_is
 
 abbrev pub coded_sig : Coded SigTree
-coded_sig = code_by (SigKind × (ℕ × (ℕ × List Tree))) (coded× coded_form (coded× coded_ℕ (coded× coded_ℕ (coded_list coded_tree)))) (λ s. (s.form, (s.kind, (s.generics, s.parts)))) (λ p. record { form = p.0; kind = p.1.0; generics = p.1.1.0; parts = p.1.1.1 }) (λ _. refl)
+coded_sig =
+    code_by (SigKind × (ℕ × (ℕ × List Tree))) (coded× coded_form (coded× coded_ℕ (coded× coded_ℕ (coded_list coded_tree))))
+    (λ s. (s.form, (s.kind, (s.generics, s.parts)))) (λ p. record { form = p.0; kind = p.1.0; generics = p.1.1.0; parts = p.1.1.1 }) (λ _. refl)

@@ -98,10 +98,7 @@ pub fn numerals(alloc: Global, kind: Numeral, bytes: &[u8]) -> Result<(Elem, &[u
     let Some((count, rest)) = number(bytes) else {
         return Err(SigFault::Grammar);
     };
-    let (kids, rest) = match numerals_many(alloc, kind, count, rest) {
-        Ok(read) => read,
-        Err(fault) => return Err(fault),
-    };
+    let (kids, rest) = numerals_many(alloc, kind, count, rest)?;
     Ok((
         Elem {
             element: 0,

@@ -1,5 +1,5 @@
 //! What is known of signatures, each as the contract of a function that does nothing.
-ghost use Rattle.enc_sigs.specs.Laws.{WrittenReadsBack, TestsNameTables, DepthIsBounded};
+ghost use Rattle.enc_sigs.specs.Laws.{WrittenReadsBack, TestsNameTables, WiderTestsRead, DepthIsBounded};
 
 use enc_base::written_laws;
 
@@ -9,10 +9,12 @@ pub fn depth_law()
 {}
 
 /// What `write_sig` writes of a signature that was read is read as the same tree, with any test of
-/// tokens with which it was read, and the tests of this crate are such tests.
+/// tokens with which it was read, and the tests of this crate are such tests. With a wider test more
+/// is read, and nothing otherwise.
 pub fn signature_laws()
     ensures back { WrittenReadsBack }
     ensures tests { TestsNameTables }
+    ensures wider { WiderTestsRead }
 {
     written_laws();
 }

@@ -4,6 +4,7 @@ ghost use Rattle.enc_sigs.specs.Grammar.{byte_in, number_in, signed_in, numeral_
 
 use crate::form::{Form, Numeral};
 use enc_base::{Counts, Token, read_signed, read_unsigned};
+use enc_schema::tables::{TYPE_DEF, TYPE_REF, TYPE_SPEC};
 
 /// The compressed number at the front and what is behind it.
 #[tactic(auto, unfolding(crate::specs::Grammar::number_in))]
@@ -44,9 +45,9 @@ fn table_of(number: u32) -> Option<u8>
     ensures { result ≡ (if is_coded number then Some (table_of (number % 4)) else None) }
 {
     match number % 4 {
-        0 => Some(0x02),
-        1 => Some(0x01),
-        2 => Some(0x1b),
+        0 => Some(TYPE_DEF),
+        1 => Some(TYPE_REF),
+        2 => Some(TYPE_SPEC),
         _ => None,
     }
 }

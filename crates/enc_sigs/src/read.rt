@@ -84,10 +84,7 @@ fn wrapped<'a>(
 ) -> Result<(Elem, &'a [u8]), SigFault>
     ensures { Reads result (wrapped_in (elem_in (in_counts counts.now) depth) b bytes.now) }
 {
-    let (kid, rest) = match elem(alloc, depth, bytes, counts) {
-        Ok(read) => read,
-        Err(fault) => return Err(fault),
-    };
+    let (kid, rest) = elem(alloc, depth, bytes, counts)?;
     let Ok(whole) = around(alloc, b, NIL, kid) else {
         return Err(SigFault::Memory);
     };
@@ -109,10 +106,7 @@ fn modified<'a>(
     let Some((token, rest)) = token(bytes, counts) else {
         return Err(SigFault::Grammar);
     };
-    let (kid, rest) = match elem(alloc, depth, rest, counts) {
-        Ok(read) => read,
-        Err(fault) => return Err(fault),
-    };
+    let (kid, rest) = elem(alloc, depth, rest, counts)?;
     let Ok(whole) = around(alloc, b, token, kid) else {
         return Err(SigFault::Memory);
     };
@@ -131,21 +125,12 @@ fn array<'a>(
 ) -> Result<(Elem, &'a [u8]), SigFault>
     ensures { Reads result (array_in (elem_in (in_counts counts.now) depth) b bytes.now) }
 {
-    let (kid, rest) = match elem(alloc, depth, bytes, counts) {
-        Ok(read) => read,
-        Err(fault) => return Err(fault),
-    };
+    let (kid, rest) = elem(alloc, depth, bytes, counts)?;
     let Some((rank, rest)) = number(rest) else {
         return Err(SigFault::Grammar);
     };
-    let (sizes, rest) = match numerals(alloc, Numeral::Size, rest) {
-        Ok(read) => read,
-        Err(fault) => return Err(fault),
-    };
-    let (bounds, rest) = match numerals(alloc, Numeral::Bound, rest) {
-        Ok(read) => read,
-        Err(fault) => return Err(fault),
-    };
+    let (sizes, rest) = numerals(alloc, Numeral::Size, rest)?;
+    let (bounds, rest) = numerals(alloc, Numeral::Bound, rest)?;
     let Ok(kids) = three(alloc, kid, sizes, bounds) else {
         return Err(SigFault::Memory);
     };
@@ -175,10 +160,7 @@ pub fn many_elems<'a>(
     let mut kids = kids;
     let mut rest = bytes;
     for i in 0..count {
-        let (kid, behind) = match elem(alloc, depth, rest, counts) {
-            Ok(read) => read,
-            Err(fault) => return Err(fault),
-        };
+        let (kid, behind) = elem(alloc, depth, rest, counts)?;
         let Ok(more) = added(kids, kid) else {
             return Err(SigFault::Memory);
         };
@@ -212,10 +194,7 @@ fn instance<'a>(
     let Some((count, rest)) = number(rest) else {
         return Err(SigFault::Grammar);
     };
-    let (kids, rest) = match many_elems(Vec::new(alloc), count, alloc, depth, rest, counts) {
-        Ok(read) => read,
-        Err(fault) => return Err(fault),
-    };
+    let (kids, rest) = many_elems(Vec::new(alloc), count, alloc, depth, rest, counts)?;
     Ok((
         Elem {
             element: b,
@@ -247,10 +226,7 @@ fn parameters<'a>(
             Some(marked) => return sentinel(kids, left - 1, alloc, depth, marked, counts),
             None => {}
         }
-        let (kid, behind) = match elem(alloc, depth, rest, counts) {
-            Ok(read) => read,
-            Err(fault) => return Err(fault),
-        };
+        let (kid, behind) = elem(alloc, depth, rest, counts)?;
         let Ok(more) = added(kids, kid) else {
             return Err(SigFault::Memory);
         };
@@ -274,10 +250,7 @@ fn sentinel<'a>(
 ) -> Result<(Vec<Elem>, &'a [u8]), SigFault>
     ensures { AreRead result (behind kids.items (marked_in (elem_in (in_counts counts.now) depth) more bytes.now)) }
 {
-    let (kid, rest) = match wrapped(alloc, 0x41, depth, bytes, counts) {
-        Ok(read) => read,
-        Err(fault) => return Err(fault),
-    };
+    let (kid, rest) = wrapped(alloc, 0x41, depth, bytes, counts)?;
     let Ok(kids) = added(kids, kid) else {
         return Err(SigFault::Memory);
     };
@@ -299,10 +272,7 @@ pub fn parts<'a>(
     let Some((count, rest)) = number(bytes) else {
         return Err(SigFault::Grammar);
     };
-    let (kid, rest) = match elem(alloc, depth, rest, counts) {
-        Ok(read) => read,
-        Err(fault) => return Err(fault),
-    };
+    let (kid, rest) = elem(alloc, depth, rest, counts)?;
     let Ok(kids) = added(kids, kid) else {
         return Err(SigFault::Memory);
     };
@@ -327,10 +297,7 @@ fn pointer<'a>(
     let Ok(kids) = added(Vec::new(alloc), leaf(alloc, 0, NIL, generics)) else {
         return Err(SigFault::Memory);
     };
-    let (kids, rest) = match parts(kids, alloc, depth, rest, counts) {
-        Ok(read) => read,
-        Err(fault) => return Err(fault),
-    };
+    let (kids, rest) = parts(kids, alloc, depth, rest, counts)?;
     Ok((
         Elem {
             element: b,

@@ -1,15 +1,16 @@
 //! Writing signatures in their shortest spelling (ECMA-335 II.23.2).
 ghost use Rattle.std.specs.Prelude.{◌≡◌, ℕ, ◌++◌, ◌∷◌, [], ◌%◌, ◌-◌, length, slice_get, IfOk, is_ok, if◌then◌else◌};
 ghost use Rattle.enc_sigs.specs.Tree.{forest_of, trees};
-ghost use Rattle.enc_sigs.specs.Spelling.{number_bytes, signed_bytes, token_bytes, numeral_bytes, each_numeral, numerals_bytes, joined, counted_bytes, generics_bytes, parts_bytes, array_bytes, numerals_of, front_of, pointer_bytes, formed_bytes, spellings, tree_bytes, front_bytes, sig_bytes};
+ghost use Rattle.enc_sigs.specs.Spelling.{number_bytes, signed_bytes, token_bytes, numeral_bytes, each_numeral, numerals_bytes, joined, counted_bytes, generics_bytes, parts_bytes, array_bytes, numerals_of, front_of, pointer_bytes, formed_bytes, spellings, tree_bytes, front_bytes, sig_bytes, IsSpelled};
 ghost use Rattle.enc_sigs.specs.Grammar.{has_flag};
 
 use crate::elem::Elem;
 use crate::form::{Form, Numeral};
 use crate::kind::SigKind;
 use crate::number::form_by;
-use crate::sig::Sig;
+use crate::sig::{Front, Sig};
 use enc_base::{Token, push_signed, push_unsigned};
+use enc_schema::tables::{TYPE_DEF, TYPE_REF};
 use std::alloc::{AllocError, Global};
 
 /// Appends a number, where it can be spelled.
@@ -51,8 +52,8 @@ fn write_token(token: Token, out: &mut Vec<u8>) -> Result<(), AllocError>
 {
     let row = token.row as usize * 4;
     match token.table {
-        0x02 => write_number(row, out),
-        0x01 => write_number(row + 1, out),
+        TYPE_DEF => write_number(row, out),
+        TYPE_REF => write_number(row + 1, out),
         _ => write_number(row + 2, out),
     }
 }
@@ -250,44 +251,45 @@ fn write_pointer(calling: u32, kids: &[Elem], out: &mut Vec<u8>) -> Result<(), A
 
 /// Appends the parts of a signature of this kind.
 #[tactic(auto, unfolding(crate::specs::Spelling::front_bytes))]
-fn write_front(sig: &Sig, out: &mut Vec<u8>) -> Result<(), AllocError>
-    ensures { IfOk result (λ _. out.new.items ≡ out.old.items ++ front_bytes sig.now.form sig.now.kind sig.now.generics (spellings (forest_of sig.now.parts))) }
+fn write_front(front: &Front, out: &mut Vec<u8>) -> Result<(), AllocError>
+    ensures { IfOk result (λ _. out.new.items ≡ out.old.items ++ front_bytes front.now.form front.now.kind front.now.generics (spellings (forest_of front.now.parts))) }
 {
-    let parts = sig.parts.as_slice();
-    match sig.form {
+    let parts = front.parts.as_slice();
+    match front.form {
         SigKind::TypeSpec => write_elems(parts, out),
         SigKind::Method => {
-            write_byte(sig.kind, out)?;
-            write_generics(u32::from(sig.kind), sig.generics, out)?;
+            write_byte(front.kind, out)?;
+            write_generics(u32::from(front.kind), front.generics, out)?;
             write_parts(parts, out)
         }
         SigKind::Field => {
-            write_byte(sig.kind, out)?;
+            write_byte(front.kind, out)?;
             write_elems(parts, out)
         }
         SigKind::Property => {
-            write_byte(sig.kind, out)?;
+            write_byte(front.kind, out)?;
             write_parts(parts, out)
         }
         SigKind::Locals => {
-            write_byte(sig.kind, out)?;
+            write_byte(front.kind, out)?;
             write_counted(parts, out)
         }
         SigKind::MethodSpec => {
-            write_byte(sig.kind, out)?;
+            write_byte(front.kind, out)?;
             write_counted(parts, out)
         }
     }
 }
 
 /// Appends the signature's shortest spelling (ECMA-335 II.23.2). Without memory nothing is
-/// appended. What is appended is read as the same tree, with any counts with which it was read
-/// (`signature_laws`).
+/// appended. What is appended is read as the same signature, the range of its tokens aside, and with
+/// any counts with which it was read (`signature_laws`).
 #[tactic(auto, unfolding(crate::specs::Spelling::sig_bytes))]
 pub fn write_sig(alloc: Global, sig: &Sig, out: &mut Vec<u8>) -> Result<(), AllocError>
-    ensures { out.new.items ≡ (if is_ok result then out.old.items ++ sig_bytes sig.now else out.old.items) }
+    ensures written { out.new.items ≡ (if is_ok result then out.old.items ++ sig_bytes sig.now else out.old.items) }
+    ensures back { IsSpelled sig.now }
 {
     let mut bytes = Vec::new(alloc);
-    write_front(sig, &mut bytes)?;
+    write_front(&sig.front, &mut bytes)?;
     out.extend_from_slice(bytes.as_slice())
 }

@@ -1,7 +1,7 @@
 use Rattle.std.proofs.Common.{length, ap, ◌<◌, sym, ◌∙◌, arith}
 use Rattle.std.specs.Prelude.{is_some}
 use Rattle.enc_meta.specs.Heaps.{text_entry}
-use Rattle.enc_image.proofs.Alone.{text_alone}
+use Rattle.enc_meta.proofs.Alone.{text_alone}
 use Rattle.enc_delta.proofs.Behind.{zero_entry, text_before, text_behind}
 use Rattle.enc_agg.proofs.Histories.{last_added, heaps_with, heaps_alone}
 use Rattle.enc_agg.proofs.added.+has_text_in.Goals as goal
@@ -17,12 +17,12 @@ has_text_in-requires t c =
     let less : length c.in-Some.older.now < t = omega (arith, c.decreases, c.in-Some.ensures.fewer) in
     (less, (last_added c.args.image.now _ _ (rw c.in-Some.ensures.parts at c.requires)).1)
 
-pub returns-then-from-strings : goal.returns-then-from-strings
-returns-then-from-strings t c =
+pub returns-then-offset-strings : goal.returns-then-offset-strings
+returns-then-offset-strings t c =
     let last = last_added c.args.image.now _ _ (rw c.in-Some.ensures.parts at c.requires) in
-    rw (c.in-Some.ensures.parts, heaps_with c.args.image.now _ _) (c.has_text_in.ensures ∙ ap is_some (sym (text_before _ _ _ c.args.offset last.0.before (omega (arith, c.from.ensures, c.if-from-strings.true)))))
+    rw (c.in-Some.ensures.parts, heaps_with c.args.image.now _ _) (c.has_text_in.ensures ∙ ap is_some (sym (text_before _ _ _ c.args.offset last.0.before (omega (arith, c.if-offset-strings.true)))))
 
 pub returns : goal.returns
 returns t c =
     let last = last_added c.args.image.now _ _ (rw c.in-Some.ensures.parts at c.requires) in
-    rw (c.in-Some.ensures.parts, heaps_with c.args.image.now _ _) ((rw c.heaps-2.ensures at c.has_text_entry.ensures) ∙ ap is_some (sym (text_behind _ _ _ c.args.offset last.0.before c.if-offset-eq0.false (omega (arith, c.from.ensures, c.if-from-strings.false)))))
+    rw (c.in-Some.ensures.parts, heaps_with c.args.image.now _ _) ((rw c.heaps-2.ensures at c.has_text_entry.ensures) ∙ ap is_some (sym (text_behind _ _ _ c.args.offset last.0.before c.if-offset-eq0.false (omega (arith, c.if-offset-strings.false)))))

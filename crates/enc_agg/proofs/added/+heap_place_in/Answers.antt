@@ -11,9 +11,9 @@ heap_place_in-requires t c =
     let less : length c.in-Some.older.now < t = omega (arith, c.decreases, c.in-Some.ensures.fewer) in
     (less, (last_added c.args.image.now _ _ (rw c.in-Some.ensures.parts at c.requires)).1)
 
-pub returns-then-from-before : goal.returns-then-from-before
-returns-then-from-before t c =
-    rw c.in-Some.ensures.parts (c.heap_place_in.ensures ∙ sym (older_place c.args.image.now _ _ c.args.heap c.args.offset (rw c.in-Some.ensures.parts at c.requires) (omega (arith, c.from.ensures, c.total_of-before.ensures, c.if-from-before.true))))
+pub returns-then-offset-before : goal.returns-then-offset-before
+returns-then-offset-before t c =
+    rw c.in-Some.ensures.parts (c.heap_place_in.ensures ∙ sym (older_place c.args.image.now _ _ c.args.heap c.args.offset (rw c.in-Some.ensures.parts at c.requires) (omega (arith, c.of-before.ensures, c.if-offset-before.true))))
 
 pub overflow_cast-added : goal.overflow_cast-added
 overflow_cast-added t c = omega (arith, few_added c.args.image.now c.args.added.now c.requires)
@@ -21,5 +21,5 @@ overflow_cast-added t c = omega (arith, few_added c.args.image.now c.args.added.
 pub returns : goal.returns
 returns t c =
     let many = many_parts c.args.added.now _ _ c.in-Some.ensures.parts in
-    let place = newest_place c.args.image.now _ _ c.args.heap c.args.offset (rw c.in-Some.ensures.parts at c.requires) (omega (arith, c.from.ensures, c.total_of-before.ensures, c.if-from-before.false)) in
-    rw (c.in-Some.ensures.parts, place, ← many, ← c.total_of-before.ensures) (rw c.heaps-2.ensures at c.own_place-2.ensures)
+    let place = newest_place c.args.image.now _ _ c.args.heap c.args.offset (rw c.in-Some.ensures.parts at c.requires) (omega (arith, c.of-before.ensures, c.if-offset-before.false)) in
+    rw (c.in-Some.ensures.parts, place, ← many, ← c.of-before.ensures) (rw c.heaps-2.ensures at c.own_place-2.ensures)

@@ -6,10 +6,10 @@ use Rattle.enc_delta.proofs.joined.has_text_after.Goals as goal
 pub returns-then-offset-eq0 : goal.returns-then-offset-eq0
 returns-then-offset-eq0 g c = ap is_some (zero_entry _ _ c.args.offset c.if-offset-eq0.true)
 
-pub returns-then-from-strings : goal.returns-then-from-strings
-returns-then-from-strings g c =
-    c.has_text.ensures ∙ ap is_some (sym (text_before (g.C.ChainView.chain c.args.chain.now).heaps c.args.heaps.now c.args.before.now c.args.offset c.requires.tied (omega (arith, c.from.ensures, c.if-from-strings.true))))
+pub returns-then-offset-strings : goal.returns-then-offset-strings
+returns-then-offset-strings g c =
+    c.has_text.ensures ∙ ap is_some (sym (text_before (g.C.ChainView.chain c.args.chain.now).heaps c.args.heaps.now c.args.before.now c.args.offset c.requires.tied (omega (arith, c.if-offset-strings.true))))
 
 pub returns : goal.returns
 returns g c =
-    c.has_text_entry.ensures ∙ ap is_some (sym (text_behind (g.C.ChainView.chain c.args.chain.now).heaps c.args.heaps.now c.args.before.now c.args.offset c.requires.tied c.if-offset-eq0.false (omega (arith, c.from.ensures, c.if-from-strings.false))))
+    c.has_text_entry.ensures ∙ ap is_some (sym (text_behind (g.C.ChainView.chain c.args.chain.now).heaps c.args.heaps.now c.args.before.now c.args.offset c.requires.tied c.if-offset-eq0.false (omega (arith, c.if-offset-strings.false))))

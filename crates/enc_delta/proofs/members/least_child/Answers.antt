@@ -9,11 +9,11 @@ use Rattle.enc_delta.proofs.members.least_child.Goals as goal
 
 pub loop-k-preserved : goal.loop-k-preserved
 loop-k-preserved g c =
-    let test : Pair → _ = λ (p : Pair). breaks c.args.rows.now c.args.gain (pair_seen p) in
+    let test : Pair → _ = λ (p : Pair). breaks c.args.context.now c.args.gain (pair_seen p) in
     elim c.if-breaks.branch [
-      | then-breaks w ↦ w.best-is ∙ w.lesser.ensures ∙ rw (w.number.ensures, c.loop-k.invariant) (sym (twin_more test c.args.pairs.now c.loop-k.k c.loop-k-test.true (sym c.breaks.ensures ∙ w.if-breaks.true)))
-      | else-breaks w ↦ w.best-is ∙ c.loop-k.invariant ∙ sym (twin_past test c.args.pairs.now c.loop-k.k c.loop-k-test.true (sym c.breaks.ensures ∙ w.if-breaks.false))
+      | then-breaks w ↦ w.best-is ∙ w.lesser.ensures ∙ rw (w.number.ensures, c.loop-k.invariant) (sym (twin_more test c.pairs-pairs.result.now c.loop-k.k c.loop-k-test.true (sym c.breaks.ensures ∙ w.if-breaks.true)))
+      | else-breaks w ↦ w.best-is ∙ c.loop-k.invariant ∙ sym (twin_past test c.pairs-pairs.result.now c.loop-k.k c.loop-k-test.true (sym c.breaks.ensures ∙ w.if-breaks.false))
     ]
 
 pub returns : goal.returns
-returns g c = c.placed.ensures ∙ least_told (breaks c.args.rows.now c.args.gain) c.args.rows.now.delta c.args.pairs.now c.loop-k.k c.loop-k.best (omega (arith, c.loop-k-test.false)) c.requires.pairs c.loop-k.invariant
+returns g c = c.placed.ensures ∙ least_told (breaks c.args.context.now c.args.gain) c.args.context.now.delta c.pairs-pairs.result.now c.loop-k.k c.loop-k.best (omega (arith, c.loop-k-test.false)) c.pairs-pairs.ensures.pairs c.loop-k.invariant

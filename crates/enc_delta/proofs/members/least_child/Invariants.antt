@@ -8,4 +8,4 @@ use Rattle.enc_delta.specs.Gains.{breaks}
 use Rattle.enc_delta.proofs.members.least_child.Given as goal
 
 abbrev pub invariant-loop-k : goal.invariant-loop-k
-invariant-loop-k g l = l.best ≡ least (map (λ (p : Pair). number_of p.child) (filter (λ (p : Pair). breaks l.rows l.gain (pair_seen p)) (take l.k l.pairs)))
+invariant-loop-k g l = l.best ≡ least (map (λ (p : Pair). number_of p.child) (filter (λ (p : Pair). breaks l.context l.gain (pair_seen p)) (take l.k l.pairs)))

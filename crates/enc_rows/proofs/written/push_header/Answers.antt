@@ -4,4 +4,4 @@ use Rattle.enc_rows.proofs.written.push_header.Goals as goal
 
 pub returns : goal.returns
 returns c =
-    header_behind c.args.valid c.args.flags c.args.out.now.items c.extend_from_slice.new.self.items c.extend_from_slice-2.new.self.items c.extend_from_slice-3.new.self.items (search rules) (search rules) (search rules)
+    header_behind c.args.valid c.args.flags c.args.out.now.items c.extend_from_slice.new.self.items c.push_long.new.out.items c.push_zeros.new.out.items (search rules) (search rules) (search rules)

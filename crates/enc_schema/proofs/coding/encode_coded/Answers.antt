@@ -1,12 +1,8 @@
-use Rattle.enc_schema.proofs.Codes.{zero_to_nil, found, none_to_nil, none_to_row}
+use Rattle.enc_schema.proofs.Codes.{zero_to_nil, found, none_to_row}
 use Rattle.enc_schema.proofs.coding.encode_coded.Goals as goal
 
-pub returns-then-token-eq0-2-clause-some : goal.returns-then-token-eq0-2-clause-some
-returns-then-token-eq0-2-clause-some c =
-    zero_to_nil c.args.kind c.args.token c.if-token-eq0-2.true c.if-token-eq0.true
-
-pub returns-else-token-eq0-2-clause-none : goal.returns-else-token-eq0-2-clause-none
-returns-else-token-eq0-2-clause-none c = none_to_nil c.args.kind c.args.token c.if-token-eq0.true c.if-token-eq0-2.false
+pub returns-then-token-eq0-clause-some : goal.returns-then-token-eq0-clause-some
+returns-then-token-eq0-clause-some c = zero_to_nil c.args.kind c.args.token c.if-token-eq0.true
 
 pub returns-in-None-clause-none : goal.returns-in-None-clause-none
 returns-in-None-clause-none c =

@@ -1,4 +1,4 @@
-use Rattle.enc_schema.proofs.Tables.{tags_fit}
+use Rattle.enc_schema.proofs.TableNames.{tags_fit}
 use Rattle.enc_schema.proofs.laws.coding_laws.Goals as goal
 
 pub returns : goal.returns

@@ -1,4 +1,4 @@
-use Rattle.enc_schema.proofs.Tables.{which_tables, columns_name, table_named, column_named}
+use Rattle.enc_schema.proofs.TableNames.{which_tables, columns_name, table_named, column_named}
 use Rattle.enc_schema.proofs.laws.table_laws.Goals as goal
 
 pub returns-clause-which : goal.returns-clause-which

@@ -1,4 +1,5 @@
 use Rattle.enc_sigs.proofs.Written.{written_reads}
+use Rattle.enc_sigs.proofs.Wider.{sig_keeps}
 use Rattle.enc_sigs.proofs.Named.{coded_names, counted_names}
 use Rattle.enc_sigs.proofs.laws.signature_laws.Goals as goal
 
@@ -7,3 +8,6 @@ returns-clause-back c = written_reads c.written_laws.ensures.back c.written_laws
 
 pub returns-clause-tests : goal.returns-clause-tests
 returns-clause-tests c = (coded_names, counted_names)
+
+pub returns-clause-wider : goal.returns-clause-wider
+returns-clause-wider c = sig_keeps

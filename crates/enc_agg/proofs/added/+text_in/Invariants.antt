@@ -1,5 +1,0 @@
-use Rattle.std.proofs.Common.{length}
-use Rattle.enc_agg.proofs.added.+text_in.Given as goal
-
-abbrev pub decreases-text_in : goal.decreases-text_in
-decreases-text_in l = length l.added.now

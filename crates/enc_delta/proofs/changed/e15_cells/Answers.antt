@@ -1,6 +1,0 @@
-use Rattle.std.proofs.Common.{refl, sym, ◌∙◌, arith}
-use Rattle.enc_base.proofs.First.{first_found}
-use Rattle.enc_delta.proofs.changed.e15_cells.Goals as goal
-
-pub returns-in-Some : goal.returns-in-Some
-returns-in-Some g c = first_found _ _ c.loop-i.i _ (rw (← c.columns_of-i-end.ensures.columns) (omega arith)) c.loop-i.invariant (sym c.in-Some.is ∙ c.e15_cell.ensures) refl

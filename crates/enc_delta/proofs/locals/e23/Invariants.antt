@@ -1,7 +1,0 @@
-use Rattle.std.proofs.Common.{◌≡◌, None}
-use Rattle.enc_base.specs.Order.{first_below}
-use Rattle.enc_delta.specs.Changes.{of_nth, e23_row}
-use Rattle.enc_delta.proofs.locals.e23.Given as goal
-
-abbrev pub invariant-loop-k : goal.invariant-loop-k
-invariant-loop-k g l = first_below (of_nth (e23_row l.rows.chain l.rows.delta) l.rows.delta) l.k ≡ None

@@ -1,8 +1,0 @@
-use Rattle.std.proofs.Common.{refl, sym, ◌∙◌, arith}
-use Rattle.enc_base.proofs.First.{first_found}
-use Rattle.enc_delta.specs.Rules.{e12}
-use Rattle.enc_delta.proofs.table_rule.e12.Goals as goal
-
-pub returns-in-Some : goal.returns-in-Some
-unfolding e12
-returns-in-Some c = first_found _ _ c.loop-table.table _ (omega arith) c.loop-table.invariant (sym c.in-Some.is ∙ c.e12_at.ensures) refl

@@ -1,0 +1,11 @@
+-- What the answer of some rules says.
+use Rattle.std.specs.Prelude.{◌≡◌, Option, Some, None, Result, Ok, Err}
+use Rattle.enc_base.specs.declared.refusal.Refusal.{Refusal}
+use Rattle.enc_delta.specs.declared.rules.Stop.{Stop}
+use Rattle.enc_delta.specs.declared.rules.Stop.TheVariants.{Memory, Broken}
+
+-- no rule is broken, or the first broken one is told; want of memory tells nothing
+abbrev pub Asked : Result (Unit {0}) Stop → Option Refusal → Type 0
+Asked (Ok u) first = first ≡ None
+Asked (Err (Broken refusal)) first = first ≡ Some refusal
+Asked (Err Memory) first = Unit {0}
