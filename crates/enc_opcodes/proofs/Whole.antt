@@ -10,7 +10,7 @@ use Rattle.enc_opcodes.specs.declared.op.Operand.{Operand}
 use Rattle.enc_opcodes.specs.declared.op.Operand.TheVariants as operand
 use Rattle.enc_opcodes.specs.Table.{Entry}
 use Rattle.enc_opcodes.specs.Opcodes.{entry_of, with_code, code_of, op_at}
-use Rattle.enc_opcodes.specs.Instruction.{Argument, nothing, number, target, targets, token, text, raw, Instruction, range_at, all_reached, switch_in, arg_in, op_in, instr_in, IsChain}
+use Rattle.enc_opcodes.specs.Instruction.{Argument, nothing, number, target, targets, token, text, raw, Instruction, range_at, widened, target_at, all_reached, are_reached, targets_at, switch_in, arg_in, op_in, instr_in, IsChain}
 use Rattle.enc_opcodes.specs.Body.{told, instruction_told}
 use Rattle.enc_opcodes.specs.Sound.{target_count, operand_size, instruction_size, are_whole}
 
@@ -58,16 +58,23 @@ range_length bytes at n r h = by_test (nat_le (at + n) (length bytes)) refl h
 abbrev Takes : Operand → Argument ℕ → ℕ → ℕ → Type 0
 Takes k a at n = n ≡ at + operand_size k a
 
+abbrev with_targets : ℕ → Option (List ℕ) → Option (Argument ℕ × ℕ)
+with_targets end offsets = option_and_then (λ (ts : List ℕ). Some (targets ts, end)) offsets
+
 abbrev switch_of : ℕ → ℕ → Option (List ℕ) → Option (Argument ℕ × ℕ)
-switch_of at count range = option_and_then (λ (distances : List ℕ). Some (targets (all_reached (at + 4 + 4 * count) distances), at + 4 + 4 * count)) range
+switch_of at count range = option_and_then (λ (distances : List ℕ). with_targets (at + 4 + 4 * count) (targets_at (at + 4 + 4 * count) distances)) range
+
+switch_targets : (at count : ℕ) (r : List ℕ) (b : Bool) (a : Argument ℕ) (n : ℕ) → length r ≡ 4 * count → with_targets (at + 4 + 4 * count) (if b then Some (all_reached (at + 4 + 4 * count) r) else None) ≡ Some (a, n) → Takes operand.Switch a at n
+switch_targets at count r false a n long h = absurd (cc)
+switch_targets at count r true a n long h =
+    let e = pair_is {X = Argument ℕ} (targets (all_reached (at + 4 + 4 * count) r), at + 4 + 4 * count) (a, n) h in
+    let many : length (all_reached (at + 4 + 4 * count) r) ≡ count = length_reached (at + 4 + 4 * count) count r long in
+    let size : target_count a ≡ count = sym (ap (λ (b : Argument ℕ). target_count b) e.0) ∙ many in
+    rw size (omega (arith, e.1))
 
 switch_range : (code : List ℕ) (at count : ℕ) (range : Option (List ℕ)) (a : Argument ℕ) (n : ℕ) → range_at code (at + 4) (4 * count) ≡ range → switch_of at count range ≡ Some (a, n) → Takes operand.Switch a at n
 switch_range code at count None a n is h = absurd (cc)
-switch_range code at count (Some r) a n is h =
-    let e = pair_is {X = Argument ℕ} (targets (all_reached (at + 4 + 4 * count) r), at + 4 + 4 * count) (a, n) h in
-    let many : length (all_reached (at + 4 + 4 * count) r) ≡ count = length_reached (at + 4 + 4 * count) count r (range_length code (at + 4) (4 * count) r is) in
-    let size : target_count a ≡ count = sym (ap (λ (b : Argument ℕ). target_count b) e.0) ∙ many in
-    rw size (omega (arith, e.1))
+switch_range code at count (Some r) a n is h = switch_targets at count r (are_reached (at + 4 + 4 * count) r) a n (range_length code (at + 4) (4 * count) r is) h
 
 switch_count : (code : List ℕ) (at : ℕ) (count : Option ℕ) (a : Argument ℕ) (n : ℕ) → option_and_then (λ (k : ℕ). switch_of at k (range_at code (at + 4) (4 * k))) count ≡ Some (a, n) → Takes operand.Switch a at n
 switch_count code at None a n h = absurd (cc)
@@ -87,8 +94,8 @@ arg_takes operand.I32 code at a n h = sym (mapped (number_at w32 code at) _ (at 
 arg_takes operand.I64 code at a n h = sym (mapped (number_at w64 code at) _ (at + 8) a n h)
 arg_takes operand.R4 code at a n h = sym (mapped (range_at code at 4) _ (at + 4) a n h)
 arg_takes operand.R8 code at a n h = sym (mapped (range_at code at 8) _ (at + 8) a n h)
-arg_takes operand.Branch8 code at a n h = sym (mapped (number_at w8 code at) _ (at + 1) a n h)
-arg_takes operand.Branch32 code at a n h = sym (mapped (number_at w32 code at) _ (at + 4) a n h)
+arg_takes operand.Branch8 code at a n h = sym (mapped (option_and_then (λ (n : ℕ). target_at (at + 1) (widened n)) (number_at w8 code at)) _ (at + 1) a n h)
+arg_takes operand.Branch32 code at a n h = sym (mapped (option_and_then (target_at (at + 4)) (number_at w32 code at)) _ (at + 4) a n h)
 arg_takes operand.Switch code at a n h = switch_takes code at a n h
 arg_takes operand.Token code at a n h = sym (mapped (number_at w32 code at) _ (at + 4) a n h)
 arg_takes operand.User code at a n h = sym (mapped (number_at w32 code at) _ (at + 4) a n h)
