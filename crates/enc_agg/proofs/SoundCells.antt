@@ -21,7 +21,7 @@ use Rattle.enc_plain.specs.Fits.{Fits}
 use Rattle.enc_plain.specs.Module.{Module, has_row, cells_of, cell_of}
 use Rattle.enc_plain.specs.Reading.{cell_read, cell_with}
 use Rattle.enc_plain.specs.Rows.{cell_at, number_at}
-use Rattle.enc_plain.specs.Sound.{can_name, is_reference, field_is_sound, cell_is_sound, HasTables, HasKinds, HasCells}
+use Rattle.enc_plain.specs.Sound.{can_name, is_reference, field_is_sound, cell_is_sound, HasTables, HasCounts, HasKinds, HasCells}
 use Rattle.enc_plain.proofs.CellsOf.{cell_there, number_there}
 use Rattle.enc_plain.proofs.KindsOf.{kind_of_cell, row_table}
 use Rattle.enc_plain.proofs.LoadedBytes.{AreLoaded}
@@ -108,21 +108,21 @@ no_bytes : (m : Module) (u : Token) (column : Column) → cell_is_sound m u colu
 unfolding field_is_sound
 no_bytes m u column = refl
 
-by_place : (c : Chain) (s : Source) (u : Token) (k i : ℕ) (column : Column) (b f : Bool) → Says c s → HasTables (extended c s).plain → has_row (extended c s).plain u ≡ true → place_in (listed s) u ≡ Some k → column_in u.table i ≡ Some column → is_body u.table i ≡ b → cell_is_sound (extended c s).plain u column (unwrap_or (if b then Some (body (body_loaded s.loaded (users_after c s) (raw_in s (record { table = u.table; row = k }) i))) else if f then Some (field []) else cell_read (reading_after c s) column (raw_in s (record { table = u.table; row = k }) i)) (number 0)) ≡ true
-by_place c s u k i column true f says tables there place e hb =
+by_place : (c : Chain) (s : Source) (u : Token) (k i : ℕ) (column : Column) (b f : Bool) → Says c s → HasTables (extended c s).plain → HasCounts (extended c s).plain → has_row (extended c s).plain u ≡ true → place_in (listed s) u ≡ Some k → column_in u.table i ≡ Some column → is_body u.table i ≡ b → cell_is_sound (extended c s).plain u column (unwrap_or (if b then Some (body (body_loaded s.loaded (users_after c s) (raw_in s (record { table = u.table; row = k }) i))) else if f then Some (field []) else cell_read (reading_after c s) column (raw_in s (record { table = u.table; row = k }) i)) (number 0)) ≡ true
+by_place c s u k i column true f says tables few there place e hb =
     let p = place_of u.table i 0x06 hb in
     rw p.1 (listed_body c s u column k says place p.0)
-by_place c s u k i column false true says tables there place e hb = no_bytes (extended c s).plain u column
-by_place c s u k i column false false says tables there place e hb =
+by_place c s u k i column false true says tables few there place e hb = no_bytes (extended c s).plain u column
+by_place c s u k i column false false says tables few there place e hb =
     let own : Token = record { table = u.table; row = k } in
-    let t = row_table (extended c s).plain u tables there in
+    let t = row_table (extended c s).plain u tables few there in
     read_fits (extended c s).plain u (reading_after c s) i column (raw_in s own i) (delta_reads c s says.heaps says.counts) t.0 t.1 e (raw_fits s own i column says.stream e)
 
-listed_cell : (c : Chain) (s : Source) (u : Token) (k i : ℕ) (column : Column) (x : Cell) → Says c s → HasTables (extended c s).plain → has_row (extended c s).plain u ≡ true → place_in (listed s) u ≡ Some k → column_in u.table i ≡ Some column → cell_of (extended c s).plain u i ≡ Some x → cell_is_sound (extended c s).plain u column x ≡ true
+listed_cell : (c : Chain) (s : Source) (u : Token) (k i : ℕ) (column : Column) (x : Cell) → Says c s → HasTables (extended c s).plain → HasCounts (extended c s).plain → has_row (extended c s).plain u ≡ true → place_in (listed s) u ≡ Some k → column_in u.table i ≡ Some column → cell_of (extended c s).plain u i ≡ Some x → cell_is_sound (extended c s).plain u column x ≡ true
 unfolding cell_with reading_after
-listed_cell c s u k i column x says tables there place e is =
+listed_cell c s u k i column x says tables few there place e is =
     let made = cell_is c s u k i column x says.judged.fit place e is in
-    rw made (by_place c s u k i column (is_body u.table i) (is_field u.table i) says tables there place e refl)
+    rw made (by_place c s u k i column (is_body u.table i) (is_field u.table i) says tables few there place e refl)
 
 -- and one of a row that it doesn't list is what it was
 reference_kept : (c : Chain) (s : Source) (column : Column) (t : Token) → IsCounted c s → is_reference c.plain column t ≡ true → is_reference (extended c s).plain column t ≡ true
@@ -156,12 +156,12 @@ cell_kept c s u i column (field bytes) says kinds cells row none e is h =
     let kind = kind_of_cell c.plain u i column (field bytes) kinds row e is in
     field_kept c s u bytes says.judged says.counts kinds cells row (no_bodies_field c u i kind) none h
 
-cell_by : (c : Chain) (s : Source) (u : Token) (i : ℕ) (column : Column) (x : Cell) (o : Option ℕ) → Says c s → HasTables (extended c s).plain → HasKinds c.plain → HasCells c.plain → place_in (listed s) u ≡ o → has_row (extended c s).plain u ≡ true → column_in u.table i ≡ Some column → cell_of (extended c s).plain u i ≡ Some x → cell_is_sound (extended c s).plain u column x ≡ true
-cell_by c s u i column x (Some k) says tables kinds cells place there e is = listed_cell c s u k i column x says tables there place e is
-cell_by c s u i column x None says tables kinds cells place there e is =
+cell_by : (c : Chain) (s : Source) (u : Token) (i : ℕ) (column : Column) (x : Cell) (o : Option ℕ) → Says c s → HasTables (extended c s).plain → HasCounts (extended c s).plain → HasKinds c.plain → HasCells c.plain → place_in (listed s) u ≡ o → has_row (extended c s).plain u ≡ true → column_in u.table i ≡ Some column → cell_of (extended c s).plain u i ≡ Some x → cell_is_sound (extended c s).plain u column x ≡ true
+cell_by c s u i column x (Some k) says tables few kinds cells place there e is = listed_cell c s u k i column x says tables few there place e is
+cell_by c s u i column x None says tables few kinds cells place there e is =
     let row = kept_row c s u says.judged.fit place there in
     let old : cell_of c.plain u i ≡ Some x = sym (kept_cell c s u i says.judged.fit place) ∙ is in
     cell_kept c s u i column x says kinds cells row place e old (cells.each u i column x row e old)
 
-pub cells_after_are : (c : Chain) (s : Source) → Says c s → HasTables (extended c s).plain → HasKinds c.plain → HasCells c.plain → HasCells (extended c s).plain
-cells_after_are c s says tables kinds cells = record { each = λ u i column x there e is. cell_by c s u i column x (place_in (listed s) u) says tables kinds cells refl there e is }
+pub cells_after_are : (c : Chain) (s : Source) → Says c s → HasTables (extended c s).plain → HasCounts (extended c s).plain → HasKinds c.plain → HasCells c.plain → HasCells (extended c s).plain
+cells_after_are c s says tables few kinds cells = record { each = λ u i column x there e is. cell_by c s u i column x (place_in (listed s) u) says tables few kinds cells refl there e is }

@@ -25,7 +25,7 @@ use Rattle.enc_delta.specs.Judged.{first_meta}
 use Rattle.enc_image.proofs.Opens.{each_part}
 use Rattle.enc_image.proofs.SoundCells.{raw_fits}
 use Rattle.enc_agg.specs.Extend.{extended}
-use Rattle.enc_agg.specs.Follows.{HasTables, Follows}
+use Rattle.enc_agg.specs.Follows.{Follows}
 use Rattle.enc_agg.proofs.Children.{owned_after}
 use Rattle.enc_agg.proofs.Fitting.{fits, count_is, has_tables, has_runs}
 use Rattle.enc_agg.proofs.Judged.{judged_rows}
@@ -33,7 +33,7 @@ use Rattle.enc_agg.proofs.KeptRows.{JudgedBy}
 use Rattle.enc_agg.proofs.SoundCells.{Says, cells_after_are}
 use Rattle.enc_agg.proofs.SoundKinds.{kinds_after}
 use Rattle.enc_agg.proofs.SoundSignatures.{signatures_after}
-use Rattle.enc_agg.proofs.SoundTables.{tables_after}
+use Rattle.enc_agg.proofs.SoundTables.{counts_after}
 use Rattle.enc_agg.proofs.Tokens.{all_filter, place_row}
 use Rattle.enc_delta.proofs.Unbroken.{unbroken}
 
@@ -44,20 +44,20 @@ pub record IsOfBytes (s : Source) : Type 0 where
 
 pub keeps_sound : (c : Chain) (s : Source) → IsOfBytes s → Follows c s → IsSound c.plain → IsSound (extended c s).plain
 keeps_sound c s bytes follows sound =
-    let has : HasTables c = record { count = sound.tables.all } in
+    let has = sound.owners.tables in
     let u = unbroken c s follows.rules in
     let fit = fits c s has follows in
     let judged : JudgedBy c s = record { fit = fit; rows = λ t. judged_rows c s t has follows; same = u.altered } in
-    let counts = count_is c s has follows in
-    let tables = tables_after c s u.tables u.cell_tables u.limit (has_tables c s has).count counts sound.tables in
-    let says : Says c s = record { follows = follows; judged = judged; counts = counts; heaps = u.heaps; bodies = u.broken_body; locals = u.locals; places = λ t k place. place_row c s t k follows place; stream = bytes.stream; loaded = bytes.loaded } in
+    let many = count_is c s has follows in
+    let tables = has_tables c s has in
+    let counts = counts_after c s u.tables u.cell_tables u.limit tables.all many sound.counts in
+    let says : Says c s = record { follows = follows; judged = judged; counts = many; heaps = u.heaps; bodies = u.broken_body; locals = u.locals; places = λ t k place. place_row c s t k follows place; stream = bytes.stream; loaded = bytes.loaded } in
     record {
-      tables = tables;
+      owners = record { tables = tables; runs = has_runs c s has follows sound.owners.runs; owned = owned_after c s has follows sound.owners.runs sound.owners.owned };
+      counts = counts;
       kinds = kinds_after c s follows fit sound.kinds;
-      cells = cells_after_are c s says tables sound.kinds sound.cells;
-      runs = has_runs c s has follows sound.runs;
-      owned = owned_after c s has follows sound.runs sound.owned;
-      signatures = signatures_after c s judged counts u.signatures sound.signatures;
+      cells = cells_after_are c s says tables counts sound.kinds sound.cells;
+      signatures = signatures_after c s judged many u.signatures sound.signatures;
     }
 
 -- the parts of a delta's files are bytes

@@ -115,5 +115,5 @@ few_after c s t none all counts =
     ]
 
 -- where a delta's rows count as its inserts do, with no table that it may not have and none past the limit
-pub tables_after : (c : Chain) (s : Source) → uneven_table s ≡ None → closed_table s ≡ None → too_many c s ≡ None → length (extended c s).plain.tables ≡ 0x2D → ((k : ℕ) → length (rows_in (extended c s).plain k) ≡ rows_with c (listed s) k) → sound.HasTables c.plain → sound.HasTables (extended c s).plain
-tables_after c s equal allowed limit all counts before = record { all = all; absent = λ t part. absent_after c s t equal allowed counts (before.absent t part) part; single = single_after c s equal counts before.single; few = λ t. few_after c s t limit all counts }
+pub counts_after : (c : Chain) (s : Source) → uneven_table s ≡ None → closed_table s ≡ None → too_many c s ≡ None → length (extended c s).plain.tables ≡ 0x2D → ((k : ℕ) → length (rows_in (extended c s).plain k) ≡ rows_with c (listed s) k) → sound.HasCounts c.plain → sound.HasCounts (extended c s).plain
+counts_after c s equal allowed limit all counts before = record { absent = λ t part. absent_after c s t equal allowed counts (before.absent t part) part; single = single_after c s equal counts before.single; few = λ t. few_after c s t limit all counts }

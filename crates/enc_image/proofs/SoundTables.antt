@@ -16,7 +16,7 @@ use Rattle.enc_meta.specs.Heaps.{text_at, blob_at, guid_at}
 use Rattle.enc_plain.specs.Cell.{Cell, number, text, blob, guid, refer, Kind, numbers, texts, blobs, guids, references, bodies, fields, kind_of, is_body, is_field, kind_in, cell_count}
 use Rattle.enc_plain.specs.Module.{Row, rows_in, has_row, cell_of}
 use Rattle.enc_plain.specs.Plain.{cell_kind}
-use Rattle.enc_plain.specs.Sound.{is_part, row_count, HasTables, HasKinds}
+use Rattle.enc_plain.specs.Sound.{is_part, row_count, HasTables, HasCounts, HasKinds}
 use Rattle.enc_plain.proofs.Columns.{plain_kind, column_with, reference_column}
 use Rattle.enc_image.specs.Base.{cells_fault, cell_in, row_in, module_in}
 use Rattle.enc_image.proofs.Listed.{length_below}
@@ -40,8 +40,11 @@ few_rows s t base =
       ]
     ]
 
-pub base_tables : (s : Source) → IsBase s → HasTables (module_in s)
-base_tables s base = record { all = tables_there s; absent = none_of s; single = count_there s 0 (omega arith) refl ∙ base.single; few = λ t. few_rows s t base }
+pub base_tables : (s : Source) → HasTables (module_in s)
+base_tables s = record { all = tables_there s }
+
+pub base_counts : (s : Source) → IsBase s → HasCounts (module_in s)
+base_counts s base = record { absent = none_of s; single = count_there s 0 (omega arith) refl ∙ base.single; few = λ t. few_rows s t base }
 
 made_by : {X Y : Type 0} (f : X → Y) (xs : List X) (n : ℕ) (y : Y) → slice_get (map f xs) n ≡ Some y → (x : X) × (f x ≡ y)
 made_by f [] n y e = absurd cc

@@ -10,7 +10,7 @@ use Rattle.enc_schema.specs.Schema.{list_at, schema, columns_in, column_in}
 use Rattle.enc_plain.specs.Cell.{Cell, Kind, bodies, fields, kind_of, is_body, is_field, kind_in, cell_count}
 use Rattle.enc_plain.specs.Module.{Module, Row, rows_in, row_at, row_of, has_row, cell_of}
 use Rattle.enc_plain.specs.Plain.{cell_kind}
-use Rattle.enc_plain.specs.Sound.{row_count, is_part, HasTables, HasKinds}
+use Rattle.enc_plain.specs.Sound.{row_count, is_part, HasTables, HasCounts, HasKinds}
 use Rattle.enc_plain.proofs.Columns.{part_cases, runs_last, all_last, each}
 
 -- a run stands behind all columns with cells
@@ -97,13 +97,13 @@ no_rows m u e h = bounds (row_count m u.table) u.row e h
     bounds : (n row : ℕ) → n ≡ 0 → (nat_lt 0 row && nat_le row n) ≡ true → ⊥
     bounds n row e h = let low : 0 < row = grind (arith, nat_tests) in let high : row ≤ n = grind (arith, nat_tests) in omega arith
 
-pub row_table : (m : Module) (u : Token) → HasTables m → has_row m u ≡ true → (is_part u.table ≡ true) × (u.table < 0x2D)
-row_table m u has there =
+pub row_table : (m : Module) (u : Token) → HasTables m → HasCounts m → has_row m u ≡ true → (is_part u.table ≡ true) × (u.table < 0x2D)
+row_table m u has counts there =
     elim (cases_lt u.table 0x2D) [
       | inr past ↦ absurd (no_rows m u (ap length (none_past m.tables u.table 0x2D has.all past)) there)
       | inl low ↦ elim (part_cases (is_part u.table)) [
         | inl part ↦ (part, low)
-        | inr other ↦ absurd (no_rows m u (ap length (has.absent u.table other)) there)
+        | inr other ↦ absurd (no_rows m u (ap length (counts.absent u.table other)) there)
       ]
     ]
 

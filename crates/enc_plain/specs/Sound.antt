@@ -100,12 +100,21 @@ all_kids m table = flat_map (λ (r : Row). kids_at r table) (rows_in m (owner_ta
 pub record IsOwned (m : Module) : Type 0 where
   pub once : (table row : ℕ) → is_child_table table ≡ true → count_by (λ k. k == row) (all_kids m table) ≡ cond (nat_le 1 row && nat_le row (length (rows_in m table))) 1 0
 
--- all tables are there, and those that are no part of a module are empty; Module has one row, and no table more than 2^24 - 1
+-- all tables are there
 pub record HasTables (m : Module) : Type 0 where
   pub all : length m.tables ≡ 0x2D
+
+-- those that are no part of a module are empty; Module has one row, and no table more than 2^24 - 1
+pub record HasCounts (m : Module) : Type 0 where
   pub absent : (t : ℕ) → is_part t ≡ false → rows_in m t ≡ []
   pub single : row_count m 0 ≡ 1
   pub few : (t : ℕ) → row_count m t < 2 ^ 24
+
+-- each row has a list of children for each of its runs, and each child row stands once, in one owner's list
+pub record HasOwners (m : Module) : Type 0 where
+  pub tables : HasTables m
+  pub runs : HasRuns m
+  pub owned : IsOwned m
 
 -- each row has a cell in each of its columns that has one, of the column's kind
 pub record HasKinds (m : Module) : Type 0 where
@@ -120,11 +129,10 @@ pub record HasCells (m : Module) : Type 0 where
 pub record HasSignatures (m : Module) : Type 0 where
   pub each : (u : Token) (i : ℕ) → has_row m u ≡ true → signature_column u.table ≡ Some i → is_signature (row_count m) u.table (bytes_at (cells_of m) u i) ≡ true
 
--- the tables are a module's, with a cell of its kind in each column and a list of children for each run; what a cell says fits its column; each child row stands once, in one owner's list; each signature is one
+-- the tables are a module's, with owners and children; each column has a cell of its kind, and what it says fits the column; each signature is one
 pub record IsSound (m : Module) : Type 0 where
-  pub tables : HasTables m
+  pub owners : HasOwners m
+  pub counts : HasCounts m
   pub kinds : HasKinds m
   pub cells : HasCells m
-  pub runs : HasRuns m
-  pub owned : IsOwned m
   pub signatures : HasSignatures m
