@@ -10,7 +10,7 @@ use Rattle.enc_rows.specs.Source.{Source}
 use Rattle.enc_delta.specs.Delta.{listed, place_in}
 use Rattle.enc_agg.specs.declared.added.Added.{Added}
 use Rattle.enc_agg.specs.declared.added.Found.{Found}
-use Rattle.enc_agg.specs.declared.place.RowPlace.{RowPlace}
+use Rattle.enc_plain.specs.declared.place.RowPlace.{RowPlace}
 use Rattle.enc_agg.specs.Extend.{chain_with}
 use Rattle.enc_agg.specs.Place.{base_place, place_or, place_of, delta_at}
 use Rattle.enc_agg.specs.Seen.{sources, IsAdded, AllAdded, IsAggregate, found_or, found_in, found_seen}

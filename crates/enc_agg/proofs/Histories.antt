@@ -7,7 +7,7 @@ use Rattle.std.proofs.lemmas.Bool.Decides.{nat_tests}
 use Rattle.enc_base.specs.declared.token.Token.{Token}
 use Rattle.enc_rows.specs.Source.{Source}
 use Rattle.enc_meta.specs.Joined.{joined_user}
-use Rattle.enc_delta.proofs.Behind.{user_stays}
+use Rattle.enc_delta.proofs.OneHeapMore.{user_stays}
 use Rattle.enc_plain.specs.Cell.{Cell}
 use Rattle.enc_plain.specs.Chain.{Chain, id_of}
 use Rattle.enc_schema.specs.Schema.{list_at}

@@ -1,13 +1,14 @@
--- What a delta's log gives the owners, as the program counts it.
+-- For the contracts of private functions: what a delta's log gives the owners, as the program counts it.
 use Rattle.std.specs.Prelude.{ℕ, ◌+◌, ◌==◌, ◌&&◌, Bool, List, [], ◌∷◌, if◌then◌else◌}
 use Rattle.enc_base.specs.declared.token.Token.{Token}
 use Rattle.enc_base.specs.Token.{is_token}
 use Rattle.enc_delta.specs.declared.entry.Entry.{Entry}
 use Rattle.enc_delta.specs.Rules.{counts}
+use Rattle.enc_schema.specs.Tables as tables
 
 -- the code of the Add entries whose children are of a table
 abbrev pub add_code : ℕ → ℕ
-add_code table = if table == 0x06 then 1 else if table == 0x04 then 2 else if table == 0x08 then 3 else if table == 0x17 then 4 else 5
+add_code table = if table == tables.method_def then 1 else if table == tables.field then 2 else if table == tables.param then 3 else if table == tables.property then 4 else 5
 
 -- an entry that counts has this code
 abbrev pub gives : ℕ → Entry → Bool

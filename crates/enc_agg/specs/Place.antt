@@ -6,7 +6,7 @@ use Rattle.enc_base.specs.declared.refusal.StreamName.TheVariants as stream
 use Rattle.enc_meta.specs.Heaps.{Counted}
 use Rattle.enc_rows.specs.Source.{Source}
 use Rattle.enc_delta.specs.Delta.{listed, place_in}
-use Rattle.enc_agg.specs.declared.place.RowPlace.{RowPlace}
+use Rattle.enc_plain.specs.declared.place.RowPlace.{RowPlace}
 use Rattle.enc_agg.specs.declared.place.HeapPlace.{HeapPlace}
 
 -- a token that no delta lists stands in the base, at its own row

@@ -152,12 +152,7 @@ fn own_place(heaps: &Heaps<'_>, heap: Heap, generation: u32, offset: u32) -> Opt
 }
 
 /// Where an offset of a joined heap stands. None where it is past the heap.
-pub fn heap_place_in(
-    image: &Image,
-    added: &[Added],
-    heap: Heap,
-    offset: u32,
-) -> Option<HeapPlace>
+pub fn heap_place_in(image: &Image, added: &[Added], heap: Heap, offset: u32) -> Option<HeapPlace>
     requires { AllAdded image.now (reverse added.now) }
     ensures { result ≡ heap_place (map (bytes_in heap) (chain_with image.now (sources (reverse added.now))).heaps) offset }
 {

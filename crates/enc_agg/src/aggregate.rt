@@ -13,12 +13,12 @@ ghost use Rattle.enc_agg.specs.Place.{place_of, place_in_heaps, delta_at};
 ghost use Rattle.enc_agg.specs.Seen.{chain_of_all, module_of_all, sources, AllAdded, IsPrepared};
 
 use crate::added::{Added, count_in, find, guid_place_in, heap_place_in, lengths_in};
-use crate::place::{HeapPlace, RowPlace};
+use crate::place::HeapPlace;
 use enc_base::{Counts, StreamName, Token};
 use enc_delta::{Delta, enc_id_of, inserts_of};
 use enc_image::Image;
 use enc_meta::{Heap, HeapLengths};
-use enc_plain::is_row;
+use enc_plain::{RowPlace, is_row};
 use std::alloc::{AllocError, Global};
 use std::marker::Model;
 

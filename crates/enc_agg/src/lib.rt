@@ -9,5 +9,6 @@ mod place;
 mod view;
 
 pub use aggregate::{Aggregate, Ready};
+pub use enc_plain::RowPlace;
 pub use laws::{delta_keeps_sound_law, judged_rows_law};
-pub use place::{HeapPlace, RowPlace};
+pub use place::HeapPlace;

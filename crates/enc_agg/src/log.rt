@@ -6,6 +6,7 @@ ghost use Rattle.enc_agg.specs.Given.{add_code, gives, gives_to, rows_given};
 
 use enc_base::Token;
 use enc_delta::{Delta, Entry};
+use enc_schema::tables::{FIELD, METHOD_DEF, PARAM, PROPERTY};
 use std::alloc::AllocError;
 
 /// The code of the Add entries whose children are of a table.
@@ -13,10 +14,10 @@ fn add_code(table: u8) -> u32
     ensures { result ≡ add_code table }
 {
     match table {
-        0x06 => 1,
-        0x04 => 2,
-        0x08 => 3,
-        0x17 => 4,
+        METHOD_DEF => 1,
+        FIELD => 2,
+        PARAM => 3,
+        PROPERTY => 4,
         _ => 5,
     }
 }

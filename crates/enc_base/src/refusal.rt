@@ -1,4 +1,5 @@
 use crate::token::Token;
+use std::alloc::AllocError;
 
 /// The number of the rule that a file breaks: F for a file by itself, E for a delta after its
 /// chain.
@@ -62,4 +63,15 @@ pub struct Refusal {
 pub enum ReadFault {
     Memory,
     Refused(Refusal),
+}
+
+impl From<AllocError> for ReadFault {
+    ghost use Rattle.std.specs.Prelude.{◌≡◌};
+    ghost use Rattle.enc_base.specs.declared.refusal.ReadFault.TheVariants.{Memory};
+
+    ghost from_gives = { λ _ e. e ≡ Memory };
+
+    fn from(_: AllocError) -> ReadFault {
+        ReadFault::Memory
+    }
 }

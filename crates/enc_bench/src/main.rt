@@ -19,10 +19,8 @@ fn are_good(tables: &Tables, alloc: Global, bytes: &[u8]) -> Result<bool, AllocE
     requires bytes { IsWithin (part bytes.now tables.now.span) tables.now }
     ensures { IfOk result (λ good. good ≡ not (is_some (index_fault (rows_with bytes.now tables.now)))) }
 {
-    match tables.first_bad_index(alloc, bytes) {
-        Ok(place) => Ok(place.is_none()),
-        Err(error) => Err(error),
-    }
+    let place = tables.first_bad_index(alloc, bytes)?;
+    Ok(place.is_none())
 }
 
 /// What judging a file's indices comes to.

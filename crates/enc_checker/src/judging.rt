@@ -1,7 +1,6 @@
 //! Judging the files of a delta.
-ghost use Rattle.std.specs.Prelude.{◌≡◌, None, Ok, IfOk};
+ghost use Rattle.std.specs.Prelude.{◌≡◌, Ok, IfOk};
 ghost use Rattle.enc_delta.specs.Delta.{delta_of};
-ghost use Rattle.enc_delta.specs.Judged.{first_meta};
 ghost use Rattle.enc_agg.specs.Seen.{chain_of_all};
 ghost use Rattle.enc_checker.specs.Check.{judged};
 ghost use Rattle.enc_checker.specs.Seen.{Answers};
@@ -28,10 +27,8 @@ pub struct Checked {
 fn judge(alloc: Global, agg: &Aggregate, delta: Delta) -> Result<Checked, ReadFault>
     ensures answer { Answers result (judged (chain_of_all agg.now) (Ok delta)) }
     ensures delta { IfOk result (λ c. c.delta ≡ delta) }
-    ensures rules { IfOk result (λ c. first_meta (chain_of_all agg.now) c.delta ≡ None) }
 {
-    let before = agg.totals();
-    match delta.first_broken(alloc, agg, &before) {
+    match delta.first_broken(alloc, agg) {
         Err(AllocError) => Err(ReadFault::Memory),
         Ok(Some(refusal)) => Err(ReadFault::Refused(refusal)),
         Ok(None) => Ok(Checked { delta }),
@@ -45,11 +42,9 @@ fn judge(alloc: Global, agg: &Aggregate, delta: Delta) -> Result<Checked, ReadFa
 pub fn check(alloc: Global, agg: &Aggregate, files: Files) -> Result<Checked, ReadFault>
     ensures answer { Answers result (judged (chain_of_all agg.now) (delta_of files.meta.items files.il.items)) }
     ensures read { IfOk result (λ c. delta_of files.meta.items files.il.items ≡ Ok c.delta) }
-    ensures rules { IfOk result (λ c. first_meta (chain_of_all agg.now) c.delta ≡ None) }
+    ensures rules { IfOk result (λ c. judged (chain_of_all agg.now) (Ok c.delta) ≡ Ok c.delta) }
 {
     let Files { meta, il } = files;
-    match Delta::read(meta, il) {
-        Ok(delta) => judge(alloc, agg, delta),
-        Err(fault) => Err(fault),
-    }
+    let delta = Delta::read(meta, il)?;
+    judge(alloc, agg, delta)
 }

@@ -10,7 +10,7 @@ use Rattle.enc_delta.specs.declared.pairs.Pair.{Pair}
 use Rattle.enc_delta.specs.Twins.{Asked}
 use Rattle.enc_delta.specs.Members.{folded, bucket_of, goes_to, HoldAll}
 use Rattle.enc_delta.proofs.ListsChildren.{equal_is, equal_no}
-use Rattle.enc_delta.proofs.Besides.{no_pair}
+use Rattle.enc_delta.proofs.MembersBeside.{no_pair}
 use Rattle.enc_delta.proofs.PairsIn.{drop_at}
 
 at_set : {A : Type 0} (lists : List (List A)) (i : ℕ) (l : List A) → i < length lists → list_at (set lists i l) i ≡ l

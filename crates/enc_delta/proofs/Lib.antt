@@ -1,5 +1,5 @@
 pub mod Listed
-pub mod Behind
+pub mod OneHeapMore
 pub mod HeapLimits
 pub mod Counters
 pub mod Runs
@@ -12,7 +12,7 @@ pub mod ListsLog
 pub mod ListsChildren
 pub mod Placing
 pub mod Halves
-pub mod Besides
+pub mod MembersBeside
 pub mod Bucketed
 pub mod PairsIn
 pub mod TwinsTold

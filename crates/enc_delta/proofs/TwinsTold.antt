@@ -20,7 +20,7 @@ use Rattle.enc_delta.specs.Twins.{Asked, members, is_twin, has_twin, twin_fault}
 use Rattle.enc_delta.specs.Members.{pair_seen, is_beside, old_rows, row_passes, is_twin_row, is_twin_beside, bucket_of, goes_to, HoldAll, in_bucket, AreAdded, AreMembers, AreChildren}
 use Rattle.enc_delta.proofs.ListsChanged.{all_at}
 use Rattle.enc_delta.proofs.ListsChildren.{two, and_left, and_right, equal_is}
-use Rattle.enc_delta.proofs.Besides.{no_pair, any_same, any_gained, owner_same, table_same, beside_itself}
+use Rattle.enc_delta.proofs.MembersBeside.{no_pair, any_same, any_gained, owner_same, table_same, beside_itself}
 
 -- what is no row has no children
 row_none : (rows : List Row) (r : ℕ) → (nat_lt 0 r && nat_le r (length rows)) ≡ false → row_at rows r ≡ None

@@ -20,10 +20,12 @@ use Rattle.enc_delta.specs.Rules.{broken, at_token, least, is_insert, rows_with}
 use Rattle.enc_delta.specs.Pairs.{attached_of}
 use Rattle.enc_delta.specs.Rows.{own_row, rows_of_chain, rows_after}
 use Rattle.enc_delta.specs.Twins.{Asked, twin_fault}
+use Rattle.enc_schema.specs.Tables as tables
+use Rattle.enc_schema.specs.Columns as columns
 
 -- the columns in which an update may say something else: the flags and the name of a parameter (II.22.33), and those of a custom attribute (II.22.10)
 abbrev pub may_differ : ℕ → ℕ → Bool
-may_differ table i = table == 0x08 && (i == 0 || i == 2) || table == 0x0C
+may_differ table i = table == tables.param && (i == columns.param_flags || i == columns.param_name) || table == tables.custom_attribute
 
 -- the column holds the signature of its table
 abbrev pub is_signature_column : ℕ → ℕ → Bool
@@ -58,19 +60,19 @@ least_child breaks s = at_token (least (map (λ (a : Attached). number_of a.chil
 -- the type extends a TypeRef that is named System.ValueType or System.Enum, whatever its scope (II.10.1.3)
 unfoldable pub is_value_type : Rows → Token → Bool
 is_value_type rows t =
-    (token_at rows t 3).table == 0x01
-    && bytes_eq (bytes_at rows (token_at rows t 3) 2) (codes "System")
-    && (bytes_eq (bytes_at rows (token_at rows t 3) 1) (codes "ValueType") || bytes_eq (bytes_at rows (token_at rows t 3) 1) (codes "Enum"))
+    (token_at rows t columns.type_def_extends).table == tables.type_ref
+    && bytes_eq (bytes_at rows (token_at rows t columns.type_def_extends) columns.type_ref_type_namespace) (codes "System")
+    && (bytes_eq (bytes_at rows (token_at rows t columns.type_def_extends) columns.type_ref_type_name) (codes "ValueType") || bytes_eq (bytes_at rows (token_at rows t columns.type_def_extends) columns.type_ref_type_name) (codes "Enum"))
 
 -- the type says how its fields are laid out, by either bit of 18 (II.23.1.15)
 abbrev pub has_layout : Rows → Token → Bool
-has_layout rows t = not (number_at rows t 0 / 8 % 4 == 0)
+has_layout rows t = not (number_at rows t columns.type_def_flags / 8 % 4 == 0)
 
 -- E18: a new field that isn't static (flag 10, II.23.1.5), in a type that was there and has a layout or is a value type
 unfoldable pub breaks_layout : Chain → Source → Attached → Bool
 breaks_layout c s a =
-    a.child.table == 0x04 && a.owner.table == 0x02 && not (is_insert c a.owner)
-    && not (has_flag 0x10 (number_at (rows_after c s) a.child 0))
+    a.child.table == tables.field && a.owner.table == tables.type_def && not (is_insert c a.owner)
+    && not (has_flag 0x10 (number_at (rows_after c s) a.child columns.field_flags))
     && (has_layout (rows_after c s) a.owner || is_value_type (rows_after c s) a.owner)
 
 unfoldable pub field_out_of_layout : Chain → Source → Option Place
@@ -79,24 +81,24 @@ field_out_of_layout c s = least_child (breaks_layout c s) s
 -- E19: a new virtual method (flag 40, II.23.1.10) in an interface (flag 20, II.23.1.15) that was there, or one that is abstract too (flag 400) in any type that was there
 unfoldable pub breaks_slots : Chain → Source → Attached → Bool
 breaks_slots c s a =
-    a.child.table == 0x06 && a.owner.table == 0x02 && not (is_insert c a.owner)
-    && has_flag 0x40 (number_at (rows_after c s) a.child 2)
-    && (has_flag 0x20 (number_at (rows_after c s) a.owner 0) || has_flag 0x400 (number_at (rows_after c s) a.child 2))
+    a.child.table == tables.method_def && a.owner.table == tables.type_def && not (is_insert c a.owner)
+    && has_flag 0x40 (number_at (rows_after c s) a.child columns.method_def_flags)
+    && (has_flag 0x20 (number_at (rows_after c s) a.owner columns.type_def_flags) || has_flag 0x400 (number_at (rows_after c s) a.child columns.method_def_flags))
 
 unfoldable pub method_without_slot : Chain → Source → Option Place
 method_without_slot c s = least_child (breaks_slots c s) s
 
 -- the column of a member's name
 abbrev pub name_column : ℕ → ℕ
-name_column table = if table == 0x06 then 3 else 1
+name_column table = if table == tables.method_def then columns.method_def_name else columns.field_name
 
 -- fields and methods of which the low three bits of the flags are 0 are known to the compiler alone (II.23.1.5, II.23.1.10) and don't count; properties and events do
 unfoldable pub is_member : Rows → Token → Bool
-is_member rows t = t.table == 0x04 && not (number_at rows t 0 % 8 == 0) || t.table == 0x06 && not (number_at rows t 2 % 8 == 0) || t.table == 0x14 || t.table == 0x17
+is_member rows t = t.table == tables.field && not (number_at rows t columns.field_flags % 8 == 0) || t.table == tables.method_def && not (number_at rows t columns.method_def_flags % 8 == 0) || t.table == tables.event || t.table == tables.property
 
 -- an event is told by its name alone
 unfoldable pub same_signature : Rows → Token → Token → Bool
-same_signature rows t u = t.table == 0x14 || signatures_alike rows t.table (bytes_at rows t (unwrap_or (signature_column t.table) 0)) (bytes_at rows u (unwrap_or (signature_column t.table) 0))
+same_signature rows t u = t.table == tables.event || signatures_alike rows t.table (bytes_at rows t (unwrap_or (signature_column t.table) 0)) (bytes_at rows u (unwrap_or (signature_column t.table) 0))
 
 abbrev pub asked_of : Rows → Asked
 asked_of rows = record { counts = is_member rows; name = λ t. bytes_at rows t (name_column t.table); alike = same_signature rows }
@@ -122,11 +124,11 @@ own_code s t = code_loaded s.loaded (raw_in s (own_row s t) 0)
 -- a body's local signature is nil, or one of StandAloneSig that begins as one of locals (II.23.2.6)
 abbrev pub locals_begin : Rows → Option Code → Bool
 locals_begin rows None = true
-locals_begin rows (Some c) = c.locals.row == 0 || c.locals.table == 0x11 && begins_locals (bytes_at rows c.locals 0)
+locals_begin rows (Some c) = c.locals.row == 0 || c.locals.table == tables.stand_alone_sig && begins_locals (bytes_at rows c.locals columns.stand_alone_sig_signature)
 
 -- E23: a method's local signature that isn't one of locals
 unfoldable pub bad_locals_in : Chain → Source → Token → Option Place
-bad_locals_in c s t = broken (t.table == 0x06 && not (locals_begin (rows_after c s) (own_code s t))) (place.Row t)
+bad_locals_in c s t = broken (t.table == tables.method_def && not (locals_begin (rows_after c s) (own_code s t))) (place.Row t)
 
 unfoldable pub bad_locals : Chain → Source → Option Place
 bad_locals c s = first_below (of_nth (bad_locals_in c s) s) (length (listed s))

@@ -1,4 +1,4 @@
--- A chain with a delta after it, and what is known of the two.
+-- For the contracts of private functions: a chain with a delta after it, and what is known of the two.
 use Rattle.std.specs.Prelude.{◌≡◌, ℕ, ◌<◌, ◌^◌, List, length, map, slice_index, Option, option_and_then, unwrap_or}
 use Rattle.enc_base.specs.Token.{nil}
 use Rattle.enc_base.specs.declared.token.Token.{Token}

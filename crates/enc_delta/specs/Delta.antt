@@ -12,6 +12,8 @@ use Rattle.enc_rows.specs.Layout.{Layout, rows_of, tables_of}
 use Rattle.enc_rows.specs.Source.{Source, raw_in}
 use Rattle.enc_delta.specs.declared.entry.Entry.{Entry}
 use Rattle.enc_rows.specs.declared.form.Form.TheVariants as form
+use Rattle.enc_schema.specs.Tables as tables
+use Rattle.enc_schema.specs.Columns as columns
 
 -- the token of the Module row, which log and map may have and which means nothing there
 abbrev pub is_module : Token → Bool
@@ -19,17 +21,17 @@ is_module t = t.table == 0 && t.row == 1
 
 -- the i-th entry of EncLog and the i-th token of EncMap, i from 0
 unfoldable pub entry_at : Source → ℕ → Entry
-entry_at s i = record { token = token_of (raw_in s (nth_row 0x1E i) 0); code = raw_in s (nth_row 0x1E i) 1 }
+entry_at s i = record { token = token_of (raw_in s (nth_row tables.enc_log i) columns.enc_log_token); code = raw_in s (nth_row tables.enc_log i) columns.enc_log_func_code }
 
 unfoldable pub token_at : Source → ℕ → Token
-token_at s i = token_of (raw_in s (nth_row 0x1F i) 0)
+token_at s i = token_of (raw_in s (nth_row tables.enc_map i) columns.enc_map_token)
 
 -- EncLog and EncMap as they stand
 unfoldable pub log_in : Source → List Entry
-log_in s = map (entry_at s) (below (rows_of s.layout 0x1E))
+log_in s = map (entry_at s) (below (rows_of s.layout tables.enc_log))
 
 unfoldable pub map_in : Source → List Token
-map_in s = map (token_at s) (below (rows_of s.layout 0x1F))
+map_in s = map (token_at s) (below (rows_of s.layout tables.enc_map))
 
 -- the tokens of EncMap but the Module's
 unfoldable pub listed : Source → List Token

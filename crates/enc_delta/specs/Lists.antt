@@ -1,10 +1,11 @@
--- What the rules on whole lists are told of the tokens and entries that they are given.
+-- For the contracts of private functions: what the rules on whole lists are told of the tokens and entries that they are given.
 use Rattle.std.specs.Prelude.{ℕ, ◌+◌, Bool, false, ◌&&◌, ◌==◌, List, [], ◌∷◌, Option, Some, None, IsTrue, nat_lt, nat_le, slice_index, find}
 use Rattle.std.specs.List.{list_all}
 use Rattle.enc_base.specs.declared.token.Token.{Token}
 use Rattle.enc_plain.specs.Chain.{Chain, rows_before}
 use Rattle.enc_delta.specs.declared.entry.Entry.{Entry}
 use Rattle.enc_delta.specs.Rules.{counts, rows_with, parent_table, child_table}
+use Rattle.enc_schema.specs.Tables as tables
 
 -- each is a token by its number: its row fits three bytes
 abbrev pub AreTokens : List Token → Type 0
@@ -16,7 +17,7 @@ AreEntries log = IsTrue (list_all (λ (e : Entry). nat_lt e.token.row 0x1000000)
 
 -- by code, how many rows the parent's table of an Add entry has after the delta
 abbrev pub parents : Chain → List Token → List ℕ
-parents c tokens = 0 ∷ rows_with c tokens 0x02 ∷ rows_with c tokens 0x02 ∷ rows_with c tokens 0x06 ∷ rows_with c tokens 0x15 ∷ rows_with c tokens 0x12 ∷ []
+parents c tokens = 0 ∷ rows_with c tokens tables.type_def ∷ rows_with c tokens tables.type_def ∷ rows_with c tokens tables.method_def ∷ rows_with c tokens tables.property_map ∷ rows_with c tokens tables.event_map ∷ []
 
 -- the same as `has_parent`, by these counts
 abbrev pub parent_in : List ℕ → Entry → Bool

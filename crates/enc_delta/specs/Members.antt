@@ -1,4 +1,4 @@
--- How twins are looked for: the members of all owners, put together by owner and name.
+-- For the contracts of private functions: how twins are looked for: the members of all owners, put together by owner and name.
 use Rattle.std.specs.Prelude.{◌≡◌, ℕ, ◌+◌, ◌*◌, ◌%◌, ◌<◌, Bool, true, false, not, ◌&&◌, ◌||◌, ◌==◌, nat_lt, List, [], ◌∷◌, length, Option, Some, None, if◌then◌else◌, IsTrue}
 use Rattle.std.specs.List.{list_any, list_all}
 use Rattle.enc_base.specs.Token.{is_token}

@@ -21,6 +21,8 @@ use Rattle.enc_plain.specs.Module.{cell_of}
 use Rattle.enc_plain.specs.Bodies.{body_loaded, body_is_good}
 use Rattle.enc_delta.specs.declared.entry.Entry.{Entry}
 use Rattle.enc_delta.specs.Delta.{listed, is_module, of_table}
+use Rattle.enc_schema.specs.Tables as tables
+use Rattle.enc_schema.specs.Columns as columns
 
 abbrev pub module_token : Token
 module_token = record { table = 0; row = 1 }
@@ -39,16 +41,16 @@ broken false p = None
 
 -- E1 to E4: the base's Mvid, the next generation, the last EncId as EncBaseId, and an EncId that isn't nil and wasn't used
 unfoldable pub other_module : Chain → Source → Option Place
-other_module c s = broken (not (bytes_eq (own_guid c s 2) (mvid_of c))) (place.Row module_token)
+other_module c s = broken (not (bytes_eq (own_guid c s columns.module_mvid) (mvid_of c))) (place.Row module_token)
 
 unfoldable pub not_next : Chain → Source → Option Place
-not_next c s = broken (not (raw_in s module_token 0 == length c.ids + 1)) (place.Row module_token)
+not_next c s = broken (not (raw_in s module_token columns.module_generation == length c.ids + 1)) (place.Row module_token)
 
 unfoldable pub other_base : Chain → Source → Option Place
-other_base c s = broken (not (bytes_eq (own_guid c s 4) (id_of c (length c.ids)))) (place.Row module_token)
+other_base c s = broken (not (bytes_eq (own_guid c s columns.module_enc_base_id) (id_of c (length c.ids)))) (place.Row module_token)
 
 unfoldable pub id_taken : Chain → Source → Option Place
-id_taken c s = broken (bytes_eq (own_guid c s 3) nil_guid || list_any (λ id. bytes_eq id (own_guid c s 3)) c.ids) (place.Row module_token)
+id_taken c s = broken (bytes_eq (own_guid c s columns.module_enc_id) nil_guid || list_any (λ id. bytes_eq id (own_guid c s columns.module_enc_id)) c.ids) (place.Row module_token)
 
 -- the last byte, 0 where there is none
 abbrev pub last_byte : List ℕ → ℕ
@@ -93,7 +95,7 @@ late_fault tokens = at_token (least (late (map number_of tokens)))
 
 -- EncLog, EncMap and Module have no rows that tokens stand for
 abbrev pub rows_for : Source → ℕ → ℕ
-rows_for s table = if list_any (λ t. t == table) (0x00 ∷ 0x1E ∷ 0x1F ∷ []) then 0 else rows_of s.layout table
+rows_for s table = if list_any (λ t. t == table) (tables.«module» ∷ tables.enc_log ∷ tables.enc_map ∷ []) then 0 else rows_of s.layout table
 
 -- E7: a table's rows and its tokens differ in number
 unfoldable pub uneven_at : Source → ℕ → Option Place
@@ -148,10 +150,10 @@ rows_with c tokens table = rows_before c table + inserts c tokens table
 
 -- the tables of parent and child of an Add entry: methods, fields, parameters, properties, events
 abbrev pub parent_table : ℕ → ℕ
-parent_table code = slice_index (0 ∷ 0x02 ∷ 0x02 ∷ 0x06 ∷ 0x15 ∷ 0x12 ∷ []) code
+parent_table code = slice_index (0 ∷ tables.type_def ∷ tables.type_def ∷ tables.method_def ∷ tables.property_map ∷ tables.event_map ∷ []) code
 
 abbrev pub child_table : ℕ → ℕ
-child_table code = slice_index (0 ∷ 0x06 ∷ 0x04 ∷ 0x08 ∷ 0x17 ∷ 0x14 ∷ []) code
+child_table code = slice_index (0 ∷ tables.method_def ∷ tables.field ∷ tables.param ∷ tables.property ∷ tables.event ∷ []) code
 
 abbrev pub is_add : ℕ → Bool
 is_add code = nat_le 1 code && nat_le code 5
@@ -197,11 +199,11 @@ unfoldable pub child_fault_in : Chain → List Token → List Entry → ℕ → 
 child_fault_in c tokens log table = first_below (child_fault_at c log table) (inserts c tokens table)
 
 unfoldable pub child_fault : Chain → List Token → List Entry → Option Place
-child_fault c tokens log = or_else (child_fault_in c tokens log 0x04) (or_else (child_fault_in c tokens log 0x06) (or_else (child_fault_in c tokens log 0x08) (or_else (child_fault_in c tokens log 0x14) (child_fault_in c tokens log 0x17))))
+child_fault c tokens log = or_else (child_fault_in c tokens log tables.field) (or_else (child_fault_in c tokens log tables.method_def) (or_else (child_fault_in c tokens log tables.param) (or_else (child_fault_in c tokens log tables.event) (child_fault_in c tokens log tables.property))))
 
 -- the tables that a delta may have
 abbrev pub may_change : ℕ → Bool
-may_change table = list_any (λ t. t == table) (0x00 ∷ 0x01 ∷ 0x02 ∷ 0x04 ∷ 0x06 ∷ 0x08 ∷ 0x09 ∷ 0x0A ∷ 0x0B ∷ 0x0C ∷ 0x0D ∷ 0x0E ∷ 0x0F ∷ 0x10 ∷ 0x11 ∷ 0x12 ∷ 0x14 ∷ 0x15 ∷ 0x17 ∷ 0x18 ∷ 0x19 ∷ 0x1A ∷ 0x1B ∷ 0x1C ∷ 0x1E ∷ 0x1F ∷ 0x23 ∷ 0x29 ∷ 0x2A ∷ 0x2B ∷ 0x2C ∷ [])
+may_change table = list_any (λ t. t == table) (tables.«module» ∷ tables.type_ref ∷ tables.type_def ∷ tables.field ∷ tables.method_def ∷ tables.param ∷ tables.interface_impl ∷ tables.member_ref ∷ tables.constant ∷ tables.custom_attribute ∷ tables.field_marshal ∷ tables.decl_security ∷ tables.class_layout ∷ tables.field_layout ∷ tables.stand_alone_sig ∷ tables.event_map ∷ tables.event ∷ tables.property_map ∷ tables.property ∷ tables.method_semantics ∷ tables.method_impl ∷ tables.module_ref ∷ tables.type_spec ∷ tables.impl_map ∷ tables.enc_log ∷ tables.enc_map ∷ tables.assembly_ref ∷ tables.nested_class ∷ tables.generic_param ∷ tables.method_spec ∷ tables.generic_param_constraint ∷ [])
 
 -- E12: rows in another table
 unfoldable pub closed_at : Source → ℕ → Option Place
@@ -244,28 +246,28 @@ table_fault c s asks table = first_below (row_fault c s asks table) (rows_of s.l
 
 -- E13: an index past its table after, or a tag of no table; E14: an offset that isn't good in the joined heap
 unfoldable pub bad_index : Chain → Source → Option Place
-bad_index c s = first_below (table_fault c s is_index) 0x2D
+bad_index c s = first_below (table_fault c s is_index) tables.table_count
 
 unfoldable pub bad_offset : Chain → Source → Option Place
-bad_offset c s = first_below (table_fault c s is_offset) 0x2D
+bad_offset c s = first_below (table_fault c s is_offset) tables.table_count
 
 -- E24: more than 65,535 deltas, or more than 2^24 - 1 rows in a table after. No file reaches it: E2 and E8 come first
 unfoldable pub too_many_in : Chain → Source → ℕ → Option Place
 too_many_in c s table = broken (nat_lt 0xFFFFFF (rows_with c (listed s) table)) (place.Row module_token)
 
 unfoldable pub too_many : Chain → Source → Option Place
-too_many c s = or_else (broken (nat_lt 65535 (length c.ids + 1)) (place.Row module_token)) (first_below (too_many_in c s) 0x2D)
+too_many c s = or_else (broken (nat_lt 65535 (length c.ids + 1)) (place.Row module_token)) (first_below (too_many_in c s) tables.table_count)
 
 -- the method of a row has no place for a body, or a good one in the delta's code
 unfoldable pub body_stands : Chain → Source → ℕ → Bool
-body_stands c s r = body_is_good (rows_with c (listed s)) (users_after c s) s.loaded (raw_in s (nth_row 0x06 r) 0) (raw_in s (nth_row 0x06 r) 1)
+body_stands c s r = body_is_good (rows_with c (listed s)) (users_after c s) s.loaded (raw_in s (nth_row tables.method_def r) columns.method_def_rva) (raw_in s (nth_row tables.method_def r) columns.method_def_impl_flags)
 
 -- E16: a body isn't good
 unfoldable pub broken_body_at : Chain → Source → ℕ → Option Place
-broken_body_at c s r = option_and_then (λ (t : Token). broken (not (body_stands c s r)) (place.Row t)) (slice_get (of_table 0x06 (listed s)) r)
+broken_body_at c s r = option_and_then (λ (t : Token). broken (not (body_stands c s r)) (place.Row t)) (slice_get (of_table tables.method_def (listed s)) r)
 
 unfoldable pub broken_body : Chain → Source → Option Place
-broken_body c s = first_below (broken_body_at c s) (rows_of s.layout 0x06)
+broken_body c s = first_below (broken_body_at c s) (rows_of s.layout tables.method_def)
 
 -- the cell is a body that is there
 abbrev pub has_body : Option Cell → Bool
@@ -274,7 +276,7 @@ has_body _ = false
 
 -- E17: no place for a body where the method had one
 unfoldable pub lost_body_at : Chain → Source → ℕ → Option Place
-lost_body_at c s r = option_and_then (λ (t : Token). broken (raw_in s (nth_row 0x06 r) 0 == 0 && has_body (cell_of c.plain t 0)) (place.Row t)) (slice_get (of_table 0x06 (listed s)) r)
+lost_body_at c s r = option_and_then (λ (t : Token). broken (raw_in s (nth_row tables.method_def r) columns.method_def_rva == 0 && has_body (cell_of c.plain t columns.method_def_rva)) (place.Row t)) (slice_get (of_table tables.method_def (listed s)) r)
 
 unfoldable pub lost_body : Chain → Source → Option Place
-lost_body c s = first_below (lost_body_at c s) (rows_of s.layout 0x06)
+lost_body c s = first_below (lost_body_at c s) (rows_of s.layout tables.method_def)

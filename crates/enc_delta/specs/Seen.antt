@@ -1,4 +1,4 @@
--- What the parts of the program stand for.
+-- For the contracts of private functions: what the parts of the program stand for.
 use Rattle.std.specs.Prelude.{◌≡◌, ◌↔◌, ℕ, ◌<◌, Bool, IsTrue, List, Result, Ok, Err}
 use Rattle.enc_base.specs.declared.refusal.Refusal.{Refusal}
 use Rattle.enc_base.specs.declared.refusal.ReadFault.{ReadFault}
@@ -10,6 +10,7 @@ use Rattle.enc_rows.specs.Layout.{IsWithin, rows_of}
 use Rattle.enc_rows.specs.Source.{Source}
 use Rattle.enc_delta.specs.declared.open.Opened.{Opened}
 use Rattle.enc_delta.specs.Delta.{source_from, token_at}
+use Rattle.enc_schema.specs.Tables as tables
 
 -- a root and its tables with the file's bytes
 abbrev pub opened_source : List ℕ → List ℕ → Result Opened Refusal → Result Source Refusal
@@ -25,7 +26,7 @@ pub record IsOpened (bytes : List ℕ) (o : Opened) : Type 0 where
 
 -- each token of EncMap has a greater number than those before it
 abbrev pub IsRising : Source → Type 0
-IsRising s = (i j : ℕ) → i < j → j < rows_of s.layout 0x1F → number_of (token_at s i) < number_of (token_at s j)
+IsRising s = (i j : ℕ) → i < j → j < rows_of s.layout tables.enc_map → number_of (token_at s i) < number_of (token_at s j)
 
 -- the root and the tables of a delta, and whether its map rises
 pub record IsRead (bytes il : List ℕ) (o : Opened) (rises : Bool) : Type 0 where

@@ -1,4 +1,4 @@
--- What the answer of some rules says.
+-- For the contracts of private functions: what the answer of some rules says.
 use Rattle.std.specs.Prelude.{◌≡◌, Option, Some, None, Result, Ok, Err}
 use Rattle.enc_base.specs.declared.refusal.Refusal.{Refusal}
 use Rattle.enc_delta.specs.declared.rules.Stop.{Stop}

@@ -6,6 +6,7 @@ ghost use Rattle.enc_plain.specs.Bodies.{code_is_good, body_is_good};
 ghost use Rattle.enc_plain.specs.Module.{cell_of};
 ghost use Rattle.enc_delta.specs.Delta.{listed, of_table};
 ghost use Rattle.enc_delta.specs.Rules.{rows_with, users_after, has_body, broken_body_at, broken_body, lost_body_at, lost_body};
+ghost use Rattle.enc_schema.specs.Tables.{method_def};
 
 use crate::cells::next_of;
 use crate::context::Context;
@@ -14,6 +15,7 @@ use enc_base::{Place, Token};
 use enc_il::{first_bad, texts_are_there};
 use enc_opcodes::CodeRef;
 use enc_plain::{ChainView, is_row};
+use enc_schema::tables::METHOD_DEF;
 use std::alloc::{AllocError, Global};
 
 /// The body is good by the rows after the delta, and the user texts that it names are there.
@@ -62,10 +64,10 @@ fn broken_body_at<C: ChainView>(
     token: Token,
 ) -> Result<Option<Place>, AllocError>
     requires few { r < 2 ^ 24 }
-    requires token { slice_get (of_table 0x06 (listed context.now.delta)) r ≡ Some token }
+    requires token { slice_get (of_table method_def (listed context.now.delta)) r ≡ Some token }
     ensures { IfOk result (λ p. p ≡ broken_body_at context.now.chain context.now.delta r) }
 {
-    let row = nth_row(0x06, r);
+    let row = nth_row(METHOD_DEF, r);
     let place = context.delta.cell(row, 0);
     match is_good(alloc, context, place, context.delta.cell(row, 1)) {
         Err(error) => Err(error),
@@ -84,8 +86,8 @@ pub fn broken_body<C: ChainView>(
     ensures { IfOk result (λ p. p ≡ broken_body context.now.chain context.now.delta) }
 {
     let mut rest = context.tokens();
-    for r in 0..context.own_count(0x06) {
-        let [token, tail @ ..] = next_of(rest, 0x06) else {
+    for r in 0..context.own_count(METHOD_DEF) {
+        let [token, tail @ ..] = next_of(rest, METHOD_DEF) else {
             return Ok(None);
         };
         match broken_body_at(alloc, context, r, *token) {
@@ -100,7 +102,7 @@ pub fn broken_body<C: ChainView>(
 
 /// The method has a body before the delta.
 fn has_body<C: ChainView>(chain: &C, method: Token) -> bool
-    requires table { method.table ≡ 0x06 }
+    requires table { method.table ≡ method_def }
     ensures { result ≡ has_body (cell_of (C.chain chain.now).plain method 0) }
 {
     if !is_row(chain, method) {
@@ -113,11 +115,11 @@ fn has_body<C: ChainView>(chain: &C, method: Token) -> bool
 #[tactic(auto, unfolding(crate::specs::Rules::lost_body_at))]
 fn lost_body_at<C: ChainView>(context: &Context<'_, C>, r: u32, token: Token) -> Option<Place>
     requires few { r < 2 ^ 24 }
-    requires table { token.table ≡ 0x06 }
-    requires token { slice_get (of_table 0x06 (listed context.now.delta)) r ≡ Some token }
+    requires table { token.table ≡ method_def }
+    requires token { slice_get (of_table method_def (listed context.now.delta)) r ≡ Some token }
     ensures { result ≡ lost_body_at context.now.chain context.now.delta r }
 {
-    if context.delta.cell(nth_row(0x06, r), 0) == 0 && has_body(context.old.view, token) {
+    if context.delta.cell(nth_row(METHOD_DEF, r), 0) == 0 && has_body(context.old.view, token) {
         return Some(Place::Row(token));
     }
     None
@@ -129,8 +131,8 @@ pub fn lost_body<C: ChainView>(context: &Context<'_, C>) -> Option<Place>
     ensures { result ≡ lost_body context.now.chain context.now.delta }
 {
     let mut rest = context.tokens();
-    for r in 0..context.own_count(0x06) {
-        let [token, tail @ ..] = next_of(rest, 0x06) else {
+    for r in 0..context.own_count(METHOD_DEF) {
+        let [token, tail @ ..] = next_of(rest, METHOD_DEF) else {
             return None;
         };
         match lost_body_at(context, r, *token) {

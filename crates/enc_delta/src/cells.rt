@@ -7,12 +7,14 @@ ghost use Rattle.enc_delta.specs.Delta.{listed, of_table};
 ghost use Rattle.enc_delta.specs.Rules.{reading_after, cell_fault, row_fault, table_fault, bad_index, bad_offset, too_many_in, too_many};
 ghost use Rattle.enc_plain.specs.Reading.{cell_read};
 ghost use Rattle.enc_delta.specs.Cells.{speaks, begins_with};
+ghost use Rattle.enc_schema.specs.Tables.{table_count};
 
 use crate::context::Context;
 use crate::delta::nth_row;
 use crate::joined::{guid_after, has_text_after};
 use enc_base::{Place, Token};
 use enc_plain::ChainView;
+use enc_schema::tables::TABLE_COUNT;
 use enc_schema::{Column, column_of, columns_of, decode_coded};
 
 const MODULE: Token = Token { table: 0, row: 1 };
@@ -134,11 +136,7 @@ pub fn next_of(tokens: &[Token], table: u8) -> &[Token]
 
 /// The first cell of a table that breaks the rule.
 #[tactic(auto, using(enc_base::proofs::First::first_none, enc_base::proofs::First::first_found, enc_base::proofs::First::first_more), unfolding(crate::specs::Rules::table_fault))]
-fn table_fault<C: ChainView>(
-    context: &Context<'_, C>,
-    rule: CellRule,
-    table: u8,
-) -> Option<Place>
+fn table_fault<C: ChainView>(context: &Context<'_, C>, rule: CellRule, table: u8) -> Option<Place>
     ensures { result ≡ table_fault context.now.chain context.now.delta (speaks rule) table }
 {
     let mut rest = context.tokens();
@@ -157,13 +155,10 @@ fn table_fault<C: ChainView>(
 
 /// The first cell that breaks the rule.
 #[tactic(auto, using(enc_base::proofs::First::first_none, enc_base::proofs::First::first_found, enc_base::proofs::First::first_more))]
-fn first_fault<C: ChainView>(
-    context: &Context<'_, C>,
-    rule: CellRule,
-) -> Option<Place>
-    ensures { result ≡ first_below (table_fault context.now.chain context.now.delta (speaks rule)) 0x2D }
+fn first_fault<C: ChainView>(context: &Context<'_, C>, rule: CellRule) -> Option<Place>
+    ensures { result ≡ first_below (table_fault context.now.chain context.now.delta (speaks rule)) table_count }
 {
-    for table in 0..0x2d {
+    for table in 0..TABLE_COUNT {
         match table_fault(context, rule, table) {
             Some(place) => return Some(place),
             None => {}
@@ -209,7 +204,7 @@ pub fn too_many<C: ChainView>(context: &Context<'_, C>) -> Option<Place>
     if context.generations() > 0xffff {
         return Some(Place::Row(MODULE));
     }
-    for table in 0..0x2d {
+    for table in 0..TABLE_COUNT {
         match too_many_in(context, table) {
             Some(place) => return Some(place),
             None => {}

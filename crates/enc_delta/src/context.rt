@@ -128,7 +128,13 @@ impl<C: ChainView> Context<'_, C> {
     pub fn entry(&self, heap: Heap, offset: u32) -> Option<&[u8]>
         ensures { option_copied result ≡ joined_at heap (heaps_after self.now.chain self.now.delta) offset }
     {
-        entry_after(self.old.view, &self.delta.heaps(), &self.known.before, heap, offset)
+        entry_after(
+            self.old.view,
+            &self.delta.heaps(),
+            &self.known.before,
+            heap,
+            offset,
+        )
     }
 
     /// The same, no bytes where the offset isn't good.

@@ -9,6 +9,7 @@ ghost use Rattle.enc_rows.specs.Source.{raw_in};
 ghost use Rattle.enc_base.specs.Token.{nth_row};
 ghost use Rattle.enc_delta.specs.Delta.{delta_of, entry_at, token_at, log_in, map_in, listed};
 ghost use Rattle.enc_delta.specs.Seen.{Reads, IsRising};
+ghost use Rattle.enc_schema.specs.Tables.{enc_log, enc_map};
 
 use crate::code::{body_from, code_at};
 use crate::entry::Entry;
@@ -18,6 +19,7 @@ use enc_meta::{HeapLengths, Heaps, Root, TextEnds};
 use enc_opcodes::CodeRef;
 use enc_rows::Tables;
 use enc_schema::column_of;
+use enc_schema::tables::{ENC_LOG, ENC_MAP};
 use std::marker::Model;
 use std::sync::ledger::Ledger;
 
@@ -158,22 +160,22 @@ pub(crate) fn nth_row(table: u8, n: u32) -> Token
 impl Delta {
     /// The number of entries of EncLog.
     pub fn log_len(&self) -> u32
-        ensures count { result ≡ rows_of self.now.layout 0x1E }
+        ensures count { result ≡ rows_of self.now.layout enc_log }
         ensures few { result < 2 ^ 24 }
     {
-        self.count(0x1e)
+        self.count(ENC_LOG)
     }
 
     /// An entry of EncLog, from 0.
     #[tactic(auto, unfolding(crate::specs::Delta::entry_at))]
     pub fn log(&self, i: u32) -> Entry
-        requires there { i < rows_of self.now.layout 0x1E }
+        requires there { i < rows_of self.now.layout enc_log }
         requires few { i < 2 ^ 24 }
         ensures entry { slice_get (log_in self.now) i ≡ Some result }
         ensures at { result ≡ entry_at self.now i }
         ensures row { result.token.row < 2 ^ 24 }
     {
-        let row = nth_row(0x1e, i);
+        let row = nth_row(ENC_LOG, i);
         Entry {
             token: Token::of(self.cell(row, 0)),
             code: self.cell(row, 1),
@@ -182,28 +184,28 @@ impl Delta {
 
     /// The number of tokens of EncMap.
     pub fn map_len(&self) -> u32
-        ensures count { result ≡ rows_of self.now.layout 0x1F }
+        ensures count { result ≡ rows_of self.now.layout enc_map }
         ensures few { result < 2 ^ 24 }
     {
-        self.count(0x1f)
+        self.count(ENC_MAP)
     }
 
     /// A token of EncMap, from 0, for a caller that counts nothing.
     #[tactic(auto, unfolding(crate::specs::Delta::token_at))]
     pub fn token(&self, i: u32) -> Token
-        requires there { i < rows_of self.now.layout 0x1F }
+        requires there { i < rows_of self.now.layout enc_map }
         requires few { i < 2 ^ 24 }
         ensures token { slice_get (map_in self.now) i ≡ Some result }
         ensures at { result ≡ token_at self.now i }
         ensures table { result.table < 2 ^ 8 }
         ensures row { result.row < 2 ^ 24 }
     {
-        Token::of(self.cell(nth_row(0x1f, i), 0))
+        Token::of(self.cell(nth_row(ENC_MAP, i), 0))
     }
 
     /// A token of EncMap, from 0. One step.
     pub fn map<L: Ledger>(&self, i: u32, steps: &mut Steps<L>) -> Token
-        requires there { i < rows_of self.now.layout 0x1F }
+        requires there { i < rows_of self.now.layout enc_map }
         requires few { i < 2 ^ 24 }
         ensures token { slice_get (map_in self.now) i ≡ Some result }
         ensures steps { steps.new ≡ steps.old + 1 }

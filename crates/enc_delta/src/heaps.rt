@@ -38,7 +38,11 @@ fn strings_break<C: ChainView>(context: &Context<'_, C>) -> bool
 fn users_break<C: ChainView>(context: &Context<'_, C>) -> bool
     ensures { result ≡ users_break context.now.chain context.now.delta }
 {
-    passes(0x100_0000, context.known.before.users, context.delta.heaps().users().len())
+    passes(
+        0x100_0000,
+        context.known.before.users,
+        context.delta.heaps().users().len(),
+    )
 }
 
 /// `#Blob` passes its limit after the delta.
@@ -46,7 +50,11 @@ fn users_break<C: ChainView>(context: &Context<'_, C>) -> bool
 fn blobs_break<C: ChainView>(context: &Context<'_, C>) -> bool
     ensures { result ≡ blobs_break context.now.chain context.now.delta }
 {
-    passes(0x2000_0000, context.known.before.blobs, context.delta.blobs().len())
+    passes(
+        0x2000_0000,
+        context.known.before.blobs,
+        context.delta.blobs().len(),
+    )
 }
 
 /// These entries pass the limit, or are fewer than before.
@@ -61,7 +69,10 @@ fn guids_fault(before: u32, own: usize) -> bool
 fn guids_break<C: ChainView>(context: &Context<'_, C>) -> bool
     ensures { result ≡ guids_break context.now.chain context.now.delta }
 {
-    guids_fault(context.known.before.guids, context.delta.heaps().guids().len() / 16)
+    guids_fault(
+        context.known.before.guids,
+        context.delta.heaps().guids().len() / 16,
+    )
 }
 
 /// A joined heap passes its limit, `#Strings` doesn't end with a 0, or `#GUID` has fewer

@@ -46,7 +46,9 @@ fn mvid_of<C: ChainView>(chain: &C) -> [u8; 16]
 pub fn other_module<C: ChainView>(context: &Context<'_, C>) -> Option<Place>
     ensures { result ≡ other_module context.now.chain context.now.delta }
 {
-    if own_guid(context.old.view, context.delta, 2).as_slice() == mvid_of(context.old.view).as_slice() {
+    if own_guid(context.old.view, context.delta, 2).as_slice()
+        == mvid_of(context.old.view).as_slice()
+    {
         None
     } else {
         Some(Place::Row(MODULE))

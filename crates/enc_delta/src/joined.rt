@@ -50,7 +50,7 @@ pub fn has_text_after<C: ChainView>(
 }
 
 /// Entry k of the joined `#GUID` with one heap more: the chain's, or else that heap's.
-#[tactic(auto, using(crate::proofs::Behind::guid_behind))]
+#[tactic(auto, using(crate::proofs::OneHeapMore::guid_behind))]
 pub fn guid_after<C: ChainView>(chain: &C, heaps: &Heaps<'_>, k: u32) -> Option<[u8; 16]>
     ensures { result ≡ joined_guid ((C.chain chain.now).heaps ++ heaps.now ∷ []) k }
 {

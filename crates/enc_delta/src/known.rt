@@ -66,11 +66,7 @@ pub fn counts_of<C: ChainView>(chain: &C, tokens: &[Token], added: &[usize; 256]
 
 /// What is known of a delta after its chain. It takes memory for the tokens, the entries and the
 /// children.
-pub fn known_of<C: ChainView>(
-    alloc: Global,
-    chain: &C,
-    delta: &Delta,
-) -> Result<Known, AllocError>
+pub fn known_of<C: ChainView>(alloc: Global, chain: &C, delta: &Delta) -> Result<Known, AllocError>
     ensures { IfOk result (IsKnown (C.chain chain.now) delta.now) }
 {
     let tokens = delta.tokens(alloc)?;

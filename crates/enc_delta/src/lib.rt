@@ -29,8 +29,8 @@ mod updates;
 pub use delta::Delta;
 pub use entry::Entry;
 pub use identity::enc_id_of;
-pub use known::{inserts_of, is_insert};
 pub use joined::{entry_after, guid_after, has_text_after};
+pub use known::{inserts_of, is_insert};
 
 #[cfg(test)]
 mod tests;

@@ -14,6 +14,9 @@ use crate::entry::Entry;
 use crate::known::is_insert;
 use enc_base::{Place, Token};
 use enc_plain::{ChainView, ModuleView};
+use enc_schema::tables::{
+    EVENT, EVENT_MAP, FIELD, METHOD_DEF, PARAM, PROPERTY, PROPERTY_MAP, TYPE_DEF,
+};
 use std::alloc::{AllocError, Global};
 
 /// The place of a token by its number.
@@ -245,10 +248,10 @@ fn rows_with<C: ChainView>(chain: &C, listed: &[Token], table: u8) -> u64
 fn parents<C: ChainView>(chain: &C, listed: &[Token]) -> [u64; 6]
     ensures { result ≡ parents (C.chain chain.now) listed.now }
 {
-    let types = rows_with(chain, listed, 0x02);
-    let methods = rows_with(chain, listed, 0x06);
-    let property_maps = rows_with(chain, listed, 0x15);
-    let event_maps = rows_with(chain, listed, 0x12);
+    let types = rows_with(chain, listed, TYPE_DEF);
+    let methods = rows_with(chain, listed, METHOD_DEF);
+    let property_maps = rows_with(chain, listed, PROPERTY_MAP);
+    let event_maps = rows_with(chain, listed, EVENT_MAP);
     [0, types, types, methods, property_maps, event_maps]
 }
 
@@ -257,7 +260,7 @@ fn parent_table(code: u32) -> u8
     requires { code ≤ 5 }
     ensures { result ≡ parent_table code }
 {
-    [0, 0x02, 0x02, 0x06, 0x15, 0x12][code as usize]
+    [0, TYPE_DEF, TYPE_DEF, METHOD_DEF, PROPERTY_MAP, EVENT_MAP][code as usize]
 }
 
 /// The table of an Add entry's child.
@@ -265,7 +268,7 @@ fn child_table(code: u32) -> u8
     requires { code ≤ 5 }
     ensures { result ≡ child_table code }
 {
-    [0, 0x06, 0x04, 0x08, 0x17, 0x14][code as usize]
+    [0, METHOD_DEF, FIELD, PARAM, PROPERTY, EVENT][code as usize]
 }
 
 /// Whether the token of an Add entry is a row of its parent's table after the delta.

@@ -12,6 +12,7 @@ use crate::context::Context;
 use enc_base::{Place, Token};
 use enc_opcodes::CodeRef;
 use enc_plain::{CellView, ChainView};
+use enc_schema::tables::{METHOD_DEF, STAND_ALONE_SIG};
 
 /// A local signature begins with the byte 07 (ECMA-335 II.23.2.6).
 fn begins_locals(blob: &[u8]) -> bool
@@ -29,7 +30,7 @@ fn locals_begin<C: ChainView>(context: &Context<'_, C>, code: &CodeRef<'_>) -> b
     ensures { result ≡ locals_begin (joined_rows context.now) (Some (code_seen code.now)) }
 {
     let locals = code.locals;
-    locals.row == 0 || locals.table == 0x11 && begins_locals(context.blob(locals, 0))
+    locals.row == 0 || locals.table == STAND_ALONE_SIG && begins_locals(context.blob(locals, 0))
 }
 
 /// What is wrong with the local signature of a method.
@@ -37,7 +38,7 @@ fn locals_begin<C: ChainView>(context: &Context<'_, C>, code: &CodeRef<'_>) -> b
 fn bad_locals_in<C: ChainView>(context: &Context<'_, C>, token: Token) -> Option<Place>
     ensures { result ≡ bad_locals_in context.now.chain context.now.delta token }
 {
-    if token.table != 0x06 {
+    if token.table != METHOD_DEF {
         return None;
     }
     let row = Token {

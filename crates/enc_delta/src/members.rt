@@ -10,14 +10,16 @@ ghost use Rattle.enc_delta.specs.Context.{joined_rows};
 ghost use Rattle.enc_delta.specs.Pairs.{attached_of};
 ghost use Rattle.enc_delta.specs.Members.{pair_seen, ArePairs};
 ghost use Rattle.enc_delta.specs.Changes.{is_value_type, has_layout, breaks_layout, breaks_slots, least_child, is_member, asked_of, name_column, same_signature, field_out_of_layout, method_without_slot, twin_member};
+ghost use Rattle.enc_schema.specs.Tables.{type_def};
 
+use crate::context::Context;
+use crate::known::is_insert;
 use crate::lists::{lesser, placed};
 use crate::pairs::Pair;
 use crate::twins::{Members, twin_fault};
-use crate::context::Context;
-use crate::known::is_insert;
 use enc_base::{Place, Token};
 use enc_plain::{CellView, ChainView, signatures_alike};
+use enc_schema::tables::{EVENT, FIELD, METHOD_DEF, PROPERTY, TYPE_DEF, TYPE_REF};
 use std::alloc::{AllocError, Global};
 
 /// A flag is set.
@@ -31,11 +33,11 @@ fn has_flag(flag: u32, flags: u32) -> bool
 /// The type extends System.ValueType or System.Enum, whatever its scope.
 #[tactic(auto, using(crate::proofs::MemberKinds::type_base, crate::proofs::MemberKinds::reference_name, crate::proofs::MemberKinds::reference_space), unfolding(crate::specs::Changes::is_value_type))]
 fn is_value_type<R: CellView>(rows: &R, owner: Token) -> bool
-    requires { owner.table ≡ 0x02 }
+    requires { owner.table ≡ type_def }
     ensures { result ≡ is_value_type (R.rows rows.now) owner }
 {
     let base = rows.token(owner, 3);
-    if base.table != 0x01 || rows.text(base, 2) != b"System".as_slice() {
+    if base.table != TYPE_REF || rows.text(base, 2) != b"System".as_slice() {
         return false;
     }
     let name = rows.text(base, 1);
@@ -45,7 +47,7 @@ fn is_value_type<R: CellView>(rows: &R, owner: Token) -> bool
 /// The type says how its fields are laid out, or is a value type.
 #[tactic(auto, using(crate::proofs::MemberKinds::type_flags))]
 fn is_laid_out<R: CellView>(rows: &R, owner: Token) -> bool
-    requires { owner.table ≡ 0x02 }
+    requires { owner.table ≡ type_def }
     ensures { result ≡ (has_layout (R.rows rows.now) owner || is_value_type (R.rows rows.now) owner) }
 {
     rows.number(owner, 0) / 8 % 4 != 0 || is_value_type(rows, owner)
@@ -53,11 +55,13 @@ fn is_laid_out<R: CellView>(rows: &R, owner: Token) -> bool
 
 /// The pair gives a child of a table to a type that was there.
 fn gives_to_old<C: ChainView>(context: &Context<'_, C>, pair: Pair, table: u8) -> bool
-    ensures given { result ≡ (pair.child.table == table && pair.owner.table == 0x02 && not (is_insert context.now.chain pair.owner)) }
+    ensures given { result ≡ (pair.child.table == table && pair.owner.table == type_def && not (is_insert context.now.chain pair.owner)) }
     ensures child { IsTrue result → pair.child.table ≡ table }
-    ensures owner { IsTrue result → pair.owner.table ≡ 0x02 }
+    ensures owner { IsTrue result → pair.owner.table ≡ type_def }
 {
-    pair.child.table == table && pair.owner.table == 0x02 && !is_insert(context.old.view, pair.owner)
+    pair.child.table == table
+        && pair.owner.table == TYPE_DEF
+        && !is_insert(context.old.view, pair.owner)
 }
 
 /// A new field that isn't static, in a type that was there and is laid out.
@@ -65,7 +69,7 @@ fn gives_to_old<C: ChainView>(context: &Context<'_, C>, pair: Pair, table: u8) -
 fn breaks_layout<C: ChainView>(context: &Context<'_, C>, pair: Pair) -> bool
     ensures { result ≡ breaks_layout context.now.chain context.now.delta (pair_seen pair) }
 {
-    gives_to_old(context, pair, 0x04)
+    gives_to_old(context, pair, FIELD)
         && !has_flag(0x10, context.number(pair.child, 0))
         && is_laid_out(context, pair.owner)
 }
@@ -75,11 +79,12 @@ fn breaks_layout<C: ChainView>(context: &Context<'_, C>, pair: Pair) -> bool
 fn breaks_slots<C: ChainView>(context: &Context<'_, C>, pair: Pair) -> bool
     ensures { result ≡ breaks_slots context.now.chain context.now.delta (pair_seen pair) }
 {
-    if !gives_to_old(context, pair, 0x06) {
+    if !gives_to_old(context, pair, METHOD_DEF) {
         return false;
     }
     let flags = context.number(pair.child, 2);
-    has_flag(0x40, flags) && (has_flag(0x20, context.number(pair.owner, 0)) || has_flag(0x400, flags))
+    has_flag(0x40, flags)
+        && (has_flag(0x20, context.number(pair.owner, 0)) || has_flag(0x400, flags))
 }
 
 /// Which gains are judged.
@@ -136,7 +141,7 @@ pub fn method_without_slot<C: ChainView>(context: &Context<'_, C>) -> Option<Pla
 fn name_column(table: u8) -> u8
     ensures { result ≡ name_column table }
 {
-    if table == 0x06 { 3 } else { 1 }
+    if table == METHOD_DEF { 3 } else { 1 }
 }
 
 /// The signature of a field, a method or a property.
@@ -145,7 +150,7 @@ fn signature_of<R: CellView>(rows: &R, member: Token) -> &[u8]
     requires { IsTrue (has_signature member.table) }
     ensures { result.now ≡ bytes_at (R.rows rows.now) member (unwrap_or (signature_column member.table) 0) }
 {
-    if member.table == 0x06 {
+    if member.table == METHOD_DEF {
         return rows.blob(member, 4);
     }
     rows.blob(member, 2)
@@ -158,7 +163,7 @@ fn same_signature<R: CellView>(rows: &R, member: Token, other: Token) -> bool
     requires table { member.table ≡ other.table }
     ensures { result ≡ same_signature (R.rows rows.now) member other }
 {
-    if member.table == 0x14 {
+    if member.table == EVENT {
         return true;
     }
     let left = signature_of(rows, member);
@@ -172,9 +177,9 @@ impl<C: ChainView> Members for Context<'_, C> {
     #[tactic(auto, using(crate::proofs::MemberKinds::field_flags, crate::proofs::MemberKinds::method_flags), unfolding(crate::specs::Changes::is_member))]
     fn counts(&self, member: Token) -> bool {
         match member.table {
-            0x04 => self.number(member, 0) % 8 != 0,
-            0x06 => self.number(member, 2) % 8 != 0,
-            table => table == 0x14 || table == 0x17,
+            FIELD => self.number(member, 0) % 8 != 0,
+            METHOD_DEF => self.number(member, 2) % 8 != 0,
+            table => table == EVENT || table == PROPERTY,
         }
     }
 

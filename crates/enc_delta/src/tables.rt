@@ -7,6 +7,10 @@ use crate::context::Context;
 use crate::delta::Delta;
 use enc_base::{Place, Token};
 use enc_plain::ChainView;
+use enc_schema::tables::{
+    ASSEMBLY_REF, ENC_LOG, ENC_MAP, EVENT, EVENT_MAP, FIELD, GENERIC_PARAM_CONSTRAINT, IMPL_MAP,
+    METHOD_DEF, MODULE, NESTED_CLASS, PARAM, PROPERTY, PROPERTY_MAP, TYPE_DEF, TYPE_REF,
+};
 
 /// How many of the tokens are of each table.
 fn table_counts(tokens: &[Token]) -> [usize; 256]
@@ -25,7 +29,7 @@ fn rows_for(delta: &Delta, table: u8) -> u32
     ensures { result ≡ rows_for delta.now table }
 {
     match table {
-        0x00 | 0x1e | 0x1f => 0,
+        MODULE | ENC_LOG | ENC_MAP => 0,
         _ => delta.count(table),
     }
 }
@@ -72,18 +76,18 @@ fn may_change(table: u8) -> bool
 {
     matches!(
         table,
-        0x00 | 0x01
-            | 0x02
-            | 0x04
-            | 0x06
-            | 0x08..=0x12
-            | 0x14
-            | 0x15
-            | 0x17..=0x1c
-            | 0x1e
-            | 0x1f
-            | 0x23
-            | 0x29..=0x2c
+        MODULE | TYPE_REF
+            | TYPE_DEF
+            | FIELD
+            | METHOD_DEF
+            | PARAM..=EVENT_MAP
+            | EVENT
+            | PROPERTY_MAP
+            | PROPERTY..=IMPL_MAP
+            | ENC_LOG
+            | ENC_MAP
+            | ASSEMBLY_REF
+            | NESTED_CLASS..=GENERIC_PARAM_CONSTRAINT
     )
 }
 

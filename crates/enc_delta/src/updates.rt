@@ -12,13 +12,14 @@ use crate::context::Context;
 use crate::known::is_insert;
 use enc_base::{Place, Token};
 use enc_plain::{CellView, ChainView, signature_column, signatures_alike, tokens_alike};
+use enc_schema::tables::{CUSTOM_ATTRIBUTE, FIELD_RVA, METHOD_DEF, PARAM};
 use enc_schema::{Column, column_of, columns_of};
 
 /// The columns in which an update may say something else.
 fn may_differ(table: u8, column: u8) -> bool
     ensures { result ≡ may_differ table column }
 {
-    table == 0x08 && (column == 0 || column == 2) || table == 0x0c
+    table == PARAM && (column == 0 || column == 2) || table == CUSTOM_ATTRIBUTE
 }
 
 /// The column holds the signature of its table.
@@ -32,7 +33,7 @@ fn is_signature_column(table: u8, column: u8) -> bool
 fn is_place(table: u8, column: u8) -> bool
     ensures { result ≡ (is_body table column || is_field table column) }
 {
-    table == 0x06 && column == 0 || table == 0x1d && column == 0
+    table == METHOD_DEF && column == 0 || table == FIELD_RVA && column == 0
 }
 
 /// A blob is what it was; a signature is alike.
@@ -61,7 +62,11 @@ fn is_kept<C: ChainView>(context: &Context<'_, C>, token: Token, i: u8, column: 
         Column::Text => context.old.text(token, i) == context.text(token, i),
         Column::Blob => is_blob_kept(context, token, i),
         Column::Index(_) | Column::Coded(_) => {
-            tokens_alike(context, context.old.token(token, i), context.token(token, i))
+            tokens_alike(
+                context,
+                context.old.token(token, i),
+                context.token(token, i),
+            )
         }
         Column::Guid | Column::Run(_) => true,
     }
@@ -75,7 +80,10 @@ fn altered_at<C: ChainView>(context: &Context<'_, C>, token: Token, i: u8) -> Op
     let Some(column) = column_of(token.table, i) else {
         return None;
     };
-    if is_place(token.table, i) || may_differ(token.table, i) || is_kept(context, token, i, column) {
+    if is_place(token.table, i)
+        || may_differ(token.table, i)
+        || is_kept(context, token, i, column)
+    {
         return None;
     }
     Some(Place::Cell(token, i))

@@ -1,17 +1,18 @@
 -- What the tests build fits, and is short.
-use Rattle.std.proofs.Common.{◌≡◌, ℕ, suc, ◌+◌, ◌*◌, ◌^◌, ◌<◌, ◌≤◌, Bool, true, false, List, [], ◌∷◌, ◌++◌, length, refl, ap, arith, length-append, eqb-true}
-use Rattle.std.specs.Prelude.{flat_map, nat_lt, IsTrue, sum_by, replicate, ◌==◌, if◌then◌else◌}
+use Rattle.std.proofs.Common.{◌≡◌, ℕ, ◌+◌, ◌*◌, ◌^◌, ◌<◌, ◌≤◌, Bool, true, false, List, [], ◌∷◌, ◌++◌, length, refl, ap, arith, length-append, eqb-true}
+use Rattle.std.specs.Prelude.{flat_map, IsTrue, sum_by, replicate, ◌==◌, if◌then◌else◌}
 use Rattle.std.specs.List.{list_all}
 use Rattle.std.proofs.lemmas.List.{length-replicate}
 use Rattle.std.proofs.lemmas.List.Sums.{sum_by-cons}
 use Rattle.std.proofs.lemmas.Bool.{and_parts, and_from}
+use Rattle.enc_meta.specs.Heaps.{Counted}
 use Rattle.enc_meta.specs.Root.{padded}
-use Rattle.enc_meta.specs.Built.{Built, none_from, with_text, text_bytes, heap_bytes, guid_bytes, joined_end, heaps_built, AreWithinLimits}
+use Rattle.enc_meta.specs.Built.{none_from, with_text, text_bytes, user_bytes, blob_bytes, heap_bytes, guid_bytes, joined_end, heaps_built, AreWithinLimits}
 use Rattle.enc_meta.specs.declared.heaps.HeapLengths.{HeapLengths}
 use Rattle.enc_meta.specs.declared.span.Span.{Span}
 use Rattle.enc_rows.specs.Written.{rows_at, count_at, stream_of, heap_bits, AreRows, IndicesFit}
 use Rattle.enc_rows.proofs.Small.{small, small_indices_fit, stream_few}
-use Rattle.enc_emit.specs.Written.{Parts, root_size, built_size}
+use Rattle.enc_emit.specs.Written.{Parts, built_size}
 use Rattle.enc_emit.specs.Little.{AreNear, IsLittle}
 
 pub little_none : (p : Parts) (starts : HeapLengths) → AreNear starts → p.heaps ≡ none_from starts → p.rows ≡ [] → IsLittle p
@@ -87,7 +88,7 @@ no_values encode values e = rw e refl
 
 no_guids : (start : ℕ) (guids : List (List ℕ)) → guids ≡ [] → length (guid_bytes start guids) ≡ 16 * start
 unfolding guid_bytes
-no_guids start guids e = rw e (omega (arith, length-append (replicate (16 * start) 0) [], length-replicate (16 * start) 0))
+no_guids start guids e = rw e (omega (arith, length-append {A = ℕ} (replicate (16 * start) 0) [], length-replicate {A = ℕ} (16 * start) 0))
 
 padded_few : (n : ℕ) → padded n ≤ n + 3
 unfolding padded
@@ -103,8 +104,9 @@ little_size p jtd little rows limits =
     let b = p.heaps in
     let nowhere : Span = record { start = 0; len = 0 } in
     let stream = stream_few p.rows nowhere jtd (heap_bits p.rows) rows little.few in
-    let strings = heap_length text_bytes b.starts.strings b.texts in
-    let users = no_values _ b.users little.users in
-    let blobs = no_values _ b.blobs little.blobs in
-    let guids = no_guids b.starts.guids b.guids little.guids in
-    omega (arith, stream, strings, users, blobs, guids, limits.texts, little.near.strings, little.near.guids, begin_few jtd, padded_few (length (stream_of p.rows jtd (heap_bits p.rows))), padded_few (length (heap_bytes text_bytes b.texts)))
+    let h : Counted = heaps_built b in
+    let strings : b.starts.strings + length h.strings ≡ joined_end text_bytes b.starts.strings b.texts = heap_length text_bytes b.starts.strings b.texts in
+    let users : length h.users ≡ 1 = no_values user_bytes b.users little.users in
+    let blobs : length h.blobs ≡ 1 = no_values blob_bytes b.blobs little.blobs in
+    let guids : length h.guids ≡ 16 * b.starts.guids = no_guids b.starts.guids b.guids little.guids in
+    omega (arith, stream, strings, users, blobs, guids, limits.texts, little.near.strings, little.near.guids, begin_few jtd, padded_few (length (stream_of p.rows jtd (heap_bits p.rows))), padded_few (length h.strings), padded_few (length h.users), padded_few (length h.blobs), padded_few (length h.guids))

@@ -1,7 +1,6 @@
--- What the tests build: few rows of small numbers, and texts alone.
+-- For the contracts of private functions: what the tests build: few rows of small numbers, and texts alone.
 use Rattle.std.specs.Prelude.{◌≡◌, ℕ, ◌≤◌, List, [], IsTrue, nat_lt}
 use Rattle.std.specs.List.{list_all}
-use Rattle.enc_meta.specs.Built.{Built}
 use Rattle.enc_meta.specs.declared.heaps.HeapLengths.{HeapLengths}
 use Rattle.enc_rows.specs.Written.{rows_at, count_at}
 use Rattle.enc_emit.specs.Written.{Parts}

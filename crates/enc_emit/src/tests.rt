@@ -1,6 +1,6 @@
 //! Roots that are built and read back.
-ghost use Rattle.std.specs.Prelude.{◌≡◌, IfOk, nat_lt};
-ghost use Rattle.std.specs.List.{list_all};
+ghost use Rattle.std.specs.Prelude.{◌≡◌, ◌==◌, IfOk, nat_lt};
+ghost use Rattle.std.specs.List.{list_all, list_any};
 ghost use Rattle.enc_meta.specs.Heaps.{part};
 ghost use Rattle.enc_rows.specs.Layout.{IsWithin};
 ghost use Rattle.enc_emit.specs.Little.{AreNear, IsLittle};
@@ -61,12 +61,19 @@ fn push(root: &mut RootBuilder, table: u8, cells: &[u32]) -> Result<(), AllocErr
     Ok(())
 }
 
+/// Whether a zero stands in a text.
+fn has_zero(text: &[u8]) -> bool
+    ensures { result ≡ list_any (λ c. c == 0) text.now }
+{
+    text.iter().any(|c| *c == 0)
+}
+
 /// The offset of a text, 0 where a zero stands in it.
 fn add_text(root: &mut RootBuilder, text: &[u8]) -> Result<u32, BuildFault>
     requires { IsLittle root.old }
     ensures { IsLittle root.new }
 {
-    if text.iter().any(|c| *c == 0) {
+    if has_zero(text) {
         return Ok(0);
     }
     let heaps = root.heaps();

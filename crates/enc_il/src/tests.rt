@@ -261,10 +261,7 @@ fn reads_targets(rt: HostRuntime) -> Result<(), Fail> {
     assert_eq!(rt; first(&[0x2b, 0x7f]), named("br.s", Arg::Target(129), 2));
     // before the code there is no offset
     assert_eq!(rt; first(&[0x2b, 0x80]), None);
-    assert_eq!(rt;
-        first(&[0x45, 1, 0, 0, 0, 0xf6, 0xff, 0xff, 0xff]),
-        None
-    );
+    assert_eq!(rt; first(&[0x45, 1, 0, 0, 0, 0xf6, 0xff, 0xff, 0xff]), None);
     assert_eq!(rt;
         first(&[0x38, 0xfb, 0xff, 0xff, 0xff]),
         named("br", Arg::Target(0), 5)

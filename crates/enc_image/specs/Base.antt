@@ -36,6 +36,8 @@ use Rattle.enc_meta.specs.Regions.{range_loaded}
 use Rattle.enc_plain.specs.Extent.{extent_in}
 use Rattle.enc_plain.specs.declared.extent.Extent.{Extent}
 use Rattle.enc_plain.specs.declared.extent.Extent.TheVariants.{Bytes, Class}
+use Rattle.enc_schema.specs.Tables as tables
+use Rattle.enc_schema.specs.Columns as columns
 
 -- the user texts of a file
 abbrev pub users_of : Source → ℕ → Option (List ℕ)
@@ -47,11 +49,11 @@ blob_or_none s offset = unwrap_or (blob_at s.heaps.blobs offset) []
 
 -- the size that a row of ClassLayout tells, where it is the type's (II.22.8)
 unfoldable pub layout_size : Source → ℕ → ℕ → Option ℕ
-layout_size s type k = if raw_in s (nth_row 0x0F k) 2 == type then Some (raw_in s (nth_row 0x0F k) 1) else None
+layout_size s type k = if raw_in s (nth_row tables.class_layout k) columns.class_layout_parent == type then Some (raw_in s (nth_row tables.class_layout k) columns.class_layout_class_size) else None
 
 -- the size that the first such row tells
 unfoldable pub size_of_class : Source → ℕ → Option ℕ
-size_of_class s type = first_below (layout_size s type) (rows_of s.layout 0x0F)
+size_of_class s type = first_below (layout_size s type) (rows_of s.layout tables.class_layout)
 
 abbrev pub size_of : Source → Option Extent → Option ℕ
 size_of s (Some (Bytes n)) = Some n
@@ -60,7 +62,7 @@ size_of s None = None
 
 -- what tells the size of the field that a row of FieldRVA names
 unfoldable pub extent_of : Source → Token → Option Extent
-extent_of s row = if raw_in s row 1 == 0 then None else extent_in (blob_or_none s (raw_in s (record { table = 0x04; row = raw_in s row 1 }) 2))
+extent_of s row = if raw_in s row columns.field_rva_field == 0 then None else extent_in (blob_or_none s (raw_in s (record { table = tables.field; row = raw_in s row columns.field_rva_field }) columns.field_signature))
 
 -- the bytes that such a row has at its RVA, where they are loaded
 unfoldable pub bytes_of_field : Source → Token → Option (List ℕ)
@@ -99,7 +101,7 @@ unfoldable pub offset_fault_in : Source → ℕ → Option Place
 offset_fault_in s table = first_below (offset_fault_in_row s table) (rows_of s.layout table)
 
 unfoldable pub offset_fault : Source → Option Place
-offset_fault s = first_below (offset_fault_in s) 0x2D
+offset_fault s = first_below (offset_fault_in s) tables.table_count
 
 -- F11: the first signature that isn't one of its kind, by the file's own rows (II.23.2)
 unfoldable pub signature_fault_at : Source → ℕ → ℕ → ℕ → Option Place
@@ -109,7 +111,7 @@ unfoldable pub signature_fault_in : Source → ℕ → Option Place
 signature_fault_in s table = option_and_then (λ i. first_below (signature_fault_at s table i) (rows_of s.layout table)) (signature_column table)
 
 unfoldable pub signature_fault : Source → Option Place
-signature_fault s = first_below (signature_fault_in s) 0x2D
+signature_fault s = first_below (signature_fault_in s) tables.table_count
 
 -- a body's local signature is nil or is one of locals (II.23.2.6)
 abbrev pub has_locals : Source → Option Code → Bool
@@ -118,17 +120,17 @@ has_locals s (Some c) = c.locals.row == 0 || begins_locals (blob_or_none s (raw_
 
 -- F10: the first method with a place for its body, but none that is good there
 unfoldable pub body_fault_at : Source → ℕ → Option Place
-body_fault_at s r = if body_is_good (rows_of s.layout) (users_of s) s.loaded (raw_in s (nth_row 0x06 r) 0) (raw_in s (nth_row 0x06 r) 1) && has_locals s (code_loaded s.loaded (raw_in s (nth_row 0x06 r) 0)) then None else Some (place.Row (nth_row 0x06 r))
+body_fault_at s r = if body_is_good (rows_of s.layout) (users_of s) s.loaded (raw_in s (nth_row tables.method_def r) columns.method_def_rva) (raw_in s (nth_row tables.method_def r) columns.method_def_impl_flags) && has_locals s (code_loaded s.loaded (raw_in s (nth_row tables.method_def r) columns.method_def_rva)) then None else Some (place.Row (nth_row tables.method_def r))
 
 unfoldable pub body_fault : Source → Option Place
-body_fault s = first_below (body_fault_at s) (rows_of s.layout 0x06)
+body_fault s = first_below (body_fault_at s) (rows_of s.layout tables.method_def)
 
 -- F5 of fields: the first row of FieldRVA with an RVA, but no bytes of its field's size there. It isn't asked of bare metadata
 unfoldable pub field_fault_at : Source → ℕ → Option Place
-field_fault_at s r = if raw_in s (nth_row 0x1D r) 0 == 0 || is_some (bytes_of_field s (nth_row 0x1D r)) then None else Some (place.Row (nth_row 0x1D r))
+field_fault_at s r = if raw_in s (nth_row tables.field_rva r) columns.field_rva_rva == 0 || is_some (bytes_of_field s (nth_row tables.field_rva r)) then None else Some (place.Row (nth_row tables.field_rva r))
 
 unfoldable pub field_fault : Source → Option Place
-field_fault s = if s.bare then None else first_below (field_fault_at s) (rows_of s.layout 0x1D)
+field_fault s = if s.bare then None else first_below (field_fault_at s) (rows_of s.layout tables.field_rva)
 
 -- the rows of a source
 abbrev pub rows_from : Source → Rows
@@ -153,7 +155,7 @@ table_rows s table = if is_part table then map (row_in s table) (below (rows_of 
 
 -- the plain module of a source
 unfoldable pub module_in : Source → Module
-module_in s = record { tables = map (table_rows s) (below 0x2D); resources = s.resources; entry = s.entry }
+module_in s = record { tables = map (table_rows s) (below tables.table_count); resources = s.resources; entry = s.entry }
 
 -- a module's widths go by its own rows alone
 unfoldable pub no_counts : List ℕ

@@ -8,6 +8,7 @@ ghost use Rattle.enc_rows.specs.Layout.{IsWithin, has_row, rows_of};
 ghost use Rattle.enc_plain.specs.Bodies.{code_is_good, code_loaded, body_is_good};
 ghost use Rattle.enc_image.specs.Base.{users_of, has_locals, body_fault_at, body_fault};
 ghost use Rattle.enc_image.specs.Seen.{source_seen};
+ghost use Rattle.enc_schema.specs.Tables.{method_def};
 
 use crate::code::code_at;
 use crate::judge::Cells;
@@ -15,6 +16,7 @@ use enc_base::{Place, Token};
 use enc_il::{UserTexts, first_bad, texts_are_there};
 use enc_meta::Heaps;
 use enc_opcodes::CodeRef;
+use enc_schema::tables::METHOD_DEF;
 use std::alloc::{AllocError, Global};
 
 /// The user texts of a file's `#US`.
@@ -85,12 +87,12 @@ fn is_good(alloc: Global, cells: &Cells<'_>, rva: u32, flags: u32) -> Result<boo
 #[tactic(auto, unfolding(crate::specs::Base::body_fault_at))]
 fn body_fault_at(alloc: Global, cells: &Cells<'_>, r: u32) -> Result<Option<Place>, AllocError>
     requires bytes { IsWithin (part cells.now.bytes.now cells.now.tables.now.span) cells.now.tables.now }
-    requires row { r < rows_of cells.now.tables.now 0x06 }
+    requires row { r < rows_of cells.now.tables.now method_def }
     requires few { r < 2 ^ 24 }
     ensures { IfOk result (λ p. p ≡ body_fault_at (source_seen cells.now) r) }
 {
     let method = Token {
-        table: 0x06,
+        table: METHOD_DEF,
         row: r + 1,
     };
     let rva = cells.tables.cell(cells.bytes, method, 0);
@@ -108,7 +110,7 @@ pub fn body_fault(alloc: Global, cells: &Cells<'_>) -> Result<Option<Place>, All
     requires { IsWithin (part cells.now.bytes.now cells.now.tables.now.span) cells.now.tables.now }
     ensures { IfOk result (λ p. p ≡ body_fault (source_seen cells.now)) }
 {
-    for r in 0..cells.tables.count(0x06) {
+    for r in 0..cells.tables.count(METHOD_DEF) {
         match body_fault_at(alloc, cells, r) {
             Err(error) => return Err(error),
             Ok(Some(place)) => return Ok(Some(place)),

@@ -10,12 +10,14 @@ ghost use Rattle.enc_rows.specs.Layout.{IsWithin, has_row, rows_of};
 ghost use Rattle.enc_rows.specs.Source.{raw_in};
 ghost use Rattle.enc_image.specs.Base.{blob_or_none, extent_of, layout_size, size_of_class, size_of, bytes_of_field, field_bytes, field_fault_at, field_fault};
 ghost use Rattle.enc_image.specs.Seen.{source_seen};
+ghost use Rattle.enc_schema.specs.Tables.{field_rva, type_def};
 
 use crate::judge::Cells;
 use enc_base::{Place, Token};
 use enc_pe::at_rva;
 use enc_plain::{Extent, extent_in};
 use enc_schema::column_of;
+use enc_schema::tables::{CLASS_LAYOUT, FIELD, FIELD_RVA, TYPE_DEF};
 use std::alloc::{AllocError, Global};
 
 /// The number in a cell, 0 where there is no such row or column.
@@ -54,7 +56,7 @@ fn extent_of(cells: &Cells<'_>, row: Token) -> Option<Extent>
         return None;
     }
     let named = Token {
-        table: 0x04,
+        table: FIELD,
         row: field,
     };
     extent_in(blob_or_none(cells, number_in(cells, named, 2)))
@@ -68,7 +70,7 @@ fn layout_size(cells: &Cells<'_>, owner: u32, r: u32) -> Option<u32>
     ensures { result ≡ layout_size (source_seen cells.now) owner r }
 {
     let layout = Token {
-        table: 0x0f,
+        table: CLASS_LAYOUT,
         row: r + 1,
     };
     if number_in(cells, layout, 2) == owner {
@@ -84,7 +86,7 @@ fn size_of_class(cells: &Cells<'_>, owner: u32) -> Option<u32>
     requires { IsWithin (part cells.now.bytes.now cells.now.tables.now.span) cells.now.tables.now }
     ensures { result ≡ size_of_class (source_seen cells.now) owner }
 {
-    for r in 0..cells.tables.count(0x0f) {
+    for r in 0..cells.tables.count(CLASS_LAYOUT) {
         match layout_size(cells, owner, r) {
             Some(size) => return Some(size),
             None => {}
@@ -146,13 +148,13 @@ fn keep_first(sizes: &mut Vec<Option<u32>>, owner: u32, size: u32)
 /// ClassLayout once.
 fn class_sizes(alloc: Global, cells: &Cells<'_>) -> Result<Vec<Option<u32>>, AllocError>
     requires { IsWithin (part cells.now.bytes.now cells.now.tables.now.span) cells.now.tables.now }
-    ensures length { IfOk result (λ sizes. length sizes.items ≡ rows_of cells.now.tables.now 0x02 + 1) }
+    ensures length { IfOk result (λ sizes. length sizes.items ≡ rows_of cells.now.tables.now type_def + 1) }
     ensures each { IfOk result (λ sizes. (t : ℕ) → t < length sizes.items → slice_index_or sizes.items t None ≡ size_of_class (source_seen cells.now) t) }
 {
-    let mut sizes = vec![in alloc; None; cells.tables.count(0x02) as usize + 1]?;
-    for r in 0..cells.tables.count(0x0f) {
+    let mut sizes = vec![in alloc; None; cells.tables.count(TYPE_DEF) as usize + 1]?;
+    for r in 0..cells.tables.count(CLASS_LAYOUT) {
         let layout = Token {
-            table: 0x0f,
+            table: CLASS_LAYOUT,
             row: r + 1,
         };
         keep_first(
@@ -199,7 +201,7 @@ fn field_fault_at(cells: &Cells<'_>, sizes: &[Option<u32>], r: u32) -> Option<Pl
     ensures { result ≡ field_fault_at (source_seen cells.now) r }
 {
     let row = Token {
-        table: 0x1d,
+        table: FIELD_RVA,
         row: r + 1,
     };
     let rva = number_in(cells, row, 0);
@@ -217,9 +219,9 @@ fn field_fault_at(cells: &Cells<'_>, sizes: &[Option<u32>], r: u32) -> Option<Pl
 fn first_fault(cells: &Cells<'_>, sizes: &[Option<u32>]) -> Option<Place>
     requires bytes { IsWithin (part cells.now.bytes.now cells.now.tables.now.span) cells.now.tables.now }
     requires sizes { (t : ℕ) → t < length sizes.now → slice_index_or sizes.now t None ≡ size_of_class (source_seen cells.now) t }
-    ensures { result ≡ first_below (field_fault_at (source_seen cells.now)) (rows_of cells.now.tables.now 0x1D) }
+    ensures { result ≡ first_below (field_fault_at (source_seen cells.now)) (rows_of cells.now.tables.now field_rva) }
 {
-    for r in 0..cells.tables.count(0x1d) {
+    for r in 0..cells.tables.count(FIELD_RVA) {
         match field_fault_at(cells, sizes, r) {
             Some(place) => return Some(place),
             None => {}
@@ -236,7 +238,7 @@ pub fn field_fault(alloc: Global, cells: &Cells<'_>) -> Result<Option<Place>, Al
     requires { IsWithin (part cells.now.bytes.now cells.now.tables.now.span) cells.now.tables.now }
     ensures { IfOk result (λ p. p ≡ field_fault (source_seen cells.now)) }
 {
-    if cells.container.bare || cells.tables.count(0x1d) == 0 {
+    if cells.container.bare || cells.tables.count(FIELD_RVA) == 0 {
         return Ok(None);
     }
     match class_sizes(alloc, cells) {

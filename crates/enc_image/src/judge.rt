@@ -15,6 +15,7 @@ use enc_base::{Code, Place, Refusal, Token};
 use enc_meta::Heaps;
 use enc_pe::Container;
 use enc_rows::Tables;
+use enc_schema::tables::TABLE_COUNT;
 use enc_schema::{Column, column_of, columns_of};
 use std::alloc::{AllocError, Global};
 
@@ -95,7 +96,7 @@ fn offset_fault(cells: &Cells<'_>) -> Option<Place>
     requires { IsWithin (part cells.now.bytes.now cells.now.tables.now.span) cells.now.tables.now }
     ensures { result ≡ offset_fault (source_seen cells.now) }
 {
-    for table in 0..0x2d {
+    for table in 0..TABLE_COUNT {
         match offset_fault_in(cells, table) {
             Some(place) => return Some(place),
             None => {}

@@ -10,6 +10,7 @@ ghost use Rattle.enc_image.specs.Seen.{source_seen};
 use crate::judge::Cells;
 use enc_base::{Place, Token};
 use enc_plain::{is_signature, signature_column};
+use enc_schema::tables::TABLE_COUNT;
 use std::alloc::{AllocError, Global};
 
 /// The bytes of a blob, none where its offset isn't good.
@@ -91,7 +92,7 @@ pub fn signature_fault(alloc: Global, cells: &Cells<'_>) -> Result<Option<Place>
     requires { IsWithin (part cells.now.bytes.now cells.now.tables.now.span) cells.now.tables.now }
     ensures { IfOk result (λ p. p ≡ signature_fault (source_seen cells.now)) }
 {
-    for table in 0..0x2d {
+    for table in 0..TABLE_COUNT {
         match signature_fault_in(alloc, cells, table) {
             Err(error) => return Err(error),
             Ok(Some(place)) => return Ok(Some(place)),

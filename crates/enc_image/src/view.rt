@@ -10,6 +10,7 @@ ghost use Rattle.enc_image.specs.Base.{cells_fault, module_in, users_of};
 ghost use Rattle.enc_plain.specs.Sound.{is_part};
 ghost use Rattle.enc_image.specs.Seen.{source_seen};
 ghost use Rattle.enc_rows.specs.Source.{raw_in};
+ghost use Rattle.enc_schema.specs.Tables.{method_def};
 
 use crate::code::code_at;
 use crate::fields::field_bytes;
@@ -20,6 +21,9 @@ use enc_base::Token;
 use enc_meta::{HeapLengths, Heaps};
 use enc_opcodes::CodeRef;
 use enc_plain::{ModuleView, index_token};
+use enc_schema::tables::{
+    ENC_LOG, ENC_MAP, EVENT_PTR, FIELD_PTR, METHOD_PTR, PARAM_PTR, PROPERTY_PTR, TABLE_COUNT,
+};
 use enc_schema::{Column, column_of, decode_coded, owner_table};
 use std::alloc::{AllocError, Global};
 
@@ -27,7 +31,10 @@ use std::alloc::{AllocError, Global};
 fn is_part(table: u8) -> bool
     ensures { result ≡ is_part table }
 {
-    !matches!(table, 0x03 | 0x05 | 0x07 | 0x13 | 0x16 | 0x1e | 0x1f)
+    !matches!(
+        table,
+        FIELD_PTR | METHOD_PTR | PARAM_PTR | EVENT_PTR | PROPERTY_PTR | ENC_LOG | ENC_MAP
+    )
 }
 
 impl Image {
@@ -59,7 +66,7 @@ impl Image {
     /// The parts of a method's body, None where it has none.
     pub fn body(&self, method: Token) -> Option<CodeRef<'_>>
         requires row { IsTrue (has_row (module_in self.now) method) }
-        requires table { method.table ≡ 0x06 }
+        requires table { method.table ≡ method_def }
         ensures code { option_map code_seen result ≡ code_loaded self.now.loaded (raw_in self.now method 0) }
         ensures few { IfSome result (λ c. length c.code.now < 2 ^ 32) }
         ensures sound { cells_fault self.now ≡ None }
@@ -100,7 +107,7 @@ impl ModuleView for Image {
 
     #[tactic(auto, using(crate::proofs::Rows::count_there, crate::proofs::Rows::count_other, crate::proofs::Rows::count_past))]
     fn count(&self, table: u8) -> u32 {
-        if table < 0x2d && is_part(table) {
+        if table < TABLE_COUNT && is_part(table) {
             self.tables.count(table)
         } else {
             0

@@ -19,9 +19,7 @@ pub use builder::{BuildFault, HeapBuilder, HeapBytes};
 pub use ends::TextEnds;
 pub use heap::Heap;
 pub use heaps::{HeapLengths, Heaps};
-pub use laws::{
-    built_laws, example_root, offsets_law, offsets_stay_law, padded_law, text_law,
-};
+pub use laws::{built_laws, example_root, offsets_law, offsets_stay_law, padded_law, text_law};
 pub use root::{Root, read_root};
 pub use span::Span;
 

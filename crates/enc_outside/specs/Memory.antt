@@ -1,4 +1,4 @@
--- What is seen of a store and of a sink in memory, whose calls fail at given numbers.
+-- For the contracts of private functions: what is seen of a store and of a sink in memory, whose calls fail at given numbers.
 use Rattle.std.specs.Prelude.{ℕ, Bool, List, nat_eq, if◌then◌else◌, refl}
 use Rattle.std.specs.List.{list_any}
 use Rattle.std.specs.Coded.{Coded, code_by, coded×, coded_ℕ, coded_list}
@@ -20,13 +20,17 @@ counts_code =
 unfoldable pub is_failing : Counts → Bool
 is_failing counts = list_any (nat_eq (risen counts.calls)) counts.failing
 
+-- one call more
+abbrev pub called : Counts → Counts
+called counts = record counts { calls = risen counts.calls }
+
+-- one fault more
+abbrev pub faulted : Counts → Counts
+faulted counts = record counts { faults = risen counts.faults }
+
 -- one call more, and one fault more where that call fails
 unfoldable pub after_call : Counts → Counts
-after_call counts = record {
-  calls = risen counts.calls;
-  failing = counts.failing;
-  faults = if is_failing counts then risen counts.faults else counts.faults;
-}
+after_call counts = if is_failing counts then faulted (called counts) else called counts
 
 -- a store in memory: its files and its calls
 pub record FilesInMemory : Type 0 where

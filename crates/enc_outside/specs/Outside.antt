@@ -38,7 +38,12 @@ risen count = min (count + 1) (2 ^ 64 - 1)
 abbrev pub Rose : ℕ → ℕ → Type 0
 Rose before now = risen before ≤ now
 
--- the count never falls, and this fault is answered only where it rose
-pub record HasCause {T E : Type 0} (fault : E) (before now : ℕ) (result : Result T E) : Type 0 where
+-- a fault is told only where the count rose, and the count stands where none is told
+pub record IsTold (fault : Type 0) (before now : ℕ) : Type 0 where
   pub later : before ≤ now
-  pub failed : IsErrOf result fault → Rose before now
+  pub rose : fault → Rose before now
+  pub stands : (now ≡ before) ⊎ fault
+
+-- the count of faults beside the result of a call: this error is the fault
+abbrev pub HasCause : {T E : Type 0} → E → ℕ → ℕ → Result T E → Type 0
+HasCause fault before now result = IsTold (IsErrOf result fault) before now

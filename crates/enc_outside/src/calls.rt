@@ -1,7 +1,7 @@
 //! Counts calls, and says which of them are to fail.
-ghost use Rattle.std.specs.Prelude.{◌≡◌, [], ◌∷◌, ◌++◌, ◌≤◌, IsTrue, OnOk, OnErr};
+ghost use Rattle.std.specs.Prelude.{◌≡◌, [], ◌∷◌, ◌++◌, ◌≤◌, OnOk, OnErr};
 ghost use Rattle.enc_outside.specs.Outside.{Rose};
-ghost use Rattle.enc_outside.specs.Memory.{is_failing, after_call};
+ghost use Rattle.enc_outside.specs.Memory.{is_failing, called, faulted};
 
 use crate::count::one_more;
 use std::alloc::{AllocError, Global};
@@ -51,19 +51,22 @@ impl Calls {
         Ok(())
     }
 
-    /// Counts a call, and says whether it fails.
-    #[tactic(auto, unfolding(crate::specs::Memory::is_failing, crate::specs::Memory::after_call))]
+    /// Counts a call, and says whether it is to fail.
+    #[tactic(auto, unfolding(crate::specs::Memory::is_failing))]
     pub(crate) fn next_fails(&mut self) -> bool
         ensures fails { result ≡ is_failing self.old }
-        ensures counted { self.new ≡ after_call self.old }
-        ensures later { self.old.faults ≤ self.new.faults }
-        ensures rose { IsTrue result → Rose self.old.faults self.new.faults }
+        ensures counted { self.new ≡ called self.old }
     {
         self.made = one_more(self.made);
-        let fails = self.failing.contains(&self.made);
-        if fails {
-            self.faults = one_more(self.faults);
-        }
-        fails
+        self.failing.contains(&self.made)
+    }
+
+    /// Counts a fault.
+    pub(crate) fn fault(&mut self)
+        ensures counted { self.new ≡ faulted self.old }
+        ensures later { self.old.faults ≤ self.new.faults }
+        ensures rose { Rose self.old.faults self.new.faults }
+    {
+        self.faults = one_more(self.faults);
     }
 }

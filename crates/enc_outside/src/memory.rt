@@ -1,9 +1,9 @@
 //! A store and a sink in memory whose calls fail at given numbers.
-ghost use Rattle.std.specs.Prelude.{◌≡◌, ◌/◌, ◌∷◌, ◌++◌, [], ℕ, List, length, take, true, false, Some, IsTrue, IsErr, IsErrOf, OnOk, OnErr, IfSome, IfOk, ◌↔◌};
+ghost use Rattle.std.specs.Prelude.{◌≡◌, ◌⊎◌, ◌/◌, ◌∷◌, ◌++◌, [], ℕ, List, length, take, true, false, Some, IsTrue, IsErr, IsErrOf, OnOk, OnErr, IfSome, IfOk, ◌↔◌};
 ghost use Rattle.std.specs.Option.{option_map};
 ghost use Rattle.std.specs.FinMap.{empty, get, insert};
 ghost use Rattle.enc_outside.specs.Outside.{with_file, IsSavedInPart, with_piece, GrowsInPart, HasCause};
-ghost use Rattle.enc_outside.specs.Memory.{is_failing, after_call};
+ghost use Rattle.enc_outside.specs.Memory.{is_failing, called, after_call};
 
 use crate::calls::Calls;
 use crate::sink::{PutError, Sink};
@@ -81,6 +81,7 @@ impl Store for MemStore {
     ghost faults = { λ s. s.counts.faults };
 
     /// `Failed` exactly at a call that is to fail.
+    #[tactic(auto, unfolding(crate::specs::Memory::after_call))]
     fn load(&mut self, name: &str) -> Result<Option<Vec<u8>>, LoadError>
         ensures cause { HasCause LoadError.Failed self.old.counts.faults self.new.counts.faults result }
         ensures stays { self.new ≡ record self.old { counts = after_call self.old.counts } }
@@ -89,15 +90,19 @@ impl Store for MemStore {
             option_map (λ v. v.items) loaded ≡ get self.old.files name.now) }
     {
         if self.calls.next_fails() {
+            self.calls.fault();
             return Err(LoadError::Failed);
         }
         Ok(self.files.copied(name)?)
     }
 
-    /// A call that is to fail leaves the first half of the bytes under the name.
+    /// A call that is to fail leaves the first half of the bytes under the name. Without memory for them it answers
+    /// `Memory`, and is no fault.
+    #[tactic(auto, unfolding(crate::specs::Memory::after_call))]
     fn save(&mut self, name: &str, bytes: &[u8]) -> Result<(), SaveError>
         ensures cause { HasCause SaveError.Failed self.old.counts.faults self.new.counts.faults result }
-        ensures counted { self.new.counts ≡ after_call self.old.counts }
+        ensures counted { (self.new.counts ≡ after_call self.old.counts) ⊎ IsErrOf result SaveError.Memory }
+        ensures want { IsErrOf result SaveError.Memory → self.new.counts ≡ called self.old.counts }
         ensures fails { IsTrue (is_failing self.old.counts) → IsErr result }
         ensures saved { OnOk result (self.new.files ≡ insert self.old.files name.now bytes.now) }
         ensures failed { IsErrOf result SaveError.Failed → IsTrue (is_failing self.old.counts) }
@@ -107,6 +112,7 @@ impl Store for MemStore {
     {
         if self.calls.next_fails() {
             self.files.set_file(name, first_half(bytes))?;
+            self.calls.fault();
             return Err(SaveError::Failed);
         }
         self.files.set_file(name, bytes)?;
@@ -171,10 +177,13 @@ impl Sink for MemSink {
 
     ghost faults = { λ s. s.counts.faults };
 
-    /// A call that is to fail appends the first half of the piece.
+    /// A call that is to fail appends the first half of the piece. Without memory for it it answers `Memory`, and is no
+    /// fault.
+    #[tactic(auto, unfolding(crate::specs::Memory::after_call))]
     fn put(&mut self, bytes: &[u8]) -> Result<(), PutError>
         ensures cause { HasCause PutError.Failed self.old.counts.faults self.new.counts.faults result }
-        ensures counted { self.new.counts ≡ after_call self.old.counts }
+        ensures counted { (self.new.counts ≡ after_call self.old.counts) ⊎ IsErrOf result PutError.Memory }
+        ensures want { IsErrOf result PutError.Memory → self.new.counts ≡ called self.old.counts }
         ensures fails { IsTrue (is_failing self.old.counts) → IsErr result }
         ensures grown { OnOk result (self.new.bytes ≡ self.old.bytes ++ bytes.now) }
         ensures failed { IsErrOf result PutError.Failed → IsTrue (is_failing self.old.counts) }
@@ -184,6 +193,7 @@ impl Sink for MemSink {
     {
         if self.calls.next_fails() {
             self.bytes.extend_from_slice(first_half(bytes))?;
+            self.calls.fault();
             return Err(PutError::Failed);
         }
         self.bytes.extend_from_slice(bytes)?;

@@ -21,7 +21,7 @@ pub trait Sink {
     // The bytes so far, where the sink can tell them.
     ghost told: { Self → Option (List ℕ) };
 
-    // How many faults there were so far.
+    // How many faults there were so far: a call that answers no fault leaves it.
     ghost faults: { Self → ℕ };
 
     /// Appends the piece.

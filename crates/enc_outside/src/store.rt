@@ -34,7 +34,7 @@ pub trait Store {
     // The files, where the store can tell them.
     ghost told: { Self → Option Files };
 
-    // How many faults there were so far.
+    // How many faults there were so far: a call that answers no fault leaves it.
     ghost faults: { Self → ℕ };
 
     /// The bytes of the file of this name, or `None` where there is no such file.

@@ -53,4 +53,4 @@ span_at bytes headers first many =
 unfoldable pub span_from : List ℕ → Span → ℕ → Option Span
 span_from bytes headers first =
     option_map (λ (s : Section). record { start = s.raw.start + (first - s.rva); len = s.raw.len - (first - s.rva) })
-      (find (holds first 1) (sections_of bytes headers))
+    (find (holds first 1) (sections_of bytes headers))

@@ -1,8 +1,9 @@
 -- The module that a plain module in memory begins with.
-use Rattle.std.specs.Prelude.{ℕ, List, [], ◌∷◌, replicate, Option, Some, None, ◌==◌, if◌then◌else◌}
+use Rattle.std.specs.Prelude.{◌-◌, ℕ, List, [], ◌∷◌, replicate, Option, Some, None, ◌==◌, if◌then◌else◌}
 use Rattle.enc_plain.specs.Cell.{number, text, guid}
 use Rattle.enc_plain.specs.Chain.{nil_guid}
 use Rattle.enc_plain.specs.Module.{Module, Row}
+use Rattle.enc_schema.specs.Tables as tables
 
 -- the only row of Module: Generation 0, this name and this Mvid, nil EncId and EncBaseId (ECMA-335 II.22.30)
 abbrev pub module_row : List ℕ → List ℕ → Row
@@ -10,7 +11,7 @@ module_row name mvid = record { cells = number 0 ∷ text name ∷ guid mvid ∷
 
 -- the module with this row and nothing else: no resources, and no entry point
 abbrev pub begun : List ℕ → List ℕ → Module
-begun name mvid = record { tables = (module_row name mvid ∷ []) ∷ replicate 0x2C []; resources = []; entry = 0 }
+begun name mvid = record { tables = (module_row name mvid ∷ []) ∷ replicate (tables.table_count - 1) []; resources = []; entry = 0 }
 
 -- no user text but the empty one at offset 0
 abbrev pub no_users : ℕ → Option (List ℕ)

@@ -5,6 +5,7 @@ use Rattle.enc_base.specs.declared.token.Token.{Token}
 use Rattle.enc_schema.specs.declared.column.Column.{Column}
 use Rattle.enc_schema.specs.declared.column.Column.TheVariants.{Num8, Num16, Num32, Text, Guid, Blob, Index, Coded, Run}
 use Rattle.enc_schema.specs.Schema.{columns_in, column_in}
+use Rattle.enc_schema.specs.Tables as tables
 
 -- a number; the bytes of a text, of a blob, of a GUID; a token, where nil names nothing; the body of a method, or that it has none; the initial bytes of a field (ECMA-335 II.22)
 pub data Cell : Type 0 where
@@ -40,10 +41,10 @@ kind_of (Run table) = None
 
 -- the columns whose numbers are places: that of a method's body (ECMA-335 II.22.26), and that of a field's bytes (II.22.18)
 abbrev pub is_body : ℕ → ℕ → Bool
-is_body table i = table == 0x06 && i == 0
+is_body table i = table == tables.method_def && i == 0
 
 abbrev pub is_field : ℕ → ℕ → Bool
-is_field table i = table == 0x1D && i == 0
+is_field table i = table == tables.field_rva && i == 0
 
 -- the kind of cells in a table's column
 abbrev pub kind_in : ℕ → ℕ → Option Kind

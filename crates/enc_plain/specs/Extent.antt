@@ -6,6 +6,7 @@ use Rattle.enc_schema.specs.declared.column.Coding.TheVariants.{TypeDefOrRef}
 use Rattle.enc_schema.specs.Coding.{decoded}
 use Rattle.enc_plain.specs.declared.extent.Extent.{Extent}
 use Rattle.enc_plain.specs.declared.extent.Extent.TheVariants.{Bytes, Class}
+use Rattle.enc_schema.specs.Tables as tables
 
 -- how many bytes a kind of integer or float takes, from boolean to R8 (II.23.1.16)
 unfoldable pub size_of_kind : ℕ → Option ℕ
@@ -13,7 +14,7 @@ size_of_kind kind = if nat_lt kind 0x02 then None else slice_get (1 ∷ 2 ∷ 1 
 
 -- the type that a token in a signature names, where it is one of this file's (II.23.2.8)
 abbrev pub class_of : Option Token → Option Extent
-class_of (Some t) = if t.table == 0x02 then Some (Class t.row) else None
+class_of (Some t) = if t.table == tables.type_def then Some (Class t.row) else None
 class_of None = None
 
 unfoldable pub class_in : List ℕ → Option Extent

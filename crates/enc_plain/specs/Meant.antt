@@ -1,4 +1,4 @@
--- The cell that is meant by what is held of it.
+-- For the contracts of private functions: the cell that is meant by what is held of it.
 use Rattle.std.specs.Prelude.{None}
 use Rattle.enc_plain.specs.Cell.{Cell, number, text, blob, guid, refer, body, field}
 use Rattle.enc_plain.specs.declared.plain.PlainCell.{PlainCell}

@@ -3,6 +3,7 @@ ghost use Rattle.std.specs.Prelude.{◌≡◌, slice_get};
 ghost use Rattle.enc_plain.specs.Extent.{size_of_kind, class_of, class_in, extent_in};
 
 use enc_base::{Token, read_unsigned};
+use enc_schema::tables::TYPE_DEF;
 use enc_schema::{Coding, decode_coded};
 
 /// What tells how many bytes a field has.
@@ -39,7 +40,7 @@ fn size_of_kind(kind: u8) -> Option<u32>
 fn class_of(token: Token) -> Option<Extent>
     ensures { result ≡ class_of (Some token) }
 {
-    if token.table == 0x02 {
+    if token.table == TYPE_DEF {
         return Some(Extent::Class(token.row));
     }
     None

@@ -5,11 +5,13 @@ ghost use Rattle.enc_plain.specs.Alike.{are_rows, same_number, same_bytes, type_
 ghost use Rattle.enc_plain.specs.Cell.{kind_in, numbers, texts, blobs};
 ghost use Rattle.enc_plain.specs.Module.{cells_of};
 ghost use Rattle.enc_plain.specs.Rows.{bytes_at, token_at};
+ghost use Rattle.enc_schema.specs.Tables.{assembly_ref, type_ref, type_spec};
 
 use crate::cells::{CellView, Viewed};
 use crate::signature::kind_in_table;
 use crate::view::ModuleView;
 use enc_base::Token;
+use enc_schema::tables::{ASSEMBLY_REF, MODULE_REF, TYPE_REF, TYPE_SPEC};
 use enc_sigs::sigs_agree;
 
 /// The tokens are the same.
@@ -62,25 +64,27 @@ fn same_blob<R: CellView>(rows: &R, table: u8, a: Token, b: Token, column: u8) -
 /// TypeRefs with equal names and namespaces (ECMA-335 II.22.38).
 #[tactic(auto, unfolding(enc_schema::specs::Schema::columns_in))]
 fn are_namesakes<R: CellView>(rows: &R, a: Token, b: Token) -> bool
-    ensures names { result ≡ (are_rows (R.rows rows.now) 0x01 a b && same_bytes (R.rows rows.now) a b 1 && same_bytes (R.rows rows.now) a b 2) }
-    ensures a { IsTrue result → a.table ≡ 0x01 }
-    ensures b { IsTrue result → b.table ≡ 0x01 }
+    ensures names { result ≡ (are_rows (R.rows rows.now) type_ref a b && same_bytes (R.rows rows.now) a b 1 && same_bytes (R.rows rows.now) a b 2) }
+    ensures a { IsTrue result → a.table ≡ type_ref }
+    ensures b { IsTrue result → b.table ≡ type_ref }
 {
-    are_rows(rows, 0x01, a, b) && same_text(rows, 0x01, a, b, 1) && same_text(rows, 0x01, a, b, 2)
+    are_rows(rows, TYPE_REF, a, b)
+        && same_text(rows, TYPE_REF, a, b, 1)
+        && same_text(rows, TYPE_REF, a, b, 2)
 }
 
 /// AssemblyRefs with the same version and flags (ECMA-335 II.22.5).
 #[tactic(auto, unfolding(enc_schema::specs::Schema::columns_in))]
 fn same_version<R: CellView>(rows: &R, a: Token, b: Token) -> bool
-    requires a { a.table ≡ 0x23 }
-    requires b { b.table ≡ 0x23 }
+    requires a { a.table ≡ assembly_ref }
+    requires b { b.table ≡ assembly_ref }
     ensures { result ≡ (same_number (R.rows rows.now) a b 0 && same_number (R.rows rows.now) a b 1 && same_number (R.rows rows.now) a b 2 && same_number (R.rows rows.now) a b 3 && same_number (R.rows rows.now) a b 4) }
 {
-    same_number(rows, 0x23, a, b, 0)
-        && same_number(rows, 0x23, a, b, 1)
-        && same_number(rows, 0x23, a, b, 2)
-        && same_number(rows, 0x23, a, b, 3)
-        && same_number(rows, 0x23, a, b, 4)
+    same_number(rows, ASSEMBLY_REF, a, b, 0)
+        && same_number(rows, ASSEMBLY_REF, a, b, 1)
+        && same_number(rows, ASSEMBLY_REF, a, b, 2)
+        && same_number(rows, ASSEMBLY_REF, a, b, 3)
+        && same_number(rows, ASSEMBLY_REF, a, b, 4)
 }
 
 /// AssemblyRefs that are equal in all columns (ECMA-335 II.22.5).
@@ -88,12 +92,12 @@ fn same_version<R: CellView>(rows: &R, a: Token, b: Token) -> bool
 fn assembly_refs_alike<R: CellView>(rows: &R, a: Token, b: Token) -> bool
     ensures { result ≡ assembly_refs_alike (R.rows rows.now) a b }
 {
-    are_rows(rows, 0x23, a, b)
+    are_rows(rows, ASSEMBLY_REF, a, b)
         && same_version(rows, a, b)
-        && same_blob(rows, 0x23, a, b, 5)
-        && same_text(rows, 0x23, a, b, 6)
-        && same_text(rows, 0x23, a, b, 7)
-        && same_blob(rows, 0x23, a, b, 8)
+        && same_blob(rows, ASSEMBLY_REF, a, b, 5)
+        && same_text(rows, ASSEMBLY_REF, a, b, 6)
+        && same_text(rows, ASSEMBLY_REF, a, b, 7)
+        && same_blob(rows, ASSEMBLY_REF, a, b, 8)
 }
 
 /// ModuleRefs with equal names (ECMA-335 II.22.31).
@@ -101,13 +105,13 @@ fn assembly_refs_alike<R: CellView>(rows: &R, a: Token, b: Token) -> bool
 fn module_refs_alike<R: CellView>(rows: &R, a: Token, b: Token) -> bool
     ensures { result ≡ module_refs_alike (R.rows rows.now) a b }
 {
-    are_rows(rows, 0x1a, a, b) && same_text(rows, 0x1a, a, b, 0)
+    are_rows(rows, MODULE_REF, a, b) && same_text(rows, MODULE_REF, a, b, 0)
 }
 
 /// The scope of a TypeRef.
 #[tactic(auto, unfolding(enc_schema::specs::Schema::columns_in))]
 fn scope_of<R: CellView>(rows: &R, token: Token) -> Token
-    requires { token.table ≡ 0x01 }
+    requires { token.table ≡ type_ref }
     ensures { result ≡ token_at (R.rows rows.now) token 0 }
 {
     rows.token(token, 0)
@@ -137,13 +141,13 @@ fn refs_alike<R: CellView>(rows: &R, depth: u8, a: Token, b: Token) -> bool
 fn type_specs_alike<R: CellView>(rows: &R, a: Token, b: Token) -> bool
     ensures { result ≡ type_specs_alike (R.rows rows.now) a b }
 {
-    are_rows(rows, 0x1b, a, b) && specs_alike(rows, spec_of(rows, a), spec_of(rows, b))
+    are_rows(rows, TYPE_SPEC, a, b) && specs_alike(rows, spec_of(rows, a), spec_of(rows, b))
 }
 
 /// The signature of a TypeSpec.
 #[tactic(auto, unfolding(enc_schema::specs::Schema::columns_in))]
 fn spec_of<R: CellView>(rows: &R, token: Token) -> &[u8]
-    requires { token.table ≡ 0x1b }
+    requires { token.table ≡ type_spec }
     ensures { result.now ≡ bytes_at (R.rows rows.now) token 0 }
 {
     rows.blob(token, 0)
@@ -151,13 +155,13 @@ fn spec_of<R: CellView>(rows: &R, token: Token) -> &[u8]
 
 /// Whether the signatures of TypeSpecs are alike.
 fn specs_alike<R: CellView>(rows: &R, a: &[u8], b: &[u8]) -> bool
-    ensures { result ≡ blobs_alike (inner_alike (R.rows rows.now)) 0x1b a.now b.now }
+    ensures { result ≡ blobs_alike (inner_alike (R.rows rows.now)) type_spec a.now b.now }
 {
     if a == b {
         return true;
     }
     sigs_agree(
-        kind_in_table(0x1b, a),
+        kind_in_table(TYPE_SPEC, a),
         a,
         b,
         |t, u| refs_alike(rows, 99, t, u),
@@ -182,7 +186,7 @@ pub fn tokens_alike<R: CellView>(rows: &R, a: Token, b: Token) -> bool
 pub fn signatures_alike<R: CellView>(rows: &R, table: u8, a: &[u8], b: &[u8]) -> bool
     ensures { result ≡ signatures_alike (R.rows rows.now) table a.now b.now }
 {
-    if table == 0x1b {
+    if table == TYPE_SPEC {
         return specs_alike(rows, a, b);
     }
     if a == b {

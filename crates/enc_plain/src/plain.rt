@@ -1,10 +1,11 @@
 //! A plain module in memory.
-ghost use Rattle.std.specs.Prelude.{◌≡◌, ℕ, ◌<◌, ◌^◌, ◌==◌, false, ◌∷◌, [], length, replicate, position, option_copied, IsTrue, IsSome, IfSome, IfOk};
+ghost use Rattle.std.specs.Prelude.{◌-◌, ◌≡◌, ℕ, ◌<◌, ◌^◌, ◌==◌, false, ◌∷◌, [], length, replicate, position, option_copied, IsTrue, IsSome, IfSome, IfOk};
 ghost use Rattle.std.specs.List.{list_any};
 ghost use Rattle.enc_plain.specs.Cell.{kind_in};
 ghost use Rattle.enc_plain.specs.Module.{rows_in, row_at, row_of, has_row, cell_of, owner_of, kids_of, kids_at, has_kid};
 ghost use Rattle.enc_plain.specs.Plain.{cell_kind};
 ghost use Rattle.enc_plain.specs.Begun.{module_row as row_of_module, begun, no_users};
+ghost use Rattle.enc_schema.specs.Tables.{table_count};
 
 use crate::view::ModuleView;
 use enc_base::Token;
@@ -185,7 +186,7 @@ fn module_row(alloc: Global, name: &[u8], mvid: [u8; 16]) -> Result<PlainRow, Al
 
 /// The tables of a module, of which the first has this row and the others none.
 fn tables_with(alloc: Global, row: PlainRow) -> Result<Vec<PlainTable>, AllocError>
-    ensures { IfOk result (λ t. t.items ≡ (row ∷ []) ∷ replicate 0x2C []) }
+    ensures { IfOk result (λ t. t.items ≡ (row ∷ []) ∷ replicate (table_count - 1) []) }
 {
     let mut rows = Vec::new(alloc);
     rows.push(row)?;

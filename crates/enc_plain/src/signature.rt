@@ -4,6 +4,9 @@ ghost use Rattle.enc_plain.specs.Cell.{kind_in, blobs};
 ghost use Rattle.enc_plain.specs.Signatures.{signature_column, member_kind, alone_kind, kind_in_table, is_signature};
 
 use enc_base::Counts;
+use enc_schema::tables::{
+    FIELD, MEMBER_REF, METHOD_DEF, METHOD_SPEC, PROPERTY, STAND_ALONE_SIG, TYPE_SPEC,
+};
 use enc_sigs::{SigFault, SigKind, read_sig};
 use std::alloc::{AllocError, Global};
 
@@ -16,10 +19,10 @@ pub fn signature_column(table: u8) -> Option<u8>
     ensures kind { IfSome result (λ column. kind_in table column ≡ Some blobs) }
 {
     match table {
-        0x04 | 0x0a | 0x17 => Some(2),
-        0x06 => Some(4),
-        0x11 | 0x1b => Some(0),
-        0x2b => Some(1),
+        FIELD | MEMBER_REF | PROPERTY => Some(2),
+        METHOD_DEF => Some(4),
+        STAND_ALONE_SIG | TYPE_SPEC => Some(0),
+        METHOD_SPEC => Some(1),
         _ => None,
     }
 }
@@ -53,12 +56,12 @@ pub fn kind_in_table(table: u8, blob: &[u8]) -> SigKind
     ensures { result ≡ kind_in_table table blob.now }
 {
     match table {
-        0x04 => SigKind::Field,
-        0x06 => SigKind::Method,
-        0x0a => member_kind(blob),
-        0x11 => alone_kind(blob),
-        0x17 => SigKind::Property,
-        0x1b => SigKind::TypeSpec,
+        FIELD => SigKind::Field,
+        METHOD_DEF => SigKind::Method,
+        MEMBER_REF => member_kind(blob),
+        STAND_ALONE_SIG => alone_kind(blob),
+        PROPERTY => SigKind::Property,
+        TYPE_SPEC => SigKind::TypeSpec,
         _ => SigKind::MethodSpec,
     }
 }

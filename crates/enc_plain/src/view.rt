@@ -5,6 +5,7 @@ ghost use Rattle.enc_schema.specs.Children.{is_child_table, owner_table};
 ghost use Rattle.enc_plain.specs.Cell.{number, text, blob, guid, refer, body, field, kind_in, numbers, texts, blobs, guids, references};
 ghost use Rattle.enc_plain.specs.Module.{Module, rows_in, has_row, cell_of, owner_of, kids_of};
 ghost use Rattle.enc_plain.specs.Reading.{index_token};
+ghost use Rattle.enc_schema.specs.Tables.{field_rva, method_def};
 
 use enc_base::Token;
 use enc_opcodes::CodeRef;
@@ -58,14 +59,14 @@ pub trait ModuleView {
     /// code names are those of `user_text`.
     fn code(&self, method: Token) -> Option<CodeRef<'_>>
         requires row { IsTrue (has_row (meaning self.now) method) }
-        requires table { method.table ≡ 0x06 }
+        requires table { method.table ≡ method_def }
         ensures body { cell_of (meaning self.now) method 0 ≡ Some (body (option_map (λ c. body_of (users self.now) (code_seen c)) result)) }
         ensures few { IfSome result (λ c. length c.code.now < 2 ^ 32) };
 
     /// The initial bytes of a field, by the row of FieldRVA (ECMA-335 II.22.18).
     fn field_bytes(&self, row: Token) -> &[u8]
         requires row { IsTrue (has_row (meaning self.now) row) }
-        requires table { row.table ≡ 0x1D }
+        requires table { row.table ≡ field_rva }
         ensures { cell_of (meaning self.now) row 0 ≡ Some (field result.now) };
 
     /// The bytes of the UTF-16 units of the user text at an offset, None where none stands there.

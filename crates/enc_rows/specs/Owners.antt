@@ -1,4 +1,4 @@
--- How the owners of a child table's rows are known, once all runs are good.
+-- For the contracts of private functions: how the owners of a child table's rows are known, once all runs are good.
 use Rattle.std.specs.Prelude.{◌≡◌, ℕ, zero, suc, ◌+◌, ◌-◌, ◌<◌, Bool, true, not, flat_map, count_by, ◌&&◌, nat_lt, nat_le, ◌==◌, if◌then◌else◌, slice_index}
 use Rattle.std.specs.List.{range_with_len}
 use Rattle.enc_schema.specs.Children.{owner_table, run_column, is_child_table}

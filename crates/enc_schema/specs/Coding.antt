@@ -11,8 +11,9 @@ use Rattle.enc_schema.specs.declared.column.Coding.TheVariants.{TypeDefOrRef, Ha
 -- what can have custom attributes, by tag
 abbrev pub attributed : List ℕ
 attributed =
-    method_def ∷ field ∷ type_ref ∷ type_def ∷ param ∷ interface_impl ∷ member_ref ∷ «module» ∷ decl_security ∷ property ∷ event
-    ∷ stand_alone_sig ∷ module_ref ∷ type_spec ∷ assembly ∷ assembly_ref ∷ file ∷ exported_type ∷ manifest_resource ∷ generic_param ∷ generic_param_constraint ∷ method_spec ∷ []
+    method_def ∷ field ∷ type_ref ∷ type_def ∷ param ∷ interface_impl ∷ member_ref ∷ «module»
+    ∷ decl_security ∷ property ∷ event ∷ stand_alone_sig ∷ module_ref ∷ type_spec ∷ assembly ∷ assembly_ref
+    ∷ file ∷ exported_type ∷ manifest_resource ∷ generic_param ∷ generic_param_constraint ∷ method_spec ∷ []
 
 -- the tables of a coding by tag; a tag with none is of no table
 unfoldable pub tables_of : Coding → List (Option ℕ)

@@ -17,6 +17,7 @@ mod image_rules;
 mod images;
 mod later;
 mod likeness;
+mod many;
 mod members;
 mod memory;
 mod owners;

@@ -1,29 +1,32 @@
 -- Loading and judging, one file after the other.
-use Rattle.std.proofs.Common.{◌≡◌, ℕ, zero, suc, ◌+◌, ◌≤◌, List, [], ◌∷◌, ◌++◌, Option, Some, None, Ok, Err, Result, refl, sym, ap, append_assoc, append-nil, map, arith, drop, length}
-use Rattle.std.specs.Prelude.{IfSome, slice_get}
+use Rattle.std.proofs.Common.{◌≡◌, ℕ, zero, suc, ◌+◌, ◌≤◌, List, [], ◌∷◌, ◌++◌, Option, Some, None, Ok, Err, Result, refl, sym, ap, inl, inr, append_assoc, append-nil, map, arith, drop, length}
+use Rattle.std.specs.Prelude.{◌⊎◌, IfSome, slice_get}
 use Rattle.std.proofs.lemmas.List.{map-append}
-use Rattle.enc_outside.specs.Outside.{Files}
+use Rattle.enc_outside.specs.Outside.{Files, HasCause}
 use Rattle.enc_top.specs.declared.plan.Plan.{Plan}
+use Rattle.enc_top.specs.declared.stop.Stop.{Stop as Halt}
+use Rattle.enc_top.specs.declared.stop.Stop.TheVariants as halt
 use Rattle.enc_rows.specs.Source.{Source}
 use Rattle.enc_delta.specs.Delta.{delta_of}
 use Rattle.enc_agg.specs.Extend.{chain_with}
 use Rattle.enc_agg.specs.Seen.{History, chain_of_all}
-use Rattle.enc_top.specs.Verdict.{Verdict, ◌>>=◌, DeltaFiles, size_of, load_delta, load_deltas, in_file, judge_deltas}
+use Rattle.enc_top.specs.Verdict.{Stop, Done, ◌>>=◌, DeltaFiles, size_of, dll, load_one, load_delta, load_deltas, in_file, judge_deltas, judge_all, accept}
 use Rattle.enc_checker.specs.Check.{judged}
 use Rattle.enc_top.specs.declared.load.DeltaFile.{DeltaFile}
 use Rattle.enc_top.specs.Loads.{file_seen, Adds}
-use Rattle.enc_top.specs.Plans.{StopsWith}
+use Rattle.enc_top.specs.Plans.{IsPlanOf}
+use Rattle.enc_top.specs.Stops.{OnPlan, StopsWith}
 
 -- what was loaded, and then the rest
-abbrev pub after_loaded : {A : Type 0} → List A → Result (List A) Verdict → Result (List A) Verdict
+abbrev pub after_loaded : {A : Type 0} → List A → Result (List A) Stop → Result (List A) Stop
 after_loaded done (Ok rest) = Ok (done ++ rest)
 after_loaded done (Err v) = Err v
 
-pub nothing_loaded : {A : Type 0} (r : Result (List A) Verdict) → r ≡ after_loaded [] r
+pub nothing_loaded : {A : Type 0} (r : Result (List A) Stop) → r ≡ after_loaded [] r
 nothing_loaded (Ok rest) = refl
 nothing_loaded (Err v) = refl
 
-one_more : {A : Type 0} (done : List A) (f : A) (r : Result (List A) Verdict) → after_loaded done (r >>= λ fs. Ok (f ∷ fs)) ≡ after_loaded (done ++ f ∷ []) r
+one_more : {A : Type 0} (done : List A) (f : A) (r : Result (List A) Stop) → after_loaded done (r >>= λ fs. Ok (f ∷ fs)) ≡ after_loaded (done ++ f ∷ []) r
 one_more done f (Ok rest) = ap (λ xs. Ok xs) (sym (append_assoc done (f ∷ []) rest))
 one_more done f (Err v) = refl
 
@@ -32,18 +35,49 @@ pub more_loaded : (files : Files) (delta : List ℕ) (deltas : List (List ℕ)) 
 unfolding load_deltas
 more_loaded files delta deltas n done f is = rw is (one_more done f (load_deltas files deltas (n + size_of f)))
 
-stops_then : {A B : Type 0} (plan : Plan) (r : Result A Verdict) (f : A → Result B Verdict) → StopsWith plan r → StopsWith plan (r >>= f)
-stops_then plan (Ok a) f h = absurd h
-stops_then plan (Err v) f h = h
+stops_then : {A B : Type 0} (r : Result A Stop) (f : A → Result B Stop) (plan : Plan) → StopsWith r plan → StopsWith (r >>= f) plan
+stops_then (Ok a) f plan h = absurd h
+stops_then (Err s) f plan h = h
 
-stops_after : {A : Type 0} (plan : Plan) (done : List A) (r : Result (List A) Verdict) → StopsWith plan r → StopsWith plan (after_loaded done r)
-stops_after plan done (Ok a) h = absurd h
-stops_after plan done (Err v) h = h
+stops_after : {A : Type 0} (done : List A) (r : Result (List A) Stop) (plan : Plan) → StopsWith r plan → StopsWith (after_loaded done r) plan
+stops_after done (Ok a) plan h = absurd h
+stops_after done (Err s) plan h = h
+
+-- a fact of a halt's plan from another
+on_plan : (h : Halt) (P Q : Plan → Type 0) → ((plan : Plan) → P plan → Q plan) → OnPlan h P → OnPlan h Q
+on_plan (halt.Plan plan) P Q f x = f plan x
+on_plan halt.Memory P Q f x = tt
+on_plan halt.Failed P Q f x = tt
+
+-- where one thing ends, so does all that follows it
+pub halts_then : {A B : Type 0} (h : Halt) (r : Result A Stop) (f : A → Result B Stop) → OnPlan h (StopsWith r) → OnPlan h (StopsWith (r >>= f))
+halts_then h r f = on_plan h (StopsWith r) (StopsWith (r >>= f)) (stops_then r f)
+
+-- the plan of a halt is that of the verdict
+stop_is : (r : Result Done Stop) (plan : Plan) → StopsWith r plan → IsPlanOf r plan
+stop_is (Ok a) plan h = absurd h
+stop_is (Err s) plan h = h
+
+pub halt_is : {A : Type 0} (h : Halt) (r : Result A Stop) (f : A → Result Done Stop) → OnPlan h (StopsWith r) → OnPlan h (IsPlanOf (r >>= f))
+halt_is h r f = on_plan h (StopsWith r) (IsPlanOf (r >>= f)) (λ plan x. stop_is (r >>= f) plan (stops_then r f plan x))
 
 -- a delta at which loading stops
-pub loading_stops : (files : Files) (delta : List ℕ) (deltas : List (List ℕ)) (n : ℕ) (done : List DeltaFiles) (plan : Plan) → StopsWith plan (load_delta files delta n) → StopsWith plan (after_loaded done (load_deltas files (delta ∷ deltas) n))
+pub loading_stops : (files : Files) (delta : List ℕ) (deltas : List (List ℕ)) (n : ℕ) (done : List DeltaFiles) (h : Halt) → OnPlan h (StopsWith (load_delta files delta n)) → OnPlan h (StopsWith (after_loaded done (load_deltas files (delta ∷ deltas) n)))
 unfolding load_deltas
-loading_stops files delta deltas n done plan h = stops_after plan done _ (stops_then plan (load_delta files delta n) _ h)
+loading_stops files delta deltas n done h = on_plan h _ _ (λ plan x. stops_after done _ plan (stops_then (load_delta files delta n) _ plan x))
+
+pub from_nothing : (none now more : ℕ) → none ≡ 0 → now ≡ none + more → now ≡ more
+from_nothing none now more a b = omega (arith, a, b)
+
+-- the files of the base are loaded, and loading those of the deltas stops
+pub accept_stops : (files : Files) (base : List ℕ) (deltas : List (List ℕ)) (bytes : List ℕ) (h : Halt) → load_one files (dll base) 0 ≡ Ok bytes → OnPlan h (StopsWith (load_deltas files deltas (length bytes))) → OnPlan h (StopsWith (accept files base deltas))
+unfolding accept
+accept_stops files base deltas bytes h one stops = rw one (halts_then h (load_deltas files deltas (length bytes)) (judge_all base bytes) stops)
+
+-- all files are loaded
+pub accept_judged : (files : Files) (base : List ℕ) (deltas : List (List ℕ)) (bytes : List ℕ) (fs : List DeltaFiles) → load_one files (dll base) 0 ≡ Ok bytes → load_deltas files deltas (length bytes) ≡ Ok fs → accept files base deltas ≡ judge_all base bytes fs
+unfolding accept
+accept_judged files base deltas bytes fs one all = rw (one, all) refl
 
 -- a delta that was added, and those behind it
 pub judged_more : {U : Type 0} (old new : History) (f : DeltaFiles) (fs : List DeltaFiles) (u : U) → Adds old new (Ok u) (in_file f.name (judged (chain_of_all old) (delta_of f.metadata f.code))) → new.base ≡ old.base → judge_deltas old.base old.deltas (f ∷ fs) ≡ judge_deltas new.base new.deltas fs
@@ -51,13 +85,25 @@ unfolding judge_deltas
 judged_more old new f fs u added base = rw (added.1, base, added.2) refl
 
 -- a delta at which judging stops
-pub judging_stops : (base : Source) (deltas : List Source) (f : DeltaFiles) (fs : List DeltaFiles) (plan : Plan) → StopsWith plan (in_file f.name (judged (chain_with base deltas) (delta_of f.metadata f.code))) → StopsWith plan (judge_deltas base deltas (f ∷ fs))
+pub judging_stops : (base : Source) (deltas : List Source) (f : DeltaFiles) (fs : List DeltaFiles) (h : Halt) → OnPlan h (StopsWith (in_file f.name (judged (chain_with base deltas) (delta_of f.metadata f.code)))) → OnPlan h (StopsWith (judge_deltas base deltas (f ∷ fs)))
 unfolding judge_deltas
-judging_stops base deltas f fs plan h = stops_then plan (in_file f.name (judged (chain_with base deltas) (delta_of f.metadata f.code))) _ h
+judging_stops base deltas f fs h = halts_then h (in_file f.name (judged (chain_with base deltas) (delta_of f.metadata f.code))) _
 
 pub judged_none : (base : Source) (deltas : List Source) → judge_deltas base deltas [] ≡ Ok deltas
 unfolding judge_deltas
 judged_none base deltas = refl
+
+-- where no fault is told and the count stands
+pub no_fault : {T E : Type 0} (fault : E) (before now : ℕ) (a : T) → now ≡ before → HasCause fault before now (Ok a)
+no_fault fault before now a e = record { later = omega (arith, e); rose = λ h. absurd cc; stands = inl e }
+
+-- no fault was told
+pub ok_stands : {T E : Type 0} (fault : E) (before now : ℕ) (a : T) → HasCause fault before now (Ok a) → now ≡ before
+ok_stands fault before now a cause = by cause.stands
+  where
+    by : (now ≡ before) ⊎ (Ok a ≡ Err fault) → now ≡ before
+    by (inl e) = e
+    by (inr e) = absurd cc
 
 -- a fact of told files from two
 pub if_both : {A : Type 0} (o : Option A) (P Q R : A → Type 0) → IfSome o P → IfSome o Q → ((x : A) → P x → Q x → R x) → IfSome o R

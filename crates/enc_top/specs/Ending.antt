@@ -2,13 +2,13 @@
 use Rattle.std.specs.Prelude.{◌≡◌, ℕ, List, [], ◌∷◌, take, Option, slice_get, IsSomeAnd}
 use Rattle.enc_outside.specs.Outside.{Files, with_file, with_piece, IsSavedInPart, GrowsInPart}
 use Rattle.enc_top.specs.declared.plan.Outcome.{Outcome}
-use Rattle.enc_top.specs.declared.plan.Outcome.TheVariants.{Done, Refused, Usage, Missing}
+use Rattle.enc_top.specs.declared.plan.Outcome.TheVariants.{Accepted, Refused, Usage, Missing}
 use Rattle.enc_top.specs.declared.ending.Ending.{Ending}
 use Rattle.enc_top.specs.declared.ending.Ending.TheVariants.{Whole, Memory, StoreFault, SinkFault}
 
 -- the status of an outcome, and of an ending
 abbrev pub number_of_outcome : Outcome → ℕ
-number_of_outcome Done = 0
+number_of_outcome Accepted = 0
 number_of_outcome Refused = 1
 number_of_outcome Usage = 2
 number_of_outcome Missing = 6
@@ -39,11 +39,11 @@ SavesAt SinkFault saves old new = new ≡ after_saves saves old
 SavesAt Memory saves old new = IsSavedFront saves old new
 SavesAt StoreFault saves old new = IsSavedAndPart saves old new
 
--- the sink's bytes after an ending: the whole output, a prefix of it, or nothing
+-- the sink's bytes after an ending: the whole output, a prefix of it where the sink failed, and else what they were
 abbrev pub PrintsAt : Ending → List ℕ → Option (List ℕ) → Option (List ℕ) → Type 0
 PrintsAt (Whole outcome) output old new = new ≡ with_piece output old
 PrintsAt SinkFault output old new = GrowsInPart output old new
-PrintsAt Memory output old new = GrowsInPart output old new
+PrintsAt Memory output old new = new ≡ old
 PrintsAt StoreFault output old new = new ≡ old
 
 -- a fact of the outcome, where the ending is whole

@@ -1,12 +1,12 @@
 pub mod Words
 pub mod Commands
-pub mod Text
-pub mod BodyText
-pub mod RowText
+pub mod Lines
 pub mod Listing
 pub mod Verdict
+pub mod Done
 pub mod Ending
 pub mod Plans
+pub mod Stops
 pub mod Loads
 pub mod Answers
 pub mod Example

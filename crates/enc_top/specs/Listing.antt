@@ -9,16 +9,17 @@ use Rattle.enc_plain.specs.Chain.{Chain}
 use Rattle.enc_image.specs.Base.{module_in}
 use Rattle.enc_delta.specs.Delta.{listed, place_in}
 use Rattle.enc_delta.specs.Rules.{is_insert, own_guid}
-use Rattle.enc_agg.specs.declared.place.RowPlace.{RowPlace}
+use Rattle.enc_plain.specs.declared.place.RowPlace.{RowPlace}
 use Rattle.enc_agg.specs.Extend.{chain_with}
 use Rattle.enc_agg.specs.Place.{place_of}
 use Rattle.enc_agg.specs.Seen.{History}
-use Rattle.enc_top.specs.Text.{token_text, guid_text}
+use Rattle.enc_text.specs.Text.{token_text, guid_text}
 
 -- ` rows N strings A users B blobs C guids D`: counted bytes of three heaps, and entries of `#GUID`
 unfoldable pub counts_text : ℕ → HeapLengths → List ℕ
 counts_text rows l =
-    codes " rows " ++ decimal rows ++ codes " strings " ++ decimal l.strings ++ codes " users " ++ decimal l.users ++ codes " blobs " ++ decimal l.blobs ++ codes " guids " ++ decimal l.guids ++ 0x0a ∷ []
+    codes " rows " ++ decimal rows ++ codes " strings " ++ decimal l.strings ++ codes " users " ++ decimal l.users ++
+    codes " blobs " ++ decimal l.blobs ++ codes " guids " ++ decimal l.guids ++ 0x0a ∷ []
 
 -- how many rows a module has in all tables
 abbrev pub all_rows : Module → ℕ
@@ -40,7 +41,8 @@ change_text false = codes " update "
 -- a token of a generation's EncMap: a new row of the chain before or one of its rows, where it stands in this generation, and its newest place
 unfoldable pub token_line : Chain → ℕ → Source → List Source → Token → List ℕ
 token_line before g d deltas token =
-    codes "  " ++ token_text token ++ change_text (is_insert before token) ++ at_text (record { generation = g; row = unwrap_or (place_in (listed d) token) 0 }) ++ codes " newest " ++ at_text (place_of deltas token) ++ 0x0a ∷ []
+    codes "  " ++ token_text token ++ change_text (is_insert before token) ++
+    at_text (record { generation = g; row = unwrap_or (place_in (listed d) token) 0 }) ++ codes " newest " ++ at_text (place_of deltas token) ++ 0x0a ∷ []
 
 -- the first line of a delta, the g-th generation
 unfoldable pub head_text : ℕ → List ℕ → ℕ → HeapLengths → List ℕ

@@ -1,13 +1,13 @@
--- What a plan says beside the verdict, and where saving stops.
-use Rattle.std.specs.Prelude.{◌≡◌, ◌≢◌, ℕ, List, [], map, Option, Result, Ok, Err, string_bytes}
+-- What the plan of a verdict says, and where saving stops.
+use Rattle.std.specs.Prelude.{◌≡◌, ℕ, List, map, Option, string_bytes}
 use Rattle.enc_outside.specs.Outside.{Files}
 use Rattle.enc_outside.specs.declared.store.SaveError.{SaveError}
 use Rattle.enc_outside.specs.declared.store.SaveError.TheVariants.{Memory, Failed}
 use Rattle.enc_top.specs.declared.plan.Save.{Save}
 use Rattle.enc_top.specs.declared.plan.Plan.{Plan}
-use Rattle.enc_top.specs.declared.plan.Outcome.TheVariants.{Usage}
 use Rattle.enc_top.specs.Ending.{IsSavedFront, IsSavedAndPart}
-use Rattle.enc_top.specs.Verdict.{Verdict, outcome_of, output_of, IsSaves}
+use Rattle.enc_top.specs.Verdict.{Verdict}
+use Rattle.enc_top.specs.Done.{IsAnswer, AreSaves, outcome_of}
 
 -- the saves of a plan, each a name and its bytes
 abbrev pub saves_of : List Save → List (List ℕ × List ℕ)
@@ -21,24 +21,5 @@ SavesStop Failed saves old new = IsSavedAndPart saves old new
 -- the plan of a verdict
 pub record IsPlanOf (verdict : Verdict) (plan : Plan) : Type 0 where
   pub outcome : plan.outcome ≡ outcome_of verdict
-  pub output : plan.output.items ≡ output_of verdict
-  pub saves : IsSaves verdict (saves_of plan.saves.items)
-
--- a plan that isn't the words' fault and saves nothing
-pub record IsQuiet (plan : Plan) : Type 0 where
-  pub outcome : plan.outcome ≢ Usage
-  pub saves : plan.saves.items ≡ []
-
--- the plan of the verdict at which things stopped
-abbrev pub StopsWith : {A : Type 0} → Plan → Result A Verdict → Type 0
-StopsWith plan (Ok a) = ⊥
-StopsWith plan (Err v) = IsPlanOf v plan
-
--- what was made is seen as what is defined; a plan stands for the verdict
-abbrev pub Comes : {A B : Type 0} → (A → B) → Result A Plan → Result B Verdict → Type 0
-Comes view (Ok a) r = r ≡ Ok (view a)
-Comes view (Err plan) r = StopsWith plan r
-
-abbrev pub StopsQuietly : {A : Type 0} → Result A Plan → Type 0
-StopsQuietly (Ok a) = Unit {0}
-StopsQuietly (Err plan) = IsQuiet plan
+  pub output : IsAnswer verdict plan.output.items
+  pub saves : AreSaves verdict (saves_of plan.saves.items)

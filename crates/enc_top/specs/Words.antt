@@ -16,7 +16,9 @@ pub data Job : Type 0 where
 
 -- an ASCII letter, a digit, or one of _ - . /
 abbrev pub is_name_byte : ℕ → Bool
-is_name_byte b = (nat_le 0x61 b && nat_le b 0x7a) || (nat_le 0x41 b && nat_le b 0x5a) || (nat_le 0x30 b && nat_le b 0x39) || b == 0x5f || b == 0x2d || b == 0x2e || b == 0x2f
+is_name_byte b =
+    (nat_le 0x61 b && nat_le b 0x7a) || (nat_le 0x41 b && nat_le b 0x5a) || (nat_le 0x30 b && nat_le b 0x39) ||
+    b == 0x5f || b == 0x2d || b == 0x2e || b == 0x2f
 
 -- 1 to 200 of these bytes
 unfoldable pub is_name : List ℕ → Bool
@@ -51,7 +53,11 @@ check_of [] = None
 
 -- the row of the command table that the words are
 abbrev pub job_of : List (List ℕ) → Option Job
-job_of (name ∷ words) = if bytes_eq name (codes "show") then show_of words else if bytes_eq name (codes "list") then list_of words else if bytes_eq name (codes "check") then check_of words else None
+job_of (name ∷ words) =
+    if bytes_eq name (codes "show") then show_of words
+    else if bytes_eq name (codes "list") then list_of words
+    else if bytes_eq name (codes "check") then check_of words
+    else None
 job_of [] = None
 
 -- the words as lists of bytes

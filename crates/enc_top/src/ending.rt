@@ -22,7 +22,7 @@ impl Outcome {
         ensures { result ≡ number_of_outcome self }
     {
         match self {
-            Outcome::Done => 0,
+            Outcome::Accepted => 0,
             Outcome::Refused => 1,
             Outcome::Usage => 2,
             Outcome::Missing => 6,

@@ -1,6 +1,6 @@
 //! Carrying out a plan: all saves in order, then the output.
-ghost use Rattle.std.specs.Prelude.{◌≡◌, ◌≤◌, ◌⊎◌, ℕ, List, take, map, Ok, Err, IfSome, OnOk, IfErr, slice_get};
-ghost use Rattle.enc_outside.specs.Outside.{with_file, with_piece, IsSavedInPart, GrowsInPart, Rose, HasCause};
+ghost use Rattle.std.specs.Prelude.{◌≡◌, ◌⊎◌, ℕ, List, take, map, Ok, Err, IfSome, OnOk, IfErr, slice_get};
+ghost use Rattle.enc_outside.specs.Outside.{with_file, with_piece, IsSavedInPart, GrowsInPart, IsTold, HasCause};
 ghost use Rattle.enc_top.specs.Ending.{after_saves, SavesAt, PrintsAt, IfWhole};
 ghost use Rattle.enc_top.specs.Plans.{saves_of, SavesStop};
 
@@ -15,18 +15,14 @@ fn save_all<S: Store>(saves: &[Save], store: &mut S) -> Result<(), SaveError>
     ensures stopped { IfErr result (λ e. SavesStop e (saves_of saves.now) (S.told store.old) (S.told store.new)) }
 {
     for save in saves {
-        match store.save(save.name.as_str(), &save.bytes) {
-            Ok(()) => {}
-            Err(error) => return Err(error),
-        }
+        store.save(save.name.as_str(), &save.bytes)?;
     }
     Ok(())
 }
 
 /// Prints the output of a plan whose saves are made.
 fn print<K: Sink>(plan: &Plan, out: &mut K) -> Ending
-    ensures later { K.faults out.old ≤ K.faults out.new }
-    ensures cause { result ≡ Ending.SinkFault → Rose (K.faults out.old) (K.faults out.new) }
+    ensures sink { IsTold (result ≡ Ending.SinkFault) (K.faults out.old) (K.faults out.new) }
     ensures ending { (result ≡ Ending.Whole plan.now.outcome) ⊎ ((result ≡ Ending.Memory) ⊎ (result ≡ Ending.SinkFault)) }
     ensures prints { PrintsAt result plan.now.output.items (K.told out.old) (K.told out.new) }
 {
@@ -39,10 +35,8 @@ fn print<K: Sink>(plan: &Plan, out: &mut K) -> Ending
 
 /// Saves all, and then prints.
 pub fn finish<S: Store, K: Sink>(plan: &Plan, store: &mut S, out: &mut K) -> Ending
-    ensures store_later { S.faults store.old ≤ S.faults store.new }
-    ensures sink_later { K.faults out.old ≤ K.faults out.new }
-    ensures store_cause { result ≡ Ending.StoreFault → Rose (S.faults store.old) (S.faults store.new) }
-    ensures sink_cause { result ≡ Ending.SinkFault → Rose (K.faults out.old) (K.faults out.new) }
+    ensures store { IsTold (result ≡ Ending.StoreFault) (S.faults store.old) (S.faults store.new) }
+    ensures sink { IsTold (result ≡ Ending.SinkFault) (K.faults out.old) (K.faults out.new) }
     ensures ending { IfWhole result (λ outcome. outcome ≡ plan.now.outcome) }
     ensures files { SavesAt result (saves_of plan.now.saves.items) (S.told store.old) (S.told store.new) }
     ensures prints { PrintsAt result plan.now.output.items (K.told out.old) (K.told out.new) }

@@ -1,17 +1,17 @@
 //! Judging a base and its deltas, each after those before it.
-ghost use Rattle.std.specs.Prelude.{◌≡◌, ◌∷◌, [], ℕ, List, map, None, Ok, IfOk, string_bytes};
-ghost use Rattle.enc_delta.specs.Judged.{first_meta};
+ghost use Rattle.std.specs.Prelude.{◌≡◌, ◌∷◌, [], ℕ, List, map, Ok, IfOk, IsErrOf, string_bytes};
 ghost use Rattle.enc_image.specs.Base.{base_of};
 ghost use Rattle.enc_delta.specs.Delta.{delta_of};
 ghost use Rattle.enc_agg.specs.Seen.{chain_of_all};
 ghost use Rattle.enc_checker.specs.Check.{judged};
-ghost use Rattle.enc_top.specs.Verdict.{in_file, judge_deltas as deltas_judged, judge_all as all_judged};
-ghost use Rattle.enc_top.specs.Plans.{Comes, StopsQuietly};
+ghost use Rattle.enc_rows.specs.Source.{Source};
+ghost use Rattle.enc_top.specs.Verdict.{dll, in_file, judge_deltas as deltas_judged, judge_all as all_judged};
+ghost use Rattle.enc_top.specs.Stops.{Comes, StopsQuietly};
 ghost use Rattle.enc_top.specs.Loads.{file_seen, followed, Adds};
 
 use crate::load::{DeltaFile, name_of};
-use crate::plan::Plan;
-use crate::plans::refused;
+use crate::plans::unread;
+use crate::stop::Stop;
 use enc_agg::Aggregate;
 use enc_base::ReadFault;
 use enc_checker::{Checked, Files, check};
@@ -21,27 +21,21 @@ use std::alloc::{AllocError, Global};
 
 /// Adds a delta that breaks no rule.
 fn add(agg: &mut Aggregate, delta: Delta) -> Result<(), AllocError>
-    requires { first_meta (chain_of_all agg.old) delta ≡ None }
+    requires { judged (chain_of_all agg.old) (Ok delta) ≡ Ok delta }
     ensures base { agg.new.base ≡ agg.old.base }
     ensures added { IfOk result (λ u. agg.new.deltas ≡ delta ∷ agg.old.deltas) }
 {
-    let ready = match agg.prepare(delta) {
-        Err(error) => return Err(error),
-        Ok(ready) => ready,
-    };
+    let ready = agg.prepare(delta)?;
     agg.commit(ready);
     Ok(())
 }
 
-/// The files of a delta judged after the deltas before it, and added; or the plan of its refusal.
-fn judge_delta(
-    alloc: Global,
-    agg: &mut Aggregate,
-    file: DeltaFile,
-) -> Result<Result<(), Plan>, AllocError>
+/// The files of a delta judged after the deltas before it, and added.
+fn judge_delta(alloc: Global, agg: &mut Aggregate, file: DeltaFile) -> Result<(), Stop>
     ensures base { agg.new.base ≡ agg.old.base }
-    ensures step { IfOk result (λ r. Adds agg.old agg.new r (in_file (string_bytes file.name) (judged (chain_of_all agg.old) (delta_of file.metadata.items file.code.items)))) }
-    ensures quiet { IfOk result StopsQuietly }
+    ensures step { Adds agg.old agg.new result (in_file (string_bytes file.name) (judged (chain_of_all agg.old) (delta_of file.metadata.items file.code.items))) }
+    ensures quiet { StopsQuietly result }
+    ensures no_fault { ¬ (IsErrOf result Stop.Failed) }
 {
     let DeltaFile {
         name,
@@ -53,57 +47,54 @@ fn judge_delta(
         il: code,
     };
     match check(alloc, agg, files) {
-        Ok(Checked { delta }) => match add(agg, delta) {
-            Ok(()) => Ok(Ok(())),
-            Err(error) => Err(error),
-        },
-        Err(ReadFault::Memory) => Err(AllocError),
-        Err(ReadFault::Refused(refusal)) => Ok(Err(refused(alloc, name.as_str(), refusal)?)),
+        Ok(Checked { delta }) => Ok(add(agg, delta)?),
+        Err(fault) => Err(unread(alloc, name.as_str(), fault)),
     }
 }
 
 /// All deltas, in order.
-fn judge_deltas(
-    alloc: Global,
-    agg: &mut Aggregate,
-    files: Vec<DeltaFile>,
-) -> Result<Result<(), Plan>, AllocError>
+fn judge_deltas(alloc: Global, agg: &mut Aggregate, files: Vec<DeltaFile>) -> Result<(), Stop>
     ensures base { agg.new.base ≡ agg.old.base }
-    ensures step { IfOk result (λ r. Comes (λ u. agg.new.deltas) r (deltas_judged agg.old.base agg.old.deltas (map file_seen files.items))) }
-    ensures quiet { IfOk result StopsQuietly }
+    ensures step { Comes (λ u. agg.new.deltas) result (deltas_judged agg.old.base agg.old.deltas (map file_seen files.items)) }
+    ensures quiet { StopsQuietly result }
+    ensures no_fault { ¬ (IsErrOf result Stop.Failed) }
 {
     for file in files {
-        match judge_delta(alloc, agg, file) {
-            Err(error) => return Err(error),
-            Ok(Ok(())) => {}
-            Ok(Err(plan)) => return Ok(Err(plan)),
-        }
+        judge_delta(alloc, agg, file)?;
     }
-    Ok(Ok(()))
+    Ok(())
 }
 
-/// A base and its deltas, judged in order; or the plan of the first refusal.
+/// The base of a file's bytes.
+fn judge_base(alloc: Global, base: &str, bytes: Vec<u8>) -> Result<Image, Stop>
+    ensures step { Comes (λ (i : Source). i) result (in_file (dll base.now) (base_of bytes.items)) }
+    ensures quiet { StopsQuietly result }
+    ensures no_fault { ¬ (IsErrOf result Stop.Failed) }
+{
+    match Image::read(alloc, bytes) {
+        Ok(image) => Ok(image),
+        Err(ReadFault::Memory) => Err(Stop::Memory),
+        Err(fault) => {
+            let name = name_of(alloc, base, ".dll")?;
+            Err(unread(alloc, name.as_str(), fault))
+        }
+    }
+}
+
+/// A base and its deltas, judged in order.
 #[tactic(auto, unfolding(crate::specs::Verdict::judge_all))]
 pub fn judge_all(
     alloc: Global,
     base: &str,
     bytes: Vec<u8>,
     files: Vec<DeltaFile>,
-) -> Result<Result<Aggregate, Plan>, AllocError>
-    ensures step { IfOk result (λ r. Comes followed r (all_judged base.now bytes.items (map file_seen files.items))) }
-    ensures quiet { IfOk result StopsQuietly }
+) -> Result<Aggregate, Stop>
+    ensures step { Comes followed result (all_judged base.now bytes.items (map file_seen files.items)) }
+    ensures quiet { StopsQuietly result }
+    ensures no_fault { ¬ (IsErrOf result Stop.Failed) }
 {
-    let image = match Image::read(alloc, bytes) {
-        Ok(image) => image,
-        Err(ReadFault::Memory) => return Err(AllocError),
-        Err(ReadFault::Refused(refusal)) => {
-            let name = name_of(alloc, base, ".dll")?;
-            return Ok(Err(refused(alloc, name.as_str(), refusal)?));
-        }
-    };
+    let image = judge_base(alloc, base, bytes)?;
     let mut agg = Aggregate::begin(alloc, image)?;
-    match judge_deltas(alloc, &mut agg, files)? {
-        Ok(()) => Ok(Ok(agg)),
-        Err(plan) => Ok(Err(plan)),
-    }
+    judge_deltas(alloc, &mut agg, files)?;
+    Ok(agg)
 }

@@ -1,25 +1,23 @@
 //! The top call: words, a store and a sink in; a status out.
 #![tactic(auto)]
 
-mod body;
 mod command;
+mod commands;
 mod ending;
 mod finish;
+mod generations;
 mod judge;
 mod laws;
 mod limits;
-mod listing;
+mod lines;
 mod load;
-mod operand;
 mod plan;
-mod planning;
 mod plans;
-mod rows;
 mod run;
-mod show;
-mod text;
+mod stop;
 
-pub use enc_agg::RowPlace;
+pub use enc_plain::RowPlace;
+pub use enc_text::row_text;
+pub use generations::listing;
 pub use laws::{example_delta_row, example_listing, example_row};
-pub use rows::row_text;
 pub use run::run_tool;

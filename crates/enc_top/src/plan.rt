@@ -4,7 +4,7 @@
 #[derive(Clone, Copy, Debug, PartialEq, Eq)]
 pub enum Outcome {
     /// All is accepted.
-    Done,
+    Accepted,
     /// A file is refused.
     Refused,
     /// The words are no command.

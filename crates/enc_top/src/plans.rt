@@ -1,13 +1,16 @@
-//! Plans that save nothing.
-ghost use Rattle.std.specs.Prelude.{◌≡◌, [], IfOk};
+//! Plans that save nothing, and the stops of commands that do nothing.
+ghost use Rattle.std.specs.Prelude.{◌≡◌, ◌≢◌, [], Err};
 ghost use Rattle.enc_top.specs.Verdict.{no_command, absent_file, refused_file, past_limit};
 ghost use Rattle.enc_top.specs.Plans.{IsPlanOf};
+ghost use Rattle.enc_top.specs.Stops.{OnPlan, IsQuiet, IsUnread};
 
 use crate::limits::Limit;
+use crate::lines::{limit_line, missing_line, usage_line};
 use crate::plan::{Outcome, Plan};
-use crate::text::{limit_line, missing_line, refused_line, usage_line};
-use enc_base::Refusal;
-use std::alloc::{AllocError, Global};
+use crate::stop::Stop;
+use enc_base::{ReadFault, Refusal};
+use enc_text::refused_line;
+use std::alloc::Global;
 
 /// A plan that saves nothing.
 pub fn saving_nothing(alloc: Global, outcome: Outcome, output: Vec<u8>) -> Plan
@@ -22,34 +25,62 @@ pub fn saving_nothing(alloc: Global, outcome: Outcome, output: Vec<u8>) -> Plan
     }
 }
 
-/// The plan of a file that is refused.
-pub fn refused(alloc: Global, name: &str, refusal: Refusal) -> Result<Plan, AllocError>
-    ensures { IfOk result (λ plan. IsPlanOf (refused_file name.now refusal) plan) }
+/// The stop at a file that is refused.
+fn refused(alloc: Global, name: &str, refusal: Refusal) -> Stop
+    ensures plan { OnPlan result (IsPlanOf (Err (refused_file name.now refusal))) }
+    ensures quiet { OnPlan result IsQuiet }
+    ensures no_fault { result ≢ Stop.Failed }
 {
-    let line = refused_line(alloc, name, refusal)?;
-    Ok(saving_nothing(alloc, Outcome::Refused, line))
+    match refused_line(alloc, name, refusal) {
+        Ok(line) => Stop::Plan(saving_nothing(alloc, Outcome::Refused, line)),
+        Err(_) => Stop::Memory,
+    }
 }
 
-/// The plan of a file that is too long, or with which all are.
-pub fn too_long(alloc: Global, name: &str, limit: Limit) -> Result<Plan, AllocError>
-    ensures plan { IfOk result (λ plan. IsPlanOf (past_limit name.now limit) plan) }
+/// The stop at a file that isn't read.
+pub fn unread(alloc: Global, name: &str, fault: ReadFault) -> Stop
+    ensures plan { IsUnread name.now fault result }
+    ensures quiet { OnPlan result IsQuiet }
+    ensures no_fault { result ≢ Stop.Failed }
 {
-    let line = limit_line(alloc, name, limit)?;
-    Ok(saving_nothing(alloc, Outcome::Refused, line))
+    match fault {
+        ReadFault::Memory => Stop::Memory,
+        ReadFault::Refused(refusal) => refused(alloc, name, refusal),
+    }
 }
 
-/// The plan of a file that isn't there.
-pub fn missing(alloc: Global, name: &str) -> Result<Plan, AllocError>
-    ensures { IfOk result (λ plan. IsPlanOf (absent_file name.now) plan) }
+/// The stop at a file that is too long, or with which all are.
+pub fn too_long(alloc: Global, name: &str, limit: Limit) -> Stop
+    ensures plan { OnPlan result (IsPlanOf (Err (past_limit name.now limit))) }
+    ensures quiet { OnPlan result IsQuiet }
+    ensures no_fault { result ≢ Stop.Failed }
 {
-    let line = missing_line(alloc, name)?;
-    Ok(saving_nothing(alloc, Outcome::Missing, line))
+    match limit_line(alloc, name, limit) {
+        Ok(line) => Stop::Plan(saving_nothing(alloc, Outcome::Refused, line)),
+        Err(_) => Stop::Memory,
+    }
 }
 
-/// The plan of words that are no command.
-pub fn unknown(alloc: Global) -> Result<Plan, AllocError>
-    ensures { IfOk result (λ plan. IsPlanOf no_command plan) }
+/// The stop at a file that isn't there.
+pub fn missing(alloc: Global, name: &str) -> Stop
+    ensures plan { OnPlan result (IsPlanOf (Err (absent_file name.now))) }
+    ensures quiet { OnPlan result IsQuiet }
+    ensures no_fault { result ≢ Stop.Failed }
 {
-    let line = usage_line(alloc)?;
-    Ok(saving_nothing(alloc, Outcome::Usage, line))
+    match missing_line(alloc, name) {
+        Ok(line) => Stop::Plan(saving_nothing(alloc, Outcome::Missing, line)),
+        Err(_) => Stop::Memory,
+    }
+}
+
+/// The stop at words that are no command.
+pub fn unknown(alloc: Global) -> Stop
+    ensures plan { OnPlan result (IsPlanOf (Err no_command)) }
+    ensures saves { OnPlan result (λ plan. plan.saves.items ≡ []) }
+    ensures no_fault { result ≢ Stop.Failed }
+{
+    match usage_line(alloc) {
+        Ok(line) => Stop::Plan(saving_nothing(alloc, Outcome::Usage, line)),
+        Err(_) => Stop::Memory,
+    }
 }

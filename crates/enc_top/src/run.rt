@@ -1,41 +1,47 @@
 //! The top call.
-ghost use Rattle.std.specs.Prelude.{◌≡◌, ◌⊎◌, ◌≤◌, None, true, IfSome, IsSome};
-ghost use Rattle.enc_outside.specs.Outside.{Rose};
+ghost use Rattle.std.specs.Prelude.{◌≡◌, ◌⊎◌, ◌≤◌, None, Err, true, IfSome, IsSome};
+ghost use Rattle.enc_outside.specs.Outside.{Rose, IsTold};
 ghost use Rattle.enc_top.specs.Words.{job_of, texts};
-ghost use Rattle.enc_top.specs.Verdict.{no_command, verdict_of, outcome_of, output_of};
-ghost use Rattle.enc_top.specs.Ending.{IfWhole, PrintsAt};
-ghost use Rattle.enc_top.specs.Answers.{is_whole, status_of, Prints, Leaves, LeavesAt};
+ghost use Rattle.enc_top.specs.Verdict.{no_command, verdict_of};
+ghost use Rattle.enc_top.specs.Done.{outcome_of};
+ghost use Rattle.enc_top.specs.Ending.{IfWhole};
+ghost use Rattle.enc_top.specs.Answers.{is_whole, status_of, Prints, PrintsFor, Leaves, LeavesAt};
 ghost use Rattle.enc_top.specs.declared.plan.Outcome.{Outcome};
 
+use crate::commands::plan_of;
 use crate::ending::Ending;
 use crate::finish::finish;
-use crate::planning::plan_of;
-use enc_outside::{LoadError, Sink, Store};
+use crate::stop::Stop;
+use enc_outside::{Sink, Store};
 use std::alloc::Global;
 
 /// Plans, saves and prints.
 fn serve<S: Store, K: Sink>(alloc: Global, words: &[String], store: &mut S, out: &mut K) -> Ending
     ensures verdict { IfSome (S.told store.old) (λ files. IfWhole result (λ outcome. outcome ≡ outcome_of (verdict_of (texts words.now) files))) }
-    ensures prints { IfSome (S.told store.old) (λ files. PrintsAt result (output_of (verdict_of (texts words.now) files)) (K.told out.old) (K.told out.new)) }
+    ensures prints { IfSome (S.told store.old) (λ files. PrintsFor result (verdict_of (texts words.now) files) (K.told out.old) (K.told out.new)) }
     ensures files { IfSome (S.told store.old) (λ files. LeavesAt result (verdict_of (texts words.now) files) (S.told store.old) (S.told store.new)) }
-    ensures usage { job_of (texts words.now) ≡ None → PrintsAt result (output_of no_command) (K.told out.old) (K.told out.new) }
+    ensures usage { job_of (texts words.now) ≡ None → PrintsFor result (Err no_command) (K.told out.old) (K.told out.new) }
     ensures no_job { job_of (texts words.now) ≡ None → IfWhole result (λ outcome. outcome ≡ Outcome.Usage) }
     ensures words { result ≡ Ending.Whole Outcome.Usage → job_of (texts words.now) ≡ None }
-    ensures unchanged { IfWhole result (λ outcome. (outcome ≡ Outcome.Done) ⊎ (S.told store.new ≡ S.told store.old)) }
+    ensures unchanged { IfWhole result (λ outcome. (outcome ≡ Outcome.Accepted) ⊎ (S.told store.new ≡ S.told store.old)) }
+    ensures memory { result ≡ Ending.Memory → K.told out.new ≡ K.told out.old }
     ensures nothing { result ≡ Ending.StoreFault → K.told out.new ≡ K.told out.old }
-    ensures store_fault { result ≡ Ending.StoreFault → IsSome (job_of (texts words.now)) × Rose (S.faults store.old) (S.faults store.new) }
-    ensures sink_fault { result ≡ Ending.SinkFault → Rose (K.faults out.old) (K.faults out.new) }
+    ensures asked { result ≡ Ending.StoreFault → IsSome (job_of (texts words.now)) }
+    ensures store { IsTold (result ≡ Ending.StoreFault) (S.faults store.old) (S.faults store.new) }
+    ensures sink { IsTold (result ≡ Ending.SinkFault) (K.faults out.old) (K.faults out.new) }
 {
     match plan_of(alloc, words, store) {
         Ok(plan) => finish(&plan, store, out),
-        Err(LoadError::Memory) => Ending::Memory,
-        Err(LoadError::Failed) => Ending::StoreFault,
+        Err(Stop::Plan(plan)) => finish(&plan, store, out),
+        Err(Stop::Memory) => Ending::Memory,
+        Err(Stop::Failed) => Ending::StoreFault,
     }
 }
 
 /// Runs a command. `words` are those behind the program's name. The status is 0 where all is
 /// accepted, 1 where a file is refused, 2 where the words are no command, 3 where memory ran out, 4
 /// where the store failed, 5 where the sink failed, and 6 where a file that must be there is absent.
+/// At 3 and 4 nothing is printed, and at 5 a first part of the answer may be.
 pub fn run_tool<S: Store, K: Sink>(
     alloc: Global,
     words: &[String],
@@ -44,16 +50,18 @@ pub fn run_tool<S: Store, K: Sink>(
 ) -> u8
     ensures known { result ≤ 6 }
     ensures verdict { IfSome (S.told store.old) (λ files. is_whole result ≡ true → result ≡ status_of (verdict_of (texts words.now) files)) }
-    ensures prints { IfSome (S.told store.old) (λ files. Prints result (output_of (verdict_of (texts words.now) files)) (K.told out.old) (K.told out.new)) }
+    ensures prints { IfSome (S.told store.old) (λ files. Prints result (verdict_of (texts words.now) files) (K.told out.old) (K.told out.new)) }
     ensures files { IfSome (S.told store.old) (λ files. Leaves result (verdict_of (texts words.now) files) (S.told store.old) (S.told store.new)) }
     ensures complete { IfSome (S.told store.old) (λ files. ¬ Rose (S.faults store.old) (S.faults store.new) → ¬ Rose (K.faults out.old) (K.faults out.new) → (result ≡ status_of (verdict_of (texts words.now) files)) ⊎ (result ≡ 3)) }
-    ensures usage { job_of (texts words.now) ≡ None → Prints result (output_of no_command) (K.told out.old) (K.told out.new) }
+    ensures usage { job_of (texts words.now) ≡ None → Prints result (Err no_command) (K.told out.old) (K.told out.new) }
     ensures no_job { job_of (texts words.now) ≡ None → is_whole result ≡ true → result ≡ 2 }
     ensures words { result ≡ 2 → job_of (texts words.now) ≡ None }
     ensures unchanged { is_whole result ≡ true → (result ≡ 0) ⊎ (S.told store.new ≡ S.told store.old) }
+    ensures memory { result ≡ 3 → K.told out.new ≡ K.told out.old }
     ensures nothing { result ≡ 4 → K.told out.new ≡ K.told out.old }
-    ensures store_fault { result ≡ 4 → IsSome (job_of (texts words.now)) × Rose (S.faults store.old) (S.faults store.new) }
-    ensures sink_fault { result ≡ 5 → Rose (K.faults out.old) (K.faults out.new) }
+    ensures asked { result ≡ 4 → IsSome (job_of (texts words.now)) }
+    ensures store_fault { IsTold (result ≡ 4) (S.faults store.old) (S.faults store.new) }
+    ensures sink_fault { IsTold (result ≡ 5) (K.faults out.old) (K.faults out.new) }
 {
     serve(alloc, words, store, out).number()
 }

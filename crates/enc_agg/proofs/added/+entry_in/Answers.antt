@@ -1,6 +1,6 @@
 use Rattle.std.proofs.Common.{length, ◌<◌, sym, ◌∙◌, arith}
 use Rattle.enc_meta.proofs.Alone.{heap_alone}
-use Rattle.enc_delta.proofs.Behind.{zero_entry, heap_before, heap_behind}
+use Rattle.enc_delta.proofs.OneHeapMore.{zero_entry, heap_before, heap_behind}
 use Rattle.enc_agg.proofs.Histories.{last_added, heaps_with, heaps_alone}
 use Rattle.enc_agg.proofs.added.+entry_in.Goals as goal
 

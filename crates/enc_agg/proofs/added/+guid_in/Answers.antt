@@ -1,6 +1,6 @@
 use Rattle.std.proofs.Common.{length, ◌<◌, sym, ◌∙◌, refl, arith}
 use Rattle.enc_meta.proofs.Alone.{guid_alone}
-use Rattle.enc_delta.proofs.Behind.{guid_behind}
+use Rattle.enc_delta.proofs.OneHeapMore.{guid_behind}
 use Rattle.enc_agg.proofs.Histories.{last_added, heaps_with, heaps_alone}
 use Rattle.enc_agg.proofs.added.+guid_in.Goals as goal
 

@@ -2,7 +2,7 @@ use Rattle.std.proofs.Common.{length, ap, ◌<◌, sym, ◌∙◌, arith}
 use Rattle.std.specs.Prelude.{is_some}
 use Rattle.enc_meta.specs.Heaps.{text_entry}
 use Rattle.enc_meta.proofs.Alone.{text_alone}
-use Rattle.enc_delta.proofs.Behind.{zero_entry, text_before, text_behind}
+use Rattle.enc_delta.proofs.OneHeapMore.{zero_entry, text_before, text_behind}
 use Rattle.enc_agg.proofs.Histories.{last_added, heaps_with, heaps_alone}
 use Rattle.enc_agg.proofs.added.+has_text_in.Goals as goal
 

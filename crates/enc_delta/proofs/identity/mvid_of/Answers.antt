@@ -2,7 +2,7 @@ use Rattle.std.proofs.Common.{length, refl, sym, ap, ◌∙◌}
 use Rattle.enc_plain.specs.Chain.{nil_guid}
 use Rattle.enc_plain.specs.Module.{rows_in}
 use Rattle.enc_schema.specs.Schema.{columns_in}
-use Rattle.enc_delta.proofs.Behind.{mvid_none}
+use Rattle.enc_delta.proofs.OneHeapMore.{mvid_none}
 use Rattle.enc_delta.proofs.identity.mvid_of.Goals as goal
 
 pub returns-then-count-eq0 : goal.returns-then-count-eq0

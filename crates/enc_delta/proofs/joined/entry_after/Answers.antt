@@ -1,5 +1,5 @@
 use Rattle.std.proofs.Common.{sym, ◌∙◌, arith}
-use Rattle.enc_delta.proofs.Behind.{zero_entry, heap_before, heap_behind}
+use Rattle.enc_delta.proofs.OneHeapMore.{zero_entry, heap_before, heap_behind}
 use Rattle.enc_delta.proofs.joined.entry_after.Goals as goal
 
 pub returns-then-offset-eq0 : goal.returns-then-offset-eq0

@@ -1,6 +1,6 @@
 use Rattle.std.proofs.Common.{sym, ap, ◌∙◌, arith}
 use Rattle.std.specs.Prelude.{is_some}
-use Rattle.enc_delta.proofs.Behind.{zero_entry, text_before, text_behind}
+use Rattle.enc_delta.proofs.OneHeapMore.{zero_entry, text_before, text_behind}
 use Rattle.enc_delta.proofs.joined.has_text_after.Goals as goal
 
 pub returns-then-offset-eq0 : goal.returns-then-offset-eq0

@@ -1,5 +1,5 @@
 use Rattle.std.proofs.Common.{sym, ◌∙◌}
-use Rattle.enc_delta.proofs.Besides.{adding_none, adding_more, adding_again}
+use Rattle.enc_delta.proofs.MembersBeside.{adding_none, adding_more, adding_again}
 use Rattle.enc_delta.proofs.siblings.add_all_old.Goals.{then-not-is_beside_last+in_ok-add_old, else-not-is_beside_last}
 use Rattle.enc_delta.proofs.siblings.add_all_old.Goals as goal
 

@@ -1,5 +1,5 @@
 use Rattle.std.proofs.Common.{take}
-use Rattle.enc_delta.proofs.Besides.{Adding}
+use Rattle.enc_delta.proofs.MembersBeside.{Adding}
 use Rattle.enc_delta.proofs.siblings.add_all_old.Given as goal
 
 abbrev pub invariant-loop-k : goal.invariant-loop-k

@@ -1,7 +1,7 @@
 use Rattle.std.proofs.Common.{sym, ap, ◌∙◌}
 use Rattle.std.specs.List.{list_any}
 use Rattle.std.proofs.lemmas.List.Sorted.{list_any-IsPermutation}
-use Rattle.enc_delta.proofs.Besides.{any_filter}
+use Rattle.enc_delta.proofs.MembersBeside.{any_filter}
 use Rattle.enc_delta.proofs.siblings.grouped.Goals as goal
 
 pub returns : goal.returns

@@ -1,4 +1,4 @@
-use Rattle.std.proofs.Common.{◌≡◌, ◌≤◌, drop, map}
+use Rattle.std.proofs.Common.{◌≡◌, drop, map}
 use Rattle.std.specs.Prelude.{IfSome}
 use Rattle.enc_top.specs.Words.{texts}
 use Rattle.enc_top.specs.Verdict.{load_deltas}
@@ -10,7 +10,6 @@ use Rattle.enc_top.proofs.load.load_deltas.Given as goal
 abbrev pub invariant-loop-delta : goal.invariant-loop-delta
 invariant-loop-delta g l = record {
   stays : g.S.Store.told l.store ≡ g.S.Store.told l.fn.store;
-  later : g.S.Store.faults l.fn.store ≤ g.S.Store.faults l.store;
-  few : l.loaded ≤ 536870912;
-  loaded : IfSome (g.S.Store.told l.fn.store) (λ files. load_deltas files (texts l.deltas) l.before ≡ after_loaded (map file_seen l.files.items) (load_deltas files (texts (drop l.delta-index l.deltas)) l.loaded));
+  stands : g.S.Store.faults l.store ≡ g.S.Store.faults l.fn.store;
+  all : IfSome (g.S.Store.told l.fn.store) (λ files. load_deltas files (texts l.deltas) l.fn.loaded ≡ after_loaded (map file_seen l.files.items) (load_deltas files (texts (drop l.delta-index l.deltas)) l.loaded));
 }

@@ -1,7 +1,7 @@
 use Rattle.enc_top.specs.Words.{texts}
 use Rattle.enc_top.specs.Verdict.{verdict_of}
 use Rattle.enc_top.specs.Plans.{IsPlanOf}
-use Rattle.enc_top.proofs.Served.{if_some, leaves_at, unchanged_by, asked_for, rose_since}
+use Rattle.enc_top.proofs.Served.{if_some, leaves_at, unchanged_by}
 use Rattle.enc_top.proofs.run.serve.Goals as goal
 
 pub returns-in-Ok-clause-files : goal.returns-in-Ok-clause-files
@@ -10,5 +10,5 @@ returns-in-Ok-clause-files g c = if_some _ _ _ c.in-Ok.ensures.plan (λ files pl
 pub returns-in-Ok-clause-unchanged : goal.returns-in-Ok-clause-unchanged
 returns-in-Ok-clause-unchanged g c = unchanged_by _ _ _ _ _ c.finish.ensures.ending c.in-Ok.ensures.kept (rw c.in-Ok.ensures.stays at c.finish.ensures.files)
 
-pub returns-in-Ok-clause-store_fault : goal.returns-in-Ok-clause-store_fault
-returns-in-Ok-clause-store_fault g c = λ e. (asked_for _ _ _ _ _ (λ none. (c.in-Ok.ensures.usage none).saves) c.finish.ensures.files e, rose_since _ _ _ c.in-Ok.ensures.cause.later (c.finish.ensures.store_cause e))
+pub returns-in-Err-Plan-clause-unchanged : goal.returns-in-Err-Plan-clause-unchanged
+returns-in-Err-Plan-clause-unchanged g c = unchanged_by _ _ _ _ _ c.finish-in-Err-Plan.ensures.ending (rw c.in-Err-Plan.field-0-is at c.in-Err-Plan.ensures.kept) (rw c.in-Err-Plan.ensures.stays at c.finish-in-Err-Plan.ensures.files)

@@ -1,0 +1,59 @@
+//! From the words behind a program's name to its status.
+ghost use Rattle.std.specs.Prelude.{◌≡◌, ◌≤◌, ◌⊎◌, None, Err, true, IfSome, IsSome};
+ghost use Rattle.enc_outside.specs.Outside.{Rose, IsTold};
+ghost use Rattle.enc_top.specs.Words.{job_of, texts};
+ghost use Rattle.enc_top.specs.Verdict.{no_command, verdict_of};
+ghost use Rattle.enc_top.specs.Answers.{is_whole, status_of, Prints, Leaves};
+
+use enc_outside::{FileStore, OutSink, Sink, Store};
+use enc_top::run_tool;
+use std::alloc::Global;
+use std::env;
+use std::process::ExitCode;
+
+/// The words behind the program's name. None where memory ran out or a word isn't UTF-8.
+fn words_of(rt: &HostRuntime) -> Option<Vec<String>> {
+    let mut args = env::args(rt).ok()?;
+    let _program = args.next();
+    args.collect(rt.alloc()).ok()
+}
+
+/// The status of the words, and 3 where they can't be had: then nothing is asked of the store or the
+/// sink.
+pub fn status_of<S: Store, K: Sink>(
+    alloc: Global,
+    words: Option<Vec<String>>,
+    store: &mut S,
+    out: &mut K,
+) -> u8
+    ensures no_words { words ≡ None → result ≡ 3 }
+    ensures no_store { words ≡ None → store.new ≡ store.old }
+    ensures no_sink { words ≡ None → out.new ≡ out.old }
+    ensures known { result ≤ 6 }
+    ensures verdict { IfSome words (λ w. IfSome (S.told store.old) (λ files. is_whole result ≡ true → result ≡ status_of (verdict_of (texts w.items) files))) }
+    ensures prints { IfSome words (λ w. IfSome (S.told store.old) (λ files. Prints result (verdict_of (texts w.items) files) (K.told out.old) (K.told out.new))) }
+    ensures files { IfSome words (λ w. IfSome (S.told store.old) (λ files. Leaves result (verdict_of (texts w.items) files) (S.told store.old) (S.told store.new))) }
+    ensures complete { IfSome words (λ w. IfSome (S.told store.old) (λ files. ¬ Rose (S.faults store.old) (S.faults store.new) → ¬ Rose (K.faults out.old) (K.faults out.new) → (result ≡ status_of (verdict_of (texts w.items) files)) ⊎ (result ≡ 3))) }
+    ensures usage { IfSome words (λ w. job_of (texts w.items) ≡ None → Prints result (Err no_command) (K.told out.old) (K.told out.new)) }
+    ensures no_job { IfSome words (λ w. job_of (texts w.items) ≡ None → is_whole result ≡ true → result ≡ 2) }
+    ensures words { IfSome words (λ w. result ≡ 2 → job_of (texts w.items) ≡ None) }
+    ensures unchanged { IfSome words (λ w. is_whole result ≡ true → (result ≡ 0) ⊎ (S.told store.new ≡ S.told store.old)) }
+    ensures memory { result ≡ 3 → K.told out.new ≡ K.told out.old }
+    ensures nothing { result ≡ 4 → K.told out.new ≡ K.told out.old }
+    ensures asked { IfSome words (λ w. result ≡ 4 → IsSome (job_of (texts w.items))) }
+    ensures store_fault { IsTold (result ≡ 4) (S.faults store.old) (S.faults store.new) }
+    ensures sink_fault { IsTold (result ≡ 5) (K.faults out.old) (K.faults out.new) }
+{
+    match words {
+        None => 3,
+        Some(words) => run_tool(alloc, &words, store, out),
+    }
+}
+
+/// Runs the words of this process over the files and the standard output of the system.
+pub fn run_program(rt: HostRuntime) -> ExitCode {
+    let words = words_of(&rt);
+    let mut store = FileStore::begin(rt);
+    let mut out = OutSink::begin(rt);
+    ExitCode::from(status_of(rt.alloc(), words, &mut store, &mut out))
+}

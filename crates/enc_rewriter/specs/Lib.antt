@@ -1,3 +1,0 @@
-pub mod Values
-pub mod Written
-pub mod Decoded

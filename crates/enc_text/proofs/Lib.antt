@@ -1,0 +1,4 @@
+pub mod Guids
+pub mod Joined
+pub mod BodyLists
+pub mod Pieces

@@ -1,0 +1,10 @@
+//! Printed text: tokens, texts, refusals, bodies, and the row of any module.
+#![tactic(auto)]
+
+mod body;
+mod operand;
+mod rows;
+mod text;
+
+pub use rows::row_text;
+pub use text::{push_decimal, push_guid, push_long, push_str, push_token, refused_line};

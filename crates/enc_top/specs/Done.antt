@@ -1,0 +1,65 @@
+-- What a command may print and save: its answer, or why it does nothing.
+use Rattle.std.specs.Prelude.{◌≡◌, ℕ, List, [], length, Ok, Err, if◌then◌else◌}
+use Rattle.enc_base.specs.declared.token.Token.{Token}
+use Rattle.enc_plain.specs.declared.place.RowPlace.{RowPlace}
+use Rattle.enc_plain.specs.Module.{Module, has_row}
+use Rattle.enc_agg.specs.Extend.{chain_with}
+use Rattle.enc_agg.specs.Place.{place_of}
+use Rattle.enc_text.specs.Text.{refused_line}
+use Rattle.enc_text.specs.RowText.{row_text_of}
+use Rattle.enc_top.specs.declared.plan.Outcome.{Outcome}
+use Rattle.enc_top.specs.declared.plan.Outcome.TheVariants.{Accepted, Refused, Usage, Missing}
+use Rattle.enc_top.specs.Lines.{limit_line, missing_line, absent_line, accepted_line, usage_line}
+use Rattle.enc_top.specs.Listing.{listing_of}
+use Rattle.enc_top.specs.Verdict.{Stop, no_command, absent_file, refused_file, past_limit, Followed, Done, shows, lists, counts, Verdict}
+
+-- the token's row, or that the module lacks it
+unfoldable pub row_or_absent : Module → RowPlace → Token → List ℕ
+row_or_absent m place token = if has_row m token then row_text_of m place token else absent_line token
+
+unfoldable pub shown : Token → Followed → List ℕ
+shown token f = row_or_absent (chain_with f.base f.deltas).plain (place_of f.deltas token) token
+
+unfoldable pub listed_as : Followed → List ℕ
+listed_as f = listing_of f.base f.deltas
+
+-- how many deltas are accepted: all
+unfoldable pub counted_as : Followed → List ℕ
+counted_as f = accepted_line (length f.deltas)
+
+-- what may be printed of what is done
+abbrev pub IsOutput : Done → List ℕ → Type 0
+IsOutput (shows token f) output = output ≡ shown token f
+IsOutput (lists f) output = output ≡ listed_as f
+IsOutput (counts f) output = output ≡ counted_as f
+
+-- what may be saved of it, in order, each a name and its bytes: so far no command saves
+abbrev pub IsSaves : Done → List (List ℕ × List ℕ) → Type 0
+IsSaves done saves = saves ≡ []
+
+-- the line of a stop
+abbrev pub stop_line : Stop → List ℕ
+stop_line no_command = usage_line
+stop_line (absent_file name) = missing_line name
+stop_line (refused_file name e) = refused_line name e
+stop_line (past_limit name l) = limit_line name l
+
+-- what may be printed of a verdict: an output of what is done, or the line of the stop
+abbrev pub IsAnswer : Verdict → List ℕ → Type 0
+IsAnswer (Ok done) output = IsOutput done output
+IsAnswer (Err stop) output = output ≡ stop_line stop
+
+-- what may be saved of it; a stop saves nothing
+abbrev pub AreSaves : Verdict → List (List ℕ × List ℕ) → Type 0
+AreSaves (Ok done) saves = IsSaves done saves
+AreSaves (Err stop) saves = saves ≡ []
+
+abbrev pub outcome_of_stop : Stop → Outcome
+outcome_of_stop no_command = Usage
+outcome_of_stop (absent_file name) = Missing
+outcome_of_stop (refused_file name e) = Refused
+outcome_of_stop (past_limit name l) = Refused
+
+abbrev pub outcome_of : Verdict → Outcome
+outcome_of (Ok done) = Accepted
+outcome_of (Err stop) = outcome_of_stop stop

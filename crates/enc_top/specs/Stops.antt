@@ -1,0 +1,52 @@
+-- What the program's stop, which is called a halt here, says of the stop that is defined.
+use Rattle.std.specs.Prelude.{◌≡◌, ◌≢◌, ℕ, List, [], Result, Ok, Err}
+use Rattle.enc_base.specs.declared.refusal.ReadFault.{ReadFault}
+use Rattle.enc_base.specs.declared.refusal.ReadFault.TheVariants as fault
+use Rattle.enc_outside.specs.declared.store.LoadError.{LoadError}
+use Rattle.enc_outside.specs.declared.store.LoadError.TheVariants as load
+use Rattle.enc_top.specs.declared.plan.Plan.{Plan}
+use Rattle.enc_top.specs.declared.plan.Outcome.TheVariants.{Usage}
+use Rattle.enc_top.specs.declared.stop.Stop.{Stop as Halt}
+use Rattle.enc_top.specs.declared.stop.Stop.TheVariants as halt
+use Rattle.enc_top.specs.Verdict.{Stop, refused_file}
+use Rattle.enc_top.specs.Plans.{IsPlanOf}
+
+-- the halt of a failed load
+abbrev pub halt_of : LoadError → Halt
+halt_of load.Memory = halt.Memory
+halt_of load.Failed = halt.Failed
+
+-- a fact of a halt's plan; want of memory and a fault of the store have none
+abbrev pub OnPlan : Halt → (Plan → Type 0) → Type 0
+OnPlan (halt.Plan plan) P = P plan
+OnPlan halt.Memory P = Unit {0}
+OnPlan halt.Failed P = Unit {0}
+
+-- a fact of the plan that is carried out, where there is one
+abbrev pub IfPlan : Result Plan Halt → (Plan → Type 0) → Type 0
+IfPlan (Ok plan) P = P plan
+IfPlan (Err h) P = OnPlan h P
+
+-- a plan that isn't the words' fault, and saves nothing
+pub record IsQuiet (plan : Plan) : Type 0 where
+  pub outcome : plan.outcome ≢ Usage
+  pub saves : plan.saves.items ≡ []
+
+-- the plan of the stop at which things ended
+abbrev pub StopsWith : {A : Type 0} → Result A Stop → Plan → Type 0
+StopsWith (Ok a) plan = ⊥
+StopsWith (Err stop) plan = IsPlanOf (Err stop) plan
+
+-- what was made is seen as what is defined, or it ended at the defined stop
+abbrev pub Comes : {A B : Type 0} → (A → B) → Result A Halt → Result B Stop → Type 0
+Comes view (Ok a) r = r ≡ Ok (view a)
+Comes view (Err h) r = OnPlan h (StopsWith r)
+
+abbrev pub StopsQuietly : {A : Type 0} → Result A Halt → Type 0
+StopsQuietly (Ok a) = Unit {0}
+StopsQuietly (Err h) = OnPlan h IsQuiet
+
+-- what becomes of a file that isn't read: the stop of its refusal, or want of memory
+abbrev pub IsUnread : List ℕ → ReadFault → Halt → Type 0
+IsUnread name (fault.Refused e) h = OnPlan h (IsPlanOf (Err (refused_file name e)))
+IsUnread name fault.Memory h = h ≡ halt.Memory

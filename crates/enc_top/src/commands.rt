@@ -1,0 +1,46 @@
+//! From words to a plan: which command they are, and what it comes to.
+ghost use Rattle.std.specs.Prelude.{◌≡◌, ◌⊎◌, [], None, Err, IfSome, IsErrOf, IsSome};
+ghost use Rattle.enc_outside.specs.Outside.{HasCause};
+ghost use Rattle.enc_top.specs.Words.{job_of, texts};
+ghost use Rattle.enc_top.specs.Verdict.{no_command, verdict_of};
+ghost use Rattle.enc_top.specs.Plans.{IsPlanOf};
+ghost use Rattle.enc_top.specs.Stops.{IfPlan};
+
+mod accept;
+mod check;
+mod list;
+mod show;
+
+use crate::command::{Command, command_of};
+use crate::plan::{Outcome, Plan};
+use crate::plans::unknown;
+use crate::stop::Stop;
+use check::check;
+use enc_outside::Store;
+use list::list;
+use show::show;
+use std::alloc::Global;
+
+/// The plan of the words over the store's files, or the stop at which they end.
+pub fn plan_of<S: Store>(alloc: Global, words: &[String], store: &mut S) -> Result<Plan, Stop>
+    ensures cause { HasCause Stop.Failed (S.faults store.old) (S.faults store.new) result }
+    ensures stays { S.told store.new ≡ S.told store.old }
+    ensures plan { IfSome (S.told store.old) (λ files. IfPlan result (IsPlanOf (verdict_of (texts words.now) files))) }
+    ensures usage { job_of (texts words.now) ≡ None → IfPlan result (IsPlanOf (Err no_command)) }
+    ensures words { IfPlan result (λ plan. plan.outcome ≡ Outcome.Usage → job_of (texts words.now) ≡ None) }
+    ensures asked { IsErrOf result Stop.Failed → IsSome (job_of (texts words.now)) }
+    ensures kept { IfPlan result (λ plan. (plan.outcome ≡ Outcome.Accepted) ⊎ (plan.saves.items ≡ [])) }
+{
+    match command_of(words) {
+        None => Err(unknown(alloc)),
+        Some(
+            Command::Show {
+                base,
+                token,
+                deltas,
+            },
+        ) => show(alloc, base, token, deltas, store),
+        Some(Command::List { base, deltas }) => list(alloc, base, deltas, store),
+        Some(Command::Check { base, deltas }) => check(alloc, base, deltas, store),
+    }
+}

@@ -1,0 +1,34 @@
+//! What the commands share: the files are loaded, and then judged.
+ghost use Rattle.std.specs.Prelude.{◌≡◌, IfSome};
+ghost use Rattle.enc_outside.specs.Outside.{HasCause};
+ghost use Rattle.enc_top.specs.Words.{texts};
+ghost use Rattle.enc_top.specs.Verdict.{accept as accept_from};
+ghost use Rattle.enc_top.specs.Stops.{Comes, StopsQuietly};
+ghost use Rattle.enc_top.specs.Loads.{followed};
+
+use crate::judge::judge_all;
+use crate::load::{Loaded, load_deltas, name_of};
+use crate::stop::Stop;
+use enc_agg::Aggregate;
+use enc_outside::Store;
+use std::alloc::Global;
+
+/// The base with its deltas, loaded and judged.
+#[tactic(auto, unfolding(crate::specs::Verdict::accept))]
+pub fn accept<S: Store>(
+    alloc: Global,
+    base: &str,
+    deltas: &[String],
+    store: &mut S,
+) -> Result<Aggregate, Stop>
+    ensures cause { HasCause Stop.Failed (S.faults store.old) (S.faults store.new) result }
+    ensures stays { S.told store.new ≡ S.told store.old }
+    ensures step { IfSome (S.told store.old) (λ files. Comes followed result (accept_from files base.now (texts deltas.now))) }
+    ensures quiet { StopsQuietly result }
+{
+    let mut loaded = Loaded::nothing();
+    let name = name_of(alloc, base, ".dll")?;
+    let bytes = loaded.load(alloc, name.as_str(), store)?;
+    let files = load_deltas(alloc, deltas, &mut loaded, store)?;
+    judge_all(alloc, base, bytes, files)
+}

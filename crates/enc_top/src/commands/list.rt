@@ -1,0 +1,44 @@
+//! The command `list`: the generations of a base and its deltas.
+ghost use Rattle.std.specs.Prelude.{◌≡◌, Ok, IfSome, IfOk};
+ghost use Rattle.enc_outside.specs.Outside.{HasCause};
+ghost use Rattle.enc_top.specs.Words.{texts};
+ghost use Rattle.enc_top.specs.Verdict.{lists, list_on};
+ghost use Rattle.enc_top.specs.Done.{listed_as};
+ghost use Rattle.enc_top.specs.Plans.{IsPlanOf};
+ghost use Rattle.enc_top.specs.Stops.{IfPlan, IsQuiet};
+ghost use Rattle.enc_top.specs.Loads.{followed};
+
+use crate::commands::accept::accept;
+use crate::generations::listing;
+use crate::plan::{Outcome, Plan};
+use crate::plans::saving_nothing;
+use crate::stop::Stop;
+use enc_agg::Aggregate;
+use enc_outside::Store;
+use std::alloc::{AllocError, Global};
+
+/// The listing of an aggregate.
+#[tactic(auto, unfolding(crate::specs::Done::listed_as))]
+fn lines(alloc: Global, agg: &Aggregate) -> Result<Plan, AllocError>
+    ensures { IfOk result (IsPlanOf (Ok (lists (followed agg.now)))) }
+{
+    let mut output = Vec::new(alloc);
+    listing(alloc, agg, &mut output)?;
+    Ok(saving_nothing(alloc, Outcome::Accepted, output))
+}
+
+/// The plan of `list`.
+pub fn list<S: Store>(
+    alloc: Global,
+    base: &str,
+    deltas: &[String],
+    store: &mut S,
+) -> Result<Plan, Stop>
+    ensures cause { HasCause Stop.Failed (S.faults store.old) (S.faults store.new) result }
+    ensures stays { S.told store.new ≡ S.told store.old }
+    ensures plan { IfSome (S.told store.old) (λ files. IfPlan result (IsPlanOf (list_on files base.now (texts deltas.now)))) }
+    ensures quiet { IfPlan result IsQuiet }
+{
+    let agg = accept(alloc, base, deltas, store)?;
+    Ok(lines(alloc, &agg)?)
+}
