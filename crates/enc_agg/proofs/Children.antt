@@ -22,7 +22,8 @@ use Rattle.enc_delta.specs.Rules.{counted, inserts, rows_with, child_table, adds
 use Rattle.enc_delta.proofs.ListsChildren.{hits, log_named, one_unnamed}
 use Rattle.enc_agg.specs.Extend.{changes_of, extended}
 use Rattle.enc_delta.specs.Pairs.{attached_of, pairs_in}
-use Rattle.enc_agg.specs.Follows.{HasTables, Follows}
+use Rattle.enc_agg.specs.Follows.{Follows}
+use Rattle.enc_plain.specs.Sound.{HasTables}
 use Rattle.enc_plain.specs.Sound.{all_kids, IsOwned}
 use Rattle.enc_delta.proofs.Unbroken.{unbroken}
 use Rattle.enc_agg.proofs.Counting.{apply_tables}
@@ -31,7 +32,7 @@ use Rattle.enc_agg.proofs.Changed.{log_names}
 use Rattle.enc_agg.proofs.Pairs.{pair_children, OwnedBy, AllOwned, log_owned, all_attach}
 use Rattle.enc_agg.proofs.Owned.{count_cons, count_same, count_map, all_applied, attached_count, kid_owner, has_owner}
 
-rows_told : (c : Chain) (s : Source) → HasTables c → Follows c s → (t : ℕ) → length (rows_in (apply c.plain (changes_of c s)) t) ≡ rows_with c (listed s) t
+rows_told : (c : Chain) (s : Source) → HasTables c.plain → Follows c s → (t : ℕ) → length (rows_in (apply c.plain (changes_of c s)) t) ≡ rows_with c (listed s) t
 unfolding rows_with
 rows_told c s has f t = (put_all c s has f).rows t
 
@@ -41,11 +42,11 @@ unfolding attached_of
 pairs_owned c s f = log_owned c (listed s) (log_in s) (unbroken c s f.rules).log (log_names c s f)
 
 -- so the children can be attached
-pub pairs_fit : (c : Chain) (s : Source) → HasTables c → Follows c s → AllAttach (apply c.plain (changes_of c s)) (attached_of s)
-pairs_fit c s has f = all_attach (rows_with c (listed s)) (rows_before c) (attached_of s) (apply c.plain (changes_of c s)) (rows_told c s has f) (apply_tables (changes_of c s) c.plain ∙ has.count) (pairs_owned c s f)
+pub pairs_fit : (c : Chain) (s : Source) → HasTables c.plain → Follows c s → AllAttach (apply c.plain (changes_of c s)) (attached_of s)
+pairs_fit c s has f = all_attach (rows_with c (listed s)) (rows_before c) (attached_of s) (apply c.plain (changes_of c s)) (rows_told c s has f) (apply_tables (changes_of c s) c.plain ∙ has.all) (pairs_owned c s f)
 
 -- the children of a row are those that it had, and behind them those that it gained
-pub kids_after : (c : Chain) (s : Source) → HasTables c → Follows c s → HasRuns c.plain → (u : Token) (child : ℕ) → is_child_table child ≡ true → kids_of (extended c s).plain u child ≡ kids_of c.plain u child ++ gained (attached_of s) u child
+pub kids_after : (c : Chain) (s : Source) → HasTables c.plain → Follows c s → HasRuns c.plain → (u : Token) (child : ℕ) → is_child_table child ≡ true → kids_of (extended c s).plain u child ≡ kids_of c.plain u child ++ gained (attached_of s) u child
 unfolding extended
 kids_after c s has f runs u child there =
     let fit = fits c s has f in
@@ -162,22 +163,22 @@ total (suc r) n more x y e old past new =
       ]
     ]
 
-all_after : (c : Chain) (s : Source) → HasTables c → Follows c s → HasRuns c.plain → (t row : ℕ) → is_child_table t ≡ true → count_by (λ k. k == row) (all_kids (extended c s).plain t) ≡ count_by (λ k. k == row) (all_kids c.plain t) + count_by (attaches_row t row) (attached_of s)
+all_after : (c : Chain) (s : Source) → HasTables c.plain → Follows c s → HasRuns c.plain → (t row : ℕ) → is_child_table t ≡ true → count_by (λ k. k == row) (all_kids (extended c s).plain t) ≡ count_by (λ k. k == row) (all_kids c.plain t) + count_by (attaches_row t row) (attached_of s)
 unfolding extended
 all_after c s has f runs t row there =
     let fit = fits c s has f in
     attached_count (attached_of s) (apply c.plain (changes_of c s)) (λ k. k == row) t (pairs_fit c s has f) (runs_applied (changes_of c s) c.plain fit runs) there ∙ ap (λ xs. count_by (λ k. k == row) xs + count_by (attaches_row t row) (attached_of s)) (all_applied (changes_of c s) c.plain t fit)
 
-rows_after : (c : Chain) (s : Source) → HasTables c → Follows c s → (t : ℕ) → length (rows_in (extended c s).plain t) ≡ rows_before c t + inserts c (listed s) t
+rows_after : (c : Chain) (s : Source) → HasTables c.plain → Follows c s → (t : ℕ) → length (rows_in (extended c s).plain t) ≡ rows_before c t + inserts c (listed s) t
 unfolding rows_with
 rows_after c s has f t = count_is c s has f t
 
-once_after : (c : Chain) (s : Source) → HasTables c → Follows c s → HasRuns c.plain → IsOwned c.plain → (t row : ℕ) → is_child_table t ≡ true → count_by (λ k. k == row) (all_kids (extended c s).plain t) ≡ cond (nat_le 1 row && nat_le row (length (rows_in (extended c s).plain t))) 1 0
+once_after : (c : Chain) (s : Source) → HasTables c.plain → Follows c s → HasRuns c.plain → IsOwned c.plain → (t row : ℕ) → is_child_table t ≡ true → count_by (λ k. k == row) (all_kids (extended c s).plain t) ≡ cond (nat_le 1 row && nat_le row (length (rows_in (extended c s).plain t))) 1 0
 once_after c s has f runs owned t row there =
     all_after c s has f runs t row there ∙ total row (rows_before c t) (inserts c (listed s) t) _ (count_by (attaches_row t row) (attached_of s)) (owned.once t row there) (λ le. never_at c s t row f (λ low high. omega arith)) (λ far. never_at c s t row f (λ low high. omega arith)) (λ low high. once_at c s t row f there low high) ∙ ap (λ n. cond (nat_le 1 row && nat_le row n) 1 0) (sym (rows_after c s has f t))
 
 -- after a delta, too, each child row has just one owner
-pub owned_after : (c : Chain) (s : Source) → HasTables c → Follows c s → HasRuns c.plain → IsOwned c.plain → IsOwned (extended c s).plain
+pub owned_after : (c : Chain) (s : Source) → HasTables c.plain → Follows c s → HasRuns c.plain → IsOwned c.plain → IsOwned (extended c s).plain
 owned_after c s has f runs owned = record { once = once_after c s has f runs owned }
 
 any_left : (p : ℕ → Bool) (xs ys : List ℕ) → list_any p xs ≡ true → list_any p (xs ++ ys) ≡ true
@@ -197,7 +198,7 @@ any_right p (x ∷ xs) ys h = or_true (p x) (list_any p (xs ++ ys)) (any_right p
     or_true false rest h = h
 
 -- a row of before has the owner that it had
-pub owner_kept : (c : Chain) (s : Source) → HasTables c → Follows c s → HasRuns c.plain → IsOwned c.plain → (u : Token) → is_child_table u.table ≡ true → 1 ≤ u.row → u.row ≤ rows_before c u.table → owner_of (extended c s).plain u ≡ owner_of c.plain u
+pub owner_kept : (c : Chain) (s : Source) → HasTables c.plain → Follows c s → HasRuns c.plain → IsOwned c.plain → (u : Token) → is_child_table u.table ≡ true → 1 ≤ u.row → u.row ≤ rows_before c u.table → owner_of (extended c s).plain u ≡ owner_of c.plain u
 owner_kept c s has f runs owned u there low high =
     let w = has_owner c.plain u owned there low high in
     let kids : list_any (λ k. k == u.row) (kids_of (extended c s).plain w.owner u.table) ≡ true = rw (kids_after c s has f runs w.owner u.table there) (any_left (λ k. k == u.row) (kids_of c.plain w.owner u.table) (gained (attached_of s) w.owner u.table) w.has) in
@@ -232,7 +233,7 @@ owned_at count before (b ∷ pairs) zero a h e = let is : b ≡ a = cc in rw is 
 owned_at count before (b ∷ pairs) (suc i) a h e = owned_at count before pairs i a h.1 e
 
 -- a new row's owner is that of the pair whose child it is
-pub owner_new : (c : Chain) (s : Source) → HasTables c → Follows c s → HasRuns c.plain → IsOwned c.plain → (i : ℕ) (a : Attached) → slice_get (attached_of s) i ≡ Some a → owner_of (extended c s).plain a.child ≡ Some a.owner
+pub owner_new : (c : Chain) (s : Source) → HasTables c.plain → Follows c s → HasRuns c.plain → IsOwned c.plain → (i : ℕ) (a : Attached) → slice_get (attached_of s) i ≡ Some a → owner_of (extended c s).plain a.child ≡ Some a.owner
 owner_new c s has f runs owned i a at =
     let there = (owned_at (rows_with c (listed s)) (rows_before c) (attached_of s) i a (pairs_owned c s f) at).child in
     let row : (a.child.row == a.child.row) ≡ true = grind (arith, nat_tests) in

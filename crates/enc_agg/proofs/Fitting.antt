@@ -20,7 +20,8 @@ use Rattle.enc_delta.specs.Rules.{late, inserts, rows_with, insert_fault_of, ins
 use Rattle.enc_agg.specs.Extend.{changes_of, extended}
 use Rattle.enc_delta.specs.Rows.{own_row, cells_after}
 use Rattle.enc_delta.specs.Pairs.{attached_of}
-use Rattle.enc_agg.specs.Follows.{HasTables, Follows}
+use Rattle.enc_agg.specs.Follows.{Follows}
+use Rattle.enc_plain.specs.Sound.{HasTables}
 use Rattle.enc_agg.proofs.Counting.{Tally, tally_none, tally_put, near, apply_tables}
 use Rattle.enc_agg.proofs.InTables.{silent, listed_tables}
 use Rattle.enc_agg.proofs.Rising.{changes_with, none_late, late_behind, fresh}
@@ -120,14 +121,14 @@ good_tokens c s f =
     }
 
 -- the rows of a delta fit
-pub fits : (c : Chain) (s : Source) → HasTables c → Follows c s → Fits c.plain (changes_of c s)
+pub fits : (c : Chain) (s : Source) → HasTables c.plain → Follows c s → Fits c.plain (changes_of c s)
 unfolding changes_of
-fits c s has f = fits_from c (λ t. cells_after c s (own_row s t)) (listed s) [] c.plain (tally_none c has.count) (good_tokens c s f)
+fits c s has f = fits_from c (λ t. cells_after c s (own_row s t)) (listed s) [] c.plain (tally_none c has.all) (good_tokens c s f)
 
 -- with the rows put, each table's rows are told
-pub put_all : (c : Chain) (s : Source) → HasTables c → Follows c s → Tally c (apply c.plain (changes_of c s)) (listed s)
+pub put_all : (c : Chain) (s : Source) → HasTables c.plain → Follows c s → Tally c (apply c.plain (changes_of c s)) (listed s)
 unfolding changes_of
-put_all c s has f = tally_from c (λ t. cells_after c s (own_row s t)) (listed s) [] c.plain (tally_none c has.count) (good_tokens c s f)
+put_all c s has f = tally_from c (λ t. cells_after c s (own_row s t)) (listed s) [] c.plain (tally_none c has.all) (good_tokens c s f)
 
 -- attaching adds no rows
 rows_kept : (c : Chain) (s : Source) (t : ℕ) → length (rows_in (extended c s).plain t) ≡ length (rows_in (apply c.plain (changes_of c s)) t)
@@ -135,12 +136,12 @@ unfolding extended
 rows_kept c s t = count_attached (attached_of s) (apply c.plain (changes_of c s)) t
 
 -- each table has its rows before and its inserts
-pub count_is : (c : Chain) (s : Source) → HasTables c → Follows c s → (t : ℕ) → length (rows_in (extended c s).plain t) ≡ rows_with c (listed s) t
+pub count_is : (c : Chain) (s : Source) → HasTables c.plain → Follows c s → (t : ℕ) → length (rows_in (extended c s).plain t) ≡ rows_with c (listed s) t
 unfolding rows_with
 count_is c s has f t = rows_kept c s t ∙ (put_all c s has f).rows t
 
 -- a table with an insert has fewer rows than a token can name
-pub few : (c : Chain) (s : Source) → HasTables c → Follows c s → (t : ℕ) → 0 < inserts c (listed s) t → rows_with c (listed s) t < 0x1000000
+pub few : (c : Chain) (s : Source) → HasTables c.plain → Follows c s → (t : ℕ) → 0 < inserts c (listed s) t → rows_with c (listed s) t < 0x1000000
 unfolding rows_with
 few c s has f t some = (put_all c s has f).few t some
 
@@ -155,11 +156,11 @@ attached_tables [] m = refl
 attached_tables (a ∷ pairs) m = attached_tables pairs (attach m a) ∙ attach_tables m a
 
 -- all tables are there after the delta
-pub has_tables : (c : Chain) (s : Source) → HasTables c → HasTables (extended c s)
+pub has_tables : (c : Chain) (s : Source) → HasTables c.plain → HasTables (extended c s).plain
 unfolding extended
-has_tables c s has = record { count = attached_tables (attached_of s) (apply c.plain (changes_of c s)) ∙ apply_tables (changes_of c s) c.plain ∙ has.count }
+has_tables c s has = record { all = attached_tables (attached_of s) (apply c.plain (changes_of c s)) ∙ apply_tables (changes_of c s) c.plain ∙ has.all }
 
 -- and every row has a list of children for each run
-pub has_runs : (c : Chain) (s : Source) → HasTables c → Follows c s → HasRuns c.plain → HasRuns (extended c s).plain
+pub has_runs : (c : Chain) (s : Source) → HasTables c.plain → Follows c s → HasRuns c.plain → HasRuns (extended c s).plain
 unfolding extended
 has_runs c s has f runs = runs_attached (attached_of s) (apply c.plain (changes_of c s)) (runs_applied (changes_of c s) c.plain (fits c s has f) runs)

@@ -24,25 +24,26 @@ use Rattle.enc_delta.specs.Rules.{module_token, own_guid, broken, too_many_in, t
 use Rattle.enc_agg.specs.declared.added.Added.{Added}
 use Rattle.enc_agg.specs.Extend.{changes_of, extended, chain_with}
 use Rattle.enc_delta.specs.Pairs.{attached_of}
-use Rattle.enc_agg.specs.Follows.{HasTables, Follows, IsSound}
+use Rattle.enc_agg.specs.Follows.{Follows}
+use Rattle.enc_plain.specs.Sound.{HasTables, HasOwners}
 use Rattle.enc_agg.specs.Seen.{sources, IsAdded, AllAdded, found_or, found_in}
 use Rattle.enc_base.specs.Order.{or_else, first_below}
 use Rattle.enc_base.specs.declared.refusal.Place.TheVariants as place
 use Rattle.enc_base.specs.declared.refusal.Place.{Place}
 use Rattle.enc_delta.proofs.HeapLimits.{Limited, limited}
 use Rattle.enc_delta.proofs.Unbroken.{unbroken, heaps_unbroken}
-use Rattle.enc_agg.proofs.Begun.{begun_runs, begun_owned}
+use Rattle.enc_image.proofs.SoundOwners.{begun_runs, begun_owned}
 use Rattle.enc_agg.proofs.Fitting.{has_tables, has_runs}
 use Rattle.enc_agg.proofs.Children.{owned_after}
 use Rattle.enc_agg.proofs.Paired.{row_kept, cell_kept}
 
 -- a base that isn't refused begins a sound chain
-begun_sound : (b : Source) → cells_fault b ≡ None → IsSound (begun b)
+begun_sound : (b : Source) → cells_fault b ≡ None → HasOwners (begun b).plain
 unfolding begun
-begun_sound b sound = record { tables = record { count = tables_there b }; runs = begun_runs b; owned = begun_owned b sound }
+begun_sound b sound = record { tables = record { all = tables_there b }; runs = begun_runs b; owned = begun_owned b sound }
 
 -- a delta that follows it leaves it so
-extended_sound : (c : Chain) (d : Source) → IsSound c → Follows c d → IsSound (extended c d)
+extended_sound : (c : Chain) (d : Source) → HasOwners c.plain → Follows c d → HasOwners (extended c d).plain
 extended_sound c d sound follows = record {
   tables = has_tables c d sound.tables;
   runs = has_runs c d sound.tables follows sound.runs;
@@ -54,7 +55,7 @@ pub last_added : (b : Source) (a : Added) (older : List Added) → AllAdded b (a
 unfolding AllAdded
 last_added b a older all = all
 
-pub with_sound : (b : Source) (added : List Added) → cells_fault b ≡ None → AllAdded b added → IsSound (chain_with b (sources added))
+pub with_sound : (b : Source) (added : List Added) → cells_fault b ≡ None → AllAdded b added → HasOwners (chain_with b (sources added)).plain
 unfolding chain_with
 with_sound b [] sound all = begun_sound b sound
 with_sound b (a ∷ older) sound all =
@@ -89,7 +90,7 @@ pub record IsFound (b : Source) (added : List Added) (u : Token) (upto : List Ad
   pub upto_is : upto ≡ last ∷ older
   pub is_added : IsAdded (chain_with b (sources older)) last
   pub all : AllAdded b upto
-  pub sound : IsSound (chain_with b (sources older))
+  pub sound : HasOwners (chain_with b (sources older)).plain
   pub place : place_in (listed last.delta) u ≡ Some k
   pub cells : (i : ℕ) (cell : Cell) → cell_of (chain_with b (sources upto)).plain u i ≡ Some cell → cell_of (chain_with b (sources added)).plain u i ≡ Some cell
   pub users : (o : ℕ) (x : List ℕ) → joined_user ((chain_with b (sources older)).heaps ++ last.delta.heaps ∷ []) o ≡ Some x → joined_user (chain_with b (sources added)).heaps o ≡ Some x
@@ -161,20 +162,20 @@ unfolding chain_with
 counts_are b a older t all low = (last_added b a older all).0.counts t low
 
 -- and of one that no module has
-pub no_table : (c : Chain) (t : ℕ) → HasTables c → 0x2D ≤ t → 0 ≡ length (rows_in c.plain t)
-no_table c t tables high = sym (ap (λ (xs : List Row). length xs) (past_tables c.plain.tables t (omega (arith, tables.count))))
+pub no_table : (m : Module) (t : ℕ) → HasTables m → 0x2D ≤ t → 0 ≡ length (rows_in m t)
+no_table m t tables high = sym (ap (λ (xs : List Row). length xs) (past_tables m.tables t (omega (arith, tables.all))))
   where
     past_tables : {X : Type 0} (xs : List (List X)) (t : ℕ) → length xs ≤ t → list_at xs t ≡ []
     past_tables xs t h = rw (slice_get_past xs t h) refl
 
 -- all tables are there, whatever the deltas
-pub with_tables : (b : Source) (ds : List Source) → HasTables (chain_with b ds)
+pub with_tables : (b : Source) (ds : List Source) → HasTables (chain_with b ds).plain
 unfolding chain_with begun
-with_tables b [] = record { count = tables_there b }
+with_tables b [] = record { all = tables_there b }
 with_tables b (d ∷ older) = has_tables (chain_with b older) d (with_tables b older)
 
 -- the newest delta follows a sound chain
-pub lasted : (b : Source) (a : Added) (older : List Added) → cells_fault b ≡ None → AllAdded b (a ∷ older) → IsSound (chain_with b (sources older)) × Follows (chain_with b (sources older)) a.delta
+pub lasted : (b : Source) (a : Added) (older : List Added) → cells_fault b ≡ None → AllAdded b (a ∷ older) → HasOwners (chain_with b (sources older)).plain × Follows (chain_with b (sources older)) a.delta
 lasted b a older sound all =
     let parts = last_added b a older all in
     (with_sound b older sound parts.1, parts.0.follows)
@@ -281,12 +282,12 @@ second_none None b h = h
 second_none (Some x) b h = absurd cc
 
 -- a table has fewer rows after a delta than a token can name
-after_few : (c : Chain) (d : Source) (t : ℕ) → HasTables c → Follows c d → length (rows_in (extended c d).plain t) < 0x1000000
+after_few : (c : Chain) (d : Source) (t : ℕ) → HasTables c.plain → Follows c d → length (rows_in (extended c d).plain t) < 0x1000000
 unfolding too_many too_many_in
 after_few c d t tables follows =
     elim (cases_lt t 0x2D) [
       | inl low ↦ rw (count_is c d tables follows t) (limited_at _ _ (silent (too_many_in c d) 0x2D t (second_none _ _ (unbroken c d follows.rules).limit) low))
-      | inr high ↦ rw (← (no_table (extended c d) t (has_tables c d tables) high)) (omega arith)
+      | inr high ↦ rw (← (no_table (extended c d).plain t (has_tables c d tables) high)) (omega arith)
     ]
 
 pub rows_few : (b : Source) (a : Added) (older : List Added) (t : ℕ) → cells_fault b ≡ None → AllAdded b (a ∷ older) → length (rows_in (chain_with b (sources (a ∷ older))).plain t) < 0x1000000

@@ -95,7 +95,7 @@ all_step p r true x xs e h rest = rw e (and_from _ _ (and_parts _ _ h).0 rest)
 all_step p r false x xs e h rest = rw e rest
 
 -- what holds of all holds of those that are kept
-all_filter : {X : Type 0} (p r : X → Bool) (xs : List X) → list_all r xs ≡ true → list_all r (filter p xs) ≡ true
+pub all_filter : {X : Type 0} (p r : X → Bool) (xs : List X) → list_all r xs ≡ true → list_all r (filter p xs) ≡ true
 all_filter p r [] h = refl
 all_filter p r (x ∷ xs) h = all_step p r (p x) x xs refl h (all_filter p r xs (and_parts _ _ h).1)
 
@@ -120,7 +120,7 @@ before (Some n) k h =
     (omega arith, ap (λ m. Some m) e)
 
 -- the token at a place among its table's
-place_token : (ts : List Token) (u : Token) (k : ℕ) → place_in ts u ≡ Some k → (0 < k) × (slice_get (of_table u.table ts) (k - 1) ≡ Some u)
+pub place_token : (ts : List Token) (u : Token) (k : ℕ) → place_in ts u ≡ Some k → (0 < k) × (slice_get (of_table u.table ts) (k - 1) ≡ Some u)
 unfolding place_in
 place_token ts u k h =
     let b = before _ k h in

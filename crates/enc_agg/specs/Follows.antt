@@ -11,18 +11,8 @@ use Rattle.enc_plain.specs.Sound.{IsOwned}
 use Rattle.enc_delta.specs.Delta.{listed}
 use Rattle.enc_delta.specs.Judged.{first_meta}
 
--- the chain's module has all tables
-pub record HasTables (c : Chain) : Type 0 where
-  pub count : length c.plain.tables ≡ 0x2D
-
 -- the delta breaks no rule, and its tokens are such by their numbers
 pub record Follows (c : Chain) (s : Source) : Type 0 where
   pub rules : first_meta c s ≡ None
   pub tables : IsTrue (list_all (λ (t : Token). nat_lt t.table 0x100) (listed s))
   pub rows : IsTrue (list_all (λ (t : Token). nat_lt t.row 0x1000000) (listed s))
-
--- what holds of each chain of a sound base: all tables are there, each row has its runs, and each child row has just one owner
-pub record IsSound (c : Chain) : Type 0 where
-  pub tables : HasTables c
-  pub runs : HasRuns c.plain
-  pub owned : IsOwned c.plain

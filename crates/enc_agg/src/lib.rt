@@ -10,5 +10,5 @@ mod view;
 
 pub use aggregate::{Aggregate, Ready};
 pub use enc_plain::RowPlace;
-pub use laws::judged_rows_law;
+pub use laws::{delta_keeps_sound_law, judged_rows_law};
 pub use place::HeapPlace;

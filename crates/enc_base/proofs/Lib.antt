@@ -1,2 +1,3 @@
 pub mod First
 mod Signed
+pub mod SmallNumbers

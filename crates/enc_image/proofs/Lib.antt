@@ -6,3 +6,12 @@ pub mod Locals
 pub mod Rows
 pub mod Sizes
 pub mod Texts
+pub mod Opens
+pub mod SoundTables
+pub mod Told
+pub mod SoundBodies
+pub mod SoundOwners
+pub mod SoundSignatures
+pub mod SoundFields
+pub mod SoundCells
+pub mod SoundBases

@@ -33,23 +33,23 @@ unfolding body_is_good
 good_texts count texts regions zero flags c good is = no_code regions c _ is
 good_texts count texts regions (suc n) flags c good is = right (is_good count c) _ (rw is at (right (flags % 4 == 0) _ good))
 
-neither : {A : Type 0} (a b : Option A) → or_else a b ≡ None → (a ≡ None) × (b ≡ None)
+pub neither : {A : Type 0} (a b : Option A) → or_else a b ≡ None → (a ≡ None) × (b ≡ None)
 neither None None h = (refl, refl)
 neither (Some x) b h = absurd cc
 neither None (Some x) h = absurd cc
 
-no_place : (n : ℕ) (p : Option Place) → rule n p ≡ None → p ≡ None
+pub no_place : (n : ℕ) (p : Option Place) → rule n p ≡ None → p ≡ None
 no_place n None h = refl
 no_place n (Some x) h = absurd cc
 
-no_body_fault : (s : Source) → cells_fault s ≡ None → body_fault s ≡ None
+pub no_body_fault : (s : Source) → cells_fault s ≡ None → body_fault s ≡ None
 unfolding cells_fault
 no_body_fault s h =
     let signatures = (neither _ _ (neither _ _ h).1).1 in
     let bodies = (neither (rule 11 (signature_fault s)) _ signatures).1 in
     no_place 10 _ (neither (rule 10 (body_fault s)) _ bodies).0
 
-if_some : {A : Type 0} (b : Bool) (x : A) → (if b then None else Some x) ≡ None → b ≡ true
+pub if_some : {A : Type 0} (b : Bool) (x : A) → (if b then None else Some x) ≡ None → b ≡ true
 if_some true x h = refl
 if_some false x h = absurd cc
 

@@ -1,3 +1,4 @@
 pub mod Base
 pub mod Seen
+pub mod Laws
 pub mod Begun

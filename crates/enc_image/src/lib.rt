@@ -7,8 +7,10 @@ mod code;
 mod fields;
 mod image;
 mod judge;
+mod laws;
 mod open;
 mod signatures;
 mod view;
 
 pub use image::Image;
+pub use laws::base_is_sound_law;

@@ -17,3 +17,4 @@ pub mod Headers
 pub mod Within
 pub mod Lengths
 pub mod Meanings
+pub mod EntryLengths

@@ -27,7 +27,7 @@ no_rows : (rows : Rows) (table : ℕ) (a b : Token) → rows a ≡ None → are_
 unfolding are_rows
 no_rows rows table a b h = rw h (grind (arith, nat_tests))
 
-unnamed : (rows : Rows) (a b : Token) → are_rows rows 0x01 a b ≡ false → are_namesakes rows a b ≡ false
+pub unnamed : (rows : Rows) (a b : Token) → are_rows rows 0x01 a b ≡ false → are_namesakes rows a b ≡ false
 unnamed rows a b h = rw h refl
 
 none_by : (p s q r : Bool) → s ≡ false → q ≡ false → r ≡ false → (p || s || q || r) ≡ p
@@ -44,7 +44,7 @@ or_none : (p q : Bool) → q ≡ false → (p || q) ≡ p
 or_none true q h = refl
 or_none false q h = h
 
-tokens_are : (rows : Rows) (a b : Token) → are_namesakes rows a b ≡ false → are_rows rows 0x23 a b ≡ false → are_rows rows 0x1A a b ≡ false → are_rows rows 0x1B a b ≡ false → tokens_alike rows a b ≡ is_token a b
+pub tokens_are : (rows : Rows) (a b : Token) → are_namesakes rows a b ≡ false → are_rows rows 0x23 a b ≡ false → are_rows rows 0x1A a b ≡ false → are_rows rows 0x1B a b ≡ false → tokens_alike rows a b ≡ is_token a b
 unfolding tokens_alike
 tokens_are rows a b n h k l = or_none (refs_alike rows 100 a b) (type_specs_alike rows a b) (no_spec rows a b l) ∙ refs_are rows 100 a b n h k
 

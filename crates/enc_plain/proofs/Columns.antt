@@ -10,24 +10,24 @@ use Rattle.enc_schema.specs.Schema.{list_at, schema, columns_in, column_in}
 use Rattle.enc_plain.specs.Cell.{Kind, number, numbers, texts, blobs, guids, references, bodies, fields, kind_of, is_body, is_field, kind_in, cell_count}
 use Rattle.enc_plain.specs.Reading.{Reading, cell_read}
 
-part_cases : (b : Bool) → (b ≡ true) ⊎ (b ≡ false)
+pub part_cases : (b : Bool) → (b ≡ true) ⊎ (b ≡ false)
 part_cases true = inl refl
 part_cases false = inr refl
 
 -- behind a run stand runs alone
-runs_last : List Column → Bool
+unfoldable pub runs_last : List Column → Bool
 runs_last [] = true
 runs_last (c ∷ cs) = if is_some (kind_of c) then runs_last cs else list_all (λ (d : Column). not (is_some (kind_of d))) cs
 
-all_last : list_all runs_last schema ≡ true
+pub all_last : list_all runs_last schema ≡ true
 unfolding runs_last
 all_last = refl
 
-both_left : (a b : Bool) → (a && b) ≡ true → a ≡ true
+pub both_left : (a b : Bool) → (a && b) ≡ true → a ≡ true
 both_left true b h = refl
 both_left false b h = h
 
-both_right : (a b : Bool) → (a && b) ≡ true → b ≡ true
+pub both_right : (a b : Bool) → (a && b) ≡ true → b ≡ true
 both_right true b h = h
 both_right false b h = absurd cc
 
@@ -35,12 +35,12 @@ not_both : (a : Bool) → not a ≡ true → a ≡ true → ⊥
 not_both true h k = absurd cc
 not_both false h k = absurd cc
 
-each : {A : Type 0} (p : List A → Bool) (xs : List (List A)) (i : ℕ) → list_all p xs ≡ true → p [] ≡ true → p (list_at xs i) ≡ true
+pub each : {A : Type 0} (p : List A → Bool) (xs : List (List A)) (i : ℕ) → list_all p xs ≡ true → p [] ≡ true → p (list_at xs i) ≡ true
 each p [] i h e = e
 each p (x ∷ xs) zero h e = both_left (p x) (list_all p xs) h
 each p (x ∷ xs) (suc i) h e = each p xs i (both_right (p x) (list_all p xs) h) e
 
-none_last : (cs : List Column) (i : ℕ) (c : Column) → list_all (λ (d : Column). not (is_some (kind_of d))) cs ≡ true → slice_get cs i ≡ Some c → is_some (kind_of c) ≡ true → ⊥
+pub none_last : (cs : List Column) (i : ℕ) (c : Column) → list_all (λ (d : Column). not (is_some (kind_of d))) cs ≡ true → slice_get cs i ≡ Some c → is_some (kind_of c) ≡ true → ⊥
 none_last [] i c h e k = absurd cc
 none_last (x ∷ xs) zero c h e k =
     let is : x ≡ c = cc in

@@ -6,3 +6,10 @@ pub mod CellsOf
 pub mod Scopes
 pub mod AlikeLaws
 pub mod Columns
+pub mod ReadCells
+pub mod LoadedBytes
+pub mod SignatureRows
+pub mod SignatureColumns
+pub mod FieldExtents
+pub mod AlikeKept
+pub mod KindsOf

@@ -1,11 +1,11 @@
 -- Sound modules: what every module is that files or edits give.
-use Rattle.std.specs.Prelude.{◌≡◌, ℕ, ◌<◌, ◌^◌, ◌+◌, ◌-◌, ◌%◌, Bool, true, false, not, ◌&&◌, ◌||◌, List, [], ◌∷◌, length, flat_map, count_by, cond, Option, Some, None, option_map, option_and_then, unwrap_or, nat_lt, nat_le, ◌==◌, if◌then◌else◌, slice_get}
-use Rattle.std.specs.List.{list_any, list_all}
+use Rattle.std.specs.Prelude.{◌≡◌, ℕ, ◌<◌, ◌^◌, ◌%◌, Bool, true, false, not, ◌&&◌, ◌||◌, List, [], ◌∷◌, length, flat_map, count_by, cond, Option, Some, None, option_map, nat_lt, nat_le, ◌==◌, if◌then◌else◌, slice_get}
+use Rattle.std.specs.List.{list_any}
 use Rattle.enc_base.specs.Order.{first_below}
 use Rattle.enc_base.specs.Token.{nth_row, nil, is_token}
 use Rattle.enc_base.specs.declared.token.Token.{Token}
 use Rattle.enc_schema.specs.declared.column.Column.{Column}
-use Rattle.enc_schema.specs.declared.column.Column.TheVariants.{Num8, Num16, Num32, Text, Guid, Blob, Index, Coded, Run}
+use Rattle.enc_schema.specs.declared.column.Column.TheVariants.{Num8, Num16, Index, Coded}
 use Rattle.enc_schema.specs.Schema.{column_in}
 use Rattle.enc_schema.specs.Coding.{tables_of}
 use Rattle.enc_schema.specs.Children.{is_child_table, owner_table}
@@ -100,15 +100,39 @@ all_kids m table = flat_map (λ (r : Row). kids_at r table) (rows_in m (owner_ta
 pub record IsOwned (m : Module) : Type 0 where
   pub once : (table row : ℕ) → is_child_table table ≡ true → count_by (λ k. k == row) (all_kids m table) ≡ cond (nat_le 1 row && nat_le row (length (rows_in m table))) 1 0
 
--- all tables are there, and those that are no part of a module are empty; Module has one row and no table more than 2^24 - 1; each row has a cell of its kind in each of its columns that has one, and a list of children for each of its runs; what a cell says fits its column; each child row stands once, in one owner's list; each signature is one by the module's own rows
-pub record IsSound (m : Module) : Type 0 where
-  pub tables : length m.tables ≡ 0x2D
+-- all tables are there
+pub record HasTables (m : Module) : Type 0 where
+  pub all : length m.tables ≡ 0x2D
+
+-- those that are no part of a module are empty; Module has one row, and no table more than 2^24 - 1
+pub record HasCounts (m : Module) : Type 0 where
   pub absent : (t : ℕ) → is_part t ≡ false → rows_in m t ≡ []
   pub single : row_count m 0 ≡ 1
   pub few : (t : ℕ) → row_count m t < 2 ^ 24
-  pub lengths : (t n : ℕ) (r : Row) → slice_get (rows_in m t) n ≡ Some r → length r.cells ≡ cell_count t
-  pub kinds : (u : Token) (i : ℕ) (k : Kind) → has_row m u ≡ true → kind_in u.table i ≡ Some k → option_map cell_kind (cell_of m u i) ≡ Some k
-  pub cells : (u : Token) (i : ℕ) (column : Column) (c : Cell) → has_row m u ≡ true → column_in u.table i ≡ Some column → cell_of m u i ≡ Some c → cell_is_sound m u column c ≡ true
+
+-- each row has a list of children for each of its runs, and each child row stands once, in one owner's list
+pub record HasOwners (m : Module) : Type 0 where
+  pub tables : HasTables m
   pub runs : HasRuns m
   pub owned : IsOwned m
-  pub signatures : (u : Token) (i : ℕ) → has_row m u ≡ true → signature_column u.table ≡ Some i → is_signature (row_count m) u.table (bytes_at (cells_of m) u i) ≡ true
+
+-- each row has a cell in each of its columns that has one, of the column's kind
+pub record HasKinds (m : Module) : Type 0 where
+  pub lengths : (t n : ℕ) (r : Row) → slice_get (rows_in m t) n ≡ Some r → length r.cells ≡ cell_count t
+  pub kinds : (u : Token) (i : ℕ) (k : Kind) → has_row m u ≡ true → kind_in u.table i ≡ Some k → option_map cell_kind (cell_of m u i) ≡ Some k
+
+-- what a cell says fits its column
+pub record HasCells (m : Module) : Type 0 where
+  pub each : (u : Token) (i : ℕ) (column : Column) (c : Cell) → has_row m u ≡ true → column_in u.table i ≡ Some column → cell_of m u i ≡ Some c → cell_is_sound m u column c ≡ true
+
+-- each signature is one of its table's kind, by the module's own rows
+pub record HasSignatures (m : Module) : Type 0 where
+  pub each : (u : Token) (i : ℕ) → has_row m u ≡ true → signature_column u.table ≡ Some i → is_signature (row_count m) u.table (bytes_at (cells_of m) u i) ≡ true
+
+-- the tables are a module's, with owners and children; each column has a cell of its kind, and what it says fits the column; each signature is one
+pub record IsSound (m : Module) : Type 0 where
+  pub owners : HasOwners m
+  pub counts : HasCounts m
+  pub kinds : HasKinds m
+  pub cells : HasCells m
+  pub signatures : HasSignatures m

@@ -8,4 +8,5 @@ pub mod Written
 pub mod Named
 pub mod Depth
 pub mod Wider
+pub mod Fronts
 mod ReadBack

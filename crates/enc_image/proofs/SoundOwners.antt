@@ -5,7 +5,7 @@ use Rattle.std.specs.List.{range_with_len}
 use Rattle.std.proofs.lemmas.Bool.{cases_lt}
 use Rattle.std.proofs.lemmas.Bool.Decides.{nat_tests}
 use Rattle.std.proofs.lemmas.List.{length-map}
-use Rattle.std.proofs.lemmas.List.Sums.{sum_by-append}
+use Rattle.std.proofs.lemmas.List.Sums.{sum_by-append, sum_by-cons}
 use Rattle.enc_base.specs.Token.{nth_row}
 use Rattle.enc_base.proofs.First.{first_none, first_more, silent}
 use Rattle.enc_base.specs.Order.{first_below}
@@ -27,7 +27,9 @@ use Rattle.enc_plain.specs.Sound.{is_part, all_kids, IsOwned}
 use Rattle.enc_image.proofs.Good.{good_index, named_once, no_index_fault}
 use Rattle.enc_image.proofs.Rows.{rows_there, rows_past, count_there}
 use Rattle.enc_image.proofs.Kids.{row_kids, owner_rows}
-use Rattle.enc_agg.proofs.Owned.{count_cons}
+
+count_cons : (p : ℕ → Bool) (x : ℕ) (xs : List ℕ) → count_by p (x ∷ xs) ≡ cond (p x) 1 0 + count_by p xs
+count_cons p x xs = sum_by-cons (λ (k : ℕ). cond (p k) 1 0) x xs
 
 made_by : {X Y : Type 0} (f : X → Y) (xs : List X) (n : ℕ) (y : Y) → slice_get (map f xs) n ≡ Some y → (x : X) × (f x ≡ y)
 made_by f [] n y e = absurd cc
