@@ -1,13 +1,9 @@
--- When a delta may follow a chain, and when each child row has just one owner.
-use Rattle.std.specs.Prelude.{◌≡◌, ℕ, ◌==◌, ◌&&◌, true, List, None, IsTrue, length, flat_map, count_by, cond, nat_lt, nat_le}
+-- When a delta may follow a chain.
+use Rattle.std.specs.Prelude.{◌≡◌, None, IsTrue, nat_lt}
 use Rattle.std.specs.List.{list_all}
 use Rattle.enc_base.specs.declared.token.Token.{Token}
 use Rattle.enc_rows.specs.Source.{Source}
-use Rattle.enc_schema.specs.Children.{is_child_table, owner_table}
-use Rattle.enc_plain.specs.Module.{Module, Row, rows_in, kids_at}
-use Rattle.enc_plain.specs.Fits.{HasRuns}
 use Rattle.enc_plain.specs.Chain.{Chain}
-use Rattle.enc_plain.specs.Sound.{IsOwned}
 use Rattle.enc_delta.specs.Delta.{listed}
 use Rattle.enc_delta.specs.Judged.{first_meta}
 

@@ -18,4 +18,5 @@ RowsAreTheModules = (c : Chain) (s : Source) (t : Token) → HasTables c.plain �
 
 -- a delta of these files that breaks no rule after a chain leaves a sound module sound
 abbrev pub DeltaKeepsSound : Type 0
-DeltaKeepsSound = (c : Chain) (metadata il : List ℕ) (s : Source) → AreBytes metadata → AreBytes il → delta_of metadata il ≡ Ok s → first_meta c s ≡ None → IsSound c.plain → IsSound (extended c s).plain
+DeltaKeepsSound = (c : Chain) (metadata il : List ℕ) (s : Source) → AreBytes metadata → AreBytes il → delta_of metadata il ≡ Ok s
+    → first_meta c s ≡ None → IsSound c.plain → IsSound (extended c s).plain

@@ -58,7 +58,9 @@ method_is_sound m method b =
 
 -- the size that the first row of ClassLayout with this parent tells (II.22.8)
 unfoldable pub class_size_at : Module → ℕ → ℕ → Option ℕ
-class_size_at m type k = if is_token (token_at (cells_of m) (nth_row 0x0F k) 2) (record { table = 0x02; row = type }) then Some (number_at (cells_of m) (nth_row 0x0F k) 1) else None
+class_size_at m type k =
+    if is_token (token_at (cells_of m) (nth_row 0x0F k) 2) (record { table = 0x02; row = type }) then Some (number_at (cells_of m) (nth_row 0x0F k) 1)
+    else None
 
 unfoldable pub class_size : Module → ℕ → Option ℕ
 class_size m type = first_below (class_size_at m type) (row_count m 0x0F)
@@ -81,7 +83,7 @@ is_size n None = false
 unfoldable pub field_is_sound : Module → Token → List ℕ → Bool
 field_is_sound m row there = length there == 0 || is_size (length there) (size_of m (extent_of m row))
 
--- what a column says fits it: a number its width, a text has no zero, a blob's length can be spelled, a GUID has sixteen bytes, and a token, a body and a field's bytes are as above
+-- a number fits its column's width, a text has no zero, a blob's length can be spelled, a GUID has sixteen bytes, and all else is as above
 abbrev pub cell_is_sound : Module → Token → Column → Cell → Bool
 cell_is_sound m u column (number n) = number_fits column n
 cell_is_sound m u column (text there) = not (list_any (λ b. b == 0) there)
@@ -98,7 +100,8 @@ all_kids m table = flat_map (λ (r : Row). kids_at r table) (rows_in m (owner_ta
 
 -- each row of a child table is a child once, and nothing else is
 pub record IsOwned (m : Module) : Type 0 where
-  pub once : (table row : ℕ) → is_child_table table ≡ true → count_by (λ k. k == row) (all_kids m table) ≡ cond (nat_le 1 row && nat_le row (length (rows_in m table))) 1 0
+  pub once : (table row : ℕ) → is_child_table table ≡ true
+      → count_by (λ k. k == row) (all_kids m table) ≡ cond (nat_le 1 row && nat_le row (length (rows_in m table))) 1 0
 
 -- all tables are there
 pub record HasTables (m : Module) : Type 0 where
@@ -123,11 +126,13 @@ pub record HasKinds (m : Module) : Type 0 where
 
 -- what a cell says fits its column
 pub record HasCells (m : Module) : Type 0 where
-  pub each : (u : Token) (i : ℕ) (column : Column) (c : Cell) → has_row m u ≡ true → column_in u.table i ≡ Some column → cell_of m u i ≡ Some c → cell_is_sound m u column c ≡ true
+  pub each : (u : Token) (i : ℕ) (column : Column) (c : Cell) → has_row m u ≡ true → column_in u.table i ≡ Some column → cell_of m u i ≡ Some c
+      → cell_is_sound m u column c ≡ true
 
 -- each signature is one of its table's kind, by the module's own rows
 pub record HasSignatures (m : Module) : Type 0 where
-  pub each : (u : Token) (i : ℕ) → has_row m u ≡ true → signature_column u.table ≡ Some i → is_signature (row_count m) u.table (bytes_at (cells_of m) u i) ≡ true
+  pub each : (u : Token) (i : ℕ) → has_row m u ≡ true → signature_column u.table ≡ Some i
+      → is_signature (row_count m) u.table (bytes_at (cells_of m) u i) ≡ true
 
 -- the tables are a module's, with owners and children; each column has a cell of its kind, and what it says fits the column; each signature is one
 pub record IsSound (m : Module) : Type 0 where
