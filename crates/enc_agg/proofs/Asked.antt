@@ -57,34 +57,34 @@ pub text_found : (b : Source) (added upto : List Added) (u : Token) (k i n : ℕ
 unfolding chain_with extended
 text_found b added upto u k i n found kind is =
     let c = chain_with b (sources found.older) in
-    rw found.upto_is (also (joined_text (chain_with b (sources (found.last ∷ found.older))).heaps n) _ _ (λ a h. cell_found b added upto u k i (text a) found h) (text_listed c found.last.delta u k i n found.is_added.follows (changes_fit c found.last.delta found.sound found.is_added.follows) found.place kind (raw_found b added upto u k i n found is)))
+    rw found.upto_is (also (joined_text (chain_with b (sources (found.last ∷ found.older))).heaps n) _ _ (λ a h. cell_found b added upto u k i (text a) found h) (text_listed c found.last.delta u k i n found.is_added.follows.lands (changes_fit c found.last.delta found.sound found.is_added.follows.lands) found.place kind (raw_found b added upto u k i n found is)))
 
 pub blob_found : (b : Source) (added upto : List Added) (u : Token) (k i n : ℕ) → IsFound b added u upto k → kind_in u.table i ≡ Some blobs → number_in upto (record { table = u.table; row = k }) i ≡ n → MatchOption (joined_blob (chain_with b (sources upto)).heaps n) ⊥ (λ a. cell_of (chain_with b (sources added)).plain u i ≡ Some (blob a))
 unfolding chain_with extended
 blob_found b added upto u k i n found kind is =
     let c = chain_with b (sources found.older) in
-    rw found.upto_is (also (joined_blob (chain_with b (sources (found.last ∷ found.older))).heaps n) _ _ (λ a h. cell_found b added upto u k i (blob a) found h) (blob_listed c found.last.delta u k i n found.is_added.follows (changes_fit c found.last.delta found.sound found.is_added.follows) found.place kind (raw_found b added upto u k i n found is)))
+    rw found.upto_is (also (joined_blob (chain_with b (sources (found.last ∷ found.older))).heaps n) _ _ (λ a h. cell_found b added upto u k i (blob a) found h) (blob_listed c found.last.delta u k i n found.is_added.follows.lands (changes_fit c found.last.delta found.sound found.is_added.follows.lands) found.place kind (raw_found b added upto u k i n found is)))
 
 pub guid_found : (b : Source) (added upto : List Added) (u : Token) (k i n : ℕ) → IsFound b added u upto k → kind_in u.table i ≡ Some guids → number_in upto (record { table = u.table; row = k }) i ≡ n → MatchOption (joined_guid (chain_with b (sources upto)).heaps n) ⊥ (λ a. cell_of (chain_with b (sources added)).plain u i ≡ Some (guid a))
 unfolding chain_with extended
 guid_found b added upto u k i n found kind is =
     let c = chain_with b (sources found.older) in
-    rw found.upto_is (also (joined_guid (chain_with b (sources (found.last ∷ found.older))).heaps n) _ _ (λ a h. cell_found b added upto u k i (guid a) found h) (guid_listed c found.last.delta u k i n found.is_added.follows (changes_fit c found.last.delta found.sound found.is_added.follows) found.place kind (raw_found b added upto u k i n found is)))
+    rw found.upto_is (also (joined_guid (chain_with b (sources (found.last ∷ found.older))).heaps n) _ _ (λ a h. cell_found b added upto u k i (guid a) found h) (guid_listed c found.last.delta u k i n found.is_added.follows.lands (changes_fit c found.last.delta found.sound found.is_added.follows.lands) found.place kind (raw_found b added upto u k i n found is)))
 
 pub number_found : (b : Source) (added upto : List Added) (u : Token) (k i n : ℕ) → IsFound b added u upto k → kind_in u.table i ≡ Some numbers → number_in upto (record { table = u.table; row = k }) i ≡ n → cell_of (chain_with b (sources added)).plain u i ≡ Some (number n)
 number_found b added upto u k i n found kind is =
     let c = chain_with b (sources found.older) in
-    cell_found b added upto u k i (number n) found (number_listed c found.last.delta u k i n found.is_added.follows (changes_fit c found.last.delta found.sound found.is_added.follows) found.place kind (raw_found b added upto u k i n found is))
+    cell_found b added upto u k i (number n) found (number_listed c found.last.delta u k i n found.is_added.follows.lands (changes_fit c found.last.delta found.sound found.is_added.follows.lands) found.place kind (raw_found b added upto u k i n found is))
 
 pub index_found : (b : Source) (added upto : List Added) (u : Token) (k i n table : ℕ) → IsFound b added u upto k → kind_in u.table i ≡ Some references → column_in u.table i ≡ Some (Index table) → number_in upto (record { table = u.table; row = k }) i ≡ n → cell_of (chain_with b (sources added)).plain u i ≡ Some (refer (index_token table n))
 index_found b added upto u k i n table found kind column is =
     let c = chain_with b (sources found.older) in
-    cell_found b added upto u k i (refer (index_token table n)) found (index_listed c found.last.delta u k i n table found.is_added.follows (changes_fit c found.last.delta found.sound found.is_added.follows) found.place kind column (raw_found b added upto u k i n found is))
+    cell_found b added upto u k i (refer (index_token table n)) found (index_listed c found.last.delta u k i n table found.is_added.follows.lands (changes_fit c found.last.delta found.sound found.is_added.follows.lands) found.place kind column (raw_found b added upto u k i n found is))
 
 pub coded_found : (b : Source) (added upto : List Added) (u : Token) (k i n : ℕ) (coding : Coding) → IsFound b added u upto k → kind_in u.table i ≡ Some references → column_in u.table i ≡ Some (Coded coding) → number_in upto (record { table = u.table; row = k }) i ≡ n → MatchOption (decoded coding n) ⊥ (λ t. cell_of (chain_with b (sources added)).plain u i ≡ Some (refer t))
 coded_found b added upto u k i n coding found kind column is =
     let c = chain_with b (sources found.older) in
-    also (decoded coding n) _ _ (λ t h. cell_found b added upto u k i (refer t) found h) (coded_listed c found.last.delta u k i n coding found.is_added.follows (changes_fit c found.last.delta found.sound found.is_added.follows) found.place kind column (raw_found b added upto u k i n found is))
+    also (decoded coding n) _ _ (λ t h. cell_found b added upto u k i (refer t) found h) (coded_listed c found.last.delta u k i n coding found.is_added.follows.lands (changes_fit c found.last.delta found.sound found.is_added.follows.lands) found.place kind column (raw_found b added upto u k i n found is))
 
 mapped : {A B C : Type 0} (f : B → C) (g : A → B) (o : Option A) → option_map f (option_map g o) ≡ option_map (λ x. f (g x)) o
 mapped f g None = refl
@@ -106,7 +106,7 @@ body_found b added upto u k n r found is told code =
     let d = found.last.delta in
     let raw = raw_found b added upto u k 0 n found told in
     let all = joined_user (chain_with b (sources added)).heaps in
-    let cell = cell_found b added upto u k 0 (body (body_loaded d.loaded (users_after c d) n)) found (body_listed c d u k n (changes_fit c d found.sound found.is_added.follows) found.place is raw) in
+    let cell = cell_found b added upto u k 0 (body (body_loaded d.loaded (users_after c d) n)) found (body_listed c d u k n (changes_fit c d found.sound found.is_added.follows.lands) found.place is raw) in
     let parts : option_map code_seen r ≡ code_loaded d.loaded n = rw found.upto_is at code in
     let same : body_loaded d.loaded (users_after c d) n ≡ option_map (body_of all) (code_loaded d.loaded n) = loaded_as d n (users_after c d) all (λ code there. texts_listed c d u k n code found.is_added.follows found.place is raw there) found.users in
     cell ∙ ap (λ o. Some (body o)) (same ∙ read_as all (code_loaded d.loaded n) r parts)
@@ -125,4 +125,4 @@ base_body b added u r agg o is none there table code =
 pub field_found : (b : Source) (added upto : List Added) (u : Token) (k : ℕ) → IsFound b added u upto k → u.table ≡ 0x1D → cell_of (chain_with b (sources added)).plain u 0 ≡ Some (field [])
 field_found b added upto u k found is =
     let c = chain_with b (sources found.older) in
-    cell_found b added upto u k 0 (field []) found (field_listed c found.last.delta u k (changes_fit c found.last.delta found.sound found.is_added.follows) found.place is)
+    cell_found b added upto u k 0 (field []) found (field_listed c found.last.delta u k (changes_fit c found.last.delta found.sound found.is_added.follows.lands) found.place is)

@@ -15,11 +15,11 @@ use Rattle.enc_delta.specs.declared.entry.Entry.{Entry}
 use Rattle.enc_delta.specs.Delta.{listed, log_in, entry_at}
 use Rattle.enc_delta.specs.Rules.{is_insert, inserts, rows_with, counts, changed, stands_in, in_one, set_fault}
 use Rattle.enc_delta.specs.Judged.{unmatched_token}
-use Rattle.enc_agg.specs.Follows.{Follows}
+use Rattle.enc_agg.specs.Follows.{Lands}
 use Rattle.enc_agg.proofs.Counting.{next_row, old_row, inserts_here}
 use Rattle.enc_agg.proofs.Fitting.{Good, first_good, first_row, rest_good, good_tokens}
 use Rattle.enc_agg.proofs.Rising.{no_least, no_place}
-use Rattle.enc_delta.proofs.Unbroken.{unbroken}
+use Rattle.enc_delta.proofs.Unbroken.{landed}
 
 -- each token's row is one of so many, and has a number of three bytes
 abbrev pub Within : (ℕ → ℕ) → List Token → Type 0
@@ -139,6 +139,6 @@ unfolding log_in
 small_log s = small_from s (below _)
 
 -- the entries of a delta's log name rows after it
-pub log_names : (c : Chain) (s : Source) → Follows c s → Names (rows_with c (listed s)) (log_in s)
+pub log_names : (c : Chain) (s : Source) → Lands c s → Names (rows_with c (listed s)) (log_in s)
 unfolding unmatched_token
-log_names c s f = names_from (rows_with c (listed s)) (listed s) (log_in s) (rows_within c (listed s) (listed s) [] refl (good_tokens c s f)) (small_log s) (in_both _ _ (unbroken c s f.rules).sets)
+log_names c s f = names_from (rows_with c (listed s)) (listed s) (log_in s) (rows_within c (listed s) (listed s) [] refl (good_tokens c s f)) (small_log s) (in_both _ _ (landed c s f.early).sets)

@@ -22,31 +22,31 @@ use Rattle.enc_delta.specs.Rules.{counted, inserts, rows_with, child_table, adds
 use Rattle.enc_delta.proofs.ListsChildren.{hits, log_named, one_unnamed}
 use Rattle.enc_agg.specs.Extend.{changes_of, extended}
 use Rattle.enc_delta.specs.Pairs.{attached_of, pairs_in}
-use Rattle.enc_agg.specs.Follows.{Follows}
+use Rattle.enc_agg.specs.Follows.{Lands}
 use Rattle.enc_plain.specs.Sound.{HasTables}
 use Rattle.enc_plain.specs.Sound.{all_kids, IsOwned}
-use Rattle.enc_delta.proofs.Unbroken.{unbroken}
+use Rattle.enc_delta.proofs.Unbroken.{landed}
 use Rattle.enc_agg.proofs.Counting.{apply_tables}
 use Rattle.enc_agg.proofs.Fitting.{fits, put_all, count_is}
 use Rattle.enc_agg.proofs.Changed.{log_names}
 use Rattle.enc_agg.proofs.Pairs.{pair_children, OwnedBy, AllOwned, log_owned, all_attach}
 use Rattle.enc_agg.proofs.Owned.{count_cons, count_same, count_map, all_applied, attached_count, kid_owner, has_owner}
 
-rows_told : (c : Chain) (s : Source) → HasTables c.plain → Follows c s → (t : ℕ) → length (rows_in (apply c.plain (changes_of c s)) t) ≡ rows_with c (listed s) t
+rows_told : (c : Chain) (s : Source) → HasTables c.plain → Lands c s → (t : ℕ) → length (rows_in (apply c.plain (changes_of c s)) t) ≡ rows_with c (listed s) t
 unfolding rows_with
 rows_told c s has f t = (put_all c s has f).rows t
 
 -- each Add entry's owner is a row after the delta, and its child is a new one
-pub pairs_owned : (c : Chain) (s : Source) → Follows c s → AllOwned (rows_with c (listed s)) (rows_before c) (attached_of s)
+pub pairs_owned : (c : Chain) (s : Source) → Lands c s → AllOwned (rows_with c (listed s)) (rows_before c) (attached_of s)
 unfolding attached_of
-pairs_owned c s f = log_owned c (listed s) (log_in s) (unbroken c s f.rules).log (log_names c s f)
+pairs_owned c s f = log_owned c (listed s) (log_in s) (landed c s f.early).log (log_names c s f)
 
 -- so the children can be attached
-pub pairs_fit : (c : Chain) (s : Source) → HasTables c.plain → Follows c s → AllAttach (apply c.plain (changes_of c s)) (attached_of s)
+pub pairs_fit : (c : Chain) (s : Source) → HasTables c.plain → Lands c s → AllAttach (apply c.plain (changes_of c s)) (attached_of s)
 pairs_fit c s has f = all_attach (rows_with c (listed s)) (rows_before c) (attached_of s) (apply c.plain (changes_of c s)) (rows_told c s has f) (apply_tables (changes_of c s) c.plain ∙ has.all) (pairs_owned c s f)
 
 -- the children of a row are those that it had, and behind them those that it gained
-pub kids_after : (c : Chain) (s : Source) → HasTables c.plain → Follows c s → HasRuns c.plain → (u : Token) (child : ℕ) → is_child_table child ≡ true → kids_of (extended c s).plain u child ≡ kids_of c.plain u child ++ gained (attached_of s) u child
+pub kids_after : (c : Chain) (s : Source) → HasTables c.plain → Lands c s → HasRuns c.plain → (u : Token) (child : ℕ) → is_child_table child ≡ true → kids_of (extended c s).plain u child ≡ kids_of c.plain u child ++ gained (attached_of s) u child
 unfolding extended
 kids_after c s has f runs u child there =
     let fit = fits c s has f in
@@ -106,9 +106,9 @@ some_none : {A : Type 0} (x : A) (o : Option A) → Some x ≡ o → o ≡ None 
 some_none x o e h = let f = e ∙ h in absurd cc
 
 -- a child table has no more inserts than Add entries
-enough : (c : Chain) (s : Source) (code : ℕ) → Follows c s → 1 ≤ code → code ≤ 5 → is_child_table (child_table code) ≡ true → inserts c (listed s) (child_table code) ≤ adds (log_in s) code
+enough : (c : Chain) (s : Source) (code : ℕ) → Lands c s → 1 ≤ code → code ≤ 5 → is_child_table (child_table code) ≡ true → inserts c (listed s) (child_table code) ≤ adds (log_in s) code
 enough c s code f l h there =
-    let u = unbroken c s f.rules in
+    let u = landed c s f.early in
     elim (cases_lt (adds (log_in s) code) (inserts c (listed s) (child_table code))) [
       | inl less ↦ absurd (some_none _ _ (one_unnamed c (listed s) (log_in s) code u.log l h less) (all_named c (listed s) (log_in s) u.children (child_table code) there))
       | inr le ↦ le
@@ -117,23 +117,23 @@ enough c s code f l h there =
 one_hit : (n r : ℕ) → r < n → hits 0 n r ≡ 1
 one_hit n r h = grind (arith, nat_tests)
 
-once_code : (c : Chain) (s : Source) (code r : ℕ) → Follows c s → 1 ≤ code → code ≤ 5 → is_child_table (child_table code) ≡ true → r < inserts c (listed s) (child_table code) → count_by (attaches_row (child_table code) (rows_before c (child_table code) + r + 1)) (attached_of s) ≡ 1
+once_code : (c : Chain) (s : Source) (code r : ℕ) → Lands c s → 1 ≤ code → code ≤ 5 → is_child_table (child_table code) ≡ true → r < inserts c (listed s) (child_table code) → count_by (attaches_row (child_table code) (rows_before c (child_table code) + r + 1)) (attached_of s) ≡ 1
 once_code c s code r f l h there less =
     let le = enough c s code f l h there in
-    pair_count s (child_table code) (rows_before c (child_table code) + r + 1) ∙ log_named c (listed s) (log_in s) (unbroken c s f.rules).log code r l h ∙ one_hit (adds (log_in s) code) r (omega arith)
+    pair_count s (child_table code) (rows_before c (child_table code) + r + 1) ∙ log_named c (listed s) (log_in s) (landed c s f.early).log code r l h ∙ one_hit (adds (log_in s) code) r (omega arith)
 
 -- a new row of a child table is the child of just one pair
-pub attached_once : (c : Chain) (s : Source) (t r : ℕ) → Follows c s → is_child_table t ≡ true → r < inserts c (listed s) t → count_by (attaches_row t (rows_before c t + r + 1)) (attached_of s) ≡ 1
+pub attached_once : (c : Chain) (s : Source) (t r : ℕ) → Lands c s → is_child_table t ≡ true → r < inserts c (listed s) t → count_by (attaches_row t (rows_before c t + r + 1)) (attached_of s) ≡ 1
 attached_once c s t r f there less =
     let code = code_for t there in
     rw (← code.3) (once_code c s code.0 r f code.1 code.2 (ap is_child_table code.3 ∙ there) (rw code.3 less))
 
-once_at : (c : Chain) (s : Source) (t row : ℕ) → Follows c s → is_child_table t ≡ true → rows_before c t < row → row ≤ rows_before c t + inserts c (listed s) t → count_by (attaches_row t row) (attached_of s) ≡ 1
+once_at : (c : Chain) (s : Source) (t row : ℕ) → Lands c s → is_child_table t ≡ true → rows_before c t < row → row ≤ rows_before c t + inserts c (listed s) t → count_by (attaches_row t row) (attached_of s) ≡ 1
 once_at c s t row f there low high =
     let e : rows_before c t + (row - rows_before c t - 1) + 1 ≡ row = omega arith in
     ap (λ n. count_by (attaches_row t n) (attached_of s)) (sym e) ∙ attached_once c s t (row - rows_before c t - 1) f there (omega arith)
 
-never_at : (c : Chain) (s : Source) (t row : ℕ) → Follows c s → (rows_before c t < row → row ≤ rows_before c t + inserts c (listed s) t → ⊥) → count_by (attaches_row t row) (attached_of s) ≡ 0
+never_at : (c : Chain) (s : Source) (t row : ℕ) → Lands c s → (rows_before c t < row → row ≤ rows_before c t + inserts c (listed s) t → ⊥) → count_by (attaches_row t row) (attached_of s) ≡ 0
 unfolding rows_with
 never_at c s t row f out = none_attached (rows_with c (listed s)) (rows_before c) (attached_of s) t row (pairs_owned c s f) out
 
@@ -163,22 +163,22 @@ total (suc r) n more x y e old past new =
       ]
     ]
 
-all_after : (c : Chain) (s : Source) → HasTables c.plain → Follows c s → HasRuns c.plain → (t row : ℕ) → is_child_table t ≡ true → count_by (λ k. k == row) (all_kids (extended c s).plain t) ≡ count_by (λ k. k == row) (all_kids c.plain t) + count_by (attaches_row t row) (attached_of s)
+all_after : (c : Chain) (s : Source) → HasTables c.plain → Lands c s → HasRuns c.plain → (t row : ℕ) → is_child_table t ≡ true → count_by (λ k. k == row) (all_kids (extended c s).plain t) ≡ count_by (λ k. k == row) (all_kids c.plain t) + count_by (attaches_row t row) (attached_of s)
 unfolding extended
 all_after c s has f runs t row there =
     let fit = fits c s has f in
     attached_count (attached_of s) (apply c.plain (changes_of c s)) (λ k. k == row) t (pairs_fit c s has f) (runs_applied (changes_of c s) c.plain fit runs) there ∙ ap (λ xs. count_by (λ k. k == row) xs + count_by (attaches_row t row) (attached_of s)) (all_applied (changes_of c s) c.plain t fit)
 
-rows_after : (c : Chain) (s : Source) → HasTables c.plain → Follows c s → (t : ℕ) → length (rows_in (extended c s).plain t) ≡ rows_before c t + inserts c (listed s) t
+rows_after : (c : Chain) (s : Source) → HasTables c.plain → Lands c s → (t : ℕ) → length (rows_in (extended c s).plain t) ≡ rows_before c t + inserts c (listed s) t
 unfolding rows_with
 rows_after c s has f t = count_is c s has f t
 
-once_after : (c : Chain) (s : Source) → HasTables c.plain → Follows c s → HasRuns c.plain → IsOwned c.plain → (t row : ℕ) → is_child_table t ≡ true → count_by (λ k. k == row) (all_kids (extended c s).plain t) ≡ cond (nat_le 1 row && nat_le row (length (rows_in (extended c s).plain t))) 1 0
+once_after : (c : Chain) (s : Source) → HasTables c.plain → Lands c s → HasRuns c.plain → IsOwned c.plain → (t row : ℕ) → is_child_table t ≡ true → count_by (λ k. k == row) (all_kids (extended c s).plain t) ≡ cond (nat_le 1 row && nat_le row (length (rows_in (extended c s).plain t))) 1 0
 once_after c s has f runs owned t row there =
     all_after c s has f runs t row there ∙ total row (rows_before c t) (inserts c (listed s) t) _ (count_by (attaches_row t row) (attached_of s)) (owned.once t row there) (λ le. never_at c s t row f (λ low high. omega arith)) (λ far. never_at c s t row f (λ low high. omega arith)) (λ low high. once_at c s t row f there low high) ∙ ap (λ n. cond (nat_le 1 row && nat_le row n) 1 0) (sym (rows_after c s has f t))
 
 -- after a delta, too, each child row has just one owner
-pub owned_after : (c : Chain) (s : Source) → HasTables c.plain → Follows c s → HasRuns c.plain → IsOwned c.plain → IsOwned (extended c s).plain
+pub owned_after : (c : Chain) (s : Source) → HasTables c.plain → Lands c s → HasRuns c.plain → IsOwned c.plain → IsOwned (extended c s).plain
 owned_after c s has f runs owned = record { once = once_after c s has f runs owned }
 
 any_left : (p : ℕ → Bool) (xs ys : List ℕ) → list_any p xs ≡ true → list_any p (xs ++ ys) ≡ true
@@ -198,7 +198,7 @@ any_right p (x ∷ xs) ys h = or_true (p x) (list_any p (xs ++ ys)) (any_right p
     or_true false rest h = h
 
 -- a row of before has the owner that it had
-pub owner_kept : (c : Chain) (s : Source) → HasTables c.plain → Follows c s → HasRuns c.plain → IsOwned c.plain → (u : Token) → is_child_table u.table ≡ true → 1 ≤ u.row → u.row ≤ rows_before c u.table → owner_of (extended c s).plain u ≡ owner_of c.plain u
+pub owner_kept : (c : Chain) (s : Source) → HasTables c.plain → Lands c s → HasRuns c.plain → IsOwned c.plain → (u : Token) → is_child_table u.table ≡ true → 1 ≤ u.row → u.row ≤ rows_before c u.table → owner_of (extended c s).plain u ≡ owner_of c.plain u
 owner_kept c s has f runs owned u there low high =
     let w = has_owner c.plain u owned there low high in
     let kids : list_any (λ k. k == u.row) (kids_of (extended c s).plain w.owner u.table) ≡ true = rw (kids_after c s has f runs w.owner u.table there) (any_left (λ k. k == u.row) (kids_of c.plain w.owner u.table) (gained (attached_of s) w.owner u.table) w.has) in
@@ -233,7 +233,7 @@ owned_at count before (b ∷ pairs) zero a h e = let is : b ≡ a = cc in rw is 
 owned_at count before (b ∷ pairs) (suc i) a h e = owned_at count before pairs i a h.1 e
 
 -- a new row's owner is that of the pair whose child it is
-pub owner_new : (c : Chain) (s : Source) → HasTables c.plain → Follows c s → HasRuns c.plain → IsOwned c.plain → (i : ℕ) (a : Attached) → slice_get (attached_of s) i ≡ Some a → owner_of (extended c s).plain a.child ≡ Some a.owner
+pub owner_new : (c : Chain) (s : Source) → HasTables c.plain → Lands c s → HasRuns c.plain → IsOwned c.plain → (i : ℕ) (a : Attached) → slice_get (attached_of s) i ≡ Some a → owner_of (extended c s).plain a.child ≡ Some a.owner
 owner_new c s has f runs owned i a at =
     let there = (owned_at (rows_with c (listed s)) (rows_before c) (attached_of s) i a (pairs_owned c s f) at).child in
     let row : (a.child.row == a.child.row) ≡ true = grind (arith, nat_tests) in
@@ -241,14 +241,14 @@ owner_new c s has f runs owned i a at =
     kid_owner (extended c s).plain a.owner a.child (owned_after c s has f runs owned) there kids
 
 -- a child table has as many Add entries as inserts
-pub adds_are : (c : Chain) (s : Source) (code : ℕ) → Follows c s → 1 ≤ code → code ≤ 5 → is_child_table (child_table code) ≡ true → adds (log_in s) code ≡ inserts c (listed s) (child_table code)
+pub adds_are : (c : Chain) (s : Source) (code : ℕ) → Lands c s → 1 ≤ code → code ≤ 5 → is_child_table (child_table code) ≡ true → adds (log_in s) code ≡ inserts c (listed s) (child_table code)
 adds_are c s code f l h there =
     let t = child_table code in
     let more = inserts c (listed s) t in
     let le = enough c s code f l h there in
     elim (cases_lt more (adds (log_in s) code)) [
       | inl less ↦
-          let once = pair_count s t (rows_before c t + more + 1) ∙ log_named c (listed s) (log_in s) (unbroken c s f.rules).log code more l h ∙ one_hit (adds (log_in s) code) more less in
+          let once = pair_count s t (rows_before c t + more + 1) ∙ log_named c (listed s) (log_in s) (landed c s f.early).log code more l h ∙ one_hit (adds (log_in s) code) more less in
           let never = never_at c s t (rows_before c t + more + 1) f (λ low high. omega arith) in
           absurd (omega (arith, once, never))
       | inr same ↦ omega arith

@@ -20,12 +20,12 @@ use Rattle.enc_delta.specs.Rules.{late, inserts, rows_with, insert_fault_of, ins
 use Rattle.enc_agg.specs.Extend.{changes_of, extended}
 use Rattle.enc_delta.specs.Rows.{own_row, cells_after}
 use Rattle.enc_delta.specs.Pairs.{attached_of}
-use Rattle.enc_agg.specs.Follows.{Follows}
+use Rattle.enc_agg.specs.Follows.{Lands}
 use Rattle.enc_plain.specs.Sound.{HasTables}
 use Rattle.enc_agg.proofs.Counting.{Tally, tally_none, tally_put, near, apply_tables}
 use Rattle.enc_agg.proofs.InTables.{silent, listed_tables}
 use Rattle.enc_agg.proofs.Rising.{changes_with, none_late, late_behind, fresh}
-use Rattle.enc_delta.proofs.Unbroken.{unbroken}
+use Rattle.enc_delta.proofs.Unbroken.{landed}
 
 -- each token is as the rules want it, after those before
 pub record Good (c : Chain) (before ts : List Token) : Type 0 where
@@ -100,9 +100,9 @@ tally_from c cells [] before m tally good = rw (none_behind before) tally
 tally_from c cells (t ∷ ts) before m tally good = rw (← append_assoc before (t ∷ []) ts) (tally_from c cells ts (before ++ (t ∷ [])) (put m (record { token = t; cells = cells t })) (next_tally c m cells before ts t tally good) (rest_good c before ts t good))
 
 -- the tokens of a delta that may follow are of metadata's tables
-pub in_tables : (c : Chain) (s : Source) → Follows c s → list_all (λ (t : Token). nat_lt t.table 0x2D) (listed s) ≡ true
+pub in_tables : (c : Chain) (s : Source) → Lands c s → list_all (λ (t : Token). nat_lt t.table 0x2D) (listed s) ≡ true
 in_tables c s f =
-    let u = unbroken c s f.rules in
+    let u = landed c s f.early in
     listed_tables s u.tables u.cell_tables f.tables
 
 all_inserts : (c : Chain) (tokens : List Token) → insert_fault c tokens ≡ None → (k : ℕ) → k < length tokens → insert_fault_at c tokens k ≡ None
@@ -110,9 +110,9 @@ unfolding insert_fault
 all_inserts c tokens none k lt = silent (insert_fault_at c tokens) (length tokens) k none lt
 
 -- the tokens of a delta that may follow are good
-pub good_tokens : (c : Chain) (s : Source) → Follows c s → Good c [] (listed s)
+pub good_tokens : (c : Chain) (s : Source) → Lands c s → Good c [] (listed s)
 good_tokens c s f =
-    let u = unbroken c s f.rules in
+    let u = landed c s f.early in
     record {
       tables = in_tables c s f;
       rows = f.rows;
@@ -121,12 +121,12 @@ good_tokens c s f =
     }
 
 -- the rows of a delta fit
-pub fits : (c : Chain) (s : Source) → HasTables c.plain → Follows c s → Fits c.plain (changes_of c s)
+pub fits : (c : Chain) (s : Source) → HasTables c.plain → Lands c s → Fits c.plain (changes_of c s)
 unfolding changes_of
 fits c s has f = fits_from c (λ t. cells_after c s (own_row s t)) (listed s) [] c.plain (tally_none c has.all) (good_tokens c s f)
 
 -- with the rows put, each table's rows are told
-pub put_all : (c : Chain) (s : Source) → HasTables c.plain → Follows c s → Tally c (apply c.plain (changes_of c s)) (listed s)
+pub put_all : (c : Chain) (s : Source) → HasTables c.plain → Lands c s → Tally c (apply c.plain (changes_of c s)) (listed s)
 unfolding changes_of
 put_all c s has f = tally_from c (λ t. cells_after c s (own_row s t)) (listed s) [] c.plain (tally_none c has.all) (good_tokens c s f)
 
@@ -136,12 +136,12 @@ unfolding extended
 rows_kept c s t = count_attached (attached_of s) (apply c.plain (changes_of c s)) t
 
 -- each table has its rows before and its inserts
-pub count_is : (c : Chain) (s : Source) → HasTables c.plain → Follows c s → (t : ℕ) → length (rows_in (extended c s).plain t) ≡ rows_with c (listed s) t
+pub count_is : (c : Chain) (s : Source) → HasTables c.plain → Lands c s → (t : ℕ) → length (rows_in (extended c s).plain t) ≡ rows_with c (listed s) t
 unfolding rows_with
 count_is c s has f t = rows_kept c s t ∙ (put_all c s has f).rows t
 
 -- a table with an insert has fewer rows than a token can name
-pub few : (c : Chain) (s : Source) → HasTables c.plain → Follows c s → (t : ℕ) → 0 < inserts c (listed s) t → rows_with c (listed s) t < 0x1000000
+pub few : (c : Chain) (s : Source) → HasTables c.plain → Lands c s → (t : ℕ) → 0 < inserts c (listed s) t → rows_with c (listed s) t < 0x1000000
 unfolding rows_with
 few c s has f t some = (put_all c s has f).few t some
 
@@ -161,6 +161,6 @@ unfolding extended
 has_tables c s has = record { all = attached_tables (attached_of s) (apply c.plain (changes_of c s)) ∙ apply_tables (changes_of c s) c.plain ∙ has.all }
 
 -- and every row has a list of children for each run
-pub has_runs : (c : Chain) (s : Source) → HasTables c.plain → Follows c s → HasRuns c.plain → HasRuns (extended c s).plain
+pub has_runs : (c : Chain) (s : Source) → HasTables c.plain → Lands c s → HasRuns c.plain → HasRuns (extended c s).plain
 unfolding extended
 has_runs c s has f runs = runs_attached (attached_of s) (apply c.plain (changes_of c s)) (runs_applied (changes_of c s) c.plain (fits c s has f) runs)

@@ -24,7 +24,7 @@ use Rattle.enc_delta.specs.Rules.{module_token, own_guid, broken, too_many_in, t
 use Rattle.enc_agg.specs.declared.added.Added.{Added}
 use Rattle.enc_agg.specs.Extend.{changes_of, extended, chain_with}
 use Rattle.enc_delta.specs.Pairs.{attached_of}
-use Rattle.enc_agg.specs.Follows.{Follows}
+use Rattle.enc_agg.specs.Follows.{Lands, Follows}
 use Rattle.enc_plain.specs.Sound.{HasTables, HasOwners}
 use Rattle.enc_agg.specs.Seen.{sources, IsAdded, AllAdded, found_or, found_in}
 use Rattle.enc_base.specs.Order.{or_else, first_below}
@@ -43,7 +43,7 @@ unfolding begun
 begun_sound b sound = record { tables = record { all = tables_there b }; runs = begun_runs b; owned = begun_owned b sound }
 
 -- a delta that follows it leaves it so
-extended_sound : (c : Chain) (d : Source) → HasOwners c.plain → Follows c d → HasOwners (extended c d).plain
+extended_sound : (c : Chain) (d : Source) → HasOwners c.plain → Lands c d → HasOwners (extended c d).plain
 extended_sound c d sound follows = record {
   tables = has_tables c d sound.tables;
   runs = has_runs c d sound.tables follows sound.runs;
@@ -60,7 +60,7 @@ unfolding chain_with
 with_sound b [] sound all = begun_sound b sound
 with_sound b (a ∷ older) sound all =
     let parts = last_added b a older all in
-    extended_sound (chain_with b (sources older)) a.delta (with_sound b older sound parts.1) parts.0.follows
+    extended_sound (chain_with b (sources older)) a.delta (with_sound b older sound parts.1) parts.0.follows.lands
 
 -- none of the deltas lists the token: its row and its cells are the base's
 not_found : (a : Added) (older : List Added) (o : Option ℕ) (rest : Option (List Added × ℕ)) → found_or (a ∷ older) o rest ≡ None → (o ≡ None) × (rest ≡ None)
@@ -73,7 +73,7 @@ unfound_row b [] u sound all none there = there
 unfound_row b (a ∷ older) u sound all none there =
     let parts = last_added b a older all in
     let o = not_found a older (place_in (listed a.delta) u) (found_in older u) none in
-    unfound_row b older u sound parts.1 o.1 (row_kept (chain_with b (sources older)) a.delta u (with_sound b older sound parts.1) parts.0.follows o.0 there)
+    unfound_row b older u sound parts.1 o.1 (row_kept (chain_with b (sources older)) a.delta u (with_sound b older sound parts.1) parts.0.follows.lands o.0 there)
 
 pub unfound_cell : (b : Source) (added : List Added) (u : Token) (i : ℕ) (cell : Cell) → cells_fault b ≡ None → AllAdded b added → found_in added u ≡ None → cell_of (module_in b) u i ≡ Some cell → cell_of (chain_with b (sources added)).plain u i ≡ Some cell
 unfolding chain_with found_in begun
@@ -81,7 +81,7 @@ unfound_cell b [] u i cell sound all none is = is
 unfound_cell b (a ∷ older) u i cell sound all none is =
     let parts = last_added b a older all in
     let o = not_found a older (place_in (listed a.delta) u) (found_in older u) none in
-    cell_kept (chain_with b (sources older)) a.delta u i cell (with_sound b older sound parts.1) parts.0.follows o.0 (unfound_cell b older u i cell sound parts.1 o.1 is)
+    cell_kept (chain_with b (sources older)) a.delta u i cell (with_sound b older sound parts.1) parts.0.follows.lands o.0 (unfound_cell b older u i cell sound parts.1 o.1 is)
 
 -- what is known where one was found
 pub record IsFound (b : Source) (added : List Added) (u : Token) (upto : List Added) (k : ℕ) : Type 0 where
@@ -129,7 +129,7 @@ found_step b a older u None upto k sound all place h rest =
       all = found.all;
       sound = found.sound;
       place = found.place;
-      cells = λ i cell is. cell_kept (chain_with b (sources older)) a.delta u i cell (with_sound b older sound parts.1) parts.0.follows place (found.cells i cell is);
+      cells = λ i cell is. cell_kept (chain_with b (sources older)) a.delta u i cell (with_sound b older sound parts.1) parts.0.follows.lands place (found.cells i cell is);
       users = λ o x is. user_stays (chain_with b (sources older)).heaps a.delta.heaps o x (found.users o x is);
     }
 
@@ -175,10 +175,10 @@ with_tables b [] = record { all = tables_there b }
 with_tables b (d ∷ older) = has_tables (chain_with b older) d (with_tables b older)
 
 -- the newest delta follows a sound chain
-pub lasted : (b : Source) (a : Added) (older : List Added) → cells_fault b ≡ None → AllAdded b (a ∷ older) → HasOwners (chain_with b (sources older)).plain × Follows (chain_with b (sources older)) a.delta
+pub lasted : (b : Source) (a : Added) (older : List Added) → cells_fault b ≡ None → AllAdded b (a ∷ older) → HasOwners (chain_with b (sources older)).plain × Lands (chain_with b (sources older)) a.delta
 lasted b a older sound all =
     let parts = last_added b a older all in
-    (with_sound b older sound parts.1, parts.0.follows)
+    (with_sound b older sound parts.1, parts.0.follows.lands)
 
 -- the EncIds are those that are kept, oldest first
 pub ids_are : (b : Source) (added : List Added) → AllAdded b added → (chain_with b (sources added)).ids ≡ map (λ (a : Added). a.id) (reverse added)
@@ -286,7 +286,7 @@ after_few : (c : Chain) (d : Source) (t : ℕ) → HasTables c.plain → Follows
 unfolding too_many too_many_in
 after_few c d t tables follows =
     elim (cases_lt t 0x2D) [
-      | inl low ↦ rw (count_is c d tables follows t) (limited_at _ _ (silent (too_many_in c d) 0x2D t (second_none _ _ (unbroken c d follows.rules).limit) low))
+      | inl low ↦ rw (count_is c d tables follows.lands t) (limited_at _ _ (silent (too_many_in c d) 0x2D t (second_none _ _ (unbroken c d follows.rules).limit) low))
       | inr high ↦ rw (← (no_table (extended c d).plain t (has_tables c d tables) high)) (omega arith)
     ]
 

@@ -24,3 +24,4 @@ pub mod SoundBodies
 pub mod SoundFields
 pub mod SoundCells
 pub mod SoundDeltas
+pub mod Landing

@@ -22,10 +22,10 @@ use Rattle.enc_image.proofs.Listed.{length_below}
 use Rattle.enc_agg.specs.Extend.{extended}
 use Rattle.enc_delta.specs.Pairs.{attached_of}
 use Rattle.enc_agg.specs.Given.{add_code, gives, gives_to, rows_given}
-use Rattle.enc_agg.specs.Follows.{Follows}
+use Rattle.enc_agg.specs.Follows.{Lands}
 use Rattle.enc_plain.specs.Sound.{HasOwners}
 use Rattle.enc_plain.specs.Sound.{all_kids, IsOwned}
-use Rattle.enc_delta.proofs.Unbroken.{unbroken}
+use Rattle.enc_delta.proofs.Unbroken.{landed}
 use Rattle.enc_agg.proofs.Fitting.{count_is, few}
 use Rattle.enc_agg.proofs.Owned.{count_cons}
 use Rattle.enc_agg.proofs.Given.{gained_rows, rows_many, pair_at, given_many}
@@ -65,11 +65,11 @@ kids_row m u t i n e low h =
 code_there : (t : ℕ) → is_child_table t ≡ true → (1 ≤ add_code t) × (add_code t ≤ 5) × (child_table (add_code t) ≡ t)
 code_there t there = by_child (λ k. (1 ≤ add_code k) × (add_code k ≤ 5) × (child_table (add_code k) ≡ k)) (omega arith, omega arith, refl) (omega arith, omega arith, refl) (omega arith, omega arith, refl) (omega arith, omega arith, refl) (omega arith, omega arith, refl) t there
 
-good_log : (c : Chain) (d : Source) → Follows c d → Good c [] (log_in d)
-good_log c d f = log_good c (listed d) (log_in d) (unbroken c d f.rules).log
+good_log : (c : Chain) (d : Source) → Lands c d → Good c [] (log_in d)
+good_log c d f = log_good c (listed d) (log_in d) (landed c d f.early).log
 
 -- the rows that an owner gains are those that the log gives it
-pub gained_is : (c : Chain) (d : Source) (u : Token) (t : ℕ) → HasOwners c.plain → Follows c d → is_child_table t ≡ true → gained (attached_of d) u t ≡ rows_given (length (rows_in c.plain t)) u (add_code t) (log_in d)
+pub gained_is : (c : Chain) (d : Source) (u : Token) (t : ℕ) → HasOwners c.plain → Lands c d → is_child_table t ≡ true → gained (attached_of d) u t ≡ rows_given (length (rows_in c.plain t)) u (add_code t) (log_in d)
 unfolding attached_of
 gained_is c d u t sound f there =
     let code = code_there t there in
@@ -77,11 +77,11 @@ gained_is c d u t sound f there =
     rw code.2 at rows
 
 -- a row's children are those before, and behind them those that the log gives it
-pub kids_both : (c : Chain) (d : Source) (u : Token) (t : ℕ) → HasOwners c.plain → Follows c d → is_child_table t ≡ true → kids_of (extended c d).plain u t ≡ kids_of c.plain u t ++ rows_given (length (rows_in c.plain t)) u (add_code t) (log_in d)
+pub kids_both : (c : Chain) (d : Source) (u : Token) (t : ℕ) → HasOwners c.plain → Lands c d → is_child_table t ≡ true → kids_of (extended c d).plain u t ≡ kids_of c.plain u t ++ rows_given (length (rows_in c.plain t)) u (add_code t) (log_in d)
 kids_both c d u t sound f there = kids_after c d sound.tables f sound.runs u t there ∙ ap (λ xs. kids_of c.plain u t ++ xs) (gained_is c d u t sound f there)
 
 -- so they are as many
-pub kids_sum : (c : Chain) (d : Source) (u : Token) (t x y : ℕ) → HasOwners c.plain → Follows c d → is_child_table t ≡ true → x ≡ length (kids_of c.plain u t) → y ≡ count_by (gives_to u (add_code t)) (log_in d) → x + y ≡ length (kids_of (extended c d).plain u t)
+pub kids_sum : (c : Chain) (d : Source) (u : Token) (t x y : ℕ) → HasOwners c.plain → Lands c d → is_child_table t ≡ true → x ≡ length (kids_of c.plain u t) → y ≡ count_by (gives_to u (add_code t)) (log_in d) → x + y ≡ length (kids_of (extended c d).plain u t)
 kids_sum c d u t x y sound f there old new =
     let rows = rows_given (length (rows_in c.plain t)) u (add_code t) (log_in d) in
     let whole = ap (λ (xs : List ℕ). length xs) (kids_both c d u t sound f there) ∙ length-append (kids_of c.plain u t) rows in
@@ -89,7 +89,7 @@ kids_sum c d u t x y sound f there old new =
     omega arith
 
 -- those before with those that the log gives appended are all
-pub kids_pushed : (c : Chain) (d : Source) (u : Token) (t n : ℕ) (old new : List ℕ) → HasOwners c.plain → Follows c d → is_child_table t ≡ true → n ≡ length (rows_in c.plain t) → old ≡ kids_of c.plain u t → new ≡ old ++ rows_given n u (add_code t) (log_in d) → new ≡ kids_of (extended c d).plain u t
+pub kids_pushed : (c : Chain) (d : Source) (u : Token) (t n : ℕ) (old new : List ℕ) → HasOwners c.plain → Lands c d → is_child_table t ≡ true → n ≡ length (rows_in c.plain t) → old ≡ kids_of c.plain u t → new ≡ old ++ rows_given n u (add_code t) (log_in d) → new ≡ kids_of (extended c d).plain u t
 kids_pushed c d u t n old new sound f there e before pushed = pushed ∙ rw (before, e) (sym (kids_both c d u t sound f there))
 
 get_left : (xs ys : List ℕ) (i : ℕ) (x : ℕ) → slice_get xs i ≡ Some x → slice_get (xs ++ ys) i ≡ Some x
@@ -103,31 +103,31 @@ get_right (x ∷ xs) ys zero h = absurd (omega arith)
 get_right (x ∷ xs) ys (suc i) h = let z : suc i - suc (length xs) ≡ i - length xs = omega arith in get_right xs ys i (omega arith) ∙ ap (slice_get ys) (sym z)
 
 -- a child keeps its place
-pub kid_old : (c : Chain) (d : Source) (u : Token) (t i row : ℕ) → HasOwners c.plain → Follows c d → is_child_table t ≡ true → slice_get (kids_of c.plain u t) i ≡ Some row → slice_get (kids_of (extended c d).plain u t) i ≡ Some row
+pub kid_old : (c : Chain) (d : Source) (u : Token) (t i row : ℕ) → HasOwners c.plain → Lands c d → is_child_table t ≡ true → slice_get (kids_of c.plain u t) i ≡ Some row → slice_get (kids_of (extended c d).plain u t) i ≡ Some row
 kid_old c d u t i row sound f there at = ap (λ xs. slice_get xs i) (kids_both c d u t sound f there) ∙ get_left (kids_of c.plain u t) (rows_given (length (rows_in c.plain t)) u (add_code t) (log_in d)) i row at
 
 -- behind them stand those that the log gives
-pub kid_new : (c : Chain) (d : Source) (u : Token) (t i n row : ℕ) → HasOwners c.plain → Follows c d → is_child_table t ≡ true → n ≡ length (kids_of c.plain u t) → n ≤ i → slice_get (rows_given (length (rows_in c.plain t)) u (add_code t) (log_in d)) (i - n) ≡ Some row → slice_get (kids_of (extended c d).plain u t) i ≡ Some row
+pub kid_new : (c : Chain) (d : Source) (u : Token) (t i n row : ℕ) → HasOwners c.plain → Lands c d → is_child_table t ≡ true → n ≡ length (kids_of c.plain u t) → n ≤ i → slice_get (rows_given (length (rows_in c.plain t)) u (add_code t) (log_in d)) (i - n) ≡ Some row → slice_get (kids_of (extended c d).plain u t) i ≡ Some row
 kid_new c d u t i n row sound f there e le at =
     let rows = rows_given (length (rows_in c.plain t)) u (add_code t) (log_in d) in
     ap (λ xs. slice_get xs i) (kids_both c d u t sound f there) ∙ get_right (kids_of c.plain u t) rows i (omega arith) ∙ rw (← e) at
 
 -- and there are as many
-pub kid_within : (c : Chain) (d : Source) (u : Token) (t i n : ℕ) → HasOwners c.plain → Follows c d → is_child_table t ≡ true → n ≡ length (kids_of c.plain u t) → n ≤ i → i < length (kids_of (extended c d).plain u t) → i - n < length (rows_given (length (rows_in c.plain t)) u (add_code t) (log_in d))
+pub kid_within : (c : Chain) (d : Source) (u : Token) (t i n : ℕ) → HasOwners c.plain → Lands c d → is_child_table t ≡ true → n ≡ length (kids_of c.plain u t) → n ≤ i → i < length (kids_of (extended c d).plain u t) → i - n < length (rows_given (length (rows_in c.plain t)) u (add_code t) (log_in d))
 kid_within c d u t i n sound f there e le h =
     let rows = rows_given (length (rows_in c.plain t)) u (add_code t) (log_in d) in
     let whole = ap (λ (xs : List ℕ). length xs) (kids_both c d u t sound f there) ∙ length-append (kids_of c.plain u t) rows in
     omega arith
 
 -- the log gives a child table as many rows as are inserted
-pub given_are : (c : Chain) (d : Source) (t : ℕ) → HasOwners c.plain → Follows c d → is_child_table t ≡ true → length (filter (gives (add_code t)) (log_in d)) ≡ inserts c (listed d) t
+pub given_are : (c : Chain) (d : Source) (t : ℕ) → HasOwners c.plain → Lands c d → is_child_table t ≡ true → length (filter (gives (add_code t)) (log_in d)) ≡ inserts c (listed d) t
 given_are c d t sound f there =
     let code = code_there t there in
     let same : adds (log_in d) (add_code t) ≡ inserts c (listed d) (child_table (add_code t)) = adds_are c d (add_code t) f code.0 code.1 (ap is_child_table code.2 ∙ there) in
     given_many (add_code t) (log_in d) ∙ same ∙ ap (inserts c (listed d)) code.2
 
 -- an old row has the owner that it had before
-pub old_owner : (c : Chain) (d : Source) (u : Token) (n : ℕ) (o : Token) → HasOwners c.plain → Follows c d → is_child_table u.table ≡ true → 0 < u.row → n ≡ length (rows_in c.plain u.table) → u.row ≤ n → owner_of c.plain u ≡ Some o → owner_of (extended c d).plain u ≡ Some o
+pub old_owner : (c : Chain) (d : Source) (u : Token) (n : ℕ) (o : Token) → HasOwners c.plain → Lands c d → is_child_table u.table ≡ true → 0 < u.row → n ≡ length (rows_in c.plain u.table) → u.row ≤ n → owner_of c.plain u ≡ Some o → owner_of (extended c d).plain u ≡ Some o
 old_owner c d u n o sound f there low e high is = owner_kept c d sound.tables f sound.runs sound.owned u there (omega arith) (omega arith) ∙ is
 
 some_owner : (o : Option Entry) (t : Token) → option_map (λ (e : Entry). e.token) o ≡ Some t → (e : Entry) × (o ≡ Some e) × (e.token ≡ t)
@@ -135,7 +135,7 @@ some_owner None t h = absurd cc
 some_owner (Some e) t h = let is : e.token ≡ t = cc in (e, refl, is)
 
 -- a new row has the one whose Add entry it is
-pub new_owner : (c : Chain) (d : Source) (u : Token) (n : ℕ) (o : Token) → HasOwners c.plain → Follows c d → is_child_table u.table ≡ true → n ≡ length (rows_in c.plain u.table) → n < u.row → option_map (λ (e : Entry). e.token) (slice_get (filter (gives (add_code u.table)) (log_in d)) (u.row - n - 1)) ≡ Some o → owner_of (extended c d).plain u ≡ Some o
+pub new_owner : (c : Chain) (d : Source) (u : Token) (n : ℕ) (o : Token) → HasOwners c.plain → Lands c d → is_child_table u.table ≡ true → n ≡ length (rows_in c.plain u.table) → n < u.row → option_map (λ (e : Entry). e.token) (slice_get (filter (gives (add_code u.table)) (log_in d)) (u.row - n - 1)) ≡ Some o → owner_of (extended c d).plain u ≡ Some o
 unfolding attached_of
 new_owner c d u n o sound f there e past is =
     let w = some_owner _ o is in
@@ -146,7 +146,7 @@ new_owner c d u n o sound f there e past is =
     rw (code.2, ← e, row, w.2) at found
 
 -- a new row is one of those that the log gives
-pub new_within : (c : Chain) (d : Source) (u : Token) (n : ℕ) → HasOwners c.plain → Follows c d → is_child_table u.table ≡ true → n ≡ length (rows_in c.plain u.table) → n < u.row → IsTrue (has_row (extended c d).plain u) → u.row - n - 1 < length (filter (gives (add_code u.table)) (log_in d))
+pub new_within : (c : Chain) (d : Source) (u : Token) (n : ℕ) → HasOwners c.plain → Lands c d → is_child_table u.table ≡ true → n ≡ length (rows_in c.plain u.table) → n < u.row → IsTrue (has_row (extended c d).plain u) → u.row - n - 1 < length (filter (gives (add_code u.table)) (log_in d))
 unfolding has_row rows_with
 new_within c d u n sound f there e past h =
     let many = given_are c d u.table sound f there in
@@ -155,7 +155,7 @@ new_within c d u n sound f there e past h =
     omega arith
 
 -- the rows after are few where the log gives some
-pub given_few : (c : Chain) (d : Source) (t : ℕ) → HasOwners c.plain → Follows c d → is_child_table t ≡ true → 0 < length (filter (gives (add_code t)) (log_in d)) → length (rows_in c.plain t) + length (filter (gives (add_code t)) (log_in d)) < 0x1000000
+pub given_few : (c : Chain) (d : Source) (t : ℕ) → HasOwners c.plain → Lands c d → is_child_table t ≡ true → 0 < length (filter (gives (add_code t)) (log_in d)) → length (rows_in c.plain t) + length (filter (gives (add_code t)) (log_in d)) < 0x1000000
 unfolding rows_with
 given_few c d t sound f there some =
     let many = given_are c d t sound f there in
@@ -272,7 +272,7 @@ given_part u code [] = omega arith
 given_part u code (e ∷ es) = rw (count_cons (gives_to u code) e es) (given_step (gives code e) (is_token e.token u) e (count_by (gives_to u code) es) (filter (gives code) es) (given_part u code es))
 
 -- the children before and those that the log gives are few together
-pub kids_few : (c : Chain) (d : Source) (u : Token) (t x y : ℕ) → HasOwners c.plain → Follows c d → is_child_table t ≡ true → x ≡ length (kids_of c.plain u t) → y ≡ count_by (gives_to u (add_code t)) (log_in d) → x < 2 ^ 32 → x + y < 2 ^ 32
+pub kids_few : (c : Chain) (d : Source) (u : Token) (t x y : ℕ) → HasOwners c.plain → Lands c d → is_child_table t ≡ true → x ≡ length (kids_of c.plain u t) → y ≡ count_by (gives_to u (add_code t)) (log_in d) → x < 2 ^ 32 → x + y < 2 ^ 32
 kids_few c d u t x y sound f there old new fits =
     elim (cases_lt 0 y) [
       | inr none ↦ omega arith
@@ -284,7 +284,7 @@ kids_few c d u t x y sound f there old new fits =
     ]
 
 -- the rows that the log gives are few
-pub rows_few : (c : Chain) (d : Source) (u : Token) (t n : ℕ) → HasOwners c.plain → Follows c d → is_child_table t ≡ true → n < length (rows_given (length (rows_in c.plain t)) u (add_code t) (log_in d)) → length (rows_in c.plain t) + length (filter (gives (add_code t)) (log_in d)) < 2 ^ 32
+pub rows_few : (c : Chain) (d : Source) (u : Token) (t n : ℕ) → HasOwners c.plain → Lands c d → is_child_table t ≡ true → n < length (rows_given (length (rows_in c.plain t)) u (add_code t) (log_in d)) → length (rows_in c.plain t) + length (filter (gives (add_code t)) (log_in d)) < 2 ^ 32
 rows_few c d u t n sound f there h =
     let many = rows_many (length (rows_in c.plain t)) u (add_code t) (log_in d) in
     let part = given_part u (add_code t) (log_in d) in
@@ -292,7 +292,7 @@ rows_few c d u t n sound f there h =
     omega arith
 
 -- with the rows that it gives a table's are few
-pub all_few : (c : Chain) (d : Source) (t n : ℕ) → HasOwners c.plain → Follows c d → is_child_table t ≡ true → n ≡ length (rows_in c.plain t) → n < 2 ^ 32 → n + length (filter (gives (add_code t)) (log_in d)) < 2 ^ 32
+pub all_few : (c : Chain) (d : Source) (t n : ℕ) → HasOwners c.plain → Lands c d → is_child_table t ≡ true → n ≡ length (rows_in c.plain t) → n < 2 ^ 32 → n + length (filter (gives (add_code t)) (log_in d)) < 2 ^ 32
 all_few c d t n sound f there e low =
     elim (cases_lt 0 (length (filter (gives (add_code t)) (log_in d)))) [
       | inl some ↦ let less = given_few c d t sound f there some in omega arith

@@ -34,7 +34,7 @@ use Rattle.enc_image.proofs.Listed.{get_below, get_past}
 use Rattle.enc_image.proofs.SoundCells.{raw_fits}
 use Rattle.enc_image.proofs.SoundTables.{field_from, place_of}
 use Rattle.enc_agg.specs.Extend.{changes_of, extended}
-use Rattle.enc_agg.specs.Follows.{Follows}
+use Rattle.enc_agg.specs.Follows.{Lands}
 use Rattle.enc_agg.proofs.KeptRows.{JudgedBy, row_stays}
 use Rattle.enc_agg.proofs.SoundBodies.{method_kept, method_listed}
 use Rattle.enc_agg.proofs.SoundFields.{field_kept}
@@ -87,7 +87,7 @@ cell_is c s u k i column x fit place e is =
 
 -- what the parts need of the delta
 pub record Says (c : Chain) (s : Source) : Type 0 where
-  pub follows : Follows c s
+  pub follows : Lands c s
   pub judged : JudgedBy c s
   pub counts : IsCounted c s
   pub heaps : heap_fault c s ≡ None

@@ -35,7 +35,7 @@ use Rattle.enc_agg.proofs.SoundKinds.{kinds_after}
 use Rattle.enc_agg.proofs.SoundSignatures.{signatures_after}
 use Rattle.enc_agg.proofs.SoundTables.{counts_after}
 use Rattle.enc_agg.proofs.Tokens.{all_filter, place_row}
-use Rattle.enc_delta.proofs.Unbroken.{unbroken}
+use Rattle.enc_delta.proofs.Unbroken.{unbroken, first_rules}
 
 -- its numbers and its code are bytes
 pub record IsOfBytes (s : Source) : Type 0 where
@@ -46,16 +46,16 @@ pub keeps_sound : (c : Chain) (s : Source) → IsOfBytes s → Follows c s → I
 keeps_sound c s bytes follows sound =
     let has = sound.owners.tables in
     let u = unbroken c s follows.rules in
-    let fit = fits c s has follows in
-    let judged : JudgedBy c s = record { fit = fit; rows = λ t. judged_rows c s t has follows; same = u.altered } in
-    let many = count_is c s has follows in
+    let fit = fits c s has follows.lands in
+    let judged : JudgedBy c s = record { fit = fit; rows = λ t. judged_rows c s t has follows.lands; same = u.altered } in
+    let many = count_is c s has follows.lands in
     let tables = has_tables c s has in
     let counts = counts_after c s u.tables u.cell_tables u.limit tables.all many sound.counts in
-    let says : Says c s = record { follows = follows; judged = judged; counts = many; heaps = u.heaps; bodies = u.broken_body; locals = u.locals; places = λ t k place. place_row c s t k follows place; stream = bytes.stream; loaded = bytes.loaded } in
+    let says : Says c s = record { follows = follows.lands; judged = judged; counts = many; heaps = u.heaps; bodies = u.broken_body; locals = u.locals; places = λ t k place. place_row c s t k follows.lands place; stream = bytes.stream; loaded = bytes.loaded } in
     record {
-      owners = record { tables = tables; runs = has_runs c s has follows sound.owners.runs; owned = owned_after c s has follows sound.owners.runs sound.owners.owned };
+      owners = record { tables = tables; runs = has_runs c s has follows.lands sound.owners.runs; owned = owned_after c s has follows.lands sound.owners.runs sound.owners.owned };
       counts = counts;
-      kinds = kinds_after c s follows fit sound.kinds;
+      kinds = kinds_after c s follows.lands fit sound.kinds;
       cells = cells_after_are c s says tables counts sound.kinds sound.cells;
       signatures = signatures_after c s judged many u.signatures sound.signatures;
     }
@@ -116,7 +116,7 @@ unfolding listed map_in token_at
 rows_few s = all_filter _ (λ (t : Token). nat_lt t.row 0x1000000) (map_in s) (all_mapped (token_at s) (λ (t : Token). nat_lt t.row 0x1000000) (below (rows_of s.layout 0x1F)) (λ i. row_of (raw_in s (nth_row 0x1F i) 0)))
 
 pub bytes_follow : (c : Chain) (s : Source) → IsOfBytes s → first_meta c s ≡ None → Follows c s
-bytes_follow c s bytes none = record { rules = none; tables = tables_few s bytes.stream; rows = rows_few s }
+bytes_follow c s bytes none = record { lands = record { early = first_rules 14 c s none; tables = tables_few s bytes.stream; rows = rows_few s }; rules = none }
 
 pub delta_keeps_sound : (c : Chain) (metadata il : List ℕ) (s : Source) → AreBytes metadata → AreBytes il → delta_of metadata il ≡ Ok s → first_meta c s ≡ None → IsSound c.plain → IsSound (extended c s).plain
 delta_keeps_sound c metadata il s a b of none sound =

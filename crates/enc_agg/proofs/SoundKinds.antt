@@ -19,7 +19,7 @@ use Rattle.enc_delta.specs.Rules.{heaps_after}
 use Rattle.enc_image.proofs.Listed.{length_below}
 use Rattle.enc_image.proofs.SoundTables.{kind_there, body_from, field_from, place_of}
 use Rattle.enc_agg.specs.Extend.{changes_of, extended}
-use Rattle.enc_agg.specs.Follows.{Follows}
+use Rattle.enc_agg.specs.Follows.{Lands}
 use Rattle.enc_agg.proofs.Viewing.{listed_cells, other_cells, kept_cell, kept_row, text_listed, blob_listed, guid_listed, number_listed, index_listed, coded_listed, body_listed, field_listed}
 
 -- the row at a place has the cells of its token
@@ -62,7 +62,7 @@ field_kind c s u k i fit place kind =
     let p = place_of u.table i 0x1D (field_from (is_body u.table i) (is_field u.table i) (column_in u.table i) kind) in
     rw (p.1, field_listed c s u k fit place p.0) refl
 
-reference_kind : (c : Chain) (s : Source) (u : Token) (k i : ℕ) → Follows c s → Fits c.plain (changes_of c s) → place_in (listed s) u ≡ Some k → kind_in u.table i ≡ Some references → option_map cell_kind (cell_of (extended c s).plain u i) ≡ Some references
+reference_kind : (c : Chain) (s : Source) (u : Token) (k i : ℕ) → Lands c s → Fits c.plain (changes_of c s) → place_in (listed s) u ≡ Some k → kind_in u.table i ≡ Some references → option_map cell_kind (cell_of (extended c s).plain u i) ≡ Some references
 reference_kind c s u k i follows fit place kind =
     let plain = plain_kind u.table i references refl kind in
     let w = column_with (column_in u.table i) references plain.kind in
@@ -71,7 +71,7 @@ reference_kind c s u k i follows fit place kind =
       | inr p ↦ kind_there refer references (decoded p.0 (raw_in s (record { table = u.table; row = k }) i)) _ (λ a. refl) (coded_listed c s u k i _ p.0 follows fit place kind (w.1 ∙ ap (λ x. Some x) p.1) refl)
     ]
 
-listed_kind : (c : Chain) (s : Source) (u : Token) (k i : ℕ) (kind : Kind) → Follows c s → Fits c.plain (changes_of c s) → place_in (listed s) u ≡ Some k → kind_in u.table i ≡ Some kind → option_map cell_kind (cell_of (extended c s).plain u i) ≡ Some kind
+listed_kind : (c : Chain) (s : Source) (u : Token) (k i : ℕ) (kind : Kind) → Lands c s → Fits c.plain (changes_of c s) → place_in (listed s) u ≡ Some k → kind_in u.table i ≡ Some kind → option_map cell_kind (cell_of (extended c s).plain u i) ≡ Some kind
 listed_kind c s u k i numbers follows fit place kind = rw (number_listed c s u k i _ follows fit place kind refl) refl
 listed_kind c s u k i texts follows fit place kind = kind_there text texts (joined_text (heaps_after c s) (raw_in s (record { table = u.table; row = k }) i)) _ (λ a. refl) (text_listed c s u k i _ follows fit place kind refl)
 listed_kind c s u k i blobs follows fit place kind = kind_there blob blobs (joined_blob (heaps_after c s) (raw_in s (record { table = u.table; row = k }) i)) _ (λ a. refl) (blob_listed c s u k i _ follows fit place kind refl)
@@ -80,9 +80,9 @@ listed_kind c s u k i references follows fit place kind = reference_kind c s u k
 listed_kind c s u k i bodies follows fit place kind = body_kind c s u k i fit place kind
 listed_kind c s u k i fields follows fit place kind = field_kind c s u k i fit place kind
 
-kinds_by : (c : Chain) (s : Source) (u : Token) (i : ℕ) (kind : Kind) (o : Option ℕ) → Follows c s → Fits c.plain (changes_of c s) → HasKinds c.plain → place_in (listed s) u ≡ o → has_row (extended c s).plain u ≡ true → kind_in u.table i ≡ Some kind → option_map cell_kind (cell_of (extended c s).plain u i) ≡ Some kind
+kinds_by : (c : Chain) (s : Source) (u : Token) (i : ℕ) (kind : Kind) (o : Option ℕ) → Lands c s → Fits c.plain (changes_of c s) → HasKinds c.plain → place_in (listed s) u ≡ o → has_row (extended c s).plain u ≡ true → kind_in u.table i ≡ Some kind → option_map cell_kind (cell_of (extended c s).plain u i) ≡ Some kind
 kinds_by c s u i kind (Some k) follows fit before is there of = listed_kind c s u k i kind follows fit is of
 kinds_by c s u i kind None follows fit before is there of = rw (kept_cell c s u i fit is) (before.kinds u i kind (kept_row c s u fit is there) of)
 
-pub kinds_after : (c : Chain) (s : Source) → Follows c s → Fits c.plain (changes_of c s) → HasKinds c.plain → HasKinds (extended c s).plain
+pub kinds_after : (c : Chain) (s : Source) → Lands c s → Fits c.plain (changes_of c s) → HasKinds c.plain → HasKinds (extended c s).plain
 kinds_after c s follows fit before = record { lengths = λ t n r e. lengths_by c s t n r (place_in (listed s) (nth_row t n)) fit before refl e; kinds = λ u i kind there of. kinds_by c s u i kind (place_in (listed s) u) follows fit before refl there of }

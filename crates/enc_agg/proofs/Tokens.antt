@@ -20,8 +20,8 @@ use Rattle.enc_delta.specs.Delta.{listed, of_table, place_in}
 use Rattle.enc_delta.specs.Rules.{broken, uneven_at, rows_for, uneven_table, may_change, closed_at, closed_table}
 use Rattle.enc_agg.specs.Extend.{changes_of}
 use Rattle.enc_delta.specs.Rows.{cells_after, own_row}
-use Rattle.enc_agg.specs.Follows.{Follows}
-use Rattle.enc_delta.proofs.Unbroken.{unbroken}
+use Rattle.enc_agg.specs.Follows.{Lands}
+use Rattle.enc_delta.proofs.Unbroken.{landed}
 
 position_from : (b : Bool) (n k : ℕ) → (if nat_lt (if not b then 1 + n else 0) (suc k) then Some (if not b then 1 + n else 0) else None) ≡ (if b then Some 0 else option_map suc (if nat_lt n k then Some n else None))
 position_from true n k = let less : nat_lt 0 (suc k) ≡ true = grind (arith, nat_tests) in rw less refl
@@ -153,11 +153,11 @@ of_some k n m true e low h = absurd (omega arith)
 of_some k n m false e low h = omega arith
 
 -- a listed token's row stands in a table that the delta may change
-pub place_row : (c : Chain) (s : Source) (u : Token) (k : ℕ) → Follows c s → place_in (listed s) u ≡ Some k → PlaceRow s u k
+pub place_row : (c : Chain) (s : Source) (u : Token) (k : ℕ) → Lands c s → place_in (listed s) u ≡ Some k → PlaceRow s u k
 unfolding uneven_table uneven_at closed_table closed_at
 place_row c s u k follows h =
     let place = place_token (listed s) u k h in
-    let rules = unbroken c s follows.rules in
+    let rules = landed c s follows.early in
     let listed_all : list_all (λ (t : Token). nat_lt t.table 0x100) (of_table u.table (listed s)) ≡ true = all_filter (λ (t : Token). t.table == u.table) _ (listed s) follows.tables in
     let low : u.table < 0x100 = ltb-true u.table 0x100 (one_of _ _ (k - 1) u listed_all place.1) in
     let same : rows_for s u.table ≡ length (of_table u.table (listed s)) = eqb-true _ _ (not-false _ (unbroken_at _ _ (silent (uneven_at s) 0x100 u.table rules.tables low))) in

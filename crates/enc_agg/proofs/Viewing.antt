@@ -35,8 +35,8 @@ use Rattle.enc_image.proofs.Rows.{made_from, within_is, coded_is}
 use Rattle.enc_agg.specs.Extend.{changes_of, extended}
 use Rattle.enc_delta.specs.Rows.{cell_after, cells_after}
 use Rattle.enc_delta.specs.Pairs.{attached_of}
-use Rattle.enc_agg.specs.Follows.{Follows}
-use Rattle.enc_delta.proofs.Unbroken.{unbroken}
+use Rattle.enc_agg.specs.Follows.{Lands, Follows}
+use Rattle.enc_delta.proofs.Unbroken.{unbroken, landed}
 use Rattle.enc_agg.proofs.Tokens.{cells_for_there, cells_for_none, PlaceRow, place_row}
 
 -- a listed token's cells are those of the delta's row
@@ -123,20 +123,20 @@ held_after c s u k i column kind cell fits place there some plain is =
     listed_cell c s u k i cell fits place (in_cells u.table i column there some) (rw (there, plain.body, plain.field) is)
 
 -- where a silent rule speaks of a column, the optional value from which its cell is made is there, and the chain has the cell
-made_after : {A : Type 0} (c : Chain) (s : Source) (asks : Column → Bool) (u : Token) (k i : ℕ) (column : Column) (kind : Kind) (f : A → Cell) (x : Option A) → first_below (table_fault c s asks) 0x2D ≡ None → Follows c s → Fits c.plain (changes_of c s) → place_in (listed s) u ≡ Some k → column_in u.table i ≡ Some column → is_some (kind_of column) ≡ true → HasPlainKind u.table i kind → asks column ≡ true → cell_read (reading_after c s) column (raw_in s (record { table = u.table; row = k }) i) ≡ option_map f x → MatchOption x ⊥ (λ a. cell_of (extended c s).plain u i ≡ Some (f a))
+made_after : {A : Type 0} (c : Chain) (s : Source) (asks : Column → Bool) (u : Token) (k i : ℕ) (column : Column) (kind : Kind) (f : A → Cell) (x : Option A) → first_below (table_fault c s asks) 0x2D ≡ None → Lands c s → Fits c.plain (changes_of c s) → place_in (listed s) u ≡ Some k → column_in u.table i ≡ Some column → is_some (kind_of column) ≡ true → HasPlainKind u.table i kind → asks column ≡ true → cell_read (reading_after c s) column (raw_in s (record { table = u.table; row = k }) i) ≡ option_map f x → MatchOption x ⊥ (λ a. cell_of (extended c s).plain u i ≡ Some (f a))
 made_after c s asks u k i column kind f x none follows fits place there some plain speaks is =
     made_from (cell_read (reading_after c s) column (raw_in s (record { table = u.table; row = k }) i)) f x (λ cell. cell_of (extended c s).plain u i ≡ Some cell) (good_after c s asks u k i column (place_row c s u k follows place) none there speaks) is (λ cell e. held_after c s u k i column kind cell fits place there some plain e)
 
-no_index : (c : Chain) (s : Source) → Follows c s → first_below (table_fault c s is_index) 0x2D ≡ None
+no_index : (c : Chain) (s : Source) → Lands c s → first_below (table_fault c s is_index) 0x2D ≡ None
 unfolding bad_index
-no_index c s follows = (unbroken c s follows.rules).bad_index
+no_index c s follows = (landed c s follows.early).bad_index
 
-no_offset : (c : Chain) (s : Source) → Follows c s → first_below (table_fault c s is_offset) 0x2D ≡ None
+no_offset : (c : Chain) (s : Source) → Lands c s → first_below (table_fault c s is_offset) 0x2D ≡ None
 unfolding bad_offset
-no_offset c s follows = (unbroken c s follows.rules).bad_offset
+no_offset c s follows = (landed c s follows.early).bad_offset
 
 -- a cell of each kind: the entry is there, and the chain has the cell with it
-pub text_listed : (c : Chain) (s : Source) (u : Token) (k i n : ℕ) → Follows c s → Fits c.plain (changes_of c s) → place_in (listed s) u ≡ Some k → kind_in u.table i ≡ Some texts → raw_in s (record { table = u.table; row = k }) i ≡ n → MatchOption (joined_text (heaps_after c s) n) ⊥ (λ a. cell_of (extended c s).plain u i ≡ Some (text a))
+pub text_listed : (c : Chain) (s : Source) (u : Token) (k i n : ℕ) → Lands c s → Fits c.plain (changes_of c s) → place_in (listed s) u ≡ Some k → kind_in u.table i ≡ Some texts → raw_in s (record { table = u.table; row = k }) i ≡ n → MatchOption (joined_text (heaps_after c s) n) ⊥ (λ a. cell_of (extended c s).plain u i ≡ Some (text a))
 unfolding cell_read reading_after
 text_listed c s u k i n follows fits place kind is =
     let plain = plain_kind _ _ texts refl kind in
@@ -144,7 +144,7 @@ text_listed c s u k i n follows fits place kind is =
     let e = w.1 ∙ ap (λ column. Some column) (text_column w.0 w.2) in
     made_after c s is_offset u k i Text texts text (joined_text (heaps_after c s) n) (no_offset c s follows) follows fits place e refl plain refl (rw is refl)
 
-pub blob_listed : (c : Chain) (s : Source) (u : Token) (k i n : ℕ) → Follows c s → Fits c.plain (changes_of c s) → place_in (listed s) u ≡ Some k → kind_in u.table i ≡ Some blobs → raw_in s (record { table = u.table; row = k }) i ≡ n → MatchOption (joined_blob (heaps_after c s) n) ⊥ (λ a. cell_of (extended c s).plain u i ≡ Some (blob a))
+pub blob_listed : (c : Chain) (s : Source) (u : Token) (k i n : ℕ) → Lands c s → Fits c.plain (changes_of c s) → place_in (listed s) u ≡ Some k → kind_in u.table i ≡ Some blobs → raw_in s (record { table = u.table; row = k }) i ≡ n → MatchOption (joined_blob (heaps_after c s) n) ⊥ (λ a. cell_of (extended c s).plain u i ≡ Some (blob a))
 unfolding cell_read reading_after
 blob_listed c s u k i n follows fits place kind is =
     let plain = plain_kind _ _ blobs refl kind in
@@ -152,7 +152,7 @@ blob_listed c s u k i n follows fits place kind is =
     let e = w.1 ∙ ap (λ column. Some column) (blob_column w.0 w.2) in
     made_after c s is_offset u k i Blob blobs blob (joined_blob (heaps_after c s) n) (no_offset c s follows) follows fits place e refl plain refl (rw is refl)
 
-pub guid_listed : (c : Chain) (s : Source) (u : Token) (k i n : ℕ) → Follows c s → Fits c.plain (changes_of c s) → place_in (listed s) u ≡ Some k → kind_in u.table i ≡ Some guids → raw_in s (record { table = u.table; row = k }) i ≡ n → MatchOption (joined_guid (heaps_after c s) n) ⊥ (λ a. cell_of (extended c s).plain u i ≡ Some (guid a))
+pub guid_listed : (c : Chain) (s : Source) (u : Token) (k i n : ℕ) → Lands c s → Fits c.plain (changes_of c s) → place_in (listed s) u ≡ Some k → kind_in u.table i ≡ Some guids → raw_in s (record { table = u.table; row = k }) i ≡ n → MatchOption (joined_guid (heaps_after c s) n) ⊥ (λ a. cell_of (extended c s).plain u i ≡ Some (guid a))
 unfolding cell_read reading_after
 guid_listed c s u k i n follows fits place kind is =
     let plain = plain_kind _ _ guids refl kind in
@@ -160,18 +160,18 @@ guid_listed c s u k i n follows fits place kind is =
     let e = w.1 ∙ ap (λ column. Some column) (guid_column w.0 w.2) in
     made_after c s is_offset u k i Guid guids guid (joined_guid (heaps_after c s) n) (no_offset c s follows) follows fits place e refl plain refl (rw is refl)
 
-pub number_listed : (c : Chain) (s : Source) (u : Token) (k i n : ℕ) → Follows c s → Fits c.plain (changes_of c s) → place_in (listed s) u ≡ Some k → kind_in u.table i ≡ Some numbers → raw_in s (record { table = u.table; row = k }) i ≡ n → cell_of (extended c s).plain u i ≡ Some (number n)
+pub number_listed : (c : Chain) (s : Source) (u : Token) (k i n : ℕ) → Lands c s → Fits c.plain (changes_of c s) → place_in (listed s) u ≡ Some k → kind_in u.table i ≡ Some numbers → raw_in s (record { table = u.table; row = k }) i ≡ n → cell_of (extended c s).plain u i ≡ Some (number n)
 number_listed c s u k i n _ fits place kind is =
     let plain = plain_kind _ _ numbers refl kind in
     let w = column_with _ _ plain.kind in
     held_after c s u k i w.0 numbers (number n) fits place w.1 (ap is_some w.2) plain (rw is (number_for (reading_after c s) w.0 n w.2))
 
-pub index_listed : (c : Chain) (s : Source) (u : Token) (k i n table : ℕ) → Follows c s → Fits c.plain (changes_of c s) → place_in (listed s) u ≡ Some k → kind_in u.table i ≡ Some references → column_in u.table i ≡ Some (Index table) → raw_in s (record { table = u.table; row = k }) i ≡ n → cell_of (extended c s).plain u i ≡ Some (refer (index_token table n))
+pub index_listed : (c : Chain) (s : Source) (u : Token) (k i n table : ℕ) → Lands c s → Fits c.plain (changes_of c s) → place_in (listed s) u ≡ Some k → kind_in u.table i ≡ Some references → column_in u.table i ≡ Some (Index table) → raw_in s (record { table = u.table; row = k }) i ≡ n → cell_of (extended c s).plain u i ≡ Some (refer (index_token table n))
 unfolding cell_read reading_after
 index_listed c s u k i n table follows fits place kind column is =
     within_is (rows_with c (listed s)) (index_token table n) (λ t. cell_of (extended c s).plain u i ≡ Some (refer t)) (made_after c s is_index u k i (Index table) references refer _ (no_index c s follows) follows fits place column refl (plain_kind _ _ references refl kind) refl (rw is refl))
 
-pub coded_listed : (c : Chain) (s : Source) (u : Token) (k i n : ℕ) (kind : Coding) → Follows c s → Fits c.plain (changes_of c s) → place_in (listed s) u ≡ Some k → kind_in u.table i ≡ Some references → column_in u.table i ≡ Some (Coded kind) → raw_in s (record { table = u.table; row = k }) i ≡ n → MatchOption (decoded kind n) ⊥ (λ t. cell_of (extended c s).plain u i ≡ Some (refer t))
+pub coded_listed : (c : Chain) (s : Source) (u : Token) (k i n : ℕ) (kind : Coding) → Lands c s → Fits c.plain (changes_of c s) → place_in (listed s) u ≡ Some k → kind_in u.table i ≡ Some references → column_in u.table i ≡ Some (Coded kind) → raw_in s (record { table = u.table; row = k }) i ≡ n → MatchOption (decoded kind n) ⊥ (λ t. cell_of (extended c s).plain u i ≡ Some (refer t))
 unfolding cell_read reading_after
 coded_listed c s u k i n kind follows fits place kinds column is =
     coded_is (rows_with c (listed s)) (decoded kind n) (λ t. cell_of (extended c s).plain u i ≡ Some (refer t)) (made_after c s is_index u k i (Coded kind) references refer (option_and_then (within (rows_with c (listed s))) (decoded kind n)) (no_index c s follows) follows fits place column refl (plain_kind _ _ references refl kinds) refl (rw is refl))
@@ -196,7 +196,7 @@ unbroken_is false p h = absurd cc
 pub texts_listed : (c : Chain) (s : Source) (u : Token) (k n : ℕ) (code : Code) → Follows c s → place_in (listed s) u ≡ Some k → u.table ≡ 0x06 → raw_in s (record { table = u.table; row = k }) 0 ≡ n → code_loaded s.loaded n ≡ Some code → texts_are_there (users_after c s) code.code ≡ true
 unfolding broken_body broken_body_at body_stands
 texts_listed c s u k n code follows place is raw there =
-    let at = place_row c s u k follows place in
+    let at = place_row c s u k follows.lands place in
     let e : k - 1 + 1 ≡ k = omega (arith, at.low) in
     let high : k ≤ rows_of s.layout 0x06 = rw is at at.high in
     let token : slice_get (of_table 0x06 (listed s)) (k - 1) ≡ Some u = ap (λ t. slice_get (of_table t (listed s)) (k - 1)) (sym is) ∙ at.token in

@@ -5,10 +5,15 @@ use Rattle.enc_base.specs.declared.token.Token.{Token}
 use Rattle.enc_rows.specs.Source.{Source}
 use Rattle.enc_plain.specs.Chain.{Chain}
 use Rattle.enc_delta.specs.Delta.{listed}
-use Rattle.enc_delta.specs.Judged.{first_meta}
+use Rattle.enc_delta.specs.Judged.{rules, upto, first_of, first_meta}
 
--- the delta breaks no rule, and its tokens are such by their numbers
-pub record Follows (c : Chain) (s : Source) : Type 0 where
-  pub rules : first_meta c s ≡ None
+-- the delta's lists, tables, indices and offsets break no rule, and its tokens are such by their numbers: so its rows and children land in the module
+pub record Lands (c : Chain) (s : Source) : Type 0 where
+  pub early : first_of (upto 14 rules) c s ≡ None
   pub tables : IsTrue (list_all (λ (t : Token). nat_lt t.table 0x100) (listed s))
   pub rows : IsTrue (list_all (λ (t : Token). nat_lt t.row 0x1000000) (listed s))
+
+-- and no other rule is broken
+pub record Follows (c : Chain) (s : Source) : Type 0 where
+  pub lands : Lands c s
+  pub rules : first_meta c s ≡ None

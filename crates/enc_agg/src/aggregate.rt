@@ -105,7 +105,7 @@ impl Aggregate {
 
     /// Makes a delta ready that breaks no rule, and room for it: all memory is taken here, and
     /// nothing else that is seen changes.
-    #[tactic(auto, unfolding(crate::specs::Seen::IsPrepared))]
+    #[tactic(auto, using(crate::proofs::Landing::follows_chain), unfolding(crate::specs::Seen::IsPrepared))]
     pub fn prepare(&mut self, delta: Delta) -> Result<Ready, AllocError>
         requires { first_meta (chain_of_all self.old) delta ≡ None }
         ensures base { self.new.base ≡ self.old.base }

@@ -1,5 +1,5 @@
 -- The first rule that a delta breaks after its chain.
-use Rattle.std.specs.Prelude.{ℕ, List, [], ◌∷◌, map, Option, None, option_map}
+use Rattle.std.specs.Prelude.{ℕ, List, [], ◌∷◌, map, Option, None, option_map, nat_le, if◌then◌else◌}
 use Rattle.enc_base.specs.Token.{number_of}
 use Rattle.enc_base.specs.Order.{or_else}
 use Rattle.enc_base.specs.declared.refusal.Refusal.{Refusal}
@@ -62,6 +62,11 @@ rules =
     ∷ (23, bad_locals)
     ∷ (24, too_many)
     ∷ []
+
+-- the rules up to a number: those up to 14 speak of the delta's lists, tables, indices and offsets, those behind of what its rows say
+abbrev pub upto : ℕ → List (ℕ × Rule) → List (ℕ × Rule)
+upto n [] = []
+upto n (r ∷ rs) = if nat_le r.0 n then r ∷ upto n rs else []
 
 abbrev pub refused : ℕ → Option Place → Option Refusal
 refused n p = option_map (λ (q : Place). record { code = E n; place = q }) p
