@@ -1,4 +1,4 @@
--- For the contracts of private functions: what the parts of the program stand for.
+-- What the parts of the program stand for.
 use Rattle.std.specs.Prelude.{◌≡◌, ℕ, zero, suc, ◌*◌, ◌<◌, List, [], ◌∷◌, map, length, reverse, Option, Some, None, nat_lt, nat_le, slice_index, if◌then◌else◌}
 use Rattle.enc_base.specs.declared.token.Token.{Token}
 use Rattle.enc_base.specs.declared.refusal.StreamName.{StreamName}

@@ -1,4 +1,4 @@
--- For the contracts of private functions: what an answer of the checker stands for.
+-- What an answer of the checker stands for.
 use Rattle.std.specs.Prelude.{◌≡◌, Result, Ok, Err}
 use Rattle.enc_base.specs.declared.refusal.Refusal.{Refusal}
 use Rattle.enc_base.specs.declared.refusal.ReadFault.{ReadFault}

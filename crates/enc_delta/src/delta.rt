@@ -1,5 +1,5 @@
 //! A delta: the metadata and the IL that one edit gives.
-ghost use Rattle.std.specs.Prelude.{◌≡◌, ◌↔◌, ◌+◌, ◌<◌, ◌^◌, Some, IsTrue, IsSome, IfSome, length, option_map, slice_get};
+ghost use Rattle.std.specs.Prelude.{◌≡◌, ◌≢◌, ◌↔◌, IfErr, ◌+◌, ◌<◌, ◌^◌, Some, IsTrue, IsSome, IfSome, length, option_map, slice_get};
 ghost use Rattle.enc_meta.specs.Heaps.{lengths_of};
 ghost use Rattle.enc_opcodes.specs.Body.{code_seen};
 ghost use Rattle.enc_plain.specs.Bodies.{code_there, code_loaded};
@@ -8,6 +8,7 @@ ghost use Rattle.enc_rows.specs.Layout.{rows_of, has_row};
 ghost use Rattle.enc_rows.specs.Source.{raw_in};
 ghost use Rattle.enc_base.specs.Token.{nth_row};
 ghost use Rattle.enc_delta.specs.Delta.{delta_of, entry_at, token_at, log_in, map_in, listed};
+ghost use Rattle.enc_base.specs.declared.refusal.ReadFault.TheVariants.{Memory};
 ghost use Rattle.enc_delta.specs.Seen.{Reads, IsRising};
 ghost use Rattle.enc_schema.specs.Tables.{enc_log, enc_map};
 
@@ -51,7 +52,8 @@ impl Delta {
     /// Reads a delta. Refused is the first of F1, F2, F6 of its metadata. It takes no memory, and goes
     /// over EncMap once.
     pub fn read(meta: Vec<u8>, il: Vec<u8>) -> Result<Delta, ReadFault>
-        ensures { Reads result (delta_of meta.items il.items) }
+        ensures reads { Reads result (delta_of meta.items il.items) }
+        ensures free { IfErr result (λ fault. fault ≢ Memory) }
     {
         match open(&meta, &il) {
             Ok(opened) => {

@@ -1,4 +1,4 @@
--- For the contracts of private functions: what a root that is built becomes, once its heaps or its tables were changed.
+-- What a root that is built becomes, once its heaps or its tables were changed.
 use Rattle.std.specs.Prelude.{ℕ, List}
 use Rattle.std.specs.Borrow.{Lends, MutBor, Fml}
 use Rattle.enc_meta.specs.Built.{Built}

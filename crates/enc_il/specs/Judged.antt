@@ -1,4 +1,4 @@
--- For the contracts of private functions: what a body is judged by: where its instructions begin, and that they are one list.
+-- What a body is judged by: where its instructions begin, and that they are one list.
 use Rattle.std.specs.Prelude.{◌≡◌, ℕ, Bool, false, List, length, slice_index_or}
 use Rattle.enc_opcodes.specs.Instruction.{Instruction, instr_in, IsChain, instructions_of, end_of}
 

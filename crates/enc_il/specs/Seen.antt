@@ -1,4 +1,4 @@
--- For the contracts of private functions: what the values of bodies, sections and instructions stand for.
+-- What the values of bodies, sections and instructions stand for.
 use Rattle.std.specs.Prelude.{ℕ, List, length, Option, Some, None, option_map, Result, Ok, Err}
 use Rattle.std.specs.Borrow.{Bor}
 use Rattle.enc_opcodes.specs.declared.code.Arg.{Arg}

@@ -1,4 +1,4 @@
--- For the contracts of private functions: the chain that a base begins has the base's module and its user texts.
+-- The chain that a base begins has the base's module and its user texts.
 use Rattle.std.proofs.Common.{◌≡◌, ℕ, refl, sym}
 use Rattle.enc_meta.specs.Joined.{joined_user}
 use Rattle.enc_rows.specs.Source.{Source}

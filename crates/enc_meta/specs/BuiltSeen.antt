@@ -1,4 +1,4 @@
--- For the contracts of private functions: what a heap builder's answers tell.
+-- What a heap builder's answers tell.
 use Rattle.std.specs.Prelude.{◌≡◌, ℕ, Bool, true, false, Result, Ok, Err}
 use Rattle.enc_base.specs.declared.refusal.StreamName.{StreamName}
 use Rattle.enc_meta.specs.Heaps.{Counted}

@@ -1,4 +1,4 @@
--- For the contracts of private functions: the values of one heap, and how the form of its values writes them.
+-- The values of one heap, and how the form of its values writes them.
 use Rattle.std.specs.Prelude.{◌≡◌, ℕ, ◌+◌, ◌*◌, ◌%◌, ◌^◌, ◌≤◌, max, Bool, true, not, ◌&&◌, List, [], ◌∷◌, length, map, IsTrue, nat_lt, ◌==◌}
 use Rattle.std.specs.List.{list_any, list_all}
 use Rattle.std.specs.Map.{keys_of}

@@ -1,4 +1,4 @@
--- For the contracts of private functions: a log of writes as entries of a map.
+-- A log of writes as entries of a map.
 use Rattle.std.specs.Prelude.{ℕ, List, map, string_bytes}
 use Rattle.enc_outside.specs.declared.sure.Write.{Write}
 

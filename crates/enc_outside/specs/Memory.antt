@@ -1,4 +1,4 @@
--- For the contracts of private functions: what is seen of a store and of a sink in memory, whose calls fail at given numbers.
+-- What is seen of a store and of a sink in memory, whose calls fail at given numbers.
 use Rattle.std.specs.Prelude.{ℕ, Bool, List, nat_eq, if◌then◌else◌, refl}
 use Rattle.std.specs.List.{list_any}
 use Rattle.std.specs.Coded.{Coded, code_by, coded×, coded_ℕ, coded_list}

@@ -1,4 +1,4 @@
--- For the contracts of private functions: what a reader of this crate answers, beside what the grammar says.
+-- What a reader of this crate answers, beside what the grammar says.
 use Rattle.std.specs.Prelude.{◌≡◌, ℕ, List, Option, Some, None, option_map, ◌++◌}
 use Rattle.std.specs.Prelude.{Result, Ok, Err, Vec}
 use Rattle.std.specs.declared.alloc.Global.{Global}

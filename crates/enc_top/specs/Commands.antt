@@ -1,4 +1,4 @@
--- A command of the program as the job that it is.
+-- For the contracts of private functions: a command of the program as the job that it is.
 use Rattle.enc_top.specs.declared.command.Command.{Command}
 use Rattle.enc_top.specs.declared.command.Command.TheVariants.{Show, List, Check}
 use Rattle.enc_top.specs.Words.{Job, show, list, check, texts}

@@ -1,4 +1,4 @@
--- What the loaded files stand for.
+-- For the contracts of private functions: what the loaded files stand for.
 use Rattle.std.specs.Prelude.{◌≡◌, ◌∷◌, Result, Ok, Err, string_bytes}
 use Rattle.enc_rows.specs.Source.{Source}
 use Rattle.enc_agg.specs.Seen.{History}

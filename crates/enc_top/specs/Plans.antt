@@ -1,4 +1,4 @@
--- What the plan of a verdict says, and where saving stops.
+-- For the contracts of private functions: what the plan of a verdict says, and where saving stops.
 use Rattle.std.specs.Prelude.{◌≡◌, ℕ, List, map, Option, string_bytes}
 use Rattle.enc_outside.specs.Outside.{Files}
 use Rattle.enc_outside.specs.declared.store.SaveError.{SaveError}

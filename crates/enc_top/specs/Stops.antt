@@ -1,4 +1,4 @@
--- What the program's stop, which is called a halt here, says of the stop that is defined.
+-- For the contracts of private functions: what the program's stop, which is called a halt here, says of the stop that is defined.
 use Rattle.std.specs.Prelude.{◌≡◌, ◌≢◌, ℕ, List, [], Result, Ok, Err}
 use Rattle.enc_base.specs.declared.refusal.ReadFault.{ReadFault}
 use Rattle.enc_base.specs.declared.refusal.ReadFault.TheVariants as fault
