@@ -45,7 +45,7 @@ fn add_pair(pairs: &mut Vec<Pair>, last: Option<Entry>, entry: Entry) -> Result<
 
 /// The children of the Add entries with their owners, in the order of the log; the Module's entries
 /// are passed over.
-fn pairs_of(alloc: Global, log: &[Entry]) -> Result<Vec<Pair>, AllocError>
+pub fn pairs_of(alloc: Global, log: &[Entry]) -> Result<Vec<Pair>, AllocError>
     ensures { IfOk result (λ p. map pair_seen p.items ≡ pairs_in (counted log.now)) }
 {
     let mut pairs = Vec::new(alloc);
