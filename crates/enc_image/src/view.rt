@@ -204,12 +204,11 @@ impl ModuleView for Image {
     }
 
     fn kid_rows(&self, alloc: Global, owner: Token, table: u8) -> Result<Vec<u32>, AllocError> {
-        let mut rows = Vec::new(alloc);
-        self.tables.push_children(
+        let rows = self.tables.child_rows(
+            alloc,
             metadata(&self.bytes, &self.container),
             table,
             owner.row - 1,
-            &mut rows,
         )?;
         Ok(rows)
     }

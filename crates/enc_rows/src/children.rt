@@ -1,5 +1,5 @@
 //! The children of an owner, by its run (ECMA-335 II.22.37, II.22.26, II.22.12, II.22.35).
-ghost use Rattle.std.specs.Prelude.{◌≡◌, ℕ, ◌<◌, ◌-◌, ◌^◌, ◌==◌, ◌++◌, IsTrue, OnOk, length, slice_get};
+ghost use Rattle.std.specs.Prelude.{◌≡◌, ℕ, ◌<◌, ◌-◌, ◌^◌, ◌==◌, ◌++◌, IsTrue, OnOk, length, slice_get, IfOk};
 ghost use Rattle.std.specs.List.{list_any, range_with_len};
 ghost use Rattle.enc_meta.specs.Heaps.{part};
 ghost use Rattle.enc_schema.specs.Children.{is_child_table, owner_table as table_of_owners, run_column as column_of_runs};
@@ -10,7 +10,7 @@ use crate::faults::{number_of, run_rows};
 use crate::tables::Tables;
 use enc_base::Token;
 use enc_schema::{owner_table, ptr_table, run_column};
-use std::alloc::AllocError;
+use std::alloc::{AllocError, Global};
 
 /// The places of a run: from the first one up to the end, which is none of them.
 #[derive(Clone, Copy, Debug, PartialEq, Eq)]
@@ -197,9 +197,27 @@ impl Tables {
         run.first <= row && row < run.end
     }
 
-    /// Appends all of these children in order.
+    /// The rows of all of these children in order.
+    pub fn child_rows(
+        &self,
+        alloc: Global,
+        bytes: &[u8],
+        child: u8,
+        n: u32,
+    ) -> Result<Vec<u32>, AllocError>
+        requires bytes { IsWithin (part bytes.now self.now.span) self.now }
+        requires child { IsTrue (is_child_table child) }
+        requires row { n < rows_of self.now (table_of_owners child) }
+        ensures { IfOk result (λ rows. rows.items ≡ children_of (rows_with bytes.now self.now) (table_of_owners child) (column_of_runs child) child n) }
+    {
+        let mut rows = Vec::new(alloc);
+        self.push_children(bytes, child, n, &mut rows)?;
+        Ok(rows)
+    }
+
+    /// Appends all of these children in order, up to where memory ends.
     #[tactic(auto, unfolding(crate::specs::Runs::children_of))]
-    pub fn push_children(
+    fn push_children(
         &self,
         bytes: &[u8],
         child: u8,

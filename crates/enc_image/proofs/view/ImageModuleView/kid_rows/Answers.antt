@@ -10,8 +10,8 @@ use Rattle.enc_image.proofs.view.ImageModuleView.kid_rows.Goals as goal
 pub overflow_sub-owner : goal.overflow_sub-owner
 overflow_sub-owner c = let at = owner_in_rows _ c.args.owner c.args.table c.requires.row c.requires.owners in omega (arith, at.0)
 
-pub push_children-requires-clause-row : goal.push_children-requires-clause-row
-push_children-requires-clause-row c =
+pub child_rows-requires-clause-row : goal.child_rows-requires-clause-row
+child_rows-requires-clause-row c =
     let o : Opened = record { container = c.self.inside.container; root = c.self.inside.root; tables = c.self.inside.tables } in
     let s : Source = source_from c.self.inside.bytes.items o.container o.root o.tables in
     let row : IsTrue (has_row (module_in s) c.args.owner) = rw (← c.self.view_is) at c.requires.row in
@@ -25,4 +25,4 @@ returns c =
     let row : IsTrue (has_row (module_in s) c.args.owner) = rw (← c.self.view_is) at c.requires.row in
     let are : kids_of (module_in s) c.args.owner c.args.table ≡ kids_from s c.args.table (c.args.owner.row - 1) = kids_are s c.args.owner c.args.table row c.requires.table c.requires.owners in
     let seen = kids_seen c.self.inside.bytes.items c.metadata.result.now o c.args.table (c.args.owner.row - 1) c.self.invariant.opened (rw c.deref.ensures.value at c.metadata.ensures) in
-    rw (← c.self.view_is) ((rw c.new-rows.ensures.items at c.in_ok-push_children.ensures) ∙ seen ∙ sym are)
+    rw (← c.self.view_is) (c.in_ok-rows.ensures ∙ seen ∙ sym are)
