@@ -30,7 +30,8 @@ use Rattle.enc_agg.proofs.Counting.{apply_tables}
 use Rattle.enc_agg.proofs.Fitting.{fits, put_all, count_is}
 use Rattle.enc_agg.proofs.Changed.{log_names}
 use Rattle.enc_agg.proofs.Pairs.{pair_children, OwnedBy, AllOwned, log_owned, all_attach}
-use Rattle.enc_agg.proofs.Owned.{count_cons, count_same, count_map, all_applied, attached_count, kid_owner, has_owner}
+use Rattle.enc_plain.proofs.Owned.{count_cons, kid_owner, has_owner}
+use Rattle.enc_agg.proofs.Owned.{count_same, count_map, all_applied, attached_count}
 
 rows_told : (c : Chain) (s : Source) → HasTables c.plain → Lands c s → (t : ℕ) → length (rows_in (apply c.plain (changes_of c s)) t) ≡ rows_with c (listed s) t
 unfolding rows_with

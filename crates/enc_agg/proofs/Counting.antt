@@ -9,9 +9,9 @@ use Rattle.enc_base.specs.declared.refusal.Place.TheVariants as place
 use Rattle.enc_base.specs.declared.token.Token.{Token}
 use Rattle.enc_plain.specs.Module.{Module, Row, rows_in}
 use Rattle.enc_plain.specs.Cell.{Cell}
-use Rattle.enc_plain.specs.Apply.{Change, put_row, put, apply}
+use Rattle.enc_plain.specs.Apply.{Change, put_row, put_at, put, apply}
 use Rattle.enc_plain.specs.Chain.{Chain, rows_before}
-use Rattle.enc_plain.proofs.Applied.{table_same, table_other}
+use Rattle.enc_plain.proofs.Applied.{table_same, table_other, put_at_is}
 use Rattle.enc_plain.proofs.AttachedTo.{change_length}
 use Rattle.enc_delta.specs.Rules.{broken, is_insert, inserts, insert_fault_of}
 
@@ -22,15 +22,16 @@ put_within table (r ∷ rows) zero cells h = refl
 put_within table (r ∷ rows) (suc n) cells h = ap suc (put_within table rows n cells (omega arith))
 
 -- a row at the end
-pub put_past : (table : ℕ) (rows : List Row) (n : ℕ) (cells : List Cell) → length rows ≤ n → length (put_row table rows n cells) ≡ length rows + 1
-put_past table [] n cells h = refl
-put_past table (r ∷ rows) zero cells h = absurd (omega arith)
-put_past table (r ∷ rows) (suc n) cells h = ap suc (put_past table rows n cells (omega arith)) ∙ omega arith
+pub put_past : (table : ℕ) (rows : List Row) (n : ℕ) (cells : List Cell) → length rows ≡ n → length (put_row table rows n cells) ≡ length rows + 1
+put_past table [] zero cells h = refl
+put_past table [] (suc n) cells h = absurd cc
+put_past table (r ∷ rows) zero cells h = absurd (omega (arith, h))
+put_past table (r ∷ rows) (suc n) cells h = ap suc (put_past table rows n cells (omega (arith, h))) ∙ omega arith
 
 -- no table more and none less
 pub put_tables : (m : Module) (ch : Change) → length (put m ch).tables ≡ length m.tables
 unfolding put
-put_tables m ch = change_length m.tables ch.token.table (λ rows. put_row ch.token.table rows (ch.token.row - 1) ch.cells)
+put_tables m ch = change_length m.tables ch.token.table (λ rows. put_at ch.token.table rows ch.token.row ch.cells)
 
 -- the tables after all changes are as many as before
 pub apply_tables : (chs : List Change) (m : Module) → length (apply m chs).tables ≡ length m.tables
@@ -41,12 +42,12 @@ apply_tables (ch ∷ chs) m = apply_tables chs (put m ch) ∙ put_tables m ch
 -- another table keeps its rows
 pub rows_other : (m : Module) (ch : Change) (u : ℕ) → u ≢ ch.token.table → rows_in (put m ch) u ≡ rows_in m u
 unfolding put
-rows_other m ch u e = table_other m.tables ch.token.table u (λ rows. put_row ch.token.table rows (ch.token.row - 1) ch.cells) e
+rows_other m ch u e = table_other m.tables ch.token.table u (λ rows. put_at ch.token.table rows ch.token.row ch.cells) e
 
 -- its own has the row in it
-pub rows_same : (m : Module) (ch : Change) → ch.token.table < length m.tables → rows_in (put m ch) ch.token.table ≡ put_row ch.token.table (rows_in m ch.token.table) (ch.token.row - 1) ch.cells
+pub rows_same : (m : Module) (ch : Change) → ch.token.table < length m.tables → 0 < ch.token.row → rows_in (put m ch) ch.token.table ≡ put_row ch.token.table (rows_in m ch.token.table) (ch.token.row - 1) ch.cells
 unfolding put
-rows_same m ch h = table_same m.tables ch.token.table (λ rows. put_row ch.token.table rows (ch.token.row - 1) ch.cells) h
+rows_same m ch h low = table_same m.tables ch.token.table (λ rows. put_at ch.token.table rows ch.token.row ch.cells) h ∙ put_at_is ch.token.table (rows_in m ch.token.table) ch.token.row ch.cells low
 
 -- one token more is counted or not
 pub inserts_more : (c : Chain) (before : List Token) (t : Token) (u : ℕ) → inserts c (before ++ t ∷ []) u ≡ inserts c before u + cond (t.table == u && is_insert c t) 1 0
@@ -127,11 +128,11 @@ near_by c m before t tally none false is = near_old c m before t tally is
 pub near : (c : Chain) (m : Module) (before : List Token) (t : Token) → Tally c m before → insert_fault_of c before t ≡ None → Near m t
 near c m before t tally none = near_by c m before t tally none (is_insert c t) refl
 
-grown : (m : Module) (t : Token) (cells : List Cell) → t.table < length m.tables → length (rows_in m t.table) ≤ t.row - 1 → length (rows_in (put m (record { token = t; cells = cells })) t.table) ≡ length (rows_in m t.table) + 1
-grown m t cells h past = rw (rows_same m (record { token = t; cells = cells }) h) (put_past t.table (rows_in m t.table) (t.row - 1) cells past)
+grown : (m : Module) (t : Token) (cells : List Cell) → t.table < length m.tables → 0 < t.row → length (rows_in m t.table) ≡ t.row - 1 → length (rows_in (put m (record { token = t; cells = cells })) t.table) ≡ length (rows_in m t.table) + 1
+grown m t cells h low past = rw (rows_same m (record { token = t; cells = cells }) h low) (put_past t.table (rows_in m t.table) (t.row - 1) cells past)
 
-kept : (m : Module) (t : Token) (cells : List Cell) → t.table < length m.tables → t.row - 1 < length (rows_in m t.table) → length (rows_in (put m (record { token = t; cells = cells })) t.table) ≡ length (rows_in m t.table)
-kept m t cells h within = rw (rows_same m (record { token = t; cells = cells }) h) (put_within t.table (rows_in m t.table) (t.row - 1) cells within)
+kept : (m : Module) (t : Token) (cells : List Cell) → t.table < length m.tables → 0 < t.row → t.row - 1 < length (rows_in m t.table) → length (rows_in (put m (record { token = t; cells = cells })) t.table) ≡ length (rows_in m t.table)
+kept m t cells h low within = rw (rows_same m (record { token = t; cells = cells }) h low) (put_within t.table (rows_in m t.table) (t.row - 1) cells within)
 
 other : (m : Module) (t : Token) (cells : List Cell) (u : ℕ) → u ≢ t.table → length (rows_in (put m (record { token = t; cells = cells })) u) ≡ length (rows_in m u)
 other m t cells u e = rw (rows_other m (record { token = t; cells = cells }) u e) refl
@@ -144,7 +145,7 @@ put_new c m before t cells tally none there small is =
     record {
       tables = put_tables m (record { token = t; cells = cells }) ∙ tally.tables;
       rows = λ u. elim (cases_eq u t.table) [
-        | inl same ↦ rw (same, here) (grown m t cells (omega (arith, there, tally.tables)) (omega (arith, e, r)) ∙ omega (arith, r))
+        | inl same ↦ rw (same, here) (grown m t cells (omega (arith, there, tally.tables)) (omega (arith, e)) (omega (arith, e, r)) ∙ omega (arith, r))
         | inr ne ↦ rw (inserts_elsewhere c before t u ne) (other m t cells u ne ∙ tally.rows u)
       ];
       few = λ u some. elim (cases_eq u t.table) [
@@ -160,7 +161,7 @@ put_old c m before t cells tally there is =
     record {
       tables = put_tables m (record { token = t; cells = cells }) ∙ tally.tables;
       rows = λ u. elim (cases_eq u t.table) [
-        | inl same ↦ rw (same, inserts_kept c before t t.table is) (kept m t cells (omega (arith, there, tally.tables)) (omega (arith, e.0, e.1, r)) ∙ r)
+        | inl same ↦ rw (same, inserts_kept c before t t.table is) (kept m t cells (omega (arith, there, tally.tables)) e.0 (omega (arith, e.0, e.1, r)) ∙ r)
         | inr ne ↦ rw (inserts_kept c before t u is) (other m t cells u ne ∙ tally.rows u)
       ];
       few = λ u some. rw (inserts_kept c before t u is) (tally.few u (rw (inserts_kept c before t u is) at some));

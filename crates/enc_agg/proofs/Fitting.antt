@@ -10,7 +10,7 @@ use Rattle.enc_base.specs.Token.{number_of}
 use Rattle.enc_rows.specs.Source.{Source}
 use Rattle.enc_plain.specs.Cell.{Cell}
 use Rattle.enc_plain.specs.Module.{Module, rows_in}
-use Rattle.enc_plain.specs.Apply.{change_at, put, apply, Attached, with_child, attach, attach_all}
+use Rattle.enc_plain.specs.Apply.{change_row, put, apply, Attached, with_child, attach, attach_all}
 use Rattle.enc_plain.specs.Fits.{Fits, FitsOne, HasRuns}
 use Rattle.enc_plain.specs.Chain.{Chain}
 use Rattle.enc_plain.proofs.Applied.{runs_applied}
@@ -148,7 +148,7 @@ few c s has f t some = (put_all c s has f).few t some
 -- attaching keeps the tables
 pub attach_tables : (m : Module) (a : Attached) → length (attach m a).tables ≡ length m.tables
 unfolding attach
-attach_tables m a = change_length m.tables a.owner.table (λ rows. change_at rows (a.owner.row - 1) (with_child a.child))
+attach_tables m a = change_length m.tables a.owner.table (λ rows. change_row rows a.owner.row (with_child a.child))
 
 attached_tables : (pairs : List Attached) (m : Module) → length (attach_all m pairs).tables ≡ length m.tables
 unfolding attach_all

@@ -14,7 +14,7 @@ use Rattle.enc_delta.proofs.ListsChildren.{two, counted_no, Good, add_low, add_h
 use Rattle.enc_delta.specs.Pairs.{pairs_in}
 use Rattle.enc_agg.specs.Given.{gives, gives_to, rows_given}
 use Rattle.enc_agg.proofs.Pairs.{pair_of, pairs_yes, child_is}
-use Rattle.enc_agg.proofs.Owned.{count_cons}
+use Rattle.enc_plain.proofs.Owned.{count_cons}
 
 -- the pairs of some owners with the rows of a table behind one, in order
 abbrev pub numbered : ℕ → ℕ → List Entry → List Attached

@@ -27,7 +27,7 @@ use Rattle.enc_plain.specs.Sound.{HasOwners}
 use Rattle.enc_plain.specs.Sound.{all_kids, IsOwned}
 use Rattle.enc_delta.proofs.Unbroken.{landed}
 use Rattle.enc_agg.proofs.Fitting.{count_is, few}
-use Rattle.enc_agg.proofs.Owned.{count_cons}
+use Rattle.enc_plain.proofs.Owned.{count_cons, few_kids}
 use Rattle.enc_agg.proofs.Given.{gained_rows, rows_many, pair_at, given_many}
 use Rattle.enc_agg.proofs.Children.{kids_after, owner_kept, owner_new, adds_are}
 
@@ -166,100 +166,6 @@ given_few c d t sound f there some =
 pub some_row : (m : Module) (u : Token) → IsTrue (has_row m u) → 0 < u.row
 unfolding has_row
 some_row m u h = grind (arith, nat_tests)
-
--- the numbers of a list without one number
-abbrev others : ℕ → List ℕ → List ℕ
-others n xs = filter (λ k. not (k == n)) xs
-
-split_step : (b : Bool) (x m : ℕ) (xs ys : List ℕ) → length xs ≡ m + length ys → suc (length xs) ≡ cond b 1 0 + m + length (cond (not b) (x ∷ ys) ys)
-split_step true x m xs ys h = omega arith
-split_step false x m xs ys h = omega arith
-
-split : (n : ℕ) (xs : List ℕ) → length xs ≡ count_by (λ k. k == n) xs + length (others n xs)
-split n [] = omega arith
-split n (x ∷ xs) = split_step (x == n) x (count_by (λ k. k == n) xs) xs (others n xs) (split n xs) ∙ ap (λ m. m + length (others n (x ∷ xs))) (sym (count_cons (λ k. k == n) x xs))
-
-others_step : (r n x : ℕ) (b : Bool) (ys : List ℕ) (m : ℕ) → r ≢ n → (x == n) ≡ b → count_by (λ k. k == r) ys ≡ m → count_by (λ k. k == r) (cond (not b) (x ∷ ys) ys) ≡ cond (x == r) 1 0 + m
-others_step r n x true ys m d e h =
-    let is : x ≡ n = grind (arith, nat_tests) in
-    let other : (x == r) ≡ false = differs x r (λ f. d (omega arith)) in
-    rw other (h ∙ omega arith)
-  where
-    differs : (a b : ℕ) → (a ≡ b → ⊥) → (a == b) ≡ false
-    differs a b h = grind (arith, nat_tests)
-others_step r n x false ys m d e h = count_cons (λ k. k == r) x ys ∙ ap (λ k. cond (x == r) 1 0 + k) h
-
-count_others : (r n : ℕ) (xs : List ℕ) → r ≢ n → count_by (λ k. k == r) (others n xs) ≡ count_by (λ k. k == r) xs
-count_others r n [] d = refl
-count_others r n (x ∷ xs) d = others_step r n x (x == n) (others n xs) (count_by (λ k. k == r) xs) d refl (count_others r n xs d) ∙ sym (count_cons (λ k. k == r) x xs)
-
-none_step : (n x : ℕ) (b : Bool) (ys : List ℕ) → (x == n) ≡ b → count_by (λ k. k == n) ys ≡ 0 → count_by (λ k. k == n) (cond (not b) (x ∷ ys) ys) ≡ 0
-none_step n x true ys e h = h
-none_step n x false ys e h = count_cons (λ k. k == n) x ys ∙ rw (e, h) refl
-
-count_none : (n : ℕ) (xs : List ℕ) → count_by (λ k. k == n) (others n xs) ≡ 0
-count_none n [] = refl
-count_none n (x ∷ xs) = none_step n x (x == n) (others n xs) refl (count_none n xs)
-
-no_numbers : (xs : List ℕ) → ((r : ℕ) → count_by (λ k. k == r) xs ≡ 0) → length xs ≤ 0
-no_numbers [] h = omega arith
-no_numbers (x ∷ xs) h =
-    let same : (x == x) ≡ true = grind (arith, nat_tests) in
-    let none = sym (count_cons (λ k. k == x) x xs) ∙ h x in
-    absurd (one_there (x == x) (count_by (λ k. k == x) xs) same none)
-  where
-    one_there : (b : Bool) (n : ℕ) → b ≡ true → cond b 1 0 + n ≡ 0 → ⊥
-    one_there true n e h = absurd (omega arith)
-    one_there false n e h = absurd cc
-
--- a list of numbers of which each is at most n, and stands in it once, isn't longer
-at_most : (n : ℕ) (xs : List ℕ) → ((r : ℕ) → count_by (λ k. k == r) xs ≤ 1) → ((r : ℕ) → n < r → count_by (λ k. k == r) xs ≡ 0) → count_by (λ k. k == 0) xs ≡ 0 → length xs ≤ n
-at_most zero xs once past none = no_numbers xs (λ r. elim (cases_lt 0 r) [ inl h ↦ past r h | inr h ↦ let z : r ≡ 0 = omega arith in rw z none ])
-at_most (suc n) xs once past none =
-    let rest = at_most n (others (suc n) xs) (λ r. elim (cases_eq r (suc n)) [ inl e ↦ rw (e, count_none (suc n) xs) (omega arith) | inr d ↦ rw (count_others r (suc n) xs d) (once r) ]) (λ r low. elim (cases_eq r (suc n)) [ inl e ↦ rw e (count_none (suc n) xs) | inr d ↦ rw (count_others r (suc n) xs d) (past r (omega arith)) ]) (count_others 0 (suc n) xs (λ e. absurd (omega arith)) ∙ none) in
-    let here = once (suc n) in
-    let whole = split (suc n) xs in
-    omega arith
-
-row_part : (f : Row → List ℕ) (rows : List Row) (i : ℕ) (x : Row) → slice_get rows i ≡ Some x → length (f x) ≤ length (flat_map f rows)
-row_part f [] i x e = absurd cc
-row_part f (r ∷ rows) zero x e =
-    let is : r ≡ x = cc in
-    rw (length-append (f r) (flat_map f rows), is) (omega arith)
-row_part f (r ∷ rows) (suc i) x e =
-    let rest = row_part f rows i x e in
-    rw (length-append (f r) (flat_map f rows)) (omega arith)
-
-row_kids_part : (rows : List Row) (row t : ℕ) (o : Option Row) → row_at rows row ≡ o → length (kids_with o t) ≤ length (flat_map (λ (r : Row). kids_at r t) rows)
-row_kids_part rows row t None e = omega arith
-row_kids_part rows zero t (Some x) e = absurd cc
-row_kids_part rows (suc i) t (Some x) e = row_part (λ (r : Row). kids_at r t) rows i x e
-
-kids_part_if : (m : Module) (u : Token) (t : ℕ) (b : Bool) → (u.table == owner_table t) ≡ b → length (if b then kids_with (row_at (rows_in m u.table) u.row) t else []) ≤ length (all_kids m t)
-kids_part_if m u t true e = let is : u.table ≡ owner_table t = grind (arith, nat_tests) in rw is (row_kids_part (rows_in m (owner_table t)) u.row t _ refl)
-kids_part_if m u t false e = omega arith
-
-kids_part : (m : Module) (u : Token) (t : ℕ) → length (kids_of m u t) ≤ length (all_kids m t)
-unfolding kids_of row_of
-kids_part m u t = kids_part_if m u t (u.table == owner_table t) refl
-
-once_le : (b : Bool) (n : ℕ) → n ≡ cond b 1 0 → n ≤ 1
-once_le true n e = omega arith
-once_le false n e = omega arith
-
-past_none : (r n x : ℕ) → x ≡ cond (nat_le 1 r && nat_le r n) 1 0 → n < r → x ≡ 0
-past_none zero n x e h = absurd (omega arith)
-past_none (suc r) n x e h = let a : nat_le (suc r) n ≡ false = grind (arith, nat_tests) in let b : nat_le 1 (suc r) ≡ true = grind (arith, nat_tests) in e ∙ rw (a, b) refl
-
-zero_none : (n x : ℕ) → x ≡ cond (nat_le 1 0 && nat_le 0 n) 1 0 → x ≡ 0
-zero_none n x e = e
-
--- where each child row has just one owner, no row has more children than there are rows
-pub few_kids : (m : Module) (u : Token) (t : ℕ) → IsOwned m → is_child_table t ≡ true → length (kids_of m u t) ≤ length (rows_in m t)
-few_kids m u t owned there =
-    let all = at_most (length (rows_in m t)) (all_kids m t) (λ r. once_le _ _ (owned.once t r there)) (λ r h. past_none r (length (rows_in m t)) _ (owned.once t r there) h) (zero_none (length (rows_in m t)) _ (owned.once t 0 there)) in
-    let part = kids_part m u t in
-    omega arith
 
 given_step : (g s : Bool) (e : Entry) (n : ℕ) (es : List Entry) → n ≤ length es → cond (g && s) 1 0 + n ≤ length (cond g (e ∷ es) es)
 given_step true true e n es h = omega arith

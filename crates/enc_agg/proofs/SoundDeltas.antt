@@ -20,6 +20,7 @@ use Rattle.enc_rows.specs.Sums.{below}
 use Rattle.enc_plain.specs.Chain.{Chain}
 use Rattle.enc_plain.specs.Sound.{IsSound}
 use Rattle.enc_plain.proofs.LoadedBytes.{AreLoaded}
+use Rattle.enc_delta.specs.Seen.{WasRead}
 use Rattle.enc_delta.specs.Delta.{token_at, map_in, listed, loaded_code, source_from, source_with, source_in, layout_for, delta_of}
 use Rattle.enc_delta.specs.Judged.{first_meta}
 use Rattle.enc_image.proofs.Opens.{each_part}
@@ -118,7 +119,7 @@ rows_few s = all_filter _ (λ (t : Token). nat_lt t.row 0x1000000) (map_in s) (a
 pub bytes_follow : (c : Chain) (s : Source) → IsOfBytes s → first_meta c s ≡ None → Follows c s
 bytes_follow c s bytes none = record { lands = record { early = first_rules 14 c s none; tables = tables_few s bytes.stream; rows = rows_few s }; rules = none }
 
-pub delta_keeps_sound : (c : Chain) (metadata il : List ℕ) (s : Source) → AreBytes metadata → AreBytes il → delta_of metadata il ≡ Ok s → first_meta c s ≡ None → IsSound c.plain → IsSound (extended c s).plain
-delta_keeps_sound c metadata il s a b of none sound =
-    let bytes = delta_bytes metadata il s a b of in
+pub delta_keeps_sound : (c : Chain) (s : Source) → WasRead s → first_meta c s ≡ None → IsSound c.plain → IsSound (extended c s).plain
+delta_keeps_sound c s w none sound =
+    let bytes = delta_bytes w.metadata w.il s w.bytes w.code w.read in
     keeps_sound c s bytes (bytes_follow c s bytes none) sound

@@ -10,11 +10,10 @@ use Rattle.enc_schema.specs.declared.column.Column.TheVariants.{Num32, Blob, Ind
 use Rattle.enc_schema.specs.Schema.{columns_in, column_in}
 use Rattle.enc_rows.specs.Source.{Source}
 use Rattle.enc_plain.specs.Alike.{tokens_alike, signatures_alike}
-use Rattle.enc_plain.specs.Cell.{Cell, refer, references, kind_in}
+use Rattle.enc_plain.specs.Cell.{Cell, refer, references, kind_in, cell_kind}
 use Rattle.enc_plain.specs.Chain.{Chain}
 use Rattle.enc_plain.specs.Extent.{extent_in}
 use Rattle.enc_plain.specs.Module.{Module, has_row, cells_of, cell_of}
-use Rattle.enc_plain.specs.Plain.{cell_kind}
 use Rattle.enc_plain.specs.Rows.{number_at, bytes_at, token_at}
 use Rattle.enc_plain.specs.Signatures.{signature_column}
 use Rattle.enc_plain.specs.Sound.{row_count, is_reference, class_size_at, class_size, size_of, extent_of, is_size, field_is_sound, HasKinds, HasCells}

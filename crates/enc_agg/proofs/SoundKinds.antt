@@ -7,11 +7,10 @@ use Rattle.enc_schema.specs.Coding.{decoded}
 use Rattle.enc_schema.specs.Schema.{column_in}
 use Rattle.enc_meta.specs.Joined.{joined_text, joined_blob, joined_guid}
 use Rattle.enc_rows.specs.Source.{Source, raw_in}
-use Rattle.enc_plain.specs.Cell.{Cell, text, blob, guid, refer, Kind, numbers, texts, blobs, guids, references, bodies, fields, is_body, is_field, kind_in, cell_count}
+use Rattle.enc_plain.specs.Cell.{Cell, text, blob, guid, refer, Kind, numbers, texts, blobs, guids, references, bodies, fields, is_body, is_field, kind_in, cell_count, cell_kind}
 use Rattle.enc_plain.specs.Chain.{Chain}
 use Rattle.enc_plain.specs.Fits.{Fits}
 use Rattle.enc_plain.specs.Module.{Module, Row, rows_in, row_of, has_row, cells_of, cell_of}
-use Rattle.enc_plain.specs.Plain.{cell_kind}
 use Rattle.enc_plain.specs.Sound.{HasKinds}
 use Rattle.enc_plain.proofs.Columns.{plain_kind, column_with, reference_column}
 use Rattle.enc_delta.specs.Delta.{listed, place_in}

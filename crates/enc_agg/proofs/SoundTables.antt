@@ -19,7 +19,7 @@ use Rattle.enc_delta.specs.Delta.{listed, of_table}
 use Rattle.enc_delta.specs.Rules.{broken, rows_for, is_insert, inserts, rows_with, may_change, uneven_table, closed_table, too_many_in, too_many}
 use Rattle.enc_agg.specs.Extend.{extended}
 use Rattle.enc_agg.proofs.InTables.{rows_are, may_be}
-use Rattle.enc_agg.proofs.Owned.{count_cons}
+use Rattle.enc_plain.proofs.Owned.{count_cons}
 
 -- each insert into a table is one of its tokens
 more_most : (n k : ℕ) (a b : Bool) (t : Token) (ts : List Token) → n ≤ k → k ≡ length ts → cond (a && b) 1 0 + n ≤ length (cond a (t ∷ ts) ts)

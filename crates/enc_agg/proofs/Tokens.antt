@@ -23,18 +23,6 @@ use Rattle.enc_delta.specs.Rows.{cells_after, own_row}
 use Rattle.enc_agg.specs.Follows.{Lands}
 use Rattle.enc_delta.proofs.Unbroken.{landed}
 
-position_from : (b : Bool) (n k : ℕ) → (if nat_lt (if not b then 1 + n else 0) (suc k) then Some (if not b then 1 + n else 0) else None) ≡ (if b then Some 0 else option_map suc (if nat_lt n k then Some n else None))
-position_from true n k = let less : nat_lt 0 (suc k) ≡ true = grind (arith, nat_tests) in rw less refl
-position_from false n k = behind (nat_lt n k) n (nat_lt (1 + n) (suc k)) (grind (arith, nat_tests))
-  where
-    behind : (b : Bool) (n : ℕ) (d : Bool) → d ≡ b → (if d then Some (1 + n) else None) ≡ option_map suc (if b then Some n else None)
-    behind true n d e = let more : 1 + n ≡ suc n = omega arith in rw (e, more) refl
-    behind false n d e = rw e refl
-
--- the first place among one more
-pub position_cons : {X : Type 0} (p : X → Bool) (x : X) (xs : List X) → position p (x ∷ xs) ≡ (if p x then Some 0 else option_map suc (position p xs))
-position_cons p x xs = position_from (p x) (position_or_len p xs) (length xs)
-
 some_suc : (o : Option ℕ) → is_some (option_map suc o) ≡ is_some o
 some_suc None = refl
 some_suc (Some n) = refl

@@ -1,13 +1,12 @@
 -- What the definitions of this crate mean for those below it.
-use Rattle.std.specs.Prelude.{◌≡◌, ℕ, true, List, None, Ok}
-use Rattle.enc_base.specs.Numbers.{AreBytes}
+use Rattle.std.specs.Prelude.{◌≡◌, ℕ, true, None}
 use Rattle.enc_base.specs.declared.token.Token.{Token}
 use Rattle.enc_rows.specs.Source.{Source}
 use Rattle.enc_plain.specs.Module.{cells_of, kids_of}
 use Rattle.enc_plain.specs.Chain.{Chain}
 use Rattle.enc_plain.specs.Fits.{HasRuns}
 use Rattle.enc_plain.specs.Sound.{HasTables, IsSound}
-use Rattle.enc_delta.specs.Delta.{delta_of}
+use Rattle.enc_delta.specs.Seen.{WasRead}
 use Rattle.enc_delta.specs.Judged.{first_meta}
 use Rattle.enc_delta.specs.Rows.{rows_after}
 use Rattle.enc_agg.specs.Extend.{extended}
@@ -24,7 +23,6 @@ RowsAreTheModules = (c : Chain) (s : Source) (t : Token) → HasTables c.plain �
 abbrev pub MembersAreTheModules : Type 0
 MembersAreTheModules = (c : Chain) (s : Source) (u : Token) (table : ℕ) → HasTables c.plain → HasRuns c.plain → Lands c s → is_child_table table ≡ true → members c.plain (attached_of s) u table ≡ kids_of (extended c s).plain u table
 
--- a delta of these files that breaks no rule after a chain leaves a sound module sound
+-- a delta that was read from two files and breaks no rule after a chain leaves a sound module sound
 abbrev pub DeltaKeepsSound : Type 0
-DeltaKeepsSound = (c : Chain) (metadata il : List ℕ) (s : Source) → AreBytes metadata → AreBytes il → delta_of metadata il ≡ Ok s
-    → first_meta c s ≡ None → IsSound c.plain → IsSound (extended c s).plain
+DeltaKeepsSound = (c : Chain) (s : Source) → WasRead s → first_meta c s ≡ None → IsSound c.plain → IsSound (extended c s).plain

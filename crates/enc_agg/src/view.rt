@@ -11,6 +11,7 @@ use enc_base::Token;
 use enc_meta::{Heap, HeapLengths};
 use enc_opcodes::CodeRef;
 use enc_plain::{ChainView, ModuleView, index_token};
+use enc_schema::columns::METHOD_DEF_RVA;
 use enc_schema::{Column, column_of, decode_coded};
 use std::alloc::{AllocError, Global};
 
@@ -89,7 +90,7 @@ impl ModuleView for Aggregate {
         let Some(found) = find(&self.added, method) else {
             return self.image.body(method);
         };
-        let place = number(found.upto, row_found(method.table, found.row), 0);
+        let place = number(found.upto, row_found(method.table, found.row), METHOD_DEF_RVA);
         body_in(found.upto, place)
     }
 

@@ -23,6 +23,17 @@ byte_at (b ∷ rest) (suc i) h = byte_at rest i (both_true (nat_lt b 0x100) _ h)
 pub bytes_each : (bytes : List ℕ) → AreBytes bytes → EachIsByte bytes
 bytes_each bytes h = record { at = λ i. byte_at bytes i h }
 
+below_hex : (n : ℕ) → n < 256 → nat_lt n 0x100 ≡ true
+below_hex n few = grind (arith, nat_tests)
+
+each_small : (bytes : List ℕ) → ((i : ℕ) → get_or bytes i 0 < 256) → list_all (λ b. nat_lt b 0x100) bytes ≡ true
+each_small [] all = refl
+each_small (b ∷ rest) all = rw (below_hex b (all 0)) (each_small rest (λ i. all (suc i)))
+
+-- where each place has a byte, all are bytes
+pub are_bytes : (bytes : List ℕ) → ((i : ℕ) → get_or bytes i 0 < 256) → AreBytes bytes
+are_bytes bytes all = each_small bytes all
+
 pub each_none : EachIsByte []
 each_none = record { at = λ i. omega arith }
 

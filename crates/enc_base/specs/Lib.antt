@@ -1,3 +1,4 @@
 pub mod Numbers
 pub mod Order
 pub mod Token
+pub mod Units

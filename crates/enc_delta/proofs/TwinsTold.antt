@@ -29,7 +29,7 @@ row_none rows (suc i) h = slice_get_past rows i (grind (arith, nat_tests))
 
 no_kids : (m : Module) (u : Token) (child : ℕ) → has_row m u ≡ false → kids_of m u child ≡ []
 unfolding kids_of row_of has_row
-no_kids m u child h = elim (two (u.table == owner_table child)) [ inl a ↦ rw a (ap (λ r. kids_with r child) (row_none (rows_in m u.table) u.row h)) | inr a ↦ rw a refl ]
+no_kids m u child h = elim (two (is_child_table child && u.table == owner_table child)) [ inl a ↦ rw a (ap (λ r. kids_with r child) (row_none (rows_in m u.table) u.row h)) | inr a ↦ rw a refl ]
 
 pub old_none : (m : Module) (a : Pair) → has_row m a.owner ≡ false → old_rows m a ≡ []
 unfolding old_rows

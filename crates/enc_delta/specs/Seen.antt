@@ -1,5 +1,6 @@
 -- What the parts of the program stand for.
 use Rattle.std.specs.Prelude.{◌≡◌, ◌↔◌, ℕ, ◌<◌, Bool, IsTrue, List, Result, Ok, Err}
+use Rattle.enc_base.specs.Numbers.{AreBytes}
 use Rattle.enc_base.specs.declared.refusal.Refusal.{Refusal}
 use Rattle.enc_base.specs.declared.refusal.ReadFault.{ReadFault}
 use Rattle.enc_base.specs.declared.refusal.ReadFault.TheVariants.{Memory, Refused}
@@ -9,7 +10,7 @@ use Rattle.enc_meta.specs.Heaps.{part, ends_of}
 use Rattle.enc_rows.specs.Layout.{IsWithin, rows_of}
 use Rattle.enc_rows.specs.Source.{Source}
 use Rattle.enc_delta.specs.declared.open.Opened.{Opened}
-use Rattle.enc_delta.specs.Delta.{source_from, token_at}
+use Rattle.enc_delta.specs.Delta.{source_from, delta_of, token_at}
 use Rattle.enc_schema.specs.Tables as tables
 
 -- a root and its tables with the file's bytes
@@ -28,8 +29,19 @@ pub record IsOpened (bytes : List ℕ) (o : Opened) : Type 0 where
 abbrev pub IsRising : Source → Type 0
 IsRising s = (i j : ℕ) → i < j → j < rows_of s.layout tables.enc_map → number_of (token_at s i) < number_of (token_at s j)
 
+-- it was read from the bytes of two files
+pub record WasRead (s : Source) : Type 0 where
+  pub metadata : List ℕ
+  pub il : List ℕ
+  pub bytes : AreBytes metadata
+  pub code : AreBytes il
+  pub read : delta_of metadata il ≡ Ok s
+
 -- the root and the tables of a delta, and whether its map rises
 pub record IsRead (bytes il : List ℕ) (o : Opened) (rises : Bool) : Type 0 where
+  pub bytes : AreBytes bytes
+  pub code : AreBytes il
+  pub read : delta_of bytes il ≡ Ok (source_from bytes il o.root o.tables)
   pub opened : IsOpened bytes o
   pub rising : IsTrue rises ↔ IsRising (source_from bytes il o.root o.tables)
 

@@ -9,7 +9,7 @@ ghost use Rattle.enc_rows.specs.Source.{raw_in};
 ghost use Rattle.enc_base.specs.Token.{nth_row};
 ghost use Rattle.enc_delta.specs.Delta.{delta_of, entry_at, token_at, log_in, map_in, listed};
 ghost use Rattle.enc_base.specs.declared.refusal.ReadFault.TheVariants.{Memory};
-ghost use Rattle.enc_delta.specs.Seen.{Reads, IsRising};
+ghost use Rattle.enc_delta.specs.Seen.{Reads, IsRising, WasRead};
 ghost use Rattle.enc_schema.specs.Tables.{enc_log, enc_map};
 
 use crate::code::{body_from, code_at};
@@ -20,6 +20,7 @@ use enc_meta::{HeapLengths, Heaps, Root, TextEnds};
 use enc_opcodes::CodeRef;
 use enc_rows::Tables;
 use enc_schema::column_of;
+use enc_schema::columns::{ENC_LOG_FUNC_CODE, ENC_LOG_TOKEN, ENC_MAP_TOKEN};
 use enc_schema::tables::{ENC_LOG, ENC_MAP};
 use std::marker::Model;
 use std::sync::ledger::Ledger;
@@ -69,6 +70,13 @@ impl Delta {
             }
             Err(refusal) => Err(ReadFault::Refused(refusal)),
         }
+    }
+
+    /// A delta was read from the bytes of two files: a law, of which a caller makes use.
+    pub fn was_read(&self)
+        ensures { WasRead self.now }
+    {
+        let _ = &self.il;
     }
 
     /// Whether each token of EncMap has a greater number than those before it. It was found when the
@@ -179,8 +187,8 @@ impl Delta {
     {
         let row = nth_row(ENC_LOG, i);
         Entry {
-            token: Token::of(self.cell(row, 0)),
-            code: self.cell(row, 1),
+            token: Token::of(self.cell(row, ENC_LOG_TOKEN)),
+            code: self.cell(row, ENC_LOG_FUNC_CODE),
         }
     }
 
@@ -202,7 +210,7 @@ impl Delta {
         ensures table { result.table < 2 ^ 8 }
         ensures row { result.row < 2 ^ 24 }
     {
-        Token::of(self.cell(nth_row(ENC_MAP, i), 0))
+        Token::of(self.cell(nth_row(ENC_MAP, i), ENC_MAP_TOKEN))
     }
 
     /// A token of EncMap, from 0. One step.

@@ -9,6 +9,7 @@ use crate::delta::Delta;
 use crate::joined::guid_after;
 use enc_base::{Place, Token};
 use enc_plain::ChainView;
+use enc_schema::columns::{MODULE_GENERATION, MODULE_MVID};
 
 const MODULE: Token = Token { table: 0, row: 1 };
 
@@ -38,7 +39,7 @@ fn mvid_of<C: ChainView>(chain: &C) -> [u8; 16]
     if chain.count(0) == 0 {
         return [0; 16];
     }
-    chain.guid(MODULE, 2)
+    chain.guid(MODULE, MODULE_MVID)
 }
 
 /// The delta is of another module.
@@ -60,7 +61,7 @@ pub fn other_module<C: ChainView>(context: &Context<'_, C>) -> Option<Place>
 pub fn not_next<C: ChainView>(context: &Context<'_, C>) -> Option<Place>
     ensures { result ≡ not_next context.now.chain context.now.delta }
 {
-    if context.delta.cell(MODULE, 0) == context.generations() {
+    if context.delta.cell(MODULE, MODULE_GENERATION) == context.generations() {
         None
     } else {
         Some(Place::Row(MODULE))

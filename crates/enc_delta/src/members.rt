@@ -19,6 +19,10 @@ use crate::pairs::Pair;
 use crate::twins::{Members, twin_fault};
 use enc_base::{Place, Token};
 use enc_plain::{CellView, ChainView, signatures_alike};
+use enc_schema::columns::{
+    FIELD_FLAGS, FIELD_SIGNATURE, METHOD_DEF_FLAGS, METHOD_DEF_SIGNATURE, TYPE_DEF_EXTENDS, TYPE_DEF_FLAGS,
+    TYPE_REF_TYPE_NAME, TYPE_REF_TYPE_NAMESPACE,
+};
 use enc_schema::tables::{EVENT, FIELD, METHOD_DEF, PROPERTY, TYPE_DEF, TYPE_REF};
 use std::alloc::{AllocError, Global};
 
@@ -36,11 +40,11 @@ fn is_value_type<R: CellView>(rows: &R, owner: Token) -> bool
     requires { owner.table ≡ type_def }
     ensures { result ≡ is_value_type (R.rows rows.now) owner }
 {
-    let base = rows.token(owner, 3);
-    if base.table != TYPE_REF || rows.text(base, 2) != b"System".as_slice() {
+    let base = rows.token(owner, TYPE_DEF_EXTENDS);
+    if base.table != TYPE_REF || rows.text(base, TYPE_REF_TYPE_NAMESPACE) != b"System".as_slice() {
         return false;
     }
-    let name = rows.text(base, 1);
+    let name = rows.text(base, TYPE_REF_TYPE_NAME);
     name == b"ValueType".as_slice() || name == b"Enum".as_slice()
 }
 
@@ -50,7 +54,7 @@ fn is_laid_out<R: CellView>(rows: &R, owner: Token) -> bool
     requires { owner.table ≡ type_def }
     ensures { result ≡ (has_layout (R.rows rows.now) owner || is_value_type (R.rows rows.now) owner) }
 {
-    rows.number(owner, 0) / 8 % 4 != 0 || is_value_type(rows, owner)
+    rows.number(owner, TYPE_DEF_FLAGS) / 8 % 4 != 0 || is_value_type(rows, owner)
 }
 
 /// The pair gives a child of a table to a type that was there.
@@ -70,7 +74,7 @@ fn breaks_layout<C: ChainView>(context: &Context<'_, C>, pair: Pair) -> bool
     ensures { result ≡ breaks_layout context.now.chain context.now.delta (pair_seen pair) }
 {
     gives_to_old(context, pair, FIELD)
-        && !has_flag(0x10, context.number(pair.child, 0))
+        && !has_flag(0x10, context.number(pair.child, FIELD_FLAGS))
         && is_laid_out(context, pair.owner)
 }
 
@@ -82,9 +86,9 @@ fn breaks_slots<C: ChainView>(context: &Context<'_, C>, pair: Pair) -> bool
     if !gives_to_old(context, pair, METHOD_DEF) {
         return false;
     }
-    let flags = context.number(pair.child, 2);
+    let flags = context.number(pair.child, METHOD_DEF_FLAGS);
     has_flag(0x40, flags)
-        && (has_flag(0x20, context.number(pair.owner, 0)) || has_flag(0x400, flags))
+        && (has_flag(0x20, context.number(pair.owner, TYPE_DEF_FLAGS)) || has_flag(0x400, flags))
 }
 
 /// Which gains are judged.
@@ -151,9 +155,10 @@ fn signature_of<R: CellView>(rows: &R, member: Token) -> &[u8]
     ensures { result.now ≡ bytes_at (R.rows rows.now) member (unwrap_or (signature_column member.table) 0) }
 {
     if member.table == METHOD_DEF {
-        return rows.blob(member, 4);
+        return rows.blob(member, METHOD_DEF_SIGNATURE);
     }
-    rows.blob(member, 2)
+    // a property's stands in the same column
+    rows.blob(member, FIELD_SIGNATURE)
 }
 
 /// Whether two members of one table have alike signatures; events have none.
@@ -177,8 +182,8 @@ impl<C: ChainView> Members for Context<'_, C> {
     #[tactic(auto, using(crate::proofs::MemberKinds::field_flags, crate::proofs::MemberKinds::method_flags), unfolding(crate::specs::Changes::is_member))]
     fn counts(&self, member: Token) -> bool {
         match member.table {
-            FIELD => self.number(member, 0) % 8 != 0,
-            METHOD_DEF => self.number(member, 2) % 8 != 0,
+            FIELD => self.number(member, FIELD_FLAGS) % 8 != 0,
+            METHOD_DEF => self.number(member, METHOD_DEF_FLAGS) % 8 != 0,
             table => table == EVENT || table == PROPERTY,
         }
     }

@@ -9,6 +9,7 @@ use crate::delta::nth_row;
 use enc_base::{Counts, Refusal};
 use enc_meta::{Root, TextEnds, read_root};
 use enc_rows::{Form, Tables};
+use enc_schema::columns::ENC_MAP_TOKEN;
 use enc_schema::tables::ENC_MAP;
 
 /// A root, and the ends of the texts and the tables in it.
@@ -57,7 +58,7 @@ pub fn is_rising(bytes: &[u8], il: &[u8], opened: &Opened) -> bool
     let _ = il;
     let mut least: u64 = 0;
     for i in 0..opened.tables.count(ENC_MAP) {
-        let n = u64::from(opened.tables.cell(bytes, nth_row(ENC_MAP, i), 0));
+        let n = u64::from(opened.tables.cell(bytes, nth_row(ENC_MAP, i), ENC_MAP_TOKEN));
         if n < least {
             return false;
         }

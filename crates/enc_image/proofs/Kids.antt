@@ -42,7 +42,7 @@ unfolding kids_of
 kids_are s owner child row there owners =
     let same : (owner.table == owner_table child) ≡ true = grind (arith, nat_tests) in
     let at : row_of (module_in s) owner ≡ Some (row_in s (owner_table child) (owner.row - 1)) = row_there s owner row ∙ ap (λ t. Some (row_in s t (owner.row - 1))) owners in
-    rw (same, at) (row_kids s child (owner.row - 1) there)
+    rw (there, same, at) (row_kids s child (owner.row - 1) there)
 
 -- and they are those that the tables tell of its bytes
 pub kids_seen : (bytes seen : List ℕ) (o : Opened) (child n : ℕ) → IsOpened bytes o → seen ≡ metadata_of bytes o.container → children_of (rows_with seen o.tables) (owner_table child) (run_column child) child n ≡ kids_from (source_from bytes o.container o.root o.tables) child n

@@ -13,9 +13,8 @@ use Rattle.enc_rows.specs.Sums.{below}
 use Rattle.enc_rows.specs.Layout.{rows_of}
 use Rattle.enc_rows.specs.Source.{Source, raw_in}
 use Rattle.enc_meta.specs.Heaps.{text_at, blob_at, guid_at}
-use Rattle.enc_plain.specs.Cell.{Cell, number, text, blob, guid, refer, Kind, numbers, texts, blobs, guids, references, bodies, fields, kind_of, is_body, is_field, kind_in, cell_count}
+use Rattle.enc_plain.specs.Cell.{Cell, number, text, blob, guid, refer, Kind, numbers, texts, blobs, guids, references, bodies, fields, kind_of, is_body, is_field, kind_in, cell_count, cell_kind}
 use Rattle.enc_plain.specs.Module.{Row, rows_in, has_row, cell_of}
-use Rattle.enc_plain.specs.Plain.{cell_kind}
 use Rattle.enc_plain.specs.Sound.{is_part, row_count, HasTables, HasCounts, HasKinds}
 use Rattle.enc_plain.proofs.Columns.{plain_kind, column_with, reference_column}
 use Rattle.enc_image.specs.Base.{cells_fault, cell_in, row_in, module_in}

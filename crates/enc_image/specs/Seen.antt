@@ -1,5 +1,6 @@
 -- What the parts of the program stand for.
 use Rattle.std.specs.Prelude.{◌≡◌, ℕ, List, None, Result, Ok, Err}
+use Rattle.enc_base.specs.Numbers.{AreBytes}
 use Rattle.enc_base.specs.declared.refusal.Refusal.{Refusal}
 use Rattle.enc_base.specs.declared.refusal.ReadFault.{ReadFault}
 use Rattle.enc_base.specs.declared.refusal.ReadFault.TheVariants.{Memory, Refused}
@@ -11,7 +12,7 @@ use Rattle.enc_image.specs.declared.judge.Cells.{Cells}
 use Rattle.enc_image.specs.declared.open.Opened.{Opened}
 use Rattle.enc_pe.specs.Container.{container_of}
 use Rattle.enc_pe.specs.Loaded.{regions_of}
-use Rattle.enc_image.specs.Base.{metadata_of, source_from, cells_fault}
+use Rattle.enc_image.specs.Base.{metadata_of, source_from, cells_fault, base_of}
 use Rattle.enc_rows.specs.Source.{Source}
 
 abbrev pub source_seen : Cells → Source
@@ -35,8 +36,10 @@ Reads (Ok s) base = base ≡ Ok s
 Reads (Err (Refused e)) base = base ≡ Err e
 Reads (Err Memory) base = Unit {0}
 
--- the parts of an image's file were read from its bytes, as the ends of its texts were, and each of its cells is good
+-- the parts of an image's file were read from its bytes, as the ends of its texts were; each of its cells is good, and so the file is the base
 pub record IsImage (bytes : List ℕ) (o : Opened) (ends : TextEnds) : Type 0 where
+  pub bytes : AreBytes bytes
+  pub read : base_of bytes ≡ Ok (source_from bytes o.container o.root o.tables)
   pub opened : IsOpened bytes o
   pub texts : ends ≡ ends_of (metadata_of bytes o.container) o.root
   pub cells : cells_fault (source_from bytes o.container o.root o.tables) ≡ None

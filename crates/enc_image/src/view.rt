@@ -6,8 +6,8 @@ ghost use Rattle.enc_meta.specs.Heaps.{lengths_of, part};
 ghost use Rattle.enc_rows.specs.Layout.{IsWithin};
 ghost use Rattle.enc_schema.specs.Schema.{column_in};
 ghost use Rattle.enc_plain.specs.Module.{Module, rows_in, has_row, cell_of};
-ghost use Rattle.enc_image.specs.Base.{cells_fault, module_in, users_of};
-ghost use Rattle.enc_plain.specs.Sound.{is_part};
+ghost use Rattle.enc_image.specs.Base.{cells_fault, module_in, users_of, begun};
+ghost use Rattle.enc_plain.specs.Sound.{IsSound, is_part};
 ghost use Rattle.enc_image.specs.Seen.{source_seen};
 ghost use Rattle.enc_rows.specs.Source.{raw_in};
 ghost use Rattle.enc_schema.specs.Tables.{method_def};
@@ -21,6 +21,7 @@ use enc_base::Token;
 use enc_meta::{HeapLengths, Heaps};
 use enc_opcodes::CodeRef;
 use enc_plain::{ModuleView, index_token};
+use enc_schema::columns::METHOD_DEF_RVA;
 use enc_schema::tables::{
     ENC_LOG, ENC_MAP, EVENT_PTR, FIELD_PTR, METHOD_PTR, PARAM_PTR, PROPERTY_PTR, TABLE_COUNT,
 };
@@ -71,12 +72,14 @@ impl Image {
         ensures few { IfSome result (λ c. length c.code.now < 2 ^ 32) }
         ensures sound { cells_fault self.now ≡ None }
     {
-        code_at(&self.bytes, &self.container, self.number(method, 0))
+        code_at(&self.bytes, &self.container, self.number(method, METHOD_DEF_RVA))
     }
 
-    /// Nothing in an image is refused: a law, of which a caller of the view makes use.
+    /// Nothing in an image is refused, and its module is sound: a law, of which a caller of the view
+    /// makes use.
     pub fn sound(&self)
-        ensures { cells_fault self.now ≡ None }
+        ensures cells { cells_fault self.now ≡ None }
+        ensures sound { IsSound (begun self.now).plain }
     {
         let _ = &self.bytes;
     }

@@ -2,7 +2,7 @@
 ghost use Rattle.std.specs.Prelude.{◌≡◌, ℕ, ◌+◌, ◌*◌, ◌<◌, ◌≤◌, ◌^◌, ◌==◌, option_map, length, position, IfSome};
 ghost use Rattle.std.specs.Option.{option_copied};
 ghost use Rattle.enc_meta.specs.Root.{before_zero};
-ghost use Rattle.enc_meta.specs.Heaps.{bytes_at, units_in, sixteen_at};
+ghost use Rattle.enc_meta.specs.Heaps.{bytes_at, units_in, user_at, user_entry, sixteen_at};
 
 use enc_base::read_unsigned;
 
@@ -45,6 +45,18 @@ pub fn units_in(entry: &[u8]) -> Option<&[u8]>
         [units @ .., _] if units.len() % 2 == 0 => Some(units),
         _ => None,
     }
+}
+
+/// The bytes of the UTF-16 units at an offset of a `#US`, without their length and the byte behind
+/// them: empty at offset 0, None where they don't stand whole there or aren't whole units.
+#[tactic(auto, unfolding(crate::specs::Heaps::user_at, crate::specs::Heaps::user_entry))]
+pub fn user_text_at(heap: &[u8], offset: u32) -> Option<&[u8]>
+    ensures { option_copied result ≡ user_at heap.now offset }
+{
+    if offset == 0 {
+        return Some(&[]);
+    }
+    units_in(bytes_at(heap, offset as usize)?)
 }
 
 /// The sixteen bytes behind so many sixteens, None where they don't stand whole there.

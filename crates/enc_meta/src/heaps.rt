@@ -5,7 +5,7 @@ ghost use Rattle.enc_meta.specs.Root.{root_of, IsWithin};
 ghost use Rattle.enc_meta.specs.Heaps.{lengths_of, heaps_of, ends_of, part, AreAtMost, text_entry, bytes_at, user_entry, text_at, blob_at, user_at, guid_at};
 
 use crate::ends::{TextEnds, counted_strings};
-use crate::entry::{before_zero, bytes_at, sixteen_at, units_in};
+use crate::entry::{before_zero, bytes_at, sixteen_at, units_in, user_text_at};
 use crate::root::Root;
 use crate::span::Span;
 use std::marker::Model;
@@ -179,14 +179,10 @@ impl<'a> Heaps<'a> {
 
     /// The bytes of the UTF-16 units at an offset of `#US`, without their length and the byte behind
     /// them: empty at offset 0, None where they don't stand whole there or aren't whole units.
-    #[tactic(auto, unfolding(crate::specs::Heaps::user_at))]
     pub fn user(&self, offset: u32) -> Option<&'a [u8]>
         ensures { option_copied result ≡ user_at self.now.users offset }
     {
-        if offset == 0 {
-            return Some(&[]);
-        }
-        self.user_entry(offset)
+        user_text_at(self.users, offset)
     }
 
     /// The units that begin at an offset of `#US`, also at offset 0 as they stand there.

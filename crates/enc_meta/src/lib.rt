@@ -17,6 +17,7 @@ mod streams;
 
 pub use builder::{BuildFault, HeapBuilder, HeapBytes};
 pub use ends::TextEnds;
+pub use entry::user_text_at;
 pub use heap::Heap;
 pub use heaps::{HeapLengths, Heaps};
 pub use laws::{built_laws, example_root, offsets_law, offsets_stay_law, padded_law, text_law};

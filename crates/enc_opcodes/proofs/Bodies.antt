@@ -6,6 +6,7 @@ use Rattle.std.proofs.lemmas.Bool.{cases_lt}
 use Rattle.std.proofs.lemmas.Bool.Decides.{nat_tests}
 use Rattle.enc_base.specs.Token.{token_of}
 use Rattle.enc_base.specs.declared.token.Token.{Token}
+use Rattle.enc_base.specs.Units.{units_of}
 use Rattle.enc_opcodes.specs.declared.op.Operand.{Operand}
 use Rattle.enc_opcodes.specs.declared.code.Clause.{Clause}
 use Rattle.enc_opcodes.specs.Instruction.{Argument, nothing, number, target, targets, token, text, raw, Instruction, instructions_of}
@@ -26,7 +27,7 @@ arg_alike f g (number n) there keeps = refl
 arg_alike f g (target t) there keeps = refl
 arg_alike f g (targets ts) there keeps = refl
 arg_alike f g (token t) there keeps = refl
-arg_alike f g (text offset) there keeps = ap (λ (x : List ℕ). text x) (told_by f g offset (f offset) refl there keeps)
+arg_alike f g (text offset) there keeps = ap (λ (x : List ℕ). text (units_of x)) (told_by f g offset (f offset) refl there keeps)
 arg_alike f g (raw bytes) there keeps = refl
 
 one_alike : (f g : ℕ → Option (List ℕ)) (x : ℕ × Instruction ℕ) → text_is_there f x.1.arg ≡ true → KeepsTexts f g → instruction_told f x ≡ instruction_told g x

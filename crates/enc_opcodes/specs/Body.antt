@@ -4,6 +4,7 @@ use Rattle.std.specs.List.{list_any, list_all}
 use Rattle.std.specs.Int.{w8, w16, w32}
 use Rattle.enc_base.specs.Numbers.{number_at}
 use Rattle.enc_base.specs.Token.{token_of, nil}
+use Rattle.enc_base.specs.Units.{units_of}
 use Rattle.enc_base.specs.declared.token.Token.{Token}
 use Rattle.enc_schema.specs.Tables.{type_ref, type_def, field, method_def, member_ref, stand_alone_sig, type_spec, method_spec}
 use Rattle.enc_opcodes.specs.declared.op.Operand.{Operand}
@@ -95,14 +96,14 @@ kind_meant kind extra = if kind == 4 then faulting else if kind == 2 then finish
 abbrev pub handler_meant : Clause → Handler
 handler_meant c = record { kind = kind_meant c.kind c.extra; tries = c.tries; handler = c.handler }
 
--- the argument with each user text by its units, none where there is no such text
+-- the argument with each user text by its units, none where there is no such text; texts are told by the bytes of their units
 abbrev pub told : (ℕ → Option (List ℕ)) → Argument ℕ → Argument (List ℕ)
 told texts nothing = nothing
 told texts (number n) = number n
 told texts (target t) = target t
 told texts (targets ts) = targets ts
 told texts (token t) = token t
-told texts (text offset) = text (unwrap_or (texts offset) [])
+told texts (text offset) = text (units_of (unwrap_or (texts offset) []))
 told texts (raw bytes) = raw bytes
 
 abbrev pub instruction_told : (ℕ → Option (List ℕ)) → ℕ × Instruction ℕ → ℕ × Instruction (List ℕ)

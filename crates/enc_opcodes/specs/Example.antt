@@ -25,7 +25,7 @@ example_means = record {
   locals = token_of 0x11000001;
   size = 9;
   code =
-      (0, record { op = record { byte = 0x72; operand = User }; arg = text (0x68 ∷ 0x00 ∷ 0x69 ∷ 0x00 ∷ []) }) ∷
+      (0, record { op = record { byte = 0x72; operand = User }; arg = text (0x68 ∷ 0x69 ∷ []) }) ∷
       (5, record { op = record { byte = 0xDE; operand = Branch8 }; arg = target 8 }) ∷
       (7, record { op = record { byte = 0x26; operand = Bare }; arg = nothing }) ∷
       (8, record { op = record { byte = 0x2A; operand = Bare }; arg = nothing }) ∷ [];

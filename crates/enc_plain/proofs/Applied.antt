@@ -11,7 +11,7 @@ use Rattle.enc_schema.specs.Schema.{list_at}
 use Rattle.enc_schema.specs.Children.{runs_in, run_index}
 use Rattle.enc_plain.specs.Cell.{Cell}
 use Rattle.enc_plain.specs.Module.{Module, Row, rows_in, row_at, row_of, cells_of, kids_with, kids_of}
-use Rattle.enc_plain.specs.Apply.{Change, childless, put_row, change_at, put, apply}
+use Rattle.enc_plain.specs.Apply.{Change, childless, put_row, put_at, change_at, put, apply}
 use Rattle.enc_plain.specs.Fits.{cells_for, changes, FitsOne, Fits, HasRuns}
 
 -- the cells that were put
@@ -50,13 +50,19 @@ pub at_row : (rows : List Row) (row : ℕ) → 0 < row → row_at rows row ≡ s
 at_row rows zero h = absurd (omega arith)
 at_row rows (suc n) h = let e : suc n - 1 ≡ n = omega arith in rw e refl
 
+-- a row from 1 on is put at the place before
+pub put_at_is : (table : ℕ) (rows : List Row) (row : ℕ) (cells : List Cell) → 0 < row → put_at table rows row cells ≡ put_row table rows (row - 1) cells
+unfolding put_at
+put_at_is table rows zero cells low = absurd (omega arith)
+put_at_is table rows (suc n) cells low = let e : suc n - 1 ≡ n = omega arith in rw e refl
+
 put_rows : (m : Module) (c : Change) (cs : List Change) → FitsOne m c cs → rows_in (put m c) c.token.table ≡ put_row c.token.table (rows_in m c.token.table) (c.token.row - 1) c.cells
 unfolding put
-put_rows m c cs fits = table_same m.tables c.token.table (λ rows. put_row c.token.table rows (c.token.row - 1) c.cells) fits.table
+put_rows m c cs fits = table_same m.tables c.token.table (λ rows. put_at c.token.table rows c.token.row c.cells) fits.table ∙ put_at_is c.token.table (rows_in m c.token.table) c.token.row c.cells fits.low
 
 put_rows_other : (m : Module) (c : Change) (t : ℕ) → t ≢ c.token.table → rows_in (put m c) t ≡ rows_in m t
 unfolding put
-put_rows_other m c t d = table_other m.tables c.token.table t (λ rows. put_row c.token.table rows (c.token.row - 1) c.cells) d
+put_rows_other m c t d = table_other m.tables c.token.table t (λ rows. put_at c.token.table rows c.token.row c.cells) d
 
 cells_put : (table : ℕ) (rows : List Row) (row : ℕ) (cells : List Cell) → 0 < row → row ≤ length rows + 1 → option_map (λ (r : Row). r.cells) (row_at (put_row table rows (row - 1) cells) row) ≡ Some cells
 cells_put table rows row cells low high = rw (at_row (put_row table rows (row - 1) cells) row low) (put_same table rows (row - 1) cells (omega arith))
@@ -122,8 +128,9 @@ none_at (x ∷ runs) zero = refl
 none_at (x ∷ runs) (suc i) = none_at runs i
 
 kids_put : (table : ℕ) (rows : List Row) (n k : ℕ) (cells : List Cell) (child : ℕ) → kids_with (slice_get (put_row table rows n cells) k) child ≡ kids_with (slice_get rows k) child
-kids_put table [] n zero cells child = none_at (runs_in table) (run_index child)
-kids_put table [] n (suc k) cells child = refl
+kids_put table [] zero zero cells child = none_at (runs_in table) (run_index child)
+kids_put table [] zero (suc k) cells child = refl
+kids_put table [] (suc n) k cells child = refl
 kids_put table (r ∷ rows) zero zero cells child = refl
 kids_put table (r ∷ rows) zero (suc k) cells child = refl
 kids_put table (r ∷ rows) (suc n) zero cells child = refl
@@ -155,8 +162,9 @@ row_is : (a b : Row) → Some a ≡ Some b → a ≡ b
 row_is a b e = cc
 
 runs_row : (table : ℕ) (rows : List Row) (n k : ℕ) (cells : List Cell) (r : Row) → ((i : ℕ) (x : Row) → slice_get rows i ≡ Some x → length x.kids ≡ length (runs_in table)) → slice_get (put_row table rows n cells) k ≡ Some r → length r.kids ≡ length (runs_in table)
-runs_row table [] n zero cells r h e = rw (← row_is (childless table cells) r e) (length-map (runs_in table) (λ (child : ℕ). []))
-runs_row table [] n (suc k) cells r h e = absurd cc
+runs_row table [] zero zero cells r h e = rw (← row_is (childless table cells) r e) (length-map (runs_in table) (λ (child : ℕ). []))
+runs_row table [] zero (suc k) cells r h e = absurd cc
+runs_row table [] (suc n) k cells r h e = absurd cc
 runs_row table (x ∷ rows) zero zero cells r h e = rw (← row_is (record { cells = cells; kids = x.kids }) r e) (h 0 x refl)
 runs_row table (x ∷ rows) zero (suc k) cells r h e = h (suc k) r e
 runs_row table (x ∷ rows) (suc n) zero cells r h e = h 0 r e

@@ -11,9 +11,9 @@ use Rattle.enc_schema.specs.Schema.{list_at}
 use Rattle.enc_schema.specs.Children.{is_child_table, owner_table, run_index, runs_in}
 use Rattle.enc_schema.proofs.ChildTables.{by_child}
 use Rattle.enc_plain.specs.Module.{Module, Row, rows_in, row_at, row_of, has_row, cells_of, kids_at, kids_of}
-use Rattle.enc_plain.specs.Apply.{change_at, Attached, with_child, attach, attach_all, gained}
+use Rattle.enc_plain.specs.Apply.{change_at, change_row, Attached, with_child, attach, attach_all, gained}
 use Rattle.enc_plain.specs.Fits.{Attaches, AllAttach, HasRuns}
-use Rattle.enc_plain.proofs.Applied.{table_same, table_other, at_row, not_same, same_is}
+use Rattle.enc_plain.proofs.Applied.{table_same, table_other, not_same, same_is}
 
 -- the element that was changed
 pub change_same : {A : Type 0} (xs : List A) (n : ℕ) (f : A → A) → slice_get (change_at xs n f) n ≡ option_map f (slice_get xs n)
@@ -41,13 +41,24 @@ table_any [] t f h = sym h
 table_any (rows ∷ tables) zero f h = refl
 table_any (rows ∷ tables) (suc t) f h = table_any tables t f h
 
-attach_rows : (m : Module) (a : Attached) → rows_in (attach m a) a.owner.table ≡ change_at (rows_in m a.owner.table) (a.owner.row - 1) (with_child a.child)
+change_none : (row : ℕ) (f : Row → Row) → change_row [] row f ≡ []
+unfolding change_row
+change_none zero f = refl
+change_none (suc n) f = refl
+
+-- a row from 1 on is changed at the place before
+pub change_row_is : (rows : List Row) (row : ℕ) (f : Row → Row) → 0 < row → change_row rows row f ≡ change_at rows (row - 1) f
+unfolding change_row
+change_row_is rows zero f low = absurd (omega arith)
+change_row_is rows (suc n) f low = let e : suc n - 1 ≡ n = omega arith in rw e refl
+
+attach_rows : (m : Module) (a : Attached) → rows_in (attach m a) a.owner.table ≡ change_row (rows_in m a.owner.table) a.owner.row (with_child a.child)
 unfolding attach
-attach_rows m a = table_any m.tables a.owner.table (λ rows. change_at rows (a.owner.row - 1) (with_child a.child)) refl
+attach_rows m a = table_any m.tables a.owner.table (λ rows. change_row rows a.owner.row (with_child a.child)) (change_none a.owner.row (with_child a.child))
 
 attach_rows_other : (m : Module) (a : Attached) (t : ℕ) → t ≢ a.owner.table → rows_in (attach m a) t ≡ rows_in m t
 unfolding attach
-attach_rows_other m a t d = table_other m.tables a.owner.table t (λ rows. change_at rows (a.owner.row - 1) (with_child a.child)) d
+attach_rows_other m a t d = table_other m.tables a.owner.table t (λ rows. change_row rows a.owner.row (with_child a.child)) d
 
 cells_changed : (rows : List Row) (n k : ℕ) (child : Token) → option_map (λ (r : Row). r.cells) (slice_get (change_at rows n (with_child child)) k) ≡ option_map (λ (r : Row). r.cells) (slice_get rows k)
 cells_changed [] n k child = refl
@@ -56,15 +67,17 @@ cells_changed (r ∷ rows) zero (suc k) child = refl
 cells_changed (r ∷ rows) (suc n) zero child = refl
 cells_changed (r ∷ rows) (suc n) (suc k) child = cells_changed rows n k child
 
-cells_changed_at : (rows : List Row) (n row : ℕ) (child : Token) → option_map (λ (r : Row). r.cells) (row_at (change_at rows n (with_child child)) row) ≡ option_map (λ (r : Row). r.cells) (row_at rows row)
-cells_changed_at rows n zero child = refl
-cells_changed_at rows n (suc r) child = cells_changed rows n r child
+cells_changed_at : (rows : List Row) (n row : ℕ) (child : Token) → option_map (λ (r : Row). r.cells) (row_at (change_row rows n (with_child child)) row) ≡ option_map (λ (r : Row). r.cells) (row_at rows row)
+unfolding change_row
+cells_changed_at rows zero row child = refl
+cells_changed_at rows (suc n) zero child = refl
+cells_changed_at rows (suc n) (suc r) child = cells_changed rows n r child
 
 cells_attach : (m : Module) (a : Attached) (u : Token) → cells_of (attach m a) u ≡ cells_of m u
 unfolding row_of
 cells_attach m a u =
     elim (cases_eq u.table a.owner.table) [
-      | inl e ↦ rw (e, attach_rows m a) (cells_changed_at (rows_in m a.owner.table) (a.owner.row - 1) u.row a.child)
+      | inl e ↦ rw (e, attach_rows m a) (cells_changed_at (rows_in m a.owner.table) a.owner.row u.row a.child)
       | inr d ↦ rw (attach_rows_other m a u.table d) refl
     ]
 
@@ -74,10 +87,15 @@ unfolding attach_all
 cells_attached [] m u = refl
 cells_attached (a ∷ pairs) m u = cells_attached pairs (attach m a) u ∙ cells_attach m a u
 
+pub row_length : (rows : List Row) (row : ℕ) (f : Row → Row) → length (change_row rows row f) ≡ length rows
+unfolding change_row
+row_length rows zero f = refl
+row_length rows (suc n) f = change_length rows n f
+
 count_attach : (m : Module) (a : Attached) (t : ℕ) → length (rows_in (attach m a) t) ≡ length (rows_in m t)
 count_attach m a t =
     elim (cases_eq t a.owner.table) [
-      | inl e ↦ subst (λ k. length (rows_in (attach m a) k) ≡ length (rows_in m k)) (sym e) (ap (λ (l : List Row). length l) (attach_rows m a) ∙ change_length (rows_in m a.owner.table) (a.owner.row - 1) (with_child a.child))
+      | inl e ↦ subst (λ k. length (rows_in (attach m a) k) ≡ length (rows_in m k)) (sym e) (ap (λ (l : List Row). length l) (attach_rows m a) ∙ row_length (rows_in m a.owner.table) a.owner.row (with_child a.child))
       | inr d ↦ ap (λ (l : List Row). length l) (attach_rows_other m a t d)
     ]
 
@@ -97,8 +115,13 @@ runs_changed (x ∷ rows) zero (suc k) child many r h e = h (suc k) r e
 runs_changed (x ∷ rows) (suc n) zero child many r h e = h 0 r e
 runs_changed (x ∷ rows) (suc n) (suc k) child many r h e = runs_changed rows n k child many r (λ i y f. h (suc i) y f) e
 
+runs_row : (rows : List Row) (row k : ℕ) (child : Token) (many : ℕ) (r : Row) → ((i : ℕ) (x : Row) → slice_get rows i ≡ Some x → length x.kids ≡ many) → slice_get (change_row rows row (with_child child)) k ≡ Some r → length r.kids ≡ many
+unfolding change_row
+runs_row rows zero k child many r h e = h k r e
+runs_row rows (suc n) k child many r h e = runs_changed rows n k child many r h e
+
 runs_here : (m : Module) (a : Attached) → HasRuns m → (n : ℕ) (r : Row) → slice_get (rows_in (attach m a) a.owner.table) n ≡ Some r → length r.kids ≡ length (runs_in a.owner.table)
-runs_here m a runs n r e = runs_changed (rows_in m a.owner.table) (a.owner.row - 1) n a.child (length (runs_in a.owner.table)) r (runs.each a.owner.table) (rw (attach_rows m a) at e)
+runs_here m a runs n r e = runs_row (rows_in m a.owner.table) a.owner.row n a.child (length (runs_in a.owner.table)) r (runs.each a.owner.table) (rw (attach_rows m a) at e)
 
 runs_at : (m : Module) (a : Attached) → HasRuns m → (t n : ℕ) (r : Row) → slice_get (rows_in (attach m a) t) n ≡ Some r → length r.kids ≡ length (runs_in t)
 runs_at m a runs t n r e =
@@ -131,24 +154,28 @@ some_row : (m : Module) (u : Token) → has_row m u ≡ true → 0 < u.row
 unfolding has_row
 some_row m u h = grind (arith, nat_tests)
 
-owner_row : (rows : List Row) (row : ℕ) (f : Row → Row) → 0 < row → row_at (change_at rows (row - 1) f) row ≡ option_map f (row_at rows row)
-owner_row rows row f low = rw (at_row (change_at rows (row - 1) f) row low, at_row rows row low) (change_same rows (row - 1) f)
+owner_row : (rows : List Row) (row : ℕ) (f : Row → Row) → 0 < row → row_at (change_row rows row f) row ≡ option_map f (row_at rows row)
+unfolding change_row
+owner_row rows zero f low = absurd (omega arith)
+owner_row rows (suc n) f low = change_same rows n f
 
 -- the owner's row has the child
 attach_is : (m : Module) (a : Attached) → Attaches m a → row_of (attach m a) a.owner ≡ option_map (with_child a.child) (row_of m a.owner)
 unfolding row_of
 attach_is m a h = rw (attach_rows m a) (owner_row (rows_in m a.owner.table) a.owner.row (with_child a.child) (some_row m a.owner h.row))
 
-other_row : (rows : List Row) (n row : ℕ) (f : Row → Row) → 0 < n → row ≢ n → row_at (change_at rows (n - 1) f) row ≡ row_at rows row
-other_row rows n zero f low e = refl
-other_row rows n (suc r) f low e = change_other rows (n - 1) r f (λ d. e (omega arith))
+other_row : (rows : List Row) (n row : ℕ) (f : Row → Row) → row ≢ n → row_at (change_row rows n f) row ≡ row_at rows row
+unfolding change_row
+other_row rows zero row f e = refl
+other_row rows (suc n) zero f e = refl
+other_row rows (suc n) (suc r) f e = change_other rows n r f (λ d. e (ap suc d))
 
 -- every other row is the same
 attach_keeps : (m : Module) (a : Attached) (u : Token) → Attaches m a → is_token a.owner u ≡ false → row_of (attach m a) u ≡ row_of m u
 unfolding row_of
 attach_keeps m a u h other =
     elim (cases_eq u.table a.owner.table) [
-      | inl e ↦ rw (e, attach_rows m a) (other_row (rows_in m a.owner.table) a.owner.row u.row (with_child a.child) (some_row m a.owner h.row) (not_same a.owner u other e))
+      | inl e ↦ rw (e, attach_rows m a) (other_row (rows_in m a.owner.table) a.owner.row u.row (with_child a.child) (not_same a.owner u other e))
       | inr d ↦ rw (attach_rows_other m a u.table d) refl
     ]
 
@@ -201,14 +228,22 @@ owner_is_not a b h = λ e. absurd (grind (arith, nat_tests))
 equals : (a b : ℕ) → a ≡ b → (a == b) ≡ true
 equals a b h = grind (arith, nat_tests)
 
+both_hold : (a b : Bool) → a ≡ true → b ≡ true → (a && b) ≡ true
+both_hold true b ha hb = hb
+both_hold false b ha hb = absurd cc
+
+second : (a b : Bool) → (a && b) ≡ true → b ≡ true
+second true b h = h
+second false b h = absurd cc
+
 -- the children of the owner
 attach_owner : (m : Module) (a : Attached) (table : ℕ) (r : Row) → Attaches m a → HasRuns m → is_child_table table ≡ true → row_of m a.owner ≡ Some r → (same : Bool) → (a.child.table == table) ≡ same → kids_of (attach m a) a.owner table ≡ kids_of m a.owner table ++ one_if same a.child.row
 unfolding kids_of
 attach_owner m a table r h runs there e true s =
     let is : a.child.table ≡ table = owner_is a.child.table table s in
-    rw (← is, attach_is m a h, e) (owned_more (a.owner.table == owner_table a.child.table) (kids_at r a.child.table) (kids_at (with_child a.child r) a.child.table) (a.child.row ∷ []) (equals a.owner.table (owner_table a.child.table) h.table) (kids_same r a.child (place_there m a r h runs e)))
+    rw (← is, attach_is m a h, e) (owned_more (is_child_table a.child.table && a.owner.table == owner_table a.child.table) (kids_at r a.child.table) (kids_at (with_child a.child r) a.child.table) (a.child.row ∷ []) (both_hold (is_child_table a.child.table) (a.owner.table == owner_table a.child.table) h.child (equals a.owner.table (owner_table a.child.table) h.table)) (kids_same r a.child (place_there m a r h runs e)))
 attach_owner m a table r h runs there e false s =
-    rw (attach_is m a h, e) (owned_kids (a.owner.table == owner_table table) (kids_at r table) (kids_at (with_child a.child r) table) (λ o. kids_other r a.child table (place_differs table a.child.table there h.child (sym (owner_is a.owner.table (owner_table table) o) ∙ h.table) (owner_is_not a.child.table table s))))
+    rw (attach_is m a h, e) (owned_kids (is_child_table table && a.owner.table == owner_table table) (kids_at r table) (kids_at (with_child a.child r) table) (λ o. kids_other r a.child table (place_differs table a.child.table there h.child (sym (owner_is a.owner.table (owner_table table) (second (is_child_table table) (a.owner.table == owner_table table) o)) ∙ h.table) (owner_is_not a.child.table table s))))
 
 nothing_more : (same child : Bool) (xs : List ℕ) (row : ℕ) → same ≡ false → xs ≡ xs ++ one_if (same && child) row
 nothing_more true child xs row h = absurd cc

@@ -7,9 +7,8 @@ use Rattle.std.proofs.lemmas.Bool.Decides.{nat_tests}
 use Rattle.enc_base.specs.declared.token.Token.{Token}
 use Rattle.enc_schema.specs.declared.column.Column.{Column}
 use Rattle.enc_schema.specs.Schema.{list_at, schema, columns_in, column_in}
-use Rattle.enc_plain.specs.Cell.{Cell, Kind, bodies, fields, kind_of, is_body, is_field, kind_in, cell_count}
+use Rattle.enc_plain.specs.Cell.{Cell, Kind, bodies, fields, kind_of, is_body, is_field, kind_in, cell_count, cell_kind}
 use Rattle.enc_plain.specs.Module.{Module, Row, rows_in, row_at, row_of, has_row, cell_of}
-use Rattle.enc_plain.specs.Plain.{cell_kind}
 use Rattle.enc_plain.specs.Sound.{row_count, is_part, HasTables, HasCounts, HasKinds}
 use Rattle.enc_plain.proofs.Columns.{part_cases, runs_last, all_last, each}
 

@@ -13,3 +13,4 @@ pub mod SignatureColumns
 pub mod FieldExtents
 pub mod AlikeKept
 pub mod KindsOf
+pub mod Owned

@@ -1,5 +1,5 @@
 -- Editing a plain module: the cells of rows put in place or at the end, and children attached to their owners.
-use Rattle.std.specs.Prelude.{ℕ, zero, suc, ◌-◌, ◌&&◌, ◌==◌, List, [], ◌∷◌, ◌++◌, map, filter}
+use Rattle.std.specs.Prelude.{ℕ, zero, suc, ◌&&◌, ◌==◌, List, [], ◌∷◌, ◌++◌, map, filter}
 use Rattle.enc_base.specs.Token.{is_token}
 use Rattle.enc_base.specs.declared.token.Token.{Token}
 use Rattle.enc_schema.specs.Children.{runs_in, run_index}
@@ -15,9 +15,10 @@ pub record Change : Type 0 where
 abbrev pub childless : ℕ → List Cell → Row
 childless table cells = record { cells = cells; kids = map (λ (child : ℕ). []) (runs_in table) }
 
--- the rows with these cells in the n-th, n from 0, which keeps its children, or with a row of them at the end where there is no n-th
+-- the rows with these cells in the n-th, n from 0, which keeps its children, or in a new row where that is the next; further on nothing changes
 abbrev pub put_row : ℕ → List Row → ℕ → List Cell → List Row
-put_row table [] n cells = childless table cells ∷ []
+put_row table [] zero cells = childless table cells ∷ []
+put_row table [] (suc n) cells = []
 put_row table (r ∷ rows) zero cells = record { cells = cells; kids = r.kids } ∷ rows
 put_row table (r ∷ rows) (suc n) cells = r ∷ put_row table rows n cells
 
@@ -27,9 +28,19 @@ change_at [] n f = []
 change_at (x ∷ xs) zero f = f x ∷ xs
 change_at (x ∷ xs) (suc n) f = x ∷ change_at xs n f
 
+-- the same by the row's number, from 1; row 0 is none, and nothing changes
+unfoldable pub put_at : ℕ → List Row → ℕ → List Cell → List Row
+put_at table rows zero cells = rows
+put_at table rows (suc n) cells = put_row table rows n cells
+
+-- the row of a number, from 1, changed
+unfoldable pub change_row : List Row → ℕ → (Row → Row) → List Row
+change_row rows zero f = rows
+change_row rows (suc n) f = change_at rows n f
+
 -- the module with one change made
 unfoldable pub put : Module → Change → Module
-put m c = record { tables = change_at m.tables c.token.table (λ rows. put_row c.token.table rows (c.token.row - 1) c.cells); resources = m.resources; entry = m.entry }
+put m c = record { tables = change_at m.tables c.token.table (λ rows. put_at c.token.table rows c.token.row c.cells); resources = m.resources; entry = m.entry }
 
 -- the module with all changes made, in order
 unfoldable pub apply : Module → List Change → Module
@@ -47,7 +58,7 @@ with_child child r = record { cells = r.cells; kids = change_at r.kids (run_inde
 
 -- the module with a child attached to its owner
 unfoldable pub attach : Module → Attached → Module
-attach m a = record { tables = change_at m.tables a.owner.table (λ rows. change_at rows (a.owner.row - 1) (with_child a.child)); resources = m.resources; entry = m.entry }
+attach m a = record { tables = change_at m.tables a.owner.table (λ rows. change_row rows a.owner.row (with_child a.child)); resources = m.resources; entry = m.entry }
 
 -- the module with all children attached, in order
 unfoldable pub attach_all : Module → List Attached → Module

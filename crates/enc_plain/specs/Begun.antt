@@ -1,5 +1,5 @@
 -- The module that a plain module in memory begins with.
-use Rattle.std.specs.Prelude.{◌-◌, ℕ, List, [], ◌∷◌, replicate, Option, Some, None, ◌==◌, if◌then◌else◌}
+use Rattle.std.specs.Prelude.{◌-◌, ℕ, List, [], ◌∷◌, replicate}
 use Rattle.enc_plain.specs.Cell.{number, text, guid}
 use Rattle.enc_plain.specs.Chain.{nil_guid}
 use Rattle.enc_plain.specs.Module.{Module, Row}
@@ -12,7 +12,3 @@ module_row name mvid = record { cells = number 0 ∷ text name ∷ guid mvid ∷
 -- the module with this row and nothing else: no resources, and no entry point
 abbrev pub begun : List ℕ → List ℕ → Module
 begun name mvid = record { tables = (module_row name mvid ∷ []) ∷ replicate (tables.table_count - 1) []; resources = []; entry = 0 }
-
--- no user text but the empty one at offset 0
-abbrev pub no_users : ℕ → Option (List ℕ)
-no_users offset = if offset == 0 then Some [] else None

@@ -27,6 +27,16 @@ pub data Kind : Type 0 where
   bodies : Kind
   fields : Kind
 
+-- the kind that a cell is of
+abbrev pub cell_kind : Cell → Kind
+cell_kind (number n) = numbers
+cell_kind (text bytes) = texts
+cell_kind (blob bytes) = blobs
+cell_kind (guid bytes) = guids
+cell_kind (refer token) = references
+cell_kind (body there) = bodies
+cell_kind (field bytes) = fields
+
 -- which kind of cell a column has; a run has none
 abbrev pub kind_of : Column → Option Kind
 kind_of Num8 = Some numbers

@@ -4,7 +4,7 @@ use Rattle.std.specs.List.{list_any}
 use Rattle.enc_base.specs.Token.{nth_row}
 use Rattle.enc_base.specs.declared.token.Token.{Token}
 use Rattle.enc_schema.specs.Schema.{list_at}
-use Rattle.enc_schema.specs.Children.{owner_table, run_index}
+use Rattle.enc_schema.specs.Children.{is_child_table, owner_table, run_index}
 use Rattle.enc_plain.specs.Cell.{Cell}
 
 -- a row: the cells of its columns in order, and for each of its runs the rows of its children in order of attachment
@@ -50,9 +50,9 @@ abbrev pub kids_with : Option Row → ℕ → List ℕ
 kids_with (Some r) child = kids_at r child
 kids_with None child = []
 
--- the children that a token's row owns in a child table, in order of attachment
+-- the children that a token's row owns in a child table, in order of attachment; in other tables there are none
 unfoldable pub kids_of : Module → Token → ℕ → List ℕ
-kids_of m owner child = if owner.table == owner_table child then kids_with (row_of m owner) child else []
+kids_of m owner child = if is_child_table child && owner.table == owner_table child then kids_with (row_of m owner) child else []
 
 -- the row has this child
 abbrev pub has_kid : Token → Row → Bool

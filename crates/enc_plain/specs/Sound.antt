@@ -7,15 +7,16 @@ use Rattle.enc_base.specs.declared.token.Token.{Token}
 use Rattle.enc_schema.specs.declared.column.Column.{Column}
 use Rattle.enc_schema.specs.declared.column.Column.TheVariants.{Num8, Num16, Index, Coded}
 use Rattle.enc_schema.specs.Schema.{column_in}
+use Rattle.enc_schema.specs.Columns as columns
+use Rattle.enc_schema.specs.Tables as tables
 use Rattle.enc_schema.specs.Coding.{tables_of}
 use Rattle.enc_schema.specs.Children.{is_child_table, owner_table}
 use Rattle.enc_opcodes.specs.Body.{Body, begins_locals}
 use Rattle.enc_opcodes.specs.Sound.{body_is_sound}
-use Rattle.enc_plain.specs.Cell.{Cell, number, text, blob, guid, refer, body, field, Kind, kind_in, cell_count}
+use Rattle.enc_plain.specs.Cell.{Cell, number, text, blob, guid, refer, body, field, Kind, kind_in, cell_count, cell_kind}
 use Rattle.enc_plain.specs.Extent.{extent_in}
 use Rattle.enc_plain.specs.Fits.{HasRuns}
 use Rattle.enc_plain.specs.Module.{Module, Row, rows_in, has_row, cell_of, cells_of, kids_at}
-use Rattle.enc_plain.specs.Plain.{cell_kind}
 use Rattle.enc_plain.specs.Rows.{number_at, bytes_at, token_at}
 use Rattle.enc_plain.specs.declared.extent.Extent.{Extent}
 use Rattle.enc_plain.specs.declared.extent.Extent.TheVariants.{Bytes, Class}
@@ -27,7 +28,7 @@ row_count m table = length (rows_in m table)
 
 -- the tables that are no part of a module: the Ptr tables, EncLog and EncMap
 abbrev pub is_part : ℕ → Bool
-is_part table = not (list_any (λ t. t == table) (0x03 ∷ 0x05 ∷ 0x07 ∷ 0x13 ∷ 0x16 ∷ 0x1E ∷ 0x1F ∷ []))
+is_part table = not (list_any (λ t. t == table) (tables.field_ptr ∷ tables.method_ptr ∷ tables.param_ptr ∷ tables.event_ptr ∷ tables.property_ptr ∷ tables.enc_log ∷ tables.enc_map ∷ []))
 
 -- a column can name rows of this table
 abbrev pub is_tables : ℕ → Option ℕ → Bool
@@ -52,18 +53,19 @@ number_fits _ n = nat_lt n (2 ^ 32)
 -- a body stands only where the low two bits of ImplFlags tell IL code (II.23.1.11), it is good, and its local signature is nil or one of locals (II.23.2.6)
 unfoldable pub method_is_sound : Module → Token → Body → Bool
 method_is_sound m method b =
-    number_at (cells_of m) method 1 % 4 == 0
+    number_at (cells_of m) method columns.method_def_impl_flags % 4 == 0
     && body_is_sound (row_count m) b
-    && (b.locals.row == 0 || begins_locals (bytes_at (cells_of m) b.locals 0))
+    && (b.locals.row == 0 || begins_locals (bytes_at (cells_of m) b.locals columns.stand_alone_sig_signature))
 
 -- the size that the first row of ClassLayout with this parent tells (II.22.8)
 unfoldable pub class_size_at : Module → ℕ → ℕ → Option ℕ
 class_size_at m type k =
-    if is_token (token_at (cells_of m) (nth_row 0x0F k) 2) (record { table = 0x02; row = type }) then Some (number_at (cells_of m) (nth_row 0x0F k) 1)
+    if is_token (token_at (cells_of m) (nth_row tables.class_layout k) columns.class_layout_parent) (record { table = tables.type_def; row = type })
+        then Some (number_at (cells_of m) (nth_row tables.class_layout k) columns.class_layout_class_size)
     else None
 
 unfoldable pub class_size : Module → ℕ → Option ℕ
-class_size m type = first_below (class_size_at m type) (row_count m 0x0F)
+class_size m type = first_below (class_size_at m type) (row_count m tables.class_layout)
 
 -- the size of a field's bytes, as far as anything tells it
 abbrev pub size_of : Module → Option Extent → Option ℕ
@@ -73,7 +75,9 @@ size_of m None = None
 
 -- what tells the size of the field that a row of FieldRVA names
 unfoldable pub extent_of : Module → Token → Option Extent
-extent_of m row = if (token_at (cells_of m) row 1).row == 0 then None else extent_in (bytes_at (cells_of m) (token_at (cells_of m) row 1) 2)
+extent_of m row =
+    if (token_at (cells_of m) row columns.field_rva_field).row == 0 then None
+    else extent_in (bytes_at (cells_of m) (token_at (cells_of m) row columns.field_rva_field) columns.field_signature)
 
 abbrev pub is_size : ℕ → Option ℕ → Bool
 is_size n (Some k) = k == n
@@ -105,7 +109,7 @@ pub record IsOwned (m : Module) : Type 0 where
 
 -- all tables are there
 pub record HasTables (m : Module) : Type 0 where
-  pub all : length m.tables ≡ 0x2D
+  pub all : length m.tables ≡ tables.table_count
 
 -- those that are no part of a module are empty; Module has one row, and no table more than 2^24 - 1
 pub record HasCounts (m : Module) : Type 0 where

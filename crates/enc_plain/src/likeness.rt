@@ -11,6 +11,7 @@ use crate::cells::{CellView, Viewed};
 use crate::signature::kind_in_table;
 use crate::view::ModuleView;
 use enc_base::Token;
+use enc_schema::columns::{ASSEMBLY_REF_BUILD_NUMBER, ASSEMBLY_REF_CULTURE, ASSEMBLY_REF_FLAGS, ASSEMBLY_REF_HASH_VALUE, ASSEMBLY_REF_MAJOR_VERSION, ASSEMBLY_REF_MINOR_VERSION, ASSEMBLY_REF_NAME, ASSEMBLY_REF_PUBLIC_KEY_OR_TOKEN, ASSEMBLY_REF_REVISION_NUMBER, MODULE_REF_NAME, TYPE_REF_RESOLUTION_SCOPE, TYPE_REF_TYPE_NAME, TYPE_REF_TYPE_NAMESPACE, TYPE_SPEC_SIGNATURE};
 use enc_schema::tables::{ASSEMBLY_REF, MODULE_REF, TYPE_REF, TYPE_SPEC};
 use enc_sigs::sigs_agree;
 
@@ -69,8 +70,8 @@ fn are_namesakes<R: CellView>(rows: &R, a: Token, b: Token) -> bool
     ensures b { IsTrue result → b.table ≡ type_ref }
 {
     are_rows(rows, TYPE_REF, a, b)
-        && same_text(rows, TYPE_REF, a, b, 1)
-        && same_text(rows, TYPE_REF, a, b, 2)
+        && same_text(rows, TYPE_REF, a, b, TYPE_REF_TYPE_NAME)
+        && same_text(rows, TYPE_REF, a, b, TYPE_REF_TYPE_NAMESPACE)
 }
 
 /// AssemblyRefs with the same version and flags (ECMA-335 II.22.5).
@@ -80,11 +81,11 @@ fn same_version<R: CellView>(rows: &R, a: Token, b: Token) -> bool
     requires b { b.table ≡ assembly_ref }
     ensures { result ≡ (same_number (R.rows rows.now) a b 0 && same_number (R.rows rows.now) a b 1 && same_number (R.rows rows.now) a b 2 && same_number (R.rows rows.now) a b 3 && same_number (R.rows rows.now) a b 4) }
 {
-    same_number(rows, ASSEMBLY_REF, a, b, 0)
-        && same_number(rows, ASSEMBLY_REF, a, b, 1)
-        && same_number(rows, ASSEMBLY_REF, a, b, 2)
-        && same_number(rows, ASSEMBLY_REF, a, b, 3)
-        && same_number(rows, ASSEMBLY_REF, a, b, 4)
+    same_number(rows, ASSEMBLY_REF, a, b, ASSEMBLY_REF_MAJOR_VERSION)
+        && same_number(rows, ASSEMBLY_REF, a, b, ASSEMBLY_REF_MINOR_VERSION)
+        && same_number(rows, ASSEMBLY_REF, a, b, ASSEMBLY_REF_BUILD_NUMBER)
+        && same_number(rows, ASSEMBLY_REF, a, b, ASSEMBLY_REF_REVISION_NUMBER)
+        && same_number(rows, ASSEMBLY_REF, a, b, ASSEMBLY_REF_FLAGS)
 }
 
 /// AssemblyRefs that are equal in all columns (ECMA-335 II.22.5).
@@ -94,10 +95,10 @@ fn assembly_refs_alike<R: CellView>(rows: &R, a: Token, b: Token) -> bool
 {
     are_rows(rows, ASSEMBLY_REF, a, b)
         && same_version(rows, a, b)
-        && same_blob(rows, ASSEMBLY_REF, a, b, 5)
-        && same_text(rows, ASSEMBLY_REF, a, b, 6)
-        && same_text(rows, ASSEMBLY_REF, a, b, 7)
-        && same_blob(rows, ASSEMBLY_REF, a, b, 8)
+        && same_blob(rows, ASSEMBLY_REF, a, b, ASSEMBLY_REF_PUBLIC_KEY_OR_TOKEN)
+        && same_text(rows, ASSEMBLY_REF, a, b, ASSEMBLY_REF_NAME)
+        && same_text(rows, ASSEMBLY_REF, a, b, ASSEMBLY_REF_CULTURE)
+        && same_blob(rows, ASSEMBLY_REF, a, b, ASSEMBLY_REF_HASH_VALUE)
 }
 
 /// ModuleRefs with equal names (ECMA-335 II.22.31).
@@ -105,7 +106,7 @@ fn assembly_refs_alike<R: CellView>(rows: &R, a: Token, b: Token) -> bool
 fn module_refs_alike<R: CellView>(rows: &R, a: Token, b: Token) -> bool
     ensures { result ≡ module_refs_alike (R.rows rows.now) a b }
 {
-    are_rows(rows, MODULE_REF, a, b) && same_text(rows, MODULE_REF, a, b, 0)
+    are_rows(rows, MODULE_REF, a, b) && same_text(rows, MODULE_REF, a, b, MODULE_REF_NAME)
 }
 
 /// The scope of a TypeRef.
@@ -114,7 +115,7 @@ fn scope_of<R: CellView>(rows: &R, token: Token) -> Token
     requires { token.table ≡ type_ref }
     ensures { result ≡ token_at (R.rows rows.now) token 0 }
 {
-    rows.token(token, 0)
+    rows.token(token, TYPE_REF_RESOLUTION_SCOPE)
 }
 
 /// Whether tokens are equal, or references alike by at most so many scopes one in the other; past
@@ -150,7 +151,7 @@ fn spec_of<R: CellView>(rows: &R, token: Token) -> &[u8]
     requires { token.table ≡ type_spec }
     ensures { result.now ≡ bytes_at (R.rows rows.now) token 0 }
 {
-    rows.blob(token, 0)
+    rows.blob(token, TYPE_SPEC_SIGNATURE)
 }
 
 /// Whether the signatures of TypeSpecs are alike.

@@ -1,16 +1,20 @@
 //! A plain module in memory.
 ghost use Rattle.std.specs.Prelude.{◌-◌, ◌≡◌, ℕ, ◌<◌, ◌^◌, ◌==◌, false, ◌∷◌, [], length, replicate, position, option_copied, IsTrue, IsSome, IfSome, IfOk};
 ghost use Rattle.std.specs.List.{list_any};
-ghost use Rattle.enc_plain.specs.Cell.{kind_in};
+ghost use Rattle.enc_meta.specs.Heaps.{user_at};
+ghost use Rattle.enc_plain.specs.Cell.{kind_in, cell_kind};
 ghost use Rattle.enc_plain.specs.Module.{rows_in, row_at, row_of, has_row, cell_of, owner_of, kids_of, kids_at, has_kid};
-ghost use Rattle.enc_plain.specs.Plain.{cell_kind};
-ghost use Rattle.enc_plain.specs.Begun.{module_row as row_of_module, begun, no_users};
+ghost use Rattle.enc_plain.specs.Sound.{IsSound};
+ghost use Rattle.enc_plain.specs.Begun.{module_row as row_of_module, begun};
 ghost use Rattle.enc_schema.specs.Tables.{table_count};
 
 use crate::view::ModuleView;
 use enc_base::Token;
+use enc_meta::user_text_at;
 use enc_opcodes::CodeRef;
-use enc_schema::{owner_table, run_index};
+use enc_schema::columns::{FIELD_RVA_RVA, METHOD_DEF_RVA};
+use enc_schema::tables::TABLE_COUNT;
+use enc_schema::{is_child_table, owner_table, run_index};
 use std::alloc::{AllocError, Global};
 use std::marker::Model;
 
@@ -90,22 +94,24 @@ impl Model for PlainTable {
     ghost view = { λ t. t.rows.items };
 }
 
-/// A plain module that holds its rows itself.
+/// A plain module that holds its rows itself, and the user texts of its bodies in a `#US` of its
+/// own.
 #[derive(Drop)]
 pub struct PlainModule {
     tables: Vec<PlainTable>,
+    users: Vec<u8>,
 }
 
 impl Model for PlainModule {
-    ghost use Rattle.enc_plain.specs.Module.{Module};
-    ghost use Rattle.enc_plain.specs.Plain.{IsPlain};
+    ghost use Rattle.enc_plain.specs.Plain.{InMemory};
+    ghost use Rattle.enc_plain.specs.Sound.{IsSound};
     ghost use Rattle.std.specs.Prelude.{[]};
 
-    ghost Value = { Module };
+    ghost Value = { InMemory };
 
-    ghost view = { λ m. record { tables = m.tables.items; resources = []; entry = 0 } };
+    ghost view = { λ m. record { plain = record { tables = m.tables.items; resources = []; entry = 0 }; users = m.users.items } };
 
-    ghost invariant = { λ m. IsPlain (record { tables = m.tables.items; resources = []; entry = 0 }) };
+    ghost invariant = { λ m. IsSound (record { tables = m.tables.items; resources = []; entry = 0 }) };
 }
 
 impl PlainRow {
@@ -154,6 +160,13 @@ impl PlainTable {
     }
 }
 
+/// A GUID has sixteen bytes.
+fn sixteen(guid: &[u8; 16])
+    ensures { length guid.now ≡ 16 }
+{
+    let _ = guid.len();
+}
+
 /// The row of Module: Generation 0, this name and this Mvid, nil EncId and EncBaseId (ECMA-335
 /// II.22.30).
 #[tactic(auto, unfolding(crate::specs::Chain::nil_guid))]
@@ -192,7 +205,7 @@ fn tables_with(alloc: Global, row: PlainRow) -> Result<Vec<PlainTable>, AllocErr
     rows.push(row)?;
     let mut tables = Vec::new(alloc);
     tables.push(PlainTable { rows })?;
-    for more in 0..0x2C_u8 {
+    for more in 0..TABLE_COUNT - 1 {
         let _ = more;
         tables.push(PlainTable {
             rows: Vec::new(alloc),
@@ -206,17 +219,28 @@ impl PlainModule {
     /// else.
     pub fn begin(alloc: Global, name: &[u8], mvid: [u8; 16]) -> Result<PlainModule, AllocError>
         requires { list_any (λ b. b == 0) name.now ≡ false }
-        ensures { IfOk result (λ m. m ≡ begun name.now mvid) }
+        ensures { IfOk result (λ m. m ≡ record { plain = begun name.now mvid; users = [] }) }
     {
+        sixteen(&mvid);
         let row = module_row(alloc, name, mvid)?;
         let tables = tables_with(alloc, row)?;
-        Ok(PlainModule { tables })
+        Ok(PlainModule {
+            tables,
+            users: Vec::new(alloc),
+        })
+    }
+
+    /// A plain module is sound: a law, of which a caller makes use.
+    pub fn sound(&self)
+        ensures { IsSound self.now.plain }
+    {
+        let _ = &self.tables;
     }
 
     /// The row that a token names.
     #[tactic(auto, unfolding(crate::specs::Module::row_of))]
     fn row(&self, token: Token) -> Option<&PlainRow>
-        ensures { option_copied result ≡ row_of self.now token }
+        ensures { option_copied result ≡ row_of self.now.plain token }
     {
         match self.tables.get(token.table as usize) {
             Some(table) => table.row(token.row),
@@ -227,7 +251,7 @@ impl PlainModule {
     /// What stands in a column.
     #[tactic(auto, unfolding(crate::specs::Module::cell_of))]
     fn found(&self, row: Token, column: u8) -> Option<&Held>
-        ensures { option_copied result ≡ cell_of self.now row column }
+        ensures { option_copied result ≡ cell_of self.now.plain row column }
     {
         match self.row(row) {
             Some(found) => found.cells.get(column as usize),
@@ -237,9 +261,9 @@ impl PlainModule {
 
     /// The cell in a column that has one.
     fn cell(&self, row: Token, column: u8) -> &Held
-        requires row { IsTrue (has_row self.now row) }
+        requires row { IsTrue (has_row self.now.plain row) }
         requires kind { IsSome (kind_in row.table column) }
-        ensures cell { cell_of self.now row column ≡ Some result.now }
+        ensures cell { cell_of self.now.plain row column ≡ Some result.now }
         ensures kind { kind_in row.table column ≡ Some (cell_kind result.now) }
     {
         let _ = &self.tables;
@@ -252,8 +276,8 @@ impl PlainModule {
     /// The owner of a child row.
     #[tactic(auto, unfolding(crate::specs::Module::owner_of))]
     fn owner_found(&self, child: Token) -> Option<Token>
-        requires { (t : ℕ) → length (rows_in self.now t) < 2 ^ 24 }
-        ensures { result ≡ owner_of self.now child }
+        requires { (t : ℕ) → length (rows_in self.now.plain t) < 2 ^ 24 }
+        ensures { result ≡ owner_of self.now.plain child }
     {
         let table = owner_table(child.table);
         let Some(owners) = self.tables.get(table as usize) else {
@@ -268,9 +292,9 @@ impl PlainModule {
     /// The rows of a row's children in a child table.
     #[tactic(auto, unfolding(crate::specs::Module::kids_of))]
     fn kids_in(&self, owner: Token, table: u8) -> &[u32]
-        ensures { result.now ≡ kids_of self.now owner table }
+        ensures { result.now ≡ kids_of self.now.plain owner table }
     {
-        if owner.table != owner_table(table) {
+        if !is_child_table(table) || owner.table != owner_table(table) {
             return &[];
         }
         match self.row(owner) {
@@ -281,9 +305,9 @@ impl PlainModule {
 }
 
 impl ModuleView for PlainModule {
-    ghost meaning = { λ m. m };
+    ghost meaning = { λ m. m.plain };
 
-    ghost users = { λ m. no_users };
+    ghost users = { λ m. user_at m.users };
 
     fn count(&self, table: u8) -> u32 {
         let _ = &self.tables;
@@ -334,7 +358,7 @@ impl ModuleView for PlainModule {
     }
 
     fn code(&self, method: Token) -> Option<CodeRef<'_>> {
-        let held = self.cell(method, 0);
+        let held = self.cell(method, METHOD_DEF_RVA);
         match &held.cell {
             PlainCell::NoBody => None,
             _ => unreachable!(),
@@ -342,7 +366,7 @@ impl ModuleView for PlainModule {
     }
 
     fn field_bytes(&self, row: Token) -> &[u8] {
-        let held = self.cell(row, 0);
+        let held = self.cell(row, FIELD_RVA_RVA);
         match &held.cell {
             PlainCell::Field(bytes) => bytes,
             _ => unreachable!(),
@@ -350,8 +374,7 @@ impl ModuleView for PlainModule {
     }
 
     fn user_text(&self, offset: u32) -> Option<&[u8]> {
-        let _ = &self.tables;
-        if offset == 0 { Some(&[]) } else { None }
+        user_text_at(&self.users, offset)
     }
 
     fn resources(&self) -> &[u8] {

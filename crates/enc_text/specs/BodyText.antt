@@ -1,5 +1,5 @@
 -- The printed body of a method.
-use Rattle.std.specs.Prelude.{ℕ, ◌+◌, ◌*◌, List, [], ◌∷◌, ◌++◌, flat_map, Bool, true, false, nat_lt, decimal, codes, if◌then◌else◌}
+use Rattle.std.specs.Prelude.{ℕ, List, [], ◌∷◌, ◌++◌, flat_map, Bool, true, false, nat_lt, decimal, codes, if◌then◌else◌}
 use Rattle.std.specs.Fmt.{signed_decimal}
 use Rattle.std.specs.Char.Utf16.{utf16_lossy_chars}
 use Rattle.std.specs.Str.{encode_utf8_all}
@@ -27,14 +27,9 @@ abbrev pub labels : List ℕ → List ℕ
 labels [] = []
 labels (t ∷ ts) = 0x20 ∷ label t ++ more_labels ts
 
--- the UTF-16 units that bytes spell, low byte first
-unfoldable pub units_of : List ℕ → List ℕ
-units_of (a ∷ b ∷ rest) = (a + 256 * b) ∷ units_of rest
-units_of _ = []
-
 -- a user text in UTF-8, with U+FFFD for each surrogate that has no partner
 unfoldable pub utf8_of : List ℕ → List ℕ
-utf8_of bytes = encode_utf8_all (utf16_lossy_chars (units_of bytes))
+utf8_of units = encode_utf8_all (utf16_lossy_chars units)
 
 -- a space and the operand, where there is one
 abbrev pub argument_text : Argument (List ℕ) → List ℕ
@@ -43,7 +38,7 @@ argument_text (number n) = 0x20 ∷ signed_decimal n
 argument_text (target t) = 0x20 ∷ label t
 argument_text (targets ts) = labels ts
 argument_text (token t) = 0x20 ∷ token_text t
-argument_text (text bytes) = 0x20 ∷ quoted (utf8_of bytes)
+argument_text (text units) = 0x20 ∷ quoted (utf8_of units)
 argument_text (raw bytes) = 0x20 ∷ encode_lower bytes
 
 -- the line of an instruction: its offset, its name and its operand

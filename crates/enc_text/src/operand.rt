@@ -7,7 +7,7 @@ ghost use Rattle.enc_opcodes.specs.Instruction.{all_reached, reached as reached_
 ghost use Rattle.enc_opcodes.specs.Body.{told};
 ghost use Rattle.enc_il.specs.Seen.{arg_seen};
 ghost use Rattle.enc_text.specs.Text.{token_text, quoted};
-ghost use Rattle.enc_text.specs.BodyText.{label_digits, label, more_labels, labels, units_of, utf8_of, argument_text};
+ghost use Rattle.enc_text.specs.BodyText.{label_digits, label, more_labels, labels, utf8_of, argument_text};
 
 use crate::text::{push_digits, push_quoted, push_str, push_token};
 use enc_base::Token;
@@ -95,7 +95,7 @@ fn push_targets(end: u32, distances: &[u8], out: &mut Vec<u8>) -> Result<(), All
 }
 
 /// The UTF-16 units that bytes spell, low byte first.
-#[tactic(auto, unfolding(crate::specs::BodyText::units_of))]
+#[tactic(auto, unfolding(enc_base::specs::Units::units_of))]
 fn units_of(alloc: Global, bytes: &[u8]) -> Result<Vec<u16>, AllocError>
     ensures { IfOk result (λ units. units.items ≡ units_of bytes.now) }
 {
@@ -111,7 +111,7 @@ fn units_of(alloc: Global, bytes: &[u8]) -> Result<Vec<u16>, AllocError>
 /// Appends a space and a user text in UTF-8, by the bytes of its UTF-16 units.
 #[tactic(auto, unfolding(crate::specs::BodyText::utf8_of))]
 fn push_user_text(alloc: Global, bytes: &[u8], out: &mut Vec<u8>) -> Result<(), AllocError>
-    ensures { OnOk result (out.new.items ≡ out.old.items ++ 0x20 ∷ quoted (utf8_of bytes.now)) }
+    ensures { OnOk result (out.new.items ≡ out.old.items ++ 0x20 ∷ quoted (utf8_of (units_of bytes.now))) }
 {
     let units = units_of(alloc, bytes)?;
     let text = String::from_utf16_lossy(alloc, units.as_slice())?;

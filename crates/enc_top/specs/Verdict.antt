@@ -43,13 +43,17 @@ file_limit = 67108864
 abbrev pub total_limit : ℕ
 total_limit = 536870912
 
--- a file is there and not too long, with those loaded before it, which had so many bytes
-unfoldable pub taken : List ℕ → ℕ → Option (List ℕ) → Result (List ℕ) Stop
-taken name before None = Err (absent_file name)
-taken name before (Some bytes) =
+-- a file is not too long, with those loaded before it, which had so many bytes
+unfoldable pub kept_whole : List ℕ → ℕ → List ℕ → Result (List ℕ) Stop
+kept_whole name before bytes =
     if nat_lt file_limit (length bytes) then Err (past_limit name limit.Length)
     else if nat_lt total_limit (before + length bytes) then Err (past_limit name limit.Total)
     else Ok bytes
+
+-- and it is there
+abbrev pub taken : List ℕ → ℕ → Option (List ℕ) → Result (List ℕ) Stop
+taken name before None = Err (absent_file name)
+taken name before (Some bytes) = kept_whole name before bytes
 
 unfoldable pub load_one : Files → List ℕ → ℕ → Result (List ℕ) Stop
 load_one files name before = taken name before (get files name)

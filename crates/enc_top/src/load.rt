@@ -4,7 +4,7 @@ ghost use Rattle.std.specs.Prelude.{◌≡◌, ◌+◌, ◌++◌, ℕ, List, len
 ghost use Rattle.std.specs.FinMap.{get};
 ghost use Rattle.enc_outside.specs.Outside.{HasCause};
 ghost use Rattle.enc_top.specs.Words.{texts};
-ghost use Rattle.enc_top.specs.Verdict.{dll, meta, il, taken as taken_from, load_one as one_of, load_delta as delta_from, load_deltas as deltas_from};
+ghost use Rattle.enc_top.specs.Verdict.{dll, meta, il, kept_whole, taken as taken_from, load_one as one_of, load_delta as delta_from, load_deltas as deltas_from};
 ghost use Rattle.enc_top.specs.Stops.{Comes, StopsQuietly};
 ghost use Rattle.enc_top.specs.Loads.{file_seen};
 
@@ -56,17 +56,14 @@ impl Loaded {
         Loaded { bytes: 0 }
     }
 
-    /// What the store had of a file is there, and not too long with what was loaded before it.
-    #[tactic(auto, unfolding(crate::specs::Verdict::taken))]
-    fn take(&mut self, alloc: Global, name: &str, bytes: Option<Vec<u8>>) -> Result<Vec<u8>, Stop>
-        ensures step { Comes (λ b. b.items) result (taken_from name.now self.old (option_map (λ b. b.items) bytes)) }
+    /// The file isn't too long, with what was loaded before it.
+    #[tactic(auto, unfolding(crate::specs::Verdict::kept_whole))]
+    fn keep(&mut self, alloc: Global, name: &str, bytes: Vec<u8>) -> Result<Vec<u8>, Stop>
+        ensures step { Comes (λ b. b.items) result (kept_whole name.now self.old bytes.items) }
         ensures quiet { StopsQuietly result }
         ensures no_fault { ¬ (IsErrOf result Stop.Failed) }
         ensures counted { IfOk result (λ b. self.new ≡ self.old + length b.items) }
     {
-        let Some(bytes) = bytes else {
-            return Err(missing(alloc, name));
-        };
         if bytes.len() > FILE_LIMIT {
             return Err(too_long(alloc, name, Limit::Length));
         }
@@ -75,6 +72,19 @@ impl Loaded {
         }
         self.bytes += bytes.len();
         Ok(bytes)
+    }
+
+    /// What the store had of a file that must be there. One that may be absent has `keep` alone.
+    fn take(&mut self, alloc: Global, name: &str, bytes: Option<Vec<u8>>) -> Result<Vec<u8>, Stop>
+        ensures step { Comes (λ b. b.items) result (taken_from name.now self.old (option_map (λ b. b.items) bytes)) }
+        ensures quiet { StopsQuietly result }
+        ensures no_fault { ¬ (IsErrOf result Stop.Failed) }
+        ensures counted { IfOk result (λ b. self.new ≡ self.old + length b.items) }
+    {
+        match bytes {
+            Some(bytes) => self.keep(alloc, name, bytes),
+            None => Err(missing(alloc, name)),
+        }
     }
 
     /// Loads a file that must be there.

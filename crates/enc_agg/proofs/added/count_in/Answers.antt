@@ -15,7 +15,7 @@ pub returns-then-table-lt64-clause-few : goal.returns-then-table-lt64-clause-few
 returns-then-table-lt64-clause-few c =
     let all = rw c.in-Some.ensures.parts at c.requires in
     let counts = counts_are c.args.image.now _ _ c.args.table all c.if-table-lt64.true in
-    let few = rows_few c.args.image.now _ _ c.args.table c.sound.ensures all in
+    let few = rows_few c.args.image.now _ _ c.args.table c.sound.ensures.cells all in
     omega (arith, counts, few)
 
 pub returns-else-table-lt64-clause-count : goal.returns-else-table-lt64-clause-count

@@ -1,5 +1,5 @@
 use Rattle.std.proofs.Common.{◌≡◌, ◌++◌, length}
-use Rattle.enc_text.specs.BodyText.{units_of}
+use Rattle.enc_base.specs.Units.{units_of}
 use Rattle.enc_text.proofs.operand.units_of.Given as goal
 
 -- the units so far, and those of the bytes that are left
