@@ -5,6 +5,7 @@ ghost use Rattle.std.specs.Int.{w32, from_le_bytes};
 ghost use Rattle.hex.specs.Hex.{encode_lower};
 ghost use Rattle.enc_opcodes.specs.Instruction.{all_reached, reached as reached_from};
 ghost use Rattle.enc_opcodes.specs.Body.{told};
+ghost use Rattle.enc_base.specs.Units.{units_of};
 ghost use Rattle.enc_il.specs.Seen.{arg_seen};
 ghost use Rattle.enc_text.specs.Text.{token_text, quoted};
 ghost use Rattle.enc_text.specs.BodyText.{label_digits, label, more_labels, labels, utf8_of, argument_text};
