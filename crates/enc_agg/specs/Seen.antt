@@ -11,7 +11,7 @@ use Rattle.enc_rows.specs.Source.{Source, raw_in}
 use Rattle.enc_plain.specs.Module.{Module, rows_in}
 use Rattle.enc_plain.specs.Chain.{Chain}
 use Rattle.enc_plain.specs.Sound.{IsSound}
-use Rattle.enc_image.specs.Base.{cells_fault, begun}
+use Rattle.enc_image.specs.Base.{cells_fault, chain_of_base}
 use Rattle.enc_delta.specs.Delta.{listed, place_in}
 use Rattle.enc_delta.specs.Rules.{own_guid}
 use Rattle.enc_meta.specs.Joined.{joined_lengths}
@@ -54,7 +54,7 @@ AllAdded base (a ∷ older) = IsAdded (chain_with base (sources older)) a × All
 -- nothing in the base is refused, so its module is sound; and each delta follows those before it
 pub record IsAggregate (base : Source) (added : List Added) : Type 0 where
   pub sound : cells_fault base ≡ None
-  pub begins : IsSound (begun base).plain
+  pub begins : IsSound (chain_of_base base).plain
   pub all : AllAdded base added
 
 -- the newest of the deltas that lists a token, with those before it, and the token's position there
@@ -70,9 +70,9 @@ abbrev pub found_seen : Found → List Added × ℕ
 found_seen f = (reverse f.upto.now, f.row)
 
 -- the number in a column of a row of the newest of some deltas
-abbrev pub number_in : List Added → Token → ℕ → ℕ
-number_in [] row column = 0
-number_in (a ∷ older) row column = raw_in a.delta row column
+abbrev pub newest_number : List Added → Token → ℕ → ℕ
+newest_number [] row column = 0
+newest_number (a ∷ older) row column = raw_in a.delta row column
 
 -- the parts of the body at a place of the newest delta's code
 abbrev pub code_in : List Added → ℕ → Option Code

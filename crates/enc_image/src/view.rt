@@ -6,7 +6,7 @@ ghost use Rattle.enc_meta.specs.Heaps.{lengths_of, part};
 ghost use Rattle.enc_rows.specs.Layout.{IsWithin};
 ghost use Rattle.enc_schema.specs.Schema.{column_in};
 ghost use Rattle.enc_plain.specs.Module.{Module, rows_in, has_row, cell_of};
-ghost use Rattle.enc_image.specs.Base.{cells_fault, module_in, users_of, begun};
+ghost use Rattle.enc_image.specs.Base.{cells_fault, module_in, users_of, chain_of_base};
 ghost use Rattle.enc_plain.specs.Sound.{IsSound, is_part};
 ghost use Rattle.enc_image.specs.Seen.{source_seen};
 ghost use Rattle.enc_rows.specs.Source.{raw_in};
@@ -79,7 +79,7 @@ impl Image {
     /// makes use.
     pub fn sound(&self)
         ensures cells { cells_fault self.now ≡ None }
-        ensures sound { IsSound (begun self.now).plain }
+        ensures sound { IsSound (chain_of_base self.now).plain }
     {
         let _ = &self.bytes;
     }

@@ -2,11 +2,12 @@
 use Rattle.std.proofs.Common.{refl}
 use Rattle.enc_opcodes.specs.Opcodes.{op_at, entry_of}
 use Rattle.enc_opcodes.specs.Instruction.{range_at, switch_in, arg_in, op_in, instr_in, chain, rest_of}
-use Rattle.enc_opcodes.specs.Clause.{section_of_kind, section_in, sections_in, sections_of, clause_in, clauses_in, clauses_of}
+use Rattle.enc_opcodes.specs.Clause.{section_of_kind, section_in, sections_in, data_sections, clause_in, clauses_in, clauses_of}
 use Rattle.enc_opcodes.specs.Body.{sections_at, fat_at, body_at, body_of}
 use Rattle.enc_opcodes.specs.Example.{ExampleIsRead}
+use Rattle.enc_base.specs.Numbers.{padded}
 use Rattle.enc_base.specs.Units.{units_of}
 
 pub example_read : ExampleIsRead
-unfolding op_at entry_of range_at switch_in arg_in op_in instr_in chain rest_of section_of_kind section_in sections_in sections_of clause_in clauses_in clauses_of sections_at fat_at body_at body_of units_of
+unfolding op_at entry_of range_at switch_in arg_in op_in instr_in chain rest_of section_of_kind section_in sections_in data_sections clause_in clauses_in clauses_of sections_at fat_at body_at body_of padded units_of
 example_read = refl

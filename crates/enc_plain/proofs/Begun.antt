@@ -9,7 +9,7 @@ use Rattle.enc_schema.specs.declared.column.Column.{Column}
 use Rattle.enc_schema.specs.declared.column.Column.TheVariants.{Num16}
 use Rattle.enc_schema.specs.Children.{is_child_table, owner_table, runs_in}
 use Rattle.enc_plain.specs.Cell.{Cell, number, text, guid, Kind, kind_in, cell_kind, cell_count}
-use Rattle.enc_plain.specs.Chain.{nil_guid}
+use Rattle.enc_meta.specs.Heaps.{nil_guid}
 use Rattle.enc_plain.specs.Module.{Module, Row, row_at, row_of, has_row, cell_of, kids_at}
 use Rattle.enc_plain.specs.Signatures.{signature_column}
 use Rattle.enc_plain.specs.Sound.{is_part, cell_is_sound, HasOwners, HasKinds, HasCells, HasSignatures, IsSound}

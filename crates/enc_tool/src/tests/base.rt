@@ -158,22 +158,14 @@ fn cuts_the_table_stream_at_every_length(rt: HostRuntime) -> Result<(), Fail> {
 
 #[test]
 fn tells_absent_tokens(rt: HostRuntime) -> Result<(), Fail> {
-    holds(
-        &rt,
-        &whole(&["show", "m", "01000002"], 0, "absent 01000002\n"),
-    )?;
-    holds(
-        &rt,
-        &whole(&["show", "m", "01000000"], 0, "absent 01000000\n"),
-    )?;
-    holds(
-        &rt,
-        &whole(&["show", "m", "FFffFFff"], 0, "absent ffffffff\n"),
-    )?;
-    holds(
-        &rt,
-        &whole(&["show", "m", "1e000001"], 0, "absent 1e000001\n"),
-    )?;
+    for (token, output) in [
+        ("01000002", "absent 01000002\n"),
+        ("01000000", "absent 01000000\n"),
+        ("FFffFFff", "absent ffffffff\n"),
+        ("1e000001", "absent 1e000001\n"),
+    ] {
+        holds(&rt, &whole(&["show", "m", token], 0, output))?;
+    }
     Ok(())
 }
 
@@ -249,17 +241,22 @@ fn tells_missing_files_and_wrong_words(rt: HostRuntime) -> Result<(), Fail> {
             "missing d/-_.9/m.dll\n",
         ),
     )?;
-    holds(&rt, &whole(&[], 2, usage))?;
-    holds(&rt, &whole(&["show", "m", "1"], 2, usage))?;
-    holds(&rt, &whole(&["show", "m", "0100000g"], 2, usage))?;
-    holds(&rt, &whole(&["show", "", "01000001"], 2, usage))?;
-    holds(&rt, &whole(&["show", LONG, "01000001"], 2, usage))?;
-    holds(&rt, &whole(&["show", "a b", "01000001"], 2, usage))?;
-    holds(&rt, &whole(&["Show", "m", "01000001"], 2, usage))?;
-    holds(&rt, &whole(&["list"], 2, usage))?;
-    holds(&rt, &whole(&["list", "a b"], 2, usage))?;
-    holds(&rt, &whole(&["list", LONG], 2, usage))?;
+    let wrong: [&[&str]; 11] = [
+        &[],
+        &["show", "m", "1"],
+        &["show", "m", "0100000g"],
+        &["show", "", "01000001"],
+        &["show", LONG, "01000001"],
+        &["show", "a b", "01000001"],
+        &["Show", "m", "01000001"],
+        &["list"],
+        &["list", "a b"],
+        &["list", LONG],
+        &["apply", "m"],
+    ];
+    for words in wrong {
+        holds(&rt, &whole(words, 2, usage))?;
+    }
     holds(&rt, &whole(&["list", "n"], 6, "missing n.dll\n"))?;
-    holds(&rt, &whole(&["apply", "m"], 2, usage))?;
     Ok(())
 }
