@@ -21,7 +21,9 @@ RowsAreTheModules = (c : Chain) (s : Source) (t : Token) → HasTables c.plain �
 
 -- and the members of an owner, among which siblings are looked for, are that module's children of it
 abbrev pub MembersAreTheModules : Type 0
-MembersAreTheModules = (c : Chain) (s : Source) (u : Token) (table : ℕ) → HasTables c.plain → HasRuns c.plain → Lands c s → is_child_table table ≡ true → members c.plain (attached_of s) u table ≡ kids_of (extended c s).plain u table
+MembersAreTheModules =
+    (c : Chain) (s : Source) (u : Token) (table : ℕ) → HasTables c.plain → HasRuns c.plain → Lands c s → is_child_table table ≡ true
+    → members c.plain (attached_of s) u table ≡ kids_of (extended c s).plain u table
 
 -- a delta that was read from two files and breaks no rule after a chain leaves a sound module sound
 abbrev pub DeltaKeepsSound : Type 0

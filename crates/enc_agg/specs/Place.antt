@@ -30,13 +30,16 @@ later p = record { generation = p.generation + 1; offset = p.offset }
 -- the heap in which an offset of the joined heaps stands, and the offset there
 unfoldable pub heap_place : List (List ℕ) → ℕ → Option HeapPlace
 heap_place [] offset = None
-heap_place (heap ∷ heaps) offset = if nat_lt offset (length heap) then Some (record { generation = 0; offset = offset }) else option_map later (heap_place heaps (offset - length heap))
+heap_place (heap ∷ heaps) offset =
+    if nat_lt offset (length heap) then Some (record { generation = 0; offset = offset })
+    else option_map later (heap_place heaps (offset - length heap))
 
 -- the first `#GUID` that has k entries, k from 1
 unfoldable pub guid_place : List (List ℕ) → ℕ → Option HeapPlace
 guid_place heaps zero = None
 guid_place [] (suc k) = None
-guid_place (heap ∷ heaps) (suc k) = if nat_le (16 * suc k) (length heap) then Some (record { generation = 0; offset = suc k }) else option_map later (guid_place heaps (suc k))
+guid_place (heap ∷ heaps) (suc k) =
+    if nat_le (16 * suc k) (length heap) then Some (record { generation = 0; offset = suc k }) else option_map later (guid_place heaps (suc k))
 
 -- the place of an offset of a joined heap, or of an entry of `#GUID`; other streams have no places
 abbrev pub place_in_heaps : List Counted → StreamName → ℕ → Option HeapPlace

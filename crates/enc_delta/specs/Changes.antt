@@ -36,7 +36,9 @@ is_signature_column table i = unwrap_or (signature_column table) 0xFF == i
 abbrev pub cell_is_kept : Rows → Rows → Token → ℕ → Option Kind → Bool
 cell_is_kept old new t i (Some numbers) = number_at old t i == number_at new t i
 cell_is_kept old new t i (Some texts) = bytes_eq (bytes_at old t i) (bytes_at new t i)
-cell_is_kept old new t i (Some blobs) = if is_signature_column t.table i then signatures_alike new t.table (bytes_at old t i) (bytes_at new t i) else bytes_eq (bytes_at old t i) (bytes_at new t i)
+cell_is_kept old new t i (Some blobs) =
+    if is_signature_column t.table i then signatures_alike new t.table (bytes_at old t i) (bytes_at new t i)
+    else bytes_eq (bytes_at old t i) (bytes_at new t i)
 cell_is_kept old new t i (Some references) = tokens_alike new (token_at old t i) (token_at new t i)
 cell_is_kept old new t i _ = true
 
@@ -63,7 +65,8 @@ unfoldable pub is_value_type : Rows → Token → Bool
 is_value_type rows t =
     (token_at rows t columns.type_def_extends).table == tables.type_ref
     && bytes_eq (bytes_at rows (token_at rows t columns.type_def_extends) columns.type_ref_type_namespace) (codes "System")
-    && (bytes_eq (bytes_at rows (token_at rows t columns.type_def_extends) columns.type_ref_type_name) (codes "ValueType") || bytes_eq (bytes_at rows (token_at rows t columns.type_def_extends) columns.type_ref_type_name) (codes "Enum"))
+    && (bytes_eq (bytes_at rows (token_at rows t columns.type_def_extends) columns.type_ref_type_name) (codes "ValueType")
+        || bytes_eq (bytes_at rows (token_at rows t columns.type_def_extends) columns.type_ref_type_name) (codes "Enum"))
 
 -- the type says how its fields are laid out, by either bit of 18 (II.23.1.15)
 abbrev pub has_layout : Rows → Token → Bool
@@ -84,7 +87,8 @@ unfoldable pub breaks_slots : Chain → Source → Attached → Bool
 breaks_slots c s a =
     a.child.table == tables.method_def && a.owner.table == tables.type_def && not (is_insert c a.owner)
     && has_flag 0x40 (number_at (rows_after c s) a.child columns.method_def_flags)
-    && (has_flag 0x20 (number_at (rows_after c s) a.owner columns.type_def_flags) || has_flag 0x400 (number_at (rows_after c s) a.child columns.method_def_flags))
+    && (has_flag 0x20 (number_at (rows_after c s) a.owner columns.type_def_flags)
+        || has_flag 0x400 (number_at (rows_after c s) a.child columns.method_def_flags))
 
 unfoldable pub method_without_slot : Chain → Source → Option Place
 method_without_slot c s = least_child (breaks_slots c s) s
@@ -95,11 +99,18 @@ name_column table = if table == tables.method_def then columns.method_def_name e
 
 -- fields and methods of which the low three bits of the flags are 0 are known to the compiler alone (II.23.1.5, II.23.1.10) and don't count; properties and events do
 unfoldable pub is_member : Rows → Token → Bool
-is_member rows t = t.table == tables.field && not (number_at rows t columns.field_flags % 8 == 0) || t.table == tables.method_def && not (number_at rows t columns.method_def_flags % 8 == 0) || t.table == tables.event || t.table == tables.property
+is_member rows t =
+    t.table == tables.field && not (number_at rows t columns.field_flags % 8 == 0)
+    || t.table == tables.method_def && not (number_at rows t columns.method_def_flags % 8 == 0)
+    || t.table == tables.event
+    || t.table == tables.property
 
 -- an event is told by its name alone
 unfoldable pub same_signature : Rows → Token → Token → Bool
-same_signature rows t u = t.table == tables.event || signatures_alike rows t.table (bytes_at rows t (unwrap_or (signature_column t.table) 0)) (bytes_at rows u (unwrap_or (signature_column t.table) 0))
+same_signature rows t u =
+    t.table == tables.event
+    || signatures_alike rows t.table (bytes_at rows t (unwrap_or (signature_column t.table) 0))
+        (bytes_at rows u (unwrap_or (signature_column t.table) 0))
 
 abbrev pub asked_of : Rows → Asked
 asked_of rows = record { counts = is_member rows; name = λ t. bytes_at rows t (name_column t.table); alike = same_signature rows }
@@ -125,7 +136,8 @@ own_code s t = code_loaded s.loaded (raw_in s (own_row s t) 0)
 -- a body's local signature is nil, or one of StandAloneSig that begins as one of locals (II.23.2.6)
 abbrev pub locals_begin : Rows → Option Code → Bool
 locals_begin rows None = true
-locals_begin rows (Some c) = c.locals.row == 0 || c.locals.table == tables.stand_alone_sig && begins_locals (bytes_at rows c.locals columns.stand_alone_sig_signature)
+locals_begin rows (Some c) =
+    c.locals.row == 0 || c.locals.table == tables.stand_alone_sig && begins_locals (bytes_at rows c.locals columns.stand_alone_sig_signature)
 
 -- E23: a method's local signature that isn't one of locals
 unfoldable pub bad_locals_in : Chain → Source → Token → Option Place

@@ -21,7 +21,10 @@ is_module t = t.table == 0 && t.row == 1
 
 -- the i-th entry of EncLog and the i-th token of EncMap, i from 0
 unfoldable pub entry_at : Source → ℕ → Entry
-entry_at s i = record { token = token_of (raw_in s (nth_row tables.enc_log i) columns.enc_log_token); code = raw_in s (nth_row tables.enc_log i) columns.enc_log_func_code }
+entry_at s i = record {
+  token = token_of (raw_in s (nth_row tables.enc_log i) columns.enc_log_token);
+  code = raw_in s (nth_row tables.enc_log i) columns.enc_log_func_code;
+}
 
 unfoldable pub map_token : Source → ℕ → Token
 map_token s i = token_of (raw_in s (nth_row tables.enc_map i) columns.enc_map_token)
@@ -51,7 +54,15 @@ loaded_code il = record { address = 0; bytes = il } ∷ []
 
 -- the parts of a delta with this code, and metadata with this root and this layout
 abbrev pub delta_source : List ℕ → List ℕ → Root → Layout → Source
-delta_source bytes il root l = record { stream = part bytes root.tables; layout = l; heaps = heaps_of bytes root; loaded = loaded_code il; resources = []; entry = 0; bare = true }
+delta_source bytes il root l = record {
+  stream = part bytes root.tables;
+  layout = l;
+  heaps = heaps_of bytes root;
+  loaded = loaded_code il;
+  resources = [];
+  entry = 0;
+  bare = true;
+}
 
 -- the parts of a delta, or F1, F2, F6 of its metadata
 abbrev pub source_with : List ℕ → List ℕ → Root → Result Layout Refusal → Result Source Refusal

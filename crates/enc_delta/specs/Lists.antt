@@ -17,7 +17,9 @@ AreEntries log = IsTrue (list_all (λ (e : Entry). nat_lt e.token.row 0x1000000)
 
 -- by code, how many rows the parent's table of an Add entry has after the delta
 abbrev pub parents : Chain → List Token → List ℕ
-parents c tokens = 0 ∷ rows_with c tokens tables.type_def ∷ rows_with c tokens tables.type_def ∷ rows_with c tokens tables.method_def ∷ rows_with c tokens tables.property_map ∷ rows_with c tokens tables.event_map ∷ []
+parents c tokens =
+    0 ∷ rows_with c tokens tables.type_def ∷ rows_with c tokens tables.type_def ∷ rows_with c tokens tables.method_def
+    ∷ rows_with c tokens tables.property_map ∷ rows_with c tokens tables.event_map ∷ []
 
 -- the same as `has_parent`, by these counts
 abbrev pub parent_in : List ℕ → Entry → Bool

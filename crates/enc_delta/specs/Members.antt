@@ -70,11 +70,16 @@ row_passes a p k = is_beside a k && p k.child.row
 
 -- the old members beside some pairs were added to others
 abbrev pub AreAdded : Module → List Pair → List Pair → List Pair → Type 0
-AreAdded m before pairs all = (a : Pair) (p : ℕ → Bool) → is_child_table a.child.table ≡ true → list_any (row_passes a p) all ≡ (list_any (row_passes a p) before || (list_any (is_beside a) pairs && list_any p (kids_of m a.owner a.child.table)))
+AreAdded m before pairs all =
+    (a : Pair) (p : ℕ → Bool) → is_child_table a.child.table ≡ true
+    → list_any (row_passes a p) all ≡ (list_any (row_passes a p) before || (list_any (is_beside a) pairs && list_any p (kids_of m a.owner a.child.table)))
 
 -- the pairs, and the old members beside those whose children count
 abbrev pub AreMembers : Asked → Module → List Pair → List Pair → Type 0
-AreMembers q m pairs all = (a : Pair) (p : ℕ → Bool) → is_child_table a.child.table ≡ true → list_any (row_passes a p) all ≡ (list_any (row_passes a p) pairs || (list_any (λ k. q.counts k.child && is_beside a k) pairs && list_any p (kids_of m a.owner a.child.table)))
+AreMembers q m pairs all =
+    (a : Pair) (p : ℕ → Bool) → is_child_table a.child.table ≡ true
+    → list_any (row_passes a p) all ≡ (list_any (row_passes a p) pairs
+        || (list_any (λ k. q.counts k.child && is_beside a k) pairs && list_any p (kids_of m a.owner a.child.table)))
 
 -- each owner and child is a token by its number
 abbrev pub ArePairs : List Pair → Type 0

@@ -50,7 +50,9 @@ unfoldable pub other_base : Chain → Source → Option Place
 other_base c s = broken (not (bytes_eq (own_guid c s columns.module_enc_base_id) (id_of c (length c.ids)))) (place.Row module_token)
 
 unfoldable pub id_taken : Chain → Source → Option Place
-id_taken c s = broken (bytes_eq (own_guid c s columns.module_enc_id) nil_guid || list_any (λ id. bytes_eq id (own_guid c s columns.module_enc_id)) c.ids) (place.Row module_token)
+id_taken c s =
+    broken (bytes_eq (own_guid c s columns.module_enc_id) nil_guid || list_any (λ id. bytes_eq id (own_guid c s columns.module_enc_id)) c.ids)
+        (place.Row module_token)
 
 -- the last byte, 0 where there is none
 abbrev pub last_byte : List ℕ → ℕ
@@ -70,7 +72,10 @@ unfoldable pub guids_break : Chain → Source → Bool
 guids_break c s = nat_lt (2 ^ 29) (16 * guid_entries (heaps_after c s)) || nat_lt (length s.heaps.guids / 16) (guid_entries c.heaps)
 
 unfoldable pub heap_fault : Chain → Source → Option Place
-heap_fault c s = or_else (broken (strings_break c s) (place.Stream name.Strings)) (or_else (broken (users_break c s) (place.Stream name.Users)) (or_else (broken (blobs_break c s) (place.Stream name.Blobs)) (broken (guids_break c s) (place.Stream name.Guids))))
+heap_fault c s =
+    or_else (broken (strings_break c s) (place.Stream name.Strings))
+    (or_else (broken (users_break c s) (place.Stream name.Users))
+    (or_else (broken (blobs_break c s) (place.Stream name.Blobs)) (broken (guids_break c s) (place.Stream name.Guids))))
 
 -- the least of some numbers
 abbrev pub lesser : ℕ → Option ℕ → Option ℕ
@@ -173,7 +178,9 @@ follows c before code (Some e) = e.code == 0 && e.token.table == child_table cod
 
 -- E10: a code past 5, or an Add entry without its parent or its child
 unfoldable pub log_fault_of : Chain → List Token → List Entry → List Entry → ℕ → Entry → Option Place
-log_fault_of c tokens before behind k e = broken (counts e && (nat_lt 5 e.code || is_add e.code && not (has_parent c tokens e && follows c before e.code (find counts behind)))) (place.Log (k + 1))
+log_fault_of c tokens before behind k e =
+    broken (counts e && (nat_lt 5 e.code || is_add e.code && not (has_parent c tokens e && follows c before e.code (find counts behind))))
+        (place.Log (k + 1))
 
 unfoldable pub log_fault_at : Chain → List Token → List Entry → ℕ → Option Place
 log_fault_at c tokens log k = option_and_then (log_fault_of c tokens (take k log) (drop (k + 1) log) k) (slice_get log k)
@@ -199,11 +206,21 @@ unfoldable pub child_fault_in : Chain → List Token → List Entry → ℕ → 
 child_fault_in c tokens log table = first_below (child_fault_at c log table) (inserts c tokens table)
 
 unfoldable pub child_fault : Chain → List Token → List Entry → Option Place
-child_fault c tokens log = or_else (child_fault_in c tokens log tables.field) (or_else (child_fault_in c tokens log tables.method_def) (or_else (child_fault_in c tokens log tables.param) (or_else (child_fault_in c tokens log tables.event) (child_fault_in c tokens log tables.property))))
+child_fault c tokens log =
+    or_else (child_fault_in c tokens log tables.field)
+    (or_else (child_fault_in c tokens log tables.method_def)
+    (or_else (child_fault_in c tokens log tables.param)
+    (or_else (child_fault_in c tokens log tables.event) (child_fault_in c tokens log tables.property))))
 
 -- the tables that a delta may have
 abbrev pub may_change : ℕ → Bool
-may_change table = list_any (λ t. t == table) (tables.«module» ∷ tables.type_ref ∷ tables.type_def ∷ tables.field ∷ tables.method_def ∷ tables.param ∷ tables.interface_impl ∷ tables.member_ref ∷ tables.constant ∷ tables.custom_attribute ∷ tables.field_marshal ∷ tables.decl_security ∷ tables.class_layout ∷ tables.field_layout ∷ tables.stand_alone_sig ∷ tables.event_map ∷ tables.event ∷ tables.property_map ∷ tables.property ∷ tables.method_semantics ∷ tables.method_impl ∷ tables.module_ref ∷ tables.type_spec ∷ tables.impl_map ∷ tables.enc_log ∷ tables.enc_map ∷ tables.assembly_ref ∷ tables.nested_class ∷ tables.generic_param ∷ tables.method_spec ∷ tables.generic_param_constraint ∷ [])
+may_change table =
+    list_any (λ t. t == table)
+        (tables.«module» ∷ tables.type_ref ∷ tables.type_def ∷ tables.field ∷ tables.method_def ∷ tables.param ∷ tables.interface_impl
+            ∷ tables.member_ref ∷ tables.constant ∷ tables.custom_attribute ∷ tables.field_marshal ∷ tables.decl_security ∷ tables.class_layout
+            ∷ tables.field_layout ∷ tables.stand_alone_sig ∷ tables.event_map ∷ tables.event ∷ tables.property_map ∷ tables.property
+            ∷ tables.method_semantics ∷ tables.method_impl ∷ tables.module_ref ∷ tables.type_spec ∷ tables.impl_map ∷ tables.enc_log ∷ tables.enc_map
+            ∷ tables.assembly_ref ∷ tables.nested_class ∷ tables.generic_param ∷ tables.method_spec ∷ tables.generic_param_constraint ∷ [])
 
 -- E12: rows in another table
 unfoldable pub closed_at : Source → ℕ → Option Place
@@ -218,7 +235,14 @@ users_after c s = joined_user (heaps_after c s)
 
 -- by what the numbers of the delta's rows are read: the joined heaps, the rows after, and the delta's code. A delta has no rows of FieldRVA
 unfoldable pub reading_after : Chain → Source → Reading
-reading_after c s = record { text = joined_text (heaps_after c s); blob = joined_blob (heaps_after c s); guid = joined_guid (heaps_after c s); count = rows_with c (listed s); code = body_loaded s.loaded (users_after c s); field = λ row. [] }
+reading_after c s = record {
+  text = joined_text (heaps_after c s);
+  blob = joined_blob (heaps_after c s);
+  guid = joined_guid (heaps_after c s);
+  count = rows_with c (listed s);
+  code = body_loaded s.loaded (users_after c s);
+  field = λ row. [];
+}
 
 abbrev pub is_index : Column → Bool
 is_index (Index table) = true
@@ -233,7 +257,9 @@ unfoldable pub cell_fault : Chain → Source → (Column → Bool) → Token →
 cell_fault c s asks token row i = option_and_then (λ (column : Column). broken (cell_breaks c s asks row i column) (place.Cell token i)) (column_in row.table i)
 
 unfoldable pub row_fault : Chain → Source → (Column → Bool) → ℕ → ℕ → Option Place
-row_fault c s asks table r = option_and_then (λ token. first_below (cell_fault c s asks token (nth_row table r)) (length (columns_in table))) (slice_get (of_table table (listed s)) r)
+row_fault c s asks table r =
+    option_and_then (λ token. first_below (cell_fault c s asks token (nth_row table r)) (length (columns_in table)))
+        (slice_get (of_table table (listed s)) r)
 
 unfoldable pub table_fault : Chain → Source → (Column → Bool) → ℕ → Option Place
 table_fault c s asks table = first_below (row_fault c s asks table) (rows_of s.layout table)
@@ -254,7 +280,9 @@ too_many c s = or_else (broken (nat_lt 65535 (length c.ids + 1)) (place.Row modu
 
 -- the method of a row has no place for a body, or a good one in the delta's code
 unfoldable pub body_stands : Chain → Source → ℕ → Bool
-body_stands c s r = body_is_good (rows_with c (listed s)) (users_after c s) s.loaded (raw_in s (nth_row tables.method_def r) columns.method_def_rva) (raw_in s (nth_row tables.method_def r) columns.method_def_impl_flags)
+body_stands c s r =
+    body_is_good (rows_with c (listed s)) (users_after c s) s.loaded (raw_in s (nth_row tables.method_def r) columns.method_def_rva)
+        (raw_in s (nth_row tables.method_def r) columns.method_def_impl_flags)
 
 -- E16: a body isn't good
 unfoldable pub broken_body_at : Chain → Source → ℕ → Option Place
@@ -270,7 +298,10 @@ has_body _ = false
 
 -- E17: no place for a body where the method had one
 unfoldable pub lost_body_at : Chain → Source → ℕ → Option Place
-lost_body_at c s r = option_and_then (λ (t : Token). broken (raw_in s (nth_row tables.method_def r) columns.method_def_rva == 0 && has_body (cell_of c.plain t columns.method_def_rva)) (place.Row t)) (slice_get (of_table tables.method_def (listed s)) r)
+lost_body_at c s r =
+    option_and_then (λ (t : Token).
+        broken (raw_in s (nth_row tables.method_def r) columns.method_def_rva == 0 && has_body (cell_of c.plain t columns.method_def_rva)) (place.Row t))
+        (slice_get (of_table tables.method_def (listed s)) r)
 
 unfoldable pub lost_body : Chain → Source → Option Place
 lost_body c s = first_below (lost_body_at c s) (rows_of s.layout tables.method_def)

@@ -48,7 +48,10 @@ blob_or_none s offset = unwrap_or (blob_at s.heaps.blobs offset) []
 
 -- the size that a row of ClassLayout tells, where it is the type's (II.22.8)
 unfoldable pub layout_size : Source → ℕ → ℕ → Option ℕ
-layout_size s type k = if raw_in s (nth_row tables.class_layout k) columns.class_layout_parent == type then Some (raw_in s (nth_row tables.class_layout k) columns.class_layout_class_size) else None
+layout_size s type k =
+    if raw_in s (nth_row tables.class_layout k) columns.class_layout_parent == type
+        then Some (raw_in s (nth_row tables.class_layout k) columns.class_layout_class_size)
+    else None
 
 -- the size that the first such row tells
 unfoldable pub size_of_class : Source → ℕ → Option ℕ
@@ -61,7 +64,9 @@ extent_size s None = None
 
 -- what tells the size of the field that a row of FieldRVA names
 unfoldable pub data_extent : Source → Token → Option Extent
-data_extent s row = if raw_in s row columns.field_rva_field == 0 then None else extent_in (blob_or_none s (raw_in s (record { table = tables.field; row = raw_in s row columns.field_rva_field }) columns.field_signature))
+data_extent s row =
+    if raw_in s row columns.field_rva_field == 0 then None
+    else extent_in (blob_or_none s (raw_in s (record { table = tables.field; row = raw_in s row columns.field_rva_field }) columns.field_signature))
 
 -- the bytes that such a row has at its RVA, where they are loaded
 unfoldable pub bytes_of_field : Source → Token → Option (List ℕ)
@@ -73,7 +78,14 @@ field_bytes s row = if raw_in s row 0 == 0 then [] else unwrap_or (bytes_of_fiel
 
 -- by what the numbers of a file are read: its heaps, its own counts of rows, and what is loaded
 abbrev pub reading_of : Source → Reading
-reading_of s = record { text = text_at s.heaps.strings; blob = blob_at s.heaps.blobs; guid = guid_at s.heaps.guids; count = rows_of s.layout; code = body_loaded s.loaded (users_of s); field = field_bytes s }
+reading_of s = record {
+  text = text_at s.heaps.strings;
+  blob = blob_at s.heaps.blobs;
+  guid = guid_at s.heaps.guids;
+  count = rows_of s.layout;
+  code = body_loaded s.loaded (users_of s);
+  field = field_bytes s;
+}
 
 -- the cell that a column's number stands for, None where it isn't good
 abbrev pub cell_for : Source → Column → ℕ → Option Cell
@@ -85,7 +97,9 @@ cell_in s token i = option_and_then (λ (c : Column). cell_with (reading_of s) t
 
 -- F8: the first offset that isn't good, by table, row and column
 unfoldable pub offset_fault_at : Source → Token → ℕ → Option Place
-offset_fault_at s token i = option_and_then (λ (c : Column). if is_offset c && not (is_some (cell_for s c (raw_in s token i))) then Some (place.Cell token i) else None) (column_in token.table i)
+offset_fault_at s token i =
+    option_and_then (λ (c : Column). if is_offset c && not (is_some (cell_for s c (raw_in s token i))) then Some (place.Cell token i) else None)
+        (column_in token.table i)
 
 unfoldable pub offset_fault_in_row : Source → ℕ → ℕ → Option Place
 offset_fault_in_row s table r = first_below (offset_fault_at s (nth_row table r)) (length (columns_in table))
@@ -98,7 +112,8 @@ offset_fault s = first_below (offset_fault_in s) tables.table_count
 
 -- F11: the first signature that isn't one of its kind, by the file's own rows (II.23.2)
 unfoldable pub signature_fault_at : Source → ℕ → ℕ → ℕ → Option Place
-signature_fault_at s table i r = if is_signature (rows_of s.layout) table (blob_or_none s (raw_in s (nth_row table r) i)) then None else Some (place.Cell (nth_row table r) i)
+signature_fault_at s table i r =
+    if is_signature (rows_of s.layout) table (blob_or_none s (raw_in s (nth_row table r) i)) then None else Some (place.Cell (nth_row table r) i)
 
 unfoldable pub signature_fault_in : Source → ℕ → Option Place
 signature_fault_in s table = option_and_then (λ i. first_below (signature_fault_at s table i) (rows_of s.layout table)) (signature_column table)
@@ -113,14 +128,21 @@ has_locals s (Some c) = c.locals.row == 0 || begins_locals (blob_or_none s (raw_
 
 -- F10: the first method with a place for its body, but none that is good there
 unfoldable pub body_fault_at : Source → ℕ → Option Place
-body_fault_at s r = if body_is_good (rows_of s.layout) (users_of s) s.loaded (raw_in s (nth_row tables.method_def r) columns.method_def_rva) (raw_in s (nth_row tables.method_def r) columns.method_def_impl_flags) && has_locals s (code_loaded s.loaded (raw_in s (nth_row tables.method_def r) columns.method_def_rva)) then None else Some (place.Row (nth_row tables.method_def r))
+body_fault_at s r =
+    if body_is_good (rows_of s.layout) (users_of s) s.loaded (raw_in s (nth_row tables.method_def r) columns.method_def_rva)
+            (raw_in s (nth_row tables.method_def r) columns.method_def_impl_flags)
+        && has_locals s (code_loaded s.loaded (raw_in s (nth_row tables.method_def r) columns.method_def_rva))
+        then None
+    else Some (place.Row (nth_row tables.method_def r))
 
 unfoldable pub body_fault : Source → Option Place
 body_fault s = first_below (body_fault_at s) (rows_of s.layout tables.method_def)
 
 -- F5 of fields: the first row of FieldRVA with an RVA, but no bytes of its field's size there. It isn't asked of bare metadata
 unfoldable pub field_fault_at : Source → ℕ → Option Place
-field_fault_at s r = if raw_in s (nth_row tables.field_rva r) columns.field_rva_rva == 0 || is_some (bytes_of_field s (nth_row tables.field_rva r)) then None else Some (place.Row (nth_row tables.field_rva r))
+field_fault_at s r =
+    if raw_in s (nth_row tables.field_rva r) columns.field_rva_rva == 0 || is_some (bytes_of_field s (nth_row tables.field_rva r)) then None
+    else Some (place.Row (nth_row tables.field_rva r))
 
 unfoldable pub field_fault : Source → Option Place
 field_fault s = if s.bare then None else first_below (field_fault_at s) (rows_of s.layout tables.field_rva)
@@ -134,7 +156,11 @@ rule n p = option_map (λ (q : Place). record { code = F n; place = q }) p
 
 -- F7, F8, F11, F10, and then F5 of fields
 unfoldable pub cells_fault : Source → Option Refusal
-cells_fault s = or_else (rule 7 (index_fault (rows_from s))) (or_else (rule 8 (offset_fault s)) (or_else (rule 11 (signature_fault s)) (or_else (rule 10 (body_fault s)) (rule 5 (field_fault s)))))
+cells_fault s =
+    or_else (rule 7 (index_fault (rows_from s)))
+    (or_else (rule 8 (offset_fault s))
+    (or_else (rule 11 (signature_fault s))
+    (or_else (rule 10 (body_fault s)) (rule 5 (field_fault s)))))
 
 -- the row with its cells and its children by runs
 abbrev pub row_in : Source → ℕ → ℕ → Row
@@ -164,7 +190,15 @@ metadata_of bytes c = part bytes c.metadata
 
 -- the parts of a file with this container, this root and this layout
 abbrev pub source_from : List ℕ → Container → Root → Layout → Source
-source_from bytes c root l = record { stream = part (metadata_of bytes c) root.tables; layout = l; heaps = heaps_of (metadata_of bytes c) root; loaded = regions_of bytes c.sections; resources = part bytes c.resources; entry = c.entry; bare = c.bare }
+source_from bytes c root l = record {
+  stream = part (metadata_of bytes c) root.tables;
+  layout = l;
+  heaps = heaps_of (metadata_of bytes c) root;
+  loaded = regions_of bytes c.sections;
+  resources = part bytes c.resources;
+  entry = c.entry;
+  bare = c.bare;
+}
 
 -- one step after the other, up to the first refusal
 infixl 10 ◌>>=◌

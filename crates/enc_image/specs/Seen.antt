@@ -16,7 +16,15 @@ use Rattle.enc_image.specs.Base.{metadata_of, source_from, cells_fault, base_of}
 use Rattle.enc_rows.specs.Source.{Source}
 
 abbrev pub source_seen : Cells → Source
-source_seen c = record { stream = part c.bytes.now c.tables.now.span; layout = c.tables.now; heaps = c.heaps; loaded = regions_of c.file.now c.container.sections; resources = part c.file.now c.container.resources; entry = c.container.entry; bare = c.container.bare }
+source_seen c = record {
+  stream = part c.bytes.now c.tables.now.span;
+  layout = c.tables.now;
+  heaps = c.heaps;
+  loaded = regions_of c.file.now c.container.sections;
+  resources = part c.file.now c.container.resources;
+  entry = c.container.entry;
+  bare = c.container.bare;
+}
 
 -- a container, its root and its tables with the file's bytes
 abbrev pub opened_source : List ℕ → Result Opened Refusal → Result Source Refusal

@@ -1,5 +1,5 @@
 -- Heaps that are written: the distinct values of each in the order of their first use, and the bytes that hold them (ECMA-335 II.24.2.3 to II.24.2.5).
-use Rattle.std.specs.Prelude.{ℕ, ◌+◌, ◌*◌, ◌/◌, ◌%◌, ◌^◌, ◌≤◌, max, Bool, true, false, not, ◌&&◌, ◌||◌, List, [], ◌∷◌, ◌++◌, length, flat_map, replicate, sum_by, bytes_eq, nat_lt, nat_le, ◌==◌, if◌then◌else◌}
+use Rattle.std.specs.Prelude.{ℕ, ◌+◌, ◌*◌, ◌/◌, ◌%◌, ◌^◌, ◌≤◌, max, Bool, false, not, ◌&&◌, ◌||◌, List, [], ◌∷◌, ◌++◌, length, flat_map, replicate, sum_by, bytes_eq, nat_lt, nat_le, ◌==◌, if◌then◌else◌}
 use Rattle.std.specs.List.{list_any}
 use Rattle.enc_base.specs.Numbers.{spelled, is_empty}
 use Rattle.enc_meta.specs.Heaps.{Counted, nil_guid}

@@ -1,5 +1,5 @@
 -- The metadata root: its header, its streams, and the first thing that is wrong with them (ECMA-335 II.24.2.1, II.24.2.2).
-use Rattle.std.specs.Prelude.{◌≤◌, IfSome, ℕ, zero, suc, ◌+◌, ◌*◌, ◌/◌, ◌%◌, Bool, true, false, ◌&&◌, ◌||◌, List, [], ◌∷◌, ◌++◌, length, take, drop, Option, Some, None, option_map, option_and_then, unwrap_or, Result, Ok, Err, nat_lt, nat_le, ◌==◌, if◌then◌else◌, codes, find, slice_get, bytes_eq}
+use Rattle.std.specs.Prelude.{◌≤◌, IfSome, ℕ, zero, suc, ◌+◌, ◌%◌, Bool, true, false, ◌&&◌, ◌||◌, List, [], ◌∷◌, ◌++◌, length, take, drop, Option, Some, None, option_map, option_and_then, unwrap_or, Result, Ok, Err, nat_lt, nat_le, ◌==◌, if◌then◌else◌, codes, find, slice_get, bytes_eq}
 use Rattle.std.specs.List.{list_any}
 use Rattle.std.specs.Int.{w16, w32}
 use Rattle.enc_base.specs.Numbers.{little_endian_at, padded}

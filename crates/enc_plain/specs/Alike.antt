@@ -21,7 +21,11 @@ same_bytes rows a b i = bytes_eq (bytes_at rows a i) (bytes_at rows b i)
 
 -- TypeRefs with equal names, in alike scopes (II.22.38)
 unfoldable pub type_refs_alike : Rows → (Token → Token → Bool) → Token → Token → Bool
-type_refs_alike rows scopes a b = are_rows rows tables.type_ref a b && same_bytes rows a b columns.type_ref_type_name && same_bytes rows a b columns.type_ref_type_namespace && scopes (token_at rows a columns.type_ref_resolution_scope) (token_at rows b columns.type_ref_resolution_scope)
+type_refs_alike rows scopes a b =
+    are_rows rows tables.type_ref a b
+    && same_bytes rows a b columns.type_ref_type_name
+    && same_bytes rows a b columns.type_ref_type_namespace
+    && scopes (token_at rows a columns.type_ref_resolution_scope) (token_at rows b columns.type_ref_resolution_scope)
 
 -- AssemblyRefs that are equal in all columns: the version's four numbers, flags, key, name, culture, hash (II.22.5)
 unfoldable pub assembly_refs_alike : Rows → Token → Token → Bool
@@ -49,7 +53,9 @@ blobs_alike same table a b = bytes_eq a b || sigs_agree same (kind_in_table tabl
 
 -- TypeSpecs with alike signatures (II.22.39)
 unfoldable pub type_specs_alike : Rows → Token → Token → Bool
-type_specs_alike rows a b = are_rows rows tables.type_spec a b && blobs_alike (inner_alike rows) tables.type_spec (bytes_at rows a columns.type_spec_signature) (bytes_at rows b columns.type_spec_signature)
+type_specs_alike rows a b =
+    are_rows rows tables.type_spec a b
+    && blobs_alike (inner_alike rows) tables.type_spec (bytes_at rows a columns.type_spec_signature) (bytes_at rows b columns.type_spec_signature)
 
 -- tokens are alike: equal, or references or TypeSpecs that are alike. Likeness ends at a depth of 100, where a scope, and a token in a TypeSpec, is one deeper
 unfoldable pub tokens_alike : Rows → Token → Token → Bool

@@ -40,7 +40,11 @@ change_row rows (suc n) f = change_at rows n f
 
 -- the module with one change made
 unfoldable pub put : Module → Change → Module
-put m c = record { tables = change_at m.tables c.token.table (λ rows. put_at c.token.table rows c.token.row c.cells); resources = m.resources; entry = m.entry }
+put m c = record {
+  tables = change_at m.tables c.token.table (λ rows. put_at c.token.table rows c.token.row c.cells);
+  resources = m.resources;
+  entry = m.entry;
+}
 
 -- the module with all changes made, in order
 unfoldable pub apply : Module → List Change → Module
@@ -58,7 +62,11 @@ with_child child r = record { cells = r.cells; kids = change_at r.kids (run_inde
 
 -- the module with a child attached to its owner
 unfoldable pub attach : Module → Attached → Module
-attach m a = record { tables = change_at m.tables a.owner.table (λ rows. change_row rows a.owner.row (with_child a.child)); resources = m.resources; entry = m.entry }
+attach m a = record {
+  tables = change_at m.tables a.owner.table (λ rows. change_row rows a.owner.row (with_child a.child));
+  resources = m.resources;
+  entry = m.entry;
+}
 
 -- the module with all children attached, in order
 unfoldable pub attach_all : Module → List Attached → Module

@@ -40,4 +40,5 @@ cell_read r (Run table) n = None
 
 -- the cell in a row's column
 unfoldable pub cell_with : Reading → Token → ℕ → Column → ℕ → Option Cell
-cell_with r row i column n = if is_body row.table i then Some (body (r.code n)) else if is_field row.table i then Some (field (r.field row)) else cell_read r column n
+cell_with r row i column n =
+    if is_body row.table i then Some (body (r.code n)) else if is_field row.table i then Some (field (r.field row)) else cell_read r column n

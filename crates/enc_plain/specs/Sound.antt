@@ -28,7 +28,9 @@ row_count m table = length (rows_in m table)
 
 -- the tables that are no part of a module: the Ptr tables, EncLog and EncMap
 abbrev pub is_part : ℕ → Bool
-is_part table = not (list_any (λ t. t == table) (tables.field_ptr ∷ tables.method_ptr ∷ tables.param_ptr ∷ tables.event_ptr ∷ tables.property_ptr ∷ tables.enc_log ∷ tables.enc_map ∷ []))
+is_part table =
+    not (list_any (λ t. t == table)
+        (tables.field_ptr ∷ tables.method_ptr ∷ tables.param_ptr ∷ tables.event_ptr ∷ tables.property_ptr ∷ tables.enc_log ∷ tables.enc_map ∷ []))
 
 -- a column can name rows of this table
 abbrev pub is_tables : ℕ → Option ℕ → Bool

@@ -1,5 +1,5 @@
 -- Two signatures read in step.
-use Rattle.std.specs.Prelude.{◌≡◌, ℕ, zero, suc, Bool, true, false, ◌&&◌, ◌||◌, ◌==◌, List, [], ◌∷◌, drop, Option, Some, None, option_and_then, if◌then◌else◌}
+use Rattle.std.specs.Prelude.{◌≡◌, ℕ, zero, suc, Bool, false, ◌&&◌, ◌||◌, ◌==◌, List, ◌∷◌, drop, Option, Some, None, option_and_then, if◌then◌else◌}
 use Rattle.enc_base.specs.Numbers.{is_empty}
 use Rattle.enc_base.specs.declared.token.Token.{Token}
 use Rattle.enc_sigs.specs.declared.kind.SigKind.{SigKind}
