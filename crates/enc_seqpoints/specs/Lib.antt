@@ -1,3 +1,4 @@
 pub mod Grammar
 pub mod Spelling
 pub mod Reads
+pub mod Laws

@@ -4,7 +4,7 @@ use Rattle.enc_base.specs.Numbers.{spelled, spelled_signed}
 use Rattle.enc_seqpoints.specs.declared.point.Point.{Point}
 use Rattle.enc_seqpoints.specs.declared.base.Base.{Base}
 use Rattle.enc_seqpoints.specs.declared.base.Record.TheVariants.{Sequence}
-use Rattle.enc_seqpoints.specs.Grammar.{is_small, is_row, are_lines, after, opened}
+use Rattle.enc_seqpoints.specs.Grammar.{is_row, are_lines, after, opened}
 
 -- a compressed number, and a signed one by its 32 bits (ECMA-335 II.23.2)
 unfoldable pub number_bytes : ℕ → List ℕ
@@ -30,10 +30,14 @@ is_past (Some before) offset = nat_lt before offset && nat_lt offset 0x20000000
 unfoldable pub ends_behind : ℕ × ℕ × ℕ × ℕ → Bool
 ends_behind l = nat_lt l.0 l.2 || l.0 == l.2 && nat_lt l.1 l.3
 
--- the start differs so little from the last one that signed numbers can say it
+-- the difference of a number from another is from -2^28 to 2^28 - 1, so that a signed number can say it
+abbrev pub is_close : ℕ → ℕ → Bool
+is_close from to = nat_le from (to + 0x10000000) && nat_lt to (from + 0x10000000)
+
+-- signed numbers can say the start from the last one
 unfoldable pub is_near : Option (ℕ × ℕ) → ℕ × ℕ × ℕ × ℕ → Bool
 is_near None l = true
-is_near (Some s) l = is_small (between s.0 l.0) && is_small (between s.1 l.1)
+is_near (Some s) l = is_close s.0 l.0 && is_close s.1 l.1
 
 -- the lines can be spelled; hidden ones always
 unfoldable pub are_writable : Option (ℕ × ℕ) → Option (ℕ × ℕ × ℕ × ℕ) → Bool

@@ -1,7 +1,7 @@
 //! Writing a sequence points blob in its shortest spelling.
 ghost use Rattle.std.specs.Prelude.{◌≡◌, ◌<◌, ◌^◌, ◌++◌, IfOk, IsTrue, is_some};
-ghost use Rattle.enc_seqpoints.specs.Grammar.{is_small, is_row, are_lines, opened};
-ghost use Rattle.enc_seqpoints.specs.Spelling.{number_bytes, signed_bytes, between, document_holds, is_past, ends_behind, is_near, are_writable, is_writable, document_bytes, offset_bytes, columns_bytes, start_bytes, lines_bytes, point_bytes, records_of, first_document, header_bytes, blob_of};
+ghost use Rattle.enc_seqpoints.specs.Grammar.{is_row, are_lines, opened};
+ghost use Rattle.enc_seqpoints.specs.Spelling.{number_bytes, signed_bytes, between, document_holds, is_past, ends_behind, is_close, is_near, are_writable, is_writable, document_bytes, offset_bytes, columns_bytes, start_bytes, lines_bytes, point_bytes, records_of, first_document, header_bytes, blob_of};
 ghost use Rattle.enc_seqpoints.specs.Reads.{Writes, WritesBehind};
 
 use crate::base::{Base, Record};
@@ -19,15 +19,6 @@ fn write_number(value: u32, out: &mut Vec<u8>) -> Result<(), AllocError>
     push_unsigned(value, out)
 }
 
-/// Appends a signed number by its 32 bits.
-#[tactic(auto, unfolding(crate::specs::Spelling::signed_bytes))]
-fn write_signed(bits: u32, out: &mut Vec<u8>) -> Result<(), AllocError>
-    requires { IsTrue (is_small bits) }
-    ensures { IfOk result (λ _. out.new.items ≡ out.old.items ++ signed_bytes bits) }
-{
-    push_signed(bits.cast_signed(), out)
-}
-
 /// The 32 bits of the difference that leads from one number to another.
 #[tactic(auto, unfolding(crate::specs::Spelling::between))]
 fn between(from: u32, to: u32) -> u32
@@ -39,11 +30,21 @@ fn between(from: u32, to: u32) -> u32
     0xffff_ffff - (from - to) + 1
 }
 
-/// Whether these are the 32 bits of a number from -2^28 to 2^28 - 1.
-fn is_small(bits: u32) -> bool
-    ensures { result ≡ is_small bits }
+/// Appends the difference that leads from one number to another.
+#[tactic(auto, unfolding(crate::specs::Spelling::signed_bytes, crate::specs::Spelling::between))]
+fn write_difference(from: u32, to: u32, out: &mut Vec<u8>) -> Result<(), AllocError>
+    requires { IsTrue (is_close from to) }
+    ensures { IfOk result (λ _. out.new.items ≡ out.old.items ++ signed_bytes (between from to)) }
 {
-    bits < 0x1000_0000 || 0xf000_0000 <= bits
+    push_signed(between(from, to).cast_signed(), out)
+}
+
+/// Whether a signed number can say the difference of a number from another.
+fn is_close(from: u32, to: u32) -> bool
+    ensures { result ≡ is_close from to }
+{
+    let (from, to) = (u64::from(from), u64::from(to));
+    from <= to + 0x1000_0000 && to < from + 0x1000_0000
 }
 
 /// Whether this is a document row.
@@ -90,7 +91,7 @@ fn is_near(start: Option<(u32, u32)>, lines: (u32, u32, u32, u32)) -> bool
     match start {
         None => true,
         Some((last_line, last_column)) => {
-            is_small(between(last_line, line)) && is_small(between(last_column, column))
+            is_close(last_line, line) && is_close(last_column, column)
         }
     }
 }
@@ -142,7 +143,7 @@ fn write_offset(before: Option<u32>, offset: u32, out: &mut Vec<u8>) -> Result<(
 }
 
 /// Appends the column difference.
-#[tactic(auto, unfolding(crate::specs::Spelling::columns_bytes, crate::specs::Spelling::ends_behind, crate::specs::Spelling::between, crate::specs::Grammar::are_lines))]
+#[tactic(auto, unfolding(crate::specs::Spelling::columns_bytes, crate::specs::Spelling::ends_behind, crate::specs::Grammar::are_lines))]
 fn write_columns(lines: (u32, u32, u32, u32), out: &mut Vec<u8>) -> Result<(), AllocError>
     requires good { IsTrue (are_lines lines) }
     requires behind { IsTrue (ends_behind lines) }
@@ -152,7 +153,7 @@ fn write_columns(lines: (u32, u32, u32, u32), out: &mut Vec<u8>) -> Result<(), A
     if line == end_line {
         return write_number(end_column - column, out);
     }
-    write_signed(between(column, end_column), out)
+    write_difference(column, end_column, out)
 }
 
 /// Appends the start.
@@ -173,8 +174,8 @@ fn write_start(
             write_number(column, out)
         }
         Some((last_line, last_column)) => {
-            write_signed(between(last_line, line), out)?;
-            write_signed(between(last_column, column), out)
+            write_difference(last_line, line, out)?;
+            write_difference(last_column, column, out)
         }
     }
 }
