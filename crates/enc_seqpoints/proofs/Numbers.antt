@@ -1,6 +1,6 @@
 -- Numbers that are written read back, whatever follows them.
 use Rattle.std.proofs.Common.{◌≡◌, ℕ, ◌+◌, ◌-◌, ◌<◌, ◌≤◌, Bool, true, false, List, [], ◌∷◌, ◌++◌, length, drop, Option, Some, None, refl, ap, sym, subst, ◌∙◌, arith}
-use Rattle.std.proofs.lemmas.Bool.{lt-ltb, ltb-true, le-ltb, leb-true, leb-false, and_parts}
+use Rattle.std.proofs.lemmas.Bool.{lt-ltb, ltb-true, le-ltb, le-leb, leb-true, leb-false, and_parts, and_from}
 use Rattle.std.proofs.lemmas.Bool.Decides.{nat_tests}
 use Rattle.std.proofs.lemmas.Int.{of_z-to_z}
 use Rattle.std.proofs.Math.Seq.{drop-append_seam}
@@ -40,7 +40,7 @@ pub below_is : (n : ℕ) → n < 0x20000000 → below_limit n ≡ Some n
 unfolding below_limit
 below_is n few = rw (lt-ltb n 0x20000000 few) refl
 
-up_by : (from to : ℕ) → from ≤ to → to < 0x20000000 → moved from (to - from) ≡ Some to
+pub up_by : (from to : ℕ) → from ≤ to → to < 0x20000000 → moved from (to - from) ≡ Some to
 unfolding moved
 up_by from to le few =
     let low : to - from < 0x80000000 = omega (arith, le, few) in
@@ -59,6 +59,10 @@ close_parts : (from to : ℕ) → is_close from to ≡ true → (from ≤ to + 0
 close_parts from to close =
     let h = and_parts (nat_le from (to + 0x10000000)) (nat_lt to (from + 0x10000000)) close in
     (leb-true from (to + 0x10000000) h.0, ltb-true to (from + 0x10000000) h.1)
+
+-- columns are near each other
+pub close_from : (from to : ℕ) → from < 0x10000000 → to < 0x10000000 → is_close from to ≡ true
+close_from from to p q = and_from (nat_le from (to + 0x10000000)) (nat_lt to (from + 0x10000000)) (le-leb from (to + 0x10000000) (omega (arith, p))) (lt-ltb to (from + 0x10000000) (omega (arith, q)))
 
 moved_by : (from to : ℕ) (le : Bool) → nat_le from to ≡ le → to < 0x20000000 → from ≤ to + 0x10000000 → moved from (if le then to - from else 0x100000000 - (from - to)) ≡ Some to
 moved_by from to true is few near = up_by from to (leb-true from to is) few

@@ -38,7 +38,7 @@ write_stops i out b points d lt can =
     let e : i + 0 ≡ i = omega arith in
     ap (λ r. preceded i out r) (ap (records_of b) (drop_more points i d lt) ∙ records_stop b (get_or points i d) (drop (i + 1) points) can) ∙ ap Err e
 
-stopped : (out : List ℕ) (r : Result (List ℕ) ℕ) (i : ℕ) → preceded 0 out r ≡ Err i → r ≡ Err i
+pub stopped : (out : List ℕ) (r : Result (List ℕ) ℕ) (i : ℕ) → preceded 0 out r ≡ Err i → r ≡ Err i
 stopped out (Ok bytes) i e = absurd (cc)
 stopped out (Err k) i e = let f : 0 + k ≡ k = omega arith in ap Err (sym f) ∙ e
 

@@ -3,12 +3,14 @@
 #![tactic(auto)]
 
 mod base;
+mod laws;
 mod number;
 mod point;
 mod points;
 mod read;
 mod write;
 
+pub use laws::point_laws;
 pub use point::{Point, PointFault, WriteFault};
 pub use points::Points;
 pub use read::read_points;

@@ -1,0 +1,11 @@
+use Rattle.enc_seqpoints.proofs.Blobs.{blob_back}
+use Rattle.enc_seqpoints.proofs.laws.point_laws.Goals as goal
+
+pub returns-clause-back : goal.returns-clause-back
+returns-clause-back c = blob_back c.written_laws.ensures.back c.written_laws.ensures.signed_back
+
+pub returns-clause-read : goal.returns-clause-read
+returns-clause-read c = ?
+
+pub returns-clause-named : goal.returns-clause-named
+returns-clause-named c = ?
