@@ -4,3 +4,6 @@ pub mod Numbers
 pub mod Somes
 pub mod Back
 pub mod Blobs
+pub mod Readable
+pub mod Written
+pub mod Named
