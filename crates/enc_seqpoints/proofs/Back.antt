@@ -1,14 +1,14 @@
 -- Points that are written read back.
 use Rattle.std.proofs.Common.{◌≡◌, ℕ, zero, suc, ◌+◌, ◌-◌, ◌<◌, ◌≤◌, ◌⊎◌, inl, inr, Bool, true, false, List, [], ◌∷◌, ◌++◌, length, Option, Some, None, refl, ap, sym, ◌∙◌, arith, append_assoc, length-append}
-use Rattle.std.proofs.lemmas.Bool.{lt-ltb, ltb-true, eqb-true, eqb-false, ne_eqb, eq-eqb, and_parts, or_cases, and_left, and_right}
-use Rattle.std.specs.Prelude.{◌&&◌, ◌||◌, ◌==◌, not, nat_lt, is_some, Result, Ok, Err, if◌then◌else◌}
+use Rattle.std.proofs.lemmas.Bool.{lt-ltb, ltb-true, eqb-true, ne_eqb, eq-eqb, and_parts, or_cases, and_left, and_right}
+use Rattle.std.specs.Prelude.{◌&&◌, ◌||◌, ◌==◌, not, nat_lt, is_some, if◌then◌else◌}
 use Rattle.enc_base.specs.Numbers.{one_byte, two_bytes, four_bytes, WrittenIsRead, SignedWrittenIsRead}
 use Rattle.enc_seqpoints.specs.declared.point.Point.{Point}
 use Rattle.enc_seqpoints.specs.declared.base.Base.{Base}
 use Rattle.enc_seqpoints.specs.declared.base.Record.{Record}
 use Rattle.enc_seqpoints.specs.declared.base.Record.TheVariants.{Document, Sequence}
-use Rattle.enc_seqpoints.specs.Grammar.{Reader, both, number_in, signed_in, is_line, is_column, are_lines, is_row, row_in, moved, moved_in, columns_in, start_in, spanned, seen_in, lines_in, offset_from, point_in, begun_in, record_in, after, with_record, records_in}
-use Rattle.enc_seqpoints.specs.Spelling.{number_bytes, signed_bytes, between, is_close, document_holds, is_past, ends_behind, is_near, are_writable, is_writable, document_bytes, offset_bytes, columns_bytes, start_bytes, lines_bytes, point_bytes, preceded, records_of}
+use Rattle.enc_seqpoints.specs.Grammar.{Reader, both, number_in, is_line, is_column, are_lines, is_row, row_in, moved, moved_in, columns_in, start_in, spanned, seen_in, lines_in, offset_from, point_in, begun_in, record_in, after, with_record, records_in}
+use Rattle.enc_seqpoints.specs.Spelling.{number_bytes, signed_bytes, between, is_close, document_holds, is_past, ends_behind, is_near, are_writable, is_writable, document_bytes, offset_bytes, columns_bytes, start_bytes, lines_bytes, point_bytes}
 use Rattle.enc_seqpoints.proofs.Numbers.{number_again, signed_again, row_again, below_is, moved_between, moved_again, between_small, up_by, close_from}
 use Rattle.enc_seqpoints.proofs.Records.{none_in_none}
 

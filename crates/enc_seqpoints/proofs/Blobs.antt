@@ -1,12 +1,11 @@
 -- A blob that is written reads back.
-use Rattle.std.proofs.Common.{◌≡◌, ℕ, zero, suc, ◌+◌, ◌^◌, ◌<◌, ◌≤◌, Bool, true, false, List, [], ◌∷◌, ◌++◌, length, Option, Some, None, refl, ap, sym, ◌∙◌, arith, append_assoc, append-nil, length-append}
-use Rattle.std.proofs.lemmas.Bool.{lt-ltb, le-ltb, ltb-true, and_from}
-use Rattle.std.specs.Prelude.{◌==◌, ◌&&◌, nat_lt, Result, Ok, Err, if◌then◌else◌}
+use Rattle.std.proofs.Common.{◌≡◌, ℕ, ◌<◌, ◌≤◌, Bool, true, false, List, [], ◌∷◌, ◌++◌, length, Some, refl, ap, sym, ◌∙◌, arith, append_assoc, append-nil, length-append}
+use Rattle.std.specs.Prelude.{◌==◌, Result, Ok, Err, if◌then◌else◌}
 use Rattle.enc_base.specs.Numbers.{WrittenIsRead, SignedWrittenIsRead}
 use Rattle.enc_seqpoints.specs.declared.point.Point.{Point}
 use Rattle.enc_seqpoints.specs.declared.base.Base.{Base}
 use Rattle.enc_seqpoints.specs.declared.base.Record.TheVariants.{Sequence}
-use Rattle.enc_seqpoints.specs.Grammar.{both, number_in, is_row, row_in, after, opened, records_in, document_in, header_in, body_in, points_in, method_points}
+use Rattle.enc_seqpoints.specs.Grammar.{is_row, after, opened, records_in, document_in, header_in, body_in, points_in, method_points}
 use Rattle.enc_seqpoints.specs.Spelling.{number_bytes, is_writable, point_bytes, preceded, records_of, said_first, first_document, header_bytes, blob_of}
 use Rattle.enc_seqpoints.specs.Laws.{WrittenReadsBack}
 use Rattle.enc_seqpoints.proofs.Numbers.{number_again, row_again}

@@ -7,3 +7,4 @@ pub mod Blobs
 pub mod Readable
 pub mod Written
 pub mod Named
+pub mod Examples

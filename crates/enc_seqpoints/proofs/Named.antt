@@ -1,5 +1,5 @@
 -- The first point that can't be written.
-use Rattle.std.proofs.Common.{◌≡◌, ℕ, zero, suc, ◌+◌, ◌<◌, Bool, true, false, List, [], ◌∷◌, ◌++◌, length, take, Some, refl, ap, sym, subst, ◌∙◌, arith}
+use Rattle.std.proofs.Common.{◌≡◌, ℕ, zero, suc, ◌+◌, ◌<◌, Bool, true, false, List, [], ◌∷◌, length, take, Some, refl, ap, sym, subst, ◌∙◌, arith}
 use Rattle.std.specs.Prelude.{◌≢◌, is_ok, Result, Ok, Err}
 use Rattle.enc_seqpoints.specs.declared.point.Point.{Point}
 use Rattle.enc_seqpoints.specs.declared.base.Base.{Base}

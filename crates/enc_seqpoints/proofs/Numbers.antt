@@ -1,13 +1,13 @@
 -- Numbers that are written read back, whatever follows them.
-use Rattle.std.proofs.Common.{◌≡◌, ℕ, ◌+◌, ◌-◌, ◌<◌, ◌≤◌, Bool, true, false, List, [], ◌∷◌, ◌++◌, length, drop, Option, Some, None, refl, ap, sym, subst, ◌∙◌, arith}
+use Rattle.std.proofs.Common.{◌≡◌, ℕ, ◌+◌, ◌-◌, ◌<◌, ◌≤◌, Bool, true, false, List, ◌++◌, length, drop, Option, Some, None, refl, arith}
 use Rattle.std.proofs.lemmas.Bool.{lt-ltb, ltb-true, le-ltb, le-leb, leb-true, leb-false, and_parts, and_from}
 use Rattle.std.proofs.lemmas.Bool.Decides.{nat_tests}
 use Rattle.std.proofs.lemmas.Int.{of_z-to_z}
 use Rattle.std.proofs.Math.Seq.{drop-append_seam}
-use Rattle.std.specs.Prelude.{◌&&◌, ◌||◌, ◌==◌, nat_lt, nat_le, option_map, option_and_then, if◌then◌else◌, ℤ}
+use Rattle.std.specs.Prelude.{nat_lt, nat_le, option_map, option_and_then, if◌then◌else◌, ℤ}
 use Rattle.std.specs.Int.{w32, cast_signed}
 use Rattle.enc_base.specs.Numbers.{compressed, signed, spelled, spelled_signed, is_within, WrittenIsRead, SignedWrittenIsRead}
-use Rattle.enc_seqpoints.specs.Grammar.{Reader, number_in, signed_in, is_small, bits_of, is_row, row_in, below_limit, moved, moved_in}
+use Rattle.enc_seqpoints.specs.Grammar.{number_in, signed_in, is_small, bits_of, is_row, row_in, below_limit, moved, moved_in}
 use Rattle.enc_seqpoints.specs.Spelling.{number_bytes, signed_bytes, between, is_close}
 
 number_on : (o : Option (ℕ × ℕ)) (n : ℕ) (s rest : List ℕ) → o ≡ Some (n, length s) → n < 0x20000000 → option_and_then {T = ℕ × ℕ} {U = ℕ × List ℕ} (λ x. if nat_lt x.0 0x20000000 then Some (x.0, drop x.1 (s ++ rest)) else None) o ≡ Some (n, rest)

@@ -1,17 +1,11 @@
 -- What is read can be written.
-use Rattle.std.proofs.Common.{◌≡◌, ℕ, zero, suc, ◌+◌, ◌-◌, ◌^◌, ◌<◌, ◌≤◌, ◌⊎◌, inl, inr, Bool, true, false, List, [], ◌∷◌, ◌++◌, length, Option, Some, None, refl, ap, sym, subst, ◌∙◌, arith}
-use Rattle.std.proofs.lemmas.Bool.{lt-ltb, le-ltb, le-leb, eq-eqb, ltb-true, ltb-false, leb-true, eqb-true, eqb-false, and_parts, and_cases, and_from, or_left, or_right, or_cases, true≢false}
-use Rattle.std.proofs.lemmas.Bool.Decides.{nat_tests}
-use Rattle.std.specs.Prelude.{◌&&◌, ◌||◌, ◌==◌, nat_lt, nat_le, drop, is_some, is_ok, option_map, option_and_then, Result, Ok, Err, if◌then◌else◌, ℤ}
+use Rattle.std.proofs.Common.{◌≡◌, ℕ, ◌+◌, ◌-◌, ◌<◌, ◌≤◌, ◌⊎◌, inl, inr, Bool, true, false, List, Option, Some, None, refl, ap, sym, subst, ◌∙◌, arith}
+use Rattle.std.proofs.lemmas.Bool.{lt-ltb, le-leb, ltb-true, ltb-false, leb-true, and_parts, and_from, or_cases}
+use Rattle.std.specs.Prelude.{◌||◌, nat_lt, nat_le, drop, option_map, option_and_then, if◌then◌else◌, ℤ}
 use Rattle.enc_base.specs.Numbers.{compressed, signed}
-use Rattle.enc_seqpoints.specs.declared.point.Point.{Point}
-use Rattle.enc_seqpoints.specs.declared.base.Base.{Base}
-use Rattle.enc_seqpoints.specs.declared.base.Record.{Record}
-use Rattle.enc_seqpoints.specs.declared.base.Record.TheVariants.{Document, Sequence}
-use Rattle.enc_seqpoints.specs.Grammar.{Reader, giving, leading, upon, both, number_in, signed_in, is_small, bits_of, is_row, row_in, below_limit, moved, moved_in, columns_in, start_in, are_lines, if_lines, spanned, seen_in, lines_in, offset_from, point_in, begun_in, record_in, after, start_after, with_record, records_in}
-use Rattle.enc_seqpoints.specs.Spelling.{is_close, document_holds, is_past, ends_behind, is_near, are_writable, is_writable, point_bytes, preceded, records_of}
+use Rattle.enc_seqpoints.specs.Grammar.{Reader, giving, leading, upon, both, number_in, signed_in, is_small, bits_of, is_row, row_in, below_limit, moved, moved_in, start_in, are_lines, if_lines, spanned}
+use Rattle.enc_seqpoints.specs.Spelling.{is_close, is_near}
 use Rattle.enc_seqpoints.proofs.Somes.{bind_some, map_some, if_some, same_some}
-use Rattle.enc_seqpoints.proofs.Writing.{records_first}
 
 -- what each step of a reader read
 pub upon_some : {A B : Type 0} (r : Reader A) (s : A → Reader B) (bytes : List ℕ) (y : B) (rest : List ℕ) → upon r s bytes ≡ Some (y, rest) → (x : A) × (mid : List ℕ) × (r bytes ≡ Some (x, mid)) × (s x mid ≡ Some (y, rest))

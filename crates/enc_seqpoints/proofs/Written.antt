@@ -1,13 +1,13 @@
 -- What is read can be written: points, records and blobs.
-use Rattle.std.proofs.Common.{◌≡◌, ℕ, zero, suc, ◌+◌, ◌-◌, ◌^◌, ◌<◌, ◌≤◌, Bool, true, false, List, [], ◌∷◌, ◌++◌, length, Option, Some, None, refl, ap, sym, subst, ◌∙◌, arith}
-use Rattle.std.proofs.lemmas.Bool.{lt-ltb, eq-eqb, ltb-true, eqb-true, eqb-false, ne_eqb, and_parts, and_cases, and_from, or_left, or_right}
-use Rattle.std.specs.Prelude.{◌&&◌, ◌||◌, ◌==◌, nat_lt, is_some, is_ok, option_map, option_and_then, Result, Ok, Err, if◌then◌else◌}
+use Rattle.std.proofs.Common.{◌≡◌, ℕ, zero, suc, ◌+◌, ◌^◌, ◌<◌, Bool, true, false, List, [], ◌∷◌, length, Option, Some, None, refl, ap, sym, subst, ◌∙◌, arith}
+use Rattle.std.proofs.lemmas.Bool.{lt-ltb, eq-eqb, ltb-true, eqb-true, eqb-false, and_parts, and_from, or_left, or_right}
+use Rattle.std.specs.Prelude.{◌&&◌, ◌==◌, nat_lt, is_some, is_ok, option_map, Result, Ok, Err, if◌then◌else◌}
 use Rattle.enc_seqpoints.specs.declared.point.Point.{Point}
 use Rattle.enc_seqpoints.specs.declared.base.Base.{Base}
 use Rattle.enc_seqpoints.specs.declared.base.Record.{Record}
 use Rattle.enc_seqpoints.specs.declared.base.Record.TheVariants.{Document, Sequence}
-use Rattle.enc_seqpoints.specs.Grammar.{Reader, giving, leading, upon, both, number_in, signed_in, is_row, row_in, moved, columns_in, start_in, are_lines, spanned, seen_in, lines_in, offset_from, point_in, begun_in, record_in, after, start_after, with_record, records_in, opened, document_in, header_in, body_in, points_in, method_points, MethodPoints}
-use Rattle.enc_seqpoints.specs.Spelling.{document_holds, is_past, ends_behind, is_near, are_writable, is_writable, point_bytes, preceded, records_of, said_first, first_document, header_bytes, blob_of}
+use Rattle.enc_seqpoints.specs.Grammar.{giving, leading, upon, both, number_in, signed_in, is_row, row_in, moved, columns_in, start_in, are_lines, spanned, seen_in, lines_in, offset_from, point_in, begun_in, record_in, after, with_record, records_in, opened, document_in, header_in, body_in, points_in, method_points, MethodPoints}
+use Rattle.enc_seqpoints.specs.Spelling.{document_holds, is_past, ends_behind, is_near, are_writable, is_writable, point_bytes, preceded, records_of, first_document, header_bytes, blob_of}
 use Rattle.enc_seqpoints.specs.Laws.{ReadIsWritable}
 use Rattle.enc_seqpoints.proofs.Somes.{bind_some, map_some, if_some, same_some}
 use Rattle.enc_seqpoints.proofs.Writing.{records_first}

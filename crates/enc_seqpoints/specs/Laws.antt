@@ -1,5 +1,5 @@
 -- What is known of sequence points that are read and written (Portable PDB v1.0, Sequence Points Blob).
-use Rattle.std.specs.Prelude.{◌≡◌, ◌≢◌, ℕ, ◌+◌, ◌^◌, ◌<◌, true, List, length, take, Option, Some, Ok, Err, is_ok}
+use Rattle.std.specs.Prelude.{◌≡◌, ◌≢◌, ℕ, ◌+◌, ◌^◌, ◌<◌, true, List, length, take, Some, Ok, Err, is_ok}
 use Rattle.enc_seqpoints.specs.declared.point.Point.{Point}
 use Rattle.enc_seqpoints.specs.Grammar.{MethodPoints, method_points, points_in}
 use Rattle.enc_seqpoints.specs.Spelling.{blob_of}

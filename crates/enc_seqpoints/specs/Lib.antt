@@ -2,3 +2,4 @@ pub mod Grammar
 pub mod Spelling
 pub mod Reads
 pub mod Laws
+pub mod Example

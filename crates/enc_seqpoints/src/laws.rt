@@ -1,4 +1,5 @@
-//! What is known of sequence points, as the contract of a function that does nothing.
+//! What is known of sequence points, each as the contract of a function that does nothing.
+ghost use Rattle.enc_seqpoints.specs.Example.{ExampleReads, ExampleIsWritten};
 ghost use Rattle.enc_seqpoints.specs.Laws.{WrittenReadsBack, ReadIsWritable, FirstIsNamed};
 
 use enc_base::written_laws;
@@ -13,3 +14,9 @@ pub fn point_laws()
 {
     written_laws();
 }
+
+/// A blob of three points in two documents, read by hand, is read so and written so.
+pub fn example_law()
+    ensures reads { ExampleReads }
+    ensures written { ExampleIsWritten }
+{}

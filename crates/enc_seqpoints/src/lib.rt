@@ -10,8 +10,11 @@ mod points;
 mod read;
 mod write;
 
-pub use laws::point_laws;
+pub use laws::{example_law, point_laws};
 pub use point::{Point, PointFault, WriteFault};
 pub use points::Points;
 pub use read::read_points;
 pub use write::write_points;
+
+#[cfg(test)]
+mod tests;

@@ -75,10 +75,7 @@ fn seen(
 
 /// The lines of a point.
 #[tactic(auto, unfolding(crate::specs::Grammar::lines_in))]
-fn lines(
-    from: Option<(u32, u32)>,
-    bytes: &[u8],
-) -> Option<(Option<(u32, u32, u32, u32)>, &[u8])>
+fn lines(from: Option<(u32, u32)>, bytes: &[u8]) -> Option<(Option<(u32, u32, u32, u32)>, &[u8])>
     ensures { option_map (λ x. (x.0, x.1.now)) result ≡ lines_in from bytes.now }
 {
     let (lines, rest) = number(bytes)?;

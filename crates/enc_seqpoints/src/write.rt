@@ -244,12 +244,7 @@ fn first_document(document: u32, points: &[Point]) -> u32
 
 /// Appends the local signature row, and the document that holds at first where Document is nil.
 #[tactic(auto, unfolding(crate::specs::Spelling::header_bytes))]
-fn write_header(
-    locals: u32,
-    document: u32,
-    first: u32,
-    out: &mut Vec<u8>,
-) -> Result<(), AllocError>
+fn write_header(locals: u32, document: u32, first: u32, out: &mut Vec<u8>) -> Result<(), AllocError>
     requires locals { locals < 2 ^ 29 }
     requires first { document ≡ 0 → first < 2 ^ 29 }
     ensures { IfOk result (λ _. out.new.items ≡ out.old.items ++ header_bytes locals document first) }
