@@ -1,0 +1,5 @@
+pub mod Grammar
+pub mod Spelling
+pub mod Reads
+pub mod Laws
+pub mod Example

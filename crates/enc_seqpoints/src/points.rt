@@ -1,0 +1,43 @@
+ghost use Rattle.std.specs.Prelude.{◌≡◌, ◌<◌, length, slice_get, Some};
+
+use crate::point::Point;
+use std::marker::Model;
+
+/// The sequence points of a method, in the order of their offsets, and its local signature row.
+#[derive(Debug, Drop)]
+pub struct Points {
+    pub(crate) locals: u32,
+    pub(crate) items: Vec<Point>,
+}
+
+impl Model for Points {
+    ghost use Rattle.enc_seqpoints.specs.Grammar.{MethodPoints};
+
+    ghost Value = { MethodPoints };
+
+    ghost view = { λ p. record { locals = p.locals; points = p.items.items } };
+}
+
+impl Points {
+    /// The row of the method's local signature in StandAloneSig, 0 where it has none.
+    pub fn locals(&self) -> u32
+        ensures { result ≡ self.now.locals }
+    {
+        self.locals
+    }
+
+    /// How many points there are.
+    pub fn len(&self) -> usize
+        ensures { result ≡ length self.now.points }
+    {
+        self.items.len()
+    }
+
+    /// The i-th point, from 0.
+    pub fn point(&self, i: usize) -> Point
+        requires { i < length self.now.points }
+        ensures { slice_get self.now.points i ≡ Some result }
+    {
+        self.items[i]
+    }
+}
