@@ -1,4 +1,5 @@
 pub mod Numbers
 pub mod Order
+pub mod Readers
 pub mod Token
 pub mod Units

@@ -3,6 +3,7 @@
 
 mod bytes;
 mod counts;
+mod front;
 mod laws;
 mod number;
 mod refusal;
@@ -12,6 +13,7 @@ mod units;
 
 pub use bytes::Bytes;
 pub use counts::Counts;
+pub use front::{signed_front, unsigned_front};
 pub use laws::{compressed_laws, first_below_law, written_laws};
 pub use number::{
     push_half, push_long, push_signed, push_unsigned, push_word, push_zeros, read_signed,

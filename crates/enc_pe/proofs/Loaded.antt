@@ -1,6 +1,6 @@
 -- What is read at an RVA is what is loaded there.
-use Rattle.std.proofs.Common.{◌≡◌, ℕ, zero, suc, ◌+◌, ◌-◌, ◌*◌, ◌/◌, ◌≤◌, Bool, true, false, List, [], ◌∷◌, length, take, drop, Option, Some, None, refl, sym, ap, ◌∙◌, arith}
-use Rattle.std.specs.Prelude.{min, map, find, option_map, option_and_then, nat_le, ◌&&◌}
+use Rattle.std.proofs.Common.{◌≡◌, ℕ, zero, suc, ◌+◌, ◌-◌, ◌/◌, ◌≤◌, Bool, true, false, List, [], ◌∷◌, length, take, drop, Option, Some, None, refl, ap, arith}
+use Rattle.std.specs.Prelude.{map, find, option_map, option_and_then, nat_le, ◌&&◌}
 use Rattle.std.specs.Int.{w32}
 use Rattle.enc_base.specs.Numbers.{little_endian_at}
 use Rattle.enc_meta.specs.Heaps.{part}

@@ -6,8 +6,8 @@ use Rattle.enc_seqpoints.specs.declared.point.Point.{Point}
 use Rattle.enc_seqpoints.specs.declared.base.Base.{Base}
 use Rattle.enc_seqpoints.specs.declared.base.Record.TheVariants.{Sequence}
 use Rattle.enc_seqpoints.specs.Grammar.{is_row, after, opened, records_in, document_in, header_in, body_in, points_in, method_points}
-use Rattle.enc_seqpoints.specs.Spelling.{number_bytes, is_writable, point_bytes, preceded, records_of, said_first, first_document, header_bytes, blob_of}
-use Rattle.enc_seqpoints.specs.Laws.{WrittenReadsBack}
+use Rattle.enc_seqpoints.specs.Spelling.{spelled_number, is_writable, point_bytes, preceded, records_of, said_first, first_document, header_bytes, blob_of}
+use Rattle.enc_seqpoints.specs.Laws.{PointsReadBack}
 use Rattle.enc_seqpoints.proofs.Numbers.{number_again, row_again}
 use Rattle.enc_seqpoints.proofs.Writing.{records_first, records_stop}
 use Rattle.enc_seqpoints.proofs.Back.{point_step, none_left, number_long}
@@ -43,17 +43,17 @@ said_row (p ∷ points) = by (is_row p.document) refl
     by true e = e
     by false e = refl
 
-said_header : (locals document first : ℕ) (rest : List ℕ) → WrittenIsRead → locals < 0x20000000 → document == 0 ≡ true → is_row first ≡ true → header_in document ((number_bytes locals ++ number_bytes first) ++ rest) ≡ Some ((locals, first), rest)
+said_header : (locals document first : ℕ) (rest : List ℕ) → WrittenIsRead → locals < 0x20000000 → document == 0 ≡ true → is_row first ≡ true → header_in document ((spelled_number locals ++ spelled_number first) ++ rest) ≡ Some ((locals, first), rest)
 unfolding header_in document_in
 said_header locals document first rest written few is row =
-    rw (append_assoc (number_bytes locals) (number_bytes first) rest, number_again locals (number_bytes first ++ rest) written few, is, row_again first rest written row) refl
+    rw (append_assoc (spelled_number locals) (spelled_number first) rest, number_again locals (spelled_number first ++ rest) written few, is, row_again first rest written row) refl
 
-known_header : (locals document : ℕ) (rest : List ℕ) → WrittenIsRead → locals < 0x20000000 → document == 0 ≡ false → header_in document ((number_bytes locals ++ []) ++ rest) ≡ Some ((locals, document), rest)
+known_header : (locals document : ℕ) (rest : List ℕ) → WrittenIsRead → locals < 0x20000000 → document == 0 ≡ false → header_in document ((spelled_number locals ++ []) ++ rest) ≡ Some ((locals, document), rest)
 unfolding header_in document_in
 known_header locals document rest written few is =
-    rw (append-nil (number_bytes locals), number_again locals rest written few, is) refl
+    rw (append-nil (spelled_number locals), number_again locals rest written few, is) refl
 
-header_by : (locals document : ℕ) (points : List Point) (rest : List ℕ) (nil : Bool) → WrittenIsRead → locals < 0x20000000 → document == 0 ≡ nil → header_in document ((number_bytes locals ++ (if nil then number_bytes (if nil then said_first points else document) else [])) ++ rest) ≡ Some ((locals, if nil then said_first points else document), rest)
+header_by : (locals document : ℕ) (points : List Point) (rest : List ℕ) (nil : Bool) → WrittenIsRead → locals < 0x20000000 → document == 0 ≡ nil → header_in document ((spelled_number locals ++ (if nil then spelled_number (if nil then said_first points else document) else [])) ++ rest) ≡ Some ((locals, if nil then said_first points else document), rest)
 header_by locals document points rest true written few is = said_header locals document (said_first points) rest written few is (said_row points)
 header_by locals document points rest false written few is = known_header locals document rest written few is
 
@@ -73,8 +73,8 @@ points_body document (b ∷ bytes) some = refl
 header_long : (locals document first : ℕ) → 0 < length (header_bytes locals document first)
 unfolding header_bytes
 header_long locals document first =
-    let tail = if document == 0 then number_bytes first else [] in
-    omega (arith, number_long locals, length-append (number_bytes locals) tail)
+    let tail = if document == 0 then spelled_number first else [] in
+    omega (arith, number_long locals, length-append (spelled_number locals) tail)
 
 blob_by : (locals document : ℕ) (points : List Point) (bytes : List ℕ) (r : Result (List ℕ) ℕ) → WrittenIsRead → SignedWrittenIsRead → locals < 0x20000000 → records_of (opened (first_document document points)) points ≡ r → preceded 0 (header_bytes locals document (first_document document points)) r ≡ Ok bytes → points_in document bytes ≡ Some (method_points locals points)
 blob_by locals document points bytes (Err i) written signed few is e = absurd (cc)
@@ -85,6 +85,6 @@ blob_by locals document points bytes (Ok more) written signed few is e =
     let some : 0 < length (header ++ more) = omega (arith, header_long locals document first, length-append header more) in
     ap (points_in document) (sym same) ∙ points_body document (header ++ more) some ∙ body_by document locals first points (header ++ more) more (header_again locals document points more written few) (records_back points written signed (opened first) (length more) more is (omega arith))
 
-pub blob_back : WrittenIsRead → SignedWrittenIsRead → WrittenReadsBack
+pub blob_back : WrittenIsRead → SignedWrittenIsRead → PointsReadBack
 unfolding blob_of
 blob_back written signed locals document points bytes few e = blob_by locals document points bytes (records_of (opened (first_document document points)) points) written signed few refl e

@@ -3,12 +3,13 @@ use Rattle.std.proofs.Common.{◌≡◌, ℕ, ◌+◌, ◌-◌, ◌<◌, ◌≤�
 use Rattle.std.proofs.lemmas.Bool.{lt-ltb, le-leb, ltb-true, ltb-false, leb-true, and_parts, and_from, or_cases}
 use Rattle.std.specs.Prelude.{◌||◌, nat_lt, nat_le, drop, option_map, option_and_then, if◌then◌else◌, ℤ}
 use Rattle.enc_base.specs.Numbers.{compressed, signed}
-use Rattle.enc_seqpoints.specs.Grammar.{Reader, giving, leading, upon, both, number_in, signed_in, is_small, bits_of, is_row, row_in, below_limit, moved, moved_in, start_in, are_lines, if_lines, spanned}
+use Rattle.enc_seqpoints.specs.Grammar.{leading, continued, is_row, document_row_in, below_limit, moved, moved_in, start_in, are_lines, if_lines, spanned}
+use Rattle.enc_base.specs.Readers.{Reader, giving, both, number_in, signed_in, is_small, bits_of}
 use Rattle.enc_seqpoints.specs.Spelling.{is_close, is_near}
 use Rattle.enc_seqpoints.proofs.Somes.{bind_some, map_some, if_some, same_some}
 
 -- what each step of a reader read
-pub upon_some : {A B : Type 0} (r : Reader A) (s : A → Reader B) (bytes : List ℕ) (y : B) (rest : List ℕ) → upon r s bytes ≡ Some (y, rest) → (x : A) × (mid : List ℕ) × (r bytes ≡ Some (x, mid)) × (s x mid ≡ Some (y, rest))
+pub upon_some : {A B : Type 0} (r : Reader A) (s : A → Reader B) (bytes : List ℕ) (y : B) (rest : List ℕ) → continued r s bytes ≡ Some (y, rest) → (x : A) × (mid : List ℕ) × (r bytes ≡ Some (x, mid)) × (s x mid ≡ Some (y, rest))
 upon_some {A} {B} r s bytes y rest e = let h = bind_some {A = A × List ℕ} {B = B × List ℕ} (λ p. s p.0 p.1) (r bytes) (y, rest) e in (h.0.0, h.0.1, h.1, h.2)
 
 pub giving_some : {A B : Type 0} (f : A → B) (r : Reader A) (bytes : List ℕ) (y : B) (rest : List ℕ) → giving f r bytes ≡ Some (y, rest) → (x : A) × (r bytes ≡ Some (x, rest)) × (f x ≡ y)
@@ -52,8 +53,8 @@ signed_small bytes n rest e =
     let same : bits_of h.0.0 ≡ n = ap (λ (p : ℕ × List ℕ). p.0) (same_some {A = ℕ × List ℕ} (bits_of h.0.0, drop h.0.1 bytes) (n, rest) i.1) in
     subst (λ k. is_small k ≡ true) same i.0
 
-pub row_good : (bytes : List ℕ) (n : ℕ) (rest : List ℕ) → row_in bytes ≡ Some (n, rest) → is_row n ≡ true
-unfolding row_in
+pub row_good : (bytes : List ℕ) (n : ℕ) (rest : List ℕ) → document_row_in bytes ≡ Some (n, rest) → is_row n ≡ true
+unfolding document_row_in
 row_good bytes n rest e =
     let h = leading_some (λ n. if is_row n then Some n else None) number_in bytes n rest e in
     let i = if_some (is_row h.0) (Some h.0) n h.2 in

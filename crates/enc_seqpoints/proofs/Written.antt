@@ -6,63 +6,64 @@ use Rattle.enc_seqpoints.specs.declared.point.Point.{Point}
 use Rattle.enc_seqpoints.specs.declared.base.Base.{Base}
 use Rattle.enc_seqpoints.specs.declared.base.Record.{Record}
 use Rattle.enc_seqpoints.specs.declared.base.Record.TheVariants.{Document, Sequence}
-use Rattle.enc_seqpoints.specs.Grammar.{giving, leading, upon, both, number_in, signed_in, is_row, row_in, moved, columns_in, start_in, are_lines, spanned, seen_in, lines_in, offset_from, point_in, begun_in, record_in, after, with_record, records_in, opened, document_in, header_in, body_in, points_in, method_points, MethodPoints}
-use Rattle.enc_seqpoints.specs.Spelling.{document_holds, is_past, ends_behind, is_near, are_writable, is_writable, point_bytes, preceded, records_of, first_document, header_bytes, blob_of}
+use Rattle.enc_seqpoints.specs.Grammar.{leading, continued, is_row, document_row_in, moved, column_difference_in, start_in, are_lines, spanned, seen_in, lines_in, offset_from, point_in, begun_in, record_in, after, with_record, records_in, opened, document_in, header_in, body_in, points_in, method_points, MethodPoints}
+use Rattle.enc_base.specs.Readers.{giving, both, number_in, signed_in}
+use Rattle.enc_seqpoints.specs.Spelling.{document_holds, is_later, ends_behind, is_near, are_writable, is_writable, point_bytes, preceded, records_of, first_document, header_bytes, blob_of}
 use Rattle.enc_seqpoints.specs.Laws.{ReadIsWritable}
 use Rattle.enc_seqpoints.proofs.Somes.{bind_some, map_some, if_some, same_some}
 use Rattle.enc_seqpoints.proofs.Writing.{records_first}
 use Rattle.enc_seqpoints.proofs.Readable.{upon_some, giving_some, leading_some, both_some, number_few, row_good, up_to, start_near, spanned_parts}
 
 -- the end is behind the start
-behind_by : (lines bits : ℕ) (l : ℕ × ℕ × ℕ × ℕ) (none : Bool) (mid behind : List ℕ) → lines == 0 ≡ none → (none && bits == 0) ≡ false → (if none then number_in else signed_in) mid ≡ Some (bits, behind) → l.0 + lines ≡ l.2 → moved l.1 bits ≡ Some l.3 → ends_behind l ≡ true
+behind_by : (lines bits : ℕ) (l : ℕ × ℕ × ℕ × ℕ) (none : Bool) (mid points_behind : List ℕ) → lines == 0 ≡ none → (none && bits == 0) ≡ false → (if none then number_in else signed_in) mid ≡ Some (bits, points_behind) → l.0 + lines ≡ l.2 → moved l.1 bits ≡ Some l.3 → ends_behind l ≡ true
 unfolding ends_behind
-behind_by lines bits l true mid behind is some read sum leads =
+behind_by lines bits l true mid points_behind is some read sum leads =
     let zero_lines : lines ≡ 0 = eqb-true lines 0 is in
-    let few = number_few mid bits behind read in
+    let few = number_few mid bits points_behind read in
     let up : l.1 + bits ≡ l.3 = up_to l.1 bits l.3 few leads in
     let more : (bits ≡ 0 → ⊥) = eqb-false bits 0 some in
     let pos : 0 < bits = omega (arith, more) in
     let same : l.0 ≡ l.2 = omega (arith, zero_lines, sum) in
     let lt : l.1 < l.3 = omega (arith, up, pos) in
     or_right (nat_lt l.0 l.2) (l.0 == l.2 && nat_lt l.1 l.3) (and_from (l.0 == l.2) (nat_lt l.1 l.3) (eq-eqb l.0 l.2 same) (lt-ltb l.1 l.3 lt))
-behind_by lines bits l false mid behind is some read sum leads =
+behind_by lines bits l false mid points_behind is some read sum leads =
     let more : (lines ≡ 0 → ⊥) = eqb-false lines 0 is in
     let pos : 0 < lines = omega (arith, more) in
     let lt : l.0 < l.2 = omega (arith, sum, pos) in
     or_left (nat_lt l.0 l.2) (l.0 == l.2 && nat_lt l.1 l.3) (lt-ltb l.0 l.2 lt)
 
-visible_good : (s : Option (ℕ × ℕ)) (lines bits : ℕ) (mid behind rest : List ℕ) (l : ℕ × ℕ × ℕ × ℕ) → (lines == 0 && bits == 0) ≡ false → columns_in lines mid ≡ Some (bits, behind) → leading (spanned lines bits) (start_in s) behind ≡ Some (l, rest) → are_writable s (Some l) ≡ true
-unfolding columns_in are_writable
-visible_good s lines bits mid behind rest l some read e =
-    let h = leading_some {A = ℕ × ℕ} {B = ℕ × ℕ × ℕ × ℕ} (spanned lines bits) (start_in s) behind l rest e in
+visible_good : (s : Option (ℕ × ℕ)) (lines bits : ℕ) (mid points_behind rest : List ℕ) (l : ℕ × ℕ × ℕ × ℕ) → (lines == 0 && bits == 0) ≡ false → column_difference_in lines mid ≡ Some (bits, points_behind) → leading (spanned lines bits) (start_in s) points_behind ≡ Some (l, rest) → are_writable s (Some l) ≡ true
+unfolding column_difference_in are_writable
+visible_good s lines bits mid points_behind rest l some read e =
+    let h = leading_some {A = ℕ × ℕ} {B = ℕ × ℕ × ℕ × ℕ} (spanned lines bits) (start_in s) points_behind l rest e in
     let i = spanned_parts lines bits h.0 l h.2 in
-    let started : start_in s behind ≡ Some ((l.0, l.1), rest) = h.1 ∙ ap (λ (x : ℕ × ℕ). Some (x, rest)) i.0 in
-    and_from (are_lines l) (ends_behind l && is_near s l) i.3 (and_from (ends_behind l) (is_near s l) (behind_by lines bits l (lines == 0) mid behind refl some read i.1 i.2) (start_near s l behind rest started))
+    let started : start_in s points_behind ≡ Some ((l.0, l.1), rest) = h.1 ∙ ap (λ (x : ℕ × ℕ). Some (x, rest)) i.0 in
+    and_from (are_lines l) (ends_behind l && is_near s l) i.3 (and_from (ends_behind l) (is_near s l) (behind_by lines bits l (lines == 0) mid points_behind refl some read i.1 i.2) (start_near s l points_behind rest started))
 
-seen_by : (s : Option (ℕ × ℕ)) (lines bits : ℕ) (mid behind rest : List ℕ) (o : Option (ℕ × ℕ × ℕ × ℕ)) (hidden : Bool) → (lines == 0 && bits == 0) ≡ hidden → columns_in lines mid ≡ Some (bits, behind) → (if hidden then Some (None, behind) else giving Some (leading (spanned lines bits) (start_in s)) behind) ≡ Some (o, rest) → are_writable s o ≡ true
+seen_by : (s : Option (ℕ × ℕ)) (lines bits : ℕ) (mid points_behind rest : List ℕ) (o : Option (ℕ × ℕ × ℕ × ℕ)) (hidden : Bool) → (lines == 0 && bits == 0) ≡ hidden → column_difference_in lines mid ≡ Some (bits, points_behind) → (if hidden then Some (None, points_behind) else giving Some (leading (spanned lines bits) (start_in s)) points_behind) ≡ Some (o, rest) → are_writable s o ≡ true
 unfolding are_writable
-seen_by s lines bits mid behind rest o true is read e =
-    let same : None ≡ o = ap (λ (p : Option (ℕ × ℕ × ℕ × ℕ) × List ℕ). p.0) (same_some {A = Option (ℕ × ℕ × ℕ × ℕ) × List ℕ} (None, behind) (o, rest) e) in
+seen_by s lines bits mid points_behind rest o true is read e =
+    let same : None ≡ o = ap (λ (p : Option (ℕ × ℕ × ℕ × ℕ) × List ℕ). p.0) (same_some {A = Option (ℕ × ℕ × ℕ × ℕ) × List ℕ} (None, points_behind) (o, rest) e) in
     subst (λ (x : Option (ℕ × ℕ × ℕ × ℕ)). are_writable s x ≡ true) same refl
-seen_by s lines bits mid behind rest o false is read e =
-    let h = giving_some {A = ℕ × ℕ × ℕ × ℕ} {B = Option (ℕ × ℕ × ℕ × ℕ)} Some (leading (spanned lines bits) (start_in s)) behind o rest e in
-    subst (λ (x : Option (ℕ × ℕ × ℕ × ℕ)). are_writable s x ≡ true) h.2 (visible_good s lines bits mid behind rest h.0 is read h.1)
+seen_by s lines bits mid points_behind rest o false is read e =
+    let h = giving_some {A = ℕ × ℕ × ℕ × ℕ} {B = Option (ℕ × ℕ × ℕ × ℕ)} Some (leading (spanned lines bits) (start_in s)) points_behind o rest e in
+    subst (λ (x : Option (ℕ × ℕ × ℕ × ℕ)). are_writable s x ≡ true) h.2 (visible_good s lines bits mid points_behind rest h.0 is read h.1)
 
 -- the lines of a point that is read can be written
 lines_good : (s : Option (ℕ × ℕ)) (bytes rest : List ℕ) (o : Option (ℕ × ℕ × ℕ × ℕ)) → lines_in s bytes ≡ Some (o, rest) → are_writable s o ≡ true
 unfolding lines_in seen_in
 lines_good s bytes rest o e =
-    let h = upon_some {A = ℕ} {B = Option (ℕ × ℕ × ℕ × ℕ)} number_in (λ lines. upon (columns_in lines) (seen_in s lines)) bytes o rest e in
-    let i = upon_some {A = ℕ} {B = Option (ℕ × ℕ × ℕ × ℕ)} (columns_in h.0) (seen_in s h.0) h.1 o rest h.3 in
+    let h = upon_some {A = ℕ} {B = Option (ℕ × ℕ × ℕ × ℕ)} number_in (λ lines. continued (column_difference_in lines) (seen_in s lines)) bytes o rest e in
+    let i = upon_some {A = ℕ} {B = Option (ℕ × ℕ × ℕ × ℕ)} (column_difference_in h.0) (seen_in s h.0) h.1 o rest h.3 in
     seen_by s h.0 i.0 h.1 i.1 rest o (h.0 == 0 && i.0 == 0) refl i.2 i.3
 
 -- a record that is read is of a point that can be written, or of a document that can be said
 abbrev pub IsGood : Base → Record → Type 0
 IsGood b (Document row) = (is_some b.offset ≡ true) × (is_row row ≡ true)
-IsGood b (Sequence p) = (p.document ≡ b.document) × (is_past b.offset p.offset ≡ true) × (are_writable b.start p.lines ≡ true)
+IsGood b (Sequence p) = (p.document ≡ b.document) × (is_later b.offset p.offset ≡ true) × (are_writable b.start p.lines ≡ true)
 
-past_by : (o : Option ℕ) (difference : ℕ) → (is_some o && difference == 0) ≡ false → offset_from o difference < 0x20000000 → is_past o (offset_from o difference) ≡ true
-unfolding is_past
+past_by : (o : Option ℕ) (difference : ℕ) → (is_some o && difference == 0) ≡ false → offset_from o difference < 0x20000000 → is_later o (offset_from o difference) ≡ true
+unfolding is_later
 past_by None difference some few = lt-ltb difference 0x20000000 few
 past_by (Some before) difference some few =
     let more : (difference ≡ 0 → ⊥) = eqb-false difference 0 some in
@@ -78,9 +79,9 @@ point_good b difference bytes rest r some e =
     let i = giving_some {A = Option (ℕ × ℕ × ℕ × ℕ)} {B = Record} make (lines_in b.start) bytes r rest h.1 in
     subst (IsGood b) i.2 (refl, past_by b.offset difference some (ltb-true offset 0x20000000 h.0), lines_good b.start bytes rest i.0 i.1)
 
-begun_good : (b : Base) (difference : ℕ) (bytes rest : List ℕ) (r : Record) (says : Bool) → (is_some b.offset && difference == 0) ≡ says → (if says then giving Document row_in bytes else point_in b (offset_from b.offset difference) bytes) ≡ Some (r, rest) → IsGood b r
+begun_good : (b : Base) (difference : ℕ) (bytes rest : List ℕ) (r : Record) (says : Bool) → (is_some b.offset && difference == 0) ≡ says → (if says then giving Document document_row_in bytes else point_in b (offset_from b.offset difference) bytes) ≡ Some (r, rest) → IsGood b r
 begun_good b difference bytes rest r true is e =
-    let h = giving_some {A = ℕ} {B = Record} Document row_in bytes r rest e in
+    let h = giving_some {A = ℕ} {B = Record} Document document_row_in bytes r rest e in
     subst (IsGood b) h.2 ((and_parts (is_some b.offset) (difference == 0) is).0, row_good bytes h.0 rest h.1)
 begun_good b difference bytes rest r false is e = point_good b difference bytes rest r is e
 
@@ -114,7 +115,7 @@ first_good : (b : Base) (document : ℕ) (p : Point) → document_holds b docume
 unfolding is_writable
 first_good b document p holds good =
     let h : document_holds b p.document ≡ true = rw good.0 holds in
-    and_from (document_holds b p.document) (is_past b.offset p.offset && are_writable b.start p.lines) h (and_from (is_past b.offset p.offset) (are_writable b.start p.lines) good.1 good.2)
+    and_from (document_holds b p.document) (is_later b.offset p.offset && are_writable b.start p.lines) h (and_from (is_later b.offset p.offset) (are_writable b.start p.lines) good.1 good.2)
 
 ok_behind : (n : ℕ) (front : List ℕ) (r : Result (List ℕ) ℕ) → is_ok r ≡ true → is_ok (preceded n front r) ≡ true
 ok_behind n front (Ok bytes) e = refl
@@ -177,7 +178,7 @@ unfolding records_of
 none_ok b = refl
 
 -- the document that is read at first is one that is said
-first_is : (document d : ℕ) (bytes rest : List ℕ) (nil : Bool) (p : Point) (points : List Point) → document == 0 ≡ nil → (if nil then row_in bytes else Some (document, bytes)) ≡ Some (d, rest) → p.document ≡ d → first_document document (p ∷ points) ≡ d
+first_is : (document d : ℕ) (bytes rest : List ℕ) (nil : Bool) (p : Point) (points : List Point) → document == 0 ≡ nil → (if nil then document_row_in bytes else Some (document, bytes)) ≡ Some (d, rest) → p.document ≡ d → first_document document (p ∷ points) ≡ d
 unfolding first_document
 first_is document d bytes rest true p points is read same =
     let row : is_row p.document ≡ true = rw same (row_good bytes d rest read) in

@@ -22,8 +22,8 @@ example_points =
     record { offset = 9; document = 2; lines = Some (11, 9, 11, 14) } ∷ []
 
 -- the blob is read so, and is what is written of these points
-abbrev pub ExampleReads : Type 0
-ExampleReads = points_in 0 example ≡ Some (method_points 0 example_points)
+abbrev pub BlobIsRead : Type 0
+BlobIsRead = points_in 0 example ≡ Some (method_points 0 example_points)
 
-abbrev pub ExampleIsWritten : Type 0
-ExampleIsWritten = blob_of 0 0 example_points ≡ Ok example
+abbrev pub BlobIsWritten : Type 0
+BlobIsWritten = blob_of 0 0 example_points ≡ Ok example

@@ -1,47 +1,19 @@
 -- The grammar of a sequence points blob (Portable PDB v1.0, Sequence Points Blob).
 use Rattle.std.specs.Prelude.{ℕ, zero, suc, ◌+◌, ◌-◌, Bool, not, ◌&&◌, List, [], ◌∷◌, length, drop, Option, Some, None, option_map, option_and_then, is_some, nat_lt, ◌==◌, if◌then◌else◌, ℤ}
 use Rattle.std.specs.Int.{w32, cast_unsigned}
-use Rattle.enc_base.specs.Numbers.{compressed, signed, is_within}
+use Rattle.enc_base.specs.Readers.{Reader, giving, both, number_in, signed_in}
 use Rattle.enc_seqpoints.specs.declared.point.Point.{Point}
 use Rattle.enc_seqpoints.specs.declared.base.Base.{Base}
 use Rattle.enc_seqpoints.specs.declared.base.Record.{Record}
 use Rattle.enc_seqpoints.specs.declared.base.Record.TheVariants.{Document, Sequence}
 
--- what reads something at the front of the bytes, and gives what is behind it too
-abbrev pub Reader : Type 0 → Type 0
-Reader A = List ℕ → Option (A × List ℕ)
-
--- what is read, put into another form
-abbrev pub giving : {A B : Type 0} → (A → B) → Reader A → Reader B
-giving {A} f r bytes = option_map (λ (p : A × List ℕ). (f p.0, p.1)) (r bytes)
-
 -- one thing, and behind it what depends on it
-abbrev pub upon : {A B : Type 0} → Reader A → (A → Reader B) → Reader B
-upon {A} r s bytes = option_and_then (λ (p : A × List ℕ). s p.0 p.1) (r bytes)
+abbrev pub continued : {A B : Type 0} → Reader A → (A → Reader B) → Reader B
+continued {A} r s bytes = option_and_then (λ (p : A × List ℕ). s p.0 p.1) (r bytes)
 
 -- what is read leads to another thing, where it leads to any
 abbrev pub leading : {A B : Type 0} → (A → Option B) → Reader A → Reader B
 leading {A} {B} f r bytes = option_and_then (λ (p : A × List ℕ). option_map (λ (y : B). (y, p.1)) (f p.0)) (r bytes)
-
--- one thing, and another behind it
-abbrev pub both : {A B : Type 0} → Reader A → Reader B → Reader (A × B)
-both {A} {B} r s = upon r (λ (x : A). giving (λ (y : B). (x, y)) s)
-
--- a compressed number, which is below 2^29 (ECMA-335 II.23.2)
-unfoldable pub number_in : Reader ℕ
-number_in bytes = option_and_then (λ (x : ℕ × ℕ). if nat_lt x.0 0x20000000 then Some (x.0, drop x.1 bytes) else None) (compressed bytes)
-
--- the 32 bits of a signed number
-abbrev pub bits_of : ℤ → ℕ
-bits_of z = cast_unsigned w32 z
-
--- the bits are of a number from -2^28 to 2^28 - 1
-abbrev pub is_small : ℕ → Bool
-is_small bits = is_within 0x10000000 bits && nat_lt bits 0x100000000
-
--- a compressed signed number, from -2^28 to 2^28 - 1, as its 32 bits (ECMA-335 II.23.2)
-unfoldable pub signed_in : Reader ℕ
-signed_in bytes = option_and_then (λ (x : ℤ × ℕ). if is_small (bits_of x.0) then Some (bits_of x.0, drop x.1 bytes) else None) (signed bytes)
 
 -- a number below 2^29, as offsets and lines are
 unfoldable pub below_limit : ℕ → Option ℕ
@@ -58,12 +30,12 @@ moved from bits =
 abbrev pub is_row : ℕ → Bool
 is_row n = nat_lt 0 n && nat_lt n 0x20000000
 
-unfoldable pub row_in : Reader ℕ
-row_in = leading (λ n. if is_row n then Some n else None) number_in
+unfoldable pub document_row_in : Reader ℕ
+document_row_in = leading (λ n. if is_row n then Some n else None) number_in
 
 -- the column difference of a point: unsigned where its line difference is 0, and signed else (Sequence Points Blob, ΔColumns)
-unfoldable pub columns_in : ℕ → Reader ℕ
-columns_in lines = if lines == 0 then number_in else signed_in
+unfoldable pub column_difference_in : ℕ → Reader ℕ
+column_difference_in lines = if lines == 0 then number_in else signed_in
 
 -- a line or column at a difference from that of the last point that isn't hidden
 unfoldable pub moved_in : ℕ → Reader ℕ
@@ -99,7 +71,7 @@ seen_in start lines columns bytes = if lines == 0 && columns == 0 then Some (Non
 
 -- the lines of a point, none of a hidden one
 unfoldable pub lines_in : Option (ℕ × ℕ) → Reader (Option (ℕ × ℕ × ℕ × ℕ))
-lines_in start = upon number_in (λ lines. upon (columns_in lines) (seen_in start lines))
+lines_in start = continued number_in (λ lines. continued (column_difference_in lines) (seen_in start lines))
 
 -- the offset to which a difference leads: the first is the offset itself, later ones count from the point before (δILOffset)
 abbrev pub offset_from : Option ℕ → ℕ → ℕ
@@ -116,11 +88,11 @@ point_in b offset bytes =
 -- what an offset difference begins: where it is 0 and a point stands before it, a document record, else a point
 unfoldable pub begun_in : Base → ℕ → Reader Record
 begun_in b difference bytes =
-    if is_some b.offset && difference == 0 then giving Document row_in bytes else point_in b (offset_from b.offset difference) bytes
+    if is_some b.offset && difference == 0 then giving Document document_row_in bytes else point_in b (offset_from b.offset difference) bytes
 
 -- a record
 unfoldable pub record_in : Base → Reader Record
-record_in b = upon number_in (begun_in b)
+record_in b = continued number_in (begun_in b)
 
 -- the start of the last point that isn't hidden
 abbrev pub start_after : Option (ℕ × ℕ) → Option (ℕ × ℕ × ℕ × ℕ) → Option (ℕ × ℕ)
@@ -150,7 +122,7 @@ opened document = record { offset = None; document = document; start = None }
 
 -- the document of the first point: that of the method's Document column, and where this is nil the one that stands here (InitialDocument)
 unfoldable pub document_in : ℕ → Reader ℕ
-document_in document bytes = if document == 0 then row_in bytes else Some (document, bytes)
+document_in document bytes = if document == 0 then document_row_in bytes else Some (document, bytes)
 
 -- the local signature row, and the document of the first point (LocalSignature, InitialDocument)
 unfoldable pub header_in : ℕ → Reader (ℕ × ℕ)

@@ -11,27 +11,27 @@ use Rattle.enc_seqpoints.specs.Grammar.{with_record}
 use Rattle.enc_seqpoints.specs.Spelling.{preceded}
 
 -- a refusal by the grammar says that nothing is read; one for want of memory says nothing
-abbrev pub Refused : {A : Type 0} → PointFault → Option A → Type 0
-Refused f o = f ≡ Grammar → o ≡ None
+abbrev pub PointsRefused : {A : Type 0} → PointFault → Option A → Type 0
+PointsRefused f o = f ≡ Grammar → o ≡ None
 
 -- all that is read
-abbrev pub Gives : {A : Type 0} → Result A PointFault → Option A → Type 0
-Gives (Ok x) o = o ≡ Some x
-Gives (Err f) o = Refused f o
+abbrev pub GivesAll : {A : Type 0} → Result A PointFault → Option A → Type 0
+GivesAll (Ok x) o = o ≡ Some x
+GivesAll (Err f) o = PointsRefused f o
 
 -- the same of a list
 abbrev pub GivesPoints : Result (Vec Point Global) PointFault → Option (List Point) → Type 0
 GivesPoints (Ok v) o = o ≡ Some v.items
-GivesPoints (Err f) o = Refused f o
+GivesPoints (Err f) o = PointsRefused f o
 
 -- what is read is put behind these
-abbrev pub behind : List Point → Option (List Point) → Option (List Point)
-behind points o = option_map (λ (more : List Point). points ++ more) o
+abbrev pub points_behind : List Point → Option (List Point) → Option (List Point)
+points_behind points o = option_map (λ (more : List Point). points ++ more) o
 
 -- the points of a record are put behind these
-abbrev pub Adds : Result (Vec Point Global) PointFault → List Point → Record → Type 0
-Adds (Ok v) points r = (more : List Point) → points ++ with_record r more ≡ v.items ++ more
-Adds (Err f) points r = f ≡ Memory
+abbrev pub AddsRecord : Result (Vec Point Global) PointFault → List Point → Record → Type 0
+AddsRecord (Ok v) points r = (more : List Point) → points ++ with_record r more ≡ v.items ++ more
+AddsRecord (Err f) points r = f ≡ Memory
 
 -- the bytes that are written, or the first point that can't be; for want of memory nothing is said
 abbrev pub Writes : Result (Vec ℕ Global) WriteFault → Result (List ℕ) ℕ → Type 0

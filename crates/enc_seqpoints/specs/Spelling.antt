@@ -7,11 +7,11 @@ use Rattle.enc_seqpoints.specs.declared.base.Record.TheVariants.{Sequence}
 use Rattle.enc_seqpoints.specs.Grammar.{is_row, are_lines, after, opened}
 
 -- a compressed number, and a signed one by its 32 bits (ECMA-335 II.23.2)
-unfoldable pub number_bytes : ℕ → List ℕ
-number_bytes n = spelled n
+unfoldable pub spelled_number : ℕ → List ℕ
+spelled_number n = spelled n
 
-unfoldable pub signed_bytes : ℕ → List ℕ
-signed_bytes bits = spelled_signed bits
+unfoldable pub spelled_difference : ℕ → List ℕ
+spelled_difference bits = spelled_signed bits
 
 -- the 32 bits of the difference that leads from one number to another
 unfoldable pub between : ℕ → ℕ → ℕ
@@ -22,9 +22,9 @@ unfoldable pub document_holds : Base → ℕ → Bool
 document_holds b document = document == b.document || is_some b.offset && is_row document
 
 -- the offset is below 2^29 and past that of the point before
-unfoldable pub is_past : Option ℕ → ℕ → Bool
-is_past None offset = nat_lt offset 0x20000000
-is_past (Some before) offset = nat_lt before offset && nat_lt offset 0x20000000
+unfoldable pub is_later : Option ℕ → ℕ → Bool
+is_later None offset = nat_lt offset 0x20000000
+is_later (Some before) offset = nat_lt before offset && nat_lt offset 0x20000000
 
 -- the end is behind the start: a point that ends where it starts would read as hidden
 unfoldable pub ends_behind : ℕ × ℕ × ℕ × ℕ → Bool
@@ -46,30 +46,30 @@ are_writable start (Some l) = are_lines l && (ends_behind l && is_near start l)
 
 -- the point can be spelled behind what stands before it
 unfoldable pub is_writable : Base → Point → Bool
-is_writable b p = document_holds b p.document && (is_past b.offset p.offset && are_writable b.start p.lines)
+is_writable b p = document_holds b p.document && (is_later b.offset p.offset && are_writable b.start p.lines)
 
 -- a document record, where another document holds (document-record)
 unfoldable pub document_bytes : Base → ℕ → List ℕ
-document_bytes b document = if document == b.document then [] else number_bytes 0 ++ number_bytes document
+document_bytes b document = if document == b.document then [] else spelled_number 0 ++ spelled_number document
 
 -- the offset, by its difference from that of the point before (δILOffset)
 unfoldable pub offset_bytes : Option ℕ → ℕ → List ℕ
-offset_bytes None offset = number_bytes offset
-offset_bytes (Some before) offset = number_bytes (offset - before)
+offset_bytes None offset = spelled_number offset
+offset_bytes (Some before) offset = spelled_number (offset - before)
 
 -- the column difference: unsigned where start and end are on one line, and signed else (ΔColumns)
 unfoldable pub columns_bytes : ℕ × ℕ × ℕ × ℕ → List ℕ
-columns_bytes l = if l.0 == l.2 then number_bytes (l.3 - l.1) else signed_bytes (between l.1 l.3)
+columns_bytes l = if l.0 == l.2 then spelled_number (l.3 - l.1) else spelled_difference (between l.1 l.3)
 
 -- the start: as it is at first, and later as differences from the last one (δStartLine, δStartColumn)
 unfoldable pub start_bytes : Option (ℕ × ℕ) → ℕ × ℕ × ℕ × ℕ → List ℕ
-start_bytes None l = number_bytes l.0 ++ number_bytes l.1
-start_bytes (Some s) l = signed_bytes (between s.0 l.0) ++ signed_bytes (between s.1 l.1)
+start_bytes None l = spelled_number l.0 ++ spelled_number l.1
+start_bytes (Some s) l = spelled_difference (between s.0 l.0) ++ spelled_difference (between s.1 l.1)
 
 -- line difference, column difference and start; of a hidden point both differences are 0 and nothing follows
 unfoldable pub lines_bytes : Option (ℕ × ℕ) → Option (ℕ × ℕ × ℕ × ℕ) → List ℕ
-lines_bytes start None = number_bytes 0 ++ number_bytes 0
-lines_bytes start (Some l) = number_bytes (l.2 - l.0) ++ (columns_bytes l ++ start_bytes start l)
+lines_bytes start None = spelled_number 0 ++ spelled_number 0
+lines_bytes start (Some l) = spelled_number (l.2 - l.0) ++ (columns_bytes l ++ start_bytes start l)
 
 -- the records of a point
 unfoldable pub point_bytes : Base → Point → List ℕ
@@ -96,7 +96,7 @@ first_document document points = if document == 0 then said_first points else do
 
 -- the local signature row, and the document that holds at first where the Document column is nil (LocalSignature, InitialDocument)
 unfoldable pub header_bytes : ℕ → ℕ → ℕ → List ℕ
-header_bytes locals document first = number_bytes locals ++ (if document == 0 then number_bytes first else [])
+header_bytes locals document first = spelled_number locals ++ (if document == 0 then spelled_number first else [])
 
 -- the blob of a method with this local signature row, this row in its Document column, 0 for nil, and these points
 unfoldable pub blob_of : ℕ → ℕ → List Point → Result (List ℕ) ℕ

@@ -1,6 +1,6 @@
 //! What is known of sequence points, each as the contract of a function that does nothing.
-ghost use Rattle.enc_seqpoints.specs.Example.{ExampleReads, ExampleIsWritten};
-ghost use Rattle.enc_seqpoints.specs.Laws.{WrittenReadsBack, ReadIsWritable, FirstIsNamed};
+ghost use Rattle.enc_seqpoints.specs.Example.{BlobIsRead, BlobIsWritten};
+ghost use Rattle.enc_seqpoints.specs.Laws.{PointsReadBack, ReadIsWritable, FirstIsNamed};
 
 use enc_base::written_laws;
 
@@ -8,7 +8,7 @@ use enc_base::written_laws;
 /// can be written. Where a point is named as not writable, those before it can be written, and no
 /// blob is read as those and it.
 pub fn point_laws()
-    ensures back { WrittenReadsBack }
+    ensures back { PointsReadBack }
     ensures read { ReadIsWritable }
     ensures named { FirstIsNamed }
 {
@@ -17,6 +17,6 @@ pub fn point_laws()
 
 /// A blob of three points in two documents, read by hand, is read so and written so.
 pub fn example_law()
-    ensures reads { ExampleReads }
-    ensures written { ExampleIsWritten }
+    ensures reads { BlobIsRead }
+    ensures written { BlobIsWritten }
 {}

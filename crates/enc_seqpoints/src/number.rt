@@ -1,30 +1,9 @@
 //! The numbers of a sequence points blob.
 ghost use Rattle.std.specs.Prelude.{◌≡◌, ℕ, ◌<◌, ◌^◌, option_map, IfSome};
-ghost use Rattle.enc_seqpoints.specs.Grammar.{number_in, signed_in, below_limit, moved, row_in, columns_in, moved_in};
+ghost use Rattle.enc_seqpoints.specs.Grammar.{below_limit, moved, document_row_in, column_difference_in, moved_in};
+ghost use Rattle.enc_base.specs.Readers.{number_in, signed_in};
 
-use enc_base::{read_signed, read_unsigned};
-
-/// The compressed number at the front and what is behind it.
-#[tactic(auto, unfolding(crate::specs::Grammar::number_in))]
-pub(crate) fn number(bytes: &[u8]) -> Option<(u32, &[u8])>
-    ensures { option_map (λ x. (x.0, x.1.now)) result ≡ number_in bytes.now }
-{
-    let (value, end) = read_unsigned(bytes, 0)?;
-    Some((value, bytes.get(end..)?))
-}
-
-/// The 32 bits of the compressed signed number at the front and what is behind it.
-#[tactic(auto, unfolding(crate::specs::Grammar::signed_in))]
-pub(crate) fn signed(bytes: &[u8]) -> Option<(u32, &[u8])>
-    ensures { option_map (λ x. (x.0, x.1.now)) result ≡ signed_in bytes.now }
-{
-    let (value, end) = read_signed(bytes, 0)?;
-    let bits = value.cast_unsigned();
-    if bits < 0x1000_0000 || 0xf000_0000 <= bits {
-        return Some((bits, bytes.get(end..)?));
-    }
-    None
-}
+use enc_base::{signed_front, unsigned_front};
 
 /// The number, where an offset or a line may be so large.
 #[tactic(auto, unfolding(crate::specs::Grammar::below_limit))]
@@ -53,11 +32,11 @@ pub(crate) fn moved(from: u32, bits: u32) -> Option<u32>
 }
 
 /// The document row at the front and what is behind it.
-#[tactic(auto, unfolding(crate::specs::Grammar::row_in))]
+#[tactic(auto, unfolding(crate::specs::Grammar::document_row_in))]
 pub(crate) fn row(bytes: &[u8]) -> Option<(u32, &[u8])>
-    ensures { option_map (λ x. (x.0, x.1.now)) result ≡ row_in bytes.now }
+    ensures { option_map (λ x. (x.0, x.1.now)) result ≡ document_row_in bytes.now }
 {
-    let (row, rest) = number(bytes)?;
+    let (row, rest) = unsigned_front(bytes)?;
     if 0 < row && row < 0x2000_0000 {
         return Some((row, rest));
     }
@@ -65,14 +44,14 @@ pub(crate) fn row(bytes: &[u8]) -> Option<(u32, &[u8])>
 }
 
 /// The column difference at the front, as its 32 bits, and what is behind it.
-#[tactic(auto, unfolding(crate::specs::Grammar::columns_in))]
+#[tactic(auto, unfolding(crate::specs::Grammar::column_difference_in))]
 pub(crate) fn columns(lines: u32, bytes: &[u8]) -> Option<(u32, &[u8])>
-    ensures { option_map (λ x. (x.0, x.1.now)) result ≡ columns_in lines bytes.now }
+    ensures { option_map (λ x. (x.0, x.1.now)) result ≡ column_difference_in lines bytes.now }
 {
     if lines == 0 {
-        return number(bytes);
+        return unsigned_front(bytes);
     }
-    signed(bytes)
+    signed_front(bytes)
 }
 
 /// The line or column at a difference from another, and what is behind it.
@@ -80,7 +59,7 @@ pub(crate) fn columns(lines: u32, bytes: &[u8]) -> Option<(u32, &[u8])>
 pub(crate) fn moved_by(from: u32, bytes: &[u8]) -> Option<(u32, &[u8])>
     ensures { option_map (λ x. (x.0, x.1.now)) result ≡ moved_in from bytes.now }
 {
-    let (bits, rest) = signed(bytes)?;
+    let (bits, rest) = signed_front(bytes)?;
     let to = moved(from, bits)?;
     Some((to, rest))
 }

@@ -1,12 +1,13 @@
 //! Reading a sequence points blob.
 ghost use Rattle.std.specs.Prelude.{◌≡◌, ℕ, ◌+◌, ◌-◌, ◌∷◌, length, option_map};
 ghost use Rattle.enc_seqpoints.specs.Grammar.{is_line, are_lines, start_in, spanned, seen_in, lines_in, offset_from, point_in, begun_in, record_in, records_in, document_in, header_in, body_in, points_in, opened};
-ghost use Rattle.enc_seqpoints.specs.Reads.{Gives, GivesPoints, Adds};
+ghost use Rattle.enc_seqpoints.specs.Reads.{GivesAll, GivesPoints, AddsRecord};
 
 use crate::base::{Base, Record};
-use crate::number::{below_limit, columns, moved, moved_by, number, row};
+use crate::number::{below_limit, columns, moved, moved_by, row};
 use crate::point::{Point, PointFault};
 use crate::points::Points;
+use enc_base::unsigned_front;
 use std::alloc::Global;
 
 /// The start line and column at the front and what is behind them.
@@ -15,8 +16,8 @@ fn start(from: Option<(u32, u32)>, bytes: &[u8]) -> Option<((u32, u32), &[u8])>
     ensures { option_map (λ x. ((x.0.0, x.0.1), x.1.now)) result ≡ start_in from bytes.now }
 {
     let Some((from_line, from_column)) = from else {
-        let (line, rest) = number(bytes)?;
-        let (column, rest) = number(rest)?;
+        let (line, rest) = unsigned_front(bytes)?;
+        let (column, rest) = unsigned_front(rest)?;
         return Some(((line, column), rest));
     };
     let (line, rest) = moved_by(from_line, bytes)?;
@@ -78,7 +79,7 @@ fn seen(
 fn lines(from: Option<(u32, u32)>, bytes: &[u8]) -> Option<(Option<(u32, u32, u32, u32)>, &[u8])>
     ensures { option_map (λ x. (x.0, x.1.now)) result ≡ lines_in from bytes.now }
 {
-    let (lines, rest) = number(bytes)?;
+    let (lines, rest) = unsigned_front(bytes)?;
     let (columns, rest) = columns(lines, rest)?;
     seen(from, lines, columns, rest)
 }
@@ -120,13 +121,13 @@ fn begun(base: Base, difference: u32, bytes: &[u8]) -> Option<(Record, &[u8])>
 fn record(base: Base, bytes: &[u8]) -> Option<(Record, &[u8])>
     ensures { option_map (λ x. (x.0, x.1.now)) result ≡ record_in base bytes.now }
 {
-    let (difference, rest) = number(bytes)?;
+    let (difference, rest) = unsigned_front(bytes)?;
     begun(base, difference, rest)
 }
 
 /// The points of a record put behind these.
 fn with_record(mut points: Vec<Point>, record: Record) -> Result<Vec<Point>, PointFault>
-    ensures { Adds result points.items «record» }
+    ensures { AddsRecord result points.items «record» }
 {
     match record {
         Record::Document(_) => Ok(points),
@@ -177,7 +178,7 @@ fn document_behind(document: u32, bytes: &[u8]) -> Option<(u32, &[u8])>
 fn header(document: u32, bytes: &[u8]) -> Option<((u32, u32), &[u8])>
     ensures { option_map (λ x. ((x.0.0, x.0.1), x.1.now)) result ≡ header_in document bytes.now }
 {
-    let (locals, rest) = number(bytes)?;
+    let (locals, rest) = unsigned_front(bytes)?;
     let (document, rest) = document_behind(document, rest)?;
     Some(((locals, document), rest))
 }
@@ -185,7 +186,7 @@ fn header(document: u32, bytes: &[u8]) -> Option<((u32, u32), &[u8])>
 /// What a blob with a header says.
 #[tactic(auto, unfolding(crate::specs::Grammar::body_in))]
 fn body(alloc: Global, document: u32, bytes: &[u8]) -> Result<Points, PointFault>
-    ensures { Gives result (body_in document bytes.now) }
+    ensures { GivesAll result (body_in document bytes.now) }
 {
     let Some(((locals, document), rest)) = header(document, bytes) else {
         return Err(PointFault::Grammar);
@@ -202,7 +203,7 @@ fn body(alloc: Global, document: u32, bytes: &[u8]) -> Result<Points, PointFault
 /// none.
 #[tactic(auto, unfolding(crate::specs::Grammar::points_in))]
 pub fn read_points(alloc: Global, blob: &[u8], document: u32) -> Result<Points, PointFault>
-    ensures { Gives result (points_in document blob.now) }
+    ensures { GivesAll result (points_in document blob.now) }
 {
     if blob.is_empty() {
         return Ok(Points {

@@ -1,7 +1,7 @@
 //! Writing a sequence points blob in its shortest spelling.
 ghost use Rattle.std.specs.Prelude.{◌≡◌, ◌<◌, ◌^◌, ◌++◌, IfOk, IsTrue, is_some};
 ghost use Rattle.enc_seqpoints.specs.Grammar.{is_row, are_lines, opened};
-ghost use Rattle.enc_seqpoints.specs.Spelling.{number_bytes, signed_bytes, between, document_holds, is_past, ends_behind, is_close, is_near, are_writable, is_writable, document_bytes, offset_bytes, columns_bytes, start_bytes, lines_bytes, point_bytes, records_of, first_document, header_bytes, blob_of};
+ghost use Rattle.enc_seqpoints.specs.Spelling.{spelled_number, spelled_difference, between, document_holds, is_later, ends_behind, is_close, is_near, are_writable, is_writable, document_bytes, offset_bytes, columns_bytes, start_bytes, lines_bytes, point_bytes, records_of, first_document, header_bytes, blob_of};
 ghost use Rattle.enc_seqpoints.specs.Reads.{Writes, WritesBehind};
 
 use crate::base::{Base, Record};
@@ -11,10 +11,10 @@ use enc_base::{push_signed, push_unsigned};
 use std::alloc::{AllocError, Global};
 
 /// Appends a number.
-#[tactic(auto, unfolding(crate::specs::Spelling::number_bytes))]
+#[tactic(auto, unfolding(crate::specs::Spelling::spelled_number))]
 fn write_number(value: u32, out: &mut Vec<u8>) -> Result<(), AllocError>
     requires { value < 2 ^ 29 }
-    ensures { IfOk result (λ _. out.new.items ≡ out.old.items ++ number_bytes value) }
+    ensures { IfOk result (λ _. out.new.items ≡ out.old.items ++ spelled_number value) }
 {
     push_unsigned(value, out)
 }
@@ -31,10 +31,10 @@ fn between(from: u32, to: u32) -> u32
 }
 
 /// Appends the difference that leads from one number to another.
-#[tactic(auto, unfolding(crate::specs::Spelling::signed_bytes, crate::specs::Spelling::between))]
+#[tactic(auto, unfolding(crate::specs::Spelling::spelled_difference, crate::specs::Spelling::between))]
 fn write_difference(from: u32, to: u32, out: &mut Vec<u8>) -> Result<(), AllocError>
     requires { IsTrue (is_close from to) }
-    ensures { IfOk result (λ _. out.new.items ≡ out.old.items ++ signed_bytes (between from to)) }
+    ensures { IfOk result (λ _. out.new.items ≡ out.old.items ++ spelled_difference (between from to)) }
 {
     push_signed(between(from, to).cast_signed(), out)
 }
@@ -63,9 +63,9 @@ fn document_holds(base: Base, document: u32) -> bool
 }
 
 /// Whether the offset is below 2^29 and past that of the point before.
-#[tactic(auto, unfolding(crate::specs::Spelling::is_past))]
-fn is_past(before: Option<u32>, offset: u32) -> bool
-    ensures { result ≡ is_past before offset }
+#[tactic(auto, unfolding(crate::specs::Spelling::is_later))]
+fn is_later(before: Option<u32>, offset: u32) -> bool
+    ensures { result ≡ is_later before offset }
 {
     match before {
         None => offset < 0x2000_0000,
@@ -113,7 +113,7 @@ fn is_writable(base: Base, point: Point) -> bool
     ensures { result ≡ is_writable base point }
 {
     document_holds(base, point.document)
-        && is_past(base.offset, point.offset)
+        && is_later(base.offset, point.offset)
         && are_writable(base.start, point.lines)
 }
 
@@ -131,9 +131,9 @@ fn write_document(base: Base, document: u32, out: &mut Vec<u8>) -> Result<(), Al
 }
 
 /// Appends the offset, by its difference from that of the point before.
-#[tactic(auto, unfolding(crate::specs::Spelling::offset_bytes, crate::specs::Spelling::is_past))]
+#[tactic(auto, unfolding(crate::specs::Spelling::offset_bytes, crate::specs::Spelling::is_later))]
 fn write_offset(before: Option<u32>, offset: u32, out: &mut Vec<u8>) -> Result<(), AllocError>
-    requires { IsTrue (is_past before offset) }
+    requires { IsTrue (is_later before offset) }
     ensures { IfOk result (λ _. out.new.items ≡ out.old.items ++ offset_bytes before offset) }
 {
     match before {

@@ -12,7 +12,8 @@ use Rattle.enc_sigs.specs.declared.form.Form.TheVariants as form
 use Rattle.enc_sigs.specs.declared.form.Numeral.{Numeral}
 use Rattle.enc_sigs.specs.declared.form.Numeral.TheVariants.{Size, Bound}
 use Rattle.enc_sigs.specs.Tree.{Tree, SigTree}
-use Rattle.enc_sigs.specs.Grammar.{Reader, giving, both, upon, many, more_in, list_in, tree, numbered_in, numeral_in, numerals_in, number_in, byte_in, wrapped_in, named_in, modified_in, array_in, instance_in, pointer_in, method_in, calling_in, parts_in, params, marked_in, accessed_in, begins, token_in, is_coded, form_of, formed_in, elem_in, type_in, front_in, all_of, unless_more, sig_in}
+use Rattle.enc_sigs.specs.Grammar.{upon, many, more_in, list_in, tree, numbered_in, numeral_in, numerals_in, byte_in, wrapped_in, named_in, modified_in, array_in, instance_in, pointer_in, method_in, calling_in, parts_in, params, marked_in, accessed_in, begins, token_in, is_coded, form_of, formed_in, elem_in, type_in, front_in, all_of, unless_more, sig_in}
+use Rattle.enc_base.specs.Readers.{Reader, giving, both, number_in}
 use Rattle.enc_sigs.specs.Agree.{sigs_agree, tokens_agree, forests_agree, trees_agree, sig_trees_agree, if_both}
 use Rattle.enc_sigs.specs.Walk.{Walk, paired, alike_alone, onward, upon_alike, many_walk, counted_walk, numerals_walk, array_walk, modified_walk, instance_walk, marked_walk, params_walk, parts_walk, calling_walk, method_walk, accessed_walk, formed_walk, elem_walk, type_walk, front_walk, both_end, token_walk}
 use Rattle.enc_sigs.proofs.Many.{many_length, params_length}

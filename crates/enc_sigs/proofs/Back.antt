@@ -7,7 +7,8 @@ use Rattle.std.specs.Prelude.{◌&&◌, ◌==◌, nat_lt, option_map, option_and
 use Rattle.std.specs.Int.{w32, cast_signed}
 use Rattle.enc_base.specs.Numbers.{compressed, signed, spelled, spelled_signed, is_within, WrittenIsRead, SignedWrittenIsRead}
 use Rattle.enc_base.specs.declared.token.Token.{Token}
-use Rattle.enc_sigs.specs.Grammar.{Reader, giving, both, upon, many, list_in, number_in, signed_in, byte_in, token_in, table_of, token_named, is_coded, is_small, bits_of, NamesTables}
+use Rattle.enc_sigs.specs.Grammar.{upon, many, list_in, byte_in, token_in, table_of, token_named, is_coded, NamesTables}
+use Rattle.enc_base.specs.Readers.{Reader, giving, both, number_in, signed_in, is_small, bits_of}
 use Rattle.enc_sigs.specs.Spelling.{number_bytes, signed_bytes, token_bytes, token_number}
 use Rattle.enc_sigs.proofs.Many.{many_length, number_less}
 use Rattle.enc_sigs.proofs.Agreed.{upon_known}

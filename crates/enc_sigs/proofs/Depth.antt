@@ -11,7 +11,8 @@ use Rattle.enc_sigs.specs.declared.form.Form.TheVariants as form
 use Rattle.enc_sigs.specs.declared.form.Numeral.{Numeral}
 use Rattle.enc_sigs.specs.declared.form.Numeral.TheVariants.{Size, Bound}
 use Rattle.enc_sigs.specs.Tree.{Tree, SigTree, forest_of}
-use Rattle.enc_sigs.specs.Grammar.{Reader, giving, both, upon, many, more_in, list_in, tree, numbered_in, numeral_in, numerals_in, number_in, byte_in, wrapped_in, named_in, modified_in, array_in, instance_in, pointer_in, method_in, calling_in, parts_in, params, marked_in, accessed_in, begins, token_in, form_of, formed_in, elem_in, type_in, front_in, all_of, unless_more, sig_in}
+use Rattle.enc_sigs.specs.Grammar.{upon, many, more_in, list_in, tree, numbered_in, numeral_in, numerals_in, byte_in, wrapped_in, named_in, modified_in, array_in, instance_in, pointer_in, method_in, calling_in, parts_in, params, marked_in, accessed_in, begins, token_in, form_of, formed_in, elem_in, type_in, front_in, all_of, unless_more, sig_in}
+use Rattle.enc_base.specs.Readers.{Reader, giving, both, number_in}
 use Rattle.enc_sigs.specs.Laws.{fits_below, fits_depth}
 use Rattle.enc_sigs.proofs.Agreed.{map_known, upon_known, both_known, formed_element}
 

@@ -8,7 +8,8 @@ use Rattle.enc_sigs.specs.declared.kind.SigKind.TheVariants.{Field, Locals}
 use Rattle.enc_sigs.specs.declared.form.Form.{Form}
 use Rattle.enc_sigs.specs.declared.form.Form.TheVariants as form
 use Rattle.enc_sigs.specs.Tree.{Tree, SigTree}
-use Rattle.enc_sigs.specs.Grammar.{Reader, both, list_in, tree, number_in, byte_in, is_coded, token_named, token_in, named_in, form_of, formed_in, elem_in, type_in, front_in, unless_more, all_of, sig_in}
+use Rattle.enc_sigs.specs.Grammar.{list_in, tree, byte_in, is_coded, token_named, token_in, named_in, form_of, formed_in, elem_in, type_in, front_in, unless_more, all_of, sig_in}
+use Rattle.enc_base.specs.Readers.{Reader, both, number_in}
 use Rattle.enc_sigs.proofs.Agreed.{formed_element}
 
 -- a token's number is spelled at the front

@@ -4,7 +4,8 @@ use Rattle.std.proofs.lemmas.Bool.{eqb-true, eq-eqb}
 use Rattle.std.specs.Prelude.{◌&&◌, ◌==◌, option_map, option_and_then, if◌then◌else◌}
 use Rattle.enc_base.specs.declared.token.Token.{Token}
 use Rattle.enc_sigs.specs.Tree.{Tree, forest_of}
-use Rattle.enc_sigs.specs.Grammar.{Reader, giving, both, upon, many, token_in, is_coded}
+use Rattle.enc_sigs.specs.Grammar.{upon, many, token_in, is_coded}
+use Rattle.enc_base.specs.Readers.{Reader, giving, both}
 use Rattle.enc_sigs.specs.Agree.{tokens_agree, forests_agree, trees_agree}
 use Rattle.enc_sigs.specs.Walk.{Walk, paired, both_numbers, alike, alike_alone, onward, upon_alike, many_walk, token_walk}
 

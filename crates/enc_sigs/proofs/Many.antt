@@ -7,7 +7,8 @@ use Rattle.enc_sigs.specs.declared.kind.SigFault.{SigFault}
 use borrow.Author.Tests.{ltb-true}
 use Rattle.enc_base.specs.Numbers.{compressed}
 use Rattle.enc_sigs.specs.Tree.{Tree}
-use Rattle.enc_sigs.specs.Grammar.{Reader, many, more_in, params, marked_in, begins, wrapped_in, parts_in, number_in, elem_in}
+use Rattle.enc_sigs.specs.Grammar.{many, more_in, params, marked_in, begins, wrapped_in, parts_in, elem_in}
+use Rattle.enc_base.specs.Readers.{Reader, number_in}
 use Rattle.enc_sigs.specs.Reads.{behind, AreRead}
 
 -- behind nothing is what is read

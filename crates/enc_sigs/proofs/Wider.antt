@@ -9,7 +9,8 @@ use Rattle.enc_sigs.specs.declared.form.Form.TheVariants as form
 use Rattle.enc_sigs.specs.declared.form.Numeral.TheVariants.{Size, Bound}
 use Rattle.enc_sigs.specs.Tree.{Tree, SigTree}
 use Rattle.enc_base.specs.Token.{nil}
-use Rattle.enc_sigs.specs.Grammar.{Reader, giving, both, upon, many, list_in, number_in, byte_in, token_in, token_named, tree, form_of, wrapped_in, named_in, modified_in, numbered_in, numerals_in, array_in, instance_in, begins, more_in, marked_in, params, calling_in, parts_in, method_in, pointer_in, formed_in, elem_in, type_in, accessed_in, front_in, all_of, sig_in}
+use Rattle.enc_sigs.specs.Grammar.{upon, many, list_in, byte_in, token_in, token_named, tree, form_of, wrapped_in, named_in, modified_in, numbered_in, numerals_in, array_in, instance_in, begins, more_in, marked_in, params, calling_in, parts_in, method_in, pointer_in, formed_in, elem_in, type_in, accessed_in, front_in, all_of, sig_in}
+use Rattle.enc_base.specs.Readers.{Reader, giving, both, number_in}
 
 -- what the first reads the second reads too
 abbrev pub Keeps : {A : Type 0} → Reader A → Reader A → Type 0

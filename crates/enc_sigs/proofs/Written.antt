@@ -12,7 +12,8 @@ use Rattle.enc_sigs.specs.declared.form.Form.TheVariants as form
 use Rattle.enc_sigs.specs.declared.form.Numeral.{Numeral}
 use Rattle.enc_sigs.specs.declared.form.Numeral.TheVariants.{Size, Bound}
 use Rattle.enc_sigs.specs.Tree.{Tree, SigTree, trees, forest_of, trees_of}
-use Rattle.enc_sigs.specs.Grammar.{Reader, giving, both, upon, given, many, more_in, list_in, tree, numbered_in, numeral_in, numerals_in, number_in, byte_in, wrapped_in, named_in, modified_in, array_in, instance_in, pointer_in, method_in, calling_in, generics_in, is_calling, parts_in, params, marked_in, accessed_in, begins, token_in, form_of, formed_in, elem_in, type_in, front_in, all_of, unless_more, sig_in, NamesTables}
+use Rattle.enc_sigs.specs.Grammar.{upon, given, many, more_in, list_in, tree, numbered_in, numeral_in, numerals_in, byte_in, wrapped_in, named_in, modified_in, array_in, instance_in, pointer_in, method_in, calling_in, generics_in, is_calling, parts_in, params, marked_in, accessed_in, begins, token_in, form_of, formed_in, elem_in, type_in, front_in, all_of, unless_more, sig_in, NamesTables}
+use Rattle.enc_base.specs.Readers.{Reader, giving, both, number_in}
 use Rattle.enc_sigs.specs.Spelling.{number_bytes, token_bytes, numeral_bytes, each_numeral, numerals_bytes, joined, counted_bytes, generics_bytes, parts_bytes, array_bytes, pointer_bytes, formed_bytes, spellings, tree_bytes, front_bytes, sig_bytes}
 use Rattle.enc_sigs.proofs.Spelled.{length_spellings}
 use Rattle.enc_sigs.proofs.Many.{many_length, params_length}

@@ -2,6 +2,7 @@
 use Rattle.std.specs.Prelude.{◌≡◌, ℕ, zero, suc, ◌/◌, ◌%◌, Bool, true, false, not, ◌&&◌, ◌||◌, List, [], ◌∷◌, drop, slice_index, Option, Some, None, option_map, option_and_then, nat_lt, nat_le, ◌==◌, if◌then◌else◌, ℤ}
 use Rattle.std.specs.Int.{w32, cast_unsigned}
 use Rattle.enc_base.specs.Numbers.{compressed, signed, is_within, has_flag}
+use Rattle.enc_base.specs.Readers.{Reader, giving, both, number_in, signed_in}
 use Rattle.enc_base.specs.Token.{nil}
 use Rattle.enc_base.specs.declared.token.Token.{Token}
 use Rattle.enc_base.specs.declared.counts.Counts.{Counts}
@@ -13,18 +14,6 @@ use Rattle.enc_sigs.specs.declared.form.Form.TheVariants as form
 use Rattle.enc_sigs.specs.declared.form.Numeral.{Numeral}
 use Rattle.enc_sigs.specs.declared.form.Numeral.TheVariants.{Size, Bound}
 use Rattle.enc_sigs.specs.Tree.{Tree, SigTree, forest_of}
-
--- what reads something at the front of the bytes, and gives what is behind it too
-abbrev pub Reader : Type 0 → Type 0
-Reader A = List ℕ → Option (A × List ℕ)
-
--- what is read, put into another form
-abbrev pub giving : {A B : Type 0} → (A → B) → Reader A → Reader B
-giving {A} f r bytes = option_map (λ (p : A × List ℕ). (f p.0, p.1)) (r bytes)
-
--- one thing, and another behind it
-abbrev pub both : {A B : Type 0} → Reader A → Reader B → Reader (A × B)
-both {A} {B} r s bytes = option_and_then (λ (p : A × List ℕ). option_map (λ (q : B × List ℕ). ((p.0, q.0), q.1)) (s p.1)) (r bytes)
 
 -- a number, and behind it what depends on it
 abbrev pub upon : {B : Type 0} → Reader ℕ → (ℕ → Reader B) → Reader (ℕ × B)
@@ -38,22 +27,6 @@ given n bytes = Some (n, bytes)
 unfoldable pub byte_in : (ℕ → Bool) → Reader ℕ
 byte_in test [] = None
 byte_in test (b ∷ rest) = if test b then Some (b, rest) else None
-
--- a compressed number (II.23.2)
-unfoldable pub number_in : Reader ℕ
-number_in bytes = option_and_then (λ (x : ℕ × ℕ). if nat_lt x.0 0x20000000 then Some (x.0, drop x.1 bytes) else None) (compressed bytes)
-
--- the 32 bits of a signed number
-abbrev pub bits_of : ℤ → ℕ
-bits_of z = cast_unsigned w32 z
-
--- the bits are of a number from -2^28 to 2^28 - 1
-abbrev pub is_small : ℕ → Bool
-is_small bits = is_within 0x10000000 bits && nat_lt bits 0x100000000
-
--- a compressed signed number, from -2^28 to 2^28 - 1, as its 32 bits (II.23.2)
-unfoldable pub signed_in : Reader ℕ
-signed_in bytes = option_and_then (λ (x : ℤ × ℕ). if is_small (bits_of x.0) then Some (bits_of x.0, drop x.1 bytes) else None) (signed bytes)
 
 -- the table that the two low bits of a token's number name: TypeDef, TypeRef, TypeSpec (II.23.2.8)
 abbrev pub table_of : ℕ → ℕ

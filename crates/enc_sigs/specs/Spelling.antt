@@ -10,7 +10,8 @@ use Rattle.enc_sigs.specs.declared.form.Form.TheVariants as form
 use Rattle.enc_sigs.specs.declared.form.Numeral.{Numeral}
 use Rattle.enc_sigs.specs.declared.form.Numeral.TheVariants.{Size, Bound}
 use Rattle.enc_sigs.specs.Tree.{Forest, none, more, Tree, SigTree, trees, forest_of}
-use Rattle.enc_sigs.specs.Grammar.{form_of, is_small, is_coded, sig_in}
+use Rattle.enc_sigs.specs.Grammar.{form_of, is_coded, sig_in}
+use Rattle.enc_base.specs.Readers.{is_small}
 
 -- a number, where it can be spelled
 unfoldable pub number_bytes : ℕ → List ℕ

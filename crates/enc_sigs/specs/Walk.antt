@@ -8,7 +8,8 @@ use Rattle.enc_sigs.specs.declared.form.Form.{Form}
 use Rattle.enc_sigs.specs.declared.form.Form.TheVariants as form
 use Rattle.enc_sigs.specs.declared.form.Numeral.{Numeral}
 use Rattle.enc_sigs.specs.declared.form.Numeral.TheVariants.{Size, Bound}
-use Rattle.enc_sigs.specs.Grammar.{Reader, byte_in, number_in, numeral_in, token_in, is_coded, form_of, calling_in, begins}
+use Rattle.enc_sigs.specs.Grammar.{byte_in, numeral_in, token_in, is_coded, form_of, calling_in, begins}
+use Rattle.enc_base.specs.Readers.{Reader, number_in}
 use Rattle.enc_sigs.specs.Agree.{tokens_agree}
 
 -- what reads something at both fronts, and gives what is behind it in both, where both agree

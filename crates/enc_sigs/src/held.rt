@@ -1,14 +1,15 @@
 //! What holds no types yet, or only those that were read (ECMA-335 II.23.2).
 ghost use Rattle.std.specs.Prelude.{◌≡◌, ℕ, ◌++◌, [], ◌∷◌, drop, option_map, if◌then◌else◌, IfOk};
 ghost use Rattle.enc_base.specs.Token.{nil};
-ghost use Rattle.enc_sigs.specs.Grammar.{tree, named_in, numbered_in, numerals_in, numeral_in, number_in, begins, many, in_counts};
+ghost use Rattle.enc_sigs.specs.Grammar.{tree, named_in, numbered_in, numerals_in, numeral_in, begins, many, in_counts};
+ghost use Rattle.enc_base.specs.Readers.{number_in};
 ghost use Rattle.enc_sigs.specs.Reads.{Reads, AreRead};
 
 use crate::elem::Elem;
 use crate::form::Numeral;
 use crate::kind::SigFault;
-use crate::number::{number, numeral, token};
-use enc_base::{Counts, Token};
+use crate::number::{numeral, token};
+use enc_base::{Counts, Token, unsigned_front};
 use std::alloc::{AllocError, Global};
 
 /// The token of an element that has none.
@@ -95,7 +96,7 @@ fn numerals_many(
 pub fn numerals(alloc: Global, kind: Numeral, bytes: &[u8]) -> Result<(Elem, &[u8]), SigFault>
     ensures { Reads result (numerals_in kind bytes.now) }
 {
-    let Some((count, rest)) = number(bytes) else {
+    let Some((count, rest)) = unsigned_front(bytes) else {
         return Err(SigFault::Grammar);
     };
     let (kids, rest) = numerals_many(alloc, kind, count, rest)?;
@@ -131,7 +132,7 @@ pub fn named<'a>(
 pub fn indexed(alloc: Global, b: u8, bytes: &[u8]) -> Result<(Elem, &[u8]), SigFault>
     ensures { Reads result (numbered_in b number_in bytes.now) }
 {
-    let Some((value, rest)) = number(bytes) else {
+    let Some((value, rest)) = unsigned_front(bytes) else {
         return Err(SigFault::Grammar);
     };
     Ok((leaf(alloc, b, NIL, value), rest))

@@ -1,42 +1,20 @@
 //! What stands in a signature beside types: bytes, numbers and tokens.
 ghost use Rattle.std.specs.Prelude.{◌≡◌, ◌<◌, ◌^◌, ◌/◌, ◌%◌, option_map, if◌then◌else◌, IfSome};
 ghost use Rattle.enc_base.specs.Numbers.{has_flag};
-ghost use Rattle.enc_sigs.specs.Grammar.{byte_in, number_in, signed_in, numeral_in, token_in, table_of, is_coded, is_counted, in_counts, form_of, is_calling, calling_in};
+ghost use Rattle.enc_sigs.specs.Grammar.{byte_in, numeral_in, token_in, table_of, is_coded, is_counted, in_counts, form_of, is_calling, calling_in};
+ghost use Rattle.enc_base.specs.Readers.{number_in, signed_in};
 
 use crate::form::{Form, Numeral};
-use enc_base::{Counts, Token, read_signed, read_unsigned};
+use enc_base::{Counts, Token, signed_front, unsigned_front};
 use enc_schema::tables::{TYPE_DEF, TYPE_REF, TYPE_SPEC};
-
-/// The compressed number at the front and what is behind it.
-#[tactic(auto, unfolding(crate::specs::Grammar::number_in))]
-pub fn number(bytes: &[u8]) -> Option<(u32, &[u8])>
-    ensures read { option_map (λ x. (x.0, x.1.now)) result ≡ number_in bytes.now }
-    ensures few { IfSome result (λ x. x.0 < 2 ^ 29) }
-{
-    let (value, end) = read_unsigned(bytes, 0)?;
-    Some((value, bytes.get(end..)?))
-}
-
-/// The 32 bits of the compressed signed number at the front and what is behind it.
-#[tactic(auto, unfolding(crate::specs::Grammar::signed_in))]
-fn signed(bytes: &[u8]) -> Option<(u32, &[u8])>
-    ensures { option_map (λ x. (x.0, x.1.now)) result ≡ signed_in bytes.now }
-{
-    let (value, end) = read_signed(bytes, 0)?;
-    let bits = value.cast_unsigned();
-    if bits < 0x1000_0000 || 0xf000_0000 <= bits {
-        return Some((bits, bytes.get(end..)?));
-    }
-    None
-}
 
 /// A size or a lower bound at the front.
 pub fn numeral(kind: Numeral, bytes: &[u8]) -> Option<(u32, &[u8])>
     ensures { option_map (λ x. (x.0, x.1.now)) result ≡ numeral_in kind bytes.now }
 {
     match kind {
-        Numeral::Size => number(bytes),
-        Numeral::Bound => signed(bytes),
+        Numeral::Size => unsigned_front(bytes),
+        Numeral::Bound => signed_front(bytes),
     }
 }
 
@@ -58,7 +36,7 @@ fn table_of(number: u32) -> Option<u8>
 pub fn coded_token(bytes: &[u8]) -> Option<(Token, &[u8])>
     ensures { option_map (λ x. (x.0, x.1.now)) result ≡ token_in is_coded bytes.now }
 {
-    let (number, rest) = number(bytes)?;
+    let (number, rest) = unsigned_front(bytes)?;
     let table = table_of(number)?;
     Some((
         Token {
@@ -86,7 +64,7 @@ fn is_row(number: u32, counts: &Counts) -> bool
 pub fn token<'a>(bytes: &'a [u8], counts: &Counts) -> Option<(Token, &'a [u8])>
     ensures { option_map (λ x. (x.0, x.1.now)) result ≡ token_in (in_counts counts.now) bytes.now }
 {
-    let (number, rest) = number(bytes)?;
+    let (number, rest) = unsigned_front(bytes)?;
     if !is_row(number, counts) {
         return None;
     }
@@ -138,7 +116,7 @@ pub fn calling(bytes: &[u8]) -> Option<((u8, u32), &[u8])>
         return None;
     }
     if *b / 0x10 % 2 == 1 {
-        let (generics, rest) = number(rest)?;
+        let (generics, rest) = unsigned_front(rest)?;
         return Some(((*b, generics), rest));
     }
     Some(((*b, 0), rest))

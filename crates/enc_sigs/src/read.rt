@@ -7,8 +7,8 @@ use crate::elem::Elem;
 use crate::form::{Form, Numeral};
 use crate::held::{NIL, added, around, behind_sentinel, indexed, leaf, named, numerals, three};
 use crate::kind::SigFault;
-use crate::number::{calling, form_by, number, token};
-use enc_base::{Counts, Token};
+use crate::number::{calling, form_by, token};
+use enc_base::{Counts, Token, unsigned_front};
 use std::alloc::Global;
 
 /// A type at the front, where types stand in one another at most so deep.
@@ -126,7 +126,7 @@ fn array<'a>(
     ensures { Reads result (array_in (elem_in (in_counts counts.now) depth) b bytes.now) }
 {
     let (kid, rest) = elem(alloc, depth, bytes, counts)?;
-    let Some((rank, rest)) = number(rest) else {
+    let Some((rank, rest)) = unsigned_front(rest) else {
         return Err(SigFault::Grammar);
     };
     let (sizes, rest) = numerals(alloc, Numeral::Size, rest)?;
@@ -191,7 +191,7 @@ fn instance<'a>(
     let Some((token, rest)) = token(rest, counts) else {
         return Err(SigFault::Grammar);
     };
-    let Some((count, rest)) = number(rest) else {
+    let Some((count, rest)) = unsigned_front(rest) else {
         return Err(SigFault::Grammar);
     };
     let (kids, rest) = many_elems(Vec::new(alloc), count, alloc, depth, rest, counts)?;
@@ -269,7 +269,7 @@ pub fn parts<'a>(
 ) -> Result<(Vec<Elem>, &'a [u8]), SigFault>
     ensures { AreRead result (behind kids.items (parts_in (elem_in (in_counts counts.now) depth) bytes.now)) }
 {
-    let Some((count, rest)) = number(bytes) else {
+    let Some((count, rest)) = unsigned_front(bytes) else {
         return Err(SigFault::Grammar);
     };
     let (kid, rest) = elem(alloc, depth, rest, counts)?;

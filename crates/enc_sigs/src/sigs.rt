@@ -7,10 +7,10 @@ ghost use Rattle.enc_sigs.specs.declared.kind.SigKind.TheVariants as sigs;
 use crate::elem::Elem;
 use crate::held::added;
 use crate::kind::{SigFault, SigKind};
-use crate::number::{calling, number};
+use crate::number::calling;
 use crate::read::{elem, many_elems, parts};
 use crate::sig::{Front, Sig};
-use enc_base::{Counts, written_laws};
+use enc_base::{Counts, unsigned_front, written_laws};
 use std::alloc::Global;
 
 /// How deep types may stand in one another.
@@ -26,7 +26,7 @@ fn counted_elems<'a>(
     ensures read { AreRead result (list_in (type_in (in_counts counts.now)) bytes.now) }
     ensures few { IfOk result (λ p. length p.0.items < 2 ^ 32) }
 {
-    let Some((count, rest)) = number(bytes) else {
+    let Some((count, rest)) = unsigned_front(bytes) else {
         return Err(SigFault::Grammar);
     };
     many_elems(Vec::new(alloc), count, alloc, DEPTH, rest, counts)
@@ -42,7 +42,7 @@ fn accessed<'a>(
     ensures read { AreRead result (accessed_in (type_in (in_counts counts.now)) bytes.now) }
     ensures few { IfOk result (λ p. length p.0.items < 2 ^ 32) }
 {
-    let Some((count, rest)) = number(bytes) else {
+    let Some((count, rest)) = unsigned_front(bytes) else {
         return Err(SigFault::Grammar);
     };
     let (first, rest) = elem(alloc, DEPTH, rest, counts)?;

@@ -3,21 +3,22 @@ ghost use Rattle.std.specs.Prelude.{◌≡◌, ℕ, suc, ◌<◌, ◌^◌, Bool,
 ghost use Rattle.enc_base.specs.declared.token.Token.{Token};
 ghost use Rattle.enc_base.specs.Token.{is_token};
 ghost use Rattle.enc_sigs.specs.Agree.{tokens_agree};
-ghost use Rattle.enc_sigs.specs.Grammar.{byte_in, number_in, numeral_in};
+ghost use Rattle.enc_sigs.specs.Grammar.{byte_in, numeral_in};
+ghost use Rattle.enc_base.specs.Readers.{number_in};
 ghost use Rattle.enc_sigs.specs.Walk.{alike, alike_alone, token_walk, many_walk, counted_walk, numerals_walk, array_walk, modified_walk, instance_walk, marked_walk, params_walk, parts_walk, calling_walk, method_walk, formed_walk, elem_walk, Tells};
 
 use crate::form::{Form, Numeral};
 use crate::held::behind_sentinel;
-use crate::number::{calling, coded_token, form_by, number, numeral};
-use enc_base::Token;
+use crate::number::{calling, coded_token, form_by, numeral};
+use enc_base::{Token, unsigned_front};
 
 /// The number at the front of both.
 #[tactic(auto, unfolding(crate::specs::Walk::alike))]
 pub fn count_of_both<'a, 'b>(a: &'a [u8], b: &'b [u8]) -> Option<(u32, &'a [u8], &'b [u8])>
     ensures { option_map (λ x. (x.0, (x.1.now, x.2.now))) result ≡ alike number_in a.now b.now }
 {
-    let (n, a) = number(a)?;
-    let (m, b) = number(b)?;
+    let (n, a) = unsigned_front(a)?;
+    let (m, b) = unsigned_front(b)?;
     if n != m {
         return None;
     }
