@@ -61,7 +61,7 @@ body_few c cs = by_test (is_tiny c cs) refl
     by_test false is = rw is (fat_few c cs)
 
 pub place_few : (n : ℕ) (c : Code) (cs : List Clause) → place_for n c cs < n + 4
-unfolding place_for
+unfolding place_for padded
 place_few n c cs = by_test (is_tiny c cs) refl
   where
     by_test : (t : Bool) → is_tiny c cs ≡ t → place_for n c cs < n + 4

@@ -28,6 +28,7 @@ pub fn nil_or(token: Token) -> Token
 pub fn padded(n: usize) -> usize
     requires { n < 2 ^ 32 }
     ensures padded { result ≡ padded_to n }
+    ensures more { n ≤ result }
     ensures few { result < n + 4 }
 {
     (n + 3) / 4 * 4

@@ -5,6 +5,7 @@ use Rattle.std.specs.List.{list_any, list_all}
 use Rattle.std.proofs.lemmas.Bool.Decides.{nat_tests}
 use Rattle.std.proofs.lemmas.List.{map-append}
 use Rattle.std.proofs.lemmas.List.Folds.{list_all-map}
+use Rattle.std.proofs.lemmas.Bool.{and_parts}
 use Rattle.enc_base.specs.Numbers.{spelled, is_empty}
 use Rattle.enc_meta.specs.Heaps.{Counted, text_entry, blob_entry, user_entry, nil_guid}
 use Rattle.enc_meta.specs.Joined.{joined_guid}
@@ -26,17 +27,13 @@ blob_some v = omega (arith, length-append (spelled (length v)) v, spelled_some (
 user_some : (v : List ℕ) → 0 < length (user_bytes v)
 user_some v = blob_some (v ++ mark_of v ∷ [])
 
-both_true : (b c : Bool) → (b && c) ≡ true → (b ≡ true) × (c ≡ true)
-both_true true c e = (refl, e)
-both_true false c e = absurd (cc)
-
 not_true : (b : Bool) → not b ≡ true → b ≡ false
 not_true true e = absurd (cc)
 not_true false e = refl
 
 text_of : (b : Built) (v : List ℕ) → IsGood b → is_among b.texts v ≡ true → (heap rest : List ℕ) (n : ℕ) → drop n heap ≡ text_bytes v ++ rest → text_entry heap n ≡ Some v
 text_of b v good there heap rest n whole =
-    let is = both_true (not (is_empty v)) (not (list_any (λ c. c == 0) v)) (holds_of _ b.texts v good.texts there) in
+    let is = and_parts (not (is_empty v)) (not (list_any (λ c. c == 0) v)) (holds_of _ b.texts v good.texts there) in
     text_reads heap v rest n (not_true _ is.1) whole
 
 pub texts_are_read : TextsAreRead
@@ -46,7 +43,7 @@ texts_are_read before b v good past kept =
 
 user_of : (b : Built) (v : List ℕ) → IsGood b → is_among b.users v ≡ true → (heap rest : List ℕ) (n : ℕ) → drop n heap ≡ user_bytes v ++ rest → user_entry heap n ≡ Some v
 user_of b v good there heap rest n whole =
-    let is = both_true (length v % 2 == 0) (nat_lt (length v + 1) (2 ^ 29)) (holds_of _ b.users v good.users there) in
+    let is = and_parts (length v % 2 == 0) (nat_lt (length v + 1) (2 ^ 29)) (holds_of _ b.users v good.users there) in
     user_reads heap v rest n (grind (arith, nat_tests, is.0)) (grind (arith, nat_tests, is.1)) whole
 
 pub users_are_read : UsersAreRead

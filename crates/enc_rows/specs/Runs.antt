@@ -45,12 +45,12 @@ unfoldable pub named_at : TableStream → ℕ → ℕ → List ℕ
 named_at s child p = if goes_by_ptr s.layout child then by_ptr (raw_number s (record { table = ptr_of child; row = p }) 0) else p ∷ []
 
 -- the children that the places from the first one up to the end name, in order
-abbrev pub rows_naming : TableStream → ℕ → ℕ → ℕ → List ℕ
-rows_naming s child first end = flat_map (named_at s child) (range_with_len first (end - first))
+abbrev pub rows_named : TableStream → ℕ → ℕ → ℕ → List ℕ
+rows_named s child first end = flat_map (named_at s child) (range_with_len first (end - first))
 
 -- the children of the n-th owner row, in order
 unfoldable pub children_of : TableStream → ℕ → ℕ → ℕ → ℕ → List ℕ
-children_of s table i child n = rows_naming s child (run_start s table i n) (run_end s table i child n)
+children_of s table i child n = rows_named s child (run_start s table i n) (run_end s table i child n)
 
 -- the children of all owners, one owner behind the other
 unfoldable pub all_children : TableStream → ℕ → List ℕ

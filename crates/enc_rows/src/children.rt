@@ -4,7 +4,7 @@ ghost use Rattle.std.specs.List.{list_any, range_with_len};
 ghost use Rattle.enc_meta.specs.Heaps.{part};
 ghost use Rattle.enc_schema.specs.Children.{is_child_table, owner_table as table_of_owners, run_column as column_of_runs};
 ghost use Rattle.enc_rows.specs.Layout.{IsWithin, rows_of};
-ghost use Rattle.enc_rows.specs.Runs.{table_stream, goes_by_ptr, named_at, by_ptr, rows_naming, run_start, run_end, children_of};
+ghost use Rattle.enc_rows.specs.Runs.{table_stream, goes_by_ptr, named_at, by_ptr, rows_named, run_start, run_end, children_of};
 
 use crate::faults::{number_of, run_rows};
 use crate::tables::Tables;
@@ -65,7 +65,7 @@ fn count_pointed(tables: &Tables, bytes: &[u8], child: u8, run: Run) -> u32
     requires bytes { IsWithin (part bytes.now tables.now.span) tables.now }
     requires child { IsTrue (is_child_table child) }
     requires ptr { IsTrue (goes_by_ptr tables.now child) }
-    ensures { result ≡ length (rows_naming (table_stream bytes.now tables.now) child run.first run.end) }
+    ensures { result ≡ length (rows_named (table_stream bytes.now tables.now) child run.first run.end) }
 {
     let mut count = 0;
     for p in run.first..run.end {
@@ -81,7 +81,7 @@ fn pointed_at(tables: &Tables, bytes: &[u8], child: u8, run: Run, i: u32) -> Opt
     requires bytes { IsWithin (part bytes.now tables.now.span) tables.now }
     requires child { IsTrue (is_child_table child) }
     requires ptr { IsTrue (goes_by_ptr tables.now child) }
-    ensures { result ≡ slice_get (rows_naming (table_stream bytes.now tables.now) child run.first run.end) i }
+    ensures { result ≡ slice_get (rows_named (table_stream bytes.now tables.now) child run.first run.end) i }
 {
     let mut before = 0;
     for p in run.first..run.end {
@@ -102,7 +102,7 @@ fn is_pointed(tables: &Tables, bytes: &[u8], child: u8, run: Run, row: u32) -> b
     requires child { IsTrue (is_child_table child) }
     requires ptr { IsTrue (goes_by_ptr tables.now child) }
     requires row { 0 < row }
-    ensures { result ≡ list_any (λ (k : ℕ). k == row) (rows_naming (table_stream bytes.now tables.now) child run.first run.end) }
+    ensures { result ≡ list_any (λ (k : ℕ). k == row) (rows_named (table_stream bytes.now tables.now) child run.first run.end) }
 {
     for p in run.first..run.end {
         if pointed(tables, bytes, child, p) == row {
@@ -123,7 +123,7 @@ fn push_pointed(
     requires bytes { IsWithin (part bytes.now tables.now.span) tables.now }
     requires child { IsTrue (is_child_table child) }
     requires ptr { IsTrue (goes_by_ptr tables.now child) }
-    ensures { OnOk result (out.new.items ≡ out.old.items ++ rows_naming (table_stream bytes.now tables.now) child run.first run.end) }
+    ensures { OnOk result (out.new.items ≡ out.old.items ++ rows_named (table_stream bytes.now tables.now) child run.first run.end) }
 {
     for p in run.first..run.end {
         let row = pointed(tables, bytes, child, p);
