@@ -1,3 +1,4 @@
 pub mod First
+pub mod Passed
 mod Signed
 pub mod SmallNumbers

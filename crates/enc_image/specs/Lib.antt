@@ -2,3 +2,4 @@ pub mod Base
 pub mod Seen
 pub mod Laws
 pub mod Begun
+pub mod Known

@@ -1,5 +1,5 @@
 //! Judging the bodies of a module: F10.
-ghost use Rattle.std.specs.Prelude.{◌≡◌, ℕ, ◌<◌, ◌^◌, ◌&&◌, not, IfOk, IsTrue, None, Some, length, option_map, is_some};
+ghost use Rattle.std.specs.Prelude.{◌≡◌, ℕ, ◌<◌, ◌^◌, ◌&&◌, not, IfOk, OnOk, IsTrue, None, Some, length, option_map, is_some};
 ghost use Rattle.enc_base.specs.Order.{first_below};
 ghost use Rattle.enc_base.specs.Token.{nth_row};
 ghost use Rattle.enc_meta.specs.Heaps.{part, user_at};
@@ -7,6 +7,7 @@ ghost use Rattle.enc_opcodes.specs.Body.{code_seen, locals_are_good};
 ghost use Rattle.enc_rows.specs.Layout.{IsWithin, stream_has_row, rows_of};
 ghost use Rattle.enc_plain.specs.Bodies.{code_is_good, code_loaded, body_is_good};
 ghost use Rattle.enc_image.specs.Base.{users_of, has_locals, body_fault_at, body_fault};
+ghost use Rattle.enc_image.specs.Known.{is_body_at, AreBodies};
 ghost use Rattle.enc_image.specs.Seen.{source_seen};
 ghost use Rattle.enc_schema.specs.Tables.{method_def};
 
@@ -18,6 +19,7 @@ use enc_meta::Heaps;
 use enc_opcodes::CodeRef;
 use enc_schema::tables::METHOD_DEF;
 use std::alloc::{AllocError, Global};
+use std::collections::BTreeSet;
 
 /// The user texts of a file's `#US`.
 #[derive(Drop)]
@@ -65,11 +67,53 @@ fn is_whole(alloc: Global, cells: &Cells<'_>, code: &CodeRef<'_>) -> Result<bool
     Ok(texts_are_there(&texts, code) && has_locals(cells, code))
 }
 
+/// Whether a good body with a local signature that is one stands at an RVA.
+fn is_body_at(alloc: Global, cells: &Cells<'_>, rva: u32) -> Result<bool, AllocError>
+    requires { IsWithin (part cells.now.bytes.now cells.now.tables.now.span) cells.now.tables.now }
+    ensures { IfOk result (λ good. good ≡ is_body_at (source_seen cells.now) rva) }
+{
+    match code_at(cells.file, &cells.container, rva) {
+        Some(code) => is_whole(alloc, cells, &code),
+        None => Ok(false),
+    }
+}
+
+/// The same. A body that is known isn't read again, so methods that share a body cost what one does.
+#[tactic(auto, using(enc_base::proofs::Passed::one_passes))]
+fn is_known_body(
+    alloc: Global,
+    cells: &Cells<'_>,
+    rva: u32,
+    known: &mut BTreeSet<u32>,
+) -> Result<bool, AllocError>
+    requires bytes { IsWithin (part cells.now.bytes.now cells.now.tables.now.span) cells.now.tables.now }
+    requires known { AreBodies (source_seen cells.now) known.old }
+    ensures good { IfOk result (λ good. good ≡ is_body_at (source_seen cells.now) rva) }
+    ensures known { OnOk result (AreBodies (source_seen cells.now) known.new) }
+{
+    if known.contains(&rva) {
+        return Ok(true);
+    }
+    if !is_body_at(alloc, cells, rva)? {
+        return Ok(false);
+    }
+    known.insert(rva)?;
+    Ok(true)
+}
+
 /// The method with this RVA and these flags has no body, or a good one.
 #[tactic(auto, unfolding(enc_plain::specs::Bodies::body_is_good, enc_plain::specs::Bodies::code_loaded))]
-fn is_good(alloc: Global, cells: &Cells<'_>, rva: u32, flags: u32) -> Result<bool, AllocError>
-    requires { IsWithin (part cells.now.bytes.now cells.now.tables.now.span) cells.now.tables.now }
-    ensures { IfOk result (λ good. good ≡ (body_is_good (rows_of cells.now.tables.now) (users_of (source_seen cells.now)) (source_seen cells.now).loaded rva flags && has_locals (source_seen cells.now) (code_loaded (source_seen cells.now).loaded rva))) }
+fn is_good(
+    alloc: Global,
+    cells: &Cells<'_>,
+    rva: u32,
+    flags: u32,
+    known: &mut BTreeSet<u32>,
+) -> Result<bool, AllocError>
+    requires bytes { IsWithin (part cells.now.bytes.now cells.now.tables.now.span) cells.now.tables.now }
+    requires known { AreBodies (source_seen cells.now) known.old }
+    ensures good { IfOk result (λ good. good ≡ (body_is_good (rows_of cells.now.tables.now) (users_of (source_seen cells.now)) (source_seen cells.now).loaded rva flags && has_locals (source_seen cells.now) (code_loaded (source_seen cells.now).loaded rva))) }
+    ensures known { OnOk result (AreBodies (source_seen cells.now) known.new) }
 {
     if rva == 0 {
         return Ok(true);
@@ -77,19 +121,23 @@ fn is_good(alloc: Global, cells: &Cells<'_>, rva: u32, flags: u32) -> Result<boo
     if flags % 4 != 0 {
         return Ok(false);
     }
-    match code_at(cells.file, &cells.container, rva) {
-        Some(code) => is_whole(alloc, cells, &code),
-        None => Ok(false),
-    }
+    is_known_body(alloc, cells, rva, known)
 }
 
 /// The place of a method whose body isn't good.
 #[tactic(auto, unfolding(crate::specs::Base::body_fault_at))]
-fn body_fault_at(alloc: Global, cells: &Cells<'_>, r: u32) -> Result<Option<Place>, AllocError>
+fn body_fault_at(
+    alloc: Global,
+    cells: &Cells<'_>,
+    r: u32,
+    known: &mut BTreeSet<u32>,
+) -> Result<Option<Place>, AllocError>
     requires bytes { IsWithin (part cells.now.bytes.now cells.now.tables.now.span) cells.now.tables.now }
     requires row { r < rows_of cells.now.tables.now method_def }
     requires few { r < 2 ^ 24 }
-    ensures { IfOk result (λ p. p ≡ body_fault_at (source_seen cells.now) r) }
+    requires known { AreBodies (source_seen cells.now) known.old }
+    ensures place { IfOk result (λ p. p ≡ body_fault_at (source_seen cells.now) r) }
+    ensures known { OnOk result (AreBodies (source_seen cells.now) known.new) }
 {
     let method = Token {
         table: METHOD_DEF,
@@ -97,21 +145,23 @@ fn body_fault_at(alloc: Global, cells: &Cells<'_>, r: u32) -> Result<Option<Plac
     };
     let rva = cells.tables.cell(cells.bytes, method, 0);
     let flags = cells.tables.cell(cells.bytes, method, 1);
-    match is_good(alloc, cells, rva, flags) {
+    match is_good(alloc, cells, rva, flags, known) {
         Err(error) => Err(error),
         Ok(true) => Ok(None),
         Ok(false) => Ok(Some(Place::Row(method))),
     }
 }
 
-/// F10: the first method whose body isn't good.
+/// F10: the first method whose body isn't good. It reads each body once, whatever the number of
+/// methods that share it, and takes memory for one body at a time and for the RVAs.
 #[tactic(auto, using(enc_base::proofs::First::first_none, enc_base::proofs::First::first_found, enc_base::proofs::First::first_more), unfolding(crate::specs::Base::body_fault))]
 pub fn body_fault(alloc: Global, cells: &Cells<'_>) -> Result<Option<Place>, AllocError>
     requires { IsWithin (part cells.now.bytes.now cells.now.tables.now.span) cells.now.tables.now }
     ensures { IfOk result (λ p. p ≡ body_fault (source_seen cells.now)) }
 {
+    let mut known = BTreeSet::new(alloc);
     for r in 0..cells.tables.count(METHOD_DEF) {
-        match body_fault_at(alloc, cells, r) {
+        match body_fault_at(alloc, cells, r, &mut known) {
             Err(error) => return Err(error),
             Ok(Some(place)) => return Ok(Some(place)),
             Ok(None) => {}

@@ -1,10 +1,11 @@
 //! Judging the signatures of a module: F11.
-ghost use Rattle.std.specs.Prelude.{◌≡◌, ◌<◌, ◌^◌, IfOk, Some};
+ghost use Rattle.std.specs.Prelude.{◌≡◌, ◌<◌, ◌^◌, IfOk, OnOk, Some};
 ghost use Rattle.enc_base.specs.Order.{first_below};
 ghost use Rattle.enc_meta.specs.Heaps.{part};
 ghost use Rattle.enc_plain.specs.Cell.{kind_in, blobs};
 ghost use Rattle.enc_rows.specs.Layout.{IsWithin, rows_of};
 ghost use Rattle.enc_image.specs.Base.{blob_or_none, signature_fault_at, signature_fault_in, signature_fault};
+ghost use Rattle.enc_image.specs.Known.{is_signature_at, AreSignatures};
 ghost use Rattle.enc_image.specs.Seen.{source_seen};
 
 use crate::judge::Cells;
@@ -12,6 +13,7 @@ use enc_base::{Place, Token};
 use enc_plain::{is_signature, signature_column};
 use enc_schema::tables::TABLE_COUNT;
 use std::alloc::{AllocError, Global};
+use std::collections::BTreeSet;
 
 /// The bytes of a blob, none where its offset isn't good.
 fn blob_or_none<'a>(cells: &Cells<'a>, offset: u32) -> &'a [u8]
@@ -23,6 +25,31 @@ fn blob_or_none<'a>(cells: &Cells<'a>, offset: u32) -> &'a [u8]
     }
 }
 
+/// Whether a signature of the table stands at an offset. One that is known isn't read again, so rows
+/// that share a signature cost what one does.
+#[tactic(auto, using(enc_base::proofs::Passed::one_passes))]
+fn is_signature_at(
+    alloc: Global,
+    cells: &Cells<'_>,
+    table: u8,
+    offset: u32,
+    known: &mut BTreeSet<u32>,
+) -> Result<bool, AllocError>
+    requires known { AreSignatures (source_seen cells.now) table known.old }
+    ensures good { IfOk result (λ good. good ≡ is_signature_at (source_seen cells.now) table offset) }
+    ensures known { OnOk result (AreSignatures (source_seen cells.now) table known.new) }
+{
+    if known.contains(&offset) {
+        return Ok(true);
+    }
+    let blob = blob_or_none(cells, offset);
+    if !is_signature(alloc, table, blob, cells.tables.counts())? {
+        return Ok(false);
+    }
+    known.insert(offset)?;
+    Ok(true)
+}
+
 /// The place of a signature that isn't one.
 #[tactic(auto, unfolding(crate::specs::Base::signature_fault_at))]
 fn signature_fault_at(
@@ -31,16 +58,19 @@ fn signature_fault_at(
     table: u8,
     column: u8,
     r: u32,
+    known: &mut BTreeSet<u32>,
 ) -> Result<Option<Place>, AllocError>
     requires bytes { IsWithin (part cells.now.bytes.now cells.now.tables.now.span) cells.now.tables.now }
     requires row { r < rows_of cells.now.tables.now table }
     requires few { r < 2 ^ 24 }
     requires column { kind_in table column ≡ Some blobs }
-    ensures { IfOk result (λ p. p ≡ signature_fault_at (source_seen cells.now) table column r) }
+    requires known { AreSignatures (source_seen cells.now) table known.old }
+    ensures place { IfOk result (λ p. p ≡ signature_fault_at (source_seen cells.now) table column r) }
+    ensures known { OnOk result (AreSignatures (source_seen cells.now) table known.new) }
 {
     let row = Token { table, row: r + 1 };
-    let blob = blob_or_none(cells, cells.tables.cell(cells.bytes, row, column));
-    match is_signature(alloc, table, blob, cells.tables.counts()) {
+    let offset = cells.tables.cell(cells.bytes, row, column);
+    match is_signature_at(alloc, cells, table, offset, known) {
         Err(error) => Err(error),
         Ok(true) => Ok(None),
         Ok(false) => Ok(Some(Place::Cell(row, column))),
@@ -59,8 +89,9 @@ fn signature_fault_below(
     requires column { kind_in table column ≡ Some blobs }
     ensures { IfOk result (λ p. p ≡ first_below (signature_fault_at (source_seen cells.now) table column) (rows_of cells.now.tables.now table)) }
 {
+    let mut known = BTreeSet::new(alloc);
     for r in 0..cells.tables.count(table) {
-        match signature_fault_at(alloc, cells, table, column, r) {
+        match signature_fault_at(alloc, cells, table, column, r, &mut known) {
             Err(error) => return Err(error),
             Ok(Some(place)) => return Ok(Some(place)),
             Ok(None) => {}
@@ -85,8 +116,9 @@ fn signature_fault_in(
     }
 }
 
-/// F11: the first signature that isn't one of its kind (ECMA-335 II.23.2). It takes memory for one
-/// signature at a time.
+/// F11: the first signature that isn't one of its kind (ECMA-335 II.23.2). It reads each signature
+/// of a table once, whatever the number of rows that share it, and takes memory for one signature at
+/// a time and for the offsets of one table's.
 #[tactic(auto, using(enc_base::proofs::First::first_none, enc_base::proofs::First::first_found, enc_base::proofs::First::first_more), unfolding(crate::specs::Base::signature_fault))]
 pub fn signature_fault(alloc: Global, cells: &Cells<'_>) -> Result<Option<Place>, AllocError>
     requires { IsWithin (part cells.now.bytes.now cells.now.tables.now.span) cells.now.tables.now }
