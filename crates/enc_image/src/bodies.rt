@@ -17,6 +17,7 @@ use enc_base::{Place, Token};
 use enc_il::{UserTexts, first_bad, texts_are_there};
 use enc_meta::Heaps;
 use enc_opcodes::CodeRef;
+use enc_schema::columns::{METHOD_DEF_IMPL_FLAGS, METHOD_DEF_RVA, STAND_ALONE_SIG_SIGNATURE};
 use enc_schema::tables::METHOD_DEF;
 use std::alloc::{AllocError, Global};
 use std::collections::BTreeSet;
@@ -44,7 +45,7 @@ fn has_locals(cells: &Cells<'_>, code: &CodeRef<'_>) -> bool
     if code.locals.row == 0 {
         return true;
     }
-    let offset = cells.tables.cell(cells.bytes, code.locals, 0);
+    let offset = cells.tables.cell(cells.bytes, code.locals, STAND_ALONE_SIG_SIGNATURE);
     match cells.heaps.blob(offset) {
         Some([first, ..]) => *first == 0x07,
         _ => false,
@@ -143,8 +144,8 @@ fn body_fault_at(
         table: METHOD_DEF,
         row: r + 1,
     };
-    let rva = cells.tables.cell(cells.bytes, method, 0);
-    let flags = cells.tables.cell(cells.bytes, method, 1);
+    let rva = cells.tables.cell(cells.bytes, method, METHOD_DEF_RVA);
+    let flags = cells.tables.cell(cells.bytes, method, METHOD_DEF_IMPL_FLAGS);
     match is_good(alloc, cells, rva, flags, known) {
         Err(error) => Err(error),
         Ok(true) => Ok(None),

@@ -17,6 +17,9 @@ use enc_base::{Place, Token};
 use enc_pe::at_rva;
 use enc_plain::{Extent, extent_in};
 use enc_schema::column_of;
+use enc_schema::columns::{
+    CLASS_LAYOUT_CLASS_SIZE, CLASS_LAYOUT_PARENT, FIELD_RVA_FIELD, FIELD_RVA_RVA, FIELD_SIGNATURE,
+};
 use enc_schema::tables::{CLASS_LAYOUT, FIELD, FIELD_RVA, TYPE_DEF};
 use std::alloc::{AllocError, Global};
 
@@ -51,7 +54,7 @@ fn extent_of(cells: &Cells<'_>, row: Token) -> Option<Extent>
     requires { IsWithin (part cells.now.bytes.now cells.now.tables.now.span) cells.now.tables.now }
     ensures { result ≡ data_extent (source_seen cells.now) row }
 {
-    let field = number_in(cells, row, 1);
+    let field = number_in(cells, row, FIELD_RVA_FIELD);
     if field == 0 {
         return None;
     }
@@ -59,7 +62,7 @@ fn extent_of(cells: &Cells<'_>, row: Token) -> Option<Extent>
         table: FIELD,
         row: field,
     };
-    extent_in(blob_or_none(cells, number_in(cells, named, 2)))
+    extent_in(blob_or_none(cells, number_in(cells, named, FIELD_SIGNATURE)))
 }
 
 /// The size that row r of ClassLayout, from 0, tells, where it is the type's (ECMA-335 II.22.8).
@@ -73,8 +76,8 @@ fn layout_size(cells: &Cells<'_>, owner: u32, r: u32) -> Option<u32>
         table: CLASS_LAYOUT,
         row: r + 1,
     };
-    if number_in(cells, layout, 2) == owner {
-        return Some(number_in(cells, layout, 1));
+    if number_in(cells, layout, CLASS_LAYOUT_PARENT) == owner {
+        return Some(number_in(cells, layout, CLASS_LAYOUT_CLASS_SIZE));
     }
     None
 }
@@ -123,7 +126,7 @@ pub fn field_bytes<'a>(cells: &Cells<'a>, row: Token) -> &'a [u8]
     requires bytes { IsWithin (part cells.now.bytes.now cells.now.tables.now.span) cells.now.tables.now }
     ensures { result.now ≡ field_bytes (source_seen cells.now) row }
 {
-    let rva = number_in(cells, row, 0);
+    let rva = number_in(cells, row, FIELD_RVA_RVA);
     if rva == 0 {
         return &[];
     }
@@ -159,8 +162,8 @@ fn class_sizes(alloc: Global, cells: &Cells<'_>) -> Result<Vec<Option<u32>>, All
         };
         keep_first(
             &mut sizes,
-            number_in(cells, layout, 2),
-            number_in(cells, layout, 1),
+            number_in(cells, layout, CLASS_LAYOUT_PARENT),
+            number_in(cells, layout, CLASS_LAYOUT_CLASS_SIZE),
         );
     }
     Ok(sizes)
@@ -204,7 +207,7 @@ fn field_fault_at(cells: &Cells<'_>, sizes: &[Option<u32>], r: u32) -> Option<Pl
         table: FIELD_RVA,
         row: r + 1,
     };
-    let rva = number_in(cells, row, 0);
+    let rva = number_in(cells, row, FIELD_RVA_RVA);
     if rva == 0 {
         return None;
     }
