@@ -1,7 +1,6 @@
 -- The grammar of signatures (ECMA-335 II.23.2).
-use Rattle.std.specs.Prelude.{◌≡◌, ℕ, zero, suc, ◌/◌, ◌%◌, Bool, true, false, not, ◌&&◌, ◌||◌, List, [], ◌∷◌, drop, slice_index, Option, Some, None, option_map, option_and_then, nat_lt, nat_le, ◌==◌, if◌then◌else◌, ℤ}
-use Rattle.std.specs.Int.{w32, cast_unsigned}
-use Rattle.enc_base.specs.Numbers.{compressed, signed, is_within, has_flag}
+use Rattle.std.specs.Prelude.{◌≡◌, ℕ, zero, suc, ◌/◌, ◌%◌, Bool, true, false, not, ◌&&◌, ◌||◌, List, [], ◌∷◌, drop, slice_index, Option, Some, None, option_map, option_and_then, nat_lt, nat_le, ◌==◌, if◌then◌else◌}
+use Rattle.enc_base.specs.Numbers.{has_flag}
 use Rattle.enc_base.specs.Readers.{Reader, giving, both, number_in, signed_in}
 use Rattle.enc_base.specs.Token.{nil}
 use Rattle.enc_base.specs.declared.token.Token.{Token}
