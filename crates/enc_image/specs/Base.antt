@@ -1,5 +1,5 @@
 -- The plain module that a file's bytes say, or the first refusal (ECMA-335 II.22, II.24).
-use Rattle.std.specs.Prelude.{ℕ, Bool, true, false, not, ◌&&◌, List, [], ◌∷◌, length, map, Option, Some, None, option_map, option_and_then, unwrap_or, is_some, Result, Ok, Err, ◌==◌, ◌||◌, ◌-◌, slice_get, if◌then◌else◌, replicate, nat_lt}
+use Rattle.std.specs.Prelude.{ℕ, Bool, true, not, ◌&&◌, List, [], ◌∷◌, length, map, Option, Some, None, option_map, option_and_then, unwrap_or, is_some, Result, Ok, Err, ◌==◌, ◌||◌, ◌-◌, slice_get, if◌then◌else◌, replicate, nat_lt}
 use Rattle.std.specs.List.{list_any}
 use Rattle.enc_base.specs.Order.{or_else, first_below}
 use Rattle.enc_base.specs.Token.{nth_row}

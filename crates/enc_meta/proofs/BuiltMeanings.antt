@@ -1,6 +1,6 @@
 -- The laws of written heaps.
 use Rattle.std.proofs.Common.{◌≡◌, ℕ, suc, ◌+◌, ◌*◌, ◌%◌, ◌^◌, ◌<◌, Bool, true, false, ◌||◌, List, [], ◌∷◌, ◌++◌, length, drop, map, Some, refl, arith, length-append}
-use Rattle.std.specs.Prelude.{bytes_eq, nat_lt, not, IsTrue, if◌then◌else◌, ◌==◌, ◌&&◌}
+use Rattle.std.specs.Prelude.{bytes_eq, nat_lt, not, IsTrue, if◌then◌else◌, ◌==◌}
 use Rattle.std.specs.List.{list_any, list_all}
 use Rattle.std.proofs.lemmas.Bool.Decides.{nat_tests}
 use Rattle.std.proofs.lemmas.List.{map-append}

@@ -1,5 +1,4 @@
 pub mod Below
-pub mod Listed
 pub mod Places
 pub mod Runs
 pub mod Named

@@ -11,11 +11,14 @@ pub returns-then-offset-eq0 : goal.returns-then-offset-eq0
 returns-then-offset-eq0 t c = zero_entry _ _ c.args.offset c.if-offset-eq0.true
 
 pub entry_in-requires : goal.entry_in-requires
-entry_in-requires t c = (omega (arith, c.decreases, c.in-Some.ensures.fewer), (last_added c.args.image.now _ _ (rw c.in-Some.ensures.parts at c.requires)).1)
+entry_in-requires t c =
+    let less : length c.in-Some.older.now < t = omega (arith, c.decreases, c.in-Some.ensures.fewer) in
+    (less, (last_added c.args.image.now _ _ (rw c.in-Some.ensures.parts at c.requires)).1)
 
 pub returns-then-offset-before : goal.returns-then-offset-before
 returns-then-offset-before t c =
-    rw (c.in-Some.ensures.parts, heaps_with c.args.image.now _ _) (c.entry_in.ensures ∙ sym (heap_before c.args.heap _ _ _ c.args.offset (last_added c.args.image.now _ _ (rw c.in-Some.ensures.parts at c.requires)).0.before (omega (arith, c.of-before.ensures, c.if-offset-before.true))))
+    let last = last_added c.args.image.now _ _ (rw c.in-Some.ensures.parts at c.requires) in
+    rw (c.in-Some.ensures.parts, heaps_with c.args.image.now _ _) (c.entry_in.ensures ∙ sym (heap_before c.args.heap _ _ _ c.args.offset last.0.before (omega (arith, c.of-before.ensures, c.if-offset-before.true))))
 
 pub returns : goal.returns
 returns t c =

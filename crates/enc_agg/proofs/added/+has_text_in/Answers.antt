@@ -13,11 +13,14 @@ pub returns-then-offset-eq0 : goal.returns-then-offset-eq0
 returns-then-offset-eq0 t c = ap is_some (zero_entry text_entry _ c.args.offset c.if-offset-eq0.true)
 
 pub has_text_in-requires : goal.has_text_in-requires
-has_text_in-requires t c = (omega (arith, c.decreases, c.in-Some.ensures.fewer), (last_added c.args.image.now _ _ (rw c.in-Some.ensures.parts at c.requires)).1)
+has_text_in-requires t c =
+    let less : length c.in-Some.older.now < t = omega (arith, c.decreases, c.in-Some.ensures.fewer) in
+    (less, (last_added c.args.image.now _ _ (rw c.in-Some.ensures.parts at c.requires)).1)
 
 pub returns-then-offset-strings : goal.returns-then-offset-strings
 returns-then-offset-strings t c =
-    rw (c.in-Some.ensures.parts, heaps_with c.args.image.now _ _) (c.has_text_in.ensures ∙ ap is_some (sym (text_before _ _ _ c.args.offset (last_added c.args.image.now _ _ (rw c.in-Some.ensures.parts at c.requires)).0.before (omega (arith, c.if-offset-strings.true)))))
+    let last = last_added c.args.image.now _ _ (rw c.in-Some.ensures.parts at c.requires) in
+    rw (c.in-Some.ensures.parts, heaps_with c.args.image.now _ _) (c.has_text_in.ensures ∙ ap is_some (sym (text_before _ _ _ c.args.offset last.0.before (omega (arith, c.if-offset-strings.true)))))
 
 pub returns : goal.returns
 returns t c =

@@ -12,8 +12,9 @@ count_in-before-requires t c = (last_added c.args.image.now _ _ (rw c.in-Some.en
 
 pub kid_rows_in-requires : goal.kid_rows_in-requires
 kid_rows_in-requires t c =
+    let less : length c.in-Some.older.now < t = omega (arith, c.decreases, c.in-Some.ensures.fewer) in
     let all = (last_added c.args.image.now _ _ (rw c.in-Some.ensures.parts at c.requires.added)).1 in
-    (omega (arith, c.decreases, c.in-Some.ensures.fewer), (c.requires.sound, (all, (c.requires.row, (c.requires.table, c.requires.owners)))))
+    (less, (c.requires.sound, (all, (c.requires.row, (c.requires.table, c.requires.owners)))))
 
 pub push_given-requires : goal.push_given-requires
 push_given-requires t c =
