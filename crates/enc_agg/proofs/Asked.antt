@@ -22,7 +22,7 @@ use Rattle.enc_image.specs.Base.{users_of, module_in}
 use Rattle.enc_agg.specs.declared.added.Added.{Added}
 use Rattle.enc_agg.specs.declared.added.Found.{Found}
 use Rattle.enc_agg.specs.Extend.{extended, chain_with}
-use Rattle.enc_agg.specs.Seen.{sources, IsAggregate, found_in, found_seen, number_in, code_in}
+use Rattle.enc_agg.specs.Seen.{sources, IsAggregate, found_in, found_seen, newest_number, code_in}
 use Rattle.enc_agg.proofs.Histories.{IsFound, is_found, unfound_row, unfound_cell, base_users}
 use Rattle.enc_agg.proofs.Paired.{changes_fit}
 use Rattle.enc_agg.proofs.Viewing.{text_listed, blob_listed, guid_listed, number_listed, index_listed, coded_listed, body_listed, field_listed, texts_listed}
@@ -45,7 +45,7 @@ also : {A : Type 0} (o : Option A) (P Q : A → Type 0) → ((a : A) → P a →
 also None P Q more h = h
 also (Some a) P Q more h = more a h
 
-raw_found : (b : Source) (added upto : List Added) (u : Token) (k i n : ℕ) (found : IsFound b added u upto k) → number_in upto (record { table = u.table; row = k }) i ≡ n → raw_in found.last.delta (record { table = u.table; row = k }) i ≡ n
+raw_found : (b : Source) (added upto : List Added) (u : Token) (k i n : ℕ) (found : IsFound b added u upto k) → newest_number upto (record { table = u.table; row = k }) i ≡ n → raw_in found.last.delta (record { table = u.table; row = k }) i ≡ n
 raw_found b added upto u k i n found is = rw found.upto_is at is
 
 -- the cell of the newest delta's row is the module's
@@ -53,35 +53,35 @@ cell_found : (b : Source) (added upto : List Added) (u : Token) (k i : ℕ) (cel
 unfolding chain_with
 cell_found b added upto u k i cell found is = found.cells i cell (rw found.upto_is is)
 
-pub text_found : (b : Source) (added upto : List Added) (u : Token) (k i n : ℕ) → IsFound b added u upto k → kind_in u.table i ≡ Some texts → number_in upto (record { table = u.table; row = k }) i ≡ n → MatchOption (joined_text (chain_with b (sources upto)).heaps n) ⊥ (λ a. cell_of (chain_with b (sources added)).plain u i ≡ Some (text a))
+pub text_found : (b : Source) (added upto : List Added) (u : Token) (k i n : ℕ) → IsFound b added u upto k → kind_in u.table i ≡ Some texts → newest_number upto (record { table = u.table; row = k }) i ≡ n → MatchOption (joined_text (chain_with b (sources upto)).heaps n) ⊥ (λ a. cell_of (chain_with b (sources added)).plain u i ≡ Some (text a))
 unfolding chain_with extended
 text_found b added upto u k i n found kind is =
     let c = chain_with b (sources found.older) in
     rw found.upto_is (also (joined_text (chain_with b (sources (found.last ∷ found.older))).heaps n) _ _ (λ a h. cell_found b added upto u k i (text a) found h) (text_listed c found.last.delta u k i n found.is_added.follows.lands (changes_fit c found.last.delta found.sound found.is_added.follows.lands) found.place kind (raw_found b added upto u k i n found is)))
 
-pub blob_found : (b : Source) (added upto : List Added) (u : Token) (k i n : ℕ) → IsFound b added u upto k → kind_in u.table i ≡ Some blobs → number_in upto (record { table = u.table; row = k }) i ≡ n → MatchOption (joined_blob (chain_with b (sources upto)).heaps n) ⊥ (λ a. cell_of (chain_with b (sources added)).plain u i ≡ Some (blob a))
+pub blob_found : (b : Source) (added upto : List Added) (u : Token) (k i n : ℕ) → IsFound b added u upto k → kind_in u.table i ≡ Some blobs → newest_number upto (record { table = u.table; row = k }) i ≡ n → MatchOption (joined_blob (chain_with b (sources upto)).heaps n) ⊥ (λ a. cell_of (chain_with b (sources added)).plain u i ≡ Some (blob a))
 unfolding chain_with extended
 blob_found b added upto u k i n found kind is =
     let c = chain_with b (sources found.older) in
     rw found.upto_is (also (joined_blob (chain_with b (sources (found.last ∷ found.older))).heaps n) _ _ (λ a h. cell_found b added upto u k i (blob a) found h) (blob_listed c found.last.delta u k i n found.is_added.follows.lands (changes_fit c found.last.delta found.sound found.is_added.follows.lands) found.place kind (raw_found b added upto u k i n found is)))
 
-pub guid_found : (b : Source) (added upto : List Added) (u : Token) (k i n : ℕ) → IsFound b added u upto k → kind_in u.table i ≡ Some guids → number_in upto (record { table = u.table; row = k }) i ≡ n → MatchOption (joined_guid (chain_with b (sources upto)).heaps n) ⊥ (λ a. cell_of (chain_with b (sources added)).plain u i ≡ Some (guid a))
+pub guid_found : (b : Source) (added upto : List Added) (u : Token) (k i n : ℕ) → IsFound b added u upto k → kind_in u.table i ≡ Some guids → newest_number upto (record { table = u.table; row = k }) i ≡ n → MatchOption (joined_guid (chain_with b (sources upto)).heaps n) ⊥ (λ a. cell_of (chain_with b (sources added)).plain u i ≡ Some (guid a))
 unfolding chain_with extended
 guid_found b added upto u k i n found kind is =
     let c = chain_with b (sources found.older) in
     rw found.upto_is (also (joined_guid (chain_with b (sources (found.last ∷ found.older))).heaps n) _ _ (λ a h. cell_found b added upto u k i (guid a) found h) (guid_listed c found.last.delta u k i n found.is_added.follows.lands (changes_fit c found.last.delta found.sound found.is_added.follows.lands) found.place kind (raw_found b added upto u k i n found is)))
 
-pub number_found : (b : Source) (added upto : List Added) (u : Token) (k i n : ℕ) → IsFound b added u upto k → kind_in u.table i ≡ Some numbers → number_in upto (record { table = u.table; row = k }) i ≡ n → cell_of (chain_with b (sources added)).plain u i ≡ Some (number n)
+pub number_found : (b : Source) (added upto : List Added) (u : Token) (k i n : ℕ) → IsFound b added u upto k → kind_in u.table i ≡ Some numbers → newest_number upto (record { table = u.table; row = k }) i ≡ n → cell_of (chain_with b (sources added)).plain u i ≡ Some (number n)
 number_found b added upto u k i n found kind is =
     let c = chain_with b (sources found.older) in
     cell_found b added upto u k i (number n) found (number_listed c found.last.delta u k i n found.is_added.follows.lands (changes_fit c found.last.delta found.sound found.is_added.follows.lands) found.place kind (raw_found b added upto u k i n found is))
 
-pub index_found : (b : Source) (added upto : List Added) (u : Token) (k i n table : ℕ) → IsFound b added u upto k → kind_in u.table i ≡ Some references → column_in u.table i ≡ Some (Index table) → number_in upto (record { table = u.table; row = k }) i ≡ n → cell_of (chain_with b (sources added)).plain u i ≡ Some (refer (index_token table n))
+pub index_found : (b : Source) (added upto : List Added) (u : Token) (k i n table : ℕ) → IsFound b added u upto k → kind_in u.table i ≡ Some references → column_in u.table i ≡ Some (Index table) → newest_number upto (record { table = u.table; row = k }) i ≡ n → cell_of (chain_with b (sources added)).plain u i ≡ Some (refer (index_token table n))
 index_found b added upto u k i n table found kind column is =
     let c = chain_with b (sources found.older) in
     cell_found b added upto u k i (refer (index_token table n)) found (index_listed c found.last.delta u k i n table found.is_added.follows.lands (changes_fit c found.last.delta found.sound found.is_added.follows.lands) found.place kind column (raw_found b added upto u k i n found is))
 
-pub coded_found : (b : Source) (added upto : List Added) (u : Token) (k i n : ℕ) (coding : Coding) → IsFound b added u upto k → kind_in u.table i ≡ Some references → column_in u.table i ≡ Some (Coded coding) → number_in upto (record { table = u.table; row = k }) i ≡ n → MatchOption (decoded coding n) ⊥ (λ t. cell_of (chain_with b (sources added)).plain u i ≡ Some (refer t))
+pub coded_found : (b : Source) (added upto : List Added) (u : Token) (k i n : ℕ) (coding : Coding) → IsFound b added u upto k → kind_in u.table i ≡ Some references → column_in u.table i ≡ Some (Coded coding) → newest_number upto (record { table = u.table; row = k }) i ≡ n → MatchOption (decoded coding n) ⊥ (λ t. cell_of (chain_with b (sources added)).plain u i ≡ Some (refer t))
 coded_found b added upto u k i n coding found kind column is =
     let c = chain_with b (sources found.older) in
     also (decoded coding n) _ _ (λ t h. cell_found b added upto u k i (refer t) found h) (coded_listed c found.last.delta u k i n coding found.is_added.follows.lands (changes_fit c found.last.delta found.sound found.is_added.follows.lands) found.place kind column (raw_found b added upto u k i n found is))
@@ -99,7 +99,7 @@ read_as : (f : ℕ → Option (List ℕ)) (o : Option Code) (r : Option CodeRef)
 read_as f o r is = ap (option_map (body_of f)) (sym is) ∙ mapped (body_of f) code_seen r
 
 -- the body of a method that a delta lists, in that delta's code
-pub body_found : (b : Source) (added upto : List Added) (u : Token) (k n : ℕ) (r : Option CodeRef) → IsFound b added u upto k → u.table ≡ 0x06 → number_in upto (record { table = u.table; row = k }) 0 ≡ n → option_map code_seen r ≡ code_in upto n → cell_of (chain_with b (sources added)).plain u 0 ≡ Some (body (option_map (λ c. body_of (joined_user (chain_with b (sources added)).heaps) (code_seen c)) r))
+pub body_found : (b : Source) (added upto : List Added) (u : Token) (k n : ℕ) (r : Option CodeRef) → IsFound b added u upto k → u.table ≡ 0x06 → newest_number upto (record { table = u.table; row = k }) 0 ≡ n → option_map code_seen r ≡ code_in upto n → cell_of (chain_with b (sources added)).plain u 0 ≡ Some (body (option_map (λ c. body_of (joined_user (chain_with b (sources added)).heaps) (code_seen c)) r))
 unfolding body_loaded
 body_found b added upto u k n r found is told code =
     let c = chain_with b (sources found.older) in

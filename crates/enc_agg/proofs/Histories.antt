@@ -12,7 +12,7 @@ use Rattle.enc_plain.specs.Cell.{Cell}
 use Rattle.enc_plain.specs.Chain.{Chain, id_of}
 use Rattle.enc_schema.specs.Schema.{list_at}
 use Rattle.enc_plain.specs.Module.{Module, Row, rows_in, has_row, cell_of}
-use Rattle.enc_image.specs.Base.{users_of, cells_fault, module_in, begun}
+use Rattle.enc_image.specs.Base.{users_of, cells_fault, module_in, chain_of_base}
 use Rattle.enc_meta.proofs.Alone.{user_alone}
 use Rattle.enc_base.proofs.First.{silent}
 use Rattle.std.proofs.lemmas.Bool.{cases_lt}
@@ -38,8 +38,8 @@ use Rattle.enc_agg.proofs.Children.{owned_after}
 use Rattle.enc_agg.proofs.Paired.{row_kept, cell_kept}
 
 -- a base that isn't refused begins a sound chain
-begun_sound : (b : Source) → cells_fault b ≡ None → HasOwners (begun b).plain
-unfolding begun
+begun_sound : (b : Source) → cells_fault b ≡ None → HasOwners (chain_of_base b).plain
+unfolding chain_of_base
 begun_sound b sound = record { tables = record { all = tables_there b }; runs = begun_runs b; owned = begun_owned b sound }
 
 -- a delta that follows it leaves it so
@@ -68,7 +68,7 @@ not_found a older None rest h = (refl, h)
 not_found a older (Some k) rest h = absurd cc
 
 pub unfound_row : (b : Source) (added : List Added) (u : Token) → cells_fault b ≡ None → AllAdded b added → found_in added u ≡ None → IsTrue (has_row (chain_with b (sources added)).plain u) → IsTrue (has_row (module_in b) u)
-unfolding chain_with found_in begun
+unfolding chain_with found_in chain_of_base
 unfound_row b [] u sound all none there = there
 unfound_row b (a ∷ older) u sound all none there =
     let parts = last_added b a older all in
@@ -76,7 +76,7 @@ unfound_row b (a ∷ older) u sound all none there =
     unfound_row b older u sound parts.1 o.1 (row_kept (chain_with b (sources older)) a.delta u (with_sound b older sound parts.1) parts.0.follows.lands o.0 there)
 
 pub unfound_cell : (b : Source) (added : List Added) (u : Token) (i : ℕ) (cell : Cell) → cells_fault b ≡ None → AllAdded b added → found_in added u ≡ None → cell_of (module_in b) u i ≡ Some cell → cell_of (chain_with b (sources added)).plain u i ≡ Some cell
-unfolding chain_with found_in begun
+unfolding chain_with found_in chain_of_base
 unfound_cell b [] u i cell sound all none is = is
 unfound_cell b (a ∷ older) u i cell sound all none is =
     let parts = last_added b a older all in
@@ -144,7 +144,7 @@ unfolding chain_with extended
 heaps_with b d older = refl
 
 pub heaps_alone : (b : Source) → (chain_with b []).heaps ≡ b.heaps ∷ []
-unfolding chain_with begun
+unfolding chain_with chain_of_base
 heaps_alone b = refl
 
 -- the heaps of all: the base's and then each delta's, oldest first
@@ -170,7 +170,7 @@ no_table m t tables high = sym (ap (λ (xs : List Row). length xs) (past_tables 
 
 -- all tables are there, whatever the deltas
 pub with_tables : (b : Source) (ds : List Source) → HasTables (chain_with b ds).plain
-unfolding chain_with begun
+unfolding chain_with chain_of_base
 with_tables b [] = record { all = tables_there b }
 with_tables b (d ∷ older) = has_tables (chain_with b older) d (with_tables b older)
 
@@ -182,7 +182,7 @@ lasted b a older sound all =
 
 -- the EncIds are those that are kept, oldest first
 pub ids_are : (b : Source) (added : List Added) → AllAdded b added → (chain_with b (sources added)).ids ≡ map (λ (a : Added). a.id) (reverse added)
-unfolding chain_with begun extended
+unfolding chain_with chain_of_base extended
 ids_are b [] all = refl
 ids_are b (a ∷ older) all =
     let parts = last_added b a older all in
@@ -190,13 +190,13 @@ ids_are b (a ∷ older) all =
 
 -- there are as many as deltas
 pub ids_count : (b : Source) (ds : List Source) → length (chain_with b ds).ids ≡ length ds
-unfolding chain_with begun extended
+unfolding chain_with chain_of_base extended
 ids_count b [] = refl
 ids_count b (d ∷ older) = length-append (chain_with b older).ids (own_guid (chain_with b older) d 3 ∷ []) ∙ omega (arith, ids_count b older)
 
 -- and heaps of one more
 pub heaps_count : (b : Source) (ds : List Source) → length (chain_with b ds).heaps ≡ length ds + 1
-unfolding chain_with begun extended
+unfolding chain_with chain_of_base extended
 heaps_count b [] = refl
 heaps_count b (d ∷ older) = length-append (chain_with b older).heaps (d.heaps ∷ []) ∙ omega (arith, heaps_count b older)
 
@@ -244,7 +244,7 @@ user_kept b added more a e o units is = rw (e, reverse-append added (a ∷ [])) 
 
 -- a user text of the base is one of all
 pub base_users : (b : Source) (added : List Added) (o : ℕ) (x : List ℕ) → users_of b o ≡ Some x → joined_user (chain_with b (sources added)).heaps o ≡ Some x
-unfolding chain_with extended begun
+unfolding chain_with extended chain_of_base
 base_users b [] o x is = user_alone b.heaps o ∙ is
 base_users b (a ∷ older) o x is = user_stays (chain_with b (sources older)).heaps a.delta.heaps o x (base_users b older o x is)
 
@@ -260,7 +260,7 @@ attached_else m [] = (refl, refl)
 attached_else m (a ∷ pairs) = attached_else (attach m a) pairs
 
 pub all_else : (b : Source) (added : List Added) → ((chain_with b (sources added)).plain.resources ≡ (module_in b).resources) × ((chain_with b (sources added)).plain.entry ≡ (module_in b).entry)
-unfolding chain_with extended begun
+unfolding chain_with extended chain_of_base
 all_else b [] = (refl, refl)
 all_else b (a ∷ older) =
     let c = chain_with b (sources older) in

@@ -23,7 +23,7 @@ use Rattle.enc_plain.proofs.AlikeLaws.{each_is_alike_itself}
 use Rattle.enc_plain.proofs.KindsOf.{row_bounds, row_there}
 use Rattle.enc_delta.specs.Delta.{listed, place_in}
 use Rattle.enc_delta.specs.Rules.{broken, is_insert, rows_with}
-use Rattle.enc_delta.specs.Changes.{may_differ, is_signature_column, is_kept, altered_at, altered_in, of_nth, altered_cell}
+use Rattle.enc_delta.specs.Changes.{may_differ, is_signature_column, cell_is_kept, altered_at, altered_in, of_nth, altered_cell}
 use Rattle.enc_delta.specs.Rows.{rows_of_chain, rows_after}
 use Rattle.enc_agg.specs.Extend.{changes_of, extended}
 use Rattle.enc_agg.proofs.Tokens.{place_token}
@@ -60,12 +60,12 @@ held p a true h e = refl
 held p true false h e = absurd cc
 held p false false h e = absurd cc
 
-updated : (c : Chain) (s : Source) (u : Token) (k i : ℕ) (column : Column) → altered_cell c s ≡ None → has_row c.plain u ≡ true → place_in (listed s) u ≡ Some k → column_in u.table i ≡ Some column → may_differ u.table i ≡ false → is_kept (rows_of_chain c) (rows_after c s) u i (kind_in u.table i) ≡ true
+updated : (c : Chain) (s : Source) (u : Token) (k i : ℕ) (column : Column) → altered_cell c s ≡ None → has_row c.plain u ≡ true → place_in (listed s) u ≡ Some k → column_in u.table i ≡ Some column → may_differ u.table i ≡ false → cell_is_kept (rows_of_chain c) (rows_after c s) u i (kind_in u.table i) ≡ true
 unfolding altered_cell altered_in altered_at
 updated c s u k i column none there place e same =
     let row : altered_in c s u ≡ None = silent_of (altered_in c s) s u k none place in
     let cells : first_below (altered_at c s u) (length (columns_in u.table)) ≡ None = rw (not_insert c u there) at row in
-    held _ (may_differ u.table i) (is_kept (rows_of_chain c) (rows_after c s) u i (kind_in u.table i)) (silent (altered_at c s u) (length (columns_in u.table)) i cells (slice_get_within (columns_in u.table) i column e)) same
+    held _ (may_differ u.table i) (cell_is_kept (rows_of_chain c) (rows_after c s) u i (kind_in u.table i)) (silent (altered_at c s u) (length (columns_in u.table)) i cells (slice_get_within (columns_in u.table) i column e)) same
 
 -- the rows by which a delta is judged are those of the module after it
 pub record JudgedBy (c : Chain) (s : Source) : Type 0 where

@@ -20,7 +20,7 @@ use Rattle.enc_rows.specs.Sums.{below}
 use Rattle.enc_plain.specs.Chain.{Chain}
 use Rattle.enc_plain.specs.Sound.{IsSound}
 use Rattle.enc_plain.proofs.LoadedBytes.{AreLoaded}
-use Rattle.enc_delta.specs.Delta.{token_at, map_in, listed, loaded_code, source_from, source_with, source_in, layout_for, delta_of}
+use Rattle.enc_delta.specs.Delta.{map_token, map_in, listed, loaded_code, delta_source, source_with, source_in, delta_layout, delta_of}
 use Rattle.enc_delta.specs.Judged.{first_meta}
 use Rattle.enc_image.proofs.Opens.{each_part}
 use Rattle.enc_image.proofs.SoundCells.{raw_fits}
@@ -68,7 +68,7 @@ one_region il test r false all h = absurd cc
 code_loaded : (il : List ℕ) → EachIsByte il → AreLoaded (loaded_code il)
 code_loaded il all = record { each = λ test r h. one_region il test r (test (record { address = 0; bytes = il })) all h }
 
-made_of : (metadata il : List ℕ) (root : Root) (l : Layout) → EachIsByte metadata → EachIsByte il → IsOfBytes (source_from metadata il root l)
+made_of : (metadata il : List ℕ) (root : Root) (l : Layout) → EachIsByte metadata → EachIsByte il → IsOfBytes (delta_source metadata il root l)
 made_of metadata il root l a b = record { stream = each_part metadata root.tables a; loaded = code_loaded il b }
 
 done : Source → Result Source Refusal
@@ -80,11 +80,11 @@ same_source x s h = cc
 
 by_layout : (metadata il : List ℕ) (root : Root) (o : Result Layout Refusal) (s : Source) → EachIsByte metadata → EachIsByte il → source_with metadata il root o ≡ Ok s → IsOfBytes s
 unfolding done
-by_layout metadata il root (Ok l) s a b h = rw (← same_source (source_from metadata il root l) s h) (made_of metadata il root l a b)
+by_layout metadata il root (Ok l) s a b h = rw (← same_source (delta_source metadata il root l) s h) (made_of metadata il root l a b)
 by_layout metadata il root (Err e) s a b h = absurd cc
 
 by_root : (metadata il : List ℕ) (o : Result Root Refusal) (s : Source) → EachIsByte metadata → EachIsByte il → source_in metadata il o ≡ Ok s → IsOfBytes s
-by_root metadata il (Ok root) s a b h = by_layout metadata il root (layout_for metadata root) s a b h
+by_root metadata il (Ok root) s a b h = by_layout metadata il root (delta_layout metadata root) s a b h
 by_root metadata il (Err e) s a b h = absurd cc
 
 pub delta_bytes : (metadata il : List ℕ) (s : Source) → AreBytes metadata → AreBytes il → delta_of metadata il ≡ Ok s → IsOfBytes s
@@ -108,12 +108,12 @@ all_mapped f p [] each = refl
 all_mapped f p (x ∷ xs) each = rw (each x, all_mapped f p xs each) refl
 
 tables_few : (s : Source) → EachIsByte s.stream → list_all (λ (t : Token). nat_lt t.table 0x100) (listed s) ≡ true
-unfolding listed map_in token_at columns_in
-tables_few s all = all_filter _ (λ (t : Token). nat_lt t.table 0x100) (map_in s) (all_mapped (token_at s) (λ (t : Token). nat_lt t.table 0x100) (below (rows_of s.layout 0x1F)) (λ i. table_of (raw_in s (nth_row 0x1F i) 0) (raw_fits s (nth_row 0x1F i) 0 Num32 all refl)))
+unfolding listed map_in map_token columns_in
+tables_few s all = all_filter _ (λ (t : Token). nat_lt t.table 0x100) (map_in s) (all_mapped (map_token s) (λ (t : Token). nat_lt t.table 0x100) (below (rows_of s.layout 0x1F)) (λ i. table_of (raw_in s (nth_row 0x1F i) 0) (raw_fits s (nth_row 0x1F i) 0 Num32 all refl)))
 
 rows_few : (s : Source) → list_all (λ (t : Token). nat_lt t.row 0x1000000) (listed s) ≡ true
-unfolding listed map_in token_at
-rows_few s = all_filter _ (λ (t : Token). nat_lt t.row 0x1000000) (map_in s) (all_mapped (token_at s) (λ (t : Token). nat_lt t.row 0x1000000) (below (rows_of s.layout 0x1F)) (λ i. row_of (raw_in s (nth_row 0x1F i) 0)))
+unfolding listed map_in map_token
+rows_few s = all_filter _ (λ (t : Token). nat_lt t.row 0x1000000) (map_in s) (all_mapped (map_token s) (λ (t : Token). nat_lt t.row 0x1000000) (below (rows_of s.layout 0x1F)) (λ i. row_of (raw_in s (nth_row 0x1F i) 0)))
 
 pub bytes_follow : (c : Chain) (s : Source) → IsOfBytes s → first_meta c s ≡ None → Follows c s
 bytes_follow c s bytes none = record { lands = record { early = first_rules 14 c s none; tables = tables_few s bytes.stream; rows = rows_few s }; rules = none }

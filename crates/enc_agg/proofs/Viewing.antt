@@ -12,7 +12,7 @@ use Rattle.enc_schema.specs.declared.column.Column.{Column}
 use Rattle.enc_schema.specs.declared.column.Column.TheVariants.{Num32, Text, Guid, Blob, Index, Coded}
 use Rattle.enc_schema.specs.declared.column.Coding.{Coding}
 use Rattle.enc_schema.specs.Coding.{decoded}
-use Rattle.enc_schema.specs.Schema.{columns_in, column_in}
+use Rattle.enc_schema.specs.Schema.{columns_in, column_in, is_offset}
 use Rattle.enc_rows.specs.Layout.{rows_of}
 use Rattle.enc_rows.specs.Layout as rows
 use Rattle.enc_rows.specs.Source.{Source, raw_in}
@@ -28,7 +28,7 @@ use Rattle.enc_plain.specs.Fits.{Fits}
 use Rattle.enc_plain.proofs.Applied.{applied}
 use Rattle.enc_plain.proofs.AttachedTo.{cells_attached}
 use Rattle.enc_delta.specs.Delta.{listed, place_in, of_table}
-use Rattle.enc_delta.specs.Rules.{broken, heaps_after, rows_with, reading_after, is_index, is_offset, cell_fault, row_fault, table_fault, bad_index, bad_offset, users_after, body_stands, broken_body_at, broken_body}
+use Rattle.enc_delta.specs.Rules.{broken, heaps_after, rows_with, reading_after, is_index, cell_fault, row_fault, table_fault, bad_index, bad_offset, users_after, body_stands, broken_body_at, broken_body}
 use Rattle.enc_image.proofs.Listed.{get_below}
 use Rattle.enc_plain.proofs.Columns.{HasPlainKind, plain_kind, column_with, text_column, blob_column, guid_column, in_cells, number_for, column_there}
 use Rattle.enc_image.proofs.Rows.{made_from, within_is, coded_is}
@@ -97,7 +97,7 @@ kept_row c s u fits none there =
     has_is c.plain u ∙ ap is_some (sym (other_cells c s u fits none)) ∙ sym (has_is (extended c s).plain u) ∙ there
 
 -- the column of a listed token's cell is there, and the token's row is one of the delta's
-pub place_column : (s : Source) (u : Token) (k i : ℕ) (kind : Kind) → PlaceRow s u k → kind_in u.table i ≡ Some kind → IsSome (column_in u.table i) × IsTrue (rows.has_row s.layout (record { table = u.table; row = k }))
+pub place_column : (s : Source) (u : Token) (k i : ℕ) (kind : Kind) → PlaceRow s u k → kind_in u.table i ≡ Some kind → IsSome (column_in u.table i) × IsTrue (rows.stream_has_row s.layout (record { table = u.table; row = k }))
 place_column s u k i kind place is = (column_there u.table i kind is, grind (arith, nat_tests, place.low, place.high))
 
 asked : (a b : Bool) (p : Place) → broken (a && not b) p ≡ None → a ≡ true → b ≡ true

@@ -4,7 +4,7 @@ use Rattle.enc_base.specs.declared.token.Token.{Token}
 use Rattle.enc_rows.specs.Source.{Source}
 use Rattle.enc_plain.specs.Chain.{Chain}
 use Rattle.enc_plain.specs.Apply.{Change, apply, attach_all}
-use Rattle.enc_image.specs.Base.{begun}
+use Rattle.enc_image.specs.Base.{chain_of_base}
 use Rattle.enc_delta.specs.Delta.{listed}
 use Rattle.enc_delta.specs.Rules.{heaps_after, own_guid}
 use Rattle.enc_delta.specs.Rows.{cells_after, own_row}
@@ -20,5 +20,5 @@ extended c s = record { plain = attach_all (apply c.plain (changes_of c s)) (att
 
 -- a base with deltas, the newest first: each extends the chain of those before it
 unfoldable pub chain_with : Source → List Source → Chain
-chain_with base [] = begun base
+chain_with base [] = chain_of_base base
 chain_with base (d ∷ older) = extended (chain_with base older) d

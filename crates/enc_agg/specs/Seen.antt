@@ -67,9 +67,9 @@ abbrev pub found_seen : Found → List Added × ℕ
 found_seen f = (reverse f.upto.now, f.row)
 
 -- the number in a column of a row of the newest of some deltas
-abbrev pub number_in : List Added → Token → ℕ → ℕ
-number_in [] row column = 0
-number_in (a ∷ older) row column = raw_in a.delta row column
+abbrev pub newest_number : List Added → Token → ℕ → ℕ
+newest_number [] row column = 0
+newest_number (a ∷ older) row column = raw_in a.delta row column
 
 -- the parts of the body at a place of the newest delta's code
 abbrev pub code_in : List Added → ℕ → Option Code

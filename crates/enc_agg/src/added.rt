@@ -9,7 +9,7 @@ ghost use Rattle.enc_meta.specs.Joined.{joined_lengths};
 ghost use Rattle.enc_meta.specs.HeapKinds.{bytes_in, joined_at};
 ghost use Rattle.enc_image.specs.Base.{cells_fault};
 ghost use Rattle.enc_agg.specs.Extend.{chain_with};
-ghost use Rattle.enc_agg.specs.Seen.{sources, AllAdded, found_in, found_seen, number_in, code_in, own_place, own_guid_place};
+ghost use Rattle.enc_agg.specs.Seen.{sources, AllAdded, found_in, found_seen, newest_number, code_in, own_place, own_guid_place};
 ghost use Rattle.enc_agg.specs.Place.{heap_place, guid_place};
 
 use crate::log::{count_given, given, owner_given, push_given};
@@ -66,7 +66,7 @@ pub fn find(added: &[Added], token: Token) -> Option<Found<'_>>
 
 /// The number in a column of a row of the newest delta.
 pub fn number(added: &[Added], row: Token, column: u8) -> u32
-    ensures { number_in (reverse added.now) row column ≡ result }
+    ensures { newest_number (reverse added.now) row column ≡ result }
 {
     match newest(added) {
         Some((last, _)) => last.delta.cell(row, column),

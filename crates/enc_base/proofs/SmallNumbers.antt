@@ -5,7 +5,7 @@ use Rattle.std.specs.List.{list_all}
 use Rattle.std.specs.Int.{w8, w16, w32, from_le_bytes}
 use Rattle.std.proofs.lemmas.List.{get_or-drop}
 use Rattle.std.proofs.lemmas.Bool.Decides.{nat_tests}
-use Rattle.enc_base.specs.Numbers.{number_at, in_two, in_four, compressed, AreBytes}
+use Rattle.enc_base.specs.Numbers.{little_endian_at, in_two, in_four, compressed, AreBytes}
 
 -- each place has a byte; behind the end stands 0
 pub record EachIsByte (bytes : List ℕ) : Type 0 where
@@ -52,13 +52,13 @@ four_few : (bytes : List ℕ) → EachIsByte bytes → from_le_bytes w32 bytes <
 four_few bytes all = omega (arith, all.at 0, all.at 1, all.at 2, all.at 3)
 
 -- a number of one byte, of two and of four
-pub number8_few : (bytes : List ℕ) (at n : ℕ) → EachIsByte bytes → number_at w8 bytes at ≡ Some n → n < 2 ^ 8
+pub number8_few : (bytes : List ℕ) (at n : ℕ) → EachIsByte bytes → little_endian_at w8 bytes at ≡ Some n → n < 2 ^ 8
 number8_few bytes at n all is = if_there (nat_le (at + 1) (length bytes)) (from_le_bytes w8 (drop at bytes)) n (2 ^ 8) (one_few (drop at bytes) (each_drop bytes at all)) is
 
-pub number16_few : (bytes : List ℕ) (at n : ℕ) → EachIsByte bytes → number_at w16 bytes at ≡ Some n → n < 2 ^ 16
+pub number16_few : (bytes : List ℕ) (at n : ℕ) → EachIsByte bytes → little_endian_at w16 bytes at ≡ Some n → n < 2 ^ 16
 number16_few bytes at n all is = if_there (nat_le (at + 2) (length bytes)) (from_le_bytes w16 (drop at bytes)) n (2 ^ 16) (two_few (drop at bytes) (each_drop bytes at all)) is
 
-pub number32_few : (bytes : List ℕ) (at n : ℕ) → EachIsByte bytes → number_at w32 bytes at ≡ Some n → n < 2 ^ 32
+pub number32_few : (bytes : List ℕ) (at n : ℕ) → EachIsByte bytes → little_endian_at w32 bytes at ≡ Some n → n < 2 ^ 32
 number32_few bytes at n all is = if_there (nat_le (at + 4) (length bytes)) (from_le_bytes w32 (drop at bytes)) n (2 ^ 32) (four_few (drop at bytes) (each_drop bytes at all)) is
 
 -- and a byte

@@ -1,11 +1,24 @@
 -- Numbers in bytes: little-endian ones of fixed width, and compressed ones (ECMA-335 II.23.2).
-use Rattle.std.specs.Prelude.{◌≡◌, ℕ, ◌+◌, ◌-◌, ◌*◌, ◌<◌, ◌≤◌, List, [], ◌∷◌, ◌++◌, length, take, drop, Option, Some, None, option_map, nat_lt, nat_le, ℤ, ◌/◌, ◌%◌, ◌^◌, ◌||◌, ◌==◌, Bool, IsTrue, if◌then◌else◌, IfSome}
+use Rattle.std.specs.Prelude.{◌≡◌, ℕ, ◌+◌, ◌-◌, ◌*◌, ◌<◌, ◌≤◌, List, [], ◌∷◌, ◌++◌, length, take, drop, Option, Some, None, option_map, nat_lt, nat_le, ℤ, ◌/◌, ◌%◌, ◌^◌, ◌||◌, ◌==◌, Bool, IsTrue, if◌then◌else◌, IfSome, true, false}
 use Rattle.std.specs.List.{list_all}
 use Rattle.std.specs.Int.{Width, byte_len, from_le_bytes, w32, cast_signed}
 
 -- the little-endian number of this width at a place, where it stands whole there
-abbrev pub number_at : Width → List ℕ → ℕ → Option ℕ
-number_at w bytes at = if nat_le (at + byte_len w) (length bytes) then Some (from_le_bytes w (drop at bytes)) else None
+abbrev pub little_endian_at : Width → List ℕ → ℕ → Option ℕ
+little_endian_at w bytes at = if nat_le (at + byte_len w) (length bytes) then Some (from_le_bytes w (drop at bytes)) else None
+
+-- the least multiple of 4 that isn't less
+unfoldable pub padded : ℕ → ℕ
+padded n = (n + 3) / 4 * 4
+
+-- a flag, a power of two, stands among these
+abbrev pub has_flag : ℕ → ℕ → Bool
+has_flag flag flags = flags / flag % 2 == 1
+
+-- no bytes
+abbrev pub is_empty : List ℕ → Bool
+is_empty [] = true
+is_empty (b ∷ rest) = false
 
 -- the bytes spell the number: one byte 0xxxxxxx, two that begin 10, or four that begin 110, high byte first (II.23.2)
 abbrev pub IsCompressed : List ℕ → ℕ → Type 0

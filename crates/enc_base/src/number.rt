@@ -1,35 +1,35 @@
 //! Numbers at a place, and numbers appended: little-endian ones of fixed width, and compressed ones.
 ghost use Rattle.std.specs.Prelude.{◌≡◌, ℕ, ◌+◌, ◌^◌, ◌<◌, ◌≤◌, ◌++◌, length, drop, is_ok, if◌then◌else◌, IfSome, IsTrue, OnOk, option_map, replicate};
 ghost use Rattle.std.specs.Int.{w8, w16, w32, w64, cast_unsigned, from_le_bytes, to_le_bytes};
-ghost use Rattle.enc_base.specs.Numbers.{number_at, compressed, compressed_at, signed_of, half_of, signed_at, is_within, rotated, one_byte, two_bytes, four_bytes, spelled, spelled_signed};
+ghost use Rattle.enc_base.specs.Numbers.{little_endian_at, compressed, compressed_at, signed_of, half_of, signed_at, is_within, rotated, one_byte, two_bytes, four_bytes, spelled, spelled_signed};
 
 use byteorder::{ByteOrder, LittleEndian};
 use std::alloc::AllocError;
 
 /// The byte at the place, None past the end.
 pub fn u8_at(bytes: &[u8], at: usize) -> Option<u8>
-    ensures { result ≡ number_at w8 bytes.now at }
+    ensures { result ≡ little_endian_at w8 bytes.now at }
 {
     Some(*bytes.get(at..)?.first()?)
 }
 
 /// The little-endian number in the two bytes at the place, None where they don't stand whole there.
 pub fn u16_at(bytes: &[u8], at: usize) -> Option<u16>
-    ensures { result ≡ number_at w16 bytes.now at }
+    ensures { result ≡ little_endian_at w16 bytes.now at }
 {
     Some(LittleEndian::read_u16(bytes.get(at..)?.get(..2)?))
 }
 
 /// The little-endian number in the four bytes at the place, None where they don't stand whole there.
 pub fn u32_at(bytes: &[u8], at: usize) -> Option<u32>
-    ensures { result ≡ number_at w32 bytes.now at }
+    ensures { result ≡ little_endian_at w32 bytes.now at }
 {
     Some(LittleEndian::read_u32(bytes.get(at..)?.get(..4)?))
 }
 
 /// The little-endian number in the eight bytes at the place, None where they don't stand whole there.
 pub fn u64_at(bytes: &[u8], at: usize) -> Option<u64>
-    ensures { result ≡ number_at w64 bytes.now at }
+    ensures { result ≡ little_endian_at w64 bytes.now at }
 {
     Some(LittleEndian::read_u64(bytes.get(at..)?.get(..8)?))
 }

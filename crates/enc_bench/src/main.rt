@@ -4,7 +4,7 @@
 ghost use Rattle.std.specs.Prelude.{◌≡◌, IfOk, is_some, not};
 ghost use Rattle.enc_meta.specs.Heaps.{part};
 ghost use Rattle.enc_rows.specs.Layout.{IsWithin};
-ghost use Rattle.enc_rows.specs.Runs.{rows_with};
+ghost use Rattle.enc_rows.specs.Runs.{table_stream};
 ghost use Rattle.enc_rows.specs.Fault.{index_fault};
 
 use enc_base::Counts;
@@ -17,7 +17,7 @@ use std::{env, io};
 /// No index of the tables is bad.
 fn are_good(tables: &Tables, alloc: Global, bytes: &[u8]) -> Result<bool, AllocError>
     requires bytes { IsWithin (part bytes.now tables.now.span) tables.now }
-    ensures { IfOk result (λ good. good ≡ not (is_some (index_fault (rows_with bytes.now tables.now)))) }
+    ensures { IfOk result (λ good. good ≡ not (is_some (index_fault (table_stream bytes.now tables.now)))) }
 {
     let place = tables.first_bad_index(alloc, bytes)?;
     Ok(place.is_none())

@@ -13,8 +13,8 @@ use Rattle.enc_rows.specs.Sums.{below}
 use Rattle.enc_rows.specs.Layout.{rows_of, raw_cell}
 use Rattle.enc_rows.specs.Source.{Source}
 use Rattle.enc_delta.specs.declared.open.Opened.{Opened}
-use Rattle.enc_delta.specs.Delta.{token_at, is_module, map_in, listed, place_in, source_from}
-use Rattle.enc_delta.specs.Seen.{IsOpened, IsRising}
+use Rattle.enc_delta.specs.Delta.{map_token, is_module, map_in, listed, place_in, delta_source}
+use Rattle.enc_delta.specs.Seen.{IsDeltaOpened, IsRising}
 use Rattle.enc_delta.proofs.Listed.{map_none, map_get, tokens_kept, tokens_left}
 use Rattle.enc_delta.proofs.Placing.{place_behind, keep, place_start, place_module, place_table, place_row, place_found, map_past}
 
@@ -24,8 +24,8 @@ unfolding columns_in
 map_column = refl
 
 -- a token's number is the number that stands in the map
-pub number_read : (bytes il : List ℕ) (o : Opened) (i n : ℕ) → IsOpened bytes o → raw_cell (part bytes o.tables.span) o.tables (nth_row 0x1F i) 0 ≡ Some n → number_of (token_at (source_from bytes il o.root o.tables) i) ≡ n
-unfolding token_at
+pub number_read : (bytes il : List ℕ) (o : Opened) (i n : ℕ) → IsDeltaOpened bytes o → raw_cell (part bytes o.tables.span) o.tables (nth_row 0x1F i) 0 ≡ Some n → number_of (map_token (delta_source bytes il o.root o.tables) i) ≡ n
+unfolding map_token
 number_read bytes il o i n opened e = rw (← opened.span, e) (omega arith)
 
 -- one number more, not less than a bound past those before it
@@ -127,13 +127,13 @@ cut_from f m (suc n) up =
     let e : suc n ≡ n + 1 = omega arith in
     rw e (cut_step f n m (λ i j a b. up i j a (omega arith)) (cut_from f m n (λ i j a b. up i j a (omega arith))))
 
-pub cut_at : (s : Source) (m : ℕ) → IsRising s → IsCut (token_at s) (rows_of s.layout 0x1F) m (count_by (λ (t : Token). nat_lt (number_of t) m) (map_in s))
+pub cut_at : (s : Source) (m : ℕ) → IsRising s → IsCut (map_token s) (rows_of s.layout 0x1F) m (count_by (λ (t : Token). nat_lt (number_of t) m) (map_in s))
 unfolding map_in
-cut_at s m up = cut_from (token_at s) m (rows_of s.layout 0x1F) up
+cut_at s m up = cut_from (map_token s) m (rows_of s.layout 0x1F) up
 
 -- where it is cut is the count of smaller numbers
-pub cut_is : (s : Source) (m k : ℕ) → IsRising s → IsCut (token_at s) (rows_of s.layout 0x1F) m k → k ≡ count_by (λ (t : Token). nat_lt (number_of t) m) (map_in s)
-cut_is s m k up cut = cut_unique (token_at s) (rows_of s.layout 0x1F) m k _ cut (cut_at s m up)
+pub cut_is : (s : Source) (m k : ℕ) → IsRising s → IsCut (map_token s) (rows_of s.layout 0x1F) m k → k ≡ count_by (λ (t : Token). nat_lt (number_of t) m) (map_in s)
+cut_is s m k up cut = cut_unique (map_token s) (rows_of s.layout 0x1F) m k _ cut (cut_at s m up)
 
 -- the half in front of a lesser number, and the half behind one that isn't less
 pub front_less : (f : ℕ → Token) (n m k : ℕ) → RisesTo f n → k < n → number_of (f k) < m → (i : ℕ) → i < k + 1 → number_of (f i) < m
@@ -148,11 +148,11 @@ back_rest f n m k up h i a b = elim (cases_lt k i) [
   | inr d ↦ let i_is : i ≡ k = omega arith in rw i_is h
 ]
 
-pub cut_by : (s : Source) (m k : ℕ) → IsRising s → k ≡ count_by (λ (t : Token). nat_lt (number_of t) m) (map_in s) → IsCut (token_at s) (rows_of s.layout 0x1F) m k
+pub cut_by : (s : Source) (m k : ℕ) → IsRising s → k ≡ count_by (λ (t : Token). nat_lt (number_of t) m) (map_in s) → IsCut (map_token s) (rows_of s.layout 0x1F) m k
 cut_by s m k up e = rw e (cut_at s m up)
 
-row_fits : (s : Source) (i : ℕ) → (token_at s i).row < 0x1000000
-unfolding token_at
+row_fits : (s : Source) (i : ℕ) → (map_token s i).row < 0x1000000
+unfolding map_token
 row_fits s i = omega arith
 
 -- a token with a lesser number than all of a table is of another one
@@ -167,20 +167,20 @@ no_module : (t u : Token) → 0 < u.table → t.table ≡ u.table → is_module 
 no_module t u some e = let h : (t.table == 0) ≡ false = grind (arith, nat_tests) in rw h refl
 
 -- past a token of another table
-skip_step : (n i : ℕ) (s : Source) (u : Token) (o : Option ℕ) (b : Bool) → is_module (token_at s i) ≡ b → i < rows_of s.layout 0x1F → ((token_at s i).table == u.table) ≡ false → place_behind n (keep (drop i (map_in s))) u ≡ o → place_behind n (keep (drop (i + 1) (map_in s))) u ≡ o
-skip_step n i s u o true m fit a h = place_module n i (map_in s) (token_at s i) u o (map_get s i fit) m h
-skip_step n i s u o false m fit a h = place_table n i (map_in s) (token_at s i) u o (map_get s i fit) m a h
+skip_step : (n i : ℕ) (s : Source) (u : Token) (o : Option ℕ) (b : Bool) → is_module (map_token s i) ≡ b → i < rows_of s.layout 0x1F → ((map_token s i).table == u.table) ≡ false → place_behind n (keep (drop i (map_in s))) u ≡ o → place_behind n (keep (drop (i + 1) (map_in s))) u ≡ o
+skip_step n i s u o true m fit a h = place_module n i (map_in s) (map_token s i) u o (map_get s i fit) m h
+skip_step n i s u o false m fit a h = place_table n i (map_in s) (map_token s i) u o (map_get s i fit) m a h
 
 -- in front of a table none of its tokens stands
-up_to_table : (s : Source) (u : Token) (first b : ℕ) → first ≡ u.table * 0x1000000 → IsCut (token_at s) (rows_of s.layout 0x1F) first b → (k : ℕ) → k ≤ b → place_behind 0 (keep (drop k (map_in s))) u ≡ place_in (listed s) u
+up_to_table : (s : Source) (u : Token) (first b : ℕ) → first ≡ u.table * 0x1000000 → IsCut (map_token s) (rows_of s.layout 0x1F) first b → (k : ℕ) → k ≤ b → place_behind 0 (keep (drop k (map_in s))) u ≡ place_in (listed s) u
 up_to_table s u first b e cut zero h = place_start s u
 up_to_table s u first b e cut (suc k) h =
     let next : suc k ≡ k + 1 = omega arith in
-    let less : number_of (token_at s k) < first = cut.less k (omega arith) in
-    rw next (skip_step 0 k s u _ (is_module (token_at s k)) refl (omega (arith, cut.within)) (other_table (token_at s k) u (rw e at less)) (up_to_table s u first b e cut k (omega arith)))
+    let less : number_of (map_token s k) < first = cut.less k (omega arith) in
+    rw next (skip_step 0 k s u _ (is_module (map_token s k)) refl (omega (arith, cut.within)) (other_table (map_token s k) u (rw e at less)) (up_to_table s u first b e cut k (omega arith)))
 
 -- in a table each token in front of one is of the table too
-in_table : (s : Source) (u : Token) (m first i b : ℕ) → 0 < u.table → u.row < 0x1000000 → m ≡ number_of u → first ≡ u.table * 0x1000000 → IsCut (token_at s) (rows_of s.layout 0x1F) m i → IsCut (token_at s) (rows_of s.layout 0x1F) first b → (d : ℕ) → b + d ≤ i → place_behind d (keep (drop (b + d) (map_in s))) u ≡ place_in (listed s) u
+in_table : (s : Source) (u : Token) (m first i b : ℕ) → 0 < u.table → u.row < 0x1000000 → m ≡ number_of u → first ≡ u.table * 0x1000000 → IsCut (map_token s) (rows_of s.layout 0x1F) m i → IsCut (map_token s) (rows_of s.layout 0x1F) first b → (d : ℕ) → b + d ≤ i → place_behind d (keep (drop (b + d) (map_in s))) u ≡ place_in (listed s) u
 in_table s u m first i b some fit is start cut front zero h =
     let e : b + 0 ≡ b = omega arith in
     rw e (up_to_table s u first b start front b (omega arith))
@@ -188,27 +188,27 @@ in_table s u m first i b some fit is start cut front (suc d) h =
     let e : b + suc d ≡ b + d + 1 = omega arith in
     let f : suc d ≡ d + 1 = omega arith in
     let there : b + d < rows_of s.layout 0x1F = omega (arith, cut.within) in
-    let less : number_of (token_at s (b + d)) < m = cut.less (b + d) (omega arith) in
-    let more : first ≤ number_of (token_at s (b + d)) = front.rest (b + d) (omega arith) there in
-    let same = same_table (token_at s (b + d)) u (row_fits s (b + d)) fit (rw start at more) (rw is at less) in
-    let table : ((token_at s (b + d)).table == u.table) ≡ true = grind (arith, nat_tests, same.0) in
-    let row : ((token_at s (b + d)).row == u.row) ≡ false = grind (arith, nat_tests, same.1) in
-    rw (e, f) (place_row d (b + d) (map_in s) (token_at s (b + d)) u _ (map_get s (b + d) there) (no_module (token_at s (b + d)) u some same.0) table row (in_table s u m first i b some fit is start cut front d (omega arith)))
+    let less : number_of (map_token s (b + d)) < m = cut.less (b + d) (omega arith) in
+    let more : first ≤ number_of (map_token s (b + d)) = front.rest (b + d) (omega arith) there in
+    let same = same_table (map_token s (b + d)) u (row_fits s (b + d)) fit (rw start at more) (rw is at less) in
+    let table : ((map_token s (b + d)).table == u.table) ≡ true = grind (arith, nat_tests, same.0) in
+    let row : ((map_token s (b + d)).row == u.row) ≡ false = grind (arith, nat_tests, same.1) in
+    rw (e, f) (place_row d (b + d) (map_in s) (map_token s (b + d)) u _ (map_get s (b + d) there) (no_module (map_token s (b + d)) u some same.0) table row (in_table s u m first i b some fit is start cut front d (omega arith)))
 
 -- a table begins no later than one of its tokens stands
-pub first_before : (s : Source) (u : Token) (m first i b : ℕ) → m ≡ number_of u → first ≡ u.table * 0x1000000 → IsCut (token_at s) (rows_of s.layout 0x1F) m i → IsCut (token_at s) (rows_of s.layout 0x1F) first b → b ≤ i
+pub first_before : (s : Source) (u : Token) (m first i b : ℕ) → m ≡ number_of u → first ≡ u.table * 0x1000000 → IsCut (map_token s) (rows_of s.layout 0x1F) m i → IsCut (map_token s) (rows_of s.layout 0x1F) first b → b ≤ i
 first_before s u m first i b is start cut front = elim (cases_lt i b) [
-  | inl h ↦ absurd (let less : number_of (token_at s i) < first = front.less i h in let more : m ≤ number_of (token_at s i) = cut.rest i (omega arith) (omega (arith, front.within)) in omega arith)
+  | inl h ↦ absurd (let less : number_of (map_token s i) < first = front.less i h in let more : m ≤ number_of (map_token s i) = cut.rest i (omega arith) (omega (arith, front.within)) in omega arith)
   | inr h ↦ h
 ]
 
 -- the token that stands where the map is cut by its number has its place from where its table begins
-pub place_at : (s : Source) (u : Token) (m first i b : ℕ) → 0 < u.table → m ≡ number_of u → first ≡ u.table * 0x1000000 → IsCut (token_at s) (rows_of s.layout 0x1F) m i → IsCut (token_at s) (rows_of s.layout 0x1F) first b → i < rows_of s.layout 0x1F → (token_at s i).table ≡ u.table → (token_at s i).row ≡ u.row → Some (i - b + 1) ≡ place_in (listed s) u
+pub place_at : (s : Source) (u : Token) (m first i b : ℕ) → 0 < u.table → m ≡ number_of u → first ≡ u.table * 0x1000000 → IsCut (map_token s) (rows_of s.layout 0x1F) m i → IsCut (map_token s) (rows_of s.layout 0x1F) first b → i < rows_of s.layout 0x1F → (map_token s i).table ≡ u.table → (map_token s i).row ≡ u.row → Some (i - b + 1) ≡ place_in (listed s) u
 place_at s u m first i b some is start cut front there table row =
     let at : b + (i - b) ≡ i = omega (arith, first_before s u m first i b is start cut front) in
     let fit : u.row < 0x1000000 = omega (arith, row_fits s i, row) in
     let behind = in_table s u m first i b some fit is start cut front (i - b) (omega (arith, at)) in
-    place_found (i - b) i (map_in s) (token_at s i) u _ (map_get s i there) (no_module (token_at s i) u some table) (grind (arith, nat_tests, table)) (grind (arith, nat_tests, row)) (rw at at behind)
+    place_found (i - b) i (map_in s) (map_token s i) u _ (map_get s i there) (no_module (map_token s i) u some table) (grind (arith, nat_tests, table)) (grind (arith, nat_tests, row)) (rw at at behind)
 
 absent_step : (n : ℕ) (t u : Token) (ts : List Token) (m a b : Bool) → is_module t ≡ m → (t.table == u.table) ≡ a → (t.row == u.row) ≡ b → (a && b) ≡ false → place_behind (n + 1) (keep ts) u ≡ None → place_behind n (keep ts) u ≡ None → place_behind n (keep (t ∷ ts)) u ≡ None
 absent_step n t u ts true a b m same row differ next here = rw m here
@@ -229,25 +229,25 @@ both_false t u true false same row h = refl
 both_false t u false b same row h = refl
 
 -- only where it is cut by a token's number the token can stand
-only_there : (s : Source) (u : Token) (m i k : ℕ) → IsRising s → m ≡ number_of u → IsCut (token_at s) (rows_of s.layout 0x1F) m i → (i < rows_of s.layout 0x1F → (token_at s i).table ≡ u.table → (token_at s i).row ≡ u.row → ⊥) → k < rows_of s.layout 0x1F → (token_at s k).table ≡ u.table → (token_at s k).row ≡ u.row → ⊥
+only_there : (s : Source) (u : Token) (m i k : ℕ) → IsRising s → m ≡ number_of u → IsCut (map_token s) (rows_of s.layout 0x1F) m i → (i < rows_of s.layout 0x1F → (map_token s i).table ≡ u.table → (map_token s i).row ≡ u.row → ⊥) → k < rows_of s.layout 0x1F → (map_token s k).table ≡ u.table → (map_token s k).row ≡ u.row → ⊥
 only_there s u m i k up is cut not_it there table row =
-    let number : number_of (token_at s k) ≡ m = omega arith in
+    let number : number_of (map_token s k) ≡ m = omega arith in
     elim (cases_lt k i) [
-      | inl a ↦ let less : number_of (token_at s k) < m = cut.less k a in omega arith
+      | inl a ↦ let less : number_of (map_token s k) < m = cut.less k a in omega arith
       | inr a ↦ elim (cases_lt i k) [
-        | inl b ↦ let more : m ≤ number_of (token_at s i) = cut.rest i (omega arith) (omega arith) in let less : number_of (token_at s i) < number_of (token_at s k) = up i k b there in omega arith
+        | inl b ↦ let more : m ≤ number_of (map_token s i) = cut.rest i (omega arith) (omega arith) in let less : number_of (map_token s i) < number_of (map_token s k) = up i k b there in omega arith
         | inr b ↦ let k_is : k ≡ i = omega arith in not_it (omega arith) (rw k_is at table) (rw k_is at row)
       ]
     ]
 
-none_at : (s : Source) (u : Token) (m i k : ℕ) (t : Token) → IsRising s → m ≡ number_of u → IsCut (token_at s) (rows_of s.layout 0x1F) m i → (i < rows_of s.layout 0x1F → (token_at s i).table ≡ u.table → (token_at s i).row ≡ u.row → ⊥) → slice_get (map_in s) k ≡ Some t → is_token t u ≡ false
+none_at : (s : Source) (u : Token) (m i k : ℕ) (t : Token) → IsRising s → m ≡ number_of u → IsCut (map_token s) (rows_of s.layout 0x1F) m i → (i < rows_of s.layout 0x1F → (map_token s i).table ≡ u.table → (map_token s i).row ≡ u.row → ⊥) → slice_get (map_in s) k ≡ Some t → is_token t u ≡ false
 none_at s u m i k t up is cut not_it get = elim (cases_lt k (rows_of s.layout 0x1F)) [
   | inl a ↦
-      let e : token_at s k ≡ t = let there = map_get s k a in cc in
-      rw (← e) (both_false (token_at s k) u _ _ refl refl (only_there s u m i k up is cut not_it a))
+      let e : map_token s k ≡ t = let there = map_get s k a in cc in
+      rw (← e) (both_false (map_token s k) u _ _ refl refl (only_there s u m i k up is cut not_it a))
   | inr a ↦ absurd (let none = map_past s k a in cc)
 ]
 
 -- a token that doesn't stand where the map is cut by its number has no place
-pub place_absent : (s : Source) (u : Token) (m i : ℕ) → IsRising s → m ≡ number_of u → IsCut (token_at s) (rows_of s.layout 0x1F) m i → (i < rows_of s.layout 0x1F → (token_at s i).table ≡ u.table → (token_at s i).row ≡ u.row → ⊥) → None ≡ place_in (listed s) u
+pub place_absent : (s : Source) (u : Token) (m i : ℕ) → IsRising s → m ≡ number_of u → IsCut (map_token s) (rows_of s.layout 0x1F) m i → (i < rows_of s.layout 0x1F → (map_token s i).table ≡ u.table → (map_token s i).row ≡ u.row → ⊥) → None ≡ place_in (listed s) u
 place_absent s u m i up is cut not_it = sym (absent 0 (map_in s) u (λ k t e. none_at s u m i k t up is cut not_it e)) ∙ place_start s u

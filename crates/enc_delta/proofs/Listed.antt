@@ -7,7 +7,7 @@ use Rattle.std.proofs.lemmas.List.{append-nil}
 use Rattle.enc_rows.specs.Sums.{below}
 use Rattle.enc_rows.specs.Source.{Source}
 use Rattle.enc_rows.specs.Layout.{rows_of}
-use Rattle.enc_delta.specs.Delta.{entry_at, token_at, log_in, map_in}
+use Rattle.enc_delta.specs.Delta.{entry_at, map_token, log_in, map_in}
 
 from_get : {X : Type 0} (f : ℕ → X) (a n i : ℕ) → i < n → slice_get (map f (range_with_len a n)) i ≡ Some (f (a + i))
 from_get f a zero i h = absurd (omega arith)
@@ -47,9 +47,9 @@ pub log_get : (s : Source) (i : ℕ) → i < rows_of s.layout 0x1E → slice_get
 unfolding log_in
 log_get s i h = get_below (entry_at s) _ i h
 
-pub map_get : (s : Source) (i : ℕ) → i < rows_of s.layout 0x1F → slice_get (map_in s) i ≡ Some (token_at s i)
+pub map_get : (s : Source) (i : ℕ) → i < rows_of s.layout 0x1F → slice_get (map_in s) i ≡ Some (map_token s i)
 unfolding map_in
-map_get s i h = get_below (token_at s) _ i h
+map_get s i h = get_below (map_token s) _ i h
 
 bool_both : (a b : Bool) → (a && b) ≡ true → (a ≡ true) × (b ≡ true)
 bool_both true true h = (refl, refl)

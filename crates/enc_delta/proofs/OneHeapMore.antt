@@ -10,15 +10,15 @@ use Rattle.std.proofs.lemmas.List.{take_all, drop_all}
 use Rattle.std.proofs.lemmas.List.Sums.{sum_by-append}
 use Rattle.std.proofs.lemmas.Bool.Decides.{nat_tests, eqb_tells}
 use Rattle.enc_base.specs.Order.{or_else}
-use Rattle.enc_meta.specs.Heaps.{Counted, sixteen_at, guid_at, text_entry, bytes_at, user_entry}
+use Rattle.enc_meta.specs.Heaps.{Counted, sixteen_at, guid_at, text_entry, blob_entry, user_entry, nil_guid}
 use Rattle.enc_meta.specs.declared.heap.Heap.{Heap}
 use Rattle.enc_meta.specs.declared.heap.Heap.TheVariants as heap
-use Rattle.enc_meta.specs.HeapKinds.{bytes_in, entry_at, joined_at, length_in}
+use Rattle.enc_meta.specs.HeapKinds.{bytes_in, heap_entry, joined_at, length_in}
 use Rattle.enc_meta.proofs.Alone.{entry_here}
 use Rattle.enc_meta.specs.Joined.{first_guid, joined_guid, joined_length, entry_in, joined_entry, joined_text, joined_blob, joined_user}
 use Rattle.enc_meta.specs.declared.heaps.HeapLengths.{HeapLengths}
 use Rattle.enc_meta.specs.Joined.{joined_lengths}
-use Rattle.enc_plain.specs.Chain.{Chain, id_of, nil_guid, mvid_of}
+use Rattle.enc_plain.specs.Chain.{Chain, id_of, mvid_of}
 use Rattle.enc_plain.specs.Module.{Row, row_at, row_of, rows_in, cell_of}
 
 -- a heap that has the sixteen answers with them
@@ -151,14 +151,14 @@ of_lengths heap.Users heaps t is = ap (λ (u : HeapLengths). u.users) is
 of_lengths heap.Blobs heaps t is = ap (λ (u : HeapLengths). u.blobs) is
 
 pub heap_before : (k : Heap) (xs : List Counted) (x : Counted) (t : HeapLengths) (o : ℕ) → t ≡ joined_lengths xs → o < length_in k t → joined_at k (xs ++ x ∷ []) o ≡ joined_at k xs o
-heap_before k xs x t o is lt = joined_before (entry_at k) (bytes_in k) xs x (length_in k t) o (of_lengths k xs t is) lt
+heap_before k xs x t o is lt = joined_before (heap_entry k) (bytes_in k) xs x (length_in k t) o (of_lengths k xs t is) lt
 
-entry_alone : (k : Heap) (x : List ℕ) (o : ℕ) → entry_in (entry_at k) (x ∷ []) o ≡ entry_at k x o
+entry_alone : (k : Heap) (x : List ℕ) (o : ℕ) → entry_in (heap_entry k) (x ∷ []) o ≡ heap_entry k x o
 unfolding entry_in
 entry_alone k x o = entry_here k x o
 
-pub heap_behind : (k : Heap) (xs : List Counted) (x : Counted) (t : HeapLengths) (o : ℕ) → t ≡ joined_lengths xs → o ≢ 0 → length_in k t ≤ o → joined_at k (xs ++ x ∷ []) o ≡ entry_at k (bytes_in k x) (o - length_in k t)
-heap_behind k xs x t o is some le = joined_behind (entry_at k) (bytes_in k) xs x (length_in k t) o (of_lengths k xs t is) some le ∙ entry_alone k (bytes_in k x) (o - length_in k t)
+pub heap_behind : (k : Heap) (xs : List Counted) (x : Counted) (t : HeapLengths) (o : ℕ) → t ≡ joined_lengths xs → o ≢ 0 → length_in k t ≤ o → joined_at k (xs ++ x ∷ []) o ≡ heap_entry k (bytes_in k x) (o - length_in k t)
+heap_behind k xs x t o is some le = joined_behind (heap_entry k) (bytes_in k) xs x (length_in k t) o (of_lengths k xs t is) some le ∙ entry_alone k (bytes_in k x) (o - length_in k t)
 
 pub text_before : (xs : List Counted) (x : Counted) (t : HeapLengths) (o : ℕ) → t ≡ joined_lengths xs → o < t.strings → joined_text (xs ++ x ∷ []) o ≡ joined_text xs o
 text_before xs x t o is lt = heap_before heap.Strings xs x t o is lt

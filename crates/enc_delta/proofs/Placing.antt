@@ -11,7 +11,7 @@ use Rattle.enc_rows.specs.Layout.{rows_of}
 use Rattle.enc_rows.specs.Source.{Source}
 use Rattle.std.specs.List.{range_with_len}
 use Rattle.enc_rows.specs.Sums.{below}
-use Rattle.enc_delta.specs.Delta.{token_at, is_module, map_in, listed, of_table, place_in}
+use Rattle.enc_delta.specs.Delta.{map_token, is_module, map_in, listed, of_table, place_in}
 
 -- the position of a token among its table's where n of them stand before
 abbrev pub place_behind : ℕ → List Token → Token → Option ℕ
@@ -117,9 +117,9 @@ length_below f n = from_length f 0 n
 
 pub map_past : (s : Source) (i : ℕ) → rows_of s.layout 0x1F ≤ i → slice_get (map_in s) i ≡ None
 unfolding map_in
-map_past s i h = slice_get_past _ i (omega (arith, length_below (token_at s) (rows_of s.layout 0x1F)))
+map_past s i h = slice_get_past _ i (omega (arith, length_below (map_token s) (rows_of s.layout 0x1F)))
 
 -- behind the last entry there is none
 pub place_end : (n i : ℕ) (s : Source) (u : Token) (o : Option ℕ) → rows_of s.layout 0x1F ≤ i → place_behind n (keep (drop i (map_in s))) u ≡ o → None ≡ o
 unfolding map_in
-place_end n i s u o h e = rw (drop_past (map (token_at s) (below (rows_of s.layout 0x1F))) i (rw (length_below (token_at s) (rows_of s.layout 0x1F)) h)) at e
+place_end n i s u o h e = rw (drop_past (map (map_token s) (below (rows_of s.layout 0x1F))) i (rw (length_below (map_token s) (rows_of s.layout 0x1F)) h)) at e

@@ -4,7 +4,8 @@ use Rattle.enc_base.specs.declared.token.Token.{Token}
 use Rattle.enc_schema.specs.declared.column.Column.{Column}
 use Rattle.enc_delta.specs.declared.cells.CellRule.{CellRule}
 use Rattle.enc_delta.specs.declared.cells.CellRule.TheVariants as rule
-use Rattle.enc_delta.specs.Rules.{is_index, is_offset}
+use Rattle.enc_schema.specs.Schema.{is_offset}
+use Rattle.enc_delta.specs.Rules.{is_index}
 
 -- the columns of which a rule speaks
 abbrev pub speaks : CellRule → Column → Bool

@@ -6,7 +6,8 @@ use Rattle.enc_base.specs.declared.token.Token.{Token}
 use Rattle.enc_base.specs.declared.refusal.Place.{Place}
 use Rattle.enc_base.specs.declared.refusal.Place.TheVariants as place
 use Rattle.enc_schema.specs.Schema.{columns_in}
-use Rattle.enc_opcodes.specs.Body.{Code, has_flag, begins_locals}
+use Rattle.enc_base.specs.Numbers.{has_flag}
+use Rattle.enc_opcodes.specs.Body.{Code, begins_locals}
 use Rattle.enc_rows.specs.Source.{Source, raw_in}
 use Rattle.enc_plain.specs.Cell.{Kind, numbers, texts, blobs, references, kind_in}
 use Rattle.enc_plain.specs.Rows.{Rows, number_at, bytes_at, token_at}
@@ -32,16 +33,16 @@ abbrev pub is_signature_column : ℕ → ℕ → Bool
 is_signature_column table i = unwrap_or (signature_column table) 0xFF == i
 
 -- a cell says what it said: numbers, texts and blobs are equal, tokens and signatures alike. A body may change (II.22.26); no update has a GUID or the bytes of a field
-abbrev pub is_kept : Rows → Rows → Token → ℕ → Option Kind → Bool
-is_kept old new t i (Some numbers) = number_at old t i == number_at new t i
-is_kept old new t i (Some texts) = bytes_eq (bytes_at old t i) (bytes_at new t i)
-is_kept old new t i (Some blobs) = if is_signature_column t.table i then signatures_alike new t.table (bytes_at old t i) (bytes_at new t i) else bytes_eq (bytes_at old t i) (bytes_at new t i)
-is_kept old new t i (Some references) = tokens_alike new (token_at old t i) (token_at new t i)
-is_kept old new t i _ = true
+abbrev pub cell_is_kept : Rows → Rows → Token → ℕ → Option Kind → Bool
+cell_is_kept old new t i (Some numbers) = number_at old t i == number_at new t i
+cell_is_kept old new t i (Some texts) = bytes_eq (bytes_at old t i) (bytes_at new t i)
+cell_is_kept old new t i (Some blobs) = if is_signature_column t.table i then signatures_alike new t.table (bytes_at old t i) (bytes_at new t i) else bytes_eq (bytes_at old t i) (bytes_at new t i)
+cell_is_kept old new t i (Some references) = tokens_alike new (token_at old t i) (token_at new t i)
+cell_is_kept old new t i _ = true
 
 -- E15: an updated row says something else in a column that may not differ
 unfoldable pub altered_at : Chain → Source → Token → ℕ → Option Place
-altered_at c s t i = broken (not (may_differ t.table i) && not (is_kept (rows_of_chain c) (rows_after c s) t i (kind_in t.table i))) (place.Cell t i)
+altered_at c s t i = broken (not (may_differ t.table i) && not (cell_is_kept (rows_of_chain c) (rows_after c s) t i (kind_in t.table i))) (place.Cell t i)
 
 unfoldable pub altered_in : Chain → Source → Token → Option Place
 altered_in c s t = if is_insert c t then None else first_below (altered_at c s t) (length (columns_in t.table))

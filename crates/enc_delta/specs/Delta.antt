@@ -8,7 +8,7 @@ use Rattle.enc_meta.specs.Root.{root_of}
 use Rattle.enc_meta.specs.Regions.{Region}
 use Rattle.enc_meta.specs.Heaps.{part, heaps_of}
 use Rattle.enc_rows.specs.Sums.{below}
-use Rattle.enc_rows.specs.Layout.{Layout, rows_of, tables_of}
+use Rattle.enc_rows.specs.Layout.{Layout, rows_of, stream_tables}
 use Rattle.enc_rows.specs.Source.{Source, raw_in}
 use Rattle.enc_delta.specs.declared.entry.Entry.{Entry}
 use Rattle.enc_rows.specs.declared.form.Form.TheVariants as form
@@ -23,15 +23,15 @@ is_module t = t.table == 0 && t.row == 1
 unfoldable pub entry_at : Source → ℕ → Entry
 entry_at s i = record { token = token_of (raw_in s (nth_row tables.enc_log i) columns.enc_log_token); code = raw_in s (nth_row tables.enc_log i) columns.enc_log_func_code }
 
-unfoldable pub token_at : Source → ℕ → Token
-token_at s i = token_of (raw_in s (nth_row tables.enc_map i) columns.enc_map_token)
+unfoldable pub map_token : Source → ℕ → Token
+map_token s i = token_of (raw_in s (nth_row tables.enc_map i) columns.enc_map_token)
 
 -- EncLog and EncMap as they stand
 unfoldable pub log_in : Source → List Entry
 log_in s = map (entry_at s) (below (rows_of s.layout tables.enc_log))
 
 unfoldable pub map_in : Source → List Token
-map_in s = map (token_at s) (below (rows_of s.layout tables.enc_map))
+map_in s = map (map_token s) (below (rows_of s.layout tables.enc_map))
 
 -- the tokens of EncMap but the Module's
 unfoldable pub listed : Source → List Token
@@ -50,20 +50,20 @@ abbrev pub loaded_code : List ℕ → List Region
 loaded_code il = record { address = 0; bytes = il } ∷ []
 
 -- the parts of a delta with this code, and metadata with this root and this layout
-abbrev pub source_from : List ℕ → List ℕ → Root → Layout → Source
-source_from bytes il root l = record { stream = part bytes root.tables; layout = l; heaps = heaps_of bytes root; loaded = loaded_code il; resources = []; entry = 0; bare = true }
+abbrev pub delta_source : List ℕ → List ℕ → Root → Layout → Source
+delta_source bytes il root l = record { stream = part bytes root.tables; layout = l; heaps = heaps_of bytes root; loaded = loaded_code il; resources = []; entry = 0; bare = true }
 
 -- the parts of a delta, or F1, F2, F6 of its metadata
 abbrev pub source_with : List ℕ → List ℕ → Root → Result Layout Refusal → Result Source Refusal
-source_with bytes il root (Ok l) = Ok (source_from bytes il root l)
+source_with bytes il root (Ok l) = Ok (delta_source bytes il root l)
 source_with bytes il root (Err e) = Err e
 
 -- the layout of a delta's table stream, or F6
-unfoldable pub layout_for : List ℕ → Root → Result Layout Refusal
-layout_for bytes root = tables_of bytes root.tables form.Delta root.jtd (replicate 64 0)
+unfoldable pub delta_layout : List ℕ → Root → Result Layout Refusal
+delta_layout bytes root = stream_tables bytes root.tables form.Delta root.jtd (replicate 64 0)
 
 abbrev pub source_in : List ℕ → List ℕ → Result Root Refusal → Result Source Refusal
-source_in bytes il (Ok root) = source_with bytes il root (layout_for bytes root)
+source_in bytes il (Ok root) = source_with bytes il root (delta_layout bytes root)
 source_in bytes il (Err e) = Err e
 
 unfoldable pub delta_of : List ℕ → List ℕ → Result Source Refusal

@@ -7,14 +7,14 @@ use Rattle.enc_base.specs.declared.token.Token.{Token}
 use Rattle.enc_base.specs.declared.refusal.Place.{Place}
 use Rattle.enc_base.specs.declared.refusal.Place.TheVariants as place
 use Rattle.enc_base.specs.declared.refusal.StreamName.TheVariants as name
-use Rattle.enc_meta.specs.Heaps.{Counted}
+use Rattle.enc_meta.specs.Heaps.{Counted, nil_guid}
 use Rattle.enc_meta.specs.Joined.{joined_text, joined_blob, joined_user, joined_guid, joined_length, guid_entries}
 use Rattle.enc_schema.specs.declared.column.Column.{Column}
-use Rattle.enc_schema.specs.declared.column.Column.TheVariants.{Text, Guid, Blob, Index, Coded}
-use Rattle.enc_schema.specs.Schema.{columns_in, column_in}
+use Rattle.enc_schema.specs.declared.column.Column.TheVariants.{Index, Coded}
+use Rattle.enc_schema.specs.Schema.{columns_in, column_in, is_offset}
 use Rattle.enc_rows.specs.Layout.{rows_of}
 use Rattle.enc_rows.specs.Source.{Source, raw_in}
-use Rattle.enc_plain.specs.Chain.{Chain, nil_guid, id_of, rows_before, mvid_of}
+use Rattle.enc_plain.specs.Chain.{Chain, id_of, rows_before, mvid_of}
 use Rattle.enc_plain.specs.Reading.{Reading, cell_read}
 use Rattle.enc_plain.specs.Cell.{Cell, body}
 use Rattle.enc_plain.specs.Module.{cell_of}
@@ -225,18 +225,12 @@ is_index (Index table) = true
 is_index (Coded kind) = true
 is_index _ = false
 
-abbrev pub is_offset : Column → Bool
-is_offset Text = true
-is_offset Guid = true
-is_offset Blob = true
-is_offset _ = false
-
 -- a cell of these columns isn't good; its place is told by the token that its row stands for
-abbrev pub breaks : Chain → Source → (Column → Bool) → Token → ℕ → Column → Bool
-breaks c s asks row i column = asks column && not (is_some (cell_read (reading_after c s) column (raw_in s row i)))
+abbrev pub cell_breaks : Chain → Source → (Column → Bool) → Token → ℕ → Column → Bool
+cell_breaks c s asks row i column = asks column && not (is_some (cell_read (reading_after c s) column (raw_in s row i)))
 
 unfoldable pub cell_fault : Chain → Source → (Column → Bool) → Token → Token → ℕ → Option Place
-cell_fault c s asks token row i = option_and_then (λ (column : Column). broken (breaks c s asks row i column) (place.Cell token i)) (column_in row.table i)
+cell_fault c s asks token row i = option_and_then (λ (column : Column). broken (cell_breaks c s asks row i column) (place.Cell token i)) (column_in row.table i)
 
 unfoldable pub row_fault : Chain → Source → (Column → Bool) → ℕ → ℕ → Option Place
 row_fault c s asks table r = option_and_then (λ token. first_below (cell_fault c s asks token (nth_row table r)) (length (columns_in table))) (slice_get (of_table table (listed s)) r)

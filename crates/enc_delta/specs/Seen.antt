@@ -9,16 +9,16 @@ use Rattle.enc_meta.specs.Heaps.{part, ends_of}
 use Rattle.enc_rows.specs.Layout.{IsWithin, rows_of}
 use Rattle.enc_rows.specs.Source.{Source}
 use Rattle.enc_delta.specs.declared.open.Opened.{Opened}
-use Rattle.enc_delta.specs.Delta.{source_from, token_at}
+use Rattle.enc_delta.specs.Delta.{delta_source, map_token}
 use Rattle.enc_schema.specs.Tables as tables
 
 -- a root and its tables with the file's bytes
-abbrev pub opened_source : List ℕ → List ℕ → Result Opened Refusal → Result Source Refusal
-opened_source bytes il (Ok o) = Ok (source_from bytes il o.root o.tables)
-opened_source bytes il (Err e) = Err e
+abbrev pub opened_delta : List ℕ → List ℕ → Result Opened Refusal → Result Source Refusal
+opened_delta bytes il (Ok o) = Ok (delta_source bytes il o.root o.tables)
+opened_delta bytes il (Err e) = Err e
 
 -- the root, the ends of its texts and the tables were read from these bytes
-pub record IsOpened (bytes : List ℕ) (o : Opened) : Type 0 where
+pub record IsDeltaOpened (bytes : List ℕ) (o : Opened) : Type 0 where
   pub root : root_of bytes ≡ Ok o.root
   pub ends : o.ends ≡ ends_of bytes o.root
   pub span : o.tables.span ≡ o.root.tables
@@ -26,15 +26,15 @@ pub record IsOpened (bytes : List ℕ) (o : Opened) : Type 0 where
 
 -- each token of EncMap has a greater number than those before it
 abbrev pub IsRising : Source → Type 0
-IsRising s = (i j : ℕ) → i < j → j < rows_of s.layout tables.enc_map → number_of (token_at s i) < number_of (token_at s j)
+IsRising s = (i j : ℕ) → i < j → j < rows_of s.layout tables.enc_map → number_of (map_token s i) < number_of (map_token s j)
 
 -- the root and the tables of a delta, and whether its map rises
 pub record IsRead (bytes il : List ℕ) (o : Opened) (rises : Bool) : Type 0 where
-  pub opened : IsOpened bytes o
-  pub rising : IsTrue rises ↔ IsRising (source_from bytes il o.root o.tables)
+  pub opened : IsDeltaOpened bytes o
+  pub rising : IsTrue rises ↔ IsRising (delta_source bytes il o.root o.tables)
 
 -- what was read is the delta; what was refused is refused by the first rule; want of memory tells nothing
-abbrev pub Reads : Result Source ReadFault → Result Source Refusal → Type 0
-Reads (Ok s) delta = delta ≡ Ok s
-Reads (Err (Refused e)) delta = delta ≡ Err e
-Reads (Err Memory) delta = Unit {0}
+abbrev pub ReadsDelta : Result Source ReadFault → Result Source Refusal → Type 0
+ReadsDelta (Ok s) delta = delta ≡ Ok s
+ReadsDelta (Err (Refused e)) delta = delta ≡ Err e
+ReadsDelta (Err Memory) delta = Unit {0}

@@ -5,7 +5,7 @@ use Rattle.enc_delta.specs.declared.rules.Stop.{Stop}
 use Rattle.enc_delta.specs.declared.rules.Stop.TheVariants.{Memory, Broken}
 
 -- no rule is broken, or the first broken one is told; want of memory tells nothing
-abbrev pub Asked : Result (Unit {0}) Stop → Option Refusal → Type 0
-Asked (Ok u) first = first ≡ None
-Asked (Err (Broken refusal)) first = first ≡ Some refusal
-Asked (Err Memory) first = Unit {0}
+abbrev pub TellsFirst : Result (Unit {0}) Stop → Option Refusal → Type 0
+TellsFirst (Ok u) first = first ≡ None
+TellsFirst (Err (Broken refusal)) first = first ≡ Some refusal
+TellsFirst (Err Memory) first = Unit {0}

@@ -4,12 +4,12 @@ ghost use Rattle.enc_meta.specs.Heaps.{lengths_of};
 ghost use Rattle.enc_opcodes.specs.Body.{code_seen};
 ghost use Rattle.enc_plain.specs.Bodies.{code_there, code_loaded};
 ghost use Rattle.enc_schema.specs.Schema.{column_in};
-ghost use Rattle.enc_rows.specs.Layout.{rows_of, has_row};
+ghost use Rattle.enc_rows.specs.Layout.{rows_of, stream_has_row};
 ghost use Rattle.enc_rows.specs.Source.{raw_in};
 ghost use Rattle.enc_base.specs.Token.{nth_row};
-ghost use Rattle.enc_delta.specs.Delta.{delta_of, entry_at, token_at, log_in, map_in, listed};
+ghost use Rattle.enc_delta.specs.Delta.{delta_of, entry_at, map_token, log_in, map_in, listed};
 ghost use Rattle.enc_base.specs.declared.refusal.ReadFault.TheVariants.{Memory};
-ghost use Rattle.enc_delta.specs.Seen.{Reads, IsRising};
+ghost use Rattle.enc_delta.specs.Seen.{ReadsDelta, IsRising};
 ghost use Rattle.enc_schema.specs.Tables.{enc_log, enc_map};
 
 use crate::code::{body_from, code_at};
@@ -38,12 +38,12 @@ pub struct Delta {
 
 impl Model for Delta {
     ghost use Rattle.enc_rows.specs.Source.{Source};
-    ghost use Rattle.enc_delta.specs.Delta.{source_from};
+    ghost use Rattle.enc_delta.specs.Delta.{delta_source};
     ghost use Rattle.enc_delta.specs.Seen.{IsRead};
 
     ghost Value = { Source };
 
-    ghost view = { λ d. source_from d.meta.items d.il.items d.root d.tables };
+    ghost view = { λ d. delta_source d.meta.items d.il.items d.root d.tables };
 
     ghost invariant = { λ d. IsRead d.meta.items d.il.items (record { root = d.root; ends = d.ends; tables = d.tables }) d.rises };
 }
@@ -52,7 +52,7 @@ impl Delta {
     /// Reads a delta. Refused is the first of F1, F2, F6 of its metadata. It takes no memory, and goes
     /// over EncMap once.
     pub fn read(meta: Vec<u8>, il: Vec<u8>) -> Result<Delta, ReadFault>
-        ensures reads { Reads result (delta_of meta.items il.items) }
+        ensures reads { ReadsDelta result (delta_of meta.items il.items) }
         ensures free { IfErr result (λ fault. fault ≢ Memory) }
     {
         match open(&meta, &il) {
@@ -89,7 +89,7 @@ impl Delta {
 
     /// The number that stands in a cell. One step.
     pub fn raw<L: Ledger>(&self, row: Token, column: u8, steps: &mut Steps<L>) -> u32
-        requires row { IsTrue (has_row self.now.layout row) }
+        requires row { IsTrue (stream_has_row self.now.layout row) }
         requires column { IsSome (column_in row.table column) }
         ensures raw { result ≡ raw_in self.now row column }
         ensures steps { steps.new ≡ steps.old + 1 }
@@ -193,12 +193,12 @@ impl Delta {
     }
 
     /// A token of EncMap, from 0, for a caller that counts nothing.
-    #[tactic(auto, unfolding(crate::specs::Delta::token_at))]
+    #[tactic(auto, unfolding(crate::specs::Delta::map_token))]
     pub fn token(&self, i: u32) -> Token
         requires there { i < rows_of self.now.layout enc_map }
         requires few { i < 2 ^ 24 }
         ensures token { slice_get (map_in self.now) i ≡ Some result }
-        ensures at { result ≡ token_at self.now i }
+        ensures at { result ≡ map_token self.now i }
         ensures table { result.table < 2 ^ 8 }
         ensures row { result.row < 2 ^ 24 }
     {

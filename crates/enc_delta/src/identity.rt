@@ -13,7 +13,7 @@ use enc_plain::ChainView;
 const MODULE: Token = Token { table: 0, row: 1 };
 
 /// A GUID of the delta's Module row; one that can't be read is nil.
-#[tactic(auto, unfolding(crate::specs::Rules::own_guid, enc_plain::specs::Chain::nil_guid))]
+#[tactic(auto, unfolding(crate::specs::Rules::own_guid, enc_meta::specs::Heaps::nil_guid))]
 fn own_guid<C: ChainView>(chain: &C, delta: &Delta, column: u8) -> [u8; 16]
     ensures { result ≡ own_guid (C.chain chain.now) delta.now column }
 {
@@ -31,7 +31,7 @@ pub fn enc_id_of<C: ChainView>(chain: &C, delta: &Delta) -> [u8; 16]
 }
 
 /// The Mvid of the module before; nil where it has no Module row.
-#[tactic(auto, unfolding(enc_plain::specs::Chain::nil_guid, enc_plain::specs::Module::has_row))]
+#[tactic(auto, unfolding(enc_meta::specs::Heaps::nil_guid, enc_plain::specs::Module::has_row))]
 fn mvid_of<C: ChainView>(chain: &C) -> [u8; 16]
     ensures { result ≡ mvid_of (C.chain chain.now) }
 {
@@ -95,7 +95,7 @@ fn is_used<C: ChainView>(chain: &C, id: &[u8]) -> bool
 }
 
 /// Its EncId is nil or was used.
-#[tactic(auto, unfolding(crate::specs::Rules::id_taken, enc_plain::specs::Chain::nil_guid))]
+#[tactic(auto, unfolding(crate::specs::Rules::id_taken, enc_meta::specs::Heaps::nil_guid))]
 pub fn id_taken<C: ChainView>(context: &Context<'_, C>) -> Option<Place>
     ensures { result ≡ id_taken context.now.chain context.now.delta }
 {

@@ -5,7 +5,7 @@ ghost use Rattle.enc_plain.specs.Rows.{bytes_at};
 ghost use Rattle.enc_plain.specs.Signatures.{signature_column};
 ghost use Rattle.enc_delta.specs.Gains.{breaks, has_signature};
 ghost use Rattle.enc_delta.specs.Rules.{is_insert};
-ghost use Rattle.enc_opcodes.specs.Body.{has_flag};
+ghost use Rattle.enc_base.specs.Numbers.{has_flag};
 ghost use Rattle.enc_delta.specs.Context.{joined_rows};
 ghost use Rattle.enc_delta.specs.Pairs.{attached_of};
 ghost use Rattle.enc_delta.specs.Members.{pair_seen, ArePairs};

@@ -2,8 +2,8 @@
 ghost use Rattle.std.specs.Prelude.{◌≡◌, ◌↔◌, IfOk, IsTrue};
 ghost use Rattle.enc_meta.specs.Heaps.{part};
 ghost use Rattle.enc_rows.specs.Layout.{IsWithin};
-ghost use Rattle.enc_delta.specs.Delta.{layout_for, delta_of, source_from};
-ghost use Rattle.enc_delta.specs.Seen.{opened_source, IsOpened, IsRising};
+ghost use Rattle.enc_delta.specs.Delta.{delta_layout, delta_of, delta_source};
+ghost use Rattle.enc_delta.specs.Seen.{opened_delta, IsDeltaOpened, IsRising};
 
 use crate::delta::nth_row;
 use enc_base::{Counts, Refusal};
@@ -20,9 +20,9 @@ pub struct Opened {
 }
 
 /// The tables of a root.
-#[tactic(auto, unfolding(crate::specs::Delta::layout_for))]
+#[tactic(auto, unfolding(crate::specs::Delta::delta_layout))]
 fn tables_in(bytes: &[u8], root: &Root) -> Result<Tables, Refusal>
-    ensures tables { result ≡ layout_for bytes.now root.now }
+    ensures tables { result ≡ delta_layout bytes.now root.now }
     ensures within { IfOk result (λ l. IsWithin (part bytes.now root.now.tables) l × (l.span ≡ root.now.tables)) }
 {
     let none = Counts { rows: [0; 64] };
@@ -33,8 +33,8 @@ fn tables_in(bytes: &[u8], root: &Root) -> Result<Tables, Refusal>
 /// that goes with it nothing is read.
 #[tactic(auto, unfolding(crate::specs::Delta::delta_of))]
 pub fn open(bytes: &[u8], il: &[u8]) -> Result<Opened, Refusal>
-    ensures source { opened_source bytes.now il.now result ≡ delta_of bytes.now il.now }
-    ensures opened { IfOk result (IsOpened bytes.now) }
+    ensures source { opened_delta bytes.now il.now result ≡ delta_of bytes.now il.now }
+    ensures opened { IfOk result (IsDeltaOpened bytes.now) }
 {
     let _ = il;
     let root = match read_root(bytes) {
@@ -51,8 +51,8 @@ pub fn open(bytes: &[u8], il: &[u8]) -> Result<Opened, Refusal>
 /// Whether each token of EncMap has a greater number than those before it. Of the code nothing is
 /// read.
 pub fn is_rising(bytes: &[u8], il: &[u8], opened: &Opened) -> bool
-    requires { IsOpened bytes.now opened.now }
-    ensures { IsTrue result ↔ IsRising (source_from bytes.now il.now opened.now.root opened.now.tables) }
+    requires { IsDeltaOpened bytes.now opened.now }
+    ensures { IsTrue result ↔ IsRising (delta_source bytes.now il.now opened.now.root opened.now.tables) }
 {
     let _ = il;
     let mut least: u64 = 0;

@@ -1,7 +1,7 @@
 //! The first rule that a delta breaks after its chain: one list of rules, each with its number.
 ghost use Rattle.std.specs.Prelude.{◌≡◌, None, Some, Ok, Err, IfOk};
 ghost use Rattle.enc_delta.specs.Judged.{refused, first_of, rules, first_meta};
-ghost use Rattle.enc_delta.specs.Stops.{Asked};
+ghost use Rattle.enc_delta.specs.Stops.{TellsFirst};
 
 use crate::bodies::{broken_body, lost_body};
 use crate::cells::{bad_index, bad_offset, too_many};
@@ -40,7 +40,7 @@ impl From<AllocError> for Stop {
 
 /// What a rule of this number says: it is broken at a place, or it isn't.
 fn rule(n: u8, place: Option<Place>) -> Result<(), Stop>
-    ensures { Asked result (refused n place) }
+    ensures { TellsFirst result (refused n place) }
 {
     match place {
         Some(place) => Err(Stop::Broken(Refusal {
@@ -53,7 +53,7 @@ fn rule(n: u8, place: Option<Place>) -> Result<(), Stop>
 
 /// Asks the rules, in this order, up to the first that is broken. Rule 22 is one of PDBs.
 fn ask<C: ChainView>(alloc: Global, context: &Context<'_, C>) -> Result<(), Stop>
-    ensures { Asked result (first_of rules context.now.chain context.now.delta) }
+    ensures { TellsFirst result (first_of rules context.now.chain context.now.delta) }
 {
     rule(1, other_module(context))?;
     rule(2, not_next(context))?;

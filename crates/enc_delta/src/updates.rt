@@ -6,7 +6,7 @@ ghost use Rattle.enc_plain.specs.Cell.{is_body, is_field, kind_of, kind_in, blob
 ghost use Rattle.enc_delta.specs.Context.{joined_rows};
 ghost use Rattle.enc_delta.specs.Delta.{listed};
 ghost use Rattle.enc_delta.specs.Rows.{rows_of_chain};
-ghost use Rattle.enc_delta.specs.Changes.{may_differ, is_signature_column, is_kept, altered_at, altered_in, of_nth, altered_cell};
+ghost use Rattle.enc_delta.specs.Changes.{may_differ, is_signature_column, cell_is_kept, altered_at, altered_in, of_nth, altered_cell};
 
 use crate::context::Context;
 use crate::known::is_insert;
@@ -39,7 +39,7 @@ fn is_place(table: u8, column: u8) -> bool
 /// A blob is what it was; a signature is alike.
 fn is_blob_kept<C: ChainView>(context: &Context<'_, C>, token: Token, column: u8) -> bool
     requires { kind_in token.table column ≡ Some blobs }
-    ensures { result ≡ is_kept (rows_of_chain context.now.chain) (joined_rows context.now) token column (Some blobs) }
+    ensures { result ≡ cell_is_kept (rows_of_chain context.now.chain) (joined_rows context.now) token column (Some blobs) }
 {
     let old = context.old.blob(token, column);
     let new = context.blob(token, column);
@@ -53,7 +53,7 @@ fn is_blob_kept<C: ChainView>(context: &Context<'_, C>, token: Token, column: u8
 fn is_kept<C: ChainView>(context: &Context<'_, C>, token: Token, i: u8, column: Column) -> bool
     requires column { column_in token.table i ≡ Some column }
     requires place { (is_body token.table i || is_field token.table i) ≡ false }
-    ensures { result ≡ is_kept (rows_of_chain context.now.chain) (joined_rows context.now) token i (kind_of column) }
+    ensures { result ≡ cell_is_kept (rows_of_chain context.now.chain) (joined_rows context.now) token i (kind_of column) }
 {
     match column {
         Column::Num8 | Column::Num16 | Column::Num32 => {

@@ -3,12 +3,12 @@ use Rattle.std.proofs.Common.{◌≡◌, ℕ, suc, ◌+◌, ◌^◌, ◌<◌, �
 use Rattle.std.specs.Prelude.{Option, codes, nat_lt, option_and_then, if◌then◌else◌}
 use Rattle.std.specs.Int.{w16}
 use Rattle.std.proofs.lemmas.Bool.Decides.{nat_tests}
-use Rattle.enc_base.specs.Numbers.{number_at}
+use Rattle.enc_base.specs.Numbers.{little_endian_at}
 use Rattle.enc_base.specs.Order.{first_below}
 use Rattle.enc_base.specs.declared.refusal.StreamName.{StreamName}
-use Rattle.enc_meta.specs.Root.{Header, headers, streams, version_len, known, stands, fault_of, stream_fault, root_with, root_or_fault, root_in, root_of}
+use Rattle.enc_meta.specs.Root.{Header, headers, streams, version_len, known, has_stream, fault_of, stream_fault, root_with, root_or_fault, root_in, root_of}
 use Rattle.enc_meta.specs.declared.span.Span.{Span}
-use Rattle.enc_emit.specs.Written.{header_written, table_name}
+use Rattle.enc_emit.specs.Written.{stream_header_written, table_name}
 use Rattle.enc_emit.proofs.Rests.{Rests, header_here, header_past, one_more, none_yet}
 use Rattle.enc_emit.proofs.Names.{tables_name, strings_name, users_name, guids_name, blobs_name, jtd_name}
 
@@ -41,7 +41,7 @@ abbrev pub six : Bool → Spans → ℕ → List Header
 six u s start = header (table_name u) s.tables ∷ header (codes "#Strings") s.strings ∷ header (codes "#US") s.users ∷ header (codes "#GUID") s.guids ∷ header (codes "#Blob") s.blobs ∷ jtd_header start ∷ []
 
 abbrev pub header_of : List ℕ → Span → List ℕ
-header_of name span = header_written name span.start span.len
+header_of name span = stream_header_written name span.start span.len
 
 abbrev pub five_written : Bool → Spans → List ℕ → List ℕ
 five_written u s rest = header_of (table_name u) s.tables ++ (header_of (codes "#Strings") s.strings ++ (header_of (codes "#US") s.users ++ (header_of (codes "#GUID") s.guids ++ (header_of (codes "#Blob") s.blobs ++ rest))))
@@ -65,13 +65,13 @@ five_there bytes u s size rest fit small r0 =
     let e5 = one_more bytes 32 4 92 108 _ _ e4 h4 in
     (e5, r5)
 
-pub six_there : (bytes : List ℕ) (u : Bool) (s : Spans) (size start : ℕ) (rest : List ℕ) → Ends size s → size < 2 ^ 32 → start ≤ size → Rests bytes 32 (five_written u s (header_written (codes "#JTD") start 0 ++ rest)) → (headers bytes 32 6 ≡ Some (six u s start, 124)) × Rests bytes 124 rest
+pub six_there : (bytes : List ℕ) (u : Bool) (s : Spans) (size start : ℕ) (rest : List ℕ) → Ends size s → size < 2 ^ 32 → start ≤ size → Rests bytes 32 (five_written u s (stream_header_written (codes "#JTD") start 0 ++ rest)) → (headers bytes 32 6 ≡ Some (six u s start, 124)) × Rests bytes 124 rest
 six_there bytes u s size start rest fit small le r =
-    let f = five_there bytes u s size (header_written (codes "#JTD") start 0 ++ rest) fit small r in
+    let f = five_there bytes u s size (stream_header_written (codes "#JTD") start 0 ++ rest) fit small r in
     let h5 = header_here bytes 108 124 (codes "#JTD") 8 start 0 rest jtd_name (omega (arith, small, le)) (omega arith) f.1 refl in
     (one_more bytes 32 5 108 124 (five u s) _ f.0 h5, header_past bytes 108 124 (codes "#JTD") 8 start 0 rest jtd_name f.1 refl)
 
-pub streams_are : (bytes : List ℕ) (count end : ℕ) (all : List Header) → version_len bytes ≡ Some 12 → number_at w16 bytes 30 ≡ Some count → headers bytes 32 count ≡ Some (all, end) → streams bytes ≡ Some all
+pub streams_are : (bytes : List ℕ) (count end : ℕ) (all : List Header) → version_len bytes ≡ Some 12 → little_endian_at w16 bytes 30 ≡ Some count → headers bytes 32 count ≡ Some (all, end) → streams bytes ≡ Some all
 unfolding streams
 streams_are bytes count end all v n e = rw (v, n, e) refl
 
@@ -80,11 +80,11 @@ unfolding root_of root_in root_or_fault
 root_is bytes all e none = rw (e, none) refl
 
 -- a header that isn't at fault, and so many of them
-pub no_fault : (size : ℕ) (before : List Header) (h : Header) → stands h.name before ≡ false → h.span.start + h.span.len ≤ size → fault_of size before h ≡ None
+pub no_fault : (size : ℕ) (before : List Header) (h : Header) → has_stream h.name before ≡ false → h.span.start + h.span.len ≤ size → fault_of size before h ≡ None
 unfolding fault_of
 no_fault size before h new fits =
     let test : nat_lt size (h.span.start + h.span.len) ≡ false = grind (arith, nat_tests, fits) in
-    by (known h.name) (stands h.name before) _ new test
+    by (known h.name) (has_stream h.name before) _ new test
   where
     by : (o : Option StreamName) (a b : Bool) → a ≡ false → b ≡ false → option_and_then (λ which. if a || b then Some which else None) o ≡ None
     by None a b x y = refl

@@ -2,7 +2,7 @@
 use Rattle.std.proofs.Common.{◌≡◌, ℕ, ◌+◌, ◌≤◌, Bool, true, false, List, [], length, take, Some, None, refl, arith}
 use Rattle.std.specs.Prelude.{codes, slice_get}
 use Rattle.enc_base.specs.Order.{first_below}
-use Rattle.enc_meta.specs.Root.{Header, stands, fault_at, stream_fault, has_one_table_stream, span_of, root_with}
+use Rattle.enc_meta.specs.Root.{Header, has_stream, fault_at, stream_fault, has_one_table_stream, span_of, root_with}
 use Rattle.enc_meta.specs.declared.root.Root.{Root}
 use Rattle.enc_emit.specs.Written.{table_name}
 use Rattle.enc_emit.proofs.Five.{Spans, Ends, five, six, jtd_header, no_fault, none_more, none_first}
@@ -12,46 +12,46 @@ unfolding stream_fault
 fault_with size all none one = rw (none, one) refl
 
 -- a header that is the k-th of all
-fault_place : (size k : ℕ) (all before : List Header) (h : Header) → take k all ≡ before → slice_get all k ≡ Some h → stands h.name before ≡ false → h.span.start + h.span.len ≤ size → fault_at size all k ≡ None
+fault_place : (size k : ℕ) (all before : List Header) (h : Header) → take k all ≡ before → slice_get all k ≡ Some h → has_stream h.name before ≡ false → h.span.start + h.span.len ≤ size → fault_at size all k ≡ None
 unfolding fault_at
 fault_place size k all before h front here new fits = rw (front, here) (no_fault size before h new fits)
 
 one_table_five : (u : Bool) (s : Spans) → has_one_table_stream (five u s) ≡ true
-unfolding has_one_table_stream stands
+unfolding has_one_table_stream has_stream
 one_table_five true s = refl
 one_table_five false s = refl
 
 one_table_six : (u : Bool) (s : Spans) (start : ℕ) → has_one_table_stream (six u s start) ≡ true
-unfolding has_one_table_stream stands
+unfolding has_one_table_stream has_stream
 one_table_six true s start = refl
 one_table_six false s start = refl
 
-none_stands : (text : List ℕ) → stands text [] ≡ false
-unfolding stands
+none_stands : (text : List ℕ) → has_stream text [] ≡ false
+unfolding has_stream
 none_stands text = refl
 
-new_1 : (u : Bool) (s : Spans) → stands (codes "#Strings") (take 1 (five u s)) ≡ false
-unfolding stands
+new_1 : (u : Bool) (s : Spans) → has_stream (codes "#Strings") (take 1 (five u s)) ≡ false
+unfolding has_stream
 new_1 true s = refl
 new_1 false s = refl
 
-new_2 : (u : Bool) (s : Spans) → stands (codes "#US") (take 2 (five u s)) ≡ false
-unfolding stands
+new_2 : (u : Bool) (s : Spans) → has_stream (codes "#US") (take 2 (five u s)) ≡ false
+unfolding has_stream
 new_2 true s = refl
 new_2 false s = refl
 
-new_3 : (u : Bool) (s : Spans) → stands (codes "#GUID") (take 3 (five u s)) ≡ false
-unfolding stands
+new_3 : (u : Bool) (s : Spans) → has_stream (codes "#GUID") (take 3 (five u s)) ≡ false
+unfolding has_stream
 new_3 true s = refl
 new_3 false s = refl
 
-new_4 : (u : Bool) (s : Spans) → stands (codes "#Blob") (take 4 (five u s)) ≡ false
-unfolding stands
+new_4 : (u : Bool) (s : Spans) → has_stream (codes "#Blob") (take 4 (five u s)) ≡ false
+unfolding has_stream
 new_4 true s = refl
 new_4 false s = refl
 
-new_5 : (u : Bool) (s : Spans) → stands (codes "#JTD") (five u s) ≡ false
-unfolding stands
+new_5 : (u : Bool) (s : Spans) → has_stream (codes "#JTD") (five u s) ≡ false
+unfolding has_stream
 new_5 true s = refl
 new_5 false s = refl
 
@@ -96,11 +96,11 @@ root_for jtd u s = record {
 }
 
 pub five_root : (u : Bool) (s : Spans) → root_with (five u s) ≡ root_for false u s
-unfolding root_with span_of stands
+unfolding root_with span_of has_stream
 five_root true s = refl
 five_root false s = refl
 
 pub six_root : (u : Bool) (s : Spans) (start : ℕ) → root_with (six u s start) ≡ root_for true u s
-unfolding root_with span_of stands
+unfolding root_with span_of has_stream
 six_root true s start = refl
 six_root false s start = refl

@@ -6,7 +6,7 @@ use Rattle.std.proofs.lemmas.List.{length-replicate}
 use Rattle.std.proofs.lemmas.List.Sums.{sum_by-cons}
 use Rattle.std.proofs.lemmas.Bool.{and_parts, and_from}
 use Rattle.enc_meta.specs.Heaps.{Counted}
-use Rattle.enc_meta.specs.Root.{padded}
+use Rattle.enc_base.specs.Numbers.{padded}
 use Rattle.enc_meta.specs.Built.{none_from, with_text, text_bytes, user_bytes, blob_bytes, heap_bytes, guid_bytes, joined_end, heaps_built, AreWithinLimits}
 use Rattle.enc_meta.specs.declared.heaps.HeapLengths.{HeapLengths}
 use Rattle.enc_meta.specs.declared.span.Span.{Span}

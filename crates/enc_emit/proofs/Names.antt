@@ -2,8 +2,8 @@
 use Rattle.std.proofs.Common.{◌≡◌, ℕ, ◌+◌, ◌≤◌, Bool, true, false, List, ◌++◌, length, drop, refl, arith, length-append, le-leb}
 use Rattle.std.specs.Prelude.{Some, codes, nat_le, if◌then◌else◌}
 use Rattle.std.specs.Int.{Width, byte_len, w16, w32, from_le_bytes}
-use Rattle.enc_base.specs.Numbers.{number_at}
-use Rattle.enc_meta.specs.Root.{version_len, padded}
+use Rattle.enc_base.specs.Numbers.{little_endian_at, padded}
+use Rattle.enc_meta.specs.Root.{version_len}
 use Rattle.enc_emit.specs.Written.{front_written, table_name}
 use Rattle.enc_emit.proofs.Rests.{IsName}
 
@@ -36,7 +36,7 @@ pub front_size : (count : ℕ) → length (front_written count) ≡ 32
 unfolding front_written
 front_size count = refl
 
-number_from : (w : Width) (bytes : List ℕ) (at n : ℕ) → at + byte_len w ≤ length bytes → from_le_bytes w (drop at bytes) ≡ n → number_at w bytes at ≡ Some n
+number_from : (w : Width) (bytes : List ℕ) (at n : ℕ) → at + byte_len w ≤ length bytes → from_le_bytes w (drop at bytes) ≡ n → little_endian_at w bytes at ≡ Some n
 number_from w bytes at n size e =
     let test : nat_le (at + byte_len w) (length bytes) ≡ true = le-leb _ _ size in
     rw (test, e) refl
@@ -44,7 +44,7 @@ number_from w bytes at n size e =
 front_long : (count : ℕ) (rest : List ℕ) → 32 ≤ length (front_written count ++ rest)
 front_long count rest = omega (arith, length-append (front_written count) rest, front_size count)
 
-version_from : (bytes : List ℕ) → number_at w32 bytes 0 ≡ Some 0x424A5342 → number_at w32 bytes 8 ≡ Some 0 → number_at w32 bytes 12 ≡ Some 12 → version_len bytes ≡ Some 12
+version_from : (bytes : List ℕ) → little_endian_at w32 bytes 0 ≡ Some 0x424A5342 → little_endian_at w32 bytes 8 ≡ Some 0 → little_endian_at w32 bytes 12 ≡ Some 12 → version_len bytes ≡ Some 12
 unfolding version_len
 version_from bytes a b c = rw (a, b, c) refl
 
@@ -73,6 +73,6 @@ unfolding front_written
 count_there true rest = refl
 count_there false rest = refl
 
-pub front_count : (jtd : Bool) (rest : List ℕ) → number_at w16 (front_written (if jtd then 6 else 5) ++ rest) 30 ≡ Some (if jtd then 6 else 5)
+pub front_count : (jtd : Bool) (rest : List ℕ) → little_endian_at w16 (front_written (if jtd then 6 else 5) ++ rest) 30 ≡ Some (if jtd then 6 else 5)
 front_count jtd rest =
     number_from w16 (front_written (if jtd then 6 else 5) ++ rest) 30 (if jtd then 6 else 5) (omega (arith, front_long (if jtd then 6 else 5) rest)) (count_there jtd rest)

@@ -2,10 +2,11 @@
 use Rattle.std.proofs.Common.{◌≡◌, ℕ, ◌+◌, ◌-◌, ◌^◌, ◌<◌, ◌≤◌, Bool, true, false, List, [], ◌++◌, length, Some, Ok, refl, sym, ap, ◌∙◌, arith, append_assoc}
 use Rattle.std.specs.Prelude.{codes, replicate, if◌then◌else◌}
 use Rattle.std.proofs.lemmas.List.{append-nil}
-use Rattle.enc_meta.specs.Root.{version_len, padded, root_of}
+use Rattle.enc_base.specs.Numbers.{padded}
+use Rattle.enc_meta.specs.Root.{version_len, root_of}
 use Rattle.enc_meta.specs.Heaps.{Counted, counted_strings, heaps_of, part}
 use Rattle.enc_meta.specs.declared.root.Root.{Root}
-use Rattle.enc_emit.specs.Written.{header_written, headers_written, front_written, root_written, in_fours, table_name, HoldsStreams, RootIsRead}
+use Rattle.enc_emit.specs.Written.{stream_header_written, stream_headers_written, front_written, root_written, in_fours, table_name, HoldsStreams, RootIsRead}
 use Rattle.enc_emit.proofs.Rests.{Rests, at_begin, as_split, past, part_here, rest_size, fours_size}
 use Rattle.enc_emit.proofs.Names.{front_size, front_version, front_count}
 use Rattle.enc_emit.proofs.Five.{Spans, Ends, five, six, header_of, five_written, five_there, six_there, streams_are, root_is}
@@ -112,26 +113,26 @@ headers_parts : (u : Bool) (s : Spans) (f : List ℕ) → ((((header_of (table_n
 headers_parts u s f =
     six_parts (header_of (table_name u) s.tables) (header_of (codes "#Strings") s.strings) (header_of (codes "#US") s.users) (header_of (codes "#GUID") s.guids) (header_of (codes "#Blob") s.blobs) f
 
-five_headers : (u : Bool) (stream : List ℕ) (h : Counted) → headers_written false u stream h ≡ headers_of u (spans_from 108 stream h) []
-unfolding headers_written
+five_headers : (u : Bool) (stream : List ℕ) (h : Counted) → stream_headers_written false u stream h ≡ headers_of u (spans_from 108 stream h) []
+unfolding stream_headers_written
 five_headers u stream h = headers_parts u (spans_from 108 stream h) []
 
-six_headers : (u : Bool) (stream : List ℕ) (h : Counted) → headers_written true u stream h ≡ headers_of u (spans_from 124 stream h) (header_written (codes "#JTD") (size_from 124 stream h) 0)
-unfolding headers_written
-six_headers u stream h = headers_parts u (spans_from 124 stream h) (header_written (codes "#JTD") (size_from 124 stream h) 0)
+six_headers : (u : Bool) (stream : List ℕ) (h : Counted) → stream_headers_written true u stream h ≡ headers_of u (spans_from 124 stream h) (stream_header_written (codes "#JTD") (size_from 124 stream h) 0)
+unfolding stream_headers_written
+six_headers u stream h = headers_parts u (spans_from 124 stream h) (stream_header_written (codes "#JTD") (size_from 124 stream h) 0)
 
-root_apart : (jtd u : Bool) (stream : List ℕ) (h : Counted) → root_written jtd u stream h ≡ front_written (if jtd then 6 else 5) ++ (headers_written jtd u stream h ++ tail stream h)
+root_apart : (jtd u : Bool) (stream : List ℕ) (h : Counted) → root_written jtd u stream h ≡ front_written (if jtd then 6 else 5) ++ (stream_headers_written jtd u stream h ++ tail stream h)
 unfolding root_written
 root_apart jtd u stream h =
-    seven_parts (front_written (if jtd then 6 else 5)) (headers_written jtd u stream h) (in_fours stream) (in_fours h.strings) (in_fours h.users) (in_fours h.guids) (in_fours h.blobs)
+    seven_parts (front_written (if jtd then 6 else 5)) (stream_headers_written jtd u stream h) (in_fours stream) (in_fours h.strings) (in_fours h.users) (in_fours h.guids) (in_fours h.blobs)
 
 five_apart : (u : Bool) (stream : List ℕ) (h : Counted) → root_written false u stream h ≡ front_written 5 ++ five_written u (spans_from 108 stream h) (tail stream h)
 five_apart u stream h =
     root_apart false u stream h ∙ ap (λ xs. front_written 5 ++ (xs ++ tail stream h)) (five_headers u stream h) ∙ ap (λ xs. front_written 5 ++ xs) (spans_apart u (spans_from 108 stream h) [] (tail stream h))
 
-six_apart : (u : Bool) (stream : List ℕ) (h : Counted) → root_written true u stream h ≡ front_written 6 ++ five_written u (spans_from 124 stream h) (header_written (codes "#JTD") (size_from 124 stream h) 0 ++ tail stream h)
+six_apart : (u : Bool) (stream : List ℕ) (h : Counted) → root_written true u stream h ≡ front_written 6 ++ five_written u (spans_from 124 stream h) (stream_header_written (codes "#JTD") (size_from 124 stream h) 0 ++ tail stream h)
 six_apart u stream h =
-    root_apart true u stream h ∙ ap (λ xs. front_written 6 ++ (xs ++ tail stream h)) (six_headers u stream h) ∙ ap (λ xs. front_written 6 ++ xs) (spans_apart u (spans_from 124 stream h) (header_written (codes "#JTD") (size_from 124 stream h) 0) (tail stream h))
+    root_apart true u stream h ∙ ap (λ xs. front_written 6 ++ (xs ++ tail stream h)) (six_headers u stream h) ∙ ap (λ xs. front_written 6 ++ xs) (spans_apart u (spans_from 124 stream h) (stream_header_written (codes "#JTD") (size_from 124 stream h) 0) (tail stream h))
 
 behind_front : (bytes : List ℕ) (count : ℕ) (rest : List ℕ) → bytes ≡ front_written count ++ rest → Rests bytes 32 rest
 behind_front bytes count rest e = past bytes 0 32 (front_written count) rest (as_split bytes 0 _ _ (at_begin bytes) e) (ap (λ n. 0 + n) (front_size count))
@@ -151,7 +152,7 @@ five_read bytes u stream h e small counts =
     (root_for false u s, read ∙ ap (λ (r : Root). Ok r) (five_root u s), holds bytes false u 108 stream h is counts)
 
 -- and with it
-six_read : (bytes : List ℕ) (u : Bool) (stream : List ℕ) (h : Counted) → bytes ≡ front_written 6 ++ five_written u (spans_from 124 stream h) (header_written (codes "#JTD") (size_from 124 stream h) 0 ++ tail stream h) → size_from 124 stream h < 2 ^ 32 → counted_strings h.strings ≡ h.strings → (root : Root) × (root_of bytes ≡ Ok root) × HoldsStreams bytes true u stream h root
+six_read : (bytes : List ℕ) (u : Bool) (stream : List ℕ) (h : Counted) → bytes ≡ front_written 6 ++ five_written u (spans_from 124 stream h) (stream_header_written (codes "#JTD") (size_from 124 stream h) 0 ++ tail stream h) → size_from 124 stream h < 2 ^ 32 → counted_strings h.strings ≡ h.strings → (root : Root) × (root_of bytes ≡ Ok root) × HoldsStreams bytes true u stream h root
 six_read bytes u stream h e small counts =
     let s = spans_from 124 stream h in
     let size = size_from 124 stream h in

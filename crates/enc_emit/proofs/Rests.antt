@@ -5,10 +5,10 @@ use Rattle.std.specs.Int.{w32, to_le_bytes, from_le_bytes}
 use Rattle.std.proofs.lemmas.Nat.{from_le_bytes-to_le_bytes_4}
 use Rattle.std.proofs.lemmas.List.{length-replicate, drop_at}
 use Rattle.std.proofs.Math.Seq.{take-append_seam}
-use Rattle.enc_base.specs.Numbers.{number_at}
-use Rattle.enc_meta.specs.Root.{Header, headers, header_at, name_at, padded, before_zero}
+use Rattle.enc_base.specs.Numbers.{little_endian_at, padded}
+use Rattle.enc_meta.specs.Root.{Header, headers, header_at, name_at, before_zero}
 use Rattle.enc_meta.specs.Heaps.{part}
-use Rattle.enc_emit.specs.Written.{header_written, in_fours}
+use Rattle.enc_emit.specs.Written.{stream_header_written, in_fours}
 
 -- from this place on the bytes are these
 pub record Rests (bytes : List ℕ) (at : ℕ) (rest : List ℕ) : Type 0 where
@@ -42,7 +42,7 @@ unfolding part
 part_here bytes at x rest r = rw (dropped bytes at (x ++ rest) r) (take-append_seam x rest)
 
 -- a number of four bytes
-pub number_here : (bytes : List ℕ) (at n : ℕ) (rest : List ℕ) → n < 2 ^ 32 → Rests bytes at (to_le_bytes w32 n ++ rest) → number_at w32 bytes at ≡ Some n
+pub number_here : (bytes : List ℕ) (at n : ℕ) (rest : List ℕ) → n < 2 ^ 32 → Rests bytes at (to_le_bytes w32 n ++ rest) → little_endian_at w32 bytes at ≡ Some n
 number_here bytes at n rest fits r =
     let size : at + 4 ≤ length bytes = omega (arith, length-append (to_le_bytes w32 n) rest, rest_size bytes at (to_le_bytes w32 n ++ rest) r) in
     let test : nat_le (at + 4) (length bytes) ≡ true = le-leb _ _ size in
@@ -65,12 +65,12 @@ name_here bytes at next name space rest is r e =
     let test : nat_le (at + padded (length name + 1)) (length bytes) ≡ true = le-leb _ _ size in
     rw (dropped bytes at _ r, is.read rest, test, there) refl
 
-header_apart : (name : List ℕ) (start size : ℕ) (rest : List ℕ) → header_written name start size ++ rest ≡ to_le_bytes w32 start ++ (to_le_bytes w32 size ++ ((name ++ replicate (padded (length name + 1) - length name) 0) ++ rest))
-unfolding header_written
+header_apart : (name : List ℕ) (start size : ℕ) (rest : List ℕ) → stream_header_written name start size ++ rest ≡ to_le_bytes w32 start ++ (to_le_bytes w32 size ++ ((name ++ replicate (padded (length name + 1) - length name) 0) ++ rest))
+unfolding stream_header_written
 header_apart name start size rest = refl
 
 -- the header that stands here, and what stands behind it
-pub header_here : (bytes : List ℕ) (at next : ℕ) (name : List ℕ) (space start size : ℕ) (rest : List ℕ) → IsName name space → start < 2 ^ 32 → size < 2 ^ 32 → Rests bytes at (header_written name start size ++ rest) → at + 8 + space ≡ next → header_at bytes at ≡ Some (record { name = name; span = record { start = start; len = size } }, next)
+pub header_here : (bytes : List ℕ) (at next : ℕ) (name : List ℕ) (space start size : ℕ) (rest : List ℕ) → IsName name space → start < 2 ^ 32 → size < 2 ^ 32 → Rests bytes at (stream_header_written name start size ++ rest) → at + 8 + space ≡ next → header_at bytes at ≡ Some (record { name = name; span = record { start = start; len = size } }, next)
 unfolding header_at
 header_here bytes at next name space start size rest is first second r e =
     let text = name ++ replicate (padded (length name + 1) - length name) 0 in
@@ -79,7 +79,7 @@ header_here bytes at next name space start size rest is first second r e =
     let three = past bytes (at + 4) (at + 8) (to_le_bytes w32 size) (text ++ rest) two (omega arith) in
     rw (number_here bytes at start _ first one, number_here bytes (at + 4) size _ second two, name_here bytes (at + 8) next name space rest is three (omega (arith, e))) refl
 
-pub header_past : (bytes : List ℕ) (at next : ℕ) (name : List ℕ) (space start size : ℕ) (rest : List ℕ) → IsName name space → Rests bytes at (header_written name start size ++ rest) → at + 8 + space ≡ next → Rests bytes next rest
+pub header_past : (bytes : List ℕ) (at next : ℕ) (name : List ℕ) (space start size : ℕ) (rest : List ℕ) → IsName name space → Rests bytes at (stream_header_written name start size ++ rest) → at + 8 + space ≡ next → Rests bytes next rest
 header_past bytes at next name space start size rest is r e =
     let text = name ++ replicate (padded (length name + 1) - length name) 0 in
     let one = as_split bytes at _ _ r (header_apart name start size rest) in

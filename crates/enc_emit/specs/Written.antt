@@ -2,7 +2,8 @@
 use Rattle.std.specs.Prelude.{◌≡◌, ℕ, ◌+◌, ◌-◌, ◌<◌, ◌^◌, Bool, ◌||◌, List, [], ◌∷◌, ◌++◌, length, replicate, Ok, nat_lt, codes, if◌then◌else◌}
 use Rattle.std.specs.List.{list_any}
 use Rattle.std.specs.Int.{w16, w32, to_le_bytes}
-use Rattle.enc_meta.specs.Root.{padded, root_of}
+use Rattle.enc_base.specs.Numbers.{padded}
+use Rattle.enc_meta.specs.Root.{root_of}
 use Rattle.enc_meta.specs.Heaps.{Counted, counted_strings, heaps_of, part}
 use Rattle.enc_meta.specs.Built.{Built, heaps_built}
 use Rattle.enc_meta.specs.declared.root.Root.{Root}
@@ -19,8 +20,8 @@ abbrev pub in_fours : List ℕ → List ℕ
 in_fours bytes = bytes ++ replicate (padded (length bytes) - length bytes) 0
 
 -- a stream's header: where it begins in the root, its size, and its name with zeros up to a multiple of four, at least one (II.24.2.2)
-unfoldable pub header_written : List ℕ → ℕ → ℕ → List ℕ
-header_written name start size = to_le_bytes w32 start ++ to_le_bytes w32 size ++ name ++ replicate (padded (length name + 1) - length name) 0
+unfoldable pub stream_header_written : List ℕ → ℕ → ℕ → List ℕ
+stream_header_written name start size = to_le_bytes w32 start ++ to_le_bytes w32 size ++ name ++ replicate (padded (length name + 1) - length name) 0
 
 -- the version's text, in twelve bytes
 abbrev pub version : List ℕ
@@ -58,21 +59,21 @@ table_name uncompressed = if uncompressed then codes "#-" else codes "#~"
 
 -- the header of `#JTD`, which has no bytes, where it is there
 abbrev pub jtd_written : Bool → ℕ → List ℕ
-jtd_written jtd start = if jtd then header_written (codes "#JTD") start 0 else []
+jtd_written jtd start = if jtd then stream_header_written (codes "#JTD") start 0 else []
 
-unfoldable pub headers_written : Bool → Bool → List ℕ → Counted → List ℕ
-headers_written jtd uncompressed stream h =
-    header_written (table_name uncompressed) (streams_begin jtd) (length stream)
-    ++ header_written (codes "#Strings") (strings_begin jtd stream) (length h.strings)
-    ++ header_written (codes "#US") (users_begin jtd stream h) (length h.users)
-    ++ header_written (codes "#GUID") (guids_begin jtd stream h) (length h.guids)
-    ++ header_written (codes "#Blob") (blobs_begin jtd stream h) (length h.blobs)
+unfoldable pub stream_headers_written : Bool → Bool → List ℕ → Counted → List ℕ
+stream_headers_written jtd uncompressed stream h =
+    stream_header_written (table_name uncompressed) (streams_begin jtd) (length stream)
+    ++ stream_header_written (codes "#Strings") (strings_begin jtd stream) (length h.strings)
+    ++ stream_header_written (codes "#US") (users_begin jtd stream h) (length h.users)
+    ++ stream_header_written (codes "#GUID") (guids_begin jtd stream h) (length h.guids)
+    ++ stream_header_written (codes "#Blob") (blobs_begin jtd stream h) (length h.blobs)
     ++ jtd_written jtd (root_size jtd stream h)
 
 unfoldable pub root_written : Bool → Bool → List ℕ → Counted → List ℕ
 root_written jtd uncompressed stream h =
     front_written (if jtd then 6 else 5)
-    ++ headers_written jtd uncompressed stream h
+    ++ stream_headers_written jtd uncompressed stream h
     ++ in_fours stream ++ in_fours h.strings ++ in_fours h.users ++ in_fours h.guids ++ in_fours h.blobs
 
 -- a Ptr table has rows

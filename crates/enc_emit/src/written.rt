@@ -1,16 +1,16 @@
 //! The bytes of a metadata root (ECMA-335 II.24.2.1, II.24.2.2).
 ghost use Rattle.std.specs.Prelude.{◌≡◌, ◌+◌, ◌-◌, ◌<◌, ◌≤◌, ◌^◌, ◌++◌, length, replicate, OnOk, IfOk, if◌then◌else◌};
 ghost use Rattle.std.specs.Int.{w32, to_le_bytes};
-ghost use Rattle.enc_meta.specs.Root.{padded as fours_of};
+ghost use Rattle.enc_base.specs.Numbers.{padded as fours_of};
 ghost use Rattle.enc_meta.specs.BuiltSeen.{heap_bytes_seen};
-ghost use Rattle.enc_emit.specs.Written.{in_fours, header_written, front_written, streams_begin as begin_of, root_size, table_name as name_of_tables, jtd_written, headers_written, root_written};
+ghost use Rattle.enc_emit.specs.Written.{in_fours, stream_header_written, front_written, streams_begin as begin_of, root_size, table_name as name_of_tables, jtd_written, stream_headers_written, root_written};
 
 use enc_base::{push_half, push_word, push_zeros};
 use enc_meta::HeapBytes;
 use std::alloc::{AllocError, Global};
 
 /// The least multiple of four that isn't less.
-#[tactic(auto, unfolding(enc_meta::specs::Root::padded))]
+#[tactic(auto, unfolding(enc_base::specs::Numbers::padded))]
 fn padded(n: usize) -> usize
     requires { n < 2 ^ 33 }
     ensures padded { result ≡ fours_of n }
@@ -30,12 +30,12 @@ fn push_in_fours(bytes: &[u8], out: &mut Vec<u8>) -> Result<(), AllocError>
 }
 
 /// Appends a stream's header: where it begins, its size and its name.
-#[tactic(auto, unfolding(crate::specs::Written::header_written))]
+#[tactic(auto, unfolding(crate::specs::Written::stream_header_written))]
 fn push_header(name: &[u8], start: usize, size: usize, out: &mut Vec<u8>) -> Result<(), AllocError>
     requires name { length name.now < 32 }
     requires start { start < 2 ^ 32 }
     requires size { size < 2 ^ 32 }
-    ensures { OnOk result (out.new.items ≡ out.old.items ++ header_written name.now start size) }
+    ensures { OnOk result (out.new.items ≡ out.old.items ++ stream_header_written name.now start size) }
 {
     push_word(start as u32, out)?;
     push_word(size as u32, out)?;
@@ -94,7 +94,7 @@ fn push_jtd(jtd: bool, start: usize, out: &mut Vec<u8>) -> Result<(), AllocError
 }
 
 /// Appends the headers of all streams.
-#[tactic(auto, unfolding(crate::specs::Written::headers_written, enc_meta::specs::Root::padded))]
+#[tactic(auto, unfolding(crate::specs::Written::stream_headers_written, enc_base::specs::Numbers::padded))]
 fn push_headers(
     jtd: bool,
     uncompressed: bool,
@@ -103,7 +103,7 @@ fn push_headers(
     out: &mut Vec<u8>,
 ) -> Result<(), AllocError>
     requires { root_size jtd stream.now (heap_bytes_seen heaps.now) < 2 ^ 32 }
-    ensures { OnOk result (out.new.items ≡ out.old.items ++ headers_written jtd uncompressed stream.now (heap_bytes_seen heaps.now)) }
+    ensures { OnOk result (out.new.items ≡ out.old.items ++ stream_headers_written jtd uncompressed stream.now (heap_bytes_seen heaps.now)) }
 {
     let tables = streams_begin(jtd);
     let strings = tables + padded(stream.len());
@@ -119,7 +119,7 @@ fn push_headers(
 }
 
 /// The bytes of a root with these streams.
-#[tactic(auto, unfolding(crate::specs::Written::root_written, enc_meta::specs::Root::padded))]
+#[tactic(auto, unfolding(crate::specs::Written::root_written, enc_base::specs::Numbers::padded))]
 pub(crate) fn root_bytes(
     alloc: Global,
     jtd: bool,

@@ -6,14 +6,15 @@ use Rattle.std.proofs.lemmas.List.{length-append, length-replicate, length-take,
 use Rattle.std.specs.Int.{w16, w32, to_le_bytes}
 use Rattle.enc_base.specs.Token.{number_of}
 use Rattle.enc_opcodes.specs.declared.code.Clause.{Clause}
-use Rattle.enc_opcodes.specs.Body.{Code, nil_or, padded}
-use Rattle.enc_il.specs.Written.{most_clauses, clause_bytes, size_bytes, section_written, sections_written, is_tiny, flags_written, padding_after, code_written, fat_written, body_written, place_for, with_body}
+use Rattle.enc_base.specs.Numbers.{padded}
+use Rattle.enc_opcodes.specs.Body.{Code, nil_or}
+use Rattle.enc_il.specs.Written.{most_clauses, clause_bytes, size_bytes, data_section_written, sections_written, is_tiny, flags_written, padding_after, code_written, fat_written, body_written, place_for, with_body}
 use Rattle.enc_il.proofs.SectionsWritten.{written_last, written_more, most_some}
 use Rattle.enc_il.proofs.ClausesWritten.{length_clauses}
 
 -- a section takes four bytes and its clauses
-length_section : (more : Bool) (cs : List Clause) → length (section_written more cs) ≡ 4 + 24 * length cs
-unfolding section_written
+length_section : (more : Bool) (cs : List Clause) → length (data_section_written more cs) ≡ 4 + 24 * length cs
+unfolding data_section_written
 length_section more cs = omega (arith, length-append (size_bytes (4 + 24 * length cs)) (flat_map clause_bytes cs), length_clauses cs)
 
 -- each section has a clause at least
@@ -30,7 +31,7 @@ few_for (suc n) cs some within = by_test (nat_le (length cs) most_clauses) refl 
         let many : most_clauses < length cs = grind (arith, nat_tests) in
         let front = take most_clauses cs in
         let behind = drop most_clauses cs in
-        let e : length (sections_written cs) ≡ length (section_written true front) + length (sections_written behind) = ap length (written_more cs many) ∙ length-append (section_written true front) (sections_written behind) in
+        let e : length (sections_written cs) ≡ length (data_section_written true front) + length (sections_written behind) = ap length (written_more cs many) ∙ length-append (data_section_written true front) (sections_written behind) in
         omega (arith, e, length_section true front, next many, length-take most_clauses cs, length-drop most_clauses cs, most_some)
 
 sections_few : (cs : List Clause) → length (sections_written cs) ≤ 28 * length cs
@@ -39,6 +40,7 @@ sections_few [] = omega arith
 sections_few (c ∷ cs) = few_for (suc (length cs)) (c ∷ cs) (omega arith) (omega arith)
 
 code_few : (c : Code) (cs : List Clause) → length (code_written c cs) ≤ length c.code + 3 + 28 * length cs
+unfolding padded
 code_few c [] = omega arith
 code_few c (x ∷ cs) =
     let padding = padding_after (length c.code) in
@@ -59,7 +61,7 @@ body_few c cs = by_test (is_tiny c cs) refl
     by_test false is = rw is (fat_few c cs)
 
 pub place_few : (n : ℕ) (c : Code) (cs : List Clause) → place_for n c cs < n + 4
-unfolding place_for
+unfolding place_for padded
 place_few n c cs = by_test (is_tiny c cs) refl
   where
     by_test : (t : Bool) → is_tiny c cs ≡ t → place_for n c cs < n + 4

@@ -4,12 +4,12 @@ use Rattle.std.specs.Prelude.{◌&&◌, ◌==◌, if◌then◌else◌}
 use Rattle.std.specs.Int.{w8, w16, w32, to_le_bytes}
 use Rattle.std.proofs.lemmas.Bool.Decides.{nat_tests}
 use Rattle.std.proofs.lemmas.List.{append_assoc, append-nil, length-append, length-replicate, drop_at}
-use Rattle.enc_base.specs.Numbers.{number_at}
+use Rattle.enc_base.specs.Numbers.{little_endian_at, padded, has_flag}
 use Rattle.enc_base.specs.Token.{number_of, token_of, nil}
 use Rattle.enc_base.specs.declared.token.Token.{Token}
 use Rattle.enc_opcodes.specs.declared.code.Clause.{Clause}
 use Rattle.enc_opcodes.specs.Instruction.{range_at}
-use Rattle.enc_opcodes.specs.Body.{Code, nil_or, padded, sections_at, sections_behind, has_flag, fat_at, body_at}
+use Rattle.enc_opcodes.specs.Body.{Code, nil_or, sections_at, sections_behind, fat_at, body_at}
 use Rattle.enc_il.specs.Written.{sections_written, is_tiny, flags_written, padding_after, code_written, fat_written, tiny_written, body_written, place_for, with_body, IsWritable, code_again, BodyIsRead}
 use Rattle.enc_il.proofs.Numbers.{byte_between, half_between, word_between, range_between}
 use Rattle.enc_il.proofs.ClausesWritten.{sections_again}
@@ -77,9 +77,11 @@ flags_say_more false false = refl
 
 -- the padding
 padded_more : (n : ℕ) → n ≤ padded n
+unfolding padded
 padded_more n = omega arith
 
 padded_four : (n : ℕ) → padded n % 4 ≡ 0
+unfolding padded
 padded_four n = omega arith
 
 -- the code and what follows it
@@ -124,7 +126,7 @@ at_4 : (o a b c d e r : List ℕ) → o ++ ((a ++ b ++ c ++ d ++ e) ++ r) ≡ (o
 at_4 o a b c d e r = simp append_assoc
 
 -- a fat body by what stands at its places
-fat_from : (bytes : List ℕ) (at flags max size locals : ℕ) (code sections : List ℕ) → number_at w16 bytes at ≡ Some flags → number_at w16 bytes (at + 2) ≡ Some max → number_at w32 bytes (at + 4) ≡ Some size → number_at w32 bytes (at + 8) ≡ Some locals → range_at bytes (at + 12) size ≡ Some code → sections_behind bytes (at + 12 + padded size) (has_flag 8 flags) ≡ Some sections → flags / 0x1000 == 3 ≡ true → fat_at bytes at ≡ Some (record { max = max; init = has_flag 0x10 flags; locals = nil_or (token_of locals); code = code; sections = sections })
+fat_from : (bytes : List ℕ) (at flags max size locals : ℕ) (code sections : List ℕ) → little_endian_at w16 bytes at ≡ Some flags → little_endian_at w16 bytes (at + 2) ≡ Some max → little_endian_at w32 bytes (at + 4) ≡ Some size → little_endian_at w32 bytes (at + 8) ≡ Some locals → range_at bytes (at + 12) size ≡ Some code → sections_behind bytes (at + 12 + padded size) (has_flag 8 flags) ≡ Some sections → flags / 0x1000 == 3 ≡ true → fat_at bytes at ≡ Some (record { max = max; init = has_flag 0x10 flags; locals = nil_or (token_of locals); code = code; sections = sections })
 unfolding fat_at
 fat_from bytes at flags max size locals code sections h0 h1 h2 h3 h4 h5 h6 = rw (h0, h1, h2, h3, h4, h5, h6) refl
 
@@ -151,10 +153,10 @@ fat_again before rest c cs at long fits =
     let l4 = length-append (before ++ a ++ b ++ d) e in
     let is = flags_are c.init cs in
     let few : flags < 2 ^ 16 = rw is (flags_few c.init (some cs)) in
-    let h0 = ap (λ bytes. number_at w16 bytes at) (at_0 before a b d e f rest) ∙ half_between before (b ++ d ++ e ++ f ++ rest) flags at long few in
-    let h1 = ap (λ bytes. number_at w16 bytes (at + 2)) (at_1 before a b d e f rest) ∙ half_between (before ++ a) (d ++ e ++ f ++ rest) c.max (at + 2) (omega (arith, l1, long)) fits.max in
-    let h2 = ap (λ bytes. number_at w32 bytes (at + 4)) (at_2 before a b d e f rest) ∙ word_between (before ++ a ++ b) (e ++ f ++ rest) (length c.code) (at + 4) (omega (arith, l1, l2, long)) fits.size in
-    let h3 = ap (λ bytes. number_at w32 bytes (at + 8)) (at_3 before a b d e f rest) ∙ word_between (before ++ a ++ b ++ d) (f ++ rest) locals (at + 8) (omega (arith, l1, l2, l3, long)) (number_few c.locals fits.table fits.row) in
+    let h0 = ap (λ bytes. little_endian_at w16 bytes at) (at_0 before a b d e f rest) ∙ half_between before (b ++ d ++ e ++ f ++ rest) flags at long few in
+    let h1 = ap (λ bytes. little_endian_at w16 bytes (at + 2)) (at_1 before a b d e f rest) ∙ half_between (before ++ a) (d ++ e ++ f ++ rest) c.max (at + 2) (omega (arith, l1, long)) fits.max in
+    let h2 = ap (λ bytes. little_endian_at w32 bytes (at + 4)) (at_2 before a b d e f rest) ∙ word_between (before ++ a ++ b) (e ++ f ++ rest) (length c.code) (at + 4) (omega (arith, l1, l2, long)) fits.size in
+    let h3 = ap (λ bytes. little_endian_at w32 bytes (at + 8)) (at_3 before a b d e f rest) ∙ word_between (before ++ a ++ b ++ d) (f ++ rest) locals (at + 8) (omega (arith, l1, l2, l3, long)) (number_few c.locals fits.table fits.row) in
     let l : length (before ++ a ++ b ++ d ++ e) ≡ at + 12 = omega (arith, l1, l2, l3, l4, long) in
     let h4 = ap (λ bytes. range_at bytes (at + 12) (length c.code)) (at_4 before a b d e f rest) ∙ code_there (before ++ a ++ b ++ d ++ e) rest c cs (at + 12) l in
     let more : has_flag 8 flags ≡ some cs = ap (λ n. has_flag 8 n) is ∙ flags_say_more c.init (some cs) in
@@ -194,7 +196,7 @@ unfolding sections_written
 tiny_alike c is = rw (is.max, is.init, is.locals) refl
 
 -- a tiny body
-tiny_from : (bytes : List ℕ) (at place first : ℕ) (code : List ℕ) → number_at w8 bytes at ≡ Some first → first % 4 ≡ 2 → range_at bytes (at + 1) (first / 4) ≡ Some code → body_at bytes at place ≡ Some (record { max = 8; init = false; locals = nil; code = code; sections = [] })
+tiny_from : (bytes : List ℕ) (at place first : ℕ) (code : List ℕ) → little_endian_at w8 bytes at ≡ Some first → first % 4 ≡ 2 → range_at bytes (at + 1) (first / 4) ≡ Some code → body_at bytes at place ≡ Some (record { max = 8; init = false; locals = nil; code = code; sections = [] })
 unfolding body_at
 tiny_from bytes at place first code h0 h1 h2 = rw (h0, h1, h2) refl
 
@@ -216,11 +218,11 @@ fat_first true false = refl
 fat_first false true = refl
 fat_first false false = refl
 
-body_from : (bytes : List ℕ) (at place first : ℕ) → number_at w8 bytes at ≡ Some first → first % 4 ≡ 3 → place % 4 ≡ 0 → body_at bytes at place ≡ fat_at bytes at
+body_from : (bytes : List ℕ) (at place first : ℕ) → little_endian_at w8 bytes at ≡ Some first → first % 4 ≡ 3 → place % 4 ≡ 0 → body_at bytes at place ≡ fat_at bytes at
 unfolding body_at
 body_from bytes at place first h0 h1 h2 = rw (h0, h1, h2) refl
 
-first_there : (before rest : List ℕ) (c : Code) (cs : List Clause) (at : ℕ) → length before ≡ at → number_at w8 (before ++ (fat_written c cs ++ rest)) at ≡ Some (flags_written c.init cs % 256)
+first_there : (before rest : List ℕ) (c : Code) (cs : List Clause) (at : ℕ) → length before ≡ at → little_endian_at w8 (before ++ (fat_written c cs ++ rest)) at ≡ Some (flags_written c.init cs % 256)
 unfolding fat_written
 first_there before rest c cs at long =
     let flags = flags_written c.init cs in
@@ -229,7 +231,7 @@ first_there before rest c cs at long =
     let d = to_le_bytes w32 (length c.code) in
     let e = to_le_bytes w32 (number_of (nil_or c.locals)) in
     let f = code_written c cs in
-    ap (λ bytes. number_at w8 bytes at) (at_0 before a b d e f rest) ∙ byte_between before ((flags / 256 % 256) ∷ (b ++ d ++ e ++ f ++ rest)) (flags % 256) at long
+    ap (λ bytes. little_endian_at w8 bytes at) (at_0 before a b d e f rest) ∙ byte_between before ((flags / 256 % 256) ∷ (b ++ d ++ e ++ f ++ rest)) (flags % 256) at long
 
 big_again : (before rest : List ℕ) (c : Code) (cs : List Clause) (at place : ℕ) → length before ≡ at → place % 4 ≡ 0 → IsWritable c → body_at (before ++ (fat_written c cs ++ rest)) at place ≡ Some (code_again c cs)
 big_again before rest c cs at place long four fits =

@@ -7,9 +7,9 @@ use Rattle.std.proofs.lemmas.Bool.Decides.{nat_tests}
 use Rattle.std.proofs.lemmas.List.{append_assoc, append-nil, length-append, length-take, length-drop, take-append-drop, take_at, drop_at}
 use Rattle.enc_opcodes.specs.declared.code.Clause.{Clause}
 use Rattle.enc_opcodes.specs.Body.{sections_at}
-use Rattle.enc_opcodes.specs.Clause.{Section, counted_in, with_clauses, section_of_kind, section_in, number_or_zero, range_of, clause_in, clauses_in, clauses_of, sections_of, sections_in}
+use Rattle.enc_opcodes.specs.Clause.{Section, counted_in, with_clauses, section_of_kind, section_in, number_or_zero, range_of, clause_in, clauses_in, clauses_of, data_sections, sections_in}
 use Rattle.enc_il.specs.Seen.{all_sections, behind_all}
-use Rattle.enc_il.specs.Written.{range_length, clause_bytes, clause_fits, section_written, sections_written, most_clauses, ClausesAreRead}
+use Rattle.enc_il.specs.Written.{range_length, clause_bytes, clause_fits, data_section_written, sections_written, most_clauses, ClausesAreRead}
 use Rattle.enc_il.proofs.Numbers.{word_between, range_between}
 use Rattle.enc_il.proofs.Sections.{behind_last, behind_more, clauses_last, clauses_more}
 use Rattle.enc_il.proofs.SectionsWritten.{written_last, written_more, most_some, most_few}
@@ -117,8 +117,8 @@ unfolding section_of_kind
 kind_again true a b c rest = refl
 kind_again false a b c rest = refl
 
-pub section_again : (more : Bool) (cs : List Clause) (rest : List ℕ) → 4 + 24 * length cs < 2 ^ 24 → section_in (section_written more cs ++ rest) ≡ Some (written_as more cs, rest)
-unfolding section_in section_written
+pub section_again : (more : Bool) (cs : List Clause) (rest : List ℕ) → 4 + 24 * length cs < 2 ^ 24 → section_in (data_section_written more cs ++ rest) ≡ Some (written_as more cs, rest)
+unfolding section_in data_section_written
 section_again more cs rest few =
     let n = 4 + 24 * length cs in
     kind_again more (n % 0x100) (n / 0x100 % 0x100) (n / 0x10000) (flat_map clause_bytes cs ++ rest)
@@ -129,14 +129,14 @@ section_again more cs rest few =
 behind_one : (cs : List Clause) (rest : List ℕ) → 0 < length cs → length cs ≤ most_clauses → behind_all (sections_written cs ++ rest) ≡ Some rest
 behind_one cs rest some few =
     let fits : 4 + 24 * length cs < 2 ^ 24 = omega (arith, most_few) in
-    rw (written_last cs some few) (behind_last (section_written false cs ++ rest) (written_as false cs, rest) (section_again false cs rest fits) refl)
+    rw (written_last cs some few) (behind_last (data_section_written false cs ++ rest) (written_as false cs, rest) (section_again false cs rest fits) refl)
 
 fits_front : (cs : List Clause) → 4 + 24 * length (take most_clauses cs) < 2 ^ 24
 fits_front cs = omega (arith, most_few, length-take most_clauses cs)
 
 -- sections of more clauses than one takes, as the first and the others
-apart : (cs : List Clause) (rest : List ℕ) → most_clauses < length cs → sections_written cs ++ rest ≡ section_written true (take most_clauses cs) ++ (sections_written (drop most_clauses cs) ++ rest)
-apart cs rest many = rw (written_more cs many) (append_assoc (section_written true (take most_clauses cs)) (sections_written (drop most_clauses cs)) rest)
+apart : (cs : List Clause) (rest : List ℕ) → most_clauses < length cs → sections_written cs ++ rest ≡ data_section_written true (take most_clauses cs) ++ (sections_written (drop most_clauses cs) ++ rest)
+apart cs rest many = rw (written_more cs many) (append_assoc (data_section_written true (take most_clauses cs)) (sections_written (drop most_clauses cs)) rest)
 
 abbrev first_of_more : List Clause → List ℕ → Section × List ℕ
 first_of_more cs rest = (written_as true (take most_clauses cs), sections_written (drop most_clauses cs) ++ rest)
@@ -196,7 +196,7 @@ clauses_for (suc n) cs rest some within fit = by_test (nat_le (length cs) most_c
     by_test true is next =
         let few : length cs ≤ most_clauses = grind (arith, nat_tests) in
         let fits : 4 + 24 * length cs < 2 ^ 24 = omega (arith, most_few) in
-        rw (written_last cs some few) (clauses_last (section_written false cs ++ rest) (written_as false cs, rest) (section_again false cs rest fits) refl ∙ clauses_again cs fit)
+        rw (written_last cs some few) (clauses_last (data_section_written false cs ++ rest) (written_as false cs, rest) (section_again false cs rest fits) refl ∙ clauses_again cs fit)
     by_test false is next =
         let many : most_clauses < length cs = grind (arith, nat_tests) in
         let whole = whole_from (sections_written cs ++ rest) rest (behind_again cs rest some) in
@@ -204,7 +204,7 @@ clauses_for (suc n) cs rest some within fit = by_test (nat_le (length cs) most_c
         ∙ rw (clauses_again (take most_clauses cs) (fit_parts most_clauses cs fit).0, next many) (take-append-drop most_clauses cs)
 
 no_clauses : clauses_of (sections_written []) ≡ []
-unfolding sections_written clauses_of sections_of sections_in
+unfolding sections_written clauses_of data_sections sections_in
 no_clauses = refl
 
 pub clauses_are_read : ClausesAreRead

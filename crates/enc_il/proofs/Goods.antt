@@ -8,16 +8,16 @@ use Rattle.std.proofs.lemmas.List.Folds.{list_all-append}
 use Rattle.enc_opcodes.specs.declared.code.Clause.{Clause}
 use Rattle.enc_opcodes.specs.Instruction.{instructions_of, end_of}
 use Rattle.enc_opcodes.specs.Clause.{Section, clause_size, section_in, clause_in, clauses_in, clauses_of}
-use Rattle.enc_opcodes.specs.Body.{Code, stands, instruction_is_good, clause_is_good, locals_are_good, is_good}
+use Rattle.enc_opcodes.specs.Body.{Code, is_instruction_start, instruction_is_good, clause_is_good, locals_are_good, is_good}
 use Rattle.enc_il.specs.Judged.{mark_at}
 use Rattle.enc_il.specs.Seen.{all_sections}
 use Rattle.enc_il.proofs.Sections.{all_none, clauses_held, clauses_last, clauses_more}
 
 -- a body is good by the marks of where its instructions begin
-good_by_marks : (count : ℕ → ℕ) (c : Code) (marks : List Bool) → ((t : ℕ) → mark_at marks t ≡ stands (instructions_of c.code) t) → is_good count c ≡ (end_of c.code 0 == length c.code && list_all (instruction_is_good count (mark_at marks)) (instructions_of c.code) && list_all (clause_is_good count (mark_at marks) (length c.code)) (clauses_of c.sections) && locals_are_good count c.locals)
+good_by_marks : (count : ℕ → ℕ) (c : Code) (marks : List Bool) → ((t : ℕ) → mark_at marks t ≡ is_instruction_start (instructions_of c.code) t) → is_good count c ≡ (end_of c.code 0 == length c.code && list_all (instruction_is_good count (mark_at marks)) (instructions_of c.code) && list_all (clause_is_good count (mark_at marks) (length c.code)) (clauses_of c.sections) && locals_are_good count c.locals)
 unfolding is_good
 good_by_marks count c marks marked =
-    let e : mark_at marks ≡ stands (instructions_of c.code) = fun_ext marked in
+    let e : mark_at marks ≡ is_instruction_start (instructions_of c.code) = fun_ext marked in
     rw e refl
 
 is_true : (m n : ℕ) → m ≡ n → (m == n) ≡ true
@@ -34,7 +34,7 @@ not_whole count c end is other =
     rw e refl
 
 -- code that is, is as good as its parts
-pub whole_parts : (count : ℕ → ℕ) (c : Code) (marks : List Bool) (end : ℕ) (parts : Bool) → ((t : ℕ) → mark_at marks t ≡ stands (instructions_of c.code) t) → end ≡ end_of c.code 0 → end ≡ length c.code → parts ≡ (list_all (instruction_is_good count (mark_at marks)) (instructions_of c.code) && list_all (clause_is_good count (mark_at marks) (length c.code)) (clauses_of c.sections) && locals_are_good count c.locals) → not parts ≡ not (is_good count c)
+pub whole_parts : (count : ℕ → ℕ) (c : Code) (marks : List Bool) (end : ℕ) (parts : Bool) → ((t : ℕ) → mark_at marks t ≡ is_instruction_start (instructions_of c.code) t) → end ≡ end_of c.code 0 → end ≡ length c.code → parts ≡ (list_all (instruction_is_good count (mark_at marks)) (instructions_of c.code) && list_all (clause_is_good count (mark_at marks) (length c.code)) (clauses_of c.sections) && locals_are_good count c.locals) → not parts ≡ not (is_good count c)
 whole_parts count c marks end parts marked is whole good =
     let e : (end_of c.code 0 == length c.code) ≡ true = is_true (end_of c.code 0) (length c.code) (sym is ∙ whole) in
     ap not (good ∙ sym (good_by_marks count c marks marked ∙ rw e refl))

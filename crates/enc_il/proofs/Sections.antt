@@ -5,7 +5,7 @@ use Rattle.std.proofs.lemmas.List.{length-drop, append-nil}
 use Rattle.enc_opcodes.specs.declared.code.Clause.{Clause}
 use Rattle.enc_opcodes.specs.Instruction.{◌>>=◌, range_at}
 use Rattle.enc_il.specs.Seen.{all_sections, behind_all}
-use Rattle.enc_opcodes.specs.Clause.{Section, clause_size, with_clauses, counted_in, section_of_kind, section_in, followed, sections_in, sections_of, clause_in, clauses_in, clauses_of}
+use Rattle.enc_opcodes.specs.Clause.{Section, clause_size, with_clauses, counted_in, section_of_kind, section_in, section_followed, sections_in, data_sections, clause_in, clauses_in, clauses_of}
 
 -- a section takes at least its four bytes
 within_clauses : (fat more : Bool) (count : ℕ) (rest : List ℕ) (x : Section × List ℕ) → with_clauses fat more count rest ≡ Some x → length x.1 ≤ length rest
@@ -43,37 +43,37 @@ unfolding sections_in
 enough zero zero bytes hn hm = refl
 enough zero (suc m) bytes hn hm = by_front (section_in bytes) refl
   where
-    by_front : (o : Option (Section × List ℕ)) → section_in bytes ≡ o → None ≡ (o >>= λ x. followed x (sections_in m))
+    by_front : (o : Option (Section × List ℕ)) → section_in bytes ≡ o → None ≡ (o >>= λ x. section_followed x (sections_in m))
     by_front None is = refl
     by_front (Some x) is = let l = shorter bytes x is in absurd (omega (arith, l))
 enough (suc n) zero bytes hn hm = by_front (section_in bytes) refl
   where
-    by_front : (o : Option (Section × List ℕ)) → section_in bytes ≡ o → (o >>= λ x. followed x (sections_in n)) ≡ None
+    by_front : (o : Option (Section × List ℕ)) → section_in bytes ≡ o → (o >>= λ x. section_followed x (sections_in n)) ≡ None
     by_front None is = refl
     by_front (Some x) is = let l = shorter bytes x is in absurd (omega (arith, l))
 enough (suc n) (suc m) bytes hn hm = by_front (section_in bytes) refl (λ x l. enough n m x.1 (omega (arith, l)) (omega (arith, l)))
   where
-    by_front : (o : Option (Section × List ℕ)) → section_in bytes ≡ o → ((x : Section × List ℕ) → length x.1 < length bytes → sections_in n x.1 ≡ sections_in m x.1) → (o >>= λ x. followed x (sections_in n)) ≡ (o >>= λ x. followed x (sections_in m))
+    by_front : (o : Option (Section × List ℕ)) → section_in bytes ≡ o → ((x : Section × List ℕ) → length x.1 < length bytes → sections_in n x.1 ≡ sections_in m x.1) → (o >>= λ x. section_followed x (sections_in n)) ≡ (o >>= λ x. section_followed x (sections_in m))
     by_front None is more = refl
     by_front (Some x) is more = ap (λ o. if x.0.more then option_map (λ (y : List Section × List ℕ). (x.0 ∷ y.0, y.1)) o else Some (x.0 ∷ [], x.1)) (more x (shorter bytes x is))
 
 -- the walk goes on behind a section that another follows
-pub walked : (bytes : List ℕ) → all_sections bytes ≡ (section_in bytes >>= λ x. followed x all_sections)
+pub walked : (bytes : List ℕ) → all_sections bytes ≡ (section_in bytes >>= λ x. section_followed x all_sections)
 unfolding sections_in
 walked bytes = enough (length bytes) (suc (length bytes)) bytes (omega arith) (omega arith) ∙ by_front (section_in bytes) refl
   where
-    by_front : (o : Option (Section × List ℕ)) → section_in bytes ≡ o → (o >>= λ x. followed x (sections_in (length bytes))) ≡ (o >>= λ x. followed x all_sections)
+    by_front : (o : Option (Section × List ℕ)) → section_in bytes ≡ o → (o >>= λ x. section_followed x (sections_in (length bytes))) ≡ (o >>= λ x. section_followed x all_sections)
     by_front None is = refl
     by_front (Some x) is = let l = shorter bytes x is in ap (λ o. if x.0.more then option_map (λ (y : List Section × List ℕ). (x.0 ∷ y.0, y.1)) o else Some (x.0 ∷ [], x.1)) (enough (length bytes) (length x.1) x.1 (omega (arith, l)) (omega arith))
 
 pub all_none : (bytes : List ℕ) → section_in bytes ≡ None → all_sections bytes ≡ None
-all_none bytes is = walked bytes ∙ ap (λ o. o >>= λ x. followed x all_sections) is
+all_none bytes is = walked bytes ∙ ap (λ o. o >>= λ x. section_followed x all_sections) is
 
 pub all_last : (bytes : List ℕ) (x : Section × List ℕ) → section_in bytes ≡ Some x → x.0.more ≡ false → all_sections bytes ≡ Some (x.0 ∷ [], x.1)
-all_last bytes x is last = walked bytes ∙ (ap (λ o. o >>= λ y. followed y all_sections) is ∙ rw last refl)
+all_last bytes x is last = walked bytes ∙ (ap (λ o. o >>= λ y. section_followed y all_sections) is ∙ rw last refl)
 
 pub all_more : (bytes : List ℕ) (x : Section × List ℕ) → section_in bytes ≡ Some x → x.0.more ≡ true → all_sections bytes ≡ option_map (λ (y : List Section × List ℕ). (x.0 ∷ y.0, y.1)) (all_sections x.1)
-all_more bytes x is more = walked bytes ∙ (ap (λ o. o >>= λ y. followed y all_sections) is ∙ rw more refl)
+all_more bytes x is more = walked bytes ∙ (ap (λ o. o >>= λ y. section_followed y all_sections) is ∙ rw more refl)
 
 pub behind_none : (bytes : List ℕ) → section_in bytes ≡ None → behind_all bytes ≡ None
 behind_none bytes is = rw (all_none bytes is) refl
@@ -96,25 +96,25 @@ behind_is bytes is = by_all (all_sections bytes) is
     by_all (Some y) is = absurd cc
 
 -- the sections of bytes at whose front no section stands, the last section, and one that another follows
-pub sections_none : (bytes : List ℕ) → section_in bytes ≡ None → sections_of bytes ≡ []
-unfolding sections_of
+pub sections_none : (bytes : List ℕ) → section_in bytes ≡ None → data_sections bytes ≡ []
+unfolding data_sections
 sections_none bytes is = rw (all_none bytes is) refl
 
-pub sections_last : (bytes : List ℕ) (x : Section × List ℕ) → section_in bytes ≡ Some x → x.0.more ≡ false → sections_of bytes ≡ x.0 ∷ []
-unfolding sections_of
+pub sections_last : (bytes : List ℕ) (x : Section × List ℕ) → section_in bytes ≡ Some x → x.0.more ≡ false → data_sections bytes ≡ x.0 ∷ []
+unfolding data_sections
 sections_last bytes x is last = rw (all_last bytes x is last) refl
 
-pub sections_more : (bytes : List ℕ) (x : Section × List ℕ) → section_in bytes ≡ Some x → x.0.more ≡ true → is_some (all_sections bytes) ≡ true → sections_of bytes ≡ x.0 ∷ sections_of x.1
-unfolding sections_of
+pub sections_more : (bytes : List ℕ) (x : Section × List ℕ) → section_in bytes ≡ Some x → x.0.more ≡ true → is_some (all_sections bytes) ≡ true → data_sections bytes ≡ x.0 ∷ data_sections x.1
+unfolding data_sections
 sections_more bytes x is more whole = by_all (all_sections x.1) refl
   where
-    by_all : (o : Option (List Section × List ℕ)) → all_sections x.1 ≡ o → sections_of bytes ≡ x.0 ∷ sections_of x.1
+    by_all : (o : Option (List Section × List ℕ)) → all_sections x.1 ≡ o → data_sections bytes ≡ x.0 ∷ data_sections x.1
     by_all None none = let e : is_some (all_sections bytes) ≡ false = rw (all_more bytes x is more, none) refl in absurd cc
     by_all (Some y) there = rw (all_more bytes x is more, there) refl
 
 -- what isn't whole has no sections
-pub not_whole : (bytes : List ℕ) → all_sections bytes ≡ None → sections_of bytes ≡ []
-unfolding sections_of
+pub not_whole : (bytes : List ℕ) → all_sections bytes ≡ None → data_sections bytes ≡ []
+unfolding data_sections
 not_whole bytes is = rw is refl
 
 pub whole_more : (bytes : List ℕ) (x : Section × List ℕ) → section_in bytes ≡ Some x → x.0.more ≡ true → is_some {T = List Section × List ℕ} (all_sections bytes) ≡ is_some {T = List Section × List ℕ} (all_sections x.1)

@@ -6,7 +6,7 @@ use Rattle.std.proofs.lemmas.Bool.{cases_eq}
 use Rattle.std.proofs.lemmas.Bool.Decides.{nat_tests}
 use Rattle.std.proofs.lemmas.List.{get_or-set_same, get_or-set_other}
 use Rattle.enc_opcodes.specs.Instruction.{Instruction, instr_in, rest_of}
-use Rattle.enc_opcodes.specs.Body.{stands}
+use Rattle.enc_opcodes.specs.Body.{is_instruction_start}
 use Rattle.enc_opcodes.proofs.Instructions.{instr_ends, rest_none, rest_more}
 use Rattle.enc_il.specs.Judged.{mark_at}
 
@@ -29,7 +29,7 @@ none_left p code at none = rw (rest_none code at (sym none)) refl
 
 -- marks of the instructions before a place, and the instructions from there on, are all
 abbrev pub AreMarked : List ℕ → ℕ → List Bool → Type 0
-AreMarked code at marks = (t : ℕ) → stands (rest_of code 0) t ≡ (mark_at marks t || stands (rest_of code at) t)
+AreMarked code at marks = (t : ℕ) → is_instruction_start (rest_of code 0) t ≡ (mark_at marks t || is_instruction_start (rest_of code at) t)
 
 no_marks : (n t : ℕ) → mark_at (replicate n false) t ≡ false
 no_marks zero t = refl
@@ -39,8 +39,8 @@ no_marks (suc n) (suc t) = no_marks n t
 pub none_marked : (code : List ℕ) (n : ℕ) → AreMarked code 0 (replicate n false)
 none_marked code n t = rw (no_marks n t) refl
 
-stands_more : (code : List ℕ) (at n t : ℕ) (i : Instruction ℕ) → IsRead code at i n → stands (rest_of code at) t ≡ ((at == t) || stands (rest_of code n) t)
-unfolding stands
+stands_more : (code : List ℕ) (at n t : ℕ) (i : Instruction ℕ) → IsRead code at i n → is_instruction_start (rest_of code at) t ≡ ((at == t) || is_instruction_start (rest_of code n) t)
+unfolding is_instruction_start
 stands_more code at n t i is = rw (rest_more code at n i (sym is)) refl
 
 mark_here : (a before behind : Bool) → a ≡ true → (before || (a || behind)) ≡ true
@@ -54,20 +54,20 @@ one_marked code at n i marks is lt marked t =
       | inl e ↦
           let same : (at == t) ≡ true = grind (arith, nat_tests, e) in
           let here : mark_at (set marks at true) t ≡ true = rw e (get_or-set_same marks at true false lt) in
-          marked t ∙ rw (stands_more code at n t i is, here) (mark_here (at == t) (mark_at marks t) (stands (rest_of code n) t) same)
+          marked t ∙ rw (stands_more code at n t i is, here) (mark_here (at == t) (mark_at marks t) (is_instruction_start (rest_of code n) t) same)
       | inr other ↦
           let differs : (at == t) ≡ false = grind (arith, nat_tests, other) in
           let kept : mark_at (set marks at true) t ≡ mark_at marks t = get_or-set_other marks at t true false other in
           marked t ∙ rw (stands_more code at n t i is, kept, differs) refl
     ]
 
-stands_none : (code : List ℕ) (at t : ℕ) → None ≡ instr_in code at → stands (rest_of code at) t ≡ false
-unfolding stands
+stands_none : (code : List ℕ) (at t : ℕ) → None ≡ instr_in code at → is_instruction_start (rest_of code at) t ≡ false
+unfolding is_instruction_start
 stands_none code at t none = rw (rest_none code at (sym none)) refl
 
 or_false : (a b : Bool) → b ≡ false → (a || b) ≡ a
 or_false true b e = refl
 or_false false b e = e
 
-pub all_marked : (code : List ℕ) (at : ℕ) (marks : List Bool) → None ≡ instr_in code at → AreMarked code at marks → (t : ℕ) → mark_at marks t ≡ stands (rest_of code 0) t
-all_marked code at marks none marked t = sym (marked t ∙ or_false (mark_at marks t) (stands (rest_of code at) t) (stands_none code at t none))
+pub all_marked : (code : List ℕ) (at : ℕ) (marks : List Bool) → None ≡ instr_in code at → AreMarked code at marks → (t : ℕ) → mark_at marks t ≡ is_instruction_start (rest_of code 0) t
+all_marked code at marks none marked t = sym (marked t ∙ or_false (mark_at marks t) (is_instruction_start (rest_of code at) t) (stands_none code at t none))

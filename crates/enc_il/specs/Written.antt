@@ -4,7 +4,8 @@ use Rattle.std.specs.List.{list_all}
 use Rattle.std.specs.Int.{w16, w32, to_le_bytes}
 use Rattle.enc_base.specs.Token.{number_of}
 use Rattle.enc_opcodes.specs.declared.code.Clause.{Clause}
-use Rattle.enc_opcodes.specs.Body.{Code, nil_or, padded, body_at}
+use Rattle.enc_base.specs.Numbers.{padded}
+use Rattle.enc_opcodes.specs.Body.{Code, nil_or, body_at}
 use Rattle.enc_opcodes.specs.Clause.{clauses_of}
 
 -- how many bytes a range has; its end counts modulo 2^32
@@ -28,14 +29,14 @@ abbrev pub size_bytes : ℕ → List ℕ
 size_bytes n = n % 0x100 ∷ n / 0x100 % 0x100 ∷ n / 0x10000 ∷ []
 
 -- a fat section of clauses; another may follow it (II.25.4.5)
-unfoldable pub section_written : Bool → List Clause → List ℕ
-section_written more clauses = (if more then 0xC1 else 0x41) ∷ (size_bytes (4 + 24 * length clauses) ++ flat_map clause_bytes clauses)
+unfoldable pub data_section_written : Bool → List Clause → List ℕ
+data_section_written more clauses = (if more then 0xC1 else 0x41) ∷ (size_bytes (4 + 24 * length clauses) ++ flat_map clause_bytes clauses)
 
 -- sections with all clauses, each with as many as it takes; each takes one, so there are at most as many as clauses
 unfoldable pub sections_for : ℕ → List Clause → List ℕ
 sections_for zero clauses = []
-sections_for (suc n) clauses = if nat_le (length clauses) most_clauses then section_written false clauses
-    else section_written true (take most_clauses clauses) ++ sections_for n (drop most_clauses clauses)
+sections_for (suc n) clauses = if nat_le (length clauses) most_clauses then data_section_written false clauses
+    else data_section_written true (take most_clauses clauses) ++ sections_for n (drop most_clauses clauses)
 
 -- without clauses there is no section
 unfoldable pub sections_written : List Clause → List ℕ

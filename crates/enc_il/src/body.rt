@@ -1,6 +1,7 @@
 //! The parts of a method's body (ECMA-335 II.25.4).
 ghost use Rattle.std.specs.Prelude.{◌≡◌, ◌+◌, ◌*◌, ◌<◌, ◌≤◌, ◌^◌, length, option_map, IfOk, IfSome};
-ghost use Rattle.enc_opcodes.specs.Body.{code_seen, nil_or, padded as padded_to, sections_behind as behind, tiny_at, fat_at, body_at};
+ghost use Rattle.enc_base.specs.Numbers.{padded as padded_to};
+ghost use Rattle.enc_opcodes.specs.Body.{code_seen, nil_or, sections_behind as behind, tiny_at, fat_at, body_at};
 ghost use Rattle.enc_il.specs.Seen.{body_seen};
 
 use crate::bytes::{range_at, rest_at};
@@ -23,9 +24,11 @@ pub fn nil_or(token: Token) -> Token
 }
 
 /// The next multiple of four.
+#[tactic(auto, unfolding(enc_base::specs::Numbers::padded))]
 pub fn padded(n: usize) -> usize
     requires { n < 2 ^ 32 }
     ensures padded { result ≡ padded_to n }
+    ensures more { n ≤ result }
     ensures few { result < n + 4 }
 {
     (n + 3) / 4 * 4

@@ -3,7 +3,7 @@
 ghost use Rattle.std.specs.Prelude.{◌≡◌, ◌+◌, ◌-◌, ◌*◌, ◌<◌, ◌≤◌, ◌^◌, ◌++◌, ◌∷◌, [], length, flat_map, IfOk, OnOk, OnErr, IsTrue, if◌then◌else◌};
 ghost use Rattle.std.specs.Int.{w32, to_le_bytes};
 ghost use Rattle.enc_opcodes.specs.Body.{code_seen};
-ghost use Rattle.enc_il.specs.Written.{range_length, clause_bytes, most_clauses as most, size_bytes, section_written, sections_written, is_tiny as tiny_serves, flags_written, code_written, fat_written, tiny_written, body_written, place_for as place_behind, with_body};
+ghost use Rattle.enc_il.specs.Written.{range_length, clause_bytes, most_clauses as most, size_bytes, data_section_written, sections_written, is_tiny as tiny_serves, flags_written, code_written, fat_written, tiny_written, body_written, place_for as place_behind, with_body};
 
 use crate::body::{nil_or, padded};
 use enc_base::{push_half, push_word, push_zeros};
@@ -60,10 +60,10 @@ fn push_section_header(more: bool, size: usize, out: &mut Vec<u8>) -> Result<(),
 }
 
 /// Appends a section of fat clauses, behind which another may follow (ECMA-335 II.25.4.5).
-#[tactic(auto, unfolding(crate::specs::Written::section_written))]
+#[tactic(auto, unfolding(crate::specs::Written::data_section_written))]
 fn push_section(more: bool, clauses: &[Clause], out: &mut Vec<u8>) -> Result<(), AllocError>
     requires { 4 + 24 * length clauses.now < 2 ^ 24 }
-    ensures { OnOk result (out.new.items ≡ out.old.items ++ section_written more clauses.now) }
+    ensures { OnOk result (out.new.items ≡ out.old.items ++ data_section_written more clauses.now) }
 {
     push_section_header(more, 4 + 24 * clauses.len(), out)?;
     push_clauses(clauses, out)

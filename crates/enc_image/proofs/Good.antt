@@ -13,13 +13,13 @@ use Rattle.enc_schema.specs.declared.column.Column.TheVariants.{Index, Coded}
 use Rattle.enc_schema.specs.declared.column.Coding.{Coding}
 use Rattle.enc_schema.specs.Coding.{decoded}
 use Rattle.enc_schema.specs.Children.{is_child_table}
-use Rattle.enc_schema.specs.Schema.{columns_in, column_in}
+use Rattle.enc_schema.specs.Schema.{columns_in, column_in, is_offset}
 use Rattle.enc_rows.specs.Layout.{Layout, rows_of}
 use Rattle.enc_rows.specs.Runs.{times_named}
 use Rattle.enc_rows.specs.Fault.{is_past, is_bad_index, index_fault_at, owner_fault, index_fault_in_row, index_fault_in, index_fault}
 use Rattle.enc_rows.specs.Source.{Source, raw_in}
 use Rattle.enc_plain.specs.Reading.{Reading, within, index_token, cell_read}
-use Rattle.enc_image.specs.Base.{cell_for, is_offset, offset_fault_at, offset_fault_in_row, offset_fault_in, offset_fault, rows_from, rule, cells_fault}
+use Rattle.enc_image.specs.Base.{cell_for, offset_fault_at, offset_fault_in_row, offset_fault_in, offset_fault, rows_from, rule, cells_fault}
 
 neither : {A : Type 0} (a b : Option A) → or_else a b ≡ None → (a ≡ None) × (b ≡ None)
 neither None None h = (refl, refl)

@@ -12,7 +12,7 @@ use Rattle.enc_schema.specs.Children.{is_child_table, owner_table, run_column, r
 use Rattle.enc_schema.proofs.ChildTables.{by_child}
 use Rattle.enc_rows.specs.Sums.{below}
 use Rattle.enc_rows.specs.Layout.{rows_of}
-use Rattle.enc_rows.specs.Runs.{rows_with, children_of, all_children, times_named}
+use Rattle.enc_rows.specs.Runs.{table_stream, children_of, all_children, times_named}
 use Rattle.enc_rows.proofs.Runs.{count_more}
 use Rattle.enc_rows.specs.Source.{Source}
 use Rattle.enc_plain.specs.Module.{Row, rows_in, row_of, has_row, kids_at, kids_of, has_kid, owner_of}
@@ -45,7 +45,7 @@ kids_are s owner child row there owners =
     rw (same, at) (row_kids s child (owner.row - 1) there)
 
 -- and they are those that the tables tell of its bytes
-pub kids_seen : (bytes seen : List ℕ) (o : Opened) (child n : ℕ) → IsOpened bytes o → seen ≡ metadata_of bytes o.container → children_of (rows_with seen o.tables) (owner_table child) (run_column child) child n ≡ kids_from (source_from bytes o.container o.root o.tables) child n
+pub kids_seen : (bytes seen : List ℕ) (o : Opened) (child n : ℕ) → IsOpened bytes o → seen ≡ metadata_of bytes o.container → children_of (table_stream seen o.tables) (owner_table child) (run_column child) child n ≡ kids_from (source_from bytes o.container o.root o.tables) child n
 kids_seen bytes seen o child n opened same = rw (same, opened.span) refl
 
 -- an owner is a row of its table

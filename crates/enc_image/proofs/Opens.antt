@@ -4,7 +4,7 @@ use Rattle.std.specs.Prelude.{◌&&◌, ◌==◌, option_and_then, find, nat_lt,
 use Rattle.std.specs.List.{list_all}
 use Rattle.std.specs.Int.{w64}
 use Rattle.std.proofs.lemmas.Bool.Decides.{nat_tests}
-use Rattle.enc_base.specs.Numbers.{number_at, AreBytes}
+use Rattle.enc_base.specs.Numbers.{little_endian_at, AreBytes}
 use Rattle.enc_base.specs.declared.refusal.Refusal.{Refusal}
 use Rattle.enc_base.proofs.SmallNumbers.{EachIsByte, bytes_each, each_drop, each_take}
 use Rattle.enc_meta.specs.declared.root.Root.{Root}
@@ -18,7 +18,7 @@ use Rattle.enc_pe.specs.Container.{container_of}
 use Rattle.enc_pe.specs.Sections.{sections_of}
 use Rattle.enc_pe.specs.Loaded.{region_of, regions_of}
 use Rattle.enc_rows.specs.declared.form.Form.TheVariants as form
-use Rattle.enc_rows.specs.Layout.{Layout, rows_of, form_allows, is_whole, whole_layout, laid_out, layout_of, tables_or_fault, tables_of, table_start}
+use Rattle.enc_rows.specs.Layout.{Layout, rows_of, form_allows, is_whole, whole_layout, laid_out, layout_of, tables_or_fault, stream_tables, table_start}
 use Rattle.enc_rows.specs.Source.{Source}
 use Rattle.enc_plain.proofs.LoadedBytes.{AreLoaded}
 use Rattle.enc_image.specs.Base.{◌>>=◌, metadata_of, layout_for, no_counts, source_from, source_of, source_or, cells_fault, base_of}
@@ -111,14 +111,14 @@ by_valid stream f l (Some valid) h = by_flags stream valid (f valid) l (slice_ge
 
 layout_counts : (stream : List ℕ) (span : Span) (jtd : Bool) (outer : List ℕ) (l : Layout) → layout_of stream span form.Base jtd outer ≡ Some l → HasCounts l
 unfolding layout_of
-layout_counts stream span jtd outer l h = by_valid stream (λ valid flags. laid_out stream span valid flags jtd outer) l (number_at w64 stream 8) h
+layout_counts stream span jtd outer l h = by_valid stream (λ valid flags. laid_out stream span valid flags jtd outer) l (little_endian_at w64 stream 8) h
 
 not_fault : (o : Option Layout) (l : Layout) → tables_or_fault o ≡ Ok l → o ≡ Some l
 not_fault (Some x) l h = let same : x ≡ l = cc in ap (λ (y : Layout). Some y) same
 not_fault None l h = absurd cc
 
 root_counts : (bytes : List ℕ) (root : Root) (l : Layout) → layout_for bytes root ≡ Ok l → HasCounts l
-unfolding layout_for tables_of
+unfolding layout_for stream_tables
 root_counts bytes root l h = layout_counts (part bytes root.tables) root.tables root.jtd no_counts l (not_fault (layout_of (part bytes root.tables) root.tables form.Base root.jtd no_counts) l h)
 
 parts_bytes : (bytes : List ℕ) (c : Container) (root : Root) (l : Layout) → EachIsByte bytes → cells_fault (source_from bytes c root l) ≡ None → HasCounts l → IsBase (source_from bytes c root l)

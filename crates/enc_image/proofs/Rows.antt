@@ -6,7 +6,7 @@ use Rattle.std.proofs.lemmas.Bool.Decides.{nat_tests}
 use Rattle.enc_base.specs.Token.{nth_row}
 use Rattle.enc_base.specs.declared.token.Token.{Token}
 use Rattle.enc_schema.specs.declared.column.Column.{Column}
-use Rattle.enc_schema.specs.Schema.{columns_in, column_in}
+use Rattle.enc_schema.specs.Schema.{columns_in, column_in, is_offset}
 use Rattle.enc_rows.specs.Layout.{Layout, rows_of}
 use Rattle.enc_rows.specs.Layout as rows
 use Rattle.enc_schema.specs.declared.column.Coding.{Coding}
@@ -17,7 +17,7 @@ use Rattle.enc_meta.specs.Heaps.{text_at, blob_at, guid_at}
 use Rattle.enc_schema.specs.declared.column.Column.TheVariants.{Num32, Text, Guid, Blob, Index, Coded}
 use Rattle.enc_image.proofs.Good.{good_offset, good_index, index_there, coded_there, no_index_fault, no_offset_fault}
 use Rattle.enc_rows.specs.Fault.{is_past, is_bad_index, index_fault}
-use Rattle.enc_image.specs.Base.{users_of, field_bytes, reading_of, cell_for, is_offset, offset_fault, rows_from, cells_fault, cell_in, row_in, table_rows, module_in}
+use Rattle.enc_image.specs.Base.{users_of, field_bytes, reading_of, cell_for, offset_fault, rows_from, cells_fault, cell_in, row_in, table_rows, module_in}
 use Rattle.enc_plain.specs.Sound.{is_part}
 use Rattle.enc_rows.specs.Source.{Source, raw_in}
 use Rattle.enc_plain.specs.Bodies.{body_loaded}
@@ -203,7 +203,7 @@ row_there s token there =
     ap (row_at (rows_in (module_in s) token.table)) e ∙ at
 
 -- a row of the module is a row of the tables
-pub row_in_tables : (s : Source) (token : Token) → IsTrue (has_row (module_in s) token) → IsTrue (rows.has_row s.layout token)
+pub row_in_tables : (s : Source) (token : Token) → IsTrue (has_row (module_in s) token) → IsTrue (rows.stream_has_row s.layout token)
 row_in_tables s token there =
     let row = row_stands s token there in
     grind (arith, nat_tests, row.low, row.high)

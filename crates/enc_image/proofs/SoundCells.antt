@@ -3,7 +3,7 @@ use Rattle.std.proofs.Common.{◌≡◌, ℕ, ◌^◌, ◌<◌, ◌≤◌, Bool,
 use Rattle.std.specs.Prelude.{◌==◌, ◌&&◌, IsTrue, option_map, unwrap_or, nat_lt, slice_get, if◌then◌else◌}
 use Rattle.std.specs.Int.{w16, w32}
 use Rattle.std.proofs.lemmas.Bool.Decides.{nat_tests}
-use Rattle.enc_base.specs.Numbers.{number_at}
+use Rattle.enc_base.specs.Numbers.{little_endian_at}
 use Rattle.enc_base.specs.declared.token.Token.{Token}
 use Rattle.enc_base.proofs.SmallNumbers.{EachIsByte, got_few, number16_few, number32_few}
 use Rattle.enc_meta.proofs.EntryLengths.{text_zero, blob_few, guid_long}
@@ -11,7 +11,7 @@ use Rattle.enc_schema.specs.declared.column.Column.{Column}
 use Rattle.enc_schema.specs.declared.column.Column.TheVariants.{Num8, Num16, Num32, Text, Guid, Blob, Index, Coded, Run}
 use Rattle.enc_schema.specs.Schema.{column_in}
 use Rattle.enc_schema.specs.Widths.{width_of}
-use Rattle.enc_rows.specs.Layout.{number_of_width, cell_place, raw_cell, has_row}
+use Rattle.enc_rows.specs.Layout.{number_of_width, cell_place, raw_cell, stream_has_row}
 use Rattle.enc_rows.specs.Source.{Source, raw_in}
 use Rattle.enc_plain.specs.Bodies.{code_loaded, body_loaded}
 use Rattle.enc_plain.specs.Cell.{Cell, number, body, field, is_body, is_field}
@@ -36,9 +36,9 @@ same_number : (o : Option ℕ) → option_map (λ (n : ℕ). n) o ≡ o
 same_number None = refl
 same_number (Some n) = refl
 
-wide : (stream : List ℕ) (at n : ℕ) (a b : Bool) → EachIsByte stream → (if a then slice_get stream at else if b then option_map (λ (k : ℕ). k) (number_at w16 stream at) else number_at w32 stream at) ≡ Some n → n < 2 ^ 32
+wide : (stream : List ℕ) (at n : ℕ) (a b : Bool) → EachIsByte stream → (if a then slice_get stream at else if b then option_map (λ (k : ℕ). k) (little_endian_at w16 stream at) else little_endian_at w32 stream at) ≡ Some n → n < 2 ^ 32
 wide stream at n true b all h = omega (arith, got_few stream at n all h)
-wide stream at n false true all h = omega (arith, number16_few stream at n all (sym (same_number (number_at w16 stream at)) ∙ h))
+wide stream at n false true all h = omega (arith, number16_few stream at n all (sym (same_number (little_endian_at w16 stream at)) ∙ h))
 wide stream at n false false all h = number32_few stream at n all h
 
 if_row : (b : Bool) (o : Option ℕ) (k : ℕ) → 0 < k → ((n : ℕ) → o ≡ Some n → n < k) → unwrap_or (if b then o else None) 0 < k
@@ -48,12 +48,12 @@ if_row false o k some h = some
 below_test : (n k : ℕ) → n < k → nat_lt n k ≡ true
 below_test n k h = grind (arith, nat_tests)
 
-wide_fits : (s : Source) (u : Token) (w at : ℕ) → EachIsByte s.stream → nat_lt (unwrap_or (if has_row s.layout u then number_of_width w s.stream at else None) 0) (2 ^ 32) ≡ true
-wide_fits s u w at all = below_test _ _ (if_row (has_row s.layout u) (number_of_width w s.stream at) (2 ^ 32) (omega arith) (λ n h. wide s.stream at n (w == 1) (w == 2) all h))
+wide_fits : (s : Source) (u : Token) (w at : ℕ) → EachIsByte s.stream → nat_lt (unwrap_or (if stream_has_row s.layout u then number_of_width w s.stream at else None) 0) (2 ^ 32) ≡ true
+wide_fits s u w at all = below_test _ _ (if_row (stream_has_row s.layout u) (number_of_width w s.stream at) (2 ^ 32) (omega arith) (λ n h. wide s.stream at n (w == 1) (w == 2) all h))
 
-number_in : (s : Source) (u : Token) (c : Column) (at : ℕ) → EachIsByte s.stream → number_fits c (unwrap_or (if has_row s.layout u then number_of_width (width_of s.layout.shape c) s.stream at else None) 0) ≡ true
-number_in s u Num8 at all = below_test _ _ (if_row (has_row s.layout u) (slice_get s.stream at) 0x100 (omega arith) (λ n h. got_few s.stream at n all h))
-number_in s u Num16 at all = below_test _ _ (if_row (has_row s.layout u) (option_map (λ (k : ℕ). k) (number_at w16 s.stream at)) 0x10000 (omega arith) (λ n h. number16_few s.stream at n all (sym (same_number (number_at w16 s.stream at)) ∙ h)))
+number_in : (s : Source) (u : Token) (c : Column) (at : ℕ) → EachIsByte s.stream → number_fits c (unwrap_or (if stream_has_row s.layout u then number_of_width (width_of s.layout.shape c) s.stream at else None) 0) ≡ true
+number_in s u Num8 at all = below_test _ _ (if_row (stream_has_row s.layout u) (slice_get s.stream at) 0x100 (omega arith) (λ n h. got_few s.stream at n all h))
+number_in s u Num16 at all = below_test _ _ (if_row (stream_has_row s.layout u) (option_map (λ (k : ℕ). k) (little_endian_at w16 s.stream at)) 0x10000 (omega arith) (λ n h. number16_few s.stream at n all (sym (same_number (little_endian_at w16 s.stream at)) ∙ h)))
 number_in s u Num32 at all = wide_fits s u 4 at all
 number_in s u Text at all = wide_fits s u (width_of s.layout.shape Text) at all
 number_in s u Guid at all = wide_fits s u (width_of s.layout.shape Guid) at all

@@ -6,7 +6,7 @@ use Rattle.enc_base.specs.Token.{nth_row, is_token}
 use Rattle.enc_base.specs.Order.{first_below}
 use Rattle.enc_base.specs.declared.token.Token.{Token}
 use Rattle.enc_base.proofs.First.{first_none, first_suc}
-use Rattle.enc_meta.specs.Regions.{Region, holds, range_loaded}
+use Rattle.enc_meta.specs.Regions.{Region, region_holds, range_loaded}
 use Rattle.enc_schema.specs.declared.column.Column.TheVariants.{Index}
 use Rattle.enc_schema.specs.Schema.{columns_in, column_in}
 use Rattle.enc_rows.specs.Layout.{rows_of}
@@ -20,7 +20,7 @@ use Rattle.enc_plain.specs.Sound as sound
 use Rattle.enc_plain.specs.declared.extent.Extent.{Extent}
 use Rattle.enc_plain.specs.declared.extent.Extent.TheVariants.{Bytes, Class}
 use Rattle.enc_plain.proofs.FieldExtents.{names_row, extent_row}
-use Rattle.enc_image.specs.Base.{blob_or_none, layout_size, size_of_class, size_of, extent_of, bytes_of_field, field_bytes, cells_fault, module_in}
+use Rattle.enc_image.specs.Base.{blob_or_none, layout_size, size_of_class, extent_size, data_extent, bytes_of_field, field_bytes, cells_fault, module_in}
 use Rattle.enc_image.proofs.Good.{no_index_fault}
 use Rattle.enc_image.proofs.Rows.{row_stands, token_is, count_there, unfaulted}
 use Rattle.enc_image.proofs.Told.{row_is_there, number_is, blob_is, index_is}
@@ -52,7 +52,7 @@ class_same s type good some =
     first_same (layout_size s type) (class_size_at (module_in s) type) (rows_of s.layout 0x0F) (λ k low. one_size s type k good some low)
     ∙ ap (first_below (class_size_at (module_in s) type)) (sym (count_there s 0x0F (omega arith) refl))
 
-size_same : (s : Source) (e : Option Extent) → cells_fault s ≡ None → names_row e → size_of s e ≡ sound.size_of (module_in s) e
+size_same : (s : Source) (e : Option Extent) → cells_fault s ≡ None → names_row e → extent_size s e ≡ sound.size_of (module_in s) e
 size_same s (Some (Bytes n)) good row = refl
 size_same s (Some (Class type)) good row = class_same s type good row
 size_same s None good row = refl
@@ -68,8 +68,8 @@ field_signature s (suc n) good fits =
     let blob : bytes_at (cells_of (module_in s)) t 2 ≡ blob_or_none s (raw_in s t 2) = blob_is s t 2 good there refl in
     rw blob refl
 
-extent_same : (s : Source) (u : Token) → cells_fault s ≡ None → IsTrue (has_row (module_in s) u) → u.table ≡ 0x1D → extent_of s u ≡ sound.extent_of (module_in s) u
-unfolding extent_of sound.extent_of columns_in
+extent_same : (s : Source) (u : Token) → cells_fault s ≡ None → IsTrue (has_row (module_in s) u) → u.table ≡ 0x1D → data_extent s u ≡ sound.extent_of (module_in s) u
+unfolding data_extent sound.extent_of columns_in
 extent_same s u good there table =
     let row = row_stands s u there in
     let column : column_in u.table 1 ≡ Some (Index 0x04) = rw table refl in
@@ -77,8 +77,8 @@ extent_same s u good there table =
     let named : token_at (cells_of (module_in s)) u 1 ≡ index_token 0x04 (raw_in s u 1) = index_is s u 1 0x04 good there (rw table refl) column in
     rw named (field_signature s (raw_in s u 1) good fits)
 
-extent_names : (s : Source) (u : Token) → names_row (extent_of s u)
-unfolding extent_of
+extent_names : (s : Source) (u : Token) → names_row (data_extent s u)
+unfolding data_extent
 extent_names s u = by_zero (raw_in s u 1 == 0) (extent_in (blob_or_none s (raw_in s (record { table = 0x04; row = raw_in s u 1 }) 2))) (extent_row (blob_or_none s (raw_in s (record { table = 0x04; row = raw_in s u 1 }) 2)))
   where
     by_zero : (b : Bool) (e : Option Extent) → names_row e → names_row (if b then None else e)
@@ -104,19 +104,19 @@ found_holds test (x ∷ rest) r h = by_test x r (test x) (find test rest) refl (
     by_test x r true later is rest h = let e : x ≡ r = cc in rw (← e) is
     by_test x r false later is rest h = rest h
 
-held_long : (first many : ℕ) (r : Region) → holds first many r ≡ true → length (take many (drop (first - r.address) r.bytes)) ≡ many
+held_long : (first many : ℕ) (r : Region) → region_holds first many r ≡ true → length (take many (drop (first - r.address) r.bytes)) ≡ many
 held_long first many r h = length_taken many (drop (first - r.address) r.bytes) (long (length r.bytes) r.address first many (length (drop (first - r.address) r.bytes)) h (length_dropped (first - r.address) r.bytes))
   where
     long : (n at first many k : ℕ) → (nat_le at first && nat_le (first - at + many) n) ≡ true → k ≡ n - (first - at) → many ≤ k
     long n at first many k h e = let le : first - at + many ≤ n = grind (arith, nat_tests) in omega arith
 
-range_by : (first many : ℕ) (o : Option Region) (x : List ℕ) → ((r : Region) → o ≡ Some r → holds first many r ≡ true) → option_map (λ (r : Region). take many (drop (first - r.address) r.bytes)) o ≡ Some x → length x ≡ many
+range_by : (first many : ℕ) (o : Option Region) (x : List ℕ) → ((r : Region) → o ≡ Some r → region_holds first many r ≡ true) → option_map (λ (r : Region). take many (drop (first - r.address) r.bytes)) o ≡ Some x → length x ≡ many
 range_by first many None x all h = absurd cc
 range_by first many (Some r) x all h = let e : take many (drop (first - r.address) r.bytes) ≡ x = cc in rw (← e) (held_long first many r (all r refl))
 
 range_long : (regions : List Region) (first many : ℕ) (x : List ℕ) → range_loaded regions first many ≡ Some x → length x ≡ many
 unfolding range_loaded
-range_long regions first many x h = range_by first many (find (holds first many) regions) x (λ r e. found_holds (holds first many) regions r e) h
+range_long regions first many x h = range_by first many (find (region_holds first many) regions) x (λ r e. found_holds (region_holds first many) regions r e) h
 
 -- none, or as many as the size tells
 abbrev fits_size : List ℕ → Option ℕ → Bool
@@ -134,12 +134,12 @@ unless_zero : (b : Bool) (x : List ℕ) (size : Option ℕ) → fits_size x size
 unless_zero true x size h = refl
 unless_zero false x size h = h
 
-bytes_fit : (s : Source) (u : Token) → fits_size (field_bytes s u) (size_of s (extent_of s u)) ≡ true
+bytes_fit : (s : Source) (u : Token) → fits_size (field_bytes s u) (extent_size s (data_extent s u)) ≡ true
 unfolding field_bytes bytes_of_field
-bytes_fit s u = unless_zero (raw_in s u 0 == 0) (unwrap_or (option_and_then (range_loaded s.loaded (raw_in s u 0)) (size_of s (extent_of s u))) []) (size_of s (extent_of s u)) (sized s (raw_in s u 0) (size_of s (extent_of s u)))
+bytes_fit s u = unless_zero (raw_in s u 0 == 0) (unwrap_or (option_and_then (range_loaded s.loaded (raw_in s u 0)) (extent_size s (data_extent s u))) []) (extent_size s (data_extent s u)) (sized s (raw_in s u 0) (extent_size s (data_extent s u)))
 
 pub field_sound : (s : Source) (u : Token) → cells_fault s ≡ None → IsTrue (has_row (module_in s) u) → u.table ≡ 0x1D → field_is_sound (module_in s) u (field_bytes s u) ≡ true
 unfolding field_is_sound
 field_sound s u good there table =
-    let size : size_of s (extent_of s u) ≡ sound.size_of (module_in s) (sound.extent_of (module_in s) u) = size_same s (extent_of s u) good (extent_names s u) ∙ ap (sound.size_of (module_in s)) (extent_same s u good there table) in
+    let size : extent_size s (data_extent s u) ≡ sound.size_of (module_in s) (sound.extent_of (module_in s) u) = size_same s (data_extent s u) good (extent_names s u) ∙ ap (sound.size_of (module_in s)) (extent_same s u good there table) in
     rw size at (bytes_fit s u)

@@ -16,7 +16,7 @@ use Rattle.enc_rows.specs.Layout.{rows_of}
 use Rattle.enc_rows.specs.Source.{Source}
 use Rattle.enc_rows.specs.Sums.{below}
 use Rattle.enc_rows.specs.Fault.{index_fault, index_fault_in}
-use Rattle.enc_rows.specs.Runs.{number_in, goes_by_ptr, run_rows, by_ptr, named_at, children_of, all_children, times_named}
+use Rattle.enc_rows.specs.Runs.{raw_number, goes_by_ptr, run_rows, by_ptr, named_at, children_of, all_children, times_named}
 use Rattle.enc_rows.specs.Owners.{run_bound}
 use Rattle.enc_rows.proofs.Silent.{ptr_column_is, good_runs}
 use Rattle.enc_rows.proofs.Owned.{AreGood, bound_some, bound_limit, all_children_are}
@@ -105,10 +105,10 @@ place_none s t row p false e sound there low high out =
 place_none s t row p true e sound there low high out =
     let many : run_rows s.layout t ≡ rows_of s.layout (ptr_of t) = rw e refl in
     let f : p - 1 + 1 ≡ p = omega arith in
-    let fits : nat_lt (rows_of s.layout t) (number_in (rows_from s) (nth_row (ptr_of t) (p - 1)) 0) ≡ false = good_index s (ptr_of t) (p - 1) 0 (Index t) (no_index_fault s sound) (small_ptr t there) (omega arith) (ptr_column_is t there) in
-    let within : nat_lt (rows_of s.layout t) (number_in (rows_from s) (record { table = ptr_of t; row = p }) 0) ≡ false = rw f at fits in
-    let le : number_in (rows_from s) (record { table = ptr_of t; row = p }) 0 ≤ rows_of s.layout t = at_most _ _ within in
-    rw e (by_ptr_none (number_in (rows_from s) (record { table = ptr_of t; row = p }) 0) row (rows_of s.layout t) le out)
+    let fits : nat_lt (rows_of s.layout t) (raw_number (rows_from s) (nth_row (ptr_of t) (p - 1)) 0) ≡ false = good_index s (ptr_of t) (p - 1) 0 (Index t) (no_index_fault s sound) (small_ptr t there) (omega arith) (ptr_column_is t there) in
+    let within : nat_lt (rows_of s.layout t) (raw_number (rows_from s) (record { table = ptr_of t; row = p }) 0) ≡ false = rw f at fits in
+    let le : raw_number (rows_from s) (record { table = ptr_of t; row = p }) 0 ≤ rows_of s.layout t = at_most _ _ within in
+    rw e (by_ptr_none (raw_number (rows_from s) (record { table = ptr_of t; row = p }) 0) row (rows_of s.layout t) le out)
   where
     at_most : (a b : ℕ) → nat_lt a b ≡ false → b ≤ a
     at_most a b h = grind (arith, nat_tests)

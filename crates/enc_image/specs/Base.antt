@@ -1,5 +1,5 @@
 -- The plain module that a file's bytes say, or the first refusal (ECMA-335 II.22, II.24).
-use Rattle.std.specs.Prelude.{ℕ, Bool, true, false, not, ◌&&◌, List, [], ◌∷◌, length, map, Option, Some, None, option_map, option_and_then, unwrap_or, is_some, Result, Ok, Err, ◌==◌, ◌||◌, ◌-◌, slice_get, if◌then◌else◌, replicate, nat_lt}
+use Rattle.std.specs.Prelude.{ℕ, Bool, true, not, ◌&&◌, List, [], ◌∷◌, length, map, Option, Some, None, option_map, option_and_then, unwrap_or, is_some, Result, Ok, Err, ◌==◌, ◌||◌, ◌-◌, slice_get, if◌then◌else◌, replicate, nat_lt}
 use Rattle.std.specs.List.{list_any}
 use Rattle.enc_base.specs.Order.{or_else, first_below}
 use Rattle.enc_base.specs.Token.{nth_row}
@@ -12,12 +12,11 @@ use Rattle.enc_meta.specs.declared.root.Root.{Root}
 use Rattle.enc_meta.specs.Root.{root_of}
 use Rattle.enc_meta.specs.Heaps.{heaps_of, part, text_at, blob_at, user_at, guid_at}
 use Rattle.enc_schema.specs.declared.column.Column.{Column}
-use Rattle.enc_schema.specs.declared.column.Column.TheVariants.{Text, Guid, Blob}
-use Rattle.enc_schema.specs.Schema.{columns_in, column_in}
+use Rattle.enc_schema.specs.Schema.{columns_in, column_in, is_offset}
 use Rattle.enc_schema.specs.Children.{run_column, runs_in}
 use Rattle.enc_rows.specs.Sums.{below}
-use Rattle.enc_rows.specs.Layout.{Layout, tables_of, rows_of}
-use Rattle.enc_rows.specs.Runs.{Rows, children_of}
+use Rattle.enc_rows.specs.Layout.{Layout, stream_tables, rows_of}
+use Rattle.enc_rows.specs.Runs.{TableStream, children_of}
 use Rattle.enc_rows.specs.Fault.{index_fault}
 use Rattle.enc_rows.specs.Source.{Source, raw_in}
 use Rattle.enc_rows.specs.declared.form.Form.TheVariants as form
@@ -55,18 +54,18 @@ layout_size s type k = if raw_in s (nth_row tables.class_layout k) columns.class
 unfoldable pub size_of_class : Source → ℕ → Option ℕ
 size_of_class s type = first_below (layout_size s type) (rows_of s.layout tables.class_layout)
 
-abbrev pub size_of : Source → Option Extent → Option ℕ
-size_of s (Some (Bytes n)) = Some n
-size_of s (Some (Class type)) = size_of_class s type
-size_of s None = None
+abbrev pub extent_size : Source → Option Extent → Option ℕ
+extent_size s (Some (Bytes n)) = Some n
+extent_size s (Some (Class type)) = size_of_class s type
+extent_size s None = None
 
 -- what tells the size of the field that a row of FieldRVA names
-unfoldable pub extent_of : Source → Token → Option Extent
-extent_of s row = if raw_in s row columns.field_rva_field == 0 then None else extent_in (blob_or_none s (raw_in s (record { table = tables.field; row = raw_in s row columns.field_rva_field }) columns.field_signature))
+unfoldable pub data_extent : Source → Token → Option Extent
+data_extent s row = if raw_in s row columns.field_rva_field == 0 then None else extent_in (blob_or_none s (raw_in s (record { table = tables.field; row = raw_in s row columns.field_rva_field }) columns.field_signature))
 
 -- the bytes that such a row has at its RVA, where they are loaded
 unfoldable pub bytes_of_field : Source → Token → Option (List ℕ)
-bytes_of_field s row = option_and_then (range_loaded s.loaded (raw_in s row 0)) (size_of s (extent_of s row))
+bytes_of_field s row = option_and_then (range_loaded s.loaded (raw_in s row 0)) (extent_size s (data_extent s row))
 
 -- a field without an RVA has none
 unfoldable pub field_bytes : Source → Token → List ℕ
@@ -83,12 +82,6 @@ cell_for s c n = cell_read (reading_of s) c n
 -- the cell in a column of a row
 unfoldable pub cell_in : Source → Token → ℕ → Option Cell
 cell_in s token i = option_and_then (λ (c : Column). cell_with (reading_of s) token i c (raw_in s token i)) (column_in token.table i)
-
-abbrev pub is_offset : Column → Bool
-is_offset Text = true
-is_offset Guid = true
-is_offset Blob = true
-is_offset _ = false
 
 -- F8: the first offset that isn't good, by table, row and column
 unfoldable pub offset_fault_at : Source → Token → ℕ → Option Place
@@ -133,7 +126,7 @@ unfoldable pub field_fault : Source → Option Place
 field_fault s = if s.bare then None else first_below (field_fault_at s) (rows_of s.layout tables.field_rva)
 
 -- the rows of a source
-abbrev pub rows_from : Source → Rows
+abbrev pub rows_from : Source → TableStream
 rows_from s = record { stream = s.stream; layout = s.layout }
 
 abbrev pub rule : ℕ → Option Place → Option Refusal
@@ -163,7 +156,7 @@ no_counts = replicate 64 0
 
 -- the layout of a root's table stream, or F6
 unfoldable pub layout_for : List ℕ → Root → Result Layout Refusal
-layout_for bytes root = tables_of bytes root.tables form.Base root.jtd no_counts
+layout_for bytes root = stream_tables bytes root.tables form.Base root.jtd no_counts
 
 -- the metadata root of a file with this container
 abbrev pub metadata_of : List ℕ → Container → List ℕ
@@ -188,8 +181,8 @@ source_of bytes = do
   Ok (source_from bytes c root l)
 
 -- the chain that a source begins: its plain module, no delta, and its heaps
-unfoldable pub begun : Source → Chain
-begun s = record { plain = module_in s; ids = []; heaps = s.heaps ∷ [] }
+unfoldable pub chain_of_base : Source → Chain
+chain_of_base s = record { plain = module_in s; ids = []; heaps = s.heaps ∷ [] }
 
 abbrev pub source_or : Source → Option Refusal → Result Source Refusal
 source_or s None = Ok s

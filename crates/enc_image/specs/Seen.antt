@@ -30,10 +30,10 @@ pub record IsOpened (bytes : List ℕ) (o : Opened) : Type 0 where
   pub within : IsWithin (part (metadata_of bytes o.container) o.tables.span) o.tables
 
 -- what was read is the base; what was refused is refused by the first rule; want of memory tells nothing
-abbrev pub Reads : Result Source ReadFault → Result Source Refusal → Type 0
-Reads (Ok s) base = base ≡ Ok s
-Reads (Err (Refused e)) base = base ≡ Err e
-Reads (Err Memory) base = Unit {0}
+abbrev pub ReadsBase : Result Source ReadFault → Result Source Refusal → Type 0
+ReadsBase (Ok s) base = base ≡ Ok s
+ReadsBase (Err (Refused e)) base = base ≡ Err e
+ReadsBase (Err Memory) base = Unit {0}
 
 -- the parts of an image's file were read from its bytes, as the ends of its texts were, and each of its cells is good
 pub record IsImage (bytes : List ℕ) (o : Opened) (ends : TextEnds) : Type 0 where

@@ -4,7 +4,7 @@ ghost use Rattle.enc_base.specs.Order.{first_below};
 ghost use Rattle.enc_base.specs.Token.{nth_row};
 ghost use Rattle.enc_meta.specs.Heaps.{part, user_at};
 ghost use Rattle.enc_opcodes.specs.Body.{code_seen, locals_are_good};
-ghost use Rattle.enc_rows.specs.Layout.{IsWithin, has_row, rows_of};
+ghost use Rattle.enc_rows.specs.Layout.{IsWithin, stream_has_row, rows_of};
 ghost use Rattle.enc_plain.specs.Bodies.{code_is_good, code_loaded, body_is_good};
 ghost use Rattle.enc_image.specs.Base.{users_of, has_locals, body_fault_at, body_fault};
 ghost use Rattle.enc_image.specs.Seen.{source_seen};

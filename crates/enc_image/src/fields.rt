@@ -6,9 +6,9 @@ ghost use Rattle.enc_base.specs.Order.{or_else, first_below};
 ghost use Rattle.enc_base.specs.Token.{nth_row};
 ghost use Rattle.enc_meta.specs.Heaps.{part};
 ghost use Rattle.enc_meta.specs.Regions.{range_loaded};
-ghost use Rattle.enc_rows.specs.Layout.{IsWithin, has_row, rows_of};
+ghost use Rattle.enc_rows.specs.Layout.{IsWithin, stream_has_row, rows_of};
 ghost use Rattle.enc_rows.specs.Source.{raw_in};
-ghost use Rattle.enc_image.specs.Base.{blob_or_none, extent_of, layout_size, size_of_class, size_of, bytes_of_field, field_bytes, field_fault_at, field_fault};
+ghost use Rattle.enc_image.specs.Base.{blob_or_none, data_extent, layout_size, size_of_class, extent_size, bytes_of_field, field_bytes, field_fault_at, field_fault};
 ghost use Rattle.enc_image.specs.Seen.{source_seen};
 ghost use Rattle.enc_schema.specs.Tables.{field_rva, type_def};
 
@@ -46,10 +46,10 @@ fn blob_or_none<'a>(cells: &Cells<'a>, offset: u32) -> &'a [u8]
 }
 
 /// What tells the size of the field that a row of FieldRVA names.
-#[tactic(auto, unfolding(crate::specs::Base::extent_of))]
+#[tactic(auto, unfolding(crate::specs::Base::data_extent))]
 fn extent_of(cells: &Cells<'_>, row: Token) -> Option<Extent>
     requires { IsWithin (part cells.now.bytes.now cells.now.tables.now.span) cells.now.tables.now }
-    ensures { result ≡ extent_of (source_seen cells.now) row }
+    ensures { result ≡ data_extent (source_seen cells.now) row }
 {
     let field = number_in(cells, row, 1);
     if field == 0 {
@@ -98,7 +98,7 @@ fn size_of_class(cells: &Cells<'_>, owner: u32) -> Option<u32>
 /// How many bytes a field has, None where nothing tells it.
 fn size_of(cells: &Cells<'_>, extent: Option<Extent>) -> Option<u32>
     requires { IsWithin (part cells.now.bytes.now cells.now.tables.now.span) cells.now.tables.now }
-    ensures { result ≡ size_of (source_seen cells.now) extent }
+    ensures { result ≡ extent_size (source_seen cells.now) extent }
 {
     match extent {
         Some(Extent::Bytes(size)) => Some(size),
@@ -182,7 +182,7 @@ fn class_size(cells: &Cells<'_>, sizes: &[Option<u32>], owner: u32) -> Option<u3
 fn known_size(cells: &Cells<'_>, sizes: &[Option<u32>], extent: Option<Extent>) -> Option<u32>
     requires bytes { IsWithin (part cells.now.bytes.now cells.now.tables.now.span) cells.now.tables.now }
     requires sizes { (t : ℕ) → t < length sizes.now → slice_index_or sizes.now t None ≡ size_of_class (source_seen cells.now) t }
-    ensures { result ≡ size_of (source_seen cells.now) extent }
+    ensures { result ≡ extent_size (source_seen cells.now) extent }
 {
     match extent {
         Some(Extent::Bytes(size)) => Some(size),

@@ -1,7 +1,7 @@
 //! An image: the bytes of a module that was accepted.
 ghost use Rattle.std.specs.Prelude.{◌≡◌};
 ghost use Rattle.enc_image.specs.Base.{base_of};
-ghost use Rattle.enc_image.specs.Seen.{Reads};
+ghost use Rattle.enc_image.specs.Seen.{ReadsBase};
 
 use crate::judge::{Cells, cells_fault};
 use crate::open::{metadata, open};
@@ -40,7 +40,7 @@ impl Image {
     /// F5 of a field's bytes.
     #[tactic(auto, unfolding(crate::specs::Base::base_of))]
     pub fn read(alloc: Global, bytes: Vec<u8>) -> Result<Image, ReadFault>
-        ensures { Reads result (base_of bytes.items) }
+        ensures { ReadsBase result (base_of bytes.items) }
     {
         let opened = match open(&bytes) {
             Ok(opened) => opened,

@@ -3,9 +3,9 @@ ghost use Rattle.std.specs.Prelude.{◌≡◌, ℕ, ◌<◌, ◌^◌, IfOk, IsTr
 ghost use Rattle.enc_base.specs.Order.{first_below};
 ghost use Rattle.enc_base.specs.Token.{nth_row};
 ghost use Rattle.enc_meta.specs.Heaps.{part};
-ghost use Rattle.enc_schema.specs.Schema.{columns_in, column_in};
-ghost use Rattle.enc_rows.specs.Layout.{IsWithin, has_row, rows_of};
-ghost use Rattle.enc_image.specs.Base.{cell_for, is_offset, offset_fault_at, offset_fault_in_row, offset_fault_in, offset_fault, body_fault_at, body_fault, rule, cells_fault};
+ghost use Rattle.enc_schema.specs.Schema.{columns_in, column_in, is_offset};
+ghost use Rattle.enc_rows.specs.Layout.{IsWithin, stream_has_row, rows_of};
+ghost use Rattle.enc_image.specs.Base.{cell_for, offset_fault_at, offset_fault_in_row, offset_fault_in, offset_fault, body_fault_at, body_fault, rule, cells_fault};
 ghost use Rattle.enc_image.specs.Seen.{source_seen};
 
 use crate::bodies::body_fault;
@@ -46,7 +46,7 @@ fn is_bad_offset(cells: &Cells<'_>, column: Column, number: u32) -> bool
 #[tactic(auto, unfolding(crate::specs::Base::offset_fault_at))]
 fn offset_fault_at(cells: &Cells<'_>, token: Token, i: u8) -> Option<Place>
     requires bytes { IsWithin (part cells.now.bytes.now cells.now.tables.now.span) cells.now.tables.now }
-    requires row { IsTrue (has_row cells.now.tables.now token) }
+    requires row { IsTrue (stream_has_row cells.now.tables.now token) }
     ensures { result ≡ offset_fault_at (source_seen cells.now) token i }
 {
     let column = column_of(token.table, i)?;

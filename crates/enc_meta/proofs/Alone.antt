@@ -3,10 +3,10 @@ use Rattle.std.proofs.Common.{◌≡◌, ℕ, zero, suc, ◌+◌, ◌*◌, lengt
 use Rattle.std.specs.Prelude.{nat_le, nat_lt, if◌then◌else◌, option_and_then}
 use Rattle.std.proofs.lemmas.List.{drop_all}
 use Rattle.std.proofs.lemmas.Bool.Decides.{nat_tests}
-use Rattle.enc_meta.specs.Heaps.{Counted, sixteen_at, guid_at, text_entry, bytes_at, user_entry, units_in, text_at, blob_at, user_at}
+use Rattle.enc_meta.specs.Heaps.{Counted, sixteen_at, guid_at, text_entry, blob_entry, user_entry, units_in, text_at, blob_at, user_at}
 use Rattle.enc_meta.specs.declared.heap.Heap.{Heap}
 use Rattle.enc_meta.specs.declared.heap.Heap.TheVariants as heap
-use Rattle.enc_meta.specs.HeapKinds.{bytes_in, entry_at, own_at, joined_at}
+use Rattle.enc_meta.specs.HeapKinds.{bytes_in, heap_entry, own_at, joined_at}
 use Rattle.enc_meta.specs.Root.{◌>>=◌}
 use Rattle.enc_meta.specs.Joined.{first_guid, joined_guid, entry_in, joined_entry, joined_text, joined_blob, joined_user}
 
@@ -32,8 +32,8 @@ none_at : (b : Bool) (f : ℕ × ℕ → Option (List ℕ)) → ((if b then None
 none_at true f = refl
 none_at false f = refl
 
-pub blob_here : (b : Bool) (x : List ℕ) (o : ℕ) → nat_lt o (length x) ≡ b → (if b then bytes_at x o else None) ≡ bytes_at x o
-unfolding bytes_at
+pub blob_here : (b : Bool) (x : List ℕ) (o : ℕ) → nat_lt o (length x) ≡ b → (if b then blob_entry x o else None) ≡ blob_entry x o
+unfolding blob_entry
 blob_here true x o is = refl
 blob_here false x o is = rw (drop_all o x (grind (arith, nat_tests, is))) (sym (none_at (nat_le o (length x)) _))
 
@@ -42,7 +42,7 @@ unfolding joined_entry entry_in blob_at
 blob_alone h o = rw (blob_here (nat_lt o (length h.blobs)) h.blobs o refl) refl
 
 pub user_here : (b : Bool) (x : List ℕ) (o : ℕ) → nat_lt o (length x) ≡ b → (if b then user_entry x o else None) ≡ user_entry x o
-unfolding user_entry bytes_at
+unfolding user_entry blob_entry
 user_here true x o is = refl
 user_here false x o is = rw (drop_all o x (grind (arith, nat_tests, is))) (sym (ap (option_and_then units_in) (none_at (nat_le o (length x)) _)))
 
@@ -57,7 +57,7 @@ heap_alone heap.Users h o = user_alone h o
 heap_alone heap.Blobs h o = blob_alone h o
 
 -- an entry is looked for where the heap has bytes
-pub entry_here : (k : Heap) (x : List ℕ) (o : ℕ) → (if nat_lt o (length x) then entry_at k x o else None) ≡ entry_at k x o
+pub entry_here : (k : Heap) (x : List ℕ) (o : ℕ) → (if nat_lt o (length x) then heap_entry k x o else None) ≡ heap_entry k x o
 entry_here heap.Strings x o = text_here (nat_lt o (length x)) x o refl
 entry_here heap.Users x o = user_here (nat_lt o (length x)) x o refl
 entry_here heap.Blobs x o = blob_here (nat_lt o (length x)) x o refl

@@ -1,15 +1,16 @@
 -- The laws of written heaps.
 use Rattle.std.proofs.Common.{◌≡◌, ℕ, suc, ◌+◌, ◌*◌, ◌%◌, ◌^◌, ◌<◌, Bool, true, false, ◌||◌, List, [], ◌∷◌, ◌++◌, length, drop, map, Some, refl, arith, length-append}
-use Rattle.std.specs.Prelude.{bytes_eq, nat_lt, not, IsTrue, if◌then◌else◌, ◌==◌, ◌&&◌}
+use Rattle.std.specs.Prelude.{bytes_eq, nat_lt, not, IsTrue, if◌then◌else◌, ◌==◌}
 use Rattle.std.specs.List.{list_any, list_all}
 use Rattle.std.proofs.lemmas.Bool.Decides.{nat_tests}
 use Rattle.std.proofs.lemmas.List.{map-append}
 use Rattle.std.proofs.lemmas.List.Folds.{list_all-map}
-use Rattle.enc_base.specs.Numbers.{spelled}
-use Rattle.enc_meta.specs.Heaps.{Counted, text_entry, bytes_at, user_entry}
+use Rattle.std.proofs.lemmas.Bool.{and_parts}
+use Rattle.enc_base.specs.Numbers.{spelled, is_empty}
+use Rattle.enc_meta.specs.Heaps.{Counted, text_entry, blob_entry, user_entry, nil_guid}
 use Rattle.enc_meta.specs.Joined.{joined_guid}
-use Rattle.enc_meta.specs.Built.{Built, is_empty, is_among, text_bytes, user_bytes, blob_bytes, mark_of, nil_guid, is_guid_kept, number_in, entries_before, guid_bytes, heaps_built}
-use Rattle.enc_meta.specs.BuiltLaws.{IsGood, ArePast, joined, TextsAreRead, UsersAreRead, BlobsAreRead, GuidsAreRead, TextsCount, OffsetsStay, NumbersStay, OffsetsTell, UserOffsetsTell, BlobOffsetsTell, GuidNumbersTell}
+use Rattle.enc_meta.specs.Built.{Built, is_among, text_bytes, user_bytes, blob_bytes, mark_of, is_guid_kept, guid_number_in, entries_before, guid_bytes, heaps_built}
+use Rattle.enc_meta.specs.BuiltLaws.{IsGood, ArePast, heaps_joined, TextsAreRead, UsersAreRead, BlobsAreRead, GuidsAreRead, TextsCount, OffsetsStay, NumbersStay, OffsetsTell, UserOffsetsTell, BlobOffsetsTell, GuidNumbersTell}
 use Rattle.enc_meta.proofs.Joining.{guid_behind}
 use Rattle.enc_meta.proofs.Standing.{same_bytes, holds_of}
 use Rattle.enc_meta.proofs.Reading.{spelled_some, text_reads, blob_reads, user_reads, value_reads}
@@ -26,17 +27,13 @@ blob_some v = omega (arith, length-append (spelled (length v)) v, spelled_some (
 user_some : (v : List ℕ) → 0 < length (user_bytes v)
 user_some v = blob_some (v ++ mark_of v ∷ [])
 
-both_true : (b c : Bool) → (b && c) ≡ true → (b ≡ true) × (c ≡ true)
-both_true true c e = (refl, e)
-both_true false c e = absurd (cc)
-
 not_true : (b : Bool) → not b ≡ true → b ≡ false
 not_true true e = absurd (cc)
 not_true false e = refl
 
 text_of : (b : Built) (v : List ℕ) → IsGood b → is_among b.texts v ≡ true → (heap rest : List ℕ) (n : ℕ) → drop n heap ≡ text_bytes v ++ rest → text_entry heap n ≡ Some v
 text_of b v good there heap rest n whole =
-    let is = both_true (not (is_empty v)) (not (list_any (λ c. c == 0) v)) (holds_of _ b.texts v good.texts there) in
+    let is = and_parts (not (is_empty v)) (not (list_any (λ c. c == 0) v)) (holds_of _ b.texts v good.texts there) in
     text_reads heap v rest n (not_true _ is.1) whole
 
 pub texts_are_read : TextsAreRead
@@ -46,7 +43,7 @@ texts_are_read before b v good past kept =
 
 user_of : (b : Built) (v : List ℕ) → IsGood b → is_among b.users v ≡ true → (heap rest : List ℕ) (n : ℕ) → drop n heap ≡ user_bytes v ++ rest → user_entry heap n ≡ Some v
 user_of b v good there heap rest n whole =
-    let is = both_true (length v % 2 == 0) (nat_lt (length v + 1) (2 ^ 29)) (holds_of _ b.users v good.users there) in
+    let is = and_parts (length v % 2 == 0) (nat_lt (length v + 1) (2 ^ 29)) (holds_of _ b.users v good.users there) in
     user_reads heap v rest n (grind (arith, nat_tests, is.0)) (grind (arith, nat_tests, is.1)) whole
 
 pub users_are_read : UsersAreRead
@@ -54,7 +51,7 @@ unfolding heaps_built
 users_are_read before b v good past kept =
     rw (map-append (λ (c : Counted). c.users) before (heaps_built b ∷ [])) (value_reads user_entry user_bytes (map (λ (c : Counted). c.users) before) b.starts.users b.users v past.users (user_some v) (user_of b v good) kept)
 
-blob_of : (b : Built) (v : List ℕ) → IsGood b → is_among b.blobs v ≡ true → (heap rest : List ℕ) (n : ℕ) → drop n heap ≡ blob_bytes v ++ rest → bytes_at heap n ≡ Some v
+blob_of : (b : Built) (v : List ℕ) → IsGood b → is_among b.blobs v ≡ true → (heap rest : List ℕ) (n : ℕ) → drop n heap ≡ blob_bytes v ++ rest → blob_entry heap n ≡ Some v
 blob_of b v good there heap rest n whole =
     let is : nat_lt (length v) (2 ^ 29) ≡ true = holds_of _ b.blobs v good.blobs there in
     blob_reads heap v rest n (grind (arith, nat_tests, is)) whole
@@ -62,10 +59,10 @@ blob_of b v good there heap rest n whole =
 pub blobs_are_read : BlobsAreRead
 unfolding heaps_built
 blobs_are_read before b v good past kept =
-    rw (map-append (λ (c : Counted). c.blobs) before (heaps_built b ∷ [])) (value_reads bytes_at blob_bytes (map (λ (c : Counted). c.blobs) before) b.starts.blobs b.blobs v past.blobs (blob_some v) (blob_of b v good) kept)
+    rw (map-append (λ (c : Counted). c.blobs) before (heaps_built b ∷ [])) (value_reads blob_entry blob_bytes (map (λ (c : Counted). c.blobs) before) b.starts.blobs b.blobs v past.blobs (blob_some v) (blob_of b v good) kept)
 
-guid_of : (before : List Counted) (b : Built) (g : List ℕ) (nil : Bool) → IsGood b → ArePast before b.starts → bytes_eq g nil_guid ≡ nil → (nil || is_among b.guids g) ≡ true → joined_guid (joined before b) (if nil then 0 else b.starts.guids + 1 + entries_before b.guids g) ≡ Some g
-unfolding heaps_built
+guid_of : (before : List Counted) (b : Built) (g : List ℕ) (nil : Bool) → IsGood b → ArePast before b.starts → bytes_eq g nil_guid ≡ nil → (nil || is_among b.guids g) ≡ true → joined_guid (heaps_joined before b) (if nil then 0 else b.starts.guids + 1 + entries_before b.guids g) ≡ Some g
+unfolding heaps_built nil_guid
 guid_of before b g true good past is there = let same : g ≡ nil_guid = same_bytes g nil_guid is in rw same refl
 guid_of before b g false good past is there =
     let start = b.starts.guids in
@@ -75,7 +72,7 @@ guid_of before b g false good past is there =
     rw (k, map-append (λ (c : Counted). c.guids) before (heaps_built b ∷ []), guid_behind start (map (λ (c : Counted). c.guids) before) (guid_bytes start b.guids) (start + entries_before b.guids g) few (omega arith) s.0) s.1
 
 pub guids_are_read : GuidsAreRead
-unfolding number_in is_guid_kept
+unfolding guid_number_in is_guid_kept
 guids_are_read before b g good past kept = guid_of before b g (bytes_eq g nil_guid) good past refl kept
 
 pub all_texts_count : TextsCount

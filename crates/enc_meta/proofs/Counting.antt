@@ -5,7 +5,8 @@ use Rattle.std.specs.List.{list_any, list_all}
 use Rattle.std.proofs.lemmas.Bool.Decides.{nat_tests}
 use Rattle.std.proofs.lemmas.List.{take_all, append-nil}
 use Rattle.enc_meta.specs.Heaps.{filled, counted_strings}
-use Rattle.enc_meta.specs.Built.{is_empty, text_bytes, heap_bytes}
+use Rattle.enc_base.specs.Numbers.{is_empty}
+use Rattle.enc_meta.specs.Built.{text_bytes, heap_bytes}
 
 -- one byte in front of bytes that aren't all zeros
 filled_cons : (b : ℕ) (rest : List ℕ) → 0 < filled rest → filled (b ∷ rest) ≡ suc (filled rest)

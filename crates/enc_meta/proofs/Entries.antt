@@ -7,7 +7,8 @@ use Rattle.std.proofs.lemmas.List.{length_push, take_more, append-nil}
 use Rattle.std.proofs.lemmas.List.Concat.{flat_map-append}
 use Rattle.std.proofs.lemmas.List.Folds.{list_all-append}
 use Rattle.indexmap.specs.IndexSet.{insert_key}
-use Rattle.enc_meta.specs.Built.{is_among, nil_guid, is_guid_kept, with_entry, entries_before, number_in, entry_passes}
+use Rattle.enc_meta.specs.Heaps.{nil_guid}
+use Rattle.enc_meta.specs.Built.{is_among, is_guid_kept, with_entry, entries_before, guid_number_in, entry_passes}
 use Rattle.enc_meta.specs.Pools.{IsListed}
 use Rattle.enc_meta.proofs.Places.{bytes_eq_sym}
 
@@ -32,13 +33,13 @@ found_is : (guids : List (List ℕ)) (g : List ℕ) → position (bytes_eq g) gu
 found_is guids g = rw (before_is guids g, among_is guids g) refl
 
 -- the nil GUID has number 0
-pub nil_kept : (start : ℕ) (guids : List (List ℕ)) (g : List ℕ) → bytes_eq g nil_guid ≡ true → (is_guid_kept guids g ≡ true) × (0 ≡ number_in start guids g)
-unfolding is_guid_kept number_in
+pub nil_kept : (start : ℕ) (guids : List (List ℕ)) (g : List ℕ) → bytes_eq g nil_guid ≡ true → (is_guid_kept guids g ≡ true) × (0 ≡ guid_number_in start guids g)
+unfolding is_guid_kept guid_number_in
 nil_kept start guids g nil = (rw nil refl, rw nil refl)
 
 -- another has the number of its entry
-pub kept_at : (start before : ℕ) (guids : List (List ℕ)) (g : List ℕ) → bytes_eq g nil_guid ≡ false → Some before ≡ position (bytes_eq g) guids → (is_guid_kept guids g ≡ true) × (start + 1 + before ≡ number_in start guids g)
-unfolding is_guid_kept number_in
+pub kept_at : (start before : ℕ) (guids : List (List ℕ)) (g : List ℕ) → bytes_eq g nil_guid ≡ false → Some before ≡ position (bytes_eq g) guids → (is_guid_kept guids g ≡ true) × (start + 1 + before ≡ guid_number_in start guids g)
+unfolding is_guid_kept guid_number_in
 kept_at start before guids g other found = by (is_among guids g) (entries_before guids g) (bytes_eq g nil_guid) other (found ∙ found_is guids g)
   where
     by : (b : Bool) (n : ℕ) (nil : Bool) → nil ≡ false → Some before ≡ cond b (Some n) None → ((nil || b) ≡ true) × (start + 1 + before ≡ (if nil then 0 else start + 1 + n))
@@ -66,8 +67,8 @@ both_false true c h = absurd (cc)
 both_false false c h = (refl, h)
 
 -- a GUID that isn't there has the number behind them all
-pub number_new : (start : ℕ) (guids : List (List ℕ)) (g : List ℕ) → is_guid_kept guids g ≡ false → number_in start guids g ≡ start + length guids + 1
-unfolding is_guid_kept number_in
+pub number_new : (start : ℕ) (guids : List (List ℕ)) (g : List ℕ) → is_guid_kept guids g ≡ false → guid_number_in start guids g ≡ start + length guids + 1
+unfolding is_guid_kept guid_number_in
 number_new start guids g new =
     let f = both_false (bytes_eq g nil_guid) (is_among guids g) new in
     rw (f.0, none_before guids g f.1) (omega arith)

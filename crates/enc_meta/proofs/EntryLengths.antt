@@ -7,7 +7,7 @@ use Rattle.std.proofs.lemmas.List.Sums.{sum_by-cons}
 use Rattle.enc_base.specs.Numbers.{compressed, compressed_at}
 use Rattle.enc_base.proofs.SmallNumbers.{EachIsByte, each_drop, compressed_few, compressed_long}
 use Rattle.enc_meta.specs.Root.{before_zero}
-use Rattle.enc_meta.specs.Heaps.{Counted, text_entry, text_at, bytes_at, blob_at, sixteen_at, guid_at}
+use Rattle.enc_meta.specs.Heaps.{Counted, text_entry, text_at, blob_entry, blob_at, sixteen_at, guid_at}
 use Rattle.enc_meta.specs.Joined.{entry_in, joined_entry, joined_text, joined_blob, first_guid, joined_guid, joined_length}
 
 -- a text has no zero
@@ -97,13 +97,13 @@ blob_from : (heap x : List ℕ) (at : ℕ) (o : Option (ℕ × ℕ)) → compres
 blob_from heap x at None is h = absurd cc
 blob_from heap x at (Some head) is h = blob_by heap x at head (nat_le (head.1 + head.0) (length heap)) (head_is heap at head is) refl h
 
-entry_blob : (heap : List ℕ) (at : ℕ) (x : List ℕ) → bytes_at heap at ≡ Some x → Short heap x
-unfolding bytes_at
+entry_blob : (heap : List ℕ) (at : ℕ) (x : List ℕ) → blob_entry heap at ≡ Some x → Short heap x
+unfolding blob_entry
 entry_blob heap at x h = blob_from heap x at (compressed_at heap at) refl h
 
 pub blob_few : (heap : List ℕ) (offset : ℕ) (x : List ℕ) → EachIsByte heap → blob_at heap offset ≡ Some x → length x < 2 ^ 29
 unfolding blob_at
-blob_few heap offset x all h = or_empty (λ y. length y < 2 ^ 29) (offset == 0) (bytes_at heap offset) x (omega arith) (λ y e. (entry_blob heap offset y e).1 all) h
+blob_few heap offset x all h = or_empty (λ y. length y < 2 ^ 29) (offset == 0) (blob_entry heap offset) x (omega arith) (λ y e. (entry_blob heap offset y e).1 all) h
 
 few_heaps : (heaps : List (List ℕ)) (n : ℕ) → joined_length heaps ≤ n → AllHeaps (λ heap. length heap ≤ n) heaps
 unfolding AllHeaps
@@ -114,7 +114,7 @@ few_heaps (heap ∷ heaps) n h =
 
 pub joined_few : (all : List Counted) (offset : ℕ) (x : List ℕ) → joined_length (map (λ (c : Counted). c.blobs) all) ≤ 2 ^ 29 → joined_blob all offset ≡ Some x → length x < 2 ^ 29
 unfolding joined_entry
-joined_few all offset x few h = or_empty (λ y. length y < 2 ^ 29) (offset == 0) (entry_in bytes_at (map (λ (c : Counted). c.blobs) all) offset) x (omega arith) (λ y e. entry_is (λ z. length z < 2 ^ 29) (λ heap. length heap ≤ 2 ^ 29) bytes_at (map (λ (c : Counted). c.blobs) all) offset y (λ heap o z q f. shorter z heap q (entry_blob heap o z f).0) (few_heaps (map (λ (c : Counted). c.blobs) all) (2 ^ 29) few) e) h
+joined_few all offset x few h = or_empty (λ y. length y < 2 ^ 29) (offset == 0) (entry_in blob_entry (map (λ (c : Counted). c.blobs) all) offset) x (omega arith) (λ y e. entry_is (λ z. length z < 2 ^ 29) (λ heap. length heap ≤ 2 ^ 29) blob_entry (map (λ (c : Counted). c.blobs) all) offset y (λ heap o z q f. shorter z heap q (entry_blob heap o z f).0) (few_heaps (map (λ (c : Counted). c.blobs) all) (2 ^ 29) few) e) h
   where
     shorter : (z heap : List ℕ) → length heap ≤ 2 ^ 29 → length z < length heap → length z < 2 ^ 29
     shorter z heap q lt = omega arith

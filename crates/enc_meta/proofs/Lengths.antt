@@ -3,7 +3,7 @@ use Rattle.std.proofs.Common.{◌≡◌, ℕ, zero, suc, ◌+◌, ◌^◌, ◌<�
 use Rattle.std.specs.Prelude.{option_map, option_and_then, unwrap_or, find, bytes_eq, nat_le}
 use Rattle.std.specs.Int.{w16, w32, from_le_bytes}
 use Rattle.std.proofs.lemmas.List.{length-take, get_or-drop}
-use Rattle.enc_base.specs.Numbers.{number_at}
+use Rattle.enc_base.specs.Numbers.{little_endian_at}
 use Rattle.enc_base.specs.declared.refusal.StreamName.{StreamName}
 use Rattle.enc_meta.specs.Root.{Header, version_len, name_at, header_at, headers, streams, stream_fault, span_of, nowhere, root_with, root_or_fault, root_in, root_of}
 use Rattle.enc_meta.specs.Heaps.{counted_strings, filled, part, heaps_of, AreAtMost}
@@ -20,7 +20,7 @@ four_few bytes all = omega (arith, all 0, all 1, all 2, all 3)
 are_behind : (bytes : List ℕ) (n : ℕ) → AreBytes bytes → AreBytes (drop n bytes)
 are_behind bytes n all i = rw (get_or-drop n bytes i 0) (all (n + i))
 
-number_few : (bytes : List ℕ) (at n : ℕ) → AreBytes bytes → number_at w32 bytes at ≡ Some n → n < 2 ^ 32
+number_few : (bytes : List ℕ) (at n : ℕ) → AreBytes bytes → little_endian_at w32 bytes at ≡ Some n → n < 2 ^ 32
 number_few bytes at n all is = by_test (nat_le (at + 4) (length bytes)) (from_le_bytes w32 (drop at bytes)) (four_few (drop at bytes) (are_behind bytes at all)) is
   where
     by_test : (t : Bool) (m : ℕ) → m < 2 ^ 32 → cond t (Some m) None ≡ Some n → n < 2 ^ 32
@@ -48,7 +48,7 @@ few_more (x ∷ rest) h all few = (all.0, few_more rest h all.1 few)
 header_few : (bytes : List ℕ) (at : ℕ) → AreBytes bytes → IfSome (header_at bytes at) (λ x. x.0.span.len < 2 ^ 32)
 unfolding header_at
 header_few bytes at all =
-    behind (number_at w32 bytes at) _ (λ (x : Header × ℕ). x.0.span.len < 2 ^ 32) (λ start s. behind (number_at w32 bytes (at + 4)) _ (λ (x : Header × ℕ). x.0.span.len < 2 ^ 32) (λ size is. behind (name_at bytes (at + 8)) _ (λ (x : Header × ℕ). x.0.span.len < 2 ^ 32) (λ text t. number_few bytes (at + 4) size all is)))
+    behind (little_endian_at w32 bytes at) _ (λ (x : Header × ℕ). x.0.span.len < 2 ^ 32) (λ start s. behind (little_endian_at w32 bytes (at + 4)) _ (λ (x : Header × ℕ). x.0.span.len < 2 ^ 32) (λ size is. behind (name_at bytes (at + 8)) _ (λ (x : Header × ℕ). x.0.span.len < 2 ^ 32) (λ text t. number_few bytes (at + 4) size all is)))
 
 headers_few : (bytes : List ℕ) (at n : ℕ) → AreBytes bytes → IfSome (headers bytes at n) (λ x. AreFew x.0)
 unfolding headers
@@ -59,7 +59,7 @@ headers_few bytes at (suc n) all =
 streams_few : (bytes : List ℕ) → AreBytes bytes → IfSome (streams bytes) AreFew
 unfolding streams
 streams_few bytes all =
-    behind (version_len bytes) _ AreFew (λ len v. behind (number_at w16 bytes (18 + len)) _ AreFew (λ count c. mapped (headers bytes (20 + len) count) _ AreFew (headers_few bytes (20 + len) count all)))
+    behind (version_len bytes) _ AreFew (λ len v. behind (little_endian_at w16 bytes (18 + len)) _ AreFew (λ count c. mapped (headers bytes (20 + len) count) _ AreFew (headers_few bytes (20 + len) count all)))
 
 span_few : (text : List ℕ) (all : List Header) → AreFew all → (unwrap_or (span_of text all) nowhere).len < 2 ^ 32
 unfolding span_of

@@ -2,7 +2,8 @@
 use Rattle.std.proofs.Common.{◌≡◌, ℕ, zero, suc, ◌+◌, ◌<◌, Bool, true, false, cond, List, [], ◌∷◌, ◌++◌, length, take, drop, Option, Some, None, IfSome, get_or, refl, ap, arith}
 use Rattle.std.specs.Prelude.{◌==◌, option_map, Contains}
 use Rattle.std.proofs.lemmas.Bool.Decides.{nat_tests}
-use Rattle.enc_meta.specs.Root.{padded, before_zero, root_of, root_in, streams, version_len, headers, header_at, name_at, known, stands, fault_of, fault_at, stream_fault, has_one_table_stream, span_of, root_with, root_or_fault}
+use Rattle.enc_base.specs.Numbers.{padded}
+use Rattle.enc_meta.specs.Root.{before_zero, root_of, root_in, streams, version_len, headers, header_at, name_at, known, has_stream, fault_of, fault_at, stream_fault, has_one_table_stream, span_of, root_with, root_or_fault}
 use Rattle.enc_meta.specs.Heaps.{text_entry, text_at, heaps_of, part, counted_strings}
 use Rattle.enc_meta.specs.Example.{ExampleReads, ExampleCounts}
 use Rattle.enc_meta.specs.Laws.{PaddedIsLeast, TextStands}
@@ -13,7 +14,7 @@ unfolding padded
 padded_is_least n = (omega arith, omega arith, omega arith)
 
 pub example_reads : ExampleReads
-unfolding root_of root_in streams version_len headers header_at name_at padded known stands fault_of fault_at stream_fault has_one_table_stream span_of root_with root_or_fault first_below
+unfolding root_of root_in streams version_len headers header_at name_at padded known has_stream fault_of fault_at stream_fault has_one_table_stream span_of root_with root_or_fault first_below
 example_reads = refl
 
 pub example_counts : ExampleCounts

@@ -9,7 +9,8 @@ use Rattle.std.proofs.lemmas.List.Sums.{sum_by-cons}
 use Rattle.std.proofs.lemmas.List.{map-append, map_more, append-nil}
 use Rattle.indexmap.specs.IndexMap.{IndexMap, insert_entry}
 use Rattle.indexmap.proofs.CallerLemmas.{insert_entry-new}
-use Rattle.enc_meta.specs.Built.{is_empty, is_among, is_kept, with_value, place_among, offset_in, joined_end, heap_bytes}
+use Rattle.enc_base.specs.Numbers.{is_empty}
+use Rattle.enc_meta.specs.Built.{is_among, is_kept, with_value, place_among, offset_in, joined_end, heap_bytes}
 use Rattle.enc_meta.specs.Pools.{ArePlaced}
 
 -- it doesn't matter which of two lists of bytes is compared to which

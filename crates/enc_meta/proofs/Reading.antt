@@ -6,7 +6,7 @@ use Rattle.std.proofs.lemmas.Bool.Decides.{nat_tests}
 use Rattle.std.proofs.lemmas.List.{drop-drop, drop_at, take_at, length_push}
 use Rattle.enc_base.specs.Numbers.{spelled, compressed, WrittenIsRead}
 use Rattle.enc_meta.specs.Root.{before_zero}
-use Rattle.enc_meta.specs.Heaps.{text_entry, bytes_at, units_in, user_entry}
+use Rattle.enc_meta.specs.Heaps.{text_entry, blob_entry, units_in, user_entry}
 use Rattle.enc_meta.specs.Joined.{joined_entry, joined_length}
 use Rattle.enc_meta.specs.Built.{is_among, is_kept, text_bytes, blob_bytes, user_bytes, mark_of, place_among, offset_in, heap_bytes}
 use Rattle.enc_meta.proofs.Joining.{entry_behind, joined_at}
@@ -33,8 +33,8 @@ unfolding text_entry
 text_reads heap v rest n none whole = rw whole (up_to_zero v rest none)
 
 -- bytes behind their length read
-pub blob_reads : (heap v rest : List ℕ) (n : ℕ) → length v < 2 ^ 29 → drop n heap ≡ blob_bytes v ++ rest → bytes_at heap n ≡ Some v
-unfolding bytes_at
+pub blob_reads : (heap v rest : List ℕ) (n : ℕ) → length v < 2 ^ 29 → drop n heap ≡ blob_bytes v ++ rest → blob_entry heap n ≡ Some v
+unfolding blob_entry
 blob_reads heap v rest n few whole =
     let s = spelled (length v) in
     let len : length heap - n ≡ length s + length v + length rest = omega (arith, length-drop n heap, ap length whole, length-append (s ++ v) rest, length-append s v) in

@@ -1,7 +1,8 @@
 -- A given offset stays, and different values have different ones.
 use Rattle.std.proofs.Common.{◌≡◌, ℕ, ◌+◌, ◌≤◌, ◌<◌, Bool, true, false, ◌||◌, List, [], ◌∷◌, ◌++◌, length, refl, sym, ◌∙◌, arith}
 use Rattle.std.specs.Prelude.{bytes_eq, if◌then◌else◌}
-use Rattle.enc_meta.specs.Built.{is_among, is_kept, with_value, place_among, offset_in, nil_guid, is_guid_kept, with_entry, entries_before, number_in}
+use Rattle.enc_meta.specs.Heaps.{nil_guid}
+use Rattle.enc_meta.specs.Built.{is_among, is_kept, with_value, place_among, offset_in, is_guid_kept, with_entry, entries_before, guid_number_in}
 use Rattle.enc_meta.proofs.Standing.{same_bytes}
 
 place_stays : (encode : List ℕ → List ℕ) (at : ℕ) (values : List (List ℕ)) (v w : List ℕ) → is_among values v ≡ true → place_among encode at (values ++ w ∷ []) v ≡ place_among encode at values v
@@ -57,8 +58,8 @@ before_stays (x ∷ rest) g h there = by (bytes_eq x g) there (before_stays rest
     by true e more = refl
     by false e more = rw (more e) refl
 
-pub number_stays : (start : ℕ) (guids : List (List ℕ)) (g h : List ℕ) → is_guid_kept guids g ≡ true → number_in start (with_entry guids h) g ≡ number_in start guids g
-unfolding number_in with_entry is_guid_kept
+pub number_stays : (start : ℕ) (guids : List (List ℕ)) (g h : List ℕ) → is_guid_kept guids g ≡ true → guid_number_in start (with_entry guids h) g ≡ guid_number_in start guids g
+unfolding guid_number_in with_entry is_guid_kept
 number_stays start guids g h kept = by (bytes_eq g nil_guid) (is_guid_kept guids h) kept
   where
     by : (nil old : Bool) → (nil || is_among guids g) ≡ true → (if nil then 0 else start + 1 + entries_before (if old then guids else guids ++ h ∷ []) g) ≡ (if nil then 0 else start + 1 + entries_before guids g)
@@ -76,8 +77,8 @@ before_tells (x ∷ rest) g h here there same = by (bytes_eq x g) (bytes_eq x h)
     by false true p q k l e more = absurd (omega (arith, e))
     by false false p q k l e more = more k l (omega (arith, e))
 
-pub number_tells : (start : ℕ) (guids : List (List ℕ)) (g h : List ℕ) → is_guid_kept guids g ≡ true → is_guid_kept guids h ≡ true → number_in start guids g ≡ number_in start guids h → g ≡ h
-unfolding number_in is_guid_kept
+pub number_tells : (start : ℕ) (guids : List (List ℕ)) (g h : List ℕ) → is_guid_kept guids g ≡ true → is_guid_kept guids h ≡ true → guid_number_in start guids g ≡ guid_number_in start guids h → g ≡ h
+unfolding guid_number_in is_guid_kept
 number_tells start guids g h here there same = by (bytes_eq g nil_guid) (bytes_eq h nil_guid) refl refl here there same
   where
     by : (b c : Bool) → bytes_eq g nil_guid ≡ b → bytes_eq h nil_guid ≡ c → (b || is_among guids g) ≡ true → (c || is_among guids h) ≡ true → (if b then 0 else start + 1 + entries_before guids g) ≡ (if c then 0 else start + 1 + entries_before guids h) → g ≡ h

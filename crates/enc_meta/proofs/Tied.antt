@@ -5,9 +5,9 @@ use Rattle.std.specs.Map.{keys_of}
 use Rattle.std.proofs.lemmas.Bool.Decides.{nat_tests}
 use Rattle.std.proofs.lemmas.List.Sums.{sum_by_push}
 use Rattle.std.proofs.lemmas.List.Folds.{list_all-append}
-use Rattle.enc_base.specs.Numbers.{spelled}
-use Rattle.enc_meta.specs.Built.{is_empty, is_kept, mark_of, joined_end, passes}
-use Rattle.enc_meta.specs.Pools.{encoded, limit_of, is_fit, is_good, IsTied}
+use Rattle.enc_base.specs.Numbers.{spelled, is_empty}
+use Rattle.enc_meta.specs.Built.{is_kept, mark_of, joined_end, passes}
+use Rattle.enc_meta.specs.Pools.{encoded, limit_of, is_fit, value_is_good, IsTied}
 use Rattle.enc_meta.specs.declared.form.Form.{Form}
 use Rattle.enc_meta.specs.declared.form.Form.TheVariants.{Text, User, Blob}
 use Rattle.enc_meta.proofs.Places.{placed_more, seen_more, not_empty}
@@ -27,7 +27,7 @@ unfolding passes
 passes_kept encode limit start values v kept = rw kept refl
 
 -- a value that doesn't pass the limit has a length that can be spelled
-fit_is_good : (form : Form) (end : ℕ) (v : List ℕ) → is_empty v ≡ false → IsTrue (is_fit form v) → 0 < end → end + length (encoded form v) ≤ limit_of form → IsTrue (is_good form v)
+fit_is_good : (form : Form) (end : ℕ) (v : List ℕ) → is_empty v ≡ false → IsTrue (is_fit form v) → 0 < end → end + length (encoded form v) ≤ limit_of form → IsTrue (value_is_good form v)
 fit_is_good Text end v full fit some within = rw (full, fit) refl
 fit_is_good User end v full fit some within =
     let e = length-append (spelled (length (v ++ mark_of v ∷ []))) (v ++ mark_of v ∷ []) in
@@ -55,5 +55,5 @@ tied_more seen form start end entries k v tied is within new fit =
       placed = placed_more seen (encoded form) (start + 1) end entries k tied.placed tied.ends;
       ends = rw (more, is, joined_more (encoded form) start values v, ← tied.ends) refl;
       within = omega (arith, within);
-      good = rw (more, is, list_all-append (is_good form) values (v ∷ []), tied.good, good) refl;
+      good = rw (more, is, list_all-append (value_is_good form) values (v ∷ []), tied.good, good) refl;
     }

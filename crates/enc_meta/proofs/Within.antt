@@ -7,7 +7,7 @@ use Rattle.std.proofs.lemmas.Slice.Eq.{bytes_eq-Decides}
 use Rattle.enc_base.specs.Order.{or_else, first_below}
 use Rattle.enc_base.specs.declared.refusal.StreamName.{StreamName}
 use Rattle.enc_base.proofs.First.{first_means}
-use Rattle.enc_meta.specs.Root.{Header, streams, known, stands, fault_of, fault_at, stream_fault, span_of, nowhere, root_with, root_or_fault, root_in, root_of, IsWithin, AreWithin}
+use Rattle.enc_meta.specs.Root.{Header, streams, known, has_stream, fault_of, fault_at, stream_fault, span_of, nowhere, root_with, root_or_fault, root_in, root_of, IsSpanOf, AreWithin}
 use Rattle.enc_meta.specs.declared.root.Root.{Root}
 use Rattle.enc_meta.specs.declared.span.Span.{Span}
 
@@ -33,7 +33,7 @@ known_within : (size : ℕ) (all : List Header) → first_below (fault_at size a
 unfolding fault_at fault_of
 known_within size all none k h here some =
     let fault = faultless size all none k (slice_get_within all k h here) in
-    not_past size (h.span.start + h.span.len) (known h.name) (stands h.name (take k all)) some (rw here at fault)
+    not_past size (h.span.start + h.span.len) (known h.name) (has_stream h.name (take k all)) some (rw here at fault)
 
 span_step : (size : ℕ) (text : List ℕ) (h : Header) (o : Option Header) (same : Bool) → (same ≡ true → h.span.start + h.span.len ≤ size) → IfSome (option_map (λ (x : Header). x.span) o) (λ s. s.start + s.len ≤ size) → IfSome (option_map (λ (x : Header). x.span) (cond same (Some h) o)) (λ s. s.start + s.len ≤ size)
 span_step size text h o true here rest = here refl
@@ -45,11 +45,11 @@ span_within size text [] some within = tt
 span_within size text (h ∷ rest) some within =
     span_step size text h (find (λ (x : Header). bytes_eq x.name text) rest) (bytes_eq h.name text) (λ same. within 0 h refl (ap (λ t. is_some (known t)) ((bytes_eq-Decides h.name text).0 same) ∙ some)) (span_within size text rest some (λ k x at. within (suc k) x at))
 
-unwrapped : (bytes : List ℕ) (o : Option Span) → IfSome o (IsWithin bytes) → IsWithin bytes (unwrap_or o nowhere)
+unwrapped : (bytes : List ℕ) (o : Option Span) → IfSome o (IsSpanOf bytes) → IsSpanOf bytes (unwrap_or o nowhere)
 unwrapped bytes None within = omega arith
 unwrapped bytes (Some s) within = within
 
-either : (bytes : List ℕ) (a b : Option Span) → IfSome a (IsWithin bytes) → IfSome b (IsWithin bytes) → IfSome (or_else a b) (IsWithin bytes)
+either : (bytes : List ℕ) (a b : Option Span) → IfSome a (IsSpanOf bytes) → IfSome b (IsSpanOf bytes) → IfSome (or_else a b) (IsSpanOf bytes)
 either bytes None b one two = two
 either bytes (Some s) b one two = one
 

@@ -1,8 +1,8 @@
 -- Heaps that are written: the distinct values of each in the order of their first use, and the bytes that hold them (ECMA-335 II.24.2.3 to II.24.2.5).
-use Rattle.std.specs.Prelude.{ℕ, ◌+◌, ◌*◌, ◌/◌, ◌%◌, ◌^◌, ◌≤◌, max, Bool, true, false, not, ◌&&◌, ◌||◌, List, [], ◌∷◌, ◌++◌, length, flat_map, replicate, sum_by, bytes_eq, nat_lt, nat_le, ◌==◌, if◌then◌else◌}
+use Rattle.std.specs.Prelude.{ℕ, ◌+◌, ◌*◌, ◌/◌, ◌%◌, ◌^◌, ◌≤◌, max, Bool, false, not, ◌&&◌, ◌||◌, List, [], ◌∷◌, ◌++◌, length, flat_map, replicate, sum_by, bytes_eq, nat_lt, nat_le, ◌==◌, if◌then◌else◌}
 use Rattle.std.specs.List.{list_any}
-use Rattle.enc_base.specs.Numbers.{spelled}
-use Rattle.enc_meta.specs.Heaps.{Counted}
+use Rattle.enc_base.specs.Numbers.{spelled, is_empty}
+use Rattle.enc_meta.specs.Heaps.{Counted, nil_guid}
 use Rattle.enc_meta.specs.declared.heaps.HeapLengths.{HeapLengths}
 
 -- where the heaps begin in the joined ones, and the distinct values of each that aren't empty; a user text is the bytes of its units
@@ -16,10 +16,6 @@ pub record Built : Type 0 where
 -- no value yet
 abbrev pub none_from : HeapLengths → Built
 none_from starts = record { starts = starts; texts = []; users = []; blobs = []; guids = [] }
-
-abbrev pub is_empty : List ℕ → Bool
-is_empty [] = true
-is_empty (b ∷ rest) = false
 
 -- the value is one of these
 abbrev pub is_among : List (List ℕ) → List ℕ → Bool
@@ -112,10 +108,6 @@ user_passes b v = passes user_bytes (2 ^ 24) b.starts.users b.users v
 abbrev pub blob_passes : Built → List ℕ → Bool
 blob_passes b v = passes blob_bytes (2 ^ 29) b.starts.blobs b.blobs v
 
--- the nil GUID takes no entry
-abbrev pub nil_guid : List ℕ
-nil_guid = replicate 16 0
-
 unfoldable pub is_guid_kept : List (List ℕ) → List ℕ → Bool
 is_guid_kept guids g = bytes_eq g nil_guid || is_among guids g
 
@@ -132,11 +124,11 @@ entries_before [] g = 0
 entries_before (w ∷ rest) g = if bytes_eq w g then 0 else 1 + entries_before rest g
 
 -- a GUID's number: 0 for nil, else counted from 1 behind the entries of the chain (II.24.2.5)
-unfoldable pub number_in : ℕ → List (List ℕ) → List ℕ → ℕ
-number_in start guids g = if bytes_eq g nil_guid then 0 else start + 1 + entries_before guids g
+unfoldable pub guid_number_in : ℕ → List (List ℕ) → List ℕ → ℕ
+guid_number_in start guids g = if bytes_eq g nil_guid then 0 else start + 1 + entries_before guids g
 
 abbrev pub guid_number : Built → List ℕ → ℕ
-guid_number b g = number_in b.starts.guids b.guids g
+guid_number b g = guid_number_in b.starts.guids b.guids g
 
 -- as many nil entries as the chain has, and then the new ones
 unfoldable pub guid_bytes : ℕ → List (List ℕ) → List ℕ

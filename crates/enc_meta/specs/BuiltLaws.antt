@@ -4,7 +4,8 @@ use Rattle.std.specs.List.{list_all, list_any}
 use Rattle.enc_meta.specs.declared.heaps.HeapLengths.{HeapLengths}
 use Rattle.enc_meta.specs.Heaps.{Counted, counted_strings}
 use Rattle.enc_meta.specs.Joined.{joined_text, joined_user, joined_blob, joined_guid, joined_length}
-use Rattle.enc_meta.specs.Built.{Built, is_empty, is_kept, is_guid_kept, with_value, with_guid, offset_in, text_offset, user_offset, blob_offset, guid_number, heaps_built}
+use Rattle.enc_base.specs.Numbers.{is_empty}
+use Rattle.enc_meta.specs.Built.{Built, is_kept, is_guid_kept, with_value, with_guid, offset_in, text_offset, user_offset, blob_offset, guid_number, heaps_built}
 
 -- no text is empty or has a zero, units are of two bytes, lengths can be spelled, and GUIDs are of sixteen bytes
 pub record IsGood (b : Built) : Type 0 where
@@ -21,24 +22,24 @@ pub record ArePast (before : List Counted) (starts : HeapLengths) : Type 0 where
   pub guids : IsTrue (list_all (λ (c : Counted). nat_lt (length c.guids) (16 * starts.guids + 16)) before)
 
 -- the built heaps behind those before
-abbrev pub joined : List Counted → Built → List Counted
-joined before b = before ++ heaps_built b ∷ []
+abbrev pub heaps_joined : List Counted → Built → List Counted
+heaps_joined before b = before ++ heaps_built b ∷ []
 
 abbrev pub TextsAreRead : Type 0
 TextsAreRead = (before : List Counted) (b : Built) (v : List ℕ) → IsGood b → ArePast before b.starts → IsTrue (is_kept b.texts v)
-    → joined_text (joined before b) (text_offset b v) ≡ Some v
+    → joined_text (heaps_joined before b) (text_offset b v) ≡ Some v
 
 abbrev pub UsersAreRead : Type 0
 UsersAreRead = (before : List Counted) (b : Built) (v : List ℕ) → IsGood b → ArePast before b.starts → IsTrue (is_kept b.users v)
-    → joined_user (joined before b) (user_offset b v) ≡ Some v
+    → joined_user (heaps_joined before b) (user_offset b v) ≡ Some v
 
 abbrev pub BlobsAreRead : Type 0
 BlobsAreRead = (before : List Counted) (b : Built) (v : List ℕ) → IsGood b → ArePast before b.starts → IsTrue (is_kept b.blobs v)
-    → joined_blob (joined before b) (blob_offset b v) ≡ Some v
+    → joined_blob (heaps_joined before b) (blob_offset b v) ≡ Some v
 
 abbrev pub GuidsAreRead : Type 0
 GuidsAreRead = (before : List Counted) (b : Built) (g : List ℕ) → IsGood b → ArePast before b.starts → IsTrue (is_guid_kept b.guids g)
-    → joined_guid (joined before b) (guid_number b g) ≡ Some g
+    → joined_guid (heaps_joined before b) (guid_number b g) ≡ Some g
 
 -- every byte of the built texts counts
 abbrev pub TextsCount : Type 0

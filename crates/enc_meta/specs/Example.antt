@@ -4,8 +4,8 @@ use Rattle.enc_meta.specs.Root.{root_of}
 use Rattle.enc_meta.specs.Heaps.{heaps_of}
 use Rattle.enc_meta.specs.declared.root.Root.{Root}
 
-abbrev pub example : List ℕ
-example =
+abbrev pub root_example : List ℕ
+root_example =
     0x42 ∷ 0x53 ∷ 0x4a ∷ 0x42 ∷ 0x01 ∷ 0x00 ∷ 0x01 ∷ 0x00 ∷ 0x00 ∷ 0x00 ∷ 0x00 ∷ 0x00 ∷ 0x0c ∷ 0x00 ∷ 0x00 ∷ 0x00 ∷
     0x76 ∷ 0x34 ∷ 0x2e ∷ 0x30 ∷ 0x2e ∷ 0x33 ∷ 0x30 ∷ 0x33 ∷ 0x31 ∷ 0x39 ∷ 0x00 ∷ 0x00 ∷ 0x00 ∷ 0x00 ∷ 0x03 ∷ 0x00 ∷
     0x50 ∷ 0x00 ∷ 0x00 ∷ 0x00 ∷ 0x48 ∷ 0x00 ∷ 0x00 ∷ 0x00 ∷ 0x23 ∷ 0x7e ∷ 0x00 ∷ 0x00 ∷ 0x98 ∷ 0x00 ∷ 0x00 ∷ 0x00 ∷
@@ -35,7 +35,7 @@ example_root = record {
 
 -- the root is read so, and of the 32 bytes of its names 30 count
 abbrev pub ExampleReads : Type 0
-ExampleReads = root_of example ≡ Ok example_root
+ExampleReads = root_of root_example ≡ Ok example_root
 
 abbrev pub ExampleCounts : Type 0
-ExampleCounts = length (heaps_of example example_root).strings ≡ 30
+ExampleCounts = length (heaps_of root_example example_root).strings ≡ 30

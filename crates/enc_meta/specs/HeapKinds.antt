@@ -1,6 +1,6 @@
 -- What the heaps whose entries go by offsets have in common.
 use Rattle.std.specs.Prelude.{ℕ, List, map, Option}
-use Rattle.enc_meta.specs.Heaps.{Counted, text_entry, bytes_at, user_entry, text_at, blob_at, user_at}
+use Rattle.enc_meta.specs.Heaps.{Counted, text_entry, blob_entry, user_entry, text_at, blob_at, user_at}
 use Rattle.enc_meta.specs.Joined.{joined_entry}
 use Rattle.enc_meta.specs.declared.heap.Heap.{Heap}
 use Rattle.enc_meta.specs.declared.heap.Heap.TheVariants as heap
@@ -13,10 +13,10 @@ bytes_in heap.Users h = h.users
 bytes_in heap.Blobs h = h.blobs
 
 -- the entry that begins at an offset of a heap's bytes
-abbrev pub entry_at : Heap → List ℕ → ℕ → Option (List ℕ)
-entry_at heap.Strings bytes offset = text_entry bytes offset
-entry_at heap.Users bytes offset = user_entry bytes offset
-entry_at heap.Blobs bytes offset = bytes_at bytes offset
+abbrev pub heap_entry : Heap → List ℕ → ℕ → Option (List ℕ)
+heap_entry heap.Strings bytes offset = text_entry bytes offset
+heap_entry heap.Users bytes offset = user_entry bytes offset
+heap_entry heap.Blobs bytes offset = blob_entry bytes offset
 
 -- the entry at an offset: offset 0 is the empty one
 abbrev pub own_at : Heap → List ℕ → ℕ → Option (List ℕ)
@@ -26,7 +26,7 @@ own_at heap.Blobs bytes offset = blob_at bytes offset
 
 -- the entry at an offset of the joined heaps
 abbrev pub joined_at : Heap → List Counted → ℕ → Option (List ℕ)
-joined_at heap all offset = joined_entry (entry_at heap) (map (bytes_in heap) all) offset
+joined_at heap all offset = joined_entry (heap_entry heap) (map (bytes_in heap) all) offset
 
 -- how many bytes a heap has
 abbrev pub length_in : Heap → HeapLengths → ℕ

@@ -68,13 +68,13 @@ unfoldable pub text_at : List ℕ → ℕ → Option (List ℕ)
 text_at heap offset = if offset == 0 then Some [] else text_entry heap offset
 
 -- the bytes at an offset behind their compressed length (II.24.2.4)
-unfoldable pub bytes_at : List ℕ → ℕ → Option (List ℕ)
-bytes_at heap offset = do
+unfoldable pub blob_entry : List ℕ → ℕ → Option (List ℕ)
+blob_entry heap offset = do
   head ← compressed_at heap offset
   if nat_le (head.1 + head.0) (length heap) then Some (take head.0 (drop head.1 heap)) else None
 
 unfoldable pub blob_at : List ℕ → ℕ → Option (List ℕ)
-blob_at heap offset = if offset == 0 then Some [] else bytes_at heap offset
+blob_at heap offset = if offset == 0 then Some [] else blob_entry heap offset
 
 -- the bytes of the UTF-16 units of a user text: its length is 0, or odd with one byte behind the units (II.24.2.4)
 unfoldable pub units_in : List ℕ → Option (List ℕ)
@@ -82,7 +82,7 @@ units_in [] = Some []
 units_in (b ∷ rest) = if length rest % 2 == 0 then Some (take (length rest) (b ∷ rest)) else None
 
 unfoldable pub user_entry : List ℕ → ℕ → Option (List ℕ)
-user_entry heap offset = option_and_then units_in (bytes_at heap offset)
+user_entry heap offset = option_and_then units_in (blob_entry heap offset)
 
 unfoldable pub user_at : List ℕ → ℕ → Option (List ℕ)
 user_at heap offset = if offset == 0 then Some [] else user_entry heap offset
@@ -90,6 +90,10 @@ user_at heap offset = if offset == 0 then Some [] else user_entry heap offset
 -- the sixteen bytes behind so many sixteens
 unfoldable pub sixteen_at : List ℕ → ℕ → Option (List ℕ)
 sixteen_at heap k = if nat_le (16 * k + 16) (length heap) then Some (take 16 (drop (16 * k) heap)) else None
+
+-- sixteen zeros
+unfoldable pub nil_guid : List ℕ
+nil_guid = replicate 16 0
 
 -- entry k from 1 is the k-th sixteen bytes, and 0 is nil (II.24.2.5)
 abbrev pub guid_at : List ℕ → ℕ → Option (List ℕ)

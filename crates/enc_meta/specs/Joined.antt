@@ -1,6 +1,6 @@
 -- The joined heaps of several generations: their counted heaps one behind the other.
 use Rattle.std.specs.Prelude.{ℕ, zero, suc, ◌-◌, ◌+◌, ◌*◌, ◌/◌, max, List, [], ◌∷◌, length, map, replicate, Option, Some, None, nat_lt, nat_le, ◌==◌, if◌then◌else◌, sum_by}
-use Rattle.enc_meta.specs.Heaps.{Counted, text_entry, bytes_at, user_entry, sixteen_at}
+use Rattle.enc_meta.specs.Heaps.{Counted, text_entry, blob_entry, user_entry, sixteen_at}
 use Rattle.enc_meta.specs.declared.heaps.HeapLengths.{HeapLengths}
 
 -- the entry at an offset that counts from the front of the first heap; it lies whole in the heap in which it begins
@@ -16,7 +16,7 @@ abbrev pub joined_text : List Counted → ℕ → Option (List ℕ)
 joined_text all offset = joined_entry text_entry (map (λ (c : Counted). c.strings) all) offset
 
 abbrev pub joined_blob : List Counted → ℕ → Option (List ℕ)
-joined_blob all offset = joined_entry bytes_at (map (λ (c : Counted). c.blobs) all) offset
+joined_blob all offset = joined_entry blob_entry (map (λ (c : Counted). c.blobs) all) offset
 
 abbrev pub joined_user : List Counted → ℕ → Option (List ℕ)
 joined_user all offset = joined_entry user_entry (map (λ (c : Counted). c.users) all) offset

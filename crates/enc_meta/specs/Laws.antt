@@ -1,6 +1,6 @@
 -- What the definitions of this crate mean.
 use Rattle.std.specs.Prelude.{◌≡◌, ℕ, ◌+◌, ◌%◌, ◌<◌, ◌≤◌, List, [], ◌∷◌, ◌++◌, length, take, drop, Contains, IfSome}
-use Rattle.enc_meta.specs.Root.{padded}
+use Rattle.enc_base.specs.Numbers.{padded}
 use Rattle.enc_meta.specs.Heaps.{text_at}
 
 -- the least multiple of 4 that isn't less

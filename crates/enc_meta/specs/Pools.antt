@@ -4,7 +4,8 @@ use Rattle.std.specs.List.{list_any, list_all}
 use Rattle.std.specs.Map.{keys_of}
 use Rattle.enc_base.specs.declared.refusal.StreamName.{StreamName}
 use Rattle.enc_base.specs.declared.refusal.StreamName.TheVariants.{Strings, Users, Blobs}
-use Rattle.enc_meta.specs.Built.{is_empty, text_bytes, user_bytes, blob_bytes, joined_end, with_value, offset_in, passes, with_entry}
+use Rattle.enc_base.specs.Numbers.{is_empty}
+use Rattle.enc_meta.specs.Built.{text_bytes, user_bytes, blob_bytes, joined_end, with_value, offset_in, passes, with_entry}
 use Rattle.enc_meta.specs.declared.form.Form.{Form}
 use Rattle.enc_meta.specs.declared.form.Form.TheVariants.{Text, User, Blob}
 
@@ -20,10 +21,10 @@ limit_of Text = 2 ^ 29
 limit_of User = 2 ^ 24
 limit_of Blob = 2 ^ 29
 
-abbrev pub stream_of : Form → StreamName
-stream_of Text = Strings
-stream_of User = Users
-stream_of Blob = Blobs
+abbrev pub stream_name_of : Form → StreamName
+stream_name_of Text = Strings
+stream_name_of User = Users
+stream_name_of Blob = Blobs
 
 -- a value may be asked for: a text has no zero, and units are of two bytes
 abbrev pub is_fit : Form → List ℕ → Bool
@@ -32,10 +33,10 @@ is_fit User v = length v % 2 == 0
 is_fit Blob v = true
 
 -- and it isn't empty where it is a text, and its length can be spelled
-abbrev pub is_good : Form → List ℕ → Bool
-is_good Text v = not (is_empty v) && not (list_any (λ c. c == 0) v)
-is_good User v = length v % 2 == 0 && nat_lt (length v + 1) (2 ^ 29)
-is_good Blob v = nat_lt (length v) (2 ^ 29)
+abbrev pub value_is_good : Form → List ℕ → Bool
+value_is_good Text v = not (is_empty v) && not (list_any (λ c. c == 0) v)
+value_is_good User v = length v % 2 == 0 && nat_lt (length v + 1) (2 ^ 29)
+value_is_good Blob v = nat_lt (length v) (2 ^ 29)
 
 -- where a heap begins in the joined one, and its values in the order of their first use
 pub record Pooled : Type 0 where
@@ -64,7 +65,7 @@ pub record IsTied {K : Type 0} (seen : K → List ℕ) (form : Form) (start end 
   pub placed : ArePlaced seen (encoded form) (start + 1) entries
   pub ends : end ≡ joined_end (encoded form) start (map seen (keys_of entries))
   pub within : end ≤ max (limit_of form) (start + 1)
-  pub good : IsTrue (list_all (is_good form) (map seen (keys_of entries)))
+  pub good : IsTrue (list_all (value_is_good form) (map seen (keys_of entries)))
 
 -- behind how many entries the GUIDs come, and the GUIDs in the order of their first use
 pub record Listed : Type 0 where

@@ -7,13 +7,13 @@ pub record Region : Type 0 where
   pub bytes : List ℕ
 
 -- the region holds the whole range
-abbrev pub holds : ℕ → ℕ → Region → Bool
-holds first many r = nat_le r.address first && nat_le (first - r.address + many) (length r.bytes)
+abbrev pub region_holds : ℕ → ℕ → Region → Bool
+region_holds first many r = nat_le r.address first && nat_le (first - r.address + many) (length r.bytes)
 
 -- the bytes of a range of addresses, in the first region that holds it whole
 unfoldable pub range_loaded : List Region → ℕ → ℕ → Option (List ℕ)
-range_loaded regions first many = option_map (λ (r : Region). take many (drop (first - r.address) r.bytes)) (find (holds first many) regions)
+range_loaded regions first many = option_map (λ (r : Region). take many (drop (first - r.address) r.bytes)) (find (region_holds first many) regions)
 
 -- the bytes from an address on, to the end of the first region that holds the byte there
 unfoldable pub rest_loaded : List Region → ℕ → Option (List ℕ)
-rest_loaded regions first = option_map (λ (r : Region). drop (first - r.address) r.bytes) (find (holds first 1) regions)
+rest_loaded regions first = option_map (λ (r : Region). drop (first - r.address) r.bytes) (find (region_holds first 1) regions)

@@ -1,8 +1,8 @@
 -- The metadata root: its header, its streams, and the first thing that is wrong with them (ECMA-335 II.24.2.1, II.24.2.2).
-use Rattle.std.specs.Prelude.{◌≤◌, IfSome, ℕ, zero, suc, ◌+◌, ◌*◌, ◌/◌, ◌%◌, Bool, true, false, ◌&&◌, ◌||◌, List, [], ◌∷◌, ◌++◌, length, take, drop, Option, Some, None, option_map, option_and_then, unwrap_or, Result, Ok, Err, nat_lt, nat_le, ◌==◌, if◌then◌else◌, codes, find, slice_get, bytes_eq}
+use Rattle.std.specs.Prelude.{◌≤◌, IfSome, ℕ, zero, suc, ◌+◌, ◌%◌, Bool, true, false, ◌&&◌, ◌||◌, List, [], ◌∷◌, ◌++◌, length, take, drop, Option, Some, None, option_map, option_and_then, unwrap_or, Result, Ok, Err, nat_lt, nat_le, ◌==◌, if◌then◌else◌, codes, find, slice_get, bytes_eq}
 use Rattle.std.specs.List.{list_any}
 use Rattle.std.specs.Int.{w16, w32}
-use Rattle.enc_base.specs.Numbers.{number_at}
+use Rattle.enc_base.specs.Numbers.{little_endian_at, padded}
 use Rattle.enc_base.specs.Order.{or_else, first_below}
 use Rattle.enc_base.specs.declared.refusal.Refusal.{Refusal}
 use Rattle.enc_base.specs.declared.refusal.StreamName.{StreamName}
@@ -21,10 +21,6 @@ pub record Header : Type 0 where
   pub name : List ℕ
   pub span : Span
 
--- the least multiple of 4 that isn't less
-unfoldable pub padded : ℕ → ℕ
-padded n = (n + 3) / 4 * 4
-
 -- the bytes before the first zero, where there is one
 abbrev pub before_zero : List ℕ → Option (List ℕ)
 before_zero [] = None
@@ -39,8 +35,8 @@ name_at bytes at = do
 -- the header at a place, and the place behind it (II.24.2.2)
 unfoldable pub header_at : List ℕ → ℕ → Option (Header × ℕ)
 header_at bytes at = do
-  start ← number_at w32 bytes at
-  size ← number_at w32 bytes (at + 4)
+  start ← little_endian_at w32 bytes at
+  size ← little_endian_at w32 bytes (at + 4)
   text ← name_at bytes (at + 8)
   Some (record { name = text.0; span = record { start = start; len = size } }, text.1)
 
@@ -55,22 +51,22 @@ headers bytes at (suc n) = do
 -- the root's header is good, and its version has this many bytes: the magic, a zero, a multiple of 4 (II.24.2.1)
 unfoldable pub version_len : List ℕ → Option ℕ
 version_len bytes = do
-  magic ← number_at w32 bytes 0
-  reserved ← number_at w32 bytes 8
-  len ← number_at w32 bytes 12
+  magic ← little_endian_at w32 bytes 0
+  reserved ← little_endian_at w32 bytes 8
+  len ← little_endian_at w32 bytes 12
   if magic == 0x424A5342 && reserved == 0 && len % 4 == 0 then Some len else None
 
 -- the headers of all streams, where the root's header is good and they all stand in it
 unfoldable pub streams : List ℕ → Option (List Header)
 streams bytes = do
   len ← version_len bytes
-  count ← number_at w16 bytes (18 + len)
+  count ← little_endian_at w16 bytes (18 + len)
   option_map (λ (x : List Header × ℕ). x.0) (headers bytes (20 + len) count)
 
 -- the headers that were read, none where they don't all stand there
-abbrev pub listed : Option (List Header × ℕ) → List Header
-listed None = []
-listed (Some x) = x.0
+abbrev pub headers_found : Option (List Header × ℕ) → List Header
+headers_found None = []
+headers_found (Some x) = x.0
 
 -- the streams with a meaning; any other name is passed over
 unfoldable pub known : List ℕ → Option StreamName
@@ -86,14 +82,14 @@ known text =
     else None
 
 -- a stream of this name is among them
-unfoldable pub stands : List ℕ → List Header → Bool
-stands text all = list_any (λ (h : Header). bytes_eq h.name text) all
+unfoldable pub has_stream : List ℕ → List Header → Bool
+has_stream text all = list_any (λ (h : Header). bytes_eq h.name text) all
 
 -- behind these headers, the header has a known name that stands among them already, or a known name and a range outside the root
 unfoldable pub fault_of : ℕ → List Header → Header → Option StreamName
 fault_of size before h = do
   which ← known h.name
-  if stands h.name before || nat_lt size (h.span.start + h.span.len) then Some which else None
+  if has_stream h.name before || nat_lt size (h.span.start + h.span.len) then Some which else None
 
 -- what is wrong with header k
 unfoldable pub fault_at : ℕ → List Header → ℕ → Option StreamName
@@ -101,7 +97,7 @@ fault_at size all k = option_and_then (fault_of size (take k all)) (slice_get al
 
 -- exactly one of `#~` and `#-` is there
 unfoldable pub has_one_table_stream : List Header → Bool
-has_one_table_stream all = if stands (codes "#~") all then (if stands (codes "#-") all then false else true) else stands (codes "#-") all
+has_one_table_stream all = if has_stream (codes "#~") all then (if has_stream (codes "#-") all then false else true) else has_stream (codes "#-") all
 
 -- the first stream that is refused, in the order of the headers, and then as `#~` the table stream
 unfoldable pub stream_fault : ℕ → List Header → Option StreamName
@@ -118,8 +114,8 @@ nowhere = record { start = 0; len = 0 }
 unfoldable pub root_with : List Header → Root
 root_with all = record {
   tables = unwrap_or (or_else (span_of (codes "#~") all) (span_of (codes "#-") all)) nowhere;
-  uncompressed = stands (codes "#-") all;
-  jtd = stands (codes "#JTD") all;
+  uncompressed = has_stream (codes "#-") all;
+  jtd = has_stream (codes "#JTD") all;
   strings = unwrap_or (span_of (codes "#Strings") all) nowhere;
   users = unwrap_or (span_of (codes "#US") all) nowhere;
   blobs = unwrap_or (span_of (codes "#Blob") all) nowhere;
@@ -128,17 +124,17 @@ root_with all = record {
 }
 
 -- the span stands in the bytes
-abbrev pub IsWithin : List ℕ → Span → Type 0
-IsWithin bytes s = s.start + s.len ≤ length bytes
+abbrev pub IsSpanOf : List ℕ → Span → Type 0
+IsSpanOf bytes s = s.start + s.len ≤ length bytes
 
 -- every stream of the root stands in the bytes
 pub record AreWithin (bytes : List ℕ) (root : Root) : Type 0 where
-  pub tables : IsWithin bytes root.tables
-  pub strings : IsWithin bytes root.strings
-  pub users : IsWithin bytes root.users
-  pub blobs : IsWithin bytes root.blobs
-  pub guids : IsWithin bytes root.guids
-  pub pdb : IfSome root.pdb (IsWithin bytes)
+  pub tables : IsSpanOf bytes root.tables
+  pub strings : IsSpanOf bytes root.strings
+  pub users : IsSpanOf bytes root.users
+  pub blobs : IsSpanOf bytes root.blobs
+  pub guids : IsSpanOf bytes root.guids
+  pub pdb : IfSome root.pdb (IsSpanOf bytes)
 
 -- the root of good streams, or F2 at the first stream that is refused
 unfoldable pub root_or_fault : List Header → Option StreamName → Result Root Refusal

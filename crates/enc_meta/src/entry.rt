@@ -2,7 +2,7 @@
 ghost use Rattle.std.specs.Prelude.{◌≡◌, ℕ, ◌+◌, ◌*◌, ◌<◌, ◌≤◌, ◌^◌, ◌==◌, option_map, length, position, IfSome};
 ghost use Rattle.std.specs.Option.{option_copied};
 ghost use Rattle.enc_meta.specs.Root.{before_zero};
-ghost use Rattle.enc_meta.specs.Heaps.{bytes_at, units_in, sixteen_at};
+ghost use Rattle.enc_meta.specs.Heaps.{blob_entry, units_in, sixteen_at};
 
 use enc_base::read_unsigned;
 
@@ -27,9 +27,9 @@ pub fn before_zero(bytes: &[u8]) -> Option<&[u8]>
 }
 
 /// The bytes at an offset behind their compressed length, None where they don't stand whole there.
-#[tactic(auto, unfolding(crate::specs::Heaps::bytes_at))]
+#[tactic(auto, unfolding(crate::specs::Heaps::blob_entry))]
 pub fn bytes_at(heap: &[u8], offset: usize) -> Option<&[u8]>
-    ensures { option_copied result ≡ bytes_at heap.now offset }
+    ensures { option_copied result ≡ blob_entry heap.now offset }
 {
     let (len, start) = read_unsigned(heap, offset)?;
     heap.get(start..start + len as usize)

@@ -2,7 +2,7 @@
 ghost use Rattle.std.specs.Prelude.{◌≡◌, ◌+◌, ◌<◌, ◌^◌, ◌++◌, length, IsTrue, OnOk};
 ghost use Rattle.enc_base.specs.Numbers.{spelled};
 ghost use Rattle.enc_meta.specs.Built.{asks_mark, any_asks_mark, mark_of, text_bytes, user_bytes, blob_bytes};
-ghost use Rattle.enc_meta.specs.Pools.{encoded, limit_of, stream_of, is_good};
+ghost use Rattle.enc_meta.specs.Pools.{encoded, limit_of, stream_name_of, value_is_good};
 
 use enc_base::{StreamName, push_unsigned};
 use std::alloc::AllocError;
@@ -102,7 +102,7 @@ impl Form {
 
     /// The stream that has the heap.
     pub fn stream(self) -> StreamName
-        ensures { result ≡ stream_of self }
+        ensures { result ≡ stream_name_of self }
     {
         match self {
             Form::Text => StreamName::Strings,
@@ -124,7 +124,7 @@ impl Form {
 
     /// Appends a value's bytes.
     pub fn push(self, value: &[u8], out: &mut Vec<u8>) -> Result<(), AllocError>
-        requires { IsTrue (is_good self value.now) }
+        requires { IsTrue (value_is_good self value.now) }
         ensures { OnOk result (out.new.items ≡ out.old.items ++ encoded self value.now) }
     {
         match self {

@@ -2,7 +2,7 @@
 ghost use Rattle.std.specs.Prelude.{◌≡◌, ◌+◌, ◌*◌, ◌≤◌, ◌^◌, ◌==◌, ◌++◌, [], length, max, replicate, flat_map, true, false, IsTrue, IfSome, IfNone, IfOk, OnOk, OnErr};
 ghost use Rattle.std.specs.List.{list_all};
 ghost use Rattle.enc_base.specs.declared.refusal.StreamName.TheVariants.{Guids as GuidStream};
-ghost use Rattle.enc_meta.specs.Built.{is_guid_kept, with_entry, number_in, entry_passes, guid_bytes};
+ghost use Rattle.enc_meta.specs.Built.{is_guid_kept, with_entry, guid_number_in, entry_passes, guid_bytes};
 ghost use Rattle.enc_meta.specs.BuiltSeen.{RefusesWhere};
 ghost use Rattle.enc_meta.specs.Pools.{with_listed};
 
@@ -46,7 +46,7 @@ impl Guids {
     /// The number of a GUID in the joined heap. One that isn't there is put behind the last.
     pub fn add(&mut self, guid: [u8; 16]) -> Result<u32, BuildFault>
         ensures guids { OnOk result (self.new ≡ with_listed self.old guid) }
-        ensures number { IfOk result (λ number. number ≡ number_in self.old.start self.old.guids guid) }
+        ensures number { IfOk result (λ number. number ≡ guid_number_in self.old.start self.old.guids guid) }
         ensures refused { RefusesWhere result GuidStream (entry_passes self.old.start self.old.guids guid) }
         ensures err { OnErr result (self.new ≡ self.old) }
     {
@@ -59,7 +59,7 @@ impl Guids {
     /// The number of a GUID that takes no entry: 0 for nil, else its own where it is there.
     fn kept(&self, guid: &[u8; 16]) -> Option<u32>
         ensures found { IfSome result (λ number. (is_guid_kept self.now.guids guid.now ≡ true)
-            × (number ≡ number_in self.now.start self.now.guids guid.now)) }
+            × (number ≡ guid_number_in self.now.start self.now.guids guid.now)) }
         ensures none { IfNone result (is_guid_kept self.now.guids guid.now ≡ false) }
     {
         if *guid == [0; 16] {
@@ -75,7 +75,7 @@ impl Guids {
     fn put(&mut self, guid: [u8; 16]) -> Result<u32, BuildFault>
         requires { is_guid_kept self.old.guids guid ≡ false }
         ensures guids { OnOk result (self.new ≡ with_listed self.old guid) }
-        ensures number { IfOk result (λ number. number ≡ number_in self.old.start self.old.guids guid) }
+        ensures number { IfOk result (λ number. number ≡ guid_number_in self.old.start self.old.guids guid) }
         ensures refused { RefusesWhere result GuidStream (entry_passes self.old.start self.old.guids guid) }
         ensures err { OnErr result (self.new ≡ self.old) }
     {

@@ -1,6 +1,7 @@
 //! One stream header (ECMA-335 II.24.2.2).
 ghost use Rattle.std.specs.Prelude.{◌≡◌, ℕ, ◌+◌, ◌^◌, ◌<◌, ◌≤◌, option_map, length, take, IfSome};
-ghost use Rattle.enc_meta.specs.Root.{header_at, name_at, padded, known};
+ghost use Rattle.enc_base.specs.Numbers.{padded};
+ghost use Rattle.enc_meta.specs.Root.{header_at, name_at, known};
 
 use crate::entry::before_zero;
 use crate::span::Span;
@@ -14,7 +15,7 @@ pub struct Header<'a> {
 }
 
 /// The least multiple of 4 that isn't less.
-#[tactic(auto, unfolding(crate::specs::Root::padded))]
+#[tactic(auto, unfolding(enc_base::specs::Numbers::padded))]
 fn padded(n: usize) -> usize
     requires { n ≤ 32 }
     ensures multiple { result ≡ padded n }

@@ -1,7 +1,7 @@
 //! The heaps whose entries go by offsets.
 ghost use Rattle.std.specs.Prelude.{◌≡◌};
 ghost use Rattle.std.specs.Option.{option_copied};
-ghost use Rattle.enc_meta.specs.HeapKinds.{bytes_in, entry_at, own_at, length_in};
+ghost use Rattle.enc_meta.specs.HeapKinds.{bytes_in, heap_entry, own_at, length_in};
 
 use crate::heaps::{HeapLengths, Heaps};
 
@@ -33,7 +33,7 @@ impl<'a> Heaps<'a> {
     /// without its zero, the bytes of a user text's units, or a blob's bytes. None where none stands
     /// whole there.
     pub fn entry(&self, heap: Heap, offset: u32) -> Option<&'a [u8]>
-        ensures { option_copied result ≡ entry_at heap (bytes_in heap self.now) offset }
+        ensures { option_copied result ≡ heap_entry heap (bytes_in heap self.now) offset }
     {
         match heap {
             Heap::Strings => self.text_entry(offset),

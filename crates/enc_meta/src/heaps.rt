@@ -1,8 +1,8 @@
 //! The heaps of a metadata root (ECMA-335 II.24.2.3 to II.24.2.5).
 ghost use Rattle.std.specs.Prelude.{◌≡◌, ℕ, ◌+◌, ◌*◌, ◌/◌, ◌<◌, ◌≤◌, ◌^◌, length, is_some, Ok};
 ghost use Rattle.std.specs.Option.{option_copied};
-ghost use Rattle.enc_meta.specs.Root.{root_of, IsWithin};
-ghost use Rattle.enc_meta.specs.Heaps.{lengths_of, heaps_of, ends_of, part, AreAtMost, text_entry, bytes_at, user_entry, text_at, blob_at, user_at, guid_at};
+ghost use Rattle.enc_meta.specs.Root.{root_of, IsSpanOf};
+ghost use Rattle.enc_meta.specs.Heaps.{lengths_of, heaps_of, ends_of, part, AreAtMost, text_entry, blob_entry, user_entry, text_at, blob_at, user_at, guid_at};
 
 use crate::ends::{TextEnds, counted_strings};
 use crate::entry::{before_zero, bytes_at, sixteen_at, units_in};
@@ -172,7 +172,7 @@ impl<'a> Heaps<'a> {
 
     /// The bytes that begin at an offset of `#Blob`, also at offset 0 as they stand there.
     pub fn blob_entry(&self, offset: u32) -> Option<&'a [u8]>
-        ensures { option_copied result ≡ bytes_at self.now.blobs offset }
+        ensures { option_copied result ≡ blob_entry self.now.blobs offset }
     {
         bytes_at(self.blobs, offset as usize)
     }

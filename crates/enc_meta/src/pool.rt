@@ -3,7 +3,7 @@ ghost use Rattle.std.specs.Prelude.{◌≡◌, ℕ, ◌+◌, ◌≤◌, true, fa
 ghost use Rattle.std.specs.List.{list_all};
 ghost use Rattle.enc_meta.specs.Built.{is_among, is_kept, place_among, heap_bytes, joined_end};
 ghost use Rattle.enc_meta.specs.BuiltSeen.{RefusesWhere};
-ghost use Rattle.enc_meta.specs.Pools.{encoded, limit_of, stream_of, is_fit, is_good, with_pooled, pooled_offset, pooled_passes};
+ghost use Rattle.enc_meta.specs.Pools.{encoded, limit_of, stream_name_of, is_fit, value_is_good, with_pooled, pooled_offset, pooled_passes};
 
 use crate::builder::BuildFault;
 use crate::form::Form;
@@ -61,7 +61,7 @@ impl Pool {
         requires { IsTrue (is_fit self.old.form value.now) }
         ensures values { OnOk result (self.new ≡ with_pooled self.old value.now) }
         ensures offset { IfOk result (λ offset. offset ≡ pooled_offset self.old value.now) }
-        ensures refused { RefusesWhere result (stream_of self.old.form) (pooled_passes self.old value.now) }
+        ensures refused { RefusesWhere result (stream_name_of self.old.form) (pooled_passes self.old value.now) }
         ensures err { OnErr result (self.new ≡ self.old) }
     {
         match self.kept(value) {
@@ -97,7 +97,7 @@ impl Pool {
         requires fit { IsTrue (is_fit self.old.form value.now) }
         ensures values { OnOk result (self.new ≡ with_pooled self.old value.now) }
         ensures offset { IfOk result (λ offset. offset ≡ pooled_offset self.old value.now) }
-        ensures refused { RefusesWhere result (stream_of self.old.form) (pooled_passes self.old value.now) }
+        ensures refused { RefusesWhere result (stream_name_of self.old.form) (pooled_passes self.old value.now) }
         ensures err { OnErr result (self.new ≡ self.old) }
     {
         let end = self.end + self.form.size_of(value);
@@ -121,7 +121,7 @@ impl Pool {
 
     /// What holds of the values.
     pub fn laws(&self)
-        ensures good { IsTrue (list_all (is_good self.now.form) self.now.values) }
+        ensures good { IsTrue (list_all (value_is_good self.now.form) self.now.values) }
         ensures within { joined_end (encoded self.now.form) self.now.start self.now.values ≤
             max (limit_of self.now.form) (self.now.start + 1) }
     {
@@ -131,7 +131,7 @@ impl Pool {
 
 /// The bytes of a zero and of these values.
 fn heap_of(alloc: Global, form: Form, values: &[Vec<u8>]) -> Result<Vec<u8>, AllocError>
-    requires { IsTrue (list_all (is_good form) (map (λ v. v.items) values.now)) }
+    requires { IsTrue (list_all (value_is_good form) (map (λ v. v.items) values.now)) }
     ensures { IfOk result (λ b. b.items ≡ heap_bytes (encoded form) (map (λ v. v.items) values.now)) }
 {
     let mut out = Vec::new(alloc);

@@ -1,6 +1,6 @@
 //! The stream headers of a root, and the first that is refused (ECMA-335 II.24.2.2).
 ghost use Rattle.std.specs.Prelude.{◌≡◌, ℕ, ◌+◌, ◌<◌, ◌≤◌, ◌^◌, IsTrue, is_some, option_map, length, take};
-ghost use Rattle.enc_meta.specs.Root.{headers, listed, streams, span_of, stands, version_len, fault_of, fault_at, has_one_table_stream, stream_fault};
+ghost use Rattle.enc_meta.specs.Root.{headers, headers_found, streams, span_of, has_stream, version_len, fault_of, fault_at, has_one_table_stream, stream_fault};
 ghost use Rattle.enc_base.specs.Order.{first_below};
 
 use crate::header::{Header, header_at, known};
@@ -18,11 +18,11 @@ pub struct Streams<'a> {
 
 impl<'a> Model for Streams<'a> {
     ghost use Rattle.std.specs.Prelude.{List, IsTrue, is_some};
-    ghost use Rattle.enc_meta.specs.Root.{Header, headers, listed};
+    ghost use Rattle.enc_meta.specs.Root.{Header, headers, headers_found};
 
     ghost Value = { List Header };
 
-    ghost view = { λ s. listed (headers s.bytes.now s.first s.count) };
+    ghost view = { λ s. headers_found (headers s.bytes.now s.first s.count) };
 
     ghost invariant = { λ s. IsTrue (is_some (headers s.bytes.now s.first s.count)) };
 }
@@ -61,7 +61,7 @@ fn are_whole(bytes: &[u8], first: usize, count: usize) -> bool
 #[tactic(auto, using(crate::proofs::Headers::span_steps))]
 fn span_in(bytes: &[u8], first: usize, count: usize, name: &[u8]) -> Option<Span>
     requires { IsTrue (is_some (headers bytes.now first count)) }
-    ensures { result ≡ span_of name.now (listed (headers bytes.now first count)) }
+    ensures { result ≡ span_of name.now (headers_found (headers bytes.now first count)) }
 {
     let mut at = first;
     for i in 0..count {
@@ -88,7 +88,7 @@ fn fault_of(
 ) -> Option<StreamName>
     requires read { IsTrue (is_some (headers bytes.now first k)) }
     requires few { header.span.start + header.span.len < 2 ^ 33 }
-    ensures { result ≡ fault_of size (listed (headers bytes.now first k))
+    ensures { result ≡ fault_of size (headers_found (headers bytes.now first k))
         (record { name = header.entry.name.now; span = header.entry.span }) }
 {
     let which = known(header.name)?;
@@ -106,7 +106,7 @@ fn fault_of(
 #[tactic(auto, using(crate::proofs::Headers::fault_steps))]
 fn first_fault(bytes: &[u8], first: usize, count: usize, size: usize) -> Option<StreamName>
     requires { IsTrue (is_some (headers bytes.now first count)) }
-    ensures { result ≡ first_below (fault_at size (listed (headers bytes.now first count))) count }
+    ensures { result ≡ first_below (fault_at size (headers_found (headers bytes.now first count))) count }
 {
     let mut at = first;
     for i in 0..count {
@@ -153,7 +153,7 @@ impl<'a> Streams<'a> {
     /// A stream of this name is there.
     #[tactic(auto, using(crate::proofs::Headers::is_some_span))]
     pub fn stands(&self, name: &[u8]) -> bool
-        ensures { result ≡ stands name.now self.now }
+        ensures { result ≡ has_stream name.now self.now }
     {
         self.span_of(name).is_some()
     }

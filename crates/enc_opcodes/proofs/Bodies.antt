@@ -10,7 +10,7 @@ use Rattle.enc_opcodes.specs.declared.op.Operand.{Operand}
 use Rattle.enc_opcodes.specs.declared.code.Clause.{Clause}
 use Rattle.enc_opcodes.specs.Instruction.{Argument, nothing, number, target, targets, token, text, raw, Instruction, instructions_of}
 use Rattle.enc_opcodes.specs.Clause.{clauses_of}
-use Rattle.enc_opcodes.specs.Body.{Code, told, instruction_told, body_of, may_name, is_named, stands, arg_is_good, instruction_is_good, clause_is_good, locals_are_good, is_good, text_is_there, texts_are_there}
+use Rattle.enc_opcodes.specs.Body.{Code, told, instruction_told, body_of, may_name, is_named, is_instruction_start, arg_is_good, instruction_is_good, clause_is_good, locals_are_good, is_good, text_is_there, texts_are_there}
 
 -- texts that agree where a text is there tell the same
 abbrev pub KeepsTexts : (ℕ → Option (List ℕ)) → (ℕ → Option (List ℕ)) → Type 0
@@ -111,6 +111,6 @@ locals_alike f g t same = rw (same 0x11 (omega arith)) refl
 pub good_alike : (f g : ℕ → ℕ) (c : Code) → ((t : ℕ) → t < 64 → f t ≡ g t) → is_good f c ≡ is_good g c
 unfolding is_good
 good_alike f g c same =
-    rw (all_alike (instruction_is_good f (stands (instructions_of c.code))) (instruction_is_good g (stands (instructions_of c.code))) (instructions_of c.code) (λ (x : ℕ × Instruction ℕ). one_good_alike f g (stands (instructions_of c.code)) x same)) (
-    rw (all_alike (clause_is_good f (stands (instructions_of c.code)) (length c.code)) (clause_is_good g (stands (instructions_of c.code)) (length c.code)) (clauses_of c.sections) (λ (x : Clause). clause_alike f g (stands (instructions_of c.code)) (length c.code) x same)) (
+    rw (all_alike (instruction_is_good f (is_instruction_start (instructions_of c.code))) (instruction_is_good g (is_instruction_start (instructions_of c.code))) (instructions_of c.code) (λ (x : ℕ × Instruction ℕ). one_good_alike f g (is_instruction_start (instructions_of c.code)) x same)) (
+    rw (all_alike (clause_is_good f (is_instruction_start (instructions_of c.code)) (length c.code)) (clause_is_good g (is_instruction_start (instructions_of c.code)) (length c.code)) (clauses_of c.sections) (λ (x : Clause). clause_alike f g (is_instruction_start (instructions_of c.code)) (length c.code) x same)) (
     rw (locals_alike f g c.locals same) refl))

@@ -3,7 +3,7 @@ use Rattle.std.proofs.Common.{◌≡◌, ℕ, ◌+◌, ◌-◌, ◌*◌, ◌<◌
 use Rattle.std.specs.Prelude.{option_and_then, nat_le, ◌==◌}
 use Rattle.std.specs.Int.{Width, byte_len, w8, w16, w32, w64}
 use Rattle.std.proofs.lemmas.Bool.Decides.{nat_tests}
-use Rattle.enc_base.specs.Numbers.{number_at}
+use Rattle.enc_base.specs.Numbers.{little_endian_at}
 use Rattle.enc_opcodes.specs.declared.op.Op.{Op}
 use Rattle.enc_opcodes.specs.declared.op.Operand.{Operand}
 use Rattle.enc_opcodes.specs.declared.op.Operand.TheVariants as operand
@@ -19,7 +19,7 @@ le_is : (m n : ℕ) → nat_le m n ≡ true → m ≤ n
 le_is m n h = grind (arith, nat_tests)
 
 -- a number that is read stands whole in the bytes, and so does a range
-pub number_there : (w : Width) (bytes : List ℕ) (at v : ℕ) → number_at w bytes at ≡ Some v → at + byte_len w ≤ length bytes
+pub number_there : (w : Width) (bytes : List ℕ) (at v : ℕ) → little_endian_at w bytes at ≡ Some v → at + byte_len w ≤ length bytes
 number_there w bytes at v h = le_is (at + byte_len w) (length bytes) (is_true (nat_le (at + byte_len w) (length bytes)) _ v h)
 
 pub range_there : (bytes : List ℕ) (at n : ℕ) (r : List ℕ) → range_at bytes at n ≡ Some r → at + n ≤ length bytes
@@ -37,9 +37,9 @@ mapped {X} {Y} (Some x) f next a n h = (x, refl, same_place {X = Y} (f x, next) 
 abbrev Between : List ℕ → ℕ → ℕ → Type 0
 Between code at n = (at ≤ n) × (n ≤ length code)
 
-number_moves : (w : Width) (f : ℕ → Argument ℕ) (code : List ℕ) (at many : ℕ) (a : Argument ℕ) (n : ℕ) → byte_len w ≡ many → option_map {U = Argument ℕ × ℕ} (λ x. (f x, at + many)) (number_at w code at) ≡ Some (a, n) → Between code at n
+number_moves : (w : Width) (f : ℕ → Argument ℕ) (code : List ℕ) (at many : ℕ) (a : Argument ℕ) (n : ℕ) → byte_len w ≡ many → option_map {U = Argument ℕ × ℕ} (λ x. (f x, at + many)) (little_endian_at w code at) ≡ Some (a, n) → Between code at n
 number_moves w f code at many a n is h =
-    let m = mapped (number_at w code at) f (at + many) a n h in
+    let m = mapped (little_endian_at w code at) f (at + many) a n h in
     let e : at + byte_len w ≤ length code = number_there w code at m.0 m.1 in
     (omega (arith, m.2), omega (arith, m.2, e, is))
 
@@ -54,10 +54,10 @@ first_there : {X Y : Type 0} (o : Option X) (f : X → Option Y) (y : Y) → opt
 first_there None f y h = absurd (cc)
 first_there (Some x) f y h = (x, refl)
 
-branch_moves : (w : Width) (f : ℕ → Option ℕ) (code : List ℕ) (at many : ℕ) (a : Argument ℕ) (n : ℕ) → byte_len w ≡ many → option_map {U = Argument ℕ × ℕ} (λ t. (target t, at + many)) (option_and_then f (number_at w code at)) ≡ Some (a, n) → Between code at n
+branch_moves : (w : Width) (f : ℕ → Option ℕ) (code : List ℕ) (at many : ℕ) (a : Argument ℕ) (n : ℕ) → byte_len w ≡ many → option_map {U = Argument ℕ × ℕ} (λ t. (target t, at + many)) (option_and_then f (little_endian_at w code at)) ≡ Some (a, n) → Between code at n
 branch_moves w f code at many a n is h =
-    let m = mapped (option_and_then f (number_at w code at)) target (at + many) a n h in
-    let first = first_there (number_at w code at) f m.0 m.1 in
+    let m = mapped (option_and_then f (little_endian_at w code at)) target (at + many) a n h in
+    let first = first_there (little_endian_at w code at) f m.0 m.1 in
     let e : at + byte_len w ≤ length code = number_there w code at first.0 first.1 in
     (omega (arith, m.2), omega (arith, m.2, e, is))
 
@@ -84,7 +84,7 @@ switch_count code at (Some k) a n h = switch_range code at k (range_at code (at 
 
 switch_moves : (code : List ℕ) (at : ℕ) (a : Argument ℕ) (n : ℕ) → switch_in code at ≡ Some (a, n) → Between code at n
 unfolding switch_in
-switch_moves code at a n h = switch_count code at (number_at w32 code at) a n h
+switch_moves code at a n h = switch_count code at (little_endian_at w32 code at) a n h
 
 arg_moves : (k : Operand) (code : List ℕ) (at : ℕ) (a : Argument ℕ) (n : ℕ) → at ≤ length code → arg_in k code at ≡ Some (a, n) → Between code at n
 unfolding arg_in
@@ -110,25 +110,25 @@ op_here : (code : List ℕ) (at next : ℕ) (o : Option Op) (op : Op) (n : ℕ) 
 op_here code at next None op n lt le h = absurd (cc)
 op_here code at next (Some x) op n lt le h = let e = same_place {X = Op} (x, next) (op, n) h in (omega (arith, e, lt), omega (arith, e, le))
 
-two_bytes : (code : List ℕ) (at first : ℕ) (second : Option ℕ) (op : Op) (n : ℕ) → number_at w8 code (at + 1) ≡ second → option_and_then {U = Op × ℕ} (λ (s : ℕ). option_map {U = Op × ℕ} (λ (x : Op). (x, at + 2)) (op_at first s)) second ≡ Some (op, n) → Behind code at n
+two_bytes : (code : List ℕ) (at first : ℕ) (second : Option ℕ) (op : Op) (n : ℕ) → little_endian_at w8 code (at + 1) ≡ second → option_and_then {U = Op × ℕ} (λ (s : ℕ). option_map {U = Op × ℕ} (λ (x : Op). (x, at + 2)) (op_at first s)) second ≡ Some (op, n) → Behind code at n
 two_bytes code at first None op n is h = absurd (cc)
 two_bytes code at first (Some s) op n is h =
     let e : at + 1 + 1 ≤ length code = number_there w8 code (at + 1) s is in
     op_here code at (at + 2) (op_at first s) op n (omega arith) (omega (arith, e)) h
 
-by_prefix : (code : List ℕ) (at first : ℕ) (b : Bool) (op : Op) (n : ℕ) → number_at w8 code at ≡ Some first → cond b (option_and_then {U = Op × ℕ} (λ (s : ℕ). option_map {U = Op × ℕ} (λ (x : Op). (x, at + 2)) (op_at first s)) (number_at w8 code (at + 1))) (option_map {U = Op × ℕ} (λ (x : Op). (x, at + 1)) (op_at first 0)) ≡ Some (op, n) → Behind code at n
-by_prefix code at first true op n is h = two_bytes code at first (number_at w8 code (at + 1)) op n refl h
+by_prefix : (code : List ℕ) (at first : ℕ) (b : Bool) (op : Op) (n : ℕ) → little_endian_at w8 code at ≡ Some first → cond b (option_and_then {U = Op × ℕ} (λ (s : ℕ). option_map {U = Op × ℕ} (λ (x : Op). (x, at + 2)) (op_at first s)) (little_endian_at w8 code (at + 1))) (option_map {U = Op × ℕ} (λ (x : Op). (x, at + 1)) (op_at first 0)) ≡ Some (op, n) → Behind code at n
+by_prefix code at first true op n is h = two_bytes code at first (little_endian_at w8 code (at + 1)) op n refl h
 by_prefix code at first false op n is h =
     let e : at + 1 ≤ length code = number_there w8 code at first is in
     op_here code at (at + 1) (op_at first 0) op n (omega arith) e h
 
-by_first : (code : List ℕ) (at : ℕ) (o : Option ℕ) (op : Op) (n : ℕ) → number_at w8 code at ≡ o → option_and_then {U = Op × ℕ} (λ (first : ℕ). cond (first == 0xFE) (option_and_then {U = Op × ℕ} (λ (s : ℕ). option_map {U = Op × ℕ} (λ (x : Op). (x, at + 2)) (op_at first s)) (number_at w8 code (at + 1))) (option_map {U = Op × ℕ} (λ (x : Op). (x, at + 1)) (op_at first 0))) o ≡ Some (op, n) → Behind code at n
+by_first : (code : List ℕ) (at : ℕ) (o : Option ℕ) (op : Op) (n : ℕ) → little_endian_at w8 code at ≡ o → option_and_then {U = Op × ℕ} (λ (first : ℕ). cond (first == 0xFE) (option_and_then {U = Op × ℕ} (λ (s : ℕ). option_map {U = Op × ℕ} (λ (x : Op). (x, at + 2)) (op_at first s)) (little_endian_at w8 code (at + 1))) (option_map {U = Op × ℕ} (λ (x : Op). (x, at + 1)) (op_at first 0))) o ≡ Some (op, n) → Behind code at n
 by_first code at None op n is h = absurd (cc)
 by_first code at (Some first) op n is h = by_prefix code at first (first == 0xFE) op n is h
 
 op_moves : (code : List ℕ) (at : ℕ) (op : Op) (n : ℕ) → op_in code at ≡ Some (op, n) → Behind code at n
 unfolding op_in
-op_moves code at op n h = by_first code at (number_at w8 code at) op n refl h
+op_moves code at op n h = by_first code at (little_endian_at w8 code at) op n refl h
 
 -- an instruction with its operand
 abbrev with_arg : Op → Option (Argument ℕ × ℕ) → Option (Instruction ℕ × ℕ)

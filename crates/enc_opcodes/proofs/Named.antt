@@ -8,14 +8,14 @@ use Rattle.enc_base.specs.Order.{or_else}
 use Rattle.enc_opcodes.specs.declared.op.Op.{Op}
 use Rattle.enc_opcodes.specs.declared.op.Operand.{Operand}
 use Rattle.enc_opcodes.specs.declared.op.Operand.TheVariants.{None as Bare, I8, U8, U16, I32, I64, R4, R8, Branch8, Branch32, Switch, Token, User}
-use Rattle.enc_opcodes.specs.Table.{Entry, one_byte, two_bytes}
-use Rattle.enc_opcodes.specs.Opcodes.{entry_in, entry_of, with_code, op_with, name_in, name_of, kind_of, has_operand, is_op, named_in, op_named}
+use Rattle.enc_opcodes.specs.Table.{Entry, one_byte_opcodes, two_byte_opcodes}
+use Rattle.enc_opcodes.specs.Opcodes.{opcode_entry, entry_of, with_code, op_with, name_in, name_of, operand_kind, has_operand, is_op, first_named, op_named}
 
 -- a kind's number tells it
 kinds : List Operand
 kinds = Bare ∷ I8 ∷ U8 ∷ U16 ∷ I32 ∷ I64 ∷ R4 ∷ R8 ∷ Branch8 ∷ Branch32 ∷ Switch ∷ Token ∷ User ∷ []
 
-kind_back : (k : Operand) → get_or kinds (kind_of k) Bare ≡ k
+kind_back : (k : Operand) → get_or kinds (operand_kind k) Bare ≡ k
 unfolding kinds
 kind_back Bare = refl
 kind_back I8 = refl
@@ -31,8 +31,8 @@ kind_back Switch = refl
 kind_back Token = refl
 kind_back User = refl
 
-same_kind : (a b : Operand) → kind_of a == kind_of b ≡ true → a ≡ b
-same_kind a b h = sym (kind_back a) ∙ ap (λ n. get_or kinds n Bare) (eqb-true (kind_of a) (kind_of b) h) ∙ kind_back b
+same_kind : (a b : Operand) → operand_kind a == operand_kind b ≡ true → a ≡ b
+same_kind a b h = sym (kind_back a) ∙ ap (λ n. get_or kinds n Bare) (eqb-true (operand_kind a) (operand_kind b) h) ∙ kind_back b
 
 kind_self : (n : ℕ) → (n == n) ≡ true
 kind_self n = grind (arith, nat_tests)
@@ -48,11 +48,11 @@ codes_tell o h = with_entry o.byte o.operand (entry_of o.byte) h
 
 entry_has : (o : Op) (name : List ℕ) → entry_of o.byte ≡ Some (name, o.operand) → is_op o ≡ true
 unfolding is_op
-entry_has o name h = rw h (kind_self (kind_of o.operand))
+entry_has o name h = rw h (kind_self (operand_kind o.operand))
 
 -- where an instruction found by its name stands
 abbrev Stands : List ℕ → ℕ → List (Option Entry) → Op → Type 0
-Stands name code table o = (i : ℕ) × (o.byte ≡ code + i) × (i < length table) × (entry_in table i ≡ Some (name, o.operand))
+Stands name code table o = (i : ℕ) × (o.byte ≡ code + i) × (i < length table) × (opcode_entry table i ≡ Some (name, o.operand))
 
 same_name : (a b : List ℕ) → bytes_eq a b ≡ true → a ≡ b
 same_name a b h = (bytes_eq-Decides a b).0 h
@@ -76,21 +76,21 @@ by_name : (name : List ℕ) (code : ℕ) (e : Entry) (rest : List (Option Entry)
 by_name name code e rest o later below true same h = stands_first name code e rest o same h
 by_name name code e rest o later below false same h = stands_later name code (Some e) rest o (below h)
 
-named_stands : (name : List ℕ) (code : ℕ) (table : List (Option Entry)) (o : Op) → named_in name code table ≡ Some o → Stands name code table o
-unfolding named_in
+named_stands : (name : List ℕ) (code : ℕ) (table : List (Option Entry)) (o : Op) → first_named name code table ≡ Some o → Stands name code table o
+unfolding first_named
 named_stands name code [] o h = absurd (cc)
 named_stands name code (None ∷ rest) o h = stands_later name code None rest o (named_stands name (code + 1) rest o h)
-named_stands name code (Some e ∷ rest) o h = by_name name code e rest o (named_in name (code + 1) rest) (named_stands name (code + 1) rest o) (bytes_eq e.0 name) refl h
+named_stands name code (Some e ∷ rest) o h = by_name name code e rest o (first_named name (code + 1) rest) (named_stands name (code + 1) rest o) (bytes_eq e.0 name) refl h
 
 either : (a b : Option Op) (o : Op) → or_else a b ≡ Some o → (a ≡ Some o) ⊎ (b ≡ Some o)
 either None b o h = inr h
 either (Some x) b o h = inl h
 
-of_one_byte : (code : ℕ) → nat_lt code 0xFE00 ≡ true → entry_of code ≡ entry_in one_byte code
+of_one_byte : (code : ℕ) → nat_lt code 0xFE00 ≡ true → entry_of code ≡ opcode_entry one_byte_opcodes code
 unfolding entry_of
 of_one_byte code low = rw low refl
 
-of_two_bytes : (code : ℕ) → nat_lt code 0xFE00 ≡ false → entry_of code ≡ entry_in two_bytes (code - 0xFE00)
+of_two_bytes : (code : ℕ) → nat_lt code 0xFE00 ≡ false → entry_of code ≡ opcode_entry two_byte_opcodes (code - 0xFE00)
 unfolding entry_of
 of_two_bytes code high = rw high refl
 
@@ -100,31 +100,31 @@ is_low code h = grind (arith, nat_tests)
 is_high : (code : ℕ) → 0xFE00 ≤ code → nat_lt code 0xFE00 ≡ false
 is_high code h = grind (arith, nat_tests)
 
-one_byte_found : (name : List ℕ) (o : Op) → Stands name 0 one_byte o → entry_of o.byte ≡ Some (name, o.operand)
+one_byte_found : (name : List ℕ) (o : Op) → Stands name 0 one_byte_opcodes o → entry_of o.byte ≡ Some (name, o.operand)
 one_byte_found name o w =
     let e : w.0 ≡ o.byte = omega (arith, w.1) in
-    let many : length one_byte ≡ 225 = refl in
+    let many : length one_byte_opcodes ≡ 225 = refl in
     of_one_byte o.byte (is_low o.byte (omega (arith, w.2, many))) ∙ (rw e at w.3)
 
-two_bytes_found : (name : List ℕ) (o : Op) → Stands name 0xFE00 two_bytes o → entry_of o.byte ≡ Some (name, o.operand)
+two_bytes_found : (name : List ℕ) (o : Op) → Stands name 0xFE00 two_byte_opcodes o → entry_of o.byte ≡ Some (name, o.operand)
 two_bytes_found name o w =
     let e : w.0 ≡ o.byte - 0xFE00 = omega (arith, w.1) in
     of_two_bytes o.byte (is_high o.byte (omega (arith, w.1))) ∙ (rw e at w.3)
 
-pub one_byte_known : (name : List ℕ) (r : Option Op) → r ≡ named_in name 0 one_byte → IfSome r (λ o. IsTrue (is_op o))
+pub one_byte_known : (name : List ℕ) (r : Option Op) → r ≡ first_named name 0 one_byte_opcodes → IfSome r (λ o. IsTrue (is_op o))
 one_byte_known name None h = tt
-one_byte_known name (Some o) h = entry_has o name (one_byte_found name o (named_stands name 0 one_byte o (sym h)))
+one_byte_known name (Some o) h = entry_has o name (one_byte_found name o (named_stands name 0 one_byte_opcodes o (sym h)))
 
-pub two_bytes_known : (name : List ℕ) (r : Option Op) → r ≡ named_in name 0xFE00 two_bytes → IfSome r (λ o. IsTrue (is_op o))
+pub two_bytes_known : (name : List ℕ) (r : Option Op) → r ≡ first_named name 0xFE00 two_byte_opcodes → IfSome r (λ o. IsTrue (is_op o))
 two_bytes_known name None h = tt
-two_bytes_known name (Some o) h = entry_has o name (two_bytes_found name o (named_stands name 0xFE00 two_bytes o (sym h)))
+two_bytes_known name (Some o) h = entry_has o name (two_bytes_found name o (named_stands name 0xFE00 two_byte_opcodes o (sym h)))
 
 found_entry : (name : List ℕ) (o : Op) → op_named name ≡ Some o → entry_of o.byte ≡ Some (name, o.operand)
 unfolding op_named
 found_entry name o h =
-    elim (either (named_in name 0 one_byte) (named_in name 0xFE00 two_bytes) o h) [
-      | inl w ↦ one_byte_found name o (named_stands name 0 one_byte o w)
-      | inr w ↦ two_bytes_found name o (named_stands name 0xFE00 two_bytes o w)
+    elim (either (first_named name 0 one_byte_opcodes) (first_named name 0xFE00 two_byte_opcodes) o h) [
+      | inl w ↦ one_byte_found name o (named_stands name 0 one_byte_opcodes o w)
+      | inr w ↦ two_bytes_found name o (named_stands name 0xFE00 two_byte_opcodes o w)
     ]
 
 pub named_is_op : (name : List ℕ) (o : Op) → op_named name ≡ Some o → is_op o ≡ true
@@ -145,19 +145,19 @@ each_found code [] = true
 each_found code (None ∷ rest) = each_found (code + 1) rest
 each_found code (Some e ∷ rest) = is_this code (op_named e.0) && each_found (code + 1) rest
 
-one_byte_each : each_found 0 one_byte ≡ true
-unfolding each_found is_this op_named named_in
+one_byte_each : each_found 0 one_byte_opcodes ≡ true
+unfolding each_found is_this op_named first_named
 one_byte_each = refl
 
-two_bytes_each : each_found 0xFE00 two_bytes ≡ true
-unfolding each_found is_this op_named named_in
+two_bytes_each : each_found 0xFE00 two_byte_opcodes ≡ true
+unfolding each_found is_this op_named first_named
 two_bytes_each = refl
 
 true_both : (a b : Bool) → (a && b) ≡ true → (a ≡ true) × (b ≡ true)
 true_both true b h = (refl, h)
 true_both false b h = absurd (cc)
 
-found_at : (table : List (Option Entry)) (code i : ℕ) (e : Entry) → each_found code table ≡ true → entry_in table i ≡ Some e → is_this (code + i) (op_named e.0) ≡ true
+found_at : (table : List (Option Entry)) (code i : ℕ) (e : Entry) → each_found code table ≡ true → opcode_entry table i ≡ Some e → is_this (code + i) (op_named e.0) ≡ true
 unfolding each_found
 found_at [] code i e all is = absurd (cc)
 found_at (None ∷ rest) code zero e all is = absurd (cc)
@@ -177,10 +177,10 @@ entry_found code e is =
     elim (cases_lt code 0xFE00) [
       | inl low ↦
           let n : 0 + code ≡ code = omega arith in
-          rw n at (found_at one_byte 0 code e one_byte_each (sym (of_one_byte code (is_low code low)) ∙ is))
+          rw n at (found_at one_byte_opcodes 0 code e one_byte_each (sym (of_one_byte code (is_low code low)) ∙ is))
       | inr high ↦
           let n : 0xFE00 + (code - 0xFE00) ≡ code = omega (arith, high) in
-          rw n at (found_at two_bytes 0xFE00 (code - 0xFE00) e two_bytes_each (sym (of_two_bytes code (is_high code high)) ∙ is))
+          rw n at (found_at two_byte_opcodes 0xFE00 (code - 0xFE00) e two_bytes_each (sym (of_two_bytes code (is_high code high)) ∙ is))
     ]
 
 same_parts : (a b : ℕ) (x y : Operand) → a ≡ b → x ≡ y → Some (with_code a ([], x)) ≡ Some (with_code b ([], y))
@@ -213,15 +213,15 @@ all_short : List (Option Entry) → Bool
 all_short [] = true
 all_short (x ∷ rest) = is_short x && all_short rest
 
-one_byte_short : all_short one_byte ≡ true
+one_byte_short : all_short one_byte_opcodes ≡ true
 unfolding all_short is_short
 one_byte_short = refl
 
-two_bytes_short : all_short two_bytes ≡ true
+two_bytes_short : all_short two_byte_opcodes ≡ true
 unfolding all_short is_short
 two_bytes_short = refl
 
-short_at : (table : List (Option Entry)) (i : ℕ) → all_short table ≡ true → is_short (entry_in table i) ≡ true
+short_at : (table : List (Option Entry)) (i : ℕ) → all_short table ≡ true → is_short (opcode_entry table i) ≡ true
 unfolding all_short is_short
 short_at [] i all = refl
 short_at (x ∷ rest) zero all = (true_both (is_short x) (all_short rest) all).0
@@ -230,8 +230,8 @@ short_at (x ∷ rest) (suc i) all = short_at rest i ((true_both (is_short x) (al
 entry_short : (code : ℕ) → is_short (entry_of code) ≡ true
 entry_short code =
     elim (cases_lt code 0xFE00) [
-      | inl low ↦ rw (of_one_byte code (is_low code low)) (short_at one_byte code one_byte_short)
-      | inr high ↦ rw (of_two_bytes code (is_high code high)) (short_at two_bytes (code - 0xFE00) two_bytes_short)
+      | inl low ↦ rw (of_one_byte code (is_low code low)) (short_at one_byte_opcodes code one_byte_short)
+      | inr high ↦ rw (of_two_bytes code (is_high code high)) (short_at two_byte_opcodes (code - 0xFE00) two_bytes_short)
     ]
 
 few_in : (found : Option Entry) → is_short found ≡ true → length (name_in found) ≤ 14

@@ -10,7 +10,7 @@ use Rattle.enc_opcodes.specs.declared.op.Operand.{Operand}
 use Rattle.enc_opcodes.specs.declared.code.Clause.{Clause}
 use Rattle.enc_opcodes.specs.Clause.{clauses_of}
 use Rattle.enc_opcodes.specs.Instruction.{Argument, nothing, number, target, targets, token, text, raw, Instruction, end_of, instructions_of}
-use Rattle.enc_opcodes.specs.Body.{Code, Body, Handler, HandlerKind, catching, filtering, finishing, faulting, told, instruction_told, handler_meant, body_of, may_name, is_named, is_user, stands, arg_is_good, instruction_is_good, range_is_good, extra_is_good, clause_is_good, locals_are_good, is_good}
+use Rattle.enc_opcodes.specs.Body.{Code, Body, Handler, HandlerKind, catching, filtering, finishing, faulting, told, instruction_told, handler_meant, body_of, may_name, is_named, is_user, is_instruction_start, arg_is_good, instruction_is_good, range_is_good, extra_is_good, clause_is_good, locals_are_good, is_good}
 use Rattle.enc_opcodes.specs.Sound.{begins_at, argument_is_sound, instruction_is_sound, handler_kind_is_sound, handler_is_sound, are_whole, body_is_sound}
 use Rattle.enc_opcodes.proofs.Instructions.{instructions_are_chain}
 use Rattle.enc_opcodes.proofs.Whole.{chain_whole}
@@ -81,8 +81,8 @@ begin_same : (texts : ℕ → Option (List ℕ)) (xs : List (ℕ × Instruction 
 begin_same texts [] t = refl
 begin_same texts (x ∷ xs) t = ap (λ b. (x.0 == t) || b) (begin_same texts xs t)
 
-begins_told : (texts : ℕ → Option (List ℕ)) (xs : List (ℕ × Instruction ℕ)) (t : ℕ) → stands xs t ≡ true → begins_at (map (instruction_told texts) xs) t ≡ true
-unfolding stands
+begins_told : (texts : ℕ → Option (List ℕ)) (xs : List (ℕ × Instruction ℕ)) (t : ℕ) → is_instruction_start xs t ≡ true → begins_at (map (instruction_told texts) xs) t ≡ true
+unfolding is_instruction_start
 begins_told texts xs t h = begin_same texts xs t ∙ h
 
 range_kept : (p q : ℕ → Bool) (size : ℕ) (r : ℕ × ℕ) → ((t : ℕ) → p t ≡ true → q t ≡ true) → range_is_good p size r ≡ true → range_is_good q size r ≡ true
@@ -123,13 +123,13 @@ pub good_is_sound : (texts : ℕ → Option (List ℕ)) (f g : ℕ → ℕ) (c :
 unfolding is_good body_is_sound body_of
 good_is_sound texts f g c bytes grow h =
     let all = instructions_of c.code in
-    let d = both_true (end_of c.code 0 == length c.code && list_all (instruction_is_good f (stands all)) all && list_all (clause_is_good f (stands all) (length c.code)) (clauses_of c.sections)) (locals_are_good f c.locals) h in
-    let b = both_true (end_of c.code 0 == length c.code && list_all (instruction_is_good f (stands all)) all) (list_all (clause_is_good f (stands all) (length c.code)) (clauses_of c.sections)) d.0 in
-    let a = both_true (end_of c.code 0 == length c.code) (list_all (instruction_is_good f (stands all)) all) b.0 in
-    let begins : (t : ℕ) → stands all t ≡ true → begins_at (map (instruction_told texts) all) t ≡ true = begins_told texts all in
+    let d = both_true (end_of c.code 0 == length c.code && list_all (instruction_is_good f (is_instruction_start all)) all && list_all (clause_is_good f (is_instruction_start all) (length c.code)) (clauses_of c.sections)) (locals_are_good f c.locals) h in
+    let b = both_true (end_of c.code 0 == length c.code && list_all (instruction_is_good f (is_instruction_start all)) all) (list_all (clause_is_good f (is_instruction_start all) (length c.code)) (clauses_of c.sections)) d.0 in
+    let a = both_true (end_of c.code 0 == length c.code) (list_all (instruction_is_good f (is_instruction_start all)) all) b.0 in
+    let begins : (t : ℕ) → is_instruction_start all t ≡ true → begins_at (map (instruction_told texts) all) t ≡ true = begins_told texts all in
     let whole = chain_whole texts c.code (length c.code) 0 all bytes (instructions_are_chain c.code (eq_of (end_of c.code 0) (length c.code) a.0)) in
-    let instructions = each_kept (instruction_told texts) (instruction_is_good f (stands all)) (instruction_is_sound g (begins_at (map (instruction_told texts) all))) all (λ x e. one_sound texts f g (stands all) (begins_at (map (instruction_told texts) all)) x grow begins e) a.1 in
-    let handlers = each_kept handler_meant (clause_is_good f (stands all) (length c.code)) (handler_is_sound g (begins_at (map (instruction_told texts) all)) (length c.code)) (clauses_of c.sections) (λ x e. clause_sound f g (stands all) (begins_at (map (instruction_told texts) all)) (length c.code) x grow begins e) b.1 in
+    let instructions = each_kept (instruction_told texts) (instruction_is_good f (is_instruction_start all)) (instruction_is_sound g (begins_at (map (instruction_told texts) all))) all (λ x e. one_sound texts f g (is_instruction_start all) (begins_at (map (instruction_told texts) all)) x grow begins e) a.1 in
+    let handlers = each_kept handler_meant (clause_is_good f (is_instruction_start all) (length c.code)) (handler_is_sound g (begins_at (map (instruction_told texts) all)) (length c.code)) (clauses_of c.sections) (λ x e. clause_sound f g (is_instruction_start all) (begins_at (map (instruction_told texts) all)) (length c.code) x grow begins e) b.1 in
     true_both _ _ (true_both _ _ (true_both _ _ whole instructions) handlers) (locals_kept f g c.locals grow d.1)
 
 -- the same of a sound body whose tables grow
@@ -179,7 +179,7 @@ sound_kept f g b grow h =
 -- the local signature of good code is nil or a row
 pub good_locals_of : (f : ℕ → ℕ) (c : Code) → is_good f c ≡ true → locals_are_good f c.locals ≡ true
 unfolding is_good
-good_locals_of f c h = (both_true (end_of c.code 0 == length c.code && list_all (instruction_is_good f (stands (instructions_of c.code))) (instructions_of c.code) && list_all (clause_is_good f (stands (instructions_of c.code)) (length c.code)) (clauses_of c.sections)) (locals_are_good f c.locals) h).1
+good_locals_of f c h = (both_true (end_of c.code 0 == length c.code && list_all (instruction_is_good f (is_instruction_start (instructions_of c.code))) (instructions_of c.code) && list_all (clause_is_good f (is_instruction_start (instructions_of c.code)) (length c.code)) (clauses_of c.sections)) (locals_are_good f c.locals) h).1
 
 pub good_local : (f : ℕ → ℕ) (t : Token) → locals_are_good f t ≡ true → (t.row == 0) ≡ false → (t.table ≡ 0x11) × (0 < t.row) × (t.row ≤ f 0x11)
 unfolding locals_are_good

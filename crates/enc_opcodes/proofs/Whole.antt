@@ -3,7 +3,7 @@ use Rattle.std.proofs.Common.{◌≡◌, ℕ, zero, suc, ◌+◌, ◌-◌, ◌*�
 use Rattle.std.specs.Prelude.{option_and_then, nat_le, ◌==◌, ◌&&◌, if◌then◌else◌}
 use Rattle.std.specs.Int.{w8, w16, w32, w64}
 use Rattle.std.proofs.lemmas.Bool.Decides.{nat_tests}
-use Rattle.enc_base.specs.Numbers.{number_at}
+use Rattle.enc_base.specs.Numbers.{little_endian_at}
 use Rattle.enc_base.proofs.SmallNumbers.{EachIsByte, number8_few}
 use Rattle.enc_opcodes.specs.declared.op.Op.{Op}
 use Rattle.enc_opcodes.specs.declared.op.Operand.{Operand}
@@ -82,23 +82,23 @@ switch_count code at (Some k) a n h = switch_range code at k (range_at code (at 
 
 switch_takes : (code : List ℕ) (at : ℕ) (a : Argument ℕ) (n : ℕ) → switch_in code at ≡ Some (a, n) → Takes operand.Switch a at n
 unfolding switch_in
-switch_takes code at a n h = switch_count code at (number_at w32 code at) a n h
+switch_takes code at a n h = switch_count code at (little_endian_at w32 code at) a n h
 
 arg_takes : (k : Operand) (code : List ℕ) (at : ℕ) (a : Argument ℕ) (n : ℕ) → arg_in k code at ≡ Some (a, n) → Takes k a at n
 unfolding arg_in
 arg_takes operand.None code at a n h = let e = pair_is {X = Argument ℕ} (nothing, at) (a, n) h in omega (arith, e.1)
-arg_takes operand.I8 code at a n h = sym (mapped (number_at w8 code at) _ (at + 1) a n h)
-arg_takes operand.U8 code at a n h = sym (mapped (number_at w8 code at) _ (at + 1) a n h)
-arg_takes operand.U16 code at a n h = sym (mapped (number_at w16 code at) _ (at + 2) a n h)
-arg_takes operand.I32 code at a n h = sym (mapped (number_at w32 code at) _ (at + 4) a n h)
-arg_takes operand.I64 code at a n h = sym (mapped (number_at w64 code at) _ (at + 8) a n h)
+arg_takes operand.I8 code at a n h = sym (mapped (little_endian_at w8 code at) _ (at + 1) a n h)
+arg_takes operand.U8 code at a n h = sym (mapped (little_endian_at w8 code at) _ (at + 1) a n h)
+arg_takes operand.U16 code at a n h = sym (mapped (little_endian_at w16 code at) _ (at + 2) a n h)
+arg_takes operand.I32 code at a n h = sym (mapped (little_endian_at w32 code at) _ (at + 4) a n h)
+arg_takes operand.I64 code at a n h = sym (mapped (little_endian_at w64 code at) _ (at + 8) a n h)
 arg_takes operand.R4 code at a n h = sym (mapped (range_at code at 4) _ (at + 4) a n h)
 arg_takes operand.R8 code at a n h = sym (mapped (range_at code at 8) _ (at + 8) a n h)
-arg_takes operand.Branch8 code at a n h = sym (mapped (option_and_then (λ (n : ℕ). target_at (at + 1) (widened n)) (number_at w8 code at)) _ (at + 1) a n h)
-arg_takes operand.Branch32 code at a n h = sym (mapped (option_and_then (target_at (at + 4)) (number_at w32 code at)) _ (at + 4) a n h)
+arg_takes operand.Branch8 code at a n h = sym (mapped (option_and_then (λ (n : ℕ). target_at (at + 1) (widened n)) (little_endian_at w8 code at)) _ (at + 1) a n h)
+arg_takes operand.Branch32 code at a n h = sym (mapped (option_and_then (target_at (at + 4)) (little_endian_at w32 code at)) _ (at + 4) a n h)
 arg_takes operand.Switch code at a n h = switch_takes code at a n h
-arg_takes operand.Token code at a n h = sym (mapped (number_at w32 code at) _ (at + 4) a n h)
-arg_takes operand.User code at a n h = sym (mapped (number_at w32 code at) _ (at + 4) a n h)
+arg_takes operand.Token code at a n h = sym (mapped (little_endian_at w32 code at) _ (at + 4) a n h)
+arg_takes operand.User code at a n h = sym (mapped (little_endian_at w32 code at) _ (at + 4) a n h)
 
 -- an instruction's code takes one byte, or FE and another
 abbrev code_size : ℕ → ℕ
@@ -130,21 +130,21 @@ two_bytes code at first (Some s) op n fe h =
     let is : op.byte ≡ 0xFE00 + s = rw fe at byte in
     rw (is, two_code s) (sym e.1)
 
-by_prefix : (code : List ℕ) (at first : ℕ) (b : Bool) (op : Op) (n : ℕ) → (first == 0xFE) ≡ b → first < 2 ^ 8 → cond b (option_and_then {U = Op × ℕ} (λ (s : ℕ). option_map {U = Op × ℕ} (λ (x : Op). (x, at + 2)) (op_at first s)) (number_at w8 code (at + 1))) (option_map {U = Op × ℕ} (λ (x : Op). (x, at + 1)) (op_at first 0)) ≡ Some (op, n) → n ≡ at + code_size op.byte
-by_prefix code at first true op n fe few h = two_bytes code at first (number_at w8 code (at + 1)) op n fe h
+by_prefix : (code : List ℕ) (at first : ℕ) (b : Bool) (op : Op) (n : ℕ) → (first == 0xFE) ≡ b → first < 2 ^ 8 → cond b (option_and_then {U = Op × ℕ} (λ (s : ℕ). option_map {U = Op × ℕ} (λ (x : Op). (x, at + 2)) (op_at first s)) (little_endian_at w8 code (at + 1))) (option_map {U = Op × ℕ} (λ (x : Op). (x, at + 1)) (op_at first 0)) ≡ Some (op, n) → n ≡ at + code_size op.byte
+by_prefix code at first true op n fe few h = two_bytes code at first (little_endian_at w8 code (at + 1)) op n fe h
 by_prefix code at first false op n fe few h =
     let e = op_there (op_at first 0) (at + 1) op n h in
     let byte : op.byte ≡ code_of first 0 = op_code first 0 op e.0 in
     let is : op.byte ≡ first = rw fe at byte in
     rw (is, one_code first few) (sym e.1)
 
-by_first : (code : List ℕ) (at : ℕ) (o : Option ℕ) (op : Op) (n : ℕ) → EachIsByte code → number_at w8 code at ≡ o → option_and_then {U = Op × ℕ} (λ (first : ℕ). cond (first == 0xFE) (option_and_then {U = Op × ℕ} (λ (s : ℕ). option_map {U = Op × ℕ} (λ (x : Op). (x, at + 2)) (op_at first s)) (number_at w8 code (at + 1))) (option_map {U = Op × ℕ} (λ (x : Op). (x, at + 1)) (op_at first 0))) o ≡ Some (op, n) → n ≡ at + code_size op.byte
+by_first : (code : List ℕ) (at : ℕ) (o : Option ℕ) (op : Op) (n : ℕ) → EachIsByte code → little_endian_at w8 code at ≡ o → option_and_then {U = Op × ℕ} (λ (first : ℕ). cond (first == 0xFE) (option_and_then {U = Op × ℕ} (λ (s : ℕ). option_map {U = Op × ℕ} (λ (x : Op). (x, at + 2)) (op_at first s)) (little_endian_at w8 code (at + 1))) (option_map {U = Op × ℕ} (λ (x : Op). (x, at + 1)) (op_at first 0))) o ≡ Some (op, n) → n ≡ at + code_size op.byte
 by_first code at None op n all is h = absurd (cc)
 by_first code at (Some first) op n all is h = by_prefix code at first (first == 0xFE) op n refl (number8_few code at first all is) h
 
 op_takes : (code : List ℕ) (at : ℕ) (op : Op) (n : ℕ) → EachIsByte code → op_in code at ≡ Some (op, n) → n ≡ at + code_size op.byte
 unfolding op_in
-op_takes code at op n all h = by_first code at (number_at w8 code at) op n all refl h
+op_takes code at op n all h = by_first code at (little_endian_at w8 code at) op n all refl h
 
 abbrev with_arg : Op → Option (Argument ℕ × ℕ) → Option (Instruction ℕ × ℕ)
 with_arg op o = option_and_then (λ (rest : Argument ℕ × ℕ). Some (record { op = op; arg = rest.0 }, rest.1)) o

@@ -1,8 +1,8 @@
 -- A method's body: where its parts stand, what it means, and when it is good (ECMA-335 II.25.4, III.1.7).
-use Rattle.std.specs.Prelude.{ℕ, ◌+◌, ◌-◌, ◌*◌, ◌/◌, ◌%◌, Bool, true, false, not, ◌&&◌, ◌||◌, List, [], ◌∷◌, length, map, take, drop, Option, Some, None, option_map, unwrap_or, is_some, nat_le, ◌==◌, if◌then◌else◌}
+use Rattle.std.specs.Prelude.{ℕ, ◌+◌, ◌-◌, ◌/◌, ◌%◌, Bool, true, false, not, ◌&&◌, ◌||◌, List, [], ◌∷◌, length, map, take, drop, Option, Some, None, option_map, unwrap_or, is_some, nat_le, ◌==◌, if◌then◌else◌}
 use Rattle.std.specs.List.{list_any, list_all}
 use Rattle.std.specs.Int.{w8, w16, w32}
-use Rattle.enc_base.specs.Numbers.{number_at}
+use Rattle.enc_base.specs.Numbers.{little_endian_at, padded, has_flag}
 use Rattle.enc_base.specs.Token.{token_of, nil}
 use Rattle.enc_base.specs.declared.token.Token.{Token}
 use Rattle.enc_schema.specs.Tables.{type_ref, type_def, field, method_def, member_ref, stand_alone_sig, type_spec, method_spec}
@@ -37,25 +37,17 @@ tiny_at bytes at size =
 unfoldable pub sections_at : List ℕ → Option (List ℕ)
 sections_at bytes = option_map (λ (x : List Section × List ℕ). take (length bytes - length x.1) bytes) (sections_in (length bytes) bytes)
 
--- the next multiple of four
-abbrev pub padded : ℕ → ℕ
-padded n = (n + 3) / 4 * 4
-
 -- the sections behind the code, where a flag says that there are any
 abbrev pub sections_behind : List ℕ → ℕ → Bool → Option (List ℕ)
 sections_behind bytes at more = if more then sections_at (drop at bytes) else Some []
 
--- a flag of a fat header
-abbrev pub has_flag : ℕ → ℕ → Bool
-has_flag flag flags = flags / flag % 2 == 1
-
 -- a fat header of twelve bytes: flags and in their top four bits its size in fours, the most values on the stack, the code's size, the local signature
 unfoldable pub fat_at : List ℕ → ℕ → Option Code
 fat_at bytes at = do
-  flags ← number_at w16 bytes at
-  max ← number_at w16 bytes (at + 2)
-  size ← number_at w32 bytes (at + 4)
-  locals ← number_at w32 bytes (at + 8)
+  flags ← little_endian_at w16 bytes at
+  max ← little_endian_at w16 bytes (at + 2)
+  size ← little_endian_at w32 bytes (at + 4)
+  locals ← little_endian_at w32 bytes (at + 8)
   code ← range_at bytes (at + 12) size
   sections ← sections_behind bytes (at + 12 + padded size) (has_flag 8 flags)
   if flags / 0x1000 == 3 then Some (record { max = max; init = has_flag 0x10 flags; locals = nil_or (token_of locals); code = code; sections = sections })
@@ -64,7 +56,7 @@ fat_at bytes at = do
 -- the body whose header stands at a place of the bytes, which is this place of the image or of the delta's code: a multiple of four for a fat one
 unfoldable pub body_at : List ℕ → ℕ → ℕ → Option Code
 body_at bytes at place = do
-  first ← number_at w8 bytes at
+  first ← little_endian_at w8 bytes at
   if first % 4 == 2 then tiny_at bytes at (first / 4) else if first % 4 == 3 && place % 4 == 0 then fat_at bytes at else None
 
 -- what a clause is for: exceptions of a class, those that a filter takes, the end of the protected code in any case, or by an exception
@@ -128,8 +120,8 @@ unfoldable pub is_named : (ℕ → ℕ) → Token → Bool
 is_named count t = may_name t.table && nat_le 1 t.row && nat_le t.row (count t.table)
 
 -- an instruction begins at the offset
-unfoldable pub stands : List (ℕ × Instruction ℕ) → ℕ → Bool
-stands all t = list_any (λ (x : ℕ × Instruction ℕ). x.0 == t) all
+unfoldable pub is_instruction_start : List (ℕ × Instruction ℕ) → ℕ → Bool
+is_instruction_start all t = list_any (λ (x : ℕ × Instruction ℕ). x.0 == t) all
 
 abbrev pub is_user : Operand → Bool
 is_user operand.User = true
@@ -163,8 +155,8 @@ locals_are_good count t = t.row == 0 || t.table == stand_alone_sig && nat_le t.r
 unfoldable pub is_good : (ℕ → ℕ) → Code → Bool
 is_good count c =
     end_of c.code 0 == length c.code
-    && list_all (instruction_is_good count (stands (instructions_of c.code))) (instructions_of c.code)
-    && list_all (clause_is_good count (stands (instructions_of c.code)) (length c.code)) (clauses_of c.sections)
+    && list_all (instruction_is_good count (is_instruction_start (instructions_of c.code))) (instructions_of c.code)
+    && list_all (clause_is_good count (is_instruction_start (instructions_of c.code)) (length c.code)) (clauses_of c.sections)
     && locals_are_good count c.locals
 
 -- the user text that an argument names is there

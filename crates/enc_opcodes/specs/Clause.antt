@@ -1,7 +1,7 @@
 -- The exception clauses of a method's body, in the data sections behind its code (ECMA-335 II.25.4.5, II.25.4.6).
 use Rattle.std.specs.Prelude.{ℕ, zero, suc, ◌+◌, ◌*◌, ◌/◌, ◌%◌, ◌^◌, Bool, true, false, List, [], ◌∷◌, length, flat_map, drop, Option, Some, None, option_map, unwrap_or, ◌==◌, if◌then◌else◌}
 use Rattle.std.specs.Int.{Width, w8, w16, w32}
-use Rattle.enc_base.specs.Numbers.{number_at}
+use Rattle.enc_base.specs.Numbers.{little_endian_at}
 use Rattle.enc_opcodes.specs.declared.code.Clause.{Clause}
 use Rattle.enc_opcodes.specs.Instruction.{◌>>=◌, range_at}
 
@@ -43,20 +43,20 @@ section_in (kind ∷ a ∷ b ∷ c ∷ rest) = section_of_kind kind a b c rest
 section_in _ = None
 
 -- a section and those that follow, and the bytes behind the last: each takes four bytes and more, so there are at most as many as bytes
-abbrev pub followed : Section × List ℕ → (List ℕ → Option (List Section × List ℕ)) → Option (List Section × List ℕ)
-followed x next = if x.0.more then option_map (λ (y : List Section × List ℕ). (x.0 ∷ y.0, y.1)) (next x.1) else Some (x.0 ∷ [], x.1)
+abbrev pub section_followed : Section × List ℕ → (List ℕ → Option (List Section × List ℕ)) → Option (List Section × List ℕ)
+section_followed x next = if x.0.more then option_map (λ (y : List Section × List ℕ). (x.0 ∷ y.0, y.1)) (next x.1) else Some (x.0 ∷ [], x.1)
 
 unfoldable pub sections_in : ℕ → List ℕ → Option (List Section × List ℕ)
 sections_in zero bytes = None
-sections_in (suc n) bytes = section_in bytes >>= λ x. followed x (sections_in n)
+sections_in (suc n) bytes = section_in bytes >>= λ x. section_followed x (sections_in n)
 
 -- the sections at the front of these bytes, none where one isn't whole
-unfoldable pub sections_of : List ℕ → List Section
-sections_of bytes = unwrap_or (option_map (λ (x : List Section × List ℕ). x.0) (sections_in (length bytes) bytes)) []
+unfoldable pub data_sections : List ℕ → List Section
+data_sections bytes = unwrap_or (option_map (λ (x : List Section × List ℕ). x.0) (sections_in (length bytes) bytes)) []
 
 -- a number at a place, 0 where it doesn't stand whole there
 abbrev pub number_or_zero : Width → List ℕ → ℕ → ℕ
-number_or_zero w bytes at = unwrap_or (number_at w bytes at) 0
+number_or_zero w bytes at = unwrap_or (little_endian_at w bytes at) 0
 
 -- where a range begins and where it ends, one past its last byte
 abbrev pub range_of : ℕ → ℕ → ℕ × ℕ
@@ -83,4 +83,4 @@ clauses_in fat (suc n) bytes = clause_in fat bytes ∷ clauses_in fat n (drop (c
 
 -- all clauses of a body's sections, in order
 unfoldable pub clauses_of : List ℕ → List Clause
-clauses_of bytes = flat_map (λ (s : Section). clauses_in s.fat s.count s.clauses) (sections_of bytes)
+clauses_of bytes = flat_map (λ (s : Section). clauses_in s.fat s.count s.clauses) (data_sections bytes)

@@ -6,8 +6,8 @@ use Rattle.enc_opcodes.specs.Instruction.{nothing, target, text}
 use Rattle.enc_opcodes.specs.Body.{Body, catching, body_at, body_of}
 
 -- flags 301b, two values, nine bytes of code, locals 11000001; ldstr 70000001, leave.s to the end, pop, ret; a section of one clause, of class 01000001
-abbrev pub example : List ℕ
-example =
+abbrev pub body_example : List ℕ
+body_example =
     0x1b ∷ 0x30 ∷ 0x02 ∷ 0x00 ∷ 0x09 ∷ 0x00 ∷ 0x00 ∷ 0x00 ∷ 0x01 ∷ 0x00 ∷ 0x00 ∷ 0x11 ∷
     0x72 ∷ 0x01 ∷ 0x00 ∷ 0x00 ∷ 0x70 ∷ 0xde ∷ 0x01 ∷ 0x26 ∷ 0x2a ∷ 0x00 ∷ 0x00 ∷ 0x00 ∷
     0x01 ∷ 0x10 ∷ 0x00 ∷ 0x00 ∷
@@ -33,4 +33,4 @@ example_means = record {
 }
 
 abbrev pub ExampleIsRead : Type 0
-ExampleIsRead = option_map (body_of example_texts) (body_at example 0 0x2050) ≡ Some example_means
+ExampleIsRead = option_map (body_of example_texts) (body_at body_example 0 0x2050) ≡ Some example_means

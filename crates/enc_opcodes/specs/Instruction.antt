@@ -1,7 +1,7 @@
 -- The instructions of a method's code: one at an offset, and the whole list (ECMA-335 III.1.2, III.1.9).
 use Rattle.std.specs.Prelude.{◌≡◌, ℕ, zero, suc, ◌+◌, ◌-◌, ◌*◌, ◌/◌, ◌%◌, ◌^◌, ℤ, pos, List, [], ◌∷◌, length, take, drop, Bool, true, ◌&&◌, Option, Some, None, option_map, option_and_then, nat_lt, nat_le, ◌==◌, if◌then◌else◌}
 use Rattle.std.specs.Int.{w8, w16, w32, w64, from_le_bytes, cast_signed}
-use Rattle.enc_base.specs.Numbers.{number_at}
+use Rattle.enc_base.specs.Numbers.{little_endian_at}
 use Rattle.enc_base.specs.Token.{token_of}
 use Rattle.enc_base.specs.declared.token.Token.{Token}
 use Rattle.enc_opcodes.specs.declared.op.Op.{Op}
@@ -68,7 +68,7 @@ text_or_token n = if n / 0x1000000 == 0x70 then text (n % 0x1000000) else token 
 -- the targets of a `switch`, whose distances stand behind their count, and the place behind them
 unfoldable pub switch_in : List ℕ → ℕ → Option (Argument ℕ × ℕ)
 switch_in code at = do
-  count ← number_at w32 code at
+  count ← little_endian_at w32 code at
   distances ← range_at code (at + 4) (4 * count)
   offsets ← targets_at (at + 4 + 4 * count) distances
   Some (targets offsets, at + 4 + 4 * count)
@@ -76,24 +76,24 @@ switch_in code at = do
 -- the operand at a place, and the place behind it, where it stands whole there
 unfoldable pub arg_in : Operand → List ℕ → ℕ → Option (Argument ℕ × ℕ)
 arg_in operand.None code at = Some (nothing, at)
-arg_in operand.I8 code at = option_map (λ n. (number (cast_signed w8 n), at + 1)) (number_at w8 code at)
-arg_in operand.U8 code at = option_map (λ n. (number (pos n), at + 1)) (number_at w8 code at)
-arg_in operand.U16 code at = option_map (λ n. (number (pos n), at + 2)) (number_at w16 code at)
-arg_in operand.I32 code at = option_map (λ n. (number (cast_signed w32 n), at + 4)) (number_at w32 code at)
-arg_in operand.I64 code at = option_map (λ n. (number (cast_signed w64 n), at + 8)) (number_at w64 code at)
+arg_in operand.I8 code at = option_map (λ n. (number (cast_signed w8 n), at + 1)) (little_endian_at w8 code at)
+arg_in operand.U8 code at = option_map (λ n. (number (pos n), at + 1)) (little_endian_at w8 code at)
+arg_in operand.U16 code at = option_map (λ n. (number (pos n), at + 2)) (little_endian_at w16 code at)
+arg_in operand.I32 code at = option_map (λ n. (number (cast_signed w32 n), at + 4)) (little_endian_at w32 code at)
+arg_in operand.I64 code at = option_map (λ n. (number (cast_signed w64 n), at + 8)) (little_endian_at w64 code at)
 arg_in operand.R4 code at = option_map (λ bytes. (raw bytes, at + 4)) (range_at code at 4)
 arg_in operand.R8 code at = option_map (λ bytes. (raw bytes, at + 8)) (range_at code at 8)
-arg_in operand.Branch8 code at = option_map (λ t. (target t, at + 1)) (number_at w8 code at >>= λ n. target_at (at + 1) (widened n))
-arg_in operand.Branch32 code at = option_map (λ t. (target t, at + 4)) (number_at w32 code at >>= target_at (at + 4))
+arg_in operand.Branch8 code at = option_map (λ t. (target t, at + 1)) (little_endian_at w8 code at >>= λ n. target_at (at + 1) (widened n))
+arg_in operand.Branch32 code at = option_map (λ t. (target t, at + 4)) (little_endian_at w32 code at >>= target_at (at + 4))
 arg_in operand.Switch code at = switch_in code at
-arg_in operand.Token code at = option_map (λ n. (token (token_of n), at + 4)) (number_at w32 code at)
-arg_in operand.User code at = option_map (λ n. (text_or_token n, at + 4)) (number_at w32 code at)
+arg_in operand.Token code at = option_map (λ n. (token (token_of n), at + 4)) (little_endian_at w32 code at)
+arg_in operand.User code at = option_map (λ n. (text_or_token n, at + 4)) (little_endian_at w32 code at)
 
 -- the instruction's code at a place, of one byte or of two, and the place behind it
 unfoldable pub op_in : List ℕ → ℕ → Option (Op × ℕ)
 op_in code at = do
-  first ← number_at w8 code at
-  if first == 0xFE then option_and_then (λ second. option_map (λ op. (op, at + 2)) (op_at first second)) (number_at w8 code (at + 1))
+  first ← little_endian_at w8 code at
+  if first == 0xFE then option_and_then (λ second. option_map (λ op. (op, at + 2)) (op_at first second)) (little_endian_at w8 code (at + 1))
       else option_map (λ op. (op, at + 1)) (op_at first 0)
 
 -- the instruction at an offset, and the offset behind it, where one stands whole there

@@ -13,8 +13,8 @@ abbrev pub entry_held : Bor (List ℕ) × Operand → Entry
 entry_held e = (e.0.now, e.1)
 
 -- by the only byte of the code
-abbrev pub one_byte : List (Option Entry)
-one_byte =
+abbrev pub one_byte_opcodes : List (Option Entry)
+one_byte_opcodes =
     -- 00 to 0F
     Some (codes "nop", Bare) ∷
     Some (codes "break", Bare) ∷
@@ -258,8 +258,8 @@ one_byte =
     []
 
 -- by the byte behind FE
-abbrev pub two_bytes : List (Option Entry)
-two_bytes =
+abbrev pub two_byte_opcodes : List (Option Entry)
+two_byte_opcodes =
     -- FE 00 to FE 0F
     Some (codes "arglist", Bare) ∷
     Some (codes "ceq", Bare) ∷

@@ -1,7 +1,7 @@
 //! The instruction of a code and that of a name, and an instruction's name (ECMA-335 III.1.2.1).
 ghost use Rattle.std.specs.Prelude.{◌≡◌, ◌+◌, ◌≤◌, ◌^◌, map, option_map, length, IfSome, IsTrue};
-ghost use Rattle.enc_opcodes.specs.Table.{entry_held, one_byte, two_bytes};
-ghost use Rattle.enc_opcodes.specs.Opcodes.{code_of as code_of_bytes, op_with as op_with_code, op_at, name_of, is_op, named_in as first_named, op_named};
+ghost use Rattle.enc_opcodes.specs.Table.{entry_held, one_byte_opcodes, two_byte_opcodes};
+ghost use Rattle.enc_opcodes.specs.Opcodes.{code_of as code_of_bytes, op_with as op_with_code, op_at, name_of, is_op, first_named, op_named};
 
 use crate::op::{Op, Operand};
 use crate::table::{ONE_BYTE, TWO_BYTES, entry_of};
@@ -53,7 +53,7 @@ pub fn op_name(op: Op) -> &'static str
 }
 
 /// The first instruction of this name in a table, whose first place has this code.
-#[tactic(auto, unfolding(crate::specs::Opcodes::named_in))]
+#[tactic(auto, unfolding(crate::specs::Opcodes::first_named))]
 fn named_in(name: &str, first: u16, table: &[Option<(&'static str, Operand)>]) -> Option<Op>
     requires { first + length table.now ≤ 2 ^ 16 }
     ensures { result ≡ first_named name.now first (map (option_map entry_held) table.now) }
@@ -74,7 +74,7 @@ fn named_in(name: &str, first: u16, table: &[Option<(&'static str, Operand)>]) -
 
 /// The instruction of this name whose code is one byte.
 fn one_byte_named(name: &str) -> Option<Op>
-    ensures op { result ≡ first_named name.now 0 one_byte }
+    ensures op { result ≡ first_named name.now 0 one_byte_opcodes }
     ensures known { IfSome result (λ o. IsTrue (is_op o)) }
 {
     named_in(name, 0, &ONE_BYTE)
@@ -82,7 +82,7 @@ fn one_byte_named(name: &str) -> Option<Op>
 
 /// The instruction of this name whose code is two bytes.
 fn two_bytes_named(name: &str) -> Option<Op>
-    ensures op { result ≡ first_named name.now 0xFE00 two_bytes }
+    ensures op { result ≡ first_named name.now 0xFE00 two_byte_opcodes }
     ensures known { IfSome result (λ o. IsTrue (is_op o)) }
 {
     named_in(name, 0xFE00, &TWO_BYTES)

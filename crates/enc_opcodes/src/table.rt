@@ -2,7 +2,7 @@
 //! the code (ECMA-335 III.1.2.1, III.3, III.4).
 ghost use Rattle.std.specs.Prelude.{◌≡◌, map, option_map};
 ghost use Rattle.enc_opcodes.specs.Table.{entry_held};
-ghost use Rattle.enc_opcodes.specs.Opcodes.{entry_in, entry_of as entry_with};
+ghost use Rattle.enc_opcodes.specs.Opcodes.{opcode_entry, entry_of as entry_with};
 
 use crate::op::Operand::{
     self, Branch8, Branch32, I8, I32, I64, None as Bare, R4, R8, Switch, Token, U8, U16, User,
@@ -291,7 +291,7 @@ pub(crate) static TWO_BYTES: [Option<(&str, Operand)>; 31] = [
 
 /// What stands at the place, and nothing where there is no such place.
 fn entry(table: &[Option<(&'static str, Operand)>], i: usize) -> Option<(&'static str, Operand)>
-    ensures { option_map entry_held result ≡ entry_in (map (option_map entry_held) table.now) i }
+    ensures { option_map entry_held result ≡ opcode_entry (map (option_map entry_held) table.now) i }
 {
     if i < table.len() { table[i] } else { None }
 }

@@ -4,7 +4,7 @@ use Rattle.std.specs.Prelude.{nat_le, min}
 use Rattle.std.specs.Int.{w16, w32, w64, from_le_bytes}
 use Rattle.std.proofs.lemmas.Nat.{from_le_bytes-to_le_bytes_4}
 use Rattle.std.proofs.lemmas.List.{append_assoc, length-append}
-use Rattle.enc_base.specs.Numbers.{number_at}
+use Rattle.enc_base.specs.Numbers.{little_endian_at}
 use Rattle.enc_meta.specs.declared.span.Span.{Span}
 use Rattle.enc_pe.specs.declared.directory.Directory.{Directory}
 use Rattle.enc_pe.specs.declared.headers.Headers.{Headers}
@@ -70,11 +70,11 @@ headers_read optional header rest long many =
     rw (half_in_front front all 0x86 1 (within_front 0x88 (omega arith)) count_is, half_in_front front all 0x94 224 (within_front 0x96 (omega arith)) size_is, within) refl
 
 -- what the optional header says
-pe32_is : (size raw cli : ℕ) → number_at w16 (optional_header size raw cli) 0 ≡ Some 0x10B
+pe32_is : (size raw cli : ℕ) → little_endian_at w16 (optional_header size raw cli) 0 ≡ Some 0x10B
 unfolding standard_fields nt_fields directories
 pe32_is size raw cli = refl
 
-sixteen_is : (size raw cli : ℕ) → number_at w32 (optional_header size raw cli) 92 ≡ Some 16
+sixteen_is : (size raw cli : ℕ) → little_endian_at w32 (optional_header size raw cli) 92 ≡ Some 16
 unfolding standard_fields nt_fields directories
 sixteen_is size raw cli = refl
 
@@ -82,11 +82,11 @@ debug_is : (size raw cli : ℕ) → directory_at (optional_header size raw cli) 
 unfolding standard_fields nt_fields directories directory_at
 debug_is size raw cli = refl
 
-cli_rva_is : (size raw cli : ℕ) → code_rva + cli < 2 ^ 32 → number_at w32 (optional_header size raw cli) 208 ≡ Some (code_rva + cli)
+cli_rva_is : (size raw cli : ℕ) → code_rva + cli < 2 ^ 32 → little_endian_at w32 (optional_header size raw cli) 208 ≡ Some (code_rva + cli)
 unfolding standard_fields nt_fields directories
 cli_rva_is size raw cli few = ap (λ n. Some n) (from_le_bytes-to_le_bytes_4 (code_rva + cli) few)
 
-cli_size_is : (size raw cli : ℕ) → number_at w32 (optional_header size raw cli) 212 ≡ Some 72
+cli_size_is : (size raw cli : ℕ) → little_endian_at w32 (optional_header size raw cli) 212 ≡ Some 72
 unfolding standard_fields nt_fields directories
 cli_size_is size raw cli = refl
 
@@ -115,15 +115,15 @@ all_read size raw cli rest few =
     all_from (front ++ (optional ++ (header ++ rest))) optional (record { rva = 0; size = 0 }) (record { rva = code_rva + cli; size = 72 }) header_span (coff_read (optional ++ (header ++ rest))) (optional_read optional (header ++ rest) l1) (directories_read size raw cli) (debug_is size raw cli) (cli_is size raw cli few) (headers_read optional header rest l1 l2)
 
 -- the section by its header
-rva_is : (size raw : ℕ) → number_at w32 (section_header size raw) 12 ≡ Some code_rva
+rva_is : (size raw : ℕ) → little_endian_at w32 (section_header size raw) 12 ≡ Some code_rva
 unfolding section_header
 rva_is size raw = refl
 
-raw_is : (size raw : ℕ) → raw < 2 ^ 32 → number_at w32 (section_header size raw) 16 ≡ Some raw
+raw_is : (size raw : ℕ) → raw < 2 ^ 32 → little_endian_at w32 (section_header size raw) 16 ≡ Some raw
 unfolding section_header
 raw_is size raw few = ap (λ n. Some n) (from_le_bytes-to_le_bytes_4 raw few)
 
-start_is : (size raw : ℕ) → number_at w32 (section_header size raw) 20 ≡ Some 512
+start_is : (size raw : ℕ) → little_endian_at w32 (section_header size raw) 20 ≡ Some 512
 unfolding section_header
 start_is size raw = refl
 
@@ -157,7 +157,7 @@ unfolding sections_from
 sections_read size raw cli rest few is = rw (section_there size raw cli rest few is) refl
 
 -- the CLI header
-cli_from : (bytes : List ℕ) (metadata many start kept few : ℕ) → number_at w32 bytes 8 ≡ Some metadata → number_at w32 bytes 12 ≡ Some many → number_at w32 bytes 16 ≡ Some 1 → number_at w32 bytes 20 ≡ Some start → number_at w32 bytes 24 ≡ Some kept → number_at w32 bytes 28 ≡ Some few → number_at w64 bytes 64 ≡ Some 0 → cli_in bytes ≡ Some (record { metadata = record { rva = metadata; size = many }; entry = start; resources = record { rva = kept; size = few } })
+cli_from : (bytes : List ℕ) (metadata many start kept few : ℕ) → little_endian_at w32 bytes 8 ≡ Some metadata → little_endian_at w32 bytes 12 ≡ Some many → little_endian_at w32 bytes 16 ≡ Some 1 → little_endian_at w32 bytes 20 ≡ Some start → little_endian_at w32 bytes 24 ≡ Some kept → little_endian_at w32 bytes 28 ≡ Some few → little_endian_at w64 bytes 64 ≡ Some 0 → cli_in bytes ≡ Some (record { metadata = record { rva = metadata; size = many }; entry = start; resources = record { rva = kept; size = few } })
 unfolding cli_in directory_at
 cli_from bytes metadata many start kept few h0 h1 h2 h3 h4 h5 h6 = rw (h0, h1, h2, h3, h4, h5, h6) refl
 

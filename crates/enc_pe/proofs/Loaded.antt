@@ -2,14 +2,14 @@
 use Rattle.std.proofs.Common.{◌≡◌, ℕ, zero, suc, ◌+◌, ◌-◌, ◌*◌, ◌/◌, ◌≤◌, Bool, true, false, List, [], ◌∷◌, length, take, drop, Option, Some, None, refl, sym, ap, ◌∙◌, arith}
 use Rattle.std.specs.Prelude.{min, map, find, option_map, option_and_then, nat_le, ◌&&◌}
 use Rattle.std.specs.Int.{w32}
-use Rattle.enc_base.specs.Numbers.{number_at}
+use Rattle.enc_base.specs.Numbers.{little_endian_at}
 use Rattle.enc_meta.specs.Heaps.{part}
 use Rattle.enc_meta.specs.Regions.{Region, range_loaded, rest_loaded}
 use Rattle.enc_meta.specs.Regions as region
 use Rattle.enc_meta.specs.declared.span.Span.{Span}
 use Rattle.enc_pe.specs.declared.section.Section.{Section}
 use Rattle.enc_pe.specs.declared.container.Container.{Container}
-use Rattle.enc_pe.specs.Sections.{inside, section_with, section_at, whole_at, listed, sections_from, sections_of, holds, span_at, span_from}
+use Rattle.enc_pe.specs.Sections.{inside, section_with, section_at, whole_at, section_and_rest, sections_from, sections_of, holds, span_at, span_from}
 use Rattle.enc_pe.specs.Container.{bytes_at_rva, bytes_from_rva}
 use Rattle.enc_pe.specs.Loaded.{region_of, regions_of}
 use Rattle.std.proofs.lemmas.List.{drop-take}
@@ -24,7 +24,7 @@ inside_within size s = omega arith
 -- so it is with a section
 with_within : (size : ℕ) (header : List ℕ) (s : Section) → section_with size header ≡ Some s → s.raw.start + s.raw.len ≤ size
 unfolding section_with
-with_within size header s is = by_numbers (number_at w32 header 12) (number_at w32 header 16) (number_at w32 header 20) is
+with_within size header s is = by_numbers (little_endian_at w32 header 12) (little_endian_at w32 header 16) (little_endian_at w32 header 20) is
   where
     made : Option ℕ → Option ℕ → Option ℕ → Option Section
     made a b c = option_and_then (λ first. option_and_then (λ many. option_and_then (λ place. Some (record { rva = first; raw = inside size (record { start = place; len = many }) })) c) b) a
@@ -46,7 +46,7 @@ at_within bytes at s is = by_header (whole_at bytes at 40) is
     by_header None is = absurd cc
 
 -- a section holds a range where its region does
-alike_holds : (bytes : List ℕ) (first many : ℕ) (s : Section) → s.raw.start + s.raw.len ≤ length bytes → region.holds first many (region_of bytes s) ≡ holds first many s
+alike_holds : (bytes : List ℕ) (first many : ℕ) (s : Section) → s.raw.start + s.raw.len ≤ length bytes → region.region_holds first many (region_of bytes s) ≡ holds first many s
 unfolding holds
 alike_holds bytes first many s within = rw (part_length bytes s.raw within) refl
 
@@ -85,19 +85,19 @@ found_holds first many (x ∷ xs) s is = by_test (holds first many x) refl is (f
     by_test false h is more = more (rw h at is)
 
 -- the region that is found is that of the section that is found
-find_loaded : (bytes : List ℕ) (first many at n : ℕ) → find (region.holds first many) (map (region_of bytes) (sections_from bytes at n)) ≡ option_map (region_of bytes) (find (holds first many) (sections_from bytes at n))
+find_loaded : (bytes : List ℕ) (first many at n : ℕ) → find (region.region_holds first many) (map (region_of bytes) (sections_from bytes at n)) ≡ option_map (region_of bytes) (find (holds first many) (sections_from bytes at n))
 unfolding sections_from
 find_loaded bytes first many at zero = refl
 find_loaded bytes first many at (suc n) = by_section (section_at bytes at) refl (find_loaded bytes first many (at + 40) n)
   where
     More : Type 0
-    More = find (region.holds first many) (map (region_of bytes) (sections_from bytes (at + 40) n)) ≡ option_map (region_of bytes) (find (holds first many) (sections_from bytes (at + 40) n))
+    More = find (region.region_holds first many) (map (region_of bytes) (sections_from bytes (at + 40) n)) ≡ option_map (region_of bytes) (find (holds first many) (sections_from bytes (at + 40) n))
 
-    by_test : (s : Section) (b : Bool) → region.holds first many (region_of bytes s) ≡ b → holds first many s ≡ b → More → find (region.holds first many) (map (region_of bytes) (s ∷ sections_from bytes (at + 40) n)) ≡ option_map (region_of bytes) (find (holds first many) (s ∷ sections_from bytes (at + 40) n))
+    by_test : (s : Section) (b : Bool) → region.region_holds first many (region_of bytes s) ≡ b → holds first many s ≡ b → More → find (region.region_holds first many) (map (region_of bytes) (s ∷ sections_from bytes (at + 40) n)) ≡ option_map (region_of bytes) (find (holds first many) (s ∷ sections_from bytes (at + 40) n))
     by_test s true r h more = rw (r, h) refl
     by_test s false r h more = rw (r, h) more
 
-    by_section : (o : Option Section) → section_at bytes at ≡ o → More → find (region.holds first many) (map (region_of bytes) (listed o (sections_from bytes (at + 40) n))) ≡ option_map (region_of bytes) (find (holds first many) (listed o (sections_from bytes (at + 40) n)))
+    by_section : (o : Option Section) → section_at bytes at ≡ o → More → find (region.region_holds first many) (map (region_of bytes) (section_and_rest o (sections_from bytes (at + 40) n))) ≡ option_map (region_of bytes) (find (holds first many) (section_and_rest o (sections_from bytes (at + 40) n)))
     by_section None is more = refl
     by_section (Some s) is more = by_test s (holds first many s) (alike_holds bytes first many s (at_within bytes at s is)) refl more
 

@@ -10,7 +10,7 @@ use Rattle.enc_meta.specs.declared.span.Span.{Span}
 use Rattle.enc_pe.specs.Sections.{sections_from, sections_of, holds, span_at, span_from}
 use Rattle.enc_pe.specs.Headers.{headers_of, cli_of}
 use Rattle.enc_pe.specs.Container.{◌>>=◌, directory_span, image_of, is_bare, bare_container, container_of, bytes_at_rva, bytes_from_rva}
-use Rattle.enc_pe.specs.Laws.{IsImage, ImagesAreRead, BareHasNone, RangeIsFront}
+use Rattle.enc_pe.specs.Laws.{IsPortableExecutable, ImagesAreRead, BareHasNone, RangeIsFront}
 use Rattle.enc_pe.specs.declared.cli.CliHeader.{CliHeader}
 use Rattle.enc_pe.specs.declared.container.Container.{Container}
 use Rattle.enc_pe.specs.declared.directory.Directory.{Directory}
@@ -46,7 +46,7 @@ directory_stands bytes c d s is = by_size bytes c d s (d.size == 0) refl is
 abbrev read : Span → Span → CliHeader → Headers → Container
 read root kept cli h = record { metadata = root; resources = kept; entry = cli.entry; sections = h.sections; bare = false }
 
-is_image : (bytes : List ℕ) (h : Headers) (cli : CliHeader) (root kept : Span) → headers_of bytes ≡ Some h → cli_of bytes h ≡ Some cli → span_at bytes h.sections cli.metadata.rva cli.metadata.size ≡ Some root → directory_span bytes h.sections cli.resources ≡ Some kept → IsImage bytes (read root kept cli h) h cli
+is_image : (bytes : List ℕ) (h : Headers) (cli : CliHeader) (root kept : Span) → headers_of bytes ≡ Some h → cli_of bytes h ≡ Some cli → span_at bytes h.sections cli.metadata.rva cli.metadata.size ≡ Some root → directory_span bytes h.sections cli.resources ≡ Some kept → IsPortableExecutable bytes (read root kept cli h) h cli
 unfolding bytes_at_rva
 is_image bytes h cli root kept there said found held = record {
   headers = there;
@@ -66,7 +66,7 @@ images_are_read bytes c is =
     let kept = step_ok (directory_span bytes h.0.sections cli.0.resources) _ _ c root.2 in
     let debug = step_ok (directory_span bytes h.0.sections h.0.debug) _ _ c kept.2 in
     let same : read root.0 kept.0 cli.0 h.0 ≡ c = unless _ _ (read root.0 kept.0 cli.0 h.0) c debug.2 in
-    let P : Container → Type 0 = λ x. IsImage bytes x h.0 cli.0 in
+    let P : Container → Type 0 = λ x. IsPortableExecutable bytes x h.0 cli.0 in
     (h.0, cli.0, subst P same (is_image bytes h.0 cli.0 root.0 kept.0 h.1 cli.1 root.1 kept.1))
 
 -- no section stands nowhere

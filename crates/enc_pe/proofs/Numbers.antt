@@ -4,7 +4,7 @@ use Rattle.std.specs.Prelude.{nat_le}
 use Rattle.std.specs.Int.{w16, w32, from_le_bytes}
 use Rattle.std.proofs.lemmas.Bool.Decides.{nat_tests}
 use Rattle.std.proofs.lemmas.List.{length-append, length-drop, take_at, drop_at, drop-append-le}
-use Rattle.enc_base.specs.Numbers.{number_at}
+use Rattle.enc_base.specs.Numbers.{little_endian_at}
 use Rattle.enc_meta.specs.Heaps.{part}
 use Rattle.enc_pe.specs.Sections.{whole_at}
 
@@ -24,13 +24,13 @@ word_low (a ∷ b ∷ c ∷ []) rest many = absurd (omega (arith, many))
 word_low (a ∷ b ∷ c ∷ d ∷ front) rest many = refl
 
 -- a number that stands in the front of some bytes is read there
-pub half_in_front : (front rest : List ℕ) (at n : ℕ) → at + 2 ≤ length front → from_le_bytes w16 (drop at front) ≡ n → number_at w16 (front ++ rest) at ≡ Some n
+pub half_in_front : (front rest : List ℕ) (at n : ℕ) → at + 2 ≤ length front → from_le_bytes w16 (drop at front) ≡ n → little_endian_at w16 (front ++ rest) at ≡ Some n
 half_in_front front rest at n within is =
     let l = length-append front rest in
     let d = length-drop at front in
     rw (not_more (at + 2) (length (front ++ rest)) (omega (arith, l, within)), drop-append-le at front rest (omega (arith, within)), half_low (drop at front) rest (omega (arith, d, within)), is) refl
 
-pub word_in_front : (front rest : List ℕ) (at n : ℕ) → at + 4 ≤ length front → from_le_bytes w32 (drop at front) ≡ n → number_at w32 (front ++ rest) at ≡ Some n
+pub word_in_front : (front rest : List ℕ) (at n : ℕ) → at + 4 ≤ length front → from_le_bytes w32 (drop at front) ≡ n → little_endian_at w32 (front ++ rest) at ≡ Some n
 word_in_front front rest at n within is =
     let l = length-append front rest in
     let d = length-drop at front in

@@ -2,12 +2,12 @@
 use Rattle.std.specs.Prelude.{ℕ, zero, suc, ◌+◌, ◌*◌, ◌/◌, Bool, true, false, ◌||◌, List, length, Option, Some, None, option_map, ok_or, Result, Ok, Err, nat_eq, ◌==◌, if◌then◌else◌, codes}
 use Rattle.std.specs.List.{starts_with}
 use Rattle.std.specs.Int.{w32}
-use Rattle.enc_base.specs.Numbers.{number_at}
+use Rattle.enc_base.specs.Numbers.{little_endian_at}
 use Rattle.enc_base.specs.declared.refusal.Refusal.{Refusal}
 use Rattle.enc_base.specs.declared.refusal.Code.TheVariants.{F}
 use Rattle.enc_base.specs.declared.refusal.Place.{Place}
 use Rattle.enc_base.specs.declared.refusal.Place.TheVariants as place
-use Rattle.enc_meta.specs.Root.{IsWithin, nowhere}
+use Rattle.enc_meta.specs.Root.{IsSpanOf, nowhere}
 use Rattle.enc_meta.specs.Heaps.{part}
 use Rattle.enc_meta.specs.declared.span.Span.{Span}
 use Rattle.enc_pe.specs.Sections.{span_at, span_from}
@@ -35,7 +35,7 @@ is_type_17 (Some n) = n == 17
 
 -- debug entry k, of 28 bytes, has type 17: an embedded Portable PDB (PE/COFF "Debug Directory", Portable PDB "Embedded Portable PDB Debug Directory Entry")
 unfoldable pub is_embedded : List ℕ → ℕ → Bool
-is_embedded entries k = is_type_17 (number_at w32 entries (28 * k + 12))
+is_embedded entries k = is_type_17 (little_endian_at w32 entries (28 * k + 12))
 
 -- some of the first n debug entries has type 17
 unfoldable pub embeds : List ℕ → ℕ → Bool
@@ -67,9 +67,9 @@ container_of bytes = if is_bare bytes then Ok (bare_container (length bytes)) el
 
 -- the parts of the container stand in the file
 pub record AreInside (bytes : List ℕ) (c : Container) : Type 0 where
-  pub metadata : IsWithin bytes c.metadata
-  pub resources : IsWithin bytes c.resources
-  pub sections : IsWithin bytes c.sections
+  pub metadata : IsSpanOf bytes c.metadata
+  pub resources : IsSpanOf bytes c.resources
+  pub sections : IsSpanOf bytes c.sections
 
 -- the bytes of a range of RVAs, in the first section that holds it whole
 unfoldable pub bytes_at_rva : List ℕ → Container → ℕ → ℕ → Option (List ℕ)

@@ -1,7 +1,7 @@
 -- The headers of a .NET image (ECMA-335 II.25.2, II.25.3.3).
 use Rattle.std.specs.Prelude.{ℕ, ◌+◌, ◌-◌, ◌*◌, ◌%◌, ◌&&◌, List, length, Option, Some, None, option_and_then, nat_le, nat_lt, ◌==◌, if◌then◌else◌}
 use Rattle.std.specs.Int.{w16, w32, w64}
-use Rattle.enc_base.specs.Numbers.{number_at}
+use Rattle.enc_base.specs.Numbers.{little_endian_at}
 use Rattle.enc_meta.specs.Root.{◌>>=◌}
 use Rattle.enc_meta.specs.Heaps.{part}
 use Rattle.enc_meta.specs.declared.span.Span.{Span}
@@ -13,16 +13,16 @@ use Rattle.enc_pe.specs.declared.cli.CliHeader.{CliHeader}
 -- where the COFF header stands: the file begins with MZ and has at 0x3C the place of PE\0\0, behind which it is (II.25.2.1, II.25.2.2)
 unfoldable pub coff_place : List ℕ → Option ℕ
 coff_place bytes = do
-  magic ← number_at w16 bytes 0
-  place ← number_at w32 bytes 0x3C
-  signature ← number_at w32 bytes place
+  magic ← little_endian_at w16 bytes 0
+  place ← little_endian_at w32 bytes 0x3C
+  signature ← little_endian_at w32 bytes place
   if magic == 0x5A4D && signature == 0x4550 then Some (place + 4) else None
 
 -- an RVA and a size (II.25.2.3.3)
 unfoldable pub directory_at : List ℕ → ℕ → Option Directory
 directory_at bytes at = do
-  first ← number_at w32 bytes at
-  many ← number_at w32 bytes (at + 4)
+  first ← little_endian_at w32 bytes at
+  many ← little_endian_at w32 bytes (at + 4)
   Some (record { rva = first; size = many })
 
 -- where the data directories begin in an optional header of this magic: PE32 (II.25.2.3.1), or PE32+ of the PE/COFF specification
@@ -32,22 +32,22 @@ directories_for magic = if magic == 0x10B then Some 96 else if magic == 0x20B th
 -- where the data directories begin in an optional header; their count stands in front of them and is at least 15 (II.25.2.3.2)
 unfoldable pub directories_in : List ℕ → Option ℕ
 directories_in optional = do
-  magic ← number_at w16 optional 0
+  magic ← little_endian_at w16 optional 0
   place ← directories_for magic
-  count ← number_at w32 optional (place - 4)
+  count ← little_endian_at w32 optional (place - 4)
   if nat_lt count 15 then None else Some place
 
 -- the optional header: as many bytes behind the COFF header's twenty as that says (II.25.2.2)
 unfoldable pub optional_at : List ℕ → ℕ → Option (List ℕ)
 optional_at bytes coff = do
-  size ← number_at w16 bytes (coff + 16)
+  size ← little_endian_at w16 bytes (coff + 16)
   whole_at bytes (coff + 20) size
 
 -- where the section headers stand, 40 bytes each: behind the optional header, all in the file (II.25.3)
 unfoldable pub section_headers : List ℕ → ℕ → Option Span
 section_headers bytes coff = do
-  count ← number_at w16 bytes (coff + 2)
-  size ← number_at w16 bytes (coff + 16)
+  count ← little_endian_at w16 bytes (coff + 2)
+  size ← little_endian_at w16 bytes (coff + 16)
   if nat_le (coff + 20 + size + 40 * count) (length bytes) then Some (record { start = coff + 20 + size; len = 40 * count }) else None
 
 -- the headers of an image; of the directories 6 is that of the debug entries and 14, the last of the fifteen, that of the CLI header (II.25.2)
@@ -65,10 +65,10 @@ headers_of bytes = do
 unfoldable pub cli_in : List ℕ → Option CliHeader
 cli_in header = do
   root ← directory_at header 8
-  flags ← number_at w32 header 16
-  start ← number_at w32 header 20
+  flags ← little_endian_at w32 header 16
+  start ← little_endian_at w32 header 20
   kept ← directory_at header 24
-  native ← number_at w64 header 64
+  native ← little_endian_at w64 header 64
   if flags % 2 == 1 && native == 0 then Some (record { metadata = root; entry = start; resources = kept }) else None
 
 -- the CLI header of an image: its directory says at least 72 bytes, and 72 stand in a section (II.25.3.3)

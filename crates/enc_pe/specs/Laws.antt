@@ -8,7 +8,7 @@ use Rattle.enc_pe.specs.declared.container.Container.{Container}
 use Rattle.enc_pe.specs.declared.headers.Headers.{Headers}
 
 -- the container of an image with these headers: the metadata and the resources stand at the RVAs of the CLI header, no resources are told by the size 0
-pub record IsImage (bytes : List ℕ) (c : Container) (h : Headers) (cli : CliHeader) : Type 0 where
+pub record IsPortableExecutable (bytes : List ℕ) (c : Container) (h : Headers) (cli : CliHeader) : Type 0 where
   pub headers : headers_of bytes ≡ Some h
   pub cli_header : cli_of bytes h ≡ Some cli
   pub metadata : bytes_at_rva bytes c cli.metadata.rva cli.metadata.size ≡ Some (part bytes c.metadata)
@@ -19,7 +19,7 @@ pub record IsImage (bytes : List ℕ) (c : Container) (h : Headers) (cli : CliHe
 
 -- what was read as an image is one
 abbrev pub ImagesAreRead : Type 0
-ImagesAreRead = (bytes : List ℕ) (c : Container) → image_of bytes ≡ Ok c → (h : Headers) × (cli : CliHeader) × IsImage bytes c h cli
+ImagesAreRead = (bytes : List ℕ) (c : Container) → image_of bytes ≡ Ok c → (h : Headers) × (cli : CliHeader) × IsPortableExecutable bytes c h cli
 
 -- a bare file has no bytes at any RVA
 abbrev pub BareHasNone : Type 0

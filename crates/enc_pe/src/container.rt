@@ -2,7 +2,7 @@
 ghost use Rattle.std.specs.Prelude.{◌≡◌, ℕ, ◌+◌, ◌/◌, ◌<◌, ◌≤◌, length, IfSome, IfOk};
 ghost use Rattle.std.specs.Option.{option_copied};
 ghost use Rattle.enc_meta.specs.Regions.{range_loaded, rest_loaded};
-ghost use Rattle.enc_meta.specs.Root.{IsWithin};
+ghost use Rattle.enc_meta.specs.Root.{IsSpanOf};
 ghost use Rattle.enc_pe.specs.Loaded.{regions_of};
 ghost use Rattle.enc_pe.specs.Container.{refusal, directory_span, is_embedded, embeds, image_of, is_bare, container_of, AreInside, bytes_at_rva, bytes_from_rva};
 
@@ -43,7 +43,7 @@ fn refusal(rule: u8, place: Place) -> Refusal
 #[tactic(auto, unfolding(crate::specs::Container::directory_span))]
 fn directory_span(bytes: &[u8], sections: Span, directory: Directory) -> Option<Span>
     ensures span { result ≡ directory_span bytes.now sections directory }
-    ensures within { IfSome result (IsWithin bytes.now) }
+    ensures within { IfSome result (IsSpanOf bytes.now) }
 {
     if directory.size == 0 {
         return Some(NOWHERE);

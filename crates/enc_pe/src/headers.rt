@@ -1,7 +1,7 @@
 //! The PE headers of an image (ECMA-335 II.25.2).
 ghost use Rattle.std.specs.Prelude.{◌≡◌, ℕ, ◌+◌, ◌^◌, ◌<◌, ◌≤◌, length, IfSome};
 ghost use Rattle.std.specs.Option.{option_copied};
-ghost use Rattle.enc_meta.specs.Root.{IsWithin};
+ghost use Rattle.enc_meta.specs.Root.{IsSpanOf};
 ghost use Rattle.enc_pe.specs.Headers.{coff_place, directories_for, directories_in, optional_at, section_headers, headers_of};
 
 use crate::directory::{Directory, directory_at, whole_at};
@@ -80,7 +80,7 @@ fn optional_at(bytes: &[u8], coff: usize) -> Option<&[u8]>
 fn section_headers(bytes: &[u8], coff: usize) -> Option<Span>
     requires { coff < 2 ^ 33 }
     ensures span { result ≡ section_headers bytes.now coff }
-    ensures within { IfSome result (IsWithin bytes.now) }
+    ensures within { IfSome result (IsSpanOf bytes.now) }
 {
     let count = usize::from(u16_at(bytes, coff + 2)?);
     let size = usize::from(u16_at(bytes, coff + 16)?);
@@ -97,7 +97,7 @@ fn section_headers(bytes: &[u8], coff: usize) -> Option<Span>
 #[tactic(auto, unfolding(crate::specs::Headers::headers_of))]
 pub fn headers_of(bytes: &[u8]) -> Option<Headers>
     ensures headers { result ≡ headers_of bytes.now }
-    ensures within { IfSome result (λ h. IsWithin bytes.now h.sections) }
+    ensures within { IfSome result (λ h. IsSpanOf bytes.now h.sections) }
 {
     let coff = coff_place(bytes)?;
     let optional = optional_at(bytes, coff)?;

@@ -1,6 +1,6 @@
 //! The sections of an image (ECMA-335 II.25.3).
 ghost use Rattle.std.specs.Prelude.{◌≡◌, ℕ, ◌+◌, ◌-◌, ◌/◌, ◌<◌, ◌≤◌, IsTrue, find, length, IfSome};
-ghost use Rattle.enc_meta.specs.Root.{IsWithin};
+ghost use Rattle.enc_meta.specs.Root.{IsSpanOf};
 ghost use Rattle.enc_pe.specs.Sections.{inside, section_with, section_at, sections_from, holds, span_at, span_from};
 
 use crate::directory::whole_at;
@@ -44,7 +44,7 @@ fn section_with(size: usize, header: &[u8]) -> Option<Section>
 #[tactic(auto, unfolding(crate::specs::Sections::section_at))]
 fn section_at(bytes: &[u8], at: usize) -> Option<Section>
     ensures section { result ≡ section_at bytes.now at }
-    ensures within { IfSome result (λ s. IsWithin bytes.now s.raw) }
+    ensures within { IfSome result (λ s. IsSpanOf bytes.now s.raw) }
     ensures header { IfSome result (λ s. at + 40 ≤ length bytes.now) }
 {
     section_with(bytes.len(), whole_at(bytes, at, 40)?)
@@ -63,7 +63,7 @@ fn holds(rva: u32, len: u32, section: Section) -> bool
 fn first_with(bytes: &[u8], first: usize, count: usize, rva: u32, len: u32) -> Option<Section>
     ensures section { result ≡ find (holds rva len) (sections_from bytes.now first count) }
     ensures holds { IfSome result (λ s. IsTrue (holds rva len s)) }
-    ensures within { IfSome result (λ s. IsWithin bytes.now s.raw) }
+    ensures within { IfSome result (λ s. IsSpanOf bytes.now s.raw) }
 {
     let mut at = first;
     for i in 0..count {
@@ -84,7 +84,7 @@ fn first_with(bytes: &[u8], first: usize, count: usize, rva: u32, len: u32) -> O
 pub fn span_at(bytes: &[u8], headers: Span, rva: u32, len: u32) -> Option<Span>
     ensures span { result ≡ span_at bytes.now headers rva len }
     ensures len { IfSome result (λ s. s.len ≡ len) }
-    ensures within { IfSome result (IsWithin bytes.now) }
+    ensures within { IfSome result (IsSpanOf bytes.now) }
 {
     let section = first_with(bytes, headers.start, headers.len / 40, rva, len)?;
     let start = section.raw.start + (rva - section.rva) as usize;
@@ -98,7 +98,7 @@ pub fn span_at(bytes: &[u8], headers: Span, rva: u32, len: u32) -> Option<Span>
 pub fn span_from(bytes: &[u8], headers: Span, rva: u32) -> Option<Span>
     ensures span { result ≡ span_from bytes.now headers rva }
     ensures some { IfSome result (λ s. 0 < s.len) }
-    ensures within { IfSome result (IsWithin bytes.now) }
+    ensures within { IfSome result (IsSpanOf bytes.now) }
 {
     let section = first_with(bytes, headers.start, headers.len / 40, rva, 1)?;
     let before = (rva - section.rva) as usize;

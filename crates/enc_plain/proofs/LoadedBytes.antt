@@ -2,7 +2,7 @@
 use Rattle.std.proofs.Common.{◌≡◌, ℕ, zero, suc, ◌-◌, Bool, List, drop, Option, Some, None, refl}
 use Rattle.std.specs.Prelude.{option_map, option_and_then, find}
 use Rattle.enc_base.proofs.SmallNumbers.{EachIsByte, each_drop}
-use Rattle.enc_meta.specs.Regions.{Region, holds, rest_loaded}
+use Rattle.enc_meta.specs.Regions.{Region, region_holds, rest_loaded}
 use Rattle.enc_opcodes.specs.Body.{Code, body_at}
 use Rattle.enc_opcodes.proofs.CodeBytes.{body_bytes}
 use Rattle.enc_plain.specs.Bodies.{code_loaded}
@@ -19,7 +19,7 @@ rest_by first (Some r) x all h =
 
 rest_bytes : (regions : List Region) (first : ℕ) (x : List ℕ) → AreLoaded regions → rest_loaded regions first ≡ Some x → EachIsByte x
 unfolding rest_loaded
-rest_bytes regions first x all h = rest_by first (find (holds first 1) regions) x (all.each (holds first 1)) h
+rest_bytes regions first x all h = rest_by first (find (region_holds first 1) regions) x (all.each (region_holds first 1)) h
 
 code_by : (o : Option (List ℕ)) (n : ℕ) (c : Code) → ((x : List ℕ) → o ≡ Some x → EachIsByte x) → option_and_then (λ (bytes : List ℕ). body_at bytes 0 n) o ≡ Some c → EachIsByte c.code
 code_by None n c all h = absurd cc

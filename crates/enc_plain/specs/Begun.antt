@@ -1,7 +1,7 @@
 -- The module that a plain module in memory begins with.
 use Rattle.std.specs.Prelude.{◌-◌, ℕ, List, [], ◌∷◌, replicate, Option, Some, None, ◌==◌, if◌then◌else◌}
 use Rattle.enc_plain.specs.Cell.{number, text, guid}
-use Rattle.enc_plain.specs.Chain.{nil_guid}
+use Rattle.enc_meta.specs.Heaps.{nil_guid}
 use Rattle.enc_plain.specs.Module.{Module, Row}
 use Rattle.enc_schema.specs.Tables as tables
 

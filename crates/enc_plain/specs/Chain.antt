@@ -1,6 +1,6 @@
 -- A chain: a base and the deltas that were applied to it.
-use Rattle.std.specs.Prelude.{ℕ, zero, suc, List, length, replicate, Option, Some, unwrap_or, slice_get}
-use Rattle.enc_meta.specs.Heaps.{Counted}
+use Rattle.std.specs.Prelude.{ℕ, zero, suc, List, length, Option, Some, unwrap_or, slice_get}
+use Rattle.enc_meta.specs.Heaps.{Counted, nil_guid}
 use Rattle.enc_plain.specs.Cell.{Cell, guid}
 use Rattle.enc_plain.specs.Module.{Module, rows_in, cell_of}
 
@@ -9,10 +9,6 @@ pub record Chain : Type 0 where
   pub plain : Module
   pub ids : List (List ℕ)
   pub heaps : List Counted
-
--- sixteen zeros
-unfoldable pub nil_guid : List ℕ
-nil_guid = replicate 16 0
 
 -- the EncId of a generation; the base has none
 abbrev pub id_of : Chain → ℕ → List ℕ

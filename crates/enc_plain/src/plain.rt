@@ -156,7 +156,7 @@ impl PlainTable {
 
 /// The row of Module: Generation 0, this name and this Mvid, nil EncId and EncBaseId (ECMA-335
 /// II.22.30).
-#[tactic(auto, unfolding(crate::specs::Chain::nil_guid))]
+#[tactic(auto, unfolding(enc_meta::specs::Heaps::nil_guid))]
 fn module_row(alloc: Global, name: &[u8], mvid: [u8; 16]) -> Result<PlainRow, AllocError>
     ensures { IfOk result (λ r. r ≡ row_of_module name.now mvid) }
 {

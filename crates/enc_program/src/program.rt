@@ -3,7 +3,7 @@ ghost use Rattle.std.specs.Prelude.{◌≡◌, ◌≤◌, ◌⊎◌, None, Err, 
 ghost use Rattle.enc_outside.specs.Outside.{Rose, IsTold};
 ghost use Rattle.enc_top.specs.Words.{job_of, texts};
 ghost use Rattle.enc_top.specs.Verdict.{no_command, verdict_of};
-ghost use Rattle.enc_top.specs.Answers.{is_whole, status_of, Prints, Leaves};
+ghost use Rattle.enc_top.specs.Answers.{answer_is_whole, status_of, Prints, Leaves};
 
 use enc_outside::{FileStore, OutSink, Sink, Store};
 use enc_top::run_tool;
@@ -30,14 +30,14 @@ pub fn status_of<S: Store, K: Sink>(
     ensures no_store { words ≡ None → store.new ≡ store.old }
     ensures no_sink { words ≡ None → out.new ≡ out.old }
     ensures known { result ≤ 6 }
-    ensures verdict { IfSome words (λ w. IfSome (S.told store.old) (λ files. is_whole result ≡ true → result ≡ status_of (verdict_of (texts w.items) files))) }
+    ensures verdict { IfSome words (λ w. IfSome (S.told store.old) (λ files. answer_is_whole result ≡ true → result ≡ status_of (verdict_of (texts w.items) files))) }
     ensures prints { IfSome words (λ w. IfSome (S.told store.old) (λ files. Prints result (verdict_of (texts w.items) files) (K.told out.old) (K.told out.new))) }
     ensures files { IfSome words (λ w. IfSome (S.told store.old) (λ files. Leaves result (verdict_of (texts w.items) files) (S.told store.old) (S.told store.new))) }
     ensures complete { IfSome words (λ w. IfSome (S.told store.old) (λ files. ¬ Rose (S.faults store.old) (S.faults store.new) → ¬ Rose (K.faults out.old) (K.faults out.new) → (result ≡ status_of (verdict_of (texts w.items) files)) ⊎ (result ≡ 3))) }
     ensures usage { IfSome words (λ w. job_of (texts w.items) ≡ None → Prints result (Err no_command) (K.told out.old) (K.told out.new)) }
-    ensures no_job { IfSome words (λ w. job_of (texts w.items) ≡ None → is_whole result ≡ true → result ≡ 2) }
+    ensures no_job { IfSome words (λ w. job_of (texts w.items) ≡ None → answer_is_whole result ≡ true → result ≡ 2) }
     ensures words { IfSome words (λ w. result ≡ 2 → job_of (texts w.items) ≡ None) }
-    ensures unchanged { IfSome words (λ w. is_whole result ≡ true → (result ≡ 0) ⊎ (S.told store.new ≡ S.told store.old)) }
+    ensures unchanged { IfSome words (λ w. answer_is_whole result ≡ true → (result ≡ 0) ⊎ (S.told store.new ≡ S.told store.old)) }
     ensures memory { result ≡ 3 → K.told out.new ≡ K.told out.old }
     ensures nothing { result ≡ 4 → K.told out.new ≡ K.told out.old }
     ensures asked { IfSome words (λ w. result ≡ 4 → IsSome (job_of (texts w.items))) }

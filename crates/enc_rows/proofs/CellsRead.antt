@@ -9,7 +9,7 @@ use Rattle.enc_schema.specs.declared.column.Column.{Column}
 use Rattle.enc_schema.specs.declared.column.Column.TheVariants.{Num8}
 use Rattle.enc_schema.specs.Schema.{columns_in, column_in}
 use Rattle.enc_schema.specs.Widths.{Shape, width_of, row_width, column_start}
-use Rattle.enc_rows.specs.Layout.{Layout, rows_of, table_bytes, table_start, cell_place, has_row, raw_cell, rows_begin}
+use Rattle.enc_rows.specs.Layout.{Layout, rows_of, table_bytes, table_start, cell_place, stream_has_row, raw_cell, rows_begin}
 use Rattle.enc_rows.specs.Written.{rows_at, valid_of, shape_of, cell_bytes, row_bytes, table_written, stream_of, has_cells, row_fits, AreRows, AllFit, layout_written}
 use Rattle.enc_rows.proofs.Places.{raw_is}
 use Rattle.enc_rows.proofs.Cells.{all_item, cell_fits}
@@ -69,7 +69,7 @@ number_read all span jtd flags t n i cells x rows fit row cell =
     let column : column_in t i ≡ Some c = slice_get-get_or (columns_in t) i Num8 (omega arith) in
     let fits_row = all_item (row_fits s (columns_in t)) (rows_at all t) n cells (fit.each t) n_low is in
     let fits_cell = cell_fits s (columns_in t) cells i c x fits_row column cell in
-    let there : IsTrue (has_row layout (nth_row t n)) = and_from _ _ (lt-ltb 0 (n + 1) (omega arith)) (le-leb (n + 1) (rows_of layout t) (omega (arith, count_is all t low))) in
+    let there : IsTrue (stream_has_row layout (nth_row t n)) = and_from _ _ (lt-ltb 0 (n + 1) (omega arith)) (le-leb (n + 1) (rows_of layout t) (omega (arith, count_is all t low))) in
     let place = cell_place layout (nth_row t n) i in
     let read = cell_read s c x (stream_of all jtd flags) place fits_cell (cell_in_stream all span jtd flags t n i cells c x rows low row column cell) in
     raw_is (stream_of all jtd flags) layout (nth_row t n) i (width_of s c) place x c column there refl refl read

@@ -6,7 +6,7 @@ use Rattle.std.specs.Int.{w32, w64, to_le_bytes}
 use Rattle.std.proofs.lemmas.Bool.{lt-ltb, le-leb, ltb-false, and_from}
 use Rattle.std.proofs.lemmas.List.{get_or-replicate}
 use Rattle.std.proofs.lemmas.List.FromFn.{get_or-map-range_with_len, length-map-range_with_len}
-use Rattle.enc_base.specs.Numbers.{number_at}
+use Rattle.enc_base.specs.Numbers.{little_endian_at}
 use Rattle.enc_meta.specs.declared.span.Span.{Span}
 use Rattle.enc_schema.specs.Schema.{columns_in}
 use Rattle.enc_schema.specs.Widths.{row_width}
@@ -111,7 +111,7 @@ count_read all jtd flags t rows lt =
     let at = 24 + 4 * tables_below (valid_of all) t in
     let piece : StandsAt (count_written all t) (flat_map (count_written all) (below 64)) (4 * tables_below (valid_of all) t) = moved _ _ _ _ (piece_stands (count_written all) 64 t lt) (counts_length all t (omega arith)) in
     let there : StandsAt (count_written all t) stream at = within _ _ stream _ 24 piece (counts_stand all jtd flags) in
-    count_by (has_table (valid_of all) t) (count_at all t) (number_at w32 stream at) (valid_tells all t lt) (λ some. four_there (count_at all t) stream at (omega (arith, rows.few t)) (bytes_where (nat_lt 0 (count_at all t)) (count_at all t) stream at some there))
+    count_by (has_table (valid_of all) t) (count_at all t) (little_endian_at w32 stream at) (valid_tells all t lt) (λ some. four_there (count_at all t) stream at (omega (arith, rows.few t)) (bytes_where (nat_lt 0 (count_at all t)) (count_at all t) stream at some there))
 
 width_by : (there : Bool) (n x y : ℕ) → there ≡ nat_lt 0 n → x ≡ n → y ≡ 0 → (if there then x else y) ≡ n
 width_by true n x y e a b = a
@@ -154,14 +154,14 @@ laid all span jtd flags rows =
     let wide : counts_of all ≡ map (width_count stream (valid_of all) (replicate 64 0)) (below 64) = unfold counts_of in sym (same_below (width_count stream (valid_of all) (replicate 64 0)) (count_at all) 64 (λ k lt. width_read all jtd flags k rows lt)) in
     laid_is stream span (valid_of all) flags jtd (replicate 64 0) (counts_of all) (counts_of all) (shape_of all jtd flags) (rows_begin (valid_of all) flags) counts refl wide refl
 
-layout_by : (stream : List ℕ) (span : Span) (form : Form) (jtd : Bool) (outer : List ℕ) (valid flags : ℕ) (o : Option Layout) → number_at w64 stream 8 ≡ Some valid → slice_get stream 6 ≡ Some flags → whole_layout stream form valid (laid_out stream span valid flags jtd outer) ≡ o → layout_of stream span form jtd outer ≡ o
+layout_by : (stream : List ℕ) (span : Span) (form : Form) (jtd : Bool) (outer : List ℕ) (valid flags : ℕ) (o : Option Layout) → little_endian_at w64 stream 8 ≡ Some valid → slice_get stream 6 ≡ Some flags → whole_layout stream form valid (laid_out stream span valid flags jtd outer) ≡ o → layout_of stream span form jtd outer ≡ o
 unfolding layout_of
 layout_by stream span form jtd outer valid flags o a b c =
     ap (λ (v : Option ℕ). option_and_then {T = ℕ} {U = Layout} (λ n. option_and_then {T = ℕ} {U = Layout} (λ m. whole_layout stream form n (laid_out stream span n m jtd outer)) (slice_get stream 6)) v) a
     ∙ ap (λ (v : Option ℕ). option_and_then {T = ℕ} {U = Layout} (λ m. whole_layout stream form valid (laid_out stream span valid m jtd outer)) v) b
     ∙ c
 
-valid_there : (all : List (List (List ℕ))) (jtd : Bool) (flags : ℕ) → number_at w64 (stream_of all jtd flags) 8 ≡ Some (valid_of all)
+valid_there : (all : List (List (List ℕ))) (jtd : Bool) (flags : ℕ) → little_endian_at w64 (stream_of all jtd flags) 8 ≡ Some (valid_of all)
 valid_there all jtd flags = eight_there (valid_of all) (stream_of all jtd flags) 8 (valid_few all) (within _ _ _ 8 0 (valid_stands (valid_of all) flags) (header_stands all jtd flags))
 
 flags_there : (all : List (List (List ℕ))) (jtd : Bool) (flags : ℕ) → slice_get (stream_of all jtd flags) 6 ≡ Some flags

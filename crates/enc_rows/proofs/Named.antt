@@ -6,40 +6,40 @@ use Rattle.std.proofs.lemmas.List.Concat.{flat_map-cons}
 use Rattle.std.proofs.lemmas.List.FromFn.{length-range_with_len}
 use Rattle.std.proofs.lemmas.Bool.Decides.{nat_tests}
 use Rattle.enc_schema.specs.Children.{is_child_table, ptr_of}
-use Rattle.enc_rows.specs.Layout.{rows_of, has_row, raw_cell}
-use Rattle.enc_rows.specs.Runs.{Rows, number_in, goes_by_ptr, by_ptr, named_at, named_in, run_start, run_end, children_of}
+use Rattle.enc_rows.specs.Layout.{rows_of, stream_has_row, raw_cell}
+use Rattle.enc_rows.specs.Runs.{TableStream, raw_number, goes_by_ptr, by_ptr, named_at, rows_named, run_start, run_end, children_of}
 use Rattle.enc_rows.proofs.Runs.{flat_map_same}
 use Rattle.enc_rows.proofs.Silent.{ptr_column_is}
 
 -- no place is left
-pub named_last : (s : Rows) (child p end : ℕ) → end ≤ p → named_in s child p end ≡ []
+pub named_last : (s : TableStream) (child p end : ℕ) → end ≤ p → rows_named s child p end ≡ []
 named_last s child p end h = let z : end - p ≡ 0 = omega arith in rw z refl
 
 -- what the next place names stands before what the places behind it name
-pub named_next : (s : Rows) (child p end : ℕ) → p < end → named_in s child p end ≡ named_at s child p ++ named_in s child (p + 1) end
+pub named_next : (s : TableStream) (child p end : ℕ) → p < end → rows_named s child p end ≡ named_at s child p ++ rows_named s child (p + 1) end
 named_next s child p end h =
     let e : end - p ≡ suc (end - (p + 1)) = omega arith in
     rw e (flat_map-cons (named_at s child) p (range_with_len (p + 1) (end - (p + 1))))
 
 -- place 0 of a Ptr table names nothing
-pub named_outside : (s : Rows) (child p : ℕ) → is_child_table child ≡ true → goes_by_ptr s.layout child ≡ true → p ≡ 0 → by_ptr 0 ≡ named_at s child p
+pub named_outside : (s : TableStream) (child p : ℕ) → is_child_table child ≡ true → goes_by_ptr s.layout child ≡ true → p ≡ 0 → by_ptr 0 ≡ named_at s child p
 unfolding named_at raw_cell
 named_outside s child p there ptr h = rw (ptr, ptr_column_is child there, h) refl
 
 -- and so does a place behind the last row
-pub named_past : (s : Rows) (child p : ℕ) → is_child_table child ≡ true → goes_by_ptr s.layout child ≡ true → rows_of s.layout (ptr_of child) < p → by_ptr 0 ≡ named_at s child p
+pub named_past : (s : TableStream) (child p : ℕ) → is_child_table child ≡ true → goes_by_ptr s.layout child ≡ true → rows_of s.layout (ptr_of child) < p → by_ptr 0 ≡ named_at s child p
 unfolding named_at raw_cell
 named_past s child p there ptr h =
-    let no : has_row s.layout (record { table = ptr_of child; row = p }) ≡ false = grind (arith, nat_tests) in
+    let no : stream_has_row s.layout (record { table = ptr_of child; row = p }) ≡ false = grind (arith, nat_tests) in
     rw (ptr, ptr_column_is child there, no) refl
 
 -- a place of the Ptr table names what its row holds
-pub named_there : (s : Rows) (child p n : ℕ) → goes_by_ptr s.layout child ≡ true → number_in s (record { table = ptr_of child; row = p }) 0 ≡ n → by_ptr n ≡ named_at s child p
+pub named_there : (s : TableStream) (child p n : ℕ) → goes_by_ptr s.layout child ≡ true → raw_number s (record { table = ptr_of child; row = p }) 0 ≡ n → by_ptr n ≡ named_at s child p
 unfolding named_at
 named_there s child p n ptr read = rw (ptr, read) refl
 
 -- without a Ptr table each place names itself
-pub named_direct : (s : Rows) (child first end : ℕ) → goes_by_ptr s.layout child ≡ false → named_in s child first end ≡ range_with_len first (end - first)
+pub named_direct : (s : TableStream) (child first end : ℕ) → goes_by_ptr s.layout child ≡ false → rows_named s child first end ≡ range_with_len first (end - first)
 unfolding named_at
 named_direct s child first end direct = flat_map_same (named_at s child) (range_with_len first (end - first)) (λ p. rw direct refl)
 
@@ -119,19 +119,19 @@ pub range_any : (a e r : ℕ) → list_any (λ (k : ℕ). k == r) (range_with_le
 range_any a e r = range_has a (e - a) r ∙ range_bound a e r
 
 -- a child's place in a run without a Ptr table
-pub direct_at : (s : Rows) (child first end i : ℕ) → goes_by_ptr s.layout child ≡ false → i < end - first → Some (first + i) ≡ slice_get (named_in s child first end) i
+pub direct_at : (s : TableStream) (child first end i : ℕ) → goes_by_ptr s.layout child ≡ false → i < end - first → Some (first + i) ≡ slice_get (rows_named s child first end) i
 direct_at s child first end i direct h = rw (named_direct s child first end direct) (sym (range_at first (end - first) i h))
 
 -- no place is left there
-pub direct_past : (s : Rows) (child first end i : ℕ) → goes_by_ptr s.layout child ≡ false → end - first ≤ i → None ≡ slice_get (named_in s child first end) i
+pub direct_past : (s : TableStream) (child first end i : ℕ) → goes_by_ptr s.layout child ≡ false → end - first ≤ i → None ≡ slice_get (rows_named s child first end) i
 direct_past s child first end i direct h = rw (named_direct s child first end direct) (sym (range_past first (end - first) i h))
 
 -- how many children such a run has
-pub direct_many : (s : Rows) (child first end : ℕ) → goes_by_ptr s.layout child ≡ false → end - first ≡ length (named_in s child first end)
+pub direct_many : (s : TableStream) (child first end : ℕ) → goes_by_ptr s.layout child ≡ false → end - first ≡ length (rows_named s child first end)
 direct_many s child first end direct = rw (named_direct s child first end direct) (sym (length-range_with_len first (end - first)))
 
 -- and whether a row is one of them
-pub direct_any : (s : Rows) (child first end row : ℕ) → goes_by_ptr s.layout child ≡ false → (nat_le first row && nat_lt row end) ≡ list_any (λ (k : ℕ). k == row) (named_in s child first end)
+pub direct_any : (s : TableStream) (child first end row : ℕ) → goes_by_ptr s.layout child ≡ false → (nat_le first row && nat_lt row end) ≡ list_any (λ (k : ℕ). k == row) (rows_named s child first end)
 direct_any s child first end row direct = rw (named_direct s child first end direct) (sym (range_any first end row))
 
 -- the children so far and those that the places left name: behind a nil Ptr row
@@ -150,6 +150,6 @@ place_more p end all now new low pushed before =
     before ∙ ap (λ xs. now ++ xs) next ∙ sym (append_assoc now (p ∷ []) (range_with_len (p + 1) (end - (p + 1)))) ∙ ap (λ xs. xs ++ range_with_len (p + 1) (end - (p + 1))) (sym pushed)
 
 -- where there is no Ptr table, a run's places are its children
-pub direct_all : (s : Rows) (table i child n first end : ℕ) → goes_by_ptr s.layout child ≡ false → first ≡ run_start s table i n → end ≡ run_end s table i child n → children_of s table i child n ≡ range_with_len first (end - first)
+pub direct_all : (s : TableStream) (table i child n first end : ℕ) → goes_by_ptr s.layout child ≡ false → first ≡ run_start s table i n → end ≡ run_end s table i child n → children_of s table i child n ≡ range_with_len first (end - first)
 unfolding children_of
 direct_all s table i child n first end direct starts ends = rw (starts, ends) (named_direct s child (run_start s table i n) (run_end s table i child n) direct)

@@ -11,7 +11,7 @@ use Rattle.enc_schema.specs.declared.column.Column.{Column}
 use Rattle.enc_schema.specs.Schema.{column_in}
 use Rattle.enc_schema.specs.Widths.{width_of, space_of, row_width, column_start}
 use Rattle.enc_rows.specs.Sums.{sum_below}
-use Rattle.enc_rows.specs.Layout.{Layout, rows_of, has_row, number_of_width, raw_cell, table_bytes, table_start, cell_place, IsLaidOut}
+use Rattle.enc_rows.specs.Layout.{Layout, rows_of, stream_has_row, number_of_width, raw_cell, table_bytes, table_start, cell_place, IsLaidOut}
 use Rattle.enc_rows.proofs.Below.{sum_part, sum_more}
 
 -- a table that has a row is one of the 64
@@ -43,30 +43,30 @@ row_end l token there low high =
     let room : (token.row - 1) * row_width l.shape token.table + row_width l.shape token.table ≤ rows_of l token.table * row_width l.shape token.table = rows_room _ _ _ low high in
     omega arith
 
-pub row_tells : (l : Layout) (token : Token) → IsTrue (has_row l token) → (0 < token.row) × (token.row ≤ rows_of l token.table)
+pub row_tells : (l : Layout) (token : Token) → IsTrue (stream_has_row l token) → (0 < token.row) × (token.row ≤ rows_of l token.table)
 row_tells l token there = (grind (arith, nat_tests), grind (arith, nat_tests))
 
 -- a part of a row stands before the end of all tables
-pub cell_room : (l : Layout) (token : Token) (i w : ℕ) → IsTrue (has_row l token) → length l.counts ≡ 64 → column_start l.shape token.table i + w ≤ row_width l.shape token.table → cell_place l token i + w ≤ table_start l 64
+pub cell_room : (l : Layout) (token : Token) (i w : ℕ) → IsTrue (stream_has_row l token) → length l.counts ≡ 64 → column_start l.shape token.table i + w ≤ row_width l.shape token.table → cell_place l token i + w ≤ table_start l 64
 unfolding cell_place
 cell_room l token i w there tables inside =
     let row = row_tells l token there in
     omega (arith, row_end l token (table_there l.counts token.table token.row tables row.0 row.1) row.0 row.1)
 
 -- what a laid out table and one of its rows tell
-pub place_facts : (l : Layout) (starts : List ℕ) (token : Token) → IsLaidOut l starts → IsTrue (has_row l token) → (get_or starts token.table 0 ≡ table_start l token.table) × (table_start l token.table + (token.row - 1) * row_width l.shape token.table + row_width l.shape token.table ≤ table_start l 64) × (token.table < 64) × (0 < token.row) × (token.row ≤ rows_of l token.table)
+pub place_facts : (l : Layout) (starts : List ℕ) (token : Token) → IsLaidOut l starts → IsTrue (stream_has_row l token) → (get_or starts token.table 0 ≡ table_start l token.table) × (table_start l token.table + (token.row - 1) * row_width l.shape token.table + row_width l.shape token.table ≤ table_start l 64) × (token.table < 64) × (0 < token.row) × (token.row ≤ rows_of l token.table)
 place_facts l starts token laid there =
     let row = row_tells l token there in
     let low : token.table < 64 = table_there l.counts token.table token.row laid.tables row.0 row.1 in
     (laid.begin token.table low, row_end l token low row.0 row.1, low, row.0, row.1)
 
 -- a column that is there ends before the end of all tables
-pub column_room : (l : Layout) (starts : List ℕ) (token : Token) (i at : ℕ) (o : Option Column) → IsLaidOut l starts → IsTrue (has_row l token) → at ≡ cell_place l token i → IfSome o (λ c. column_start l.shape token.table i + space_of l.shape c ≤ row_width l.shape token.table) → IfSome o (λ c. at + space_of l.shape c ≤ table_start l 64)
+pub column_room : (l : Layout) (starts : List ℕ) (token : Token) (i at : ℕ) (o : Option Column) → IsLaidOut l starts → IsTrue (stream_has_row l token) → at ≡ cell_place l token i → IfSome o (λ c. column_start l.shape token.table i + space_of l.shape c ≤ row_width l.shape token.table) → IfSome o (λ c. at + space_of l.shape c ≤ table_start l 64)
 column_room l starts token i at None laid there is inside = tt
 column_room l starts token i at (Some c) laid there is inside = rw is (cell_room l token i (space_of l.shape c) there laid.tables inside)
 
 -- a number that is read is the cell's
-pub raw_is : (stream : List ℕ) (l : Layout) (token : Token) (i w at n : ℕ) (c : Column) → column_in token.table i ≡ Some c → IsTrue (has_row l token) → w ≡ width_of l.shape c → at ≡ cell_place l token i → number_of_width w stream at ≡ Some n → raw_cell stream l token i ≡ Some n
+pub raw_is : (stream : List ℕ) (l : Layout) (token : Token) (i w at n : ℕ) (c : Column) → column_in token.table i ≡ Some c → IsTrue (stream_has_row l token) → w ≡ width_of l.shape c → at ≡ cell_place l token i → number_of_width w stream at ≡ Some n → raw_cell stream l token i ≡ Some n
 unfolding raw_cell
 raw_is stream l token i w at n c column there width place read =
     rw (column, there, ← width, ← place) read

@@ -9,7 +9,7 @@ use Rattle.enc_schema.specs.Schema.{columns_in, column_in}
 use Rattle.enc_schema.specs.Children.{is_child_table, owner_table, run_column, ptr_of}
 use Rattle.enc_schema.proofs.ChildTables.{by_child, run_column_is}
 use Rattle.enc_rows.specs.Layout.{rows_of}
-use Rattle.enc_rows.specs.Runs.{Rows}
+use Rattle.enc_rows.specs.Runs.{TableStream}
 use Rattle.enc_rows.specs.Fault.{is_bad_run, index_fault_at, index_fault_in_row, index_fault_in}
 use Rattle.enc_rows.proofs.Owned.{AreGood}
 
@@ -26,7 +26,7 @@ if_none true x h = absurd cc
 if_none false x h = refl
 
 -- a run column of a table in which no fault was found has good runs
-good_run : (s : Rows) (t i child table n : ℕ) → column_in t i ≡ Some (Run child) → t < table → first_below (index_fault_in s) table ≡ None → n < rows_of s.layout t → is_bad_run s t i child n ≡ false
+good_run : (s : TableStream) (t i child table n : ℕ) → column_in t i ≡ Some (Run child) → t < table → first_below (index_fault_in s) table ≡ None → n < rows_of s.layout t → is_bad_run s t i child n ≡ false
 unfolding index_fault_in index_fault_in_row index_fault_at
 good_run s t i child table n column lt none row =
     let in_table = silent (index_fault_in s) table t none lt in
@@ -44,5 +44,5 @@ ptr_column_is child there = by_child (λ k. column_in (ptr_of k) 0 ≡ Some (Ind
 pub owner_lower : (child : ℕ) → is_child_table child ≡ true → owner_table child < child
 owner_lower child there = by_child (λ k. owner_table k < k) (omega arith) (omega arith) (omega arith) (omega arith) (omega arith) child there
 
-pub good_runs : (s : Rows) (child : ℕ) → is_child_table child ≡ true → first_below (index_fault_in s) child ≡ None → AreGood s child
+pub good_runs : (s : TableStream) (child : ℕ) → is_child_table child ≡ true → first_below (index_fault_in s) child ≡ None → AreGood s child
 good_runs s child there none = record { each = λ n row. good_run s (owner_table child) (run_column child) child child n (run_column_is child there) (owner_lower child there) none row }

@@ -5,7 +5,7 @@ use Rattle.std.specs.Int.{Width, byte_len, w16, w32, w64, to_le_bytes, from_le_b
 use Rattle.std.proofs.lemmas.Bool.{cases_lt}
 use Rattle.std.proofs.lemmas.Nat.{from_le_bytes-to_le_bytes_2, from_le_bytes-to_le_bytes_4, from_le_bytes-to_le_bytes_8}
 use Rattle.std.proofs.lemmas.List.{append-nil, drop_at}
-use Rattle.enc_base.specs.Numbers.{number_at}
+use Rattle.enc_base.specs.Numbers.{little_endian_at}
 use Rattle.enc_rows.specs.Sums.{below, sum_below}
 use Rattle.enc_rows.proofs.Below.{sum_none, sum_more}
 use Rattle.enc_rows.proofs.Pieces.{pieces_none, pieces_more}
@@ -66,20 +66,20 @@ pieces_length f len (suc n) each =
     rw (e, pieces_more f n) (length-append (flat_map f (below n)) (f n) ∙ omega (arith, sum_more len n, pieces_length f len n (λ k lt. each k (omega arith)), each n (omega arith)))
 
 -- a number in its bytes, whatever follows them, is read where they stand
-number_there : (w : Width) (n : ℕ) (stream : List ℕ) (at : ℕ) → StandsAt (to_le_bytes w n) stream at → length (to_le_bytes w n) ≡ byte_len w → ((after : List ℕ) → from_le_bytes w (to_le_bytes w n ++ after) ≡ n) → number_at w stream at ≡ Some n
+number_there : (w : Width) (n : ℕ) (stream : List ℕ) (at : ℕ) → StandsAt (to_le_bytes w n) stream at → length (to_le_bytes w n) ≡ byte_len w → ((after : List ℕ) → from_le_bytes w (to_le_bytes w n ++ after) ≡ n) → little_endian_at w stream at ≡ Some n
 number_there w n stream at s len back =
     let size : at + byte_len w ≤ length stream = rw s.split (omega (arith, length-append s.before (to_le_bytes w n ++ s.after), length-append (to_le_bytes w n) s.after, s.place)) in
     let rest : drop at stream ≡ to_le_bytes w n ++ s.after = ap (λ xs. drop at xs) s.split ∙ drop_at s.before (to_le_bytes w n ++ s.after) at s.place in
     let test : nat_le (at + byte_len w) (length stream) ≡ true = le-leb _ _ size in
     rw test (ap (λ xs. Some (from_le_bytes w xs)) rest ∙ ap (λ (k : ℕ). Some k) (back s.after))
 
-pub two_there : (n : ℕ) (stream : List ℕ) (at : ℕ) → n < 2 ^ 16 → StandsAt (to_le_bytes w16 n) stream at → number_at w16 stream at ≡ Some n
+pub two_there : (n : ℕ) (stream : List ℕ) (at : ℕ) → n < 2 ^ 16 → StandsAt (to_le_bytes w16 n) stream at → little_endian_at w16 stream at ≡ Some n
 two_there n stream at fits s = number_there w16 n stream at s refl (λ after. from_le_bytes-to_le_bytes_2 n fits)
 
-pub four_there : (n : ℕ) (stream : List ℕ) (at : ℕ) → n < 2 ^ 32 → StandsAt (to_le_bytes w32 n) stream at → number_at w32 stream at ≡ Some n
+pub four_there : (n : ℕ) (stream : List ℕ) (at : ℕ) → n < 2 ^ 32 → StandsAt (to_le_bytes w32 n) stream at → little_endian_at w32 stream at ≡ Some n
 four_there n stream at fits s = number_there w32 n stream at s refl (λ after. from_le_bytes-to_le_bytes_4 n fits)
 
-pub eight_there : (n : ℕ) (stream : List ℕ) (at : ℕ) → n < 2 ^ 64 → StandsAt (to_le_bytes w64 n) stream at → number_at w64 stream at ≡ Some n
+pub eight_there : (n : ℕ) (stream : List ℕ) (at : ℕ) → n < 2 ^ 64 → StandsAt (to_le_bytes w64 n) stream at → little_endian_at w64 stream at ≡ Some n
 eight_there n stream at fits s = number_there w64 n stream at s refl (λ after. from_le_bytes-to_le_bytes_8 n fits)
 
 item_there : (p : List ℕ) (x : ℕ) (q : List ℕ) → slice_get (p ++ x ∷ q) (length p) ≡ Some x

@@ -6,7 +6,7 @@ use Rattle.std.specs.declared.alloc.Global.{Global}
 use Rattle.enc_base.specs.Order.{first_below}
 use Rattle.enc_schema.specs.Children.{is_child_table, ptr_of}
 use Rattle.enc_rows.specs.Layout.{Layout, rows_of}
-use Rattle.enc_rows.specs.Runs.{Rows, goes_by_ptr, run_rows, times_named}
+use Rattle.enc_rows.specs.Runs.{TableStream, goes_by_ptr, run_rows, times_named}
 use Rattle.enc_rows.specs.Fault.{index_fault_in}
 use Rattle.enc_rows.specs.Owners.{run_bound, times_from, few, TellsOwners}
 use Rattle.enc_rows.specs.declared.owners.Owners.TheVariants as owners
@@ -26,7 +26,7 @@ direct_rows l child none =
     let no : goes_by_ptr l child ≡ false = rw none refl in
     (no, rw no refl)
 
-pub tells_from : (s : Rows) (table first : ℕ) → is_child_table table ≡ true → first_below (index_fault_in s) table ≡ None → rows_of s.layout (ptr_of table) ≡ 0 → first ≡ run_bound s table 0 → TellsOwners s table (owners.From first)
+pub tells_from : (s : TableStream) (table first : ℕ) → is_child_table table ≡ true → first_below (index_fault_in s) table ≡ None → rows_of s.layout (ptr_of table) ≡ 0 → first ≡ run_bound s table 0 → TellsOwners s table (owners.From first)
 tells_from s table first child none direct start = record {
   each = λ n row.
       let good = good_runs s table child none in
@@ -35,7 +35,7 @@ tells_from s table first child none direct start = record {
       rw (child, once, start) refl;
 }
 
-pub tells_counted : (s : Rows) (table first : ℕ) (times : Vec ℕ Global) → is_child_table table ≡ true → first_below (index_fault_in s) table ≡ None → first ≡ run_bound s table 0 → ((n : ℕ) → n < rows_of s.layout table → slice_index times.items n ≡ few (times_from s table first (run_rows s.layout table + 1) (n + 1))) → TellsOwners s table (owners.Counted times)
+pub tells_counted : (s : TableStream) (table first : ℕ) (times : Vec ℕ Global) → is_child_table table ≡ true → first_below (index_fault_in s) table ≡ None → first ≡ run_bound s table 0 → ((n : ℕ) → n < rows_of s.layout table → slice_index times.items n ≡ few (times_from s table first (run_rows s.layout table + 1) (n + 1))) → TellsOwners s table (owners.Counted times)
 tells_counted s table first times child none start counted = record {
   each = λ n row.
       let good = good_runs s table child none in

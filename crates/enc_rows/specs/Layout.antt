@@ -2,7 +2,7 @@
 use Rattle.std.specs.Prelude.{◌≡◌, ℕ, ◌<◌, ◌≤◌, ◌+◌, ◌-◌, ◌*◌, ◌/◌, ◌%◌, ◌^◌, Bool, true, false, not, ◌&&◌, ◌||◌, List, [], ◌∷◌, length, map, Option, Some, None, option_map, option_and_then, unwrap_or, Result, Ok, Err, nat_lt, nat_le, ◌==◌, if◌then◌else◌, slice_get, slice_index}
 use Rattle.std.specs.List.{list_all, list_any}
 use Rattle.std.specs.Int.{w16, w32, w64}
-use Rattle.enc_base.specs.Numbers.{number_at}
+use Rattle.enc_base.specs.Numbers.{little_endian_at}
 use Rattle.enc_base.specs.declared.token.Token.{Token}
 use Rattle.enc_base.specs.declared.refusal.Refusal.{Refusal}
 use Rattle.enc_base.specs.declared.refusal.Code.TheVariants.{F}
@@ -30,7 +30,7 @@ tables_below valid table = sum_below (λ k. one (has_table valid k)) table
 
 -- the number of rows of a table: a number of four bytes for each table that is there, behind the 24 bytes of the header
 unfoldable pub count_in : List ℕ → ℕ → ℕ → ℕ
-count_in stream valid table = if has_table valid table then unwrap_or (number_at w32 stream (24 + 4 * tables_below valid table)) 0 else 0
+count_in stream valid table = if has_table valid table then unwrap_or (little_endian_at w32 stream (24 + 4 * tables_below valid table)) 0 else 0
 
 -- the numbers of rows by which widths go: the stream's own, and where it lacks a module's table those of another module
 unfoldable pub width_count : List ℕ → ℕ → List ℕ → ℕ → ℕ
@@ -102,32 +102,32 @@ whole_layout stream form valid l = if is_whole (length stream) form valid l.coun
 unfoldable pub layout_of : List ℕ → Span → Form → Bool → List ℕ → Option Layout
 layout_of stream span form jtd outer =
     option_and_then (λ valid. option_and_then (λ flags. whole_layout stream form valid (laid_out stream span valid flags jtd outer)) (slice_get stream 6))
-    (number_at w64 stream 8)
+    (little_endian_at w64 stream 8)
 
 -- the layout, or F6
 abbrev pub tables_or_fault : Option Layout → Result Layout Refusal
 tables_or_fault (Some l) = Ok l
 tables_or_fault None = Err (record { code = F 6; place = place.Tables })
 
-unfoldable pub tables_of : List ℕ → Span → Form → Bool → List ℕ → Result Layout Refusal
-tables_of bytes span form jtd outer = tables_or_fault (layout_of (part bytes span) span form jtd outer)
+unfoldable pub stream_tables : List ℕ → Span → Form → Bool → List ℕ → Result Layout Refusal
+stream_tables bytes span form jtd outer = tables_or_fault (layout_of (part bytes span) span form jtd outer)
 
 -- the number of one, two or four bytes at a place
 abbrev pub number_of_width : ℕ → List ℕ → ℕ → Option ℕ
-number_of_width w stream at = if w == 1 then slice_get stream at else if w == 2 then option_map (λ (n : ℕ). n) (number_at w16 stream at)
-    else number_at w32 stream at
+number_of_width w stream at = if w == 1 then slice_get stream at else if w == 2 then option_map (λ (n : ℕ). n) (little_endian_at w16 stream at)
+    else little_endian_at w32 stream at
 
 -- where a cell stands in the stream
 unfoldable pub cell_place : Layout → Token → ℕ → ℕ
 cell_place l token i = table_start l token.table + (token.row - 1) * row_width l.shape token.table + column_start l.shape token.table i
 
 -- the row is one of the table's
-abbrev pub has_row : Layout → Token → Bool
-has_row l token = nat_lt 0 token.row && nat_le token.row (rows_of l token.table)
+abbrev pub stream_has_row : Layout → Token → Bool
+stream_has_row l token = nat_lt 0 token.row && nat_le token.row (rows_of l token.table)
 
 -- the number that stands in a cell, where the table has the row and the column
 unfoldable pub raw_cell : List ℕ → Layout → Token → ℕ → Option ℕ
-raw_cell stream l token i = option_and_then (λ column. if has_row l token then number_of_width (width_of l.shape column) stream (cell_place l token i)
+raw_cell stream l token i = option_and_then (λ column. if stream_has_row l token then number_of_width (width_of l.shape column) stream (cell_place l token i)
     else None) (column_in token.table i)
 
 -- the rows stand in the stream

@@ -4,7 +4,7 @@ ghost use Rattle.std.specs.List.{list_any, range_with_len};
 ghost use Rattle.enc_meta.specs.Heaps.{part};
 ghost use Rattle.enc_schema.specs.Children.{is_child_table, owner_table as table_of_owners, run_column as column_of_runs};
 ghost use Rattle.enc_rows.specs.Layout.{IsWithin, rows_of};
-ghost use Rattle.enc_rows.specs.Runs.{rows_with, goes_by_ptr, named_at, by_ptr, named_in, run_start, run_end, children_of};
+ghost use Rattle.enc_rows.specs.Runs.{table_stream, goes_by_ptr, named_at, by_ptr, rows_named, run_start, run_end, children_of};
 
 use crate::faults::{number_of, run_rows};
 use crate::tables::Tables;
@@ -24,8 +24,8 @@ fn run_of(tables: &Tables, bytes: &[u8], child: u8, n: u32) -> Run
     requires bytes { IsWithin (part bytes.now tables.now.span) tables.now }
     requires child { IsTrue (is_child_table child) }
     requires row { n < rows_of tables.now (table_of_owners child) }
-    ensures first { result.first ≡ run_start (rows_with bytes.now tables.now) (table_of_owners child) (column_of_runs child) n }
-    ensures end { result.end ≡ run_end (rows_with bytes.now tables.now) (table_of_owners child) (column_of_runs child) child n }
+    ensures first { result.first ≡ run_start (table_stream bytes.now tables.now) (table_of_owners child) (column_of_runs child) n }
+    ensures end { result.end ≡ run_end (table_stream bytes.now tables.now) (table_of_owners child) (column_of_runs child) child n }
 {
     let owners = owner_table(child);
     let column = run_column(child);
@@ -51,7 +51,7 @@ fn pointed(tables: &Tables, bytes: &[u8], child: u8, p: u32) -> u32
     requires bytes { IsWithin (part bytes.now tables.now.span) tables.now }
     requires child { IsTrue (is_child_table child) }
     requires ptr { IsTrue (goes_by_ptr tables.now child) }
-    ensures { by_ptr result ≡ named_at (rows_with bytes.now tables.now) child p }
+    ensures { by_ptr result ≡ named_at (table_stream bytes.now tables.now) child p }
 {
     let table = ptr_table(child);
     if p == 0 || p > tables.count(table) {
@@ -65,7 +65,7 @@ fn count_pointed(tables: &Tables, bytes: &[u8], child: u8, run: Run) -> u32
     requires bytes { IsWithin (part bytes.now tables.now.span) tables.now }
     requires child { IsTrue (is_child_table child) }
     requires ptr { IsTrue (goes_by_ptr tables.now child) }
-    ensures { result ≡ length (named_in (rows_with bytes.now tables.now) child run.first run.end) }
+    ensures { result ≡ length (rows_named (table_stream bytes.now tables.now) child run.first run.end) }
 {
     let mut count = 0;
     for p in run.first..run.end {
@@ -81,7 +81,7 @@ fn pointed_at(tables: &Tables, bytes: &[u8], child: u8, run: Run, i: u32) -> Opt
     requires bytes { IsWithin (part bytes.now tables.now.span) tables.now }
     requires child { IsTrue (is_child_table child) }
     requires ptr { IsTrue (goes_by_ptr tables.now child) }
-    ensures { result ≡ slice_get (named_in (rows_with bytes.now tables.now) child run.first run.end) i }
+    ensures { result ≡ slice_get (rows_named (table_stream bytes.now tables.now) child run.first run.end) i }
 {
     let mut before = 0;
     for p in run.first..run.end {
@@ -102,7 +102,7 @@ fn is_pointed(tables: &Tables, bytes: &[u8], child: u8, run: Run, row: u32) -> b
     requires child { IsTrue (is_child_table child) }
     requires ptr { IsTrue (goes_by_ptr tables.now child) }
     requires row { 0 < row }
-    ensures { result ≡ list_any (λ (k : ℕ). k == row) (named_in (rows_with bytes.now tables.now) child run.first run.end) }
+    ensures { result ≡ list_any (λ (k : ℕ). k == row) (rows_named (table_stream bytes.now tables.now) child run.first run.end) }
 {
     for p in run.first..run.end {
         if pointed(tables, bytes, child, p) == row {
@@ -123,7 +123,7 @@ fn push_pointed(
     requires bytes { IsWithin (part bytes.now tables.now.span) tables.now }
     requires child { IsTrue (is_child_table child) }
     requires ptr { IsTrue (goes_by_ptr tables.now child) }
-    ensures { OnOk result (out.new.items ≡ out.old.items ++ named_in (rows_with bytes.now tables.now) child run.first run.end) }
+    ensures { OnOk result (out.new.items ≡ out.old.items ++ rows_named (table_stream bytes.now tables.now) child run.first run.end) }
 {
     for p in run.first..run.end {
         let row = pointed(tables, bytes, child, p);
@@ -153,7 +153,7 @@ impl Tables {
         requires bytes { IsWithin (part bytes.now self.now.span) self.now }
         requires child { IsTrue (is_child_table child) }
         requires row { n < rows_of self.now (table_of_owners child) }
-        ensures { result ≡ length (children_of (rows_with bytes.now self.now) (table_of_owners child) (column_of_runs child) child n) }
+        ensures { result ≡ length (children_of (table_stream bytes.now self.now) (table_of_owners child) (column_of_runs child) child n) }
     {
         let run = run_of(self, bytes, child, n);
         if goes_by_ptr(self, child) {
@@ -168,7 +168,7 @@ impl Tables {
         requires bytes { IsWithin (part bytes.now self.now.span) self.now }
         requires child { IsTrue (is_child_table child) }
         requires row { n < rows_of self.now (table_of_owners child) }
-        ensures { result ≡ slice_get (children_of (rows_with bytes.now self.now) (table_of_owners child) (column_of_runs child) child n) i }
+        ensures { result ≡ slice_get (children_of (table_stream bytes.now self.now) (table_of_owners child) (column_of_runs child) child n) i }
     {
         let run = run_of(self, bytes, child, n);
         if goes_by_ptr(self, child) {
@@ -188,7 +188,7 @@ impl Tables {
         requires child { IsTrue (is_child_table child) }
         requires owner { n < rows_of self.now (table_of_owners child) }
         requires row { 0 < row }
-        ensures { result ≡ list_any (λ (k : ℕ). k == row) (children_of (rows_with bytes.now self.now) (table_of_owners child) (column_of_runs child) child n) }
+        ensures { result ≡ list_any (λ (k : ℕ). k == row) (children_of (table_stream bytes.now self.now) (table_of_owners child) (column_of_runs child) child n) }
     {
         let run = run_of(self, bytes, child, n);
         if goes_by_ptr(self, child) {
@@ -208,7 +208,7 @@ impl Tables {
         requires bytes { IsWithin (part bytes.now self.now.span) self.now }
         requires child { IsTrue (is_child_table child) }
         requires row { n < rows_of self.now (table_of_owners child) }
-        ensures { IfOk result (λ rows. rows.items ≡ children_of (rows_with bytes.now self.now) (table_of_owners child) (column_of_runs child) child n) }
+        ensures { IfOk result (λ rows. rows.items ≡ children_of (table_stream bytes.now self.now) (table_of_owners child) (column_of_runs child) child n) }
     {
         let mut rows = Vec::new(alloc);
         self.push_children(bytes, child, n, &mut rows)?;
@@ -227,7 +227,7 @@ impl Tables {
         requires bytes { IsWithin (part bytes.now self.now.span) self.now }
         requires child { IsTrue (is_child_table child) }
         requires row { n < rows_of self.now (table_of_owners child) }
-        ensures { OnOk result (out.new.items ≡ out.old.items ++ children_of (rows_with bytes.now self.now) (table_of_owners child) (column_of_runs child) child n) }
+        ensures { OnOk result (out.new.items ≡ out.old.items ++ children_of (table_stream bytes.now self.now) (table_of_owners child) (column_of_runs child) child n) }
     {
         let run = run_of(self, bytes, child, n);
         if goes_by_ptr(self, child) {

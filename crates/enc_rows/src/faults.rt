@@ -5,7 +5,7 @@ ghost use Rattle.enc_meta.specs.Heaps.{part};
 ghost use Rattle.enc_schema.specs.Schema.{columns_in, column_in};
 ghost use Rattle.enc_rows.specs.Layout.{IsWithin, rows_of};
 ghost use Rattle.enc_base.specs.Token.{nth_row};
-ghost use Rattle.enc_rows.specs.Runs.{rows_with, number_in, goes_by_ptr, run_rows as run_room};
+ghost use Rattle.enc_rows.specs.Runs.{table_stream, raw_number, goes_by_ptr, run_rows as run_room};
 ghost use Rattle.enc_rows.specs.Owners.{TellsOwners};
 ghost use Rattle.enc_rows.specs.Fault.{is_past as is_token_past, is_bad_run as is_run_bad, is_bad_index as is_index_bad, index_fault_at as fault_at, index_fault_in_row, index_fault_in, index_fault};
 
@@ -34,7 +34,7 @@ pub(crate) fn number_of(tables: &Tables, bytes: &[u8], table: u8, n: u32, i: u8)
     requires row { n < rows_of tables.now table }
     requires few { n < 2 ^ 24 }
     requires column { IsSome (column_in table i) }
-    ensures { result ≡ number_in (rows_with bytes.now tables.now) (nth_row table n) i }
+    ensures { result ≡ raw_number (table_stream bytes.now tables.now) (nth_row table n) i }
 {
     tables.cell(bytes, Token { table, row: n + 1 }, i)
 }
@@ -56,7 +56,7 @@ fn is_bad_run(tables: &Tables, bytes: &[u8], table: u8, i: u8, child: u8, n: u32
     requires row { n < rows_of tables.now table }
     requires few { n < 2 ^ 24 }
     requires column { IsSome (column_in table i) }
-    ensures { result ≡ is_run_bad (rows_with bytes.now tables.now) table i child n }
+    ensures { result ≡ is_run_bad (table_stream bytes.now tables.now) table i child n }
 {
     let start = number_of(tables, bytes, table, n, i);
     if start == 0 || start > run_rows(tables, child) + 1 {
@@ -71,7 +71,7 @@ fn is_bad_index(tables: &Tables, bytes: &[u8], table: u8, n: u32, i: u8, column:
     requires row { n < rows_of tables.now table }
     requires few { n < 2 ^ 24 }
     requires column { column_in table i ≡ Some column }
-    ensures { result ≡ is_index_bad (rows_with bytes.now tables.now) table n i column }
+    ensures { result ≡ is_index_bad (table_stream bytes.now tables.now) table n i column }
 {
     match column {
         Column::Index(other) => number_of(tables, bytes, table, n, i) > tables.count(other),
@@ -90,7 +90,7 @@ fn index_fault_at(tables: &Tables, bytes: &[u8], table: u8, n: u32, i: u8) -> Op
     requires bytes { IsWithin (part bytes.now tables.now.span) tables.now }
     requires row { n < rows_of tables.now table }
     requires few { n < 2 ^ 24 }
-    ensures { result ≡ fault_at (rows_with bytes.now tables.now) table n i }
+    ensures { result ≡ fault_at (table_stream bytes.now tables.now) table n i }
 {
     let column = column_of(table, i)?;
     if is_bad_index(tables, bytes, table, n, i, column) {
@@ -106,7 +106,7 @@ fn columns_fault(tables: &Tables, bytes: &[u8], table: u8, n: u32) -> Option<Pla
     requires bytes { IsWithin (part bytes.now tables.now.span) tables.now }
     requires row { n < rows_of tables.now table }
     requires few { n < 2 ^ 24 }
-    ensures { result ≡ first_below (fault_at (rows_with bytes.now tables.now) table n) (length (columns_in table)) }
+    ensures { result ≡ first_below (fault_at (table_stream bytes.now tables.now) table n) (length (columns_in table)) }
 {
     for i in 0..columns_of(table).len() {
         match index_fault_at(tables, bytes, table, n, i as u8) {
@@ -122,10 +122,10 @@ fn columns_fault(tables: &Tables, bytes: &[u8], table: u8, n: u32) -> Option<Pla
 #[tactic(auto, unfolding(crate::specs::Fault::index_fault_in_row, crate::specs::Fault::owner_fault))]
 fn row_fault(tables: &Tables, bytes: &[u8], owners: &Owners, table: u8, n: u32) -> Option<Place>
     requires bytes { IsWithin (part bytes.now tables.now.span) tables.now }
-    requires owners { TellsOwners (rows_with bytes.now tables.now) table owners.now }
+    requires owners { TellsOwners (table_stream bytes.now tables.now) table owners.now }
     requires row { n < rows_of tables.now table }
     requires few { n < 2 ^ 24 }
-    ensures { result ≡ index_fault_in_row (rows_with bytes.now tables.now) table n }
+    ensures { result ≡ index_fault_in_row (table_stream bytes.now tables.now) table n }
 {
     match columns_fault(tables, bytes, table, n) {
         Some(place) => return Some(place),
@@ -142,8 +142,8 @@ fn row_fault(tables: &Tables, bytes: &[u8], owners: &Owners, table: u8, n: u32) 
 #[tactic(auto, using(enc_base::proofs::First::first_none, enc_base::proofs::First::first_found, enc_base::proofs::First::first_more), unfolding(crate::specs::Fault::index_fault_in))]
 fn rows_fault(tables: &Tables, bytes: &[u8], owners: &Owners, table: u8) -> Option<Place>
     requires bytes { IsWithin (part bytes.now tables.now.span) tables.now }
-    requires owners { TellsOwners (rows_with bytes.now tables.now) table owners.now }
-    ensures { result ≡ index_fault_in (rows_with bytes.now tables.now) table }
+    requires owners { TellsOwners (table_stream bytes.now tables.now) table owners.now }
+    ensures { result ≡ index_fault_in (table_stream bytes.now tables.now) table }
 {
     for n in 0..tables.count(table) {
         match row_fault(tables, bytes, owners, table, n) {
@@ -162,8 +162,8 @@ fn table_fault(
     table: u8,
 ) -> Result<Option<Place>, AllocError>
     requires bytes { IsWithin (part bytes.now tables.now.span) tables.now }
-    requires good { first_below (index_fault_in (rows_with bytes.now tables.now)) table ≡ None }
-    ensures { IfOk result (λ place. place ≡ index_fault_in (rows_with bytes.now tables.now) table) }
+    requires good { first_below (index_fault_in (table_stream bytes.now tables.now)) table ≡ None }
+    ensures { IfOk result (λ place. place ≡ index_fault_in (table_stream bytes.now tables.now) table) }
 {
     let owners = owners_of(tables, alloc, bytes, table)?;
     Ok(rows_fault(tables, bytes, &owners, table))
@@ -178,7 +178,7 @@ impl Tables {
     #[tactic(auto, using(enc_base::proofs::First::first_none, enc_base::proofs::First::first_found, enc_base::proofs::First::first_more), unfolding(crate::specs::Fault::index_fault))]
     pub fn first_bad_index(&self, alloc: Global, bytes: &[u8]) -> Result<Option<Place>, AllocError>
         requires bytes { IsWithin (part bytes.now self.now.span) self.now }
-        ensures { IfOk result (λ place. place ≡ index_fault (rows_with bytes.now self.now)) }
+        ensures { IfOk result (λ place. place ≡ index_fault (table_stream bytes.now self.now)) }
     {
         for table in 0..0x40 {
             match table_fault(self, alloc, bytes, table) {

@@ -5,7 +5,7 @@ ghost use Rattle.enc_base.specs.Order.{first_below};
 ghost use Rattle.enc_meta.specs.Heaps.{part};
 ghost use Rattle.enc_rows.specs.Layout.{IsWithin, rows_of};
 ghost use Rattle.enc_schema.specs.Children.{is_child_table};
-ghost use Rattle.enc_rows.specs.Runs.{rows_with, goes_by_ptr, run_rows as run_room};
+ghost use Rattle.enc_rows.specs.Runs.{table_stream, goes_by_ptr, run_rows as run_room};
 ghost use Rattle.enc_rows.specs.Fault.{index_fault_in};
 ghost use Rattle.enc_rows.specs.Owners.{run_bound, times_from, few, one_more, names_once, TellsOwners};
 
@@ -56,7 +56,7 @@ fn is_one(times: &[u8], n: u32) -> bool
 fn first_start(tables: &Tables, bytes: &[u8], child: u8) -> u32
     requires bytes { IsWithin (part bytes.now tables.now.span) tables.now }
     requires child { IsTrue (is_child_table child) }
-    ensures { result ≡ run_bound (rows_with bytes.now tables.now) child 0 }
+    ensures { result ≡ run_bound (table_stream bytes.now tables.now) child 0 }
 {
     let owners = owner_table(child);
     if tables.count(owners) == 0 {
@@ -92,7 +92,7 @@ fn times_of(
     requires ptr { IsTrue (goes_by_ptr tables.now child) }
     requires some { 0 < first }
     requires limit { first ≤ run_room tables.now child + 1 }
-    ensures { IfOk result (λ times. (n : ℕ) → n < rows_of tables.now child → slice_index times.items n ≡ few (times_from (rows_with bytes.now tables.now) child first (run_room tables.now child + 1) (n + 1))) }
+    ensures { IfOk result (λ times. (n : ℕ) → n < rows_of tables.now child → slice_index times.items n ≡ few (times_from (table_stream bytes.now tables.now) child first (run_room tables.now child + 1) (n + 1))) }
 {
     let mut times = vec![in alloc; 0u8; tables.count(child) as usize]?;
     let through = ptr_table(child);
@@ -114,8 +114,8 @@ pub(crate) fn owners_of(
     table: u8,
 ) -> Result<Owners, AllocError>
     requires bytes { IsWithin (part bytes.now tables.now.span) tables.now }
-    requires good { first_below (index_fault_in (rows_with bytes.now tables.now)) table ≡ None }
-    ensures { IfOk result (λ owners. TellsOwners (rows_with bytes.now tables.now) table owners) }
+    requires good { first_below (index_fault_in (table_stream bytes.now tables.now)) table ≡ None }
+    ensures { IfOk result (λ owners. TellsOwners (table_stream bytes.now tables.now) table owners) }
 {
     let through = ptr_table(table);
     if through == 0 {

@@ -3,7 +3,7 @@ ghost use Rattle.std.specs.Prelude.{◌≡◌, ℕ, ◌+◌, ◌*◌, ◌<◌, �
 ghost use Rattle.enc_meta.specs.Heaps.{part};
 ghost use Rattle.enc_schema.specs.Schema.{column_in};
 ghost use Rattle.enc_schema.specs.Widths.{width_of, space_of, row_width};
-ghost use Rattle.enc_rows.specs.Layout.{Layout, layout_of, whole_layout, tables_of, laid_out, rows_of, has_row, raw_cell, table_bytes, table_start, cell_place, number_of_width, IsWithin};
+ghost use Rattle.enc_rows.specs.Layout.{Layout, layout_of, whole_layout, stream_tables, laid_out, rows_of, stream_has_row, raw_cell, table_bytes, table_start, cell_place, number_of_width, IsWithin};
 
 use crate::form::Form;
 use crate::header::{counts_of, first_row, fits, width_counts_of};
@@ -71,7 +71,7 @@ impl Tables {
     /// The rows of the table stream in this range. F6 `tables` where the stream doesn't hold its
     /// counts and rows, where a count passes 2^24 - 1, or where the form has no such tables.
     /// `outer` has the numbers of rows of a PDB's module, and else zeros.
-    #[tactic(auto, unfolding(crate::specs::Layout::tables_of))]
+    #[tactic(auto, unfolding(crate::specs::Layout::stream_tables))]
     pub fn read(
         bytes: &[u8],
         span: Span,
@@ -79,7 +79,7 @@ impl Tables {
         jtd: bool,
         outer: &Counts,
     ) -> Result<Tables, Refusal>
-        ensures tables { result ≡ tables_of bytes.now span form jtd outer.now.rows }
+        ensures tables { result ≡ stream_tables bytes.now span form jtd outer.now.rows }
         ensures within { IfOk result (λ l. IsWithin (part bytes.now span) l × (l.span ≡ span)) }
     {
         match laid(span.part(bytes), span, form, jtd, outer) {
@@ -112,7 +112,7 @@ impl Tables {
 
     /// Where a cell stands in the stream.
     fn place(&self, token: Token, column: u8) -> usize
-        requires row { IsTrue (has_row self.now token) }
+        requires row { IsTrue (stream_has_row self.now token) }
         requires near { table_start self.now 64 < 2 ^ 63 }
         ensures place { result ≡ cell_place self.now token column }
         ensures within { IfSome (column_in token.table column) (λ c. result + space_of self.now.shape c ≤ table_start self.now 64) }
@@ -132,7 +132,7 @@ impl Tables {
         steps: &mut Steps<L>,
     ) -> u32
         requires bytes { IsWithin (part bytes.now self.now.span) self.now }
-        requires row { IsTrue (has_row self.now token) }
+        requires row { IsTrue (stream_has_row self.now token) }
         requires column { IsSome (column_in token.table column) }
         ensures cell { raw_cell (part bytes.now self.now.span) self.now token column ≡ Some result }
         ensures steps { steps.new ≡ steps.old + 1 }
@@ -150,7 +150,7 @@ impl Tables {
     /// The number that stands in a cell, for a caller that counts nothing.
     pub fn cell(&self, bytes: &[u8], token: Token, column: u8) -> u32
         requires bytes { IsWithin (part bytes.now self.now.span) self.now }
-        requires row { IsTrue (has_row self.now token) }
+        requires row { IsTrue (stream_has_row self.now token) }
         requires column { IsSome (column_in token.table column) }
         ensures { raw_cell (part bytes.now self.now.span) self.now token column ≡ Some result }
     {
@@ -170,7 +170,7 @@ fn raw_counted<L: Ledger>(
     requires parts { blank.parts ≡ L.parts }
     requires some { 0 < L.parts }
     requires bytes { IsWithin (part bytes.now tables.now.span) tables.now }
-    requires row { IsTrue (has_row tables.now token) }
+    requires row { IsTrue (stream_has_row tables.now token) }
     requires column { IsSome (column_in token.table column) }
     ensures { raw_cell (part bytes.now tables.now.span) tables.now token column ≡ Some result }
 {

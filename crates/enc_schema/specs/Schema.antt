@@ -1,5 +1,5 @@
 -- The columns of every table in the order of the standard (ECMA-335 II.22; Portable PDB from 30 on).
-use Rattle.std.specs.Prelude.{ℕ, List, [], ◌∷◌, Option, unwrap_or, slice_get}
+use Rattle.std.specs.Prelude.{ℕ, List, [], ◌∷◌, Option, unwrap_or, slice_get, Bool, true, false}
 use Rattle.enc_schema.specs.Tables.{type_def, field, method_def, param, event, property, module_ref, assembly_ref, generic_param, document, local_variable, local_constant, import_scope}
 use Rattle.enc_schema.specs.declared.column.Column.{Column}
 use Rattle.enc_schema.specs.declared.column.Column.TheVariants.{Num8, Num16, Num32, Text, Guid, Blob, Index, Coded, Run}
@@ -133,3 +133,10 @@ columns_in table = list_at schema table
 -- a table's column, from 0
 abbrev pub column_in : ℕ → ℕ → Option Column
 column_in table i = slice_get (columns_in table) i
+
+-- a column whose number is an offset in `#Strings` or `#Blob`, or the number of a GUID
+abbrev pub is_offset : Column → Bool
+is_offset Text = true
+is_offset Guid = true
+is_offset Blob = true
+is_offset _ = false

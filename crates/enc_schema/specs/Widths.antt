@@ -14,8 +14,8 @@ pub record Shape : Type 0 where
   pub jtd : Bool
   pub flags : ℕ
 
-abbrev pub rows_in : Shape → ℕ → ℕ
-rows_in s table = slice_index s.counts table
+abbrev pub row_count_of : Shape → ℕ → ℕ
+row_count_of s table = slice_index s.counts table
 
 -- whether this heap bit (1 strings, 2 GUIDs, 4 blobs) is set
 abbrev pub has_bit : ℕ → ℕ → Bool
@@ -30,11 +30,11 @@ heap_width s bit = if has_bit s.flags bit then 4 else 2
 
 -- a row of one table: two bytes where the table has fewer than 2^16 rows
 unfoldable pub index_width : Shape → ℕ → ℕ
-index_width s table = if s.jtd then 4 else narrow (nat_lt (rows_in s table) 0x10000)
+index_width s table = if s.jtd then 4 else narrow (nat_lt (row_count_of s table) 0x10000)
 
 -- a row of several tables: two bytes where each has so few rows that the tag fits beside
 unfoldable pub coded_width : Shape → Coding → ℕ
-coded_width s kind = if s.jtd then 4 else narrow (each_table (λ (table : ℕ). nat_lt (rows_in s table) (2 ^ (16 - tag_bits kind))) (tables_of kind))
+coded_width s kind = if s.jtd then 4 else narrow (each_table (λ (table : ℕ). nat_lt (row_count_of s table) (2 ^ (16 - tag_bits kind))) (tables_of kind))
 
 -- the bytes of a column's number
 abbrev pub width_of : Shape → Column → ℕ

@@ -12,7 +12,7 @@ use Rattle.enc_sigs.specs.declared.form.Form.TheVariants as form
 use Rattle.enc_sigs.specs.declared.form.Numeral.{Numeral}
 use Rattle.enc_sigs.specs.declared.form.Numeral.TheVariants.{Size, Bound}
 use Rattle.enc_sigs.specs.Tree.{Tree, SigTree}
-use Rattle.enc_sigs.specs.Grammar.{Reader, giving, both, upon, many, more_in, counted, tree, numbered_in, numeral_in, numerals_in, number_in, byte_in, wrapped_in, named_in, modified_in, array_in, instance_in, pointer_in, method_in, calling_in, parts_in, params, marked_in, accessed_in, begins, token_in, is_coded, form_of, formed_in, elem_in, type_in, front_in, all_of, unless_more, sig_in}
+use Rattle.enc_sigs.specs.Grammar.{Reader, giving, both, upon, many, more_in, list_in, tree, numbered_in, numeral_in, numerals_in, number_in, byte_in, wrapped_in, named_in, modified_in, array_in, instance_in, pointer_in, method_in, calling_in, parts_in, params, marked_in, accessed_in, begins, token_in, is_coded, form_of, formed_in, elem_in, type_in, front_in, all_of, unless_more, sig_in}
 use Rattle.enc_sigs.specs.Agree.{sigs_agree, tokens_agree, forests_agree, trees_agree, sig_trees_agree, if_both}
 use Rattle.enc_sigs.specs.Walk.{Walk, paired, alike_alone, onward, upon_alike, many_walk, counted_walk, numerals_walk, array_walk, modified_walk, instance_walk, marked_walk, params_walk, parts_walk, calling_walk, method_walk, accessed_walk, formed_walk, elem_walk, type_walk, front_walk, both_end, token_walk}
 use Rattle.enc_sigs.proofs.Many.{many_length, params_length}
@@ -75,15 +75,15 @@ pub both_known : {A B : Type 0} (K : A × B → Type 0) (s : Reader B) (o : Opti
 both_known K s None p is e = absurd (cc)
 both_known {A} {B} K s (Some n) p is e = map_known K (λ (x : B). (n.0, x)) (s n.1) p (λ q. is n.0 n.1 q refl) e
 
-counted_step : (same : Token → Token → Bool) (r : Reader Tree) (walk : Walk) → InStep (trees_agree same) r walk → InStep (lists_agree same) (counted r) (counted_walk walk)
-unfolding counted counted_walk
+counted_step : (same : Token → Token → Bool) (r : Reader Tree) (walk : Walk) → InStep (trees_agree same) r walk → InStep (lists_agree same) (list_in r) (counted_walk walk)
+unfolding list_in counted_walk
 counted_step same r walk step =
     let size = λ (a : List ℕ) (p : (ℕ × List Tree) × List ℕ) (e : upon number_in (many r) a ≡ Some p). upon_known (λ x. length x.1 ≡ x.0) (many r) (number_in a) p (many_length r) e in
     giving_known (λ (p : ℕ × List Tree). p.1) (pairs_agree same_numbers (lists_agree same)) (lists_agree same) (upon number_in (many r)) (upon_alike number_in (many_walk walk)) (λ a b p q e f. known_by (lists_agree same p.0.1 q.0.1) (p.0.0 == q.0.0) (λ h. eq-eqb p.0.0 q.0.0 (sym (size a p e) ∙ length_agree same p.0.1 q.0.1 h ∙ size b q f))) (upon_step (lists_agree same) number_in (many r) (many_walk walk) (λ n. many_step same r walk n step))
 
 numerals_step : (same : Token → Token → Bool) (kind : Numeral) → InStep (trees_agree same) (numerals_in kind) (numerals_walk kind)
 unfolding numerals_in numerals_walk
-numerals_step same kind = giving_step (λ ts. tree 0 nil 0 ts) (lists_agree same) (trees_agree same) (counted (numbered_in 0 (numeral_in kind))) (counted_walk (alike_alone (numeral_in kind))) (λ xs ys. refl) (counted_step same (numbered_in 0 (numeral_in kind)) (alike_alone (numeral_in kind)) (numbered_step same 0 (numeral_in kind)))
+numerals_step same kind = giving_step (λ ts. tree 0 nil 0 ts) (lists_agree same) (trees_agree same) (list_in (numbered_in 0 (numeral_in kind))) (counted_walk (alike_alone (numeral_in kind))) (λ xs ys. refl) (counted_step same (numbered_in 0 (numeral_in kind)) (alike_alone (numeral_in kind)) (numbered_step same 0 (numeral_in kind)))
 
 three_agree : (same : Token → Token → Bool) (x y s t b d : Tree) → lists_agree same (x ∷ s ∷ b ∷ []) (y ∷ t ∷ d ∷ []) ≡ (trees_agree same x y && (trees_agree same s t && trees_agree same b d))
 unfolding forests_agree
@@ -112,9 +112,9 @@ instance_step : (same : Token → Token → Bool) (b : ℕ) (r : Reader Tree) (w
 unfolding instance_in instance_walk
 instance_step same b r walk step =
     let class = byte_in (λ c. c == 0x11 || c == 0x12) in
-    let lasts = both_step (tokens_agree same) (lists_agree same) (token_in is_coded) (counted r) (token_walk same) (counted_walk walk) (token_step same) (counted_step same r walk step) in
-    let all = both_step same_numbers (pairs_agree (tokens_agree same) (lists_agree same)) class (both (token_in is_coded) (counted r)) (alike_alone class) (onward (token_walk same) (counted_walk walk)) (alone_step class) lasts in
-    giving_step (λ (p : ℕ × (Token × List Tree)). tree b p.1.0 p.0 p.1.1) (pairs_agree same_numbers (pairs_agree (tokens_agree same) (lists_agree same))) (trees_agree same) (both class (both (token_in is_coded) (counted r))) (onward (alike_alone class) (onward (token_walk same) (counted_walk walk))) (λ p q. turned (p.0 == q.0) (tokens_agree same p.1.0 q.1.0) (lists_agree same p.1.1 q.1.1) ∙ sym (tree_agree same b p.1.0 q.1.0 p.0 q.0 p.1.1 q.1.1)) all
+    let lasts = both_step (tokens_agree same) (lists_agree same) (token_in is_coded) (list_in r) (token_walk same) (counted_walk walk) (token_step same) (counted_step same r walk step) in
+    let all = both_step same_numbers (pairs_agree (tokens_agree same) (lists_agree same)) class (both (token_in is_coded) (list_in r)) (alike_alone class) (onward (token_walk same) (counted_walk walk)) (alone_step class) lasts in
+    giving_step (λ (p : ℕ × (Token × List Tree)). tree b p.1.0 p.0 p.1.1) (pairs_agree same_numbers (pairs_agree (tokens_agree same) (lists_agree same))) (trees_agree same) (both class (both (token_in is_coded) (list_in r))) (onward (alike_alone class) (onward (token_walk same) (counted_walk walk))) (λ p q. turned (p.0 == q.0) (tokens_agree same p.1.0 q.1.0) (lists_agree same p.1.1 q.1.1) ∙ sym (tree_agree same b p.1.0 q.1.0 p.0 q.0 p.1.1 q.1.1)) all
 
 -- where what is read never agrees, neither does the walk
 unlike : {A : Type 0} (f : A → A → Bool) (o u : Option (A × List ℕ)) → ((p q : A × List ℕ) → o ≡ Some p → u ≡ Some q → f p.0 q.0 ≡ false) → None ≡ paired f o u
@@ -248,7 +248,7 @@ formed_element good form.Named b r bytes p e = map_known (λ t. t.element ≡ b)
 formed_element good form.Modified b r bytes p e = map_known (λ t. t.element ≡ b) (λ (p : Token × Tree). tree b p.0 0 (p.1 ∷ [])) (both (token_in good) r bytes) p (λ q f. refl) e
 formed_element good form.Numbered b r bytes p e = map_known (λ t. t.element ≡ b) (λ n. tree b nil n []) (number_in bytes) p (λ q f. refl) e
 formed_element good form.Array b r bytes p e = map_known (λ t. t.element ≡ b) (λ (p : Tree × (ℕ × (Tree × Tree))). tree b nil p.1.0 (p.0 ∷ p.1.1.0 ∷ p.1.1.1 ∷ [])) (both r (both number_in (both (numerals_in Size) (numerals_in Bound))) bytes) p (λ q f. refl) e
-formed_element good form.Instance b r bytes p e = map_known (λ t. t.element ≡ b) (λ (p : ℕ × (Token × List Tree)). tree b p.1.0 p.0 p.1.1) (both (byte_in (λ c. c == 0x11 || c == 0x12)) (both (token_in good) (counted r)) bytes) p (λ q f. refl) e
+formed_element good form.Instance b r bytes p e = map_known (λ t. t.element ≡ b) (λ (p : ℕ × (Token × List Tree)). tree b p.1.0 p.0 p.1.1) (both (byte_in (λ c. c == 0x11 || c == 0x12)) (both (token_in good) (list_in r)) bytes) p (λ q f. refl) e
 formed_element good form.Pointer b r bytes p e = map_known (λ t. t.element ≡ b) (λ (p : (ℕ × ℕ) × List Tree). tree b nil p.0.0 (tree 0 nil p.0.1 [] ∷ p.1)) (method_in r bytes) p (λ q f. refl) e
 
 opened_element : (good : ℕ → Bool) (o : Option Form) (b : ℕ) (r : Reader Tree) (bytes : List ℕ) (p : Tree × List ℕ) → option_and_then {T = Form} (λ f. formed_in good r f b bytes) o ≡ Some p → p.0.element ≡ b
@@ -305,10 +305,10 @@ front_step : (same : Token → Token → Bool) (kind : SigKind) → InStep (sig_
 unfolding front_in front_walk
 front_step same Method a b = giving_step (λ (p : (ℕ × ℕ) × List Tree). record { form = Method; kind = p.0.0; generics = p.0.1; parts = p.1 }) (pairs_agree same_pairs (lists_agree same)) (sig_trees_agree same) (method_in (type_in is_coded)) (method_walk (type_walk same)) (λ p q. refl) (method_step same (type_in is_coded) (type_walk same) type_plain (type_step same)) a b
 front_step same Field a b = giving_step (λ (p : ℕ × Tree). record { form = Field; kind = p.0; generics = 0; parts = p.1 ∷ [] }) (pairs_agree same_numbers (trees_agree same)) (sig_trees_agree same) (both (byte_in (λ b. b == 0x06)) (type_in is_coded)) (onward (alike_alone (byte_in (λ b. b == 0x06))) (type_walk same)) (λ p q. sym (rw (and-true (p.0 == q.0), one_agree same p.1 q.1) refl)) (both_step same_numbers (trees_agree same) (byte_in (λ b. b == 0x06)) (type_in is_coded) (alike_alone (byte_in (λ b. b == 0x06))) (type_walk same) (alone_step (byte_in (λ b. b == 0x06))) (type_step same)) a b
-front_step same Locals a b = tagged_step same Locals (λ b. b == 0x07) (counted (type_in is_coded)) (counted_walk (type_walk same)) (counted_step same (type_in is_coded) (type_walk same) (type_step same)) a b
+front_step same Locals a b = tagged_step same Locals (λ b. b == 0x07) (list_in (type_in is_coded)) (counted_walk (type_walk same)) (counted_step same (type_in is_coded) (type_walk same) (type_step same)) a b
 front_step same Property a b = tagged_step same Property (λ b. b == 0x08 || b == 0x28) (accessed_in (type_in is_coded)) (accessed_walk (type_walk same)) (accessed_step same (type_in is_coded) (type_walk same) (type_step same)) a b
 front_step same TypeSpec a b = giving_step (λ (t : Tree). record { form = TypeSpec; kind = 0; generics = 0; parts = t ∷ [] }) (trees_agree same) (sig_trees_agree same) (type_in is_coded) (type_walk same) (λ x y. sym (one_agree same x y)) (type_step same) a b
-front_step same MethodSpec a b = tagged_step same MethodSpec (λ b. b == 0x0A) (counted (type_in is_coded)) (counted_walk (type_walk same)) (counted_step same (type_in is_coded) (type_walk same) (type_step same)) a b
+front_step same MethodSpec a b = tagged_step same MethodSpec (λ b. b == 0x0A) (list_in (type_in is_coded)) (counted_walk (type_walk same)) (counted_step same (type_in is_coded) (type_walk same) (type_step same)) a b
 
 -- both end where the walk does
 end_tests : (f : SigTree → SigTree → Bool) (x y : SigTree) (r s : List ℕ) (t : Bool) → f x y ≡ t → both_end (if t then Some (r, s) else None) ≡ if_both f (unless_more x r) (unless_more y s)

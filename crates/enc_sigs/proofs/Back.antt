@@ -7,7 +7,7 @@ use Rattle.std.specs.Prelude.{◌&&◌, ◌==◌, nat_lt, option_map, option_and
 use Rattle.std.specs.Int.{w32, cast_signed}
 use Rattle.enc_base.specs.Numbers.{compressed, signed, spelled, spelled_signed, is_within, WrittenIsRead, SignedWrittenIsRead}
 use Rattle.enc_base.specs.declared.token.Token.{Token}
-use Rattle.enc_sigs.specs.Grammar.{Reader, giving, both, upon, many, counted, number_in, signed_in, byte_in, token_in, table_of, token_named, is_coded, is_small, bits_of, NamesTables}
+use Rattle.enc_sigs.specs.Grammar.{Reader, giving, both, upon, many, list_in, number_in, signed_in, byte_in, token_in, table_of, token_named, is_coded, is_small, bits_of, NamesTables}
 use Rattle.enc_sigs.specs.Spelling.{number_bytes, signed_bytes, token_bytes, token_number}
 use Rattle.enc_sigs.proofs.Many.{many_length, number_less}
 use Rattle.enc_sigs.proofs.Agreed.{upon_known}
@@ -76,8 +76,8 @@ many_back {A} w ws r zero none more back bytes p rest e =
     subst P f (ap (λ s. many r zero (s ++ rest)) none)
 many_back {A} w ws r (suc n) none more back bytes p rest e = giving_back (λ (p : A × List A). p.0 ∷ p.1) (pair_bytes w ws) ws (both r (many r n)) (λ b q f. more q.0.0 q.0.1) (both_back w ws r (many r n) back (many_back w ws r n none more back)) bytes p rest e
 
-pub counted_back : {A : Type 0} (w : A → List ℕ) (ws : List A → List ℕ) (r : Reader A) → ws [] ≡ [] → ((x : A) (xs : List A) → ws (x ∷ xs) ≡ w x ++ ws xs) → Back number_bytes number_in → Back w r → Back (λ xs. number_bytes (length xs) ++ ws xs) (counted r)
-unfolding counted
+pub counted_back : {A : Type 0} (w : A → List ℕ) (ws : List A → List ℕ) (r : Reader A) → ws [] ≡ [] → ((x : A) (xs : List A) → ws (x ∷ xs) ≡ w x ++ ws xs) → Back number_bytes number_in → Back w r → Back (λ xs. number_bytes (length xs) ++ ws xs) (list_in r)
+unfolding list_in
 counted_back {A} w ws r none more numbers back = giving_back (λ (p : ℕ × List A). p.1) (upon_bytes number_bytes (λ n. ws)) (λ xs. number_bytes (length xs) ++ ws xs) (upon number_in (many r)) (λ bytes q e. ap (λ k. number_bytes k ++ ws q.0.1) (upon_known (λ x. length x.1 ≡ x.0) (many r) (number_in bytes) q (many_length r) e)) (upon_back number_bytes (λ n. ws) number_in (many r) numbers (λ n. many_back w ws r n none more back))
 
 -- numbers

@@ -11,8 +11,8 @@ use Rattle.enc_sigs.specs.declared.form.Form.TheVariants as form
 use Rattle.enc_sigs.specs.declared.form.Numeral.{Numeral}
 use Rattle.enc_sigs.specs.declared.form.Numeral.TheVariants.{Size, Bound}
 use Rattle.enc_sigs.specs.Tree.{Tree, SigTree, forest_of}
-use Rattle.enc_sigs.specs.Grammar.{Reader, giving, both, upon, many, more_in, counted, tree, numbered_in, numeral_in, numerals_in, number_in, byte_in, wrapped_in, named_in, modified_in, array_in, instance_in, pointer_in, method_in, calling_in, parts_in, params, marked_in, accessed_in, begins, token_in, form_of, formed_in, elem_in, type_in, front_in, all_of, unless_more, sig_in}
-use Rattle.enc_sigs.specs.Laws.{below, fits}
+use Rattle.enc_sigs.specs.Grammar.{Reader, giving, both, upon, many, more_in, list_in, tree, numbered_in, numeral_in, numerals_in, number_in, byte_in, wrapped_in, named_in, modified_in, array_in, instance_in, pointer_in, method_in, calling_in, parts_in, params, marked_in, accessed_in, begins, token_in, form_of, formed_in, elem_in, type_in, front_in, all_of, unless_more, sig_in}
+use Rattle.enc_sigs.specs.Laws.{fits_below, fits_depth}
 use Rattle.enc_sigs.proofs.Agreed.{map_known, upon_known, both_known, formed_element}
 
 -- of what is read this is true
@@ -21,21 +21,21 @@ Known {A} K r = (bytes : List ℕ) (p : A × List ℕ) → r bytes ≡ Some p �
 
 -- a type and types fit
 abbrev one_fits : ℕ → Tree → Type 0
-one_fits d x = (if x.element == 0 || x.element == 0x41 then fits x.kids d else below d (fits x.kids)) ≡ true
+one_fits d x = (if x.element == 0 || x.element == 0x41 then fits_depth x.kids d else fits_below d (fits_depth x.kids)) ≡ true
 
 abbrev all_fit : ℕ → List Tree → Type 0
-all_fit d xs = fits (forest_of xs) d ≡ true
+all_fit d xs = fits_depth (forest_of xs) d ≡ true
 
 none_fit : (d : ℕ) → all_fit d []
-unfolding fits
+unfolding fits_depth
 none_fit d = refl
 
 both_true : (s t : Bool) → s ≡ true → t ≡ true → (s && t) ≡ true
 both_true s t e f = rw (e, f) refl
 
 more_fit : (d : ℕ) (x : Tree) (xs : List Tree) → one_fits d x → all_fit d xs → all_fit d (x ∷ xs)
-unfolding fits
-more_fit d x xs e f = both_true (if x.element == 0 || x.element == 0x41 then fits x.kids d else below d (fits x.kids)) (fits (forest_of xs) d) e f
+unfolding fits_depth
+more_fit d x xs e f = both_true (if x.element == 0 || x.element == 0x41 then fits_depth x.kids d else fits_below d (fits_depth x.kids)) (fits_depth (forest_of xs) d) e f
 
 first_known : {A B : Type 0} (K : A → Type 0) (L : B → Type 0) (M : A × B → Type 0) (r : Reader A) (s : Reader B) → ((x : A) (y : B) → K x → L y → M (x, y)) → Known K r → Known L s → Known M (both r s)
 first_known K L M r s same first second bytes p e = both_known M s (r bytes) p (λ x rest q f g. same x q.0 (first bytes (x, rest) f) (second rest q g)) e
@@ -48,12 +48,12 @@ unfolding many
 many_known d r zero first bytes p e = let f : ([], bytes) ≡ p = cc in subst (λ (x : List Tree × List ℕ). all_fit d x.0) f (none_fit d)
 many_known d r (suc n) first bytes p e = more_known d r (many r n) first (many_known d r n first) bytes p e
 
-counted_known : (d : ℕ) (r : Reader Tree) → Known (one_fits d) r → Known (all_fit d) (counted r)
-unfolding counted
+counted_known : (d : ℕ) (r : Reader Tree) → Known (one_fits d) r → Known (all_fit d) (list_in r)
+unfolding list_in
 counted_known d r first bytes p e = map_known (all_fit d) (λ (p : ℕ × List Tree). p.1) (upon number_in (many r) bytes) p (λ q f. upon_known (λ x. all_fit d x.1) (many r) (number_in bytes) q (λ n b u g. many_known d r n first b u g) f) e
 
 leaf_fits : (d n : ℕ) → one_fits d (tree 0 nil n [])
-unfolding fits
+unfolding fits_depth
 leaf_fits d n = refl
 
 numeral_fits : (d : ℕ) (kind : Numeral) → Known (one_fits d) (numbered_in 0 (numeral_in kind))
@@ -62,14 +62,14 @@ numeral_fits d kind bytes p e = map_known (one_fits d) (λ n. tree 0 nil n []) (
 
 numerals_fit : (d : ℕ) (kind : Numeral) → Known (one_fits d) (numerals_in kind)
 unfolding numerals_in
-numerals_fit d kind bytes p e = map_known (one_fits d) (λ ts. tree 0 nil 0 ts) (counted (numbered_in 0 (numeral_in kind)) bytes) p (λ q f. counted_known d (numbered_in 0 (numeral_in kind)) (numeral_fits d kind) bytes q f) e
+numerals_fit d kind bytes p e = map_known (one_fits d) (λ ts. tree 0 nil 0 ts) (list_in (numbered_in 0 (numeral_in kind)) bytes) p (λ q f. counted_known d (numbered_in 0 (numeral_in kind)) (numeral_fits d kind) bytes q f) e
 
 single_fits : (d : ℕ) (x : Tree) → one_fits d x → all_fit d (x ∷ [])
 single_fits d x e = more_fit d x [] e (none_fit d)
 
-wrapped_fits : (d b : ℕ) (r : Reader Tree) → Known (one_fits d) r → Known (λ (t : Tree). fits t.kids d ≡ true) (wrapped_in r b)
+wrapped_fits : (d b : ℕ) (r : Reader Tree) → Known (one_fits d) r → Known (λ (t : Tree). fits_depth t.kids d ≡ true) (wrapped_in r b)
 unfolding wrapped_in
-wrapped_fits d b r first bytes p e = map_known (λ (t : Tree). fits t.kids d ≡ true) (λ x. tree b nil 0 (x ∷ [])) (r bytes) p (λ q f. single_fits d q.0 (first bytes q f)) e
+wrapped_fits d b r first bytes p e = map_known (λ (t : Tree). fits_depth t.kids d ≡ true) (λ x. tree b nil 0 (x ∷ [])) (r bytes) p (λ q f. single_fits d q.0 (first bytes q f)) e
 
 sentinel_fits : (d : ℕ) (r : Reader Tree) → Known (one_fits d) r → Known (one_fits d) (wrapped_in r 0x41)
 unfolding wrapped_in
@@ -101,7 +101,7 @@ unfolding method_in
 method_known d r first bytes p e = both_known (λ (x : (ℕ × ℕ) × List Tree). all_fit d x.1) (parts_in r) (calling_in bytes) p (λ x rest q f g. parts_known d r first rest q g) e
 
 abbrev kids_fit : ℕ → Tree → Type 0
-kids_fit d t = fits t.kids d ≡ true
+kids_fit d t = fits_depth t.kids d ≡ true
 
 array_fits : (d b : ℕ) (r : Reader Tree) → Known (one_fits d) r → Known (kids_fit d) (array_in r b)
 unfolding array_in
@@ -115,7 +115,7 @@ formed_fits good d b form.Named r first bytes p e = map_known (kids_fit d) (λ t
 formed_fits good d b form.Modified r first bytes p e = map_known (kids_fit d) (λ (p : Token × Tree). tree b p.0 0 (p.1 ∷ [])) (both (token_in good) r bytes) p (λ q f. both_known (λ (x : Token × Tree). all_fit d (x.1 ∷ [])) r (token_in good bytes) q (λ x rest u g h. single_fits d u.0 (first rest u h)) f) e
 formed_fits good d b form.Numbered r first bytes p e = map_known (kids_fit d) (λ n. tree b nil n []) (number_in bytes) p (λ q f. none_fit d) e
 formed_fits good d b form.Array r first bytes p e = array_fits d b r first bytes p e
-formed_fits good d b form.Instance r first bytes p e = map_known (kids_fit d) (λ (p : ℕ × (Token × List Tree)). tree b p.1.0 p.0 p.1.1) (both (byte_in (λ c. c == 0x11 || c == 0x12)) (both (token_in good) (counted r)) bytes) p (λ q f. both_known (λ (x : ℕ × (Token × List Tree)). all_fit d x.1.1) (both (token_in good) (counted r)) (byte_in (λ c. c == 0x11 || c == 0x12) bytes) q (λ x rest u g h. both_known (λ (y : Token × List Tree). all_fit d y.1) (counted r) (token_in good rest) u (λ t mid v k l. counted_known d r first mid v l) h) f) e
+formed_fits good d b form.Instance r first bytes p e = map_known (kids_fit d) (λ (p : ℕ × (Token × List Tree)). tree b p.1.0 p.0 p.1.1) (both (byte_in (λ c. c == 0x11 || c == 0x12)) (both (token_in good) (list_in r)) bytes) p (λ q f. both_known (λ (x : ℕ × (Token × List Tree)). all_fit d x.1.1) (both (token_in good) (list_in r)) (byte_in (λ c. c == 0x11 || c == 0x12) bytes) q (λ x rest u g h. both_known (λ (y : Token × List Tree). all_fit d y.1) (list_in r) (token_in good rest) u (λ t mid v k l. counted_known d r first mid v l) h) f) e
 formed_fits good d b form.Pointer r first bytes p e = map_known (kids_fit d) (λ (p : (ℕ × ℕ) × List Tree). tree b nil p.0.0 (tree 0 nil p.0.1 [] ∷ p.1)) (method_in r bytes) p (λ q f. more_fit d (tree 0 nil q.0.0.1 []) q.0.1 (leaf_fits d q.0.0.1) (method_known d r first bytes q f)) e
 
 -- a first byte of a type is neither 0 nor a sentinel
@@ -130,7 +130,7 @@ no_form n f false true is e g =
 no_form n f false false is e g = refl
 
 level_fits : (d n : ℕ) (f : Form) (x : Tree) → form_of n ≡ Some f → x.element ≡ n → kids_fit d x → one_fits (suc d) x
-level_fits d n f x is e fit = ap (λ t. if t then fits x.kids (suc d) else fits x.kids d) (ap (λ k. k == 0 || k == 0x41) e ∙ no_form n f (n == 0) (n == 0x41) is refl refl) ∙ fit
+level_fits d n f x is e fit = ap (λ t. if t then fits_depth x.kids (suc d) else fits_depth x.kids d) (ap (λ k. k == 0 || k == 0x41) e ∙ no_form n f (n == 0) (n == 0x41) is refl refl) ∙ fit
 
 opened_fits : (good : ℕ → Bool) (d n : ℕ) (o : Option Form) (bytes : List ℕ) (p : Tree × List ℕ) → Known (one_fits d) (elem_in good d) → form_of n ≡ o → option_and_then {T = Form} (λ f. formed_in good (elem_in good d) f n bytes) o ≡ Some p → one_fits (suc d) p.0
 opened_fits good d n None bytes p first is e = absurd (cc)
@@ -153,10 +153,10 @@ front_fits : (good : ℕ → Bool) (kind : SigKind) (d : ℕ) → Known (one_fit
 unfolding front_in
 front_fits good Method d first bytes p e = map_known (parts_fit d) (λ (p : (ℕ × ℕ) × List Tree). record { form = Method; kind = p.0.0; generics = p.0.1; parts = p.1 }) (method_in (type_in good) bytes) p (λ q f. method_known d (type_in good) first bytes q f) e
 front_fits good Field d first bytes p e = map_known (parts_fit d) (λ (p : ℕ × Tree). record { form = Field; kind = p.0; generics = 0; parts = p.1 ∷ [] }) (both (byte_in (λ b. b == 0x06)) (type_in good) bytes) p (λ q f. both_known (λ (x : ℕ × Tree). all_fit d (x.1 ∷ [])) (type_in good) (byte_in (λ b. b == 0x06) bytes) q (λ x rest u g h. single_fits d u.0 (first rest u h)) f) e
-front_fits good Locals d first bytes p e = tagged_fits d Locals (λ b. b == 0x07) (counted (type_in good)) (counted_known d (type_in good) first) bytes p e
+front_fits good Locals d first bytes p e = tagged_fits d Locals (λ b. b == 0x07) (list_in (type_in good)) (counted_known d (type_in good) first) bytes p e
 front_fits good Property d first bytes p e = tagged_fits d Property (λ b. b == 0x08 || b == 0x28) (accessed_in (type_in good)) (accessed_known d (type_in good) first) bytes p e
 front_fits good TypeSpec d first bytes p e = map_known (parts_fit d) (λ (t : Tree). record { form = TypeSpec; kind = 0; generics = 0; parts = t ∷ [] }) (type_in good bytes) p (λ q f. single_fits d q.0 (first bytes q f)) e
-front_fits good MethodSpec d first bytes p e = tagged_fits d MethodSpec (λ b. b == 0x0A) (counted (type_in good)) (counted_known d (type_in good) first) bytes p e
+front_fits good MethodSpec d first bytes p e = tagged_fits d MethodSpec (λ b. b == 0x0A) (list_in (type_in good)) (counted_known d (type_in good) first) bytes p e
 
 type_fits : (good : ℕ → Bool) → Known (one_fits 100) (type_in good)
 unfolding type_in
@@ -170,6 +170,6 @@ whole_fits : (d : ℕ) (o : Option (SigTree × List ℕ)) (s : SigTree) → ((p 
 whole_fits d None s known e = absurd (cc)
 whole_fits d (Some p) s known e = subst (parts_fit d) (whole_is p.0 p.1 s e) (known p refl)
 
-pub depth_bounded : (good : ℕ → Bool) (kind : SigKind) (bytes : List ℕ) (s : SigTree) → sig_in good kind bytes ≡ Some s → fits (forest_of s.parts) 100 ≡ true
+pub depth_bounded : (good : ℕ → Bool) (kind : SigKind) (bytes : List ℕ) (s : SigTree) → sig_in good kind bytes ≡ Some s → fits_depth (forest_of s.parts) 100 ≡ true
 unfolding sig_in
 depth_bounded good kind bytes s e = whole_fits 100 (front_in good kind bytes) s (front_fits good kind 100 (type_fits good) bytes) e

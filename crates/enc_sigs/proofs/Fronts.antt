@@ -8,7 +8,7 @@ use Rattle.enc_sigs.specs.declared.kind.SigKind.TheVariants.{Field, Locals}
 use Rattle.enc_sigs.specs.declared.form.Form.{Form}
 use Rattle.enc_sigs.specs.declared.form.Form.TheVariants as form
 use Rattle.enc_sigs.specs.Tree.{Tree, SigTree}
-use Rattle.enc_sigs.specs.Grammar.{Reader, both, counted, tree, number_in, byte_in, is_coded, token_named, token_in, named_in, form_of, formed_in, elem_in, type_in, front_in, unless_more, all_of, sig_in}
+use Rattle.enc_sigs.specs.Grammar.{Reader, both, list_in, tree, number_in, byte_in, is_coded, token_named, token_in, named_in, form_of, formed_in, elem_in, type_in, front_in, unless_more, all_of, sig_in}
 use Rattle.enc_sigs.proofs.Agreed.{formed_element}
 
 -- a token's number is spelled at the front
@@ -162,7 +162,7 @@ field_first bytes x h =
 pub locals_first : (bytes : List ℕ) (x : SigTree) → sig_in is_coded Locals bytes ≡ Some x → (b : ℕ) × (rest : List ℕ) × (bytes ≡ b ∷ rest) × ((b == 0x07) ≡ true)
 unfolding sig_in front_in
 locals_first bytes x h =
-    let g = given_by (λ (p : ℕ × List Tree). record { form = Locals; kind = p.0; generics = 0; parts = p.1 }) (both (byte_in (λ b. b == 0x07)) (counted (type_in is_coded)) bytes) x [] (whole (front_in is_coded Locals bytes) x h) in
-    let b = both_parts (byte_in (λ b. b == 0x07) bytes) (counted (type_in is_coded)) g.0.0 g.0.1 [] g.1 in
+    let g = given_by (λ (p : ℕ × List Tree). record { form = Locals; kind = p.0; generics = 0; parts = p.1 }) (both (byte_in (λ b. b == 0x07)) (list_in (type_in is_coded)) bytes) x [] (whole (front_in is_coded Locals bytes) x h) in
+    let b = both_parts (byte_in (λ b. b == 0x07) bytes) (list_in (type_in is_coded)) g.0.0 g.0.1 [] g.1 in
     let f = byte_first (λ b. b == 0x07) bytes (g.0.0, b.0) b.1 in
     (g.0.0, b.0, f.0, f.1)

@@ -6,7 +6,7 @@ use Rattle.enc_base.specs.declared.token.Token.{Token}
 use Rattle.enc_sigs.specs.Tree.{Tree, forest_of}
 use Rattle.enc_sigs.specs.Grammar.{Reader, giving, both, upon, many, token_in, is_coded}
 use Rattle.enc_sigs.specs.Agree.{tokens_agree, forests_agree, trees_agree}
-use Rattle.enc_sigs.specs.Walk.{Walk, paired, same_number, alike, alike_alone, onward, upon_alike, many_walk, token_walk}
+use Rattle.enc_sigs.specs.Walk.{Walk, paired, both_numbers, alike, alike_alone, onward, upon_alike, many_walk, token_walk}
 
 -- the walk gives what is behind both, where both read something and agree on it
 abbrev pub InStep : {A : Type 0} → (A → A → Bool) → Reader A → Walk → Type 0
@@ -72,7 +72,7 @@ upon_tests : {B : Type 0} (g : B → B → Bool) (s : ℕ → Reader B) (walk : 
 upon_tests g s walk n m a b true step e = after_same g s walk n m a b step (eqb-true n m e)
 upon_tests g s walk n m a b false step e = after_other g n m (s n a) (s m b) e
 
-upon_by : {B : Type 0} (g : B → B → Bool) (s : ℕ → Reader B) (walk : ℕ → Walk) (o u : Option (ℕ × List ℕ)) → ((n : ℕ) → InStep g (s n) (walk n)) → option_and_then {T = ℕ × (List ℕ × List ℕ)} (λ x. walk x.0 x.1.0 x.1.1) (same_number o u) ≡ paired (pairs_agree same_numbers g) (option_and_then {T = ℕ × List ℕ} (λ p. option_map {T = B × List ℕ} (λ q. ((p.0, q.0), q.1)) (s p.0 p.1)) o) (option_and_then {T = ℕ × List ℕ} (λ p. option_map {T = B × List ℕ} (λ q. ((p.0, q.0), q.1)) (s p.0 p.1)) u)
+upon_by : {B : Type 0} (g : B → B → Bool) (s : ℕ → Reader B) (walk : ℕ → Walk) (o u : Option (ℕ × List ℕ)) → ((n : ℕ) → InStep g (s n) (walk n)) → option_and_then {T = ℕ × (List ℕ × List ℕ)} (λ x. walk x.0 x.1.0 x.1.1) (both_numbers o u) ≡ paired (pairs_agree same_numbers g) (option_and_then {T = ℕ × List ℕ} (λ p. option_map {T = B × List ℕ} (λ q. ((p.0, q.0), q.1)) (s p.0 p.1)) o) (option_and_then {T = ℕ × List ℕ} (λ p. option_map {T = B × List ℕ} (λ q. ((p.0, q.0), q.1)) (s p.0 p.1)) u)
 upon_by g s walk None u step = refl
 upon_by g s walk (Some p) None step = none_right _ _
 upon_by g s walk (Some p) (Some q) step = upon_tests g s walk p.0 q.0 p.1 q.1 (same_numbers p.0 q.0) step refl

@@ -9,7 +9,7 @@ use Rattle.enc_sigs.specs.declared.form.Form.TheVariants as form
 use Rattle.enc_sigs.specs.declared.form.Numeral.TheVariants.{Size, Bound}
 use Rattle.enc_sigs.specs.Tree.{Tree, SigTree}
 use Rattle.enc_base.specs.Token.{nil}
-use Rattle.enc_sigs.specs.Grammar.{Reader, giving, both, upon, many, counted, number_in, byte_in, token_in, token_named, tree, form_of, wrapped_in, named_in, modified_in, numbered_in, numerals_in, array_in, instance_in, begins, more_in, marked_in, params, calling_in, parts_in, method_in, pointer_in, formed_in, elem_in, type_in, accessed_in, front_in, all_of, sig_in}
+use Rattle.enc_sigs.specs.Grammar.{Reader, giving, both, upon, many, list_in, number_in, byte_in, token_in, token_named, tree, form_of, wrapped_in, named_in, modified_in, numbered_in, numerals_in, array_in, instance_in, begins, more_in, marked_in, params, calling_in, parts_in, method_in, pointer_in, formed_in, elem_in, type_in, accessed_in, front_in, all_of, sig_in}
 
 -- what the first reads the second reads too
 abbrev pub Keeps : {A : Type 0} → Reader A → Reader A → Type 0
@@ -52,8 +52,8 @@ unfolding many
 many_keeps r s zero keep bytes p e = e
 many_keeps {A} r s (suc n) keep bytes p e = giving_keeps (λ (p : A × List A). p.0 ∷ p.1) (both r (many r n)) (both s (many s n)) (both_keeps r s (many r n) (many s n) keep (many_keeps r s n keep)) bytes p e
 
-counted_keeps : {A : Type 0} (r s : Reader A) → Keeps r s → Keeps (counted r) (counted s)
-unfolding counted
+counted_keeps : {A : Type 0} (r s : Reader A) → Keeps r s → Keeps (list_in r) (list_in s)
+unfolding list_in
 counted_keeps {A} r s keep = giving_keeps (λ (p : ℕ × List A). p.1) (upon number_in (many r)) (upon number_in (many s)) (upon_keeps number_in (many r) (many s) (λ n. many_keeps r s n keep))
 
 named_by : (good test : ℕ → Bool) (n : ℕ) (b : Bool) (t : Token) (rest : List ℕ) (p : Token × List ℕ) → Wider good test → good n ≡ b → cond b (Some (t, rest)) None ≡ Some p → cond (test n) (Some (t, rest)) None ≡ Some p
@@ -91,8 +91,8 @@ instance_keeps : (good test : ℕ → Bool) (r s : Reader Tree) (b : ℕ) → Wi
 unfolding instance_in
 instance_keeps good test r s b wider keep =
     let class = byte_in (λ c. c == 0x11 || c == 0x12) in
-    let lasts = both_keeps (token_in good) (token_in test) (counted r) (counted s) (token_keeps good test wider) (counted_keeps r s keep) in
-    giving_keeps (λ (p : ℕ × (Token × List Tree)). tree b p.1.0 p.0 p.1.1) (both class (both (token_in good) (counted r))) (both class (both (token_in test) (counted s))) (both_keeps class class (both (token_in good) (counted r)) (both (token_in test) (counted s)) (same_keeps class) lasts)
+    let lasts = both_keeps (token_in good) (token_in test) (list_in r) (list_in s) (token_keeps good test wider) (counted_keeps r s keep) in
+    giving_keeps (λ (p : ℕ × (Token × List Tree)). tree b p.1.0 p.0 p.1.1) (both class (both (token_in good) (list_in r))) (both class (both (token_in test) (list_in s))) (both_keeps class class (both (token_in good) (list_in r)) (both (token_in test) (list_in s)) (same_keeps class) lasts)
 
 more_keeps : (r s : Reader Tree) (v w : Reader (List Tree)) → Keeps r s → Keeps v w → Keeps (more_in r v) (more_in s w)
 more_keeps r s v w one two = giving_keeps (λ (p : Tree × List Tree). p.0 ∷ p.1) (both r v) (both s w) (both_keeps r s v w one two)
@@ -158,10 +158,10 @@ front_keeps : (good test : ℕ → Bool) (kind : SigKind) → Wider good test �
 unfolding front_in
 front_keeps good test Method wider = giving_keeps (λ (p : (ℕ × ℕ) × List Tree). record { form = Method; kind = p.0.0; generics = p.0.1; parts = p.1 }) (method_in (type_in good)) (method_in (type_in test)) (method_keeps (type_in good) (type_in test) (type_keeps good test wider))
 front_keeps good test Field wider = giving_keeps (λ (p : ℕ × Tree). record { form = Field; kind = p.0; generics = 0; parts = p.1 ∷ [] }) (both (byte_in (λ b. b == 0x06)) (type_in good)) (both (byte_in (λ b. b == 0x06)) (type_in test)) (both_keeps (byte_in (λ b. b == 0x06)) (byte_in (λ b. b == 0x06)) (type_in good) (type_in test) (same_keeps (byte_in (λ b. b == 0x06))) (type_keeps good test wider))
-front_keeps good test Locals wider = tagged_keeps Locals (λ b. b == 0x07) (counted (type_in good)) (counted (type_in test)) (counted_keeps (type_in good) (type_in test) (type_keeps good test wider))
+front_keeps good test Locals wider = tagged_keeps Locals (λ b. b == 0x07) (list_in (type_in good)) (list_in (type_in test)) (counted_keeps (type_in good) (type_in test) (type_keeps good test wider))
 front_keeps good test Property wider = tagged_keeps Property (λ b. b == 0x08 || b == 0x28) (accessed_in (type_in good)) (accessed_in (type_in test)) (accessed_keeps (type_in good) (type_in test) (type_keeps good test wider))
 front_keeps good test TypeSpec wider = giving_keeps (λ (t : Tree). record { form = TypeSpec; kind = 0; generics = 0; parts = t ∷ [] }) (type_in good) (type_in test) (type_keeps good test wider)
-front_keeps good test MethodSpec wider = tagged_keeps MethodSpec (λ b. b == 0x0A) (counted (type_in good)) (counted (type_in test)) (counted_keeps (type_in good) (type_in test) (type_keeps good test wider))
+front_keeps good test MethodSpec wider = tagged_keeps MethodSpec (λ b. b == 0x0A) (list_in (type_in good)) (list_in (type_in test)) (counted_keeps (type_in good) (type_in test) (type_keeps good test wider))
 
 whole_keeps : (good test : ℕ → Bool) (kind : SigKind) (bytes : List ℕ) (o : Option (SigTree × List ℕ)) (s : SigTree) → Wider good test → front_in good kind bytes ≡ o → all_of o ≡ Some s → all_of (front_in test kind bytes) ≡ Some s
 whole_keeps good test kind bytes None s wider is e = absurd (cc)

@@ -2,7 +2,7 @@
 use Rattle.std.proofs.Common.{◌≡◌, ℕ, zero, suc, ◌-◌, ◌<◌, ◌%◌, Bool, true, false, List, [], ◌∷◌, ◌++◌, length, drop, Option, Some, None, refl, sym, ap, subst, ◌∙◌, arith, append-nil}
 use Rattle.std.proofs.lemmas.Bool.{eqb-true, ltb-true}
 use Rattle.std.specs.Prelude.{◌&&◌, ◌||◌, ◌==◌, nat_lt, nat_le, option_map, option_and_then, if◌then◌else◌}
-use Rattle.enc_base.specs.Numbers.{WrittenIsRead, SignedWrittenIsRead}
+use Rattle.enc_base.specs.Numbers.{WrittenIsRead, SignedWrittenIsRead, has_flag}
 use Rattle.enc_base.specs.Token.{nil}
 use Rattle.enc_base.specs.declared.token.Token.{Token}
 use Rattle.enc_sigs.specs.declared.kind.SigKind.{SigKind}
@@ -12,7 +12,7 @@ use Rattle.enc_sigs.specs.declared.form.Form.TheVariants as form
 use Rattle.enc_sigs.specs.declared.form.Numeral.{Numeral}
 use Rattle.enc_sigs.specs.declared.form.Numeral.TheVariants.{Size, Bound}
 use Rattle.enc_sigs.specs.Tree.{Tree, SigTree, trees, forest_of, trees_of}
-use Rattle.enc_sigs.specs.Grammar.{Reader, giving, both, upon, given, many, more_in, counted, tree, numbered_in, numeral_in, numerals_in, number_in, byte_in, wrapped_in, named_in, modified_in, array_in, instance_in, pointer_in, method_in, calling_in, generics_in, has_flag, is_calling, parts_in, params, marked_in, accessed_in, begins, token_in, form_of, formed_in, elem_in, type_in, front_in, all_of, unless_more, sig_in, NamesTables}
+use Rattle.enc_sigs.specs.Grammar.{Reader, giving, both, upon, given, many, more_in, list_in, tree, numbered_in, numeral_in, numerals_in, number_in, byte_in, wrapped_in, named_in, modified_in, array_in, instance_in, pointer_in, method_in, calling_in, generics_in, is_calling, parts_in, params, marked_in, accessed_in, begins, token_in, form_of, formed_in, elem_in, type_in, front_in, all_of, unless_more, sig_in, NamesTables}
 use Rattle.enc_sigs.specs.Spelling.{number_bytes, token_bytes, numeral_bytes, each_numeral, numerals_bytes, joined, counted_bytes, generics_bytes, parts_bytes, array_bytes, pointer_bytes, formed_bytes, spellings, tree_bytes, front_bytes, sig_bytes}
 use Rattle.enc_sigs.proofs.Spelled.{length_spellings}
 use Rattle.enc_sigs.proofs.Many.{many_length, params_length}
@@ -67,7 +67,7 @@ each_back kind written signed = giving_back (λ n. tree 0 nil n []) (numeral_byt
 
 numerals_back : (kind : Numeral) → WrittenIsRead → SignedWrittenIsRead → Back (numerals_bytes kind) (numerals_in kind)
 unfolding numerals_in numerals_bytes
-numerals_back kind written signed = giving_back (λ ts. tree 0 nil 0 ts) (λ xs. number_bytes (length xs) ++ each_numeral kind xs) (numerals_bytes kind) (counted (numbered_in 0 (numeral_in kind))) (λ bytes q e. ap (λ xs. number_bytes (length xs) ++ each_numeral kind xs) (trees_of q.0)) (counted_back (λ (t : Tree). numeral_bytes kind t.number) (each_numeral kind) (numbered_in 0 (numeral_in kind)) refl (λ x xs. refl) (number_back written) (each_back kind written signed))
+numerals_back kind written signed = giving_back (λ ts. tree 0 nil 0 ts) (λ xs. number_bytes (length xs) ++ each_numeral kind xs) (numerals_bytes kind) (list_in (numbered_in 0 (numeral_in kind))) (λ bytes q e. ap (λ xs. number_bytes (length xs) ++ each_numeral kind xs) (trees_of q.0)) (counted_back (λ (t : Tree). numeral_bytes kind t.number) (each_numeral kind) (numbered_in 0 (numeral_in kind)) refl (λ x xs. refl) (number_back written) (each_back kind written signed))
 
 array_is : (b rank : ℕ) (x s d : Tree) → within form.Array (tree b nil rank (x ∷ s ∷ d ∷ [])) ≡ tree_bytes x ++ (number_bytes rank ++ (numerals_bytes Size s ++ numerals_bytes Bound d))
 unfolding formed_bytes array_bytes spellings tree_bytes
@@ -85,7 +85,7 @@ counted_is : (xs : List Tree) → counted_bytes (spellings (forest_of xs)) ≡ m
 unfolding counted_bytes
 counted_is xs = ap (λ n. number_bytes n ++ list_bytes xs) (length_spellings xs)
 
-elems_back : (r : Reader Tree) → WrittenIsRead → Back tree_bytes r → Back many_bytes (counted r)
+elems_back : (r : Reader Tree) → WrittenIsRead → Back tree_bytes r → Back many_bytes (list_in r)
 elems_back r written back = counted_back tree_bytes list_bytes r list_none list_more (number_back written) back
 
 low_byte : (n : ℕ) → n < 0x100 → n % 0x100 ≡ n
@@ -106,7 +106,7 @@ instance_back : (good : ℕ → Bool) (r : Reader Tree) (b : ℕ) → WrittenIsR
 unfolding instance_in
 instance_back good r b written tokens back =
     let test = λ (c : ℕ). c == 0x11 || c == 0x12 in
-    giving_back (λ (p : ℕ × (Token × List Tree)). tree b p.1.0 p.0 p.1.1) (pair_bytes (λ n. n ∷ []) (pair_bytes token_bytes many_bytes)) (within form.Instance) (both (byte_in test) (both (token_in good) (counted r))) (λ bytes q e. instance_is b q.0.0 q.0.1.0 q.0.1.1 (class_low q.0.0 (both_known (λ x. test x.0 ≡ true) (both (token_in good) (counted r)) (byte_in test bytes) q (λ x rest u f g. byte_tested test bytes (x, rest) f) e))) (both_back (λ n. n ∷ []) (pair_bytes token_bytes many_bytes) (byte_in test) (both (token_in good) (counted r)) (byte_back test) (both_back token_bytes many_bytes (token_in good) (counted r) tokens (elems_back r written back)))
+    giving_back (λ (p : ℕ × (Token × List Tree)). tree b p.1.0 p.0 p.1.1) (pair_bytes (λ n. n ∷ []) (pair_bytes token_bytes many_bytes)) (within form.Instance) (both (byte_in test) (both (token_in good) (list_in r))) (λ bytes q e. instance_is b q.0.0 q.0.1.0 q.0.1.1 (class_low q.0.0 (both_known (λ x. test x.0 ≡ true) (both (token_in good) (list_in r)) (byte_in test bytes) q (λ x rest u f g. byte_tested test bytes (x, rest) f) e))) (both_back (λ n. n ∷ []) (pair_bytes token_bytes many_bytes) (byte_in test) (both (token_in good) (list_in r)) (byte_back test) (both_back token_bytes many_bytes (token_in good) (list_in r) tokens (elems_back r written back)))
 
 -- parameters
 abbrev marked_bytes : List Tree → List ℕ
@@ -282,10 +282,10 @@ front_back : (good : ℕ → Bool) (kind : SigKind) → WrittenIsRead → Signed
 unfolding front_in front_bytes
 front_back good Method written signed names bytes p rest e = giving_back (λ (p : (ℕ × ℕ) × List Tree). record { form = Method; kind = p.0.0; generics = p.0.1; parts = p.1 }) (pair_bytes call_bytes behind_bytes) all_bytes (method_in (type_in good)) (λ b q f. ap (λ s. q.0.0.0 ∷ (generics_bytes q.0.0.0 q.0.0.1 ++ s)) (parts_is q.0.1)) (method_back (type_in good) written (plain_type good) (type_back good written signed names)) bytes p rest e
 front_back good Field written signed names bytes p rest e = giving_back (λ (p : ℕ × Tree). record { form = Field; kind = p.0; generics = 0; parts = p.1 ∷ [] }) (pair_bytes (λ b. b ∷ []) tree_bytes) all_bytes (both (byte_in (λ b. b == 0x06)) (type_in good)) (λ b q f. ap (λ s. q.0.0 ∷ s) (list_one q.0.1)) (both_back (λ b. b ∷ []) tree_bytes (byte_in (λ b. b == 0x06)) (type_in good) (byte_back (λ b. b == 0x06)) (type_back good written signed names)) bytes p rest e
-front_back good Locals written signed names bytes p rest e = tagged_back good Locals (λ b. b == 0x07) many_bytes (counted (type_in good)) (λ b xs. ap (λ s. b ∷ s) (counted_is xs)) (elems_back (type_in good) written (type_back good written signed names)) bytes p rest e
+front_back good Locals written signed names bytes p rest e = tagged_back good Locals (λ b. b == 0x07) many_bytes (list_in (type_in good)) (λ b xs. ap (λ s. b ∷ s) (counted_is xs)) (elems_back (type_in good) written (type_back good written signed names)) bytes p rest e
 front_back good Property written signed names bytes p rest e = tagged_back good Property (λ b. b == 0x08 || b == 0x28) behind_bytes (accessed_in (type_in good)) (λ b xs. ap (λ s. b ∷ s) (parts_is xs)) (accessed_back (type_in good) written (type_back good written signed names)) bytes p rest e
 front_back good TypeSpec written signed names bytes p rest e = giving_back (λ (t : Tree). record { form = TypeSpec; kind = 0; generics = 0; parts = t ∷ [] }) tree_bytes all_bytes (type_in good) (λ b q f. list_one q.0) (type_back good written signed names) bytes p rest e
-front_back good MethodSpec written signed names bytes p rest e = tagged_back good MethodSpec (λ b. b == 0x0A) many_bytes (counted (type_in good)) (λ b xs. ap (λ s. b ∷ s) (counted_is xs)) (elems_back (type_in good) written (type_back good written signed names)) bytes p rest e
+front_back good MethodSpec written signed names bytes p rest e = tagged_back good MethodSpec (λ b. b == 0x0A) many_bytes (list_in (type_in good)) (λ b xs. ap (λ s. b ∷ s) (counted_is xs)) (elems_back (type_in good) written (type_back good written signed names)) bytes p rest e
 
 whole_is : (s : SigTree) (rest : List ℕ) (t : SigTree) → unless_more s rest ≡ Some t → s ≡ t
 whole_is s [] t e = cc

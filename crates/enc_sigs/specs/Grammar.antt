@@ -1,7 +1,7 @@
 -- The grammar of signatures (ECMA-335 II.23.2).
 use Rattle.std.specs.Prelude.{◌≡◌, ℕ, zero, suc, ◌/◌, ◌%◌, Bool, true, false, not, ◌&&◌, ◌||◌, List, [], ◌∷◌, drop, slice_index, Option, Some, None, option_map, option_and_then, nat_lt, nat_le, ◌==◌, if◌then◌else◌, ℤ}
 use Rattle.std.specs.Int.{w32, cast_unsigned}
-use Rattle.enc_base.specs.Numbers.{compressed, signed, is_within}
+use Rattle.enc_base.specs.Numbers.{compressed, signed, is_within, has_flag}
 use Rattle.enc_base.specs.Token.{nil}
 use Rattle.enc_base.specs.declared.token.Token.{Token}
 use Rattle.enc_base.specs.declared.counts.Counts.{Counts}
@@ -81,8 +81,8 @@ many one zero bytes = Some ([], bytes)
 many {A} one (suc n) bytes = giving (λ (p : A × List A). p.0 ∷ p.1) (both one (many one n)) bytes
 
 -- a count and so many things
-unfoldable pub counted : {A : Type 0} → Reader A → Reader (List A)
-counted {A} one = giving (λ (p : ℕ × List A). p.1) (upon number_in (many one))
+unfoldable pub list_in : {A : Type 0} → Reader A → Reader (List A)
+list_in {A} one = giving (λ (p : ℕ × List A). p.1) (upon number_in (many one))
 
 -- a type with these parts
 abbrev pub tree : ℕ → Token → ℕ → List Tree → Tree
@@ -124,7 +124,7 @@ numeral_in Bound = signed_in
 
 -- a count and so many sizes or lower bounds (II.23.2.13)
 unfoldable pub numerals_in : Numeral → Reader Tree
-numerals_in kind = giving (λ ts. tree 0 nil 0 ts) (counted (numbered_in 0 (numeral_in kind)))
+numerals_in kind = giving (λ ts. tree 0 nil 0 ts) (list_in (numbered_in 0 (numeral_in kind)))
 
 -- an array: the type, the rank, sizes and lower bounds (II.23.2.13)
 unfoldable pub array_in : Reader Tree → ℕ → Reader Tree
@@ -135,11 +135,7 @@ array_in one b =
 -- a generic instance: a class or a value type, and the arguments (II.23.2.12)
 unfoldable pub instance_in : (ℕ → Bool) → Reader Tree → ℕ → Reader Tree
 instance_in good one b =
-    giving (λ (p : ℕ × (Token × List Tree)). tree b p.1.0 p.0 p.1.1) (both (byte_in (λ c. c == 0x11 || c == 0x12)) (both (token_in good) (counted one)))
-
--- a flag of a calling byte stands
-abbrev pub has_flag : ℕ → ℕ → Bool
-has_flag flag b = b / flag % 2 == 1
+    giving (λ (p : ℕ × (Token × List Tree)). tree b p.1.0 p.0 p.1.1) (both (byte_in (λ c. c == 0x11 || c == 0x12)) (both (token_in good) (list_in one)))
 
 -- a method's first byte: how it is called in the low four bits, and three flags (II.23.2.1, II.23.2.3)
 unfoldable pub is_calling : ℕ → Bool
@@ -214,14 +210,14 @@ front_in good Method = giving (λ (p : (ℕ × ℕ) × List Tree). record { form
 front_in good Field =
     giving (λ (p : ℕ × Tree). record { form = Field; kind = p.0; generics = 0; parts = p.1 ∷ [] }) (both (byte_in (λ b. b == 0x06)) (type_in good))
 front_in good Locals =
-    giving (λ (p : ℕ × List Tree). record { form = Locals; kind = p.0; generics = 0; parts = p.1 }) (both (byte_in (λ b. b == 0x07)) (counted (type_in good)))
+    giving (λ (p : ℕ × List Tree). record { form = Locals; kind = p.0; generics = 0; parts = p.1 }) (both (byte_in (λ b. b == 0x07)) (list_in (type_in good)))
 front_in good Property =
     giving (λ (p : ℕ × List Tree). record { form = Property; kind = p.0; generics = 0; parts = p.1 })
     (both (byte_in (λ b. b == 0x08 || b == 0x28)) (accessed_in (type_in good)))
 front_in good TypeSpec = giving (λ (t : Tree). record { form = TypeSpec; kind = 0; generics = 0; parts = t ∷ [] }) (type_in good)
 front_in good MethodSpec =
     giving (λ (p : ℕ × List Tree). record { form = MethodSpec; kind = p.0; generics = 0; parts = p.1 })
-    (both (byte_in (λ b. b == 0x0A)) (counted (type_in good)))
+    (both (byte_in (λ b. b == 0x0A)) (list_in (type_in good)))
 
 -- nothing may stand behind it
 abbrev pub unless_more : {A : Type 0} → A → List ℕ → Option A

@@ -20,15 +20,15 @@ abbrev pub TestsNameTables : Type 0
 TestsNameTables = NamesTables is_coded × ((count : ℕ → ℕ) → NamesTables (is_counted count))
 
 -- one level of types less
-abbrev pub below : ℕ → (ℕ → Bool) → Bool
-below zero fit = false
-below (suc depth) fit = fit depth
+abbrev pub fits_below : ℕ → (ℕ → Bool) → Bool
+fits_below zero fit = false
+fits_below (suc depth) fit = fit depth
 
 -- types stand in one another at most so deep; a sentinel and the numbers of an array or of a pointer are no level
-unfoldable pub fits : Forest → ℕ → Bool
-fits none depth = true
-fits (more e t n k r) depth = (if e == 0 || e == 0x41 then fits k depth else below depth (fits k)) && fits r depth
+unfoldable pub fits_depth : Forest → ℕ → Bool
+fits_depth none depth = true
+fits_depth (more e t n k r) depth = (if e == 0 || e == 0x41 then fits_depth k depth else fits_below depth (fits_depth k)) && fits_depth r depth
 
 -- no type that is read stands deeper than 100
 abbrev pub DepthIsBounded : Type 0
-DepthIsBounded = (good : ℕ → Bool) (kind : SigKind) (bytes : List ℕ) (s : SigTree) → sig_in good kind bytes ≡ Some s → fits (forest_of s.parts) 100 ≡ true
+DepthIsBounded = (good : ℕ → Bool) (kind : SigKind) (bytes : List ℕ) (s : SigTree) → sig_in good kind bytes ≡ Some s → fits_depth (forest_of s.parts) 100 ≡ true

@@ -1,6 +1,6 @@
 -- The shortest spelling of a signature (ECMA-335 II.23.2).
 use Rattle.std.specs.Prelude.{◌≡◌, ℕ, ◌+◌, ◌-◌, ◌*◌, ◌%◌, List, [], ◌∷◌, ◌++◌, length, slice_get, Option, Some, None, nat_lt, ◌==◌, if◌then◌else◌}
-use Rattle.enc_base.specs.Numbers.{spelled, spelled_signed}
+use Rattle.enc_base.specs.Numbers.{spelled, spelled_signed, has_flag}
 use Rattle.enc_base.specs.declared.token.Token.{Token}
 use Rattle.enc_schema.specs.Tables.{type_def, type_ref}
 use Rattle.enc_sigs.specs.declared.kind.SigKind.{SigKind}
@@ -10,7 +10,7 @@ use Rattle.enc_sigs.specs.declared.form.Form.TheVariants as form
 use Rattle.enc_sigs.specs.declared.form.Numeral.{Numeral}
 use Rattle.enc_sigs.specs.declared.form.Numeral.TheVariants.{Size, Bound}
 use Rattle.enc_sigs.specs.Tree.{Forest, none, more, Tree, SigTree, trees, forest_of}
-use Rattle.enc_sigs.specs.Grammar.{form_of, has_flag, is_small, is_coded, sig_in}
+use Rattle.enc_sigs.specs.Grammar.{form_of, is_small, is_coded, sig_in}
 
 -- a number, where it can be spelled
 unfoldable pub number_bytes : ℕ → List ℕ

@@ -65,15 +65,15 @@ steps none = None ∷ []
 steps (more e t n k r) = steps k ++ (steps r ++ Some (e, ((t.table, t.row), n)) ∷ [])
 
 -- a step with the forests that were made before
-abbrev pub taken : Step → List Forest → List Forest
-taken None stack = none ∷ stack
-taken (Some s) (r ∷ k ∷ stack) = more s.0 (record { table = s.1.0.0; row = s.1.0.1 }) s.1.1 k r ∷ stack
-taken (Some s) stack = stack
+abbrev pub step_taken : Step → List Forest → List Forest
+step_taken None stack = none ∷ stack
+step_taken (Some s) (r ∷ k ∷ stack) = more s.0 (record { table = s.1.0.0; row = s.1.0.1 }) s.1.1 k r ∷ stack
+step_taken (Some s) stack = stack
 
 -- the forests that steps make
 abbrev pub run : List Step → List Forest → List Forest
 run [] stack = stack
-run (s ∷ ss) stack = run ss (taken s stack)
+run (s ∷ ss) stack = run ss (step_taken s stack)
 
 -- the last of them
 abbrev pub top : List Forest → Forest
@@ -83,7 +83,7 @@ top (f ∷ fs) = f
 -- steps and further ones
 pub run-append : (a b : List Step) (stack : List Forest) → run (a ++ b) stack ≡ run b (run a stack)
 run-append [] b stack = refl
-run-append (s ∷ a) b stack = run-append a b (taken s stack)
+run-append (s ∷ a) b stack = run-append a b (step_taken s stack)
 
 -- its steps make it
 pub run_steps : (f : Forest) (stack : List Forest) → run (steps f) stack ≡ f ∷ stack

@@ -1,5 +1,6 @@
 -- Two signatures read in step.
-use Rattle.std.specs.Prelude.{◌≡◌, ℕ, zero, suc, Bool, true, false, ◌&&◌, ◌||◌, ◌==◌, List, [], ◌∷◌, drop, Option, Some, None, option_and_then, if◌then◌else◌}
+use Rattle.std.specs.Prelude.{◌≡◌, ℕ, zero, suc, Bool, false, ◌&&◌, ◌||◌, ◌==◌, List, ◌∷◌, drop, Option, Some, None, option_and_then, if◌then◌else◌}
+use Rattle.enc_base.specs.Numbers.{is_empty}
 use Rattle.enc_base.specs.declared.token.Token.{Token}
 use Rattle.enc_sigs.specs.declared.kind.SigKind.{SigKind}
 use Rattle.enc_sigs.specs.declared.kind.SigKind.TheVariants.{Method, Field, Locals, Property, TypeSpec, MethodSpec}
@@ -20,13 +21,13 @@ paired agree (Some p) (Some q) = if agree p.0 q.0 then Some (p.1, q.1) else None
 paired agree _ _ = None
 
 -- two numbers that are read, where they are the same
-abbrev pub same_number : Option (ℕ × List ℕ) → Option (ℕ × List ℕ) → Option (ℕ × (List ℕ × List ℕ))
-same_number (Some p) (Some q) = if p.0 == q.0 then Some (p.0, (p.1, q.1)) else None
-same_number _ _ = None
+abbrev pub both_numbers : Option (ℕ × List ℕ) → Option (ℕ × List ℕ) → Option (ℕ × (List ℕ × List ℕ))
+both_numbers (Some p) (Some q) = if p.0 == q.0 then Some (p.0, (p.1, q.1)) else None
+both_numbers _ _ = None
 
 -- the same number at both fronts
 unfoldable pub alike : Reader ℕ → List ℕ → List ℕ → Option (ℕ × (List ℕ × List ℕ))
-alike r a b = same_number (r a) (r b)
+alike r a b = both_numbers (r a) (r b)
 
 -- the same number at both fronts, which is let go
 unfoldable pub alike_alone : Reader ℕ → Walk
@@ -123,11 +124,6 @@ front_walk same Locals = onward (alike_alone (byte_in (λ b. b == 0x07))) (count
 front_walk same Property = onward (alike_alone (byte_in (λ b. b == 0x08 || b == 0x28))) (accessed_walk (type_walk same))
 front_walk same TypeSpec = type_walk same
 front_walk same MethodSpec = onward (alike_alone (byte_in (λ b. b == 0x0A))) (counted_walk (type_walk same))
-
--- no bytes
-abbrev pub is_empty : List ℕ → Bool
-is_empty [] = true
-is_empty (b ∷ rest) = false
 
 -- both end there
 abbrev pub both_end : Option (List ℕ × List ℕ) → Bool

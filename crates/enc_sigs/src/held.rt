@@ -91,7 +91,7 @@ fn numerals_many(
 }
 
 /// A count and so many sizes or lower bounds.
-#[tactic(auto, unfolding(crate::specs::Grammar::numerals_in, crate::specs::Grammar::counted))]
+#[tactic(auto, unfolding(crate::specs::Grammar::numerals_in, crate::specs::Grammar::list_in))]
 pub fn numerals(alloc: Global, kind: Numeral, bytes: &[u8]) -> Result<(Elem, &[u8]), SigFault>
     ensures { Reads result (numerals_in kind bytes.now) }
 {

@@ -1,6 +1,7 @@
 //! What stands in a signature beside types: bytes, numbers and tokens.
 ghost use Rattle.std.specs.Prelude.{◌≡◌, ◌<◌, ◌^◌, ◌/◌, ◌%◌, option_map, if◌then◌else◌, IfSome};
-ghost use Rattle.enc_sigs.specs.Grammar.{byte_in, number_in, signed_in, numeral_in, token_in, table_of, is_coded, is_counted, in_counts, form_of, is_calling, calling_in, has_flag};
+ghost use Rattle.enc_base.specs.Numbers.{has_flag};
+ghost use Rattle.enc_sigs.specs.Grammar.{byte_in, number_in, signed_in, numeral_in, token_in, table_of, is_coded, is_counted, in_counts, form_of, is_calling, calling_in};
 
 use crate::form::{Form, Numeral};
 use enc_base::{Counts, Token, read_signed, read_unsigned};

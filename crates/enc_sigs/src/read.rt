@@ -172,7 +172,7 @@ pub fn many_elems<'a>(
 
 /// A generic instance: a class or a value type, and the arguments.
 #[cycle(reader)]
-#[tactic(auto, unfolding(crate::specs::Grammar::instance_in, crate::specs::Grammar::byte_in, crate::specs::Grammar::counted))]
+#[tactic(auto, unfolding(crate::specs::Grammar::instance_in, crate::specs::Grammar::byte_in, crate::specs::Grammar::list_in))]
 fn instance<'a>(
     alloc: Global,
     b: u8,

@@ -1,6 +1,6 @@
 //! Reading whole signatures (ECMA-335 II.23.2).
 ghost use Rattle.std.specs.Prelude.{◌≡◌, ℕ, ◌<◌, ◌^◌, length, IfOk};
-ghost use Rattle.enc_sigs.specs.Grammar.{sig_in, front_in, counted, accessed_in, parts_in, type_in, in_counts};
+ghost use Rattle.enc_sigs.specs.Grammar.{sig_in, front_in, list_in, accessed_in, parts_in, type_in, in_counts};
 ghost use Rattle.enc_sigs.specs.Reads.{Gives, Reads, AreRead};
 ghost use Rattle.enc_sigs.specs.declared.kind.SigKind.TheVariants as sigs;
 
@@ -17,13 +17,13 @@ use std::alloc::Global;
 const DEPTH: u32 = 100;
 
 /// A count and so many types.
-#[tactic(auto, unfolding(crate::specs::Grammar::counted, crate::specs::Grammar::type_in))]
+#[tactic(auto, unfolding(crate::specs::Grammar::list_in, crate::specs::Grammar::type_in))]
 fn counted_elems<'a>(
     alloc: Global,
     bytes: &'a [u8],
     counts: &Counts,
 ) -> Result<(Vec<Elem>, &'a [u8]), SigFault>
-    ensures read { AreRead result (counted (type_in (in_counts counts.now)) bytes.now) }
+    ensures read { AreRead result (list_in (type_in (in_counts counts.now)) bytes.now) }
     ensures few { IfOk result (λ p. length p.0.items < 2 ^ 32) }
 {
     let Some((count, rest)) = number(bytes) else {

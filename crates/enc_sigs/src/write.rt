@@ -2,7 +2,7 @@
 ghost use Rattle.std.specs.Prelude.{◌≡◌, ℕ, ◌++◌, ◌∷◌, [], ◌%◌, ◌-◌, length, slice_get, IfOk, is_ok, if◌then◌else◌};
 ghost use Rattle.enc_sigs.specs.Tree.{forest_of, trees};
 ghost use Rattle.enc_sigs.specs.Spelling.{number_bytes, signed_bytes, token_bytes, numeral_bytes, each_numeral, numerals_bytes, joined, counted_bytes, generics_bytes, parts_bytes, array_bytes, numerals_of, front_of, pointer_bytes, formed_bytes, spellings, tree_bytes, front_bytes, sig_bytes, IsSpelled};
-ghost use Rattle.enc_sigs.specs.Grammar.{has_flag};
+ghost use Rattle.enc_base.specs.Numbers.{has_flag};
 
 use crate::elem::Elem;
 use crate::form::{Form, Numeral};

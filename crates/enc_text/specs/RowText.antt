@@ -43,23 +43,23 @@ abbrev pub equation : Column → List ℕ → Option Cell → List ℕ
 equation c name cell = 0x20 ∷ name ++ 0x3d ∷ value_in c cell
 
 -- a run has no cell and isn't printed
-abbrev pub named : Option Column → List ℕ → Option Cell → List ℕ
-named None name cell = []
-named (Some (Run table)) name cell = []
-named (Some c) name cell = equation c name cell
+abbrev pub named_cell : Option Column → List ℕ → Option Cell → List ℕ
+named_cell None name cell = []
+named_cell (Some (Run table)) name cell = []
+named_cell (Some c) name cell = equation c name cell
 
 unfoldable pub cell_text : Module → Token → ℕ → List ℕ
-cell_text m token i = named (column_in token.table i) (unwrap_or (column_name_in token.table i) []) (cell_of m token i)
+cell_text m token i = named_cell (column_in token.table i) (unwrap_or (column_name_in token.table i) []) (cell_of m token i)
 
 -- ` @G.R`: the generation, and the row's position there
-unfoldable pub place_text : RowPlace → List ℕ
-place_text place = codes " @" ++ decimal place.generation ++ 0x2e ∷ decimal place.row
+unfoldable pub row_place_text : RowPlace → List ℕ
+row_place_text place = codes " @" ++ decimal place.generation ++ 0x2e ∷ decimal place.row
 
 -- the row's line: its token, its table's name, each column, and its place
 unfoldable pub line_text : Module → RowPlace → Token → List ℕ
 line_text m place token =
     token_text token ++ 0x20 ∷ unwrap_or (table_name_in token.table) [] ++
-    joined_below (cell_text m token) (length (columns_in token.table)) ++ place_text place ++ 0x0a ∷ []
+    joined_below (cell_text m token) (length (columns_in token.table)) ++ row_place_text place ++ 0x0a ∷ []
 
 -- the line of a child row's owner
 unfoldable pub owner_text : Module → Token → List ℕ

@@ -41,9 +41,9 @@ bracketed bytes = 0x5b ∷ encode_lower bytes ++ 0x5d ∷ []
 unfoldable pub guid_text : List ℕ → List ℕ
 guid_text bytes = hyphenated_text lower (swap_fields bytes)
 
-abbrev pub code_text : Code → List ℕ
-code_text (F n) = 0x46 ∷ decimal n
-code_text (E n) = 0x45 ∷ decimal n
+abbrev pub refusal_code_text : Code → List ℕ
+refusal_code_text (F n) = 0x46 ∷ decimal n
+refusal_code_text (E n) = 0x45 ∷ decimal n
 
 abbrev pub stream_text : StreamName → List ℕ
 stream_text stream.Compressed = codes "#~"
@@ -76,4 +76,4 @@ place_text (place.Log k) = codes "log " ++ decimal k
 
 -- the line of a refused file
 unfoldable pub refused_line : List ℕ → Refusal → List ℕ
-refused_line name e = codes "refused " ++ name ++ 0x20 ∷ code_text e.code ++ 0x20 ∷ place_text e.place ++ 0x0a ∷ []
+refused_line name e = codes "refused " ++ name ++ 0x20 ∷ refusal_code_text e.code ++ 0x20 ∷ place_text e.place ++ 0x0a ∷ []

@@ -4,7 +4,7 @@ ghost use Rattle.enc_schema.specs.Schema.{columns_in, column_in};
 ghost use Rattle.enc_schema.specs.Names.{column_name_in};
 ghost use Rattle.enc_plain.specs.Module.{has_row, cell_of};
 ghost use Rattle.enc_schema.specs.Children.{is_child_table as is_of_children, owner_table, runs_in};
-ghost use Rattle.enc_text.specs.RowText.{value_in, equation, joined_below, cell_text, place_text, line_text, owner_text, kids_name as name_of_kids, kid_text, kids_text, code_text, value_text, row_text_of};
+ghost use Rattle.enc_text.specs.RowText.{value_in, equation, joined_below, cell_text, row_place_text, line_text, owner_text, kids_name as name_of_kids, kid_text, kids_text, code_text, value_text, row_text_of};
 ghost use Rattle.enc_opcodes.specs.Body.{body_of, code_seen};
 ghost use Rattle.enc_plain.specs.Cell.{body};
 ghost use Rattle.enc_schema.specs.declared.column.Column.{Column as TheColumn};
@@ -109,9 +109,9 @@ fn push_cells<V: ModuleView>(
     Ok(())
 }
 
-#[tactic(auto, unfolding(crate::specs::RowText::place_text))]
+#[tactic(auto, unfolding(crate::specs::RowText::row_place_text))]
 fn push_row_place(alloc: Global, place: RowPlace, out: &mut Vec<u8>) -> Result<(), AllocError>
-    ensures { OnOk result (out.new.items ≡ out.old.items ++ place_text place) }
+    ensures { OnOk result (out.new.items ≡ out.old.items ++ row_place_text place) }
 {
     push_str(out, " @")?;
     push_decimal(alloc, out, place.generation)?;

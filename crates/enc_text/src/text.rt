@@ -1,7 +1,7 @@
 //! Tokens, texts, blobs, GUIDs and refusals as printed bytes. Each call appends, and after want of
 //! memory what stands behind the old bytes is free: callers hand in a text of their own.
 ghost use Rattle.std.specs.Prelude.{◌≡◌, ◌≤◌, ◌++◌, ◌∷◌, [], length, OnOk, IfOk, flat_map, decimal, codes};
-ghost use Rattle.enc_text.specs.Text.{digits, token_text, escaped, quoted, bracketed, guid_text, code_text, stream_text, cell_place_text, place_text, refused_line};
+ghost use Rattle.enc_text.specs.Text.{digits, token_text, escaped, quoted, bracketed, guid_text, refusal_code_text, stream_text, cell_place_text, place_text, refused_line};
 
 use enc_base::{Code, Place, Refusal, StreamName, Token};
 use enc_schema::column_name;
@@ -101,7 +101,7 @@ pub fn push_guid(out: &mut Vec<u8>, bytes: [u8; 16]) -> Result<(), AllocError>
 }
 
 fn push_code(alloc: Global, out: &mut Vec<u8>, code: Code) -> Result<(), AllocError>
-    ensures { OnOk result (out.new.items ≡ out.old.items ++ code_text code) }
+    ensures { OnOk result (out.new.items ≡ out.old.items ++ refusal_code_text code) }
 {
     let (letter, number) = match code {
         Code::F(number) => ("F", number),

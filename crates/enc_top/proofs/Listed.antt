@@ -7,12 +7,12 @@ use Rattle.std.proofs.lemmas.List.Sums.{sum_by-append}
 use Rattle.enc_schema.specs.Schema.{list_at}
 use Rattle.enc_rows.specs.Source.{Source}
 use Rattle.enc_plain.specs.Module.{Module, Row, rows_in}
-use Rattle.enc_image.specs.Base.{module_in, begun}
+use Rattle.enc_image.specs.Base.{module_in, chain_of_base}
 use Rattle.enc_base.specs.declared.token.Token.{Token}
 use Rattle.enc_meta.specs.declared.heaps.HeapLengths.{HeapLengths}
-use Rattle.enc_meta.specs.Heaps.{lengths_of}
+use Rattle.enc_meta.specs.Heaps.{lengths_of, nil_guid}
 use Rattle.enc_delta.specs.Delta.{listed}
-use Rattle.enc_plain.specs.Chain.{Chain, id_of, nil_guid}
+use Rattle.enc_plain.specs.Chain.{Chain, id_of}
 use Rattle.enc_delta.specs.Rules.{own_guid}
 use Rattle.enc_agg.specs.Extend.{extended, chain_with}
 use Rattle.enc_agg.proofs.Histories.{ids_count, heaps_count}
@@ -27,7 +27,7 @@ past_all ds = drop_all (length ds - 0) ds (omega arith)
 
 -- before all deltas the rows are the base's
 pub base_count : (b : Source) (ds : List Source) (t : ℕ) → length (rows_in (chain_with b (drop (length ds - 0) ds)).plain t) ≡ length (rows_in (module_in b) t)
-unfolding chain_with begun
+unfolding chain_with chain_of_base
 base_count b ds t = rw (past_all ds) refl
 
 take_more : {X : Type 0} (xs : List X) (i : ℕ) (x : X) → slice_get xs i ≡ Some x → take (i + 1) xs ≡ take i xs ++ x ∷ []
@@ -85,7 +85,7 @@ id_split b (n ∷ newer) d older =
 
 -- the base's heaps stand first
 pub base_heaps : (b : Source) (ds : List Source) → slice_get (chain_with b ds).heaps 0 ≡ Some b.heaps
-unfolding chain_with begun extended
+unfolding chain_with chain_of_base extended
 base_heaps b [] = refl
 base_heaps b (d ∷ older) = get_kept (chain_with b older).heaps (d.heaps ∷ []) 0 (omega (arith, heaps_count b older)) ∙ base_heaps b older
 

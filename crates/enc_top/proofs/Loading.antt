@@ -10,7 +10,7 @@ use Rattle.enc_rows.specs.Source.{Source}
 use Rattle.enc_delta.specs.Delta.{delta_of}
 use Rattle.enc_agg.specs.Extend.{chain_with}
 use Rattle.enc_agg.specs.Seen.{History, chain_of_all}
-use Rattle.enc_top.specs.Verdict.{Stop, Done, ◌>>=◌, DeltaFiles, size_of, dll, load_one, load_delta, load_deltas, in_file, judge_deltas, judge_all, accept}
+use Rattle.enc_top.specs.Verdict.{Stop, Done, ◌>>=◌, DeltaFiles, files_size, dll, load_one, load_delta, load_deltas, in_file, judge_deltas, judge_all, accept}
 use Rattle.enc_checker.specs.Check.{judged}
 use Rattle.enc_top.specs.declared.load.DeltaFile.{DeltaFile}
 use Rattle.enc_top.specs.Loads.{file_seen, Adds}
@@ -31,9 +31,9 @@ one_more done f (Ok rest) = ap (λ xs. Ok xs) (sym (append_assoc done (f ∷ [])
 one_more done f (Err v) = refl
 
 -- one delta's files more
-pub more_loaded : (files : Files) (delta : List ℕ) (deltas : List (List ℕ)) (n : ℕ) (done : List DeltaFiles) (f : DeltaFiles) → load_delta files delta n ≡ Ok f → after_loaded done (load_deltas files (delta ∷ deltas) n) ≡ after_loaded (done ++ f ∷ []) (load_deltas files deltas (n + size_of f))
+pub more_loaded : (files : Files) (delta : List ℕ) (deltas : List (List ℕ)) (n : ℕ) (done : List DeltaFiles) (f : DeltaFiles) → load_delta files delta n ≡ Ok f → after_loaded done (load_deltas files (delta ∷ deltas) n) ≡ after_loaded (done ++ f ∷ []) (load_deltas files deltas (n + files_size f))
 unfolding load_deltas
-more_loaded files delta deltas n done f is = rw is (one_more done f (load_deltas files deltas (n + size_of f)))
+more_loaded files delta deltas n done f is = rw is (one_more done f (load_deltas files deltas (n + files_size f)))
 
 stops_then : {A B : Type 0} (r : Result A Stop) (f : A → Result B Stop) (plan : Plan) → StopsWith r plan → StopsWith (r >>= f) plan
 stops_then (Ok a) f plan h = absurd h
@@ -133,5 +133,5 @@ none_left (x ∷ xs) h = absurd (omega arith)
 pub file_more : (files more : List DeltaFile) (f : DeltaFile) → more ≡ files ++ f ∷ [] → map file_seen files ++ file_seen f ∷ [] ≡ map file_seen more
 file_more files more f e = rw e (sym (map-append file_seen files (f ∷ [])))
 
-pub loaded_so_far : (files : Files) (deltas : List (List ℕ)) (n m : ℕ) (done more : List DeltaFile) (f : DeltaFile) → more ≡ done ++ f ∷ [] → m ≡ n + size_of (file_seen f) → after_loaded (map file_seen done ++ file_seen f ∷ []) (load_deltas files deltas (n + size_of (file_seen f))) ≡ after_loaded (map file_seen more) (load_deltas files deltas m)
+pub loaded_so_far : (files : Files) (deltas : List (List ℕ)) (n m : ℕ) (done more : List DeltaFile) (f : DeltaFile) → more ≡ done ++ f ∷ [] → m ≡ n + files_size (file_seen f) → after_loaded (map file_seen done ++ file_seen f ∷ []) (load_deltas files deltas (n + files_size (file_seen f))) ≡ after_loaded (map file_seen more) (load_deltas files deltas m)
 loaded_so_far files deltas n m done more f e size = rw (file_more done more f e, size) refl

@@ -8,8 +8,8 @@ use Rattle.enc_top.specs.Done.{IsAnswer, AreSaves, outcome_of}
 use Rattle.enc_top.specs.Ending.{number_of_outcome, after_saves, IsSavedFront, IsSavedAndPart}
 
 -- the statuses with a whole answer: 0, 1, 2 and 6
-abbrev pub is_whole : ℕ → Bool
-is_whole status = status == 0 || status == 1 || status == 2 || status == 6
+abbrev pub answer_is_whole : ℕ → Bool
+answer_is_whole status = status == 0 || status == 1 || status == 2 || status == 6
 
 -- the status of a verdict
 abbrev pub status_of : Verdict → ℕ
@@ -24,7 +24,7 @@ IsPartPrinted verdict old new = (output : List ℕ) × IsAnswer verdict output �
 
 -- what was printed: at a whole status an answer, whole; at 5 a prefix of one; at 3 and 4 nothing
 pub record Prints (status : ℕ) (verdict : Verdict) (old new : Option (List ℕ)) : Type 0 where
-  pub whole : is_whole status ≡ true → IsPrinted verdict old new
+  pub whole : answer_is_whole status ≡ true → IsPrinted verdict old new
   pub memory : status ≡ 3 → new ≡ old
   pub store : status ≡ 4 → new ≡ old
   pub fault : status ≡ 5 → IsPartPrinted verdict old new
@@ -48,7 +48,7 @@ IsPartSaved verdict old new = (saves : List (List ℕ × List ℕ)) × AreSaves 
 
 -- the files afterwards: at a whole status and at 5 those of the verdict; at 3 and 4 as before, or saving stopped on the way
 pub record Leaves (status : ℕ) (verdict : Verdict) (old new : Option Files) : Type 0 where
-  pub whole : is_whole status ≡ true → IsSaved verdict old new
+  pub whole : answer_is_whole status ≡ true → IsSaved verdict old new
   pub fault : status ≡ 5 → IsSaved verdict old new
   pub memory : status ≡ 3 → (new ≡ old) ⊎ IsFrontSaved verdict old new
   pub store : status ≡ 4 → (new ≡ old) ⊎ IsPartSaved verdict old new

@@ -1,7 +1,7 @@
 -- The examples, a base of 200 bytes and a delta of 220, read and printed by computing on the definitions alone.
 use Rattle.std.specs.Prelude.{◌≡◌, ℕ, List, [], ◌∷◌, ◌++◌, Result, Ok, codes}
 use Rattle.enc_base.specs.declared.token.Token.{Token}
-use Rattle.enc_meta.specs.Example.{example}
+use Rattle.enc_meta.specs.Example.{root_example}
 use Rattle.enc_text.specs.Text.{guid_text}
 use Rattle.enc_top.specs.Verdict.{◌>>=◌, Stop, DeltaFiles, Followed, judge_all}
 use Rattle.enc_top.specs.Done.{shown, listed_as}
@@ -21,7 +21,7 @@ abbrev pub example_line : List ℕ
 example_line = codes "01000001 TypeRef ResolutionScope=23000001 TypeName=\"Object\" TypeNamespace=\"System\" @0.1" ++ 0x0a ∷ []
 
 abbrev pub ExampleIsShown : Type 0
-ExampleIsShown = printed (judge_all (codes "m") example []) (shown example_token) ≡ Ok example_line
+ExampleIsShown = printed (judge_all (codes "m") root_example []) (shown example_token) ≡ Ok example_line
 
 -- a delta that adds row 2 of TypeRef
 abbrev pub example_delta : List ℕ
@@ -51,7 +51,7 @@ abbrev pub example_added_line : List ℕ
 example_added_line = codes "01000002 TypeRef ResolutionScope=23000001 TypeName=\"String\" TypeNamespace=\"System\" @1.1" ++ 0x0a ∷ []
 
 abbrev pub ExampleIsExtended : Type 0
-ExampleIsExtended = printed (judge_all (codes "m") example example_files) (shown example_added) ≡ Ok example_added_line
+ExampleIsExtended = printed (judge_all (codes "m") root_example example_files) (shown example_added) ≡ Ok example_added_line
 
 -- the delta's EncId
 abbrev pub example_id : List ℕ
@@ -64,4 +64,4 @@ example_lines =
     ((guid_text example_id ++ codes " rows 1 strings 8 users 0 blobs 0 guids 2\n") ++ codes "  01000002 insert 1.1 newest 1.1\n")
 
 abbrev pub ExampleIsListed : Type 0
-ExampleIsListed = printed (judge_all (codes "m") example example_files) listed_as ≡ Ok example_lines
+ExampleIsListed = printed (judge_all (codes "m") root_example example_files) listed_as ≡ Ok example_lines

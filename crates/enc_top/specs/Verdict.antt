@@ -67,15 +67,15 @@ load_delta files delta before = do
   Ok (record { name = meta delta; metadata = metadata; code = code })
 
 -- how many bytes they have
-abbrev pub size_of : DeltaFiles → ℕ
-size_of f = length f.metadata + length f.code
+abbrev pub files_size : DeltaFiles → ℕ
+files_size f = length f.metadata + length f.code
 
 -- all files are loaded before one is judged
 unfoldable pub load_deltas : Files → List (List ℕ) → ℕ → Result (List DeltaFiles) Stop
 load_deltas files [] before = Ok []
 load_deltas files (delta ∷ deltas) before = do
   f ← load_delta files delta before
-  fs ← load_deltas files deltas (before + size_of f)
+  fs ← load_deltas files deltas (before + files_size f)
   Ok (f ∷ fs)
 
 -- a refusal, of the file with this name

@@ -29,8 +29,8 @@ token_with (Ok bytes) = Some (token_of (from_be_bytes w32 bytes))
 token_with (Err e) = None
 
 -- the token of eight hexadecimal digits of either case
-unfoldable pub token_in : List ℕ → Option Token
-token_in word = token_with (decode_sized word 4)
+unfoldable pub token_of_word : List ℕ → Option Token
+token_of_word word = token_with (decode_sized word 4)
 
 -- a base and deltas, each a name
 unfoldable pub are_names : List ℕ → List (List ℕ) → Bool
@@ -38,7 +38,7 @@ are_names base deltas = is_name base && list_all is_name deltas
 
 -- `show BASE TOKEN DELTA..`
 abbrev pub show_of : List (List ℕ) → Option Job
-show_of (base ∷ token ∷ deltas) = if are_names base deltas then option_map (λ t. show base t deltas) (token_in token) else None
+show_of (base ∷ token ∷ deltas) = if are_names base deltas then option_map (λ t. show base t deltas) (token_of_word token) else None
 show_of _ = None
 
 -- `list BASE DELTA..`

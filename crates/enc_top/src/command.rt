@@ -1,7 +1,7 @@
 //! The words of a command.
 ghost use Rattle.std.specs.Prelude.{◌≡◌, option_map, map};
 ghost use Rattle.std.specs.List.{list_all};
-ghost use Rattle.enc_top.specs.Words.{is_name_byte, is_name, are_names, token_in, show_of, list_of, check_of, job_of, texts};
+ghost use Rattle.enc_top.specs.Words.{is_name_byte, is_name, are_names, token_of_word, show_of, list_of, check_of, job_of, texts};
 ghost use Rattle.enc_top.specs.Commands.{job_seen};
 
 use enc_base::Token;
@@ -51,9 +51,9 @@ fn is_name(word: &str) -> bool
     1 <= word.len() && word.len() <= 200 && are_name_bytes(word.as_bytes())
 }
 
-#[tactic(auto, unfolding(crate::specs::Words::token_in))]
+#[tactic(auto, unfolding(crate::specs::Words::token_of_word))]
 fn token_of(word: &str) -> Option<Token>
-    ensures { result ≡ token_in word.now }
+    ensures { result ≡ token_of_word word.now }
 {
     let mut bytes = [0; 4];
     match hex::decode_to_slice(word, &mut bytes) {

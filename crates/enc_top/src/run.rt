@@ -5,7 +5,7 @@ ghost use Rattle.enc_top.specs.Words.{job_of, texts};
 ghost use Rattle.enc_top.specs.Verdict.{no_command, verdict_of};
 ghost use Rattle.enc_top.specs.Done.{outcome_of};
 ghost use Rattle.enc_top.specs.Ending.{IfWhole};
-ghost use Rattle.enc_top.specs.Answers.{is_whole, status_of, Prints, PrintsFor, Leaves, LeavesAt};
+ghost use Rattle.enc_top.specs.Answers.{answer_is_whole, status_of, Prints, PrintsFor, Leaves, LeavesAt};
 ghost use Rattle.enc_top.specs.declared.plan.Outcome.{Outcome};
 
 use crate::commands::plan_of;
@@ -49,14 +49,14 @@ pub fn run_tool<S: Store, K: Sink>(
     out: &mut K,
 ) -> u8
     ensures known { result ≤ 6 }
-    ensures verdict { IfSome (S.told store.old) (λ files. is_whole result ≡ true → result ≡ status_of (verdict_of (texts words.now) files)) }
+    ensures verdict { IfSome (S.told store.old) (λ files. answer_is_whole result ≡ true → result ≡ status_of (verdict_of (texts words.now) files)) }
     ensures prints { IfSome (S.told store.old) (λ files. Prints result (verdict_of (texts words.now) files) (K.told out.old) (K.told out.new)) }
     ensures files { IfSome (S.told store.old) (λ files. Leaves result (verdict_of (texts words.now) files) (S.told store.old) (S.told store.new)) }
     ensures complete { IfSome (S.told store.old) (λ files. ¬ Rose (S.faults store.old) (S.faults store.new) → ¬ Rose (K.faults out.old) (K.faults out.new) → (result ≡ status_of (verdict_of (texts words.now) files)) ⊎ (result ≡ 3)) }
     ensures usage { job_of (texts words.now) ≡ None → Prints result (Err no_command) (K.told out.old) (K.told out.new) }
-    ensures no_job { job_of (texts words.now) ≡ None → is_whole result ≡ true → result ≡ 2 }
+    ensures no_job { job_of (texts words.now) ≡ None → answer_is_whole result ≡ true → result ≡ 2 }
     ensures words { result ≡ 2 → job_of (texts words.now) ≡ None }
-    ensures unchanged { is_whole result ≡ true → (result ≡ 0) ⊎ (S.told store.new ≡ S.told store.old) }
+    ensures unchanged { answer_is_whole result ≡ true → (result ≡ 0) ⊎ (S.told store.new ≡ S.told store.old) }
     ensures memory { result ≡ 3 → K.told out.new ≡ K.told out.old }
     ensures nothing { result ≡ 4 → K.told out.new ≡ K.told out.old }
     ensures asked { result ≡ 4 → IsSome (job_of (texts words.now)) }

@@ -1,6 +1,6 @@
 use Rattle.std.proofs.Common.{◌<◌, length, refl, arith}
 use Rattle.enc_plain.specs.Module.{rows_in}
-use Rattle.enc_image.specs.Base.{module_in, begun}
+use Rattle.enc_image.specs.Base.{module_in, chain_of_base}
 use Rattle.std.specs.Prelude.{reverse}
 use Rattle.enc_agg.specs.Extend.{chain_with}
 use Rattle.enc_delta.specs.Delta.{log_in}
@@ -11,27 +11,27 @@ use Rattle.enc_agg.proofs.PairedChildren.{kids_row, kid_old, kid_new, kids_sum, 
 use Rattle.enc_agg.proofs.added.+kid_back.Goals as goal
 
 pub kids-last-requires-clause-row : goal.kids-last-requires-clause-row
-unfolding chain_with begun
+unfolding chain_with chain_of_base
 kids-last-requires-clause-row t c = kids_row (module_in c.args.image.now) c.args.owner c.args.table c.args.back _ refl c.requires.row (rw c.in_default.ensures.parts at c.requires.there)
 
 pub overflow_sub-last : goal.overflow_sub-last
-unfolding chain_with begun
+unfolding chain_with chain_of_base
 overflow_sub-last t c = let there = rw c.in_default.ensures.parts at c.requires.there in omega (arith, there, c.kids-last.ensures)
 
 pub overflow_sub-last-in_default : goal.overflow_sub-last-in_default
-unfolding chain_with begun
+unfolding chain_with chain_of_base
 overflow_sub-last-in_default t c = let there = rw c.in_default.ensures.parts at c.requires.there in omega (arith, there, c.kids-last.ensures)
 
 pub kid-requires-clause-row : goal.kid-requires-clause-row
-unfolding chain_with begun
+unfolding chain_with chain_of_base
 kid-requires-clause-row t c = kids_row (module_in c.args.image.now) c.args.owner c.args.table c.args.back _ refl c.requires.row (rw c.in_default.ensures.parts at c.requires.there)
 
 pub kid-requires-clause-there : goal.kid-requires-clause-there
-unfolding chain_with begun
+unfolding chain_with chain_of_base
 kid-requires-clause-there t c = let there = rw c.in_default.ensures.parts at c.requires.there in omega (arith, there, c.kids-last.ensures)
 
 pub returns-in_default : goal.returns-in_default
-unfolding chain_with begun
+unfolding chain_with chain_of_base
 returns-in_default t c = rw (c.in_default.ensures.parts, ← c.kids-last.ensures) c.kid.ensures.row
 
 pub kid_back-requires : goal.kid_back-requires

@@ -1,16 +1,16 @@
 use Rattle.std.proofs.Common.{◌<◌, length, arith}
-use Rattle.enc_image.specs.Base.{begun}
+use Rattle.enc_image.specs.Base.{chain_of_base}
 use Rattle.enc_agg.specs.Extend.{chain_with}
 use Rattle.enc_agg.proofs.Histories.{last_added, lasted}
 use Rattle.enc_agg.proofs.PairedChildren.{some_row, has_old, old_owner, new_owner, new_within}
 use Rattle.enc_agg.proofs.added.+owner_in.Goals as goal
 
 pub owner-requires-clause-row : goal.owner-requires-clause-row
-unfolding chain_with begun
+unfolding chain_with chain_of_base
 owner-requires-clause-row t c = rw c.in_default.ensures.parts at c.requires.row
 
 pub returns-in_default : goal.returns-in_default
-unfolding chain_with begun
+unfolding chain_with chain_of_base
 returns-in_default t c = rw c.in_default.ensures.parts c.owner.ensures
 
 pub count_in-before-requires : goal.count_in-before-requires

@@ -1,11 +1,11 @@
 use Rattle.std.proofs.Common.{arith}
-use Rattle.enc_image.specs.Base.{begun}
+use Rattle.enc_image.specs.Base.{chain_of_base}
 use Rattle.enc_agg.specs.Extend.{chain_with}
 use Rattle.enc_agg.proofs.Histories.{counts_are, no_table, with_tables, rows_few}
 use Rattle.enc_agg.proofs.added.count_in.Goals as goal
 
 pub returns-in_default-clause-count : goal.returns-in_default-clause-count
-unfolding chain_with begun
+unfolding chain_with chain_of_base
 returns-in_default-clause-count c = rw c.in_default.ensures.parts c.count.ensures.count
 
 pub returns-then-table-lt64-clause-count : goal.returns-then-table-lt64-clause-count

@@ -1,6 +1,6 @@
 use Rattle.std.proofs.Common.{◌≡◌, ◌<◌, length, get_or, refl, sym, ◌∙◌, arith}
 use Rattle.std.specs.Prelude.{bytes_eq}
-use Rattle.enc_plain.specs.Chain.{nil_guid}
+use Rattle.enc_meta.specs.Heaps.{nil_guid}
 use Rattle.enc_delta.proofs.OneHeapMore.{id_more, any_found, any_more, any_all}
 use Rattle.enc_delta.proofs.identity.is_used.Goals as goal
 

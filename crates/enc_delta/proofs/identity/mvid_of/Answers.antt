@@ -1,5 +1,5 @@
 use Rattle.std.proofs.Common.{length, refl, sym, ap, ◌∙◌}
-use Rattle.enc_plain.specs.Chain.{nil_guid}
+use Rattle.enc_meta.specs.Heaps.{nil_guid}
 use Rattle.enc_plain.specs.Module.{rows_in}
 use Rattle.enc_schema.specs.Schema.{columns_in}
 use Rattle.enc_delta.proofs.OneHeapMore.{mvid_none}

@@ -1,5 +1,5 @@
 use Rattle.std.proofs.Common.{refl, arith}
-use Rattle.enc_rows.specs.Runs.{Rows, rows_with}
+use Rattle.enc_rows.specs.Runs.{TableStream, table_stream}
 use Rattle.enc_rows.proofs.Named.{named_outside, named_past, named_there}
 use Rattle.enc_rows.proofs.Silent.{ptr_column_is}
 use Rattle.enc_rows.proofs.Times.{cell_is}
@@ -8,7 +8,7 @@ use Rattle.enc_rows.proofs.children.pointed.Goals as goal
 
 pub returns-then-p-eq0 : goal.returns-then-p-eq0
 returns-then-p-eq0 c =
-    let s : Rows = rows_with c.args.bytes.now c.args.tables.now in
+    let s : TableStream = table_stream c.args.bytes.now c.args.tables.now in
     elim c.then-p-eq0.branch [
       | then-p-eq0-via-then-p-eq0 w ↦ named_outside s c.args.child c.args.p c.requires.child c.requires.ptr (omega arith)
       | then-p-eq0-via-else-p-eq0+then-p-count w ↦ named_past s c.args.child c.args.p c.requires.child c.requires.ptr (rw (← c.ptr_table-table.ensures.ptr) (omega arith))

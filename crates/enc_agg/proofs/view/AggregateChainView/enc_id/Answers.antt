@@ -1,5 +1,5 @@
 use Rattle.std.proofs.Common.{◌≡◌, suc, ◌-◌, refl, arith}
-use Rattle.enc_plain.specs.Chain.{nil_guid}
+use Rattle.enc_meta.specs.Heaps.{nil_guid}
 use Rattle.enc_agg.proofs.Histories.{id_at, heaps_many}
 use Rattle.enc_agg.proofs.view.AggregateChainView.enc_id.Goals as goal
 

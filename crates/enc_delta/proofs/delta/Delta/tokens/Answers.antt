@@ -2,7 +2,7 @@ use Rattle.std.proofs.Common.{length, refl, sym, ap, ◌∙◌, arith}
 use Rattle.std.specs.Prelude.{not, nat_lt}
 use Rattle.std.proofs.lemmas.Bool.Decides.{nat_tests}
 use Rattle.enc_base.specs.declared.token.Token.{Token}
-use Rattle.enc_delta.specs.Delta.{is_module, token_at}
+use Rattle.enc_delta.specs.Delta.{is_module, map_token}
 use Rattle.enc_delta.proofs.Listed.{tokens_none, more_kept, more_left, more_rows, more_few}
 use Rattle.enc_delta.proofs.delta.Delta.tokens.Goals as goal
 use Rattle.enc_delta.proofs.delta.Delta.tokens.Goals.{then-not-is_module+in_ok-push, else-not-is_module}
@@ -18,7 +18,7 @@ loop-i-init c = record {
 pub loop-i-preserved : goal.loop-i-preserved
 loop-i-preserved c = elim c.if-not-is_module.branch [
   | then-not-is_module+in_ok-push w ↦
-      let kept = more_kept (λ t. not (is_module t)) (λ (t : Token). nat_lt t.row 0x1000000) (token_at c.args.self.now) c.loop-i.i c.loop-i.tokens.items c.if-not-is_module.tokens.items c.token-token.result c.loop-i.invariant.items c.loop-i.invariant.rows c.token-token.ensures.at (ap not (sym c.is_module.ensures ∙ w.if-not-is_module.true)) (grind (arith, nat_tests, c.token-token.ensures.row)) (rw w.tokens-is w.in_ok-push.ensures.items) in
+      let kept = more_kept (λ t. not (is_module t)) (λ (t : Token). nat_lt t.row 0x1000000) (map_token c.args.self.now) c.loop-i.i c.loop-i.tokens.items c.if-not-is_module.tokens.items c.token-token.result c.loop-i.invariant.items c.loop-i.invariant.rows c.token-token.ensures.at (ap not (sym c.is_module.ensures ∙ w.if-not-is_module.true)) (grind (arith, nat_tests, c.token-token.ensures.row)) (rw w.tokens-is w.in_ok-push.ensures.items) in
       record {
         items = kept.0;
         rows = kept.1;
@@ -26,7 +26,7 @@ loop-i-preserved c = elim c.if-not-is_module.branch [
         few = omega (arith, more_few (length c.loop-i.tokens.items) c.loop-i.tokens.items c.if-not-is_module.tokens.items c.token-token.result refl (rw w.tokens-is w.in_ok-push.ensures.items), c.loop-i.invariant.few);
       }
   | else-not-is_module w ↦
-      let left = more_left (λ t. not (is_module t)) (λ (t : Token). nat_lt t.row 0x1000000) (token_at c.args.self.now) c.loop-i.i c.loop-i.tokens.items c.if-not-is_module.tokens.items c.token-token.result c.loop-i.invariant.items c.loop-i.invariant.rows c.token-token.ensures.at (ap not (sym c.is_module.ensures ∙ w.if-not-is_module.false)) (ap (λ v. v.items) w.tokens-is) in
+      let left = more_left (λ t. not (is_module t)) (λ (t : Token). nat_lt t.row 0x1000000) (map_token c.args.self.now) c.loop-i.i c.loop-i.tokens.items c.if-not-is_module.tokens.items c.token-token.result c.loop-i.invariant.items c.loop-i.invariant.rows c.token-token.ensures.at (ap not (sym c.is_module.ensures ∙ w.if-not-is_module.false)) (ap (λ v. v.items) w.tokens-is) in
       record {
         items = left.0;
         rows = left.1;
