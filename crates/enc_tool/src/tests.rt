@@ -97,6 +97,26 @@ fn changed(alloc: Global, bytes: &str, changes: &[(usize, &str)]) -> Result<Vec<
     Ok(all)
 }
 
+/// The words over these files in hexadecimal, of which one has these changes, print the text and have
+/// the status.
+fn over(
+    rt: &(impl Abort + AllocGlobal),
+    files: &[(&str, &str)],
+    file: &str,
+    changes: &[(usize, &str)],
+    words: &[&str],
+    status: u8,
+    output: &str,
+) -> Result<(), Fail> {
+    let mut store = MemStore::begin(rt.alloc());
+    for (name, text) in files {
+        let count = if *name == file { changes.len() } else { 0 };
+        let bytes = changed(rt.alloc(), text, &changes[..count])?;
+        store.set_file(name, bytes.as_slice())?;
+    }
+    answers_over(rt, &mut store, words, status, output)
+}
+
 /// The words over these files print the text and have the status.
 fn answers(
     rt: &(impl Abort + AllocGlobal),

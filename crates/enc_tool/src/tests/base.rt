@@ -158,50 +158,41 @@ fn cuts_the_table_stream_at_every_length(rt: HostRuntime) -> Result<(), Fail> {
 
 #[test]
 fn tells_absent_tokens(rt: HostRuntime) -> Result<(), Fail> {
-    holds(
-        &rt,
-        &whole(&["show", "m", "01000002"], 0, "absent 01000002\n"),
-    )?;
-    holds(
-        &rt,
-        &whole(&["show", "m", "01000000"], 0, "absent 01000000\n"),
-    )?;
-    holds(
-        &rt,
-        &whole(&["show", "m", "FFffFFff"], 0, "absent ffffffff\n"),
-    )?;
-    holds(
-        &rt,
-        &whole(&["show", "m", "1e000001"], 0, "absent 1e000001\n"),
-    )?;
+    for (token, output) in [
+        ("01000002", "absent 01000002\n"),
+        ("01000000", "absent 01000000\n"),
+        ("FFffFFff", "absent ffffffff\n"),
+        ("1e000001", "absent 1e000001\n"),
+    ] {
+        holds(&rt, &whole(&["show", "m", token], 0, output))?;
+    }
     Ok(())
 }
 
 #[test]
 fn names_the_first_refusal(rt: HostRuntime) -> Result<(), Fail> {
     let words = ["show", "m", "01000001"].as_slice();
-    let refused = [
+    for (cut, at, put, output) in [
         // neither an image nor bare
-        changed(3, 0, "", words, 1, "refused m.dll F3 headers\n"),
-        changed(200, 0, "4d", words, 1, "refused m.dll F3 headers\n"),
+        (3, 0, "", "refused m.dll F3 headers\n"),
+        (200, 0, "4d", "refused m.dll F3 headers\n"),
         // the root is cut, or has another reserved number
-        changed(31, 0, "", words, 1, "refused m.dll F1 root\n"),
-        changed(79, 0, "", words, 1, "refused m.dll F1 root\n"),
-        changed(200, 8, "01", words, 1, "refused m.dll F1 root\n"),
+        (31, 0, "", "refused m.dll F1 root\n"),
+        (79, 0, "", "refused m.dll F1 root\n"),
+        (200, 8, "01", "refused m.dll F1 root\n"),
         // a stream passes the end, none is a table stream, and both are there
-        changed(80, 0, "", words, 1, "refused m.dll F2 #~\n"),
-        changed(183, 0, "", words, 1, "refused m.dll F2 #Strings\n"),
-        changed(199, 0, "", words, 1, "refused m.dll F2 #GUID\n"),
-        changed(200, 40, "2358", words, 1, "refused m.dll F2 #~\n"),
+        (80, 0, "", "refused m.dll F2 #~\n"),
+        (183, 0, "", "refused m.dll F2 #Strings\n"),
+        (199, 0, "", "refused m.dll F2 #GUID\n"),
+        (200, 40, "2358", "refused m.dll F2 #~\n"),
         // the table stream is too short for its rows, has no Module row, or a table past 2C
-        changed(200, 36, "3c", words, 1, "refused m.dll F6 tables\n"),
-        changed(200, 104, "02", words, 1, "refused m.dll F6 tables\n"),
-        changed(200, 93, "20", words, 1, "refused m.dll F6 tables\n"),
+        (200, 36, "3c", "refused m.dll F6 tables\n"),
+        (200, 104, "02", "refused m.dll F6 tables\n"),
+        (200, 93, "20", "refused m.dll F6 tables\n"),
         // one table more, whose rows don't stand in the stream
-        changed(200, 88, "07", words, 1, "refused m.dll F6 tables\n"),
-    ];
-    for case in &refused {
-        holds(&rt, case)?;
+        (200, 88, "07", "refused m.dll F6 tables\n"),
+    ] {
+        holds(&rt, &changed(cut, at, put, words, 1, output))?;
     }
     Ok(())
 }
@@ -209,27 +200,12 @@ fn names_the_first_refusal(rt: HostRuntime) -> Result<(), Fail> {
 #[test]
 fn names_the_first_cell(rt: HostRuntime) -> Result<(), Fail> {
     let words = ["show", "m", "01000001"].as_slice();
-    let refused = [
-        // an index past its table, and an offset in the middle of nothing
-        changed(
-            200,
-            126,
-            "0a",
-            words,
-            1,
-            "refused m.dll F7 01000001.ResolutionScope\n",
-        ),
-        changed(
-            200,
-            128,
-            "1e",
-            words,
-            1,
-            "refused m.dll F8 01000001.TypeName\n",
-        ),
-    ];
-    for case in &refused {
-        holds(&rt, case)?;
+    // an index past its table, and an offset in the middle of nothing
+    for (at, put, output) in [
+        (126, "0a", "refused m.dll F7 01000001.ResolutionScope\n"),
+        (128, "1e", "refused m.dll F8 01000001.TypeName\n"),
+    ] {
+        holds(&rt, &changed(200, at, put, words, 1, output))?;
     }
     Ok(())
 }
@@ -249,17 +225,22 @@ fn tells_missing_files_and_wrong_words(rt: HostRuntime) -> Result<(), Fail> {
             "missing d/-_.9/m.dll\n",
         ),
     )?;
-    holds(&rt, &whole(&[], 2, usage))?;
-    holds(&rt, &whole(&["show", "m", "1"], 2, usage))?;
-    holds(&rt, &whole(&["show", "m", "0100000g"], 2, usage))?;
-    holds(&rt, &whole(&["show", "", "01000001"], 2, usage))?;
-    holds(&rt, &whole(&["show", LONG, "01000001"], 2, usage))?;
-    holds(&rt, &whole(&["show", "a b", "01000001"], 2, usage))?;
-    holds(&rt, &whole(&["Show", "m", "01000001"], 2, usage))?;
-    holds(&rt, &whole(&["list"], 2, usage))?;
-    holds(&rt, &whole(&["list", "a b"], 2, usage))?;
-    holds(&rt, &whole(&["list", LONG], 2, usage))?;
+    let wrong: [&[&str]; 11] = [
+        &[],
+        &["show", "m", "1"],
+        &["show", "m", "0100000g"],
+        &["show", "", "01000001"],
+        &["show", LONG, "01000001"],
+        &["show", "a b", "01000001"],
+        &["Show", "m", "01000001"],
+        &["list"],
+        &["list", "a b"],
+        &["list", LONG],
+        &["apply", "m"],
+    ];
+    for words in wrong {
+        holds(&rt, &whole(words, 2, usage))?;
+    }
     holds(&rt, &whole(&["list", "n"], 6, "missing n.dll\n"))?;
-    holds(&rt, &whole(&["apply", "m"], 2, usage))?;
     Ok(())
 }

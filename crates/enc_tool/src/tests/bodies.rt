@@ -1,5 +1,5 @@
 //! Deltas with bodies behind an image: what is shown of them, and each way to break E16 and E17.
-use super::images::P32_DLL;
+use super::images::{LOOP_ROW, P32_DLL};
 use super::{answers_over, changed};
 use enc_outside::MemStore;
 use std::process::Abort;
@@ -79,21 +79,20 @@ const D2_META: &str = concat!(
 /// Its code: four bytes of nothing, and two tiny bodies.
 const D2_IL: &str = concat!("00000000", "1e721d000070262a", "227214000070261d2a");
 
+/// What is shown of the first method with its body of the first delta.
+const TINY_ROW: &str = concat!(
+    "06000001 MethodDef RVA=body ImplFlags=0000 Flags=0016 Name=\"Tiny\" Signature=[000008] @1.1\n",
+    "  owner 02000002\n",
+    "  body stack=8 init=0 locals=00000000\n",
+    "  IL_0000 call 06000007\n",
+    "  IL_0005 ret\n",
+);
+
 /// A number of deltas, a token, and what is shown.
 const SHOWN: [(usize, &str, &str); 8] = [
     (0, "06000007", "absent 06000007\n"),
     // a body instead of another, which names a method that the delta adds
-    (
-        1,
-        "06000001",
-        concat!(
-            "06000001 MethodDef RVA=body ImplFlags=0000 Flags=0016 Name=\"Tiny\" Signature=[000008] @1.1\n",
-            "  owner 02000002\n",
-            "  body stack=8 init=0 locals=00000000\n",
-            "  IL_0000 call 06000007\n",
-            "  IL_0005 ret\n",
-        ),
-    ),
+    (1, "06000001", TINY_ROW),
     // a new method: texts of the delta and of the image
     (
         1,
@@ -115,62 +114,10 @@ const SHOWN: [(usize, &str, &str); 8] = [
         ),
     ),
     // a body of the image with its text, after one and after two deltas
-    (
-        1,
-        "06000002",
-        concat!(
-            "06000002 MethodDef RVA=body ImplFlags=0000 Flags=0016 Name=\"Loop\" Signature=[000008] @0.2\n",
-            "  owner 02000002\n",
-            "  body stack=3 init=1 locals=11000001\n",
-            "  IL_0000 ldstr \"say \\x22\\xc3\\xa9\\x22\\x0a\"\n",
-            "  IL_0005 stloc.0\n",
-            "  IL_0006 br.s IL_000f\n",
-            "  IL_0008 nop\n",
-            "  IL_0009 ldc.i4 100000\n",
-            "  IL_000e pop\n",
-            "  IL_000f ldloc.1\n",
-            "  IL_0010 switch IL_0026,IL_0008,IL_0030\n",
-            "  IL_0021 br IL_0030\n",
-            "  IL_0026 ldc.r8 0000000000000440\n",
-            "  IL_002f pop\n",
-            "  IL_0030 ldloc.1\n",
-            "  IL_0031 ret\n",
-        ),
-    ),
-    (
-        2,
-        "06000002",
-        concat!(
-            "06000002 MethodDef RVA=body ImplFlags=0000 Flags=0016 Name=\"Loop\" Signature=[000008] @0.2\n",
-            "  owner 02000002\n",
-            "  body stack=3 init=1 locals=11000001\n",
-            "  IL_0000 ldstr \"say \\x22\\xc3\\xa9\\x22\\x0a\"\n",
-            "  IL_0005 stloc.0\n",
-            "  IL_0006 br.s IL_000f\n",
-            "  IL_0008 nop\n",
-            "  IL_0009 ldc.i4 100000\n",
-            "  IL_000e pop\n",
-            "  IL_000f ldloc.1\n",
-            "  IL_0010 switch IL_0026,IL_0008,IL_0030\n",
-            "  IL_0021 br IL_0030\n",
-            "  IL_0026 ldc.r8 0000000000000440\n",
-            "  IL_002f pop\n",
-            "  IL_0030 ldloc.1\n",
-            "  IL_0031 ret\n",
-        ),
-    ),
+    (1, "06000002", LOOP_ROW),
+    (2, "06000002", LOOP_ROW),
     // a body of the first delta after the second
-    (
-        2,
-        "06000001",
-        concat!(
-            "06000001 MethodDef RVA=body ImplFlags=0000 Flags=0016 Name=\"Tiny\" Signature=[000008] @1.1\n",
-            "  owner 02000002\n",
-            "  body stack=8 init=0 locals=00000000\n",
-            "  IL_0000 call 06000007\n",
-            "  IL_0005 ret\n",
-        ),
-    ),
+    (2, "06000001", TINY_ROW),
     // another body of that method, with the text of the first delta
     (
         2,

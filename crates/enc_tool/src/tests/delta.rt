@@ -232,39 +232,39 @@ fn refuses_a_delta_whose_tables_are_not_there(rt: HostRuntime) -> Result<(), Fai
     Ok(())
 }
 
-/// What a delta of this length answers: the root has 96 bytes with its headers, the table stream
-/// ends at 180, `#Strings` at 188, `#GUID` at 220.
-fn answer_at(len: usize) -> (u8, &'static str) {
+/// What the words answer over a delta of this length, which as a whole is answered so: the root has 96
+/// bytes with its headers, the table stream ends at 180, `#Strings` at 188, `#GUID` at 220.
+fn answer_at(len: usize, whole: &str) -> (u8, &str) {
     match len {
         0..=95 => (1, "refused d1.meta F1 root\n"),
         96..=179 => (1, "refused d1.meta F2 #-\n"),
         180..=187 => (1, "refused d1.meta F2 #Strings\n"),
         188..=219 => (1, "refused d1.meta F2 #GUID\n"),
-        _ => (0, STRING_LINE),
+        _ => (0, whole),
     }
 }
 
-#[test]
-fn cuts_a_delta_at_every_length(rt: HostRuntime) -> Result<(), Fail> {
+/// The words over the example with a delta of every length; the whole delta is answered so.
+pub fn cuts(rt: &(impl Abort + AllocGlobal), words: &[&str], whole: &str) -> Result<(), Fail> {
     let alloc = rt.alloc();
     let base = changed(alloc, M_DLL, &[])?;
     let meta = changed(alloc, D1_META, &[])?;
     let il = changed(alloc, D1_IL, &[])?;
     for len in 0..221 {
-        let (status, output) = answer_at(len);
-        answers(
-            &rt,
-            &[
-                ("m.dll", base.as_slice()),
-                ("d1.meta", meta.get(..len).unwrap_or(&[])),
-                ("d1.il", il.as_slice()),
-            ],
-            &["show", "m", "01000002", "d1"],
-            status,
-            output,
-        )?;
+        let (status, output) = answer_at(len, whole);
+        let files = [
+            ("m.dll", base.as_slice()),
+            ("d1.meta", meta.get(..len).unwrap_or(&[])),
+            ("d1.il", il.as_slice()),
+        ];
+        answers(rt, &files, words, status, output)?;
     }
     Ok(())
+}
+
+#[test]
+fn cuts_a_delta_at_every_length(rt: HostRuntime) -> Result<(), Fail> {
+    cuts(&rt, &["show", "m", "01000002", "d1"], STRING_LINE)
 }
 
 /// The files that are there, each in hexadecimal, and what `show` answers over them.

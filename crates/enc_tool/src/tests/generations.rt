@@ -1,7 +1,5 @@
 //! A base and three deltas behind it, of many tables: places, values, owners and children.
-use super::{D1_IL, answers_over, changed};
-use enc_outside::MemStore;
-use std::process::Abort;
+use super::{D1_IL, over};
 use std::test::Fail;
 
 /// A bare module of 392 bytes: type A (02000002) with a field, two methods, a parameter, an event,
@@ -177,32 +175,16 @@ pub const R3_META: &str = concat!(
     "00000000000000000000000000000000a3a3a3a3a3a3a3a3a3a3a3a3a3a3a3a3",
 );
 
-/// The words over the base and its deltas, where one file has these changes.
-pub fn over(
-    rt: &(impl Abort + AllocGlobal),
-    file: &str,
-    changes: &[(usize, &str)],
-    words: &[&str],
-    status: u8,
-    output: &str,
-) -> Result<(), Fail> {
-    let alloc = rt.alloc();
-    let mut store = MemStore::begin(alloc);
-    for (name, text) in [
-        ("r.dll", R_DLL),
-        ("r1.meta", R1_META),
-        ("r1.il", D1_IL),
-        ("r2.meta", R2_META),
-        ("r2.il", D1_IL),
-        ("r3.meta", R3_META),
-        ("r3.il", D1_IL),
-    ] {
-        let count = if name == file { changes.len() } else { 0 };
-        let bytes = changed(alloc, text, &changes[..count])?;
-        store.set_file(name, bytes.as_slice())?;
-    }
-    answers_over(rt, &mut store, words, status, output)
-}
+/// The base and its deltas.
+pub const FILES: [(&str, &str); 7] = [
+    ("r.dll", R_DLL),
+    ("r1.meta", R1_META),
+    ("r1.il", D1_IL),
+    ("r2.meta", R2_META),
+    ("r2.il", D1_IL),
+    ("r3.meta", R3_META),
+    ("r3.il", D1_IL),
+];
 
 /// A number of deltas, a token, and the row that is shown.
 const SHOWN: [(usize, &str, &str); 26] = [
@@ -373,7 +355,15 @@ fn shows_and_lists_a_chain(rt: HostRuntime) -> Result<(), Fail> {
     for (deltas, token, output) in SHOWN {
         let words = ["show", "r", token, "r1", "r2", "r3"];
         let words = words.get(..deltas.saturating_add(3)).unwrap_or(&[]);
-        over(&rt, "", &[], words, 0, output)?;
+        over(&rt, &FILES, "", &[], words, 0, output)?;
     }
-    over(&rt, "", &[], &["list", "r", "r1", "r2", "r3"], 0, LISTED)
+    over(
+        &rt,
+        &FILES,
+        "",
+        &[],
+        &["list", "r", "r1", "r2", "r3"],
+        0,
+        LISTED,
+    )
 }

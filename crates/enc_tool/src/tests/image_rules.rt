@@ -1,6 +1,6 @@
 //! Each rule of an image broken at each kind of place that it has, and what breaks none.
-use super::images::{P32_DLL, P32_ROWS, over};
-use super::{answers, changed};
+use super::images::{FILES, P32_DLL, P32_ROWS};
+use super::{answers, changed, over};
 use std::process::Abort;
 use std::test::Fail;
 
@@ -105,7 +105,7 @@ fn refuses(rt: &(impl Abort + AllocGlobal), name: &str, cases: &[Broken]) -> Res
     for (changes, refusal) in cases {
         let line = format!(in alloc; "refused {name}.dll {refusal}\n")?;
         let words = ["show", name, "06000001"];
-        over(rt, file.as_str(), changes, &words, 1, line.as_str())?;
+        over(rt, &FILES, file.as_str(), changes, &words, 1, line.as_str())?;
     }
     Ok(())
 }
@@ -154,11 +154,20 @@ const GOOD: [&[(usize, &str)]; 13] = [
 fn accepts_what_breaks_no_rule(rt: HostRuntime) -> Result<(), Fail> {
     let [(token, output), ..] = P32_ROWS;
     for changes in GOOD {
-        over(&rt, "p32.dll", changes, &["show", "p32", token], 0, output)?;
+        over(
+            &rt,
+            &FILES,
+            "p32.dll",
+            changes,
+            &["show", "p32", token],
+            0,
+            output,
+        )?;
     }
     // a field without an RVA has no bytes
     over(
         &rt,
+        &FILES,
         "p32.dll",
         &[(0x486, "00000000")],
         &["show", "p32", "1d000001"],

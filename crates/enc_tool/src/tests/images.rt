@@ -1,7 +1,5 @@
 //! Two images, PE32 and PE32+: their bodies and the bytes of a field, as they are shown.
-use super::{answers_over, changed};
-use enc_outside::MemStore;
-use std::process::Abort;
+use super::over;
 use std::test::Fail;
 
 /// An image of 1,408 bytes, PE32: six methods, the last of which has no body, and a field with
@@ -194,6 +192,88 @@ const P64_DLL: &str = concat!(
     "0002060803000008040001010e032000010407020e0800000000000000000000",
 );
 
+/// What is shown of the method with a loop and a text in the first image.
+pub const LOOP_ROW: &str = concat!(
+    "06000002 MethodDef RVA=body ImplFlags=0000 Flags=0016 Name=\"Loop\" Signature=[000008] @0.2\n",
+    "  owner 02000002\n",
+    "  body stack=3 init=1 locals=11000001\n",
+    "  IL_0000 ldstr \"say \\x22\\xc3\\xa9\\x22\\x0a\"\n",
+    "  IL_0005 stloc.0\n",
+    "  IL_0006 br.s IL_000f\n",
+    "  IL_0008 nop\n",
+    "  IL_0009 ldc.i4 100000\n",
+    "  IL_000e pop\n",
+    "  IL_000f ldloc.1\n",
+    "  IL_0010 switch IL_0026,IL_0008,IL_0030\n",
+    "  IL_0021 br IL_0030\n",
+    "  IL_0026 ldc.r8 0000000000000440\n",
+    "  IL_002f pop\n",
+    "  IL_0030 ldloc.1\n",
+    "  IL_0031 ret\n",
+);
+
+/// What is shown of the method with two small clauses.
+const SMALL_ROW: &str = concat!(
+    "06000003 MethodDef RVA=body ImplFlags=0000 Flags=0016 Name=\"Small\" Signature=[000008] @0.3\n",
+    "  owner 02000002\n",
+    "  body stack=2 init=0 locals=00000000\n",
+    "  IL_0000 newobj 0a000001\n",
+    "  IL_0005 throw\n",
+    "  IL_0006 pop\n",
+    "  IL_0007 leave.s IL_000b\n",
+    "  IL_0009 nop\n",
+    "  IL_000a endfinally\n",
+    "  IL_000b ldc.i4.0\n",
+    "  IL_000c ret\n",
+    "  catch IL_0000-IL_0006 IL_0006-IL_0009 01000002\n",
+    "  finally IL_0000-IL_0009 IL_0009-IL_000b\n",
+);
+
+/// What is shown of the method with two large clauses.
+const LARGE_ROW: &str = concat!(
+    "06000004 MethodDef RVA=body ImplFlags=0000 Flags=0016 Name=\"Large\" Signature=[000008] @0.4\n",
+    "  owner 02000002\n",
+    "  body stack=4 init=0 locals=00000000\n",
+    "  IL_0000 call 06000001\n",
+    "  IL_0005 pop\n",
+    "  IL_0006 leave IL_0014\n",
+    "  IL_000b pop\n",
+    "  IL_000c ldc.i4.1\n",
+    "  IL_000d endfilter\n",
+    "  IL_000f pop\n",
+    "  IL_0010 leave.s IL_0014\n",
+    "  IL_0012 nop\n",
+    "  IL_0013 endfinally\n",
+    "  IL_0014 ldsfld 04000001\n",
+    "  IL_0019 ret\n",
+    "  filter IL_0000-IL_000b IL_000f-IL_0012 IL_000b\n",
+    "  fault IL_0000-IL_0012 IL_0012-IL_0014\n",
+);
+
+/// What is shown of the method with a section of each form.
+const BOTH_ROW: &str = concat!(
+    "06000005 MethodDef RVA=body ImplFlags=0000 Flags=0016 Name=\"Both\" Signature=[000008] @0.5\n",
+    "  owner 02000002\n",
+    "  body stack=1 init=1 locals=11000001\n",
+    "  IL_0000 nop\n",
+    "  IL_0001 leave.s IL_0008\n",
+    "  IL_0003 pop\n",
+    "  IL_0004 leave.s IL_0008\n",
+    "  IL_0006 nop\n",
+    "  IL_0007 endfinally\n",
+    "  IL_0008 ldc.i4.m1\n",
+    "  IL_0009 ret\n",
+    "  catch IL_0000-IL_0003 IL_0003-IL_0006 01000001\n",
+    "  finally IL_0000-IL_0006 IL_0006-IL_0008\n",
+);
+
+/// What is shown of the method without a body.
+const EXTERN_ROW: &str = concat!(
+    "06000006 MethodDef RVA=none ImplFlags=1000 Flags=0016 Name=\"Extern\" Signature=[0001010e] @0.6\n",
+    "  owner 02000002\n",
+    "  params 08000001\n",
+);
+
 /// The tokens of the methods and of the field's bytes, and what is shown of each.
 pub const P32_ROWS: [(&str, &str); 7] = [
     (
@@ -206,93 +286,11 @@ pub const P32_ROWS: [(&str, &str); 7] = [
             "  IL_0002 ret\n",
         ),
     ),
-    (
-        "06000002",
-        concat!(
-            "06000002 MethodDef RVA=body ImplFlags=0000 Flags=0016 Name=\"Loop\" Signature=[000008] @0.2\n",
-            "  owner 02000002\n",
-            "  body stack=3 init=1 locals=11000001\n",
-            "  IL_0000 ldstr \"say \\x22\\xc3\\xa9\\x22\\x0a\"\n",
-            "  IL_0005 stloc.0\n",
-            "  IL_0006 br.s IL_000f\n",
-            "  IL_0008 nop\n",
-            "  IL_0009 ldc.i4 100000\n",
-            "  IL_000e pop\n",
-            "  IL_000f ldloc.1\n",
-            "  IL_0010 switch IL_0026,IL_0008,IL_0030\n",
-            "  IL_0021 br IL_0030\n",
-            "  IL_0026 ldc.r8 0000000000000440\n",
-            "  IL_002f pop\n",
-            "  IL_0030 ldloc.1\n",
-            "  IL_0031 ret\n",
-        ),
-    ),
-    (
-        "06000003",
-        concat!(
-            "06000003 MethodDef RVA=body ImplFlags=0000 Flags=0016 Name=\"Small\" Signature=[000008] @0.3\n",
-            "  owner 02000002\n",
-            "  body stack=2 init=0 locals=00000000\n",
-            "  IL_0000 newobj 0a000001\n",
-            "  IL_0005 throw\n",
-            "  IL_0006 pop\n",
-            "  IL_0007 leave.s IL_000b\n",
-            "  IL_0009 nop\n",
-            "  IL_000a endfinally\n",
-            "  IL_000b ldc.i4.0\n",
-            "  IL_000c ret\n",
-            "  catch IL_0000-IL_0006 IL_0006-IL_0009 01000002\n",
-            "  finally IL_0000-IL_0009 IL_0009-IL_000b\n",
-        ),
-    ),
-    (
-        "06000004",
-        concat!(
-            "06000004 MethodDef RVA=body ImplFlags=0000 Flags=0016 Name=\"Large\" Signature=[000008] @0.4\n",
-            "  owner 02000002\n",
-            "  body stack=4 init=0 locals=00000000\n",
-            "  IL_0000 call 06000001\n",
-            "  IL_0005 pop\n",
-            "  IL_0006 leave IL_0014\n",
-            "  IL_000b pop\n",
-            "  IL_000c ldc.i4.1\n",
-            "  IL_000d endfilter\n",
-            "  IL_000f pop\n",
-            "  IL_0010 leave.s IL_0014\n",
-            "  IL_0012 nop\n",
-            "  IL_0013 endfinally\n",
-            "  IL_0014 ldsfld 04000001\n",
-            "  IL_0019 ret\n",
-            "  filter IL_0000-IL_000b IL_000f-IL_0012 IL_000b\n",
-            "  fault IL_0000-IL_0012 IL_0012-IL_0014\n",
-        ),
-    ),
-    (
-        "06000005",
-        concat!(
-            "06000005 MethodDef RVA=body ImplFlags=0000 Flags=0016 Name=\"Both\" Signature=[000008] @0.5\n",
-            "  owner 02000002\n",
-            "  body stack=1 init=1 locals=11000001\n",
-            "  IL_0000 nop\n",
-            "  IL_0001 leave.s IL_0008\n",
-            "  IL_0003 pop\n",
-            "  IL_0004 leave.s IL_0008\n",
-            "  IL_0006 nop\n",
-            "  IL_0007 endfinally\n",
-            "  IL_0008 ldc.i4.m1\n",
-            "  IL_0009 ret\n",
-            "  catch IL_0000-IL_0003 IL_0003-IL_0006 01000001\n",
-            "  finally IL_0000-IL_0006 IL_0006-IL_0008\n",
-        ),
-    ),
-    (
-        "06000006",
-        concat!(
-            "06000006 MethodDef RVA=none ImplFlags=1000 Flags=0016 Name=\"Extern\" Signature=[0001010e] @0.6\n",
-            "  owner 02000002\n",
-            "  params 08000001\n",
-        ),
-    ),
+    ("06000002", LOOP_ROW),
+    ("06000003", SMALL_ROW),
+    ("06000004", LARGE_ROW),
+    ("06000005", BOTH_ROW),
+    ("06000006", EXTERN_ROW),
     (
         "1d000001",
         "1d000001 FieldRVA RVA=[dec0ad0b] Field=04000001 @0.1\n",
@@ -332,104 +330,26 @@ const P64_ROWS: [(&str, &str); 7] = [
             "  IL_0035 ret\n",
         ),
     ),
-    (
-        "06000003",
-        concat!(
-            "06000003 MethodDef RVA=body ImplFlags=0000 Flags=0016 Name=\"Small\" Signature=[000008] @0.3\n",
-            "  owner 02000002\n",
-            "  body stack=2 init=0 locals=00000000\n",
-            "  IL_0000 newobj 0a000001\n",
-            "  IL_0005 throw\n",
-            "  IL_0006 pop\n",
-            "  IL_0007 leave.s IL_000b\n",
-            "  IL_0009 nop\n",
-            "  IL_000a endfinally\n",
-            "  IL_000b ldc.i4.0\n",
-            "  IL_000c ret\n",
-            "  catch IL_0000-IL_0006 IL_0006-IL_0009 01000002\n",
-            "  finally IL_0000-IL_0009 IL_0009-IL_000b\n",
-        ),
-    ),
-    (
-        "06000004",
-        concat!(
-            "06000004 MethodDef RVA=body ImplFlags=0000 Flags=0016 Name=\"Large\" Signature=[000008] @0.4\n",
-            "  owner 02000002\n",
-            "  body stack=4 init=0 locals=00000000\n",
-            "  IL_0000 call 06000001\n",
-            "  IL_0005 pop\n",
-            "  IL_0006 leave IL_0014\n",
-            "  IL_000b pop\n",
-            "  IL_000c ldc.i4.1\n",
-            "  IL_000d endfilter\n",
-            "  IL_000f pop\n",
-            "  IL_0010 leave.s IL_0014\n",
-            "  IL_0012 nop\n",
-            "  IL_0013 endfinally\n",
-            "  IL_0014 ldsfld 04000001\n",
-            "  IL_0019 ret\n",
-            "  filter IL_0000-IL_000b IL_000f-IL_0012 IL_000b\n",
-            "  fault IL_0000-IL_0012 IL_0012-IL_0014\n",
-        ),
-    ),
-    (
-        "06000005",
-        concat!(
-            "06000005 MethodDef RVA=body ImplFlags=0000 Flags=0016 Name=\"Both\" Signature=[000008] @0.5\n",
-            "  owner 02000002\n",
-            "  body stack=1 init=1 locals=11000001\n",
-            "  IL_0000 nop\n",
-            "  IL_0001 leave.s IL_0008\n",
-            "  IL_0003 pop\n",
-            "  IL_0004 leave.s IL_0008\n",
-            "  IL_0006 nop\n",
-            "  IL_0007 endfinally\n",
-            "  IL_0008 ldc.i4.m1\n",
-            "  IL_0009 ret\n",
-            "  catch IL_0000-IL_0003 IL_0003-IL_0006 01000001\n",
-            "  finally IL_0000-IL_0006 IL_0006-IL_0008\n",
-        ),
-    ),
-    (
-        "06000006",
-        concat!(
-            "06000006 MethodDef RVA=none ImplFlags=1000 Flags=0016 Name=\"Extern\" Signature=[0001010e] @0.6\n",
-            "  owner 02000002\n",
-            "  params 08000001\n",
-        ),
-    ),
+    ("06000003", SMALL_ROW),
+    ("06000004", LARGE_ROW),
+    ("06000005", BOTH_ROW),
+    ("06000006", EXTERN_ROW),
     (
         "1d000001",
         "1d000001 FieldRVA RVA=[78563412] Field=04000001 @0.1\n",
     ),
 ];
 
-/// The words over both images, where one file has these changes.
-pub fn over(
-    rt: &(impl Abort + AllocGlobal),
-    file: &str,
-    changes: &[(usize, &str)],
-    words: &[&str],
-    status: u8,
-    output: &str,
-) -> Result<(), Fail> {
-    let alloc = rt.alloc();
-    let mut store = MemStore::begin(alloc);
-    for (name, text) in [("p32.dll", P32_DLL), ("p64.dll", P64_DLL)] {
-        let count = if name == file { changes.len() } else { 0 };
-        let bytes = changed(alloc, text, &changes[..count])?;
-        store.set_file(name, bytes.as_slice())?;
-    }
-    answers_over(rt, &mut store, words, status, output)
-}
+/// Both images.
+pub const FILES: [(&str, &str); 2] = [("p32.dll", P32_DLL), ("p64.dll", P64_DLL)];
 
 #[test]
 fn shows_bodies_and_the_bytes_of_a_field(rt: HostRuntime) -> Result<(), Fail> {
     for (token, output) in P32_ROWS {
-        over(&rt, "", &[], &["show", "p32", token], 0, output)?;
+        over(&rt, &FILES, "", &[], &["show", "p32", token], 0, output)?;
     }
     for (token, output) in P64_ROWS {
-        over(&rt, "", &[], &["show", "p64", token], 0, output)?;
+        over(&rt, &FILES, "", &[], &["show", "p64", token], 0, output)?;
     }
     Ok(())
 }

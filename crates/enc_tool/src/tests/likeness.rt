@@ -1,8 +1,7 @@
 //! A base of many tables, and a delta that lists all its rows again under references written anew.
 use super::later::{N2_IL, N2_META};
 use super::members::{N1_IL, N1_META};
-use super::{answers_over, changed};
-use enc_outside::MemStore;
+use super::over;
 use std::process::Abort;
 use std::test::Fail;
 
@@ -292,32 +291,16 @@ const U1_IL: &str = concat!(
     "00000000062a0000",
 );
 
-/// The words over the base and its deltas, where one file has these changes.
-pub fn over(
-    rt: &(impl Abort + AllocGlobal),
-    file: &str,
-    changes: &[(usize, &str)],
-    words: &[&str],
-    status: u8,
-    output: &str,
-) -> Result<(), Fail> {
-    let alloc = rt.alloc();
-    let mut store = MemStore::begin(alloc);
-    for (name, text) in [
-        ("b.dll", B_DLL),
-        ("u1.meta", U1_META),
-        ("u1.il", U1_IL),
-        ("n1.meta", N1_META),
-        ("n1.il", N1_IL),
-        ("n2.meta", N2_META),
-        ("n2.il", N2_IL),
-    ] {
-        let count = if name == file { changes.len() } else { 0 };
-        let bytes = changed(alloc, text, &changes[..count])?;
-        store.set_file(name, bytes.as_slice())?;
-    }
-    answers_over(rt, &mut store, words, status, output)
-}
+/// The base and its deltas.
+pub const FILES: [(&str, &str); 7] = [
+    ("b.dll", B_DLL),
+    ("u1.meta", U1_META),
+    ("u1.il", U1_IL),
+    ("n1.meta", N1_META),
+    ("n1.il", N1_IL),
+    ("n2.meta", N2_META),
+    ("n2.il", N2_IL),
+];
 
 /// The file is refused by each case.
 pub fn refuses(
@@ -329,7 +312,7 @@ pub fn refuses(
     let alloc = rt.alloc();
     for (changes, refusal) in cases {
         let line = format!(in alloc; "refused {file} {refusal}\n")?;
-        over(rt, file, changes, words, 1, line.as_str())?;
+        over(rt, &FILES, file, changes, words, 1, line.as_str())?;
     }
     Ok(())
 }
@@ -343,7 +326,7 @@ pub fn accepts(
     output: &str,
 ) -> Result<(), Fail> {
     for changes in cases {
-        over(rt, file, changes, words, 0, output)?;
+        over(rt, &FILES, file, changes, words, 0, output)?;
     }
     Ok(())
 }

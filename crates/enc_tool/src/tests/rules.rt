@@ -1,7 +1,7 @@
 //! Each rule of a delta broken at each kind of place that it has.
-use super::generations::{R1_META, over};
+use super::generations::{FILES, R1_META};
 use super::owners::CROSSED;
-use super::{D1_IL, answers, changed};
+use super::{D1_IL, answers, changed, over};
 use std::process::Abort;
 use std::test::Fail;
 
@@ -297,7 +297,15 @@ fn refuses(
         }
         let line = format!(in alloc; "refused r1.meta {refusal}\n")?;
         let words = ["show", "r", "02000003", "r1"];
-        over(rt, "r1.meta", changes.as_slice(), &words, 1, line.as_str())?;
+        over(
+            rt,
+            &FILES,
+            "r1.meta",
+            changes.as_slice(),
+            &words,
+            1,
+            line.as_str(),
+        )?;
     }
     Ok(())
 }
@@ -317,6 +325,7 @@ fn accepts_what_breaks_no_rule(rt: HostRuntime) -> Result<(), Fail> {
     for changes in GOOD {
         over(
             &rt,
+            &FILES,
             "r1.meta",
             changes,
             &["show", "r", "23000001", "r1"],
@@ -333,7 +342,7 @@ fn refuses_a_later_delta_by_all_before_it(rt: HostRuntime) -> Result<(), Fail> {
     for (file, changes, refusal) in LATER {
         let line = format!(in alloc; "refused {file} {refusal}\n")?;
         let words = ["show", "r", "02000003", "r1", "r2", "r3"];
-        over(&rt, file, changes, &words, 1, line.as_str())?;
+        over(&rt, &FILES, file, changes, &words, 1, line.as_str())?;
     }
     Ok(())
 }
@@ -355,7 +364,7 @@ fn refuses_tables_that_a_delta_cannot_have(rt: HostRuntime) -> Result<(), Fail> 
 "
         )?;
         let words = ["show", "r", "02000003", "r1"];
-        over(&rt, "r1.meta", &changes, &words, 1, line.as_str())?;
+        over(&rt, &FILES, "r1.meta", &changes, &words, 1, line.as_str())?;
     }
     Ok(())
 }

@@ -1,5 +1,6 @@
 //! Blobs outside the grammar of signatures (ECMA-335 II.23.2): F11 in a base, E21 in a delta's rows.
-use super::likeness::{Broken, accepts, over, refuses};
+use super::likeness::{Broken, FILES, accepts, refuses};
+use super::over;
 use std::test::Fail;
 
 /// Blobs of the base that aren't of the kind of their column: empty, cut, with a byte more, of
@@ -169,12 +170,21 @@ fn judges_signatures_of_a_delta(rt: HostRuntime) -> Result<(), Fail> {
 fn judges_signatures_by_their_depth(rt: HostRuntime) -> Result<(), Fail> {
     for (good, bad) in DEEP {
         let base = ["check", "b"];
-        over(&rt, "b.dll", &[(IN_BASE, good)], &base, 0, "accepted 0\n")?;
+        over(
+            &rt,
+            &FILES,
+            "b.dll",
+            &[(IN_BASE, good)],
+            &base,
+            0,
+            "accepted 0\n",
+        )?;
         let refused = "refused b.dll F11 04000004.Signature\n";
-        over(&rt, "b.dll", &[(IN_BASE, bad)], &base, 1, refused)?;
+        over(&rt, &FILES, "b.dll", &[(IN_BASE, bad)], &base, 1, refused)?;
         let delta = ["check", "b", "n1"];
         over(
             &rt,
+            &FILES,
             "n1.meta",
             &[(IN_DELTA, good)],
             &delta,
@@ -182,7 +192,15 @@ fn judges_signatures_by_their_depth(rt: HostRuntime) -> Result<(), Fail> {
             "accepted 1\n",
         )?;
         let refused = "refused n1.meta E21 04000007.Signature\n";
-        over(&rt, "n1.meta", &[(IN_DELTA, bad)], &delta, 1, refused)?;
+        over(
+            &rt,
+            &FILES,
+            "n1.meta",
+            &[(IN_DELTA, bad)],
+            &delta,
+            1,
+            refused,
+        )?;
     }
     Ok(())
 }
