@@ -51,14 +51,7 @@ width_of s (Run table) = index_width s table
 -- the bytes that a column takes in its row: a byte 0 stands behind a number of one byte (II.22.9)
 abbrev pub space_of : Shape → Column → ℕ
 space_of s Num8 = 2
-space_of s Num16 = 2
-space_of s Num32 = 4
-space_of s Text = heap_width s 1
-space_of s Guid = heap_width s 2
-space_of s Blob = heap_width s 4
-space_of s (Index table) = index_width s table
-space_of s (Coded kind) = coded_width s kind
-space_of s (Run table) = index_width s table
+space_of s column = width_of s column
 
 -- the bytes of a table's rows, and of the columns before one
 unfoldable pub row_width : Shape → ℕ → ℕ
