@@ -1,7 +1,7 @@
 //! What stands in a signature beside types: bytes, numbers and tokens.
 ghost use Rattle.std.specs.Prelude.{◌≡◌, ◌<◌, ◌^◌, ◌/◌, ◌%◌, option_map, if◌then◌else◌, IfSome};
 ghost use Rattle.enc_base.specs.Numbers.{has_flag};
-ghost use Rattle.enc_sigs.specs.Grammar.{byte_in, number_in, signed_in, numeral_in, token_in, table_of, is_coded, is_counted, in_counts, form_of, is_calling, calling_in};
+ghost use Rattle.enc_sigs.specs.Grammar.{byte_in, number_in, signed_in, numeral_in, token_in, table_of, token_named, is_coded, is_counted, in_counts, form_of, is_calling, calling_in};
 
 use crate::form::{Form, Numeral};
 use enc_base::{Counts, Token, read_signed, read_unsigned};
@@ -53,20 +53,24 @@ fn table_of(number: u32) -> Option<u8>
     }
 }
 
+/// The token that a number names, the range of its row aside.
+fn token_named(number: u32) -> Option<Token>
+    ensures { result ≡ (if is_coded number then Some (token_named number) else None) }
+{
+    let table = table_of(number)?;
+    Some(Token {
+        table,
+        row: number / 4,
+    })
+}
+
 /// The token at the front, the range of its row aside (ECMA-335 II.23.2.8).
 #[tactic(auto, unfolding(crate::specs::Grammar::token_in))]
 pub fn coded_token(bytes: &[u8]) -> Option<(Token, &[u8])>
     ensures { option_map (λ x. (x.0, x.1.now)) result ≡ token_in is_coded bytes.now }
 {
     let (number, rest) = number(bytes)?;
-    let table = table_of(number)?;
-    Some((
-        Token {
-            table,
-            row: number / 4,
-        },
-        rest,
-    ))
+    Some((token_named(number)?, rest))
 }
 
 /// Whether the number of a token names a row.
@@ -90,14 +94,7 @@ pub fn token<'a>(bytes: &'a [u8], counts: &Counts) -> Option<(Token, &'a [u8])>
     if !is_row(number, counts) {
         return None;
     }
-    let table = table_of(number)?;
-    Some((
-        Token {
-            table,
-            row: number / 4,
-        },
-        rest,
-    ))
+    Some((token_named(number)?, rest))
 }
 
 /// What follows a type's first byte, None where it begins no type.
