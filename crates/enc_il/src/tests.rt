@@ -75,16 +75,7 @@ fn reads_tiny_bodies(rt: HostRuntime) -> Result<(), Fail> {
 
 #[test]
 fn reads_fat_bodies(rt: HostRuntime) -> Result<(), Fail> {
-    let body = CodeRef {
-        max: 1,
-        init: true,
-        locals: Token {
-            table: 0x11,
-            row: 0x18,
-        },
-        code: &[0x16, 0x0a, 0x06, 0x2a],
-        sections: &[],
-    };
+    let body = crate::write_tests::FAT;
     assert_eq!(rt; read_body(&FAT, 0, 0xbe40c), Ok(body));
     // it begins at a multiple of four of the image
     for place in [0xbe40d, 0xbe40e, 0xbe40f] {

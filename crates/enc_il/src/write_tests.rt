@@ -19,7 +19,7 @@ const RETURNS: CodeRef<'static> = CodeRef {
 
 /// A body of Mono's mscorlib, `ldc.i4.0, stloc.0, ldloc.0, ret`, and its bytes as its compiler wrote
 /// them.
-const FAT: CodeRef<'static> = CodeRef {
+pub(crate) const FAT: CodeRef<'static> = CodeRef {
     max: 1,
     init: true,
     locals: Token {
