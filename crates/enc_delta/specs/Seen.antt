@@ -39,7 +39,7 @@ pub record WasRead (s : Source) : Type 0 where
 
 -- the root and the tables of a delta, and whether its map rises
 pub record IsRead (bytes il : List ℕ) (o : Opened) (rises : Bool) : Type 0 where
-  pub bytes : AreBytes bytes
+  pub file : AreBytes bytes
   pub code : AreBytes il
   pub read : delta_of bytes il ≡ Ok (delta_source bytes il o.root o.tables)
   pub opened : IsDeltaOpened bytes o

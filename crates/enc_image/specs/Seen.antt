@@ -46,7 +46,7 @@ ReadsBase (Err Memory) base = Unit {0}
 
 -- the parts of an image's file were read from its bytes, as the ends of its texts were; each of its cells is good, and so the file is the base
 pub record IsImage (bytes : List ℕ) (o : Opened) (ends : TextEnds) : Type 0 where
-  pub bytes : AreBytes bytes
+  pub file : AreBytes bytes
   pub read : base_of bytes ≡ Ok (source_from bytes o.container o.root o.tables)
   pub opened : IsOpened bytes o
   pub texts : ends ≡ ends_of (metadata_of bytes o.container) o.root
