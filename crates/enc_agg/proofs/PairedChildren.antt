@@ -18,7 +18,7 @@ use Rattle.enc_delta.specs.Delta.{entry_at, listed, log_in}
 use Rattle.enc_delta.specs.Rules.{adds, inserts, rows_with, child_table}
 use Rattle.enc_delta.proofs.ListsChildren.{log_good, Good}
 use Rattle.enc_plain.specs.Chain.{Chain}
-use Rattle.enc_image.proofs.Listed.{length_below}
+use Rattle.enc_rows.proofs.Listed.{length_below}
 use Rattle.enc_agg.specs.Extend.{extended}
 use Rattle.enc_delta.specs.Pairs.{attached_of}
 use Rattle.enc_agg.specs.Given.{add_code, gives, gives_to, rows_given}

@@ -1,10 +1,7 @@
 -- Where a log breaks no rule, the children of its Add entries can be attached: each pair has an owner that is a row after the delta, and a child that is a new one.
-use Rattle.std.proofs.Common.{◌≡◌, ℕ, zero, suc, ◌+◌, ◌<◌, ◌≤◌, Bool, true, false, List, [], ◌∷◌, ◌++◌, length, Option, Some, None, refl, sym, ap, subst, ◌∙◌, inl, inr, map, arith, append_assoc}
-use Rattle.std.specs.Prelude.{if◌then◌else◌, nat_lt, nat_le, ◌==◌, ◌&&◌, ◌||◌, not, find}
+use Rattle.std.proofs.Common.{◌≡◌, ℕ, zero, suc, ◌+◌, ◌<◌, ◌≤◌, Bool, true, false, List, [], ◌∷◌, ◌++◌, length, Option, Some, None, refl, sym, ap, ◌∙◌, inl, inr, map, arith}
+use Rattle.std.specs.Prelude.{if◌then◌else◌, nat_le, ◌==◌, ◌&&◌, find}
 use Rattle.std.proofs.lemmas.Bool.Decides.{nat_tests}
-use Rattle.std.proofs.lemmas.List.{length-append}
-use Rattle.enc_base.specs.declared.refusal.Place.{Place}
-use Rattle.enc_base.specs.declared.refusal.Place.TheVariants as place
 use Rattle.enc_base.specs.declared.token.Token.{Token}
 use Rattle.enc_schema.specs.Children.{is_child_table, owner_table}
 use Rattle.enc_schema.proofs.ChildTables.{by_child}
@@ -14,8 +11,8 @@ use Rattle.enc_plain.specs.Fits.{Attaches, AllAttach}
 use Rattle.enc_plain.specs.Chain.{Chain, rows_before}
 use Rattle.enc_plain.proofs.AttachedTo.{count_attached}
 use Rattle.enc_delta.specs.declared.entry.Entry.{Entry}
-use Rattle.enc_delta.specs.Rules.{broken, counts, counted, adds, is_add, rows_with, has_parent, follows, parent_table, child_table, log_fault_of, log_fault_at, log_fault, children}
-use Rattle.enc_delta.proofs.ListsChildren.{two, first_of, counted_first, counted_yes, counted_no, Good, at_seam, none_at, log_good, equal, add_low, add_high}
+use Rattle.enc_delta.specs.Rules.{counts, counted, adds, is_add, rows_with, has_parent, follows, parent_table, child_table, log_fault, children}
+use Rattle.enc_delta.proofs.ListsChildren.{two, first_of, counted_first, counted_yes, counted_no, Judged, log_judged, equal, add_low, add_high}
 use Rattle.enc_delta.specs.Pairs.{pairs_in}
 use Rattle.enc_agg.proofs.Fitting.{attach_tables}
 use Rattle.enc_agg.proofs.Changed.{Names, found_named}
@@ -114,46 +111,19 @@ owned_pair c tokens before e (Some f) h g last =
       | inr a ↦ rw a tt
     ]
 
--- each Add entry has its parent
-abbrev pub HaveParents : Chain → List Token → List Entry → Type 0
-HaveParents c tokens [] = Unit {0}
-HaveParents c tokens (e ∷ es) = (counts e ≡ true → is_add e.code ≡ true → has_parent c tokens e ≡ true) × HaveParents c tokens es
-
-sound : (p : Place) (a b d h f : Bool) → broken (a && (b || d && not (h && f))) p ≡ None → a ≡ true → d ≡ true → h ≡ true
-sound p true true true h f e x y = absurd cc
-sound p true false true true f e x y = refl
-sound p true false true false f e x y = absurd cc
-sound p true b false h f e x y = absurd cc
-sound p false b d h f e x y = absurd cc
-
-parent_here : (c : Chain) (tokens : List Token) (before es : List Entry) (k : ℕ) (e : Entry) → log_fault_of c tokens before es k e ≡ None → counts e ≡ true → is_add e.code ≡ true → has_parent c tokens e ≡ true
-unfolding log_fault_of
-parent_here c tokens before es k e h x y = sound (place.Log (k + 1)) (counts e) (nat_lt 5 e.code) (is_add e.code) (has_parent c tokens e) (follows c before e.code (find counts es)) h x y
-
-parents_of : (c : Chain) (tokens : List Token) (before es : List Entry) → ((k : ℕ) → k < length (before ++ es) → log_fault_at c tokens (before ++ es) k ≡ None) → HaveParents c tokens es
-parents_of c tokens before [] each = tt
-parents_of c tokens before (e ∷ es) each =
-    let short : length before < length (before ++ e ∷ es) = rw (length-append before (e ∷ es)) (omega arith) in
-    let at : log_fault_of c tokens before es (length before) e ≡ None = sym (at_seam c tokens before e es) ∙ each (length before) short in
-    (parent_here c tokens before es (length before) e at, parents_of c tokens (before ++ e ∷ []) es (subst (λ (l : List Entry). (k : ℕ) → k < length l → log_fault_at c tokens l k ≡ None) (sym (append_assoc before (e ∷ []) es)) each))
-
-log_parents : (c : Chain) (tokens : List Token) (log : List Entry) → log_fault c tokens log ≡ None → HaveParents c tokens log
-unfolding log_fault
-log_parents c tokens log h = parents_of c tokens [] log (none_at (log_fault_at c tokens log) (length log) h)
-
-owned_from : (c : Chain) (tokens : List Token) (before es : List Entry) → Good c before es → HaveParents c tokens es → Names (rows_with c tokens) es → AllOwned (rows_with c tokens) (rows_before c) (pairs_in (counted es))
+owned_from : (c : Chain) (tokens : List Token) (before es : List Entry) → Judged c tokens before es → Names (rows_with c tokens) es → AllOwned (rows_with c tokens) (rows_before c) (pairs_in (counted es))
 unfolding counted
-owned_from c tokens before [] g h names = tt
-owned_from c tokens before (e ∷ es) g h names =
-    let rest = owned_from c tokens (before ++ e ∷ []) es g.1 h.1 names.1 in
+owned_from c tokens before [] judged names = tt
+owned_from c tokens before (e ∷ es) judged names =
+    let rest = owned_from c tokens (before ++ e ∷ []) es judged.1 names.1 in
     elim (two (counts e)) [
-      | inl on ↦ rw (pairs_yes e es on) (owned_append (rows_with c tokens) (rows_before c) (pair_of e (find counts es)) (pairs_in (counted es)) (owned_pair c tokens before e (find counts es) (h.0 on) (g.0 on) (λ f at zero. found_named (rows_with c tokens) es f names.1 at zero)) rest)
+      | inl on ↦ rw (pairs_yes e es on) (owned_append (rows_with c tokens) (rows_before c) (pair_of e (find counts es)) (pairs_in (counted es)) (owned_pair c tokens before e (find counts es) (λ add. (judged.0 on add).0) (λ add. (judged.0 on add).1) (λ f at zero. found_named (rows_with c tokens) es f names.1 at zero)) rest)
       | inr off ↦ rw (counted_no e es off) rest
     ]
 
 -- the pairs of a log that breaks no rule
 pub log_owned : (c : Chain) (tokens : List Token) (log : List Entry) → log_fault c tokens log ≡ None → Names (rows_with c tokens) log → AllOwned (rows_with c tokens) (rows_before c) (pairs_in (counted log))
-log_owned c tokens log none names = owned_from c tokens [] log (log_good c tokens log none) (log_parents c tokens log none) names
+log_owned c tokens log none names = owned_from c tokens [] log (log_judged c tokens log none) names
 
 owners_small : (t : ℕ) → is_child_table t ≡ true → owner_table t < 0x2D
 owners_small t child = by_child (λ k. owner_table k < 0x2D) (omega arith) (omega arith) (omega arith) (omega arith) (omega arith) t child

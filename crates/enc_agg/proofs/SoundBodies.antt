@@ -1,6 +1,7 @@
 -- The bodies of a module stay sound after a delta, and the delta's own are.
 use Rattle.std.proofs.Common.{◌≡◌, ℕ, ◌+◌, ◌-◌, ◌≤◌, Bool, true, false, List, Option, Some, None, refl, sym, ap, subst, ◌∙◌, arith}
 use Rattle.std.specs.Prelude.{◌==◌, ◌&&◌, ◌||◌, ◌%◌, not, option_map, slice_get}
+use Rattle.std.proofs.lemmas.Bool.{and_parts}
 use Rattle.enc_base.specs.declared.refusal.Place.{Place}
 use Rattle.enc_base.specs.declared.token.Token.{Token}
 use Rattle.enc_base.proofs.First.{silent}
@@ -33,10 +34,6 @@ use Rattle.enc_agg.proofs.KeptRows.{signs, JudgedBy, silent_of, same_bytes, sign
 use Rattle.enc_agg.proofs.SoundSignatures.{Counted}
 use Rattle.enc_agg.proofs.Tokens.{PlaceRow}
 use Rattle.enc_agg.proofs.Viewing.{other_cells}
-
-both_true : (a b : Bool) → (a && b) ≡ true → (a ≡ true) × (b ≡ true)
-both_true true b h = (refl, h)
-both_true false b h = absurd cc
 
 all_three : (a b c : Bool) → a ≡ true → b ≡ true → c ≡ true → (a && b && c) ≡ true
 all_three a b c e f g = rw (e, f, g) refl
@@ -75,8 +72,8 @@ same_number m q t i e = rw e refl
 pub method_kept : (c : Chain) (s : Source) (u : Token) (b : Body) → JudgedBy c s → Counted c s → place_in (listed s) u ≡ None → method_is_sound c.plain u b ≡ true → method_is_sound (extended c s).plain u b ≡ true
 unfolding method_is_sound
 method_kept c s u b j counts none h =
-    let a = both_true (number_at (cells_of c.plain) u 1 % 4 == 0 && body_is_sound (row_count c.plain) b) (b.locals.row == 0 || begins_locals (bytes_at (cells_of c.plain) b.locals 0)) h in
-    let d = both_true (number_at (cells_of c.plain) u 1 % 4 == 0) (body_is_sound (row_count c.plain) b) a.0 in
+    let a = and_parts (number_at (cells_of c.plain) u 1 % 4 == 0 && body_is_sound (row_count c.plain) b) (b.locals.row == 0 || begins_locals (bytes_at (cells_of c.plain) b.locals 0)) h in
+    let d = and_parts (number_at (cells_of c.plain) u 1 % 4 == 0) (body_is_sound (row_count c.plain) b) a.0 in
     let il : (number_at (cells_of (extended c s).plain) u 1 % 4 == 0) ≡ true = rw (same_number (extended c s).plain c.plain u 1 (other_cells c s u j.fit none)) d.0 in
     all_three _ _ _ il (sound_kept (row_count c.plain) (row_count (extended c s).plain) b (code_grows c s counts) d.1) (locals_kept c s b.locals j (sound_locals (row_count c.plain) b d.1) a.1)
 

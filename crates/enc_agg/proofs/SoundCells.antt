@@ -30,7 +30,7 @@ use Rattle.enc_delta.specs.Delta.{listed, place_in}
 use Rattle.enc_delta.specs.Rules.{broken, heaps_after, users_after, reading_after, blobs_break, heap_fault, broken_body}
 use Rattle.enc_delta.specs.Changes.{bad_locals}
 use Rattle.enc_delta.specs.Rows.{cell_after, cells_after}
-use Rattle.enc_image.proofs.Listed.{get_below, get_past}
+use Rattle.enc_rows.proofs.Listed.{get_below, get_past}
 use Rattle.enc_image.proofs.SoundCells.{raw_fits}
 use Rattle.enc_image.proofs.SoundTables.{field_from, place_of}
 use Rattle.enc_agg.specs.Extend.{changes_of, extended}

@@ -1,7 +1,7 @@
 -- The bytes of fields keep their size after a delta.
 use Rattle.std.proofs.Common.{◌≡◌, ℕ, ◌<◌, Bool, true, false, List, length, Option, Some, None, refl, sym, ap, subst, ◌∙◌, ◌⊎◌, inl, inr, arith}
 use Rattle.std.specs.Prelude.{◌==◌, ◌&&◌, ◌||◌, option_map, if◌then◌else◌}
-use Rattle.std.proofs.lemmas.Bool.{or_cases}
+use Rattle.std.proofs.lemmas.Bool.{or_cases, and_parts}
 use Rattle.std.proofs.lemmas.Bool.Decides.{nat_tests}
 use Rattle.enc_base.specs.Token.{nth_row, nil, is_token}
 use Rattle.enc_base.specs.declared.token.Token.{Token}
@@ -36,10 +36,6 @@ use Rattle.enc_agg.proofs.Viewing.{other_cells}
 abbrev Names : Module → ℕ → Token → Type 0
 Names m table t = (t ≡ nil) ⊎ ((t.table ≡ table) × (has_row m t ≡ true))
 
-both_true : (a b : Bool) → (a && b) ≡ true → (a ≡ true) × (b ≡ true)
-both_true true b h = (refl, h)
-both_true false b h = absurd cc
-
 eq_of : (a b : ℕ) → (a == b) ≡ true → b ≡ a
 eq_of a b h = grind (arith, nat_tests)
 
@@ -48,7 +44,7 @@ unfolding is_reference
 reference_is m table t h =
     elim (or_cases (is_token t nil) (table == t.table && has_row m t) h) [
       | inl none ↦ inl (same_is t nil none)
-      | inr some ↦ let a = both_true (table == t.table) (has_row m t) some in inr (eq_of table t.table a.0, a.1)
+      | inr some ↦ let a = and_parts (table == t.table) (has_row m t) some in inr (eq_of table t.table a.0, a.1)
     ]
 
 by_cell : (c : Cell) (o : Option Cell) → o ≡ Some c → option_map cell_kind o ≡ Some references → (t : Token) × (c ≡ refer t)

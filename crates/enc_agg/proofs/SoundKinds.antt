@@ -16,7 +16,7 @@ use Rattle.enc_plain.specs.Sound.{HasKinds}
 use Rattle.enc_plain.proofs.Columns.{plain_kind, column_with, reference_column}
 use Rattle.enc_delta.specs.Delta.{listed, place_in}
 use Rattle.enc_delta.specs.Rules.{heaps_after}
-use Rattle.enc_image.proofs.Listed.{length_below}
+use Rattle.enc_rows.proofs.Listed.{length_below}
 use Rattle.enc_image.proofs.SoundTables.{kind_there, body_from, field_from, place_of}
 use Rattle.enc_agg.specs.Extend.{changes_of, extended}
 use Rattle.enc_agg.specs.Follows.{Lands}

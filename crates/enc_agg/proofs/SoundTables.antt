@@ -1,8 +1,8 @@
 -- The tables of a module stay a module's after a delta.
 use Rattle.std.proofs.Common.{◌≡◌, ℕ, zero, suc, ◌+◌, ◌^◌, ◌<◌, ◌≤◌, Bool, true, false, cond, List, [], ◌∷◌, length, Option, Some, None, refl, ap, ◌∙◌, inl, inr, arith}
 use Rattle.std.specs.Prelude.{◌==◌, ◌&&◌, ◌||◌, not, nat_lt, count_by, if◌then◌else◌}
-use Rattle.std.specs.List.{list_any, list_all}
-use Rattle.std.proofs.lemmas.Bool.{cases_lt}
+use Rattle.std.specs.List.{list_any}
+use Rattle.std.proofs.lemmas.Bool.{cases_lt, and_parts}
 use Rattle.std.proofs.lemmas.Bool.Decides.{nat_tests}
 use Rattle.enc_base.specs.Order.{or_else}
 use Rattle.enc_base.specs.declared.refusal.Place.{Place}
@@ -15,6 +15,7 @@ use Rattle.enc_plain.specs.Chain.{Chain, rows_before}
 use Rattle.enc_plain.specs.Module.{Row, rows_in}
 use Rattle.enc_plain.specs.Sound.{is_part, row_count}
 use Rattle.enc_plain.specs.Sound as sound
+use Rattle.enc_plain.proofs.Columns.{each_of}
 use Rattle.enc_delta.specs.Delta.{listed, of_table}
 use Rattle.enc_delta.specs.Rules.{broken, rows_for, is_insert, inserts, rows_with, may_change, uneven_table, closed_table, too_many_in, too_many}
 use Rattle.enc_agg.specs.Extend.{extended}
@@ -42,22 +43,8 @@ no_gain c s t equal low none =
     omega (arith, inserts_most c (listed s) t, same, none)
 
 -- the tables that are no part of a module have none
-both_true : (a b : Bool) → (a && b) ≡ true → (a ≡ true) × (b ≡ true)
-both_true true b h = (refl, h)
-both_true false b h = absurd cc
-
 abbrev has_none : ℕ → Bool
 has_none t = nat_lt t 0x2D && (not (may_change t) || list_any (λ k. k == t) (0x00 ∷ 0x1E ∷ 0x1F ∷ []))
-
-one_of : (k t : ℕ) (rest b : Bool) → (k == t) ≡ b → (b || rest) ≡ true → has_none k ≡ true → (rest ≡ true → has_none t ≡ true) → has_none t ≡ true
-one_of k t rest true e h here later = let is : k ≡ t = grind (arith, nat_tests) in rw (← is) here
-one_of k t rest false e h here later = later h
-
-listed_none : (ks : List ℕ) (t : ℕ) → list_all has_none ks ≡ true → list_any (λ k. k == t) ks ≡ true → has_none t ≡ true
-listed_none [] t all h = absurd cc
-listed_none (k ∷ ks) t all h =
-    let a = both_true (has_none k) (list_all has_none ks) all in
-    one_of k t (list_any (λ j. j == t) ks) (k == t) refl h a.0 (λ e. listed_none ks t a.1 e)
 
 denied : (b : Bool) → not b ≡ false → b ≡ true
 denied true h = refl
@@ -71,7 +58,7 @@ none_of false false (suc n) h may = let e = may (omega arith) in absurd cc
 
 no_own : (s : Source) (t : ℕ) → closed_table s ≡ None → is_part t ≡ false → (t < 0x2D) × (rows_for s t ≡ 0)
 no_own s t allowed part =
-    let h = both_true (nat_lt t 0x2D) (not (may_change t) || list_any (λ k. k == t) (0x00 ∷ 0x1E ∷ 0x1F ∷ [])) (listed_none (0x03 ∷ 0x05 ∷ 0x07 ∷ 0x13 ∷ 0x16 ∷ 0x1E ∷ 0x1F ∷ []) t refl (denied _ part)) in
+    let h = and_parts (nat_lt t 0x2D) (not (may_change t) || list_any (λ k. k == t) (0x00 ∷ 0x1E ∷ 0x1F ∷ [])) (each_of has_none (0x03 ∷ 0x05 ∷ 0x07 ∷ 0x13 ∷ 0x16 ∷ 0x1E ∷ 0x1F ∷ []) t refl (denied _ part)) in
     let low : t < 0x2D = grind (arith, nat_tests) in
     (low, none_of (list_any (λ k. k == t) (0x00 ∷ 0x1E ∷ 0x1F ∷ [])) (may_change t) (rows_of s.layout t) h.1 (λ some. may_be s t allowed (omega arith) some))
 

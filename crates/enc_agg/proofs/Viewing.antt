@@ -29,7 +29,7 @@ use Rattle.enc_plain.proofs.Applied.{applied}
 use Rattle.enc_plain.proofs.AttachedTo.{cells_attached}
 use Rattle.enc_delta.specs.Delta.{listed, place_in, of_table}
 use Rattle.enc_delta.specs.Rules.{broken, heaps_after, rows_with, reading_after, is_index, cell_fault, row_fault, table_fault, bad_index, bad_offset, users_after, body_stands, broken_body_at, broken_body}
-use Rattle.enc_image.proofs.Listed.{get_below}
+use Rattle.enc_rows.proofs.Listed.{get_below}
 use Rattle.enc_plain.proofs.Columns.{HasPlainKind, plain_kind, column_with, text_column, blob_column, guid_column, in_cells, number_for, column_there}
 use Rattle.enc_image.proofs.Rows.{made_from, within_is, coded_is}
 use Rattle.enc_agg.specs.Extend.{changes_of, extended}

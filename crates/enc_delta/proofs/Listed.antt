@@ -1,23 +1,15 @@
 -- Lists made from the numbers below one.
-use Rattle.std.proofs.Common.{◌≡◌, ℕ, zero, suc, ◌+◌, ◌<◌, length, map, List, [], ◌∷◌, ◌++◌, Bool, true, false, cond, Some, refl, ap, sym, ◌∙◌, arith}
-use Rattle.std.specs.Prelude.{slice_get, filter, ◌&&◌}
-use Rattle.std.specs.List.{range_with_len, list_all}
+use Rattle.std.proofs.Common.{◌≡◌, ℕ, ◌+◌, ◌<◌, length, map, List, [], ◌∷◌, ◌++◌, Bool, true, false, cond, Some, refl, ap, sym, ◌∙◌, arith}
+use Rattle.std.specs.Prelude.{slice_get, filter}
+use Rattle.std.specs.List.{list_all}
 use Rattle.std.proofs.lemmas.List.FromFn.{map-range_with_len_more, filter_of_map_range_with_len_more}
 use Rattle.std.proofs.lemmas.List.{append-nil}
+use Rattle.std.proofs.lemmas.Bool.{and_parts}
 use Rattle.enc_rows.specs.Sums.{below}
 use Rattle.enc_rows.specs.Source.{Source}
 use Rattle.enc_rows.specs.Layout.{rows_of}
+use Rattle.enc_rows.proofs.Listed.{get_below}
 use Rattle.enc_delta.specs.Delta.{entry_at, map_token, log_in, map_in}
-
-from_get : {X : Type 0} (f : ℕ → X) (a n i : ℕ) → i < n → slice_get (map f (range_with_len a n)) i ≡ Some (f (a + i))
-from_get f a zero i h = absurd (omega arith)
-from_get f a (suc n) zero h = let e : a + 0 ≡ a = omega arith in rw e refl
-from_get f a (suc n) (suc i) h = let e : a + suc i ≡ a + 1 + i = omega arith in rw e (from_get f (a + 1) n i (omega arith))
-
--- the i-th element is f of i
-pub get_below : {X : Type 0} (f : ℕ → X) (n i : ℕ) → i < n → slice_get (map f (below n)) i ≡ Some (f i)
-unfolding below
-get_below f n i h = let e : 0 + i ≡ i = omega arith in from_get f 0 n i h ∙ ap (λ k. Some (f k)) e
 
 pub map_none : {X : Type 0} (f : ℕ → X) → map f (below 0) ≡ []
 unfolding below
@@ -51,15 +43,10 @@ pub map_get : (s : Source) (i : ℕ) → i < rows_of s.layout 0x1F → slice_get
 unfolding map_in
 map_get s i h = get_below (map_token s) _ i h
 
-bool_both : (a b : Bool) → (a && b) ≡ true → (a ≡ true) × (b ≡ true)
-bool_both true true h = (refl, refl)
-bool_both true false h = absurd cc
-bool_both false b h = absurd cc
-
 -- a test of all elements, with one more
 pub all_more : {X : Type 0} (p : X → Bool) (xs : List X) (x : X) → list_all p xs ≡ true → p x ≡ true → list_all p (xs ++ x ∷ []) ≡ true
 all_more p [] x all h = rw h refl
-all_more p (y ∷ ys) x all h = let e = bool_both (p y) (list_all p ys) all in rw e.0 (all_more p ys x e.1 h)
+all_more p (y ∷ ys) x all h = let e = and_parts (p y) (list_all p ys) all in rw e.0 (all_more p ys x e.1 h)
 
 pub more_kept : {X : Type 0} (p q : X → Bool) (f : ℕ → X) (n : ℕ) (items after : List X) (x : X) → items ≡ filter p (map f (below n)) → list_all q items ≡ true → x ≡ f n → p x ≡ true → q x ≡ true → after ≡ items ++ x ∷ [] → (after ≡ filter p (map f (below (n + 1)))) × (list_all q after ≡ true)
 more_kept p q f n items after x is all e kept good more =

@@ -14,6 +14,7 @@ use Rattle.enc_base.specs.Order.{first_below}
 use Rattle.enc_base.proofs.First.{first_none, first_found, first_more, first_means}
 use Rattle.enc_plain.specs.Module.{Module, rows_in}
 use Rattle.enc_plain.specs.Chain.{Chain, rows_before}
+use Rattle.enc_plain.proofs.Columns.{both_left, both_right}
 use Rattle.enc_delta.specs.declared.entry.Entry.{Entry}
 use Rattle.enc_base.specs.Token.{is_token}
 use Rattle.enc_delta.specs.Rules.{broken, counts, counted, adds, is_add, has_parent, follows, child_table, log_fault_of, log_fault_at, log_fault, children, new_row, child_fault_at, child_fault_in, inserts, insert_fault_at, insert_fault_of, insert_fault, is_insert}
@@ -24,14 +25,6 @@ use Rattle.enc_delta.proofs.ListsChanged.{token_fits, take_end}
 pub two : (b : Bool) → (b ≡ true) ⊎ (b ≡ false)
 two true = inl refl
 two false = inr refl
-
-pub and_left : (a b : Bool) → (a && b) ≡ true → a ≡ true
-and_left true b h = refl
-and_left false b h = h
-
-pub and_right : (a b : Bool) → (a && b) ≡ true → b ≡ true
-and_right true b h = h
-and_right false b h = absurd cc
 
 -- the child of an entry, by the next entry that counts
 abbrev kid : Entry → Option Entry → List Token
@@ -75,24 +68,33 @@ pub at_seam : (c : Chain) (tokens : List Token) (before : List Entry) (e : Entry
 unfolding log_fault_at
 at_seam c tokens before e es = rw (seam before e es, take-append_seam before (e ∷ es), drop-append-add before (e ∷ es) 1) refl
 
-sound : (p : Place) (a b d h f : Bool) → broken (a && (b || d && not (h && f))) p ≡ None → a ≡ true → d ≡ true → f ≡ true
+sound : (p : Place) (a b d h f : Bool) → broken (a && (b || d && not (h && f))) p ≡ None → a ≡ true → d ≡ true → (h ≡ true) × (f ≡ true)
 sound p true true true h f e x y = absurd cc
-sound p true false true true true e x y = refl
+sound p true false true true true e x y = (refl, refl)
 sound p true false true true false e x y = absurd cc
 sound p true false true false f e x y = absurd cc
 sound p true b false h f e x y = absurd cc
 sound p false b d h f e x y = absurd cc
 
-here_good : (c : Chain) (tokens : List Token) (before es : List Entry) (k : ℕ) (e : Entry) → log_fault_of c tokens before es k e ≡ None → counts e ≡ true → is_add e.code ≡ true → follows c before e.code (find counts es) ≡ true
-unfolding log_fault_of
-here_good c tokens before es k e h x y = sound (place.Log (k + 1)) (counts e) (nat_lt 5 e.code) (is_add e.code) (has_parent c tokens e) (follows c before e.code (find counts es)) h x y
+-- each Add entry has its parent, and is followed by its child
+abbrev pub Judged : Chain → List Token → List Entry → List Entry → Type 0
+Judged c tokens before [] = Unit {0}
+Judged c tokens before (e ∷ es) = (counts e ≡ true → is_add e.code ≡ true → (has_parent c tokens e ≡ true) × (follows c before e.code (find counts es) ≡ true)) × Judged c tokens (before ++ e ∷ []) es
 
-good_of : (c : Chain) (tokens : List Token) (before es : List Entry) → ((k : ℕ) → k < length (before ++ es) → log_fault_at c tokens (before ++ es) k ≡ None) → Good c before es
-good_of c tokens before [] each = tt
-good_of c tokens before (e ∷ es) each =
+judged_here : (c : Chain) (tokens : List Token) (before es : List Entry) (k : ℕ) (e : Entry) → log_fault_of c tokens before es k e ≡ None → counts e ≡ true → is_add e.code ≡ true → (has_parent c tokens e ≡ true) × (follows c before e.code (find counts es) ≡ true)
+unfolding log_fault_of
+judged_here c tokens before es k e h x y = sound (place.Log (k + 1)) (counts e) (nat_lt 5 e.code) (is_add e.code) (has_parent c tokens e) (follows c before e.code (find counts es)) h x y
+
+judged_from : (c : Chain) (tokens : List Token) (before es : List Entry) → ((k : ℕ) → k < length (before ++ es) → log_fault_at c tokens (before ++ es) k ≡ None) → Judged c tokens before es
+judged_from c tokens before [] each = tt
+judged_from c tokens before (e ∷ es) each =
     let short : length before < length (before ++ e ∷ es) = rw (length-append before (e ∷ es)) (omega arith) in
     let at : log_fault_of c tokens before es (length before) e ≡ None = sym (at_seam c tokens before e es) ∙ each (length before) short in
-    (here_good c tokens before es (length before) e at, good_of c tokens (before ++ e ∷ []) es (subst (λ (l : List Entry). (k : ℕ) → k < length l → log_fault_at c tokens l k ≡ None) (sym (append_assoc before (e ∷ []) es)) each))
+    (judged_here c tokens before es (length before) e at, judged_from c tokens (before ++ e ∷ []) es (subst (λ (l : List Entry). (k : ℕ) → k < length l → log_fault_at c tokens l k ≡ None) (sym (append_assoc before (e ∷ []) es)) each))
+
+good_of : (c : Chain) (tokens : List Token) (before es : List Entry) → Judged c tokens before es → Good c before es
+good_of c tokens before [] judged = tt
+good_of c tokens before (e ∷ es) judged = (λ x y. (judged.0 x y).1, good_of c tokens (before ++ e ∷ []) es judged.1)
 
 -- what a rule that answers nowhere says at each place
 pub none_at : {A : Type 0} (rule : ℕ → Option A) (n : ℕ) → first_below rule n ≡ None → (k : ℕ) → k < n → rule k ≡ None
@@ -104,9 +106,12 @@ none_of rule (suc n) h =
     let e : suc n ≡ n + 1 = omega arith in
     rw e (first_more rule n (none_of rule n (λ k l. h k (omega arith))) ∙ h n (omega arith))
 
-pub log_good : (c : Chain) (tokens : List Token) (log : List Entry) → log_fault c tokens log ≡ None → Good c [] log
+pub log_judged : (c : Chain) (tokens : List Token) (log : List Entry) → log_fault c tokens log ≡ None → Judged c tokens [] log
 unfolding log_fault
-log_good c tokens log h = good_of c tokens [] log (none_at (log_fault_at c tokens log) (length log) h)
+log_judged c tokens log h = judged_from c tokens [] log (none_at (log_fault_at c tokens log) (length log) h)
+
+pub log_good : (c : Chain) (tokens : List Token) (log : List Entry) → log_fault c tokens log ≡ None → Good c [] log
+log_good c tokens log h = good_of c tokens [] log (log_judged c tokens log h)
 
 -- 1 from low to below low + n
 abbrev pub hits : ℕ → ℕ → ℕ → ℕ
@@ -148,10 +153,10 @@ pub codes_same : (a b : ℕ) → 1 ≤ a → a ≤ 5 → 1 ≤ b → b ≤ 5 →
 codes_same a b l h m g e = sym (code_is a l h) ∙ ap code_of e ∙ code_is b m g
 
 pub add_low : (code : ℕ) → is_add code ≡ true → 1 ≤ code
-add_low code h = let e = and_left (nat_le 1 code) (nat_le code 5) h in grind (arith, nat_tests)
+add_low code h = let e = both_left (nat_le 1 code) (nat_le code 5) h in grind (arith, nat_tests)
 
 pub add_high : (code : ℕ) → is_add code ≡ true → code ≤ 5
-add_high code h = let e = and_right (nat_le 1 code) (nat_le code 5) h in grind (arith, nat_tests)
+add_high code h = let e = both_right (nat_le 1 code) (nat_le code 5) h in grind (arith, nat_tests)
 
 pub equal : (a b : ℕ) → (a == b) ≡ true → a ≡ b
 equal a b h = grind (arith, nat_tests)
@@ -292,8 +297,8 @@ room_at c tokens each rows table (suc k) le some =
           rw (e, same) (room_at c tokens each rows table k (omega arith) more)
       | inl into ↦
           let same = into_yes c tokens k table h into in
-          let here : t.table ≡ table = equal _ _ (and_left (t.table == table) (is_insert c t) into) in
-          let row : t.row ≡ rows_before c t.table + inserts c (take k tokens) t.table + 1 = insert_is c tokens (take k tokens) t (sym (fault_is c tokens k h) ∙ each k h) (and_right (t.table == table) (is_insert c t) into) in
+          let here : t.table ≡ table = equal _ _ (both_left (t.table == table) (is_insert c t) into) in
+          let row : t.row ≡ rows_before c t.table + inserts c (take k tokens) t.table + 1 = insert_is c tokens (take k tokens) t (sym (fault_is c tokens k h) ∙ each k h) (both_right (t.table == table) (is_insert c t) into) in
           let small = token_fits tokens k rows h in
           rw (e, same, ← here) (omega arith)
     ]

@@ -36,11 +36,11 @@ both : (a b : Bool) → a ≡ true → b ≡ true → (a && b) ≡ true
 both true b h k = k
 both false b h k = absurd cc
 
-left_no : (a b : Bool) → a ≡ false → (a && b) ≡ false
+pub left_no : (a b : Bool) → a ≡ false → (a && b) ≡ false
 left_no true b h = absurd cc
 left_no false b h = refl
 
-right_no : (a b : Bool) → b ≡ false → (a && b) ≡ false
+pub right_no : (a b : Bool) → b ≡ false → (a && b) ≡ false
 right_no true b h = h
 right_no false b h = refl
 

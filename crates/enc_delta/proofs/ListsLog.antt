@@ -14,7 +14,7 @@ use Rattle.enc_plain.specs.Chain.{Chain, rows_before}
 use Rattle.enc_delta.specs.declared.entry.Entry.{Entry}
 use Rattle.enc_delta.specs.Rules.{broken, counts, adds, is_add, has_parent, follows, rows_with, parent_table, child_table, log_fault_of, log_fault_at, log_fault}
 use Rattle.enc_delta.specs.Lists.{parents, parent_in, next_is, is_pair}
-use Rattle.enc_delta.proofs.ListsInserts.{get_there}
+use Rattle.enc_delta.proofs.ListsInserts.{get_there, left_no, right_no}
 use Rattle.enc_delta.proofs.ListsChanged.{no_entry}
 
 -- the parent's rows by code are the rows of its table
@@ -89,14 +89,6 @@ adds_yes : (log : List Entry) (k : ℕ) → k < length log → counts (get_or lo
 adds_yes log k h is =
     let code = (get_or log k no_entry).code in
     count_by_more_yes (λ (e : Entry). counts e && e.code == code) log k no_entry h (both (counts (get_or log k no_entry)) (code == code) is (grind (arith, nat_tests)))
-
-left_no : (a b : Bool) → a ≡ false → (a && b) ≡ false
-left_no true b h = absurd cc
-left_no false b h = refl
-
-right_no : (a b : Bool) → b ≡ false → (a && b) ≡ false
-right_no true b h = h
-right_no false b h = refl
 
 adds_skip : (log : List Entry) (k code : ℕ) → k < length log → counts (get_or log k no_entry) ≡ false → adds (take (k + 1) log) code ≡ adds (take k log) code
 adds_skip log k code h is = count_by_more_no (λ (e : Entry). counts e && e.code == code) log k no_entry h (left_no (counts (get_or log k no_entry)) ((get_or log k no_entry).code == code) is)

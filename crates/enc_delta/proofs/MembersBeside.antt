@@ -8,10 +8,11 @@ use Rattle.enc_base.specs.declared.token.Token.{Token}
 use Rattle.enc_schema.specs.Children.{is_child_table}
 use Rattle.enc_plain.specs.Module.{Module, kids_of}
 use Rattle.enc_plain.specs.Apply.{gained}
+use Rattle.enc_plain.proofs.Columns.{both_left, both_right}
 use Rattle.enc_delta.specs.declared.pairs.Pair.{Pair}
 use Rattle.enc_delta.specs.Members.{pair_seen, is_beside, beside_last, row_beside, old_rows, row_passes, AreAdded}
 use Rattle.enc_delta.proofs.ListsInserts.{no_token}
-use Rattle.enc_delta.proofs.ListsChildren.{two, and_left, and_right, equal, equal_is}
+use Rattle.enc_delta.proofs.ListsChildren.{two, equal, equal_is}
 
 abbrev pub no_pair : Pair
 no_pair = record { owner = no_token; child = no_token }
@@ -46,17 +47,17 @@ any_gained p (k ∷ ks) a = elim (two (is_beside a k)) [ inl e ↦ rw e (ap (λ 
 -- the same owner and the same table
 token_is : (t u : Token) → is_token t u ≡ true → t ≡ u
 token_is t u h =
-    let e : t.table ≡ u.table = equal _ _ (and_left (t.table == u.table) (t.row == u.row) h) in
-    let f : t.row ≡ u.row = equal _ _ (and_right (t.table == u.table) (t.row == u.row) h) in
+    let e : t.table ≡ u.table = equal _ _ (both_left (t.table == u.table) (t.row == u.row) h) in
+    let f : t.row ≡ u.row = equal _ _ (both_right (t.table == u.table) (t.row == u.row) h) in
     let with_table : ℕ → Token = λ n. record { table = n; row = t.row } in
     let with_row : ℕ → Token = λ n. record { table = u.table; row = n } in
     ap with_table e ∙ ap with_row f
 
 pub owner_same : (a k : Pair) → is_beside a k ≡ true → k.owner ≡ a.owner
-owner_same a k h = token_is k.owner a.owner (and_left (is_token k.owner a.owner) (k.child.table == a.child.table) h)
+owner_same a k h = token_is k.owner a.owner (both_left (is_token k.owner a.owner) (k.child.table == a.child.table) h)
 
 pub table_same : (a k : Pair) → is_beside a k ≡ true → k.child.table ≡ a.child.table
-table_same a k h = equal _ _ (and_right (is_token k.owner a.owner) (k.child.table == a.child.table) h)
+table_same a k h = equal _ _ (both_right (is_token k.owner a.owner) (k.child.table == a.child.table) h)
 
 pub beside_itself : (a : Pair) → is_beside a a ≡ true
 beside_itself a = rw (equal_is a.owner.table a.owner.table refl, equal_is a.owner.row a.owner.row refl, equal_is a.child.table a.child.table refl) refl

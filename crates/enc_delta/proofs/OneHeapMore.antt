@@ -10,7 +10,7 @@ use Rattle.std.proofs.lemmas.List.{take_all, drop_all}
 use Rattle.std.proofs.lemmas.List.Sums.{sum_by-append}
 use Rattle.std.proofs.lemmas.Bool.Decides.{nat_tests, eqb_tells}
 use Rattle.enc_base.specs.Order.{or_else}
-use Rattle.enc_meta.specs.Heaps.{Counted, sixteen_at, guid_at, text_entry, blob_entry, user_entry, nil_guid}
+use Rattle.enc_meta.specs.Heaps.{Counted, sixteen_at, guid_at, text_entry, user_entry, nil_guid}
 use Rattle.enc_meta.specs.declared.heap.Heap.{Heap}
 use Rattle.enc_meta.specs.declared.heap.Heap.TheVariants as heap
 use Rattle.enc_meta.specs.HeapKinds.{bytes_in, heap_entry, joined_at, length_in}

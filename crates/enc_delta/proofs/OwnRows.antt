@@ -10,6 +10,7 @@ use Rattle.enc_schema.specs.declared.column.Coding.{Coding}
 use Rattle.enc_schema.specs.Schema.{column_in}
 use Rattle.enc_schema.specs.Coding.{decoded}
 use Rattle.enc_rows.specs.Source.{Source, raw_in}
+use Rattle.enc_rows.proofs.Listed.{get_below}
 use Rattle.enc_plain.specs.Cell.{Cell, Kind, number, text, blob, refer, numbers, texts, blobs, references, kind_of, kind_in, cell_count}
 use Rattle.enc_plain.specs.Module.{cells_of}
 use Rattle.enc_plain.specs.Chain.{Chain}
@@ -20,7 +21,6 @@ use Rattle.enc_delta.specs.Delta.{listed, place_in}
 use Rattle.enc_delta.specs.Context.{row_or_nil}
 use Rattle.enc_delta.specs.Rules.{heaps_after, reading_after, rows_with}
 use Rattle.enc_delta.specs.Rows.{cell_after, cells_after, rows_after}
-use Rattle.enc_delta.proofs.Listed.{get_below}
 
 -- the delta's row for a token at a place
 abbrev pub own : Token → ℕ → Token

@@ -4,6 +4,7 @@ use Rattle.std.specs.Prelude.{◌&&◌, nat_lt, filter}
 use Rattle.std.specs.List.{list_all}
 use Rattle.std.proofs.lemmas.List.{append-nil, map-append, drop_all}
 use Rattle.enc_plain.specs.Apply.{Attached}
+use Rattle.enc_plain.proofs.Columns.{both_left, both_right}
 use Rattle.enc_delta.specs.declared.entry.Entry.{Entry}
 use Rattle.enc_delta.specs.declared.pairs.Pair.{Pair}
 use Rattle.enc_delta.specs.Lists.{AreEntries}
@@ -11,7 +12,7 @@ use Rattle.enc_delta.specs.Members.{pair_seen, pair_behind, ArePairs}
 use Rattle.enc_delta.specs.Pairs.{pairs_in}
 use Rattle.enc_delta.specs.Rules.{is_add, counts, counted}
 use Rattle.enc_delta.proofs.ListsChanged.{no_entry}
-use Rattle.enc_delta.proofs.ListsChildren.{two, and_left, and_right, counted_yes, counted_no}
+use Rattle.enc_delta.proofs.ListsChildren.{two, counted_yes, counted_no}
 
 -- the pairs of the rest, behind the last entry that counts
 abbrev pub pairs_from : Option Entry → List Entry → List Attached
@@ -61,8 +62,8 @@ all_map f p (x ∷ xs) = ap (λ b. p (f x) && b) (all_map f p xs)
 all_filter : {A : Type 0} (q p : A → Bool) (xs : List A) → list_all p xs ≡ true → list_all p (filter q xs) ≡ true
 all_filter q p [] h = refl
 all_filter q p (x ∷ xs) h =
-    let rest = all_filter q p xs (and_right (p x) (list_all p xs) h) in
-    elim (two (q x)) [ inl a ↦ rw (a, and_left (p x) (list_all p xs) h) rest | inr a ↦ rw a rest ]
+    let rest = all_filter q p xs (both_right (p x) (list_all p xs) h) in
+    elim (two (q x)) [ inl a ↦ rw (a, both_left (p x) (list_all p xs) h) rest | inr a ↦ rw a rest ]
 
 abbrev fits : Entry → Bool
 fits e = nat_lt e.token.row 0x1000000
@@ -74,9 +75,9 @@ all_fit : (es : List Entry) → list_all fits es ≡ true → list_all both_fit 
 all_fit [] h = refl
 all_fit (e ∷ []) h = refl
 all_fit (e ∷ f ∷ es) h =
-    let more : list_all fits (f ∷ es) ≡ true = and_right (fits e) (list_all fits (f ∷ es)) h in
+    let more : list_all fits (f ∷ es) ≡ true = both_right (fits e) (list_all fits (f ∷ es)) h in
     let rest = all_fit (f ∷ es) more in
-    elim (two (is_add e.code)) [ inl a ↦ rw (a, and_left (fits e) (list_all fits (f ∷ es)) h, and_left (fits f) (list_all fits es) more) rest | inr a ↦ rw a rest ]
+    elim (two (is_add e.code)) [ inl a ↦ rw (a, both_left (fits e) (list_all fits (f ∷ es)) h, both_left (fits f) (list_all fits es) more) rest | inr a ↦ rw a rest ]
 
 pub pairs_fit : (log : List Entry) (pairs : List Pair) → AreEntries log → map pair_seen pairs ≡ pairs_in (counted log) → ArePairs pairs
 unfolding counted

@@ -14,12 +14,13 @@ use Rattle.enc_schema.specs.Schema.{list_at}
 use Rattle.enc_schema.specs.Children.{is_child_table, owner_table}
 use Rattle.enc_plain.specs.Module.{Module, Row, row_at, row_of, rows_in, has_row, kids_of, kids_with}
 use Rattle.enc_plain.specs.Apply.{Attached, gained}
+use Rattle.enc_plain.proofs.Columns.{both_left, both_right}
 use Rattle.enc_delta.specs.declared.pairs.Pair.{Pair}
 use Rattle.enc_delta.specs.Rules.{least, lesser, at_token}
 use Rattle.enc_delta.specs.Twins.{Asked, members, is_twin, has_twin, twin_fault}
 use Rattle.enc_delta.specs.Members.{pair_seen, is_beside, old_rows, row_passes, is_twin_row, is_twin_beside, bucket_of, goes_to, HoldAll, in_bucket, AreAdded, AreMembers, AreChildren}
 use Rattle.enc_delta.proofs.ListsChanged.{all_at}
-use Rattle.enc_delta.proofs.ListsChildren.{two, and_left, and_right, equal_is}
+use Rattle.enc_delta.proofs.ListsChildren.{two, equal_is}
 use Rattle.enc_delta.proofs.MembersBeside.{no_pair, any_same, any_gained, owner_same, table_same, beside_itself}
 
 -- what is no row has no children
@@ -41,10 +42,10 @@ members_are q m pairs grouped all same added = λ a p child. added a p child ∙
 
 -- a twin counts and has the same name
 twin_counts : (q : Asked) (t u : Token) → is_twin q t u ≡ true → q.counts u ≡ true
-twin_counts q t u h = and_right (not (t.row == u.row)) (q.counts u) (and_left (not (t.row == u.row) && q.counts u) (bytes_eq (q.name t) (q.name u)) (and_left (not (t.row == u.row) && q.counts u && bytes_eq (q.name t) (q.name u)) (q.alike t u) h))
+twin_counts q t u h = both_right (not (t.row == u.row)) (q.counts u) (both_left (not (t.row == u.row) && q.counts u) (bytes_eq (q.name t) (q.name u)) (both_left (not (t.row == u.row) && q.counts u && bytes_eq (q.name t) (q.name u)) (q.alike t u) h))
 
 twin_name : (q : Asked) (t u : Token) → is_twin q t u ≡ true → q.name t ≡ q.name u
-twin_name q t u h = (bytes_eq-Decides (q.name t) (q.name u)).0 (and_right (not (t.row == u.row) && q.counts u) (bytes_eq (q.name t) (q.name u)) (and_left (not (t.row == u.row) && q.counts u && bytes_eq (q.name t) (q.name u)) (q.alike t u) h))
+twin_name q t u h = (bytes_eq-Decides (q.name t) (q.name u)).0 (both_right (not (t.row == u.row) && q.counts u) (bytes_eq (q.name t) (q.name u)) (both_left (not (t.row == u.row) && q.counts u && bytes_eq (q.name t) (q.name u)) (q.alike t u) h))
 
 child_is : (a k : Pair) → is_beside a k ≡ true → k.child ≡ record { table = a.child.table; row = k.child.row }
 child_is a k h = let with_table : ℕ → Token = λ n. record { table = n; row = k.child.row } in ap with_table (table_same a k h)
@@ -53,8 +54,8 @@ child_is a k h = let with_table : ℕ → Token = λ n. record { table = n; row 
 same_bucket : (q : Asked) (n : ℕ) (a k : Pair) → is_twin_beside q a k ≡ true → goes_to q n (bucket_of q n a) k ≡ true
 unfolding bucket_of
 same_bucket q n a k h =
-    let b : is_beside a k ≡ true = and_left (is_beside a k) (is_twin_row q a k.child.row) h in
-    let t : is_twin_row q a k.child.row ≡ true = and_right (is_beside a k) (is_twin_row q a k.child.row) h in
+    let b : is_beside a k ≡ true = both_left (is_beside a k) (is_twin_row q a k.child.row) h in
+    let t : is_twin_row q a k.child.row ≡ true = both_right (is_beside a k) (is_twin_row q a k.child.row) h in
     let u : Token = record { table = a.child.table; row = k.child.row } in
     let c : q.counts k.child ≡ true = ap q.counts (child_is a k b) ∙ twin_counts q a.child u t in
     let name : q.name k.child ≡ q.name a.child = ap q.name (child_is a k b) ∙ sym (twin_name q a.child u t) in

@@ -91,20 +91,7 @@ landed c s h = record {
 
 -- each rule, unbroken
 pub record Unbroken (c : Chain) (s : Source) : Type 0 where
-  pub mvid : other_module c s ≡ None
-  pub generation : not_next c s ≡ None
-  pub base : other_base c s ≡ None
-  pub id : id_taken c s ≡ None
-  pub heaps : heap_fault c s ≡ None
-  pub late : late_fault (listed s) ≡ None
-  pub tables : uneven_table s ≡ None
-  pub inserts : insert_fault c (listed s) ≡ None
-  pub sets : unmatched_token c s ≡ None
-  pub log : log_fault c (listed s) (log_in s) ≡ None
-  pub children : child_fault c (listed s) (log_in s) ≡ None
-  pub cell_tables : closed_table s ≡ None
-  pub bad_index : bad_index c s ≡ None
-  pub bad_offset : bad_offset c s ≡ None
+  pub early : Landed c s
   pub altered : altered_cell c s ≡ None
   pub broken_body : broken_body c s ≡ None
   pub lost_body : lost_body c s ≡ None
@@ -117,22 +104,8 @@ pub record Unbroken (c : Chain) (s : Source) : Type 0 where
 
 -- a delta that breaks no rule breaks none of them
 pub unbroken : (c : Chain) (s : Source) → first_meta c s ≡ None → Unbroken c s
-unfolding late_token skipped_row bad_entry unowned_child
 unbroken c s h = record {
-  mvid = no_rule 1 c s h;
-  generation = no_rule 2 c s h;
-  base = no_rule 3 c s h;
-  id = no_rule 4 c s h;
-  heaps = no_rule 5 c s h;
-  late = no_rule 6 c s h;
-  tables = no_rule 7 c s h;
-  inserts = no_rule 8 c s h;
-  sets = no_rule 9 c s h;
-  log = no_rule 10 c s h;
-  children = no_rule 11 c s h;
-  cell_tables = no_rule 12 c s h;
-  bad_index = no_rule 13 c s h;
-  bad_offset = no_rule 14 c s h;
+  early = landed c s (first_rules 14 c s h);
   altered = no_rule 15 c s h;
   broken_body = no_rule 16 c s h;
   lost_body = no_rule 17 c s h;

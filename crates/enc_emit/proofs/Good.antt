@@ -1,5 +1,5 @@
 -- No stream of a root that was written is refused, and its root has their spans.
-use Rattle.std.proofs.Common.{◌≡◌, ℕ, ◌+◌, ◌≤◌, Bool, true, false, List, [], length, take, Some, None, refl, arith}
+use Rattle.std.proofs.Common.{◌≡◌, ℕ, ◌+◌, ◌≤◌, Bool, true, false, List, [], length, take, Some, None, refl, arith, ◌∷◌, ◌++◌}
 use Rattle.std.specs.Prelude.{codes, slice_get}
 use Rattle.enc_base.specs.Order.{first_below}
 use Rattle.enc_meta.specs.Root.{Header, has_stream, fault_at, stream_fault, has_one_table_stream, span_of, root_with}
@@ -30,57 +30,40 @@ none_stands : (text : List ℕ) → has_stream text [] ≡ false
 unfolding has_stream
 none_stands text = refl
 
-new_1 : (u : Bool) (s : Spans) → has_stream (codes "#Strings") (take 1 (five u s)) ≡ false
-unfolding has_stream
-new_1 true s = refl
-new_1 false s = refl
+-- no header stands before under the name of the next
+pub record Apart (u : Bool) (s : Spans) : Type 0 where
+  pub strings : has_stream (codes "#Strings") (take 1 (five u s)) ≡ false
+  pub users : has_stream (codes "#US") (take 2 (five u s)) ≡ false
+  pub guids : has_stream (codes "#GUID") (take 3 (five u s)) ≡ false
+  pub blobs : has_stream (codes "#Blob") (take 4 (five u s)) ≡ false
+  pub jtd : has_stream (codes "#JTD") (five u s) ≡ false
 
-new_2 : (u : Bool) (s : Spans) → has_stream (codes "#US") (take 2 (five u s)) ≡ false
+apart : (u : Bool) (s : Spans) → Apart u s
 unfolding has_stream
-new_2 true s = refl
-new_2 false s = refl
+apart true s = record { strings = refl; users = refl; guids = refl; blobs = refl; jtd = refl }
+apart false s = record { strings = refl; users = refl; guids = refl; blobs = refl; jtd = refl }
 
-new_3 : (u : Bool) (s : Spans) → has_stream (codes "#GUID") (take 3 (five u s)) ≡ false
-unfolding has_stream
-new_3 true s = refl
-new_3 false s = refl
-
-new_4 : (u : Bool) (s : Spans) → has_stream (codes "#Blob") (take 4 (five u s)) ≡ false
-unfolding has_stream
-new_4 true s = refl
-new_4 false s = refl
-
-new_5 : (u : Bool) (s : Spans) → has_stream (codes "#JTD") (five u s) ≡ false
-unfolding has_stream
-new_5 true s = refl
-new_5 false s = refl
-
-pub five_good : (size : ℕ) (u : Bool) (s : Spans) → Ends size s → stream_fault size (five u s) ≡ None
-five_good size u s fit =
-    let all = five u s in
+-- of the first five headers none is refused, whatever stands behind them
+first_five : (size : ℕ) (u : Bool) (s : Spans) (rest : List Header) → Ends size s → first_below (fault_at size (five u s ++ rest)) 5 ≡ None
+first_five size u s rest fit =
+    let all = five u s ++ rest in
     let rule = fault_at size all in
     let f0 = fault_place size 0 all [] _ refl refl (none_stands (table_name u)) fit.tables in
-    let f1 = fault_place size 1 all (take 1 all) _ refl refl (new_1 u s) fit.strings in
-    let f2 = fault_place size 2 all (take 2 all) _ refl refl (new_2 u s) fit.users in
-    let f3 = fault_place size 3 all (take 3 all) _ refl refl (new_3 u s) fit.guids in
-    let f4 = fault_place size 4 all (take 4 all) _ refl refl (new_4 u s) fit.blobs in
+    let f1 = fault_place size 1 all (take 1 (five u s)) _ refl refl (apart u s).strings fit.strings in
+    let f2 = fault_place size 2 all (take 2 (five u s)) _ refl refl (apart u s).users fit.users in
+    let f3 = fault_place size 3 all (take 3 (five u s)) _ refl refl (apart u s).guids fit.guids in
+    let f4 = fault_place size 4 all (take 4 (five u s)) _ refl refl (apart u s).blobs fit.blobs in
     let n2 = none_more rule 1 (none_more rule 0 (none_first rule) f0) f1 in
-    let n5 = none_more rule 4 (none_more rule 3 (none_more rule 2 n2 f2) f3) f4 in
-    fault_with size all n5 (one_table_five u s)
+    none_more rule 4 (none_more rule 3 (none_more rule 2 n2 f2) f3) f4
+
+pub five_good : (size : ℕ) (u : Bool) (s : Spans) → Ends size s → stream_fault size (five u s) ≡ None
+five_good size u s fit = fault_with size (five u s) (first_five size u s [] fit) (one_table_five u s)
 
 pub six_good : (size start : ℕ) (u : Bool) (s : Spans) → Ends size s → start ≤ size → stream_fault size (six u s start) ≡ None
 six_good size start u s fit le =
     let all = six u s start in
-    let rule = fault_at size all in
-    let f0 = fault_place size 0 all [] _ refl refl (none_stands (table_name u)) fit.tables in
-    let f1 = fault_place size 1 all (take 1 all) _ refl refl (new_1 u s) fit.strings in
-    let f2 = fault_place size 2 all (take 2 all) _ refl refl (new_2 u s) fit.users in
-    let f3 = fault_place size 3 all (take 3 all) _ refl refl (new_3 u s) fit.guids in
-    let f4 = fault_place size 4 all (take 4 all) _ refl refl (new_4 u s) fit.blobs in
-    let f5 = fault_place size 5 all (five u s) (jtd_header start) refl refl (new_5 u s) (omega (arith, le)) in
-    let n2 = none_more rule 1 (none_more rule 0 (none_first rule) f0) f1 in
-    let n5 = none_more rule 4 (none_more rule 3 (none_more rule 2 n2 f2) f3) f4 in
-    fault_with size all (none_more rule 5 n5 f5) (one_table_six u s start)
+    let f5 = fault_place size 5 all (five u s) (jtd_header start) refl refl (apart u s).jtd (omega (arith, le)) in
+    fault_with size all (none_more (fault_at size all) 5 (first_five size u s (jtd_header start ∷ []) fit) f5) (one_table_six u s start)
 
 -- the root of these spans
 abbrev pub root_for : Bool → Bool → Spans → Root

@@ -1,9 +1,10 @@
 -- Bodies that were written are read back.
 use Rattle.std.proofs.Common.{◌≡◌, ℕ, suc, ◌+◌, ◌-◌, ◌*◌, ◌/◌, ◌%◌, ◌^◌, ◌<◌, ◌≤◌, Bool, true, false, not, List, [], ◌∷◌, ◌++◌, length, drop, Some, replicate, refl, sym, ap, ◌∙◌, arith}
-use Rattle.std.specs.Prelude.{◌&&◌, ◌==◌, if◌then◌else◌}
+use Rattle.std.specs.Prelude.{◌==◌, if◌then◌else◌}
 use Rattle.std.specs.Int.{w8, w16, w32, to_le_bytes}
 use Rattle.std.proofs.lemmas.Bool.Decides.{nat_tests}
 use Rattle.std.proofs.lemmas.List.{append_assoc, append-nil, length-append, length-replicate, drop_at}
+use Rattle.std.proofs.lemmas.Bool.{and_parts}
 use Rattle.enc_base.specs.Numbers.{little_endian_at, padded, has_flag}
 use Rattle.enc_base.specs.Token.{number_of, token_of, nil}
 use Rattle.enc_base.specs.declared.token.Token.{Token}
@@ -172,10 +173,6 @@ record IsTiny (c : Code) : Type 0 where
   init : c.init ≡ false
   locals : (c.locals.row == 0) ≡ true
 
-both : (a b : Bool) → (a && b) ≡ true → (a ≡ true) × (b ≡ true)
-both true b h = (refl, h)
-both false b h = absurd cc
-
 unset : (b : Bool) → not b ≡ true → b ≡ false
 unset true h = absurd cc
 unset false h = refl
@@ -186,9 +183,9 @@ eight n h = grind (arith, nat_tests)
 tiny_parts : (c : Code) → is_tiny c [] ≡ true → IsTiny c
 unfolding is_tiny
 tiny_parts c h =
-    let e = both _ _ h in
-    let d = both _ _ e.0 in
-    let b = both _ _ d.0 in
+    let e = and_parts _ _ h in
+    let d = and_parts _ _ e.0 in
+    let b = and_parts _ _ d.0 in
     record { max = eight c.max b.1; init = unset c.init d.1; locals = e.1 }
 
 tiny_alike : (c : Code) → IsTiny c → record { max = 8; init = false; locals = nil; code = c.code; sections = [] } ≡ code_again c []

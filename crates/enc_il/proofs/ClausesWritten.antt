@@ -1,10 +1,11 @@
 -- Clauses that were written are read back.
 use Rattle.std.proofs.Common.{◌≡◌, ℕ, zero, suc, ◌+◌, ◌-◌, ◌*◌, ◌/◌, ◌%◌, ◌^◌, ◌<◌, ◌≤◌, Bool, true, false, List, [], ◌∷◌, ◌++◌, length, take, drop, Option, Some, None, option_map, refl, sym, ap, ◌∙◌, arith}
-use Rattle.std.specs.Prelude.{flat_map, is_some, nat_lt, nat_le, ◌&&◌, if◌then◌else◌}
+use Rattle.std.specs.Prelude.{flat_map, is_some, nat_lt, nat_le, if◌then◌else◌}
 use Rattle.std.specs.List.{list_all}
 use Rattle.std.specs.Int.{w32, to_le_bytes}
 use Rattle.std.proofs.lemmas.Bool.Decides.{nat_tests}
 use Rattle.std.proofs.lemmas.List.{append_assoc, append-nil, length-append, length-take, length-drop, take-append-drop, take_at, drop_at}
+use Rattle.std.proofs.lemmas.Bool.{and_parts}
 use Rattle.enc_opcodes.specs.declared.code.Clause.{Clause}
 use Rattle.enc_opcodes.specs.Body.{sections_at}
 use Rattle.enc_opcodes.specs.Clause.{Section, counted_in, with_clauses, section_of_kind, section_in, number_or_zero, range_of, clause_in, clauses_in, clauses_of, data_sections, sections_in}
@@ -13,10 +14,6 @@ use Rattle.enc_il.specs.Written.{range_length, clause_bytes, clause_fits, data_s
 use Rattle.enc_il.proofs.Numbers.{word_between, range_between}
 use Rattle.enc_il.proofs.Sections.{behind_last, behind_more, clauses_last, clauses_more}
 use Rattle.enc_il.proofs.SectionsWritten.{written_last, written_more, most_some, most_few}
-
-both : (a b : Bool) → (a && b) ≡ true → (a ≡ true) × (b ≡ true)
-both true b h = (refl, h)
-both false b h = absurd cc
 
 less : (a b : ℕ) → nat_lt a b ≡ true → a < b
 less a b h = grind (arith, nat_tests)
@@ -32,11 +29,11 @@ record Fits (c : Clause) : Type 0 where
 
 fits_all : (c : Clause) → clause_fits c ≡ true → Fits c
 fits_all c h =
-    let e = both _ _ h in
-    let d = both _ _ e.0 in
-    let f = both _ _ d.0 in
-    let g = both _ _ f.0 in
-    let k = both _ _ g.0 in
+    let e = and_parts _ _ h in
+    let d = and_parts _ _ e.0 in
+    let f = and_parts _ _ d.0 in
+    let g = and_parts _ _ f.0 in
+    let k = and_parts _ _ g.0 in
     record {
       kind = less _ _ k.0;
       tries_start = less _ _ k.1;
@@ -93,7 +90,7 @@ pub clauses_again : (cs : List Clause) → list_all clause_fits cs ≡ true → 
 unfolding clauses_in
 clauses_again [] fit = refl
 clauses_again (c ∷ cs) fit =
-    let h = both (clause_fits c) (list_all clause_fits cs) fit in
+    let h = and_parts (clause_fits c) (list_all clause_fits cs) fit in
     rw (clause_again c (flat_map clause_bytes cs) (fits_all c h.0), drop_at (clause_bytes c) (flat_map clause_bytes cs) 24 (length_clause c), clauses_again cs h.1) refl
 
 -- three bytes of a size
@@ -184,7 +181,7 @@ fit_parts : (n : ℕ) (cs : List Clause) → list_all clause_fits cs ≡ true �
 fit_parts zero cs fit = (refl, fit)
 fit_parts (suc n) [] fit = (refl, refl)
 fit_parts (suc n) (c ∷ cs) fit =
-    let h = both (clause_fits c) (list_all clause_fits cs) fit in
+    let h = and_parts (clause_fits c) (list_all clause_fits cs) fit in
     let r = fit_parts n cs h.1 in
     (rw (h.0, r.0) refl, r.1)
 

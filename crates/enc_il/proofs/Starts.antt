@@ -1,5 +1,5 @@
 -- What a loop over the instructions of a code has judged so far.
-use Rattle.std.proofs.Common.{◌≡◌, ℕ, zero, suc, ◌<◌, ◌≤◌, Bool, true, false, ◌||◌, List, length, set, replicate, Some, None, refl, sym, ◌∙◌, arith, inl, inr}
+use Rattle.std.proofs.Common.{◌≡◌, ℕ, zero, suc, ◌-◌, ◌<◌, ◌≤◌, Bool, true, false, ◌||◌, List, length, set, replicate, Some, None, refl, sym, ◌∙◌, arith, inl, inr}
 use Rattle.std.specs.Prelude.{◌==◌}
 use Rattle.std.specs.List.{list_all}
 use Rattle.std.proofs.lemmas.Bool.{cases_eq}
@@ -16,6 +16,9 @@ IsRead code at i n = Some (i, n) ≡ instr_in code at
 
 pub behind : (code : List ℕ) (at n : ℕ) (i : Instruction ℕ) → IsRead code at i n → (at < n) × (n ≤ length code)
 behind code at n i is = instr_ends code at n i (sym is)
+
+pub fewer_left : (code : List ℕ) (at n : ℕ) (i : Instruction ℕ) → IsRead code at i n → length code - n < length code - at
+fewer_left code at n i is = let h = behind code at n i is in omega (arith, h.0, h.1)
 
 -- of all instructions those from a place on are left to judge
 pub more_good : (p : ℕ × Instruction ℕ → Bool) (code : List ℕ) (at n : ℕ) (i : Instruction ℕ) → IsRead code at i n → p (at, i) ≡ true → list_all p (rest_of code at) ≡ list_all p (rest_of code n)

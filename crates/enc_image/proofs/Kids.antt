@@ -20,7 +20,7 @@ use Rattle.enc_image.specs.declared.open.Opened.{Opened}
 use Rattle.enc_image.specs.Base.{rows_from, metadata_of, source_from, cells_fault, row_in, module_in}
 use Rattle.enc_plain.specs.Sound.{is_part}
 use Rattle.enc_image.specs.Seen.{IsOpened}
-use Rattle.enc_image.proofs.Listed.{length_below}
+use Rattle.enc_rows.proofs.Listed.{length_below}
 use Rattle.enc_image.proofs.Good.{named_once, no_index_fault}
 use Rattle.enc_image.proofs.Rows.{rows_there, row_stands, row_there}
 

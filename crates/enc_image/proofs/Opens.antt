@@ -4,6 +4,7 @@ use Rattle.std.specs.Prelude.{◌&&◌, ◌==◌, option_and_then, find, nat_lt,
 use Rattle.std.specs.List.{list_all}
 use Rattle.std.specs.Int.{w64}
 use Rattle.std.proofs.lemmas.Bool.Decides.{nat_tests}
+use Rattle.std.proofs.lemmas.Bool.{and_parts}
 use Rattle.enc_base.specs.Numbers.{little_endian_at, AreBytes}
 use Rattle.enc_base.specs.declared.refusal.Refusal.{Refusal}
 use Rattle.enc_base.proofs.SmallNumbers.{EachIsByte, bytes_each, each_drop, each_take}
@@ -65,14 +66,10 @@ unfolding done
 same_source x s h = cc
 
 -- the layout is whole
-both_true : (a b : Bool) → (a && b) ≡ true → (a ≡ true) × (b ≡ true)
-both_true true b h = (refl, h)
-both_true false b h = absurd cc
-
 count_few : (counts : List ℕ) (t : ℕ) → list_all (λ n. nat_lt n 0x1000000) counts ≡ true → slice_index counts t < 2 ^ 24
 count_few [] t h = omega arith
-count_few (n ∷ rest) zero h = let e = (both_true (nat_lt n 0x1000000) _ h).0 in grind (arith, nat_tests)
-count_few (n ∷ rest) (suc t) h = count_few rest t (both_true (nat_lt n 0x1000000) _ h).1
+count_few (n ∷ rest) zero h = let e = (and_parts (nat_lt n 0x1000000) _ h).0 in grind (arith, nat_tests)
+count_few (n ∷ rest) (suc t) h = count_few rest t (and_parts (nat_lt n 0x1000000) _ h).1
 
 -- the counts of a base
 pub record HasCounts (l : Layout) : Type 0 where
@@ -82,12 +79,12 @@ pub record HasCounts (l : Layout) : Type 0 where
 whole_counts : (stream : List ℕ) (valid : ℕ) (l : Layout) → is_whole (length stream) form.Base valid l.counts l.first (table_start l 64) ≡ true → HasCounts l
 unfolding form_allows
 whole_counts stream valid l h =
-    let a = both_true (nat_le l.first (length stream) && list_all (λ n. nat_lt n 0x1000000) l.counts && (nat_lt valid (2 ^ 0x2D) && slice_index l.counts 0x00 == 1 && slice_index l.counts 0x1E == 0 && slice_index l.counts 0x1F == 0)) (nat_le (table_start l 64) (length stream)) h in
-    let b = both_true (nat_le l.first (length stream) && list_all (λ n. nat_lt n 0x1000000) l.counts) (nat_lt valid (2 ^ 0x2D) && slice_index l.counts 0x00 == 1 && slice_index l.counts 0x1E == 0 && slice_index l.counts 0x1F == 0) a.0 in
-    let c = both_true (nat_le l.first (length stream)) (list_all (λ n. nat_lt n 0x1000000) l.counts) b.0 in
-    let d = both_true (nat_lt valid (2 ^ 0x2D) && slice_index l.counts 0x00 == 1 && slice_index l.counts 0x1E == 0) (slice_index l.counts 0x1F == 0) b.1 in
-    let e = both_true (nat_lt valid (2 ^ 0x2D) && slice_index l.counts 0x00 == 1) (slice_index l.counts 0x1E == 0) d.0 in
-    let f = both_true (nat_lt valid (2 ^ 0x2D)) (slice_index l.counts 0x00 == 1) e.0 in
+    let a = and_parts (nat_le l.first (length stream) && list_all (λ n. nat_lt n 0x1000000) l.counts && (nat_lt valid (2 ^ 0x2D) && slice_index l.counts 0x00 == 1 && slice_index l.counts 0x1E == 0 && slice_index l.counts 0x1F == 0)) (nat_le (table_start l 64) (length stream)) h in
+    let b = and_parts (nat_le l.first (length stream) && list_all (λ n. nat_lt n 0x1000000) l.counts) (nat_lt valid (2 ^ 0x2D) && slice_index l.counts 0x00 == 1 && slice_index l.counts 0x1E == 0 && slice_index l.counts 0x1F == 0) a.0 in
+    let c = and_parts (nat_le l.first (length stream)) (list_all (λ n. nat_lt n 0x1000000) l.counts) b.0 in
+    let d = and_parts (nat_lt valid (2 ^ 0x2D) && slice_index l.counts 0x00 == 1 && slice_index l.counts 0x1E == 0) (slice_index l.counts 0x1F == 0) b.1 in
+    let e = and_parts (nat_lt valid (2 ^ 0x2D) && slice_index l.counts 0x00 == 1) (slice_index l.counts 0x1E == 0) d.0 in
+    let f = and_parts (nat_lt valid (2 ^ 0x2D)) (slice_index l.counts 0x00 == 1) e.0 in
     record { few = λ t. count_few l.counts t c.1; single = eq_of (slice_index l.counts 0) 1 f.1 }
   where
     eq_of : (a b : ℕ) → (a == b) ≡ true → a ≡ b

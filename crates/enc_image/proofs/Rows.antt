@@ -23,7 +23,7 @@ use Rattle.enc_rows.specs.Source.{Source, raw_in}
 use Rattle.enc_plain.specs.Bodies.{body_loaded}
 use Rattle.enc_plain.specs.Reading.{within, index_token, cell_read, cell_with}
 use Rattle.enc_plain.proofs.Columns.{HasPlainKind, plain_kind, column_with, text_column, blob_column, guid_column, in_cells, number_for}
-use Rattle.enc_image.proofs.Listed.{get_below, get_past, length_below}
+use Rattle.enc_rows.proofs.Listed.{get_below, get_past, length_below}
 
 -- the rows of a table below 2D
 pub rows_there : (s : Source) (table : ℕ) → table < 0x2D → rows_in (module_in s) table ≡ table_rows s table

@@ -1,6 +1,7 @@
 -- The body of a method in a base is sound.
 use Rattle.std.proofs.Common.{◌≡◌, ℕ, zero, suc, ◌-◌, ◌≤◌, Bool, true, false, List, Option, Some, None, refl, sym, ap, ◌∙◌, arith}
 use Rattle.std.specs.Prelude.{◌==◌, ◌&&◌, ◌||◌, ◌%◌, IsTrue, option_map}
+use Rattle.std.proofs.lemmas.Bool.{and_parts}
 use Rattle.enc_base.specs.Token.{nth_row}
 use Rattle.enc_base.specs.declared.token.Token.{Token}
 use Rattle.enc_base.proofs.First.{silent}
@@ -24,10 +25,6 @@ use Rattle.enc_image.proofs.Texts.{no_body_fault, if_some}
 use Rattle.enc_image.proofs.Opens.{IsBase}
 use Rattle.enc_image.proofs.Told.{row_is_there, number_is, blob_is, code_tables}
 
-both_true : (a b : Bool) → (a && b) ≡ true → (a ≡ true) × (b ≡ true)
-both_true true b h = (refl, h)
-both_true false b h = absurd cc
-
 -- what F10 says of a method: IL code, a good body, a local signature of locals
 judged : (s : Source) (u : Token) → cells_fault s ≡ None → IsTrue (has_row (module_in s) u) → u.table ≡ 0x06 → (body_is_good (rows_of s.layout) (users_of s) s.loaded (raw_in s u 0) (raw_in s u 1) && has_locals s (code_loaded s.loaded (raw_in s u 0))) ≡ true
 unfolding body_fault body_fault_at
@@ -44,9 +41,9 @@ pub there_good : (count : ℕ → ℕ) (texts : ℕ → Option (List ℕ)) (regi
 unfolding body_is_good code_loaded
 there_good count texts regions zero flags c good is = absurd cc
 there_good count texts regions (suc n) flags c good is =
-    let a = both_true (flags % 4 == 0) _ good in
+    let a = and_parts (flags % 4 == 0) _ good in
     let g : (is_good count c && texts_are_there texts c.code) ≡ true = rw is at a.1 in
-    (a.0, (both_true (is_good count c) (texts_are_there texts c.code) g).0)
+    (a.0, (and_parts (is_good count c) (texts_are_there texts c.code) g).0)
 
 begins_by : (a b : Bool) (x y : List ℕ) → (a || begins_locals x) ≡ true → (a ≡ false → y ≡ x) → (a || begins_locals y) ≡ true
 begins_by true b x y h same = refl
@@ -67,7 +64,7 @@ unfolding method_is_sound columns_in body_of
 code_sound s u column None base there table is = refl
 code_sound s u column (Some c) base there table is =
     let m = module_in s in
-    let h = both_true _ (has_locals s (code_loaded s.loaded (raw_in s u 0))) (judged s u base.cells there table) in
+    let h = and_parts _ (has_locals s (code_loaded s.loaded (raw_in s u 0))) (judged s u base.cells there table) in
     let g = there_good (rows_of s.layout) (users_of s) s.loaded (raw_in s u 0) (raw_in s u 1) c h.0 is in
     let flags : number_at (cells_of m) u 1 ≡ raw_in s u 1 = number_is s u 1 there (rw table refl) in
     let il : (number_at (cells_of m) u 1 % 4 == 0) ≡ true = rw flags g.0 in

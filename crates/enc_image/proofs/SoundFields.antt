@@ -7,6 +7,7 @@ use Rattle.enc_base.specs.Order.{first_below}
 use Rattle.enc_base.specs.declared.token.Token.{Token}
 use Rattle.enc_base.proofs.First.{first_none, first_suc}
 use Rattle.enc_meta.specs.Regions.{Region, region_holds, range_loaded}
+use Rattle.enc_meta.proofs.EntryLengths.{length_taken, length_dropped}
 use Rattle.enc_schema.specs.declared.column.Column.TheVariants.{Index}
 use Rattle.enc_schema.specs.Schema.{columns_in, column_in}
 use Rattle.enc_rows.specs.Layout.{rows_of}
@@ -86,16 +87,6 @@ extent_names s u = by_zero (raw_in s u 1 == 0) (extent_in (blob_or_none s (raw_i
     by_zero false e h = h
 
 -- a range that is loaded is as long as it was asked for
-length_taken : (n : ℕ) (xs : List ℕ) → n ≤ length xs → length (take n xs) ≡ n
-length_taken zero xs h = refl
-length_taken (suc n) [] h = absurd (omega arith)
-length_taken (suc n) (x ∷ xs) h = ap suc (length_taken n xs (omega arith))
-
-length_dropped : (n : ℕ) (xs : List ℕ) → length (drop n xs) ≡ length xs - n
-length_dropped zero xs = omega arith
-length_dropped (suc n) [] = omega arith
-length_dropped (suc n) (x ∷ xs) = omega (arith, length_dropped n xs)
-
 found_holds : (test : Region → Bool) (regions : List Region) (r : Region) → find test regions ≡ Some r → test r ≡ true
 found_holds test [] r h = absurd cc
 found_holds test (x ∷ rest) r h = by_test x r (test x) (find test rest) refl (found_holds test rest r) h

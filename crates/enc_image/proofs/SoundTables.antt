@@ -17,9 +17,9 @@ use Rattle.enc_plain.specs.Cell.{Cell, number, text, blob, guid, refer, Kind, nu
 use Rattle.enc_plain.specs.Module.{Row, rows_in, has_row, cell_of}
 use Rattle.enc_plain.specs.Plain.{cell_kind}
 use Rattle.enc_plain.specs.Sound.{is_part, row_count, HasTables, HasCounts, HasKinds}
-use Rattle.enc_plain.proofs.Columns.{plain_kind, column_with, reference_column}
+use Rattle.enc_plain.proofs.Columns.{plain_kind, column_with, reference_column, is_plain}
 use Rattle.enc_image.specs.Base.{cells_fault, cell_in, row_in, module_in}
-use Rattle.enc_image.proofs.Listed.{length_below}
+use Rattle.enc_rows.proofs.Listed.{length_below}
 use Rattle.enc_image.proofs.Rows.{rows_there, rows_past, count_there, count_other, count_past, tables_there, body_cell, field_cell, text_cell, blob_cell, guid_cell, index_cell, coded_cell, number_cell}
 use Rattle.enc_image.proofs.Opens.{IsBase}
 
@@ -69,40 +69,29 @@ pub kind_there : {A : Type 0} (f : A → Cell) (k : Kind) (x : Option A) (o : Op
 kind_there f k (Some a) o same h = rw (h, same a) refl
 kind_there f k None o same h = absurd h
 
+-- the kind of a column is neither a body nor a field's bytes
+plain_of : (o : Option Column) (k : Kind) → option_and_then kind_of o ≡ Some k → is_plain k ≡ true
+plain_of None k h = absurd cc
+plain_of (Some Num8) k h = let e : numbers ≡ k = cc in rw (← e) refl
+plain_of (Some Num16) k h = let e : numbers ≡ k = cc in rw (← e) refl
+plain_of (Some Num32) k h = let e : numbers ≡ k = cc in rw (← e) refl
+plain_of (Some Text) k h = let e : texts ≡ k = cc in rw (← e) refl
+plain_of (Some Guid) k h = let e : guids ≡ k = cc in rw (← e) refl
+plain_of (Some Blob) k h = let e : blobs ≡ k = cc in rw (← e) refl
+plain_of (Some (Index t)) k h = let e : references ≡ k = cc in rw (← e) refl
+plain_of (Some (Coded c)) k h = let e : references ≡ k = cc in rw (← e) refl
+plain_of (Some (Run t)) k h = absurd cc
+
 -- only the column of a method's body has one, and only that of a field's bytes has those
-no_bodies : (o : Option Column) → option_and_then kind_of o ≡ Some bodies → ⊥
-no_bodies None h = absurd cc
-no_bodies (Some Num8) h = absurd cc
-no_bodies (Some Num16) h = absurd cc
-no_bodies (Some Num32) h = absurd cc
-no_bodies (Some Text) h = absurd cc
-no_bodies (Some Guid) h = absurd cc
-no_bodies (Some Blob) h = absurd cc
-no_bodies (Some (Index t)) h = absurd cc
-no_bodies (Some (Coded k)) h = absurd cc
-no_bodies (Some (Run t)) h = absurd cc
-
-no_fields : (o : Option Column) → option_and_then kind_of o ≡ Some fields → ⊥
-no_fields None h = absurd cc
-no_fields (Some Num8) h = absurd cc
-no_fields (Some Num16) h = absurd cc
-no_fields (Some Num32) h = absurd cc
-no_fields (Some Text) h = absurd cc
-no_fields (Some Guid) h = absurd cc
-no_fields (Some Blob) h = absurd cc
-no_fields (Some (Index t)) h = absurd cc
-no_fields (Some (Coded k)) h = absurd cc
-no_fields (Some (Run t)) h = absurd cc
-
 pub body_from : (b f : Bool) (o : Option Column) → (if b then Some bodies else if f then Some fields else option_and_then kind_of o) ≡ Some bodies → b ≡ true
 body_from true f o h = refl
 body_from false true o h = absurd cc
-body_from false false o h = absurd (no_bodies o h)
+body_from false false o h = absurd (let e = plain_of o bodies h in cc)
 
 pub field_from : (b f : Bool) (o : Option Column) → (if b then Some bodies else if f then Some fields else option_and_then kind_of o) ≡ Some fields → f ≡ true
 field_from true f o h = absurd cc
 field_from false true o h = refl
-field_from false false o h = absurd (no_fields o h)
+field_from false false o h = absurd (let e = plain_of o fields h in cc)
 
 pub place_of : (table i k : ℕ) → (table == k && i == 0) ≡ true → (table ≡ k) × (i ≡ 0)
 place_of table i k h = (grind (arith, nat_tests), grind (arith, nat_tests))

@@ -1,8 +1,7 @@
 -- What a base's module tells in its columns, as the file's numbers stand for it.
-use Rattle.std.proofs.Common.{◌≡◌, ℕ, ◌-◌, ◌<◌, ◌≤◌, Bool, true, false, List, [], ◌∷◌, Option, Some, None, refl, sym, ◌∙◌, inl, inr, arith}
-use Rattle.std.specs.Prelude.{◌==◌, ◌&&◌, ◌||◌, MatchOption, IsTrue, unwrap_or, nat_le, nat_lt, slice_get}
-use Rattle.std.specs.List.{list_any, list_all}
-use Rattle.std.proofs.lemmas.Bool.{cases_lt}
+use Rattle.std.proofs.Common.{◌≡◌, ℕ, ◌-◌, ◌<◌, ◌≤◌, Bool, true, List, [], ◌∷◌, Option, Some, None, refl, sym, ◌∙◌, inl, inr, arith}
+use Rattle.std.specs.Prelude.{◌&&◌, MatchOption, IsTrue, unwrap_or, nat_le, nat_lt, slice_get}
+use Rattle.std.proofs.lemmas.Bool.{cases_lt, and_parts}
 use Rattle.std.proofs.lemmas.Bool.Decides.{nat_tests}
 use Rattle.enc_base.specs.Token.{nth_row}
 use Rattle.enc_base.specs.declared.token.Token.{Token}
@@ -20,8 +19,9 @@ use Rattle.enc_plain.specs.Rows.{number_at, bytes_at, token_at}
 use Rattle.enc_plain.specs.Sound.{is_part, row_count}
 use Rattle.enc_plain.proofs.CellsOf.{number_there, blob_there, token_there}
 use Rattle.enc_plain.proofs.SignatureRows.{TypesGrow}
+use Rattle.enc_plain.proofs.Columns.{each_of}
 use Rattle.enc_image.specs.Base.{reading_of, blob_or_none, cells_fault, cell_in, row_in, module_in}
-use Rattle.enc_image.proofs.Listed.{get_below, get_past}
+use Rattle.enc_rows.proofs.Listed.{get_below, get_past}
 use Rattle.enc_image.proofs.Rows.{row_stands, token_is, row_there, count_there, number_cell, blob_cell, index_cell}
 
 -- a row of the tables is one of the module
@@ -69,23 +69,9 @@ index_is s u i table sound there kind column = sym (token_there (module_in s) u 
 abbrev in_module : ℕ → Bool
 in_module t = is_part t && nat_lt t 0x2D
 
-both_true : (a b : Bool) → (a && b) ≡ true → (a ≡ true) × (b ≡ true)
-both_true true b h = (refl, h)
-both_true false b h = absurd cc
-
-one_of : (k t : ℕ) (rest b : Bool) → (k == t) ≡ b → (b || rest) ≡ true → in_module k ≡ true → (rest ≡ true → in_module t ≡ true) → in_module t ≡ true
-one_of k t rest true e h part later = let is : k ≡ t = grind (arith, nat_tests) in rw (← is) part
-one_of k t rest false e h part later = later h
-
-listed_part : (ts : List ℕ) (t : ℕ) → list_all in_module ts ≡ true → list_any (λ k. k == t) ts ≡ true → in_module t ≡ true
-listed_part [] t all h = absurd cc
-listed_part (k ∷ ts) t all h =
-    let a = both_true (in_module k) (list_all in_module ts) all in
-    one_of k t (list_any (λ j. j == t) ts) (k == t) refl h a.0 (λ e. listed_part ts t a.1 e)
-
 same_count : (s : Source) (t : ℕ) → in_module t ≡ true → rows_of s.layout t ≡ row_count (module_in s) t
 same_count s t h =
-    let a = both_true (is_part t) (nat_lt t 0x2D) h in
+    let a = and_parts (is_part t) (nat_lt t 0x2D) h in
     let low : t < 0x2D = grind (arith, nat_tests) in
     sym (count_there s t low a.0)
 
@@ -93,7 +79,7 @@ le_same : (a b : ℕ) → a ≡ b → a ≤ b
 le_same a b h = omega arith
 
 pub code_tables : (s : Source) → Grow (rows_of s.layout) (row_count (module_in s))
-code_tables s = record { each = λ t h. le_same _ _ (same_count s t (listed_part (0x01 ∷ 0x02 ∷ 0x04 ∷ 0x06 ∷ 0x0A ∷ 0x11 ∷ 0x1B ∷ 0x2B ∷ []) t refl h)) }
+code_tables s = record { each = λ t h. le_same _ _ (same_count s t (each_of in_module (0x01 ∷ 0x02 ∷ 0x04 ∷ 0x06 ∷ 0x0A ∷ 0x11 ∷ 0x1B ∷ 0x2B ∷ []) t refl h)) }
 
 pub type_tables : (s : Source) → TypesGrow (rows_of s.layout) (row_count (module_in s))
 type_tables s = record { definitions = le_same _ _ (same_count s 0x02 refl); references = le_same _ _ (same_count s 0x01 refl); specifications = le_same _ _ (same_count s 0x1B refl) }

@@ -120,12 +120,12 @@ joined_few all offset x few h = or_empty (λ y. length y < 2 ^ 29) (offset == 0)
     shorter z heap q lt = omega arith
 
 -- a GUID has sixteen bytes
-length_taken : (n : ℕ) (xs : List ℕ) → n ≤ length xs → length (take n xs) ≡ n
+pub length_taken : (n : ℕ) (xs : List ℕ) → n ≤ length xs → length (take n xs) ≡ n
 length_taken zero xs h = refl
 length_taken (suc n) [] h = absurd (omega arith)
 length_taken (suc n) (x ∷ xs) h = ap suc (length_taken n xs (omega arith))
 
-length_dropped : (n : ℕ) (xs : List ℕ) → length (drop n xs) ≡ length xs - n
+pub length_dropped : (n : ℕ) (xs : List ℕ) → length (drop n xs) ≡ length xs - n
 length_dropped zero xs = omega arith
 length_dropped (suc n) [] = omega arith
 length_dropped (suc n) (x ∷ xs) = omega (arith, length_dropped n xs)

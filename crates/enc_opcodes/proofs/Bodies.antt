@@ -1,8 +1,8 @@
 -- What a body means and whether it is good, by texts and by numbers of rows that agree where it counts.
-use Rattle.std.proofs.Common.{◌≡◌, ℕ, ◌<◌, ◌≤◌, Bool, true, false, ◌&&◌, List, [], ◌∷◌, length, map, Option, Some, None, refl, ap, arith, inl, inr}
+use Rattle.std.proofs.Common.{◌≡◌, ℕ, ◌<◌, ◌≤◌, Bool, true, false, List, [], ◌∷◌, length, map, Option, Some, None, refl, ap, arith, inl, inr}
 use Rattle.std.specs.Prelude.{is_some, unwrap_or, ◌==◌}
 use Rattle.std.specs.List.{list_all}
-use Rattle.std.proofs.lemmas.Bool.{cases_lt}
+use Rattle.std.proofs.lemmas.Bool.{cases_lt, and_parts}
 use Rattle.std.proofs.lemmas.Bool.Decides.{nat_tests}
 use Rattle.enc_base.specs.Token.{token_of}
 use Rattle.enc_base.specs.declared.token.Token.{Token}
@@ -32,14 +32,10 @@ arg_alike f g (raw bytes) there keeps = refl
 one_alike : (f g : ℕ → Option (List ℕ)) (x : ℕ × Instruction ℕ) → text_is_there f x.1.arg ≡ true → KeepsTexts f g → instruction_told f x ≡ instruction_told g x
 one_alike f g x there keeps = ap (λ (a : Argument (List ℕ)). let i : Instruction (List ℕ) = record { op = x.1.op; arg = a } in (x.0, i)) (arg_alike f g x.1.arg there keeps)
 
-true_both : (a b : Bool) → (a && b) ≡ true → (a ≡ true) × (b ≡ true)
-true_both true b h = (refl, h)
-true_both false b h = absurd (cc)
-
 list_alike : (f g : ℕ → Option (List ℕ)) (xs : List (ℕ × Instruction ℕ)) → list_all (λ (x : ℕ × Instruction ℕ). text_is_there f x.1.arg) xs ≡ true → KeepsTexts f g → map (instruction_told f) xs ≡ map (instruction_told g) xs
 list_alike f g [] there keeps = refl
 list_alike f g (x ∷ xs) there keeps =
-    let h = true_both (text_is_there f x.1.arg) (list_all (λ (y : ℕ × Instruction ℕ). text_is_there f y.1.arg) xs) there in
+    let h = and_parts (text_is_there f x.1.arg) (list_all (λ (y : ℕ × Instruction ℕ). text_is_there f y.1.arg) xs) there in
     rw (one_alike f g x h.0 keeps, list_alike f g xs h.1 keeps) refl
 
 pub told_alike : (f g : ℕ → Option (List ℕ)) (code : List ℕ) → texts_are_there f code ≡ true → ((o : ℕ) (x : List ℕ) → f o ≡ Some x → g o ≡ Some x) → map (instruction_told f) (instructions_of code) ≡ map (instruction_told g) (instructions_of code)

@@ -1,7 +1,7 @@
 -- Names and instructions belong together one to one, computed over the table.
 use Rattle.std.proofs.Common.{◌≡◌, ℕ, zero, suc, ◌+◌, ◌-◌, ◌<◌, ◌≤◌, inl, inr, Bool, true, false, ◌&&◌, ◌⊎◌, get_or, List, [], ◌∷◌, length, Option, Some, None, refl, sym, ◌∙◌, ap, arith, nat_lt, cond}
 use Rattle.std.specs.Prelude.{nat_le, option_map, ◌==◌, bytes_eq, IfSome, IsTrue}
-use Rattle.std.proofs.lemmas.Bool.{cases_lt, eqb-true}
+use Rattle.std.proofs.lemmas.Bool.{cases_lt, eqb-true, and_parts}
 use Rattle.std.proofs.lemmas.Bool.Decides.{nat_tests}
 use Rattle.std.proofs.lemmas.Slice.Eq.{bytes_eq-Decides}
 use Rattle.enc_base.specs.Order.{or_else}
@@ -153,10 +153,6 @@ two_bytes_each : each_found 0xFE00 two_byte_opcodes ≡ true
 unfolding each_found is_this op_named first_named
 two_bytes_each = refl
 
-true_both : (a b : Bool) → (a && b) ≡ true → (a ≡ true) × (b ≡ true)
-true_both true b h = (refl, h)
-true_both false b h = absurd (cc)
-
 found_at : (table : List (Option Entry)) (code i : ℕ) (e : Entry) → each_found code table ≡ true → opcode_entry table i ≡ Some e → is_this (code + i) (op_named e.0) ≡ true
 unfolding each_found
 found_at [] code i e all is = absurd (cc)
@@ -167,10 +163,10 @@ found_at (None ∷ rest) code (suc i) e all is =
 found_at (Some x ∷ rest) code zero e all is =
     let n : code ≡ code + 0 = omega arith in
     let s : x ≡ e = cc in
-    rw (← n) (rw (← s) ((true_both (is_this code (op_named x.0)) (each_found (code + 1) rest) all).0))
+    rw (← n) (rw (← s) ((and_parts (is_this code (op_named x.0)) (each_found (code + 1) rest) all).0))
 found_at (Some x ∷ rest) code (suc i) e all is =
     let n : code + 1 + i ≡ code + suc i = omega arith in
-    rw n at (found_at rest (code + 1) i e ((true_both (is_this code (op_named x.0)) (each_found (code + 1) rest) all).1) is)
+    rw n at (found_at rest (code + 1) i e ((and_parts (is_this code (op_named x.0)) (each_found (code + 1) rest) all).1) is)
 
 entry_found : (code : ℕ) (e : Entry) → entry_of code ≡ Some e → is_this code (op_named e.0) ≡ true
 entry_found code e is =
@@ -224,8 +220,8 @@ two_bytes_short = refl
 short_at : (table : List (Option Entry)) (i : ℕ) → all_short table ≡ true → is_short (opcode_entry table i) ≡ true
 unfolding all_short is_short
 short_at [] i all = refl
-short_at (x ∷ rest) zero all = (true_both (is_short x) (all_short rest) all).0
-short_at (x ∷ rest) (suc i) all = short_at rest i ((true_both (is_short x) (all_short rest) all).1)
+short_at (x ∷ rest) zero all = (and_parts (is_short x) (all_short rest) all).0
+short_at (x ∷ rest) (suc i) all = short_at rest i ((and_parts (is_short x) (all_short rest) all).1)
 
 entry_short : (code : ℕ) → is_short (entry_of code) ≡ true
 entry_short code =

@@ -2,7 +2,7 @@
 use Rattle.std.proofs.Common.{◌≡◌, ℕ, zero, suc, ◌/◌, ◌%◌, ◌<◌, Bool, true, false, List, [], ◌∷◌, Option, Some, None, refl, sym, ap, ◌∙◌, inl, inr, arith}
 use Rattle.std.specs.Prelude.{◌&&◌, ◌==◌, not, bytes_eq, option_map, if◌then◌else◌}
 use Rattle.std.proofs.Math.Nat.{mod-lt}
-use Rattle.std.proofs.lemmas.Bool.{or_cases}
+use Rattle.std.proofs.lemmas.Bool.{or_cases, and_parts}
 use Rattle.std.proofs.lemmas.Bool.Decides.{nat_tests}
 use Rattle.std.proofs.lemmas.Slice.Eq.{bytes_eq-Decides}
 use Rattle.enc_base.specs.Token.{nil, is_token}
@@ -106,25 +106,21 @@ agreed rows t u h =
     ]
 
 -- the first types of agreeing signatures have one element, and tokens that agree
-both_true : (a b : Bool) → (a && b) ≡ true → (a ≡ true) × (b ≡ true)
-both_true true b h = (refl, h)
-both_true false b h = absurd cc
-
 eq_of : (a b : ℕ) → (a == b) ≡ true → a ≡ b
 eq_of a b h = grind (arith, nat_tests)
 
 one_agrees : (same : Token → Token → Bool) (t u : Tree) → forests_agree same (forest_of (t ∷ [])) (forest_of (u ∷ [])) ≡ true → (t.element ≡ u.element) × (tokens_agree same t.token u.token ≡ true)
 unfolding forests_agree
 one_agrees same t u h =
-    let a = both_true (t.element == u.element && tokens_agree same t.token u.token && t.number == u.number && forests_agree same t.kids u.kids) _ h in
-    let b = both_true (t.element == u.element && tokens_agree same t.token u.token && t.number == u.number) (forests_agree same t.kids u.kids) a.0 in
-    let c = both_true (t.element == u.element && tokens_agree same t.token u.token) (t.number == u.number) b.0 in
-    let d = both_true (t.element == u.element) (tokens_agree same t.token u.token) c.0 in
+    let a = and_parts (t.element == u.element && tokens_agree same t.token u.token && t.number == u.number && forests_agree same t.kids u.kids) _ h in
+    let b = and_parts (t.element == u.element && tokens_agree same t.token u.token && t.number == u.number) (forests_agree same t.kids u.kids) a.0 in
+    let c = and_parts (t.element == u.element && tokens_agree same t.token u.token) (t.number == u.number) b.0 in
+    let d = and_parts (t.element == u.element) (tokens_agree same t.token u.token) c.0 in
     (eq_of t.element u.element d.0, d.1)
 
 trees_first : (same : Token → Token → Bool) (x y : SigTree) (t u : Tree) → x.parts ≡ t ∷ [] → y.parts ≡ u ∷ [] → sig_trees_agree same x y ≡ true → (t.element ≡ u.element) × (tokens_agree same t.token u.token ≡ true)
 trees_first same x y t u px py h =
-    let a = (both_true (x.kind == y.kind && x.generics == y.generics) (forests_agree same (forest_of x.parts) (forest_of y.parts)) h).1 in
+    let a = (and_parts (x.kind == y.kind && x.generics == y.generics) (forests_agree same (forest_of x.parts) (forest_of y.parts)) h).1 in
     one_agrees same t u (rw (px, py) at a)
 
 -- both signatures are there

@@ -1,7 +1,7 @@
 -- What the schema says of columns with cells: they stand before the runs, and each has one kind.
 use Rattle.std.proofs.Common.{◌≡◌, ℕ, zero, suc, ◌<◌, Bool, true, false, List, [], ◌∷◌, length, Option, Some, None, refl, inl, inr, arith}
-use Rattle.std.specs.Prelude.{is_some, not, ◌&&◌, option_and_then, slice_get, filter, if◌then◌else◌, ◌⊎◌, IsSome}
-use Rattle.std.specs.List.{list_all}
+use Rattle.std.specs.Prelude.{is_some, not, ◌&&◌, option_and_then, slice_get, filter, if◌then◌else◌, ◌⊎◌, IsSome, ◌==◌, ◌||◌}
+use Rattle.std.specs.List.{list_all, list_any}
 use Rattle.std.proofs.lemmas.Bool.Decides.{nat_tests}
 use Rattle.enc_schema.specs.declared.column.Column.{Column}
 use Rattle.enc_schema.specs.declared.column.Column.TheVariants.{Num8, Num16, Num32, Text, Guid, Blob, Index, Coded, Run}
@@ -30,6 +30,15 @@ both_left false b h = h
 pub both_right : (a b : Bool) → (a && b) ≡ true → b ≡ true
 both_right true b h = h
 both_right false b h = absurd cc
+
+one_of : (p : ℕ → Bool) (k t : ℕ) (rest b : Bool) → (k == t) ≡ b → (b || rest) ≡ true → p k ≡ true → (rest ≡ true → p t ≡ true) → p t ≡ true
+one_of p k t rest true e h here later = let is : k ≡ t = grind (arith, nat_tests) in rw (← is) here
+one_of p k t rest false e h here later = later h
+
+-- what holds of each number of a list holds of a number that is among them
+pub each_of : (p : ℕ → Bool) (ks : List ℕ) (t : ℕ) → list_all p ks ≡ true → list_any (λ k. k == t) ks ≡ true → p t ≡ true
+each_of p [] t all h = absurd cc
+each_of p (k ∷ ks) t all h = one_of p k t (list_any (λ j. j == t) ks) (k == t) refl h (both_left _ _ all) (λ e. each_of p ks t (both_right _ _ all) e)
 
 not_both : (a : Bool) → not a ≡ true → a ≡ true → ⊥
 not_both true h k = absurd cc
@@ -66,7 +75,7 @@ unfolding columns_in runs_last
 in_cells table i c e k = counted (list_at schema table) i c (each runs_last schema table all_last refl) e k
 
 -- the kinds of the columns whose numbers are no places of bytes
-abbrev is_plain : Kind → Bool
+abbrev pub is_plain : Kind → Bool
 is_plain bodies = false
 is_plain fields = false
 is_plain k = true

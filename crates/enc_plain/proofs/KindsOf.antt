@@ -2,7 +2,7 @@
 use Rattle.std.proofs.Common.{◌≡◌, ℕ, zero, suc, ◌<◌, ◌≤◌, Bool, true, false, List, [], ◌∷◌, length, Option, Some, None, refl, ap, ◌∙◌, inl, inr, arith}
 use Rattle.std.specs.Prelude.{◌&&◌, not, is_some, nat_lt, nat_le, option_map, option_and_then, slice_get, filter, if◌then◌else◌}
 use Rattle.std.specs.List.{list_all}
-use Rattle.std.proofs.lemmas.Bool.{cases_lt}
+use Rattle.std.proofs.lemmas.Bool.{cases_lt, and_parts}
 use Rattle.std.proofs.lemmas.Bool.Decides.{nat_tests}
 use Rattle.enc_base.specs.declared.token.Token.{Token}
 use Rattle.enc_schema.specs.declared.column.Column.{Column}
@@ -14,10 +14,6 @@ use Rattle.enc_plain.specs.Sound.{row_count, is_part, HasTables, HasCounts, HasK
 use Rattle.enc_plain.proofs.Columns.{part_cases, runs_last, all_last, each}
 
 -- a run stands behind all columns with cells
-both_true : (a b : Bool) → (a && b) ≡ true → (a ≡ true) × (b ≡ true)
-both_true true b h = (refl, h)
-both_true false b h = absurd cc
-
 denied : (b : Bool) → not b ≡ true → b ≡ false
 denied true h = absurd cc
 denied false h = refl
@@ -25,7 +21,7 @@ denied false h = refl
 none_kept : (cs : List Column) → list_all (λ (d : Column). not (is_some (kind_of d))) cs ≡ true → length (filter (λ (d : Column). is_some (kind_of d)) cs) ≡ 0
 none_kept [] h = refl
 none_kept (x ∷ xs) h =
-    let a = both_true (not (is_some (kind_of x))) (list_all (λ (d : Column). not (is_some (kind_of d))) xs) h in
+    let a = and_parts (not (is_some (kind_of x))) (list_all (λ (d : Column). not (is_some (kind_of d))) xs) h in
     rw (denied (is_some (kind_of x)) a.0) (none_kept xs a.1)
 
 run_past : (cs : List Column) (i : ℕ) (c : Column) → runs_last cs ≡ true → slice_get cs i ≡ Some c → is_some (kind_of c) ≡ false → length (filter (λ (d : Column). is_some (kind_of d)) cs) ≤ i

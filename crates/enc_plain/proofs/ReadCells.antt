@@ -4,6 +4,7 @@ use Rattle.std.specs.Prelude.{◌&&◌, ◌||◌, ◌==◌, not, option_map, opt
 use Rattle.std.specs.List.{list_all, list_any}
 use Rattle.std.specs.Option.{option_map_or}
 use Rattle.std.proofs.lemmas.Bool.Decides.{nat_tests}
+use Rattle.std.proofs.lemmas.Bool.{and_parts}
 use Rattle.enc_base.specs.Token.{nil, is_token}
 use Rattle.enc_base.specs.declared.token.Token.{Token}
 use Rattle.enc_schema.specs.declared.column.Column.{Column}
@@ -44,17 +45,13 @@ all_name : numbered part_names 0 schema ≡ true
 unfolding numbered part_names tables_of
 all_name = refl
 
-both_true : (a b : Bool) → (a && b) ≡ true → (a ≡ true) × (b ≡ true)
-both_true true b h = (refl, h)
-both_true false b h = absurd cc
-
 true_both : (a b : Bool) → a ≡ true → b ≡ true → (a && b) ≡ true
 true_both a b e f = rw (e, f) refl
 
 all_at : (p : Column → Bool) (xs : List Column) (i : ℕ) (c : Column) → list_all p xs ≡ true → slice_get xs i ≡ Some c → p c ≡ true
 all_at p [] i c h e = absurd cc
-all_at p (x ∷ xs) zero c h e = let is : x ≡ c = cc in rw (← is) (both_true (p x) (list_all p xs) h).0
-all_at p (x ∷ xs) (suc i) c h e = all_at p xs i c (both_true (p x) (list_all p xs) h).1 e
+all_at p (x ∷ xs) zero c h e = let is : x ≡ c = cc in rw (← is) (and_parts (p x) (list_all p xs) h).0
+all_at p (x ∷ xs) (suc i) c h e = all_at p xs i c (and_parts (p x) (list_all p xs) h).1 e
 
 unless : (a b : Bool) → (not a || b) ≡ true → a ≡ true → b ≡ true
 unless true b h e = h
@@ -65,11 +62,11 @@ unfolding numbered part_names
 numbered_at n k [] c i h e p = absurd cc
 numbered_at n zero (x ∷ xs) c i h e p =
     let z : n + 0 ≡ n = omega arith in
-    let here = (both_true (part_names n x) (numbered part_names (suc n) xs) h).0 in
+    let here = (and_parts (part_names n x) (numbered part_names (suc n) xs) h).0 in
     all_at names_parts x i c (unless (in_module n) (list_all names_parts x) here (rw z at p)) e
 numbered_at n (suc k) (x ∷ xs) c i h e p =
     let z : n + suc k ≡ suc n + k = omega arith in
-    numbered_at (suc n) k xs c i (both_true (part_names n x) (numbered part_names (suc n) xs) h).1 e (rw z at p)
+    numbered_at (suc n) k xs c i (and_parts (part_names n x) (numbered part_names (suc n) xs) h).1 e (rw z at p)
 
 part_low : (t : ℕ) → is_part t ≡ true → t < 0x2D → in_module t ≡ true
 part_low t part low = let e : nat_lt t 0x2D ≡ true = grind (arith, nat_tests) in true_both (is_part t) (nat_lt t 0x2D) part e
@@ -97,7 +94,7 @@ guid_fits m u (Some x) h = let many = h x refl in grind (arith, nat_tests)
 named : (m : Module) (r : Reading) (c : Column) (t : Token) → ReadsFor m r → can_name c t.table ≡ true → in_module t.table ≡ true → 0 < t.row → nat_le t.row (r.count t.table) ≡ true → is_reference m c t ≡ true
 unfolding is_reference has_row
 named m r c t reads can part low fits =
-    let p = both_true (is_part t.table) (nat_lt t.table 0x2D) part in
+    let p = and_parts (is_part t.table) (nat_lt t.table 0x2D) part in
     let under : t.table < 0x2D = grind (arith, nat_tests) in
     let many : r.count t.table ≤ row_count m t.table = reads.rows t.table p.0 under in
     let some : nat_lt 0 t.row ≡ true = grind (arith, nat_tests) in
@@ -134,10 +131,10 @@ eq_self n = grind (arith, nat_tests)
 in_tables : (tables : List (Option ℕ)) (tag t : ℕ) → option_and_then (λ (x : Option ℕ). x) (slice_get tables tag) ≡ Some t → (list_any (is_tables t) tables ≡ true) × (each_table in_module tables ≡ true → in_module t ≡ true)
 in_tables [] tag t h = absurd cc
 in_tables (None ∷ rest) zero t h = absurd cc
-in_tables (Some x ∷ rest) zero t h = let is : x ≡ t = cc in (rw (is, eq_self t) refl, λ all. rw (← is) (both_true (in_module x) _ all).0)
+in_tables (Some x ∷ rest) zero t h = let is : x ≡ t = cc in (rw (is, eq_self t) refl, λ all. rw (← is) (and_parts (in_module x) _ all).0)
 in_tables (x ∷ rest) (suc tag) t h =
     let i = in_tables rest tag t h in
-    (or_right (is_tables t x) _ i.0, λ all. i.1 (both_true (option_map_or in_module x true) _ all).1)
+    (or_right (is_tables t x) _ i.0, λ all. i.1 (and_parts (option_map_or in_module x true) _ all).1)
   where
     or_right : (a b : Bool) → b ≡ true → (a || b) ≡ true
     or_right true b h = refl

@@ -2,6 +2,7 @@
 use Rattle.std.proofs.Common.{◌≡◌, ℕ, ◌%◌, ◌/◌, ◌≤◌, Bool, true, false, List, Option, Some, None, refl, arith}
 use Rattle.std.specs.Prelude.{◌&&◌, ◌==◌, nat_le, is_some, if◌then◌else◌}
 use Rattle.std.proofs.lemmas.Bool.Decides.{nat_tests}
+use Rattle.std.proofs.lemmas.Bool.{and_parts}
 use Rattle.enc_sigs.specs.Grammar.{table_of, is_coded, is_counted, sig_in}
 use Rattle.enc_sigs.proofs.Wider.{sig_keeps}
 use Rattle.enc_plain.specs.Signatures.{kind_in_table, is_signature}
@@ -17,13 +18,9 @@ by_tag f g true b grow = grow.definitions
 by_tag f g false true grow = grow.references
 by_tag f g false false grow = grow.specifications
 
-both_true : (a b : Bool) → (a && b) ≡ true → (a ≡ true) × (b ≡ true)
-both_true true b h = (refl, h)
-both_true false b h = absurd cc
-
 still : (coded some : Bool) (row n m : ℕ) → n ≤ m → (coded && some && nat_le row n) ≡ true → (coded && some && nat_le row m) ≡ true
 still coded some row n m le h =
-    let a = both_true (coded && some) (nat_le row n) h in
+    let a = and_parts (coded && some) (nat_le row n) h in
     let e : nat_le row m ≡ true = higher row n m le a.1 in
     rw (a.0, e) refl
   where

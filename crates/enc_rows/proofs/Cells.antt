@@ -21,15 +21,19 @@ pub fits_two : (s : Shape) (c : Column) (w n : ℕ) → w ≡ width_of s c → (
 unfolding fits
 fits_two s c w n is size other h = below_two w n size other (rw is (ltb-true n (2 ^ (8 * width_of s c)) h))
 
+-- what is made of columns and cells, one by one: from a place on, of the column and the cell there and of those behind them
+pub from_place : {B : Type 0} (with : Column → ℕ → B → B) (all : List Column → List ℕ → B) → ((c : Column) (n : ℕ) (columns : List Column) (cells : List ℕ) → all (c ∷ columns) (n ∷ cells) ≡ with c n (all columns cells)) → (columns : List Column) (cells : List ℕ) (i : ℕ) (c : Column) (n : ℕ) → slice_get columns i ≡ Some c → slice_get cells i ≡ Some n → all (drop i columns) (drop i cells) ≡ with c n (all (drop (i + 1) columns) (drop (i + 1) cells))
+from_place with all more [] cells i c n column cell = absurd (cc)
+from_place with all more (x ∷ columns) [] i c n column cell = absurd (cc)
+from_place with all more (x ∷ columns) (y ∷ cells) zero c n column cell = rw (same_Some x c column, same_Some y n cell) (more c n columns cells)
+from_place with all more (x ∷ columns) (y ∷ cells) (suc i) c n column cell =
+    let e : suc i + 1 ≡ suc (i + 1) = omega arith in
+    rw e (from_place with all more columns cells i c n column cell)
+
 -- the bytes of the row from a column on are its own and those of the columns behind it
 pub row_from : (s : Shape) (columns : List Column) (cells : List ℕ) (i : ℕ) (c : Column) (n : ℕ) → slice_get columns i ≡ Some c → slice_get cells i ≡ Some n → row_bytes s (drop i columns) (drop i cells) ≡ cell_bytes s c n ++ row_bytes s (drop (i + 1) columns) (drop (i + 1) cells)
 unfolding row_bytes
-row_from s [] cells i c n column cell = absurd (cc)
-row_from s (x ∷ columns) [] i c n column cell = absurd (cc)
-row_from s (x ∷ columns) (y ∷ cells) zero c n column cell = rw (same_Some x c column, same_Some y n cell) refl
-row_from s (x ∷ columns) (y ∷ cells) (suc i) c n column cell =
-    let e : suc i + 1 ≡ suc (i + 1) = omega arith in
-    rw e (row_from s columns cells i c n column cell)
+row_from s = from_place (λ c n rest. cell_bytes s c n ++ rest) (row_bytes s) (λ c n columns cells. refl)
 
 -- one cell more is written
 pub row_more : (s : Shape) (columns : List Column) (cells : List ℕ) (i : ℕ) (c : Column) (n : ℕ) (out new : List ℕ) → slice_get columns i ≡ Some c → slice_get cells i ≡ Some n → new ≡ out ++ cell_bytes s c n → new ++ row_bytes s (drop (i + 1) columns) (drop (i + 1) cells) ≡ out ++ row_bytes s (drop i columns) (drop i cells)

@@ -1,10 +1,10 @@
 -- Which numbers of a row need four bytes in a heap's columns, and that all fit with their heap bits.
-use Rattle.std.proofs.Common.{◌≡◌, ℕ, zero, suc, ◌+◌, ◌*◌, ◌^◌, ◌<◌, ◌≤◌, Bool, true, false, inl, inr, List, [], ◌∷◌, length, drop, refl, sym, ◌∙◌, arith}
+use Rattle.std.proofs.Common.{◌≡◌, ℕ, ◌+◌, ◌*◌, ◌^◌, ◌<◌, ◌≤◌, Bool, true, false, inl, inr, List, [], ◌∷◌, length, drop, refl, sym, ◌∙◌, arith}
 use Rattle.std.specs.Prelude.{Some, slice_get, ◌||◌, ◌==◌, nat_lt, if◌then◌else◌}
 use Rattle.std.specs.List.{list_all, list_any}
 use Rattle.std.proofs.lemmas.Bool.{and_parts, and_from, ltb-true, cases_lt}
 use Rattle.std.proofs.lemmas.Bool.Decides.{nat_tests}
-use Rattle.std.proofs.lemmas.Option.{same_Some, slice_get_past}
+use Rattle.std.proofs.lemmas.Option.{slice_get_past}
 use Rattle.std.proofs.lemmas.List.{drop_all}
 use Rattle.enc_schema.specs.declared.column.Column.{Column}
 use Rattle.enc_schema.specs.declared.column.Column.TheVariants.{Num8, Num16, Num32, Text, Guid, Blob, Index, Coded, Run}
@@ -12,17 +12,13 @@ use Rattle.enc_schema.specs.Schema.{columns_in}
 use Rattle.enc_schema.specs.Widths.{Shape, has_bit, heap_width, index_width, coded_width}
 use Rattle.enc_rows.specs.Sums.{below}
 use Rattle.enc_rows.proofs.Below.{any_true}
+use Rattle.enc_rows.proofs.Cells.{from_place}
 use Rattle.enc_rows.specs.Written.{rows_at, counts_of, shape_of, fits, row_fits, is_word, heap_bit, cell_is_wide, row_is_wide, is_wide, heap_bits, index_fits, row_indices_fit, HeapBitsFit}
 
 -- from a column on: by its own number, or by those behind it
 pub wide_from : (bit : ℕ) (columns : List Column) (cells : List ℕ) (i : ℕ) (c : Column) (n : ℕ) → slice_get columns i ≡ Some c → slice_get cells i ≡ Some n → row_is_wide bit (drop i columns) (drop i cells) ≡ (cell_is_wide bit c n || row_is_wide bit (drop (i + 1) columns) (drop (i + 1) cells))
 unfolding row_is_wide
-wide_from bit [] cells i c n column cell = absurd (cc)
-wide_from bit (x ∷ columns) [] i c n column cell = absurd (cc)
-wide_from bit (x ∷ columns) (y ∷ cells) zero c n column cell = rw (same_Some x c column, same_Some y n cell) refl
-wide_from bit (x ∷ columns) (y ∷ cells) (suc i) c n column cell =
-    let e : suc i + 1 ≡ suc (i + 1) = omega arith in
-    rw e (wide_from bit columns cells i c n column cell)
+wide_from bit = from_place (λ c n rest. cell_is_wide bit c n || rest) (row_is_wide bit) (λ c n columns cells. refl)
 
 wide_none : (bit : ℕ) → row_is_wide bit [] [] ≡ false
 unfolding row_is_wide

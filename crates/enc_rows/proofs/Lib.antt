@@ -1,4 +1,5 @@
 pub mod Below
+pub mod Listed
 pub mod Places
 pub mod Runs
 pub mod Named

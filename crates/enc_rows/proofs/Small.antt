@@ -1,6 +1,6 @@
 -- Numbers of one byte fit every column, and few rows of them are few bytes.
 use Rattle.std.proofs.Common.{◌≡◌, ℕ, zero, suc, ◌+◌, ◌*◌, ◌/◌, ◌%◌, ◌^◌, ◌<◌, ◌≤◌, Bool, true, false, inl, inr, List, [], ◌∷◌, length, refl, arith, lt-ltb, ltb-true, eqb-true}
-use Rattle.std.specs.Prelude.{nat_lt, IsTrue, ◌==◌, if◌then◌else◌}
+use Rattle.std.specs.Prelude.{nat_lt, IsTrue, ◌==◌, ◌&&◌, if◌then◌else◌}
 use Rattle.std.proofs.Math.Nat.{mul-le-mul_right}
 use Rattle.std.specs.List.{list_all}
 use Rattle.std.proofs.lemmas.Bool.{and_parts, and_from}
@@ -29,24 +29,28 @@ cell_small : (s : Shape) (c : Column) (n : ℕ) → n < 0x100 → IsTrue (fits s
 unfolding fits
 cell_small s c n low = lt-ltb _ _ (below_any (width_of s c) _ n (sizes s c) low)
 
+-- a test of a row, column by column, that holds of each small number holds of small rows
+row_by : (fit : Column → ℕ → Bool) (all : List Column → List ℕ → Bool) → all [] [] ≡ true → ((c : Column) (n : ℕ) (columns : List Column) (cells : List ℕ) → all (c ∷ columns) (n ∷ cells) ≡ (fit c n && all columns cells)) → ((c : Column) (n : ℕ) → n < 0x100 → IsTrue (fit c n)) → (columns : List Column) (cells : List ℕ) → length cells ≡ length columns → IsTrue (small cells) → IsTrue (all columns cells)
+row_by fit all none more each [] [] len low = none
+row_by fit all none more each [] (n ∷ cells) len low = absurd (omega arith)
+row_by fit all none more each (c ∷ columns) [] len low = absurd (omega arith)
+row_by fit all none more each (c ∷ columns) (n ∷ cells) len low =
+    let parts = and_parts (nat_lt n 0x100) (small cells) low in
+    rw (more c n columns cells) (and_from _ _ (each c n (ltb-true _ _ parts.0)) (row_by fit all none more each columns cells (omega arith) parts.1))
+
+rows_by : (all : List ℕ → Bool) (columns : List Column) (rows : List (List ℕ)) → ((cells : List ℕ) → length cells ≡ length columns → IsTrue (small cells) → IsTrue (all cells)) → IsTrue (list_all (has_cells columns) rows) → IsTrue (list_all small rows) → IsTrue (list_all all rows)
+rows_by all columns [] each have low = refl
+rows_by all columns (row ∷ rows) each have low =
+    let has = and_parts (has_cells columns row) (list_all (has_cells columns) rows) have in
+    let parts = and_parts (small row) (list_all small rows) low in
+    and_from _ _ (each row (eqb-true _ _ has.0) parts.0) (rows_by all columns rows each has.1 parts.1)
+
 row_small : (s : Shape) (columns : List Column) (cells : List ℕ) → length cells ≡ length columns → IsTrue (small cells) → IsTrue (row_fits s columns cells)
 unfolding row_fits
-row_small s [] [] len low = refl
-row_small s [] (n ∷ cells) len low = absurd (omega arith)
-row_small s (c ∷ columns) [] len low = absurd (omega arith)
-row_small s (c ∷ columns) (n ∷ cells) len low =
-    let parts = and_parts (nat_lt n 0x100) (small cells) low in
-    and_from _ _ (cell_small s c n (ltb-true _ _ parts.0)) (row_small s columns cells (omega arith) parts.1)
-
-rows_small : (s : Shape) (columns : List Column) (rows : List (List ℕ)) → IsTrue (list_all (has_cells columns) rows) → IsTrue (list_all small rows) → IsTrue (list_all (row_fits s columns) rows)
-rows_small s columns [] all low = refl
-rows_small s columns (row ∷ rows) all low =
-    let each = and_parts (has_cells columns row) (list_all (has_cells columns) rows) all in
-    let parts = and_parts (small row) (list_all small rows) low in
-    and_from _ _ (row_small s columns row (eqb-true _ _ each.0) parts.0) (rows_small s columns rows each.1 parts.1)
+row_small s = row_by (fits s) (row_fits s) refl (λ c n columns cells. refl) (cell_small s)
 
 pub small_fits : (all : List (List (List ℕ))) (jtd : Bool) (flags : ℕ) → AreRows all → ((k : ℕ) → IsTrue (list_all small (rows_at all k))) → AllFit all jtd flags
-small_fits all jtd flags rows low = record { each = λ t. rows_small (shape_of all jtd flags) (columns_in t) (rows_at all t) (rows.cells t) (low t) }
+small_fits all jtd flags rows low = record { each = λ t. rows_by (row_fits (shape_of all jtd flags) (columns_in t)) (columns_in t) (rows_at all t) (row_small (shape_of all jtd flags) (columns_in t)) (rows.cells t) (low t) }
 
 -- so they do whatever the heap bits
 index_small : (s : Shape) (c : Column) (n : ℕ) → n < 0x100 → IsTrue (index_fits s c n)
@@ -63,22 +67,10 @@ index_small s (Run t) n low = cell_small s (Run t) n low
 
 row_indices_small : (s : Shape) (columns : List Column) (cells : List ℕ) → length cells ≡ length columns → IsTrue (small cells) → IsTrue (row_indices_fit s columns cells)
 unfolding row_indices_fit
-row_indices_small s [] [] len low = refl
-row_indices_small s [] (n ∷ cells) len low = absurd (omega arith)
-row_indices_small s (c ∷ columns) [] len low = absurd (omega arith)
-row_indices_small s (c ∷ columns) (n ∷ cells) len low =
-    let parts = and_parts (nat_lt n 0x100) (small cells) low in
-    and_from _ _ (index_small s c n (ltb-true _ _ parts.0)) (row_indices_small s columns cells (omega arith) parts.1)
-
-rows_indices_small : (s : Shape) (columns : List Column) (rows : List (List ℕ)) → IsTrue (list_all (has_cells columns) rows) → IsTrue (list_all small rows) → IsTrue (list_all (row_indices_fit s columns) rows)
-rows_indices_small s columns [] all low = refl
-rows_indices_small s columns (row ∷ rows) all low =
-    let each = and_parts (has_cells columns row) (list_all (has_cells columns) rows) all in
-    let parts = and_parts (small row) (list_all small rows) low in
-    and_from _ _ (row_indices_small s columns row (eqb-true _ _ each.0) parts.0) (rows_indices_small s columns rows each.1 parts.1)
+row_indices_small s = row_by (index_fits s) (row_indices_fit s) refl (λ c n columns cells. refl) (index_small s)
 
 pub small_indices_fit : (all : List (List (List ℕ))) (jtd : Bool) → AreRows all → ((k : ℕ) → IsTrue (list_all small (rows_at all k))) → IndicesFit all jtd
-small_indices_fit all jtd rows low = record { each = λ t. rows_indices_small (shape_of all jtd 0) (columns_in t) (rows_at all t) (rows.cells t) (low t) }
+small_indices_fit all jtd rows low = record { each = λ t. rows_by (row_indices_fit (shape_of all jtd 0) (columns_in t)) (columns_in t) (rows_at all t) (row_indices_small (shape_of all jtd 0) (columns_in t)) (rows.cells t) (low t) }
 
 -- a sum of numbers none of which is more than b
 sum_few : (f : ℕ → ℕ) (b n : ℕ) → ((k : ℕ) → k < n → f k ≤ b) → sum_below f n ≤ n * b

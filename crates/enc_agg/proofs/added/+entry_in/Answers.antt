@@ -1,4 +1,4 @@
-use Rattle.std.proofs.Common.{length, ◌<◌, sym, ◌∙◌, arith}
+use Rattle.std.proofs.Common.{sym, ◌∙◌, arith}
 use Rattle.enc_meta.proofs.Alone.{heap_alone}
 use Rattle.enc_delta.proofs.OneHeapMore.{zero_entry, heap_before, heap_behind}
 use Rattle.enc_agg.proofs.Histories.{last_added, heaps_with, heaps_alone}
@@ -11,14 +11,11 @@ pub returns-then-offset-eq0 : goal.returns-then-offset-eq0
 returns-then-offset-eq0 t c = zero_entry _ _ c.args.offset c.if-offset-eq0.true
 
 pub entry_in-requires : goal.entry_in-requires
-entry_in-requires t c =
-    let less : length c.in-Some.older.now < t = omega (arith, c.decreases, c.in-Some.ensures.fewer) in
-    (less, (last_added c.args.image.now _ _ (rw c.in-Some.ensures.parts at c.requires)).1)
+entry_in-requires t c = (omega (arith, c.decreases, c.in-Some.ensures.fewer), (last_added c.args.image.now _ _ (rw c.in-Some.ensures.parts at c.requires)).1)
 
 pub returns-then-offset-before : goal.returns-then-offset-before
 returns-then-offset-before t c =
-    let last = last_added c.args.image.now _ _ (rw c.in-Some.ensures.parts at c.requires) in
-    rw (c.in-Some.ensures.parts, heaps_with c.args.image.now _ _) (c.entry_in.ensures ∙ sym (heap_before c.args.heap _ _ _ c.args.offset last.0.before (omega (arith, c.of-before.ensures, c.if-offset-before.true))))
+    rw (c.in-Some.ensures.parts, heaps_with c.args.image.now _ _) (c.entry_in.ensures ∙ sym (heap_before c.args.heap _ _ _ c.args.offset (last_added c.args.image.now _ _ (rw c.in-Some.ensures.parts at c.requires)).0.before (omega (arith, c.of-before.ensures, c.if-offset-before.true))))
 
 pub returns : goal.returns
 returns t c =

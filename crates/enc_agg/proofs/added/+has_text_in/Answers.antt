@@ -1,4 +1,4 @@
-use Rattle.std.proofs.Common.{length, ap, ◌<◌, sym, ◌∙◌, arith}
+use Rattle.std.proofs.Common.{ap, sym, ◌∙◌, arith}
 use Rattle.std.specs.Prelude.{is_some}
 use Rattle.enc_meta.specs.Heaps.{text_entry}
 use Rattle.enc_meta.proofs.Alone.{text_alone}
@@ -13,14 +13,11 @@ pub returns-then-offset-eq0 : goal.returns-then-offset-eq0
 returns-then-offset-eq0 t c = ap is_some (zero_entry text_entry _ c.args.offset c.if-offset-eq0.true)
 
 pub has_text_in-requires : goal.has_text_in-requires
-has_text_in-requires t c =
-    let less : length c.in-Some.older.now < t = omega (arith, c.decreases, c.in-Some.ensures.fewer) in
-    (less, (last_added c.args.image.now _ _ (rw c.in-Some.ensures.parts at c.requires)).1)
+has_text_in-requires t c = (omega (arith, c.decreases, c.in-Some.ensures.fewer), (last_added c.args.image.now _ _ (rw c.in-Some.ensures.parts at c.requires)).1)
 
 pub returns-then-offset-strings : goal.returns-then-offset-strings
 returns-then-offset-strings t c =
-    let last = last_added c.args.image.now _ _ (rw c.in-Some.ensures.parts at c.requires) in
-    rw (c.in-Some.ensures.parts, heaps_with c.args.image.now _ _) (c.has_text_in.ensures ∙ ap is_some (sym (text_before _ _ _ c.args.offset last.0.before (omega (arith, c.if-offset-strings.true)))))
+    rw (c.in-Some.ensures.parts, heaps_with c.args.image.now _ _) (c.has_text_in.ensures ∙ ap is_some (sym (text_before _ _ _ c.args.offset (last_added c.args.image.now _ _ (rw c.in-Some.ensures.parts at c.requires)).0.before (omega (arith, c.if-offset-strings.true)))))
 
 pub returns : goal.returns
 returns t c =

@@ -1,4 +1,4 @@
-use Rattle.std.proofs.Common.{◌<◌, length, sym, ◌∙◌, arith}
+use Rattle.std.proofs.Common.{sym, ◌∙◌, arith}
 use Rattle.enc_agg.proofs.Histories.{last_added, few_added}
 use Rattle.enc_agg.proofs.HeapPlaces.{many_parts, base_place, older_place, newest_place}
 use Rattle.enc_agg.proofs.added.+heap_place_in.Goals as goal
@@ -7,9 +7,7 @@ pub returns-in_default : goal.returns-in_default
 returns-in_default t c = rw (c.in_default.ensures.parts, base_place c.args.image.now c.args.heap c.args.offset) (rw c.heaps.ensures at c.own_place.ensures)
 
 pub heap_place_in-requires : goal.heap_place_in-requires
-heap_place_in-requires t c =
-    let less : length c.in-Some.older.now < t = omega (arith, c.decreases, c.in-Some.ensures.fewer) in
-    (less, (last_added c.args.image.now _ _ (rw c.in-Some.ensures.parts at c.requires)).1)
+heap_place_in-requires t c = (omega (arith, c.decreases, c.in-Some.ensures.fewer), (last_added c.args.image.now _ _ (rw c.in-Some.ensures.parts at c.requires)).1)
 
 pub returns-then-offset-before : goal.returns-then-offset-before
 returns-then-offset-before t c =

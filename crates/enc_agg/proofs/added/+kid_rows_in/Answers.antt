@@ -1,4 +1,4 @@
-use Rattle.std.proofs.Common.{◌<◌, length, arith}
+use Rattle.std.proofs.Common.{arith}
 use Rattle.enc_agg.specs.Extend.{chain_with}
 use Rattle.enc_agg.proofs.Histories.{last_added, lasted}
 use Rattle.enc_agg.proofs.PairedChildren.{kids_pushed, all_few}
@@ -12,9 +12,8 @@ count_in-before-requires t c = (last_added c.args.image.now _ _ (rw c.in-Some.en
 
 pub kid_rows_in-requires : goal.kid_rows_in-requires
 kid_rows_in-requires t c =
-    let less : length c.in-Some.older.now < t = omega (arith, c.decreases, c.in-Some.ensures.fewer) in
     let all = (last_added c.args.image.now _ _ (rw c.in-Some.ensures.parts at c.requires.added)).1 in
-    (less, (c.requires.sound, (all, (c.requires.row, (c.requires.table, c.requires.owners)))))
+    (omega (arith, c.decreases, c.in-Some.ensures.fewer), (c.requires.sound, (all, (c.requires.row, (c.requires.table, c.requires.owners)))))
 
 pub push_given-requires : goal.push_given-requires
 push_given-requires t c =

@@ -1,4 +1,4 @@
-use Rattle.std.proofs.Common.{◌<◌, length, arith}
+use Rattle.std.proofs.Common.{arith}
 use Rattle.enc_agg.specs.Extend.{chain_with}
 use Rattle.enc_agg.proofs.Histories.{last_added, lasted}
 use Rattle.enc_agg.proofs.PairedChildren.{kids_sum, kids_few}
@@ -9,9 +9,8 @@ returns-in_default t c = rw c.in_default.ensures.parts c.kids_of_image.ensures
 
 pub kids_in-requires : goal.kids_in-requires
 kids_in-requires t c =
-    let less : length c.in-Some.older.now < t = omega (arith, c.decreases, c.in-Some.ensures.fewer) in
     let all = (last_added c.args.image.now _ _ (rw c.in-Some.ensures.parts at c.requires.added)).1 in
-    (less, (c.requires.sound, (all, (c.requires.row, (c.requires.table, c.requires.owners)))))
+    (omega (arith, c.decreases, c.in-Some.ensures.fewer), (c.requires.sound, (all, (c.requires.row, (c.requires.table, c.requires.owners)))))
 
 pub overflow_add-result : goal.overflow_add-result
 unfolding chain_with

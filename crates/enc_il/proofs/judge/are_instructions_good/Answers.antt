@@ -1,9 +1,9 @@
-use Rattle.std.proofs.Common.{sym, ◌∙◌, arith}
+use Rattle.std.proofs.Common.{sym, ◌∙◌}
 use Rattle.std.specs.Prelude.{slice_index}
 use Rattle.enc_opcodes.specs.Body.{instruction_is_good}
 use Rattle.enc_il.specs.Judged.{mark_at}
 use Rattle.enc_il.specs.Seen.{instr_seen}
-use Rattle.enc_il.proofs.Starts.{behind, more_good, one_bad, none_left}
+use Rattle.enc_il.proofs.Starts.{fewer_left, more_good, one_bad, none_left}
 use Rattle.enc_il.proofs.judge.are_instructions_good.Goals as goal
 
 pub returns-then-not-arg_is_good : goal.returns-then-not-arg_is_good
@@ -13,9 +13,7 @@ returns-then-not-arg_is_good c =
     ∙ c.loop-instr.invariant
 
 pub loop-instr-smaller : goal.loop-instr-smaller
-loop-instr-smaller c =
-    let h = behind c.args.code.now.code.now c.loop-instr.at c.in-Some.end (instr_seen (c.in-Some.instr, c.in-Some.end)).0 c.in-Some.ensures.instr in
-    omega (arith, h.0, h.1)
+loop-instr-smaller c = fewer_left c.args.code.now.code.now c.loop-instr.at c.in-Some.end (instr_seen (c.in-Some.instr, c.in-Some.end)).0 c.in-Some.ensures.instr
 
 pub loop-instr-preserved : goal.loop-instr-preserved
 unfolding instruction_is_good

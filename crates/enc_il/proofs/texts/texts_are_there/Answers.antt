@@ -1,8 +1,8 @@
-use Rattle.std.proofs.Common.{ℕ, sym, ◌∙◌, arith}
+use Rattle.std.proofs.Common.{ℕ, sym, ◌∙◌}
 use Rattle.enc_opcodes.specs.Instruction.{Instruction}
 use Rattle.enc_opcodes.specs.Body.{text_is_there, texts_are_there}
 use Rattle.enc_il.specs.Seen.{instr_seen}
-use Rattle.enc_il.proofs.Starts.{behind, more_good, one_bad, none_left}
+use Rattle.enc_il.proofs.Starts.{fewer_left, more_good, one_bad, none_left}
 use Rattle.enc_il.proofs.texts.texts_are_there.Goals as goal
 
 pub returns-then-not-text_is_there : goal.returns-then-not-text_is_there
@@ -12,9 +12,7 @@ returns-then-not-text_is_there g c =
     ∙ c.loop-instr.invariant
 
 pub loop-instr-smaller : goal.loop-instr-smaller
-loop-instr-smaller g c =
-    let h = behind c.args.code.now.code.now c.loop-instr.at c.in-Some.end (instr_seen (c.in-Some.instr, c.in-Some.end)).0 c.in-Some.ensures.instr in
-    omega (arith, h.0, h.1)
+loop-instr-smaller g c = fewer_left c.args.code.now.code.now c.loop-instr.at c.in-Some.end (instr_seen (c.in-Some.instr, c.in-Some.end)).0 c.in-Some.ensures.instr
 
 pub loop-instr-preserved : goal.loop-instr-preserved
 loop-instr-preserved g c =

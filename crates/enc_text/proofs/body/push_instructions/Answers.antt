@@ -1,13 +1,10 @@
-use Rattle.std.proofs.Common.{arith}
 use Rattle.enc_il.specs.Seen.{instr_seen}
-use Rattle.enc_il.proofs.Starts.{behind}
+use Rattle.enc_il.proofs.Starts.{fewer_left}
 use Rattle.enc_text.proofs.BodyLists.{instruction_more, instruction_none}
 use Rattle.enc_text.proofs.body.push_instructions.Goals as goal
 
 pub loop-instr-smaller : goal.loop-instr-smaller
-loop-instr-smaller g c =
-    let h = behind c.args.code.now.code.now c.loop-instr.at c.in-Some.end (instr_seen (c.in-Some.instr, c.in-Some.end)).0 c.in-Some.ensures.instr in
-    omega (arith, h.0, h.1)
+loop-instr-smaller g c = fewer_left c.args.code.now.code.now c.loop-instr.at c.in-Some.end (instr_seen (c.in-Some.instr, c.in-Some.end)).0 c.in-Some.ensures.instr
 
 pub loop-instr-preserved : goal.loop-instr-preserved
 loop-instr-preserved g c =

@@ -2,13 +2,7 @@ use Rattle.enc_image.proofs.Rows.{text_cell}
 use Rattle.enc_image.proofs.view.ImageModuleView.text.Goals as goal
 
 pub unreachable-requires : goal.unreachable-requires
-unreachable-requires c =
-    let cell = text_cell _ c.args.row c.args.column _ c.number.ensures.sound c.requires.row c.requires.kind c.number.ensures.raw in
-    let none = rw c.heaps.ensures at c.in-None.ensures in
-    rw (← none) at cell
+unreachable-requires c = rw (← (rw c.heaps.ensures at c.in-None.ensures)) at (text_cell _ c.args.row c.args.column _ c.number.ensures.sound c.requires.row c.requires.kind c.number.ensures.raw)
 
 pub returns : goal.returns
-returns c =
-    let cell = text_cell _ c.args.row c.args.column _ c.number.ensures.sound c.requires.row c.requires.kind c.number.ensures.raw in
-    let some = rw c.heaps.ensures at c.in-Some.ensures in
-    rw (← some) at cell
+returns c = rw (← (rw c.heaps.ensures at c.in-Some.ensures)) at (text_cell _ c.args.row c.args.column _ c.number.ensures.sound c.requires.row c.requires.kind c.number.ensures.raw)
