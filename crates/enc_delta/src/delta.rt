@@ -1,5 +1,5 @@
 //! A delta: the metadata and the IL that one edit gives.
-ghost use Rattle.std.specs.Prelude.{◌≡◌, ◌≢◌, ◌↔◌, IfErr, ◌+◌, ◌<◌, ◌^◌, Some, IsTrue, IsSome, IfSome, length, option_map, slice_get};
+ghost use Rattle.std.specs.Prelude.{◌≡◌, ◌≢◌, ◌↔◌, IfErr, ◌+◌, ◌<◌, ◌^◌, Ok, Some, IsTrue, IsSome, IfSome, length, option_map, slice_get};
 ghost use Rattle.enc_meta.specs.Heaps.{lengths_of};
 ghost use Rattle.enc_opcodes.specs.Body.{code_seen};
 ghost use Rattle.enc_plain.specs.Bodies.{code_there, code_loaded};
@@ -7,14 +7,14 @@ ghost use Rattle.enc_schema.specs.Schema.{column_in};
 ghost use Rattle.enc_rows.specs.Layout.{rows_of, stream_has_row};
 ghost use Rattle.enc_rows.specs.Source.{raw_in};
 ghost use Rattle.enc_base.specs.Token.{nth_row};
-ghost use Rattle.enc_delta.specs.Delta.{delta_of, entry_at, map_token, log_in, map_in, listed};
+ghost use Rattle.enc_delta.specs.Delta.{delta_of, delta_source, entry_at, map_token, log_in, map_in, listed};
 ghost use Rattle.enc_base.specs.declared.refusal.ReadFault.TheVariants.{Memory};
-ghost use Rattle.enc_delta.specs.Seen.{ReadsDelta, IsRising, WasRead};
+ghost use Rattle.enc_delta.specs.Seen.{ReadsDelta, IsDeltaOpened, IsRising, WasRead};
 ghost use Rattle.enc_schema.specs.Tables.{enc_log, enc_map};
 
 use crate::code::{body_from, code_at};
 use crate::entry::Entry;
-use crate::open::{is_rising, open};
+use crate::open::{Opened, is_rising, open};
 use enc_base::{ReadFault, Steps, Token};
 use enc_meta::{HeapLengths, Heaps, Root, TextEnds};
 use enc_opcodes::CodeRef;
@@ -49,6 +49,23 @@ impl Model for Delta {
     ghost invariant = { λ d. IsRead d.meta.items d.il.items (record { root = d.root; ends = d.ends; tables = d.tables }) d.rises };
 }
 
+/// The delta whose parts were read from these bytes.
+fn delta_from(meta: Vec<u8>, il: Vec<u8>, opened: Opened, rises: bool) -> Delta
+    requires opened { IsDeltaOpened meta.items opened }
+    requires read { delta_of meta.items il.items ≡ Ok (delta_source meta.items il.items opened.root opened.tables) }
+    requires rising { IsTrue rises ↔ IsRising (delta_source meta.items il.items opened.root opened.tables) }
+    ensures { result ≡ delta_source meta.items il.items opened.root opened.tables }
+{
+    Delta {
+        meta,
+        il,
+        root: opened.root,
+        ends: opened.ends,
+        tables: opened.tables,
+        rises,
+    }
+}
+
 impl Delta {
     /// Reads a delta. Refused is the first of F1, F2, F6 of its metadata. It takes no memory, and goes
     /// over EncMap once.
@@ -59,14 +76,7 @@ impl Delta {
         match open(&meta, &il) {
             Ok(opened) => {
                 let rises = is_rising(&meta, &il, &opened);
-                Ok(Delta {
-                    meta,
-                    il,
-                    root: opened.root,
-                    ends: opened.ends,
-                    tables: opened.tables,
-                    rises,
-                })
+                Ok(delta_from(meta, il, opened, rises))
             }
             Err(refusal) => Err(ReadFault::Refused(refusal)),
         }

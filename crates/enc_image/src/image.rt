@@ -1,10 +1,11 @@
 //! An image: the bytes of a module that was accepted.
-ghost use Rattle.std.specs.Prelude.{◌≡◌};
-ghost use Rattle.enc_image.specs.Base.{base_of};
-ghost use Rattle.enc_image.specs.Seen.{ReadsBase};
+ghost use Rattle.std.specs.Prelude.{◌≡◌, None, Ok};
+ghost use Rattle.enc_meta.specs.Heaps.{ends_of};
+ghost use Rattle.enc_image.specs.Base.{base_of, cells_fault, metadata_of, source_from};
+ghost use Rattle.enc_image.specs.Seen.{IsOpened, ReadsBase};
 
 use crate::judge::{Cells, cells_fault};
-use crate::open::{metadata, open};
+use crate::open::{Opened, metadata, open};
 use enc_base::ReadFault;
 use enc_meta::{Heaps, Root, TextEnds};
 use enc_pe::Container;
@@ -35,6 +36,23 @@ impl Model for Image {
     ghost invariant = { λ i. IsImage i.bytes.items (record { container = i.container; root = i.root; tables = i.tables }) i.ends };
 }
 
+/// The image whose parts were read from these bytes, where none of its cells is refused.
+fn image_of(bytes: Vec<u8>, opened: Opened, ends: TextEnds) -> Image
+    requires opened { IsOpened bytes.items opened }
+    requires texts { ends ≡ ends_of (metadata_of bytes.items opened.container) opened.root }
+    requires cells { cells_fault (source_from bytes.items opened.container opened.root opened.tables) ≡ None }
+    requires read { base_of bytes.items ≡ Ok (source_from bytes.items opened.container opened.root opened.tables) }
+    ensures { result ≡ source_from bytes.items opened.container opened.root opened.tables }
+{
+    Image {
+        bytes,
+        container: opened.container,
+        root: opened.root,
+        ends,
+        tables: opened.tables,
+    }
+}
+
 impl Image {
     /// Reads a module. Refused is the first of F3, F4, F5, F9, F1, F2, F6, F7, F8, F11 and F10, and then
     /// F5 of a field's bytes.
@@ -59,13 +77,7 @@ impl Image {
         match fault {
             Err(_) => Err(ReadFault::Memory),
             Ok(Some(refusal)) => Err(ReadFault::Refused(refusal)),
-            Ok(None) => Ok(Image {
-                bytes,
-                container: opened.container,
-                root: opened.root,
-                ends,
-                tables: opened.tables,
-            }),
+            Ok(None) => Ok(image_of(bytes, opened, ends)),
         }
     }
 }
