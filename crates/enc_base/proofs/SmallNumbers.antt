@@ -26,12 +26,12 @@ bytes_each bytes h = record { at = λ i. byte_at bytes i h }
 below_hex : (n : ℕ) → n < 256 → nat_lt n 0x100 ≡ true
 below_hex n few = grind (arith, nat_tests)
 
-each_small : (bytes : List ℕ) → ((i : ℕ) → get_or bytes i 0 < 256) → list_all (λ b. nat_lt b 0x100) bytes ≡ true
+each_small : (bytes : List ℕ) → ((i d : ℕ) → i < length bytes → get_or bytes i d < 256) → list_all (λ b. nat_lt b 0x100) bytes ≡ true
 each_small [] all = refl
-each_small (b ∷ rest) all = rw (below_hex b (all 0)) (each_small rest (λ i. all (suc i)))
+each_small (b ∷ rest) all = rw (below_hex b (all 0 0 (omega arith))) (each_small rest (λ i d h. all (suc i) d (omega arith)))
 
--- where each place has a byte, all are bytes
-pub are_bytes : (bytes : List ℕ) → ((i : ℕ) → get_or bytes i 0 < 256) → AreBytes bytes
+-- where each item is one, all are bytes
+pub are_bytes : (bytes : List ℕ) → ((i d : ℕ) → i < length bytes → get_or bytes i d < 256) → AreBytes bytes
 are_bytes bytes all = each_small bytes all
 
 pub each_none : EachIsByte []

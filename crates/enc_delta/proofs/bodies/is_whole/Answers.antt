@@ -1,8 +1,6 @@
-use Rattle.std.proofs.Common.{[], ◌∷◌, ◌++◌, sym, ap, ◌∙◌}
+use Rattle.std.proofs.Common.{sym, ◌∙◌}
 use Rattle.std.specs.Prelude.{slice_index}
-use Rattle.enc_meta.specs.Heaps.{Counted}
-use Rattle.enc_meta.specs.Joined.{joined_user}
-use Rattle.enc_opcodes.specs.Body.{code_seen, texts_are_there}
+use Rattle.enc_opcodes.specs.Body.{code_seen}
 use Rattle.enc_delta.specs.Delta.{listed}
 use Rattle.enc_delta.specs.Rules.{rows_with, users_after}
 use Rattle.enc_delta.proofs.Methods.{bad_body, good_body}
