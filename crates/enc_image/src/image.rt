@@ -7,7 +7,7 @@ use crate::judge::{Cells, cells_fault};
 use crate::open::{metadata, open};
 use enc_base::ReadFault;
 use enc_meta::{Heaps, Root, TextEnds};
-use enc_pe::Container;
+use enc_pe::{Container, LoadedFile, Sections};
 use enc_rows::Tables;
 use std::alloc::Global;
 use std::marker::Model;
@@ -19,6 +19,7 @@ pub struct Image {
     pub(crate) bytes: Vec<u8>,
     pub(crate) container: Container,
     pub(crate) root: Root,
+    pub(crate) sections: Sections,
     pub(crate) ends: TextEnds,
     pub(crate) tables: Tables,
 }
@@ -32,7 +33,7 @@ impl Model for Image {
 
     ghost view = { λ i. source_from i.bytes.items i.container i.root i.tables };
 
-    ghost invariant = { λ i. IsImage i.bytes.items (record { container = i.container; root = i.root; tables = i.tables }) i.ends };
+    ghost invariant = { λ i. IsImage i.bytes.items (record { container = i.container; root = i.root; tables = i.tables }) i.ends i.sections };
 }
 
 impl Image {
@@ -46,11 +47,16 @@ impl Image {
             Ok(opened) => opened,
             Err(refusal) => return Err(ReadFault::Refused(refusal)),
         };
+        let sections = match Sections::read(alloc, &bytes, &opened.container) {
+            Ok(sections) => sections,
+            Err(_) => return Err(ReadFault::Memory),
+        };
         let root = metadata(&bytes, &opened.container);
         let ends = TextEnds::of(root, &opened.root);
         let cells = Cells {
             file: &bytes,
             container: opened.container,
+            loaded: LoadedFile::of(&bytes, &opened.container, &sections),
             bytes: root,
             tables: &opened.tables,
             heaps: Heaps::with(root, &opened.root, ends),
@@ -63,6 +69,7 @@ impl Image {
                 bytes,
                 container: opened.container,
                 root: opened.root,
+                sections,
                 ends,
                 tables: opened.tables,
             }),
