@@ -1,4 +1,4 @@
--- Numbers that passed a test, kept so that none is tested again.
+-- For the contracts of private functions: numbers that passed a test, kept so that none is tested again.
 use Rattle.std.specs.Prelude.{◌≡◌, ℕ, Bool, true}
 use Rattle.std.specs.Ordering.{nat_cmp}
 use Rattle.std.specs.BTreeSet.{BTreeSet, contains}

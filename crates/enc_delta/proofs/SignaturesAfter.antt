@@ -1,15 +1,20 @@
 -- Signatures by the rows after a delta.
-use Rattle.std.proofs.Common.{◌≡◌, ℕ, ◌<◌, List, Option, Some, refl, inl, inr, arith}
+use Rattle.std.proofs.Common.{◌≡◌, ℕ, ◌<◌, Bool, List, [], Option, Some, refl, sym, ap, ◌∙◌, inl, inr, arith}
 use Rattle.std.proofs.lemmas.Option.{slice_get-get_or}
-use Rattle.std.specs.Prelude.{length, slice_index_or, slice_index, ◌%◌, ◌⊎◌}
-use Rattle.enc_rows.specs.Source.{Source}
+use Rattle.std.specs.Prelude.{length, slice_index_or, slice_index, ◌%◌, ◌⊎◌, unwrap_or, Result, Ok, Err, IfOk}
+use Rattle.enc_rows.specs.Source.{Source, raw_in}
+use Rattle.enc_meta.specs.Joined.{joined_blob}
+use Rattle.enc_plain.specs.Rows.{bytes_at}
 use Rattle.enc_sigs.specs.Grammar.{is_counted, table_of}
 use Rattle.enc_plain.specs.Cell.{blobs, kind_in}
 use Rattle.enc_plain.specs.Chain.{Chain}
 use Rattle.enc_plain.specs.Signatures.{signature_column, is_signature}
 use Rattle.enc_schema.specs.Schema.{columns_in}
-use Rattle.enc_delta.specs.Delta.{listed}
-use Rattle.enc_delta.specs.Rules.{rows_with}
+use Rattle.enc_delta.specs.Delta.{listed, place_in}
+use Rattle.enc_delta.specs.Context.{Joined, joined_rows}
+use Rattle.enc_delta.specs.Known.{is_joined_signature}
+use Rattle.enc_delta.specs.Rules.{rows_with, heaps_after}
+use Rattle.enc_delta.proofs.OwnRows.{own, blob_own}
 use Rattle.enc_delta.specs.Changes.{of_nth}
 use Rattle.enc_base.specs.declared.token.Token.{Token}
 use Rattle.enc_base.specs.declared.refusal.Place.{Place}
@@ -67,3 +72,8 @@ pub nth_is : (rule : Token → Option Place) (s : Source) (tokens : List Token) 
 nth_is rule s tokens k d e low =
     let there = rw e at (slice_get-get_or tokens k d low) in
     rw (there, e) refl
+
+-- a row that the delta lists is judged by what stands at its number
+pub row_judged : {E : Type 0} (j : Joined) (t : Token) (i k n : ℕ) (r : Result Bool E) → kind_in t.table i ≡ Some blobs → Some k ≡ place_in (listed j.delta) t → n ≡ raw_in j.delta (own t k) i → IfOk r (λ good. good ≡ is_joined_signature j t.table n) → IfOk r (λ good. good ≡ is_signature (rows_with j.chain (listed j.delta)) t.table (bytes_at (joined_rows j) t i))
+row_judged j t i k n (Ok good) kind there is h = h ∙ ap (is_signature (rows_with j.chain (listed j.delta)) t.table) (ap (λ m. unwrap_or (joined_blob (heaps_after j.chain j.delta) m) []) is ∙ sym (blob_own j.chain j.delta t k i kind (sym there)))
+row_judged j t i k n (Err e) kind there is h = tt

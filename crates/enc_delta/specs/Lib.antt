@@ -11,5 +11,6 @@ pub mod TwinLaw
 pub mod Changes
 pub mod Gains
 pub mod Judged
+pub mod Known
 pub mod Rows
 pub mod Stops

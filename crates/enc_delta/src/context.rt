@@ -114,7 +114,7 @@ impl<C: ChainView> Context<'_, C> {
     }
 
     /// The number that stands in a column of the delta's own row for a token.
-    fn own(&self, row: Token, place: u32, column: u8) -> u32
+    pub fn own(&self, row: Token, place: u32, column: u8) -> u32
         ensures { result ≡ raw_in self.now.delta (record { table = row.table; row = place }) column }
     {
         let own = Token {
@@ -155,7 +155,7 @@ impl<C: ChainView> Context<'_, C> {
     }
 
     /// The bytes at an offset of the joined `#Blob`, none where the offset isn't good.
-    fn blob_or_none(&self, offset: u32) -> &[u8]
+    pub fn blob_or_none(&self, offset: u32) -> &[u8]
         ensures { result.now ≡ unwrap_or (joined_blob (heaps_after self.now.chain self.now.delta) offset) [] }
     {
         self.entry_or_none(Heap::Blobs, offset)

@@ -1,5 +1,6 @@
 //! The first rule that a delta breaks after its chain: one list of rules, each with its number.
 ghost use Rattle.std.specs.Prelude.{◌≡◌, None, Some, Ok, Err, IfOk};
+ghost use Rattle.enc_delta.specs.Changes.{bad_locals};
 ghost use Rattle.enc_delta.specs.Judged.{refused, first_of, rules, first_meta};
 ghost use Rattle.enc_delta.specs.Stops.{TellsFirst};
 
@@ -51,6 +52,13 @@ fn rule(n: u8, place: Option<Place>) -> Result<(), Stop>
     }
 }
 
+/// Asks rule 23, which takes memory.
+fn ask_locals<C: ChainView>(alloc: Global, context: &Context<'_, C>) -> Result<(), Stop>
+    ensures { Asked result (refused 23 (bad_locals context.now.chain context.now.delta)) }
+{
+    rule(23, bad_locals(alloc, context)?)
+}
+
 /// Asks the rules, in this order, up to the first that is broken. Rule 22 is one of PDBs.
 fn ask<C: ChainView>(alloc: Global, context: &Context<'_, C>) -> Result<(), Stop>
     ensures { TellsFirst result (first_of rules context.now.chain context.now.delta) }
@@ -76,14 +84,14 @@ fn ask<C: ChainView>(alloc: Global, context: &Context<'_, C>) -> Result<(), Stop
     rule(19, method_without_slot(context))?;
     rule(20, twin_member(alloc, context)?)?;
     rule(21, bad_signature(alloc, context)?)?;
-    rule(23, bad_locals(context))?;
+    ask_locals(alloc, context)?;
     rule(24, too_many(context))
 }
 
 impl Delta {
     /// The first rule of E1 to E24 that the delta breaks after the chain, and its place; None where it
-    /// breaks none. Rule 22 is one of PDBs. It takes memory for the delta's lists and for one body or
-    /// signature at a time.
+    /// breaks none. Rule 22 is one of PDBs. It takes memory for the delta's lists, for one body or
+    /// signature at a time, and for the places of those that are good.
     #[tactic(auto, unfolding(crate::specs::Judged::first_meta))]
     pub fn first_broken<C: ChainView>(
         &self,

@@ -1,4 +1,4 @@
--- What was judged already and is good, so that it isn't judged again.
+-- For the contracts of private functions: what was judged already and is good, so that it isn't judged again.
 use Rattle.std.specs.Prelude.{ℕ, Bool, ◌&&◌}
 use Rattle.std.specs.BTreeSet.{BTreeSet}
 use Rattle.enc_base.specs.Passed.{AllPass}

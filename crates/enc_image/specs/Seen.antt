@@ -11,7 +11,8 @@ use Rattle.enc_rows.specs.Layout.{IsWithin}
 use Rattle.enc_image.specs.declared.judge.Cells.{Cells}
 use Rattle.enc_image.specs.declared.open.Opened.{Opened}
 use Rattle.enc_pe.specs.Container.{container_of}
-use Rattle.enc_pe.specs.Loaded.{regions_of}
+use Rattle.enc_pe.specs.Sections.{sections_of}
+use Rattle.enc_pe.specs.declared.section.Section.{Section}
 use Rattle.enc_image.specs.Base.{metadata_of, source_from, cells_fault, base_of}
 use Rattle.enc_rows.specs.Source.{Source}
 
@@ -20,7 +21,7 @@ source_seen c = record {
   stream = part c.bytes.now c.tables.now.span;
   layout = c.tables.now;
   heaps = c.heaps;
-  loaded = regions_of c.file.now c.container.sections;
+  loaded = c.loaded;
   resources = part c.file.now c.container.resources;
   entry = c.container.entry;
   bare = c.container.bare;
@@ -44,10 +45,12 @@ ReadsBase (Ok s) base = base ≡ Ok s
 ReadsBase (Err (Refused e)) base = base ≡ Err e
 ReadsBase (Err Memory) base = Unit {0}
 
--- the parts of an image's file were read from its bytes, as the ends of its texts were; each of its cells is good, and so the file is the base
-pub record IsImage (bytes : List ℕ) (o : Opened) (ends : TextEnds) : Type 0 where
+-- the parts of an image's file were read from its bytes, as the ends of its texts and its sections were; each of its cells is good, and so the file
+-- is the base
+pub record IsImage (bytes : List ℕ) (o : Opened) (ends : TextEnds) (list : List Section) : Type 0 where
   pub file : AreBytes bytes
   pub read : base_of bytes ≡ Ok (source_from bytes o.container o.root o.tables)
   pub opened : IsOpened bytes o
   pub texts : ends ≡ ends_of (metadata_of bytes o.container) o.root
+  pub sections : list ≡ sections_of bytes o.container.sections
   pub cells : cells_fault (source_from bytes o.container o.root o.tables) ≡ None

@@ -73,7 +73,7 @@ fn is_body_at(alloc: Global, cells: &Cells<'_>, rva: u32) -> Result<bool, AllocE
     requires { IsWithin (part cells.now.bytes.now cells.now.tables.now.span) cells.now.tables.now }
     ensures { IfOk result (λ good. good ≡ is_body_at (source_seen cells.now) rva) }
 {
-    match code_at(cells.file, &cells.container, rva) {
+    match code_at(&cells.loaded, rva) {
         Some(code) => is_whole(alloc, cells, &code),
         None => Ok(false),
     }

@@ -14,7 +14,6 @@ ghost use Rattle.enc_schema.specs.Tables.{field_rva, type_def};
 
 use crate::judge::Cells;
 use enc_base::{Place, Token};
-use enc_pe::at_rva;
 use enc_plain::{Extent, extent_in};
 use enc_schema::column_of;
 use enc_schema::columns::{
@@ -115,7 +114,7 @@ fn loaded<'a>(cells: &Cells<'a>, rva: u32, size: Option<u32>) -> Option<&'a [u8]
     ensures { option_copied result ≡ option_and_then (range_loaded (source_seen cells.now).loaded rva) size }
 {
     match size {
-        Some(size) => at_rva(cells.file, &cells.container, rva, size),
+        Some(size) => cells.loaded.range(rva, size),
         None => None,
     }
 }

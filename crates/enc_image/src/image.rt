@@ -3,12 +3,13 @@ ghost use Rattle.std.specs.Prelude.{◌≡◌, None, Ok};
 ghost use Rattle.enc_meta.specs.Heaps.{ends_of};
 ghost use Rattle.enc_image.specs.Base.{base_of, cells_fault, metadata_of, source_from};
 ghost use Rattle.enc_image.specs.Seen.{IsOpened, ReadsBase};
+ghost use Rattle.enc_pe.specs.Sections.{sections_of};
 
 use crate::judge::{Cells, cells_fault};
 use crate::open::{Opened, metadata, open};
 use enc_base::ReadFault;
 use enc_meta::{Heaps, Root, TextEnds};
-use enc_pe::Container;
+use enc_pe::{Container, LoadedFile, Sections};
 use enc_rows::Tables;
 use std::alloc::Global;
 use std::marker::Model;
@@ -20,6 +21,7 @@ pub struct Image {
     pub(crate) bytes: Vec<u8>,
     pub(crate) container: Container,
     pub(crate) root: Root,
+    pub(crate) sections: Sections,
     pub(crate) ends: TextEnds,
     pub(crate) tables: Tables,
 }
@@ -33,11 +35,12 @@ impl Model for Image {
 
     ghost view = { λ i. source_from i.bytes.items i.container i.root i.tables };
 
-    ghost invariant = { λ i. IsImage i.bytes.items (record { container = i.container; root = i.root; tables = i.tables }) i.ends };
+    ghost invariant = { λ i. IsImage i.bytes.items (record { container = i.container; root = i.root; tables = i.tables }) i.ends i.sections };
 }
 
 /// The image whose parts were read from these bytes, where none of its cells is refused.
-fn image_of(bytes: Vec<u8>, opened: Opened, ends: TextEnds) -> Image
+fn image_of(bytes: Vec<u8>, opened: Opened, sections: Sections, ends: TextEnds) -> Image
+    requires sections { sections ≡ sections_of bytes.items opened.container.sections }
     requires opened { IsOpened bytes.items opened }
     requires texts { ends ≡ ends_of (metadata_of bytes.items opened.container) opened.root }
     requires cells { cells_fault (source_from bytes.items opened.container opened.root opened.tables) ≡ None }
@@ -48,6 +51,7 @@ fn image_of(bytes: Vec<u8>, opened: Opened, ends: TextEnds) -> Image
         bytes,
         container: opened.container,
         root: opened.root,
+        sections,
         ends,
         tables: opened.tables,
     }
@@ -64,11 +68,16 @@ impl Image {
             Ok(opened) => opened,
             Err(refusal) => return Err(ReadFault::Refused(refusal)),
         };
+        let sections = match Sections::read(alloc, &bytes, &opened.container) {
+            Ok(sections) => sections,
+            Err(_) => return Err(ReadFault::Memory),
+        };
         let root = metadata(&bytes, &opened.container);
         let ends = TextEnds::of(root, &opened.root);
         let cells = Cells {
             file: &bytes,
             container: opened.container,
+            loaded: LoadedFile::of(&bytes, &opened.container, &sections),
             bytes: root,
             tables: &opened.tables,
             heaps: Heaps::with(root, &opened.root, ends),
@@ -77,7 +86,7 @@ impl Image {
         match fault {
             Err(_) => Err(ReadFault::Memory),
             Ok(Some(refusal)) => Err(ReadFault::Refused(refusal)),
-            Ok(None) => Ok(image_of(bytes, opened, ends)),
+            Ok(None) => Ok(image_of(bytes, opened, sections, ends)),
         }
     }
 }

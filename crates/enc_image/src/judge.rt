@@ -13,17 +13,19 @@ use crate::fields::field_fault;
 use crate::signatures::signature_fault;
 use enc_base::{Code, Place, Refusal, Token};
 use enc_meta::Heaps;
-use enc_pe::Container;
+use enc_pe::{Container, LoadedFile};
 use enc_rows::Tables;
 use enc_schema::tables::TABLE_COUNT;
 use enc_schema::{Column, column_of, columns_of};
 use std::alloc::{AllocError, Global};
 
-/// What is judged: a module's file and its container, its metadata, its tables and its heaps.
+/// What is judged: a module's file and its container, what of it is loaded, its metadata, its tables
+/// and its heaps.
 #[derive(Drop)]
 pub struct Cells<'a> {
     pub file: &'a [u8],
     pub container: Container,
+    pub loaded: LoadedFile<'a>,
     pub bytes: &'a [u8],
     pub tables: &'a Tables,
     pub heaps: Heaps<'a>,

@@ -20,6 +20,7 @@ use crate::open::metadata;
 use enc_base::Token;
 use enc_meta::{HeapLengths, Heaps};
 use enc_opcodes::CodeRef;
+use enc_pe::LoadedFile;
 use enc_plain::{ModuleView, index_token};
 use enc_schema::columns::METHOD_DEF_RVA;
 use enc_schema::tables::{
@@ -39,6 +40,13 @@ fn is_part(table: u8) -> bool
 }
 
 impl Image {
+    /// What of the file is loaded.
+    fn loaded(&self) -> LoadedFile<'_>
+        ensures { result ≡ self.now.loaded }
+    {
+        LoadedFile::of(&self.bytes, &self.container, &self.sections)
+    }
+
     /// The parts that cells are read from.
     fn cells(&self) -> Cells<'_>
         ensures source { source_seen result ≡ self.now }
@@ -47,6 +55,7 @@ impl Image {
         Cells {
             file: &self.bytes,
             container: self.container,
+            loaded: self.loaded(),
             bytes: metadata(&self.bytes, &self.container),
             tables: &self.tables,
             heaps: self.heaps(),
@@ -72,7 +81,7 @@ impl Image {
         ensures few { IfSome result (λ c. length c.code.now < 2 ^ 32) }
         ensures sound { cells_fault self.now ≡ None }
     {
-        code_at(&self.bytes, &self.container, self.number(method, METHOD_DEF_RVA))
+        code_at(&self.loaded(), self.number(method, METHOD_DEF_RVA))
     }
 
     /// Nothing in an image is refused, and its module is sound: a law, of which a caller of the view

@@ -7,3 +7,5 @@ pub mod Numbers
 pub mod Parts
 pub mod Search
 pub mod SectionsWritten
+pub mod Reaches
+pub mod SectionsFound

@@ -2,5 +2,9 @@ pub mod Sections
 pub mod Headers
 pub mod Container
 pub mod Loaded
+pub mod Reach
+pub mod SectionTree
+pub mod SectionsFall
+pub mod Within
 pub mod Laws
 pub mod Written

@@ -42,7 +42,7 @@ fn section_with(size: usize, header: &[u8]) -> Option<Section>
 
 /// The section whose header begins at a place, None where the header doesn't stand whole there.
 #[tactic(auto, unfolding(crate::specs::Sections::section_at))]
-fn section_at(bytes: &[u8], at: usize) -> Option<Section>
+pub fn section_at(bytes: &[u8], at: usize) -> Option<Section>
     ensures section { result ≡ section_at bytes.now at }
     ensures within { IfSome result (λ s. IsSpanOf bytes.now s.raw) }
     ensures header { IfSome result (λ s. at + 40 ≤ length bytes.now) }
@@ -52,7 +52,7 @@ fn section_at(bytes: &[u8], at: usize) -> Option<Section>
 
 /// The raw part holds the whole range of RVAs.
 #[tactic(auto, unfolding(crate::specs::Sections::holds))]
-fn holds(rva: u32, len: u32, section: Section) -> bool
+pub fn holds(rva: u32, len: u32, section: Section) -> bool
     ensures { result ≡ holds rva len section }
 {
     section.rva <= rva && (rva - section.rva) as usize + len as usize <= section.raw.len

@@ -291,6 +291,21 @@ fn finds_the_first_of_overlapping_sections(rt: HostRuntime) -> Result<(), Fail> 
 }
 
 #[test]
+fn finds_the_same_in_the_kept_sections(rt: HostRuntime) -> Result<(), Fail> {
+    let bytes = with(SECOND + 12, 0x2090);
+    let container = read_pe(&bytes)?;
+    let sections = Sections::read(rt.alloc(), &bytes, &container)?;
+    let loaded = LoadedFile::of(&bytes, &container, &sections);
+    let front = Some(cut(&bytes, SECOND_RAW - 16, SECOND_RAW));
+    assert_eq!(rt; loaded.range(0x2090, 16), front);
+    assert_eq!(rt; loaded.rest(0x2090), front);
+    let behind = Some(cut(&bytes, SECOND_RAW, SECOND_RAW + 17));
+    assert_eq!(rt; loaded.range(0x2090, 17), behind);
+    assert_eq!(rt; loaded.range(0x1fff, 1), None);
+    Ok(())
+}
+
+#[test]
 fn cuts_a_raw_part_at_the_files_end(rt: HostRuntime) -> Result<(), Fail> {
     let bytes = with(SECOND + 16, 0xffff_ffff);
     let container = read_pe(&bytes)?;

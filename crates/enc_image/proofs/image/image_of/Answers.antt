@@ -7,5 +7,6 @@ invariant_of-result c = record {
   read = c.requires.read;
   opened = c.requires.opened;
   texts = c.requires.texts;
+  sections = c.requires.sections;
   cells = c.requires.cells;
 }
