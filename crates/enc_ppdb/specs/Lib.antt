@@ -1,0 +1,3 @@
+pub mod Pdb
+pub mod Fault
+pub mod Seen
