@@ -9,3 +9,6 @@ mod outer;
 mod pdb;
 
 pub use pdb::{Pdb, PdbDelta};
+
+#[cfg(test)]
+mod tests;
