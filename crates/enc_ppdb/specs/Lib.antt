@@ -1,3 +1,4 @@
 pub mod Pdb
 pub mod Fault
+pub mod Points
 pub mod Seen

@@ -19,7 +19,7 @@ use enc_seqpoints::{Point, PointFault, Points, read_points};
 use std::alloc::{AllocError, Global};
 
 /// A row of a table, from 0.
-fn nth_row(table: u8, n: u32) -> Token
+pub(crate) fn nth_row(table: u8, n: u32) -> Token
     requires { n < 2 ^ 24 }
     ensures { result ≡ nth_row table n }
 {
@@ -92,7 +92,7 @@ fn documents_fault(file: &File) -> Option<Place>
 
 /// The points of the method in a row of MethodDebugInformation, None where its blob isn't one.
 #[tactic(auto, unfolding(crate::specs::Pdb::points_of))]
-fn points_of(alloc: Global, file: &File, row: Token) -> Result<Option<Points>, AllocError>
+pub(crate) fn points_of(alloc: Global, file: &File, row: Token) -> Result<Option<Points>, AllocError>
     ensures { IfOk result (λ points. points ≡ points_of file.now row) }
 {
     let document = file.cell(row, METHOD_DEBUG_INFORMATION_DOCUMENT);
@@ -184,13 +184,21 @@ pub(crate) fn fits_methods(file: &File, methods: u32) -> bool
     rows == 0 || rows == methods
 }
 
-/// Whether a token of EncMap, from 0, names a row of MethodDebugInformation.
+/// A token of EncMap, from 0.
 #[tactic(auto, unfolding(crate::specs::Fault::token_at))]
+pub(crate) fn token(file: &File, n: u32) -> Token
+    requires { n < 2 ^ 24 }
+    ensures { result ≡ token_at file.now n }
+{
+    Token::of(file.cell(nth_row(ENC_MAP, n), ENC_MAP_TOKEN))
+}
+
+/// Whether a token of EncMap, from 0, names a row of MethodDebugInformation.
 fn is_named(file: &File, n: u32) -> bool
     requires { n < 2 ^ 24 }
     ensures { result ≡ ((token_at file.now n).table == method_debug_information) }
 {
-    Token::of(file.cell(nth_row(ENC_MAP, n), ENC_MAP_TOKEN)).table == METHOD_DEBUG_INFORMATION
+    token(file, n).table == METHOD_DEBUG_INFORMATION
 }
 
 /// How many tokens of EncMap name rows of MethodDebugInformation.

@@ -4,6 +4,7 @@
 
 mod fault;
 mod file;
+mod method;
 mod name;
 mod outer;
 mod pdb;

@@ -1,13 +1,16 @@
 //! The PDB of a module, and that of a delta.
-ghost use Rattle.std.specs.Prelude.{◌≡◌};
+ghost use Rattle.std.specs.Prelude.{◌≡◌, IfOk, is_some};
+ghost use Rattle.enc_ppdb.specs.Points.{row_for, delta_points};
 ghost use Rattle.enc_base.specs.declared.refusal.ReadFault.TheVariants.{Refused};
 ghost use Rattle.enc_ppdb.specs.Fault.{refused_at, pdb_of, pdb_delta_of};
 ghost use Rattle.enc_ppdb.specs.Seen.{Reads};
 
-use crate::fault::{fits_map, fits_methods, row_fault};
+use crate::fault::{fits_map, fits_methods, points_of, row_fault};
 use crate::file::File;
-use enc_base::{Code, Place, ReadFault, Refusal};
-use std::alloc::Global;
+use crate::method::row_for;
+use enc_base::{Code, Place, ReadFault, Refusal, Token};
+use enc_seqpoints::Points;
+use std::alloc::{AllocError, Global};
 use std::marker::Model;
 
 /// The Portable PDB of a module.
@@ -32,10 +35,13 @@ pub struct PdbDelta {
 
 impl Model for PdbDelta {
     ghost use Rattle.enc_rows.specs.Source.{Source};
+    ghost use Rattle.enc_ppdb.specs.Points.{IsGoodDelta};
 
     ghost Value = { Source };
 
     ghost view = { λ p. p.file };
+
+    ghost invariant = { λ p. IsGoodDelta p.file };
 }
 
 /// A refusal at a place.
@@ -90,5 +96,18 @@ impl PdbDelta {
             Some(place) => Err(refused(place)),
             None => Ok(PdbDelta { file }),
         }
+    }
+    /// The local signature row and the points of a method by its token, None exactly where EncMap has
+    /// no token of MethodDebugInformation with its row. The rows go with these tokens in order, of two
+    /// equal ones the first counts. `AllocError` where there is no memory.
+    #[tactic(auto, using(crate::proofs::Rows::points_where_row), unfolding(crate::specs::Points::delta_points))]
+    pub fn points(&self, alloc: Global, method: Token) -> Result<Option<Points>, AllocError>
+        ensures points { IfOk result (λ points. points ≡ delta_points self.now method) }
+        ensures there { IfOk result (λ points. is_some points ≡ is_some (row_for self.now method)) }
+    {
+        let Some(row) = row_for(&self.file, method) else {
+            return Ok(None);
+        };
+        points_of(alloc, &self.file, row)
     }
 }
