@@ -92,7 +92,11 @@ fn documents_fault(file: &File) -> Option<Place>
 
 /// The points of the method in a row of MethodDebugInformation, None where its blob isn't one.
 #[tactic(auto, unfolding(crate::specs::Pdb::points_of))]
-pub(crate) fn points_of(alloc: Global, file: &File, row: Token) -> Result<Option<Points>, AllocError>
+pub(crate) fn points_of(
+    alloc: Global,
+    file: &File,
+    row: Token,
+) -> Result<Option<Points>, AllocError>
     ensures { IfOk result (λ points. points ≡ points_of file.now row) }
 {
     let document = file.cell(row, METHOD_DEBUG_INFORMATION_DOCUMENT);

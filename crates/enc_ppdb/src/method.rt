@@ -13,9 +13,7 @@ use enc_schema::tables::{ENC_MAP, METHOD_DEBUG_INFORMATION, METHOD_DEF};
 fn names(token: Token, method: Token) -> bool
     ensures { result ≡ names token method }
 {
-    method.table == METHOD_DEF
-        && token.table == METHOD_DEBUG_INFORMATION
-        && token.row == method.row
+    method.table == METHOD_DEF && token.table == METHOD_DEBUG_INFORMATION && token.row == method.row
 }
 
 /// The row that a token of EncMap, from 0, gives a method, where so many tokens of

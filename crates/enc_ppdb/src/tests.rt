@@ -111,3 +111,22 @@ fn refuses_the_first_row(rt: HostRuntime) {
     assert_eq!(rt; delta_place_of(a, BLOB + 16, 3), row(0x31, 1));
     assert_eq!(rt; delta_place_of(a, BLOB + 11, 0), row(0x31, 1));
 }
+
+/// The local signature row and the number of points of a method in the delta, None where it has no
+/// row.
+fn shape_of(alloc: Global, table: u8, row: u32) -> Result<Option<(u32, usize)>, ReadFault> {
+    let delta = PdbDelta::read(alloc, changed(alloc, 0, 0x42)?)?;
+    match delta.points(alloc, Token { table, row })? {
+        Some(points) => Ok(Some((points.locals(), points.len()))),
+        None => Ok(None),
+    }
+}
+
+#[test]
+fn finds_the_row_of_a_method(rt: HostRuntime) {
+    let a = rt.alloc();
+    assert_eq!(rt; shape_of(a, 0x06, 1), Ok(Some((0, 3))));
+    assert_eq!(rt; shape_of(a, 0x06, 5), Ok(Some((0, 0))));
+    assert_eq!(rt; shape_of(a, 0x06, 2), Ok(None));
+    assert_eq!(rt; shape_of(a, 0x31, 1), Ok(None));
+}
