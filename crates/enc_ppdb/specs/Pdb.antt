@@ -31,7 +31,15 @@ outer_of bytes (Some span) = option_and_then (outer_in (part bytes span)) (numbe
 
 -- the parts of a PDB with this root and this layout: it loads nothing
 abbrev pub source_from : List ℕ → Root → Layout → Source
-source_from bytes root l = record { stream = part bytes root.tables; layout = l; heaps = heaps_of bytes root; loaded = []; resources = []; entry = 0; bare = true }
+source_from bytes root l = record {
+  stream = part bytes root.tables;
+  layout = l;
+  heaps = heaps_of bytes root;
+  loaded = [];
+  resources = [];
+  entry = 0;
+  bare = true;
+}
 
 -- the layout of a PDB's table stream, whose widths go by the other module's rows too
 unfoldable pub layout_for : List ℕ → Root → Option Layout
@@ -51,7 +59,8 @@ unfoldable pub parts_in : List ℕ → ℕ → List ℕ → Option (List (List �
 parts_in blobs n [] = Some []
 parts_in blobs zero (x ∷ rest) = None
 parts_in blobs (suc n) (x ∷ rest) =
-    option_and_then (λ (p : List ℕ × List ℕ). option_map (λ (texts : List (List ℕ)). p.0 ∷ texts) (parts_in blobs n p.1)) (part_in blobs (x ∷ rest))
+    option_and_then (λ (p : List ℕ × List ℕ). option_map (λ (texts : List (List ℕ)). p.0 ∷ texts) (parts_in blobs n p.1))
+    (part_in blobs (x ∷ rest))
 
 -- the texts with the separator between them; a separator of 0 is none
 abbrev pub between : ℕ → List ℕ

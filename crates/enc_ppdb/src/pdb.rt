@@ -97,6 +97,7 @@ impl PdbDelta {
             None => Ok(PdbDelta { file }),
         }
     }
+
     /// The local signature row and the points of a method by its token, None exactly where EncMap has
     /// no token of MethodDebugInformation with its row. The rows go with these tokens in order, of two
     /// equal ones the first counts. `AllocError` where there is no memory.
