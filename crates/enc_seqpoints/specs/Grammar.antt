@@ -66,7 +66,8 @@ spanned lines columns s =
 
 -- what stands behind the differences: nothing where both are 0 and the point is hidden, else its start
 unfoldable pub seen_in : Option (ℕ × ℕ) → ℕ → ℕ → Reader (Option (ℕ × ℕ × ℕ × ℕ))
-seen_in start lines columns bytes = if lines == 0 && columns == 0 then Some (None, bytes) else giving Some (leading (spanned lines columns) (start_in start)) bytes
+seen_in start lines columns bytes =
+    if lines == 0 && columns == 0 then Some (None, bytes) else giving Some (leading (spanned lines columns) (start_in start)) bytes
 
 -- the lines of a point, none of a hidden one
 unfoldable pub lines_in : Option (ℕ × ℕ) → Reader (Option (ℕ × ℕ × ℕ × ℕ))
@@ -138,7 +139,8 @@ method_points locals points = record { locals = locals; points = points }
 -- what a blob with a header says
 unfoldable pub body_in : ℕ → List ℕ → Option MethodPoints
 body_in document bytes =
-    option_and_then (λ (h : (ℕ × ℕ) × List ℕ). option_map (method_points h.0.0) (records_in (length h.1) (opened h.0.1) h.1)) (header_in document bytes)
+    option_and_then (λ (h : (ℕ × ℕ) × List ℕ). option_map (method_points h.0.0) (records_in (length h.1) (opened h.0.1) h.1))
+    (header_in document bytes)
 
 -- what a blob says of a method with this row in its Document column, 0 for nil; an empty one has no local variables and no points
 unfoldable pub points_in : ℕ → List ℕ → Option MethodPoints

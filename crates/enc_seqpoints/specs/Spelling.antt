@@ -1,4 +1,4 @@
--- The shortest spelling of a method's sequence points (Portable PDB v1.0, Sequence Points Blob).
+-- How a method's sequence points are spelled, each number as short as it can be (Portable PDB v1.0, Sequence Points Blob).
 use Rattle.std.specs.Prelude.{ℕ, ◌+◌, ◌-◌, Bool, true, ◌&&◌, ◌||◌, List, [], ◌∷◌, ◌++◌, Option, Some, None, is_some, Result, Ok, Err, nat_lt, nat_le, ◌==◌, if◌then◌else◌}
 use Rattle.enc_base.specs.Numbers.{spelled, spelled_signed}
 use Rattle.enc_seqpoints.specs.declared.point.Point.{Point}

@@ -1,3 +1,4 @@
+//! The points of a method that were read.
 ghost use Rattle.std.specs.Prelude.{◌≡◌, ◌<◌, length, slice_get, Some};
 
 use crate::point::Point;

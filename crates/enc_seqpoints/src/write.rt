@@ -1,4 +1,4 @@
-//! Writing a sequence points blob in its shortest spelling.
+//! Writing a sequence points blob, each number in its shortest spelling.
 ghost use Rattle.std.specs.Prelude.{◌≡◌, ◌<◌, ◌^◌, ◌++◌, IfOk, IsTrue, is_some};
 ghost use Rattle.enc_seqpoints.specs.Grammar.{is_row, are_lines, opened};
 ghost use Rattle.enc_seqpoints.specs.Spelling.{spelled_number, spelled_difference, between, document_holds, is_later, ends_behind, is_close, is_near, are_writable, is_writable, document_bytes, offset_bytes, columns_bytes, start_bytes, lines_bytes, point_bytes, records_of, first_document, header_bytes, blob_of};
@@ -256,10 +256,11 @@ fn write_header(locals: u32, document: u32, first: u32, out: &mut Vec<u8>) -> Re
     write_number(first, out)
 }
 
-/// The shortest blob for the SequencePoints column of a method with this local signature row, this
-/// row in its Document column, 0 for nil, and these points (Portable PDB v1.0, Sequence Points Blob).
-/// Where Document is nil the blob has the first point's document in it; a point of another document
-/// than the one before it has a document record. `NotWritable` with the index of the first point that
+/// The blob for the SequencePoints column of a method with this local signature row, this row in its
+/// Document column, 0 for nil, and these points, each number in its shortest spelling (Portable PDB
+/// v1.0, Sequence Points Blob). Where Document is nil the blob has the first point's document in it,
+/// and row 1 where there is no point; a point of another document than the one before it has a
+/// document record. `NotWritable` with the index of the first point that
 /// can't be spelled behind those before it: an offset or a line is 2^29 or more, a line 0xFEEFEE, a
 /// column 2^16 or more; its end isn't behind its start; its offset isn't past that of the point
 /// before; its start line is 2^28 lines or more from that of the last point that isn't hidden (2^28

@@ -1,0 +1,7 @@
+use Rattle.std.proofs.Common.{◌≡◌, None}
+use Rattle.enc_base.specs.Order.{first_below}
+use Rattle.enc_ppdb.specs.Fault.{document_fault}
+use Rattle.enc_ppdb.proofs.fault.documents_fault.Given as goal
+
+abbrev pub invariant-loop-n : goal.invariant-loop-n
+invariant-loop-n l = first_below (document_fault l.file) l.n ≡ None

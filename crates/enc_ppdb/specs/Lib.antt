@@ -1,0 +1,4 @@
+pub mod Pdb
+pub mod Fault
+pub mod Points
+pub mod Seen
