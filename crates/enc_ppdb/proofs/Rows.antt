@@ -14,8 +14,8 @@ use Rattle.enc_rows.proofs.Below.{sum_part}
 use Rattle.enc_schema.specs.Tables as tables
 use Rattle.enc_seqpoints.specs.Grammar.{MethodPoints}
 use Rattle.enc_ppdb.specs.Pdb.{points_of}
-use Rattle.enc_ppdb.specs.Fault.{token_at, is_named, named_count, fits_map, all_there, is_method, unless, method_fault, methods_fault, documents_fault, row_fault}
-use Rattle.enc_ppdb.specs.Points.{names, row_named, row_for, delta_points, IsGoodDelta}
+use Rattle.enc_ppdb.specs.Fault.{map_token_at, names_method, named_count, fits_map, all_there, is_method, unless_good, method_fault, methods_fault, documents_fault, first_row_fault}
+use Rattle.enc_ppdb.specs.Points.{names_row, row_named, row_for, delta_points, IsGoodDelta}
 
 -- no fault in either table, none in the second
 pub second_none : (a b : Option Place) → or_else a b ≡ None → b ≡ None
@@ -26,7 +26,7 @@ there_some : (count : ℕ) (o : Option MethodPoints) → all_there count o ≡ t
 there_some count None e = absurd (cc)
 there_some count (Some m) e = refl
 
-unless_good : (t : Bool) (row : Token) → unless t row ≡ None → t ≡ true
+unless_good : (t : Bool) (row : Token) → unless_good t row ≡ None → t ≡ true
 unless_good true row e = refl
 unless_good false row e = absurd (cc)
 
@@ -46,12 +46,12 @@ if_row false x y e = absurd (cc)
 row_within : (s : Source) (method row : Token) (k : ℕ) → fits_map s ≡ true → k < rows_of s.layout tables.enc_map → row_named s method k ≡ Some row → (n : ℕ) × (n < rows_of s.layout tables.method_debug_information) × (nth_row tables.method_debug_information n ≡ row)
 unfolding row_named fits_map named_count
 row_within s method row k fits lt is =
-    let h = if_row (names (token_at s k) method) (nth_row tables.method_debug_information (sum_below (is_named s) k)) row is in
-    let i = and_parts (method.table == tables.method_def) ((token_at s k).table == tables.method_debug_information && (token_at s k).row == method.row) h.0 in
-    let j = and_parts ((token_at s k).table == tables.method_debug_information) ((token_at s k).row == method.row) i.1 in
-    let named : is_named s k ≡ 1 = ap one j.0 in
-    let all : sum_below (is_named s) (rows_of s.layout tables.enc_map) ≡ rows_of s.layout tables.method_debug_information = eqb-true (sum_below (is_named s) (rows_of s.layout tables.enc_map)) (rows_of s.layout tables.method_debug_information) fits in
-    (sum_below (is_named s) k, omega (arith, sum_part (is_named s) k (rows_of s.layout tables.enc_map) lt, named, all), h.1)
+    let h = if_row (names_row (map_token_at s k) method) (nth_row tables.method_debug_information (sum_below (names_method s) k)) row is in
+    let i = and_parts (method.table == tables.method_def) ((map_token_at s k).table == tables.method_debug_information && (map_token_at s k).row == method.row) h.0 in
+    let j = and_parts ((map_token_at s k).table == tables.method_debug_information) ((map_token_at s k).row == method.row) i.1 in
+    let named : names_method s k ≡ 1 = ap one j.0 in
+    let all : sum_below (names_method s) (rows_of s.layout tables.enc_map) ≡ rows_of s.layout tables.method_debug_information = eqb-true (sum_below (names_method s) (rows_of s.layout tables.enc_map)) (rows_of s.layout tables.method_debug_information) fits in
+    (sum_below (names_method s) k, omega (arith, sum_part (names_method s) k (rows_of s.layout tables.enc_map) lt, named, all), h.1)
 
 points_by : (s : Source) (method : Token) (o : Option Token) → IsGoodDelta s → IsFirst (row_named s method) (rows_of s.layout tables.enc_map) o → is_some (option_and_then (points_of s) o) ≡ is_some o
 points_by s method None good first = refl

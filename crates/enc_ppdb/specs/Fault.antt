@@ -16,12 +16,12 @@ use Rattle.enc_schema.specs.Tables as tables
 use Rattle.enc_schema.specs.Columns as columns
 use Rattle.enc_seqpoints.specs.declared.point.Point.{Point}
 use Rattle.enc_seqpoints.specs.Grammar.{MethodPoints}
-use Rattle.enc_ppdb.specs.Pdb.{source_of, name_of, points_of}
+use Rattle.enc_ppdb.specs.Pdb.{pdb_source_of, name_of_document, points_of}
 
 -- a document has a name, and its algorithm, its hash and its language stand in their heaps (Document Table)
 unfoldable pub is_document : Source → Token → Bool
 is_document s row =
-    is_some (name_of s row) && (is_some (guid_at s.heaps.guids (raw_in s row columns.document_hash_algorithm))
+    is_some (name_of_document s row) && (is_some (guid_at s.heaps.guids (raw_in s row columns.document_hash_algorithm))
     && (is_some (blob_at s.heaps.blobs (raw_in s row columns.document_hash)) && is_some (guid_at s.heaps.guids (raw_in s row columns.document_language))))
 
 -- the document of a point, and that of each, is one of so many rows
@@ -40,15 +40,15 @@ unfoldable pub is_method : Source → Token → Bool
 is_method s row = all_there (rows_of s.layout tables.document) (points_of s row)
 
 -- the n-th row of a table, n from 0, where it isn't good
-abbrev pub unless : Bool → Token → Option Place
-unless true row = None
-unless false row = Some (place.Row row)
+abbrev pub unless_good : Bool → Token → Option Place
+unless_good true row = None
+unless_good false row = Some (place.Row row)
 
 unfoldable pub document_fault : Source → ℕ → Option Place
-document_fault s n = unless (is_document s (nth_row tables.document n)) (nth_row tables.document n)
+document_fault s n = unless_good (is_document s (nth_row tables.document n)) (nth_row tables.document n)
 
 unfoldable pub method_fault : Source → ℕ → Option Place
-method_fault s n = unless (is_method s (nth_row tables.method_debug_information n)) (nth_row tables.method_debug_information n)
+method_fault s n = unless_good (is_method s (nth_row tables.method_debug_information n)) (nth_row tables.method_debug_information n)
 
 -- the first row of Document that isn't good, and else the first of MethodDebugInformation
 unfoldable pub documents_fault : Source → Option Place
@@ -57,8 +57,8 @@ documents_fault s = first_below (document_fault s) (rows_of s.layout tables.docu
 unfoldable pub methods_fault : Source → Option Place
 methods_fault s = first_below (method_fault s) (rows_of s.layout tables.method_debug_information)
 
-abbrev pub row_fault : Source → Option Place
-row_fault s = or_else (documents_fault s) (methods_fault s)
+abbrev pub first_row_fault : Source → Option Place
+first_row_fault s = or_else (documents_fault s) (methods_fault s)
 
 -- a refusal at a place
 abbrev pub refused_at : Place → Refusal
@@ -69,9 +69,9 @@ unless_fault s None = Ok s
 unless_fault s (Some p) = Err (refused_at p)
 
 -- the parts, where as many rows as are wanted and each row are good
-abbrev pub judged : (Source → Bool) → Option Source → Result Source Refusal
-judged fits None = Err (refused_at place.Pdb)
-judged fits (Some s) = if fits s then unless_fault s (row_fault s) else Err (refused_at place.Pdb)
+abbrev pub judged_pdb : (Source → Bool) → Option Source → Result Source Refusal
+judged_pdb fits None = Err (refused_at place.Pdb)
+judged_pdb fits (Some s) = if fits s then unless_fault s (first_row_fault s) else Err (refused_at place.Pdb)
 
 -- MethodDebugInformation has no row, or one for each method
 unfoldable pub fits_methods : ℕ → Source → Bool
@@ -80,18 +80,18 @@ fits_methods methods s = rows_of s.layout tables.method_debug_information == 0 |
 -- the PDB of a module with so many methods, or F12: at the file where its root, its #Pdb or its table stream isn't good or MethodDebugInformation has
 -- rows of another number, else at the first row that isn't good
 unfoldable pub pdb_of : List ℕ → ℕ → Result Source Refusal
-pdb_of bytes methods = judged (fits_methods methods) (source_of bytes)
+pdb_of bytes methods = judged_pdb (fits_methods methods) (pdb_source_of bytes)
 
 -- a token of EncMap, from 0
-unfoldable pub token_at : Source → ℕ → Token
-token_at s n = token_of (raw_in s (nth_row tables.enc_map n) columns.enc_map_token)
+unfoldable pub map_token_at : Source → ℕ → Token
+map_token_at s n = token_of (raw_in s (nth_row tables.enc_map n) columns.enc_map_token)
 
 -- how many tokens of EncMap name rows of MethodDebugInformation
-abbrev pub is_named : Source → ℕ → ℕ
-is_named s n = one ((token_at s n).table == tables.method_debug_information)
+abbrev pub names_method : Source → ℕ → ℕ
+names_method s n = one ((map_token_at s n).table == tables.method_debug_information)
 
 unfoldable pub named_count : Source → ℕ
-named_count s = sum_below (is_named s) (rows_of s.layout tables.enc_map)
+named_count s = sum_below (names_method s) (rows_of s.layout tables.enc_map)
 
 -- a delta's EncMap names as many of its rows as there are
 unfoldable pub fits_map : Source → Bool
@@ -99,4 +99,4 @@ fits_map s = named_count s == rows_of s.layout tables.method_debug_information
 
 -- the PDB of a delta, or F12 as above
 unfoldable pub pdb_delta_of : List ℕ → Result Source Refusal
-pdb_delta_of bytes = judged fits_map (source_of bytes)
+pdb_delta_of bytes = judged_pdb fits_map (pdb_source_of bytes)

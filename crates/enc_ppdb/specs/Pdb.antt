@@ -1,14 +1,14 @@
 -- What the bytes of a Portable PDB say: its counts of another module's rows, its documents, and the points of its methods (Portable PDB v1.0).
 use Rattle.std.specs.Prelude.{ℕ, zero, suc, ◌+◌, ◌*◌, true, List, [], ◌∷◌, ◌++◌, map, length, drop, replicate, Option, Some, None, option_map, option_and_then, unwrap_or, nat_le, if◌then◌else◌}
 use Rattle.std.specs.Int.{w32, w64}
-use Rattle.enc_base.specs.Numbers.{number_at, compressed}
+use Rattle.enc_base.specs.Numbers.{little_endian_at, compressed}
 use Rattle.enc_base.specs.declared.token.Token.{Token}
 use Rattle.enc_meta.specs.declared.root.Root.{Root}
 use Rattle.enc_meta.specs.declared.span.Span.{Span}
 use Rattle.enc_meta.specs.Root.{root_of}
 use Rattle.enc_meta.specs.Heaps.{part, heaps_of, blob_at}
 use Rattle.enc_rows.specs.Sums.{below}
-use Rattle.enc_rows.specs.Layout.{Layout, has_table, tables_below, tables_of}
+use Rattle.enc_rows.specs.Layout.{Layout, has_table, tables_below, stream_tables}
 use Rattle.enc_rows.specs.Source.{Source, raw_in}
 use Rattle.enc_rows.specs.declared.form.Form.TheVariants as form
 use Rattle.enc_schema.specs.Columns as columns
@@ -18,7 +18,7 @@ use Rattle.std.specs.Result.{result_ok}
 -- the number of rows of another module's table: behind an id of 20 bytes, an entry point of four and the bits of the tables of eight stands a number of
 -- four bytes for each bit (#Pdb Stream)
 unfoldable pub outer_count : List ℕ → ℕ → ℕ → ℕ
-outer_count stream bits table = if has_table bits table then unwrap_or (number_at w32 stream (32 + 4 * tables_below bits table)) 0 else 0
+outer_count stream bits table = if has_table bits table then unwrap_or (little_endian_at w32 stream (32 + 4 * tables_below bits table)) 0 else 0
 
 -- the numbers of rows of the other module's tables, where all stand in the stream
 unfoldable pub outer_in : List ℕ → ℕ → Option (List ℕ)
@@ -27,11 +27,11 @@ outer_in stream bits = if nat_le (32 + 4 * tables_below bits 64) (length stream)
 -- the same of a stream #Pdb, of which a file without one has none
 unfoldable pub outer_of : List ℕ → Option Span → Option (List ℕ)
 outer_of bytes None = Some (replicate 64 0)
-outer_of bytes (Some span) = option_and_then (outer_in (part bytes span)) (number_at w64 (part bytes span) 24)
+outer_of bytes (Some span) = option_and_then (outer_in (part bytes span)) (little_endian_at w64 (part bytes span) 24)
 
 -- the parts of a PDB with this root and this layout: it loads nothing
-abbrev pub source_from : List ℕ → Root → Layout → Source
-source_from bytes root l = record {
+abbrev pub pdb_source : List ℕ → Root → Layout → Source
+pdb_source bytes root l = record {
   stream = part bytes root.tables;
   layout = l;
   heaps = heaps_of bytes root;
@@ -42,12 +42,12 @@ source_from bytes root l = record {
 }
 
 -- the layout of a PDB's table stream, whose widths go by the other module's rows too
-unfoldable pub layout_for : List ℕ → Root → Option Layout
-layout_for bytes root = option_and_then (λ (outer : List ℕ). result_ok (tables_of bytes root.tables form.Pdb root.jtd outer)) (outer_of bytes root.pdb)
+unfoldable pub pdb_layout : List ℕ → Root → Option Layout
+pdb_layout bytes root = option_and_then (λ (outer : List ℕ). result_ok (stream_tables bytes root.tables form.Pdb root.jtd outer)) (outer_of bytes root.pdb)
 
 -- the parts of a PDB, where its root, its #Pdb and its table stream are good
-unfoldable pub source_of : List ℕ → Option Source
-source_of bytes = option_and_then (λ (root : Root). option_map (source_from bytes root) (layout_for bytes root)) (result_ok (root_of bytes))
+unfoldable pub pdb_source_of : List ℕ → Option Source
+pdb_source_of bytes = option_and_then (λ (root : Root). option_map (pdb_source bytes root) (pdb_layout bytes root)) (result_ok (root_of bytes))
 
 -- a part of a document's name: the compressed offset of a blob (Document Name Blob)
 unfoldable pub part_in : List ℕ → List ℕ → Option (List ℕ × List ℕ)
@@ -55,31 +55,31 @@ part_in blobs bytes =
     option_and_then (λ (number : ℕ × ℕ). option_map (λ (text : List ℕ). (text, drop number.1 bytes)) (blob_at blobs number.0)) (compressed bytes)
 
 -- the parts to the end of the bytes, of which there are no more than bytes
-unfoldable pub parts_in : List ℕ → ℕ → List ℕ → Option (List (List ℕ))
-parts_in blobs n [] = Some []
-parts_in blobs zero (x ∷ rest) = None
-parts_in blobs (suc n) (x ∷ rest) =
-    option_and_then (λ (p : List ℕ × List ℕ). option_map (λ (texts : List (List ℕ)). p.0 ∷ texts) (parts_in blobs n p.1))
+unfoldable pub name_parts_in : List ℕ → ℕ → List ℕ → Option (List (List ℕ))
+name_parts_in blobs n [] = Some []
+name_parts_in blobs zero (x ∷ rest) = None
+name_parts_in blobs (suc n) (x ∷ rest) =
+    option_and_then (λ (p : List ℕ × List ℕ). option_map (λ (texts : List (List ℕ)). p.0 ∷ texts) (name_parts_in blobs n p.1))
     (part_in blobs (x ∷ rest))
 
 -- the texts with the separator between them; a separator of 0 is none
-abbrev pub between : ℕ → List ℕ
-between zero = []
-between (suc n) = suc n ∷ []
+abbrev pub separator_bytes : ℕ → List ℕ
+separator_bytes zero = []
+separator_bytes (suc n) = suc n ∷ []
 
-unfoldable pub joined : ℕ → List (List ℕ) → List ℕ
-joined separator [] = []
-joined separator (text ∷ []) = text
-joined separator (text ∷ next ∷ texts) = text ++ (between separator ++ joined separator (next ∷ texts))
+unfoldable pub name_joined : ℕ → List (List ℕ) → List ℕ
+name_joined separator [] = []
+name_joined separator (text ∷ []) = text
+name_joined separator (text ∷ next ∷ texts) = text ++ (separator_bytes separator ++ name_joined separator (next ∷ texts))
 
 -- a document's name: a separator of one byte, and the parts (Document Name Blob)
-unfoldable pub name_in : List ℕ → List ℕ → Option (List ℕ)
-name_in blobs [] = None
-name_in blobs (separator ∷ rest) = option_map (joined separator) (parts_in blobs (length rest) rest)
+unfoldable pub document_name_in : List ℕ → List ℕ → Option (List ℕ)
+document_name_in blobs [] = None
+document_name_in blobs (separator ∷ rest) = option_map (name_joined separator) (name_parts_in blobs (length rest) rest)
 
 -- the name of the document in a row
-unfoldable pub name_of : Source → Token → Option (List ℕ)
-name_of s row = option_and_then (name_in s.heaps.blobs) (blob_at s.heaps.blobs (raw_in s row columns.document_name))
+unfoldable pub name_of_document : Source → Token → Option (List ℕ)
+name_of_document s row = option_and_then (document_name_in s.heaps.blobs) (blob_at s.heaps.blobs (raw_in s row columns.document_name))
 
 -- the local signature row and the points of the method in a row of MethodDebugInformation
 unfoldable pub points_of : Source → Token → Option MethodPoints

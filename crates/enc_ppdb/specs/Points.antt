@@ -9,15 +9,15 @@ use Rattle.enc_rows.specs.Sums.{sum_below}
 use Rattle.enc_schema.specs.Tables as tables
 use Rattle.enc_seqpoints.specs.Grammar.{MethodPoints}
 use Rattle.enc_ppdb.specs.Pdb.{points_of}
-use Rattle.enc_ppdb.specs.Fault.{token_at, is_named, fits_map, methods_fault}
+use Rattle.enc_ppdb.specs.Fault.{map_token_at, names_method, fits_map, methods_fault}
 
 -- the token is of MethodDebugInformation and names a method
-abbrev pub names : Token → Token → Bool
-names token method = method.table == tables.method_def && (token.table == tables.method_debug_information && token.row == method.row)
+abbrev pub names_row : Token → Token → Bool
+names_row token method = method.table == tables.method_def && (token.table == tables.method_debug_information && token.row == method.row)
 
 -- the row that the n-th token of EncMap gives a method: the rows go with the tokens of their table in order
 unfoldable pub row_named : Source → Token → ℕ → Option Token
-row_named s method n = if names (token_at s n) method then Some (nth_row tables.method_debug_information (sum_below (is_named s) n)) else None
+row_named s method n = if names_row (map_token_at s n) method then Some (nth_row tables.method_debug_information (sum_below (names_method s) n)) else None
 
 -- the row of a method
 unfoldable pub row_for : Source → Token → Option Token

@@ -4,8 +4,8 @@ ghost use Rattle.enc_schema.specs.Tables.{document, method_debug_information};
 ghost use Rattle.enc_base.specs.Token.{nth_row};
 ghost use Rattle.enc_meta.specs.Heaps.{blob_at, guid_at};
 ghost use Rattle.enc_rows.specs.Layout.{rows_of};
-ghost use Rattle.enc_ppdb.specs.Pdb.{name_of, points_of};
-ghost use Rattle.enc_ppdb.specs.Fault.{is_document, is_there, are_there, is_method, document_fault, method_fault, documents_fault, methods_fault, row_fault, fits_methods, token_at, is_named, named_count, fits_map};
+ghost use Rattle.enc_ppdb.specs.Pdb.{name_of_document, points_of};
+ghost use Rattle.enc_ppdb.specs.Fault.{is_document, is_there, are_there, is_method, document_fault, method_fault, documents_fault, methods_fault, first_row_fault, fits_methods, map_token_at, names_method, named_count, fits_map};
 
 use crate::file::File;
 use crate::name::is_name;
@@ -27,9 +27,9 @@ pub(crate) fn nth_row(table: u8, n: u32) -> Token
 }
 
 /// Whether a document's name is one.
-#[tactic(auto, unfolding(crate::specs::Pdb::name_of))]
+#[tactic(auto, unfolding(crate::specs::Pdb::name_of_document))]
 fn has_name(file: &File, row: Token) -> bool
-    ensures { result ≡ is_some (name_of file.now row) }
+    ensures { result ≡ is_some (name_of_document file.now row) }
 {
     let heaps = file.heaps();
     match heaps.blob(file.cell(row, DOCUMENT_NAME)) {
@@ -171,7 +171,7 @@ fn methods_fault(alloc: Global, file: &File) -> Result<Option<Place>, AllocError
 
 /// The first row that isn't good.
 pub(crate) fn row_fault(alloc: Global, file: &File) -> Result<Option<Place>, AllocError>
-    ensures { IfOk result (λ place. place ≡ row_fault file.now) }
+    ensures { IfOk result (λ place. place ≡ first_row_fault file.now) }
 {
     match documents_fault(file) {
         Some(place) => Ok(Some(place)),
@@ -189,10 +189,10 @@ pub(crate) fn fits_methods(file: &File, methods: u32) -> bool
 }
 
 /// A token of EncMap, from 0.
-#[tactic(auto, unfolding(crate::specs::Fault::token_at))]
+#[tactic(auto, unfolding(crate::specs::Fault::map_token_at))]
 pub(crate) fn token(file: &File, n: u32) -> Token
     requires { n < 2 ^ 24 }
-    ensures { result ≡ token_at file.now n }
+    ensures { result ≡ map_token_at file.now n }
 {
     Token::of(file.cell(nth_row(ENC_MAP, n), ENC_MAP_TOKEN))
 }
@@ -200,7 +200,7 @@ pub(crate) fn token(file: &File, n: u32) -> Token
 /// Whether a token of EncMap, from 0, names a row of MethodDebugInformation.
 fn is_named(file: &File, n: u32) -> bool
     requires { n < 2 ^ 24 }
-    ensures { result ≡ ((token_at file.now n).table == method_debug_information) }
+    ensures { result ≡ ((map_token_at file.now n).table == method_debug_information) }
 {
     token(file, n).table == METHOD_DEBUG_INFORMATION
 }

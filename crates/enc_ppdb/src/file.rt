@@ -3,7 +3,7 @@ ghost use Rattle.std.specs.Prelude.{◌≡◌, ◌<◌, ◌^◌, IfSome, length}
 ghost use Rattle.enc_meta.specs.Heaps.{part};
 ghost use Rattle.enc_rows.specs.Layout.{IsWithin, rows_of};
 ghost use Rattle.enc_rows.specs.Source.{raw_in};
-ghost use Rattle.enc_ppdb.specs.Pdb.{layout_for, source_of};
+ghost use Rattle.enc_ppdb.specs.Pdb.{pdb_layout, pdb_source_of};
 
 use crate::outer::outer_of;
 use enc_base::Token;
@@ -23,20 +23,20 @@ pub(crate) struct File {
 
 impl Model for File {
     ghost use Rattle.enc_rows.specs.Source.{Source};
-    ghost use Rattle.enc_ppdb.specs.Pdb.{source_from};
-    ghost use Rattle.enc_ppdb.specs.Seen.{IsOpened};
+    ghost use Rattle.enc_ppdb.specs.Pdb.{pdb_source};
+    ghost use Rattle.enc_ppdb.specs.Seen.{IsPdbOpened};
 
     ghost Value = { Source };
 
-    ghost view = { λ f. source_from f.bytes.items f.root f.tables };
+    ghost view = { λ f. pdb_source f.bytes.items f.root f.tables };
 
-    ghost invariant = { λ f. IsOpened f.bytes.items f.root f.ends f.tables };
+    ghost invariant = { λ f. IsPdbOpened f.bytes.items f.root f.ends f.tables };
 }
 
 /// The tables of a root.
-#[tactic(auto, unfolding(crate::specs::Pdb::layout_for))]
+#[tactic(auto, unfolding(crate::specs::Pdb::pdb_layout))]
 fn tables_in(bytes: &[u8], root: &Root) -> Option<Tables>
-    ensures tables { result ≡ layout_for bytes.now root.now }
+    ensures tables { result ≡ pdb_layout bytes.now root.now }
     ensures within { IfSome result (λ l. IsWithin (part bytes.now root.now.tables) l × (l.span ≡ root.now.tables)) }
 {
     let outer = outer_of(bytes, root.pdb)?;
@@ -48,9 +48,9 @@ fn tables_in(bytes: &[u8], root: &Root) -> Option<Tables>
 
 impl File {
     /// The parts of a PDB, where its root, its `#Pdb` and its table stream are good.
-    #[tactic(auto, unfolding(crate::specs::Pdb::source_of))]
+    #[tactic(auto, unfolding(crate::specs::Pdb::pdb_source_of))]
     pub(crate) fn open(bytes: Vec<u8>) -> Option<File>
-        ensures { result ≡ source_of bytes.items }
+        ensures { result ≡ pdb_source_of bytes.items }
     {
         let Ok(root) = read_root(&bytes) else {
             return None;

@@ -1,8 +1,8 @@
 //! The row of a method in the PDB of a delta.
 ghost use Rattle.std.specs.Prelude.{◌≡◌, ◌+◌, ◌<◌, ◌^◌};
 ghost use Rattle.enc_rows.specs.Sums.{sum_below};
-ghost use Rattle.enc_ppdb.specs.Fault.{token_at, is_named};
-ghost use Rattle.enc_ppdb.specs.Points.{names, row_named, row_for};
+ghost use Rattle.enc_ppdb.specs.Fault.{map_token_at, names_method};
+ghost use Rattle.enc_ppdb.specs.Points.{names_row, row_named, row_for};
 
 use crate::fault::{nth_row, token};
 use crate::file::File;
@@ -11,7 +11,7 @@ use enc_schema::tables::{ENC_MAP, METHOD_DEBUG_INFORMATION, METHOD_DEF};
 
 /// Whether the token is of MethodDebugInformation and names a method.
 fn names(token: Token, method: Token) -> bool
-    ensures { result ≡ names token method }
+    ensures { result ≡ names_row token method }
 {
     method.table == METHOD_DEF && token.table == METHOD_DEBUG_INFORMATION && token.row == method.row
 }
@@ -22,7 +22,7 @@ fn names(token: Token, method: Token) -> bool
 fn row_named(file: &File, method: Token, n: u32, before: u32) -> Option<Token>
     requires few { n < 2 ^ 24 }
     requires fewer { before < 2 ^ 24 }
-    requires before { before ≡ sum_below (is_named file.now) n }
+    requires before { before ≡ sum_below (names_method file.now) n }
     ensures { result ≡ row_named file.now method n }
 {
     if names(token(file, n), method) {
@@ -35,7 +35,7 @@ fn row_named(file: &File, method: Token, n: u32, before: u32) -> Option<Token>
 fn with_token(file: &File, n: u32, before: u32) -> u32
     requires few { n < 2 ^ 24 }
     requires fewer { before < 2 ^ 24 }
-    ensures { result ≡ before + is_named file.now n }
+    ensures { result ≡ before + names_method file.now n }
 {
     if token(file, n).table == METHOD_DEBUG_INFORMATION {
         return before + 1;

@@ -1,6 +1,6 @@
 //! The name of a document (Portable PDB v1.0, Document Name Blob).
 ghost use Rattle.std.specs.Prelude.{◌≡◌, ℕ, is_some, length, option_map};
-ghost use Rattle.enc_ppdb.specs.Pdb.{part_in, parts_in, name_in};
+ghost use Rattle.enc_ppdb.specs.Pdb.{part_in, name_parts_in, document_name_in};
 
 use enc_base::read_unsigned;
 use enc_meta::Heaps;
@@ -17,7 +17,7 @@ fn part<'a, 'b>(heaps: &Heaps<'a>, bytes: &'b [u8]) -> Option<(&'a [u8], &'b [u8
 
 /// Whether parts stand one behind the other to the end of the bytes.
 fn are_parts(heaps: &Heaps<'_>, bytes: &[u8]) -> bool
-    ensures { result ≡ is_some (parts_in heaps.now.blobs (length bytes.now) bytes.now) }
+    ensures { result ≡ is_some (name_parts_in heaps.now.blobs (length bytes.now) bytes.now) }
 {
     let mut rest = bytes;
     for i in 0..bytes.len() {
@@ -33,9 +33,9 @@ fn are_parts(heaps: &Heaps<'_>, bytes: &[u8]) -> bool
 }
 
 /// Whether the bytes are a document's name: a separator of one byte and parts.
-#[tactic(auto, unfolding(crate::specs::Pdb::name_in))]
+#[tactic(auto, unfolding(crate::specs::Pdb::document_name_in))]
 pub(crate) fn is_name(heaps: &Heaps<'_>, bytes: &[u8]) -> bool
-    ensures { result ≡ is_some (name_in heaps.now.blobs bytes.now) }
+    ensures { result ≡ is_some (document_name_in heaps.now.blobs bytes.now) }
 {
     match bytes {
         [_, rest @ ..] => are_parts(heaps, rest),

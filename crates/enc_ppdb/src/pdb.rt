@@ -3,7 +3,7 @@ ghost use Rattle.std.specs.Prelude.{◌≡◌, IfOk, is_some};
 ghost use Rattle.enc_ppdb.specs.Points.{row_for, delta_points};
 ghost use Rattle.enc_base.specs.declared.refusal.ReadFault.TheVariants.{Refused};
 ghost use Rattle.enc_ppdb.specs.Fault.{refused_at, pdb_of, pdb_delta_of};
-ghost use Rattle.enc_ppdb.specs.Seen.{Reads};
+ghost use Rattle.enc_ppdb.specs.Seen.{ReadsPdb};
 
 use crate::fault::{fits_map, fits_methods, points_of, row_fault};
 use crate::file::File;
@@ -63,7 +63,7 @@ impl Pdb {
     /// where there is none.
     #[tactic(auto, unfolding(crate::specs::Fault::pdb_of))]
     pub fn read(alloc: Global, bytes: Vec<u8>, methods: u32) -> Result<Pdb, ReadFault>
-        ensures { Reads result (pdb_of bytes.items methods) }
+        ensures { ReadsPdb result (pdb_of bytes.items methods) }
     {
         let Some(file) = File::open(bytes) else {
             return Err(refused(Place::Pdb));
@@ -84,7 +84,7 @@ impl PdbDelta {
     /// position, not its token in EncMap.
     #[tactic(auto, unfolding(crate::specs::Fault::pdb_delta_of))]
     pub fn read(alloc: Global, bytes: Vec<u8>) -> Result<PdbDelta, ReadFault>
-        ensures { Reads result (pdb_delta_of bytes.items) }
+        ensures { ReadsPdb result (pdb_delta_of bytes.items) }
     {
         let Some(file) = File::open(bytes) else {
             return Err(refused(Place::Pdb));
