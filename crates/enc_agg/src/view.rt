@@ -90,7 +90,11 @@ impl ModuleView for Aggregate {
         let Some(found) = find(&self.added, method) else {
             return self.image.body(method);
         };
-        let place = number(found.upto, row_found(method.table, found.row), METHOD_DEF_RVA);
+        let place = number(
+            found.upto,
+            row_found(method.table, found.row),
+            METHOD_DEF_RVA,
+        );
         body_in(found.upto, place)
     }
 

@@ -66,7 +66,7 @@ is_value_type rows t =
     (token_at rows t columns.type_def_extends).table == tables.type_ref
     && bytes_eq (bytes_at rows (token_at rows t columns.type_def_extends) columns.type_ref_type_namespace) (codes "System")
     && (bytes_eq (bytes_at rows (token_at rows t columns.type_def_extends) columns.type_ref_type_name) (codes "ValueType")
-        || bytes_eq (bytes_at rows (token_at rows t columns.type_def_extends) columns.type_ref_type_name) (codes "Enum"))
+    || bytes_eq (bytes_at rows (token_at rows t columns.type_def_extends) columns.type_ref_type_name) (codes "Enum"))
 
 -- the type says how its fields are laid out, by either bit of 18 (II.23.1.15)
 abbrev pub has_layout : Rows → Token → Bool
@@ -88,7 +88,7 @@ breaks_slots c s a =
     a.child.table == tables.method_def && a.owner.table == tables.type_def && not (is_insert c a.owner)
     && has_flag 0x40 (number_at (rows_after c s) a.child columns.method_def_flags)
     && (has_flag 0x20 (number_at (rows_after c s) a.owner columns.type_def_flags)
-        || has_flag 0x400 (number_at (rows_after c s) a.child columns.method_def_flags))
+    || has_flag 0x400 (number_at (rows_after c s) a.child columns.method_def_flags))
 
 unfoldable pub method_without_slot : Chain → Source → Option Place
 method_without_slot c s = least_child (breaks_slots c s) s
@@ -110,7 +110,7 @@ unfoldable pub same_signature : Rows → Token → Token → Bool
 same_signature rows t u =
     t.table == tables.event
     || signatures_alike rows t.table (bytes_at rows t (unwrap_or (signature_column t.table) 0))
-        (bytes_at rows u (unwrap_or (signature_column t.table) 0))
+    (bytes_at rows u (unwrap_or (signature_column t.table) 0))
 
 abbrev pub asked_of : Rows → Asked
 asked_of rows = record { counts = is_member rows; name = λ t. bytes_at rows t (name_column t.table); alike = same_signature rows }

@@ -79,7 +79,7 @@ abbrev pub AreMembers : Asked → Module → List Pair → List Pair → Type 0
 AreMembers q m pairs all =
     (a : Pair) (p : ℕ → Bool) → is_child_table a.child.table ≡ true
     → list_any (row_passes a p) all ≡ (list_any (row_passes a p) pairs
-        || (list_any (λ k. q.counts k.child && is_beside a k) pairs && list_any p (kids_of m a.owner a.child.table)))
+    || (list_any (λ k. q.counts k.child && is_beside a k) pairs && list_any p (kids_of m a.owner a.child.table)))
 
 -- each owner and child is a token by its number
 abbrev pub ArePairs : List Pair → Type 0

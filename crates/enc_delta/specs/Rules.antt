@@ -52,7 +52,7 @@ other_base c s = broken (not (bytes_eq (own_guid c s columns.module_enc_base_id)
 unfoldable pub id_taken : Chain → Source → Option Place
 id_taken c s =
     broken (bytes_eq (own_guid c s columns.module_enc_id) nil_guid || list_any (λ id. bytes_eq id (own_guid c s columns.module_enc_id)) c.ids)
-        (place.Row module_token)
+    (place.Row module_token)
 
 -- the last byte, 0 where there is none
 abbrev pub last_byte : List ℕ → ℕ
@@ -180,7 +180,7 @@ follows c before code (Some e) = e.code == 0 && e.token.table == child_table cod
 unfoldable pub log_fault_of : Chain → List Token → List Entry → List Entry → ℕ → Entry → Option Place
 log_fault_of c tokens before behind k e =
     broken (counts e && (nat_lt 5 e.code || is_add e.code && not (has_parent c tokens e && follows c before e.code (find counts behind))))
-        (place.Log (k + 1))
+    (place.Log (k + 1))
 
 unfoldable pub log_fault_at : Chain → List Token → List Entry → ℕ → Option Place
 log_fault_at c tokens log k = option_and_then (log_fault_of c tokens (take k log) (drop (k + 1) log) k) (slice_get log k)
@@ -216,11 +216,11 @@ child_fault c tokens log =
 abbrev pub may_change : ℕ → Bool
 may_change table =
     list_any (λ t. t == table)
-        (tables.«module» ∷ tables.type_ref ∷ tables.type_def ∷ tables.field ∷ tables.method_def ∷ tables.param ∷ tables.interface_impl
-            ∷ tables.member_ref ∷ tables.constant ∷ tables.custom_attribute ∷ tables.field_marshal ∷ tables.decl_security ∷ tables.class_layout
-            ∷ tables.field_layout ∷ tables.stand_alone_sig ∷ tables.event_map ∷ tables.event ∷ tables.property_map ∷ tables.property
-            ∷ tables.method_semantics ∷ tables.method_impl ∷ tables.module_ref ∷ tables.type_spec ∷ tables.impl_map ∷ tables.enc_log ∷ tables.enc_map
-            ∷ tables.assembly_ref ∷ tables.nested_class ∷ tables.generic_param ∷ tables.method_spec ∷ tables.generic_param_constraint ∷ [])
+    (tables.«module» ∷ tables.type_ref ∷ tables.type_def ∷ tables.field ∷ tables.method_def ∷ tables.param ∷ tables.interface_impl
+    ∷ tables.member_ref ∷ tables.constant ∷ tables.custom_attribute ∷ tables.field_marshal ∷ tables.decl_security ∷ tables.class_layout
+    ∷ tables.field_layout ∷ tables.stand_alone_sig ∷ tables.event_map ∷ tables.event ∷ tables.property_map ∷ tables.property
+    ∷ tables.method_semantics ∷ tables.method_impl ∷ tables.module_ref ∷ tables.type_spec ∷ tables.impl_map ∷ tables.enc_log ∷ tables.enc_map
+    ∷ tables.assembly_ref ∷ tables.nested_class ∷ tables.generic_param ∷ tables.method_spec ∷ tables.generic_param_constraint ∷ [])
 
 -- E12: rows in another table
 unfoldable pub closed_at : Source → ℕ → Option Place
@@ -259,7 +259,7 @@ cell_fault c s asks token row i = option_and_then (λ (column : Column). broken 
 unfoldable pub row_fault : Chain → Source → (Column → Bool) → ℕ → ℕ → Option Place
 row_fault c s asks table r =
     option_and_then (λ token. first_below (cell_fault c s asks token (nth_row table r)) (length (columns_in table)))
-        (slice_get (of_table table (listed s)) r)
+    (slice_get (of_table table (listed s)) r)
 
 unfoldable pub table_fault : Chain → Source → (Column → Bool) → ℕ → Option Place
 table_fault c s asks table = first_below (row_fault c s asks table) (rows_of s.layout table)
@@ -282,7 +282,7 @@ too_many c s = or_else (broken (nat_lt 65535 (length c.ids + 1)) (place.Row modu
 unfoldable pub body_stands : Chain → Source → ℕ → Bool
 body_stands c s r =
     body_is_good (rows_with c (listed s)) (users_after c s) s.loaded (raw_in s (nth_row tables.method_def r) columns.method_def_rva)
-        (raw_in s (nth_row tables.method_def r) columns.method_def_impl_flags)
+    (raw_in s (nth_row tables.method_def r) columns.method_def_impl_flags)
 
 -- E16: a body isn't good
 unfoldable pub broken_body_at : Chain → Source → ℕ → Option Place
@@ -300,8 +300,8 @@ has_body _ = false
 unfoldable pub lost_body_at : Chain → Source → ℕ → Option Place
 lost_body_at c s r =
     option_and_then (λ (t : Token).
-        broken (raw_in s (nth_row tables.method_def r) columns.method_def_rva == 0 && has_body (cell_of c.plain t columns.method_def_rva)) (place.Row t))
-        (slice_get (of_table tables.method_def (listed s)) r)
+    broken (raw_in s (nth_row tables.method_def r) columns.method_def_rva == 0 && has_body (cell_of c.plain t columns.method_def_rva)) (place.Row t))
+    (slice_get (of_table tables.method_def (listed s)) r)
 
 unfoldable pub lost_body : Chain → Source → Option Place
 lost_body c s = first_below (lost_body_at c s) (rows_of s.layout tables.method_def)

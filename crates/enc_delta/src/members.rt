@@ -20,8 +20,8 @@ use crate::twins::{Members, twin_fault};
 use enc_base::{Place, Token};
 use enc_plain::{CellView, ChainView, signatures_alike};
 use enc_schema::columns::{
-    FIELD_FLAGS, FIELD_SIGNATURE, METHOD_DEF_FLAGS, METHOD_DEF_SIGNATURE, TYPE_DEF_EXTENDS, TYPE_DEF_FLAGS,
-    TYPE_REF_TYPE_NAME, TYPE_REF_TYPE_NAMESPACE,
+    FIELD_FLAGS, FIELD_SIGNATURE, METHOD_DEF_FLAGS, METHOD_DEF_SIGNATURE, TYPE_DEF_EXTENDS,
+    TYPE_DEF_FLAGS, TYPE_REF_TYPE_NAME, TYPE_REF_TYPE_NAMESPACE,
 };
 use enc_schema::tables::{EVENT, FIELD, METHOD_DEF, PROPERTY, TYPE_DEF, TYPE_REF};
 use std::alloc::{AllocError, Global};

@@ -58,7 +58,11 @@ pub fn is_rising(bytes: &[u8], il: &[u8], opened: &Opened) -> bool
     let _ = il;
     let mut least: u64 = 0;
     for i in 0..opened.tables.count(ENC_MAP) {
-        let n = u64::from(opened.tables.cell(bytes, nth_row(ENC_MAP, i), ENC_MAP_TOKEN));
+        let n = u64::from(
+            opened
+                .tables
+                .cell(bytes, nth_row(ENC_MAP, i), ENC_MAP_TOKEN),
+        );
         if n < least {
             return false;
         }

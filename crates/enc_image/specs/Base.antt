@@ -50,7 +50,7 @@ blob_or_none s offset = unwrap_or (blob_at s.heaps.blobs offset) []
 unfoldable pub layout_size : Source → ℕ → ℕ → Option ℕ
 layout_size s type k =
     if raw_in s (nth_row tables.class_layout k) columns.class_layout_parent == type
-        then Some (raw_in s (nth_row tables.class_layout k) columns.class_layout_class_size)
+    then Some (raw_in s (nth_row tables.class_layout k) columns.class_layout_class_size)
     else None
 
 -- the size that the first such row tells
@@ -99,7 +99,7 @@ cell_in s token i = option_and_then (λ (c : Column). cell_with (reading_of s) t
 unfoldable pub offset_fault_at : Source → Token → ℕ → Option Place
 offset_fault_at s token i =
     option_and_then (λ (c : Column). if is_offset c && not (is_some (cell_for s c (raw_in s token i))) then Some (place.Cell token i) else None)
-        (column_in token.table i)
+    (column_in token.table i)
 
 unfoldable pub offset_fault_in_row : Source → ℕ → ℕ → Option Place
 offset_fault_in_row s table r = first_below (offset_fault_at s (nth_row table r)) (length (columns_in table))
@@ -130,9 +130,9 @@ has_locals s (Some c) = c.locals.row == 0 || begins_locals (blob_or_none s (raw_
 unfoldable pub body_fault_at : Source → ℕ → Option Place
 body_fault_at s r =
     if body_is_good (rows_of s.layout) (users_of s) s.loaded (raw_in s (nth_row tables.method_def r) columns.method_def_rva)
-            (raw_in s (nth_row tables.method_def r) columns.method_def_impl_flags)
-        && has_locals s (code_loaded s.loaded (raw_in s (nth_row tables.method_def r) columns.method_def_rva))
-        then None
+    (raw_in s (nth_row tables.method_def r) columns.method_def_impl_flags)
+    && has_locals s (code_loaded s.loaded (raw_in s (nth_row tables.method_def r) columns.method_def_rva))
+    then None
     else Some (place.Row (nth_row tables.method_def r))
 
 unfoldable pub body_fault : Source → Option Place

@@ -45,7 +45,9 @@ fn has_locals(cells: &Cells<'_>, code: &CodeRef<'_>) -> bool
     if code.locals.row == 0 {
         return true;
     }
-    let offset = cells.tables.cell(cells.bytes, code.locals, STAND_ALONE_SIG_SIGNATURE);
+    let offset = cells
+        .tables
+        .cell(cells.bytes, code.locals, STAND_ALONE_SIG_SIGNATURE);
     match cells.heaps.blob(offset) {
         Some([first, ..]) => *first == 0x07,
         _ => false,
@@ -145,7 +147,9 @@ fn body_fault_at(
         row: r + 1,
     };
     let rva = cells.tables.cell(cells.bytes, method, METHOD_DEF_RVA);
-    let flags = cells.tables.cell(cells.bytes, method, METHOD_DEF_IMPL_FLAGS);
+    let flags = cells
+        .tables
+        .cell(cells.bytes, method, METHOD_DEF_IMPL_FLAGS);
     match is_good(alloc, cells, rva, flags, known) {
         Err(error) => Err(error),
         Ok(true) => Ok(None),

@@ -30,7 +30,7 @@ row_count m table = length (rows_in m table)
 abbrev pub is_part : ℕ → Bool
 is_part table =
     not (list_any (λ t. t == table)
-        (tables.field_ptr ∷ tables.method_ptr ∷ tables.param_ptr ∷ tables.event_ptr ∷ tables.property_ptr ∷ tables.enc_log ∷ tables.enc_map ∷ []))
+    (tables.field_ptr ∷ tables.method_ptr ∷ tables.param_ptr ∷ tables.event_ptr ∷ tables.property_ptr ∷ tables.enc_log ∷ tables.enc_map ∷ []))
 
 -- a column can name rows of this table
 abbrev pub is_tables : ℕ → Option ℕ → Bool
@@ -63,7 +63,7 @@ method_is_sound m method b =
 unfoldable pub class_size_at : Module → ℕ → ℕ → Option ℕ
 class_size_at m type k =
     if is_token (token_at (cells_of m) (nth_row tables.class_layout k) columns.class_layout_parent) (record { table = tables.type_def; row = type })
-        then Some (number_at (cells_of m) (nth_row tables.class_layout k) columns.class_layout_class_size)
+    then Some (number_at (cells_of m) (nth_row tables.class_layout k) columns.class_layout_class_size)
     else None
 
 unfoldable pub class_size : Module → ℕ → Option ℕ

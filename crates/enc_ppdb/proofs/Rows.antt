@@ -1,5 +1,5 @@
 -- A method's row in a delta's PDB is one of the table's, and so it has points.
-use Rattle.std.proofs.Common.{◌≡◌, ℕ, ◌+◌, ◌<◌, ◌≤◌, Bool, true, false, Option, Some, None, refl, ap, sym, ◌∙◌, arith, subst}
+use Rattle.std.proofs.Common.{◌≡◌, ℕ, ◌<◌, Bool, true, false, Option, Some, None, refl, ap, ◌∙◌, arith, subst}
 use Rattle.std.proofs.lemmas.Bool.{eqb-true, and_parts}
 use Rattle.std.specs.Prelude.{◌&&◌, ◌==◌, is_some, option_and_then, if◌then◌else◌, Result, Ok, Err, IfOk}
 use Rattle.enc_base.specs.Order.{or_else, first_below, IsFirst}
@@ -14,7 +14,7 @@ use Rattle.enc_rows.proofs.Below.{sum_part}
 use Rattle.enc_schema.specs.Tables as tables
 use Rattle.enc_seqpoints.specs.Grammar.{MethodPoints}
 use Rattle.enc_ppdb.specs.Pdb.{points_of}
-use Rattle.enc_ppdb.specs.Fault.{map_token_at, names_method, named_count, fits_map, all_there, is_method, unless_good, method_fault, methods_fault, documents_fault, first_row_fault}
+use Rattle.enc_ppdb.specs.Fault.{map_token_at, names_method, named_count, fits_map, all_there, is_method, unless_good, method_fault, methods_fault}
 use Rattle.enc_ppdb.specs.Points.{names_row, row_named, row_for, delta_points, IsGoodDelta}
 
 -- no fault in either table, none in the second
