@@ -16,6 +16,7 @@ use enc_base::{Place, Token};
 use enc_il::{first_bad, texts_are_there};
 use enc_opcodes::CodeRef;
 use enc_plain::{ChainView, is_row};
+use enc_schema::columns::{METHOD_DEF_IMPL_FLAGS, METHOD_DEF_RVA};
 use enc_schema::tables::METHOD_DEF;
 use std::alloc::{AllocError, Global};
 use std::collections::BTreeSet;
@@ -109,8 +110,8 @@ fn broken_body_at<C: ChainView>(
     ensures known { OnOk result (AreDeltaBodies context.now known.new) }
 {
     let row = nth_row(METHOD_DEF, r);
-    let place = context.delta.cell(row, 0);
-    let flags = context.delta.cell(row, 1);
+    let place = context.delta.cell(row, METHOD_DEF_RVA);
+    let flags = context.delta.cell(row, METHOD_DEF_IMPL_FLAGS);
     match is_good(alloc, context, place, flags, known) {
         Err(error) => Err(error),
         Ok(true) => Ok(None),
@@ -163,7 +164,7 @@ fn lost_body_at<C: ChainView>(context: &Context<'_, C>, r: u32, token: Token) ->
     requires token { slice_get (of_table method_def (listed context.now.delta)) r ≡ Some token }
     ensures { result ≡ lost_body_at context.now.chain context.now.delta r }
 {
-    if context.delta.cell(nth_row(METHOD_DEF, r), 0) == 0 && has_body(context.old.view, token) {
+    if context.delta.cell(nth_row(METHOD_DEF, r), METHOD_DEF_RVA) == 0 && has_body(context.old.view, token) {
         return Some(Place::Row(token));
     }
     None

@@ -9,7 +9,9 @@ use crate::delta::Delta;
 use crate::joined::guid_after;
 use enc_base::{Place, Token};
 use enc_plain::ChainView;
-use enc_schema::columns::{MODULE_GENERATION, MODULE_MVID};
+use enc_schema::columns::{
+    MODULE_ENC_BASE_ID, MODULE_ENC_ID, MODULE_GENERATION, MODULE_MVID,
+};
 
 const MODULE: Token = Token { table: 0, row: 1 };
 
@@ -28,7 +30,7 @@ fn own_guid<C: ChainView>(chain: &C, delta: &Delta, column: u8) -> [u8; 16]
 pub fn enc_id_of<C: ChainView>(chain: &C, delta: &Delta) -> [u8; 16]
     ensures { result ≡ own_guid (C.chain chain.now) delta.now 3 }
 {
-    own_guid(chain, delta, 3)
+    own_guid(chain, delta, MODULE_ENC_ID)
 }
 
 /// The Mvid of the module before; nil where it has no Module row.
@@ -47,7 +49,7 @@ fn mvid_of<C: ChainView>(chain: &C) -> [u8; 16]
 pub fn other_module<C: ChainView>(context: &Context<'_, C>) -> Option<Place>
     ensures { result ≡ other_module context.now.chain context.now.delta }
 {
-    if own_guid(context.old.view, context.delta, 2).as_slice()
+    if own_guid(context.old.view, context.delta, MODULE_MVID).as_slice()
         == mvid_of(context.old.view).as_slice()
     {
         None
@@ -75,7 +77,7 @@ pub fn other_base<C: ChainView>(context: &Context<'_, C>) -> Option<Place>
 {
     let chain = context.old.view;
     let last = chain.enc_id(chain.generations() - 1);
-    if own_guid(chain, context.delta, 4).as_slice() == last.as_slice() {
+    if own_guid(chain, context.delta, MODULE_ENC_BASE_ID).as_slice() == last.as_slice() {
         None
     } else {
         Some(Place::Row(MODULE))
@@ -100,7 +102,7 @@ fn is_used<C: ChainView>(chain: &C, id: &[u8]) -> bool
 pub fn id_taken<C: ChainView>(context: &Context<'_, C>) -> Option<Place>
     ensures { result ≡ id_taken context.now.chain context.now.delta }
 {
-    let id = own_guid(context.old.view, context.delta, 3);
+    let id = own_guid(context.old.view, context.delta, MODULE_ENC_ID);
     if id.as_slice() == [0; 16].as_slice() || is_used(context.old.view, id.as_slice()) {
         Some(Place::Row(MODULE))
     } else {

@@ -13,6 +13,7 @@ use crate::context::Context;
 use enc_base::{Place, Token};
 use enc_opcodes::CodeRef;
 use enc_plain::{CellView, ChainView};
+use enc_schema::columns::{METHOD_DEF_RVA, STAND_ALONE_SIG_SIGNATURE};
 use enc_schema::tables::{METHOD_DEF, STAND_ALONE_SIG};
 use std::alloc::{AllocError, Global};
 use std::collections::BTreeSet;
@@ -33,7 +34,7 @@ fn locals_begin<C: ChainView>(context: &Context<'_, C>, code: &CodeRef<'_>) -> b
     ensures { result ≡ locals_begin (joined_rows context.now) (Some (code_seen code.now)) }
 {
     let locals = code.locals;
-    locals.row == 0 || locals.table == STAND_ALONE_SIG && begins_locals(context.blob(locals, 0))
+    locals.row == 0 || locals.table == STAND_ALONE_SIG && begins_locals(context.blob(locals, STAND_ALONE_SIG_SIGNATURE))
 }
 
 /// Whether the local signature of the body at a place of the delta's code, if one is there, is one.
@@ -85,7 +86,7 @@ fn bad_locals_in<C: ChainView>(
         table: token.table,
         row: context.delta.place(token).unwrap_or(0),
     };
-    let place = context.delta.cell(row, 0);
+    let place = context.delta.cell(row, METHOD_DEF_RVA);
     match has_known_locals(context, place, known) {
         Err(error) => Err(error),
         Ok(true) => Ok(None),
