@@ -164,7 +164,9 @@ fn lost_body_at<C: ChainView>(context: &Context<'_, C>, r: u32, token: Token) ->
     requires token { slice_get (of_table method_def (listed context.now.delta)) r ≡ Some token }
     ensures { result ≡ lost_body_at context.now.chain context.now.delta r }
 {
-    if context.delta.cell(nth_row(METHOD_DEF, r), METHOD_DEF_RVA) == 0 && has_body(context.old.view, token) {
+    if context.delta.cell(nth_row(METHOD_DEF, r), METHOD_DEF_RVA) == 0
+        && has_body(context.old.view, token)
+    {
         return Some(Place::Row(token));
     }
     None

@@ -9,9 +9,7 @@ use crate::delta::Delta;
 use crate::joined::guid_after;
 use enc_base::{Place, Token};
 use enc_plain::ChainView;
-use enc_schema::columns::{
-    MODULE_ENC_BASE_ID, MODULE_ENC_ID, MODULE_GENERATION, MODULE_MVID,
-};
+use enc_schema::columns::{MODULE_ENC_BASE_ID, MODULE_ENC_ID, MODULE_GENERATION, MODULE_MVID};
 
 const MODULE: Token = Token { table: 0, row: 1 };
 

@@ -34,7 +34,9 @@ fn locals_begin<C: ChainView>(context: &Context<'_, C>, code: &CodeRef<'_>) -> b
     ensures { result ≡ locals_begin (joined_rows context.now) (Some (code_seen code.now)) }
 {
     let locals = code.locals;
-    locals.row == 0 || locals.table == STAND_ALONE_SIG && begins_locals(context.blob(locals, STAND_ALONE_SIG_SIGNATURE))
+    locals.row == 0
+        || locals.table == STAND_ALONE_SIG
+            && begins_locals(context.blob(locals, STAND_ALONE_SIG_SIGNATURE))
 }
 
 /// Whether the local signature of the body at a place of the delta's code, if one is there, is one.
