@@ -54,7 +54,7 @@ fn rule(n: u8, place: Option<Place>) -> Result<(), Stop>
 
 /// Asks rule 23, which takes memory.
 fn ask_locals<C: ChainView>(alloc: Global, context: &Context<'_, C>) -> Result<(), Stop>
-    ensures { Asked result (refused 23 (bad_locals context.now.chain context.now.delta)) }
+    ensures { TellsFirst result (refused 23 (bad_locals context.now.chain context.now.delta)) }
 {
     rule(23, bad_locals(alloc, context)?)
 }

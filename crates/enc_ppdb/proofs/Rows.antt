@@ -26,16 +26,16 @@ there_some : (count : ℕ) (o : Option MethodPoints) → all_there count o ≡ t
 there_some count None e = absurd (cc)
 there_some count (Some m) e = refl
 
-unless_good : (t : Bool) (row : Token) → unless_good t row ≡ None → t ≡ true
-unless_good true row e = refl
-unless_good false row e = absurd (cc)
+is_good_row : (t : Bool) (row : Token) → unless_good t row ≡ None → t ≡ true
+is_good_row true row e = refl
+is_good_row false row e = absurd (cc)
 
 -- each row has points
 points_there : (s : Source) (n : ℕ) → methods_fault s ≡ None → n < rows_of s.layout tables.method_debug_information → is_some (points_of s (nth_row tables.method_debug_information n)) ≡ true
 unfolding methods_fault method_fault is_method
 points_there s n none lt =
     let row = nth_row tables.method_debug_information n in
-    let good = unless_good (is_method s row) row (silent (method_fault s) (rows_of s.layout tables.method_debug_information) n none lt) in
+    let good = is_good_row (is_method s row) row (silent (method_fault s) (rows_of s.layout tables.method_debug_information) n none lt) in
     there_some (rows_of s.layout tables.document) (points_of s row) good
 
 if_row : (t : Bool) (x y : Token) → (if t then Some x else None) ≡ Some y → (t ≡ true) × (x ≡ y)
