@@ -7,7 +7,6 @@ use Rattle.enc_base.specs.declared.token.Token.{Token}
 use Rattle.enc_meta.specs.Heaps.{Counted, lengths_of}
 use Rattle.enc_meta.specs.declared.heaps.HeapLengths.{HeapLengths}
 use Rattle.enc_rows.specs.Source.{Source}
-use Rattle.enc_plain.specs.Sound.{IsSound}
 use Rattle.enc_delta.specs.Delta.{listed, place_in}
 use Rattle.enc_agg.specs.declared.added.Added.{Added}
 use Rattle.enc_agg.specs.declared.added.Found.{Found}
@@ -24,13 +23,7 @@ with_last b a older last all = (last, all)
 
 pub one_more : (b : Source) (added : List Added) (a : Added) → IsAggregate b (reverse added) → IsAdded (chain_with b (sources (reverse added))) a → IsAggregate b (reverse (added ++ a ∷ []))
 one_more b added a agg last =
-    rw (reverse-append added (a ∷ [])) (record { sound = agg.sound; begins = agg.begins; all = with_last b a (reverse added) last agg.all })
-
--- the module with all deltas is sound
-pub chain_sound : (b : Source) (added : List Added) → IsAggregate b added → IsSound (chain_with b (sources added)).plain
-unfolding chain_with AllAdded
-chain_sound b [] agg = agg.begins
-chain_sound b (a ∷ older) agg = agg.all.0.sound
+    rw (reverse-append added (a ∷ [])) (record { sound = agg.sound; all = with_last b a (reverse added) last agg.all })
 
 -- the deltas up to a generation
 reversed_part : {X : Type 0} (xs : List X) (g : ℕ) → reverse (take g xs) ≡ drop (length xs - g) (reverse xs)

@@ -10,8 +10,7 @@ use Rattle.enc_plain.specs.Bodies.{code_loaded}
 use Rattle.enc_rows.specs.Source.{Source, raw_in}
 use Rattle.enc_plain.specs.Module.{Module, rows_in}
 use Rattle.enc_plain.specs.Chain.{Chain}
-use Rattle.enc_plain.specs.Sound.{IsSound}
-use Rattle.enc_image.specs.Base.{cells_fault, chain_of_base}
+use Rattle.enc_image.specs.Base.{cells_fault}
 use Rattle.enc_delta.specs.Delta.{listed, place_in}
 use Rattle.enc_delta.specs.Rules.{own_guid}
 use Rattle.enc_meta.specs.Joined.{joined_lengths}
@@ -38,23 +37,21 @@ module_of_all h = (chain_of_all h).plain
 abbrev pub sources : List Added → List Source
 sources added = map (λ (a : Added). a.delta) added
 
--- the delta follows the chain; the lengths of the heaps before it; its EncId; the rows of each table after it; and the module after it is sound
+-- the delta follows the chain; the lengths of the heaps before it; its EncId; and the rows of each table after it
 pub record IsAdded (c : Chain) (a : Added) : Type 0 where
   pub follows : Follows c a.delta
   pub before : a.before ≡ joined_lengths c.heaps
   pub id : a.id ≡ own_guid c a.delta 3
   pub counts : (t : ℕ) → t < 64 → slice_index a.counts.rows t ≡ length (rows_in (extended c a.delta).plain t)
-  pub sound : IsSound (extended c a.delta).plain
 
 -- so it is of all, the newest first
 unfoldable pub AllAdded : Source → List Added → Type 0
 AllAdded base [] = Unit {0}
 AllAdded base (a ∷ older) = IsAdded (chain_with base (sources older)) a × AllAdded base older
 
--- nothing in the base is refused, so its module is sound; and each delta follows those before it
+-- nothing in the base is refused, and each delta follows those before it
 pub record IsAggregate (base : Source) (added : List Added) : Type 0 where
   pub sound : cells_fault base ≡ None
-  pub begins : IsSound (chain_of_base base).plain
   pub all : AllAdded base added
 
 -- the newest of the deltas that lists a token, with those before it, and the token's position there

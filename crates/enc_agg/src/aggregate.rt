@@ -3,7 +3,6 @@ ghost use Rattle.std.specs.Prelude.{◌≡◌, ◌+◌, ◌<◌, ◌≤◌, ◌�
 ghost use Rattle.enc_meta.specs.Heaps.{Counted, lengths_of};
 ghost use Rattle.enc_meta.specs.Joined.{joined_user};
 ghost use Rattle.enc_plain.specs.Module.{rows_in, has_row};
-ghost use Rattle.enc_plain.specs.Sound.{IsSound};
 ghost use Rattle.enc_delta.specs.Delta.{listed};
 ghost use Rattle.enc_delta.specs.Rules.{inserts};
 ghost use Rattle.enc_delta.specs.Judged.{first_meta};
@@ -104,16 +103,9 @@ impl Aggregate {
         })
     }
 
-    /// The module with all deltas is sound: a law, of which a caller of the view makes use.
-    pub fn sound(&self)
-        ensures { IsSound (module_of_all self.now) }
-    {
-        let _ = &self.image;
-    }
-
     /// Makes a delta ready that breaks no rule, and room for it: all memory is taken here, and
     /// nothing else that is seen changes.
-    #[tactic(auto, using(crate::proofs::Landing::follows_chain, crate::proofs::SoundDeltas::delta_keeps_sound), unfolding(crate::specs::Seen::IsPrepared))]
+    #[tactic(auto, using(crate::proofs::Landing::follows_chain), unfolding(crate::specs::Seen::IsPrepared))]
     pub fn prepare(&mut self, delta: Delta) -> Result<Ready, AllocError>
         requires { first_meta (chain_of_all self.old) delta ≡ None }
         ensures base { self.new.base ≡ self.old.base }
@@ -123,8 +115,6 @@ impl Aggregate {
         ensures delta { IfOk result (λ r. r.delta ≡ delta) }
         ensures ready { IfOk result (IsPrepared (chain_of_all self.old)) }
     {
-        self.sound();
-        delta.was_read();
         let tokens = match delta.tokens(self.alloc) {
             Ok(tokens) => tokens,
             Err(error) => return Err(error),
