@@ -17,7 +17,7 @@ use Rattle.enc_plain.specs.Module.{has_row, row_of, cell_of, kids_of, owner_of}
 use Rattle.enc_plain.specs.Reading.{cell_read, cell_with}
 use Rattle.enc_image.specs.Base.{cell_in, offset_fault_at, offset_fault_in_row, offset_fault_in, offset_fault, signature_fault_at, signature_fault_in, signature_fault, body_fault_at, body_fault, field_fault, module_in, no_counts, layout_for, source_of, cells_fault, chain_of_base, base_of}
 use Rattle.enc_meta.specs.Joined.{entry_in, joined_entry, first_guid}
-use Rattle.enc_plain.specs.Apply.{put, apply, attach, attach_all}
+use Rattle.enc_plain.specs.Apply.{put, put_at, apply, change_row, attach, attach_all}
 use Rattle.enc_pe.specs.Container.{container_of}
 use Rattle.enc_pe.specs.Loaded.{regions_of}
 use Rattle.enc_delta.specs.Delta.{entry_at, map_token, log_in, map_in, listed, place_in, delta_layout, delta_of}
@@ -45,9 +45,9 @@ unfolding shown chain_with place_of judge_deltas judge_all decimal_digits stream
 example_shown = refl
 
 pub example_extended : ExampleIsExtended
-unfolding shown decimal_digits stream_tables base_of source_of root_of root_in root_or_fault root_with span_of has_one_table_stream fault_at fault_of has_stream known streams version_len headers header_at name_at padded stream_fault layout_for no_counts part heaps_of counted_strings text_entry text_at blob_entry blob_at sixteen_at columns_in names_in tables_of tag_bits table_with decoded heap_width index_width coded_width row_width column_start below sum_below count_in tables_below width_count rows_begin table_start form_allows laid_out whole_layout layout_of cell_place raw_cell chain_of_base has_row row_of cell_of cell_read cell_in module_in cells_fault digits token_text quoted bracketed guid_text absent_line joined_below cell_text row_place_text row_text_of row_or_absent encode_with first_below entry_in joined_entry first_guid nil_guid put apply entry_at map_token log_in map_in listed place_in delta_layout delta_of own_guid other_module not_next other_base id_taken strings_break users_break blobs_break guids_break heap_fault late_fault uneven_at uneven_table is_insert inserts insert_fault_of insert_fault_at insert_fault counted changed set_fault rows_with has_parent follows log_fault_of log_fault_at log_fault child_fault_at child_fault_in child_fault closed_at closed_table reading_after delta_cell_fault delta_row_fault delta_table_fault bad_index bad_offset too_many_in too_many broken_body_at broken_body lost_body_at lost_body altered_at altered_in altered_cell field_out_of_layout method_without_slot twin_member bad_signature_at bad_signature_in bad_signature bad_locals_in bad_locals has_twin twin_fault container_of regions_of field_fault code_text late_token skipped_row unmatched_token bad_entry unowned_child first_meta cell_after changes_of extended chain_with place_of judge_deltas judge_all offset_fault_at offset_fault_in_row offset_fault_in offset_fault signature_column signature_fault_at signature_fault_in signature_fault body_fault_at body_fault named_at children_of all_children times_named index_fault_at owner_fault index_fault_in_row index_fault_in index_fault kids_of owner_of cell_with line_text owner_text kids_text attach attach_all attached_of
+unfolding shown decimal_digits stream_tables base_of source_of root_of root_in root_or_fault root_with span_of has_one_table_stream fault_at fault_of has_stream known streams version_len headers header_at name_at padded stream_fault layout_for no_counts part heaps_of counted_strings text_entry text_at blob_entry blob_at sixteen_at columns_in names_in tables_of tag_bits table_with decoded heap_width index_width coded_width row_width column_start below sum_below count_in tables_below width_count rows_begin table_start form_allows laid_out whole_layout layout_of cell_place raw_cell chain_of_base has_row row_of cell_of cell_read cell_in module_in cells_fault digits token_text quoted bracketed guid_text absent_line joined_below cell_text row_place_text row_text_of row_or_absent encode_with first_below entry_in joined_entry first_guid nil_guid put put_at apply entry_at map_token log_in map_in listed place_in delta_layout delta_of own_guid other_module not_next other_base id_taken strings_break users_break blobs_break guids_break heap_fault late_fault uneven_at uneven_table is_insert inserts insert_fault_of insert_fault_at insert_fault counted changed set_fault rows_with has_parent follows log_fault_of log_fault_at log_fault child_fault_at child_fault_in child_fault closed_at closed_table reading_after delta_cell_fault delta_row_fault delta_table_fault bad_index bad_offset too_many_in too_many broken_body_at broken_body lost_body_at lost_body altered_at altered_in altered_cell field_out_of_layout method_without_slot twin_member bad_signature_at bad_signature_in bad_signature bad_locals_in bad_locals has_twin twin_fault container_of regions_of field_fault code_text late_token skipped_row unmatched_token bad_entry unowned_child first_meta cell_after changes_of extended chain_with place_of judge_deltas judge_all offset_fault_at offset_fault_in_row offset_fault_in offset_fault signature_column signature_fault_at signature_fault_in signature_fault body_fault_at body_fault named_at children_of all_children times_named index_fault_at owner_fault index_fault_in_row index_fault_in index_fault kids_of owner_of cell_with line_text owner_text kids_text attach change_row attach_all attached_of
 example_extended = refl
 
 pub example_listed : ExampleIsListed
-unfolding listed_as listing_of lines_upto base_text delta_text head_text token_line counts_text shown decimal_digits stream_tables base_of source_of root_of root_in root_or_fault root_with span_of has_one_table_stream fault_at fault_of has_stream known streams version_len headers header_at name_at padded stream_fault layout_for no_counts part heaps_of counted_strings text_entry text_at blob_entry blob_at sixteen_at columns_in names_in tables_of tag_bits table_with decoded heap_width index_width coded_width row_width column_start below sum_below count_in tables_below width_count rows_begin table_start form_allows laid_out whole_layout layout_of cell_place raw_cell chain_of_base has_row row_of cell_of cell_read cell_in module_in cells_fault digits token_text quoted bracketed absent_line joined_below cell_text row_place_text row_text_of row_or_absent encode_with first_below entry_in joined_entry first_guid nil_guid put apply entry_at map_token log_in map_in listed place_in delta_layout delta_of own_guid other_module not_next other_base id_taken strings_break users_break blobs_break guids_break heap_fault late_fault uneven_at uneven_table is_insert inserts insert_fault_of insert_fault_at insert_fault counted changed set_fault rows_with has_parent follows log_fault_of log_fault_at log_fault child_fault_at child_fault_in child_fault closed_at closed_table reading_after delta_cell_fault delta_row_fault delta_table_fault bad_index bad_offset too_many_in too_many broken_body_at broken_body lost_body_at lost_body altered_at altered_in altered_cell field_out_of_layout method_without_slot twin_member bad_signature_at bad_signature_in bad_signature bad_locals_in bad_locals has_twin twin_fault container_of regions_of field_fault code_text late_token skipped_row unmatched_token bad_entry unowned_child first_meta cell_after changes_of extended chain_with place_of judge_deltas judge_all offset_fault_at offset_fault_in_row offset_fault_in offset_fault signature_column signature_fault_at signature_fault_in signature_fault body_fault_at body_fault named_at children_of all_children times_named index_fault_at owner_fault index_fault_in_row index_fault_in index_fault kids_of owner_of cell_with line_text owner_text kids_text attach attach_all attached_of
+unfolding listed_as listing_of lines_upto base_text delta_text head_text token_line counts_text shown decimal_digits stream_tables base_of source_of root_of root_in root_or_fault root_with span_of has_one_table_stream fault_at fault_of has_stream known streams version_len headers header_at name_at padded stream_fault layout_for no_counts part heaps_of counted_strings text_entry text_at blob_entry blob_at sixteen_at columns_in names_in tables_of tag_bits table_with decoded heap_width index_width coded_width row_width column_start below sum_below count_in tables_below width_count rows_begin table_start form_allows laid_out whole_layout layout_of cell_place raw_cell chain_of_base has_row row_of cell_of cell_read cell_in module_in cells_fault digits token_text quoted bracketed absent_line joined_below cell_text row_place_text row_text_of row_or_absent encode_with first_below entry_in joined_entry first_guid nil_guid put put_at apply entry_at map_token log_in map_in listed place_in delta_layout delta_of own_guid other_module not_next other_base id_taken strings_break users_break blobs_break guids_break heap_fault late_fault uneven_at uneven_table is_insert inserts insert_fault_of insert_fault_at insert_fault counted changed set_fault rows_with has_parent follows log_fault_of log_fault_at log_fault child_fault_at child_fault_in child_fault closed_at closed_table reading_after delta_cell_fault delta_row_fault delta_table_fault bad_index bad_offset too_many_in too_many broken_body_at broken_body lost_body_at lost_body altered_at altered_in altered_cell field_out_of_layout method_without_slot twin_member bad_signature_at bad_signature_in bad_signature bad_locals_in bad_locals has_twin twin_fault container_of regions_of field_fault code_text late_token skipped_row unmatched_token bad_entry unowned_child first_meta cell_after changes_of extended chain_with place_of judge_deltas judge_all offset_fault_at offset_fault_in_row offset_fault_in offset_fault signature_column signature_fault_at signature_fault_in signature_fault body_fault_at body_fault named_at children_of all_children times_named index_fault_at owner_fault index_fault_in_row index_fault_in index_fault kids_of owner_of cell_with line_text owner_text kids_text attach change_row attach_all attached_of
 example_listed = refl
