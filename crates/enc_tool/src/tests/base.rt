@@ -225,22 +225,17 @@ fn tells_missing_files_and_wrong_words(rt: HostRuntime) -> Result<(), Fail> {
             "missing d/-_.9/m.dll\n",
         ),
     )?;
-    let wrong: [&[&str]; 11] = [
-        &[],
-        &["show", "m", "1"],
-        &["show", "m", "0100000g"],
-        &["show", "", "01000001"],
-        &["show", LONG, "01000001"],
-        &["show", "a b", "01000001"],
-        &["Show", "m", "01000001"],
-        &["list"],
-        &["list", "a b"],
-        &["list", LONG],
-        &["apply", "m"],
-    ];
-    for words in wrong {
-        holds(&rt, &whole(words, 2, usage))?;
-    }
+    holds(&rt, &whole(&[], 2, usage))?;
+    holds(&rt, &whole(&["show", "m", "1"], 2, usage))?;
+    holds(&rt, &whole(&["show", "m", "0100000g"], 2, usage))?;
+    holds(&rt, &whole(&["show", "", "01000001"], 2, usage))?;
+    holds(&rt, &whole(&["show", LONG, "01000001"], 2, usage))?;
+    holds(&rt, &whole(&["show", "a b", "01000001"], 2, usage))?;
+    holds(&rt, &whole(&["Show", "m", "01000001"], 2, usage))?;
+    holds(&rt, &whole(&["list"], 2, usage))?;
+    holds(&rt, &whole(&["list", "a b"], 2, usage))?;
+    holds(&rt, &whole(&["list", LONG], 2, usage))?;
     holds(&rt, &whole(&["list", "n"], 6, "missing n.dll\n"))?;
+    holds(&rt, &whole(&["apply", "m"], 2, usage))?;
     Ok(())
 }
