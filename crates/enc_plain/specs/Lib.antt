@@ -14,3 +14,6 @@ pub mod Alike
 pub mod AlikeLaws
 pub mod Extent
 pub mod Sound
+pub mod Debug
+pub mod DocumentName
+pub mod DebugSeen

@@ -3,21 +3,25 @@
 
 mod cells;
 mod chain;
+mod document;
 mod extent;
 mod laws;
 mod likeness;
 mod place;
 mod plain;
+mod points;
 mod signature;
 mod view;
 
 pub use cells::{CellView, Viewed};
 pub use chain::ChainView;
+pub use document::{DocumentRef, NameRef};
 pub use extent::{Extent, extent_in};
 pub use laws::likeness_laws;
 pub use likeness::{alike, signatures_alike, tokens_alike};
 pub use place::RowPlace;
 pub use plain::{PlainCell, PlainModule};
+pub use points::PointSource;
 pub use signature::{is_signature, kind_in_table, signature_column};
 pub use view::{ModuleView, index_token, is_row};
 

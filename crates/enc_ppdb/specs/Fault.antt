@@ -1,5 +1,5 @@
 -- Why a Portable PDB is refused, and where (Portable PDB v1.0).
-use Rattle.std.specs.Prelude.{ℕ, Bool, true, false, ◌&&◌, ◌||◌, List, Option, Some, None, is_some, nat_lt, nat_le, ◌==◌, Result, Ok, Err, if◌then◌else◌}
+use Rattle.std.specs.Prelude.{ℕ, Bool, true, false, ◌&&◌, ◌||◌, List, length, map, filter, Option, Some, None, is_some, nat_lt, nat_le, ◌==◌, Result, Ok, Err, if◌then◌else◌}
 use Rattle.std.specs.List.{list_all}
 use Rattle.enc_base.specs.Order.{or_else, first_below}
 use Rattle.enc_base.specs.Token.{nth_row, token_of}
@@ -9,9 +9,9 @@ use Rattle.enc_base.specs.declared.refusal.Code.TheVariants.{F}
 use Rattle.enc_base.specs.declared.refusal.Place.{Place}
 use Rattle.enc_base.specs.declared.refusal.Place.TheVariants as place
 use Rattle.enc_meta.specs.Heaps.{blob_at, guid_at}
-use Rattle.enc_rows.specs.Layout.{rows_of, one}
+use Rattle.enc_rows.specs.Layout.{rows_of}
 use Rattle.enc_rows.specs.Source.{Source, raw_in}
-use Rattle.enc_rows.specs.Sums.{sum_below}
+use Rattle.enc_rows.specs.Sums.{below}
 use Rattle.enc_schema.specs.Tables as tables
 use Rattle.enc_schema.specs.Columns as columns
 use Rattle.enc_seqpoints.specs.declared.point.Point.{Point}
@@ -86,16 +86,14 @@ pdb_of bytes methods = judged_pdb (fits_methods methods) (pdb_source_of bytes)
 unfoldable pub map_token_at : Source → ℕ → Token
 map_token_at s n = token_of (raw_in s (nth_row tables.enc_map n) columns.enc_map_token)
 
--- how many tokens of EncMap name rows of MethodDebugInformation
-abbrev pub names_method : Source → ℕ → ℕ
-names_method s n = one ((map_token_at s n).table == tables.method_debug_information)
-
-unfoldable pub named_count : Source → ℕ
-named_count s = sum_below (names_method s) (rows_of s.layout tables.enc_map)
+-- the tokens of MethodDebugInformation in EncMap, in order: the k-th names the method of the k-th row
+unfoldable pub named_tokens : Source → List Token
+named_tokens s =
+    filter (λ (t : Token). t.table == tables.method_debug_information) (map (map_token_at s) (below (rows_of s.layout tables.enc_map)))
 
 -- a delta's EncMap names as many of its rows as there are
 unfoldable pub fits_map : Source → Bool
-fits_map s = named_count s == rows_of s.layout tables.method_debug_information
+fits_map s = length (named_tokens s) == rows_of s.layout tables.method_debug_information
 
 -- the PDB of a delta, or F12 as above
 unfoldable pub pdb_delta_of : List ℕ → Result Source Refusal

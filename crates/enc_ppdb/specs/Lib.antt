@@ -1,4 +1,6 @@
 pub mod Pdb
 pub mod Fault
 pub mod Points
+pub mod Misplaced
+pub mod PdbChain
 pub mod Seen

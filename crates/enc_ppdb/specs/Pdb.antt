@@ -1,7 +1,7 @@
 -- What the bytes of a Portable PDB say: its counts of another module's rows, its documents, and the points of its methods (Portable PDB v1.0).
-use Rattle.std.specs.Prelude.{ℕ, zero, suc, ◌+◌, ◌*◌, true, List, [], ◌∷◌, ◌++◌, map, length, drop, replicate, Option, Some, None, option_map, option_and_then, unwrap_or, nat_le, if◌then◌else◌}
+use Rattle.std.specs.Prelude.{ℕ, zero, suc, ◌+◌, ◌*◌, true, List, [], ◌∷◌, map, length, drop, replicate, Option, Some, None, option_map, option_and_then, unwrap_or, nat_le, if◌then◌else◌}
 use Rattle.std.specs.Int.{w32, w64}
-use Rattle.enc_base.specs.Numbers.{little_endian_at, compressed}
+use Rattle.enc_base.specs.Numbers.{little_endian_at}
 use Rattle.enc_base.specs.declared.token.Token.{Token}
 use Rattle.enc_meta.specs.declared.root.Root.{Root}
 use Rattle.enc_meta.specs.declared.span.Span.{Span}
@@ -12,6 +12,7 @@ use Rattle.enc_rows.specs.Layout.{Layout, has_table, tables_below, stream_tables
 use Rattle.enc_rows.specs.Source.{Source, raw_in}
 use Rattle.enc_rows.specs.declared.form.Form.TheVariants as form
 use Rattle.enc_schema.specs.Columns as columns
+use Rattle.enc_plain.specs.DocumentName.{document_name_in}
 use Rattle.enc_seqpoints.specs.Grammar.{MethodPoints, points_in}
 use Rattle.std.specs.Result.{result_ok}
 
@@ -48,34 +49,6 @@ pdb_layout bytes root = option_and_then (λ (outer : List ℕ). result_ok (strea
 -- the parts of a PDB, where its root, its #Pdb and its table stream are good
 unfoldable pub pdb_source_of : List ℕ → Option Source
 pdb_source_of bytes = option_and_then (λ (root : Root). option_map (pdb_source bytes root) (pdb_layout bytes root)) (result_ok (root_of bytes))
-
--- a part of a document's name: the compressed offset of a blob (Document Name Blob)
-unfoldable pub part_in : List ℕ → List ℕ → Option (List ℕ × List ℕ)
-part_in blobs bytes =
-    option_and_then (λ (number : ℕ × ℕ). option_map (λ (text : List ℕ). (text, drop number.1 bytes)) (blob_at blobs number.0)) (compressed bytes)
-
--- the parts to the end of the bytes, of which there are no more than bytes
-unfoldable pub name_parts_in : List ℕ → ℕ → List ℕ → Option (List (List ℕ))
-name_parts_in blobs n [] = Some []
-name_parts_in blobs zero (x ∷ rest) = None
-name_parts_in blobs (suc n) (x ∷ rest) =
-    option_and_then (λ (p : List ℕ × List ℕ). option_map (λ (texts : List (List ℕ)). p.0 ∷ texts) (name_parts_in blobs n p.1))
-    (part_in blobs (x ∷ rest))
-
--- the texts with the separator between them; a separator of 0 is none
-abbrev pub separator_bytes : ℕ → List ℕ
-separator_bytes zero = []
-separator_bytes (suc n) = suc n ∷ []
-
-unfoldable pub name_joined : ℕ → List (List ℕ) → List ℕ
-name_joined separator [] = []
-name_joined separator (text ∷ []) = text
-name_joined separator (text ∷ next ∷ texts) = text ++ (separator_bytes separator ++ name_joined separator (next ∷ texts))
-
--- a document's name: a separator of one byte, and the parts (Document Name Blob)
-unfoldable pub document_name_in : List ℕ → List ℕ → Option (List ℕ)
-document_name_in blobs [] = None
-document_name_in blobs (separator ∷ rest) = option_map (name_joined separator) (name_parts_in blobs (length rest) rest)
 
 -- the name of the document in a row
 unfoldable pub name_of_document : Source → Token → Option (List ℕ)

@@ -5,7 +5,6 @@
 mod fault;
 mod file;
 mod method;
-mod name;
 mod outer;
 mod pdb;
 

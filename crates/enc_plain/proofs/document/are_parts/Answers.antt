@@ -1,7 +1,7 @@
 use Rattle.std.proofs.Common.{◌+◌, ◌-◌, ◌∙◌, length, sym, arith}
 use Rattle.std.proofs.lemmas.Bool.Decides.{nat_tests}
-use Rattle.enc_ppdb.proofs.Parts.{parts_more, parts_fail, parts_done, parts_end}
-use Rattle.enc_ppdb.proofs.name.are_parts.Goals as goal
+use Rattle.enc_plain.proofs.NameParts.{parts_more, parts_fail, parts_done, parts_end}
+use Rattle.enc_plain.proofs.document.are_parts.Goals as goal
 
 pub returns-then-is_empty : goal.returns-then-is_empty
 returns-then-is_empty c = sym (c.loop-i.invariant ∙ parts_done c.args.heaps.now.blobs (length c.args.bytes.now - c.loop-i.i) c.loop-i.rest.now (grind (arith, nat_tests)))

@@ -2,7 +2,7 @@
 use Rattle.std.proofs.Common.{◌≡◌, ℕ, zero, suc, ◌<◌, true, false, List, [], ◌∷◌, length, Option, Some, None, refl, sym, ◌∙◌, arith}
 use Rattle.std.proofs.lemmas.Bool.{ne_eqb}
 use Rattle.std.specs.Prelude.{is_some, option_map, ◌==◌}
-use Rattle.enc_ppdb.specs.Pdb.{part_in, name_parts_in}
+use Rattle.enc_plain.specs.DocumentName.{part_in, name_parts_in}
 
 none_in_none : (blobs : List ℕ) → part_in blobs [] ≡ None
 unfolding part_in
