@@ -136,12 +136,12 @@ is_of_pdb (F n) = n == 12
 is_of_pdb (E n) = n == 22
 
 -- the file of a delta that is refused: its PDB, or its metadata
-abbrev pub refused_name : DeltaFiles → Refusal → List ℕ
-refused_name f e = if is_of_pdb e.code then f.debug_name else f.name
+abbrev pub refused_name : List ℕ → List ℕ → Refusal → List ℕ
+refused_name name debug_name e = if is_of_pdb e.code then debug_name else name
 
 abbrev pub in_delta : {A : Type 0} → DeltaFiles → Result A Refusal → Result A Stop
 in_delta f (Ok a) = Ok a
-in_delta f (Err e) = Err (refused_file (refused_name f e) e)
+in_delta f (Err e) = Err (refused_file (refused_name f.name f.debug_name e) e)
 
 -- a base with the deltas that follow it, the newest first; the base's PDB, where it has one, and what the deltas say of sequence points
 pub record Followed : Type 0 where

@@ -1,5 +1,5 @@
 //! Judging a base and its deltas, each after those before it, with their PDBs.
-ghost use Rattle.std.specs.Prelude.{◌≡◌, None, map, Ok, IfOk, IsErrOf, string_bytes};
+ghost use Rattle.std.specs.Prelude.{◌≡◌, ◌≢◌, Option, None, map, Ok, IfOk, IsErrOf, string_bytes};
 ghost use Rattle.enc_image.specs.Base.{base_of};
 ghost use Rattle.enc_delta.specs.Delta.{delta_of};
 ghost use Rattle.enc_delta.specs.Judged.{first_meta};
@@ -7,7 +7,7 @@ ghost use Rattle.enc_agg.specs.Seen.{chain_of_all};
 ghost use Rattle.enc_checker.specs.Check.{accepted, judged};
 ghost use Rattle.enc_rows.specs.Source.{Source};
 ghost use Rattle.enc_top.specs.Verdict.{dll, pdb, in_file, in_delta, is_of_pdb, base_pdb, followed_by, judge_deltas as deltas_judged, judge_all as all_judged};
-ghost use Rattle.enc_top.specs.Stops.{Comes, StopsQuietly};
+ghost use Rattle.enc_top.specs.Stops.{Comes, StopsQuietly, OnPlan, IsQuiet, IsUnaccepted};
 ghost use Rattle.enc_top.specs.Loads.{bytes_seen, base_seen, file_seen, followed, Adds};
 
 use crate::load::{BaseFile, DeltaFile, name_of};
