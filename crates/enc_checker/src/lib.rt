@@ -3,5 +3,7 @@
 #![tactic(auto)]
 
 mod judging;
+mod methods;
 
 pub use judging::{Checked, Files, check};
+pub use methods::new_bodies;

@@ -1,10 +1,12 @@
 //! The name of a document, and a document by its value (Portable PDB v1.0).
-ghost use Rattle.std.specs.Prelude.{◌≡◌, is_some, length, option_map, option_and_then};
+ghost use Rattle.std.specs.Prelude.{◌≡◌, ◌++◌, true, OnOk, is_some, length, option_map, option_and_then};
 ghost use Rattle.enc_meta.specs.Heaps.{blob_at};
-ghost use Rattle.enc_plain.specs.DocumentName.{part_in, name_parts_in, document_name_in};
+ghost use Rattle.enc_plain.specs.DebugSeen.{parts_said};
+ghost use Rattle.enc_plain.specs.DocumentName.{part_in, separator_bytes, name_parts_in, document_name_in};
 
 use enc_base::read_unsigned;
 use enc_meta::Heaps;
+use std::alloc::AllocError;
 use std::marker::Model;
 
 /// The name of a document, put together from parts without memory: seen as the bytes of the name
@@ -16,14 +18,14 @@ pub struct NameRef<'a> {
 }
 
 impl<'a> Model for NameRef<'a> {
-    ghost use Rattle.std.specs.Prelude.{◌≡◌, ◌<◌, ◌^◌, ℕ, List, [], true, is_some, length, unwrap_or};
+    ghost use Rattle.std.specs.Prelude.{◌≡◌, ℕ, List, [], true, is_some, unwrap_or};
     ghost use Rattle.enc_plain.specs.DocumentName.{document_name_in};
 
     ghost Value = { List ℕ };
 
     ghost view = { λ n. unwrap_or (document_name_in n.heaps.blobs n.blob.now) [] };
 
-    ghost invariant = { λ n. (is_some (document_name_in n.heaps.blobs n.blob.now) ≡ true) × (length n.blob.now < 2 ^ 32) };
+    ghost invariant = { λ n. is_some (document_name_in n.heaps.blobs n.blob.now) ≡ true };
 }
 
 /// A document by its value: its name, the GUID of its hash algorithm, its hash, and the GUID of its
@@ -74,16 +76,63 @@ fn is_name(heaps: &Heaps<'_>, bytes: &[u8]) -> bool
     }
 }
 
+/// Appends a separator, of which 0 is none, and a part.
+fn push_part(separator: u8, text: &[u8], out: &mut Vec<u8>) -> Result<(), AllocError>
+    ensures { OnOk result (out.new.items ≡ out.old.items ++ (separator_bytes separator ++ text.now)) }
+{
+    if separator == 0 {
+        return out.extend_from_slice(text);
+    }
+    out.extend_from_slice(&[separator])?;
+    out.extend_from_slice(text)
+}
+
+/// Appends the parts to the end of the bytes, with the separator between them.
+fn push_parts(
+    heaps: &Heaps<'_>,
+    separator: u8,
+    bytes: &[u8],
+    out: &mut Vec<u8>,
+) -> Result<(), AllocError>
+    requires { is_some (name_parts_in heaps.now.blobs (length bytes.now) bytes.now) ≡ true }
+    ensures { OnOk result (out.new.items ≡ out.old.items ++ parts_said 0 separator (name_parts_in heaps.now.blobs (length bytes.now) bytes.now)) }
+{
+    let mut rest = bytes;
+    let mut before = 0;
+    for i in 0..bytes.len() {
+        if rest.is_empty() {
+            return Ok(());
+        }
+        let Some((text, behind)) = part(heaps, rest) else {
+            unreachable!()
+        };
+        push_part(before, text, out)?;
+        before = separator;
+        rest = behind;
+    }
+    Ok(())
+}
+
 impl<'a> NameRef<'a> {
     /// The name that the blob at an offset of a file's heaps says; None exactly where no blob stands
     /// there or it says none.
     pub fn at(heaps: Heaps<'a>, offset: u32) -> Option<NameRef<'a>>
-        ensures { result ≡ option_and_then (document_name_in heaps.blobs) (blob_at heaps.blobs offset) }
+        ensures { result ≡ option_and_then (document_name_in heaps.entry.blobs) (blob_at heaps.entry.blobs offset) }
     {
         let blob = heaps.blob(offset)?;
         if !is_name(&heaps, blob) {
             return None;
         }
         Some(NameRef { heaps, blob })
+    }
+
+    /// Appends the bytes of the name.
+    pub fn push_to(&self, out: &mut Vec<u8>) -> Result<(), AllocError>
+        ensures { OnOk result (out.new.items ≡ out.old.items ++ self.now) }
+    {
+        match self.blob {
+            [separator, rest @ ..] => push_parts(&self.heaps, *separator, rest, out),
+            [] => unreachable!(),
+        }
     }
 }

@@ -2,6 +2,7 @@
 ghost use Rattle.std.specs.Prelude.{◌≡◌, ℕ, Option, option_map, IfOk};
 ghost use Rattle.enc_seqpoints.specs.Grammar.{MethodPoints};
 ghost use Rattle.enc_plain.specs.Debug.{Document, PlainPdb, debug_of};
+ghost use Rattle.enc_base.specs.declared.token.Token.{Token as TheToken};
 ghost use Rattle.enc_plain.specs.DebugSeen.{document_seen};
 
 use crate::document::DocumentRef;
@@ -15,9 +16,9 @@ pub trait PointSource {
     // The plain PDB that is meant.
     ghost debug: { Self → PlainPdb };
     // The points of a method, in which documents stand by their numbers.
-    ghost said: { Self → Token → MethodPoints };
+    ghost said: { Self → TheToken → MethodPoints };
     // The document that a number means at a method.
-    ghost documents: { Self → Token → ℕ → Option Document };
+    ghost documents: { Self → TheToken → ℕ → Option Document };
 
     /// The local signature row and the points of a method; 0 and none where nothing is known of it.
     fn points(&self, alloc: Global, method: Token) -> Result<Points, AllocError>
@@ -29,5 +30,5 @@ pub trait PointSource {
         ensures { option_map document_seen result ≡ documents self.now method number };
 
     // What is known of a method are those points with those documents.
-    ghost knows: { (s : Self) (method : Token) → debug_of (documents s method) (said s method) ≡ Self.debug s method };
+    ghost knows: { (s : Self) (method : TheToken) → debug_of (documents s method) (said s method) ≡ Self.debug s method };
 }

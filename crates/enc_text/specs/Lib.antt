@@ -1,3 +1,4 @@
 pub mod Text
 pub mod BodyText
 pub mod RowText
+pub mod PointText

@@ -9,8 +9,10 @@ use Rattle.enc_schema.specs.Names.{table_name_in, column_name_in}
 use Rattle.enc_schema.specs.Children.{is_child_table, runs_in}
 use Rattle.enc_plain.specs.Cell.{Cell, number, text, blob, guid, refer, body, field}
 use Rattle.enc_plain.specs.Module.{Module, cell_of, owner_of, kids_of}
+use Rattle.enc_plain.specs.Debug.{PlainPdb}
 use Rattle.enc_plain.specs.declared.place.RowPlace.{RowPlace}
 use Rattle.enc_text.specs.BodyText.{body_text}
+use Rattle.enc_text.specs.PointText.{points_text}
 use Rattle.enc_text.specs.Text.{digits, token_text, quoted, bracketed, guid_text}
 
 -- f 0, f 1, .. below n, one behind the other
@@ -95,6 +97,11 @@ code_lines _ = []
 unfoldable pub code_text : Module → Token → List ℕ
 code_text m token = if token.table == 0x06 then code_lines (cell_of m token 0) else []
 
--- the row's line, its owner's line, the lines of its children, and those of its body
-unfoldable pub row_text_of : Module → RowPlace → Token → List ℕ
-row_text_of m place token = line_text m place token ++ owner_text m token ++ flat_map (kids_text m token) (runs_in token.table) ++ code_text m token
+-- the lines of a method's points, whether or not it has a body
+unfoldable pub debug_text : PlainPdb → Token → List ℕ
+debug_text pdb token = if token.table == 0x06 then points_text (pdb token) else []
+
+-- the row's line, its owner's line, the lines of its children, those of its body, and those of its points
+unfoldable pub row_text_of : Module → PlainPdb → RowPlace → Token → List ℕ
+row_text_of m pdb place token =
+    line_text m place token ++ owner_text m token ++ flat_map (kids_text m token) (runs_in token.table) ++ code_text m token ++ debug_text pdb token

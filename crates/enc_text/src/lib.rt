@@ -3,6 +3,7 @@
 
 mod body;
 mod operand;
+mod points;
 mod rows;
 mod text;
 

@@ -4,18 +4,19 @@ ghost use Rattle.enc_schema.specs.Schema.{columns_in, column_in};
 ghost use Rattle.enc_schema.specs.Names.{column_name_in};
 ghost use Rattle.enc_plain.specs.Module.{has_row, cell_of};
 ghost use Rattle.enc_schema.specs.Children.{is_child_table as is_of_children, owner_table, runs_in};
-ghost use Rattle.enc_text.specs.RowText.{value_in, equation, joined_below, cell_text, row_place_text, line_text, owner_text, kids_name as name_of_kids, kid_text, kids_text, code_text, value_text, row_text_of};
+ghost use Rattle.enc_text.specs.RowText.{value_in, equation, joined_below, cell_text, row_place_text, line_text, owner_text, kids_name as name_of_kids, kid_text, kids_text, code_text, debug_text, value_text, row_text_of};
 ghost use Rattle.enc_opcodes.specs.Body.{body_of, code_seen};
 ghost use Rattle.enc_plain.specs.Cell.{body};
 ghost use Rattle.enc_schema.specs.declared.column.Column.{Column as TheColumn};
 
 use crate::body::push_body;
+use crate::points::push_points;
 use crate::text::{
     push_blob, push_decimal, push_digits, push_guid, push_quoted, push_str, push_token,
 };
 use enc_base::Token;
 use enc_opcodes::CodeRef;
-use enc_plain::{ModuleView, RowPlace};
+use enc_plain::{ModuleView, PointSource, RowPlace};
 use enc_schema::{Column, column_name, column_of, columns_of, is_child_table, table_name};
 use std::alloc::{AllocError, Global};
 
@@ -251,39 +252,59 @@ fn push_code<V: ModuleView>(
     }
 }
 
+/// Appends the lines of a method's points.
+#[tactic(auto, unfolding(crate::specs::RowText::debug_text))]
+fn push_debug<P: PointSource>(
+    alloc: Global,
+    source: &P,
+    token: Token,
+    out: &mut Vec<u8>,
+) -> Result<(), AllocError>
+    ensures { OnOk result (out.new.items ≡ out.old.items ++ debug_text (P.debug source.now) token) }
+{
+    if token.table != 0x06 {
+        return Ok(());
+    }
+    push_points(alloc, source, token, out)
+}
+
 /// The lines of a row behind those of a text.
 #[tactic(auto, unfolding(crate::specs::RowText::row_text_of))]
-fn push_row<V: ModuleView>(
+fn push_row<V: ModuleView, P: PointSource>(
     alloc: Global,
     view: &V,
+    source: &P,
     place: RowPlace,
     token: Token,
     out: &mut Vec<u8>,
 ) -> Result<(), AllocError>
     requires { IsTrue (has_row (V.meaning view.now) token) }
-    ensures { OnOk result (out.new.items ≡ out.old.items ++ row_text_of (V.meaning view.now) place token) }
+    ensures { OnOk result (out.new.items ≡ out.old.items ++ row_text_of (V.meaning view.now) (P.debug source.now) place token) }
 {
     push_line(alloc, view, place, token, out)?;
     push_owner(view, token, out)?;
     push_all_kids(alloc, view, token, out)?;
-    push_code(alloc, view, token, out)
+    push_code(alloc, view, token, out)?;
+    push_debug(alloc, source, token, out)
 }
 
 /// Appends the row of a token, which stands at the place: a line with its token, its table's name,
 /// each column with its value and ` @G.R`, then a line with its owner, one for its children in each
-/// table, and the lines of its body. Where memory runs out, nothing is appended.
-pub fn row_text<V: ModuleView>(
+/// table, the lines of its body, and those of its sequence points. Where memory runs out, nothing is
+/// appended.
+pub fn row_text<V: ModuleView, P: PointSource>(
     alloc: Global,
     view: &V,
+    source: &P,
     place: RowPlace,
     token: Token,
     out: &mut Vec<u8>,
 ) -> Result<(), AllocError>
     requires { IsTrue (has_row (V.meaning view.now) token) }
-    ensures text { OnOk result (out.new.items ≡ out.old.items ++ row_text_of (V.meaning view.now) place token) }
+    ensures text { OnOk result (out.new.items ≡ out.old.items ++ row_text_of (V.meaning view.now) (P.debug source.now) place token) }
     ensures memory { OnErr result (out.new.items ≡ out.old.items) }
 {
     let mut text = Vec::new(alloc);
-    push_row(alloc, view, place, token, &mut text)?;
+    push_row(alloc, view, source, place, token, &mut text)?;
     out.extend_from_slice(&text)
 }
