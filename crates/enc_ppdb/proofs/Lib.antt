@@ -2,5 +2,8 @@ pub mod There
 pub mod TokensNamed
 pub mod PointsEnd
 pub mod Positions
-pub mod MethodsKnown
+pub mod Sized
+pub mod Halves
 pub mod Rows
+pub mod RowsBroken
+pub mod Documents

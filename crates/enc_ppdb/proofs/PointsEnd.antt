@@ -25,7 +25,7 @@ end_suc : {X : Type 0} (f : X → ℕ) (xs : List X) (k : ℕ) (x : X) → slice
 end_suc f [] k x is = absurd (cc)
 end_suc f (y ∷ ys) zero x is =
     let e : y ≡ x = cc in
-    rw (end_cons f y (take 0 ys), end_none f ys, end_empty f, e) (omega arith)
+    rw (end_cons f y (take 0 ys), end_none f ys, e) (omega arith)
 end_suc f (y ∷ ys) (suc k) x is =
     rw (end_cons f y (take (suc k) ys), end_cons f y (take k ys), end_suc f ys k x is) (omega arith)
 
@@ -34,12 +34,15 @@ end_more f xs k x is = let e : k + 1 ≡ suc k = omega arith in rw e (end_suc f 
 
 -- of all elements
 pub end_all : {X : Type 0} (f : X → ℕ) (xs : List X) (k : ℕ) → length xs ≤ k → end_by f (take k xs) ≡ end_by f xs
-end_all f xs k le = ap (end_by f) (take_all xs k le)
+end_all f xs k le = ap (end_by f) (take_all k xs le)
 
 both_tests : (n m e : ℕ) → (nat_le n m || nat_lt n e) ≡ nat_lt n (max (m + 1) e)
 both_tests n m e = grind (arith, nat_tests)
 
+none_before : (n : ℕ) → false ≡ nat_lt n 0
+none_before n = grind (arith, nat_tests)
+
 -- some element is no less than a number exactly where the number is before the end
 pub any_before_end : {X : Type 0} (f : X → ℕ) (n : ℕ) (xs : List X) → list_any (λ x. nat_le n (f x)) xs ≡ nat_lt n (end_by f xs)
-any_before_end f n [] = rw (end_empty f) refl
+any_before_end f n [] = rw (end_empty f) (none_before n)
 any_before_end f n (x ∷ xs) = rw (end_cons f x xs) (ap (λ b. nat_le n (f x) || b) (any_before_end f n xs) ∙ both_tests n (f x) (end_by f xs))

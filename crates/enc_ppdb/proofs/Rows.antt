@@ -1,20 +1,22 @@
 -- A method's row in a delta's PDB is one of the table's, and so it has points.
-use Rattle.std.proofs.Common.{◌≡◌, ℕ, ◌<◌, Bool, true, false, Option, Some, None, length, refl, ap, ◌∙◌, sym, arith}
+use Rattle.std.proofs.Common.{◌≡◌, ℕ, ◌<◌, Bool, true, false, Option, Some, None, length, map, refl, ap, ◌∙◌, sym, arith}
 use Rattle.std.proofs.lemmas.Bool.{eqb-true}
-use Rattle.std.specs.Prelude.{is_some, position, option_map, option_and_then, Result, Ok, Err, IfOk}
+use Rattle.std.specs.Prelude.{◌==◌, is_some, position, option_map, option_and_then, Result, Ok, Err, IfOk}
 use Rattle.enc_base.specs.Order.{or_else, first_below}
-use Rattle.enc_base.specs.Token.{nth_row}
+use Rattle.enc_base.specs.Token.{nth_row, is_token}
 use Rattle.enc_base.specs.declared.token.Token.{Token}
 use Rattle.enc_base.specs.declared.refusal.Place.{Place}
 use Rattle.enc_base.proofs.First.{silent}
 use Rattle.enc_rows.specs.Layout.{rows_of}
 use Rattle.enc_rows.specs.Source.{Source}
+use Rattle.enc_rows.specs.Sums.{below}
+use Rattle.std.proofs.lemmas.Bool.Decides.{nat_tests}
 use Rattle.enc_schema.specs.Tables as tables
 use Rattle.enc_seqpoints.specs.Grammar.{MethodPoints}
 use Rattle.enc_ppdb.specs.Pdb.{points_of}
-use Rattle.enc_ppdb.specs.Fault.{named_tokens, fits_map, all_there, is_method, unless_good, method_fault, methods_fault}
+use Rattle.enc_ppdb.specs.Fault.{map_token_at, named_tokens, fits_map, all_there, is_method, unless_good, method_fault, methods_fault}
 use Rattle.enc_ppdb.specs.Points.{names_method, row_for, delta_points, IsGoodDelta}
-use Rattle.enc_ppdb.proofs.Positions.{position_within}
+use Rattle.enc_ppdb.proofs.Positions.{position_within, position_none, position_same}
 
 -- no fault in either table, none in the second
 pub second_none : (a b : Option Place) → or_else a b ≡ None → b ≡ None
@@ -25,7 +27,7 @@ there_some : (count : ℕ) (o : Option MethodPoints) → all_there count o ≡ t
 there_some count None e = absurd (cc)
 there_some count (Some m) e = refl
 
-is_good_row : (t : Bool) (row : Token) → unless_good t row ≡ None → t ≡ true
+pub is_good_row : (t : Bool) (row : Token) → unless_good t row ≡ None → t ≡ true
 is_good_row true row e = refl
 is_good_row false row e = absurd (cc)
 
@@ -60,3 +62,25 @@ by_row s method row good is = ap (λ o. is_some (option_and_then (points_of s) o
 pub read_there : {E : Type 0} (r : Result (Option MethodPoints) E) (s : Source) (method row : Token) → IsGoodDelta s → Some row ≡ row_for s method → IfOk r (λ o. o ≡ points_of s row) → IfOk r (λ o. is_some o ≡ is_some (row_for s method))
 read_there (Ok o) s method row good is e = ap is_some e ∙ by_row s method row good is
 read_there (Err f) s method row good is e = e
+
+names_other : (method token : Token) → (method.table ≡ tables.method_def → ⊥) → names_method method token ≡ false
+names_other method token h = let e : (method.table == tables.method_def) ≡ false = grind (arith, nat_tests) in rw e refl
+
+-- only methods have rows
+pub row_other : (s : Source) (method : Token) → (method.table ≡ tables.method_def → ⊥) → None ≡ row_for s method
+unfolding row_for
+row_other s method h = sym (ap (option_map (nth_row tables.method_debug_information)) (position_none (names_method method) (named_tokens s) (λ t. names_other method t h)))
+
+same_test : (method token : Token) → method.table ≡ tables.method_def → (token.table == tables.method_debug_information) ≡ true → names_method method token ≡ is_token (record { table = tables.method_debug_information; row = method.row }) token
+same_test method token is named =
+    let e : (method.table == tables.method_def) ≡ true = grind (arith, nat_tests) in
+    let table = eqb-true token.table tables.method_debug_information named in
+    let f : (tables.method_debug_information == token.table) ≡ true = grind (arith, nat_tests) in
+    let g : (token.row == method.row) ≡ (method.row == token.row) = grind (arith, nat_tests) in
+    rw (e, f) g
+
+-- and theirs is found by the token
+pub row_found : (s : Source) (method : Token) (o : Option ℕ) → method.table ≡ tables.method_def → o ≡ position (is_token (record { table = tables.method_debug_information; row = method.row })) (named_tokens s) → option_map (nth_row tables.method_debug_information) o ≡ row_for s method
+unfolding row_for named_tokens
+row_found s method o is e =
+    ap (option_map (nth_row tables.method_debug_information)) (e ∙ sym (position_same (names_method method) (is_token (record { table = tables.method_debug_information; row = method.row })) (λ (t : Token). t.table == tables.method_debug_information) (map (map_token_at s) (below (rows_of s.layout tables.enc_map))) (λ t named. same_test method t is named)))

@@ -1,8 +1,8 @@
 -- What the parts of the program stand for.
-use Rattle.std.specs.Prelude.{◌≡◌, ℕ, ◌+◌, ◌*◌, Bool, true, List, [], ◌∷◌, map, zip, max, Option, Some, None, option_map, nat_le, nat_lt, Result, Ok, Err, Vec, if◌then◌else◌}
+use Rattle.std.specs.Prelude.{◌≡◌, ◌<◌, ◌^◌, ℕ, ◌+◌, ◌-◌, ◌*◌, Bool, true, false, List, [], ◌∷◌, map, length, zip, max, slice_index_or, Option, Some, None, option_map, nat_le, nat_lt, Result, Ok, Err, Vec, refl, if◌then◌else◌}
 use Rattle.std.specs.List.{list_any}
 use Rattle.std.specs.declared.alloc.Global.{Global}
-use Rattle.enc_base.specs.Token.{nth_row, is_token}
+use Rattle.enc_base.specs.Token.{nil, nth_row, is_token}
 use Rattle.enc_base.specs.declared.token.Token.{Token}
 use Rattle.enc_base.specs.declared.refusal.Refusal.{Refusal}
 use Rattle.enc_base.specs.declared.refusal.ReadFault.{ReadFault}
@@ -20,8 +20,8 @@ use Rattle.enc_seqpoints.specs.Grammar.{MethodPoints}
 use Rattle.enc_ppdb.specs.Pdb.{points_of}
 use Rattle.enc_ppdb.specs.Fault.{is_document, is_method, documents_fault, methods_fault, refused_at, named_tokens}
 use Rattle.enc_ppdb.specs.Points.{IsGoodDelta}
-use Rattle.enc_plain.specs.Debug.{Document}
-use Rattle.enc_ppdb.specs.PdbChain.{DebugDelta, document_of, base_row, delta_row}
+use Rattle.enc_plain.specs.Debug.{Document, MethodDebug, unknown, debug_of}
+use Rattle.enc_ppdb.specs.PdbChain.{DebugDelta, document_of, base_row, delta_row, points_at, documents_at, debug_at, debug_or, pdb_begun, pdb_changed, pdb_with}
 
 -- the root, the ends of its texts and the tables were read from these bytes
 pub record IsPdbOpened (bytes : List ℕ) (r : Root) (e : TextEnds) (l : Layout) : Type 0 where
@@ -42,9 +42,7 @@ token_order t = t.table * 0x100000000 + t.row
 
 -- the token isn't before the last
 abbrev pub is_next : List Token → Token → Bool
-is_next [] token = true
-is_next (t ∷ []) token = nat_le (token_order t) (token_order token)
-is_next (t ∷ next ∷ rest) token = is_next (next ∷ rest) token
+is_next tokens token = nat_le (token_order (slice_index_or tokens (length tokens - 1) nil)) (token_order token)
 
 -- methods, each with the size of its code
 abbrev pub sized : List Token → List ℕ → List (Token × ℕ)
@@ -83,6 +81,7 @@ pub record IsDelta (s : Source) (tokens : List Token) (ends : List ℕ) : Type 0
   pub good : IsGoodDelta s
   pub documents : documents_fault s ≡ None
   pub named : tokens ≡ named_tokens s
+  pub few : length tokens < 2 ^ 24
   pub ended : ends ≡ row_ends s (rows_of s.layout tables.method_debug_information)
 
 -- the document of a row, where it is good
@@ -103,3 +102,22 @@ known_or None false before = before
 unfoldable pub known_at : Option Source → List DebugDelta → Token → Option (Source × Token)
 known_at base [] method = base_row base method
 known_at base (d ∷ older) method = known_or (delta_row d.pdb method) (list_any (is_token method) d.changed) (known_at base older method)
+
+-- what it says there is what is known of the method
+nothing_known : debug_at None ≡ unknown
+unfolding debug_at debug_of points_at
+nothing_known = refl
+
+knows_or : (place : Option (Source × Token)) (changed : Bool) (before : Option (Source × Token)) (known : MethodDebug) → debug_at before ≡ known → debug_at (known_or place changed before) ≡ debug_or place (if changed then unknown else known)
+knows_or (Some place) changed before known e = refl
+knows_or None true before known e = nothing_known
+knows_or None false before known e = e
+
+by_place : (base : Option Source) (deltas : List DebugDelta) (method : Token) → debug_at (known_at base deltas method) ≡ pdb_with base deltas method
+unfolding known_at pdb_begun pdb_changed pdb_with
+by_place base [] method = refl
+by_place base (d ∷ older) method = knows_or (delta_row d.pdb method) (list_any (is_token method) d.changed) (known_at base older method) (pdb_with base older method) (by_place base older method)
+
+pub knows : (base : Option Source) (deltas : List DebugDelta) (method : Token) → debug_of (documents_at (known_at base deltas method)) (points_at (known_at base deltas method)) ≡ pdb_with base deltas method
+unfolding debug_at
+knows base deltas method = by_place base deltas method

@@ -127,7 +127,7 @@ impl PdbChain {
 }
 
 impl PointSource for PdbChain {
-    ghost use Rattle.enc_ppdb.proofs.MethodsKnown.{knows as known_by};
+    ghost use Rattle.enc_ppdb.specs.Seen.{knows as known_by};
 
     ghost debug = { λ h. pdb_with h.base h.deltas };
 

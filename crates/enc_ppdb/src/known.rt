@@ -35,6 +35,7 @@ impl<'a> Model for Known<'a> {
 }
 
 /// No points, of a method that no file knows.
+#[tactic(auto, unfolding(enc_seqpoints::specs::Grammar::points_in))]
 fn no_points(alloc: Global) -> Result<Points, AllocError>
     ensures { IfOk result (λ points. points ≡ method_points 0 []) }
 {
@@ -74,7 +75,7 @@ impl<'a> Known<'a> {
 
     /// The document with a number, None where the file has no such row.
     fn document(self, number: u32) -> Option<DocumentRef<'a>>
-        ensures { option_map document_seen result ≡ document_at self.0 number }
+        ensures { option_map document_seen result ≡ document_at self.entry.0 number }
     {
         document_in(self.file, number)
     }
@@ -84,7 +85,7 @@ impl<'a> Known<'a> {
 /// method.
 #[tactic(auto, unfolding(crate::specs::PdbChain::points_at))]
 pub(crate) fn points_at(alloc: Global, known: Option<Known<'_>>) -> Result<Points, AllocError>
-    ensures { IfOk result (λ points. points ≡ points_at known) }
+    ensures { IfOk result (λ points. points ≡ points_at known.entry) }
 {
     let Some(known) = known else {
         return no_points(alloc);
@@ -98,7 +99,7 @@ pub(crate) fn points_at(alloc: Global, known: Option<Known<'_>>) -> Result<Point
 /// The document that a number means there, None where no file knows the method.
 #[tactic(auto, unfolding(crate::specs::PdbChain::documents_at))]
 pub(crate) fn document_at(known: Option<Known<'_>>, number: u32) -> Option<DocumentRef<'_>>
-    ensures { option_map document_seen result ≡ documents_at known number }
+    ensures { option_map document_seen result ≡ documents_at known.entry number }
 {
     known?.document(number)
 }

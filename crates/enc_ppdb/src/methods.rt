@@ -1,8 +1,8 @@
 //! Lists of tokens, in which a token is found by halves where they rise.
-ghost use Rattle.std.specs.Prelude.{◌≡◌, [], ◌∷◌, ◌++◌, ◌<◌, length, position, option_copied, slice_get, Some, OnOk, OnErr};
+ghost use Rattle.std.specs.Prelude.{◌≡◌, ◌==◌, [], ◌∷◌, ◌++◌, ◌<◌, length, position, option_copied, slice_get, Some, OnOk, OnErr};
 ghost use Rattle.std.specs.List.Sorted.{IsNonDecreasingBy};
 ghost use Rattle.enc_base.specs.Token.{is_token};
-ghost use Rattle.enc_ppdb.specs.Seen.{token_order};
+ghost use Rattle.enc_ppdb.specs.Seen.{token_order, is_next};
 
 use enc_base::Token;
 use std::alloc::{AllocError, Global};
@@ -40,10 +40,18 @@ fn order(token: Token) -> u64
 fn is_next(tokens: &[Token], token: Token) -> bool
     ensures { result ≡ is_next tokens.now token }
 {
-    match tokens {
-        [.., last] => order(*last) <= order(token),
-        [] => true,
+    match tokens.last() {
+        Some(last) => order(*last) <= order(token),
+        None => true,
     }
+}
+
+/// Whether two tokens are the same, also by their order.
+fn is_same(token: Token, other: Token) -> bool
+    ensures fields { result ≡ is_token token other }
+    ensures order { result ≡ (token_order token == token_order other) }
+{
+    token.table == other.table && token.row == other.row
 }
 
 /// The first position of a token, by a search by halves.
@@ -53,7 +61,10 @@ fn place_by_halves(tokens: &[Token], token: Token) -> Option<usize>
 {
     let wanted = order(token);
     let i = tokens.partition_point(|t| order(*t) < wanted);
-    if i < tokens.len() && order(tokens[i]) == wanted {
+    if i >= tokens.len() {
+        return None;
+    }
+    if is_same(token, tokens[i]) {
         return Some(i);
     }
     None
@@ -63,9 +74,7 @@ fn place_by_halves(tokens: &[Token], token: Token) -> Option<usize>
 fn place_by_scan(tokens: &[Token], token: Token) -> Option<usize>
     ensures { result ≡ position (is_token token) tokens.now }
 {
-    tokens
-        .iter()
-        .position(|t| token.table == t.table && token.row == t.row)
+    tokens.iter().position(|t| is_same(token, *t))
 }
 
 impl MethodList {

@@ -172,7 +172,10 @@ impl PdbDelta {
         ensures { result ≡ misplaced_row self.now sizes.now k }
     {
         let token = self.named.token(k);
-        if u64::from(token.row) < bound || is_past_end(sizes.size_for(token), self.ends[k]) {
+        if u64::from(token.row) < bound {
+            return Some(token.row);
+        }
+        if is_past_end(sizes.size_for(token), self.ends[k]) {
             return Some(token.row);
         }
         None

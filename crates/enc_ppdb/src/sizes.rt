@@ -27,6 +27,13 @@ impl Model for CodeSizes {
     ghost invariant = { λ c. length c.methods ≡ length c.sizes.items };
 }
 
+/// A number of a list; None past the last.
+fn number(numbers: &[u32], i: usize) -> Option<u32>
+    ensures { result ≡ slice_get numbers.now i }
+{
+    numbers.get(i).copied()
+}
+
 impl CodeSizes {
     /// No method.
     pub fn begin(alloc: Global) -> CodeSizes
@@ -40,6 +47,7 @@ impl CodeSizes {
 
     /// Puts a method with the size of its code behind the others. `AllocError` where there is no
     /// memory, and then nothing changes.
+    #[tactic(auto, using(crate::proofs::Sized::sized_push))]
     pub fn push(&mut self, method: Token, size: u32) -> Result<(), AllocError>
         ensures ok { OnOk result (self.new ≡ self.old ++ (method, size) ∷ []) }
         ensures err { OnErr result (self.new ≡ self.old) }
@@ -51,6 +59,7 @@ impl CodeSizes {
     }
 
     /// How many methods there are.
+    #[tactic(auto, using(crate::proofs::Sized::sized_length))]
     pub fn len(&self) -> usize
         ensures { result ≡ length self.now }
     {
@@ -58,16 +67,18 @@ impl CodeSizes {
     }
 
     /// The i-th method, from 0, and the size of its code; None past the last.
+    #[tactic(auto, using(crate::proofs::Sized::sized_first, crate::proofs::Sized::sized_second, crate::proofs::Sized::sized_both))]
     pub fn get(&self, i: usize) -> Option<(Token, u32)>
         ensures { result ≡ slice_get self.now i }
     {
         let method = self.methods.get(i)?;
-        let size = self.sizes.get(i)?;
-        Some((*method, *size))
+        let size = number(&self.sizes, i)?;
+        Some((*method, size))
     }
 
     /// The size of the code of the method that a token of MethodDebugInformation names by its row:
     /// by halves where the methods rise. None where the method isn't one of these.
+    #[tactic(auto, using(crate::proofs::Sized::size_missing, crate::proofs::Sized::size_found))]
     pub(crate) fn size_for(&self, token: Token) -> Option<u32>
         ensures { result ≡ size_for self.now token }
     {
@@ -75,6 +86,6 @@ impl CodeSizes {
             table: METHOD_DEF,
             row: token.row,
         })?;
-        Some(*self.sizes.get(i)?)
+        number(&self.sizes, i)
     }
 }
