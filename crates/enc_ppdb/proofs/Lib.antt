@@ -7,3 +7,4 @@ pub mod Halves
 pub mod Rows
 pub mod RowsBroken
 pub mod Documents
+pub mod KnownFiles

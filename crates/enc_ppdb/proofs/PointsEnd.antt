@@ -32,6 +32,9 @@ end_suc f (y ∷ ys) (suc k) x is =
 pub end_more : {X : Type 0} (f : X → ℕ) (xs : List X) (k : ℕ) (x : X) → slice_get xs k ≡ Some x → end_by f (take (k + 1) xs) ≡ max (end_by f (take k xs)) (f x + 1)
 end_more f xs k x is = let e : k + 1 ≡ suc k = omega arith in rw e (end_suc f xs k x is)
 
+pub end_step : {X : Type 0} (f : X → ℕ) (xs : List X) (k : ℕ) (x : X) (end row after : ℕ) → slice_get xs k ≡ Some x → end ≡ end_by f (take k xs) → row ≡ f x → after ≡ max end (row + 1) → after ≡ end_by f (take (k + 1) xs)
+end_step f xs k x end row after is before value grown = grown ∙ ap (λ n. max n (row + 1)) before ∙ ap (λ n. max (end_by f (take k xs)) (n + 1)) value ∙ sym (end_more f xs k x is)
+
 -- of all elements
 pub end_all : {X : Type 0} (f : X → ℕ) (xs : List X) (k : ℕ) → length xs ≤ k → end_by f (take k xs) ≡ end_by f xs
 end_all f xs k le = ap (end_by f) (take_all k xs le)

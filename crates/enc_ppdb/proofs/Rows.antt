@@ -1,5 +1,5 @@
 -- A method's row in a delta's PDB is one of the table's, and so it has points.
-use Rattle.std.proofs.Common.{◌≡◌, ℕ, ◌<◌, Bool, true, false, Option, Some, None, length, map, refl, ap, ◌∙◌, sym, arith}
+use Rattle.std.proofs.Common.{◌≡◌, ℕ, ◌<◌, ◌^◌, Bool, List, true, false, Option, Some, None, length, map, refl, ap, ◌∙◌, sym, arith}
 use Rattle.std.proofs.lemmas.Bool.{eqb-true}
 use Rattle.std.specs.Prelude.{◌==◌, is_some, position, option_map, option_and_then, Result, Ok, Err, IfOk}
 use Rattle.enc_base.specs.Order.{or_else, first_below}
@@ -80,7 +80,17 @@ same_test method token is named =
     rw (e, f) g
 
 -- and theirs is found by the token
-pub row_found : (s : Source) (method : Token) (o : Option ℕ) → method.table ≡ tables.method_def → o ≡ position (is_token (record { table = tables.method_debug_information; row = method.row })) (named_tokens s) → option_map (nth_row tables.method_debug_information) o ≡ row_for s method
+row_by : (s : Source) (method : Token) (o : Option ℕ) → method.table ≡ tables.method_def → o ≡ position (is_token (record { table = tables.method_debug_information; row = method.row })) (named_tokens s) → option_map (nth_row tables.method_debug_information) o ≡ row_for s method
 unfolding row_for named_tokens
-row_found s method o is e =
+row_by s method o is e =
     ap (option_map (nth_row tables.method_debug_information)) (e ∙ sym (position_same (names_method method) (is_token (record { table = tables.method_debug_information; row = method.row })) (λ (t : Token). t.table == tables.method_debug_information) (map (map_token_at s) (below (rows_of s.layout tables.enc_map))) (λ t named. same_test method t is named)))
+
+-- the same by the tokens that are kept
+pub row_missing : (s : Source) (method : Token) (named : List Token) → method.table ≡ tables.method_def → named ≡ named_tokens s → None ≡ position (is_token (record { table = tables.method_debug_information; row = method.row })) named → None ≡ row_for s method
+row_missing s method named is kept none = row_by s method None is (none ∙ ap (position (is_token (record { table = tables.method_debug_information; row = method.row }))) kept)
+
+pub row_found : (s : Source) (method : Token) (named : List Token) (k : ℕ) → method.table ≡ tables.method_def → named ≡ named_tokens s → Some k ≡ position (is_token (record { table = tables.method_debug_information; row = method.row })) named → Some (nth_row tables.method_debug_information k) ≡ row_for s method
+row_found s method named k is kept some = row_by s method (Some k) is (some ∙ ap (position (is_token (record { table = tables.method_debug_information; row = method.row }))) kept)
+
+pub few_rows : (named : List Token) (p : Token → Bool) (k : ℕ) → length named < 2 ^ 24 → Some k ≡ position p named → k < 2 ^ 24
+few_rows named p k few some = let lt = position_within p named k (sym some) in omega (arith, lt)

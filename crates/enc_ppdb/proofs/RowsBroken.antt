@@ -1,7 +1,8 @@
 -- Which row of a delta's PDB doesn't go with its metadata, by the ends of rows and of points.
-use Rattle.std.proofs.Common.{◌≡◌, ℕ, zero, suc, ◌+◌, ◌<◌, ◌≤◌, Bool, true, false, List, [], ◌∷◌, ◌++◌, length, map, take, Option, Some, None, refl, ap, sym, ◌∙◌, arith}
+use Rattle.std.proofs.Common.{◌≡◌, ℕ, zero, suc, ◌+◌, ◌<◌, ◌≤◌, Bool, true, false, List, [], ◌∷◌, ◌++◌, length, map, take, get_or, Option, Some, None, refl, ap, sym, ◌∙◌, arith}
 use Rattle.std.specs.Prelude.{◌||◌, nat_lt, nat_le, slice_get, option_map, option_and_then, if◌then◌else◌}
 use Rattle.std.proofs.lemmas.Bool.Decides.{nat_tests}
+use Rattle.std.proofs.lemmas.Option.{slice_get-get_or}
 use Rattle.enc_base.specs.Order.{first_below}
 use Rattle.enc_base.specs.Token.{nth_row}
 use Rattle.enc_base.specs.declared.token.Token.{Token}
@@ -12,7 +13,7 @@ use Rattle.enc_base.proofs.First.{first_none, first_found, first_more}
 use Rattle.enc_rows.specs.Layout.{rows_of}
 use Rattle.enc_rows.specs.Source.{Source}
 use Rattle.enc_rows.specs.Sums.{below}
-use Rattle.enc_rows.proofs.Listed.{get_below}
+use Rattle.enc_rows.proofs.Listed.{get_below, length_below}
 use Rattle.enc_schema.specs.Tables as tables
 use Rattle.enc_seqpoints.specs.declared.point.Point.{Point}
 use Rattle.enc_seqpoints.specs.Grammar.{MethodPoints}
@@ -36,12 +37,6 @@ end_at : (s : Source) (rows k end : ℕ) → k < rows → slice_get (row_ends s 
 unfolding row_ends row_end
 end_at s rows k end lt is = let e = sym is ∙ get_below (row_end s) rows k lt in cc
 
--- a token with what is known of its row
-pub record IsAsked (s : Source) (k : ℕ) (token : Token) (end bound : ℕ) : Type 0 where
-  pub token : slice_get (named_tokens s) k ≡ Some token
-  pub end : end ≡ points_end (points_of s (nth_row tables.method_debug_information k))
-  pub bound : bound ≡ end_by (λ (t : Token). t.row) (take k (named_tokens s))
-
 or_first : (a b : Bool) → a ≡ true → (a || b) ≡ true
 or_first a b e = rw e refl
 
@@ -61,9 +56,9 @@ behind_by : (s : Source) (k row bound : ℕ) (token : Token) → bound ≡ end_b
 behind_by s k row bound token e = rw e (any_before_end (λ (t : Token). t.row) token.row (take k (named_tokens s)))
 
 -- it isn't past those before it
-pub row_behind : (s : Source) (methods : List (Token × ℕ)) (k end bound : ℕ) (token : Token) → slice_get (named_tokens s) k ≡ Some token → bound ≡ end_by (λ (t : Token). t.row) (take k (named_tokens s)) → token.row < bound → misplaced_row s methods k ≡ Some token.row
+pub row_behind : (s : Source) (methods : List (Token × ℕ)) (k bound : ℕ) (token : Token) → slice_get (named_tokens s) k ≡ Some token → bound ≡ end_by (λ (t : Token). t.row) (take k (named_tokens s)) → token.row < bound → misplaced_row s methods k ≡ Some token.row
 unfolding is_misplaced
-row_behind s methods k end bound token is e lt =
+row_behind s methods k bound token is e lt =
     let late : nat_lt token.row bound ≡ true = grind (arith, nat_tests) in
     row_by s methods k token true is (or_first (is_behind (take k (named_tokens s)) token) (is_stray (size_for methods token) (points_of s (nth_row tables.method_debug_information k))) (behind_by s k 0 bound token e ∙ late))
 
@@ -103,6 +98,20 @@ pub ends_more : (s : Source) (n : ℕ) → row_ends s (n + 1) ≡ row_ends s n +
 unfolding row_ends
 ends_more s n = map_more (row_end s) n
 
+pub ends_step : (s : Source) (n e : ℕ) (ends after : List ℕ) → ends ≡ row_ends s n → e ≡ row_end s n → after ≡ ends ++ e ∷ [] → after ≡ row_ends s (n + 1)
+ends_step s n e ends after before is grown = grown ∙ ap (λ l. l ++ e ∷ []) before ∙ ap (λ x. row_ends s n ++ x ∷ []) is ∙ sym (ends_more s n)
+
+pub ends_length : (s : Source) (n : ℕ) → length (row_ends s n) ≡ n
+unfolding row_ends
+ends_length s n = length_below (row_end s) n
+
+pub all_good : (s : Source) → first_below (method_fault s) (rows_of s.layout tables.method_debug_information) ≡ None → methods_fault s ≡ None
+unfolding methods_fault
+all_good s none = none
+
+pub least_step : (rule : ℕ → Option ℕ) (n : ℕ) (least row after : Option ℕ) → least ≡ least_below rule n → row ≡ rule n → after ≡ lesser_of least row → after ≡ least_below rule (n + 1)
+least_step rule n least row after before is grown = grown ∙ ap (λ o. lesser_of o row) before ∙ ap (lesser_of (least_below rule n)) is ∙ sym (least_more rule n)
+
 good_by : (b : Bool) (end e : ℕ) (row : Token) → (if b then Some end else None) ≡ Some e → (unless_good b row ≡ None) × (e ≡ end)
 good_by true end e row is = (refl, cc)
 good_by false end e row is = absurd (cc)
@@ -126,3 +135,12 @@ first_bad s n none lt bad = ap (option_map refused_at) (sym (first_found (method
 
 pub first_good : (s : Source) (n e : ℕ) → first_below (method_fault s) n ≡ None → Some e ≡ good_end s n → first_below (method_fault s) (n + 1) ≡ None
 first_good s n e none good = first_more (method_fault s) n none ∙ (end_good s n e good).0
+
+-- a token and an end as they are kept
+pub token_at : (s : Source) (named : List Token) (k : ℕ) (token : Token) → named ≡ named_tokens s → slice_get named k ≡ Some token → slice_get (named_tokens s) k ≡ Some token
+token_at s named k token kept is = sym (ap (λ l. slice_get l k) kept) ∙ is
+
+pub read_at : (s : Source) (rows k end : ℕ) (ends : List ℕ) → k < rows → ends ≡ row_ends s rows → end ≡ get_or ends k end → slice_get (row_ends s rows) k ≡ Some end
+read_at s rows k end ends lt kept is =
+    let long : k < length ends = let e = ap length kept ∙ ends_length s rows in omega (arith, e) in
+    sym (ap (λ l. slice_get l k) kept) ∙ slice_get-get_or ends k end long ∙ ap Some (sym is)

@@ -1,5 +1,5 @@
 //! Lists of tokens, in which a token is found by halves where they rise.
-ghost use Rattle.std.specs.Prelude.{◌≡◌, ◌==◌, [], ◌∷◌, ◌++◌, ◌<◌, length, position, option_copied, slice_get, Some, OnOk, OnErr};
+ghost use Rattle.std.specs.Prelude.{◌≡◌, ◌==◌, ◌&&◌, [], ◌∷◌, ◌++◌, ◌<◌, length, position, option_copied, slice_get, Some, OnOk, OnErr};
 ghost use Rattle.std.specs.List.Sorted.{IsNonDecreasingBy};
 ghost use Rattle.enc_base.specs.Token.{is_token};
 ghost use Rattle.enc_ppdb.specs.Seen.{token_order, is_next};
@@ -44,6 +44,13 @@ fn is_next(tokens: &[Token], token: Token) -> bool
         Some(last) => order(*last) <= order(token),
         None => true,
     }
+}
+
+/// Whether tokens of which this is said rise still with one more.
+fn rises_with(rises: bool, tokens: &[Token], token: Token) -> bool
+    ensures { result ≡ (rises && is_next tokens.now token) }
+{
+    rises && is_next(tokens, token)
 }
 
 /// Whether two tokens are the same, also by their order.
@@ -94,7 +101,7 @@ impl MethodList {
         ensures ok { OnOk result (self.new ≡ self.old ++ method ∷ []) }
         ensures err { OnErr result (self.new ≡ self.old) }
     {
-        let rises = self.rises && is_next(&self.tokens, method);
+        let rises = rises_with(self.rises, &self.tokens, method);
         self.tokens.reserve(1)?;
         self.tokens.push_reserved(method);
         self.rises = rises;
