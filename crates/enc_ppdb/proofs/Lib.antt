@@ -1,2 +1,10 @@
 pub mod There
+pub mod TokensNamed
+pub mod PointsEnd
+pub mod Positions
+pub mod Sized
+pub mod Halves
 pub mod Rows
+pub mod RowsBroken
+pub mod Documents
+pub mod KnownFiles

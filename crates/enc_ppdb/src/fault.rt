@@ -1,20 +1,20 @@
 //! Why a Portable PDB is refused, and where.
-ghost use Rattle.std.specs.Prelude.{◌≡◌, ℕ, ◌<◌, ◌^◌, ◌==◌, IfOk, is_some};
-ghost use Rattle.enc_schema.specs.Tables.{document, method_debug_information};
+ghost use Rattle.std.specs.Prelude.{◌≡◌, ◌<◌, ◌^◌, IfOk, is_some, option_map};
 ghost use Rattle.enc_base.specs.Token.{nth_row};
-ghost use Rattle.enc_meta.specs.Heaps.{blob_at, guid_at};
-ghost use Rattle.enc_rows.specs.Layout.{rows_of};
-ghost use Rattle.enc_ppdb.specs.Pdb.{name_of_document, points_of};
-ghost use Rattle.enc_ppdb.specs.Fault.{is_document, is_there, are_there, is_method, document_fault, method_fault, documents_fault, methods_fault, first_row_fault, fits_methods, map_token_at, names_method, named_count, fits_map};
+ghost use Rattle.enc_base.specs.declared.refusal.ReadFault.TheVariants.{Refused};
+ghost use Rattle.enc_plain.specs.DebugSeen.{document_seen};
+ghost use Rattle.enc_ppdb.specs.Pdb.{points_of};
+ghost use Rattle.enc_ppdb.specs.Fault.{is_document, is_there, are_there, is_method, document_fault, method_fault, documents_fault, methods_fault, first_row_fault, fits_methods, refused_at};
+ghost use Rattle.enc_ppdb.specs.Seen.{good_document};
 
 use crate::file::File;
-use crate::name::is_name;
-use enc_base::{Place, Token};
+use enc_base::{Code, Place, ReadFault, Refusal, Token};
+use enc_plain::{DocumentRef, NameRef};
 use enc_schema::columns::{
-    DOCUMENT_HASH, DOCUMENT_HASH_ALGORITHM, DOCUMENT_LANGUAGE, DOCUMENT_NAME, ENC_MAP_TOKEN,
+    DOCUMENT_HASH, DOCUMENT_HASH_ALGORITHM, DOCUMENT_LANGUAGE, DOCUMENT_NAME,
     METHOD_DEBUG_INFORMATION_DOCUMENT, METHOD_DEBUG_INFORMATION_SEQUENCE_POINTS,
 };
-use enc_schema::tables::{DOCUMENT, ENC_MAP, METHOD_DEBUG_INFORMATION};
+use enc_schema::tables::{DOCUMENT, METHOD_DEBUG_INFORMATION};
 use enc_seqpoints::{Point, PointFault, Points, read_points};
 use std::alloc::{AllocError, Global};
 
@@ -26,41 +26,39 @@ pub(crate) fn nth_row(table: u8, n: u32) -> Token
     Token { table, row: n + 1 }
 }
 
-/// Whether a document's name is one.
-#[tactic(auto, unfolding(crate::specs::Pdb::name_of_document))]
-fn has_name(file: &File, row: Token) -> bool
-    ensures { result ≡ is_some (name_of_document file.now row) }
+/// A refusal at a place.
+pub(crate) fn refused(place: Place) -> ReadFault
+    ensures { result ≡ Refused (refused_at place) }
+{
+    ReadFault::Refused(Refusal {
+        code: Code::F(12),
+        place,
+    })
+}
+
+/// The document of a row, None where one of its offsets or its name isn't good.
+#[tactic(auto, unfolding(crate::specs::Seen::good_document, crate::specs::Fault::is_document, crate::specs::Pdb::name_of_document))]
+pub(crate) fn good_document(file: &File, row: Token) -> Option<DocumentRef<'_>>
+    ensures { option_map document_seen result ≡ good_document file.now row }
 {
     let heaps = file.heaps();
-    match heaps.blob(file.cell(row, DOCUMENT_NAME)) {
-        Some(name) => is_name(&heaps, name),
-        None => false,
-    }
-}
-
-/// Whether a blob stands where a cell says.
-fn has_blob(file: &File, offset: u32) -> bool
-    ensures { result ≡ is_some (blob_at file.now.heaps.blobs offset) }
-{
-    file.heaps().blob(offset).is_some()
-}
-
-/// Whether a GUID stands where a cell says.
-fn has_guid(file: &File, k: u32) -> bool
-    ensures { result ≡ is_some (guid_at file.now.heaps.guids k) }
-{
-    file.heaps().guid(k).is_some()
+    let name = NameRef::at(file.heaps(), file.cell(row, DOCUMENT_NAME))?;
+    let algorithm = heaps.guid(file.cell(row, DOCUMENT_HASH_ALGORITHM))?;
+    let hash = heaps.blob(file.cell(row, DOCUMENT_HASH))?;
+    let language = heaps.guid(file.cell(row, DOCUMENT_LANGUAGE))?;
+    Some(DocumentRef {
+        name,
+        algorithm,
+        hash,
+        language,
+    })
 }
 
 /// Whether a row of Document is good.
-#[tactic(auto, unfolding(crate::specs::Fault::is_document))]
 fn is_document(file: &File, row: Token) -> bool
     ensures { result ≡ is_document file.now row }
 {
-    has_name(file, row)
-        && has_guid(file, file.cell(row, DOCUMENT_HASH_ALGORITHM))
-        && has_blob(file, file.cell(row, DOCUMENT_HASH))
-        && has_guid(file, file.cell(row, DOCUMENT_LANGUAGE))
+    good_document(file, row).is_some()
 }
 
 /// A row of Document, from 0, where it isn't good.
@@ -78,7 +76,7 @@ fn document_fault(file: &File, n: u32) -> Option<Place>
 
 /// The first row of Document that isn't good.
 #[tactic(auto, using(enc_base::proofs::First::first_none, enc_base::proofs::First::first_found, enc_base::proofs::First::first_more), unfolding(crate::specs::Fault::documents_fault))]
-fn documents_fault(file: &File) -> Option<Place>
+pub(crate) fn documents_fault(file: &File) -> Option<Place>
     ensures { result ≡ documents_fault file.now }
 {
     for n in 0..file.count(DOCUMENT) {
@@ -120,7 +118,7 @@ fn is_there(count: u32, point: Point) -> bool
 
 /// Whether each point's document is one of so many rows.
 #[tactic(auto, unfolding(crate::specs::Fault::are_there))]
-fn are_there(count: u32, points: &Points) -> bool
+pub(crate) fn are_there(count: u32, points: &Points) -> bool
     ensures { result ≡ are_there count points.now.points }
 {
     for i in 0..points.len() {
@@ -186,43 +184,4 @@ pub(crate) fn fits_methods(file: &File, methods: u32) -> bool
 {
     let rows = file.count(METHOD_DEBUG_INFORMATION);
     rows == 0 || rows == methods
-}
-
-/// A token of EncMap, from 0.
-#[tactic(auto, unfolding(crate::specs::Fault::map_token_at))]
-pub(crate) fn token(file: &File, n: u32) -> Token
-    requires { n < 2 ^ 24 }
-    ensures { result ≡ map_token_at file.now n }
-{
-    Token::of(file.cell(nth_row(ENC_MAP, n), ENC_MAP_TOKEN))
-}
-
-/// Whether a token of EncMap, from 0, names a row of MethodDebugInformation.
-fn is_named(file: &File, n: u32) -> bool
-    requires { n < 2 ^ 24 }
-    ensures { result ≡ ((map_token_at file.now n).table == method_debug_information) }
-{
-    token(file, n).table == METHOD_DEBUG_INFORMATION
-}
-
-/// How many tokens of EncMap name rows of MethodDebugInformation.
-#[tactic(auto, using(enc_rows::proofs::Below::sum_none, enc_rows::proofs::Below::sum_more), unfolding(crate::specs::Fault::named_count))]
-fn named_count(file: &File) -> u32
-    ensures { result ≡ named_count file.now }
-{
-    let mut seen = 0;
-    for n in 0..file.count(ENC_MAP) {
-        if is_named(file, n) {
-            seen += 1;
-        }
-    }
-    seen
-}
-
-/// Whether EncMap names as many rows of MethodDebugInformation as there are.
-#[tactic(auto, unfolding(crate::specs::Fault::fits_map))]
-pub(crate) fn fits_map(file: &File) -> bool
-    ensures { result ≡ fits_map file.now }
-{
-    named_count(file) == file.count(METHOD_DEBUG_INFORMATION)
 }

@@ -1,0 +1,147 @@
+//! The PDBs of a base and its deltas.
+ghost use Rattle.std.specs.Prelude.{◌≡◌, ◌+◌, ◌<◌, ◌≤◌, [], ◌∷◌, IfOk, OnOk, is_some, reverse, slice_get, Some, option_map};
+ghost use Rattle.std.specs.List.{list_any};
+ghost use Rattle.enc_base.specs.Token.{is_token};
+ghost use Rattle.enc_plain.specs.DebugSeen.{document_seen};
+ghost use Rattle.enc_ppdb.specs.PdbChain.{base_row, delta_row, pdb_with, points_at, documents_at};
+ghost use Rattle.enc_ppdb.specs.Seen.{known_at};
+
+use crate::known::{Known, document_at, points_at};
+use crate::methods::MethodList;
+use crate::pdb::{Pdb, PdbDelta};
+use enc_base::Token;
+use enc_plain::{DocumentRef, PointSource};
+use enc_seqpoints::Points;
+use std::alloc::{AllocError, Global};
+use std::marker::Model;
+
+/// What a delta says: its PDB, where it has one, and the methods that have a new body in it.
+#[derive(Drop)]
+struct Said {
+    pdb: Option<PdbDelta>,
+    changed: MethodList,
+}
+
+impl Model for Said {
+    ghost use Rattle.enc_ppdb.specs.PdbChain.{DebugDelta};
+
+    ghost Value = { DebugDelta };
+
+    ghost view = { λ d. record { pdb = d.pdb; changed = d.changed } };
+}
+
+/// The PDB of a base and what its deltas say, oldest first. A method is looked for from the newest
+/// delta to the base (Portable PDB v1.0).
+#[derive(Drop)]
+pub struct PdbChain {
+    base: Option<Pdb>,
+    added: Vec<Said>,
+}
+
+impl Model for PdbChain {
+    ghost use Rattle.std.specs.Prelude.{◌-◌, reverse, vec_len, vec_capacity};
+    ghost use Rattle.enc_ppdb.specs.PdbChain.{PdbHistory};
+
+    ghost Value = { PdbHistory };
+
+    ghost view = { λ c. record { base = c.base; deltas = reverse c.added.items; room = vec_capacity c.added - vec_len c.added } };
+}
+
+/// Where the PDB of a base has a method.
+fn in_base(base: &Option<Pdb>, method: Token) -> Option<Known<'_>>
+    ensures { result ≡ base_row base.now method }
+{
+    base.as_ref()?.known(method)
+}
+
+impl Said {
+    /// Where the PDB of the delta has a method.
+    fn known(&self, method: Token) -> Option<Known<'_>>
+        ensures { result ≡ delta_row self.now.pdb method }
+    {
+        self.pdb.as_ref()?.known(method)
+    }
+
+    /// Whether a method has a new body in the delta.
+    fn has_changed(&self, method: Token) -> bool
+        ensures { result ≡ list_any (is_token method) self.now.changed }
+    {
+        self.changed.place(method).is_some()
+    }
+}
+
+/// Where the newest file that knows a method has it.
+fn known<'a>(base: &'a Option<Pdb>, added: &'a [Said], method: Token) -> Option<Known<'a>>
+    ensures { result ≡ known_at base.now (reverse added.now) method }
+{
+    let mut rest = added;
+    while let [older @ .., newest] = rest {
+        match newest.known(method) {
+            Some(known) => return Some(known),
+            None => {}
+        }
+        if newest.has_changed(method) {
+            return None;
+        }
+        rest = older;
+    }
+    in_base(base, method)
+}
+
+impl PdbChain {
+    /// The PDB of a base without deltas, None where it has none.
+    pub fn begin(alloc: Global, pdb: Option<Pdb>) -> Result<PdbChain, AllocError>
+        ensures base { IfOk result (λ c. c.base ≡ pdb) }
+        ensures deltas { IfOk result (λ c. c.deltas ≡ []) }
+    {
+        Ok(PdbChain {
+            base: pdb,
+            added: Vec::new(alloc),
+        })
+    }
+
+    /// Makes room for a delta. `AllocError` where there is no memory; nothing else that is seen
+    /// changes.
+    pub fn reserve(&mut self) -> Result<(), AllocError>
+        ensures base { self.new.base ≡ self.old.base }
+        ensures deltas { self.new.deltas ≡ self.old.deltas }
+        ensures room { OnOk result (0 < self.new.room) }
+        ensures kept { self.old.room ≤ self.new.room }
+    {
+        self.added.reserve(1)
+    }
+
+    /// Adds what a delta says: its PDB, where it has one, and the methods that have a new body in it.
+    /// It can't fail.
+    pub fn add(&mut self, delta: Option<PdbDelta>, changed: MethodList)
+        requires { 0 < self.old.room }
+        ensures base { self.new.base ≡ self.old.base }
+        ensures deltas { self.new.deltas ≡ (record { pdb = delta; changed = changed }) ∷ self.old.deltas }
+        ensures room { self.new.room + 1 ≡ self.old.room }
+    {
+        self.added.push_reserved(Said {
+            pdb: delta,
+            changed,
+        });
+    }
+}
+
+impl PointSource for PdbChain {
+    ghost use Rattle.enc_ppdb.specs.Seen.{knows as known_by};
+
+    ghost debug = { λ h. pdb_with h.base h.deltas };
+
+    ghost said = { λ h method. points_at (known_at h.base h.deltas method) };
+
+    ghost documents = { λ h method. documents_at (known_at h.base h.deltas method) };
+
+    fn points(&self, alloc: Global, method: Token) -> Result<Points, AllocError> {
+        points_at(alloc, known(&self.base, &self.added, method))
+    }
+
+    fn document(&self, method: Token, number: u32) -> Option<DocumentRef<'_>> {
+        document_at(known(&self.base, &self.added, method), number)
+    }
+
+    ghost knows = { λ h method. known_by h.base h.deltas method };
+}
