@@ -8,12 +8,12 @@ use std::test::Fail;
 /// Words over the example base and delta, with the number of their loads, their status and what
 /// they print.
 const RUNS: [(&[&str], u64, u8, &str); 4] = [
-    (&["show", "m", "01000001"], 1, 0, OBJECT_LINE),
-    (&["show", "m", "01000002", "d1"], 3, 0, STRING_LINE),
-    (&["list", "m", "d1"], 3, 0, D1_LIST),
+    (&["show", "m", "01000001"], 2, 0, OBJECT_LINE),
+    (&["show", "m", "01000002", "d1"], 5, 0, STRING_LINE),
+    (&["list", "m", "d1"], 5, 0, D1_LIST),
     (
         &["show", "m", "01000002", "d1", "d1"],
-        5,
+        8,
         1,
         "refused d1.meta E2 00000001\n",
     ),
