@@ -38,10 +38,6 @@ lt_true n m e = grind (arith, nat_tests)
 le_true : (n m : ℕ) → nat_le n m ≡ true → n ≤ m
 le_true n m e = grind (arith, nat_tests)
 
-true_by : (b : Bool) → IsTrue b → b ≡ true
-true_by true h = refl
-true_by false h = absurd h
-
 lt_false : (n m : ℕ) → nat_lt n m ≡ false → m ≤ n
 lt_false n m e = grind (arith, nat_tests)
 
@@ -105,5 +101,5 @@ next_le tokens token d next some =
 
 pub rises_more : (rises : Bool) (tokens more : List Token) (token : Token) (still : Bool) → (IsTrue rises → IsNonDecreasingBy token_order tokens) → still ≡ (rises && is_next tokens token) → more ≡ tokens ++ token ∷ [] → IsTrue still → IsNonDecreasingBy token_order more
 rises_more rises tokens more token still before is grown holds =
-    let parts = and_parts rises (is_next tokens token) (sym is ∙ true_by still holds) in
-    rw grown (IsNonDecreasingBy-push token_order tokens token (before (rw parts.0 tt)) (λ d some. next_le tokens token d parts.1 some))
+    let parts = and_parts rises (is_next tokens token) (sym is ∙ holds) in
+    rw grown (IsNonDecreasingBy-push token_order tokens token (before parts.0) (λ d some. next_le tokens token d parts.1 some))
