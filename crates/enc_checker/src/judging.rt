@@ -3,12 +3,13 @@ ghost use Rattle.std.specs.Prelude.{◌≡◌, None, Ok, IfOk, option_map};
 ghost use Rattle.enc_delta.specs.Delta.{delta_of};
 ghost use Rattle.enc_agg.specs.Seen.{chain_of_all};
 ghost use Rattle.enc_delta.specs.Judged.{first_meta};
-ghost use Rattle.enc_checker.specs.Check.{with_pdb, judged};
+ghost use Rattle.enc_base.specs.declared.refusal.ReadFault.TheVariants.{Refused};
+ghost use Rattle.enc_checker.specs.Check.{refused_row, with_pdb, judged};
 ghost use Rattle.enc_checker.specs.Seen.{Answers};
 
 use crate::methods::code_sizes;
 use enc_agg::Aggregate;
-use enc_base::{Code, Place, ReadFault, Refusal};
+use enc_base::{Code, Place, ReadFault, Refusal, Token};
 use enc_delta::Delta;
 use enc_ppdb::PdbDelta;
 use std::alloc::{AllocError, Global};
@@ -28,6 +29,16 @@ pub struct Checked {
     pub pdb: Option<PdbDelta>,
 }
 
+/// The refusal of a PDB whose token doesn't go with the delta's methods.
+fn misplaced(token: Token) -> ReadFault
+    ensures { result ≡ Refused (refused_row token) }
+{
+    ReadFault::Refused(Refusal {
+        code: Code::E(22),
+        place: Place::Row(token),
+    })
+}
+
 /// The PDB of a delta that breaks no rule, read and judged.
 #[tactic(auto, unfolding(crate::specs::Check::with_pdb))]
 fn judge_pdb(alloc: Global, delta: Delta, pdb: Option<Vec<u8>>) -> Result<Checked, ReadFault>
@@ -40,10 +51,7 @@ fn judge_pdb(alloc: Global, delta: Delta, pdb: Option<Vec<u8>>) -> Result<Checke
     let pdb = PdbDelta::read(alloc, bytes)?;
     let sizes = code_sizes(alloc, &delta)?;
     match pdb.first_broken(&sizes) {
-        Some(token) => Err(ReadFault::Refused(Refusal {
-            code: Code::E(22),
-            place: Place::Row(token),
-        })),
+        Some(token) => Err(misplaced(token)),
         None => Ok(Checked {
             delta,
             pdb: Some(pdb),

@@ -24,7 +24,7 @@ fn open(alloc: Global, bytes: Vec<u8>) -> Result<Aggregate, ReadFault> {
 fn apply(alloc: Global, module: &mut Aggregate, files: Files) -> Result<(), ReadFault>
     ensures { module.new.base ≡ module.old.base }
 {
-    let Checked { delta } = check(alloc, module, files)?;
+    let Checked { delta, .. } = check(alloc, module, files)?;
     let ready = module.prepare(delta)?;
     module.commit(ready);
     Ok(())
@@ -70,7 +70,12 @@ fn main(rt: HostRuntime) -> io::Result<()> {
         return println!(rt; "refused");
     };
     tell(rt, &module, 1)?;
-    match apply(rt.alloc(), &mut module, Files { meta, il }) {
+    let files = Files {
+        meta,
+        il,
+        pdb: None,
+    };
+    match apply(rt.alloc(), &mut module, files) {
         Ok(()) => println!(rt; "applied")?,
         Err(_) => println!(rt; "refused")?,
     }

@@ -2,3 +2,4 @@ pub mod Guids
 pub mod Joined
 pub mod BodyLists
 pub mod Pieces
+pub mod PointLines

@@ -75,6 +75,7 @@ fn push_point<P: PointSource>(
 }
 
 /// Appends the lines of points.
+#[tactic(auto, using(crate::proofs::PointLines::lines_done))]
 fn push_each_point<P: PointSource>(
     alloc: Global,
     source: &P,

@@ -9,6 +9,7 @@ use std::test::Fail;
 mod base;
 mod bodies;
 mod check;
+mod debug;
 mod delta;
 mod depth;
 mod faults;

@@ -6,14 +6,14 @@ use Rattle.enc_outside.specs.Outside.{Files, HasCause}
 use Rattle.enc_top.specs.declared.plan.Plan.{Plan}
 use Rattle.enc_top.specs.declared.stop.Stop.{Stop as Halt}
 use Rattle.enc_top.specs.declared.stop.Stop.TheVariants as halt
-use Rattle.enc_rows.specs.Source.{Source}
 use Rattle.enc_delta.specs.Delta.{delta_of}
 use Rattle.enc_agg.specs.Extend.{chain_with}
-use Rattle.enc_agg.specs.Seen.{History, chain_of_all}
-use Rattle.enc_top.specs.Verdict.{Stop, Done, ◌>>=◌, DeltaFiles, files_size, dll, load_one, load_delta, load_deltas, in_file, judge_deltas, judge_all, accept}
+use Rattle.enc_agg.specs.Seen.{chain_of_all}
+use Rattle.enc_top.specs.Verdict.{Stop, Done, ◌>>=◌, BaseFiles, DeltaFiles, Followed, base_size, files_size, load_base, load_delta, load_deltas, in_delta, judge_deltas, judge_all, accept}
 use Rattle.enc_checker.specs.Check.{judged}
 use Rattle.enc_top.specs.declared.load.DeltaFile.{DeltaFile}
-use Rattle.enc_top.specs.Loads.{file_seen, Adds}
+use Rattle.enc_top.specs.declared.judge.Judged.{Judged}
+use Rattle.enc_top.specs.Loads.{file_seen, followed, Adds}
 use Rattle.enc_top.specs.Plans.{IsPlanOf}
 use Rattle.enc_top.specs.Stops.{OnPlan, StopsWith}
 
@@ -70,28 +70,28 @@ pub from_nothing : (none now more : ℕ) → none ≡ 0 → now ≡ none + more 
 from_nothing none now more a b = omega (arith, a, b)
 
 -- the files of the base are loaded, and loading those of the deltas stops
-pub accept_stops : (files : Files) (base : List ℕ) (deltas : List (List ℕ)) (bytes : List ℕ) (h : Halt) → load_one files (dll base) 0 ≡ Ok bytes → OnPlan h (StopsWith (load_deltas files deltas (length bytes))) → OnPlan h (StopsWith (accept files base deltas))
+pub accept_stops : (files : Files) (base : List ℕ) (deltas : List (List ℕ)) (f : BaseFiles) (h : Halt) → load_base files base ≡ Ok f → OnPlan h (StopsWith (load_deltas files deltas (base_size f))) → OnPlan h (StopsWith (accept files base deltas))
 unfolding accept
-accept_stops files base deltas bytes h one stops = rw one (halts_then h (load_deltas files deltas (length bytes)) (judge_all base bytes) stops)
+accept_stops files base deltas f h one stops = rw one (halts_then h (load_deltas files deltas (base_size f)) (judge_all base f) stops)
 
 -- all files are loaded
-pub accept_judged : (files : Files) (base : List ℕ) (deltas : List (List ℕ)) (bytes : List ℕ) (fs : List DeltaFiles) → load_one files (dll base) 0 ≡ Ok bytes → load_deltas files deltas (length bytes) ≡ Ok fs → accept files base deltas ≡ judge_all base bytes fs
+pub accept_judged : (files : Files) (base : List ℕ) (deltas : List (List ℕ)) (f : BaseFiles) (fs : List DeltaFiles) → load_base files base ≡ Ok f → load_deltas files deltas (base_size f) ≡ Ok fs → accept files base deltas ≡ judge_all base f fs
 unfolding accept
-accept_judged files base deltas bytes fs one all = rw (one, all) refl
+accept_judged files base deltas f fs one all = rw (one, all) refl
 
 -- a delta that was added, and those behind it
-pub judged_more : {U : Type 0} (old new : History) (f : DeltaFiles) (fs : List DeltaFiles) (u : U) → Adds old new (Ok u) (in_file f.name (judged (chain_of_all old) (delta_of f.metadata f.code))) → new.base ≡ old.base → judge_deltas old.base old.deltas (f ∷ fs) ≡ judge_deltas new.base new.deltas fs
+pub judged_more : {U : Type 0} (old new : Judged) (f : DeltaFiles) (fs : List DeltaFiles) (u : U) → Adds old new (Ok u) (in_delta f (judged (chain_of_all old.agg) (delta_of f.metadata f.code) f.debug)) → judge_deltas (followed old) (f ∷ fs) ≡ judge_deltas (followed new) fs
 unfolding judge_deltas
-judged_more old new f fs u added base = rw (added.1, base, added.2) refl
+judged_more old new f fs u added = rw (added.1, added.2) refl
 
 -- a delta at which judging stops
-pub judging_stops : (base : Source) (deltas : List Source) (f : DeltaFiles) (fs : List DeltaFiles) (h : Halt) → OnPlan h (StopsWith (in_file f.name (judged (chain_with base deltas) (delta_of f.metadata f.code)))) → OnPlan h (StopsWith (judge_deltas base deltas (f ∷ fs)))
+pub judging_stops : (f : Followed) (x : DeltaFiles) (xs : List DeltaFiles) (h : Halt) → OnPlan h (StopsWith (in_delta x (judged (chain_with f.base f.deltas) (delta_of x.metadata x.code) x.debug))) → OnPlan h (StopsWith (judge_deltas f (x ∷ xs)))
 unfolding judge_deltas
-judging_stops base deltas f fs h = halts_then h (in_file f.name (judged (chain_with base deltas) (delta_of f.metadata f.code))) _
+judging_stops f x xs h = halts_then h (in_delta x (judged (chain_with f.base f.deltas) (delta_of x.metadata x.code) x.debug)) _
 
-pub judged_none : (base : Source) (deltas : List Source) → judge_deltas base deltas [] ≡ Ok deltas
+pub judged_none : (f : Followed) → judge_deltas f [] ≡ Ok f
 unfolding judge_deltas
-judged_none base deltas = refl
+judged_none f = refl
 
 -- where no fault is told and the count stands
 pub no_fault : {T E : Type 0} (fault : E) (before now : ℕ) (a : T) → now ≡ before → HasCause fault before now (Ok a)

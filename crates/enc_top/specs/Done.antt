@@ -3,8 +3,10 @@ use Rattle.std.specs.Prelude.{◌≡◌, ℕ, List, [], length, Ok, Err, if◌th
 use Rattle.enc_base.specs.declared.token.Token.{Token}
 use Rattle.enc_plain.specs.declared.place.RowPlace.{RowPlace}
 use Rattle.enc_plain.specs.Module.{Module, has_row}
+use Rattle.enc_plain.specs.Debug.{PlainPdb}
 use Rattle.enc_agg.specs.Extend.{chain_with}
 use Rattle.enc_agg.specs.Place.{place_of}
+use Rattle.enc_ppdb.specs.PdbChain.{pdb_with}
 use Rattle.enc_text.specs.Text.{refused_line}
 use Rattle.enc_text.specs.RowText.{row_text_of}
 use Rattle.enc_top.specs.declared.plan.Outcome.{Outcome}
@@ -14,11 +16,11 @@ use Rattle.enc_top.specs.Listing.{listing_of}
 use Rattle.enc_top.specs.Verdict.{Stop, no_command, absent_file, refused_file, past_limit, Followed, Done, shows, lists, counts, Verdict}
 
 -- the token's row, or that the module lacks it
-unfoldable pub row_or_absent : Module → RowPlace → Token → List ℕ
-row_or_absent m place token = if has_row m token then row_text_of m place token else absent_line token
+unfoldable pub row_or_absent : Module → PlainPdb → RowPlace → Token → List ℕ
+row_or_absent m debug place token = if has_row m token then row_text_of m debug place token else absent_line token
 
 unfoldable pub shown : Token → Followed → List ℕ
-shown token f = row_or_absent (chain_with f.base f.deltas).plain (place_of f.deltas token) token
+shown token f = row_or_absent (chain_with f.base f.deltas).plain (pdb_with f.debug f.debugs) (place_of f.deltas token) token
 
 unfoldable pub listed_as : Followed → List ℕ
 listed_as f = listing_of f.base f.deltas

@@ -1,9 +1,9 @@
 -- The examples, a base of 200 bytes and a delta of 220, read and printed by computing on the definitions alone.
-use Rattle.std.specs.Prelude.{◌≡◌, ℕ, List, [], ◌∷◌, ◌++◌, Result, Ok, codes}
+use Rattle.std.specs.Prelude.{◌≡◌, ℕ, List, [], ◌∷◌, ◌++◌, None, Result, Ok, codes}
 use Rattle.enc_base.specs.declared.token.Token.{Token}
 use Rattle.enc_meta.specs.Example.{root_example}
 use Rattle.enc_text.specs.Text.{guid_text}
-use Rattle.enc_top.specs.Verdict.{◌>>=◌, Stop, DeltaFiles, Followed, judge_all}
+use Rattle.enc_top.specs.Verdict.{◌>>=◌, Stop, BaseFiles, DeltaFiles, Followed, judge_all}
 use Rattle.enc_top.specs.Done.{shown, listed_as}
 
 -- what is printed of accepted files
@@ -11,6 +11,10 @@ abbrev pub printed : Result Followed Stop → (Followed → List ℕ) → Result
 printed r output = do
   f ← r
   Ok (output f)
+
+-- the base's file, without a PDB
+abbrev pub example_base : BaseFiles
+example_base = record { bytes = root_example; debug = None }
 
 -- row 1 of TypeRef
 abbrev pub example_token : Token
@@ -21,7 +25,7 @@ abbrev pub example_line : List ℕ
 example_line = codes "01000001 TypeRef ResolutionScope=23000001 TypeName=\"Object\" TypeNamespace=\"System\" @0.1" ++ 0x0a ∷ []
 
 abbrev pub ExampleIsShown : Type 0
-ExampleIsShown = printed (judge_all (codes "m") root_example []) (shown example_token) ≡ Ok example_line
+ExampleIsShown = printed (judge_all (codes "m") example_base []) (shown example_token) ≡ Ok example_line
 
 -- a delta that adds row 2 of TypeRef
 abbrev pub example_delta : List ℕ
@@ -42,7 +46,13 @@ example_delta =
     0x05 ∷ 0x06 ∷ 0x07 ∷ 0x08 ∷ 0x09 ∷ 0x0a ∷ 0x0b ∷ 0x0c ∷ 0x0d ∷ 0x0e ∷ 0x0f ∷ 0x10 ∷ []
 
 abbrev pub example_files : List DeltaFiles
-example_files = record { name = codes "d1.meta"; metadata = example_delta; code = 0 ∷ 0 ∷ 0 ∷ 0 ∷ [] } ∷ []
+example_files = record {
+  name = codes "d1.meta";
+  debug_name = codes "d1.pdb";
+  metadata = example_delta;
+  code = 0 ∷ 0 ∷ 0 ∷ 0 ∷ [];
+  debug = None;
+} ∷ []
 
 abbrev pub example_added : Token
 example_added = record { table = 1; row = 2 }
@@ -51,7 +61,7 @@ abbrev pub example_added_line : List ℕ
 example_added_line = codes "01000002 TypeRef ResolutionScope=23000001 TypeName=\"String\" TypeNamespace=\"System\" @1.1" ++ 0x0a ∷ []
 
 abbrev pub ExampleIsExtended : Type 0
-ExampleIsExtended = printed (judge_all (codes "m") root_example example_files) (shown example_added) ≡ Ok example_added_line
+ExampleIsExtended = printed (judge_all (codes "m") example_base example_files) (shown example_added) ≡ Ok example_added_line
 
 -- the delta's EncId
 abbrev pub example_id : List ℕ
@@ -64,4 +74,4 @@ example_lines =
     ((guid_text example_id ++ codes " rows 1 strings 8 users 0 blobs 0 guids 2\n") ++ codes "  01000002 insert 1.1 newest 1.1\n")
 
 abbrev pub ExampleIsListed : Type 0
-ExampleIsListed = printed (judge_all (codes "m") root_example example_files) listed_as ≡ Ok example_lines
+ExampleIsListed = printed (judge_all (codes "m") example_base example_files) listed_as ≡ Ok example_lines

@@ -1,20 +1,35 @@
 -- For the contracts of private functions: what the loaded files stand for.
-use Rattle.std.specs.Prelude.{◌≡◌, ◌∷◌, Result, Ok, Err, string_bytes}
-use Rattle.enc_rows.specs.Source.{Source}
-use Rattle.enc_agg.specs.Seen.{History}
+use Rattle.std.specs.Prelude.{◌≡◌, ℕ, List, Option, option_map, Vec, Result, Ok, Err, string_bytes}
+use Rattle.std.specs.declared.alloc.Global.{Global}
+use Rattle.enc_top.specs.declared.judge.Judged.{Judged}
+use Rattle.enc_top.specs.declared.load.BaseFile.{BaseFile}
 use Rattle.enc_top.specs.declared.load.DeltaFile.{DeltaFile}
 use Rattle.enc_top.specs.declared.stop.Stop.{Stop as Halt}
-use Rattle.enc_top.specs.Verdict.{Stop, DeltaFiles, Followed}
+use Rattle.enc_top.specs.Verdict.{Stop, BaseFiles, DeltaFiles, Followed, followed_by}
+use Rattle.enc_checker.specs.Check.{Accepted}
 use Rattle.enc_top.specs.Stops.{OnPlan, StopsWith}
 
-abbrev pub file_seen : DeltaFile → DeltaFiles
-file_seen f = record { name = string_bytes f.name; metadata = f.metadata.items; code = f.code.items }
+-- the bytes of a file that may be absent
+abbrev pub bytes_seen : Option (Vec ℕ Global) → Option (List ℕ)
+bytes_seen bytes = option_map (λ (b : Vec ℕ Global). b.items) bytes
 
--- an aggregate is a base with the deltas that follow it
-abbrev pub followed : History → Followed
-followed h = record { base = h.base; deltas = h.deltas }
+abbrev pub base_seen : BaseFile → BaseFiles
+base_seen f = record { bytes = f.bytes.items; debug = bytes_seen f.debug }
+
+abbrev pub file_seen : DeltaFile → DeltaFiles
+file_seen f = record {
+  name = string_bytes f.name;
+  debug_name = string_bytes f.debug_name;
+  metadata = f.metadata.items;
+  code = f.code.items;
+  debug = bytes_seen f.debug;
+}
+
+-- an aggregate and a chain of PDBs are a base with the deltas that follow it
+abbrev pub followed : Judged → Followed
+followed j = record { base = j.agg.base; deltas = j.agg.deltas; debug = j.debug.base; debugs = j.debug.deltas }
 
 -- a delta was added, or it ended at the defined stop
-abbrev pub Adds : {U : Type 0} → History → History → Result U Halt → Result Source Stop → Type 0
-Adds old new (Ok u) r = (d : Source) × (r ≡ Ok d) × (new.deltas ≡ d ∷ old.deltas)
+abbrev pub Adds : {U : Type 0} → Judged → Judged → Result U Halt → Result Accepted Stop → Type 0
+Adds old new (Ok u) r = (a : Accepted) × (r ≡ Ok a) × (followed new ≡ followed_by (followed old) a)
 Adds old new (Err h) r = OnPlan h (StopsWith r)

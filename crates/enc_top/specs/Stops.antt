@@ -1,5 +1,6 @@
 -- For the contracts of private functions: what the program's stop, which is called a halt here, says of the stop that is defined.
 use Rattle.std.specs.Prelude.{◌≡◌, ◌≢◌, ℕ, List, [], Result, Ok, Err}
+use Rattle.enc_base.specs.declared.refusal.Refusal.{Refusal}
 use Rattle.enc_base.specs.declared.refusal.ReadFault.{ReadFault}
 use Rattle.enc_base.specs.declared.refusal.ReadFault.TheVariants as fault
 use Rattle.enc_outside.specs.declared.store.LoadError.{LoadError}
@@ -8,7 +9,7 @@ use Rattle.enc_top.specs.declared.plan.Plan.{Plan}
 use Rattle.enc_top.specs.declared.plan.Outcome.TheVariants.{Usage}
 use Rattle.enc_top.specs.declared.stop.Stop.{Stop as Halt}
 use Rattle.enc_top.specs.declared.stop.Stop.TheVariants as halt
-use Rattle.enc_top.specs.Verdict.{Stop, refused_file}
+use Rattle.enc_top.specs.Verdict.{Stop, refused_file, refused_name}
 use Rattle.enc_top.specs.Plans.{IsPlanOf}
 
 -- the halt of a failed load
@@ -50,3 +51,8 @@ StopsQuietly (Err h) = OnPlan h IsQuiet
 abbrev pub IsUnread : List ℕ → ReadFault → Halt → Type 0
 IsUnread name (fault.Refused e) h = OnPlan h (IsPlanOf (Err (refused_file name e)))
 IsUnread name fault.Memory h = h ≡ halt.Memory
+
+-- what becomes of a delta that isn't accepted: its PDB is refused, or its metadata; or want of memory
+abbrev pub IsUnaccepted : List ℕ → List ℕ → ReadFault → Halt → Type 0
+IsUnaccepted name debug_name (fault.Refused e) h = OnPlan h (IsPlanOf (Err (refused_file (refused_name name debug_name e) e)))
+IsUnaccepted name debug_name fault.Memory h = h ≡ halt.Memory

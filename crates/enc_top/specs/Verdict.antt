@@ -1,13 +1,19 @@
 -- What a command comes to over the files that are told: nothing here knows how the program works.
-use Rattle.std.specs.Prelude.{ℕ, ◌+◌, List, [], ◌∷◌, ◌++◌, length, Option, Some, None, Result, Ok, Err, nat_lt, if◌then◌else◌, codes}
+use Rattle.std.specs.Prelude.{ℕ, ◌+◌, ◌==◌, Bool, List, [], ◌∷◌, ◌++◌, length, Option, Some, None, Result, Ok, Err, nat_lt, if◌then◌else◌, codes}
 use Rattle.std.specs.FinMap.{get}
 use Rattle.enc_outside.specs.Outside.{Files}
 use Rattle.enc_base.specs.declared.token.Token.{Token}
 use Rattle.enc_base.specs.declared.refusal.Refusal.{Refusal}
+use Rattle.enc_base.specs.declared.refusal.Code.{Code}
+use Rattle.enc_base.specs.declared.refusal.Code.TheVariants.{F, E}
 use Rattle.enc_rows.specs.Source.{Source}
-use Rattle.enc_image.specs.Base.{base_of}
+use Rattle.enc_schema.specs.Tables as tables
+use Rattle.enc_plain.specs.Module.{rows_in}
+use Rattle.enc_image.specs.Base.{base_of, chain_of_base}
 use Rattle.enc_delta.specs.Delta.{delta_of}
-use Rattle.enc_checker.specs.Check.{judged}
+use Rattle.enc_ppdb.specs.Fault.{pdb_of}
+use Rattle.enc_ppdb.specs.PdbChain.{DebugDelta}
+use Rattle.enc_checker.specs.Check.{Accepted, judged, new_bodies}
 use Rattle.enc_agg.specs.Extend.{chain_with}
 use Rattle.enc_top.specs.declared.limits.Limit.{Limit}
 use Rattle.enc_top.specs.declared.limits.Limit.TheVariants as limit
@@ -36,6 +42,10 @@ meta delta = delta ++ codes ".meta"
 abbrev pub il : List ℕ → List ℕ
 il delta = delta ++ codes ".il"
 
+-- the Portable PDB of a base or a delta, which may be absent
+abbrev pub pdb : List ℕ → List ℕ
+pdb word = word ++ codes ".pdb"
+
 -- the most bytes of a file, and of all files that are loaded
 abbrev pub file_limit : ℕ
 file_limit = 67108864
@@ -58,21 +68,54 @@ taken name before (Some bytes) = kept_whole name before bytes
 unfoldable pub load_one : Files → List ℕ → ℕ → Result (List ℕ) Stop
 load_one files name before = taken name before (get files name)
 
--- the files of a delta, with the name of its metadata's
+-- a file that may be absent
+abbrev pub kept_if_there : List ℕ → ℕ → Option (List ℕ) → Result (Option (List ℕ)) Stop
+kept_if_there name before None = Ok None
+kept_if_there name before (Some bytes) = do
+  b ← kept_whole name before bytes
+  Ok (Some b)
+
+unfoldable pub load_optional : Files → List ℕ → ℕ → Result (Option (List ℕ)) Stop
+load_optional files name before = kept_if_there name before (get files name)
+
+-- how many bytes it has
+abbrev pub optional_size : Option (List ℕ) → ℕ
+optional_size None = 0
+optional_size (Some bytes) = length bytes
+
+-- the files of a base
+pub record BaseFiles : Type 0 where
+  pub bytes : List ℕ
+  pub debug : Option (List ℕ)
+
+unfoldable pub load_base : Files → List ℕ → Result BaseFiles Stop
+load_base files base = do
+  bytes ← load_one files (dll base) 0
+  debug ← load_optional files (pdb base) (length bytes)
+  Ok (record { bytes = bytes; debug = debug })
+
+-- how many bytes they have
+abbrev pub base_size : BaseFiles → ℕ
+base_size f = length f.bytes + optional_size f.debug
+
+-- the files of a delta, with the names of its metadata's and its PDB's
 pub record DeltaFiles : Type 0 where
   pub name : List ℕ
+  pub debug_name : List ℕ
   pub metadata : List ℕ
   pub code : List ℕ
+  pub debug : Option (List ℕ)
 
 unfoldable pub load_delta : Files → List ℕ → ℕ → Result DeltaFiles Stop
 load_delta files delta before = do
   metadata ← load_one files (meta delta) before
   code ← load_one files (il delta) (before + length metadata)
-  Ok (record { name = meta delta; metadata = metadata; code = code })
+  debug ← load_optional files (pdb delta) (before + length metadata + length code)
+  Ok (record { name = meta delta; debug_name = pdb delta; metadata = metadata; code = code; debug = debug })
 
 -- how many bytes they have
 abbrev pub files_size : DeltaFiles → ℕ
-files_size f = length f.metadata + length f.code
+files_size f = length f.metadata + length f.code + optional_size f.debug
 
 -- all files are loaded before one is judged
 unfoldable pub load_deltas : Files → List (List ℕ) → ℕ → Result (List DeltaFiles) Stop
@@ -87,30 +130,63 @@ abbrev pub in_file : {A : Type 0} → List ℕ → Result A Refusal → Result A
 in_file name (Ok a) = Ok a
 in_file name (Err e) = Err (refused_file name e)
 
--- the deltas judged in order, each after those before it, which stand the newest first
-unfoldable pub judge_deltas : Source → List Source → List DeltaFiles → Result (List Source) Stop
-judge_deltas base deltas [] = Ok deltas
-judge_deltas base deltas (f ∷ fs) = do
-  d ← in_file f.name (judged (chain_with base deltas) (delta_of f.metadata f.code))
-  judge_deltas base (d ∷ deltas) fs
+-- F12 and E22 refuse a PDB
+abbrev pub is_of_pdb : Code → Bool
+is_of_pdb (F n) = n == 12
+is_of_pdb (E n) = n == 22
 
--- a base with the deltas that follow it, the newest first
+-- the file of a delta that is refused: its PDB, or its metadata
+abbrev pub refused_name : List ℕ → List ℕ → Refusal → List ℕ
+refused_name name debug_name e = if is_of_pdb e.code then debug_name else name
+
+abbrev pub in_delta : {A : Type 0} → DeltaFiles → Result A Refusal → Result A Stop
+in_delta f (Ok a) = Ok a
+in_delta f (Err e) = Err (refused_file (refused_name f.name f.debug_name e) e)
+
+-- a base with the deltas that follow it, the newest first; the base's PDB, where it has one, and what the deltas say of sequence points
 pub record Followed : Type 0 where
   pub base : Source
   pub deltas : List Source
+  pub debug : Option Source
+  pub debugs : List DebugDelta
 
-unfoldable pub judge_all : List ℕ → List ℕ → List DeltaFiles → Result Followed Stop
-judge_all base bytes fs = do
-  b ← in_file (dll base) (base_of bytes)
-  deltas ← judge_deltas b [] fs
-  Ok (record { base = b; deltas = deltas })
+-- with one more delta that was accepted
+abbrev pub followed_by : Followed → Accepted → Followed
+followed_by f a = record {
+  base = f.base;
+  deltas = a.delta ∷ f.deltas;
+  debug = f.debug;
+  debugs = record { pdb = a.pdb; changed = new_bodies a.delta } ∷ f.debugs;
+}
+
+-- the deltas judged in order, each after those before it
+unfoldable pub judge_deltas : Followed → List DeltaFiles → Result Followed Stop
+judge_deltas f [] = Ok f
+judge_deltas f (x ∷ xs) = do
+  a ← in_delta x (judged (chain_with f.base f.deltas) (delta_of x.metadata x.code) x.debug)
+  judge_deltas (followed_by f a) xs
+
+-- the PDB of a base, read with as many methods as the base has; it may be absent
+abbrev pub there : Result Source Refusal → Result (Option Source) Refusal
+there (Ok p) = Ok (Some p)
+there (Err e) = Err e
+
+unfoldable pub base_pdb : Source → Option (List ℕ) → Result (Option Source) Refusal
+base_pdb b None = Ok None
+base_pdb b (Some bytes) = there (pdb_of bytes (length (rows_in (chain_of_base b).plain tables.method_def)))
+
+unfoldable pub judge_all : List ℕ → BaseFiles → List DeltaFiles → Result Followed Stop
+judge_all base f fs = do
+  b ← in_file (dll base) (base_of f.bytes)
+  p ← in_file (pdb base) (base_pdb b f.debug)
+  judge_deltas (record { base = b; deltas = []; debug = p; debugs = [] }) fs
 
 -- the files loaded, the base first, and then judged, the base first
 unfoldable pub accept : Files → List ℕ → List (List ℕ) → Result Followed Stop
 accept files base deltas = do
-  bytes ← load_one files (dll base) 0
-  fs ← load_deltas files deltas (length bytes)
-  judge_all base bytes fs
+  f ← load_base files base
+  fs ← load_deltas files deltas (base_size f)
+  judge_all base f fs
 
 -- what an accepted command does with them: it shows a token's row, lists them, or counts the deltas
 pub data Done : Type 0 where

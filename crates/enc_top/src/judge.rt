@@ -1,66 +1,103 @@
-//! Judging a base and its deltas, each after those before it.
-ghost use Rattle.std.specs.Prelude.{◌≡◌, ◌∷◌, [], ℕ, List, map, Ok, IfOk, IsErrOf, string_bytes};
+//! Judging a base and its deltas, each after those before it, with their PDBs.
+ghost use Rattle.std.specs.Prelude.{◌≡◌, ◌≢◌, Option, None, map, Ok, IfOk, IsErrOf, string_bytes};
 ghost use Rattle.enc_image.specs.Base.{base_of};
 ghost use Rattle.enc_delta.specs.Delta.{delta_of};
+ghost use Rattle.enc_delta.specs.Judged.{first_meta};
 ghost use Rattle.enc_agg.specs.Seen.{chain_of_all};
-ghost use Rattle.enc_checker.specs.Check.{judged};
+ghost use Rattle.enc_checker.specs.Check.{accepted, judged};
 ghost use Rattle.enc_rows.specs.Source.{Source};
-ghost use Rattle.enc_top.specs.Verdict.{dll, in_file, judge_deltas as deltas_judged, judge_all as all_judged};
-ghost use Rattle.enc_top.specs.Stops.{Comes, StopsQuietly};
-ghost use Rattle.enc_top.specs.Loads.{file_seen, followed, Adds};
+ghost use Rattle.enc_top.specs.Verdict.{dll, pdb, in_file, in_delta, is_of_pdb, base_pdb, followed_by, judge_deltas as deltas_judged, judge_all as all_judged};
+ghost use Rattle.enc_top.specs.Stops.{Comes, StopsQuietly, OnPlan, IsQuiet, IsUnaccepted};
+ghost use Rattle.enc_top.specs.Loads.{bytes_seen, base_seen, file_seen, followed, Adds};
 
-use crate::load::{DeltaFile, name_of};
+use crate::load::{BaseFile, DeltaFile, name_of};
 use crate::plans::unread;
 use crate::stop::Stop;
 use enc_agg::Aggregate;
-use enc_base::ReadFault;
-use enc_checker::{Checked, Files, check};
-use enc_delta::Delta;
+use enc_base::{Code, ReadFault};
+use enc_checker::{Checked, Files, check, new_bodies};
 use enc_image::Image;
+use enc_plain::ModuleView;
+use enc_ppdb::{Pdb, PdbChain};
+use enc_schema::tables::METHOD_DEF;
 use std::alloc::{AllocError, Global};
 
-/// Adds a delta that breaks no rule.
-fn add(agg: &mut Aggregate, delta: Delta) -> Result<(), AllocError>
-    requires { judged (chain_of_all agg.old) (Ok delta) ≡ Ok delta }
-    ensures base { agg.new.base ≡ agg.old.base }
-    ensures added { IfOk result (λ u. agg.new.deltas ≡ delta ∷ agg.old.deltas) }
+/// A base with the deltas that follow it, and what their PDBs say.
+#[derive(Drop)]
+pub struct Judged {
+    pub agg: Aggregate,
+    pub debug: PdbChain,
+}
+
+/// Adds a delta that breaks no rule, with its PDB.
+fn add(alloc: Global, judged: &mut Judged, checked: Checked) -> Result<(), AllocError>
+    requires { first_meta (chain_of_all judged.old.agg) checked.delta ≡ None }
+    ensures { IfOk result (λ u. followed judged.new ≡ followed_by (followed judged.old) (accepted checked.delta checked.pdb)) }
 {
-    let ready = agg.prepare(delta)?;
-    agg.commit(ready);
+    let Checked { delta, pdb } = checked;
+    let changed = new_bodies(alloc, &delta)?;
+    judged.debug.reserve()?;
+    let ready = judged.agg.prepare(delta)?;
+    judged.agg.commit(ready);
+    judged.debug.add(pdb, changed);
     Ok(())
 }
 
+/// Whether a rule of this number is one of PDBs.
+fn is_of_pdb(code: Code) -> bool
+    ensures { result ≡ is_of_pdb code }
+{
+    match code {
+        Code::F(n) => n == 12,
+        Code::E(n) => n == 22,
+    }
+}
+
+/// The stop at a delta that isn't accepted.
+fn unaccepted(alloc: Global, name: &str, debug_name: &str, fault: ReadFault) -> Stop
+    ensures plan { IsUnaccepted name.now debug_name.now fault result }
+    ensures quiet { OnPlan result IsQuiet }
+    ensures no_fault { result ≢ Stop.Failed }
+{
+    match fault {
+        ReadFault::Memory => Stop::Memory,
+        ReadFault::Refused(refusal) if is_of_pdb(refusal.code) => unread(alloc, debug_name, fault),
+        ReadFault::Refused(_) => unread(alloc, name, fault),
+    }
+}
+
 /// The files of a delta judged after the deltas before it, and added.
-fn judge_delta(alloc: Global, agg: &mut Aggregate, file: DeltaFile) -> Result<(), Stop>
-    ensures base { agg.new.base ≡ agg.old.base }
-    ensures step { Adds agg.old agg.new result (in_file (string_bytes file.name) (judged (chain_of_all agg.old) (delta_of file.metadata.items file.code.items))) }
+fn judge_delta(alloc: Global, judged: &mut Judged, file: DeltaFile) -> Result<(), Stop>
+    ensures step { Adds judged.old judged.new result (in_delta (file_seen file) (judged (chain_of_all judged.old.agg) (delta_of file.metadata.items file.code.items) (bytes_seen file.debug))) }
     ensures quiet { StopsQuietly result }
     ensures no_fault { ¬ (IsErrOf result Stop.Failed) }
 {
     let DeltaFile {
         name,
+        debug_name,
         metadata,
         code,
+        debug,
     } = file;
     let files = Files {
         meta: metadata,
         il: code,
+        pdb: debug,
     };
-    match check(alloc, agg, files) {
-        Ok(Checked { delta }) => Ok(add(agg, delta)?),
-        Err(fault) => Err(unread(alloc, name.as_str(), fault)),
+    match check(alloc, &judged.agg, files) {
+        Ok(checked) => Ok(add(alloc, judged, checked)?),
+        Err(fault) => Err(unaccepted(alloc, name.as_str(), debug_name.as_str(), fault)),
     }
 }
 
 /// All deltas, in order.
-fn judge_deltas(alloc: Global, agg: &mut Aggregate, files: Vec<DeltaFile>) -> Result<(), Stop>
-    ensures base { agg.new.base ≡ agg.old.base }
-    ensures step { Comes (λ u. agg.new.deltas) result (deltas_judged agg.old.base agg.old.deltas (map file_seen files.items)) }
+fn judge_deltas(alloc: Global, judged: &mut Judged, files: Vec<DeltaFile>) -> Result<(), Stop>
+    ensures step { Comes (λ u. followed judged.new) result (deltas_judged (followed judged.old) (map file_seen files.items)) }
     ensures quiet { StopsQuietly result }
     ensures no_fault { ¬ (IsErrOf result Stop.Failed) }
 {
     for file in files {
-        judge_delta(alloc, agg, file)?;
+        judge_delta(alloc, judged, file)?;
     }
     Ok(())
 }
@@ -81,20 +118,50 @@ fn judge_base(alloc: Global, base: &str, bytes: Vec<u8>) -> Result<Image, Stop>
     }
 }
 
+/// The PDB of a base, where it has one.
+#[tactic(auto, unfolding(crate::specs::Verdict::base_pdb))]
+fn judge_pdb(
+    alloc: Global,
+    base: &str,
+    image: &Image,
+    bytes: Option<Vec<u8>>,
+) -> Result<Option<Pdb>, Stop>
+    ensures step { Comes (λ (p : Option Source). p) result (in_file (pdb base.now) (base_pdb image.now (bytes_seen bytes))) }
+    ensures quiet { StopsQuietly result }
+    ensures no_fault { ¬ (IsErrOf result Stop.Failed) }
+{
+    let Some(bytes) = bytes else {
+        return Ok(None);
+    };
+    match Pdb::read(alloc, bytes, image.count(METHOD_DEF)) {
+        Ok(pdb) => Ok(Some(pdb)),
+        Err(ReadFault::Memory) => Err(Stop::Memory),
+        Err(fault) => {
+            let name = name_of(alloc, base, ".pdb")?;
+            Err(unread(alloc, name.as_str(), fault))
+        }
+    }
+}
+
 /// A base and its deltas, judged in order.
 #[tactic(auto, unfolding(crate::specs::Verdict::judge_all))]
 pub fn judge_all(
     alloc: Global,
     base: &str,
-    bytes: Vec<u8>,
+    file: BaseFile,
     files: Vec<DeltaFile>,
-) -> Result<Aggregate, Stop>
-    ensures step { Comes followed result (all_judged base.now bytes.items (map file_seen files.items)) }
+) -> Result<Judged, Stop>
+    ensures step { Comes followed result (all_judged base.now (base_seen file) (map file_seen files.items)) }
     ensures quiet { StopsQuietly result }
     ensures no_fault { ¬ (IsErrOf result Stop.Failed) }
 {
+    let BaseFile { bytes, debug } = file;
     let image = judge_base(alloc, base, bytes)?;
-    let mut agg = Aggregate::begin(alloc, image)?;
-    judge_deltas(alloc, &mut agg, files)?;
-    Ok(agg)
+    let pdb = judge_pdb(alloc, base, &image, debug)?;
+    let mut judged = Judged {
+        agg: Aggregate::begin(alloc, image)?,
+        debug: PdbChain::begin(alloc, pdb)?,
+    };
+    judge_deltas(alloc, &mut judged, files)?;
+    Ok(judged)
 }

@@ -4,9 +4,9 @@ ghost use Rattle.std.specs.Prelude.{◌≡◌, ◌+◌, ◌++◌, ℕ, List, len
 ghost use Rattle.std.specs.FinMap.{get};
 ghost use Rattle.enc_outside.specs.Outside.{HasCause};
 ghost use Rattle.enc_top.specs.Words.{texts};
-ghost use Rattle.enc_top.specs.Verdict.{dll, meta, il, kept_whole, taken as taken_from, load_one as one_of, load_delta as delta_from, load_deltas as deltas_from};
+ghost use Rattle.enc_top.specs.Verdict.{dll, meta, il, pdb, kept_whole, taken as taken_from, kept_if_there, optional_size, base_size, files_size, load_one as one_of, load_optional as optional_of, load_base as base_from, load_delta as delta_from, load_deltas as deltas_from};
 ghost use Rattle.enc_top.specs.Stops.{Comes, StopsQuietly};
-ghost use Rattle.enc_top.specs.Loads.{file_seen};
+ghost use Rattle.enc_top.specs.Loads.{bytes_seen, base_seen, file_seen};
 
 use crate::limits::{FILE_LIMIT, Limit, TOTAL_LIMIT};
 use crate::plans::{missing, too_long};
@@ -15,12 +15,21 @@ use enc_outside::Store;
 use std::alloc::{AllocError, Global};
 use std::marker::Model;
 
-/// The files of a delta, with the name of its metadata's.
+/// The files of a base: its module, and its Portable PDB, where it has one.
+#[derive(Drop)]
+pub struct BaseFile {
+    pub bytes: Vec<u8>,
+    pub debug: Option<Vec<u8>>,
+}
+
+/// The files of a delta, with the names of its metadata's and its PDB's.
 #[derive(Drop)]
 pub struct DeltaFile {
     pub name: String,
+    pub debug_name: String,
     pub metadata: Vec<u8>,
     pub code: Vec<u8>,
+    pub debug: Option<Vec<u8>>,
 }
 
 /// How many bytes were loaded so far.
@@ -104,9 +113,67 @@ impl Loaded {
         let bytes = store.load(name)?;
         self.take(alloc, name, bytes)
     }
+
+    /// What the store had of a file that may be absent.
+    fn take_optional(
+        &mut self,
+        alloc: Global,
+        name: &str,
+        bytes: Option<Vec<u8>>,
+    ) -> Result<Option<Vec<u8>>, Stop>
+        ensures step { Comes bytes_seen result (kept_if_there name.now self.old (bytes_seen bytes)) }
+        ensures quiet { StopsQuietly result }
+        ensures no_fault { ¬ (IsErrOf result Stop.Failed) }
+        ensures counted { IfOk result (λ b. self.new ≡ self.old + optional_size (bytes_seen b)) }
+    {
+        match bytes {
+            Some(bytes) => Ok(Some(self.keep(alloc, name, bytes)?)),
+            None => Ok(None),
+        }
+    }
+
+    /// Loads a file that may be absent.
+    #[tactic(auto, unfolding(crate::specs::Verdict::load_optional))]
+    pub fn load_optional<S: Store>(
+        &mut self,
+        alloc: Global,
+        name: &str,
+        store: &mut S,
+    ) -> Result<Option<Vec<u8>>, Stop>
+        ensures cause { HasCause Stop.Failed (S.faults store.old) (S.faults store.new) result }
+        ensures stays { S.told store.new ≡ S.told store.old }
+        ensures step { IfSome (S.told store.old) (λ files. Comes bytes_seen result (optional_of files name.now self.old)) }
+        ensures quiet { StopsQuietly result }
+        ensures counted { IfOk result (λ b. self.new ≡ self.old + optional_size (bytes_seen b)) }
+    {
+        let bytes = store.load(name)?;
+        self.take_optional(alloc, name, bytes)
+    }
 }
 
-/// Loads the two files of a delta.
+/// Loads the files of a base.
+#[tactic(auto, unfolding(crate::specs::Verdict::load_base))]
+pub fn load_base<S: Store>(
+    alloc: Global,
+    base: &str,
+    loaded: &mut Loaded,
+    store: &mut S,
+) -> Result<BaseFile, Stop>
+    requires { loaded.old ≡ 0 }
+    ensures cause { HasCause Stop.Failed (S.faults store.old) (S.faults store.new) result }
+    ensures stays { S.told store.new ≡ S.told store.old }
+    ensures step { IfSome (S.told store.old) (λ files. Comes base_seen result (base_from files base.now)) }
+    ensures quiet { StopsQuietly result }
+    ensures counted { IfOk result (λ f. loaded.new ≡ base_size (base_seen f)) }
+{
+    let name = name_of(alloc, base, ".dll")?;
+    let bytes = loaded.load(alloc, name.as_str(), store)?;
+    let debug_name = name_of(alloc, base, ".pdb")?;
+    let debug = loaded.load_optional(alloc, debug_name.as_str(), store)?;
+    Ok(BaseFile { bytes, debug })
+}
+
+/// Loads the files of a delta.
 #[tactic(auto, unfolding(crate::specs::Verdict::load_delta))]
 fn load_delta<S: Store>(
     alloc: Global,
@@ -118,16 +185,20 @@ fn load_delta<S: Store>(
     ensures stays { S.told store.new ≡ S.told store.old }
     ensures step { IfSome (S.told store.old) (λ files. Comes file_seen result (delta_from files delta.now loaded.old)) }
     ensures quiet { StopsQuietly result }
-    ensures counted { IfOk result (λ f. loaded.new ≡ loaded.old + (length f.metadata.items + length f.code.items)) }
+    ensures counted { IfOk result (λ f. loaded.new ≡ loaded.old + files_size (file_seen f)) }
 {
     let name = name_of(alloc, delta, ".meta")?;
     let metadata = loaded.load(alloc, name.as_str(), store)?;
     let code_name = name_of(alloc, delta, ".il")?;
     let code = loaded.load(alloc, code_name.as_str(), store)?;
+    let debug_name = name_of(alloc, delta, ".pdb")?;
+    let debug = loaded.load_optional(alloc, debug_name.as_str(), store)?;
     Ok(DeltaFile {
         name,
+        debug_name,
         metadata,
         code,
+        debug,
     })
 }
 

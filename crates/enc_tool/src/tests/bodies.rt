@@ -6,7 +6,7 @@ use std::process::Abort;
 use std::test::Fail;
 
 /// A delta of 312 bytes behind the image: a body for its first method, and a new method, 06000007.
-const D1_META: &str = concat!(
+pub const D1_META: &str = concat!(
     // the root and its headers
     "42534a4201000100000000000c00000076342e302e3330333139000000000600",
     "7c00000082000000232d0000000100000700000023537472696e677300000000",
@@ -35,7 +35,7 @@ const D1_META: &str = concat!(
 );
 
 /// Its code.
-const D1_IL: &str = concat!(
+pub const D1_IL: &str = concat!(
     // four bytes of nothing
     "00000000",
     // 06000001: a tiny body, and a byte to the next multiple of four
@@ -47,7 +47,7 @@ const D1_IL: &str = concat!(
 );
 
 /// A delta of 312 bytes behind both: a body for 06000006, which had none, and another for 06000007.
-const D2_META: &str = concat!(
+pub const D2_META: &str = concat!(
     // the root and its headers
     "42534a4201000100000000000c00000076342e302e3330333139000000000600",
     "7c0000007a000000232d0000f80000000100000023537472696e677300000000",
@@ -77,15 +77,43 @@ const D2_META: &str = concat!(
 );
 
 /// Its code: four bytes of nothing, and two tiny bodies.
-const D2_IL: &str = concat!("00000000", "1e721d000070262a", "227214000070261d2a");
+pub const D2_IL: &str = concat!("00000000", "1e721d000070262a", "227214000070261d2a");
 
 /// What is shown of the first method with its body of the first delta.
-const TINY_ROW: &str = concat!(
+pub const TINY_ROW: &str = concat!(
     "06000001 MethodDef RVA=body ImplFlags=0000 Flags=0016 Name=\"Tiny\" Signature=[000008] @1.1\n",
     "  owner 02000002\n",
     "  body stack=8 init=0 locals=00000000\n",
     "  IL_0000 call 06000007\n",
     "  IL_0005 ret\n",
+);
+
+/// What is shown of the method that the first delta adds.
+pub const ADDED_ROW: &str = concat!(
+    "06000007 MethodDef RVA=body ImplFlags=0000 Flags=0016 Name=\"Added\" Signature=[000008] @1.2\n",
+    "  owner 02000002\n",
+    "  body stack=2 init=1 locals=11000001\n",
+    "  IL_0000 ldstr \"new\"\n",
+    "  IL_0005 stloc.0\n",
+    "  IL_0006 leave.s IL_0011\n",
+    "  IL_0008 pop\n",
+    "  IL_0009 ldstr \"say \\x22\\xc3\\xa9\\x22\\x0a\"\n",
+    "  IL_000e stloc.0\n",
+    "  IL_000f leave.s IL_0011\n",
+    "  IL_0011 ldc.i4.s -128\n",
+    "  IL_0013 ret\n",
+    "  catch IL_0000-IL_0008 IL_0008-IL_0011 01000002\n",
+);
+
+/// What is shown of the method without a body, with that of the second delta.
+pub const NEW_EXTERN_ROW: &str = concat!(
+    "06000006 MethodDef RVA=body ImplFlags=1000 Flags=0016 Name=\"Extern\" Signature=[0001010e] @2.1\n",
+    "  owner 02000002\n",
+    "  params 08000001\n",
+    "  body stack=8 init=0 locals=00000000\n",
+    "  IL_0000 ldstr \"\\xe4\\xb8\\xad!\"\n",
+    "  IL_0005 pop\n",
+    "  IL_0006 ret\n",
 );
 
 /// A number of deltas, a token, and what is shown.
@@ -94,25 +122,7 @@ const SHOWN: [(usize, &str, &str); 8] = [
     // a body instead of another, which names a method that the delta adds
     (1, "06000001", TINY_ROW),
     // a new method: texts of the delta and of the image
-    (
-        1,
-        "06000007",
-        concat!(
-            "06000007 MethodDef RVA=body ImplFlags=0000 Flags=0016 Name=\"Added\" Signature=[000008] @1.2\n",
-            "  owner 02000002\n",
-            "  body stack=2 init=1 locals=11000001\n",
-            "  IL_0000 ldstr \"new\"\n",
-            "  IL_0005 stloc.0\n",
-            "  IL_0006 leave.s IL_0011\n",
-            "  IL_0008 pop\n",
-            "  IL_0009 ldstr \"say \\x22\\xc3\\xa9\\x22\\x0a\"\n",
-            "  IL_000e stloc.0\n",
-            "  IL_000f leave.s IL_0011\n",
-            "  IL_0011 ldc.i4.s -128\n",
-            "  IL_0013 ret\n",
-            "  catch IL_0000-IL_0008 IL_0008-IL_0011 01000002\n",
-        ),
-    ),
+    (1, "06000007", ADDED_ROW),
     // a body of the image with its text, after one and after two deltas
     (1, "06000002", LOOP_ROW),
     (2, "06000002", LOOP_ROW),
@@ -133,19 +143,7 @@ const SHOWN: [(usize, &str, &str); 8] = [
         ),
     ),
     // a body where there was none
-    (
-        2,
-        "06000006",
-        concat!(
-            "06000006 MethodDef RVA=body ImplFlags=1000 Flags=0016 Name=\"Extern\" Signature=[0001010e] @2.1\n",
-            "  owner 02000002\n",
-            "  params 08000001\n",
-            "  body stack=8 init=0 locals=00000000\n",
-            "  IL_0000 ldstr \"\\xe4\\xb8\\xad!\"\n",
-            "  IL_0005 pop\n",
-            "  IL_0006 ret\n",
-        ),
-    ),
+    (2, "06000006", NEW_EXTERN_ROW),
 ];
 
 /// The listing of all.

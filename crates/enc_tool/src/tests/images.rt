@@ -213,7 +213,7 @@ pub const LOOP_ROW: &str = concat!(
 );
 
 /// What is shown of the method with two small clauses.
-const SMALL_ROW: &str = concat!(
+pub const SMALL_ROW: &str = concat!(
     "06000003 MethodDef RVA=body ImplFlags=0000 Flags=0016 Name=\"Small\" Signature=[000008] @0.3\n",
     "  owner 02000002\n",
     "  body stack=2 init=0 locals=00000000\n",
@@ -230,7 +230,7 @@ const SMALL_ROW: &str = concat!(
 );
 
 /// What is shown of the method with two large clauses.
-const LARGE_ROW: &str = concat!(
+pub const LARGE_ROW: &str = concat!(
     "06000004 MethodDef RVA=body ImplFlags=0000 Flags=0016 Name=\"Large\" Signature=[000008] @0.4\n",
     "  owner 02000002\n",
     "  body stack=4 init=0 locals=00000000\n",
@@ -251,7 +251,7 @@ const LARGE_ROW: &str = concat!(
 );
 
 /// What is shown of the method with a section of each form.
-const BOTH_ROW: &str = concat!(
+pub const BOTH_ROW: &str = concat!(
     "06000005 MethodDef RVA=body ImplFlags=0000 Flags=0016 Name=\"Both\" Signature=[000008] @0.5\n",
     "  owner 02000002\n",
     "  body stack=1 init=1 locals=11000001\n",
@@ -268,7 +268,7 @@ const BOTH_ROW: &str = concat!(
 );
 
 /// What is shown of the method without a body.
-const EXTERN_ROW: &str = concat!(
+pub const EXTERN_ROW: &str = concat!(
     "06000006 MethodDef RVA=none ImplFlags=1000 Flags=0016 Name=\"Extern\" Signature=[0001010e] @0.6\n",
     "  owner 02000002\n",
     "  params 08000001\n",

@@ -6,10 +6,9 @@ ghost use Rattle.enc_top.specs.Verdict.{accept as accept_from};
 ghost use Rattle.enc_top.specs.Stops.{Comes, StopsQuietly};
 ghost use Rattle.enc_top.specs.Loads.{followed};
 
-use crate::judge::judge_all;
-use crate::load::{Loaded, load_deltas, name_of};
+use crate::judge::{Judged, judge_all};
+use crate::load::{Loaded, load_base, load_deltas};
 use crate::stop::Stop;
-use enc_agg::Aggregate;
 use enc_outside::Store;
 use std::alloc::Global;
 
@@ -20,15 +19,14 @@ pub fn accept<S: Store>(
     base: &str,
     deltas: &[String],
     store: &mut S,
-) -> Result<Aggregate, Stop>
+) -> Result<Judged, Stop>
     ensures cause { HasCause Stop.Failed (S.faults store.old) (S.faults store.new) result }
     ensures stays { S.told store.new ≡ S.told store.old }
     ensures step { IfSome (S.told store.old) (λ files. Comes followed result (accept_from files base.now (texts deltas.now))) }
     ensures quiet { StopsQuietly result }
 {
     let mut loaded = Loaded::nothing();
-    let name = name_of(alloc, base, ".dll")?;
-    let bytes = loaded.load(alloc, name.as_str(), store)?;
+    let file = load_base(alloc, base, &mut loaded, store)?;
     let files = load_deltas(alloc, deltas, &mut loaded, store)?;
-    judge_all(alloc, base, bytes, files)
+    judge_all(alloc, base, file, files)
 }

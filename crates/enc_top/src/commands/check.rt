@@ -9,6 +9,7 @@ ghost use Rattle.enc_top.specs.Stops.{IfPlan, IsQuiet};
 ghost use Rattle.enc_top.specs.Loads.{followed};
 
 use crate::commands::accept::accept;
+use crate::judge::Judged;
 use crate::lines::push_accepted;
 use crate::plan::{Outcome, Plan};
 use crate::plans::saving_nothing;
@@ -27,11 +28,11 @@ fn delta_count(agg: &Aggregate) -> u32
 
 /// That so many deltas are accepted: all.
 #[tactic(auto, unfolding(crate::specs::Done::counted_as))]
-fn count(alloc: Global, agg: &Aggregate) -> Result<Plan, AllocError>
-    ensures { IfOk result (IsPlanOf (Ok (counts (followed agg.now)))) }
+fn count(alloc: Global, judged: &Judged) -> Result<Plan, AllocError>
+    ensures { IfOk result (IsPlanOf (Ok (counts (followed judged.now)))) }
 {
     let mut output = Vec::new(alloc);
-    push_accepted(alloc, &mut output, delta_count(agg))?;
+    push_accepted(alloc, &mut output, delta_count(&judged.agg))?;
     Ok(saving_nothing(alloc, Outcome::Accepted, output))
 }
 
@@ -47,6 +48,6 @@ pub fn check<S: Store>(
     ensures plan { IfSome (S.told store.old) (λ files. IfPlan result (IsPlanOf (check_on files base.now (texts deltas.now)))) }
     ensures quiet { IfPlan result IsQuiet }
 {
-    let agg = accept(alloc, base, deltas, store)?;
-    Ok(count(alloc, &agg)?)
+    let judged = accept(alloc, base, deltas, store)?;
+    Ok(count(alloc, &judged)?)
 }

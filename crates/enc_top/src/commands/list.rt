@@ -10,20 +10,20 @@ ghost use Rattle.enc_top.specs.Loads.{followed};
 
 use crate::commands::accept::accept;
 use crate::generations::listing;
+use crate::judge::Judged;
 use crate::plan::{Outcome, Plan};
 use crate::plans::saving_nothing;
 use crate::stop::Stop;
-use enc_agg::Aggregate;
 use enc_outside::Store;
 use std::alloc::{AllocError, Global};
 
 /// The listing of an aggregate.
 #[tactic(auto, unfolding(crate::specs::Done::listed_as))]
-fn lines(alloc: Global, agg: &Aggregate) -> Result<Plan, AllocError>
-    ensures { IfOk result (IsPlanOf (Ok (lists (followed agg.now)))) }
+fn lines(alloc: Global, judged: &Judged) -> Result<Plan, AllocError>
+    ensures { IfOk result (IsPlanOf (Ok (lists (followed judged.now)))) }
 {
     let mut output = Vec::new(alloc);
-    listing(alloc, agg, &mut output)?;
+    listing(alloc, &judged.agg, &mut output)?;
     Ok(saving_nothing(alloc, Outcome::Accepted, output))
 }
 
@@ -39,6 +39,6 @@ pub fn list<S: Store>(
     ensures plan { IfSome (S.told store.old) (λ files. IfPlan result (IsPlanOf (list_on files base.now (texts deltas.now)))) }
     ensures quiet { IfPlan result IsQuiet }
 {
-    let agg = accept(alloc, base, deltas, store)?;
-    Ok(lines(alloc, &agg)?)
+    let judged = accept(alloc, base, deltas, store)?;
+    Ok(lines(alloc, &judged)?)
 }

@@ -9,11 +9,11 @@ ghost use Rattle.enc_top.specs.Stops.{IfPlan, IsQuiet};
 ghost use Rattle.enc_top.specs.Loads.{followed};
 
 use crate::commands::accept::accept;
+use crate::judge::Judged;
 use crate::lines::push_absent;
 use crate::plan::{Outcome, Plan};
 use crate::plans::saving_nothing;
 use crate::stop::Stop;
-use enc_agg::Aggregate;
 use enc_base::Token;
 use enc_outside::Store;
 use enc_text::row_text;
@@ -21,12 +21,12 @@ use std::alloc::{AllocError, Global};
 
 /// The row of a token, or that there is none.
 #[tactic(auto, unfolding(crate::specs::Done::shown, crate::specs::Done::row_or_absent))]
-fn row(alloc: Global, agg: &Aggregate, token: Token) -> Result<Plan, AllocError>
-    ensures { IfOk result (IsPlanOf (Ok (shows token (followed agg.now)))) }
+fn row(alloc: Global, judged: &Judged, token: Token) -> Result<Plan, AllocError>
+    ensures { IfOk result (IsPlanOf (Ok (shows token (followed judged.now)))) }
 {
     let mut output = Vec::new(alloc);
-    match agg.locate(token) {
-        Some(place) => row_text(alloc, agg, place, token, &mut output)?,
+    match judged.agg.locate(token) {
+        Some(place) => row_text(alloc, &judged.agg, &judged.debug, place, token, &mut output)?,
         None => push_absent(&mut output, token)?,
     }
     Ok(saving_nothing(alloc, Outcome::Accepted, output))
@@ -45,6 +45,6 @@ pub fn show<S: Store>(
     ensures plan { IfSome (S.told store.old) (λ files. IfPlan result (IsPlanOf (show_on files base.now token (texts deltas.now)))) }
     ensures quiet { IfPlan result IsQuiet }
 {
-    let agg = accept(alloc, base, deltas, store)?;
-    Ok(row(alloc, &agg, token)?)
+    let judged = accept(alloc, base, deltas, store)?;
+    Ok(row(alloc, &judged, token)?)
 }

@@ -1,6 +1,6 @@
 use Rattle.std.proofs.Common.{◌≡◌, length, map}
 use Rattle.enc_top.specs.Verdict.{judge_deltas}
-use Rattle.enc_top.specs.Loads.{file_seen}
+use Rattle.enc_top.specs.Loads.{file_seen, followed}
 use Rattle.enc_top.proofs.judge.judge_deltas.Given as goal
 
 -- what is left is judged after those so far
@@ -9,6 +9,5 @@ invariant-loop-file l = record {
   next : (goal.iterator-loop-file).can_next l.file-iterator;
   finite : (goal.iterator-loop-file).is_finite l.file-iterator;
   many : length l.file-iterator.rest.items ≡ l.file-iterator.rest.len;
-  base : l.agg.base ≡ l.fn.agg.base;
-  judged : judge_deltas l.fn.agg.base l.fn.agg.deltas (map file_seen l.fn.files.items) ≡ judge_deltas l.agg.base l.agg.deltas (map file_seen l.file-iterator.rest.items);
+  judged : judge_deltas (followed l.fn.judged) (map file_seen l.fn.files.items) ≡ judge_deltas (followed l.judged) (map file_seen l.file-iterator.rest.items);
 }
