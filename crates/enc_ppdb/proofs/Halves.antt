@@ -9,7 +9,7 @@ use Rattle.std.proofs.lemmas.List.Sums.{position_or_len_is}
 use Rattle.std.proofs.lemmas.List.Sorted.{IsNonDecreasingBy-push}
 use Rattle.enc_base.specs.Token.{nil, is_token}
 use Rattle.enc_base.specs.declared.token.Token.{Token}
-use Rattle.enc_ppdb.specs.Seen.{token_order, is_next}
+use Rattle.enc_ppdb.specs.Seen.{token_order, is_next, IsCut}
 
 -- what is before the token or past it in order isn't the token
 by_parts : (a b : Bool) → a ≡ true → b ≡ true → (a && b) ≡ true
@@ -25,12 +25,6 @@ other_by t u true e h =
 
 pub other : (t u : Token) → (token_order t ≡ token_order u → ⊥) → is_token t u ≡ false
 other t u h = other_by t u (is_token t u) refl h
-
--- a list that is cut by a token's order: before the cut all are less, and from it on none is
-pub record IsCut (tokens : List Token) (token : Token) (i : ℕ) : Type 0 where
-  pub within : i ≤ length tokens
-  pub less : (k : ℕ) → k < i → token_order (get_or tokens k nil) < token_order token
-  pub rest : (k : ℕ) → i ≤ k → k < length tokens → token_order token ≤ token_order (get_or tokens k nil)
 
 lt_true : (n m : ℕ) → nat_lt n m ≡ true → n < m
 lt_true n m e = grind (arith, nat_tests)
