@@ -12,9 +12,6 @@ use Rattle.enc_base.specs.declared.token.Token.{Token}
 use Rattle.enc_ppdb.specs.Seen.{token_order, is_next, IsCut}
 
 -- what is before the token or past it in order isn't the token
-by_parts : (a b : Bool) → a ≡ true → b ≡ true → (a && b) ≡ true
-by_parts a b e f = rw (e, f) refl
-
 other_by : (t u : Token) (b : Bool) → is_token t u ≡ b → (token_order t ≡ token_order u → ⊥) → is_token t u ≡ false
 other_by t u false e h = e
 other_by t u true e h =

@@ -18,11 +18,6 @@ use Rattle.enc_ppdb.specs.Fault.{map_token_at, named_tokens, fits_map, all_there
 use Rattle.enc_ppdb.specs.Points.{names_method, row_for, delta_points, IsGoodDelta}
 use Rattle.enc_ppdb.proofs.Positions.{position_within, position_none, position_same}
 
--- no fault in either table, none in the second
-pub second_none : (a b : Option Place) → or_else a b ≡ None → b ≡ None
-second_none (Some p) b e = absurd (cc)
-second_none None b e = e
-
 there_some : (count : ℕ) (o : Option MethodPoints) → all_there count o ≡ true → is_some o ≡ true
 there_some count None e = absurd (cc)
 there_some count (Some m) e = refl
