@@ -1,7 +1,7 @@
 -- What a search by halves finds is the first position.
-use Rattle.std.proofs.Common.{◌≡◌, ℕ, zero, suc, ◌+◌, ◌-◌, ◌<◌, ◌≤◌, Bool, true, false, List, [], ◌∷◌, ◌++◌, length, get_or, cond, Option, Some, None, refl, ap, sym, ◌∙◌, inl, inr, arith}
+use Rattle.std.proofs.Common.{◌≡◌, ℕ, zero, suc, ◌-◌, ◌<◌, ◌≤◌, Bool, true, false, List, [], ◌∷◌, ◌++◌, length, get_or, cond, Some, None, refl, ap, sym, ◌∙◌, inl, inr, arith}
 use Rattle.std.specs.Prelude.{◌==◌, ◌&&◌, position, nat_lt, nat_le, IsTrue}
-use Rattle.std.specs.List.{position_or_len, AllWithin}
+use Rattle.std.specs.List.{position_or_len}
 use Rattle.std.specs.List.Sorted.{IsNonDecreasingBy, IsPartitionPoint}
 use Rattle.std.proofs.lemmas.Bool.{and_parts, eqb-true, cases_lt}
 use Rattle.std.proofs.lemmas.Bool.Decides.{nat_tests}
@@ -9,12 +9,9 @@ use Rattle.std.proofs.lemmas.List.Sums.{position_or_len_is}
 use Rattle.std.proofs.lemmas.List.Sorted.{IsNonDecreasingBy-push}
 use Rattle.enc_base.specs.Token.{nil, is_token}
 use Rattle.enc_base.specs.declared.token.Token.{Token}
-use Rattle.enc_ppdb.specs.Seen.{token_order, is_next}
+use Rattle.enc_ppdb.specs.Seen.{token_order, is_next, IsCut}
 
 -- what is before the token or past it in order isn't the token
-by_parts : (a b : Bool) → a ≡ true → b ≡ true → (a && b) ≡ true
-by_parts a b e f = rw (e, f) refl
-
 other_by : (t u : Token) (b : Bool) → is_token t u ≡ b → (token_order t ≡ token_order u → ⊥) → is_token t u ≡ false
 other_by t u false e h = e
 other_by t u true e h =
@@ -26,21 +23,11 @@ other_by t u true e h =
 pub other : (t u : Token) → (token_order t ≡ token_order u → ⊥) → is_token t u ≡ false
 other t u h = other_by t u (is_token t u) refl h
 
--- a list that is cut by a token's order: before the cut all are less, and from it on none is
-pub record IsCut (tokens : List Token) (token : Token) (i : ℕ) : Type 0 where
-  pub within : i ≤ length tokens
-  pub less : (k : ℕ) → k < i → token_order (get_or tokens k nil) < token_order token
-  pub rest : (k : ℕ) → i ≤ k → k < length tokens → token_order token ≤ token_order (get_or tokens k nil)
-
 lt_true : (n m : ℕ) → nat_lt n m ≡ true → n < m
 lt_true n m e = grind (arith, nat_tests)
 
 le_true : (n m : ℕ) → nat_le n m ≡ true → n ≤ m
 le_true n m e = grind (arith, nat_tests)
-
-true_by : (b : Bool) → IsTrue b → b ≡ true
-true_by true h = refl
-true_by false h = absurd h
 
 lt_false : (n m : ℕ) → nat_lt n m ≡ false → m ≤ n
 lt_false n m e = grind (arith, nat_tests)
@@ -105,5 +92,5 @@ next_le tokens token d next some =
 
 pub rises_more : (rises : Bool) (tokens more : List Token) (token : Token) (still : Bool) → (IsTrue rises → IsNonDecreasingBy token_order tokens) → still ≡ (rises && is_next tokens token) → more ≡ tokens ++ token ∷ [] → IsTrue still → IsNonDecreasingBy token_order more
 rises_more rises tokens more token still before is grown holds =
-    let parts = and_parts rises (is_next tokens token) (sym is ∙ true_by still holds) in
-    rw grown (IsNonDecreasingBy-push token_order tokens token (before (rw parts.0 tt)) (λ d some. next_le tokens token d parts.1 some))
+    let parts = and_parts rises (is_next tokens token) (sym is ∙ holds) in
+    rw grown (IsNonDecreasingBy-push token_order tokens token (before parts.0) (λ d some. next_le tokens token d parts.1 some))

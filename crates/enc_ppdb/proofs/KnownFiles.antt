@@ -1,7 +1,6 @@
 -- The newest file that knows a method, as it is looked for.
-use Rattle.std.proofs.Common.{◌≡◌, ℕ, zero, suc, ◌+◌, ◌-◌, ◌<◌, ◌≤◌, Bool, true, false, List, [], ◌∷◌, ◌++◌, length, get_or, take, reverse, Option, Some, None, refl, ap, sym, ◌∙◌, arith}
+use Rattle.std.proofs.Common.{◌≡◌, ℕ, zero, suc, ◌-◌, ◌<◌, ◌≤◌, true, false, List, [], ◌∷◌, ◌++◌, length, get_or, take, reverse, Option, Some, None, refl, ap, sym, ◌∙◌, arith}
 use Rattle.std.specs.List.{list_any}
-use Rattle.std.proofs.lemmas.Grind.{common_steps}
 use Rattle.std.proofs.lemmas.List.{reverse-append}
 use Rattle.enc_base.specs.Token.{is_token}
 use Rattle.enc_base.specs.declared.token.Token.{Token}
@@ -13,7 +12,18 @@ use Rattle.enc_ppdb.specs.Seen.{known_or, known_at}
 by_last : (xs : List DebugDelta) (x : DebugDelta) → 1 ≤ length xs → x ≡ get_or xs (length xs - 1) x → xs ≡ take (length xs - 1) xs ++ x ∷ []
 by_last [] x some is = absurd (omega arith)
 by_last (y ∷ []) x some is = let e : x ≡ y = is in rw e refl
-by_last (y ∷ z ∷ ys) x some is = ap (λ l. y ∷ l) (by_last (z ∷ ys) x (omega arith) is)
+by_last (y ∷ z ∷ ys) x some is =
+    let e : length (y ∷ z ∷ ys) - 1 ≡ suc (length (z ∷ ys) - 1) = omega arith in
+    rw e (ap (λ l. y ∷ l) (by_last (z ∷ ys) x (omega arith) (rw e at is)))
+
+take_short : (n : ℕ) (xs : List DebugDelta) → length (take n xs) ≤ length xs
+take_short zero xs = omega arith
+take_short (suc n) [] = omega arith
+take_short (suc n) (x ∷ xs) = omega (arith, take_short n xs)
+
+-- those before it are no more
+pub fewer_left : (n m : ℕ) (xs : List DebugDelta) → length xs ≤ m → length (take n xs) ≤ m
+fewer_left n m xs le = omega (arith, take_short n xs)
 
 newest_first : (xs : List DebugDelta) (x : DebugDelta) → 1 ≤ length xs → x ≡ get_or xs (length xs - 1) x → reverse xs ≡ x ∷ reverse (take (length xs - 1) xs)
 newest_first xs x some is = ap reverse (by_last xs x some is) ∙ reverse-append (take (length xs - 1) xs) (x ∷ [])

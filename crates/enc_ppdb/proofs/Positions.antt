@@ -1,9 +1,7 @@
 -- The first position that passes a test.
-use Rattle.std.proofs.Common.{◌≡◌, ℕ, zero, suc, ◌+◌, ◌<◌, ◌≤◌, Bool, true, false, List, [], ◌∷◌, length, get_or, Option, Some, None, refl, ap, sym, ◌∙◌, inl, inr, arith}
-use Rattle.std.specs.Prelude.{◌||◌, ◌==◌, ◌&&◌, position, slice_get, filter, is_some, option_map, option_and_then, zip, nat_le, IsTrue, if◌then◌else◌}
+use Rattle.std.proofs.Common.{◌≡◌, ℕ, suc, ◌+◌, ◌<◌, Bool, true, false, List, [], ◌∷◌, length, Option, Some, None, refl, sym, ◌∙◌, arith}
+use Rattle.std.specs.Prelude.{◌||◌, position, filter, is_some, option_map, if◌then◌else◌}
 use Rattle.std.specs.List.{list_any}
-use Rattle.enc_base.specs.Token.{is_token}
-use Rattle.enc_base.specs.declared.token.Token.{Token}
 use Rattle.enc_plain.proofs.Owned.{position_cons}
 
 some_or : (a b : Bool) (o : Option ℕ) → is_some o ≡ b → is_some (if a then Some 0 else option_map suc o) ≡ (a || b)

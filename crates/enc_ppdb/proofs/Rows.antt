@@ -2,7 +2,7 @@
 use Rattle.std.proofs.Common.{◌≡◌, ℕ, ◌<◌, ◌^◌, Bool, List, true, false, Option, Some, None, length, map, refl, ap, ◌∙◌, sym, arith}
 use Rattle.std.proofs.lemmas.Bool.{eqb-true}
 use Rattle.std.specs.Prelude.{◌==◌, is_some, position, option_map, option_and_then, Result, Ok, Err, IfOk}
-use Rattle.enc_base.specs.Order.{or_else, first_below}
+use Rattle.enc_base.specs.Order.{or_else}
 use Rattle.enc_base.specs.Token.{nth_row, is_token}
 use Rattle.enc_base.specs.declared.token.Token.{Token}
 use Rattle.enc_base.specs.declared.refusal.Place.{Place}
@@ -17,11 +17,6 @@ use Rattle.enc_ppdb.specs.Pdb.{points_of}
 use Rattle.enc_ppdb.specs.Fault.{map_token_at, named_tokens, fits_map, all_there, is_method, unless_good, method_fault, methods_fault}
 use Rattle.enc_ppdb.specs.Points.{names_method, row_for, delta_points, IsGoodDelta}
 use Rattle.enc_ppdb.proofs.Positions.{position_within, position_none, position_same}
-
--- no fault in either table, none in the second
-pub second_none : (a b : Option Place) → or_else a b ≡ None → b ≡ None
-second_none (Some p) b e = absurd (cc)
-second_none None b e = e
 
 there_some : (count : ℕ) (o : Option MethodPoints) → all_there count o ≡ true → is_some o ≡ true
 there_some count None e = absurd (cc)

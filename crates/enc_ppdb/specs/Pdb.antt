@@ -1,5 +1,5 @@
 -- What the bytes of a Portable PDB say: its counts of another module's rows, its documents, and the points of its methods (Portable PDB v1.0).
-use Rattle.std.specs.Prelude.{ℕ, zero, suc, ◌+◌, ◌*◌, true, List, [], ◌∷◌, map, length, drop, replicate, Option, Some, None, option_map, option_and_then, unwrap_or, nat_le, if◌then◌else◌}
+use Rattle.std.specs.Prelude.{ℕ, ◌+◌, ◌*◌, true, List, [], map, length, replicate, Option, Some, None, option_map, option_and_then, unwrap_or, nat_le, if◌then◌else◌}
 use Rattle.std.specs.Int.{w32, w64}
 use Rattle.enc_base.specs.Numbers.{little_endian_at}
 use Rattle.enc_base.specs.declared.token.Token.{Token}

@@ -1,7 +1,7 @@
 -- The PDBs of a base and its deltas, and the plain PDB that they mean (Portable PDB v1.0).
 use Rattle.std.specs.Prelude.{ℕ, ◌&&◌, ◌==◌, List, [], ◌∷◌, Option, Some, None, option_map, option_and_then, unwrap_or, nat_le, if◌then◌else◌}
 use Rattle.std.specs.List.{list_any}
-use Rattle.enc_base.specs.Token.{nil, is_token}
+use Rattle.enc_base.specs.Token.{is_token}
 use Rattle.enc_base.specs.declared.token.Token.{Token}
 use Rattle.enc_meta.specs.Heaps.{blob_at, guid_at, nil_guid}
 use Rattle.enc_plain.specs.Debug.{Document, MethodDebug, PlainPdb, unknown, debug_of}

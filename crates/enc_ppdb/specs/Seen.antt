@@ -1,5 +1,5 @@
 -- What the parts of the program stand for.
-use Rattle.std.specs.Prelude.{◌≡◌, ◌<◌, ◌^◌, ℕ, ◌+◌, ◌-◌, ◌*◌, Bool, true, false, List, [], ◌∷◌, map, length, zip, max, slice_index_or, Option, Some, None, option_map, nat_le, nat_lt, Result, Ok, Err, Vec, refl, if◌then◌else◌}
+use Rattle.std.specs.Prelude.{◌≡◌, ◌<◌, ◌≤◌, ◌^◌, ℕ, ◌+◌, ◌-◌, ◌*◌, Bool, true, false, List, [], ◌∷◌, map, length, zip, max, slice_index_or, Option, Some, None, option_map, nat_le, nat_lt, Result, Ok, Err, Vec, refl, if◌then◌else◌}
 use Rattle.std.specs.List.{list_any}
 use Rattle.std.specs.declared.alloc.Global.{Global}
 use Rattle.enc_base.specs.Token.{nil, nth_row, is_token}
@@ -43,6 +43,12 @@ token_order t = t.table * 0x100000000 + t.row
 -- the token isn't before the last
 abbrev pub is_next : List Token → Token → Bool
 is_next tokens token = nat_le (token_order (slice_index_or tokens (length tokens - 1) nil)) (token_order token)
+
+-- tokens cut by a token's order: before the cut all are less, and from it on none is
+pub record IsCut (tokens : List Token) (token : Token) (i : ℕ) : Type 0 where
+  pub within : i ≤ length tokens
+  pub less : (k : ℕ) → k < i → token_order (slice_index_or tokens k nil) < token_order token
+  pub rest : (k : ℕ) → i ≤ k → k < length tokens → token_order token ≤ token_order (slice_index_or tokens k nil)
 
 -- methods, each with the size of its code
 abbrev pub sized : List Token → List ℕ → List (Token × ℕ)

@@ -1,8 +1,7 @@
 //! The PDBs of a base and its deltas.
-ghost use Rattle.std.specs.Prelude.{◌≡◌, ◌+◌, ◌<◌, ◌≤◌, [], ◌∷◌, IfOk, OnOk, is_some, reverse, slice_get, Some, option_map};
+ghost use Rattle.std.specs.Prelude.{◌≡◌, ◌+◌, ◌<◌, ◌≤◌, [], ◌∷◌, IfOk, OnOk, reverse};
 ghost use Rattle.std.specs.List.{list_any};
 ghost use Rattle.enc_base.specs.Token.{is_token};
-ghost use Rattle.enc_plain.specs.DebugSeen.{document_seen};
 ghost use Rattle.enc_ppdb.specs.PdbChain.{base_row, delta_row, pdb_with, points_at, documents_at};
 ghost use Rattle.enc_ppdb.specs.Seen.{known_at};
 

@@ -34,7 +34,7 @@ impl<'a> Model for Known<'a> {
     ghost invariant = { λ k. documents_fault k.file.now ≡ None };
 }
 
-/// No points, of a method that no file knows.
+/// The points of a method that no file knows: those of an empty blob.
 #[tactic(auto, unfolding(enc_seqpoints::specs::Grammar::points_in))]
 fn no_points(alloc: Global) -> Result<Points, AllocError>
     ensures { IfOk result (λ points. points ≡ method_points 0 []) }

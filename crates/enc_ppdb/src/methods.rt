@@ -2,7 +2,7 @@
 ghost use Rattle.std.specs.Prelude.{◌≡◌, ◌==◌, ◌&&◌, [], ◌∷◌, ◌++◌, ◌<◌, length, position, option_copied, slice_get, Some, OnOk, OnErr};
 ghost use Rattle.std.specs.List.Sorted.{IsNonDecreasingBy};
 ghost use Rattle.enc_base.specs.Token.{is_token};
-ghost use Rattle.enc_ppdb.specs.Seen.{token_order, is_next};
+ghost use Rattle.enc_ppdb.specs.Seen.{token_order, is_next, IsCut};
 
 use enc_base::Token;
 use std::alloc::{AllocError, Global};
@@ -61,13 +61,21 @@ fn is_same(token: Token, other: Token) -> bool
     token.table == other.table && token.row == other.row
 }
 
+/// Where a token would stand: how many of the tokens are before it in order.
+fn cut(tokens: &[Token], token: Token) -> usize
+    requires { IsNonDecreasingBy token_order tokens.now }
+    ensures { IsCut tokens.now token result }
+{
+    let wanted = order(token);
+    tokens.partition_point(|t| order(*t) < wanted)
+}
+
 /// The first position of a token, by a search by halves.
 fn place_by_halves(tokens: &[Token], token: Token) -> Option<usize>
     requires { IsNonDecreasingBy token_order tokens.now }
     ensures { result ≡ position (is_token token) tokens.now }
 {
-    let wanted = order(token);
-    let i = tokens.partition_point(|t| order(*t) < wanted);
+    let i = cut(tokens, token);
     if i >= tokens.len() {
         return None;
     }

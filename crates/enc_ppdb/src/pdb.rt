@@ -1,5 +1,5 @@
 //! The PDB of a module, and that of a delta.
-ghost use Rattle.std.specs.Prelude.{◌≡◌, ◌<◌, ◌^◌, IfOk, is_some, length, take};
+ghost use Rattle.std.specs.Prelude.{◌≡◌, ◌<◌, IfOk, is_some, length, take};
 ghost use Rattle.enc_ppdb.specs.Fault.{pdb_of, pdb_delta_of, named_tokens};
 ghost use Rattle.enc_ppdb.specs.Misplaced.{misplaced_row, first_misplaced};
 ghost use Rattle.enc_ppdb.specs.PdbChain.{row_in_file, row_of_method};

@@ -16,7 +16,7 @@ pub struct CodeSizes {
 }
 
 impl Model for CodeSizes {
-    ghost use Rattle.std.specs.Prelude.{◌≡◌, ℕ, List, length, zip};
+    ghost use Rattle.std.specs.Prelude.{◌≡◌, ℕ, List, length};
     ghost use Rattle.enc_base.specs.declared.token.Token.{Token as TheToken};
     ghost use Rattle.enc_ppdb.specs.Seen.{sized};
 

@@ -1,5 +1,5 @@
-use Rattle.std.proofs.Common.{◌∙◌, sym, arith}
-use Rattle.enc_ppdb.proofs.KnownFiles.{known_last, known_here, known_nowhere, known_before}
+use Rattle.std.proofs.Common.{◌∙◌, ◌-◌, length, sym}
+use Rattle.enc_ppdb.proofs.KnownFiles.{fewer_left, known_last, known_here, known_nowhere, known_before}
 use Rattle.enc_ppdb.proofs.chain.known.Goals as goal
 
 pub returns-in-Some : goal.returns-in-Some
@@ -10,7 +10,7 @@ returns-then-has_changed c = known_nowhere c.args.base.now c.loop-rest.rest.now 
 
 pub loop-rest-preserved : goal.loop-rest-preserved
 loop-rest-preserved c = (
-  search (arith, c.loop-rest.invariant.0),
+  fewer_left (length c.loop-rest.rest.now - 1) (length c.args.added.now) c.loop-rest.rest.now c.loop-rest.invariant.0,
   c.loop-rest.invariant.1 ∙ known_before c.args.base.now c.loop-rest.rest.now c.newest-item.result c.args.method c.in-len1-up.len_at_least c.newest-item.is (sym c.in-None.is ∙ c.known.ensures) (sym c.if-has_changed.false ∙ c.has_changed.ensures),
 )
 

@@ -1,9 +1,7 @@
-use Rattle.std.proofs.Common.{◌≡◌, ◌≤◌, ◌∙◌, Bool, true, sym, arith}
-use Rattle.std.specs.Prelude.{◌&&◌, nat_le}
-use Rattle.std.proofs.lemmas.Bool.Decides.{nat_tests}
+use Rattle.std.proofs.Common.{◌≤◌, ◌∙◌, arith}
 use Rattle.enc_rows.specs.Layout.{rows_of}
 use Rattle.enc_schema.specs.Tables as tables
-use Rattle.enc_ppdb.proofs.Documents.{document_known, document_numbered}
+use Rattle.enc_ppdb.proofs.Documents.{document_numbered}
 use Rattle.enc_ppdb.proofs.known.document_in.Goals as goal
 
 pub returns : goal.returns

@@ -1,4 +1,4 @@
-use Rattle.std.proofs.Common.{◌∙◌, sym}
+use Rattle.std.proofs.Common.{sym}
 use Rattle.enc_base.specs.declared.token.Token.{Token}
 use Rattle.enc_ppdb.specs.Fault.{named_tokens}
 use Rattle.enc_ppdb.specs.Misplaced.{misplaced_row}

@@ -1,8 +1,7 @@
-use Rattle.std.proofs.Common.{◌≡◌, ◌<◌, ◌≤◌, ◌∙◌, Some, length, ap, sym, arith}
-use Rattle.std.specs.Prelude.{slice_get}
+use Rattle.std.proofs.Common.{◌<◌, ◌≤◌, ◌∙◌, length, ap, sym, arith}
 use Rattle.enc_rows.specs.Layout.{rows_of}
 use Rattle.enc_schema.specs.Tables as tables
-use Rattle.enc_ppdb.specs.Seen.{row_ends, is_past_end}
+use Rattle.enc_ppdb.specs.Seen.{is_past_end}
 use Rattle.enc_ppdb.proofs.RowsBroken.{row_behind, row_stray, row_placed, ends_length, read_at, token_at}
 use Rattle.enc_ppdb.proofs.Rows.{as_many}
 use Rattle.enc_ppdb.proofs.pdb.PdbDelta.misplaced_row.Goals as goal

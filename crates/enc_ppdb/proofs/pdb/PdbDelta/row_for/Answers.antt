@@ -1,7 +1,5 @@
-use Rattle.std.proofs.Common.{◌≡◌, ◌<◌, ◌^◌, ◌∙◌, Some, None, ap, sym, arith}
+use Rattle.std.proofs.Common.{◌∙◌, Some, ap, sym, arith}
 use Rattle.enc_base.specs.Token.{is_token}
-use Rattle.enc_schema.specs.Tables as tables
-use Rattle.enc_ppdb.proofs.Positions.{position_within}
 use Rattle.enc_ppdb.proofs.Rows.{row_other, row_missing, row_found, few_rows}
 use Rattle.enc_ppdb.proofs.pdb.PdbDelta.row_for.Goals as goal
 
