@@ -1,5 +1,5 @@
 //! The methods of a delta, and the bodies that they have in it.
-ghost use Rattle.std.specs.Prelude.{◌≡◌, IfOk, option_map};
+ghost use Rattle.std.specs.Prelude.{◌≡◌, ◌<◌, ◌^◌, IfOk, IfSome, length, option_map};
 ghost use Rattle.enc_opcodes.specs.Body.{code_seen};
 ghost use Rattle.enc_checker.specs.Check.{own_code, code_size, code_sizes, new_bodies};
 
@@ -13,7 +13,8 @@ use std::alloc::{AllocError, Global};
 
 /// The body of a method in a delta; None where it has none there.
 fn own_code(delta: &Delta, method: Token) -> Option<CodeRef<'_>>
-    ensures { option_map code_seen result ≡ own_code delta.now method }
+    ensures code { option_map code_seen result ≡ own_code delta.now method }
+    ensures few { IfSome result (λ c. length c.code.now < 2 ^ 32) }
 {
     let own = Token {
         table: method.table,
