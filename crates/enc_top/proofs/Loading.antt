@@ -70,12 +70,12 @@ pub from_nothing : (none now more : ℕ) → none ≡ 0 → now ≡ none + more 
 from_nothing none now more a b = omega (arith, a, b)
 
 -- the files of the base are loaded, and loading those of the deltas stops
-pub accept_stops : (files : Files) (base : List ℕ) (deltas : List (List ℕ)) (f : BaseFiles) (h : Halt) → load_base files base ≡ Ok f → OnPlan h (StopsWith (load_deltas files deltas (base_size f))) → OnPlan h (StopsWith (accept files base deltas))
+pub accept_stops : (files : Files) (base : List ℕ) (deltas : List (List ℕ)) (f : BaseFiles) (h : Halt) → load_base files base 0 ≡ Ok f → OnPlan h (StopsWith (load_deltas files deltas (base_size f))) → OnPlan h (StopsWith (accept files base deltas))
 unfolding accept
 accept_stops files base deltas f h one stops = rw one (halts_then h (load_deltas files deltas (base_size f)) (judge_all base f) stops)
 
 -- all files are loaded
-pub accept_judged : (files : Files) (base : List ℕ) (deltas : List (List ℕ)) (f : BaseFiles) (fs : List DeltaFiles) → load_base files base ≡ Ok f → load_deltas files deltas (base_size f) ≡ Ok fs → accept files base deltas ≡ judge_all base f fs
+pub accept_judged : (files : Files) (base : List ℕ) (deltas : List (List ℕ)) (f : BaseFiles) (fs : List DeltaFiles) → load_base files base 0 ≡ Ok f → load_deltas files deltas (base_size f) ≡ Ok fs → accept files base deltas ≡ judge_all base f fs
 unfolding accept
 accept_judged files base deltas f fs one all = rw (one, all) refl
 

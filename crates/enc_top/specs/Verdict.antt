@@ -88,10 +88,10 @@ pub record BaseFiles : Type 0 where
   pub bytes : List ℕ
   pub debug : Option (List ℕ)
 
-unfoldable pub load_base : Files → List ℕ → Result BaseFiles Stop
-load_base files base = do
-  bytes ← load_one files (dll base) 0
-  debug ← load_optional files (pdb base) (length bytes)
+unfoldable pub load_base : Files → List ℕ → ℕ → Result BaseFiles Stop
+load_base files base before = do
+  bytes ← load_one files (dll base) before
+  debug ← load_optional files (pdb base) (before + length bytes)
   Ok (record { bytes = bytes; debug = debug })
 
 -- how many bytes they have
@@ -184,7 +184,7 @@ judge_all base f fs = do
 -- the files loaded, the base first, and then judged, the base first
 unfoldable pub accept : Files → List ℕ → List (List ℕ) → Result Followed Stop
 accept files base deltas = do
-  f ← load_base files base
+  f ← load_base files base 0
   fs ← load_deltas files deltas (base_size f)
   judge_all base f fs
 

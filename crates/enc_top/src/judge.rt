@@ -1,6 +1,10 @@
 //! Judging a base and its deltas, each after those before it, with their PDBs.
-ghost use Rattle.std.specs.Prelude.{◌≡◌, ◌≢◌, Option, None, map, Ok, IfOk, IsErrOf, string_bytes};
-ghost use Rattle.enc_image.specs.Base.{base_of};
+ghost use Rattle.std.specs.Prelude.{◌≡◌, ◌≢◌, Option, None, length, map, Ok, IfOk, IsErrOf, string_bytes};
+ghost use Rattle.enc_schema.specs.Tables.{method_def};
+ghost use Rattle.enc_plain.specs.Module.{rows_in};
+ghost use Rattle.enc_image.specs.Base.{base_of, chain_of_base};
+ghost use Rattle.enc_ppdb.specs.Fault.{pdb_of};
+ghost use Rattle.enc_ppdb.specs.Seen.{ReadsPdb};
 ghost use Rattle.enc_delta.specs.Delta.{delta_of};
 ghost use Rattle.enc_delta.specs.Judged.{first_meta};
 ghost use Rattle.enc_agg.specs.Seen.{chain_of_all};
@@ -30,16 +34,16 @@ pub struct Judged {
 }
 
 /// Adds a delta that breaks no rule, with its PDB.
-fn add(alloc: Global, judged: &mut Judged, checked: Checked) -> Result<(), AllocError>
-    requires { first_meta (chain_of_all judged.old.agg) checked.delta ≡ None }
-    ensures { IfOk result (λ u. followed judged.new ≡ followed_by (followed judged.old) (accepted checked.delta checked.pdb)) }
+fn add(alloc: Global, held: &mut Judged, checked: Checked) -> Result<(), AllocError>
+    requires { first_meta (chain_of_all held.old.agg) checked.delta ≡ None }
+    ensures { IfOk result (λ u. followed held.new ≡ followed_by (followed held.old) (accepted checked.delta checked.pdb)) }
 {
     let Checked { delta, pdb } = checked;
     let changed = new_bodies(alloc, &delta)?;
-    judged.debug.reserve()?;
-    let ready = judged.agg.prepare(delta)?;
-    judged.agg.commit(ready);
-    judged.debug.add(pdb, changed);
+    held.debug.reserve()?;
+    let ready = held.agg.prepare(delta)?;
+    held.agg.commit(ready);
+    held.debug.add(pdb, changed);
     Ok(())
 }
 
@@ -67,8 +71,8 @@ fn unaccepted(alloc: Global, name: &str, debug_name: &str, fault: ReadFault) -> 
 }
 
 /// The files of a delta judged after the deltas before it, and added.
-fn judge_delta(alloc: Global, judged: &mut Judged, file: DeltaFile) -> Result<(), Stop>
-    ensures step { Adds judged.old judged.new result (in_delta (file_seen file) (judged (chain_of_all judged.old.agg) (delta_of file.metadata.items file.code.items) (bytes_seen file.debug))) }
+fn judge_delta(alloc: Global, held: &mut Judged, file: DeltaFile) -> Result<(), Stop>
+    ensures step { Adds held.old held.new result (in_delta (file_seen file) (judged (chain_of_all held.old.agg) (delta_of file.metadata.items file.code.items) (bytes_seen file.debug))) }
     ensures quiet { StopsQuietly result }
     ensures no_fault { ¬ (IsErrOf result Stop.Failed) }
 {
@@ -84,20 +88,20 @@ fn judge_delta(alloc: Global, judged: &mut Judged, file: DeltaFile) -> Result<()
         il: code,
         pdb: debug,
     };
-    match check(alloc, &judged.agg, files) {
-        Ok(checked) => Ok(add(alloc, judged, checked)?),
+    match check(alloc, &held.agg, files) {
+        Ok(checked) => Ok(add(alloc, held, checked)?),
         Err(fault) => Err(unaccepted(alloc, name.as_str(), debug_name.as_str(), fault)),
     }
 }
 
 /// All deltas, in order.
-fn judge_deltas(alloc: Global, judged: &mut Judged, files: Vec<DeltaFile>) -> Result<(), Stop>
-    ensures step { Comes (λ u. followed judged.new) result (deltas_judged (followed judged.old) (map file_seen files.items)) }
+fn judge_deltas(alloc: Global, held: &mut Judged, files: Vec<DeltaFile>) -> Result<(), Stop>
+    ensures step { Comes (λ u. followed held.new) result (deltas_judged (followed held.old) (map file_seen files.items)) }
     ensures quiet { StopsQuietly result }
     ensures no_fault { ¬ (IsErrOf result Stop.Failed) }
 {
     for file in files {
-        judge_delta(alloc, judged, file)?;
+        judge_delta(alloc, held, file)?;
     }
     Ok(())
 }
@@ -118,6 +122,13 @@ fn judge_base(alloc: Global, base: &str, bytes: Vec<u8>) -> Result<Image, Stop>
     }
 }
 
+/// The PDB of a base, read with as many methods as the base has.
+fn read_pdb(alloc: Global, image: &Image, bytes: Vec<u8>) -> Result<Pdb, ReadFault>
+    ensures { ReadsPdb result (pdb_of bytes.items (length (rows_in (chain_of_base image.now).plain method_def))) }
+{
+    Pdb::read(alloc, bytes, image.count(METHOD_DEF))
+}
+
 /// The PDB of a base, where it has one.
 #[tactic(auto, unfolding(crate::specs::Verdict::base_pdb))]
 fn judge_pdb(
@@ -133,7 +144,7 @@ fn judge_pdb(
     let Some(bytes) = bytes else {
         return Ok(None);
     };
-    match Pdb::read(alloc, bytes, image.count(METHOD_DEF)) {
+    match read_pdb(alloc, image, bytes) {
         Ok(pdb) => Ok(Some(pdb)),
         Err(ReadFault::Memory) => Err(Stop::Memory),
         Err(fault) => {
@@ -158,10 +169,10 @@ pub fn judge_all(
     let BaseFile { bytes, debug } = file;
     let image = judge_base(alloc, base, bytes)?;
     let pdb = judge_pdb(alloc, base, &image, debug)?;
-    let mut judged = Judged {
+    let mut held = Judged {
         agg: Aggregate::begin(alloc, image)?,
         debug: PdbChain::begin(alloc, pdb)?,
     };
-    judge_deltas(alloc, &mut judged, files)?;
-    Ok(judged)
+    judge_deltas(alloc, &mut held, files)?;
+    Ok(held)
 }

@@ -115,6 +115,7 @@ impl Loaded {
     }
 
     /// What the store had of a file that may be absent.
+    #[tactic(auto, using(crate::proofs::Loading::halts_then))]
     fn take_optional(
         &mut self,
         alloc: Global,
@@ -127,7 +128,10 @@ impl Loaded {
         ensures counted { IfOk result (λ b. self.new ≡ self.old + optional_size (bytes_seen b)) }
     {
         match bytes {
-            Some(bytes) => Ok(Some(self.keep(alloc, name, bytes)?)),
+            Some(bytes) => match self.keep(alloc, name, bytes) {
+                Ok(bytes) => Ok(Some(bytes)),
+                Err(stop) => Err(stop),
+            },
             None => Ok(None),
         }
     }
@@ -159,12 +163,11 @@ pub fn load_base<S: Store>(
     loaded: &mut Loaded,
     store: &mut S,
 ) -> Result<BaseFile, Stop>
-    requires { loaded.old ≡ 0 }
     ensures cause { HasCause Stop.Failed (S.faults store.old) (S.faults store.new) result }
     ensures stays { S.told store.new ≡ S.told store.old }
-    ensures step { IfSome (S.told store.old) (λ files. Comes base_seen result (base_from files base.now)) }
+    ensures step { IfSome (S.told store.old) (λ files. Comes base_seen result (base_from files base.now loaded.old)) }
     ensures quiet { StopsQuietly result }
-    ensures counted { IfOk result (λ f. loaded.new ≡ base_size (base_seen f)) }
+    ensures counted { IfOk result (λ f. loaded.new ≡ loaded.old + base_size (base_seen f)) }
 {
     let name = name_of(alloc, base, ".dll")?;
     let bytes = loaded.load(alloc, name.as_str(), store)?;

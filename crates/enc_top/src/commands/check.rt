@@ -29,7 +29,8 @@ fn delta_count(agg: &Aggregate) -> u32
 /// That so many deltas are accepted: all.
 #[tactic(auto, unfolding(crate::specs::Done::counted_as))]
 fn count(alloc: Global, judged: &Judged) -> Result<Plan, AllocError>
-    ensures { IfOk result (IsPlanOf (Ok (counts (followed judged.now)))) }
+    ensures plan { IfOk result (IsPlanOf (Ok (counts (followed judged.now)))) }
+    ensures quiet { IfOk result IsQuiet }
 {
     let mut output = Vec::new(alloc);
     push_accepted(alloc, &mut output, delta_count(&judged.agg))?;

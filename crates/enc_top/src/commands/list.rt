@@ -20,7 +20,8 @@ use std::alloc::{AllocError, Global};
 /// The listing of an aggregate.
 #[tactic(auto, unfolding(crate::specs::Done::listed_as))]
 fn lines(alloc: Global, judged: &Judged) -> Result<Plan, AllocError>
-    ensures { IfOk result (IsPlanOf (Ok (lists (followed judged.now)))) }
+    ensures plan { IfOk result (IsPlanOf (Ok (lists (followed judged.now)))) }
+    ensures quiet { IfOk result IsQuiet }
 {
     let mut output = Vec::new(alloc);
     listing(alloc, &judged.agg, &mut output)?;

@@ -22,7 +22,8 @@ use std::alloc::{AllocError, Global};
 /// The row of a token, or that there is none.
 #[tactic(auto, unfolding(crate::specs::Done::shown, crate::specs::Done::row_or_absent))]
 fn row(alloc: Global, judged: &Judged, token: Token) -> Result<Plan, AllocError>
-    ensures { IfOk result (IsPlanOf (Ok (shows token (followed judged.now)))) }
+    ensures plan { IfOk result (IsPlanOf (Ok (shows token (followed judged.now)))) }
+    ensures quiet { IfOk result IsQuiet }
 {
     let mut output = Vec::new(alloc);
     match judged.agg.locate(token) {

@@ -9,5 +9,5 @@ invariant-loop-file l = record {
   next : (goal.iterator-loop-file).can_next l.file-iterator;
   finite : (goal.iterator-loop-file).is_finite l.file-iterator;
   many : length l.file-iterator.rest.items ≡ l.file-iterator.rest.len;
-  judged : judge_deltas (followed l.fn.judged) (map file_seen l.fn.files.items) ≡ judge_deltas (followed l.judged) (map file_seen l.file-iterator.rest.items);
+  judged : judge_deltas (followed l.fn.held) (map file_seen l.fn.files.items) ≡ judge_deltas (followed l.held) (map file_seen l.file-iterator.rest.items);
 }

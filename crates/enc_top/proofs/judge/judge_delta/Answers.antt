@@ -1,0 +1,10 @@
+use Rattle.std.proofs.Common.{◌∙◌, ap}
+use Rattle.enc_base.specs.declared.refusal.Refusal.{Refusal}
+use Rattle.std.specs.Prelude.{Result}
+use Rattle.enc_checker.specs.Check.{Accepted, accepted}
+use Rattle.enc_top.specs.Verdict.{in_delta}
+use Rattle.enc_top.specs.Loads.{file_seen}
+use Rattle.enc_top.proofs.judge.judge_delta.Goals as goal
+
+pub returns-in-Ok-clause-step : goal.returns-in-Ok-clause-step
+returns-in-Ok-clause-step c = (accepted c.in-Ok.checked.delta c.in-Ok.checked.pdb, ap (λ (r : Result Accepted Refusal). in_delta (file_seen c.args.file) r) c.in-Ok.ensures.answer, c.in_ok-add-in-Ok.ensures)
