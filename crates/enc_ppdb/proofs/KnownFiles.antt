@@ -6,7 +6,7 @@ use Rattle.enc_base.specs.Token.{is_token}
 use Rattle.enc_base.specs.declared.token.Token.{Token}
 use Rattle.enc_rows.specs.Source.{Source}
 use Rattle.enc_ppdb.specs.PdbChain.{DebugDelta, base_row, delta_row}
-use Rattle.enc_ppdb.specs.Seen.{known_or, known_at}
+use Rattle.enc_ppdb.specs.KnownAt.{known_or, known_at}
 
 -- a list by its last element
 by_last : (xs : List DebugDelta) (x : DebugDelta) → 1 ≤ length xs → x ≡ get_or xs (length xs - 1) x → xs ≡ take (length xs - 1) xs ++ x ∷ []

@@ -2,10 +2,8 @@
 use Rattle.std.proofs.Common.{◌≡◌, ℕ, ◌<◌, ◌^◌, Bool, List, true, false, Option, Some, None, length, map, refl, ap, ◌∙◌, sym, arith}
 use Rattle.std.proofs.lemmas.Bool.{eqb-true}
 use Rattle.std.specs.Prelude.{◌==◌, is_some, position, option_map, option_and_then, Result, Ok, Err, IfOk}
-use Rattle.enc_base.specs.Order.{or_else}
 use Rattle.enc_base.specs.Token.{nth_row, is_token}
 use Rattle.enc_base.specs.declared.token.Token.{Token}
-use Rattle.enc_base.specs.declared.refusal.Place.{Place}
 use Rattle.enc_base.proofs.First.{silent}
 use Rattle.enc_rows.specs.Layout.{rows_of}
 use Rattle.enc_rows.specs.Source.{Source}

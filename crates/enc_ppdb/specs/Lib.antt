@@ -4,3 +4,4 @@ pub mod Points
 pub mod Misplaced
 pub mod PdbChain
 pub mod Seen
+pub mod KnownAt

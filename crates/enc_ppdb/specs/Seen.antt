@@ -1,8 +1,7 @@
 -- What the parts of the program stand for.
-use Rattle.std.specs.Prelude.{◌≡◌, ◌<◌, ◌≤◌, ◌^◌, ℕ, ◌+◌, ◌-◌, ◌*◌, Bool, true, false, List, [], ◌∷◌, map, length, zip, max, slice_index_or, Option, Some, None, option_map, nat_le, nat_lt, Result, Ok, Err, Vec, refl, if◌then◌else◌}
-use Rattle.std.specs.List.{list_any}
+use Rattle.std.specs.Prelude.{◌≡◌, ◌<◌, ◌≤◌, ◌^◌, ℕ, ◌+◌, ◌-◌, ◌*◌, Bool, true, List, [], ◌∷◌, map, length, zip, max, slice_index_or, Option, Some, None, option_map, nat_le, nat_lt, Result, Ok, Err, Vec, if◌then◌else◌}
 use Rattle.std.specs.declared.alloc.Global.{Global}
-use Rattle.enc_base.specs.Token.{nil, nth_row, is_token}
+use Rattle.enc_base.specs.Token.{nil, nth_row}
 use Rattle.enc_base.specs.declared.token.Token.{Token}
 use Rattle.enc_base.specs.declared.refusal.Refusal.{Refusal}
 use Rattle.enc_base.specs.declared.refusal.ReadFault.{ReadFault}
@@ -20,8 +19,8 @@ use Rattle.enc_seqpoints.specs.Grammar.{MethodPoints}
 use Rattle.enc_ppdb.specs.Pdb.{points_of}
 use Rattle.enc_ppdb.specs.Fault.{is_document, is_method, documents_fault, methods_fault, refused_at, named_tokens}
 use Rattle.enc_ppdb.specs.Points.{IsGoodDelta}
-use Rattle.enc_plain.specs.Debug.{Document, MethodDebug, unknown, debug_of}
-use Rattle.enc_ppdb.specs.PdbChain.{DebugDelta, document_of, base_row, delta_row, points_at, documents_at, debug_at, debug_or, pdb_begun, pdb_changed, pdb_with}
+use Rattle.enc_plain.specs.Debug.{Document}
+use Rattle.enc_ppdb.specs.PdbChain.{document_of}
 
 -- the root, the ends of its texts and the tables were read from these bytes
 pub record IsPdbOpened (bytes : List ℕ) (r : Root) (e : TextEnds) (l : Layout) : Type 0 where
@@ -98,32 +97,3 @@ good_document s row = if is_document s row then Some (document_of s row) else No
 abbrev pub is_past_end : Option ℕ → ℕ → Bool
 is_past_end None end = true
 is_past_end (Some size) end = nat_lt size end
-
--- where the newest file that knows a method has it: a delta's row, nothing where the method has a new body and no row, and else where it was before
-abbrev pub known_or : Option (Source × Token) → Bool → Option (Source × Token) → Option (Source × Token)
-known_or (Some place) changed before = Some place
-known_or None true before = None
-known_or None false before = before
-
-unfoldable pub known_at : Option Source → List DebugDelta → Token → Option (Source × Token)
-known_at base [] method = base_row base method
-known_at base (d ∷ older) method = known_or (delta_row d.pdb method) (list_any (is_token method) d.changed) (known_at base older method)
-
--- what it says there is what is known of the method
-nothing_known : debug_at None ≡ unknown
-unfolding debug_at debug_of points_at
-nothing_known = refl
-
-knows_or : (place : Option (Source × Token)) (changed : Bool) (before : Option (Source × Token)) (known : MethodDebug) → debug_at before ≡ known → debug_at (known_or place changed before) ≡ debug_or place (if changed then unknown else known)
-knows_or (Some place) changed before known e = refl
-knows_or None true before known e = nothing_known
-knows_or None false before known e = e
-
-by_place : (base : Option Source) (deltas : List DebugDelta) (method : Token) → debug_at (known_at base deltas method) ≡ pdb_with base deltas method
-unfolding known_at pdb_begun pdb_changed pdb_with
-by_place base [] method = refl
-by_place base (d ∷ older) method = knows_or (delta_row d.pdb method) (list_any (is_token method) d.changed) (known_at base older method) (pdb_with base older method) (by_place base older method)
-
-pub knows : (base : Option Source) (deltas : List DebugDelta) (method : Token) → debug_of (documents_at (known_at base deltas method)) (points_at (known_at base deltas method)) ≡ pdb_with base deltas method
-unfolding debug_at
-knows base deltas method = by_place base deltas method

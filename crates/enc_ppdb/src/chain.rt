@@ -3,7 +3,7 @@ ghost use Rattle.std.specs.Prelude.{◌≡◌, ◌+◌, ◌<◌, ◌≤◌, [], 
 ghost use Rattle.std.specs.List.{list_any};
 ghost use Rattle.enc_base.specs.Token.{is_token};
 ghost use Rattle.enc_ppdb.specs.PdbChain.{base_row, delta_row, pdb_with, points_at, documents_at};
-ghost use Rattle.enc_ppdb.specs.Seen.{known_at};
+ghost use Rattle.enc_ppdb.specs.KnownAt.{known_at};
 
 use crate::known::{Known, document_at, points_at};
 use crate::methods::MethodList;
@@ -126,7 +126,7 @@ impl PdbChain {
 }
 
 impl PointSource for PdbChain {
-    ghost use Rattle.enc_ppdb.specs.Seen.{knows as known_by};
+    ghost use Rattle.enc_ppdb.specs.KnownAt.{knows as known_by};
 
     ghost debug = { λ h. pdb_with h.base h.deltas };
 

@@ -1,6 +1,6 @@
 use Rattle.std.proofs.Common.{◌≡◌, ◌≤◌, length}
 use Rattle.std.specs.Prelude.{reverse}
-use Rattle.enc_ppdb.specs.Seen.{known_at}
+use Rattle.enc_ppdb.specs.KnownAt.{known_at}
 use Rattle.enc_ppdb.proofs.chain.known.Given as goal
 
 abbrev pub invariant-loop-rest : goal.invariant-loop-rest
