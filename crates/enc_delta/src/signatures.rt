@@ -26,22 +26,16 @@ pub struct Signatures {
 
 /// Whether a blob is a signature of the table.
 #[tactic(auto, using(crate::proofs::SignaturesAfter::judged_alike))]
-fn is_one<C: ChainView>(
-    alloc: Global,
-    context: &Context<'_, C>,
-    table: u8,
-    blob: &[u8],
-) -> Result<bool, AllocError>
-    ensures { IfOk result (λ good. good ≡ is_signature (rows_with context.now.chain (listed context.now.delta)) table blob.now) }
+fn is_one<C: ChainView>(context: &Context<'_, C>, table: u8, blob: &[u8]) -> bool
+    ensures { result ≡ is_signature (rows_with context.now.chain (listed context.now.delta)) table blob.now }
 {
-    is_signature(alloc, table, blob, context.counts())
+    is_signature(table, blob, context.counts())
 }
 
 /// Whether a signature of the known ones' table stands at an offset of the joined `#Blob`. One that is
 /// known isn't read again, so rows that share a signature cost what one does.
 #[tactic(auto, using(enc_base::proofs::Passed::one_passes))]
 fn is_known_signature<C: ChainView>(
-    alloc: Global,
     context: &Context<'_, C>,
     offset: u32,
     known: &mut Signatures,
@@ -53,7 +47,7 @@ fn is_known_signature<C: ChainView>(
     if known.offsets.contains(&offset) {
         return Ok(true);
     }
-    if !is_one(alloc, context, known.table, context.blob_or_none(offset))? {
+    if !is_one(context, known.table, context.blob_or_none(offset)) {
         return Ok(false);
     }
     known.offsets.insert(offset)?;
@@ -64,7 +58,6 @@ fn is_known_signature<C: ChainView>(
 /// are forgotten.
 #[tactic(auto, using(enc_base::proofs::Passed::none_pass))]
 fn is_signature_at<C: ChainView>(
-    alloc: Global,
     context: &Context<'_, C>,
     table: u8,
     offset: u32,
@@ -75,16 +68,15 @@ fn is_signature_at<C: ChainView>(
     ensures known { OnOk result (AreJoinedSignatures context.now known.new) }
 {
     if table == known.table {
-        return is_known_signature(alloc, context, offset, known);
+        return is_known_signature(context, offset, known);
     }
     known.table = table;
     known.offsets.clear();
-    is_known_signature(alloc, context, offset, known)
+    is_known_signature(context, offset, known)
 }
 
 /// Whether a row's signature is one by the rows after the delta.
 fn is_row_signature<C: ChainView>(
-    alloc: Global,
     context: &Context<'_, C>,
     token: Token,
     column: u8,
@@ -97,20 +89,18 @@ fn is_row_signature<C: ChainView>(
 {
     match context.delta.place(token) {
         Some(place) => is_signature_at(
-            alloc,
             context,
             token.table,
             context.own(token, place, column),
             known,
         ),
-        None => is_one(alloc, context, token.table, context.blob(token, column)),
+        None => Ok(is_one(context, token.table, context.blob(token, column))),
     }
 }
 
 /// The place of a row's signature that isn't one by the context after the delta.
 #[tactic(auto, unfolding(crate::specs::Changes::bad_signature_in, crate::specs::Changes::bad_signature_at))]
 fn bad_signature_in<C: ChainView>(
-    alloc: Global,
     context: &Context<'_, C>,
     token: Token,
     known: &mut Signatures,
@@ -122,7 +112,7 @@ fn bad_signature_in<C: ChainView>(
     let Some(column) = signature_column(token.table) else {
         return Ok(None);
     };
-    match is_row_signature(alloc, context, token, column, known) {
+    match is_row_signature(context, token, column, known) {
         Err(error) => Err(error),
         Ok(true) => Ok(None),
         Ok(false) => Ok(Some(Place::Cell(token, column))),
@@ -130,8 +120,7 @@ fn bad_signature_in<C: ChainView>(
 }
 
 /// The first signature that isn't one. It reads each signature of a table once, whatever the number of
-/// rows that share it, and takes memory for one signature at a time and for the offsets of one
-/// table's.
+/// rows that share it, and takes memory for the offsets of one table's.
 #[tactic(auto, using(enc_base::proofs::First::first_none, enc_base::proofs::First::first_found, enc_base::proofs::First::first_more), unfolding(crate::specs::Changes::bad_signature))]
 pub fn bad_signature<C: ChainView>(
     alloc: Global,
@@ -146,7 +135,7 @@ pub fn bad_signature<C: ChainView>(
     let tokens = context.tokens();
     for k in 0..tokens.len() {
         let token = tokens[k];
-        match bad_signature_in(alloc, context, token, &mut known) {
+        match bad_signature_in(context, token, &mut known) {
             Err(error) => return Err(error),
             Ok(Some(place)) => return Ok(Some(place)),
             Ok(None) => {}

@@ -29,7 +29,6 @@ fn blob_or_none<'a>(cells: &Cells<'a>, offset: u32) -> &'a [u8]
 /// that share a signature cost what one does.
 #[tactic(auto, using(enc_base::proofs::Passed::one_passes))]
 fn is_signature_at(
-    alloc: Global,
     cells: &Cells<'_>,
     table: u8,
     offset: u32,
@@ -43,7 +42,7 @@ fn is_signature_at(
         return Ok(true);
     }
     let blob = blob_or_none(cells, offset);
-    if !is_signature(alloc, table, blob, cells.tables.counts())? {
+    if !is_signature(table, blob, cells.tables.counts()) {
         return Ok(false);
     }
     known.insert(offset)?;
@@ -53,7 +52,6 @@ fn is_signature_at(
 /// The place of a signature that isn't one.
 #[tactic(auto, unfolding(crate::specs::Base::signature_fault_at))]
 fn signature_fault_at(
-    alloc: Global,
     cells: &Cells<'_>,
     table: u8,
     column: u8,
@@ -70,7 +68,7 @@ fn signature_fault_at(
 {
     let row = Token { table, row: r + 1 };
     let offset = cells.tables.cell(cells.bytes, row, column);
-    match is_signature_at(alloc, cells, table, offset, known) {
+    match is_signature_at(cells, table, offset, known) {
         Err(error) => Err(error),
         Ok(true) => Ok(None),
         Ok(false) => Ok(Some(Place::Cell(row, column))),
@@ -91,7 +89,7 @@ fn signature_fault_below(
 {
     let mut known = BTreeSet::new(alloc);
     for r in 0..cells.tables.count(table) {
-        match signature_fault_at(alloc, cells, table, column, r, &mut known) {
+        match signature_fault_at(cells, table, column, r, &mut known) {
             Err(error) => return Err(error),
             Ok(Some(place)) => return Ok(Some(place)),
             Ok(None) => {}
@@ -117,8 +115,8 @@ fn signature_fault_in(
 }
 
 /// F11: the first signature that isn't one of its kind (ECMA-335 II.23.2). It reads each signature
-/// of a table once, whatever the number of rows that share it, and takes memory for one signature at
-/// a time and for the offsets of one table's.
+/// of a table once, whatever the number of rows that share it, and takes memory for the offsets of one
+/// table's.
 #[tactic(auto, using(enc_base::proofs::First::first_none, enc_base::proofs::First::first_found, enc_base::proofs::First::first_more), unfolding(crate::specs::Base::signature_fault))]
 pub fn signature_fault(alloc: Global, cells: &Cells<'_>) -> Result<Option<Place>, AllocError>
     requires { IsWithin (part cells.now.bytes.now cells.now.tables.now.span) cells.now.tables.now }

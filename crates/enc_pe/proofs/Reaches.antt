@@ -147,3 +147,14 @@ pub within_last : (items xs : List Corner) (c : Corner) (i : ℕ) (last : Corner
 within_last items xs c i last same there is end begin =
     let low : i < length xs = rw same at there in
     within_one xs c i low (begin i low) (rw (seen_default items xs i last is same low) at end)
+
+-- no sections hold nothing, and one section more at the end
+pub reach_none : ReachOf [] []
+reach_none first many low few = refl
+
+pub reach_more : (xs all : List Section) (s : Section) (left own joined : List Corner) → all ≡ xs ++ s ∷ [] → ReachOf xs left → own ≡ corner_of s ∷ [] → AreJoined joined left own → ReachOf all joined
+reach_more xs all s left own joined is h one j = rw is (reach_of xs [] s left [] own own joined h reach_none one (λ first behind. right_false (list_any (covers first behind) own)) j)
+  where
+    right_false : (b : Bool) → b ≡ (b || false)
+    right_false true = refl
+    right_false false = refl

@@ -1,6 +1,6 @@
 -- The first section that holds a range, in a list and in a tree.
-use Rattle.std.proofs.Common.{◌≡◌, ℕ, zero, suc, ◌+◌, ◌-◌, ◌<◌, Bool, true, false, List, [], ◌∷◌, ◌++◌, Box, Option, Some, None, refl, sym, ap, ◌∙◌, arith, append_assoc}
-use Rattle.std.specs.Prelude.{find}
+use Rattle.std.proofs.Common.{◌≡◌, ℕ, zero, suc, ◌+◌, ◌-◌, ◌<◌, Bool, true, false, List, [], ◌∷◌, ◌++◌, ◌≤◌, length, drop, Box, Option, Some, None, refl, sym, ap, ◌∙◌, arith, append_assoc}
+use Rattle.std.specs.Prelude.{find, slice_get}
 use Rattle.std.specs.List.{list_any}
 use Rattle.std.specs.declared.alloc.Global.{Global}
 use Rattle.enc_pe.specs.declared.section.Section.{Section}
@@ -64,3 +64,20 @@ listed_more bytes at n i s less is = let e : n - i ≡ suc (n - (i + 1)) = omega
 -- one more at the end
 pub pushed : (items new rest behind all : List Section) (s : Section) → new ≡ items ++ s ∷ [] → behind ≡ s ∷ rest → (items ++ behind) ≡ all → (new ++ rest) ≡ all
 pushed items new rest behind all s is more before = ap (λ xs. xs ++ rest) is ∙ append_assoc items (s ∷ []) rest ∙ ap (λ xs. items ++ xs) (sym more) ∙ before
+
+-- in a list, one after the other
+pub found_at : (p : Section → Bool) (xs : List Section) (i : ℕ) (x : Section) → slice_get xs i ≡ Some x → p x ≡ true → Some x ≡ find p (drop i xs)
+found_at p [] i x is good = absurd cc
+found_at p (y ∷ ys) zero x is good = let e : y ≡ x = cc in rw (e, good) refl
+found_at p (y ∷ ys) (suc i) x is good = found_at p ys i x is good
+
+pub found_later : (p : Section → Bool) (xs : List Section) (i : ℕ) (x : Section) → slice_get xs i ≡ Some x → p x ≡ false → find p (drop i xs) ≡ find p (drop (i + 1) xs)
+found_later p [] i x is bad = absurd cc
+found_later p (y ∷ ys) zero x is bad = let e : y ≡ x = cc in rw (e, bad) refl
+found_later p (y ∷ ys) (suc i) x is bad = let e : suc i + 1 ≡ suc (i + 1) = omega arith in rw e (found_later p ys i x is bad)
+
+pub found_nowhere : (p : Section → Bool) (xs : List Section) (i : ℕ) → length xs ≤ i → None ≡ find p (drop i xs)
+found_nowhere p [] zero h = refl
+found_nowhere p [] (suc i) h = refl
+found_nowhere p (x ∷ xs) zero h = absurd (omega arith)
+found_nowhere p (x ∷ xs) (suc i) h = found_nowhere p xs i (omega arith)

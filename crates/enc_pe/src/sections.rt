@@ -11,8 +11,11 @@ use crate::section::{Section, holds, section_at};
 use std::alloc::{AllocError, Global};
 use std::marker::Model;
 
-/// The sections of a file in the order of their headers. One stands between those before it and those
-/// behind it, and each part knows which ranges of RVAs its sections hold.
+/// How many sections stand in a list at most; more are a tree.
+const LIST: usize = 32;
+
+/// The sections of a file in the order of their headers: a short list, or one that stands between those
+/// before it and those behind it. Each part knows which ranges of RVAs its sections hold.
 #[cycle(sections)]
 #[derive(Drop)]
 pub struct Sections {
@@ -23,7 +26,7 @@ pub struct Sections {
 #[cycle(sections)]
 #[derive(Drop)]
 enum Node {
-    Leaf,
+    List(Vec<Section>),
     Fork(Box<Sections>, Section, Box<Sections>),
 }
 
@@ -71,7 +74,44 @@ fn list_of(
     Ok(list)
 }
 
+/// The ranges of RVAs that the sections of a list hold.
+fn reach_of(alloc: Global, list: &[Section]) -> Result<Reach, AllocError>
+    ensures { IfOk result (ReachOf list.now) }
+{
+    let mut reach = Reach::begin(alloc);
+    for i in 0..list.len() {
+        let own = Reach::one(alloc, corner_of(list[i]))?;
+        reach = joined(alloc, &reach, &own)?;
+    }
+    Ok(reach)
+}
+
+/// The first section of a list that holds the whole range of RVAs.
+fn first_in(list: &[Section], rva: u32, len: u32) -> Option<Section>
+    ensures { result ≡ find (holds rva len) list.now }
+{
+    for i in 0..list.len() {
+        let section = list[i];
+        if holds(rva, len, section) {
+            return Some(section);
+        }
+    }
+    None
+}
+
 impl Sections {
+    /// The sections of a short list.
+    fn listed(alloc: Global, list: &[Section]) -> Result<Sections, AllocError>
+        ensures { IfOk result (λ s. s ≡ list.now) }
+    {
+        let reach = reach_of(alloc, list)?;
+        let sections = Vec::from_slice(alloc, list)?;
+        Ok(Sections {
+            reach,
+            node: Node::List(sections),
+        })
+    }
+
     /// The ranges of RVAs that two parts and the section between them hold.
     fn reach_with(
         alloc: Global,
@@ -109,12 +149,12 @@ impl Sections {
     fn over(alloc: Global, list: &[Section]) -> Result<Sections, AllocError>
         ensures { IfOk result (λ s. s ≡ list.now) }
     {
+        if list.len() <= LIST {
+            return Sections::listed(alloc, list);
+        }
         let (front, back) = list.split_at(list.len() / 2);
         let [middle, rest @ ..] = back else {
-            return Ok(Sections {
-                reach: Reach::begin(alloc),
-                node: Node::Leaf,
-            });
+            unreachable!()
         };
         let left = Sections::over(alloc, front)?;
         let right = Sections::over(alloc, rest)?;
@@ -141,7 +181,7 @@ impl Sections {
         ensures { result ≡ find (holds rva len) self.now }
     {
         match &self.node {
-            Node::Leaf => None,
+            Node::List(list) => first_in(list, rva, len),
             Node::Fork(left, middle, right) => {
                 if left.reaches(rva, len) {
                     return left.first_with(rva, len);
@@ -155,7 +195,7 @@ impl Sections {
     }
 
     /// The sections of the file that a container was read from. It takes memory for each of them, as
-    /// often as they can be halved.
+    /// often as they can be halved before a short list is left.
     pub fn read(alloc: Global, bytes: &[u8], container: &Container) -> Result<Sections, AllocError>
         ensures { IfOk result (λ s. s ≡ sections_of bytes.now container.now.sections) }
     {

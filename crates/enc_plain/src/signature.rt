@@ -1,5 +1,5 @@
 //! Which blobs are signatures, and of which kind (ECMA-335 II.22, II.23.2).
-ghost use Rattle.std.specs.Prelude.{◌≡◌, Some, IfOk, IfSome, slice_index};
+ghost use Rattle.std.specs.Prelude.{◌≡◌, Some, IfSome, slice_index};
 ghost use Rattle.enc_plain.specs.Cell.{kind_in, blobs};
 ghost use Rattle.enc_plain.specs.Signatures.{signature_column, member_kind, alone_kind, kind_in_table, is_signature};
 
@@ -7,8 +7,7 @@ use enc_base::Counts;
 use enc_schema::tables::{
     FIELD, MEMBER_REF, METHOD_DEF, METHOD_SPEC, PROPERTY, STAND_ALONE_SIG, TYPE_SPEC,
 };
-use enc_sigs::{SigFault, SigKind, read_sig};
-use std::alloc::{AllocError, Global};
+use enc_sigs::{SigKind, is_sig};
 
 /// The column of a table that holds a signature: of Field, MethodDef, MemberRef, StandAloneSig,
 /// Property, TypeSpec and MethodSpec (ECMA-335 II.22.15, II.22.26, II.22.25, II.22.36, II.22.34,
@@ -67,19 +66,10 @@ pub fn kind_in_table(table: u8, blob: &[u8]) -> SigKind
 }
 
 /// Whether the blob is a signature of its table's kind whose tokens name rows, where each table has
-/// so many (ECMA-335 II.23.2). It fails where memory for what is read can't be had.
+/// so many (ECMA-335 II.23.2). It takes no memory.
 #[tactic(auto, unfolding(crate::specs::Signatures::is_signature))]
-pub fn is_signature(
-    alloc: Global,
-    table: u8,
-    blob: &[u8],
-    counts: &Counts,
-) -> Result<bool, AllocError>
-    ensures { IfOk result (λ good. good ≡ is_signature (slice_index counts.now.rows) table blob.now) }
+pub fn is_signature(table: u8, blob: &[u8], counts: &Counts) -> bool
+    ensures { result ≡ is_signature (slice_index counts.now.rows) table blob.now }
 {
-    match read_sig(alloc, kind_in_table(table, blob), blob, counts) {
-        Ok(_) => Ok(true),
-        Err(SigFault::Grammar) => Ok(false),
-        Err(SigFault::Memory) => Err(AllocError),
-    }
+    is_sig(kind_in_table(table, blob), blob, counts)
 }

@@ -78,19 +78,17 @@ fn takes_absent_rows_for_alike_themselves_alone(rt: HostRuntime) -> Result<(), F
 }
 
 #[test]
-fn judges_signatures(rt: HostRuntime) -> Result<(), Fail> {
-    let alloc = rt.alloc();
+fn judges_signatures(rt: HostRuntime) {
     let mut rows = [0; 64];
     rows[0x01] = 1;
     let counts = Counts { rows };
-    assert!(rt; is_signature(alloc, 0x04, &[6, 8], &counts)?);
-    assert!(rt; !is_signature(alloc, 0x04, &[6, 8, 0], &counts)?);
-    assert!(rt; is_signature(alloc, 0x04, &[6, 0x12, 5], &counts)?);
-    assert!(rt; !is_signature(alloc, 0x04, &[6, 0x12, 9], &counts)?);
-    assert!(rt; !is_signature(alloc, 0x06, &[6, 8], &counts)?);
-    assert!(rt; is_signature(alloc, 0x0a, &[6, 8], &counts)?);
-    assert!(rt; is_signature(alloc, 0x11, &[7, 1, 8], &counts)?);
-    Ok(())
+    assert!(rt; is_signature(0x04, &[6, 8], &counts));
+    assert!(rt; !is_signature(0x04, &[6, 8, 0], &counts));
+    assert!(rt; is_signature(0x04, &[6, 0x12, 5], &counts));
+    assert!(rt; !is_signature(0x04, &[6, 0x12, 9], &counts));
+    assert!(rt; !is_signature(0x06, &[6, 8], &counts));
+    assert!(rt; is_signature(0x0a, &[6, 8], &counts));
+    assert!(rt; is_signature(0x11, &[7, 1, 8], &counts));
 }
 
 #[test]

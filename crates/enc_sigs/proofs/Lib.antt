@@ -10,3 +10,4 @@ pub mod Depth
 pub mod Wider
 pub mod Fronts
 mod ReadBack
+pub mod Left

@@ -29,3 +29,7 @@ behind ts o = option_map (λ (p : List Tree × List ℕ). (ts ++ p.0, p.1)) o
 abbrev pub AreRead : Result (Vec Tree Global × Bor (List ℕ)) SigFault → Option (List Tree × List ℕ) → Type 0
 AreRead (Ok p) o = o ≡ Some (p.0.items, p.1.now)
 AreRead (Err f) o = Refused f o
+
+-- what is left behind what is read
+abbrev pub left_after : {A : Type 0} → Option (A × List ℕ) → Option (List ℕ)
+left_after o = option_map (λ p. p.1) o

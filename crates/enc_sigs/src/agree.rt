@@ -5,12 +5,9 @@ ghost use Rattle.enc_sigs.specs.Grammar.{byte_in};
 ghost use Rattle.enc_sigs.specs.Agree.{sigs_agree};
 ghost use Rattle.enc_sigs.specs.Walk.{alike_alone, counted_walk, accessed_walk, type_walk, front_walk, both_end, Tells};
 
-use crate::kind::SigKind;
+use crate::kind::{DEPTH, SigKind};
 use crate::walk::{count_of_both, elem_of_both, many_of_both, method_of_both};
 use enc_base::Token;
-
-/// How deep types may stand in one another.
-const DEPTH: u32 = 100;
 
 /// What is behind this byte in both.
 #[tactic(auto, unfolding(crate::specs::Walk::alike_alone, crate::specs::Grammar::byte_in))]

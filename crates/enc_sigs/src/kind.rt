@@ -17,6 +17,9 @@ pub enum SigKind {
     MethodSpec,
 }
 
+/// How deep types may stand in one another.
+pub(crate) const DEPTH: u32 = 100;
+
 /// Why a signature isn't read: there is no memory, or the blob is outside the grammar.
 #[derive(Clone, Copy, Debug, PartialEq, Eq)]
 pub enum SigFault {

@@ -6,6 +6,7 @@ mod agree;
 mod elem;
 mod form;
 mod held;
+mod judge;
 mod kind;
 mod laws;
 mod number;
@@ -17,6 +18,7 @@ mod write;
 
 pub use agree::sigs_agree;
 pub use elem::Elem;
+pub use judge::is_sig;
 pub use kind::{SigFault, SigKind};
 pub use laws::{depth_law, signature_laws};
 pub use sig::Sig;

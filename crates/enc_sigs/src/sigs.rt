@@ -6,15 +6,12 @@ ghost use Rattle.enc_sigs.specs.declared.kind.SigKind.TheVariants as sigs;
 
 use crate::elem::Elem;
 use crate::held::added;
-use crate::kind::{SigFault, SigKind};
+use crate::kind::{DEPTH, SigFault, SigKind};
 use crate::number::calling;
 use crate::read::{elem, many_elems, parts};
 use crate::sig::{Front, Sig};
 use enc_base::{Counts, unsigned_front, written_laws};
 use std::alloc::Global;
-
-/// How deep types may stand in one another.
-const DEPTH: u32 = 100;
 
 /// A count and so many types.
 #[tactic(auto, unfolding(crate::specs::Grammar::list_in, crate::specs::Grammar::type_in))]
