@@ -22,3 +22,4 @@ pub mod MemberKinds
 pub mod OwnRows
 pub mod SignaturesAfter
 pub mod Unbroken
+pub mod Parts

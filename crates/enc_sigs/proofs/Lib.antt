@@ -10,3 +10,6 @@ pub mod Depth
 pub mod Wider
 pub mod Fronts
 mod ReadBack
+pub mod Shapes
+pub mod Shared
+pub mod MixedBytes
