@@ -14,3 +14,4 @@ pub mod FieldExtents
 pub mod AlikeKept
 pub mod KindsOf
 pub mod Owned
+pub mod OneKey

@@ -14,3 +14,4 @@ pub mod Alike
 pub mod AlikeLaws
 pub mod Extent
 pub mod Sound
+pub mod Keys

@@ -4,6 +4,7 @@
 mod cells;
 mod chain;
 mod extent;
+mod keys;
 mod laws;
 mod likeness;
 mod place;
@@ -14,6 +15,7 @@ mod view;
 pub use cells::{CellView, Viewed};
 pub use chain::ChainView;
 pub use extent::{Extent, extent_in};
+pub use keys::signature_key;
 pub use laws::likeness_laws;
 pub use likeness::{alike, signatures_alike, tokens_alike};
 pub use place::RowPlace;

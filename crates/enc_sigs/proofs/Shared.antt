@@ -59,15 +59,15 @@ number_shares : (r : Reader ℕ) → Shares (alike_alone r) (number_shape r)
 unfolding alike_alone number_shape
 number_shares r h a b x e = paired_by (λ n m. n == m) mixed h (r a) (r b) x (λ n m is. ap (mixed h) (eqb-true n m is)) e
 
-both_left : (s t : Bool) → (s && t) ≡ true → s ≡ true
+pub both_left : (s t : Bool) → (s && t) ≡ true → s ≡ true
 both_left true t e = refl
 both_left false t e = e
 
-both_right : (s t : Bool) → (s && t) ≡ true → t ≡ true
+pub both_right : (s t : Bool) → (s && t) ≡ true → t ≡ true
 both_right true t e = e
 both_right false t e = absurd (cc)
 
-or_else_right : (s t : Bool) → (s || t) ≡ true → (s ≡ true) ⊎ (t ≡ true)
+pub or_else_right : (s t : Bool) → (s || t) ≡ true → (s ≡ true) ⊎ (t ≡ true)
 or_else_right true t e = inl refl
 or_else_right false t e = inr e
 
@@ -79,7 +79,7 @@ calling_shares h a b x e = paired_by (λ (p q : ℕ × ℕ). p.0 == q.0 && p.1 =
     same_call h p q e f = rw (e, f) refl
 
 -- equal tokens
-token_is : (t u : Token) → is_token t u ≡ true → t ≡ u
+pub token_is : (t u : Token) → is_token t u ≡ true → t ≡ u
 token_is t u h =
     let with_table : ℕ → Token = λ n. record { table = n; row = t.row } in
     let with_row : ℕ → Token = λ n. record { table = u.table; row = n } in
