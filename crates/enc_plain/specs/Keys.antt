@@ -15,14 +15,14 @@ token_key t = mixed (mixed 0 t.table) t.row
 
 -- of a TypeRef: its names, and the key of its scope
 unfoldable pub type_ref_key : Rows → ℕ → Token → ℕ
-type_ref_key rows scope t = mixed_ends (mixed_ends scope (bytes_at rows t columns.type_ref_type_name)) (bytes_at rows t columns.type_ref_type_namespace)
+type_ref_key rows scope t = mixed_ends 32 (mixed_ends 32 scope (bytes_at rows t columns.type_ref_type_name)) (bytes_at rows t columns.type_ref_type_namespace)
 
 -- of an AssemblyRef and of a ModuleRef: its name
 unfoldable pub assembly_ref_key : Rows → Token → ℕ
-assembly_ref_key rows t = mixed_ends tables.assembly_ref (bytes_at rows t columns.assembly_ref_name)
+assembly_ref_key rows t = mixed_ends 32 tables.assembly_ref (bytes_at rows t columns.assembly_ref_name)
 
 unfoldable pub module_ref_key : Rows → Token → ℕ
-module_ref_key rows t = mixed_ends tables.module_ref (bytes_at rows t columns.module_ref_name)
+module_ref_key rows t = mixed_ends 32 tables.module_ref (bytes_at rows t columns.module_ref_name)
 
 -- of a token, through at most so many scopes one in the other
 unfoldable pub ref_key : Rows → ℕ → Token → ℕ

@@ -15,6 +15,9 @@ use enc_schema::columns::{
 use enc_schema::tables::{ASSEMBLY_REF, MODULE_REF, TYPE_REF, TYPE_SPEC};
 use enc_sigs::{SigKind, mixed, mixed_ends, sig_shape};
 
+/// How many bytes of a name count at either end.
+const MOST: usize = 32;
+
 /// The key of a token that is alike itself alone.
 #[tactic(auto, unfolding(crate::specs::Keys::token_key))]
 fn token_key(token: Token) -> u64
@@ -29,8 +32,8 @@ fn type_ref_key<R: CellView>(rows: &R, scope: u64, token: Token) -> u64
     requires { token.table ≡ type_ref }
     ensures { result ≡ type_ref_key (R.rows rows.now) scope token }
 {
-    let named = mixed_ends(scope, rows.text(token, TYPE_REF_TYPE_NAME));
-    mixed_ends(named, rows.text(token, TYPE_REF_TYPE_NAMESPACE))
+    let named = mixed_ends(MOST, scope, rows.text(token, TYPE_REF_TYPE_NAME));
+    mixed_ends(MOST, named, rows.text(token, TYPE_REF_TYPE_NAMESPACE))
 }
 
 /// The key of an AssemblyRef: its name.
@@ -39,7 +42,11 @@ fn assembly_ref_key<R: CellView>(rows: &R, token: Token) -> u64
     requires { token.table ≡ assembly_ref }
     ensures { result ≡ assembly_ref_key (R.rows rows.now) token }
 {
-    mixed_ends(u64::from(ASSEMBLY_REF), rows.text(token, ASSEMBLY_REF_NAME))
+    mixed_ends(
+        MOST,
+        u64::from(ASSEMBLY_REF),
+        rows.text(token, ASSEMBLY_REF_NAME),
+    )
 }
 
 /// The key of a ModuleRef: its name.
@@ -48,7 +55,11 @@ fn module_ref_key<R: CellView>(rows: &R, token: Token) -> u64
     requires { token.table ≡ module_ref }
     ensures { result ≡ module_ref_key (R.rows rows.now) token }
 {
-    mixed_ends(u64::from(MODULE_REF), rows.text(token, MODULE_REF_NAME))
+    mixed_ends(
+        MOST,
+        u64::from(MODULE_REF),
+        rows.text(token, MODULE_REF_NAME),
+    )
 }
 
 /// The scope of a TypeRef.

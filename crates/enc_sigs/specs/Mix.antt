@@ -14,6 +14,6 @@ unfoldable pub mixed_bytes : ℕ → List ℕ → ℕ
 mixed_bytes hash [] = hash
 mixed_bytes hash (b ∷ bytes) = mixed_bytes (mixed hash b) bytes
 
--- the same of the length of some bytes and of up to 32 at either end, so that many long texts that share their bytes cost no more than short ones
-unfoldable pub mixed_ends : ℕ → List ℕ → ℕ
-mixed_ends hash bytes = mixed_bytes (mixed_bytes (mixed_long hash (length bytes)) (take (min 32 (length bytes)) bytes)) (drop (length bytes - 32) bytes)
+-- the same of the length of some bytes and of so many at either end, so that long texts that share their bytes cost no more than short ones
+unfoldable pub mixed_ends : ℕ → ℕ → List ℕ → ℕ
+mixed_ends most hash bytes = mixed_bytes (mixed_bytes (mixed_long hash (length bytes)) (take (min most (length bytes)) bytes)) (drop (length bytes - most) bytes)

@@ -31,13 +31,13 @@ pub fn mixed_bytes(hash: u64, bytes: &[u8]) -> u64
     mix
 }
 
-/// The same of the length of some bytes and of up to 32 at either end.
+/// The same of the length of some bytes and of so many at either end.
 #[tactic(auto, unfolding(crate::specs::Mix::mixed_ends))]
-pub fn mixed_ends(hash: u64, bytes: &[u8]) -> u64
-    ensures { result ≡ mixed_ends hash bytes.now }
+pub fn mixed_ends(most: usize, hash: u64, bytes: &[u8]) -> u64
+    ensures { result ≡ mixed_ends most hash bytes.now }
 {
     let size = bytes.len();
-    let front = &bytes[..32.min(size)];
-    let back = &bytes[size.saturating_sub(32)..];
+    let front = &bytes[..most.min(size)];
+    let back = &bytes[size.saturating_sub(most)..];
     mixed_bytes(mixed_bytes(mixed_long(hash, size as u64), front), back)
 }
