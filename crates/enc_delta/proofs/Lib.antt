@@ -13,7 +13,7 @@ pub mod ListsChildren
 pub mod Placing
 pub mod Halves
 pub mod MembersBeside
-pub mod Bucketed
+pub mod NearTwins
 pub mod PairsIn
 pub mod TwinsTold
 pub mod LeastTwin

@@ -15,3 +15,4 @@ pub mod AlikeKept
 pub mod KindsOf
 pub mod Owned
 pub mod OneKey
+pub mod MemberKeys

@@ -1,11 +1,11 @@
 -- Keys of tokens and signatures: numbers that alike ones have in common. They tell which are worth comparing; that keys are equal says nothing.
-use Rattle.std.specs.Prelude.{ℕ, zero, suc, ◌==◌, List, if◌then◌else◌}
+use Rattle.std.specs.Prelude.{ℕ, zero, suc, ◌==◌, List, unwrap_or, if◌then◌else◌}
 use Rattle.enc_base.specs.declared.token.Token.{Token}
 use Rattle.enc_sigs.specs.Mix.{mixed, mixed_ends}
 use Rattle.enc_sigs.specs.Shape.{sig_shape}
 use Rattle.enc_sigs.specs.declared.kind.SigKind.TheVariants.{TypeSpec}
 use Rattle.enc_plain.specs.Rows.{Rows, bytes_at, token_at}
-use Rattle.enc_plain.specs.Signatures.{kind_in_table}
+use Rattle.enc_plain.specs.Signatures.{kind_in_table, signature_column}
 use Rattle.enc_schema.specs.Tables as tables
 use Rattle.enc_schema.specs.Columns as columns
 
@@ -44,3 +44,7 @@ key_of rows t = if t.table == tables.type_spec then spec_key rows t else ref_key
 -- of a signature of a table
 unfoldable pub signature_key : Rows → ℕ → List ℕ → ℕ
 signature_key rows table blob = sig_shape (key_of rows) (kind_in_table table blob) blob
+
+-- of a member's signature; an event has none
+unfoldable pub member_key : Rows → Token → ℕ
+member_key rows t = if t.table == tables.event then 0 else signature_key rows t.table (bytes_at rows t (unwrap_or (signature_column t.table) 0))
