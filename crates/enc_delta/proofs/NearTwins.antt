@@ -198,6 +198,7 @@ stage q keys entries g are sorted = iff_is _ _ forth back
   where
     n : ℕ
     n = length entries
+
     forth : list_any (twinned q g (near_told q keys entries n)) (near_told q keys entries n) ≡ true → list_any (twinned q g entries) entries ≡ true
     forth h =
         let w = told_where q keys entries (twinned q g (near_told q keys entries n)) n h in
@@ -205,6 +206,7 @@ stage q keys entries g are sorted = iff_is _ _ forth back
         let v = told_where q keys entries (is_twin_of q (told q keys e)) n (both_right (g e.is_new e.pair) (has_twin_among q (near_told q keys entries n) (told q keys e)) w.3) in
         let twin = list_any_at (is_twin_of q e) entries v.0 no_keyed v.1 v.3 in
         list_any_at (twinned q g entries) entries w.0 no_keyed w.1 (both_true _ _ (both_left (g e.is_new e.pair) (has_twin_among q (near_told q keys entries n) (told q keys e)) w.3) twin)
+
     back : list_any (twinned q g entries) entries ≡ true → list_any (twinned q g (near_told q keys entries n)) (near_told q keys entries n) ≡ true
     back h =
         let w = where_one (twinned q g entries) entries no_keyed h in
@@ -255,11 +257,14 @@ gathered_keyed q pairs old rows = any_gathered q (is_other q (name_key q)) pairs
     right_of : (a b : Bool) → (a && b) ≡ true → b ≡ true
     right_of true b h = h
     right_of false b h = absurd cc
+
     counted : (c s r : Bool) → s ≡ true → r ≡ true → (c && not (c && s && r)) ≡ false
     counted true s r e f = rw (e, f) refl
     counted false s r e f = refl
+
     old_known : (k : Pair) → (q.counts k.child && is_other q (name_key q) (named q false k)) ≡ false
     old_known k = counted (q.counts k.child) (name_key q k == name_key q k) true (equal_is (name_key q k) (name_key q k) refl) refl
+
     new_known : (i : ℕ) → i < length pairs → (q.counts (get_or pairs i no_pair).child && is_other q (name_key q) (named q true (get_or pairs i no_pair))) ≡ false
     new_known i l =
         let k = get_or pairs i no_pair in

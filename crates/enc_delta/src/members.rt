@@ -192,7 +192,9 @@ fn member_key<R: CellView>(rows: &R, member: Token) -> u64
 
 impl<C: ChainView> Members for Context<'_, C> {
     ghost asked = { λ r. asked_of (joined_rows r) };
+
     ghost keys = { λ r. member_key (joined_rows r) };
+
     ghost one = { λ r. one_key (joined_rows r) };
 
     #[tactic(auto, using(crate::proofs::MemberKinds::field_flags, crate::proofs::MemberKinds::method_flags), unfolding(crate::specs::Changes::is_member))]
