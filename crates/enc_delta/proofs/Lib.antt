@@ -13,7 +13,7 @@ pub mod ListsChildren
 pub mod Placing
 pub mod Halves
 pub mod MembersBeside
-pub mod Bucketed
+pub mod NearTwins
 pub mod PairsIn
 pub mod TwinsTold
 pub mod LeastTwin
@@ -22,3 +22,4 @@ pub mod MemberKinds
 pub mod OwnRows
 pub mod SignaturesAfter
 pub mod Unbroken
+pub mod Parts

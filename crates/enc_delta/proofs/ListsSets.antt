@@ -51,7 +51,7 @@ lesser_is x xs (Some m) h =
       | inr l ↦ let e : m ≡ min x m = omega arith in (subst (λ n. stands_in (x ∷ xs) n ≡ true) e (stands_more x xs m h.0), low)
     ]
 
-least_is : (xs : List ℕ) → IsLeast (stands_in xs) (least xs)
+pub least_is : (xs : List ℕ) → IsLeast (stands_in xs) (least xs)
 least_is [] = λ t. refl
 least_is (x ∷ xs) = lesser_is x xs (least xs) (least_is xs)
 

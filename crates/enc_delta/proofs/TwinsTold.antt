@@ -18,7 +18,7 @@ use Rattle.enc_plain.proofs.Columns.{both_left, both_right}
 use Rattle.enc_delta.specs.declared.pairs.Pair.{Pair}
 use Rattle.enc_delta.specs.Rules.{least, lesser, at_token}
 use Rattle.enc_delta.specs.Twins.{Asked, members, is_twin, has_twin, twin_fault}
-use Rattle.enc_delta.specs.Members.{pair_seen, is_beside, old_rows, row_passes, is_twin_row, is_twin_beside, bucket_of, goes_to, HoldAll, in_bucket, AreAdded, AreMembers, AreChildren}
+use Rattle.enc_delta.specs.Members.{pair_seen, is_beside, old_rows, row_passes, is_twin_row, is_twin_beside, AreAdded, AreOld, AreChildren}
 use Rattle.enc_delta.proofs.ListsChanged.{all_at}
 use Rattle.enc_delta.proofs.ListsChildren.{two, equal_is}
 use Rattle.enc_delta.proofs.MembersBeside.{no_pair, any_same, any_gained, owner_same, table_same, beside_itself}
@@ -37,67 +37,34 @@ unfolding old_rows
 old_none m a h = elim (two (is_child_table a.child.table)) [ inl c ↦ rw c (no_kids m a.owner a.child.table h) | inr c ↦ rw c refl ]
 
 -- the pairs whose children count, in any order
-pub members_are : (q : Asked) (m : Module) (pairs grouped all : List Pair) → ((f : Pair → Bool) → list_any f grouped ≡ list_any (λ (k : Pair). q.counts k.child && f k) pairs) → AreAdded m pairs grouped all → AreMembers q m pairs all
-members_are q m pairs grouped all same added = λ a p child. added a p child ∙ ap (λ b. list_any (row_passes a p) pairs || (b && list_any p (kids_of m a.owner a.child.table))) (same (is_beside a))
+pub old_are : (q : Asked) (m : Module) (pairs grouped old : List Pair) → ((f : Pair → Bool) → list_any f grouped ≡ list_any (λ (k : Pair). q.counts k.child && f k) pairs) → AreAdded m [] grouped old → AreOld q m pairs old
+old_are q m pairs grouped old same added = λ a p child. added a p child ∙ ap (λ b. b && list_any p (kids_of m a.owner a.child.table)) (same (is_beside a))
 
 -- a twin counts and has the same name
-twin_counts : (q : Asked) (t u : Token) → is_twin q t u ≡ true → q.counts u ≡ true
+pub twin_counts : (q : Asked) (t u : Token) → is_twin q t u ≡ true → q.counts u ≡ true
 twin_counts q t u h = both_right (not (t.row == u.row)) (q.counts u) (both_left (not (t.row == u.row) && q.counts u) (bytes_eq (q.name t) (q.name u)) (both_left (not (t.row == u.row) && q.counts u && bytes_eq (q.name t) (q.name u)) (q.alike t u) h))
 
-twin_name : (q : Asked) (t u : Token) → is_twin q t u ≡ true → q.name t ≡ q.name u
+pub twin_name : (q : Asked) (t u : Token) → is_twin q t u ≡ true → q.name t ≡ q.name u
 twin_name q t u h = (bytes_eq-Decides (q.name t) (q.name u)).0 (both_right (not (t.row == u.row) && q.counts u) (bytes_eq (q.name t) (q.name u)) (both_left (not (t.row == u.row) && q.counts u && bytes_eq (q.name t) (q.name u)) (q.alike t u) h))
 
-child_is : (a k : Pair) → is_beside a k ≡ true → k.child ≡ record { table = a.child.table; row = k.child.row }
+pub twin_alike : (q : Asked) (t u : Token) → is_twin q t u ≡ true → q.alike t u ≡ true
+twin_alike q t u h = both_right (not (t.row == u.row) && q.counts u && bytes_eq (q.name t) (q.name u)) (q.alike t u) h
+
+pub child_is : (a k : Pair) → is_beside a k ≡ true → k.child ≡ record { table = a.child.table; row = k.child.row }
 child_is a k h = let with_table : ℕ → Token = λ n. record { table = n; row = k.child.row } in ap with_table (table_same a k h)
 
--- so it stands in the same bucket
-same_bucket : (q : Asked) (n : ℕ) (a k : Pair) → is_twin_beside q a k ≡ true → goes_to q n (bucket_of q n a) k ≡ true
-unfolding bucket_of
-same_bucket q n a k h =
-    let b : is_beside a k ≡ true = both_left (is_beside a k) (is_twin_row q a k.child.row) h in
-    let t : is_twin_row q a k.child.row ≡ true = both_right (is_beside a k) (is_twin_row q a k.child.row) h in
-    let u : Token = record { table = a.child.table; row = k.child.row } in
-    let c : q.counts k.child ≡ true = ap q.counts (child_is a k b) ∙ twin_counts q a.child u t in
-    let name : q.name k.child ≡ q.name a.child = ap q.name (child_is a k b) ∙ sym (twin_name q a.child u t) in
-    let place : bucket_of q n k ≡ bucket_of q n a = rw (name, owner_same a k b) refl in
-    rw (c, equal_is _ _ place) refl
-
-absorbed : (p r : Pair → Bool) (xs : List Pair) → ((x : Pair) → p x ≡ true → r x ≡ true) → list_any (λ x. r x && p x) xs ≡ list_any p xs
+pub absorbed : (p r : Pair → Bool) (xs : List Pair) → ((x : Pair) → p x ≡ true → r x ≡ true) → list_any (λ x. r x && p x) xs ≡ list_any p xs
 absorbed p r xs h = any_same (λ x. r x && p x) p xs (λ x. elim (two (p x)) [ inl a ↦ rw (a, h x a) refl | inr a ↦ rw a (and_false (r x)) ])
   where
     and_false : (b : Bool) → (b && false) ≡ false
     and_false true = refl
     and_false false = refl
 
-bucket_below : (q : Asked) (n : ℕ) (a : Pair) → 0 < n → bucket_of q n a < n
-unfolding bucket_of
-bucket_below q n a h = omega arith
-
--- a bucket has all the twins that there are
-in_all : (q : Asked) (n : ℕ) (all : List Pair) (buckets : List (List Pair)) (a : Pair) → 0 < n → HoldAll q n all buckets → list_any (is_twin_beside q a) (list_at buckets (bucket_of q (length buckets) a)) ≡ list_any (is_twin_beside q a) all
-in_all q n all buckets a pos held = rw held.size (held.same (bucket_of q n a) (is_twin_beside q a) (bucket_below q n a pos) ∙ absorbed (is_twin_beside q a) (goes_to q n (bucket_of q n a)) all (same_bucket q n a))
-
-swap_or : (a b : Bool) → (a || (true && b)) ≡ (b || a)
+pub swap_or : (a b : Bool) → (a || (true && b)) ≡ (b || a)
 swap_or true true = refl
 swap_or true false = refl
 swap_or false true = refl
 swap_or false false = refl
-
-told : (q : Asked) (m : Module) (n : ℕ) (pairs all : List Pair) (buckets : List (List Pair)) (a : Pair) → 0 < n → HoldAll q n all buckets → AreMembers q m pairs all → is_child_table a.child.table ≡ true → list_any (λ (k : Pair). q.counts k.child && is_beside a k) pairs ≡ true → list_any (is_twin_beside q a) (list_at buckets (bucket_of q (length buckets) a)) ≡ list_any (is_twin_row q a) (members m (map pair_seen pairs) a.owner a.child.table)
-told q m n pairs all buckets a pos held are child there =
-    in_all q n all buckets a pos held ∙ are a (is_twin_row q a) child ∙ rw there (swap_or (list_any (is_twin_beside q a) pairs) (list_any (is_twin_row q a) (kids_of m a.owner a.child.table))) ∙ ap (λ b. list_any (is_twin_row q a) (kids_of m a.owner a.child.table) || b) (sym (any_gained (is_twin_row q a) pairs a)) ∙ sym (list_any-append (is_twin_row q a) (kids_of m a.owner a.child.table) (gained (map pair_seen pairs) a.owner a.child.table))
-
-twin_is : (q : Asked) (m : Module) (n : ℕ) (pairs all : List Pair) (buckets : List (List Pair)) (i : ℕ) → 0 < n → HoldAll q n all buckets → AreMembers q m pairs all → AreChildren q pairs → i < length pairs → in_bucket q buckets (get_or pairs i no_pair) ≡ has_twin q m (map pair_seen pairs) (pair_seen (get_or pairs i no_pair))
-unfolding has_twin
-twin_is q m n pairs all buckets i pos held are children l =
-    let a = get_or pairs i no_pair in
-    elim (two (q.counts a.child)) [
-      | inl c ↦
-          let child = rw c at (all_at (λ (k : Pair). not (q.counts k.child) || is_child_table k.child.table) pairs i no_pair children l) in
-          let here : (q.counts a.child && is_beside a a) ≡ true = rw (c, beside_itself a) refl in
-          rw c (told q m n pairs all buckets a pos held are child (list_any_at (λ (k : Pair). q.counts k.child && is_beside a k) pairs i no_pair l here))
-      | inr c ↦ rw c refl
-    ]
 
 pub filtered : (test : Pair → Bool) (has : Attached → Bool) (xs : List Pair) → ((i : ℕ) → i < length xs → test (get_or xs i no_pair) ≡ has (pair_seen (get_or xs i no_pair))) → map (λ (k : Pair). number_of k.child) (filter test xs) ≡ map (λ (a : Attached). number_of a.child) (filter has (map pair_seen xs))
 filtered test has [] h = refl
@@ -106,16 +73,12 @@ filtered test has (x ∷ xs) h =
     let rest = filtered test has xs (λ i l. h (suc i) (omega arith)) in
     elim (two (test x)) [ inl a ↦ rw (a, sym e ∙ a) (ap (λ ns. number_of x.child ∷ ns) rest) | inr a ↦ rw (a, sym e ∙ a) rest ]
 
-pub twins_told : (q : Asked) (m : Module) (n : ℕ) (pairs all : List Pair) (buckets : List (List Pair)) (o : Option ℕ) → 0 < n → HoldAll q n all buckets → AreMembers q m pairs all → AreChildren q pairs → o ≡ least (map (λ (k : Pair). number_of k.child) (filter (in_bucket q buckets) pairs)) → at_token o ≡ twin_fault q m (map pair_seen pairs)
-unfolding twin_fault
-twins_told q m n pairs all buckets o pos held are children is = ap at_token (is ∙ ap least (filtered (in_bucket q buckets) (has_twin q m (map pair_seen pairs)) pairs (λ i l. twin_is q m n pairs all buckets i pos held are children l)))
-
 -- the least so far
 swap_lesser : (n m : ℕ) (o : Option ℕ) → lesser n (lesser m o) ≡ lesser m (lesser n o)
 swap_lesser n m None = ap (λ x. Some x) (omega arith)
 swap_lesser n m (Some k) = ap (λ x. Some x) (omega arith)
 
-least_more : (ns : List ℕ) (n : ℕ) → least (ns ++ n ∷ []) ≡ lesser n (least ns)
+pub least_more : (ns : List ℕ) (n : ℕ) → least (ns ++ n ∷ []) ≡ lesser n (least ns)
 least_more [] n = refl
 least_more (m ∷ ns) n = ap (λ o. lesser m o) (least_more ns n) ∙ swap_lesser m n (least ns)
 

@@ -14,3 +14,4 @@ pub mod Judged
 pub mod Known
 pub mod Rows
 pub mod Stops
+pub mod OneKey

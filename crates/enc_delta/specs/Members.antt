@@ -1,12 +1,14 @@
--- For the contracts of private functions: how twins are looked for: the members of all owners, put together by owner and name.
-use Rattle.std.specs.Prelude.{◌≡◌, ℕ, ◌+◌, ◌*◌, ◌%◌, ◌<◌, Bool, true, false, not, ◌&&◌, ◌||◌, ◌==◌, nat_lt, List, [], ◌∷◌, length, Option, Some, None, if◌then◌else◌, IsTrue}
+-- For the contracts of private functions: how twins are looked for: among the members of all owners, by numbers that twins have in common.
+use Rattle.std.specs.Prelude.{◌≡◌, ℕ, zero, suc, ◌+◌, ◌-◌, ◌<◌, Bool, true, false, not, ◌&&◌, ◌||◌, ◌==◌, nat_lt, List, [], ◌∷◌, ◌++◌, length, slice_index_or, Option, Some, None, if◌then◌else◌, IsTrue}
 use Rattle.std.specs.List.{list_any, list_all}
-use Rattle.enc_base.specs.Token.{is_token}
+use Rattle.enc_base.specs.Token.{is_token, number_of}
+use Rattle.enc_base.specs.declared.token.Token.{Token}
+use Rattle.enc_sigs.specs.Mix.{mixed, mixed_long, mixed_ends}
 use Rattle.enc_schema.specs.Children.{is_child_table}
-use Rattle.enc_schema.specs.Schema.{list_at}
 use Rattle.enc_plain.specs.Module.{Module, kids_of}
 use Rattle.enc_plain.specs.Apply.{Attached}
 use Rattle.enc_delta.specs.declared.pairs.Pair.{Pair}
+use Rattle.enc_delta.specs.declared.shared.Keyed.{Keyed}
 use Rattle.enc_delta.specs.declared.entry.Entry.{Entry}
 use Rattle.enc_delta.specs.Rules.{is_add}
 use Rattle.enc_delta.specs.Twins.{Asked, is_twin}
@@ -42,27 +44,82 @@ is_twin_row q a row = is_twin q a.child (record { table = a.child.table; row = r
 abbrev pub is_twin_beside : Asked → Pair → Pair → Bool
 is_twin_beside q a k = is_beside a k && is_twin_row q a k.child.row
 
--- bytes folded into four
-unfoldable pub folded : ℕ → List ℕ → ℕ
-folded h [] = h
-folded h (b ∷ bs) = folded ((h * 0x1000193 + b) % 0x100000000) bs
+-- members with alike signatures have one key
+abbrev pub AlikeHaveOneKey : Asked → (Token → ℕ) → Type 0
+AlikeHaveOneKey q keys = (t u : Token) → q.counts t ≡ true → q.counts u ≡ true → t.table ≡ u.table → q.alike t u ≡ true → keys t ≡ keys u
 
--- by owner and name, one of n
-unfoldable pub bucket_of : Asked → ℕ → Pair → ℕ
-bucket_of q n k = folded k.owner.row (q.name k.child) % n
+-- the number of a pair's owner and table
+unfoldable pub owner_key : Pair → ℕ
+owner_key k = mixed (mixed 0 k.owner.row) k.child.table
 
--- the member of a pair counts and stands in this one of n buckets
-abbrev pub goes_to : Asked → ℕ → ℕ → Pair → Bool
-goes_to q n h k = q.counts k.child && bucket_of q n k == h
+-- of its owner, its table and its child's name, with up to 32 bytes at either end
+unfoldable pub name_key : Asked → Pair → ℕ
+name_key q k = mixed_ends 32 (owner_key k) (q.name k.child)
 
--- n buckets hold the members among these that count, each one by its owner and name
-pub record HoldAll (q : Asked) (n : ℕ) (taken : List Pair) (buckets : List (List Pair)) : Type 0 where
-  pub size : length buckets ≡ n
-  pub same : (h : ℕ) (p : Pair → Bool) → h < n → list_any p (list_at buckets h) ≡ list_any (λ k. goes_to q n h k && p k) taken
+-- of its owner, its table, its child's name with up to 2,048 bytes at either end, and the key of its signature
+unfoldable pub twin_key : Asked → (Token → ℕ) → Pair → ℕ
+twin_key q keys k = mixed_ends 0x800 (mixed_long (owner_key k) (keys k.child)) (q.name k.child)
 
--- the child counts and has a twin in its bucket
-abbrev pub in_bucket : Asked → List (List Pair) → Pair → Bool
-in_bucket q buckets a = q.counts a.child && list_any (is_twin_beside q a) (list_at buckets (bucket_of q (length buckets) a))
+-- a member by its name's key
+abbrev pub named : Asked → Bool → Pair → Keyed
+named q is_new k = record { key = name_key q k; pair = k; is_new = is_new }
+
+-- a member by a key of its signature too
+abbrev pub told : Asked → (Token → ℕ) → Keyed → Keyed
+told q keys e = record { key = twin_key q keys e.pair; pair = e.pair; is_new = e.is_new }
+
+abbrev pub no_keyed : Keyed
+no_keyed = record { key = 0; pair = record { owner = record { table = 0; row = 0 }; child = record { table = 0; row = 0 } }; is_new = false }
+
+-- the k-th of some members
+abbrev pub keyed_at : List Keyed → ℕ → Keyed
+keyed_at entries k = slice_index_or entries k no_keyed
+
+-- the one before or the one behind has the same key
+unfoldable pub is_near : List Keyed → ℕ → Bool
+is_near entries k =
+    nat_lt 0 k && (keyed_at entries (k - 1)).key == (keyed_at entries k).key
+    || nat_lt (k + 1) (length entries) && (keyed_at entries (k + 1)).key == (keyed_at entries k).key
+
+-- of the first n members those whose neighbour has the same key, told by their signatures too
+unfoldable pub near_told : Asked → (Token → ℕ) → List Keyed → ℕ → List Keyed
+near_told q keys entries zero = []
+near_told q keys entries (suc n) = near_told q keys entries n ++ (if is_near entries n then told q keys (keyed_at entries n) ∷ [] else [])
+
+-- the member doesn't count, or has another key than its pair, or is new and past the rows that there can be
+abbrev pub is_other : Asked → (Pair → ℕ) → Keyed → Bool
+is_other q key e = not (q.counts e.pair.child && e.key == key e.pair && (not e.is_new || nat_lt e.pair.child.row 0x1000000))
+
+-- all count, each with its pair's key
+abbrev pub AreKeyed : Asked → (Pair → ℕ) → List Keyed → Type 0
+AreKeyed q key entries = list_any (is_other q key) entries ≡ false
+
+-- a twin of a member is among some
+abbrev pub is_twin_of : Asked → Keyed → Keyed → Bool
+is_twin_of q e k = is_twin_beside q e.pair k.pair
+
+abbrev pub has_twin_among : Asked → List Keyed → Keyed → Bool
+has_twin_among q entries e = list_any (is_twin_of q e) entries
+
+-- a new member with a twin among some
+abbrev pub is_new_twin : Asked → List Keyed → Keyed → Bool
+is_new_twin q entries e = e.is_new && has_twin_among q entries e
+
+abbrev pub keyed_number : Keyed → ℕ
+keyed_number e = number_of e.pair.child
+
+-- a twin of the k-th stands behind it, or none does; and the same before it
+abbrev pub IsTwinBehind : Asked → List Keyed → ℕ → Bool → Type 0
+IsTwinBehind q entries k true = has_twin_among q entries (keyed_at entries k) ≡ true
+IsTwinBehind q entries k false = (l : ℕ) → k < l → l < length entries → is_twin_of q (keyed_at entries k) (keyed_at entries l) ≡ false
+
+abbrev pub IsTwinBefore : Asked → List Keyed → ℕ → Bool → Type 0
+IsTwinBefore q entries k true = has_twin_among q entries (keyed_at entries k) ≡ true
+IsTwinBefore q entries k false = (l : ℕ) → l < k → is_twin_of q (keyed_at entries k) (keyed_at entries l) ≡ false
+
+-- the same members in another order
+abbrev pub AreSame : List Keyed → List Keyed → Type 0
+AreSame before after = (f : Keyed → Bool) → list_any f after ≡ list_any f before
 
 -- a test of what stands beside a pair, by its row
 abbrev pub row_passes : Pair → (ℕ → Bool) → Pair → Bool
@@ -74,12 +131,11 @@ AreAdded m before pairs all =
     (a : Pair) (p : ℕ → Bool) → is_child_table a.child.table ≡ true
     → list_any (row_passes a p) all ≡ (list_any (row_passes a p) before || (list_any (is_beside a) pairs && list_any p (kids_of m a.owner a.child.table)))
 
--- the pairs, and the old members beside those whose children count
-abbrev pub AreMembers : Asked → Module → List Pair → List Pair → Type 0
-AreMembers q m pairs all =
+-- the old members beside those of some pairs whose children count
+abbrev pub AreOld : Asked → Module → List Pair → List Pair → Type 0
+AreOld q m pairs old =
     (a : Pair) (p : ℕ → Bool) → is_child_table a.child.table ≡ true
-    → list_any (row_passes a p) all ≡ (list_any (row_passes a p) pairs
-    || (list_any (λ k. q.counts k.child && is_beside a k) pairs && list_any p (kids_of m a.owner a.child.table)))
+    → list_any (row_passes a p) old ≡ (list_any (λ k. q.counts k.child && is_beside a k) pairs && list_any p (kids_of m a.owner a.child.table))
 
 -- each owner and child is a token by its number
 abbrev pub ArePairs : List Pair → Type 0

@@ -2,7 +2,6 @@
 #![tactic(auto)]
 
 mod bodies;
-mod buckets;
 mod cells;
 mod code;
 mod context;
@@ -20,6 +19,7 @@ mod open;
 mod pairs;
 mod place;
 mod rules;
+mod shared;
 mod siblings;
 mod signatures;
 mod tables;

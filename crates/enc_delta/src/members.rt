@@ -9,6 +9,8 @@ ghost use Rattle.enc_base.specs.Numbers.{has_flag};
 ghost use Rattle.enc_delta.specs.Context.{joined_rows};
 ghost use Rattle.enc_delta.specs.Pairs.{attached_of};
 ghost use Rattle.enc_delta.specs.Members.{pair_seen, ArePairs};
+ghost use Rattle.enc_plain.specs.Keys.{member_key};
+ghost use Rattle.enc_delta.specs.OneKey.{one_key};
 ghost use Rattle.enc_delta.specs.Changes.{is_value_type, has_layout, breaks_layout, breaks_slots, least_child, is_member, asked_of, name_column, same_signature, field_out_of_layout, method_without_slot, twin_member};
 ghost use Rattle.enc_schema.specs.Tables.{type_def};
 
@@ -18,7 +20,7 @@ use crate::lists::{lesser, placed};
 use crate::pairs::Pair;
 use crate::twins::{Members, twin_fault};
 use enc_base::{Place, Token};
-use enc_plain::{CellView, ChainView, signatures_alike};
+use enc_plain::{CellView, ChainView, signature_key, signatures_alike};
 use enc_schema::columns::{
     FIELD_FLAGS, FIELD_SIGNATURE, METHOD_DEF_FLAGS, METHOD_DEF_SIGNATURE, TYPE_DEF_EXTENDS,
     TYPE_DEF_FLAGS, TYPE_REF_TYPE_NAME, TYPE_REF_TYPE_NAMESPACE,
@@ -176,8 +178,24 @@ fn same_signature<R: CellView>(rows: &R, member: Token, other: Token) -> bool
     signatures_alike(rows, member.table, left, right)
 }
 
+/// The key of a member's signature; events have none.
+#[tactic(auto, using(crate::proofs::MemberKinds::told_by_signature), unfolding(enc_plain::specs::Keys::member_key))]
+fn member_key<R: CellView>(rows: &R, member: Token) -> u64
+    requires { IsTrue (is_member (R.rows rows.now) member) }
+    ensures { result ≡ member_key (R.rows rows.now) member }
+{
+    if member.table == EVENT {
+        return 0;
+    }
+    signature_key(rows, member.table, signature_of(rows, member))
+}
+
 impl<C: ChainView> Members for Context<'_, C> {
     ghost asked = { λ r. asked_of (joined_rows r) };
+
+    ghost keys = { λ r. member_key (joined_rows r) };
+
+    ghost one = { λ r. one_key (joined_rows r) };
 
     #[tactic(auto, using(crate::proofs::MemberKinds::field_flags, crate::proofs::MemberKinds::method_flags), unfolding(crate::specs::Changes::is_member))]
     fn counts(&self, member: Token) -> bool {
@@ -195,6 +213,10 @@ impl<C: ChainView> Members for Context<'_, C> {
 
     fn alike(&self, member: Token, other: Token) -> bool {
         same_signature(self, member, other)
+    }
+
+    fn key(&self, member: Token) -> u64 {
+        member_key(self, member)
     }
 }
 

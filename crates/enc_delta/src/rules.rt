@@ -1,8 +1,7 @@
 //! The first rule that a delta breaks after its chain: one list of rules, each with its number.
 ghost use Rattle.std.specs.Prelude.{◌≡◌, None, Some, Ok, Err, IfOk};
-ghost use Rattle.enc_delta.specs.Changes.{bad_locals};
-ghost use Rattle.enc_delta.specs.Judged.{refused, first_of, rules, first_meta};
-ghost use Rattle.enc_delta.specs.Stops.{TellsFirst};
+ghost use Rattle.enc_delta.specs.Judged.{refused, first_meta};
+ghost use Rattle.enc_delta.specs.Stops.{TellsFirst, first_identity, first_lists, first_cells, first_members, first_signatures};
 
 use crate::bodies::{broken_body, lost_body};
 use crate::cells::{bad_index, bad_offset, too_many};
@@ -52,47 +51,80 @@ fn rule(n: u8, place: Option<Place>) -> Result<(), Stop>
     }
 }
 
-/// Asks rule 23, which takes memory.
-fn ask_locals<C: ChainView>(alloc: Global, context: &Context<'_, C>) -> Result<(), Stop>
-    ensures { TellsFirst result (refused 23 (bad_locals context.now.chain context.now.delta)) }
-{
-    rule(23, bad_locals(alloc, context)?)
-}
-
-/// Asks the rules, in this order, up to the first that is broken. Rule 22 is one of PDBs.
-fn ask<C: ChainView>(alloc: Global, context: &Context<'_, C>) -> Result<(), Stop>
-    ensures { TellsFirst result (first_of rules context.now.chain context.now.delta) }
+/// Asks the rules of the Module row and of the heaps.
+#[tactic(auto, unfolding(crate::specs::Stops::first_identity))]
+fn ask_identity<C: ChainView>(context: &Context<'_, C>) -> Result<(), Stop>
+    ensures { TellsFirst result (first_identity context.now.chain context.now.delta) }
 {
     rule(1, other_module(context))?;
     rule(2, not_next(context))?;
     rule(3, other_base(context))?;
     rule(4, id_taken(context))?;
-    rule(5, heap_fault(context))?;
+    rule(5, heap_fault(context))
+}
+
+/// Asks the rules of EncMap and EncLog.
+#[tactic(auto, unfolding(crate::specs::Stops::first_lists))]
+fn ask_lists<C: ChainView>(alloc: Global, context: &Context<'_, C>) -> Result<(), Stop>
+    ensures { TellsFirst result (first_lists context.now.chain context.now.delta) }
+{
     rule(6, late_token(context))?;
     rule(7, uneven_table(context))?;
     rule(8, skipped_row(context))?;
     rule(9, unmatched_token(alloc, context)?)?;
     rule(10, bad_entry(context))?;
-    rule(11, unowned_child(context))?;
+    rule(11, unowned_child(context))
+}
+
+/// Asks the rules of the cells of rows.
+#[tactic(auto, unfolding(crate::specs::Stops::first_cells))]
+fn ask_cells<C: ChainView>(context: &Context<'_, C>) -> Result<(), Stop>
+    ensures { TellsFirst result (first_cells context.now.chain context.now.delta) }
+{
     rule(12, closed_table(context))?;
     rule(13, bad_index(context))?;
     rule(14, bad_offset(context))?;
-    rule(15, altered_cell(context))?;
+    rule(15, altered_cell(context))
+}
+
+/// Asks the rules of bodies and of new members.
+#[tactic(auto, unfolding(crate::specs::Stops::first_members))]
+fn ask_members<C: ChainView>(alloc: Global, context: &Context<'_, C>) -> Result<(), Stop>
+    ensures { TellsFirst result (first_members context.now.chain context.now.delta) }
+{
     rule(16, broken_body(alloc, context)?)?;
     rule(17, lost_body(context))?;
     rule(18, field_out_of_layout(context))?;
     rule(19, method_without_slot(context))?;
-    rule(20, twin_member(alloc, context)?)?;
+    rule(20, twin_member(alloc, context)?)
+}
+
+/// Asks the rules of signatures, and how many deltas and rows there may be. Rule 22 is one of PDBs.
+#[tactic(auto, unfolding(crate::specs::Stops::first_signatures))]
+fn ask_signatures<C: ChainView>(alloc: Global, context: &Context<'_, C>) -> Result<(), Stop>
+    ensures { TellsFirst result (first_signatures context.now.chain context.now.delta) }
+{
     rule(21, bad_signature(alloc, context)?)?;
-    ask_locals(alloc, context)?;
+    rule(23, bad_locals(alloc, context)?)?;
     rule(24, too_many(context))
+}
+
+/// Asks the rules, in the order of their numbers, up to the first that is broken.
+#[tactic(auto, using(crate::proofs::Parts::first_parts))]
+fn ask<C: ChainView>(alloc: Global, context: &Context<'_, C>) -> Result<(), Stop>
+    ensures { TellsFirst result (first_meta context.now.chain context.now.delta) }
+{
+    ask_identity(context)?;
+    ask_lists(alloc, context)?;
+    ask_cells(context)?;
+    ask_members(alloc, context)?;
+    ask_signatures(alloc, context)
 }
 
 impl Delta {
     /// The first rule of E1 to E24 that the delta breaks after the chain, and its place; None where it
     /// breaks none. Rule 22 is one of PDBs. It takes memory for the delta's lists, for one body or
     /// signature at a time, and for the places of those that are good.
-    #[tactic(auto, unfolding(crate::specs::Judged::first_meta))]
     pub fn first_broken<C: ChainView>(
         &self,
         alloc: Global,

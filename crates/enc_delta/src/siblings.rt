@@ -1,7 +1,7 @@
 //! The members of the owners that children are added to.
 ghost use Rattle.std.specs.Prelude.{◌≡◌, ◌++◌, ◌&&◌, Bool, map, filter, IfOk};
 ghost use Rattle.std.specs.List.{list_any};
-ghost use Rattle.enc_delta.specs.Members.{is_beside, beside_last, row_beside, old_rows, AreAdded, AreMembers};
+ghost use Rattle.enc_delta.specs.Members.{is_beside, beside_last, row_beside, old_rows, AreAdded, AreOld};
 
 use crate::pairs::Pair;
 use crate::twins::Members;
@@ -119,18 +119,17 @@ fn add_all_old<C: ChainView>(
     Ok(())
 }
 
-/// The pairs, and the old members beside those whose children count.
-pub fn members_of<C: ChainView, M: Members>(
+/// The old members beside those of the pairs whose children count.
+pub fn old_members<C: ChainView, M: Members>(
     alloc: Global,
     chain: &C,
     members: &M,
     pairs: &[Pair],
 ) -> Result<Vec<Pair>, AllocError>
-    ensures { IfOk result (λ all. AreMembers (M.asked members.now) (C.chain chain.now).plain pairs.now all.items) }
+    ensures { IfOk result (λ old. AreOld (M.asked members.now) (C.chain chain.now).plain pairs.now old.items) }
 {
     let grouped = grouped(alloc, members, pairs)?;
-    let mut all = Vec::new(alloc);
-    all.extend_from_slice(pairs)?;
-    add_all_old(alloc, chain, &mut all, &grouped)?;
-    Ok(all)
+    let mut old = Vec::new(alloc);
+    add_all_old(alloc, chain, &mut old, &grouped)?;
+    Ok(old)
 }

@@ -1,17 +1,17 @@
 //! Twins: new children that neither name nor signature tells from another member of their owner.
-ghost use Rattle.std.specs.Prelude.{◌≡◌, ◌<◌, map, filter, length, IsTrue, IfOk};
-ghost use Rattle.std.specs.List.{list_any};
-ghost use Rattle.enc_base.specs.Token.{number_of};
+ghost use Rattle.std.specs.Prelude.{◌≡◌, ℕ, ◌<◌, map, filter, length, IsTrue, IfOk};
+ghost use Rattle.std.specs.List.Sorted.{IsNonDecreasingBy};
+ghost use Rattle.enc_base.specs.declared.token.Token.{Token as TheToken};
 ghost use Rattle.enc_schema.specs.Children.{is_child_table};
 ghost use Rattle.enc_delta.specs.Twins.{Asked, is_twin, twin_fault};
 ghost use Rattle.enc_delta.specs.TwinLaw.{NamesLeastTwin};
-ghost use Rattle.enc_delta.specs.Rules.{least, at_token, lesser};
-ghost use Rattle.enc_delta.specs.Members.{pair_seen, is_twin_beside, ArePairs, AreChildren, in_bucket};
+ghost use Rattle.enc_delta.specs.Rules.{least};
+ghost use Rattle.enc_delta.specs.Members.{pair_seen, is_twin_beside, twin_key, keyed_at, keyed_number, has_twin_among, is_new_twin, IsTwinBehind, IsTwinBefore, AreKeyed, ArePairs, AlikeHaveOneKey};
 
-use crate::buckets::{Bucket, bucket_at, bucket_of, buckets_of};
 use crate::lists::{lesser, placed};
 use crate::pairs::Pair;
-use crate::siblings::{is_beside, members_of};
+use crate::shared::{Keyed, add_named, shared, sorted};
+use crate::siblings::{is_beside, old_members};
 use enc_base::{Place, Token};
 use enc_plain::{ChainView, ModuleView};
 use std::alloc::{AllocError, Global};
@@ -20,6 +20,8 @@ use std::alloc::{AllocError, Global};
 pub trait Members {
     // How it answers.
     ghost asked: { Self → Asked };
+    // Numbers that rows with alike signatures have in common.
+    ghost keys: { Self → TheToken → ℕ };
 
     /// Whether the row counts. Only rows of child tables do.
     fn counts(&self, member: Token) -> bool
@@ -37,6 +39,14 @@ pub trait Members {
         requires other { IsTrue ((asked self.now).counts other) }
         requires table { member.table ≡ other.table }
         ensures { result ≡ (asked self.now).alike member other };
+
+    /// A number that rows with alike signatures have in common.
+    fn key(&self, member: Token) -> u64
+        requires { IsTrue ((asked self.now).counts member) }
+        ensures { result ≡ keys self.now member };
+
+    // Those with alike signatures have one.
+    ghost one: { (m : Self) → AlikeHaveOneKey (asked m) (keys m) };
 }
 
 /// Whether another row of a member's table counts and has the same name and an alike signature.
@@ -66,44 +76,85 @@ fn is_twin_beside<M: Members>(members: &M, pair: Pair, other: Pair) -> bool
     is_twin(members, pair.child, child)
 }
 
-/// Whether a twin of a pair's child is among others.
-fn has_twin_in<M: Members>(members: &M, pair: Pair, others: &[Pair]) -> bool
-    requires { IsTrue ((M.asked members.now).counts pair.child) }
-    ensures { result ≡ list_any (is_twin_beside (M.asked members.now) pair) others.now }
+/// Whether a twin of a member stands behind it, among those of its number.
+fn has_twin_behind<M: Members>(members: &M, entries: &[Keyed], k: usize) -> bool
+    requires k { k < length entries.now }
+    requires keyed { AreKeyed (M.asked members.now) (twin_key (M.asked members.now) (M.keys members.now)) entries.now }
+    requires sorted { IsNonDecreasingBy (λ (e : Keyed). e.key) entries.now }
+    ensures { IsTwinBehind (M.asked members.now) entries.now k result }
 {
-    for k in 0..others.len() {
-        if is_twin_beside(members, pair, others[k]) {
+    let entry = entries[k];
+    for j in k + 1..entries.len() {
+        let other = entries[j];
+        if other.key != entry.key {
+            return false;
+        }
+        if is_twin_beside(members, entry.pair, other.pair) {
             return true;
         }
     }
     false
 }
 
-/// Whether a pair's child counts and has a twin in its bucket.
-fn has_twin<M: Members>(members: &M, buckets: &[Bucket], pair: Pair) -> bool
-    requires { 0 < length buckets.now }
-    ensures twin { result ≡ in_bucket (M.asked members.now) buckets.now pair }
-    ensures child { IsTrue ((M.asked members.now).counts pair.child) → IsTrue (is_child_table pair.child.table) }
+/// Whether a twin of a member stands before it, among those of its number.
+fn has_twin_before<M: Members>(members: &M, entries: &[Keyed], k: usize) -> bool
+    requires k { k < length entries.now }
+    requires keyed { AreKeyed (M.asked members.now) (twin_key (M.asked members.now) (M.keys members.now)) entries.now }
+    requires sorted { IsNonDecreasingBy (λ (e : Keyed). e.key) entries.now }
+    ensures { IsTwinBefore (M.asked members.now) entries.now k result }
 {
-    if !members.counts(pair.child) {
-        return false;
+    let entry = entries[k];
+    let mut left = k;
+    while left > 0 {
+        left -= 1;
+        let other = entries[left];
+        if other.key != entry.key {
+            return false;
+        }
+        if is_twin_beside(members, entry.pair, other.pair) {
+            return true;
+        }
     }
-    let place = bucket_of(members, buckets.len(), pair);
-    has_twin_in(members, pair, bucket_at(buckets, place))
+    false
 }
 
-/// The least child that has a twin in its bucket.
-fn least_twin<M: Members>(members: &M, buckets: &[Bucket], pairs: &[Pair]) -> Option<u32>
-    requires size { 0 < length buckets.now }
-    requires rows { ArePairs pairs.now }
-    ensures least { result ≡ least (map (λ (k : Pair). number_of k.child) (filter (in_bucket (M.asked members.now) buckets.now) pairs.now)) }
-    ensures children { AreChildren (M.asked members.now) pairs.now }
+/// Whether a member has a twin among those of its number.
+fn has_twin<M: Members>(members: &M, entries: &[Keyed], k: usize) -> bool
+    requires k { k < length entries.now }
+    requires keyed { AreKeyed (M.asked members.now) (twin_key (M.asked members.now) (M.keys members.now)) entries.now }
+    requires sorted { IsNonDecreasingBy (λ (e : Keyed). e.key) entries.now }
+    ensures { result ≡ has_twin_among (M.asked members.now) entries.now (keyed_at entries.now k) }
+{
+    if has_twin_behind(members, entries, k) {
+        return true;
+    }
+    has_twin_before(members, entries, k)
+}
+
+/// Whether a member is new and has a twin among those of its number.
+fn is_new_twin<M: Members>(members: &M, entries: &[Keyed], k: usize) -> bool
+    requires k { k < length entries.now }
+    requires keyed { AreKeyed (M.asked members.now) (twin_key (M.asked members.now) (M.keys members.now)) entries.now }
+    requires sorted { IsNonDecreasingBy (λ (e : Keyed). e.key) entries.now }
+    ensures { result ≡ is_new_twin (M.asked members.now) entries.now (keyed_at entries.now k) }
+{
+    if !entries[k].is_new {
+        return false;
+    }
+    has_twin(members, entries, k)
+}
+
+/// The least new member that has a twin among those of its number.
+fn least_twin<M: Members>(members: &M, entries: &[Keyed]) -> Option<u32>
+    requires keyed { AreKeyed (M.asked members.now) (twin_key (M.asked members.now) (M.keys members.now)) entries.now }
+    requires sorted { IsNonDecreasingBy (λ (e : Keyed). e.key) entries.now }
+    ensures { result ≡ least (map keyed_number (filter (is_new_twin (M.asked members.now) entries.now) entries.now)) }
 {
     let mut best: Option<u32> = None;
-    for k in 0..pairs.len() {
-        let pair = pairs[k];
-        if has_twin(members, buckets, pair) {
-            best = Some(lesser(pair.child.number(), best));
+    for k in 0..entries.len() {
+        let child = entries[k].pair.child;
+        if is_new_twin(members, entries, k) {
+            best = Some(lesser(child.number(), best));
         }
     }
     best
@@ -119,9 +170,13 @@ pub fn twin_fault<C: ChainView, M: Members>(
     requires rows { ArePairs pairs.now }
     ensures { IfOk result (λ p. p ≡ twin_fault (M.asked members.now) (C.chain chain.now).plain (map pair_seen pairs.now)) }
 {
-    let all = members_of(alloc, chain, members, pairs)?;
-    let buckets = buckets_of(alloc, members, &all)?;
-    Ok(placed(least_twin(members, &buckets, pairs)))
+    let old = old_members(alloc, chain, members, pairs)?;
+    let mut entries = Vec::new(alloc);
+    add_named(members, &mut entries, pairs, true)?;
+    add_named(members, &mut entries, &old, false)?;
+    let named = sorted(entries);
+    let told = sorted(shared(alloc, members, &named)?);
+    Ok(placed(least_twin(members, &told)))
 }
 
 /// Where `twin_fault` names a child, it has a twin, and no lesser new child has one; where it names

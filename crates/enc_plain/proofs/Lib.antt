@@ -15,3 +15,5 @@ pub mod AlikeKept
 pub mod KindsOf
 pub mod Owned
 pub mod NameParts
+pub mod OneKey
+pub mod MemberKeys

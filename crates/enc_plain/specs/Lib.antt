@@ -17,3 +17,4 @@ pub mod Sound
 pub mod Debug
 pub mod DocumentName
 pub mod DebugSeen
+pub mod Keys

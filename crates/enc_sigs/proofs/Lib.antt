@@ -11,3 +11,6 @@ pub mod Wider
 pub mod Fronts
 mod ReadBack
 pub mod Left
+pub mod Shapes
+pub mod Shared
+pub mod MixedBytes

@@ -5,3 +5,5 @@ pub mod Reads
 pub mod Agree
 pub mod Walk
 pub mod Laws
+pub mod Mix
+pub mod Shape

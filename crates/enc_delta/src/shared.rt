@@ -1,0 +1,112 @@
+//! Members by numbers that twins have in common: those of one number stand in a row, and only they are
+//! compared.
+ghost use Rattle.std.specs.Prelude.{◌≡◌, ◌<◌, ◌++◌, map, filter, length, IsTrue, IfOk};
+ghost use Rattle.std.specs.List.Sorted.{IsNonDecreasingBy};
+ghost use Rattle.enc_delta.specs.Members.{owner_key, name_key, twin_key, named, told, is_near, near_told, is_other, AreKeyed, AreChildren, AreSame};
+
+use crate::pairs::Pair;
+use crate::twins::Members;
+use enc_sigs::{mixed, mixed_ends, mixed_long};
+use std::alloc::{AllocError, Global};
+
+/// A member of an owner, with a number that its twins have too.
+#[derive(Clone, Copy, Debug, PartialEq, Eq)]
+pub struct Keyed {
+    pub key: u64,
+    pub pair: Pair,
+    /// It is one of the new children, and no old member.
+    pub is_new: bool,
+}
+
+/// The number of a pair's owner and table.
+#[tactic(auto, unfolding(crate::specs::Members::owner_key))]
+fn owner_key(pair: Pair) -> u64
+    ensures { result ≡ owner_key pair }
+{
+    mixed(mixed(0, pair.owner.row), u32::from(pair.child.table))
+}
+
+/// A number of a pair's owner, of its table and of its child's name, for which long names are read at
+/// their ends alone.
+#[tactic(auto, unfolding(crate::specs::Members::name_key))]
+fn name_key<M: Members>(members: &M, pair: Pair) -> u64
+    requires { IsTrue ((M.asked members.now).counts pair.child) }
+    ensures { result ≡ name_key (M.asked members.now) pair }
+{
+    mixed_ends(32, owner_key(pair), members.name(pair.child))
+}
+
+/// A number of a pair's owner, of its table, of its child's name and of its child's signature.
+#[tactic(auto, unfolding(crate::specs::Members::twin_key))]
+fn twin_key<M: Members>(members: &M, pair: Pair) -> u64
+    requires { IsTrue ((M.asked members.now).counts pair.child) }
+    ensures { result ≡ twin_key (M.asked members.now) (M.keys members.now) pair }
+{
+    let hash = mixed_long(owner_key(pair), members.key(pair.child));
+    mixed_ends(0x800, hash, members.name(pair.child))
+}
+
+/// Adds the pairs whose children count, each by the number of its name.
+pub fn add_named<M: Members>(
+    members: &M,
+    entries: &mut Vec<Keyed>,
+    pairs: &[Pair],
+    is_new: bool,
+) -> Result<(), AllocError>
+    ensures named { IfOk result (λ _. entries.new.items ≡ entries.old.items ++ map (named (M.asked members.now) is_new) (filter (λ (k : Pair). (M.asked members.now).counts k.child) pairs.now)) }
+    ensures children { IfOk result (λ _. AreChildren (M.asked members.now) pairs.now) }
+{
+    for k in 0..pairs.len() {
+        let pair = pairs[k];
+        if members.counts(pair.child) {
+            entries.push(Keyed {
+                key: name_key(members, pair),
+                pair,
+                is_new,
+            })?;
+        }
+    }
+    Ok(())
+}
+
+/// The members in the order of their numbers.
+pub fn sorted(mut entries: Vec<Keyed>) -> Vec<Keyed>
+    ensures sorted { IsNonDecreasingBy (λ (e : Keyed). e.key) result.items }
+    ensures same { AreSame entries.items result.items }
+{
+    entries.sort_unstable_by_key(|entry| entry.key);
+    entries
+}
+
+/// Whether the member before one or the one behind it has the same number.
+#[tactic(auto, unfolding(crate::specs::Members::is_near))]
+fn is_near(entries: &[Keyed], k: usize) -> bool
+    requires { k < length entries.now }
+    ensures { result ≡ is_near entries.now k }
+{
+    let key = entries[k].key;
+    0 < k && entries[k - 1].key == key || k + 1 < entries.len() && entries[k + 1].key == key
+}
+
+/// The members whose number another has, each by a number of its signature too.
+pub fn shared<M: Members>(
+    alloc: Global,
+    members: &M,
+    entries: &[Keyed],
+) -> Result<Vec<Keyed>, AllocError>
+    requires { AreKeyed (M.asked members.now) (name_key (M.asked members.now)) entries.now }
+    ensures { IfOk result (λ l. l.items ≡ near_told (M.asked members.now) (M.keys members.now) entries.now (length entries.now)) }
+{
+    let mut kept = Vec::new(alloc);
+    for k in 0..entries.len() {
+        let entry = entries[k];
+        if is_near(entries, k) {
+            kept.push(Keyed {
+                key: twin_key(members, entry.pair),
+                pair: entry.pair,
+                is_new: entry.is_new,
+            })?;
+        }
+    }
+    Ok(kept)
+}
