@@ -15,6 +15,7 @@ pub mod Histories
 pub mod Asked
 pub mod Generations
 pub mod HeapPlaces
+pub mod Starts
 pub mod Judged
 pub mod SoundTables
 pub mod SoundKinds

@@ -4,3 +4,4 @@ pub mod Given
 pub mod Place
 pub mod Seen
 pub mod Laws
+pub mod Starts

@@ -1,23 +1,18 @@
 //! The deltas of an aggregate, asked from the newest to the oldest.
-ghost use Rattle.std.specs.Prelude.{◌≡◌, ◌<◌, ◌-◌, ◌+◌, ◌/◌, ◌^◌, max, [], ◌∷◌, Some, None, IfSome, MatchOption, IfOk, IsTrue, is_some, length, map, reverse, option_map, option_copied, slice_get};
-ghost use Rattle.enc_meta.specs.Heaps.{Counted};
-ghost use Rattle.enc_meta.specs.Joined.{joined_text, joined_guid};
+ghost use Rattle.std.specs.Prelude.{◌≡◌, ◌<◌, ◌-◌, ◌+◌, ◌/◌, ◌^◌, max, [], ◌∷◌, Some, None, IfSome, MatchOption, IfOk, IsTrue, is_some, length, map, reverse, option_map, slice_get};
 ghost use Rattle.enc_opcodes.specs.Body.{code_seen};
 ghost use Rattle.enc_schema.specs.Children.{is_child_table, owner_table};
 ghost use Rattle.enc_plain.specs.Module.{rows_in, has_row, owner_of, kids_of};
 ghost use Rattle.enc_meta.specs.Joined.{joined_lengths};
-ghost use Rattle.enc_meta.specs.HeapKinds.{bytes_in, joined_at};
 ghost use Rattle.enc_image.specs.Base.{cells_fault};
 ghost use Rattle.enc_agg.specs.Extend.{chain_with};
-ghost use Rattle.enc_agg.specs.Seen.{sources, AllAdded, found_in, found_seen, newest_number, code_in, own_place, own_guid_place};
-ghost use Rattle.enc_agg.specs.Place.{heap_place, guid_place};
+ghost use Rattle.enc_agg.specs.Seen.{sources, AllAdded, found_in, found_seen, newest_number, code_in};
 
 use crate::log::{count_given, given, owner_given, push_given};
-use crate::place::HeapPlace;
 use enc_base::{Counts, Token};
 use enc_delta::Delta;
 use enc_image::Image;
-use enc_meta::{Heap, HeapLengths, Heaps};
+use enc_meta::{HeapLengths, Heaps};
 use enc_opcodes::CodeRef;
 use enc_plain::ModuleView;
 use std::alloc::{AllocError, Global};
@@ -41,7 +36,7 @@ pub struct Found<'a> {
 }
 
 /// The newest delta, and those before it.
-fn newest(added: &[Added]) -> Option<(&Added, &[Added])>
+pub fn newest(added: &[Added]) -> Option<(&Added, &[Added])>
     ensures parts { MatchOption result (reverse added.now ≡ []) (λ r. reverse added.now ≡ r.0.now ∷ reverse r.1.now) }
     ensures fewer { IfSome result (λ r. length r.1.now < length added.now) }
 {
@@ -82,116 +77,6 @@ pub fn body_in(added: &[Added], place: u32) -> Option<CodeRef<'_>>
     match newest(added) {
         Some((last, _)) => last.delta.code(place),
         None => None,
-    }
-}
-
-/// The entry at an offset of a joined heap, None where the offset isn't good.
-pub fn entry_in<'a>(
-    image: &'a Image,
-    added: &'a [Added],
-    heap: Heap,
-    offset: u32,
-) -> Option<&'a [u8]>
-    requires { AllAdded image.now (reverse added.now) }
-    ensures { option_copied result ≡ joined_at heap (chain_with image.now (sources (reverse added.now))).heaps offset }
-{
-    let Some((last, older)) = newest(added) else {
-        return image.heaps().at(heap, offset);
-    };
-    if offset == 0 {
-        return Some(&[]);
-    }
-    let before = last.before.of(heap);
-    if offset < before {
-        return entry_in(image, older, heap, offset);
-    }
-    last.delta.heaps().entry(heap, offset - before)
-}
-
-/// Whether a text stands at an offset of the joined `#Strings`.
-pub fn has_text_in(image: &Image, added: &[Added], offset: u32) -> bool
-    requires { AllAdded image.now (reverse added.now) }
-    ensures { result ≡ is_some (joined_text (chain_with image.now (sources (reverse added.now))).heaps offset) }
-{
-    let Some((last, older)) = newest(added) else {
-        return image.heaps().has_text(offset);
-    };
-    if offset == 0 {
-        return true;
-    }
-    let strings = last.before.strings;
-    if offset < strings {
-        return has_text_in(image, older, offset);
-    }
-    last.delta.heaps().has_text_entry(offset - strings)
-}
-
-/// Entry k of the joined `#GUID`, from the first generation that has it; None where none has.
-pub fn guid_in(image: &Image, added: &[Added], k: u32) -> Option<[u8; 16]>
-    requires { AllAdded image.now (reverse added.now) }
-    ensures { result ≡ joined_guid (chain_with image.now (sources (reverse added.now))).heaps k }
-{
-    let Some((last, older)) = newest(added) else {
-        return image.heaps().guid(k);
-    };
-    match guid_in(image, older, k) {
-        Some(guid) => Some(guid),
-        None => last.delta.heaps().guid(k),
-    }
-}
-
-/// The place of an offset in a generation's own heap; None past its end.
-fn own_place(heaps: &Heaps<'_>, heap: Heap, generation: u32, offset: u32) -> Option<HeapPlace>
-    ensures { result ≡ own_place (bytes_in heap heaps.now) generation offset }
-{
-    if (offset as usize) < heaps.bytes(heap).len() {
-        Some(HeapPlace { generation, offset })
-    } else {
-        None
-    }
-}
-
-/// Where an offset of a joined heap stands. None where it is past the heap.
-pub fn heap_place_in(image: &Image, added: &[Added], heap: Heap, offset: u32) -> Option<HeapPlace>
-    requires { AllAdded image.now (reverse added.now) }
-    ensures { result ≡ heap_place (map (bytes_in heap) (chain_with image.now (sources (reverse added.now))).heaps) offset }
-{
-    let Some((last, older)) = newest(added) else {
-        return own_place(&image.heaps(), heap, 0, offset);
-    };
-    let before = last.before.of(heap);
-    if offset < before {
-        return heap_place_in(image, older, heap, offset);
-    }
-    let own = offset - before;
-    own_place(&last.delta.heaps(), heap, added.len() as u32, own)
-}
-
-/// The place of entry k of a generation's own `#GUID`, k from 1; None where it has fewer.
-fn own_guid_place(heaps: &Heaps<'_>, generation: u32, k: u32) -> Option<HeapPlace>
-    ensures { result ≡ own_guid_place heaps.now.guids generation k }
-{
-    if k == 0 || k as usize > heaps.guids().len() / 16 {
-        return None;
-    }
-    Some(HeapPlace {
-        generation,
-        offset: k,
-    })
-}
-
-/// The place of entry k of `#GUID`, k from 1, in the first generation that has it; None where none
-/// has.
-pub fn guid_place_in(image: &Image, added: &[Added], k: u32) -> Option<HeapPlace>
-    requires { AllAdded image.now (reverse added.now) }
-    ensures { result ≡ guid_place (map (λ (h : Counted). h.guids) (chain_with image.now (sources (reverse added.now))).heaps) k }
-{
-    let Some((last, older)) = newest(added) else {
-        return own_guid_place(&image.heaps(), 0, k);
-    };
-    match guid_place_in(image, older, k) {
-        Some(place) => Some(place),
-        None => own_guid_place(&last.delta.heaps(), added.len() as u32, k),
     }
 }
 

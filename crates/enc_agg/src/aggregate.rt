@@ -12,7 +12,8 @@ ghost use Rattle.enc_agg.specs.Follows.{Follows};
 ghost use Rattle.enc_agg.specs.Place.{place_of, place_in_heaps, delta_at};
 ghost use Rattle.enc_agg.specs.Seen.{chain_of_all, module_of_all, sources, AllAdded, IsPrepared};
 
-use crate::added::{Added, count_in, find, guid_place_in, heap_place_in, lengths_in};
+use crate::added::{Added, count_in, find, lengths_in};
+use crate::heaps::{guid_place_in, heap_place_in};
 use crate::place::HeapPlace;
 use enc_base::{Counts, StreamName, Token};
 use enc_delta::{Delta, enc_id_of, inserts_of};

@@ -3,6 +3,7 @@
 
 mod added;
 mod aggregate;
+mod heaps;
 mod laws;
 mod log;
 mod place;

@@ -3,10 +3,11 @@ ghost use Rattle.std.specs.Prelude.{◌≡◌, refl};
 ghost use Rattle.enc_agg.specs.Seen.{module_of_all, chain_of_all, users_of_all};
 
 use crate::added::{
-    Added, body_in, count_in, entry_in, find, guid_in, has_text_in, id_in, kid_back, kid_rows_in,
-    kids_in, lengths_in, number, owner_in,
+    Added, body_in, count_in, find, id_in, kid_back, kid_rows_in, kids_in, lengths_in, number,
+    owner_in,
 };
 use crate::aggregate::Aggregate;
+use crate::heaps::{entry_in, guid_in, has_text_in};
 use enc_base::Token;
 use enc_meta::{Heap, HeapLengths};
 use enc_opcodes::CodeRef;

@@ -1,6 +1,7 @@
 //! Values by their keys.
-ghost use Rattle.std.specs.Prelude.{◌≡◌, None, IfOk, option_copied};
+ghost use Rattle.std.specs.Prelude.{◌≡◌, Some, None, IfOk, option_copied, if◌then◌else◌};
 ghost use Rattle.enc_index.specs.declared.key.Key.{Key as TheKey};
+ghost use Rattle.enc_index.specs.Key.{is_key};
 ghost use Rattle.enc_index.specs.Index.{value_at, key_of, value_of, latest, latest_one, either};
 
 use crate::key::Key;
@@ -73,4 +74,19 @@ impl<V: Drop> Index<V> {
             self.put(entry);
         }
     }
+}
+
+/// Appends an entry.
+#[tactic(auto, using(crate::proofs::Latest::latest_push))]
+pub fn push_entry<V: Drop>(
+    entries: &mut Vec<Entry<V>>,
+    alloc: Global,
+    key: Key,
+    value: V,
+) -> Result<(), AllocError>
+    ensures { IfOk result (λ _. (q : TheKey) → latest entries.new.items q ≡ either (if is_key key q then Some value else None) (latest entries.old.items q)) }
+{
+    let entry = Entry::new(alloc, key, value)?;
+    entries.push(entry)?;
+    Ok(())
 }
