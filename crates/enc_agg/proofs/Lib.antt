@@ -16,6 +16,7 @@ pub mod Asked
 pub mod Generations
 pub mod HeapPlaces
 pub mod Starts
+pub mod Numbers
 pub mod Judged
 pub mod SoundTables
 pub mod SoundKinds
@@ -26,3 +27,5 @@ pub mod SoundFields
 pub mod SoundCells
 pub mod SoundDeltas
 pub mod Landing
+pub mod Directories
+pub mod Gained

@@ -18,7 +18,7 @@ use Rattle.enc_agg.specs.declared.heaps.Measure.TheVariants.{Bytes, Guids}
 use Rattle.enc_agg.specs.Extend.{chain_with}
 use Rattle.enc_agg.specs.Place.{guid_place}
 use Rattle.enc_agg.specs.Seen.{sources, AllAdded}
-use Rattle.enc_agg.specs.Starts.{measure_in, starts, NeverFall}
+use Rattle.enc_agg.specs.Starts.{measure_in, starts, NeverFall, IsParted, HaveBegun}
 use Rattle.enc_agg.proofs.Generations.{all_upto}
 use Rattle.enc_agg.proofs.Histories.{last_added, heaps_with}
 
@@ -105,3 +105,15 @@ starts_rise b added measure all i j le low =
 -- the first deltas by which the search ends
 pub begun_last : (b : Source) (added upto : List Added) → AllAdded b (reverse added) → upto ≡ take (length upto) added → AllAdded b (reverse upto)
 begun_last b added upto all front = rw front (all_upto b added (length upto) all)
+
+-- the newest of them has begun
+pub have_begun : (measure : Measure) (n : ℕ) (added : List Added) (g : ℕ) → IsParted (starts measure added) n g → HaveBegun measure n (reverse (take g added))
+have_begun measure n added zero parted = tt
+have_begun measure n added (suc j) parted =
+    let low : j < length added = omega (arith, parted.within, length-map added (λ (a : Added). measure_in measure a.before)) in
+    let a = some_at added j low in
+    rw (upto_more added j a low, ← (start_at measure added j a low)) (parted.low j (omega arith))
+
+-- those before it have a number or fewer
+pub before_number : (b : Source) (a : Added) (older : List Added) (n : ℕ) → AllAdded b (a ∷ older) → a.before.guids ≤ n → measure_in Guids (joined_lengths (chain_with b (sources older)).heaps) ≤ n
+before_number b a older n all le = rw (← (last_added b a older all).0.before) le

@@ -5,3 +5,5 @@ pub mod Place
 pub mod Seen
 pub mod Laws
 pub mod Starts
+pub mod Directory
+pub mod Prepared

@@ -58,7 +58,7 @@ fn begun(added: &[Added], measure: Measure, n: u32) -> usize
 }
 
 /// The deltas that have a number or fewer before them.
-fn upto(image: &Image, added: &[Added], measure: Measure, n: u32) -> &[Added]
+fn upto<'a>(image: &Image, added: &'a [Added], measure: Measure, n: u32) -> &'a [Added]
     requires { AllAdded image.now (reverse added.now) }
     ensures front { result.now ≡ take (length result.now) added.now }
     ensures few { length result.now ≤ length added.now }
@@ -161,7 +161,9 @@ pub fn guid_place_in(image: &Image, added: &[Added], k: u32) -> Option<HeapPlace
     requires { AllAdded image.now (reverse added.now) }
     ensures { result ≡ guid_place (map (λ (h : Counted). h.guids) (chain_with image.now (sources (reverse added.now))).heaps) k }
 {
-    let number = k.checked_sub(1)?;
+    let Some(number) = k.checked_sub(1) else {
+        return None;
+    };
     let upto = upto(image, added, Measure::Guids, number);
     match newest(upto) {
         None => own_guid_place(&image.heaps(), 0, k),

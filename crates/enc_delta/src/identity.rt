@@ -1,5 +1,5 @@
 //! The Module row of a delta: it belongs to the chain and is the next generation.
-ghost use Rattle.std.specs.Prelude.{◌≡◌, ℕ, ◌+◌, ◌<◌, ◌≤◌, List, bytes_eq};
+ghost use Rattle.std.specs.Prelude.{◌≡◌, ℕ, ◌+◌, ◌≤◌, List, bytes_eq};
 ghost use Rattle.std.specs.List.{list_any};
 ghost use Rattle.enc_plain.specs.Chain.{mvid_of};
 ghost use Rattle.enc_rows.specs.Source.{raw_in};
@@ -26,17 +26,16 @@ fn own_guid<C: ChainView>(chain: &C, delta: &Delta, column: u8) -> [u8; 16]
     }
 }
 
-/// The number in a column of the delta's Module row, 0 where it has none. One step at most.
-#[tactic(auto, unfolding(enc_rows::specs::Layout::raw_cell))]
-fn own_number<L: Ledger>(delta: &Delta, column: u8, steps: &mut Steps<L>) -> u32
-    requires { column < 5 }
-    ensures number { result ≡ raw_in delta.now module_token column }
+/// The number of the EncId in the delta's Module row, 0 where it has none. One step at most.
+#[tactic(auto, unfolding(enc_rows::specs::Layout::raw_cell, enc_schema::specs::Schema::columns_in))]
+fn enc_id_number<L: Ledger>(delta: &Delta, steps: &mut Steps<L>) -> u32
+    ensures number { result ≡ raw_in delta.now module_token 3 }
     ensures steps { steps.new ≤ steps.old + 1 }
 {
     if delta.count(0) == 0 {
         return 0;
     }
-    delta.raw(MODULE, column, steps)
+    delta.raw(MODULE, MODULE_ENC_ID, steps)
 }
 
 /// The EncId of a delta after its chain, nil where it can't be read. One step at most.
@@ -49,7 +48,7 @@ pub fn enc_id_counted<C: ChainView, L: Ledger>(
     ensures id { result ≡ own_guid (C.chain chain.now) delta.now 3 }
     ensures steps { steps.new ≤ steps.old + 1 }
 {
-    let number = own_number(delta, MODULE_ENC_ID, steps);
+    let number = enc_id_number(delta, steps);
     match guid_after(chain, &delta.heaps(), number) {
         Some(guid) => guid,
         None => [0; 16],

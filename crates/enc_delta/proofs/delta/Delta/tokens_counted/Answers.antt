@@ -8,7 +8,7 @@ use Rattle.enc_delta.proofs.delta.Delta.tokens_counted.Goals as goal
 use Rattle.enc_delta.proofs.delta.Delta.tokens_counted.Goals.{then-not-is_module+in_ok-push, else-not-is_module}
 
 pub loop-i-init : goal.loop-i-init
-loop-i-init c = record {
+loop-i-init g c = record {
   items = rw c.new-tokens.ensures.items (sym (tokens_none _ _));
   rows = rw c.new-tokens.ensures.items refl;
   tables = rw c.new-tokens.ensures.items refl;
@@ -17,7 +17,7 @@ loop-i-init c = record {
 }
 
 pub loop-i-preserved : goal.loop-i-preserved
-loop-i-preserved c = elim c.if-not-is_module.branch [
+loop-i-preserved g c = elim c.if-not-is_module.branch [
   | then-not-is_module+in_ok-push w ↦
       let kept = more_kept (λ t. not (is_module t)) (λ (t : Token). nat_lt t.row 0x1000000) (map_token c.args.self.now) c.loop-i.i c.loop-i.tokens.items c.if-not-is_module.tokens.items c.map-token.result c.loop-i.invariant.items c.loop-i.invariant.rows c.map-token.ensures.at (ap not (sym c.is_module.ensures ∙ w.if-not-is_module.true)) (grind (arith, nat_tests, c.map-token.ensures.row)) (rw w.tokens-is w.in_ok-push.ensures.items) in
       record {

@@ -7,7 +7,7 @@ use Rattle.enc_delta.specs.Delta.{map_token, is_module}
 use Rattle.enc_delta.proofs.delta.Delta.tokens_counted.Given as goal
 
 abbrev pub invariant-loop-i : goal.invariant-loop-i
-invariant-loop-i l = record {
+invariant-loop-i g l = record {
   items : l.tokens.items ≡ filter (λ t. not (is_module t)) (map (map_token l.self) (below l.i));
   rows : IsTrue (list_all (λ (t : Token). nat_lt t.row 0x1000000) l.tokens.items);
   tables : IsTrue (list_all (λ (t : Token). nat_lt t.table 0x100) l.tokens.items);
