@@ -1,5 +1,5 @@
 //! Judging a base and its deltas, each after those before it.
-ghost use Rattle.std.specs.Prelude.{◌≡◌, ◌∷◌, [], ℕ, List, map, Ok, IfOk, IsErrOf, string_bytes};
+ghost use Rattle.std.specs.Prelude.{◌≡◌, ◌<◌, ◌∷◌, [], ℕ, List, map, Ok, IfOk, IsErrOf, string_bytes};
 ghost use Rattle.enc_image.specs.Base.{base_of};
 ghost use Rattle.enc_delta.specs.Delta.{delta_of};
 ghost use Rattle.enc_agg.specs.Seen.{chain_of_all};
@@ -13,11 +13,32 @@ use crate::load::{DeltaFile, name_of};
 use crate::plans::unread;
 use crate::stop::Stop;
 use enc_agg::Aggregate;
-use enc_base::ReadFault;
+use enc_base::{ReadFault, Steps};
 use enc_checker::{Checked, Files, check};
 use enc_delta::Delta;
 use enc_image::Image;
 use std::alloc::{AllocError, Global};
+use std::marker::Brand;
+use std::sync::ledger::{Blank, Ledger};
+
+/// Adds a delta that breaks no rule; the steps are counted in a ledger of their own.
+fn add_counted<L: Ledger>(
+    agg: &mut Aggregate,
+    delta: Delta,
+    blank: Blank,
+) -> Result<(), AllocError>
+    requires name { blank.name ≡ L.name }
+    requires parts { blank.parts ≡ L.parts }
+    requires some { 0 < L.parts }
+    requires judged { judged (chain_of_all agg.old) (Ok delta) ≡ Ok delta }
+    ensures base { agg.new.base ≡ agg.old.base }
+    ensures added { IfOk result (λ u. agg.new.deltas ≡ delta ∷ agg.old.deltas) }
+{
+    let mut steps = Steps::<L>::begin(blank);
+    let ready = agg.prepare(delta, &mut steps)?;
+    agg.commit(ready);
+    Ok(())
+}
 
 /// Adds a delta that breaks no rule.
 fn add(agg: &mut Aggregate, delta: Delta) -> Result<(), AllocError>
@@ -25,9 +46,7 @@ fn add(agg: &mut Aggregate, delta: Delta) -> Result<(), AllocError>
     ensures base { agg.new.base ≡ agg.old.base }
     ensures added { IfOk result (λ u. agg.new.deltas ≡ delta ∷ agg.old.deltas) }
 {
-    let ready = agg.prepare(delta)?;
-    agg.commit(ready);
-    Ok(())
+    add_counted::<Brand>(agg, delta, Blank::new(1))
 }
 
 /// The files of a delta judged after the deltas before it, and added.
