@@ -129,7 +129,7 @@ attached_once c s t r f there less =
     let code = code_for t there in
     rw (← code.3) (once_code c s code.0 r f code.1 code.2 (ap is_child_table code.3 ∙ there) (rw code.3 less))
 
-once_at : (c : Chain) (s : Source) (t row : ℕ) → Lands c s → is_child_table t ≡ true → rows_before c t < row → row ≤ rows_before c t + inserts c (listed s) t → count_by (attaches_row t row) (attached_of s) ≡ 1
+pub once_at : (c : Chain) (s : Source) (t row : ℕ) → Lands c s → is_child_table t ≡ true → rows_before c t < row → row ≤ rows_before c t + inserts c (listed s) t → count_by (attaches_row t row) (attached_of s) ≡ 1
 once_at c s t row f there low high =
     let e : rows_before c t + (row - rows_before c t - 1) + 1 ≡ row = omega arith in
     ap (λ n. count_by (attaches_row t n) (attached_of s)) (sym e) ∙ attached_once c s t (row - rows_before c t - 1) f there (omega arith)
@@ -170,9 +170,13 @@ all_after c s has f runs t row there =
     let fit = fits c s has f in
     attached_count (attached_of s) (apply c.plain (changes_of c s)) (λ k. k == row) t (pairs_fit c s has f) (runs_applied (changes_of c s) c.plain fit runs) there ∙ ap (λ xs. count_by (λ k. k == row) xs + count_by (attaches_row t row) (attached_of s)) (all_applied (changes_of c s) c.plain t fit)
 
-rows_after : (c : Chain) (s : Source) → HasTables c.plain → Lands c s → (t : ℕ) → length (rows_in (extended c s).plain t) ≡ rows_before c t + inserts c (listed s) t
+pub rows_after : (c : Chain) (s : Source) → HasTables c.plain → Lands c s → (t : ℕ) → length (rows_in (extended c s).plain t) ≡ rows_before c t + inserts c (listed s) t
 unfolding rows_with
 rows_after c s has f t = count_is c s has f t
+
+-- no table has fewer rows after a delta
+pub rows_grow : (c : Chain) (s : Source) → HasTables c.plain → Lands c s → (t : ℕ) → length (rows_in c.plain t) ≤ length (rows_in (extended c s).plain t)
+rows_grow c s has f t = omega (arith, rows_after c s has f t)
 
 once_after : (c : Chain) (s : Source) → HasTables c.plain → Lands c s → HasRuns c.plain → IsOwned c.plain → (t row : ℕ) → is_child_table t ≡ true → count_by (λ k. k == row) (all_kids (extended c s).plain t) ≡ cond (nat_le 1 row && nat_le row (length (rows_in (extended c s).plain t))) 1 0
 once_after c s has f runs owned t row there =

@@ -26,7 +26,7 @@ one_more b added a agg last =
     rw (reverse-append added (a ∷ [])) (record { sound = agg.sound; all = with_last b a (reverse added) last agg.all })
 
 -- the deltas up to a generation
-reversed_part : {X : Type 0} (xs : List X) (g : ℕ) → reverse (take g xs) ≡ drop (length xs - g) (reverse xs)
+pub reversed_part : {X : Type 0} (xs : List X) (g : ℕ) → reverse (take g xs) ≡ drop (length xs - g) (reverse xs)
 reversed_part xs g =
     let parts : reverse xs ≡ reverse (drop g xs) ++ reverse (take g xs) = ap reverse (sym (take-append-drop g xs)) ∙ reverse-append (take g xs) (drop g xs) in
     rw parts (sym (drop_at (reverse (drop g xs)) (reverse (take g xs)) (length xs - g) (length-reverse (drop g xs) ∙ length-drop g xs)))
@@ -85,7 +85,7 @@ fewer_step : (a : Added) (older : List Added) (o : Option ℕ) (rest : Option (L
 fewer_step a older None rest f less is = let e = less is in omega (arith, e)
 fewer_step a older (Some k) rest f less is = let e : f.0 ≡ a ∷ older = cc in rw e (omega arith)
 
-fewer_found : (added : List Added) (u : Token) (f : List Added × ℕ) → found_in added u ≡ Some f → length f.0 ≤ length added
+pub fewer_found : (added : List Added) (u : Token) (f : List Added × ℕ) → found_in added u ≡ Some f → length f.0 ≤ length added
 unfolding found_in
 fewer_found [] u f is = absurd cc
 fewer_found (a ∷ older) u f is = fewer_step a older (place_in (listed a.delta) u) (found_in older u) f (fewer_found older u f) is

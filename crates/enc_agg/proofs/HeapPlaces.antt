@@ -39,7 +39,7 @@ by_first : (t : Bool) (x : Option HeapPlace) (a b : Option HeapPlace) → (t ≡
 by_first true x a b same = refl
 by_first false x a b same = rw (same refl) refl
 
-place_before : (heaps : List (List ℕ)) (heap : List ℕ) (offset : ℕ) → offset < joined_length heaps → heap_place (heaps ++ heap ∷ []) offset ≡ heap_place heaps offset
+pub place_before : (heaps : List (List ℕ)) (heap : List ℕ) (offset : ℕ) → offset < joined_length heaps → heap_place (heaps ++ heap ∷ []) offset ≡ heap_place heaps offset
 unfolding heap_place
 place_before [] heap offset low = absurd (omega arith)
 place_before (h ∷ hs) heap offset low =
@@ -63,7 +63,7 @@ place_behind (h ∷ hs) heap offset high =
     not_less offset first more high = grind (arith, nat_tests)
 
 -- what the heaps have together
-total_joined : (k : Heap) (heaps : List Counted) → length_in k (joined_lengths heaps) ≡ joined_length (map (bytes_in k) heaps)
+pub total_joined : (k : Heap) (heaps : List Counted) → length_in k (joined_lengths heaps) ≡ joined_length (map (bytes_in k) heaps)
 unfolding joined_lengths
 total_joined heap.Strings heaps = refl
 total_joined heap.Users heaps = refl
@@ -85,11 +85,6 @@ many_parts added a older parts = sym (length-reverse added) ∙ ap length parts
 pub base_place : (b : Source) (k : Heap) (offset : ℕ) → heap_place (map (bytes_in k) (chain_with b []).heaps) offset ≡ own_place (bytes_in k b.heaps) 0 offset
 base_place b k offset = rw (heaps_alone b) (place_alone (bytes_in k b.heaps) offset)
 
-pub older_place : (b : Source) (a : Added) (older : List Added) (k : Heap) (offset : ℕ) → AllAdded b (a ∷ older) → offset < length_in k a.before → heap_place (map (bytes_in k) (chain_with b (sources (a ∷ older))).heaps) offset ≡ heap_place (map (bytes_in k) (chain_with b (sources older)).heaps) offset
-older_place b a older k offset all low =
-    let total = total_is b a older k all in
-    rw (heaps_more b a older (bytes_in k)) (place_before _ (bytes_in k a.delta.heaps) offset (omega (arith, low, total)))
-
 pub newest_place : (b : Source) (a : Added) (older : List Added) (k : Heap) (offset : ℕ) → AllAdded b (a ∷ older) → length_in k a.before ≤ offset → heap_place (map (bytes_in k) (chain_with b (sources (a ∷ older))).heaps) offset ≡ own_place (bytes_in k a.delta.heaps) (length (a ∷ older)) (offset - length_in k a.before)
 newest_place b a older k offset all high =
     let total = total_is b a older k all in
@@ -106,7 +101,7 @@ or_later true p a b c e = refl
 or_later false p None b c e = e
 or_later false p (Some q) b c e = refl
 
-guid_behind : (heaps : List (List ℕ)) (heap : List ℕ) (k : ℕ) → guid_place (heaps ++ heap ∷ []) k ≡ or_else (guid_place heaps k) (own_guid_place heap (length heaps) k)
+pub guid_behind : (heaps : List (List ℕ)) (heap : List ℕ) (k : ℕ) → guid_place (heaps ++ heap ∷ []) k ≡ or_else (guid_place heaps k) (own_guid_place heap (length heaps) k)
 unfolding guid_place
 guid_behind heaps heap zero = refl
 guid_behind [] heap (suc k) = refl

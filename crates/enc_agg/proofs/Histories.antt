@@ -282,7 +282,7 @@ second_none None b h = h
 second_none (Some x) b h = absurd cc
 
 -- a table has fewer rows after a delta than a token can name
-after_few : (c : Chain) (d : Source) (t : ℕ) → HasTables c.plain → Follows c d → length (rows_in (extended c d).plain t) < 0x1000000
+pub after_few : (c : Chain) (d : Source) (t : ℕ) → HasTables c.plain → Follows c d → length (rows_in (extended c d).plain t) < 0x1000000
 unfolding too_many too_many_in
 after_few c d t tables follows =
     elim (cases_lt t 0x2D) [

@@ -15,6 +15,8 @@ pub mod Histories
 pub mod Asked
 pub mod Generations
 pub mod HeapPlaces
+pub mod Starts
+pub mod Numbers
 pub mod Judged
 pub mod SoundTables
 pub mod SoundKinds
@@ -25,3 +27,5 @@ pub mod SoundFields
 pub mod SoundCells
 pub mod SoundDeltas
 pub mod Landing
+pub mod Directories
+pub mod Gained

@@ -92,7 +92,7 @@ kids_sum c d u t x y sound f there old new =
 pub kids_pushed : (c : Chain) (d : Source) (u : Token) (t n : ℕ) (old new : List ℕ) → HasOwners c.plain → Lands c d → is_child_table t ≡ true → n ≡ length (rows_in c.plain t) → old ≡ kids_of c.plain u t → new ≡ old ++ rows_given n u (add_code t) (log_in d) → new ≡ kids_of (extended c d).plain u t
 kids_pushed c d u t n old new sound f there e before pushed = pushed ∙ rw (before, e) (sym (kids_both c d u t sound f there))
 
-get_left : (xs ys : List ℕ) (i : ℕ) (x : ℕ) → slice_get xs i ≡ Some x → slice_get (xs ++ ys) i ≡ Some x
+pub get_left : (xs ys : List ℕ) (i : ℕ) (x : ℕ) → slice_get xs i ≡ Some x → slice_get (xs ++ ys) i ≡ Some x
 get_left [] ys i x h = absurd cc
 get_left (y ∷ xs) ys zero x h = h
 get_left (y ∷ xs) ys (suc i) x h = get_left xs ys i x h

@@ -4,3 +4,6 @@ pub mod Given
 pub mod Place
 pub mod Seen
 pub mod Laws
+pub mod Starts
+pub mod Directory
+pub mod Prepared

@@ -80,10 +80,6 @@ code_in (a ∷ older) n = code_loaded a.delta.loaded n
 abbrev pub users_of_all : History → ℕ → Option (List ℕ)
 users_of_all h = joined_user (chain_of_all h).heaps
 
--- what was made ready was prepared from this chain
-unfoldable pub IsPrepared : Chain → Added → Type 0
-IsPrepared c a = IsAdded c a
-
 -- the place of an offset in a generation's own heap
 abbrev pub own_place : List ℕ → ℕ → ℕ → Option HeapPlace
 own_place heap generation offset = if nat_lt offset (length heap) then Some (record { generation = generation; offset = offset }) else None

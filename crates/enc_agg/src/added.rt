@@ -1,27 +1,17 @@
 //! The deltas of an aggregate, asked from the newest to the oldest.
-ghost use Rattle.std.specs.Prelude.{◌≡◌, ◌<◌, ◌-◌, ◌+◌, ◌/◌, ◌^◌, max, [], ◌∷◌, Some, None, IfSome, MatchOption, IfOk, IsTrue, is_some, length, map, reverse, option_map, option_copied, slice_get};
-ghost use Rattle.enc_meta.specs.Heaps.{Counted};
-ghost use Rattle.enc_meta.specs.Joined.{joined_text, joined_guid};
+ghost use Rattle.std.specs.Prelude.{◌≡◌, ◌<◌, ◌+◌, ◌/◌, ◌^◌, max, [], ◌∷◌, Some, IfSome, MatchOption, length, map, reverse, option_map, slice_get};
 ghost use Rattle.enc_opcodes.specs.Body.{code_seen};
-ghost use Rattle.enc_schema.specs.Children.{is_child_table, owner_table};
-ghost use Rattle.enc_plain.specs.Module.{rows_in, has_row, owner_of, kids_of};
+ghost use Rattle.enc_plain.specs.Module.{rows_in};
 ghost use Rattle.enc_meta.specs.Joined.{joined_lengths};
-ghost use Rattle.enc_meta.specs.HeapKinds.{bytes_in, joined_at};
-ghost use Rattle.enc_image.specs.Base.{cells_fault};
 ghost use Rattle.enc_agg.specs.Extend.{chain_with};
-ghost use Rattle.enc_agg.specs.Seen.{sources, AllAdded, found_in, found_seen, newest_number, code_in, own_place, own_guid_place};
-ghost use Rattle.enc_agg.specs.Place.{heap_place, guid_place};
+ghost use Rattle.enc_agg.specs.Seen.{sources, AllAdded, newest_number, code_in};
 
-use crate::log::{count_given, given, owner_given, push_given};
-use crate::place::HeapPlace;
 use enc_base::{Counts, Token};
 use enc_delta::Delta;
 use enc_image::Image;
-use enc_meta::{Heap, HeapLengths, Heaps};
+use enc_meta::{HeapLengths, Heaps};
 use enc_opcodes::CodeRef;
 use enc_plain::ModuleView;
-use std::alloc::{AllocError, Global};
-use std::marker::Model;
 
 /// A delta that was accepted, with what is asked for often: the lengths of the joined heaps before
 /// it, its EncId, and how many rows each table has after it.
@@ -41,26 +31,13 @@ pub struct Found<'a> {
 }
 
 /// The newest delta, and those before it.
-fn newest(added: &[Added]) -> Option<(&Added, &[Added])>
+pub fn newest(added: &[Added]) -> Option<(&Added, &[Added])>
     ensures parts { MatchOption result (reverse added.now ≡ []) (λ r. reverse added.now ≡ r.0.now ∷ reverse r.1.now) }
     ensures fewer { IfSome result (λ r. length r.1.now < length added.now) }
 {
     match added {
         [] => None,
         [older @ .., last] => Some((last, older)),
-    }
-}
-
-/// The newest delta that lists a token.
-pub fn find(added: &[Added], token: Token) -> Option<Found<'_>>
-    ensures { option_map found_seen result ≡ found_in (reverse added.now) token }
-{
-    let Some((last, older)) = newest(added) else {
-        return None;
-    };
-    match last.delta.place(token) {
-        Some(row) => Some(Found { upto: added, row }),
-        None => find(older, token),
     }
 }
 
@@ -82,116 +59,6 @@ pub fn body_in(added: &[Added], place: u32) -> Option<CodeRef<'_>>
     match newest(added) {
         Some((last, _)) => last.delta.code(place),
         None => None,
-    }
-}
-
-/// The entry at an offset of a joined heap, None where the offset isn't good.
-pub fn entry_in<'a>(
-    image: &'a Image,
-    added: &'a [Added],
-    heap: Heap,
-    offset: u32,
-) -> Option<&'a [u8]>
-    requires { AllAdded image.now (reverse added.now) }
-    ensures { option_copied result ≡ joined_at heap (chain_with image.now (sources (reverse added.now))).heaps offset }
-{
-    let Some((last, older)) = newest(added) else {
-        return image.heaps().at(heap, offset);
-    };
-    if offset == 0 {
-        return Some(&[]);
-    }
-    let before = last.before.of(heap);
-    if offset < before {
-        return entry_in(image, older, heap, offset);
-    }
-    last.delta.heaps().entry(heap, offset - before)
-}
-
-/// Whether a text stands at an offset of the joined `#Strings`.
-pub fn has_text_in(image: &Image, added: &[Added], offset: u32) -> bool
-    requires { AllAdded image.now (reverse added.now) }
-    ensures { result ≡ is_some (joined_text (chain_with image.now (sources (reverse added.now))).heaps offset) }
-{
-    let Some((last, older)) = newest(added) else {
-        return image.heaps().has_text(offset);
-    };
-    if offset == 0 {
-        return true;
-    }
-    let strings = last.before.strings;
-    if offset < strings {
-        return has_text_in(image, older, offset);
-    }
-    last.delta.heaps().has_text_entry(offset - strings)
-}
-
-/// Entry k of the joined `#GUID`, from the first generation that has it; None where none has.
-pub fn guid_in(image: &Image, added: &[Added], k: u32) -> Option<[u8; 16]>
-    requires { AllAdded image.now (reverse added.now) }
-    ensures { result ≡ joined_guid (chain_with image.now (sources (reverse added.now))).heaps k }
-{
-    let Some((last, older)) = newest(added) else {
-        return image.heaps().guid(k);
-    };
-    match guid_in(image, older, k) {
-        Some(guid) => Some(guid),
-        None => last.delta.heaps().guid(k),
-    }
-}
-
-/// The place of an offset in a generation's own heap; None past its end.
-fn own_place(heaps: &Heaps<'_>, heap: Heap, generation: u32, offset: u32) -> Option<HeapPlace>
-    ensures { result ≡ own_place (bytes_in heap heaps.now) generation offset }
-{
-    if (offset as usize) < heaps.bytes(heap).len() {
-        Some(HeapPlace { generation, offset })
-    } else {
-        None
-    }
-}
-
-/// Where an offset of a joined heap stands. None where it is past the heap.
-pub fn heap_place_in(image: &Image, added: &[Added], heap: Heap, offset: u32) -> Option<HeapPlace>
-    requires { AllAdded image.now (reverse added.now) }
-    ensures { result ≡ heap_place (map (bytes_in heap) (chain_with image.now (sources (reverse added.now))).heaps) offset }
-{
-    let Some((last, older)) = newest(added) else {
-        return own_place(&image.heaps(), heap, 0, offset);
-    };
-    let before = last.before.of(heap);
-    if offset < before {
-        return heap_place_in(image, older, heap, offset);
-    }
-    let own = offset - before;
-    own_place(&last.delta.heaps(), heap, added.len() as u32, own)
-}
-
-/// The place of entry k of a generation's own `#GUID`, k from 1; None where it has fewer.
-fn own_guid_place(heaps: &Heaps<'_>, generation: u32, k: u32) -> Option<HeapPlace>
-    ensures { result ≡ own_guid_place heaps.now.guids generation k }
-{
-    if k == 0 || k as usize > heaps.guids().len() / 16 {
-        return None;
-    }
-    Some(HeapPlace {
-        generation,
-        offset: k,
-    })
-}
-
-/// The place of entry k of `#GUID`, k from 1, in the first generation that has it; None where none
-/// has.
-pub fn guid_place_in(image: &Image, added: &[Added], k: u32) -> Option<HeapPlace>
-    requires { AllAdded image.now (reverse added.now) }
-    ensures { result ≡ guid_place (map (λ (h : Counted). h.guids) (chain_with image.now (sources (reverse added.now))).heaps) k }
-{
-    let Some((last, older)) = newest(added) else {
-        return own_guid_place(&image.heaps(), 0, k);
-    };
-    match guid_place_in(image, older, k) {
-        Some(place) => Some(place),
-        None => own_guid_place(&last.delta.heaps(), added.len() as u32, k),
     }
 }
 
@@ -248,115 +115,4 @@ pub fn count_in(image: &Image, added: &[Added], table: u8) -> u32
     } else {
         0
     }
-}
-
-/// The owner of a row of a child table.
-pub fn owner_in(image: &Image, added: &[Added], child: Token) -> Token
-    requires sound { cells_fault image.now ≡ None }
-    requires added { AllAdded image.now (reverse added.now) }
-    requires row { IsTrue (has_row (chain_with image.now (sources (reverse added.now))).plain child) }
-    requires table { IsTrue (is_child_table child.table) }
-    ensures { owner_of (chain_with image.now (sources (reverse added.now))).plain child ≡ Some result }
-{
-    let Some((last, older)) = newest(added) else {
-        return image.owner(child);
-    };
-    let before = count_in(image, older, child.table);
-    if child.row <= before {
-        return owner_in(image, older, child);
-    }
-    owner_given(&last.delta, child.table, child.row - before - 1)
-}
-
-/// How many children in a child table a row has in the base; a new row has none.
-fn kids_of_image(image: &Image, owner: Token, table: u8) -> u32
-    requires row { 0 < owner.row }
-    requires table { IsTrue (is_child_table table) }
-    requires owners { owner.table ≡ owner_table table }
-    ensures { result ≡ length (kids_of (chain_with image.now []).plain owner table) }
-{
-    if owner.row <= image.count(owner.table) {
-        image.kids(owner, table)
-    } else {
-        0
-    }
-}
-
-/// How many children in a child table a row has.
-pub fn kids_in(image: &Image, added: &[Added], owner: Token, table: u8) -> u32
-    requires sound { cells_fault image.now ≡ None }
-    requires added { AllAdded image.now (reverse added.now) }
-    requires row { 0 < owner.row }
-    requires table { IsTrue (is_child_table table) }
-    requires owners { owner.table ≡ owner_table table }
-    ensures { result ≡ length (kids_of (chain_with image.now (sources (reverse added.now))).plain owner table) }
-{
-    let Some((last, older)) = newest(added) else {
-        return kids_of_image(image, owner, table);
-    };
-    kids_in(image, older, owner, table) + count_given(&last.delta, owner, table)
-}
-
-/// A row's child in a child table, by its place from the last one back, from 0.
-pub fn kid_back(image: &Image, added: &[Added], owner: Token, table: u8, back: u32) -> u32
-    requires sound { cells_fault image.now ≡ None }
-    requires added { AllAdded image.now (reverse added.now) }
-    requires row { 0 < owner.row }
-    requires table { IsTrue (is_child_table table) }
-    requires owners { owner.table ≡ owner_table table }
-    requires there { back < length (kids_of (chain_with image.now (sources (reverse added.now))).plain owner table) }
-    ensures { slice_get (kids_of (chain_with image.now (sources (reverse added.now))).plain owner table) (length (kids_of (chain_with image.now (sources (reverse added.now))).plain owner table) - 1 - back) ≡ Some result }
-{
-    let Some((last, older)) = newest(added) else {
-        let last = image.kids(owner, table) - 1;
-        return image.kid(owner, table, last - back).row;
-    };
-    let own = count_given(&last.delta, owner, table);
-    if back >= own {
-        return kid_back(image, older, owner, table, back - own);
-    }
-    let before = count_in(image, older, table);
-    given(&last.delta, before, owner, table, own - 1 - back)
-}
-
-/// The rows of a row's children in a child table in the base; a new row has none.
-fn kid_rows_of_image(
-    alloc: Global,
-    image: &Image,
-    owner: Token,
-    table: u8,
-) -> Result<Vec<u32>, AllocError>
-    requires row { 0 < owner.row }
-    requires table { IsTrue (is_child_table table) }
-    requires owners { owner.table ≡ owner_table table }
-    ensures { IfOk result (λ rows. rows.items ≡ kids_of (chain_with image.now []).plain owner table) }
-{
-    if owner.row > image.count(owner.table) {
-        return Ok(Vec::new(alloc));
-    }
-    image.kid_rows(alloc, owner, table)
-}
-
-/// The rows of a row's children in a child table, in order of attachment.
-pub fn kid_rows_in(
-    alloc: Global,
-    image: &Image,
-    added: &[Added],
-    owner: Token,
-    table: u8,
-) -> Result<Vec<u32>, AllocError>
-    requires sound { cells_fault image.now ≡ None }
-    requires added { AllAdded image.now (reverse added.now) }
-    requires row { 0 < owner.row }
-    requires table { IsTrue (is_child_table table) }
-    requires owners { owner.table ≡ owner_table table }
-    ensures { IfOk result (λ rows. rows.items ≡ kids_of (chain_with image.now (sources (reverse added.now))).plain owner table) }
-{
-    let Some((last, older)) = newest(added) else {
-        return kid_rows_of_image(alloc, image, owner, table);
-    };
-    let before = count_in(image, older, table);
-    let mut rows = kid_rows_in(alloc, image, older, owner, table)?;
-    push_given(&last.delta, before, owner, table, &mut rows)?;
-    Ok(rows)
 }

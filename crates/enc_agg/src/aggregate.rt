@@ -1,8 +1,10 @@
 //! A base with the deltas that follow it.
-ghost use Rattle.std.specs.Prelude.{◌≡◌, ◌+◌, ◌<◌, ◌≤◌, ◌∷◌, [], ℕ, List, None, Some, IfOk, length, drop, ◌-◌, reverse, option_copied, option_map, slice_get, slice_index, if◌then◌else◌};
+ghost use Rattle.std.specs.Prelude.{◌≡◌, ◌+◌, ◌*◌, ◌<◌, ◌≤◌, ◌∷◌, [], ℕ, List, None, Some, IfOk, length, drop, ◌-◌, reverse, option_copied, option_map, slice_get, slice_index, if◌then◌else◌};
 ghost use Rattle.enc_meta.specs.Heaps.{Counted, lengths_of};
 ghost use Rattle.enc_meta.specs.Joined.{joined_user};
 ghost use Rattle.enc_plain.specs.Module.{rows_in, has_row};
+ghost use Rattle.enc_rows.specs.Layout.{rows_of};
+ghost use Rattle.enc_schema.specs.Tables.{enc_map};
 ghost use Rattle.enc_delta.specs.Delta.{listed};
 ghost use Rattle.enc_delta.specs.Rules.{inserts};
 ghost use Rattle.enc_delta.specs.Judged.{first_meta};
@@ -10,17 +12,22 @@ ghost use Rattle.enc_image.specs.Base.{cells_fault};
 ghost use Rattle.enc_agg.specs.Extend.{extended, chain_with};
 ghost use Rattle.enc_agg.specs.Follows.{Follows};
 ghost use Rattle.enc_agg.specs.Place.{place_of, place_in_heaps, delta_at};
-ghost use Rattle.enc_agg.specs.Seen.{chain_of_all, module_of_all, sources, AllAdded, IsPrepared};
+ghost use Rattle.enc_agg.specs.Seen.{chain_of_all, module_of_all, sources, AllAdded};
+ghost use Rattle.enc_agg.specs.Prepared.{IsPrepared};
 
-use crate::added::{Added, count_in, find, guid_place_in, heap_place_in, lengths_in};
+use crate::added::{Added, count_in, lengths_in};
+use crate::directory::{Directory, Entries, find};
+use crate::entries::entries_of;
+use crate::heaps::{guid_place_in, heap_place_in};
 use crate::place::HeapPlace;
-use enc_base::{Counts, StreamName, Token};
-use enc_delta::{Delta, enc_id_of, inserts_of};
+use enc_base::{Counts, Steps, StreamName, Token};
+use enc_delta::{Delta, enc_id_counted, inserts_of};
 use enc_image::Image;
 use enc_meta::{Heap, HeapLengths};
 use enc_plain::{RowPlace, is_row};
 use std::alloc::{AllocError, Global};
 use std::marker::Model;
+use std::sync::ledger::Ledger;
 
 /// A base and the deltas that follow it, oldest first. All keep their files' bytes; a row is looked
 /// for from the newest delta to the base.
@@ -28,33 +35,31 @@ use std::marker::Model;
 pub struct Aggregate {
     pub(crate) image: Image,
     pub(crate) added: Vec<Added>,
+    pub(crate) directory: Directory,
     alloc: Global,
 }
 
 impl Model for Aggregate {
     ghost use Rattle.std.specs.Prelude.{◌-◌, reverse, vec_len, vec_capacity};
-    ghost use Rattle.enc_agg.specs.Seen.{History, sources, IsAggregate};
+    ghost use Rattle.enc_agg.specs.Seen.{History, sources};
+    ghost use Rattle.enc_agg.specs.Prepared.{IsWhole};
 
     ghost Value = { History };
 
     ghost view = { λ a. record { base = a.image; deltas = sources (reverse a.added.items); room = vec_capacity a.added - vec_len a.added } };
 
-    ghost invariant = { λ a. IsAggregate a.image (reverse a.added.items) };
+    ghost invariant = { λ a. IsWhole a.image (reverse a.added.items) a.directory };
 }
 
 /// A delta that may be committed to the state that it was prepared from. What stands beside the
 /// delta is the aggregate's own; callers know of it by `IsPrepared` alone.
 #[derive(Drop)]
 pub struct Ready {
-    added: Added,
-}
-
-impl Model for Ready {
-    ghost use Rattle.enc_agg.specs.declared.added.Added.{Added as TheAdded};
-
-    ghost Value = { TheAdded };
-
-    ghost view = { λ r. r.added };
+    delta: Delta,
+    before: HeapLengths,
+    id: [u8; 16],
+    counts: Counts,
+    entries: Entries,
 }
 
 /// How many rows a table has after a delta with these inserts.
@@ -99,14 +104,19 @@ impl Aggregate {
         Ok(Aggregate {
             image,
             added: Vec::new(alloc),
+            directory: Directory::new(),
             alloc,
         })
     }
 
     /// Makes a delta ready that breaks no rule, and room for it: all memory is taken here, and
     /// nothing else that is seen changes.
-    #[tactic(auto, using(crate::proofs::Landing::follows_chain), unfolding(crate::specs::Seen::IsPrepared))]
-    pub fn prepare(&mut self, delta: Delta) -> Result<Ready, AllocError>
+    #[tactic(auto, using(crate::proofs::Landing::follows_chain), unfolding(crate::specs::Prepared::IsPrepared))]
+    pub fn prepare<L: Ledger>(
+        &mut self,
+        delta: Delta,
+        steps: &mut Steps<L>,
+    ) -> Result<Ready, AllocError>
         requires { first_meta (chain_of_all self.old) delta ≡ None }
         ensures base { self.new.base ≡ self.old.base }
         ensures deltas { self.new.deltas ≡ self.old.deltas }
@@ -114,31 +124,35 @@ impl Aggregate {
         ensures kept { self.old.room ≤ self.new.room }
         ensures delta { IfOk result (λ r. r.delta ≡ delta) }
         ensures ready { IfOk result (IsPrepared (chain_of_all self.old)) }
+        ensures steps { steps.new ≤ steps.old + 3 + 2 * rows_of delta.layout enc_map }
     {
-        let tokens = match delta.tokens(self.alloc) {
+        let tokens = match delta.tokens_counted(self.alloc, steps) {
             Ok(tokens) => tokens,
+            Err(error) => return Err(error),
+        };
+        let entries = match entries_of(self.alloc, self, &delta, &tokens, steps) {
+            Ok(entries) => entries,
             Err(error) => return Err(error),
         };
         let more = inserts_of(self, &tokens);
         let counts = counts_after(&self.image, &self.added, &delta, &more);
         let before = lengths_in(&self.image, &self.added);
-        let id = enc_id_of(self, &delta);
+        let id = enc_id_counted(self, &delta, steps);
         match self.added.reserve(1) {
             Ok(()) => {}
             Err(error) => return Err(error),
         }
         Ok(Ready {
-            added: Added {
-                delta,
-                before,
-                id,
-                counts,
-            },
+            delta,
+            before,
+            id,
+            counts,
+            entries,
         })
     }
 
     /// Adds the delta that was made ready from this state. It can't fail.
-    #[tactic(auto, unfolding(crate::specs::Seen::IsPrepared))]
+    #[tactic(auto, unfolding(crate::specs::Prepared::IsPrepared))]
     pub fn commit(&mut self, ready: Ready)
         requires ready { IsPrepared (chain_of_all self.old) ready }
         requires room { 0 < self.old.room }
@@ -147,14 +161,29 @@ impl Aggregate {
         ensures room { self.new.room + 1 ≡ self.old.room }
         ensures texts { (offset : ℕ) (units : List ℕ) → joined_user (chain_of_all self.old).heaps offset ≡ Some units → joined_user (chain_of_all self.new).heaps offset ≡ Some units }
     {
-        self.added.push_reserved(ready.added);
+        let Ready {
+            delta,
+            before,
+            id,
+            counts,
+            entries,
+        } = ready;
+        self.directory.add(entries);
+        self.added.push_reserved(Added {
+            delta,
+            before,
+            id,
+            counts,
+        });
     }
 
     /// Where a row stands: in the newest generation whose map has its token, else in the base. None
     /// where the module lacks it.
-    pub fn locate(&self, token: Token) -> Option<RowPlace>
-        ensures { result ≡ (if has_row (module_of_all self.now) token then Some (place_of self.now.deltas token) else None) }
+    pub fn locate<L: Ledger>(&self, token: Token, steps: &mut Steps<L>) -> Option<RowPlace>
+        ensures place { result ≡ (if has_row (module_of_all self.now) token then Some (place_of self.now.deltas token) else None) }
+        ensures steps { steps.new ≡ steps.old }
     {
+        let _ = steps;
         if !is_row(self, token) {
             return None;
         }
@@ -166,7 +195,7 @@ impl Aggregate {
     pub fn place(&self, token: Token) -> RowPlace
         ensures { result ≡ place_of self.now.deltas token }
     {
-        match find(&self.added, token) {
+        match find(&self.added, &self.directory, token) {
             Some(found) => RowPlace {
                 generation: found.upto.len() as u32,
                 row: found.row,

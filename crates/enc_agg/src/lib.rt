@@ -3,8 +3,12 @@
 
 mod added;
 mod aggregate;
+
+mod directory;
+mod entries;
+mod heaps;
+mod kids;
 mod laws;
-mod log;
 mod place;
 mod view;
 

@@ -2,11 +2,10 @@
 ghost use Rattle.std.specs.Prelude.{◌≡◌, refl};
 ghost use Rattle.enc_agg.specs.Seen.{module_of_all, chain_of_all, users_of_all};
 
-use crate::added::{
-    Added, body_in, count_in, entry_in, find, guid_in, has_text_in, id_in, kid_back, kid_rows_in,
-    kids_in, lengths_in, number, owner_in,
-};
+use crate::added::{Added, body_in, count_in, id_in, lengths_in, number};
 use crate::aggregate::Aggregate;
+use crate::directory::find;
+use crate::heaps::{entry_in, guid_in, has_text_in};
 use enc_base::Token;
 use enc_meta::{Heap, HeapLengths};
 use enc_opcodes::CodeRef;
@@ -32,14 +31,14 @@ impl ModuleView for Aggregate {
     }
 
     fn num(&self, row: Token, column: u8) -> u32 {
-        match find(&self.added, row) {
+        match find(&self.added, &self.directory, row) {
             None => self.image.num(row, column),
             Some(found) => number(found.upto, row_found(row.table, found.row), column),
         }
     }
 
     fn text(&self, row: Token, column: u8) -> &[u8] {
-        let Some(found) = find(&self.added, row) else {
+        let Some(found) = find(&self.added, &self.directory, row) else {
             return self.image.text(row, column);
         };
         let offset = number(found.upto, row_found(row.table, found.row), column);
@@ -50,7 +49,7 @@ impl ModuleView for Aggregate {
     }
 
     fn blob(&self, row: Token, column: u8) -> &[u8] {
-        let Some(found) = find(&self.added, row) else {
+        let Some(found) = find(&self.added, &self.directory, row) else {
             return self.image.blob(row, column);
         };
         let offset = number(found.upto, row_found(row.table, found.row), column);
@@ -61,7 +60,7 @@ impl ModuleView for Aggregate {
     }
 
     fn guid(&self, row: Token, column: u8) -> [u8; 16] {
-        let Some(found) = find(&self.added, row) else {
+        let Some(found) = find(&self.added, &self.directory, row) else {
             return self.image.guid(row, column);
         };
         let entry = number(found.upto, row_found(row.table, found.row), column);
@@ -72,7 +71,7 @@ impl ModuleView for Aggregate {
     }
 
     fn refer(&self, row: Token, column: u8) -> Token {
-        let Some(found) = find(&self.added, row) else {
+        let Some(found) = find(&self.added, &self.directory, row) else {
             return self.image.refer(row, column);
         };
         let number = number(found.upto, row_found(row.table, found.row), column);
@@ -87,7 +86,7 @@ impl ModuleView for Aggregate {
     }
 
     fn code(&self, method: Token) -> Option<CodeRef<'_>> {
-        let Some(found) = find(&self.added, method) else {
+        let Some(found) = find(&self.added, &self.directory, method) else {
             return self.image.body(method);
         };
         let place = number(
@@ -99,7 +98,7 @@ impl ModuleView for Aggregate {
     }
 
     fn field_bytes(&self, row: Token) -> &[u8] {
-        match find(&self.added, row) {
+        match find(&self.added, &self.directory, row) {
             None => self.image.field_bytes(row),
             Some(_) => &[],
         }
@@ -120,23 +119,22 @@ impl ModuleView for Aggregate {
     }
 
     fn owner(&self, child: Token) -> Token {
-        owner_in(&self.image, &self.added, child)
+        self.owner_row(child)
     }
 
     fn kids(&self, owner: Token, table: u8) -> u32 {
-        kids_in(&self.image, &self.added, owner, table)
+        self.count_kids(owner, table)
     }
 
     fn kid(&self, owner: Token, table: u8, i: u32) -> Token {
-        let last = kids_in(&self.image, &self.added, owner, table) - 1;
         Token {
             table,
-            row: kid_back(&self.image, &self.added, owner, table, last - i),
+            row: self.kid_row(owner, table, i),
         }
     }
 
     fn kid_rows(&self, alloc: Global, owner: Token, table: u8) -> Result<Vec<u32>, AllocError> {
-        kid_rows_in(alloc, &self.image, &self.added, owner, table)
+        self.rows_of_kids(alloc, owner, table)
     }
 }
 

@@ -228,6 +228,9 @@ impl Delta {
         requires there { i < rows_of self.now.layout enc_map }
         requires few { i < 2 ^ 24 }
         ensures token { slice_get (map_in self.now) i ≡ Some result }
+        ensures at { result ≡ map_token self.now i }
+        ensures table { result.table < 2 ^ 8 }
+        ensures row { result.row < 2 ^ 24 }
         ensures steps { steps.new ≡ steps.old + 1 }
     {
         steps.tick();

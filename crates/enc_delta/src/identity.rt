@@ -1,15 +1,17 @@
 //! The Module row of a delta: it belongs to the chain and is the next generation.
-ghost use Rattle.std.specs.Prelude.{◌≡◌, ℕ, List, bytes_eq};
+ghost use Rattle.std.specs.Prelude.{◌≡◌, ℕ, ◌+◌, ◌≤◌, List, bytes_eq};
 ghost use Rattle.std.specs.List.{list_any};
 ghost use Rattle.enc_plain.specs.Chain.{mvid_of};
-ghost use Rattle.enc_delta.specs.Rules.{own_guid, other_module, not_next, other_base, id_taken};
+ghost use Rattle.enc_rows.specs.Source.{raw_in};
+ghost use Rattle.enc_delta.specs.Rules.{module_token, own_guid, other_module, not_next, other_base, id_taken};
 
 use crate::context::Context;
 use crate::delta::Delta;
 use crate::joined::guid_after;
-use enc_base::{Place, Token};
+use enc_base::{Place, Steps, Token};
 use enc_plain::ChainView;
 use enc_schema::columns::{MODULE_ENC_BASE_ID, MODULE_ENC_ID, MODULE_GENERATION, MODULE_MVID};
+use std::sync::ledger::Ledger;
 
 const MODULE: Token = Token { table: 0, row: 1 };
 
@@ -19,6 +21,35 @@ fn own_guid<C: ChainView>(chain: &C, delta: &Delta, column: u8) -> [u8; 16]
     ensures { result ≡ own_guid (C.chain chain.now) delta.now column }
 {
     match guid_after(chain, &delta.heaps(), delta.cell(MODULE, column)) {
+        Some(guid) => guid,
+        None => [0; 16],
+    }
+}
+
+/// The number of the EncId in the delta's Module row, 0 where it has none. One step at most.
+#[tactic(auto, unfolding(enc_rows::specs::Layout::raw_cell, enc_schema::specs::Schema::columns_in))]
+fn enc_id_number<L: Ledger>(delta: &Delta, steps: &mut Steps<L>) -> u32
+    ensures number { result ≡ raw_in delta.now module_token 3 }
+    ensures steps { steps.new ≤ steps.old + 1 }
+{
+    if delta.count(0) == 0 {
+        return 0;
+    }
+    delta.raw(MODULE, MODULE_ENC_ID, steps)
+}
+
+/// The EncId of a delta after its chain, nil where it can't be read. One step at most.
+#[tactic(auto, unfolding(crate::specs::Rules::own_guid, enc_meta::specs::Heaps::nil_guid))]
+pub fn enc_id_counted<C: ChainView, L: Ledger>(
+    chain: &C,
+    delta: &Delta,
+    steps: &mut Steps<L>,
+) -> [u8; 16]
+    ensures id { result ≡ own_guid (C.chain chain.now) delta.now 3 }
+    ensures steps { steps.new ≤ steps.old + 1 }
+{
+    let number = enc_id_number(delta, steps);
+    match guid_after(chain, &delta.heaps(), number) {
         Some(guid) => guid,
         None => [0; 16],
     }

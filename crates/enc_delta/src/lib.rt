@@ -26,11 +26,13 @@ mod tables;
 mod twins;
 mod updates;
 
+pub use copy::log_of;
 pub use delta::Delta;
 pub use entry::Entry;
-pub use identity::enc_id_of;
+pub use identity::{enc_id_counted, enc_id_of};
 pub use joined::{entry_after, guid_after, has_text_after};
 pub use known::{inserts_of, is_insert};
+pub use pairs::{Pair, attached_of};
 
 #[cfg(test)]
 mod tests;

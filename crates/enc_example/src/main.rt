@@ -1,10 +1,10 @@
 //! The library in use: a module is opened, a delta is checked and applied, and a method is asked for.
 #![tactic(auto)]
 
-ghost use Rattle.std.specs.Prelude.{◌≡◌};
+ghost use Rattle.std.specs.Prelude.{◌≡◌, ◌<◌};
 
 use enc_agg::Aggregate;
-use enc_base::{ReadFault, Token};
+use enc_base::{ReadFault, Steps, Token};
 use enc_checker::{Checked, Files, check};
 use enc_image::Image;
 use enc_outside::{FileStore, Store};
@@ -13,6 +13,8 @@ use enc_schema::columns::METHOD_DEF_NAME;
 use enc_schema::tables::METHOD_DEF;
 use std::alloc::Global;
 use std::io;
+use std::marker::Brand;
+use std::sync::ledger::{Blank, Ledger};
 
 /// A module as it was compiled: where a debugger, a hot reload host and a profiler begin.
 fn open(alloc: Global, bytes: Vec<u8>) -> Result<Aggregate, ReadFault> {
@@ -24,8 +26,24 @@ fn open(alloc: Global, bytes: Vec<u8>) -> Result<Aggregate, ReadFault> {
 fn apply(alloc: Global, module: &mut Aggregate, files: Files) -> Result<(), ReadFault>
     ensures { module.new.base ≡ module.old.base }
 {
+    apply_counted::<Brand>(alloc, module, files, Blank::new(1))
+}
+
+/// The same, where the steps are counted in a ledger of their own.
+fn apply_counted<L: Ledger>(
+    alloc: Global,
+    module: &mut Aggregate,
+    files: Files,
+    blank: Blank,
+) -> Result<(), ReadFault>
+    requires name { blank.name ≡ L.name }
+    requires parts { blank.parts ≡ L.parts }
+    requires some { 0 < L.parts }
+    ensures { module.new.base ≡ module.old.base }
+{
     let Checked { delta, .. } = check(alloc, module, files)?;
-    let ready = module.prepare(delta)?;
+    let mut steps = Steps::<L>::begin(blank);
+    let ready = module.prepare(delta, &mut steps)?;
     module.commit(ready);
     Ok(())
 }

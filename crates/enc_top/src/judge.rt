@@ -1,5 +1,5 @@
 //! Judging a base and its deltas, each after those before it, with their PDBs.
-ghost use Rattle.std.specs.Prelude.{◌≡◌, ◌≢◌, Option, None, length, map, Ok, IfOk, IsErrOf, string_bytes};
+ghost use Rattle.std.specs.Prelude.{◌≡◌, ◌≢◌, ◌<◌, ◌∷◌, Option, None, length, map, Ok, IfOk, IsErrOf, string_bytes};
 ghost use Rattle.enc_schema.specs.Tables.{method_def};
 ghost use Rattle.enc_plain.specs.Module.{rows_in};
 ghost use Rattle.enc_image.specs.Base.{base_of, chain_of_base};
@@ -18,13 +18,35 @@ use crate::load::{BaseFile, DeltaFile, name_of};
 use crate::plans::unread;
 use crate::stop::Stop;
 use enc_agg::Aggregate;
-use enc_base::{Code, ReadFault};
+use enc_base::{Code, ReadFault, Steps};
 use enc_checker::{Checked, Files, check, new_bodies};
+use enc_delta::Delta;
 use enc_image::Image;
 use enc_plain::ModuleView;
 use enc_ppdb::{Pdb, PdbChain};
 use enc_schema::tables::METHOD_DEF;
 use std::alloc::{AllocError, Global};
+use std::marker::Brand;
+use std::sync::ledger::{Blank, Ledger};
+
+/// Adds a delta that breaks no rule; the steps are counted in a ledger of their own.
+fn add_counted<L: Ledger>(
+    agg: &mut Aggregate,
+    delta: Delta,
+    blank: Blank,
+) -> Result<(), AllocError>
+    requires name { blank.name ≡ L.name }
+    requires parts { blank.parts ≡ L.parts }
+    requires some { 0 < L.parts }
+    requires rules { first_meta (chain_of_all agg.old) delta ≡ None }
+    ensures base { agg.new.base ≡ agg.old.base }
+    ensures added { IfOk result (λ u. agg.new.deltas ≡ delta ∷ agg.old.deltas) }
+{
+    let mut steps = Steps::<L>::begin(blank);
+    let ready = agg.prepare(delta, &mut steps)?;
+    agg.commit(ready);
+    Ok(())
+}
 
 /// A base with the deltas that follow it, and what their PDBs say.
 #[derive(Drop)]
@@ -41,8 +63,7 @@ fn add(alloc: Global, held: &mut Judged, checked: Checked) -> Result<(), AllocEr
     let Checked { delta, pdb } = checked;
     let changed = new_bodies(alloc, &delta)?;
     held.debug.reserve()?;
-    let ready = held.agg.prepare(delta)?;
-    held.agg.commit(ready);
+    add_counted::<Brand>(&mut held.agg, delta, Blank::new(1))?;
     held.debug.add(pdb, changed);
     Ok(())
 }

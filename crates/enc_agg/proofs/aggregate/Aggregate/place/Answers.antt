@@ -4,7 +4,7 @@ use Rattle.enc_agg.proofs.aggregate.Aggregate.place.Goals as goal
 
 pub overflow_cast-result : goal.overflow_cast-result
 overflow_cast-result c =
-    let few = few_found c.self.inside.image c.self.inside.added.items c.args.token _ c.in-Some.found c.self.invariant.all (rw c.deref.ensures.value at c.find.ensures) c.in-Some.is in
+    let few = few_found c.self.inside.image c.self.inside.added.items c.args.token _ c.in-Some.found c.self.invariant.deltas.all (rw c.deref.ensures.value at c.find.ensures) c.in-Some.is in
     omega (arith, few)
 
 pub returns-in-Some : goal.returns-in-Some

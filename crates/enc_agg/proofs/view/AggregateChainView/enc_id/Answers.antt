@@ -16,4 +16,4 @@ id_in-requires c =
 pub returns : goal.returns
 returns c =
     let e : c.args.generation ≡ suc (c.args.generation - 1) = omega (arith, c.if-generation-eq0.false) in
-    rw (← c.self.view_is, e) (id_at c.self.inside.image c.self.inside.added.items (c.args.generation - 1) _ c.self.invariant.all (rw c.deref.ensures.value at c.id_in.ensures))
+    rw (← c.self.view_is, e) (id_at c.self.inside.image c.self.inside.added.items (c.args.generation - 1) _ c.self.invariant.deltas.all (rw c.deref.ensures.value at c.id_in.ensures))

@@ -3,10 +3,10 @@ use Rattle.enc_agg.proofs.Histories.{ids_many, heaps_many, few_added}
 use Rattle.enc_agg.proofs.view.AggregateChainView.generations.Goals as goal
 
 pub overflow_cast-result : goal.overflow_cast-result
-overflow_cast-result c = rw c.deref-added.ensures.value (omega (arith, few_added c.self.inside.image c.self.inside.added.items c.self.invariant.all))
+overflow_cast-result c = rw c.deref-added.ensures.value (omega (arith, few_added c.self.inside.image c.self.inside.added.items c.self.invariant.deltas.all))
 
 pub overflow_add-result : goal.overflow_add-result
-overflow_add-result c = rw c.deref-added.ensures.value (omega (arith, few_added c.self.inside.image c.self.inside.added.items c.self.invariant.all))
+overflow_add-result c = rw c.deref-added.ensures.value (omega (arith, few_added c.self.inside.image c.self.inside.added.items c.self.invariant.deltas.all))
 
 pub returns-clause-count : goal.returns-clause-count
 returns-clause-count c = rw (← c.self.view_is, c.deref-added.ensures.value) (ids_many c.self.inside.image c.self.inside.added.items)

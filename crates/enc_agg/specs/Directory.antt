@@ -1,0 +1,68 @@
+-- For the contracts of private functions: what is kept of the deltas for look-ups.
+use Rattle.std.specs.Prelude.{◌≡◌, ℕ, ◌+◌, ◌<◌, ◌≤◌, List, [], length, Option, Some, None, option_map, unwrap_or, slice_get, IsTrue}
+use Rattle.enc_base.specs.declared.token.Token.{Token}
+use Rattle.enc_index.specs.declared.key.Key.{Key}
+use Rattle.enc_index.specs.Index.{value_at, latest}
+use Rattle.enc_rows.specs.Source.{Source}
+use Rattle.enc_schema.specs.Children.{is_child_table, owner_table}
+use Rattle.enc_plain.specs.Chain.{Chain}
+use Rattle.enc_plain.specs.Module.{rows_in, owner_of, kids_of}
+use Rattle.enc_plain.specs.declared.place.RowPlace.{RowPlace}
+use Rattle.enc_delta.specs.Delta.{listed, place_in}
+use Rattle.enc_agg.specs.declared.added.Added.{Added}
+use Rattle.enc_agg.specs.declared.directory.Directory.{Directory}
+use Rattle.enc_agg.specs.declared.directory.Entries.{Entries}
+use Rattle.enc_agg.specs.Extend.{extended, chain_with}
+use Rattle.enc_agg.specs.Seen.{sources, found_in}
+
+-- the key of a row, and that of one of a row's children in a child table
+abbrev pub row_key : Token → Key
+row_key row = record { table = row.table; row = row.row; place = 0 }
+
+abbrev pub kids_key : ℕ → Token → ℕ → Key
+kids_key table owner place = record { table = table; row = owner.row; place = place }
+
+-- where what was found stands
+abbrev pub place_seen : List Added × ℕ → RowPlace
+place_seen f = record { generation = length f.0; row = f.1 }
+
+-- nothing is kept
+pub record IsBare (x : Directory) : Type 0 where
+  pub no_place : (q : Key) → value_at x.places q ≡ None
+  pub no_owner : (q : Key) → value_at x.owners q ≡ None
+  pub no_count : (q : Key) → value_at x.counts q ≡ None
+  pub no_kid : (q : Key) → value_at x.kids q ≡ None
+
+-- each row that a delta lists has its newest place
+abbrev pub HasPlaces : List Added → Directory → Type 0
+HasPlaces added x = (u : Token) → value_at x.places (row_key u) ≡ option_map place_seen (found_in added u)
+
+-- of some children the first are known elsewhere; how many there are, where there are more, and the others by their places
+pub record IsHeld (kids : List ℕ) (first : ℕ) (count : Option ℕ) (kid : ℕ → Option ℕ) : Type 0 where
+  pub low : first ≤ length kids
+  pub many : unwrap_or count first ≡ length kids
+  pub old : (i : ℕ) → i < first → kid i ≡ None
+  pub new : (i : ℕ) → first ≤ i → i < length kids → kid i ≡ slice_get kids i
+
+-- child rows past those of an earlier chain have their owners
+pub record AreOwned (before after : Chain) (owner : Token → Option Token) : Type 0 where
+  pub old : (u : Token) → IsTrue (is_child_table u.table) → u.row ≤ length (rows_in before.plain u.table) → owner u ≡ None
+  pub new : (u : Token) → IsTrue (is_child_table u.table) → length (rows_in before.plain u.table) < u.row → u.row ≤ length (rows_in after.plain u.table) → owner u ≡ owner_of after.plain u
+
+-- the children past those in an earlier chain are held
+abbrev pub AreHeld : Chain → Chain → (Key → Option ℕ) → (Key → Option ℕ) → Type 0
+AreHeld before after count kid =
+    (u : Token) (t : ℕ) → IsTrue (is_child_table t) → u.table ≡ owner_table t
+    → IsHeld (kids_of after.plain u t) (length (kids_of before.plain u t)) (count (kids_key t u 0)) (λ i. kid (kids_key t u i))
+
+-- what is kept of the deltas, the newest first
+pub record IsDirectory (base : Source) (added : List Added) (x : Directory) : Type 0 where
+  pub places : HasPlaces added x
+  pub owners : AreOwned (chain_with base []) (chain_with base (sources added)) (λ u. value_at x.owners (row_key u))
+  pub kids : AreHeld (chain_with base []) (chain_with base (sources added)) (value_at x.counts) (value_at x.kids)
+
+-- what a delta brings after a chain
+pub record AreEntries (c : Chain) (d : Source) (e : Entries) : Type 0 where
+  pub places : (u : Token) → latest e.places.items (row_key u) ≡ option_map (λ (k : ℕ). record { generation = length c.ids + 1; row = k }) (place_in (listed d) u)
+  pub owners : AreOwned c (extended c d) (λ u. latest e.owners.items (row_key u))
+  pub kids : AreHeld c (extended c d) (latest e.counts.items) (latest e.kids.items)

@@ -1,0 +1,144 @@
+//! What a delta brings to the directory of an aggregate.
+ghost use Rattle.std.specs.Prelude.{◌≡◌, ℕ, ◌+◌, ◌<◌, ◌≤◌, ◌^◌, Some, None, IfOk, IsTrue, length, map, option_map, unwrap_or, if◌then◌else◌};
+ghost use Rattle.enc_base.specs.declared.token.Token.{Token as TheToken};
+ghost use Rattle.enc_index.specs.declared.key.Key.{Key as TheKey};
+ghost use Rattle.enc_index.specs.Key.{is_key};
+ghost use Rattle.enc_index.specs.Index.{value_at, latest, either};
+ghost use Rattle.enc_schema.specs.Children.{is_child_table, owner_table};
+ghost use Rattle.enc_plain.specs.Module.{kids_of};
+ghost use Rattle.enc_delta.specs.Delta.{listed, log_in, place_in};
+ghost use Rattle.enc_delta.specs.Lists.{AreEntries as AreLogged};
+ghost use Rattle.enc_delta.specs.Members.{pair_seen};
+ghost use Rattle.enc_delta.specs.Pairs.{attached_of};
+ghost use Rattle.enc_agg.specs.Extend.{extended};
+ghost use Rattle.enc_agg.specs.Follows.{Follows};
+ghost use Rattle.enc_agg.specs.Seen.{chain_of_all, module_of_all};
+ghost use Rattle.enc_agg.specs.Directory.{row_key, kids_key, AreOwned, AreHeld, AreEntries};
+
+use crate::aggregate::Aggregate;
+use crate::directory::{Entries, kids_key, row_key};
+use enc_base::{Steps, Token};
+use enc_delta::{Delta, Pair, attached_of, log_of};
+use enc_index::{Entry, Index, push_entry};
+use enc_plain::{ChainView, RowPlace};
+use std::alloc::{AllocError, Global};
+use std::sync::ledger::Ledger;
+
+/// Where the rows of a delta stand. A step for each token.
+fn places_of<L: Ledger>(
+    alloc: Global,
+    delta: &Delta,
+    tokens: &[Token],
+    generation: u32,
+    steps: &mut Steps<L>,
+) -> Result<Vec<Entry<RowPlace>>, AllocError>
+    requires tokens { tokens.now ≡ listed delta.now }
+    ensures places { IfOk result (λ l. (u : TheToken) → latest l.items (row_key u) ≡ option_map (λ (k : ℕ). record { generation = generation; row = k }) (place_in (listed delta.now) u)) }
+    ensures steps { steps.new ≤ steps.old + length tokens.now }
+{
+    let mut places = Vec::new(alloc);
+    for k in 0..tokens.len() {
+        let token = tokens[k];
+        let Some(row) = delta.place_of(token, steps) else {
+            unreachable!()
+        };
+        let place = RowPlace { generation, row };
+        push_entry(&mut places, alloc, row_key(token), place)?;
+    }
+    Ok(places)
+}
+
+/// What the Add entries of a delta bring, and how many children the rows have with those so far.
+#[derive(Drop)]
+struct Gained {
+    so_far: Index<u32>,
+    owners: Vec<Entry<Token>>,
+    counts: Vec<Entry<u32>>,
+    kids: Vec<Entry<u32>>,
+}
+
+impl Gained {
+    /// Adds a child, behind so many others.
+    fn push(&mut self, alloc: Global, pair: Pair, others: u32) -> Result<(), AllocError>
+        requires { others + 1 < 2 ^ 32 }
+        ensures so_far { IfOk result (λ _. (q : TheKey) → value_at self.new.so_far q ≡ either (if is_key (kids_key pair.child.table pair.owner 0) q then Some (others + 1) else None) (value_at self.old.so_far q)) }
+        ensures owners { IfOk result (λ _. (q : TheKey) → latest self.new.owners.items q ≡ either (if is_key (row_key pair.child) q then Some pair.owner else None) (latest self.old.owners.items q)) }
+        ensures counts { IfOk result (λ _. (q : TheKey) → latest self.new.counts.items q ≡ either (if is_key (kids_key pair.child.table pair.owner 0) q then Some (others + 1) else None) (latest self.old.counts.items q)) }
+        ensures kids { IfOk result (λ _. (q : TheKey) → latest self.new.kids.items q ≡ either (if is_key (kids_key pair.child.table pair.owner others) q then Some pair.child.row else None) (latest self.old.kids.items q)) }
+    {
+        let count = kids_key(pair.child.table, pair.owner, 0);
+        let kid = kids_key(pair.child.table, pair.owner, others);
+        let entry = Entry::new(alloc, count, others + 1)?;
+        self.so_far.put(entry);
+        push_entry(&mut self.owners, alloc, row_key(pair.child), pair.owner)?;
+        push_entry(&mut self.counts, alloc, count, others + 1)?;
+        push_entry(&mut self.kids, alloc, kid, pair.child.row)?;
+        Ok(())
+    }
+}
+
+/// How many children a row has with those so far.
+fn count_so_far(aggregate: &Aggregate, so_far: &Index<u32>, owner: Token, table: u8) -> u32
+    requires row { 0 < owner.row }
+    requires table { IsTrue (is_child_table table) }
+    requires owners { owner.table ≡ owner_table table }
+    ensures { result ≡ unwrap_or (value_at so_far.now (kids_key table owner 0)) (length (kids_of (module_of_all aggregate.now) owner table)) }
+{
+    match so_far.get(kids_key(table, owner, 0)) {
+        Some(count) => *count,
+        None => aggregate.count_kids(owner, table),
+    }
+}
+
+/// What the Add entries of a delta bring.
+fn gained_by(
+    alloc: Global,
+    aggregate: &Aggregate,
+    delta: &Delta,
+    pairs: &[Pair],
+) -> Result<Gained, AllocError>
+    requires follows { Follows (chain_of_all aggregate.now) delta.now }
+    requires pairs { map pair_seen pairs.now ≡ attached_of delta.now }
+    ensures owners { IfOk result (λ g. AreOwned (chain_of_all aggregate.now) (extended (chain_of_all aggregate.now) delta.now) (λ u. latest g.owners.items (row_key u))) }
+    ensures kids { IfOk result (λ g. AreHeld (chain_of_all aggregate.now) (extended (chain_of_all aggregate.now) delta.now) (latest g.counts.items) (latest g.kids.items)) }
+{
+    let _ = delta;
+    aggregate.has_owners();
+    let mut gained = Gained {
+        so_far: Index::new(),
+        owners: Vec::new(alloc),
+        counts: Vec::new(alloc),
+        kids: Vec::new(alloc),
+    };
+    for k in 0..pairs.len() {
+        let pair = pairs[k];
+        let others = count_so_far(aggregate, &gained.so_far, pair.owner, pair.child.table);
+        gained.push(alloc, pair, others)?;
+    }
+    Ok(gained)
+}
+
+/// What a delta brings that follows an aggregate. A step for each of its tokens.
+pub fn entries_of<L: Ledger>(
+    alloc: Global,
+    aggregate: &Aggregate,
+    delta: &Delta,
+    tokens: &[Token],
+    steps: &mut Steps<L>,
+) -> Result<Entries, AllocError>
+    requires follows { Follows (chain_of_all aggregate.now) delta.now }
+    requires tokens { tokens.now ≡ listed delta.now }
+    ensures entries { IfOk result (AreEntries (chain_of_all aggregate.now) delta.now) }
+    ensures steps { steps.new ≤ steps.old + length tokens.now }
+{
+    let places = places_of(alloc, delta, tokens, aggregate.generations(), steps)?;
+    let log = log_of(delta, alloc)?;
+    let pairs = attached_of(alloc, delta, &log)?;
+    let gained = gained_by(alloc, aggregate, delta, &pairs)?;
+    Ok(Entries {
+        places,
+        owners: gained.owners,
+        counts: gained.counts,
+        kids: gained.kids,
+    })
+}

@@ -1,0 +1,9 @@
+//! Values by keys. All room is made with the entries; putting them in takes none.
+#![tactic(auto)]
+
+mod index;
+mod key;
+mod tree;
+
+pub use index::{Entry, Index, push_entry};
+pub use key::Key;
