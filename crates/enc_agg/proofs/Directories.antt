@@ -31,7 +31,7 @@ use Rattle.enc_agg.specs.Prepared.{to_add, IsPrepared, IsWhole}
 use Rattle.enc_agg.proofs.Histories.{last_added, lasted, with_sound, ids_count}
 use Rattle.enc_agg.proofs.Children.{kids_after, owner_kept, owned_after, rows_grow}
 use Rattle.enc_agg.proofs.Generations.{one_more, reversed_part, fewer_found}
-use Rattle.enc_agg.proofs.PairedChildren.{get_left}
+use Rattle.enc_agg.proofs.RowsAndKids.{get_left}
 
 -- what was found is a front of the deltas, oldest first
 front_step : (a : Added) (older : List Added) (o : Option ℕ) (rest : Option (List Added × ℕ)) (f : List Added × ℕ) → (rest ≡ Some f → (length f.0 ≤ length older) × (f.0 ≡ drop (length older - length f.0) older)) → found_or (a ∷ older) o rest ≡ Some f → (length f.0 ≤ suc (length older)) × (f.0 ≡ drop (suc (length older) - length f.0) (a ∷ older))
@@ -173,10 +173,11 @@ directory_more b a older x y e places owners counts kids agg was last entries =
     }
 
 pub whole_more : (b : Source) (added : List Added) (x y : Directory) (p : Ready) → ((q : Key) → value_at y.places q ≡ either (latest p.entries.places.items q) (value_at x.places q)) → ((q : Key) → value_at y.owners q ≡ either (latest p.entries.owners.items q) (value_at x.owners q)) → ((q : Key) → value_at y.counts q ≡ either (latest p.entries.counts.items q) (value_at x.counts q)) → ((q : Key) → value_at y.kids q ≡ either (latest p.entries.kids.items q) (value_at x.kids q)) → IsWhole b (reverse added) x → IsPrepared (chain_with b (sources (reverse added))) p → IsWhole b (reverse (added ++ to_add p ∷ [])) y
-unfolding IsPrepared
+unfolding IsPrepared chain_with
 whole_more b added x y p places owners counts kids whole ready = record {
   deltas = one_more b added (to_add p) whole.deltas ready.added;
   directory = rw (reverse-append added (to_add p ∷ [])) (directory_more b (to_add p) (reverse added) x y p.entries places owners counts kids whole.deltas whole.directory ready.added ready.entries);
+  sound = rw (reverse-append added (to_add p ∷ [])) ready.sound;
 }
 
 -- a base alone

@@ -101,9 +101,6 @@ all_placed generation all k u o past is = is ∙ rw (take_all k all past) (by_an
     by_any true e = refl
     by_any false e = sym (ap (λ (o : Option ℕ). place_at generation (option_map suc o)) (position_is u all ∙ none_position u all e 0))
 
-pub none_placed : (generation : ℕ) (all : List Token) (u : Token) → None ≡ placed generation all (take 0 all) u
-none_placed generation all u = refl
-
 -- a token of the list has a place
 suc_none : (o : Option ℕ) → option_map suc o ≡ None → o ≡ None
 suc_none None h = refl
@@ -219,15 +216,6 @@ held_step c pairs a others count kid now_count now_kid own child so_far counts k
         let counted : Some (length (kids_of c.plain o k ++ gained pairs o k) + 1) ≡ now_count (kids_key k o 0) = sym (counts (kids_key k o 0) ∙ rw (table, row, ← many) refl) in
         let given : (i : ℕ) → now_kid (kids_key k o i) ≡ either (if length (kids_of c.plain o k ++ gained pairs o k) == i then Some a.child.row else None) (kid (kids_key k o i)) = λ i. kids (kids_key k o i) ∙ rw (table, row, ← many) refl in
         rw (← e, ← f) (held_as _ _ _ _ _ _ (λ i. now_kid (kids_key k o i)) gains counted given (held_more (kids_of c.plain o k ++ gained pairs o k) (length (kids_of c.plain o k)) a.child.row (count (kids_key k o 0)) (λ i. kid (kids_key k o i)) was))
-
--- at the beginning they have those of before
-pub held_begin : (c : Chain) (count kid : Key → Option ℕ) → ((q : Key) → count q ≡ None) → ((q : Key) → kid q ≡ None) → (u : Token) (t : ℕ) → IsHeld (kids_of c.plain u t ++ gained [] u t) (length (kids_of c.plain u t)) (count (kids_key t u 0)) (λ i. kid (kids_key t u i))
-held_begin c count kid counts kids u t = rw (append-nil (kids_of c.plain u t)) (record {
-  low = omega arith;
-  many = rw (counts (kids_key t u 0)) refl;
-  old = λ i low. kids (kids_key t u i);
-  new = λ i le low. absurd (omega arith);
-})
 
 -- the owner by the last pair with a child
 abbrev pub last_owner : List Attached → Token → Option Token

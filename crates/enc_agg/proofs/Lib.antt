@@ -8,9 +8,8 @@ pub mod Paired
 pub mod Changed
 pub mod Pairs
 pub mod Owned
-pub mod Given
 pub mod Children
-pub mod PairedChildren
+pub mod RowsAndKids
 pub mod Histories
 pub mod Asked
 pub mod Generations

@@ -1,6 +1,5 @@
 pub mod Extend
 pub mod Follows
-pub mod Given
 pub mod Place
 pub mod Seen
 pub mod Laws

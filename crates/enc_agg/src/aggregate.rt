@@ -3,6 +3,7 @@ ghost use Rattle.std.specs.Prelude.{◌≡◌, ◌+◌, ◌*◌, ◌<◌, ◌≤
 ghost use Rattle.enc_meta.specs.Heaps.{Counted, lengths_of};
 ghost use Rattle.enc_meta.specs.Joined.{joined_user};
 ghost use Rattle.enc_plain.specs.Module.{rows_in, has_row};
+ghost use Rattle.enc_plain.specs.Sound.{IsSound};
 ghost use Rattle.enc_rows.specs.Layout.{rows_of};
 ghost use Rattle.enc_schema.specs.Tables.{enc_map};
 ghost use Rattle.enc_delta.specs.Delta.{listed};
@@ -109,6 +110,22 @@ impl Aggregate {
         })
     }
 
+    /// The module is sound, whatever deltas were added: a law, of which a caller makes use.
+    pub fn sound(&self)
+        ensures { IsSound (module_of_all self.now) }
+    {
+        let _ = &self.image;
+    }
+
+    /// A delta that breaks no rule leaves it sound.
+    fn stays_sound(&self, delta: &Delta)
+        requires { first_meta (chain_of_all self.now) delta.now ≡ None }
+        ensures { IsSound (extended (chain_of_all self.now) delta.now).plain }
+    {
+        self.sound();
+        delta.was_read();
+    }
+
     /// Makes a delta ready that breaks no rule, and room for it: all memory is taken here, and
     /// nothing else that is seen changes.
     #[tactic(auto, using(crate::proofs::Landing::follows_chain), unfolding(crate::specs::Prepared::IsPrepared))]
@@ -126,6 +143,7 @@ impl Aggregate {
         ensures ready { IfOk result (IsPrepared (chain_of_all self.old)) }
         ensures steps { steps.new ≤ steps.old + 3 + 2 * rows_of delta.layout enc_map }
     {
+        self.stays_sound(&delta);
         let tokens = match delta.tokens_counted(self.alloc, steps) {
             Ok(tokens) => tokens,
             Err(error) => return Err(error),

@@ -13,12 +13,27 @@ use enc_plain::RowPlace;
 
 /// For each row that a delta lists its newest place; for each new child row its owner; for each row
 /// that gained children how many it has, and those that it gained by their places among all.
-#[derive(Drop)]
 pub struct Directory {
     places: Index<RowPlace>,
     owners: Index<Token>,
     counts: Index<u32>,
     kids: Index<u32>,
+}
+
+// Written by hand, so that whoever lets an aggregate go makes one call here.
+impl Drop for Directory {
+    fn drop(self) {
+        let Directory {
+            places,
+            owners,
+            counts,
+            kids,
+        } = self;
+        drop(places);
+        drop(owners);
+        drop(counts);
+        drop(kids);
+    }
 }
 
 /// What a delta brings to a directory, with the room that it takes there.

@@ -1,7 +1,7 @@
 use Rattle.std.proofs.Common.{sym, ◌∙◌}
 use Rattle.enc_image.specs.Base.{module_in, chain_of_base}
 use Rattle.enc_agg.specs.Extend.{chain_with}
-use Rattle.enc_agg.proofs.PairedChildren.{has_old, kids_past}
+use Rattle.enc_agg.proofs.RowsAndKids.{has_old, kids_past}
 use Rattle.enc_agg.proofs.kids.kid_rows_of_image.Goals as goal
 
 pub returns-then-owner-count : goal.returns-then-owner-count

@@ -1,7 +1,7 @@
 use Rattle.std.proofs.Common.{refl, sym, ◌∙◌, arith}
 use Rattle.enc_image.specs.Base.{module_in, chain_of_base}
 use Rattle.enc_agg.specs.Extend.{chain_with}
-use Rattle.enc_agg.proofs.PairedChildren.{kids_row}
+use Rattle.enc_agg.proofs.RowsAndKids.{kids_row}
 use Rattle.enc_agg.proofs.Directories.{kid_before, held_there}
 use Rattle.enc_agg.proofs.aggregate.Aggregate.kid_row.Goals as goal
 

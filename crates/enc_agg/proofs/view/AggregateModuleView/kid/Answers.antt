@@ -1,4 +1,4 @@
-use Rattle.enc_agg.proofs.PairedChildren.{some_row}
+use Rattle.enc_agg.proofs.RowsAndKids.{some_row}
 use Rattle.enc_agg.proofs.view.AggregateModuleView.kid.Goals as goal
 
 pub kid_row-requires-clause-row : goal.kid_row-requires-clause-row

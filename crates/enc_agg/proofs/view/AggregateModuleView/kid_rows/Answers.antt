@@ -1,4 +1,4 @@
-use Rattle.enc_agg.proofs.PairedChildren.{some_row}
+use Rattle.enc_agg.proofs.RowsAndKids.{some_row}
 use Rattle.enc_agg.proofs.view.AggregateModuleView.kid_rows.Goals as goal
 
 pub rows_of_kids-requires-clause-row : goal.rows_of_kids-requires-clause-row

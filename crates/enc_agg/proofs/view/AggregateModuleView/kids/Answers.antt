@@ -1,4 +1,4 @@
-use Rattle.enc_agg.proofs.PairedChildren.{some_row}
+use Rattle.enc_agg.proofs.RowsAndKids.{some_row}
 use Rattle.enc_agg.proofs.view.AggregateModuleView.kids.Goals as goal
 
 pub count_kids-requires-clause-row : goal.count_kids-requires-clause-row
