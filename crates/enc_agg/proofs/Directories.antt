@@ -1,13 +1,13 @@
 -- What is kept of the deltas, with one delta more.
-use Rattle.std.proofs.Common.{◌≡◌, ℕ, zero, suc, ◌+◌, ◌-◌, ◌<◌, ◌≤◌, Bool, true, false, List, [], ◌∷◌, ◌++◌, length, take, drop, map, reverse, Option, Some, None, refl, sym, ap, ◌∙◌, append_assoc, append-nil, inl, inr, arith}
+use Rattle.std.proofs.Common.{◌≡◌, ℕ, zero, suc, ◌+◌, ◌-◌, ◌<◌, ◌≤◌, List, [], ◌∷◌, ◌++◌, length, take, drop, reverse, Option, Some, None, refl, sym, ap, ◌∙◌, append_assoc, append-nil, inl, inr, arith}
 use Rattle.std.specs.Prelude.{IsTrue, option_map, unwrap_or, slice_get}
 use Rattle.std.proofs.lemmas.Bool.{cases_lt}
-use Rattle.std.proofs.lemmas.List.{reverse-append, length-append, length-map, length-reverse, take_at}
+use Rattle.std.proofs.lemmas.List.{reverse-append, length-map, length-reverse, take_at}
 use Rattle.enc_base.specs.declared.token.Token.{Token}
 use Rattle.enc_index.specs.declared.key.Key.{Key}
 use Rattle.enc_index.specs.Index.{value_at, latest, either}
 use Rattle.enc_rows.specs.Source.{Source}
-use Rattle.enc_schema.specs.Children.{is_child_table, owner_table}
+use Rattle.enc_schema.specs.Children.{is_child_table}
 use Rattle.enc_plain.specs.Chain.{Chain}
 use Rattle.enc_plain.specs.Module.{rows_in, has_row, owner_of, kids_of}
 use Rattle.enc_plain.specs.Apply.{gained}
@@ -17,20 +17,19 @@ use Rattle.enc_plain.specs.declared.place.RowPlace.{RowPlace}
 use Rattle.enc_delta.specs.Delta.{listed, place_in}
 use Rattle.enc_delta.specs.Pairs.{attached_of}
 use Rattle.enc_agg.specs.declared.added.Added.{Added}
-use Rattle.enc_agg.specs.declared.added.Found.{Found}
 use Rattle.enc_agg.specs.declared.directory.Directory.{Directory}
 use Rattle.enc_agg.specs.declared.directory.Entries.{Entries}
 use Rattle.enc_agg.specs.Extend.{extended, chain_with}
 use Rattle.enc_agg.specs.Follows.{Lands}
-use Rattle.enc_agg.specs.Seen.{sources, AllAdded, IsAdded, IsAggregate, found_or, found_in, found_seen}
+use Rattle.enc_agg.specs.Seen.{sources, AllAdded, IsAdded, IsAggregate, found_or, found_in}
 use Rattle.enc_agg.specs.Directory.{row_key, kids_key, place_seen, HasPlaces, IsBare, IsHeld, AreOwned, AreHeld, IsDirectory, AreEntries}
 use Rattle.std.proofs.lemmas.Bool.Decides.{nat_tests}
 use Rattle.enc_image.specs.Base.{cells_fault, module_in, chain_of_base}
 use Rattle.enc_agg.specs.declared.aggregate.Ready.{Ready}
 use Rattle.enc_agg.specs.Prepared.{to_add, IsPrepared, IsWhole}
-use Rattle.enc_agg.proofs.Histories.{last_added, lasted, with_sound, ids_count}
+use Rattle.enc_agg.proofs.Histories.{last_added, with_sound, ids_count}
 use Rattle.enc_agg.proofs.Children.{kids_after, owner_kept, owned_after, rows_grow}
-use Rattle.enc_agg.proofs.Generations.{one_more, reversed_part, fewer_found}
+use Rattle.enc_agg.proofs.Generations.{one_more, reversed_part}
 use Rattle.enc_agg.proofs.RowsAndKids.{get_left}
 
 -- what was found is a front of the deltas, oldest first

@@ -1,6 +1,6 @@
 -- What the tokens and the Add entries of a delta bring, one by one.
-use Rattle.std.proofs.Common.{◌≡◌, ◌≢◌, ℕ, zero, suc, ◌+◌, ◌-◌, ◌<◌, ◌≤◌, Bool, true, false, List, [], ◌∷◌, ◌++◌, length, take, drop, get_or, map, Option, Some, None, refl, sym, ap, ◌∙◌, append_assoc, append-nil, ◌⊎◌, inl, inr, cond, arith}
-use Rattle.std.specs.Prelude.{IsTrue, ◌==◌, ◌&&◌, ◌||◌, if◌then◌else◌, filter, position, count_by, option_map, unwrap_or, slice_get}
+use Rattle.std.proofs.Common.{◌≡◌, ℕ, zero, suc, ◌+◌, ◌<◌, ◌≤◌, Bool, true, false, List, [], ◌∷◌, ◌++◌, length, take, drop, get_or, map, Option, Some, None, refl, sym, ap, ◌∙◌, append_assoc, append-nil, ◌⊎◌, inl, inr, cond, arith}
+use Rattle.std.specs.Prelude.{IsTrue, ◌==◌, ◌&&◌, ◌||◌, if◌then◌else◌, position, count_by, option_map, unwrap_or, slice_get}
 use Rattle.std.specs.List.{list_any, position_from}
 use Rattle.std.proofs.lemmas.Iterator.Adapters.{position_from-zero}
 use Rattle.std.proofs.lemmas.Bool.{cases_lt, cases_eq}
@@ -16,7 +16,7 @@ use Rattle.enc_index.specs.Index.{either}
 use Rattle.enc_rows.specs.Source.{Source}
 use Rattle.enc_schema.specs.Children.{is_child_table, owner_table}
 use Rattle.enc_plain.specs.Chain.{Chain, rows_before}
-use Rattle.enc_plain.specs.Module.{rows_in, owner_of, kids_of}
+use Rattle.enc_plain.specs.Module.{kids_of}
 use Rattle.enc_plain.specs.Apply.{Attached, gained}
 use Rattle.enc_plain.specs.Sound.{HasOwners}
 use Rattle.enc_plain.specs.declared.place.RowPlace.{RowPlace}
@@ -32,7 +32,7 @@ use Rattle.enc_agg.specs.Directory.{row_key, kids_key, IsHeld, AreOwned, AreHeld
 use Rattle.enc_agg.proofs.Pairs.{OwnedBy, AllOwned}
 use Rattle.enc_agg.proofs.Children.{attaches_row, pairs_owned, owned_at, kids_after, owner_new, once_at, rows_after, owned_after}
 use Rattle.enc_agg.proofs.Histories.{after_few}
-use Rattle.enc_agg.proofs.Directories.{get_some, get_front, get_behind}
+use Rattle.enc_agg.proofs.Directories.{get_front, get_behind}
 
 two : (b : Bool) → (b ≡ true) ⊎ (b ≡ false)
 two true = inl refl

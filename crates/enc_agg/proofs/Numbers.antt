@@ -1,6 +1,6 @@
 -- The numbers of `#GUID` that the generations have, and what stays whatever comes behind.
-use Rattle.std.proofs.Common.{◌≡◌, ℕ, zero, suc, ◌+◌, ◌-◌, ◌*◌, ◌/◌, ◌%◌, ◌<◌, ◌≤◌, Bool, true, false, List, [], ◌∷◌, ◌++◌, length, map, take, drop, Option, Some, None, refl, sym, ap, ◌∙◌, inl, inr, arith}
-use Rattle.std.specs.Prelude.{nat_le, max, if◌then◌else◌, option_map}
+use Rattle.std.proofs.Common.{◌≡◌, ℕ, suc, ◌+◌, ◌*◌, ◌/◌, ◌<◌, ◌≤◌, Bool, true, false, List, [], ◌∷◌, ◌++◌, length, map, Option, Some, None, refl, ap, ◌∙◌, inl, inr, arith}
+use Rattle.std.specs.Prelude.{nat_le, if◌then◌else◌, option_map}
 use Rattle.std.proofs.lemmas.Bool.{cases_lt}
 use Rattle.std.proofs.lemmas.Bool.Decides.{nat_tests}
 use Rattle.std.proofs.lemmas.List.{map-append}
@@ -15,7 +15,6 @@ use Rattle.enc_delta.proofs.OneHeapMore as more
 use Rattle.enc_agg.specs.declared.place.HeapPlace.{HeapPlace}
 use Rattle.enc_agg.specs.declared.heaps.Measure.TheVariants.{Bytes, Guids}
 use Rattle.enc_agg.specs.Place.{later, heap_place, guid_place}
-use Rattle.enc_agg.specs.Seen.{own_guid_place}
 use Rattle.enc_agg.specs.Starts.{measure_in}
 use Rattle.enc_agg.proofs.HeapPlaces as places
 

@@ -1,22 +1,19 @@
 -- How often a row is a child, and which row owns it.
-use Rattle.std.proofs.Common.{◌≡◌, ℕ, zero, suc, ◌+◌, ◌-◌, ◌<◌, ◌≤◌, Bool, true, false, List, [], ◌∷◌, ◌++◌, length, map, Option, Some, None, refl, sym, ap, ◌∙◌, inl, inr, cond, arith}
-use Rattle.std.specs.Prelude.{◌≢◌, ◌==◌, ◌&&◌, ◌||◌, if◌then◌else◌, slice_get, flat_map, count_by, position, nat_le}
-use Rattle.std.specs.List.{list_any}
+use Rattle.std.proofs.Common.{◌≡◌, ℕ, zero, suc, ◌+◌, ◌-◌, ◌<◌, Bool, true, false, List, [], ◌∷◌, ◌++◌, length, map, Some, refl, sym, ap, ◌∙◌, inl, inr, cond, arith}
+use Rattle.std.specs.Prelude.{◌≢◌, ◌==◌, ◌&&◌, slice_get, flat_map, count_by}
 use Rattle.std.proofs.lemmas.Bool.{cases_eq}
 use Rattle.std.proofs.lemmas.Bool.Decides.{nat_tests}
-use Rattle.std.proofs.lemmas.List.Sums.{sum_by-cons, sum_by-append}
 use Rattle.enc_base.specs.declared.token.Token.{Token}
-use Rattle.enc_base.specs.Token.{nth_row}
 use Rattle.enc_schema.specs.Schema.{list_at}
 use Rattle.enc_schema.specs.Children.{is_child_table, owner_table, run_index, runs_in}
 use Rattle.enc_plain.specs.Cell.{Cell}
-use Rattle.enc_plain.specs.Module.{Module, Row, rows_in, row_at, row_of, has_row, kids_at, kids_with, kids_of, owner_of}
+use Rattle.enc_plain.specs.Module.{Module, Row, rows_in, has_row, kids_at}
 use Rattle.enc_plain.specs.Apply.{Change, put_row, change_at, change_row, put, apply, Attached, with_child, attach, attach_all}
 use Rattle.enc_plain.specs.Fits.{Fits, Attaches, AllAttach, HasRuns}
 use Rattle.enc_plain.proofs.Applied.{table_same, table_other}
 use Rattle.enc_plain.proofs.AttachedTo.{run_at, place_differs, runs_attached, change_row_is}
 use Rattle.std.proofs.lemmas.Option.{slice_get_within}
-use Rattle.enc_plain.specs.Sound.{all_kids, IsOwned}
+use Rattle.enc_plain.specs.Sound.{all_kids}
 use Rattle.enc_agg.proofs.Counting.{rows_same, rows_other}
 use Rattle.enc_plain.proofs.Owned.{count_cons, count_append}
 

@@ -1,22 +1,16 @@
 -- A search by what the generations have before them, and what comes behind them.
-use Rattle.std.proofs.Common.{◌≡◌, ℕ, zero, suc, ◌+◌, ◌-◌, ◌*◌, ◌/◌, ◌<◌, ◌≤◌, ◌≢◌, Bool, true, false, List, [], ◌∷◌, ◌++◌, length, take, get_or, map, reverse, Option, Some, None, refl, sym, ap, ◌∙◌, inl, inr, arith}
-use Rattle.std.specs.Prelude.{slice_get, slice_index, max, nat_le, is_some, if◌then◌else◌}
-use Rattle.std.proofs.lemmas.Bool.{cases_lt}
-use Rattle.std.proofs.lemmas.Bool.Decides.{nat_tests}
-use Rattle.std.proofs.lemmas.Option.{slice_get-get_or}
-use Rattle.std.proofs.lemmas.List.{reverse-append, take_more, take_all, length-map, get_or-map}
-use Rattle.enc_base.specs.Order.{or_else}
-use Rattle.enc_meta.specs.Heaps.{Counted, sixteen_at}
+use Rattle.std.proofs.Common.{◌≡◌, ℕ, zero, suc, ◌+◌, ◌-◌, ◌/◌, ◌<◌, ◌≤◌, List, [], ◌∷◌, ◌++◌, length, take, get_or, reverse, refl, sym, ap, ◌∙◌, arith}
+use Rattle.std.specs.Prelude.{slice_index}
+use Rattle.std.proofs.lemmas.List.{reverse-append, take_more, take_all, length-map}
+use Rattle.enc_meta.specs.Heaps.{Counted}
 use Rattle.enc_meta.specs.declared.heap.Heap.TheVariants as heap
-use Rattle.enc_meta.specs.declared.heaps.HeapLengths.{HeapLengths}
-use Rattle.enc_meta.specs.Joined.{joined_lengths, joined_guid, first_guid, guid_entries, most}
+use Rattle.enc_meta.specs.Joined.{joined_lengths}
 use Rattle.enc_meta.proofs.JoinedLengths.{length_more, most_more}
 use Rattle.enc_rows.specs.Source.{Source}
 use Rattle.enc_agg.specs.declared.added.Added.{Added}
 use Rattle.enc_agg.specs.declared.heaps.Measure.{Measure}
 use Rattle.enc_agg.specs.declared.heaps.Measure.TheVariants.{Bytes, Guids}
 use Rattle.enc_agg.specs.Extend.{chain_with}
-use Rattle.enc_agg.specs.Place.{guid_place}
 use Rattle.enc_agg.specs.Seen.{sources, AllAdded}
 use Rattle.enc_agg.specs.Starts.{measure_in, starts, NeverFall, IsParted, HaveBegun}
 use Rattle.enc_agg.proofs.Generations.{all_upto}

@@ -1,9 +1,6 @@
 -- What the parts of the program stand for.
 use Rattle.std.specs.Prelude.{◌≡◌, ℕ, zero, suc, ◌*◌, ◌<◌, List, [], ◌∷◌, map, length, reverse, Option, Some, None, nat_lt, nat_le, slice_index, if◌then◌else◌}
 use Rattle.enc_base.specs.declared.token.Token.{Token}
-use Rattle.enc_base.specs.declared.refusal.StreamName.{StreamName}
-use Rattle.enc_base.specs.declared.refusal.StreamName.TheVariants as stream
-use Rattle.enc_meta.specs.Heaps.{Counted}
 use Rattle.enc_meta.specs.Joined.{joined_user}
 use Rattle.enc_opcodes.specs.Body.{Code}
 use Rattle.enc_plain.specs.Bodies.{code_loaded}
@@ -14,7 +11,6 @@ use Rattle.enc_image.specs.Base.{cells_fault}
 use Rattle.enc_delta.specs.Delta.{listed, place_in}
 use Rattle.enc_delta.specs.Rules.{own_guid}
 use Rattle.enc_meta.specs.Joined.{joined_lengths}
-use Rattle.enc_meta.specs.declared.heaps.HeapLengths.{HeapLengths}
 use Rattle.enc_agg.specs.declared.added.Added.{Added}
 use Rattle.enc_agg.specs.declared.added.Found.{Found}
 use Rattle.enc_agg.specs.declared.place.HeapPlace.{HeapPlace}

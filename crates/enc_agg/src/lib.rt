@@ -3,7 +3,6 @@
 
 mod added;
 mod aggregate;
-
 mod directory;
 mod entries;
 mod heaps;

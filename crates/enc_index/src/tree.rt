@@ -7,7 +7,8 @@ ghost use Rattle.enc_index.specs.Tree.{at, IsLeaf};
 
 use crate::key::{Digits, Key};
 
-/// The values of some keys. It is no deeper than keys have digits.
+/// The values of some keys. It is no deeper than keys have digits, and there are few keys with the
+/// same ones.
 #[cycle(tree)]
 #[derive(Drop)]
 pub(crate) enum Tree<V> {

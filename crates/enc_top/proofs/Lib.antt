@@ -3,3 +3,4 @@ pub mod Served
 pub mod Shown
 pub mod Loading
 pub mod Listed
+pub mod Quiet

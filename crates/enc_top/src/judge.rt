@@ -30,11 +30,7 @@ use std::marker::Brand;
 use std::sync::ledger::{Blank, Ledger};
 
 /// Adds a delta that breaks no rule; the steps are counted in a ledger of their own.
-fn add_counted<L: Ledger>(
-    agg: &mut Aggregate,
-    delta: Delta,
-    blank: Blank,
-) -> Result<(), AllocError>
+fn add_counted<L: Ledger>(agg: &mut Aggregate, delta: Delta, blank: Blank) -> Result<(), AllocError>
     requires name { blank.name ≡ L.name }
     requires parts { blank.parts ≡ L.parts }
     requires some { 0 < L.parts }

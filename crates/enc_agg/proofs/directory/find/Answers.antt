@@ -1,4 +1,4 @@
-use Rattle.std.proofs.Common.{sym, ap, Some, ◌∙◌}
+use Rattle.std.proofs.Common.{sym, ◌∙◌}
 use Rattle.enc_agg.proofs.Directories.{place_within, place_found, no_place}
 use Rattle.enc_agg.proofs.directory.find.Goals as goal
 

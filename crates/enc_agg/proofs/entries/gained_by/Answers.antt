@@ -1,4 +1,4 @@
-use Rattle.std.proofs.Common.{◌≡◌, refl, sym, ap, map, take, get_or, ◌∙◌, arith}
+use Rattle.std.proofs.Common.{◌≡◌, ap, map, take, get_or, ◌∙◌, arith}
 use Rattle.std.proofs.lemmas.List.{take_all, length-map}
 use Rattle.enc_delta.specs.Members.{pair_seen}
 use Rattle.enc_delta.specs.Pairs.{attached_of}

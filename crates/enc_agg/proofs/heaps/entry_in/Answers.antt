@@ -1,4 +1,4 @@
-use Rattle.std.proofs.Common.{refl, sym, ◌∙◌, Option, List, ℕ, arith}
+use Rattle.std.proofs.Common.{refl, sym, ◌∙◌, Option, List, ℕ}
 use Rattle.enc_meta.specs.Joined.{joined_lengths}
 use Rattle.enc_meta.specs.HeapKinds.{joined_at}
 use Rattle.enc_meta.proofs.Alone.{heap_alone}

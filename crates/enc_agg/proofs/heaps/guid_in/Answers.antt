@@ -1,8 +1,8 @@
-use Rattle.std.proofs.Common.{◌≡◌, suc, refl, sym, ◌∙◌, Option, List, ℕ, arith}
+use Rattle.std.proofs.Common.{◌≡◌, suc, sym, ◌∙◌, Option, List, ℕ, arith}
 use Rattle.enc_meta.specs.Joined.{joined_guid}
 use Rattle.enc_meta.proofs.Alone.{guid_alone}
 use Rattle.enc_agg.specs.declared.heaps.Measure.TheVariants.{Guids}
-use Rattle.enc_agg.proofs.Histories.{last_added, heaps_with, heaps_alone}
+use Rattle.enc_agg.proofs.Histories.{heaps_with, heaps_alone}
 use Rattle.enc_agg.proofs.Numbers.{guid_stays, guid_last}
 use Rattle.enc_agg.proofs.Starts.{stays, begun_last, before_number}
 use Rattle.enc_agg.proofs.heaps.guid_in.Goals as goal

@@ -1,4 +1,4 @@
-use Rattle.std.proofs.Common.{◌≡◌, zero, suc, refl, sym, ap, map, ◌∙◌, Option, None, ℕ, arith}
+use Rattle.std.proofs.Common.{◌≡◌, suc, map, Option, arith}
 use Rattle.enc_meta.specs.Heaps.{Counted}
 use Rattle.enc_agg.specs.Place.{guid_place}
 use Rattle.enc_agg.specs.declared.place.HeapPlace.{HeapPlace}

@@ -1,4 +1,4 @@
-use Rattle.std.proofs.Common.{refl, sym, ap, ◌∙◌, Option, List, ℕ, arith}
+use Rattle.std.proofs.Common.{refl, sym, ap, ◌∙◌, Option, List, ℕ}
 use Rattle.std.specs.Prelude.{is_some}
 use Rattle.enc_meta.specs.Heaps.{text_entry}
 use Rattle.enc_meta.specs.Joined.{joined_lengths, joined_text}

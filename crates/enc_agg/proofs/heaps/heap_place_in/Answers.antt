@@ -1,9 +1,9 @@
-use Rattle.std.proofs.Common.{refl, sym, ap, map, length, ◌∙◌, Option, ℕ, arith}
+use Rattle.std.proofs.Common.{map, Option, arith}
 use Rattle.enc_meta.specs.HeapKinds.{bytes_in}
 use Rattle.enc_agg.specs.Place.{heap_place}
 use Rattle.enc_agg.specs.declared.place.HeapPlace.{HeapPlace}
 use Rattle.enc_agg.specs.declared.heaps.Measure.TheVariants.{Bytes}
-use Rattle.enc_agg.proofs.Histories.{last_added, few_added}
+use Rattle.enc_agg.proofs.Histories.{few_added}
 use Rattle.enc_agg.proofs.HeapPlaces.{many_parts, base_place, newest_place}
 use Rattle.enc_agg.proofs.Numbers.{heap_place_stays}
 use Rattle.enc_agg.proofs.Starts.{stays, begun_last}

@@ -1,9 +1,6 @@
-use Rattle.std.proofs.Common.{sym, ◌∙◌, arith}
-use Rattle.enc_image.specs.Base.{module_in, chain_of_base}
-use Rattle.enc_agg.specs.Extend.{chain_with}
-use Rattle.enc_plain.proofs.Owned.{child_owned}
+use Rattle.std.proofs.Common.{sym, ◌∙◌}
+use Rattle.enc_image.specs.Base.{module_in}
 use Rattle.enc_agg.proofs.RowsAndKids.{has_old, some_row}
-use Rattle.enc_agg.proofs.Histories.{with_sound}
 use Rattle.enc_agg.proofs.Directories.{owner_before, owner_known}
 use Rattle.enc_agg.proofs.aggregate.Aggregate.owner_row.Goals as goal
 

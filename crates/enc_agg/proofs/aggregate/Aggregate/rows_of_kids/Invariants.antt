@@ -1,4 +1,4 @@
-use Rattle.std.proofs.Common.{◌≡◌, ◌≤◌, take}
+use Rattle.std.proofs.Common.{◌≡◌, take}
 use Rattle.enc_plain.specs.Module.{kids_of}
 use Rattle.enc_agg.specs.Seen.{module_of_all}
 use Rattle.enc_agg.proofs.aggregate.Aggregate.rows_of_kids.Given as goal
