@@ -18,3 +18,4 @@ pub mod Within
 pub mod Lengths
 pub mod Meanings
 pub mod EntryLengths
+pub mod FirstPlace

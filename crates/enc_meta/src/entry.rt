@@ -5,13 +5,15 @@ ghost use Rattle.enc_meta.specs.Root.{before_zero};
 ghost use Rattle.enc_meta.specs.Heaps.{blob_entry, units_in, user_at, user_entry, sixteen_at};
 
 use enc_base::read_unsigned;
+use memchr::memchr;
 
 /// The place of the first zero.
+#[tactic(auto, using(crate::proofs::FirstPlace::first_place))]
 fn zero_at(bytes: &[u8]) -> Option<usize>
     ensures place { result ≡ position (λ b. b == 0) bytes.now }
     ensures within { IfSome result (λ i. i < length bytes.now) }
 {
-    bytes.iter().position(|b| *b == 0)
+    memchr(0, bytes)
 }
 
 /// The bytes before the first zero, None where there is no zero.

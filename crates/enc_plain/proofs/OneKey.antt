@@ -1,6 +1,6 @@
 -- Alike tokens and signatures have one key.
 use Rattle.std.proofs.Common.{◌≡◌, ℕ, zero, suc, ◌-◌, ◌<◌, Bool, true, false, List, refl, sym, ap, ◌∙◌, inl, inr, ◌⊎◌, arith}
-use Rattle.std.specs.Prelude.{◌&&◌, ◌||◌, ◌==◌, bytes_eq}
+use Rattle.std.specs.Prelude.{nat_lt, ◌&&◌, ◌||◌, ◌==◌, bytes_eq}
 use Rattle.std.proofs.lemmas.Bool.Decides.{nat_tests}
 use Rattle.std.proofs.lemmas.Slice.Eq.{bytes_eq-Decides}
 use Rattle.enc_base.specs.Token.{is_token}
@@ -13,7 +13,7 @@ use Rattle.enc_sigs.proofs.Shared.{alike_have_one_shape, both_left, both_right, 
 use Rattle.enc_plain.specs.Rows.{Rows, bytes_at, token_at}
 use Rattle.enc_plain.specs.Signatures.{kind_in_table}
 use Rattle.enc_plain.specs.Alike.{are_rows, same_bytes, type_refs_alike, assembly_refs_alike, module_refs_alike, refs_alike, type_specs_alike, tokens_alike, signatures_alike}
-use Rattle.enc_plain.specs.Keys.{token_key, type_ref_key, assembly_ref_key, module_ref_key, ref_key, spec_key, key_of, signature_key}
+use Rattle.enc_plain.specs.Keys.{token_key, type_ref_key, scoped_key, assembly_ref_key, module_ref_key, ref_key, spec_key, key_of, signature_key}
 
 -- the key of a reference by its table
 pub key_end : (rows : Rows) (d : ℕ) (t : Token) → d ≡ 0 → token_key t ≡ ref_key rows d t
@@ -21,7 +21,7 @@ unfolding ref_key
 key_end rows zero t e = refl
 key_end rows (suc d) t e = absurd (omega arith)
 
-pub key_type_ref : (rows : Rows) (d : ℕ) (t : Token) → 0 < d → t.table ≡ 0x01 → type_ref_key rows (ref_key rows (d - 1) (token_at rows t 0)) t ≡ ref_key rows d t
+pub key_type_ref : (rows : Rows) (d : ℕ) (t : Token) → 0 < d → t.table ≡ 0x01 → scoped_key rows (nat_lt 96 d) (ref_key rows (d - 1) (token_at rows t 0)) t ≡ ref_key rows d t
 unfolding ref_key
 key_type_ref rows zero t low e = absurd (omega arith)
 key_type_ref rows (suc d) t low e = let less : suc d - 1 ≡ d = omega arith in rw (less, e) refl
@@ -56,12 +56,17 @@ tables_are rows table a b h = (grind (arith, nat_tests), grind (arith, nat_tests
 bytes_are : (rows : Rows) (a b : Token) (i : ℕ) → same_bytes rows a b i ≡ true → bytes_at rows a i ≡ bytes_at rows b i
 bytes_are rows a b i h = (bytes_eq-Decides (bytes_at rows a i) (bytes_at rows b i)).0 h
 
-type_ref_step : (rows : Rows) (d : ℕ) (t : Token) → t.table ≡ 0x01 → ref_key rows (suc d) t ≡ type_ref_key rows (ref_key rows d (token_at rows t 0)) t
+type_ref_step : (rows : Rows) (d : ℕ) (t : Token) → t.table ≡ 0x01 → ref_key rows (suc d) t ≡ scoped_key rows (nat_lt 96 (suc d)) (ref_key rows d (token_at rows t 0)) t
 unfolding ref_key
 type_ref_step rows d t e = let test : (t.table == 0x01) ≡ true = ap (λ n. n == 0x01) e in rw test refl
 
+scoped_one : (rows : Rows) (named : Bool) (k l : ℕ) (a b : Token) → k ≡ l → bytes_at rows a 1 ≡ bytes_at rows b 1 → bytes_at rows a 2 ≡ bytes_at rows b 2 → scoped_key rows named k a ≡ scoped_key rows named l b
+unfolding scoped_key type_ref_key
+scoped_one rows true k l a b scope name space = rw (name, space, scope) refl
+scoped_one rows false k l a b scope name space = rw scope refl
+
 type_refs_one : (rows : Rows) (d : ℕ) (a b : Token) → ((t u : Token) → refs_alike rows d t u ≡ true → ref_key rows d t ≡ ref_key rows d u) → type_refs_alike rows (refs_alike rows d) a b ≡ true → ref_key rows (suc d) a ≡ ref_key rows (suc d) b
-unfolding type_refs_alike type_ref_key
+unfolding type_refs_alike
 type_refs_one rows d a b step h =
     let three = both_left (are_rows rows 0x01 a b && same_bytes rows a b 1 && same_bytes rows a b 2) (refs_alike rows d (token_at rows a 0) (token_at rows b 0)) h in
     let two = both_left (are_rows rows 0x01 a b && same_bytes rows a b 1) (same_bytes rows a b 2) three in
@@ -69,7 +74,7 @@ type_refs_one rows d a b step h =
     let name = bytes_are rows a b 1 (both_right (are_rows rows 0x01 a b) (same_bytes rows a b 1) two) in
     let space = bytes_are rows a b 2 (both_right (are_rows rows 0x01 a b && same_bytes rows a b 1) (same_bytes rows a b 2) three) in
     let scope = step (token_at rows a 0) (token_at rows b 0) (both_right (are_rows rows 0x01 a b && same_bytes rows a b 1 && same_bytes rows a b 2) (refs_alike rows d (token_at rows a 0) (token_at rows b 0)) h) in
-    let keys : type_ref_key rows (ref_key rows d (token_at rows a 0)) a ≡ type_ref_key rows (ref_key rows d (token_at rows b 0)) b = rw (name, space, scope) refl in
+    let keys : scoped_key rows (nat_lt 96 (suc d)) (ref_key rows d (token_at rows a 0)) a ≡ scoped_key rows (nat_lt 96 (suc d)) (ref_key rows d (token_at rows b 0)) b = scoped_one rows (nat_lt 96 (suc d)) (ref_key rows d (token_at rows a 0)) (ref_key rows d (token_at rows b 0)) a b scope name space in
     type_ref_step rows d a tables.0 ∙ keys ∙ sym (type_ref_step rows d b tables.1)
 
 assembly_refs_one : (rows : Rows) (d : ℕ) (a b : Token) → assembly_refs_alike rows a b ≡ true → ref_key rows (suc d) a ≡ ref_key rows (suc d) b

@@ -1,7 +1,7 @@
 -- Keys of tokens and signatures: numbers that alike ones have in common. They tell which are worth comparing; that keys are equal says nothing.
-use Rattle.std.specs.Prelude.{ℕ, zero, suc, ◌==◌, List, unwrap_or, if◌then◌else◌}
+use Rattle.std.specs.Prelude.{ℕ, zero, suc, Bool, true, false, nat_lt, ◌==◌, List, unwrap_or, if◌then◌else◌}
 use Rattle.enc_base.specs.declared.token.Token.{Token}
-use Rattle.enc_sigs.specs.Mix.{mixed, mixed_ends}
+use Rattle.enc_sigs.specs.Mix.{mixed, mixed_long, mixed_ends}
 use Rattle.enc_sigs.specs.Shape.{sig_shape}
 use Rattle.enc_sigs.specs.declared.kind.SigKind.TheVariants.{TypeSpec}
 use Rattle.enc_plain.specs.Rows.{Rows, bytes_at, token_at}
@@ -17,6 +17,11 @@ token_key t = mixed (mixed 0 t.table) t.row
 unfoldable pub type_ref_key : Rows → ℕ → Token → ℕ
 type_ref_key rows scope t = mixed_ends 32 (mixed_ends 32 scope (bytes_at rows t columns.type_ref_type_name)) (bytes_at rows t columns.type_ref_type_namespace)
 
+-- the same, its names left out where many scopes stand around it
+unfoldable pub scoped_key : Rows → Bool → ℕ → Token → ℕ
+scoped_key rows true scope t = type_ref_key rows scope t
+scoped_key rows false scope t = mixed_long tables.type_ref scope
+
 -- of an AssemblyRef and of a ModuleRef: its name
 unfoldable pub assembly_ref_key : Rows → Token → ℕ
 assembly_ref_key rows t = mixed_ends 32 tables.assembly_ref (bytes_at rows t columns.assembly_ref_name)
@@ -24,11 +29,11 @@ assembly_ref_key rows t = mixed_ends 32 tables.assembly_ref (bytes_at rows t col
 unfoldable pub module_ref_key : Rows → Token → ℕ
 module_ref_key rows t = mixed_ends 32 tables.module_ref (bytes_at rows t columns.module_ref_name)
 
--- of a token, through at most so many scopes one in the other
+-- of a token, through at most so many scopes one in the other, with the names of those past the first 96
 unfoldable pub ref_key : Rows → ℕ → Token → ℕ
 ref_key rows zero t = token_key t
 ref_key rows (suc depth) t =
-    if t.table == tables.type_ref then type_ref_key rows (ref_key rows depth (token_at rows t columns.type_ref_resolution_scope)) t
+    if t.table == tables.type_ref then scoped_key rows (nat_lt 96 (suc depth)) (ref_key rows depth (token_at rows t columns.type_ref_resolution_scope)) t
     else if t.table == tables.assembly_ref then assembly_ref_key rows t
     else if t.table == tables.module_ref then module_ref_key rows t
     else token_key t

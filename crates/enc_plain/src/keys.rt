@@ -1,7 +1,7 @@
 //! Keys of tokens and signatures: numbers that alike ones have in common, by which those that may be
 //! alike are found.
 ghost use Rattle.std.specs.Prelude.{◌≡◌};
-ghost use Rattle.enc_plain.specs.Keys.{token_key, type_ref_key, assembly_ref_key, module_ref_key, ref_key, spec_key, key_of, signature_key};
+ghost use Rattle.enc_plain.specs.Keys.{token_key, type_ref_key, scoped_key, assembly_ref_key, module_ref_key, ref_key, spec_key, key_of, signature_key};
 ghost use Rattle.enc_plain.specs.Rows.{token_at, bytes_at};
 ghost use Rattle.enc_schema.specs.Tables.{assembly_ref, module_ref, type_ref, type_spec};
 
@@ -13,7 +13,7 @@ use enc_schema::columns::{
     TYPE_REF_TYPE_NAMESPACE, TYPE_SPEC_SIGNATURE,
 };
 use enc_schema::tables::{ASSEMBLY_REF, MODULE_REF, TYPE_REF, TYPE_SPEC};
-use enc_sigs::{SigKind, mixed, mixed_ends, sig_shape};
+use enc_sigs::{SigKind, mixed, mixed_ends, mixed_long, sig_shape};
 
 /// How many bytes of a name count at either end.
 const MOST: usize = 32;
@@ -34,6 +34,20 @@ fn type_ref_key<R: CellView>(rows: &R, scope: u64, token: Token) -> u64
 {
     let named = mixed_ends(MOST, scope, rows.text(token, TYPE_REF_TYPE_NAME));
     mixed_ends(MOST, named, rows.text(token, TYPE_REF_TYPE_NAMESPACE))
+}
+
+/// The same, its names left out where many scopes stand around it: a text is read up to its end, and
+/// scopes may stand a hundred deep.
+#[tactic(auto, unfolding(crate::specs::Keys::scoped_key))]
+fn scoped_key<R: CellView>(rows: &R, is_named: bool, scope: u64, token: Token) -> u64
+    requires { token.table ≡ type_ref }
+    ensures { result ≡ scoped_key (R.rows rows.now) is_named scope token }
+{
+    if is_named {
+        type_ref_key(rows, scope, token)
+    } else {
+        mixed_long(u64::from(TYPE_REF), scope)
+    }
 }
 
 /// The key of an AssemblyRef: its name.
@@ -71,7 +85,8 @@ fn scope_of<R: CellView>(rows: &R, token: Token) -> Token
     rows.token(token, TYPE_REF_RESOLUTION_SCOPE)
 }
 
-/// The key of a token, through at most so many scopes one in the other.
+/// The key of a token, through at most so many scopes one in the other, with the names of those past
+/// the first 96.
 #[tactic(auto, using(crate::proofs::OneKey::ref_steps))]
 fn ref_key<R: CellView>(rows: &R, depth: u8, token: Token) -> u64
     ensures { result ≡ ref_key (R.rows rows.now) depth token }
@@ -82,7 +97,7 @@ fn ref_key<R: CellView>(rows: &R, depth: u8, token: Token) -> u64
     match token.table {
         TYPE_REF => {
             let scope = ref_key(rows, depth - 1, scope_of(rows, token));
-            type_ref_key(rows, scope, token)
+            scoped_key(rows, depth > 96, scope, token)
         }
         ASSEMBLY_REF => assembly_ref_key(rows, token),
         MODULE_REF => module_ref_key(rows, token),

@@ -3,4 +3,3 @@ pub mod Served
 pub mod Shown
 pub mod Loading
 pub mod Listed
-pub mod Quiet
