@@ -22,7 +22,7 @@ use Rattle.enc_agg.specs.declared.directory.Entries.{Entries}
 use Rattle.enc_agg.specs.Extend.{extended, chain_with}
 use Rattle.enc_agg.specs.Follows.{Lands}
 use Rattle.enc_agg.specs.Seen.{sources, AllAdded, IsAdded, IsAggregate, found_or, found_in}
-use Rattle.enc_agg.specs.Directory.{row_key, kids_key, place_seen, HasPlaces, IsBare, IsHeld, AreOwned, AreHeld, IsDirectory, AreEntries}
+use Rattle.enc_agg.specs.Directory.{row_key, kids_key, place_seen, HasPlaces, IsBare, IsHeld, AreOwned, AreHeld, IsDirectory, AreBrought}
 use Rattle.std.proofs.lemmas.Bool.Decides.{nat_tests}
 use Rattle.enc_image.specs.Base.{cells_fault, module_in, chain_of_base}
 use Rattle.enc_agg.specs.declared.aggregate.Ready.{Ready}
@@ -152,14 +152,14 @@ place_step : (a : Added) (older : List Added) (o : Option ℕ) (n : ℕ) (rest :
 place_step a older None n rest e = refl
 place_step a older (Some k) n rest e = rw e refl
 
-places_more : (b : Source) (a : Added) (older : List Added) (x y : Directory) (e : Entries) → ((q : Key) → value_at y.places q ≡ either (latest e.places.items q) (value_at x.places q)) → HasPlaces older x → AreEntries (chain_with b (sources older)) a.delta e → HasPlaces (a ∷ older) y
+places_more : (b : Source) (a : Added) (older : List Added) (x y : Directory) (e : Entries) → ((q : Key) → value_at y.places q ≡ either (latest e.places.items q) (value_at x.places q)) → HasPlaces older x → AreBrought (chain_with b (sources older)) a.delta e → HasPlaces (a ∷ older) y
 unfolding found_in
 places_more b a older x y e puts places entries u =
     let many : length (chain_with b (sources older)).ids + 1 ≡ length (a ∷ older) = omega (arith, ids_count b (sources older), length-map older (λ (z : Added). z.delta)) in
     puts (row_key u) ∙ rw (entries.places u, places u) (place_step a older (place_in (listed a.delta) u) _ (found_in older u) many)
 
 -- the directory with one delta more
-pub directory_more : (b : Source) (a : Added) (older : List Added) (x y : Directory) (e : Entries) → ((q : Key) → value_at y.places q ≡ either (latest e.places.items q) (value_at x.places q)) → ((q : Key) → value_at y.owners q ≡ either (latest e.owners.items q) (value_at x.owners q)) → ((q : Key) → value_at y.counts q ≡ either (latest e.counts.items q) (value_at x.counts q)) → ((q : Key) → value_at y.kids q ≡ either (latest e.kids.items q) (value_at x.kids q)) → IsAggregate b older → IsDirectory b older x → IsAdded (chain_with b (sources older)) a → AreEntries (chain_with b (sources older)) a.delta e → IsDirectory b (a ∷ older) y
+pub directory_more : (b : Source) (a : Added) (older : List Added) (x y : Directory) (e : Entries) → ((q : Key) → value_at y.places q ≡ either (latest e.places.items q) (value_at x.places q)) → ((q : Key) → value_at y.owners q ≡ either (latest e.owners.items q) (value_at x.owners q)) → ((q : Key) → value_at y.counts q ≡ either (latest e.counts.items q) (value_at x.counts q)) → ((q : Key) → value_at y.kids q ≡ either (latest e.kids.items q) (value_at x.kids q)) → IsAggregate b older → IsDirectory b older x → IsAdded (chain_with b (sources older)) a → AreBrought (chain_with b (sources older)) a.delta e → IsDirectory b (a ∷ older) y
 unfolding chain_with
 directory_more b a older x y e places owners counts kids agg was last entries =
     let c = chain_with b (sources older) in

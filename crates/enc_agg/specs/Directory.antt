@@ -62,7 +62,7 @@ pub record IsDirectory (base : Source) (added : List Added) (x : Directory) : Ty
   pub kids : AreHeld (chain_with base []) (chain_with base (sources added)) (value_at x.counts) (value_at x.kids)
 
 -- what a delta brings after a chain
-pub record AreEntries (c : Chain) (d : Source) (e : Entries) : Type 0 where
+pub record AreBrought (c : Chain) (d : Source) (e : Entries) : Type 0 where
   pub places : (u : Token) → latest e.places.items (row_key u) ≡ option_map (λ (k : ℕ). record { generation = length c.ids + 1; row = k }) (place_in (listed d) u)
   pub owners : AreOwned c (extended c d) (λ u. latest e.owners.items (row_key u))
   pub kids : AreHeld c (extended c d) (latest e.counts.items) (latest e.kids.items)

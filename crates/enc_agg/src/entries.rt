@@ -7,13 +7,13 @@ ghost use Rattle.enc_index.specs.Index.{value_at, latest, either};
 ghost use Rattle.enc_schema.specs.Children.{is_child_table, owner_table};
 ghost use Rattle.enc_plain.specs.Module.{kids_of};
 ghost use Rattle.enc_delta.specs.Delta.{listed, log_in, place_in};
-ghost use Rattle.enc_delta.specs.Lists.{AreEntries as AreLogged};
+ghost use Rattle.enc_delta.specs.Lists.{AreBrought as AreLogged};
 ghost use Rattle.enc_delta.specs.Members.{pair_seen};
 ghost use Rattle.enc_delta.specs.Pairs.{attached_of};
 ghost use Rattle.enc_agg.specs.Extend.{extended};
 ghost use Rattle.enc_agg.specs.Follows.{Follows};
 ghost use Rattle.enc_agg.specs.Seen.{chain_of_all, module_of_all};
-ghost use Rattle.enc_agg.specs.Directory.{row_key, kids_key, AreOwned, AreHeld, AreEntries};
+ghost use Rattle.enc_agg.specs.Directory.{row_key, kids_key, AreOwned, AreHeld, AreBrought};
 
 use crate::aggregate::Aggregate;
 use crate::directory::{Entries, kids_key, row_key};
@@ -128,7 +128,7 @@ pub fn entries_of<L: Ledger>(
 ) -> Result<Entries, AllocError>
     requires follows { Follows (chain_of_all aggregate.now) delta.now }
     requires tokens { tokens.now ≡ listed delta.now }
-    ensures entries { IfOk result (AreEntries (chain_of_all aggregate.now) delta.now) }
+    ensures entries { IfOk result (AreBrought (chain_of_all aggregate.now) delta.now) }
     ensures steps { steps.new ≤ steps.old + length tokens.now }
 {
     let places = places_of(alloc, delta, tokens, aggregate.generations(), steps)?;

@@ -5,36 +5,36 @@ use Rattle.enc_base.specs.declared.token.Token.{Token}
 use Rattle.enc_rows.specs.Source.{Source}
 use Rattle.enc_schema.specs.Tables as tables
 use Rattle.enc_delta.specs.Delta.{of_table, listed}
-use Rattle.enc_checker.specs.Check.{own_code, own_methods, code_size, code_sizes, new_bodies}
+use Rattle.enc_checker.specs.Check.{new_code, own_methods, code_size, code_sizes, new_bodies}
 
 -- what a token gives
 abbrev pub size_of_one : Source → Token → List (Token × ℕ)
-size_of_one s t = if t.table == tables.method_def then (t, code_size (own_code s t)) ∷ [] else []
+size_of_one s t = if t.table == tables.method_def then (t, code_size (new_code s t)) ∷ [] else []
 
 abbrev pub body_if : Bool → Token → List Token
 body_if true t = t ∷ []
 body_if false t = []
 
 abbrev pub body_of_one : Source → Token → List Token
-body_of_one s t = if t.table == tables.method_def then body_if (is_some (own_code s t)) t else []
+body_of_one s t = if t.table == tables.method_def then body_if (is_some (new_code s t)) t else []
 
-mapped : (s : Source) (tokens : List Token) → map (λ (t : Token). (t, code_size (own_code s t))) (of_table tables.method_def tokens) ≡ flat_map (size_of_one s) tokens
+mapped : (s : Source) (tokens : List Token) → map (λ (t : Token). (t, code_size (new_code s t))) (of_table tables.method_def tokens) ≡ flat_map (size_of_one s) tokens
 mapped s [] = refl
 mapped s (t ∷ tokens) = by_table (t.table == tables.method_def) refl (mapped s tokens)
   where
-    by_table : (b : Bool) → (t.table == tables.method_def) ≡ b → map (λ (t : Token). (t, code_size (own_code s t))) (of_table tables.method_def tokens) ≡ flat_map (size_of_one s) tokens → map (λ (t : Token). (t, code_size (own_code s t))) (of_table tables.method_def (t ∷ tokens)) ≡ flat_map (size_of_one s) (t ∷ tokens)
-    by_table true e more = rw e (ap (λ l. (t, code_size (own_code s t)) ∷ l) more)
+    by_table : (b : Bool) → (t.table == tables.method_def) ≡ b → map (λ (t : Token). (t, code_size (new_code s t))) (of_table tables.method_def tokens) ≡ flat_map (size_of_one s) tokens → map (λ (t : Token). (t, code_size (new_code s t))) (of_table tables.method_def (t ∷ tokens)) ≡ flat_map (size_of_one s) (t ∷ tokens)
+    by_table true e more = rw e (ap (λ l. (t, code_size (new_code s t)) ∷ l) more)
     by_table false e more = rw e more
 
 pub all_sizes : (s : Source) → code_sizes s ≡ flat_map (size_of_one s) (listed s)
 unfolding code_sizes
 all_sizes s = mapped s (listed s)
 
-filtered : (s : Source) (tokens : List Token) → filter (λ (t : Token). is_some (own_code s t)) (of_table tables.method_def tokens) ≡ flat_map (body_of_one s) tokens
+filtered : (s : Source) (tokens : List Token) → filter (λ (t : Token). is_some (new_code s t)) (of_table tables.method_def tokens) ≡ flat_map (body_of_one s) tokens
 filtered s [] = refl
-filtered s (t ∷ tokens) = by_table (t.table == tables.method_def) (is_some (own_code s t)) refl refl (filtered s tokens)
+filtered s (t ∷ tokens) = by_table (t.table == tables.method_def) (is_some (new_code s t)) refl refl (filtered s tokens)
   where
-    by_table : (b k : Bool) → (t.table == tables.method_def) ≡ b → is_some (own_code s t) ≡ k → filter (λ (t : Token). is_some (own_code s t)) (of_table tables.method_def tokens) ≡ flat_map (body_of_one s) tokens → filter (λ (t : Token). is_some (own_code s t)) (of_table tables.method_def (t ∷ tokens)) ≡ flat_map (body_of_one s) (t ∷ tokens)
+    by_table : (b k : Bool) → (t.table == tables.method_def) ≡ b → is_some (new_code s t) ≡ k → filter (λ (t : Token). is_some (new_code s t)) (of_table tables.method_def tokens) ≡ flat_map (body_of_one s) tokens → filter (λ (t : Token). is_some (new_code s t)) (of_table tables.method_def (t ∷ tokens)) ≡ flat_map (body_of_one s) (t ∷ tokens)
     by_table true true e f more = rw (e, f) (ap (λ l. t ∷ l) more)
     by_table true false e f more = rw (e, f) more
     by_table false k e f more = rw e more

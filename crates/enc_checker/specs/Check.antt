@@ -17,8 +17,8 @@ use Rattle.enc_ppdb.specs.Fault.{pdb_delta_of}
 use Rattle.enc_ppdb.specs.Misplaced.{first_misplaced}
 
 -- the body of a method in a delta, where it has one
-abbrev pub own_code : Source → Token → Option Code
-own_code s method = code_loaded s.loaded (raw_in s (own_row s method) columns.method_def_rva)
+abbrev pub new_code : Source → Token → Option Code
+new_code s method = code_loaded s.loaded (raw_in s (own_row s method) columns.method_def_rva)
 
 -- the methods of a delta's EncMap
 abbrev pub own_methods : Source → List Token
@@ -29,11 +29,11 @@ abbrev pub code_size : Option Code → ℕ
 code_size code = unwrap_or (option_map (λ (c : Code). length c.code) code) 0
 
 unfoldable pub code_sizes : Source → List (Token × ℕ)
-code_sizes s = map (λ (t : Token). (t, code_size (own_code s t))) (own_methods s)
+code_sizes s = map (λ (t : Token). (t, code_size (new_code s t))) (own_methods s)
 
 -- those that have a new body
 unfoldable pub new_bodies : Source → List Token
-new_bodies s = filter (λ (t : Token). is_some (own_code s t)) (own_methods s)
+new_bodies s = filter (λ (t : Token). is_some (new_code s t)) (own_methods s)
 
 -- what is accepted of a delta's files: the delta, and its PDB, where it has one
 pub record Accepted : Type 0 where

@@ -1,7 +1,7 @@
 //! The methods of a delta, and the bodies that they have in it.
 ghost use Rattle.std.specs.Prelude.{◌≡◌, ◌<◌, ◌^◌, IfOk, IfSome, length, option_map};
 ghost use Rattle.enc_opcodes.specs.Body.{code_seen};
-ghost use Rattle.enc_checker.specs.Check.{own_code, code_size, code_sizes, new_bodies};
+ghost use Rattle.enc_checker.specs.Check.{new_code, code_size, code_sizes, new_bodies};
 
 use enc_base::Token;
 use enc_delta::Delta;
@@ -12,8 +12,8 @@ use enc_schema::tables::METHOD_DEF;
 use std::alloc::{AllocError, Global};
 
 /// The body of a method in a delta; None where it has none there.
-fn own_code(delta: &Delta, method: Token) -> Option<CodeRef<'_>>
-    ensures code { option_map code_seen result ≡ own_code delta.now method }
+fn new_code(delta: &Delta, method: Token) -> Option<CodeRef<'_>>
+    ensures code { option_map code_seen result ≡ new_code delta.now method }
     ensures few { IfSome result (λ c. length c.code.now < 2 ^ 32) }
 {
     let own = Token {
@@ -25,9 +25,9 @@ fn own_code(delta: &Delta, method: Token) -> Option<CodeRef<'_>>
 
 /// The size of a method's code in a delta; 0 where it has no body there.
 fn code_size(delta: &Delta, method: Token) -> u32
-    ensures { result ≡ code_size (own_code delta.now method) }
+    ensures { result ≡ code_size (new_code delta.now method) }
 {
-    match own_code(delta, method) {
+    match new_code(delta, method) {
         Some(code) => code.code.len() as u32,
         None => 0,
     }
@@ -57,7 +57,7 @@ pub fn new_bodies(alloc: Global, delta: &Delta) -> Result<MethodList, AllocError
     let tokens = delta.tokens(alloc)?;
     let mut methods = MethodList::begin(alloc);
     for token in &tokens {
-        if token.table != METHOD_DEF || own_code(delta, *token).is_none() {
+        if token.table != METHOD_DEF || new_code(delta, *token).is_none() {
             continue;
         }
         methods.push(*token)?;

@@ -4,7 +4,7 @@ use Rattle.std.specs.Prelude.{if◌then◌else◌}
 use Rattle.enc_index.specs.Key.{is_key}
 use Rattle.enc_index.specs.declared.key.Key.{Key}
 use Rattle.enc_index.specs.declared.index.Entry.{Entry}
-use Rattle.enc_index.specs.Index.{key_of, value_of, latest, latest_one, either}
+use Rattle.enc_index.specs.Index.{entry_key, value_of, latest, latest_one, either}
 
 pub either_both : {V : Type 0} (a b o : Option V) → either a (either b o) ≡ either (either a b) o
 either_both (Some v) b o = refl
@@ -23,5 +23,5 @@ latest_snoc : {V : Type 0} (es : List (Entry V)) (e : Entry V) (q : Key) → lat
 latest_snoc [] e q = sym (either_none (latest_one e q))
 latest_snoc (x ∷ es) e q = ap (λ o. either o (latest_one x q)) (latest_snoc es e q) ∙ sym (either_both (latest_one e q) (latest es q) (latest_one x q))
 
-pub latest_push : {V : Type 0} (es new : List (Entry V)) (e : Entry V) (key q : Key) (v : V) → key_of e ≡ key → value_of e ≡ v → new ≡ es ++ e ∷ [] → latest new q ≡ either (if is_key key q then Some v else None) (latest es q)
+pub latest_push : {V : Type 0} (es new : List (Entry V)) (e : Entry V) (key q : Key) (v : V) → entry_key e ≡ key → value_of e ≡ v → new ≡ es ++ e ∷ [] → latest new q ≡ either (if is_key key q then Some v else None) (latest es q)
 latest_push es new e key q v k is pushed = rw (pushed, ← k, ← is) (latest_snoc es e q)

@@ -11,8 +11,8 @@ abbrev pub value_at : {V : Type 0} → Index V → Key → Option V
 value_at x key = at x.tree key (digits_of key)
 
 -- the key and the value of an entry
-abbrev pub key_of : {V : Type 0} → Entry V → Key
-key_of e = e.fork.value.key
+abbrev pub entry_key : {V : Type 0} → Entry V → Key
+entry_key e = e.fork.value.key
 
 abbrev pub value_of : {V : Type 0} → Entry V → V
 value_of e = e.fork.value.value
@@ -24,7 +24,7 @@ either None o = o
 
 -- the value that an entry gives a key, and the last that some entries give it
 abbrev pub latest_one : {V : Type 0} → Entry V → Key → Option V
-latest_one e key = if is_key (key_of e) key then Some (value_of e) else None
+latest_one e key = if is_key (entry_key e) key then Some (value_of e) else None
 
 abbrev pub latest : {V : Type 0} → List (Entry V) → Key → Option V
 latest [] key = None

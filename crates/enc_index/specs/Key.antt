@@ -11,5 +11,5 @@ is_key a b = a.table == b.table && a.row == b.row && a.place == b.place
 abbrev pub digits_of : Key → Digits
 digits_of k = record { first = k.row; second = k.place }
 
-abbrev pub behind : Digits → Digits
-behind d = if d.first == 0 then record { first = d.second; second = 0 } else record { first = d.first / 2; second = d.second }
+abbrev pub next_digits : Digits → Digits
+next_digits d = if d.first == 0 then record { first = d.second; second = 0 } else record { first = d.first / 2; second = d.second }

@@ -2,7 +2,7 @@
 ghost use Rattle.std.specs.Prelude.{◌≡◌, Some, None, IfOk, option_copied, if◌then◌else◌};
 ghost use Rattle.enc_index.specs.declared.key.Key.{Key as TheKey};
 ghost use Rattle.enc_index.specs.Key.{is_key};
-ghost use Rattle.enc_index.specs.Index.{value_at, key_of, value_of, latest, latest_one, either};
+ghost use Rattle.enc_index.specs.Index.{value_at, entry_key, value_of, latest, latest_one, either};
 
 use crate::key::Key;
 use crate::tree::{Fork, Tree};
@@ -23,7 +23,7 @@ pub struct Entry<V> {
 impl<V: Drop> Entry<V> {
     /// The value of a key.
     pub fn new(alloc: Global, key: Key, value: V) -> Result<Entry<V>, AllocError>
-        ensures key { IfOk result (λ e. key_of e ≡ key) }
+        ensures key { IfOk result (λ e. entry_key e ≡ key) }
         ensures value { IfOk result (λ e. value_of e ≡ value) }
     {
         let fork = Fork {

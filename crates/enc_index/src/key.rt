@@ -1,6 +1,6 @@
 //! What values are kept by.
 ghost use Rattle.std.specs.Prelude.{◌≡◌};
-ghost use Rattle.enc_index.specs.Key.{is_key, digits_of, behind};
+ghost use Rattle.enc_index.specs.Key.{is_key, digits_of, next_digits};
 
 /// A row of a table, and a place in it.
 #[derive(Clone, Copy, Debug, PartialEq, Eq)]
@@ -40,7 +40,7 @@ impl Key {
 impl Digits {
     /// Those behind the first digit.
     pub(crate) fn behind(self) -> Digits
-        ensures { result ≡ behind self }
+        ensures { result ≡ next_digits self }
     {
         if self.first == 0 {
             return Digits {

@@ -17,14 +17,14 @@ size_for [] token = None
 size_for (m ∷ methods) token = if names_method m.0 token then Some m.1 else size_for methods token
 
 -- one of the points is past the code
-abbrev pub is_past : ℕ → MethodPoints → Bool
-is_past size m = list_any (λ (p : Point). nat_le size p.offset) m.points
+abbrev pub is_past_code : ℕ → MethodPoints → Bool
+is_past_code size m = list_any (λ (p : Point). nat_le size p.offset) m.points
 
 -- the method isn't one of the delta's, or one of its points is past its code
 abbrev pub is_stray : Option ℕ → Option MethodPoints → Bool
 is_stray None points = true
 is_stray (Some size) None = false
-is_stray (Some size) (Some m) = is_past size m
+is_stray (Some size) (Some m) = is_past_code size m
 
 -- the token doesn't stand behind one of those before it
 abbrev pub is_behind : List Token → Token → Bool

@@ -5,9 +5,9 @@ use Rattle.enc_text.specs.Text.{quoted}
 use Rattle.enc_text.specs.BodyText.{label}
 
 -- the bytes of a document's name, none where there is no document
-abbrev pub document_name : Option Document → List ℕ
-document_name None = []
-document_name (Some d) = d.name
+abbrev pub printed_name : Option Document → List ℕ
+printed_name None = []
+printed_name (Some d) = d.name
 
 -- a line and a column with a colon between them
 unfoldable pub position_text : ℕ → ℕ → List ℕ
@@ -20,7 +20,7 @@ extent_text l = position_text l.0 l.1 ++ 0x2d ∷ position_text l.2 l.3
 -- a space, and that the point is hidden or its document and lines
 abbrev pub lines_text : Option Document → Option (ℕ × ℕ × ℕ × ℕ) → List ℕ
 lines_text document None = codes " hidden"
-lines_text document (Some l) = 0x20 ∷ quoted (document_name document) ++ 0x20 ∷ extent_text l
+lines_text document (Some l) = 0x20 ∷ quoted (printed_name document) ++ 0x20 ∷ extent_text l
 
 -- the line of a point: its offset, and that it is hidden or its document and lines
 unfoldable pub point_text : PlainPoint → List ℕ

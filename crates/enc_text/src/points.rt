@@ -1,7 +1,7 @@
 //! The printed sequence points of a method (Portable PDB v1.0).
 ghost use Rattle.std.specs.Prelude.{◌≡◌, ◌++◌, OnOk, IfOk, flat_map, map};
 ghost use Rattle.enc_plain.specs.Debug.{debug_of, plain_point};
-ghost use Rattle.enc_text.specs.PointText.{document_name, position_text, extent_text, point_text, points_text};
+ghost use Rattle.enc_text.specs.PointText.{printed_name, position_text, extent_text, point_text, points_text};
 
 use crate::operand::push_label;
 use crate::text::{push_decimal, push_quoted, push_str};
@@ -17,7 +17,7 @@ fn name_of<P: PointSource>(
     method: Token,
     number: u32,
 ) -> Result<Vec<u8>, AllocError>
-    ensures { IfOk result (λ name. name.items ≡ document_name (P.documents source.now method number)) }
+    ensures { IfOk result (λ name. name.items ≡ printed_name (P.documents source.now method number)) }
 {
     let mut name = Vec::new(alloc);
     match source.document(method, number) {
