@@ -47,7 +47,8 @@ pub record IsHeld (kids : List ℕ) (first : ℕ) (count : Option ℕ) (kid : �
 -- child rows past those of an earlier chain have their owners
 pub record AreOwned (before after : Chain) (owner : Token → Option Token) : Type 0 where
   pub old : (u : Token) → IsTrue (is_child_table u.table) → u.row ≤ length (rows_in before.plain u.table) → owner u ≡ None
-  pub new : (u : Token) → IsTrue (is_child_table u.table) → length (rows_in before.plain u.table) < u.row → u.row ≤ length (rows_in after.plain u.table) → owner u ≡ owner_of after.plain u
+  pub new : (u : Token) → IsTrue (is_child_table u.table) → length (rows_in before.plain u.table) < u.row → u.row ≤ length (rows_in after.plain u.table)
+      → owner u ≡ owner_of after.plain u
 
 -- the children past those in an earlier chain are held
 abbrev pub AreHeld : Chain → Chain → (Key → Option ℕ) → (Key → Option ℕ) → Type 0
@@ -63,6 +64,7 @@ pub record IsDirectory (base : Source) (added : List Added) (x : Directory) : Ty
 
 -- what a delta brings after a chain
 pub record AreBrought (c : Chain) (d : Source) (e : Entries) : Type 0 where
-  pub places : (u : Token) → latest e.places.items (row_key u) ≡ option_map (λ (k : ℕ). record { generation = length c.ids + 1; row = k }) (place_in (listed d) u)
+  pub places : (u : Token)
+      → latest e.places.items (row_key u) ≡ option_map (λ (k : ℕ). record { generation = length c.ids + 1; row = k }) (place_in (listed d) u)
   pub owners : AreOwned c (extended c d) (λ u. latest e.owners.items (row_key u))
   pub kids : AreHeld c (extended c d) (latest e.counts.items) (latest e.kids.items)
