@@ -7,7 +7,7 @@ ghost use Rattle.enc_index.specs.Index.{value_at, latest, either};
 ghost use Rattle.enc_schema.specs.Children.{is_child_table, owner_table};
 ghost use Rattle.enc_plain.specs.Module.{kids_of};
 ghost use Rattle.enc_delta.specs.Delta.{listed, log_in, place_in};
-ghost use Rattle.enc_delta.specs.Lists.{AreBrought as AreLogged};
+ghost use Rattle.enc_delta.specs.Lists.{AreEntries as AreLogged};
 ghost use Rattle.enc_delta.specs.Members.{pair_seen};
 ghost use Rattle.enc_delta.specs.Pairs.{attached_of};
 ghost use Rattle.enc_agg.specs.Extend.{extended};
