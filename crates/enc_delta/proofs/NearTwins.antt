@@ -1,7 +1,7 @@
 -- Twins have one key, so they stand beside one another among members in the order of their keys.
 use Rattle.std.proofs.Common.{◌≡◌, ℕ, zero, suc, ◌+◌, ◌-◌, ◌<◌, ◌≤◌, Bool, true, false, List, [], ◌∷◌, ◌++◌, length, take, get_or, map, Option, refl, sym, ap, subst, ◌∙◌, inl, inr, arith}
-use Rattle.std.specs.Prelude.{◌==◌, ◌&&◌, ◌||◌, not, filter, nat_lt, bytes_eq, if◌then◌else◌}
-use Rattle.std.specs.List.{list_any, list_all}
+use Rattle.std.specs.Prelude.{◌==◌, ◌&&◌, ◌||◌, not, filter, nat_lt, if◌then◌else◌}
+use Rattle.std.specs.List.{list_any}
 use Rattle.std.specs.List.Sorted.{IsNonDecreasingBy}
 use Rattle.std.proofs.lemmas.Bool.{cases_eq, cases_lt}
 use Rattle.std.proofs.lemmas.Bool.Decides.{nat_tests}
@@ -12,13 +12,13 @@ use Rattle.enc_base.specs.Token.{number_of}
 use Rattle.enc_base.specs.declared.token.Token.{Token}
 use Rattle.enc_schema.specs.Children.{is_child_table}
 use Rattle.enc_plain.specs.Module.{Module, kids_of}
-use Rattle.enc_plain.specs.Apply.{Attached, gained}
+use Rattle.enc_plain.specs.Apply.{gained}
 use Rattle.enc_plain.proofs.Columns.{both_left, both_right}
 use Rattle.enc_delta.specs.declared.pairs.Pair.{Pair}
 use Rattle.enc_delta.specs.declared.shared.Keyed.{Keyed}
 use Rattle.enc_delta.specs.Rules.{least, lesser, at_token, stands_in}
 use Rattle.enc_delta.specs.Twins.{Asked, members, is_twin, has_twin, twin_fault}
-use Rattle.enc_delta.specs.Members.{pair_seen, is_beside, is_twin_row, is_twin_beside, AlikeHaveOneKey, owner_key, name_key, twin_key, named, told, no_keyed, keyed_at, is_near, near_told, is_other, AreKeyed, is_twin_of, has_twin_among, is_new_twin, keyed_number, AreSame, AreOld, AreChildren, ArePairs, IsTwinBehind, IsTwinBefore}
+use Rattle.enc_delta.specs.Members.{pair_seen, is_beside, is_twin_row, is_twin_beside, AlikeHaveOneKey, owner_key, name_key, twin_key, keyed_by_name, keyed_by_signature, no_keyed, keyed_at, has_neighbour, near_told, is_other, AreKeyed, is_twin_of, has_twin_among, is_new_twin, keyed_number, AreSame, AreOld, AreChildren, ArePairs, IsTwinBehind, IsTwinBefore}
 use Rattle.enc_delta.proofs.ListsChanged.{all_at}
 use Rattle.enc_delta.proofs.ListsChildren.{two, equal, equal_is}
 use Rattle.enc_delta.proofs.ListsSets.{least_is, least_unique}
@@ -110,8 +110,8 @@ or_true : (x : Bool) → (x || true) ≡ true
 or_true true = refl
 or_true false = refl
 
-near_low : (entries : List Keyed) (i j : ℕ) → IsNonDecreasingBy (λ (e : Keyed). e.key) entries → i < j → j < length entries → (keyed_at entries i).key ≡ (keyed_at entries j).key → is_near entries i ≡ true
-unfolding is_near
+near_low : (entries : List Keyed) (i j : ℕ) → IsNonDecreasingBy (λ (e : Keyed). e.key) entries → i < j → j < length entries → (keyed_at entries i).key ≡ (keyed_at entries j).key → has_neighbour entries i ≡ true
+unfolding has_neighbour
 near_low entries i j sorted l m e =
     let up = sorted i (i + 1) no_keyed (omega arith) (omega arith) in
     let down = sorted (i + 1) j no_keyed (omega arith) m in
@@ -119,8 +119,8 @@ near_low entries i j sorted l m e =
     let same : ((keyed_at entries (i + 1)).key == (keyed_at entries i).key) ≡ true = equal_is _ _ (omega arith) in
     rw (test, same) (or_true _)
 
-near_high : (entries : List Keyed) (i j : ℕ) → IsNonDecreasingBy (λ (e : Keyed). e.key) entries → i < j → j < length entries → (keyed_at entries i).key ≡ (keyed_at entries j).key → is_near entries j ≡ true
-unfolding is_near
+near_high : (entries : List Keyed) (i j : ℕ) → IsNonDecreasingBy (λ (e : Keyed). e.key) entries → i < j → j < length entries → (keyed_at entries i).key ≡ (keyed_at entries j).key → has_neighbour entries j ≡ true
+unfolding has_neighbour
 near_high entries i j sorted l m e =
     let up = sorted i (j - 1) no_keyed (omega arith) (omega arith) in
     let down = sorted (j - 1) j no_keyed (omega arith) m in
@@ -128,7 +128,7 @@ near_high entries i j sorted l m e =
     let same : ((keyed_at entries (j - 1)).key == (keyed_at entries j).key) ≡ true = equal_is _ _ (omega arith) in
     rw (test, same) refl
 
-near_both : (q : Asked) (entries : List Keyed) (i j : ℕ) → AreKeyed q (name_key q) entries → IsNonDecreasingBy (λ (e : Keyed). e.key) entries → i < length entries → j < length entries → is_twin_of q (keyed_at entries i) (keyed_at entries j) ≡ true → (is_near entries i ≡ true) × (is_near entries j ≡ true)
+near_both : (q : Asked) (entries : List Keyed) (i j : ℕ) → AreKeyed q (name_key q) entries → IsNonDecreasingBy (λ (e : Keyed). e.key) entries → i < length entries → j < length entries → is_twin_of q (keyed_at entries i) (keyed_at entries j) ≡ true → (has_neighbour entries i ≡ true) × (has_neighbour entries j ≡ true)
 near_both q entries i j are sorted l m twin =
     let first = equal _ _ (keyed_known q (name_key q) entries i are l).1 in
     let second = equal _ _ (keyed_known q (name_key q) entries j are m).1 in
@@ -146,34 +146,34 @@ near_both q entries i j are sorted l m twin =
     ]
 
 -- the members that are told by their signatures too
-last_of : (q : Asked) (keys : Token → ℕ) (f : Keyed → Bool) (e : Keyed) (near : Bool) → list_any f (if near then told q keys e ∷ [] else []) ≡ true → (near ≡ true) × (f (told q keys e) ≡ true)
-last_of q keys f e true h = elim (two (f (told q keys e))) [ inl is ↦ (refl, is) | inr fails ↦ absurd (let g = rw fails at h in cc) ]
+last_of : (q : Asked) (keys : Token → ℕ) (f : Keyed → Bool) (e : Keyed) (near : Bool) → list_any f (if near then keyed_by_signature q keys e ∷ [] else []) ≡ true → (near ≡ true) × (f (keyed_by_signature q keys e) ≡ true)
+last_of q keys f e true h = elim (two (f (keyed_by_signature q keys e))) [ inl is ↦ (refl, is) | inr fails ↦ absurd (let g = rw fails at h in cc) ]
 last_of q keys f e false h = absurd cc
 
 right_true : (a b : Bool) → (a || b) ≡ true → a ≡ false → b ≡ true
 right_true true b h e = absurd cc
 right_true false b h e = h
 
-told_where : (q : Asked) (keys : Token → ℕ) (entries : List Keyed) (f : Keyed → Bool) (n : ℕ) → list_any f (near_told q keys entries n) ≡ true → (i : ℕ) × (i < n) × (is_near entries i ≡ true) × (f (told q keys (keyed_at entries i)) ≡ true)
+told_where : (q : Asked) (keys : Token → ℕ) (entries : List Keyed) (f : Keyed → Bool) (n : ℕ) → list_any f (near_told q keys entries n) ≡ true → (i : ℕ) × (i < n) × (has_neighbour entries i ≡ true) × (f (keyed_by_signature q keys (keyed_at entries i)) ≡ true)
 unfolding near_told
 told_where q keys entries f zero h = absurd cc
 told_where q keys entries f (suc n) h =
-    let split = sym (list_any-append f (near_told q keys entries n) (if is_near entries n then told q keys (keyed_at entries n) ∷ [] else [])) ∙ h in
+    let split = sym (list_any-append f (near_told q keys entries n) (if has_neighbour entries n then keyed_by_signature q keys (keyed_at entries n) ∷ [] else [])) ∙ h in
     elim (two (list_any f (near_told q keys entries n))) [
       | inl is ↦ let w = told_where q keys entries f n is in (w.0, omega (arith, w.1), w.2, w.3)
-      | inr fails ↦ let w = last_of q keys f (keyed_at entries n) (is_near entries n) (right_true _ _ split fails) in (n, omega arith, w.0, w.1)
+      | inr fails ↦ let w = last_of q keys f (keyed_at entries n) (has_neighbour entries n) (right_true _ _ split fails) in (n, omega arith, w.0, w.1)
     ]
 
 left_true : (a b : Bool) → a ≡ true → (a || b) ≡ true
 left_true a b e = rw e refl
 
-told_at : (q : Asked) (keys : Token → ℕ) (entries : List Keyed) (f : Keyed → Bool) (n i : ℕ) → i < n → is_near entries i ≡ true → f (told q keys (keyed_at entries i)) ≡ true → list_any f (near_told q keys entries n) ≡ true
+told_at : (q : Asked) (keys : Token → ℕ) (entries : List Keyed) (f : Keyed → Bool) (n i : ℕ) → i < n → has_neighbour entries i ≡ true → f (keyed_by_signature q keys (keyed_at entries i)) ≡ true → list_any f (near_told q keys entries n) ≡ true
 unfolding near_told
 told_at q keys entries f zero i l near is = absurd (omega arith)
 told_at q keys entries f (suc n) i l near is = list_any-append f (near_told q keys entries n) _ ∙ elim (cases_eq i n) [
   | inl e ↦
-      let here : is_near entries n ≡ true = subst (λ k. is_near entries k ≡ true) e near in
-      let passes : f (told q keys (keyed_at entries n)) ≡ true = subst (λ k. f (told q keys (keyed_at entries k)) ≡ true) e is in
+      let here : has_neighbour entries n ≡ true = subst (λ k. has_neighbour entries k ≡ true) e near in
+      let passes : f (keyed_by_signature q keys (keyed_at entries n)) ≡ true = subst (λ k. f (keyed_by_signature q keys (keyed_at entries k)) ≡ true) e is in
       rw (here, passes) (or_true _)
   | inr e ↦
       let below : i < n = elim (cases_lt i n) [ inl b ↦ b | inr b ↦ let same : i ≡ n = omega arith in absurd (e same) ] in
@@ -185,7 +185,7 @@ told_keyed q keys entries n few are = elim (two (list_any (is_other q (twin_key 
   | inl is ↦
       let w = told_where q keys entries (is_other q (twin_key q keys)) n is in
       let known = keyed_known q (name_key q) entries w.0 are (omega (arith, w.1)) in
-      no_true (is_other q (twin_key q keys) (told q keys (keyed_at entries w.0))) w.3 (rw (known.0, equal_is (twin_key q keys (keyed_at entries w.0).pair) (twin_key q keys (keyed_at entries w.0).pair) refl, known.2) refl)
+      no_true (is_other q (twin_key q keys) (keyed_by_signature q keys (keyed_at entries w.0))) w.3 (rw (known.0, equal_is (twin_key q keys (keyed_at entries w.0).pair) (twin_key q keys (keyed_at entries w.0).pair) refl, known.2) refl)
   | inr fails ↦ fails
 ]
 
@@ -203,9 +203,9 @@ stage q keys entries g are sorted = iff_is _ _ forth back
     forth h =
         let w = told_where q keys entries (twinned q g (near_told q keys entries n)) n h in
         let e = keyed_at entries w.0 in
-        let v = told_where q keys entries (is_twin_of q (told q keys e)) n (both_right (g e.is_new e.pair) (has_twin_among q (near_told q keys entries n) (told q keys e)) w.3) in
+        let v = told_where q keys entries (is_twin_of q (keyed_by_signature q keys e)) n (both_right (g e.is_new e.pair) (has_twin_among q (near_told q keys entries n) (keyed_by_signature q keys e)) w.3) in
         let twin = list_any_at (is_twin_of q e) entries v.0 no_keyed v.1 v.3 in
-        list_any_at (twinned q g entries) entries w.0 no_keyed w.1 (both_true _ _ (both_left (g e.is_new e.pair) (has_twin_among q (near_told q keys entries n) (told q keys e)) w.3) twin)
+        list_any_at (twinned q g entries) entries w.0 no_keyed w.1 (both_true _ _ (both_left (g e.is_new e.pair) (has_twin_among q (near_told q keys entries n) (keyed_by_signature q keys e)) w.3) twin)
 
     back : list_any (twinned q g entries) entries ≡ true → list_any (twinned q g (near_told q keys entries n)) (near_told q keys entries n) ≡ true
     back h =
@@ -213,7 +213,7 @@ stage q keys entries g are sorted = iff_is _ _ forth back
         let e = keyed_at entries w.0 in
         let v = where_one (is_twin_of q e) entries no_keyed (both_right (g e.is_new e.pair) (has_twin_among q entries e) w.2) in
         let near = near_both q entries w.0 v.0 are sorted w.1 v.1 v.2 in
-        let twin = told_at q keys entries (is_twin_of q (told q keys e)) n v.0 v.1 near.1 v.2 in
+        let twin = told_at q keys entries (is_twin_of q (keyed_by_signature q keys e)) n v.0 v.1 near.1 v.2 in
         told_at q keys entries (twinned q g (near_told q keys entries n)) n w.0 w.1 near.0 (both_true _ _ (both_left (g e.is_new e.pair) (has_twin_among q entries e) w.2) twin)
 
 reordered : (q : Asked) (before after : List Keyed) (g : Bool → Pair → Bool) → AreSame before after → list_any (twinned q g after) after ≡ list_any (twinned q g before) before
@@ -221,13 +221,13 @@ reordered q before after g same = same (twinned q g after) ∙ any_same (twinned
 
 -- the members as they are gathered
 abbrev pub gathered : Asked → List Pair → List Pair → List Keyed
-gathered q pairs old = map (named q true) (filter (λ (k : Pair). q.counts k.child) pairs) ++ map (named q false) (filter (λ (k : Pair). q.counts k.child) old)
+gathered q pairs old = map (keyed_by_name q true) (filter (λ (k : Pair). q.counts k.child) pairs) ++ map (keyed_by_name q false) (filter (λ (k : Pair). q.counts k.child) old)
 
-any_named : (q : Asked) (new : Bool) (f : Keyed → Bool) (xs : List Pair) → list_any f (map (named q new) (filter (λ (k : Pair). q.counts k.child) xs)) ≡ list_any (λ (k : Pair). q.counts k.child && f (named q new k)) xs
-any_named q new f xs = any_map (named q new) f (filter (λ (k : Pair). q.counts k.child) xs) ∙ any_filter (λ (k : Pair). q.counts k.child) (λ k. f (named q new k)) xs
+any_named : (q : Asked) (new : Bool) (f : Keyed → Bool) (xs : List Pair) → list_any f (map (keyed_by_name q new) (filter (λ (k : Pair). q.counts k.child) xs)) ≡ list_any (λ (k : Pair). q.counts k.child && f (keyed_by_name q new k)) xs
+any_named q new f xs = any_map (keyed_by_name q new) f (filter (λ (k : Pair). q.counts k.child) xs) ∙ any_filter (λ (k : Pair). q.counts k.child) (λ k. f (keyed_by_name q new k)) xs
 
-any_gathered : (q : Asked) (f : Keyed → Bool) (pairs old : List Pair) → list_any f (gathered q pairs old) ≡ (list_any (λ (k : Pair). q.counts k.child && f (named q true k)) pairs || list_any (λ (k : Pair). q.counts k.child && f (named q false k)) old)
-any_gathered q f pairs old = list_any-append f (map (named q true) (filter (λ (k : Pair). q.counts k.child) pairs)) (map (named q false) (filter (λ (k : Pair). q.counts k.child) old)) ∙ rw (any_named q true f pairs, any_named q false f old) refl
+any_gathered : (q : Asked) (f : Keyed → Bool) (pairs old : List Pair) → list_any f (gathered q pairs old) ≡ (list_any (λ (k : Pair). q.counts k.child && f (keyed_by_name q true k)) pairs || list_any (λ (k : Pair). q.counts k.child && f (keyed_by_name q false k)) old)
+any_gathered q f pairs old = list_any-append f (map (keyed_by_name q true) (filter (λ (k : Pair). q.counts k.child) pairs)) (map (keyed_by_name q false) (filter (λ (k : Pair). q.counts k.child) old)) ∙ rw (any_named q true f pairs, any_named q false f old) refl
 
 twins_gathered : (q : Asked) (a : Pair) (pairs old : List Pair) → list_any (λ (k : Keyed). is_twin_beside q a k.pair) (gathered q pairs old) ≡ list_any (is_twin_beside q a) (pairs ++ old)
 twins_gathered q a pairs old = any_gathered q (λ (k : Keyed). is_twin_beside q a k.pair) pairs old ∙ rw (absorbed (is_twin_beside q a) (λ (k : Pair). q.counts k.child) pairs (counts_of q a), absorbed (is_twin_beside q a) (λ (k : Pair). q.counts k.child) old (counts_of q a)) (sym (list_any-append (is_twin_beside q a) pairs old))
@@ -252,7 +252,7 @@ first_twins q g pairs old =
 
 -- they are keyed by their names
 gathered_keyed : (q : Asked) (pairs old : List Pair) → ArePairs pairs → AreKeyed q (name_key q) (gathered q pairs old)
-gathered_keyed q pairs old rows = any_gathered q (is_other q (name_key q)) pairs old ∙ rw (any_none (λ (k : Pair). q.counts k.child && is_other q (name_key q) (named q true k)) pairs no_pair new_known, never (λ (k : Pair). q.counts k.child && is_other q (name_key q) (named q false k)) old old_known) refl
+gathered_keyed q pairs old rows = any_gathered q (is_other q (name_key q)) pairs old ∙ rw (any_none (λ (k : Pair). q.counts k.child && is_other q (name_key q) (keyed_by_name q true k)) pairs no_pair new_known, never (λ (k : Pair). q.counts k.child && is_other q (name_key q) (keyed_by_name q false k)) old old_known) refl
   where
     right_of : (a b : Bool) → (a && b) ≡ true → b ≡ true
     right_of true b h = h
@@ -262,10 +262,10 @@ gathered_keyed q pairs old rows = any_gathered q (is_other q (name_key q)) pairs
     counted true s r e f = rw (e, f) refl
     counted false s r e f = refl
 
-    old_known : (k : Pair) → (q.counts k.child && is_other q (name_key q) (named q false k)) ≡ false
+    old_known : (k : Pair) → (q.counts k.child && is_other q (name_key q) (keyed_by_name q false k)) ≡ false
     old_known k = counted (q.counts k.child) (name_key q k == name_key q k) true (equal_is (name_key q k) (name_key q k) refl) refl
 
-    new_known : (i : ℕ) → i < length pairs → (q.counts (get_or pairs i no_pair).child && is_other q (name_key q) (named q true (get_or pairs i no_pair))) ≡ false
+    new_known : (i : ℕ) → i < length pairs → (q.counts (get_or pairs i no_pair).child && is_other q (name_key q) (keyed_by_name q true (get_or pairs i no_pair))) ≡ false
     new_known i l =
         let k = get_or pairs i no_pair in
         counted (q.counts k.child) (name_key q k == name_key q k) (nat_lt k.child.row 0x1000000) (equal_is (name_key q k) (name_key q k) refl) (right_of (nat_lt k.owner.row 0x1000000) (nat_lt k.child.row 0x1000000) (all_at (λ (k : Pair). nat_lt k.owner.row 0x1000000 && nat_lt k.child.row 0x1000000) pairs i no_pair rows l))
@@ -408,11 +408,11 @@ pub near_none : (q : Asked) (keys : Token → ℕ) (entries : List Keyed) → ne
 unfolding near_told
 near_none q keys entries = refl
 
-pub near_more : (q : Asked) (keys : Token → ℕ) (entries : List Keyed) (n : ℕ) → is_near entries n ≡ true → near_told q keys entries (n + 1) ≡ near_told q keys entries n ++ told q keys (keyed_at entries n) ∷ []
+pub near_more : (q : Asked) (keys : Token → ℕ) (entries : List Keyed) (n : ℕ) → has_neighbour entries n ≡ true → near_told q keys entries (n + 1) ≡ near_told q keys entries n ++ keyed_by_signature q keys (keyed_at entries n) ∷ []
 unfolding near_told
 near_more q keys entries n near = let e : n + 1 ≡ suc n = omega arith in rw (e, near) refl
 
-pub near_past : (q : Asked) (keys : Token → ℕ) (entries : List Keyed) (n : ℕ) → is_near entries n ≡ false → near_told q keys entries (n + 1) ≡ near_told q keys entries n
+pub near_past : (q : Asked) (keys : Token → ℕ) (entries : List Keyed) (n : ℕ) → has_neighbour entries n ≡ false → near_told q keys entries (n + 1) ≡ near_told q keys entries n
 unfolding near_told
 near_past q keys entries n near = let e : n + 1 ≡ suc n = omega arith in rw (e, near) (append-nil _)
 

@@ -1,5 +1,5 @@
 -- The first of a list of rules is the first of its parts.
-use Rattle.std.proofs.Common.{◌≡◌, ℕ, List, [], ◌∷◌, ◌++◌, Option, Some, None, refl, sym, ap, ◌∙◌}
+use Rattle.std.proofs.Common.{◌≡◌, ℕ, List, [], ◌∷◌, ◌++◌, Option, Some, None, refl, ap, ◌∙◌}
 use Rattle.std.specs.Prelude.{take, drop}
 use Rattle.enc_base.specs.Order.{or_else}
 use Rattle.enc_base.specs.declared.refusal.Refusal.{Refusal}

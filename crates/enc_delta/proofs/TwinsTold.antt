@@ -5,23 +5,21 @@ use Rattle.std.specs.List.{list_any}
 use Rattle.std.proofs.lemmas.Bool.Decides.{nat_tests}
 use Rattle.std.proofs.lemmas.List.{map-append, append-nil}
 use Rattle.std.proofs.lemmas.List.Elements.{filter_more}
-use Rattle.std.proofs.lemmas.List.Folds.{list_any-append, list_any_at, list_all_more}
+use Rattle.std.proofs.lemmas.List.Folds.{list_all_more}
 use Rattle.std.proofs.lemmas.Option.{slice_get_past}
 use Rattle.std.proofs.lemmas.Slice.Eq.{bytes_eq-Decides}
 use Rattle.enc_base.specs.Token.{number_of}
 use Rattle.enc_base.specs.declared.token.Token.{Token}
-use Rattle.enc_schema.specs.Schema.{list_at}
 use Rattle.enc_schema.specs.Children.{is_child_table, owner_table}
 use Rattle.enc_plain.specs.Module.{Module, Row, row_at, row_of, rows_in, has_row, kids_of, kids_with}
-use Rattle.enc_plain.specs.Apply.{Attached, gained}
+use Rattle.enc_plain.specs.Apply.{Attached}
 use Rattle.enc_plain.proofs.Columns.{both_left, both_right}
 use Rattle.enc_delta.specs.declared.pairs.Pair.{Pair}
-use Rattle.enc_delta.specs.Rules.{least, lesser, at_token}
-use Rattle.enc_delta.specs.Twins.{Asked, members, is_twin, has_twin, twin_fault}
-use Rattle.enc_delta.specs.Members.{pair_seen, is_beside, old_rows, row_passes, is_twin_row, is_twin_beside, AreAdded, AreOld, AreChildren}
-use Rattle.enc_delta.proofs.ListsChanged.{all_at}
-use Rattle.enc_delta.proofs.ListsChildren.{two, equal_is}
-use Rattle.enc_delta.proofs.MembersBeside.{no_pair, any_same, any_gained, owner_same, table_same, beside_itself}
+use Rattle.enc_delta.specs.Rules.{least, lesser}
+use Rattle.enc_delta.specs.Twins.{Asked, is_twin}
+use Rattle.enc_delta.specs.Members.{pair_seen, is_beside, old_rows, AreAdded, AreOld, AreChildren}
+use Rattle.enc_delta.proofs.ListsChildren.{two}
+use Rattle.enc_delta.proofs.MembersBeside.{no_pair, any_same, table_same}
 
 -- what is no row has no children
 row_none : (rows : List Row) (r : ℕ) → (nat_lt 0 r && nat_le r (length rows)) ≡ false → row_at rows r ≡ None

@@ -61,12 +61,12 @@ unfoldable pub twin_key : Asked → (Token → ℕ) → Pair → ℕ
 twin_key q keys k = mixed_ends 0x800 (mixed_long (owner_key k) (keys k.child)) (q.name k.child)
 
 -- a member by its name's key
-abbrev pub named : Asked → Bool → Pair → Keyed
-named q is_new k = record { key = name_key q k; pair = k; is_new = is_new }
+abbrev pub keyed_by_name : Asked → Bool → Pair → Keyed
+keyed_by_name q is_new k = record { key = name_key q k; pair = k; is_new = is_new }
 
 -- a member by a key of its signature too
-abbrev pub told : Asked → (Token → ℕ) → Keyed → Keyed
-told q keys e = record { key = twin_key q keys e.pair; pair = e.pair; is_new = e.is_new }
+abbrev pub keyed_by_signature : Asked → (Token → ℕ) → Keyed → Keyed
+keyed_by_signature q keys e = record { key = twin_key q keys e.pair; pair = e.pair; is_new = e.is_new }
 
 abbrev pub no_keyed : Keyed
 no_keyed = record { key = 0; pair = record { owner = record { table = 0; row = 0 }; child = record { table = 0; row = 0 } }; is_new = false }
@@ -76,15 +76,15 @@ abbrev pub keyed_at : List Keyed → ℕ → Keyed
 keyed_at entries k = slice_index_or entries k no_keyed
 
 -- the one before or the one behind has the same key
-unfoldable pub is_near : List Keyed → ℕ → Bool
-is_near entries k =
+unfoldable pub has_neighbour : List Keyed → ℕ → Bool
+has_neighbour entries k =
     nat_lt 0 k && (keyed_at entries (k - 1)).key == (keyed_at entries k).key
     || nat_lt (k + 1) (length entries) && (keyed_at entries (k + 1)).key == (keyed_at entries k).key
 
 -- of the first n members those whose neighbour has the same key, told by their signatures too
 unfoldable pub near_told : Asked → (Token → ℕ) → List Keyed → ℕ → List Keyed
 near_told q keys entries zero = []
-near_told q keys entries (suc n) = near_told q keys entries n ++ (if is_near entries n then told q keys (keyed_at entries n) ∷ [] else [])
+near_told q keys entries (suc n) = near_told q keys entries n ++ (if has_neighbour entries n then keyed_by_signature q keys (keyed_at entries n) ∷ [] else [])
 
 -- the member doesn't count, or has another key than its pair, or is new and past the rows that there can be
 abbrev pub is_other : Asked → (Pair → ℕ) → Keyed → Bool

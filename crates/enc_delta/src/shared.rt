@@ -2,7 +2,7 @@
 //! compared.
 ghost use Rattle.std.specs.Prelude.{◌≡◌, ◌<◌, ◌++◌, map, filter, length, IsTrue, IfOk};
 ghost use Rattle.std.specs.List.Sorted.{IsNonDecreasingBy};
-ghost use Rattle.enc_delta.specs.Members.{owner_key, name_key, twin_key, named, told, is_near, near_told, is_other, AreKeyed, AreChildren, AreSame};
+ghost use Rattle.enc_delta.specs.Members.{owner_key, name_key, twin_key, keyed_by_name, keyed_by_signature, has_neighbour, near_told, is_other, AreKeyed, AreChildren, AreSame};
 
 use crate::pairs::Pair;
 use crate::twins::Members;
@@ -53,7 +53,7 @@ pub fn add_named<M: Members>(
     pairs: &[Pair],
     is_new: bool,
 ) -> Result<(), AllocError>
-    ensures named { IfOk result (λ _. entries.new.items ≡ entries.old.items ++ map (named (M.asked members.now) is_new) (filter (λ (k : Pair). (M.asked members.now).counts k.child) pairs.now)) }
+    ensures named { IfOk result (λ _. entries.new.items ≡ entries.old.items ++ map (keyed_by_name (M.asked members.now) is_new) (filter (λ (k : Pair). (M.asked members.now).counts k.child) pairs.now)) }
     ensures children { IfOk result (λ _. AreChildren (M.asked members.now) pairs.now) }
 {
     for k in 0..pairs.len() {
@@ -79,10 +79,10 @@ pub fn sorted(mut entries: Vec<Keyed>) -> Vec<Keyed>
 }
 
 /// Whether the member before one or the one behind it has the same number.
-#[tactic(auto, unfolding(crate::specs::Members::is_near))]
-fn is_near(entries: &[Keyed], k: usize) -> bool
+#[tactic(auto, unfolding(crate::specs::Members::has_neighbour))]
+fn has_neighbour(entries: &[Keyed], k: usize) -> bool
     requires { k < length entries.now }
-    ensures { result ≡ is_near entries.now k }
+    ensures { result ≡ has_neighbour entries.now k }
 {
     let key = entries[k].key;
     0 < k && entries[k - 1].key == key || k + 1 < entries.len() && entries[k + 1].key == key
@@ -100,7 +100,7 @@ pub fn shared<M: Members>(
     let mut kept = Vec::new(alloc);
     for k in 0..entries.len() {
         let entry = entries[k];
-        if is_near(entries, k) {
+        if has_neighbour(entries, k) {
             kept.push(Keyed {
                 key: twin_key(members, entry.pair),
                 pair: entry.pair,

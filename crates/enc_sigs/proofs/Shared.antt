@@ -14,7 +14,7 @@ use Rattle.enc_sigs.specs.Grammar.{byte_in, numeral_in, token_in, is_coded, form
 use Rattle.enc_base.specs.Readers.{Reader, number_in}
 use Rattle.enc_sigs.specs.Agree.{tokens_agree}
 use Rattle.enc_sigs.specs.Walk.{Walk, paired, both_numbers, alike, alike_alone, onward, upon_alike, token_walk, many_walk, counted_walk, numerals_walk, array_walk, modified_walk, instance_walk, marked_walk, params_walk, parts_walk, calling_walk, method_walk, accessed_walk, formed_walk, elem_walk, type_walk, front_walk, both_end}
-use Rattle.enc_sigs.specs.Shape.{Shape, followed, number_shape, upon_shape, token_shape, many_shape, counted_shape, numerals_shape, array_shape, modified_shape, instance_shape, marked_shape, params_shape, parts_shape, calling_shape, method_shape, formed_shape, elem_shape, type_shape, accessed_shape, front_shape, mixed_of, sig_shape, AlikeHaveOneShape}
+use Rattle.enc_sigs.specs.Shape.{Shaping, in_turn, number_shape, upon_shape, token_shape, many_shape, counted_shape, numerals_shape, array_shape, modified_shape, instance_shape, marked_shape, params_shape, parts_shape, calling_shape, method_shape, formed_shape, elem_shape, type_shape, accessed_shape, front_shape, mixed_of, sig_shape, AlikeHaveOneShape}
 use Rattle.enc_sigs.specs.Mix.{mixed, mixed_long}
 use Rattle.enc_sigs.proofs.Agreed.{sigs_agreed}
 
@@ -22,25 +22,25 @@ use Rattle.enc_sigs.proofs.Agreed.{sigs_agreed}
 abbrev pub IsShared : Option (ℕ × List ℕ) → Option (ℕ × List ℕ) → List ℕ × List ℕ → Type 0
 IsShared o u x = (k : ℕ) × (o ≡ Some (k, x.0)) × (u ≡ Some (k, x.1))
 
-abbrev pub Shares : Walk → Shape → Type 0
+abbrev pub Shares : Walk → Shaping → Type 0
 Shares walk shape = (h : ℕ) (a b : List ℕ) (x : List ℕ × List ℕ) → walk a b ≡ Some x → IsShared (shape h a) (shape h b) x
 
 some_is : {A : Type 0} (x y : A) → Some x ≡ Some y → x ≡ y
 some_is x y e = ap (λ o. unwrap_or o x) e
 
 -- one thing, and another behind it
-onward_by : (p q : Walk) (s t : Shape) (h : ℕ) (a b : List ℕ) (y : List ℕ × List ℕ) (o : Option (List ℕ × List ℕ)) → Shares p s → Shares q t → p a b ≡ o → option_and_then {T = List ℕ × List ℕ} (λ x. q x.0 x.1) o ≡ Some y → IsShared (followed s t h a) (followed s t h b) y
+onward_by : (p q : Walk) (s t : Shaping) (h : ℕ) (a b : List ℕ) (y : List ℕ × List ℕ) (o : Option (List ℕ × List ℕ)) → Shares p s → Shares q t → p a b ≡ o → option_and_then {T = List ℕ × List ℕ} (λ x. q x.0 x.1) o ≡ Some y → IsShared (in_turn s t h a) (in_turn s t h b) y
 onward_by p q s t h a b y None first second is e = absurd (cc)
 onward_by p q s t h a b y (Some x) first second is e =
     let f = first h a b x is in
     let g = second f.0 x.0 x.1 y e in
     (g.0, rw f.1 g.1, rw f.2 g.2)
 
-onward_shares : (p q : Walk) (s t : Shape) → Shares p s → Shares q t → Shares (onward p q) (followed s t)
+onward_shares : (p q : Walk) (s t : Shaping) → Shares p s → Shares q t → Shares (onward p q) (in_turn s t)
 onward_shares p q s t first second h a b y e = onward_by p q s t h a b y (p a b) first second refl e
 
 -- two things that are read, where they agree
-abbrev mixing : {A : Type 0} → (ℕ → A → ℕ) → Reader A → Shape
+abbrev mixing : {A : Type 0} → (ℕ → A → ℕ) → Reader A → Shaping
 mixing {A} mix r h bytes = option_map (λ (p : A × List ℕ). (mix h p.0, p.1)) (r bytes)
 
 agree_by : {A : Type 0} (agree : A → A → Bool) (mix : ℕ → A → ℕ) (h : ℕ) (p q : A × List ℕ) (x : List ℕ × List ℕ) (t : Bool) → (agree p.0 q.0 ≡ true → mix h p.0 ≡ mix h q.0) → agree p.0 q.0 ≡ t → (if t then Some (p.1, q.1) else None) ≡ Some x → IsShared (Some (mix h p.0, p.1)) (Some (mix h q.0, q.1)) x
@@ -97,16 +97,16 @@ unfolding token_walk token_shape
 token_shares same key one h a b x e = paired_by (tokens_agree same) (λ h t. mixed_long h (key t)) h (token_in is_coded a) (token_in is_coded b) x (λ t u is. ap (mixed_long h) (agreed_key same key t u one is)) e
 
 -- a number, and what depends on it
-upon_tests : (walk : ℕ → Walk) (shape : ℕ → Shape) (h : ℕ) (p q : ℕ × List ℕ) (x : List ℕ × List ℕ) (t : Bool) → ((n : ℕ) → Shares (walk n) (shape n)) → p.0 == q.0 ≡ t → option_and_then {T = ℕ × (List ℕ × List ℕ)} (λ y. walk y.0 y.1.0 y.1.1) (if t then Some (p.0, (p.1, q.1)) else None) ≡ Some x → IsShared (shape p.0 (mixed h p.0) p.1) (shape q.0 (mixed h q.0) q.1) x
+upon_tests : (walk : ℕ → Walk) (shape : ℕ → Shaping) (h : ℕ) (p q : ℕ × List ℕ) (x : List ℕ × List ℕ) (t : Bool) → ((n : ℕ) → Shares (walk n) (shape n)) → p.0 == q.0 ≡ t → option_and_then {T = ℕ × (List ℕ × List ℕ)} (λ y. walk y.0 y.1.0 y.1.1) (if t then Some (p.0, (p.1, q.1)) else None) ≡ Some x → IsShared (shape p.0 (mixed h p.0) p.1) (shape q.0 (mixed h q.0) q.1) x
 upon_tests walk shape h p q x false step is e = absurd (cc)
 upon_tests walk shape h p q x true step is e = subst (λ n. IsShared (shape p.0 (mixed h p.0) p.1) (shape n (mixed h n) q.1) x) (eqb-true p.0 q.0 is) (step p.0 (mixed h p.0) p.1 q.1 x e)
 
-upon_by : (walk : ℕ → Walk) (shape : ℕ → Shape) (h : ℕ) (o u : Option (ℕ × List ℕ)) (x : List ℕ × List ℕ) → ((n : ℕ) → Shares (walk n) (shape n)) → option_and_then {T = ℕ × (List ℕ × List ℕ)} (λ y. walk y.0 y.1.0 y.1.1) (both_numbers o u) ≡ Some x → IsShared (option_and_then {T = ℕ × List ℕ} (λ p. shape p.0 (mixed h p.0) p.1) o) (option_and_then {T = ℕ × List ℕ} (λ p. shape p.0 (mixed h p.0) p.1) u) x
+upon_by : (walk : ℕ → Walk) (shape : ℕ → Shaping) (h : ℕ) (o u : Option (ℕ × List ℕ)) (x : List ℕ × List ℕ) → ((n : ℕ) → Shares (walk n) (shape n)) → option_and_then {T = ℕ × (List ℕ × List ℕ)} (λ y. walk y.0 y.1.0 y.1.1) (both_numbers o u) ≡ Some x → IsShared (option_and_then {T = ℕ × List ℕ} (λ p. shape p.0 (mixed h p.0) p.1) o) (option_and_then {T = ℕ × List ℕ} (λ p. shape p.0 (mixed h p.0) p.1) u) x
 upon_by walk shape h None u x step e = absurd (cc)
 upon_by walk shape h (Some p) None x step e = absurd (cc)
 upon_by walk shape h (Some p) (Some q) x step e = upon_tests walk shape h p q x (p.0 == q.0) step refl e
 
-upon_shares : (r : Reader ℕ) (walk : ℕ → Walk) (shape : ℕ → Shape) → ((n : ℕ) → Shares (walk n) (shape n)) → Shares (upon_alike r walk) (upon_shape r shape)
+upon_shares : (r : Reader ℕ) (walk : ℕ → Walk) (shape : ℕ → Shaping) → ((n : ℕ) → Shares (walk n) (shape n)) → Shares (upon_alike r walk) (upon_shape r shape)
 unfolding alike
 upon_shares r walk shape step h a b x e = upon_by walk shape h (r a) (r b) x step e
 
@@ -114,12 +114,12 @@ upon_shares r walk shape step h a b x e = upon_by walk shape h (r a) (r b) x ste
 same_shares : Shares (λ a b. Some (a, b)) (λ h a. Some (h, a))
 same_shares h a b x e = let f : (a, b) ≡ x = some_is (a, b) x e in (h, ap (λ (y : List ℕ × List ℕ). Some (h, y.0)) f, ap (λ (y : List ℕ × List ℕ). Some (h, y.1)) f)
 
-many_shares : (one : Walk) (s : Shape) (n : ℕ) → Shares one s → Shares (many_walk one n) (many_shape s n)
+many_shares : (one : Walk) (s : Shaping) (n : ℕ) → Shares one s → Shares (many_walk one n) (many_shape s n)
 unfolding many_walk many_shape
 many_shares one s zero step = same_shares
 many_shares one s (suc n) step = onward_shares one (many_walk one n) s (many_shape s n) step (many_shares one s n step)
 
-counted_shares : (one : Walk) (s : Shape) → Shares one s → Shares (counted_walk one) (counted_shape s)
+counted_shares : (one : Walk) (s : Shaping) → Shares one s → Shares (counted_walk one) (counted_shape s)
 unfolding counted_walk counted_shape
 counted_shares one s step = upon_shares number_in (many_walk one) (many_shape s) (λ n. many_shares one s n step)
 
@@ -127,61 +127,61 @@ numerals_shares : (kind : Numeral) → Shares (numerals_walk kind) (numerals_sha
 unfolding numerals_walk numerals_shape
 numerals_shares kind = counted_shares (alike_alone (numeral_in kind)) (number_shape (numeral_in kind)) (number_shares (numeral_in kind))
 
-array_shares : (one : Walk) (s : Shape) → Shares one s → Shares (array_walk one) (array_shape s)
+array_shares : (one : Walk) (s : Shaping) → Shares one s → Shares (array_walk one) (array_shape s)
 unfolding array_walk array_shape
 array_shares one s step =
-    onward_shares one (onward (alike_alone number_in) (onward (numerals_walk Size) (numerals_walk Bound))) s (followed (number_shape number_in) (followed (numerals_shape Size) (numerals_shape Bound))) step
-    (onward_shares (alike_alone number_in) (onward (numerals_walk Size) (numerals_walk Bound)) (number_shape number_in) (followed (numerals_shape Size) (numerals_shape Bound)) (number_shares number_in)
+    onward_shares one (onward (alike_alone number_in) (onward (numerals_walk Size) (numerals_walk Bound))) s (in_turn (number_shape number_in) (in_turn (numerals_shape Size) (numerals_shape Bound))) step
+    (onward_shares (alike_alone number_in) (onward (numerals_walk Size) (numerals_walk Bound)) (number_shape number_in) (in_turn (numerals_shape Size) (numerals_shape Bound)) (number_shares number_in)
     (onward_shares (numerals_walk Size) (numerals_walk Bound) (numerals_shape Size) (numerals_shape Bound) (numerals_shares Size) (numerals_shares Bound)))
 
-modified_shares : (same : Token → Token → Bool) (key : Token → ℕ) (one : Walk) (s : Shape) → HaveOneKey same key → Shares one s → Shares (modified_walk same one) (modified_shape key s)
+modified_shares : (same : Token → Token → Bool) (key : Token → ℕ) (one : Walk) (s : Shaping) → HaveOneKey same key → Shares one s → Shares (modified_walk same one) (modified_shape key s)
 unfolding modified_walk modified_shape
 modified_shares same key one s keys step = onward_shares (token_walk same) one (token_shape key) s (token_shares same key keys) step
 
-instance_shares : (same : Token → Token → Bool) (key : Token → ℕ) (one : Walk) (s : Shape) → HaveOneKey same key → Shares one s → Shares (instance_walk same one) (instance_shape key s)
+instance_shares : (same : Token → Token → Bool) (key : Token → ℕ) (one : Walk) (s : Shaping) → HaveOneKey same key → Shares one s → Shares (instance_walk same one) (instance_shape key s)
 unfolding instance_walk instance_shape
 instance_shares same key one s keys step =
-    onward_shares (alike_alone (byte_in (λ c. c == 0x11 || c == 0x12))) (onward (token_walk same) (counted_walk one)) (number_shape (byte_in (λ c. c == 0x11 || c == 0x12))) (followed (token_shape key) (counted_shape s)) (number_shares (byte_in (λ c. c == 0x11 || c == 0x12)))
+    onward_shares (alike_alone (byte_in (λ c. c == 0x11 || c == 0x12))) (onward (token_walk same) (counted_walk one)) (number_shape (byte_in (λ c. c == 0x11 || c == 0x12))) (in_turn (token_shape key) (counted_shape s)) (number_shares (byte_in (λ c. c == 0x11 || c == 0x12)))
     (onward_shares (token_walk same) (counted_walk one) (token_shape key) (counted_shape s) (token_shares same key keys) (counted_shares one s step))
 
 -- nothing that has such a shape begins with a sentinel
-abbrev pub IsPlainShape : Shape → Type 0
+abbrev pub IsPlainShape : Shaping → Type 0
 IsPlainShape s = (h : ℕ) (bytes : List ℕ) (p : ℕ × List ℕ) → s h bytes ≡ Some p → begins 0x41 bytes ≡ false
 
-plain_first : (s t : Shape) (h : ℕ) (bytes : List ℕ) (p : ℕ × List ℕ) (o : Option (ℕ × List ℕ)) → IsPlainShape s → s h bytes ≡ o → option_and_then {T = ℕ × List ℕ} (λ x. t x.0 x.1) o ≡ Some p → begins 0x41 bytes ≡ false
+plain_first : (s t : Shaping) (h : ℕ) (bytes : List ℕ) (p : ℕ × List ℕ) (o : Option (ℕ × List ℕ)) → IsPlainShape s → s h bytes ≡ o → option_and_then {T = ℕ × List ℕ} (λ x. t x.0 x.1) o ≡ Some p → begins 0x41 bytes ≡ false
 plain_first s t h bytes p None plain is e = absurd (cc)
 plain_first s t h bytes p (Some x) plain is e = plain h bytes x is
 
-marked_by : (one : Walk) (s : Shape) (n h : ℕ) (a b : List ℕ) (x : List ℕ × List ℕ) (t : Bool) → Shares one s → begins 0x41 a ≡ true → begins 0x41 b ≡ t → (if t then onward one (many_walk one n) (drop 1 a) (drop 1 b) else None) ≡ Some x → IsShared (params_shape s (suc n) h a) (params_shape s (suc n) h b) x
+marked_by : (one : Walk) (s : Shaping) (n h : ℕ) (a b : List ℕ) (x : List ℕ × List ℕ) (t : Bool) → Shares one s → begins 0x41 a ≡ true → begins 0x41 b ≡ t → (if t then onward one (many_walk one n) (drop 1 a) (drop 1 b) else None) ≡ Some x → IsShared (params_shape s (suc n) h a) (params_shape s (suc n) h b) x
 unfolding params_shape marked_shape
 marked_by one s n h a b x false step first second e = absurd (cc)
 marked_by one s n h a b x true step first second e =
     let f = onward_shares one (many_walk one n) s (many_shape s n) step (many_shares one s n step) h (drop 1 a) (drop 1 b) x e in
     (f.0, rw first f.1, rw second f.2)
 
-plain_by : (one : Walk) (s : Shape) (n h : ℕ) (a b : List ℕ) (x : List ℕ × List ℕ) → IsPlainShape s → begins 0x41 a ≡ false → IsShared (followed s (params_shape s n) h a) (followed s (params_shape s n) h b) x → IsShared (params_shape s (suc n) h a) (params_shape s (suc n) h b) x
+plain_by : (one : Walk) (s : Shaping) (n h : ℕ) (a b : List ℕ) (x : List ℕ × List ℕ) → IsPlainShape s → begins 0x41 a ≡ false → IsShared (in_turn s (params_shape s n) h a) (in_turn s (params_shape s n) h b) x → IsShared (params_shape s (suc n) h a) (params_shape s (suc n) h b) x
 unfolding params_shape
 plain_by one s n h a b x plain first f =
     let second : begins 0x41 b ≡ false = plain_first s (params_shape s n) h b (f.0, x.1) (s h b) plain refl f.2 in
     (f.0, rw first f.1, rw second f.2)
 
-param_by : (one : Walk) (s : Shape) (n h : ℕ) (a b : List ℕ) (x : List ℕ × List ℕ) (t : Bool) → Shares one s → IsPlainShape s → Shares (params_walk one n) (params_shape s n) → begins 0x41 a ≡ t → (if t then marked_walk one n (drop 1 a) b else onward one (params_walk one n) a b) ≡ Some x → IsShared (params_shape s (suc n) h a) (params_shape s (suc n) h b) x
+param_by : (one : Walk) (s : Shaping) (n h : ℕ) (a b : List ℕ) (x : List ℕ × List ℕ) (t : Bool) → Shares one s → IsPlainShape s → Shares (params_walk one n) (params_shape s n) → begins 0x41 a ≡ t → (if t then marked_walk one n (drop 1 a) b else onward one (params_walk one n) a b) ≡ Some x → IsShared (params_shape s (suc n) h a) (params_shape s (suc n) h b) x
 unfolding marked_walk
 param_by one s n h a b x true step plain others is e = marked_by one s n h a b x (begins 0x41 b) step is refl e
 param_by one s n h a b x false step plain others is e = plain_by one s n h a b x plain is (onward_shares one (params_walk one n) s (params_shape s n) step others h a b x e)
 
-params_shares : (one : Walk) (s : Shape) (n : ℕ) → Shares one s → IsPlainShape s → Shares (params_walk one n) (params_shape s n)
+params_shares : (one : Walk) (s : Shaping) (n : ℕ) → Shares one s → IsPlainShape s → Shares (params_walk one n) (params_shape s n)
 unfolding params_walk params_shape
 params_shares one s zero step plain h a b x e = same_shares h a b x e
 params_shares one s (suc n) step plain h a b x e = param_by one s n h a b x (begins 0x41 a) step plain (params_shares one s n step plain) refl e
 
-method_shares : (one : Walk) (s : Shape) → Shares one s → IsPlainShape s → Shares (method_walk one) (method_shape s)
+method_shares : (one : Walk) (s : Shaping) → Shares one s → IsPlainShape s → Shares (method_walk one) (method_shape s)
 unfolding method_walk method_shape parts_walk parts_shape
 method_shares one s step plain =
-    onward_shares calling_walk (upon_alike number_in (λ n. onward one (params_walk one n))) calling_shape (upon_shape number_in (λ n. followed s (params_shape s n))) calling_shares
-    (upon_shares number_in (λ n. onward one (params_walk one n)) (λ n. followed s (params_shape s n)) (λ n. onward_shares one (params_walk one n) s (params_shape s n) step (params_shares one s n step plain)))
+    onward_shares calling_walk (upon_alike number_in (λ n. onward one (params_walk one n))) calling_shape (upon_shape number_in (λ n. in_turn s (params_shape s n))) calling_shares
+    (upon_shares number_in (λ n. onward one (params_walk one n)) (λ n. in_turn s (params_shape s n)) (λ n. onward_shares one (params_walk one n) s (params_shape s n) step (params_shares one s n step plain)))
 
-formed_shares : (same : Token → Token → Bool) (key : Token → ℕ) (f : Form) (one : Walk) (s : Shape) → HaveOneKey same key → Shares one s → IsPlainShape s → Shares (formed_walk same one f) (formed_shape key s f)
+formed_shares : (same : Token → Token → Bool) (key : Token → ℕ) (f : Form) (one : Walk) (s : Shaping) → HaveOneKey same key → Shares one s → IsPlainShape s → Shares (formed_walk same one f) (formed_shape key s f)
 unfolding formed_walk formed_shape
 formed_shares same key form.Bare one s keys step plain = same_shares
 formed_shares same key form.Wrapped one s keys step plain = step
@@ -192,7 +192,7 @@ formed_shares same key form.Array one s keys step plain = array_shares one s ste
 formed_shares same key form.Instance one s keys step plain = instance_shares same key one s keys step
 formed_shares same key form.Pointer one s keys step plain = method_shares one s step plain
 
-no_sentinel : (key : Token → ℕ) (s : Shape) (b h : ℕ) (rest : List ℕ) (p : ℕ × List ℕ) (t : Bool) → option_and_then {T = Form} (λ f. formed_shape key s f h rest) (form_of b) ≡ Some p → b == 0x41 ≡ t → t ≡ false
+no_sentinel : (key : Token → ℕ) (s : Shaping) (b h : ℕ) (rest : List ℕ) (p : ℕ × List ℕ) (t : Bool) → option_and_then {T = Form} (λ f. formed_shape key s f h rest) (form_of b) ≡ Some p → b == 0x41 ≡ t → t ≡ false
 unfolding form_of
 no_sentinel key s b h rest p false e f = refl
 no_sentinel key s b h rest p true e f =
@@ -205,11 +205,11 @@ elem_plain key zero h bytes p e = absurd (cc)
 elem_plain key (suc depth) h [] p e = absurd (cc)
 elem_plain key (suc depth) h (b ∷ rest) p e = no_sentinel key (elem_shape key depth) b (mixed h b) rest p (b == 0x41) e refl
 
-opened_shares : (same : Token → Token → Bool) (key : Token → ℕ) (o : Option Form) (one : Walk) (s : Shape) (h : ℕ) (a b : List ℕ) (x : List ℕ × List ℕ) → HaveOneKey same key → Shares one s → IsPlainShape s → option_and_then {T = Form} (λ f. formed_walk same one f a b) o ≡ Some x → IsShared (option_and_then {T = Form} (λ f. formed_shape key s f h a) o) (option_and_then {T = Form} (λ f. formed_shape key s f h b) o) x
+opened_shares : (same : Token → Token → Bool) (key : Token → ℕ) (o : Option Form) (one : Walk) (s : Shaping) (h : ℕ) (a b : List ℕ) (x : List ℕ × List ℕ) → HaveOneKey same key → Shares one s → IsPlainShape s → option_and_then {T = Form} (λ f. formed_walk same one f a b) o ≡ Some x → IsShared (option_and_then {T = Form} (λ f. formed_shape key s f h a) o) (option_and_then {T = Form} (λ f. formed_shape key s f h b) o) x
 opened_shares same key None one s h a b x keys step plain e = absurd (cc)
 opened_shares same key (Some f) one s h a b x keys step plain e = formed_shares same key f one s keys step plain h a b x e
 
-elem_tests : (same : Token → Token → Bool) (key : Token → ℕ) (one : Walk) (s : Shape) (h n m : ℕ) (a b : List ℕ) (x : List ℕ × List ℕ) (t : Bool) → HaveOneKey same key → Shares one s → IsPlainShape s → n == m ≡ t → (if t then option_and_then {T = Form} (λ f. formed_walk same one f a b) (form_of n) else None) ≡ Some x → IsShared (option_and_then {T = Form} (λ f. formed_shape key s f (mixed h n) a) (form_of n)) (option_and_then {T = Form} (λ f. formed_shape key s f (mixed h m) b) (form_of m)) x
+elem_tests : (same : Token → Token → Bool) (key : Token → ℕ) (one : Walk) (s : Shaping) (h n m : ℕ) (a b : List ℕ) (x : List ℕ × List ℕ) (t : Bool) → HaveOneKey same key → Shares one s → IsPlainShape s → n == m ≡ t → (if t then option_and_then {T = Form} (λ f. formed_walk same one f a b) (form_of n) else None) ≡ Some x → IsShared (option_and_then {T = Form} (λ f. formed_shape key s f (mixed h n) a) (form_of n)) (option_and_then {T = Form} (λ f. formed_shape key s f (mixed h m) b) (form_of m)) x
 elem_tests same key one s h n m a b x false keys step plain is e = absurd (cc)
 elem_tests same key one s h n m a b x true keys step plain is e =
     let P : ℕ → Type 0 = λ k. IsShared (option_and_then {T = Form} (λ f. formed_shape key s f (mixed h n) a) (form_of n)) (option_and_then {T = Form} (λ f. formed_shape key s f (mixed h k) b) (form_of k)) x in
@@ -230,12 +230,12 @@ type_plain : (key : Token → ℕ) → IsPlainShape (type_shape key)
 unfolding type_shape
 type_plain key = elem_plain key 100
 
-tagged_shares : (test : ℕ → Bool) (walk : Walk) (s : Shape) → Shares walk s → Shares (onward (alike_alone (byte_in test)) walk) (followed (number_shape (byte_in test)) s)
+tagged_shares : (test : ℕ → Bool) (walk : Walk) (s : Shaping) → Shares walk s → Shares (onward (alike_alone (byte_in test)) walk) (in_turn (number_shape (byte_in test)) s)
 tagged_shares test walk s step = onward_shares (alike_alone (byte_in test)) walk (number_shape (byte_in test)) s (number_shares (byte_in test)) step
 
-accessed_shares : (one : Walk) (s : Shape) → Shares one s → Shares (accessed_walk one) (accessed_shape s)
+accessed_shares : (one : Walk) (s : Shaping) → Shares one s → Shares (accessed_walk one) (accessed_shape s)
 unfolding accessed_walk accessed_shape
-accessed_shares one s step = upon_shares number_in (λ n. onward one (many_walk one n)) (λ n. followed s (many_shape s n)) (λ n. onward_shares one (many_walk one n) s (many_shape s n) step (many_shares one s n step))
+accessed_shares one s step = upon_shares number_in (λ n. onward one (many_walk one n)) (λ n. in_turn s (many_shape s n)) (λ n. onward_shares one (many_walk one n) s (many_shape s n) step (many_shares one s n step))
 
 front_shares : (same : Token → Token → Bool) (key : Token → ℕ) (kind : SigKind) → HaveOneKey same key → Shares (front_walk same kind) (front_shape key kind)
 unfolding front_walk front_shape

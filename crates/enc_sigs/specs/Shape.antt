@@ -13,73 +13,73 @@ use Rattle.enc_sigs.specs.Agree.{sigs_agree}
 use Rattle.enc_sigs.specs.Mix.{mixed, mixed_long}
 
 -- what mixes something at the front into a number, and gives what is behind it too
-abbrev pub Shape : Type 0
-Shape = ℕ → List ℕ → Option (ℕ × List ℕ)
+abbrev pub Shaping : Type 0
+Shaping = ℕ → List ℕ → Option (ℕ × List ℕ)
 
 -- one thing, and another behind it
-abbrev pub followed : Shape → Shape → Shape
-followed p q h bytes = option_and_then (λ (x : ℕ × List ℕ). q x.0 x.1) (p h bytes)
+abbrev pub in_turn : Shaping → Shaping → Shaping
+in_turn p q h bytes = option_and_then (λ (x : ℕ × List ℕ). q x.0 x.1) (p h bytes)
 
 -- a number
-unfoldable pub number_shape : Reader ℕ → Shape
+unfoldable pub number_shape : Reader ℕ → Shaping
 number_shape r h bytes = option_map (λ (p : ℕ × List ℕ). (mixed h p.0, p.1)) (r bytes)
 
 -- a number, and behind it what depends on it
-abbrev pub upon_shape : Reader ℕ → (ℕ → Shape) → Shape
+abbrev pub upon_shape : Reader ℕ → (ℕ → Shaping) → Shaping
 upon_shape r shape h bytes = option_and_then (λ (p : ℕ × List ℕ). shape p.0 (mixed h p.0) p.1) (r bytes)
 
 -- a token, by its key
-unfoldable pub token_shape : (Token → ℕ) → Shape
+unfoldable pub token_shape : (Token → ℕ) → Shaping
 token_shape key h bytes = option_map (λ (p : Token × List ℕ). (mixed_long h (key p.0), p.1)) (token_in is_coded bytes)
 
 -- so many
-unfoldable pub many_shape : Shape → ℕ → Shape
+unfoldable pub many_shape : Shaping → ℕ → Shaping
 many_shape one zero h bytes = Some (h, bytes)
-many_shape one (suc n) h bytes = followed one (many_shape one n) h bytes
+many_shape one (suc n) h bytes = in_turn one (many_shape one n) h bytes
 
 -- a count and so many
-unfoldable pub counted_shape : Shape → Shape
+unfoldable pub counted_shape : Shaping → Shaping
 counted_shape one = upon_shape number_in (many_shape one)
 
 -- a count and so many sizes or lower bounds
-unfoldable pub numerals_shape : Numeral → Shape
+unfoldable pub numerals_shape : Numeral → Shaping
 numerals_shape kind = counted_shape (number_shape (numeral_in kind))
 
 -- arrays (II.23.2.13)
-unfoldable pub array_shape : Shape → Shape
-array_shape one = followed one (followed (number_shape number_in) (followed (numerals_shape Size) (numerals_shape Bound)))
+unfoldable pub array_shape : Shaping → Shaping
+array_shape one = in_turn one (in_turn (number_shape number_in) (in_turn (numerals_shape Size) (numerals_shape Bound)))
 
 -- modified types (II.23.2.7)
-unfoldable pub modified_shape : (Token → ℕ) → Shape → Shape
-modified_shape key one = followed (token_shape key) one
+unfoldable pub modified_shape : (Token → ℕ) → Shaping → Shaping
+modified_shape key one = in_turn (token_shape key) one
 
 -- generic instances (II.23.2.12)
-unfoldable pub instance_shape : (Token → ℕ) → Shape → Shape
-instance_shape key one = followed (number_shape (byte_in (λ c. c == 0x11 || c == 0x12))) (followed (token_shape key) (counted_shape one))
+unfoldable pub instance_shape : (Token → ℕ) → Shaping → Shaping
+instance_shape key one = in_turn (number_shape (byte_in (λ c. c == 0x11 || c == 0x12))) (in_turn (token_shape key) (counted_shape one))
 
 -- the parameter behind a sentinel, and so many more
-unfoldable pub marked_shape : Shape → ℕ → Shape
-marked_shape one n = followed one (many_shape one n)
+unfoldable pub marked_shape : Shaping → ℕ → Shaping
+marked_shape one n = in_turn one (many_shape one n)
 
 -- so many parameters
-unfoldable pub params_shape : Shape → ℕ → Shape
+unfoldable pub params_shape : Shaping → ℕ → Shaping
 params_shape one zero h bytes = Some (h, bytes)
-params_shape one (suc n) h bytes = if begins 0x41 bytes then marked_shape one n h (drop 1 bytes) else followed one (params_shape one n) h bytes
+params_shape one (suc n) h bytes = if begins 0x41 bytes then marked_shape one n h (drop 1 bytes) else in_turn one (params_shape one n) h bytes
 
 -- the count of parameters, the return type, the parameters (II.23.2.1)
-unfoldable pub parts_shape : Shape → Shape
-parts_shape one = upon_shape number_in (λ n. followed one (params_shape one n))
+unfoldable pub parts_shape : Shaping → Shaping
+parts_shape one = upon_shape number_in (λ n. in_turn one (params_shape one n))
 
 -- first bytes of methods and counts of generic parameters (II.23.2.1)
-unfoldable pub calling_shape : Shape
+unfoldable pub calling_shape : Shaping
 calling_shape h bytes = option_map (λ (p : (ℕ × ℕ) × List ℕ). (mixed (mixed h p.0.0) p.0.1, p.1)) (calling_in bytes)
 
 -- signatures of methods
-unfoldable pub method_shape : Shape → Shape
-method_shape one = followed calling_shape (parts_shape one)
+unfoldable pub method_shape : Shaping → Shaping
+method_shape one = in_turn calling_shape (parts_shape one)
 
 -- what follows a first byte of each form (II.23.2.12)
-unfoldable pub formed_shape : (Token → ℕ) → Shape → Form → Shape
+unfoldable pub formed_shape : (Token → ℕ) → Shaping → Form → Shaping
 formed_shape key one form.Bare = λ h bytes. Some (h, bytes)
 formed_shape key one form.Wrapped = one
 formed_shape key one form.Named = token_shape key
@@ -90,27 +90,27 @@ formed_shape key one form.Instance = instance_shape key one
 formed_shape key one form.Pointer = method_shape one
 
 -- types, where types stand in one another at most so deep
-unfoldable pub elem_shape : (Token → ℕ) → ℕ → Shape
+unfoldable pub elem_shape : (Token → ℕ) → ℕ → Shaping
 elem_shape key zero h bytes = None
 elem_shape key (suc depth) h [] = None
 elem_shape key (suc depth) h (b ∷ rest) = option_and_then (λ f. formed_shape key (elem_shape key depth) f (mixed h b) rest) (form_of b)
 
 -- types of the greatest depth that is allowed
-unfoldable pub type_shape : (Token → ℕ) → Shape
+unfoldable pub type_shape : (Token → ℕ) → Shaping
 type_shape key = elem_shape key 100
 
 -- the count of parameters, the type, the parameters (II.23.2.5)
-unfoldable pub accessed_shape : Shape → Shape
-accessed_shape one = upon_shape number_in (λ n. followed one (many_shape one n))
+unfoldable pub accessed_shape : Shaping → Shaping
+accessed_shape one = upon_shape number_in (λ n. in_turn one (many_shape one n))
 
 -- signatures of each kind
-unfoldable pub front_shape : (Token → ℕ) → SigKind → Shape
+unfoldable pub front_shape : (Token → ℕ) → SigKind → Shaping
 front_shape key Method = method_shape (type_shape key)
-front_shape key Field = followed (number_shape (byte_in (λ b. b == 0x06))) (type_shape key)
-front_shape key Locals = followed (number_shape (byte_in (λ b. b == 0x07))) (counted_shape (type_shape key))
-front_shape key Property = followed (number_shape (byte_in (λ b. b == 0x08 || b == 0x28))) (accessed_shape (type_shape key))
+front_shape key Field = in_turn (number_shape (byte_in (λ b. b == 0x06))) (type_shape key)
+front_shape key Locals = in_turn (number_shape (byte_in (λ b. b == 0x07))) (counted_shape (type_shape key))
+front_shape key Property = in_turn (number_shape (byte_in (λ b. b == 0x08 || b == 0x28))) (accessed_shape (type_shape key))
 front_shape key TypeSpec = type_shape key
-front_shape key MethodSpec = followed (number_shape (byte_in (λ b. b == 0x0A))) (counted_shape (type_shape key))
+front_shape key MethodSpec = in_turn (number_shape (byte_in (λ b. b == 0x0A))) (counted_shape (type_shape key))
 
 -- what is mixed in the end, 0 where nothing is read
 abbrev pub mixed_of : Option (ℕ × List ℕ) → ℕ
@@ -122,8 +122,8 @@ unfoldable pub sig_shape : (Token → ℕ) → SigKind → List ℕ → ℕ
 sig_shape key kind bytes = mixed_of (front_shape key kind 0 bytes)
 
 -- a call answers what the function says
-abbrev pub Answers : (Token → ℕ → Type 0) → (Token → ℕ) → Type 0
-Answers post key = (t : Token) (n : ℕ) → post t n → n ≡ key t
+abbrev pub GivesKeys : (Token → ℕ → Type 0) → (Token → ℕ) → Type 0
+GivesKeys post key = (t : Token) (n : ℕ) → post t n → n ≡ key t
 
 -- signatures that are equal but for tokens of equal keys have one shape
 abbrev pub AlikeHaveOneShape : Type 0

@@ -3,7 +3,7 @@ ghost use Rattle.std.specs.Prelude.{◌≡◌, ℕ, suc, ◌==◌, ◌||◌, opt
 ghost use Rattle.enc_base.specs.declared.token.Token.{Token};
 ghost use Rattle.enc_base.specs.Readers.{number_in};
 ghost use Rattle.enc_sigs.specs.Grammar.{byte_in, numeral_in};
-ghost use Rattle.enc_sigs.specs.Shape.{number_shape, token_shape, many_shape, counted_shape, numerals_shape, array_shape, modified_shape, instance_shape, marked_shape, params_shape, parts_shape, calling_shape, method_shape, formed_shape, elem_shape, type_shape, accessed_shape, front_shape, mixed_of, sig_shape, Answers, AlikeHaveOneShape};
+ghost use Rattle.enc_sigs.specs.Shape.{number_shape, token_shape, many_shape, counted_shape, numerals_shape, array_shape, modified_shape, instance_shape, marked_shape, params_shape, parts_shape, calling_shape, method_shape, formed_shape, elem_shape, type_shape, accessed_shape, front_shape, mixed_of, sig_shape, GivesKeys, AlikeHaveOneShape};
 
 use crate::form::{Form, Numeral};
 use crate::held::behind_sentinel;
@@ -78,7 +78,7 @@ fn token_shape<'a, F: Fn(Token) -> u64>(
     key: &F,
 ) -> Option<(u64, &'a [u8])>
     requires { F.IsAlwaysCallable key.now }
-    ensures { (keys : Token → ℕ) → Answers (F.post key.now) keys → option_map (λ x. (x.0, x.1.now)) result ≡ token_shape keys hash bytes.now }
+    ensures { (keys : Token → ℕ) → GivesKeys (F.post key.now) keys → option_map (λ x. (x.0, x.1.now)) result ≡ token_shape keys hash bytes.now }
 {
     let (token, rest) = coded_token(bytes)?;
     Some((mixed_long(hash, key(token)), rest))
@@ -93,7 +93,7 @@ fn elem_shape<'a, F: Fn(Token) -> u64>(
     key: &F,
 ) -> Option<(u64, &'a [u8])>
     requires { F.IsAlwaysCallable key.now }
-    ensures { (keys : Token → ℕ) → Answers (F.post key.now) keys → option_map (λ x. (x.0, x.1.now)) result ≡ elem_shape keys depth hash bytes.now }
+    ensures { (keys : Token → ℕ) → GivesKeys (F.post key.now) keys → option_map (λ x. (x.0, x.1.now)) result ≡ elem_shape keys depth hash bytes.now }
 {
     if depth == 0 {
         return None;
@@ -111,7 +111,7 @@ fn opened_shape<'a, F: Fn(Token) -> u64>(
     key: &F,
 ) -> Option<(u64, &'a [u8])>
     requires { F.IsAlwaysCallable key.now }
-    ensures { (keys : Token → ℕ) → Answers (F.post key.now) keys → option_map (λ x. (x.0, x.1.now)) result ≡ elem_shape keys (suc depth) hash bytes.now }
+    ensures { (keys : Token → ℕ) → GivesKeys (F.post key.now) keys → option_map (λ x. (x.0, x.1.now)) result ≡ elem_shape keys (suc depth) hash bytes.now }
 {
     let [first, rest @ ..] = bytes else {
         return None;
@@ -131,7 +131,7 @@ fn formed_shape<'a, F: Fn(Token) -> u64>(
     key: &F,
 ) -> Option<(u64, &'a [u8])>
     requires { F.IsAlwaysCallable key.now }
-    ensures { (keys : Token → ℕ) → Answers (F.post key.now) keys → option_map (λ x. (x.0, x.1.now)) result ≡ formed_shape keys (elem_shape keys depth) form hash bytes.now }
+    ensures { (keys : Token → ℕ) → GivesKeys (F.post key.now) keys → option_map (λ x. (x.0, x.1.now)) result ≡ formed_shape keys (elem_shape keys depth) form hash bytes.now }
 {
     match form {
         Form::Bare => Some((hash, bytes)),
@@ -155,7 +155,7 @@ fn modified_shape<'a, F: Fn(Token) -> u64>(
     key: &F,
 ) -> Option<(u64, &'a [u8])>
     requires { F.IsAlwaysCallable key.now }
-    ensures { (keys : Token → ℕ) → Answers (F.post key.now) keys → option_map (λ x. (x.0, x.1.now)) result ≡ modified_shape keys (elem_shape keys depth) hash bytes.now }
+    ensures { (keys : Token → ℕ) → GivesKeys (F.post key.now) keys → option_map (λ x. (x.0, x.1.now)) result ≡ modified_shape keys (elem_shape keys depth) hash bytes.now }
 {
     let (hash, rest) = token_shape(hash, bytes, key)?;
     elem_shape(depth, hash, rest, key)
@@ -171,7 +171,7 @@ fn array_shape<'a, F: Fn(Token) -> u64>(
     key: &F,
 ) -> Option<(u64, &'a [u8])>
     requires { F.IsAlwaysCallable key.now }
-    ensures { (keys : Token → ℕ) → Answers (F.post key.now) keys → option_map (λ x. (x.0, x.1.now)) result ≡ array_shape (elem_shape keys depth) hash bytes.now }
+    ensures { (keys : Token → ℕ) → GivesKeys (F.post key.now) keys → option_map (λ x. (x.0, x.1.now)) result ≡ array_shape (elem_shape keys depth) hash bytes.now }
 {
     let (hash, rest) = elem_shape(depth, hash, bytes, key)?;
     let (hash, rest) = numeral_shape(Numeral::Size, hash, rest)?;
@@ -189,7 +189,7 @@ fn many_shape<'a, F: Fn(Token) -> u64>(
     key: &F,
 ) -> Option<(u64, &'a [u8])>
     requires { F.IsAlwaysCallable key.now }
-    ensures { (keys : Token → ℕ) → Answers (F.post key.now) keys → option_map (λ x. (x.0, x.1.now)) result ≡ many_shape (elem_shape keys depth) count hash bytes.now }
+    ensures { (keys : Token → ℕ) → GivesKeys (F.post key.now) keys → option_map (λ x. (x.0, x.1.now)) result ≡ many_shape (elem_shape keys depth) count hash bytes.now }
 {
     let mut hash = hash;
     let mut rest = bytes;
@@ -213,7 +213,7 @@ fn instance_shape<'a, F: Fn(Token) -> u64>(
     key: &F,
 ) -> Option<(u64, &'a [u8])>
     requires { F.IsAlwaysCallable key.now }
-    ensures { (keys : Token → ℕ) → Answers (F.post key.now) keys → option_map (λ x. (x.0, x.1.now)) result ≡ instance_shape keys (elem_shape keys depth) hash bytes.now }
+    ensures { (keys : Token → ℕ) → GivesKeys (F.post key.now) keys → option_map (λ x. (x.0, x.1.now)) result ≡ instance_shape keys (elem_shape keys depth) hash bytes.now }
 {
     let (hash, rest) = class_shape(hash, bytes)?;
     let (hash, rest) = token_shape(hash, rest, key)?;
@@ -231,7 +231,7 @@ fn params_shape<'a, F: Fn(Token) -> u64>(
     key: &F,
 ) -> Option<(u64, &'a [u8])>
     requires { F.IsAlwaysCallable key.now }
-    ensures { (keys : Token → ℕ) → Answers (F.post key.now) keys → option_map (λ x. (x.0, x.1.now)) result ≡ params_shape (elem_shape keys depth) count hash bytes.now }
+    ensures { (keys : Token → ℕ) → GivesKeys (F.post key.now) keys → option_map (λ x. (x.0, x.1.now)) result ≡ params_shape (elem_shape keys depth) count hash bytes.now }
 {
     let mut hash = hash;
     let mut rest = bytes;
@@ -262,7 +262,7 @@ fn marked_shape<'a, F: Fn(Token) -> u64>(
     key: &F,
 ) -> Option<(u64, &'a [u8])>
     requires { F.IsAlwaysCallable key.now }
-    ensures { (keys : Token → ℕ) → Answers (F.post key.now) keys → option_map (λ x. (x.0, x.1.now)) result ≡ marked_shape (elem_shape keys depth) more hash bytes.now }
+    ensures { (keys : Token → ℕ) → GivesKeys (F.post key.now) keys → option_map (λ x. (x.0, x.1.now)) result ≡ marked_shape (elem_shape keys depth) more hash bytes.now }
 {
     let (hash, rest) = elem_shape(depth, hash, bytes, key)?;
     many_shape(more, depth, hash, rest, key)
@@ -278,7 +278,7 @@ fn parts_shape<'a, F: Fn(Token) -> u64>(
     key: &F,
 ) -> Option<(u64, &'a [u8])>
     requires { F.IsAlwaysCallable key.now }
-    ensures { (keys : Token → ℕ) → Answers (F.post key.now) keys → option_map (λ x. (x.0, x.1.now)) result ≡ parts_shape (elem_shape keys depth) hash bytes.now }
+    ensures { (keys : Token → ℕ) → GivesKeys (F.post key.now) keys → option_map (λ x. (x.0, x.1.now)) result ≡ parts_shape (elem_shape keys depth) hash bytes.now }
 {
     let (count, rest) = unsigned_front(bytes)?;
     let (hash, rest) = elem_shape(depth, mixed(hash, count), rest, key)?;
@@ -295,7 +295,7 @@ fn method_shape<'a, F: Fn(Token) -> u64>(
     key: &F,
 ) -> Option<(u64, &'a [u8])>
     requires { F.IsAlwaysCallable key.now }
-    ensures { (keys : Token → ℕ) → Answers (F.post key.now) keys → option_map (λ x. (x.0, x.1.now)) result ≡ method_shape (elem_shape keys depth) hash bytes.now }
+    ensures { (keys : Token → ℕ) → GivesKeys (F.post key.now) keys → option_map (λ x. (x.0, x.1.now)) result ≡ method_shape (elem_shape keys depth) hash bytes.now }
 {
     let (hash, rest) = calling_shape(hash, bytes)?;
     parts_shape(depth, hash, rest, key)
@@ -335,7 +335,7 @@ fn counted_shape<'a, F: Fn(Token) -> u64>(
     key: &F,
 ) -> Option<(u64, &'a [u8])>
     requires { F.IsAlwaysCallable key.now }
-    ensures { (keys : Token → ℕ) → Answers (F.post key.now) keys → option_map (λ x. (x.0, x.1.now)) result ≡ counted_shape (type_shape keys) hash bytes.now }
+    ensures { (keys : Token → ℕ) → GivesKeys (F.post key.now) keys → option_map (λ x. (x.0, x.1.now)) result ≡ counted_shape (type_shape keys) hash bytes.now }
 {
     let (count, rest) = unsigned_front(bytes)?;
     many_shape(count, DEPTH, mixed(hash, count), rest, key)
@@ -349,7 +349,7 @@ fn accessed_shape<'a, F: Fn(Token) -> u64>(
     key: &F,
 ) -> Option<(u64, &'a [u8])>
     requires { F.IsAlwaysCallable key.now }
-    ensures { (keys : Token → ℕ) → Answers (F.post key.now) keys → option_map (λ x. (x.0, x.1.now)) result ≡ accessed_shape (type_shape keys) hash bytes.now }
+    ensures { (keys : Token → ℕ) → GivesKeys (F.post key.now) keys → option_map (λ x. (x.0, x.1.now)) result ≡ accessed_shape (type_shape keys) hash bytes.now }
 {
     let (count, rest) = unsigned_front(bytes)?;
     let (hash, rest) = elem_shape(DEPTH, mixed(hash, count), rest, key)?;
@@ -364,7 +364,7 @@ fn front_shape<'a, F: Fn(Token) -> u64>(
     key: &F,
 ) -> Option<(u64, &'a [u8])>
     requires { F.IsAlwaysCallable key.now }
-    ensures { (keys : Token → ℕ) → Answers (F.post key.now) keys → option_map (λ x. (x.0, x.1.now)) result ≡ front_shape keys kind 0 bytes.now }
+    ensures { (keys : Token → ℕ) → GivesKeys (F.post key.now) keys → option_map (λ x. (x.0, x.1.now)) result ≡ front_shape keys kind 0 bytes.now }
 {
     match kind {
         SigKind::Method => method_shape(DEPTH, 0, bytes, key),
@@ -404,7 +404,7 @@ fn mixed_of(read: Option<(u64, &[u8])>) -> u64
 #[tactic(auto, unfolding(crate::specs::Shape::sig_shape))]
 pub fn sig_shape<F: Fn(Token) -> u64>(kind: SigKind, bytes: &[u8], key: F) -> u64
     requires { F.IsAlwaysCallable key }
-    ensures { (keys : Token → ℕ) → Answers (F.post key) keys → result ≡ sig_shape keys kind bytes.now }
+    ensures { (keys : Token → ℕ) → GivesKeys (F.post key) keys → result ≡ sig_shape keys kind bytes.now }
 {
     mixed_of(front_shape(kind, bytes, &key))
 }

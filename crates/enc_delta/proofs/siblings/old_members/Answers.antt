@@ -1,4 +1,4 @@
-use Rattle.std.proofs.Common.{subst, List, sym, ap, ◌∙◌}
+use Rattle.std.proofs.Common.{subst, List, ap, ◌∙◌}
 use Rattle.std.specs.List.{list_any}
 use Rattle.enc_delta.specs.declared.pairs.Pair.{Pair}
 use Rattle.enc_delta.specs.Members.{AreAdded}

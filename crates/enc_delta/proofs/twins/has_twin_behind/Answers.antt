@@ -1,7 +1,5 @@
-use Rattle.std.proofs.Common.{◌≡◌, ◌<◌, ◌≤◌, false, inl, inr, arith}
-use Rattle.std.specs.Prelude.{◌==◌}
+use Rattle.std.proofs.Common.{◌<◌, inl, inr, arith}
 use Rattle.std.proofs.lemmas.Bool.{cases_lt}
-use Rattle.enc_delta.specs.Members.{keyed_at}
 use Rattle.enc_delta.proofs.ListsChildren.{equal_no}
 use Rattle.enc_delta.proofs.NearTwins.{no_twin_above}
 use Rattle.enc_delta.proofs.twins.has_twin_behind.Goals as goal
