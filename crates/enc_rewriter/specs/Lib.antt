@@ -1,0 +1,5 @@
+pub mod Values
+pub mod Placed
+pub mod Numbers
+pub mod Weight
+pub mod Rewritten

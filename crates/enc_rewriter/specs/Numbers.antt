@@ -1,0 +1,78 @@
+-- The numbers in the columns of a module's rows that are written (ECMA-335 II.22, II.24.2.6): each says its cell by the heaps, by where bodies and fields are placed, and by the order of children.
+use Rattle.std.specs.Prelude.{◌≡◌, ℕ, ◌+◌, ◌-◌, ◌<◌, ◌&&◌, bytes_eq, Bool, true, false, List, [], ◌∷◌, length, map, flat_map, take, Option, Some, None, nat_lt, nat_le, ◌==◌, if◌then◌else◌, slice_get, slice_index}
+use Rattle.std.specs.List.{range_with_len, list_any}
+use Rattle.enc_base.specs.Token.{nth_row, nil}
+use Rattle.enc_base.specs.declared.token.Token.{Token}
+use Rattle.enc_meta.specs.Heaps.{Counted, text_at, blob_at, guid_at}
+use Rattle.enc_opcodes.specs.Body.{Body}
+use Rattle.enc_plain.specs.Cell.{Cell, is_body, is_field}
+use Rattle.enc_plain.specs.Module.{Module, Row, rows_in, kids_at, cell_of}
+use Rattle.enc_plain.specs.Reading.{Reading, cell_read}
+use Rattle.enc_plain.specs.Sound.{row_count, all_kids, is_part}
+use Rattle.enc_rows.specs.Sums.{below}
+use Rattle.enc_rows.specs.Written.{rows_at}
+use Rattle.enc_schema.specs.Children.{is_child_table, owner_table, ptr_of}
+use Rattle.enc_schema.specs.Schema.{columns_in, column_in}
+use Rattle.enc_schema.specs.declared.column.Column.{Column}
+use Rattle.enc_schema.specs.declared.column.Column.TheVariants.{Run}
+use Rattle.enc_schema.specs.Tables as tables
+use Rattle.enc_rewriter.specs.Placed.{Placed}
+
+-- by what the numbers of a module with these heaps are read; places stand in lists of their own
+abbrev pub reading_by : Module → Counted → Reading
+reading_by m h = record {
+  text = text_at h.strings;
+  blob = blob_at h.blobs;
+  guid = guid_at h.guids;
+  count = row_count m;
+  code = λ n. None;
+  field = λ row. [];
+}
+
+-- where the run of an owner's row begins: behind the children of the rows before it, counted from 1
+unfoldable pub run_first : Module → ℕ → ℕ → ℕ
+run_first m child row = 1 + length (flat_map (λ (r : Row). kids_at r child) (take (row - 1) (rows_in m (owner_table child))))
+
+-- what the number of a column that is no place says: its cell, or where a run begins
+abbrev pub PlainNumberSays : Module → Counted → Token → ℕ → Column → ℕ → Type 0
+PlainNumberSays m h u i (Run child) x = x ≡ run_first m child u.row
+PlainNumberSays m h u i column x = cell_read (reading_by m h) column x ≡ cell_of m u i
+
+-- what a number says: the place of the row's body, that of its field's bytes, or as above
+pub record NumberSays (m : Module) (h : Counted) (p : Placed) (u : Token) (i : ℕ) (column : Column) (x : ℕ) : Type 0 where
+  pub body : is_body u.table i ≡ true → x ≡ slice_index p.bodies (u.row - 1)
+  pub field : is_field u.table i ≡ true → x ≡ slice_index p.fields (u.row - 1)
+  pub plain : is_body u.table i ≡ false → is_field u.table i ≡ false → PlainNumberSays m h u i column x
+
+-- so say all numbers of a row, one for each column, and those of all rows of a table
+pub record RowSays (m : Module) (h : Counted) (p : Placed) (u : Token) (cells : List ℕ) : Type 0 where
+  pub count : length cells ≡ length (columns_in u.table)
+  pub each : (i : ℕ) (column : Column) (x : ℕ) → column_in u.table i ≡ Some column → slice_get cells i ≡ Some x → NumberSays m h p u i column x
+
+pub record TableSays (m : Module) (h : Counted) (p : Placed) (t : ℕ) (rows : List (List ℕ)) : Type 0 where
+  pub count : length rows ≡ row_count m t
+  pub each : (n : ℕ) (cells : List ℕ) → slice_get rows n ≡ Some cells → RowSays m h p (nth_row t n) cells
+
+-- children that stand in the order of their rows, from the first on
+abbrev pub is_in_row_order : List ℕ → Bool
+is_in_row_order kids = bytes_eq kids (range_with_len 1 (length kids))
+
+-- the rows of a Ptr table: the children of all owners where they don't stand in row order, else none (II.22)
+unfoldable pub ptr_rows : Module → ℕ → List (List ℕ)
+ptr_rows m child = if is_in_row_order (all_kids m child) then [] else map (λ k. k ∷ []) (all_kids m child)
+
+-- the rows of all tables are those of the module, and of Ptr tables where they are asked for
+pub record HoldRows (m : Module) (h : Counted) (p : Placed) (rows : List (List (List ℕ))) : Type 0 where
+  pub parts : (t : ℕ) → is_part t ≡ true → TableSays m h p t (rows_at rows t)
+  pub ptrs : (child : ℕ) → is_child_table child ≡ true → rows_at rows (ptr_of child) ≡ ptr_rows m child
+  pub log : rows_at rows tables.enc_log ≡ []
+  pub map : rows_at rows tables.enc_map ≡ []
+
+-- a run begins behind the last of so many children that their table's indices take two bytes, and its own number doesn't fit these
+unfoldable pub has_wide_run : Module → ℕ → Bool
+has_wide_run m child =
+    nat_lt (row_count m child) 0x10000 && list_any (λ n. nat_le 0x10000 (run_first m child (n + 1))) (below (row_count m (owner_table child)))
+
+-- then all indices are wide
+unfoldable pub needs_jtd : Module → Bool
+needs_jtd m = list_any (has_wide_run m) (tables.field ∷ tables.method_def ∷ tables.param ∷ tables.event ∷ tables.property ∷ [])

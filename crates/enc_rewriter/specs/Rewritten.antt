@@ -1,0 +1,47 @@
+-- The image of a module that is written from scratch, and that it means the module.
+use Rattle.std.specs.Prelude.{◌≡◌, ℕ, ◌<◌, ◌≤◌, ◌^◌, Bool, true, List, Option, Ok, IsTrue}
+use Rattle.enc_emit.specs.Written.{root_built, built_size}
+use Rattle.enc_image.specs.Base.{base_of, module_in}
+use Rattle.enc_meta.specs.Built.{Built, heaps_built, is_kept, is_guid_kept}
+use Rattle.enc_meta.specs.BuiltLaws.{IsGood}
+use Rattle.enc_meta.specs.Heaps.{Counted, user_at}
+use Rattle.enc_pe.specs.Written.{image_written, image_size, most_bytes}
+use Rattle.enc_plain.specs.Module.{Module}
+use Rattle.enc_plain.specs.Sound.{IsSound}
+use Rattle.enc_rows.specs.Source.{Source}
+use Rattle.enc_rows.specs.Written.{AreRows}
+use Rattle.enc_rewriter.specs.Numbers.{HoldRows, needs_jtd}
+use Rattle.enc_rewriter.specs.Placed.{Placed, IsPlaced}
+
+-- the parts of an image hold a module: its heaps are good and stand behind no others, bodies and fields are placed, and the rows say the module's
+pub record HoldModule (m : Module) (h : Built) (p : Placed) (rows : List (List (List ℕ))) : Type 0 where
+  pub begins : h.starts ≡ record { strings = 0; users = 0; blobs = 0; guids = 0 }
+  pub good : IsGood h
+  pub numbers : AreRows rows
+  pub placed : IsPlaced m (user_at (heaps_built h).users) p
+  pub said : HoldRows m (heaps_built h) p rows
+
+-- the root of these parts
+abbrev pub root_of_parts : Module → Built → List (List (List ℕ)) → List ℕ
+root_of_parts m h rows = root_built (record { heaps = h; rows = rows }) (needs_jtd m)
+
+-- the image
+unfoldable pub image_of : Module → Built → Placed → List (List (List ℕ)) → List ℕ
+image_of m h p rows = image_written (root_of_parts m h rows) p.code m.resources m.entry
+
+-- its root is shorter than 2^32 bytes, the image has at most 2^31, and the entry is a number of four bytes
+pub record FitsImage (m : Module) (h : Built) (p : Placed) (rows : List (List (List ℕ))) : Type 0 where
+  pub root : built_size (record { heaps = h; rows = rows }) (needs_jtd m) < 2 ^ 32
+  pub image : image_size (root_of_parts m h rows) p.code m.resources ≤ most_bytes
+  pub entry : m.entry < 2 ^ 32
+
+-- the bytes are those of a base that isn't refused and whose plain module is this one
+pub record MeansModule (m : Module) (bytes : List ℕ) : Type 0 where
+  pub source : Source
+  pub read : base_of bytes ≡ Ok source
+  pub means : module_in source ≡ m
+
+-- an image whose parts hold a sound module means it
+abbrev pub ImagesMean : Type 0
+ImagesMean = (m : Module) (h : Built) (p : Placed) (rows : List (List (List ℕ))) → IsSound m → HoldModule m h p rows → FitsImage m h p rows
+    → MeansModule m (image_of m h p rows)

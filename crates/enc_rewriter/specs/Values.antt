@@ -1,0 +1,114 @@
+-- The values that a module's cells have for each heap, in the order of its tables, rows and columns, and the heaps that hold each of them once (ECMA-335 II.24.2.3 to II.24.2.5).
+use Rattle.std.specs.Prelude.{◌≡◌, ℕ, ◌+◌, ◌^◌, ◌*◌, Bool, true, false, List, [], ◌∷◌, length, flat_map, Option, Some, None, unwrap_or, Result, Ok, Err, nat_lt}
+use Rattle.enc_base.specs.Token.{nth_row}
+use Rattle.enc_base.specs.Units.{units_of}
+use Rattle.enc_base.specs.declared.refusal.StreamName.{StreamName}
+use Rattle.enc_base.specs.declared.refusal.StreamName.TheVariants.{Strings, Users, Blobs, Guids}
+use Rattle.enc_base.specs.declared.token.Token.{Token}
+use Rattle.enc_meta.specs.Built.{Built, none_from, with_text, with_user, with_blob, with_guid, joined_end, text_bytes, user_bytes, blob_bytes, unit_bytes}
+use Rattle.enc_meta.specs.declared.builder.BuildFault.{BuildFault}
+use Rattle.enc_meta.specs.declared.builder.BuildFault.TheVariants.{Memory, TooLarge}
+use Rattle.enc_opcodes.specs.Body.{Body}
+use Rattle.enc_opcodes.specs.Instruction.{Argument, text as named, Instruction}
+use Rattle.enc_plain.specs.Cell.{Cell, text, blob, guid, body, Kind, texts, blobs, guids, bodies}
+use Rattle.enc_plain.specs.Module.{Module, cell_of}
+use Rattle.enc_plain.specs.Sound.{row_count}
+use Rattle.enc_rows.specs.Sums.{below}
+use Rattle.enc_schema.specs.Schema.{columns_in}
+use Rattle.enc_rewriter.specs.declared.pass.Pass.{Pass}
+use Rattle.enc_rewriter.specs.declared.pass.Pass.TheVariants as pass
+
+-- the user text of an operand, by the bytes of its units
+abbrev pub text_named : Argument (List ℕ) → List (List ℕ)
+text_named (named units) = unit_bytes units ∷ []
+text_named _ = []
+
+-- the user texts that instructions name, in their order
+unfoldable pub texts_named : List (ℕ × Instruction (List ℕ)) → List (List ℕ)
+texts_named code = flat_map (λ (x : ℕ × Instruction (List ℕ)). text_named x.1.arg) code
+
+-- the user texts of a body, if there is one
+abbrev pub users_of : Option Body → List (List ℕ)
+users_of None = []
+users_of (Some b) = texts_named b.code
+
+-- what a cell has for a heap: `#Strings` its text, `#US` the user texts of its body, `#Blob` its blob, `#GUID` its GUID
+abbrev pub values_for : Pass → Cell → List (List ℕ)
+values_for pass.Texts (text v) = v ∷ []
+values_for pass.Users (body there) = users_of there
+values_for pass.Blobs (blob v) = v ∷ []
+values_for pass.Guids (guid v) = v ∷ []
+values_for _ _ = []
+
+abbrev pub values_if : Pass → Option Cell → List (List ℕ)
+values_if p None = []
+values_if p (Some c) = values_for p c
+
+-- the cells of this kind have values for the heap
+abbrev pub gathers : Pass → Option Kind → Bool
+gathers pass.Texts (Some texts) = true
+gathers pass.Users (Some bodies) = true
+gathers pass.Blobs (Some blobs) = true
+gathers pass.Guids (Some guids) = true
+gathers _ _ = false
+
+-- the values of a row's column, of a row, of a table, and of all tables
+unfoldable pub values_at : Pass → Module → Token → ℕ → List (List ℕ)
+values_at p m u i = values_if p (cell_of m u i)
+
+unfoldable pub values_of_row : Pass → Module → Token → List (List ℕ)
+values_of_row p m u = flat_map (values_at p m u) (below (length (columns_in u.table)))
+
+unfoldable pub values_of_table : Pass → Module → ℕ → List (List ℕ)
+values_of_table p m t = flat_map (λ n. values_of_row p m (nth_row t n)) (below (row_count m t))
+
+unfoldable pub all_values : Pass → Module → List (List ℕ)
+all_values p m = flat_map (values_of_table p m) (below 64)
+
+-- the heaps with one more value of a pass, and with all of a list
+abbrev pub with_one : Pass → Built → List ℕ → Built
+with_one pass.Texts h v = with_text h v
+with_one pass.Users h v = with_user h v
+with_one pass.Blobs h v = with_blob h v
+with_one pass.Guids h v = with_guid h v
+
+unfoldable pub filled : Pass → Built → List (List ℕ) → Built
+filled p h [] = h
+filled p h (v ∷ rest) = filled p (with_one p h v) rest
+
+-- no heap has a value yet
+unfoldable pub no_heaps : Built
+no_heaps = none_from (record { strings = 0; users = 0; blobs = 0; guids = 0 })
+
+-- the heaps of a module: each value once, in the order of first use
+unfoldable pub heaps_for : Module → Built
+heaps_for m =
+    filled pass.Guids (filled pass.Blobs (filled pass.Users (filled pass.Texts no_heaps (all_values pass.Texts m)) (all_values pass.Users m)) (all_values pass.Blobs m)) (all_values pass.Guids m)
+
+-- how long the heap of a pass is
+abbrev pub size_of : Pass → Built → ℕ
+size_of pass.Texts h = joined_end text_bytes h.starts.strings h.texts
+size_of pass.Users h = joined_end user_bytes h.starts.users h.users
+size_of pass.Blobs h = joined_end blob_bytes h.starts.blobs h.blobs
+size_of pass.Guids h = 16 * (h.starts.guids + length h.guids)
+
+-- and how long it may be
+abbrev pub limit_of : Pass → ℕ
+limit_of pass.Users = 2 ^ 24
+limit_of _ = 2 ^ 29
+
+abbrev pub heap_of : Pass → StreamName
+heap_of pass.Texts = Strings
+heap_of pass.Users = Users
+heap_of pass.Blobs = Blobs
+heap_of pass.Guids = Guids
+
+-- what a pass tells where it is refused: its heap, which passes its limit; want of memory tells nothing
+abbrev pub IsPast : Result Unit BuildFault → Pass → Built → Type 0
+IsPast (Ok _) p h = Unit {0}
+IsPast (Err (TooLarge heap)) p h = (heap ≡ heap_of p) × (nat_lt (limit_of p) (size_of p h) ≡ true)
+IsPast (Err Memory) p h = Unit {0}
+
+-- the bytes of a user text's whole units, none where there is no text
+abbrev pub units_told : Option (List ℕ) → List ℕ
+units_told there = unit_bytes (units_of (unwrap_or there []))

@@ -1,0 +1,7 @@
+//! Modules written from scratch: the heaps of a module's values, its bodies, its rows, and the image.
+#![tactic(auto)]
+
+mod pass;
+mod users;
+
+pub use pass::{Pass, add_values};

@@ -1,0 +1,203 @@
+//! The passes over a module's cells, one for each heap.
+ghost use Rattle.std.specs.Prelude.{◌≡◌, ◌==◌, ℕ, ◌<◌, ◌^◌, [], ◌∷◌, Some, length, not, IsTrue, OnOk};
+ghost use Rattle.std.specs.List.{list_any};
+ghost use Rattle.enc_base.specs.Token.{nth_row};
+ghost use Rattle.enc_plain.specs.Cell.{kind_in, text, texts};
+ghost use Rattle.enc_plain.specs.Module.{has_row, cell_of};
+ghost use Rattle.enc_plain.specs.Sound.{IsSound, row_count};
+ghost use Rattle.enc_schema.specs.Schema.{columns_in, column_in};
+ghost use Rattle.enc_schema.specs.Tables.{method_def};
+ghost use Rattle.enc_rewriter.specs.Values.{gathers as does_gather, values_at, values_of_row, values_of_table, all_values, filled, IsPast};
+ghost use Rattle.enc_rewriter.specs.declared.pass.Pass.TheVariants.{Texts, Blobs, Guids, Users};
+
+use crate::users::add_named;
+use enc_base::Token;
+use enc_meta::{BuildFault, HeapBuilder};
+use enc_plain::ModuleView;
+use enc_schema::tables::METHOD_DEF;
+use enc_schema::{Column, columns_of};
+
+/// Which heap's values are gathered.
+#[derive(Clone, Copy, Debug, PartialEq, Eq)]
+pub enum Pass {
+    Texts,
+    Users,
+    Blobs,
+    Guids,
+}
+
+/// Adds a text.
+#[tactic(auto, using(crate::proofs::Fills::text_past), unfolding(crate::specs::Values::filled))]
+fn add_text(text: &[u8], heaps: &mut HeapBuilder) -> Result<(), BuildFault>
+    requires { IsTrue (not (list_any (λ c. c == 0) text.now)) }
+    ensures filled { OnOk result (heaps.new ≡ filled Texts heaps.old (text.now ∷ [])) }
+    ensures past { IsPast result Texts (filled Texts heaps.old (text.now ∷ [])) }
+{
+    match heaps.add_text(text) {
+        Ok(_) => Ok(()),
+        Err(fault) => Err(fault),
+    }
+}
+
+/// Adds a blob.
+#[tactic(auto, using(crate::proofs::Fills::blob_past), unfolding(crate::specs::Values::filled))]
+fn add_blob(blob: &[u8], heaps: &mut HeapBuilder) -> Result<(), BuildFault>
+    ensures filled { OnOk result (heaps.new ≡ filled Blobs heaps.old (blob.now ∷ [])) }
+    ensures past { IsPast result Blobs (filled Blobs heaps.old (blob.now ∷ [])) }
+{
+    match heaps.add_blob(blob) {
+        Ok(_) => Ok(()),
+        Err(fault) => Err(fault),
+    }
+}
+
+/// Adds a GUID.
+#[tactic(auto, using(crate::proofs::Fills::guid_past), unfolding(crate::specs::Values::filled))]
+fn add_guid(guid: [u8; 16], heaps: &mut HeapBuilder) -> Result<(), BuildFault>
+    ensures filled { OnOk result (heaps.new ≡ filled Guids heaps.old (guid ∷ [])) }
+    ensures past { IsPast result Guids (filled Guids heaps.old (guid ∷ [])) }
+{
+    match heaps.add_guid(guid) {
+        Ok(_) => Ok(()),
+        Err(fault) => Err(fault),
+    }
+}
+
+/// The text in a column, which has no zero.
+fn text_in<V: ModuleView>(view: &V, row: Token, i: u8) -> &[u8]
+    requires sound { IsSound (V.meaning view.now) }
+    requires row { IsTrue (has_row (V.meaning view.now) row) }
+    requires kind { kind_in row.table i ≡ Some texts }
+    ensures cell { cell_of (V.meaning view.now) row i ≡ Some (text result.now) }
+    ensures clean { IsTrue (not (list_any (λ c. c == 0) result.now)) }
+{
+    view.text(row, i)
+}
+
+/// Adds the user texts of a method's body.
+#[tactic(auto, unfolding(crate::specs::Values::values_at, crate::specs::Values::filled))]
+fn add_users<V: ModuleView>(
+    view: &V,
+    method: Token,
+    heaps: &mut HeapBuilder,
+) -> Result<(), BuildFault>
+    requires row { IsTrue (has_row (V.meaning view.now) method) }
+    requires table { method.table ≡ method_def }
+    ensures filled { OnOk result (heaps.new ≡ filled Users heaps.old (values_at Users (V.meaning view.now) method 0)) }
+    ensures past { IsPast result Users (filled Users heaps.old (values_at Users (V.meaning view.now) method 0)) }
+{
+    match view.code(method) {
+        Some(code) => add_named(view, &code, heaps),
+        None => Ok(()),
+    }
+}
+
+/// Whether a pass gathers what a column has.
+#[tactic(auto, using(crate::proofs::Gathers::by_column))]
+fn gathers(pass: Pass, table: u8, i: u8, column: Column) -> bool
+    requires { column_in table i ≡ Some column }
+    ensures { result ≡ does_gather pass (kind_in table i) }
+{
+    match pass {
+        Pass::Texts => matches!(column, Column::Text),
+        Pass::Users => table == METHOD_DEF && i == 0,
+        Pass::Blobs => matches!(column, Column::Blob),
+        Pass::Guids => matches!(column, Column::Guid),
+    }
+}
+
+/// Adds what a row's column has for a heap, where its pass gathers it.
+#[tactic(auto, using(crate::proofs::Gathers::text_kind, crate::proofs::Gathers::blob_kind, crate::proofs::Gathers::guid_kind, crate::proofs::Gathers::body_kind), unfolding(crate::specs::Values::values_at))]
+fn add_gathered<V: ModuleView>(
+    view: &V,
+    pass: Pass,
+    row: Token,
+    i: u8,
+    heaps: &mut HeapBuilder,
+) -> Result<(), BuildFault>
+    requires sound { IsSound (V.meaning view.now) }
+    requires row { IsTrue (has_row (V.meaning view.now) row) }
+    requires gathers { IsTrue (does_gather pass (kind_in row.table i)) }
+    ensures filled { OnOk result (heaps.new ≡ filled pass heaps.old (values_at pass (V.meaning view.now) row i)) }
+    ensures past { IsPast result pass (filled pass heaps.old (values_at pass (V.meaning view.now) row i)) }
+{
+    match pass {
+        Pass::Texts => add_text(text_in(view, row, i), heaps),
+        Pass::Users => add_users(view, row, heaps),
+        Pass::Blobs => add_blob(view.blob(row, i), heaps),
+        Pass::Guids => add_guid(view.guid(row, i), heaps),
+    }
+}
+
+/// Adds what a row's column has for a heap.
+#[tactic(auto, using(crate::proofs::Gathers::nothing_there), unfolding(crate::specs::Values::filled))]
+fn add_cell<V: ModuleView>(
+    view: &V,
+    pass: Pass,
+    row: Token,
+    i: u8,
+    column: Column,
+    heaps: &mut HeapBuilder,
+) -> Result<(), BuildFault>
+    requires sound { IsSound (V.meaning view.now) }
+    requires row { IsTrue (has_row (V.meaning view.now) row) }
+    requires column { column_in row.table i ≡ Some column }
+    ensures filled { OnOk result (heaps.new ≡ filled pass heaps.old (values_at pass (V.meaning view.now) row i)) }
+    ensures past { IsPast result pass (filled pass heaps.old (values_at pass (V.meaning view.now) row i)) }
+{
+    if !gathers(pass, row.table, i, column) {
+        return Ok(());
+    }
+    add_gathered(view, pass, row, i, heaps)
+}
+
+/// Adds what a row has for a heap.
+#[tactic(auto, using(crate::proofs::Fills::fill_none, crate::proofs::Fills::fill_more, crate::proofs::Fills::past_more), unfolding(crate::specs::Values::values_of_row))]
+fn add_row<V: ModuleView>(view: &V, pass: Pass, row: Token, heaps: &mut HeapBuilder) -> Result<(), BuildFault>
+    requires sound { IsSound (V.meaning view.now) }
+    requires row { IsTrue (has_row (V.meaning view.now) row) }
+    ensures filled { OnOk result (heaps.new ≡ filled pass heaps.old (values_of_row pass (V.meaning view.now) row)) }
+    ensures past { IsPast result pass (filled pass heaps.old (values_of_row pass (V.meaning view.now) row)) }
+{
+    let columns = columns_of(row.table);
+    for i in 0..columns.len() {
+        match add_cell(view, pass, row, i as u8, columns[i], heaps) {
+            Ok(()) => {}
+            Err(fault) => return Err(fault),
+        }
+    }
+    Ok(())
+}
+
+/// Adds what a table's rows have for a heap.
+#[tactic(auto, using(crate::proofs::Fills::fill_none, crate::proofs::Fills::fill_more, crate::proofs::Fills::past_more, crate::proofs::Gathers::row_there), unfolding(crate::specs::Values::values_of_table))]
+fn add_table<V: ModuleView>(view: &V, pass: Pass, table: u8, heaps: &mut HeapBuilder) -> Result<(), BuildFault>
+    requires sound { IsSound (V.meaning view.now) }
+    ensures filled { OnOk result (heaps.new ≡ filled pass heaps.old (values_of_table pass (V.meaning view.now) table)) }
+    ensures past { IsPast result pass (filled pass heaps.old (values_of_table pass (V.meaning view.now) table)) }
+{
+    for n in 0..view.count(table) {
+        match add_row(view, pass, Token { table, row: n + 1 }, heaps) {
+            Ok(()) => {}
+            Err(fault) => return Err(fault),
+        }
+    }
+    Ok(())
+}
+
+/// Adds what all rows have for a heap, by table, row and column. `TooLarge` exactly where the heap
+/// of distinct values passes its limit, with its name.
+#[tactic(auto, using(crate::proofs::Fills::fill_none, crate::proofs::Fills::fill_more, crate::proofs::Fills::past_more), unfolding(crate::specs::Values::all_values))]
+pub fn add_values<V: ModuleView>(view: &V, pass: Pass, heaps: &mut HeapBuilder) -> Result<(), BuildFault>
+    requires sound { IsSound (V.meaning view.now) }
+    ensures filled { OnOk result (heaps.new ≡ filled pass heaps.old (all_values pass (V.meaning view.now))) }
+    ensures past { IsPast result pass (filled pass heaps.old (all_values pass (V.meaning view.now))) }
+{
+    for table in 0..64 {
+        match add_table(view, pass, table, heaps) {
+            Ok(()) => {}
+            Err(fault) => return Err(fault),
+        }
+    }
+    Ok(())
+}
