@@ -1,3 +1,4 @@
 pub mod Fills
 pub mod Gathers
+pub mod ReadAs
 pub mod UserTexts

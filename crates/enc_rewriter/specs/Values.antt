@@ -1,17 +1,18 @@
 -- The values that a module's cells have for each heap, in the order of its tables, rows and columns, and the heaps that hold each of them once (ECMA-335 II.24.2.3 to II.24.2.5).
-use Rattle.std.specs.Prelude.{◌≡◌, ℕ, ◌+◌, ◌^◌, ◌*◌, Bool, true, false, List, [], ◌∷◌, length, flat_map, Option, Some, None, unwrap_or, Result, Ok, Err, nat_lt}
+use Rattle.std.specs.Prelude.{◌≡◌, ℕ, ◌+◌, ◌<◌, ◌^◌, ◌*◌, Bool, true, false, List, [], ◌∷◌, length, flat_map, Option, Some, None, unwrap_or, Result, Ok, Err, nat_lt}
+use Rattle.std.specs.List.{list_all}
 use Rattle.enc_base.specs.Token.{nth_row}
 use Rattle.enc_base.specs.Units.{units_of}
 use Rattle.enc_base.specs.declared.refusal.StreamName.{StreamName}
 use Rattle.enc_base.specs.declared.refusal.StreamName.TheVariants.{Strings, Users, Blobs, Guids}
 use Rattle.enc_base.specs.declared.token.Token.{Token}
-use Rattle.enc_meta.specs.Built.{Built, none_from, with_text, with_user, with_blob, with_guid, joined_end, text_bytes, user_bytes, blob_bytes, unit_bytes}
+use Rattle.enc_meta.specs.Built.{Built, is_kept, is_guid_kept, none_from, with_text, with_user, with_blob, with_guid, joined_end, text_bytes, user_bytes, blob_bytes, unit_bytes}
 use Rattle.enc_meta.specs.declared.builder.BuildFault.{BuildFault}
 use Rattle.enc_meta.specs.declared.builder.BuildFault.TheVariants.{Memory, TooLarge}
 use Rattle.enc_opcodes.specs.Body.{Body}
 use Rattle.enc_opcodes.specs.Instruction.{Argument, text as named, Instruction}
 use Rattle.enc_plain.specs.Cell.{Cell, text, blob, guid, body, Kind, texts, blobs, guids, bodies}
-use Rattle.enc_plain.specs.Module.{Module, cell_of}
+use Rattle.enc_plain.specs.Module.{Module, has_row, cell_of}
 use Rattle.enc_plain.specs.Sound.{row_count}
 use Rattle.enc_rows.specs.Sums.{below}
 use Rattle.enc_schema.specs.Schema.{columns_in}
@@ -112,3 +113,15 @@ IsPast (Err Memory) p h = Unit {0}
 -- the bytes of a user text's whole units, none where there is no text
 abbrev pub units_told : Option (List ℕ) → List ℕ
 units_told there = unit_bytes (units_of (unwrap_or there []))
+
+-- the value has its place in the heap of a pass
+abbrev pub is_kept_by : Pass → Built → List ℕ → Bool
+is_kept_by pass.Texts h v = is_kept h.texts v
+is_kept_by pass.Users h v = is_kept h.users v
+is_kept_by pass.Blobs h v = is_kept h.blobs v
+is_kept_by pass.Guids h v = is_guid_kept h.guids v
+
+-- so have all values of a module, in heaps that stand behind no others
+pub record KeepValues (m : Module) (h : Built) : Type 0 where
+  pub starts : h.starts ≡ record { strings = 0; users = 0; blobs = 0; guids = 0 }
+  pub each : (p : Pass) (u : Token) (i : ℕ) → has_row m u ≡ true → i < length (columns_in u.table) → list_all (is_kept_by p h) (values_at p m u i) ≡ true
