@@ -1,4 +1,5 @@
 pub mod Fills
 pub mod Gathers
+pub mod KeptValues
 pub mod ReadAs
 pub mod UserTexts

@@ -10,12 +10,13 @@ use Rattle.enc_plain.specs.Module.{Module}
 use Rattle.enc_plain.specs.Sound.{IsSound}
 use Rattle.enc_rows.specs.Source.{Source}
 use Rattle.enc_rows.specs.Written.{AreRows}
+use Rattle.enc_rewriter.specs.Values.{no_starts}
 use Rattle.enc_rewriter.specs.Numbers.{HoldRows, needs_jtd}
 use Rattle.enc_rewriter.specs.Placed.{Placed, IsPlaced}
 
 -- the parts of an image hold a module: its heaps are good and stand behind no others, bodies and fields are placed, and the rows say the module's
 pub record HoldModule (m : Module) (h : Built) (p : Placed) (rows : List (List (List ℕ))) : Type 0 where
-  pub begins : h.starts ≡ record { strings = 0; users = 0; blobs = 0; guids = 0 }
+  pub begins : h.starts ≡ no_starts
   pub good : IsGood h
   pub numbers : AreRows rows
   pub placed : IsPlaced m (user_at (heaps_built h).users) p

@@ -9,6 +9,7 @@ use Rattle.enc_base.specs.declared.token.Token.{Token}
 use Rattle.enc_meta.specs.Built.{Built, is_kept, is_guid_kept, none_from, with_text, with_user, with_blob, with_guid, joined_end, text_bytes, user_bytes, blob_bytes, unit_bytes}
 use Rattle.enc_meta.specs.declared.builder.BuildFault.{BuildFault}
 use Rattle.enc_meta.specs.declared.builder.BuildFault.TheVariants.{Memory, TooLarge}
+use Rattle.enc_meta.specs.declared.heaps.HeapLengths.{HeapLengths}
 use Rattle.enc_opcodes.specs.Body.{Body}
 use Rattle.enc_opcodes.specs.Instruction.{Argument, text as named, Instruction}
 use Rattle.enc_plain.specs.Cell.{Cell, text, blob, guid, body, Kind, texts, blobs, guids, bodies}
@@ -77,9 +78,13 @@ unfoldable pub filled : Pass → Built → List (List ℕ) → Built
 filled p h [] = h
 filled p h (v ∷ rest) = filled p (with_one p h v) rest
 
--- no heap has a value yet
+-- heaps behind no others
+abbrev pub no_starts : HeapLengths
+no_starts = record { strings = 0; users = 0; blobs = 0; guids = 0 }
+
+-- none of them has a value yet
 unfoldable pub no_heaps : Built
-no_heaps = none_from (record { strings = 0; users = 0; blobs = 0; guids = 0 })
+no_heaps = none_from no_starts
 
 -- the heaps of a module: each value once, in the order of first use
 unfoldable pub heaps_for : Module → Built
@@ -123,5 +128,5 @@ is_kept_by pass.Guids h v = is_guid_kept h.guids v
 
 -- so have all values of a module, in heaps that stand behind no others
 pub record KeepValues (m : Module) (h : Built) : Type 0 where
-  pub starts : h.starts ≡ record { strings = 0; users = 0; blobs = 0; guids = 0 }
+  pub starts : h.starts ≡ no_starts
   pub each : (p : Pass) (u : Token) (i : ℕ) → has_row m u ≡ true → i < length (columns_in u.table) → list_all (is_kept_by p h) (values_at p m u i) ≡ true
