@@ -2,4 +2,5 @@ pub mod Fills
 pub mod Gathers
 pub mod KeptValues
 pub mod ReadAs
+pub mod RunStarts
 pub mod UserTexts

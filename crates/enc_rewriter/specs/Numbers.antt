@@ -33,6 +33,10 @@ reading_by m h = record {
 unfoldable pub run_first : Module → ℕ → ℕ → ℕ
 run_first m child row = 1 + length (flat_map (λ (r : Row). kids_at r child) (take (row - 1) (rows_in m (owner_table child))))
 
+-- where those of the first so many owners begin
+unfoldable pub runs_begin : Module → ℕ → ℕ → List ℕ
+runs_begin m child n = map (λ k. run_first m child (k + 1)) (below n)
+
 -- what the number of a column that is no place says: its cell, or where a run begins
 abbrev pub PlainNumberSays : Module → Counted → Token → ℕ → Column → ℕ → Type 0
 PlainNumberSays m h u i (Run child) x = x ≡ run_first m child u.row

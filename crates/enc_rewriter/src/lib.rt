@@ -3,6 +3,7 @@
 
 mod kept;
 mod pass;
+mod runs;
 mod users;
 
 pub use pass::{Pass, add_values};
