@@ -31,10 +31,10 @@ at_field : (c : Column) → column_in 0x1D 0 ≡ Some c → c ≡ column.Num32
 unfolding columns_in
 at_field c e = cc
 
-body_column : (t i : ℕ) (c : Column) → column_in t i ≡ Some c → is_body t i ≡ true → c ≡ column.Num32
+pub body_column : (t i : ℕ) (c : Column) → column_in t i ≡ Some c → is_body t i ≡ true → c ≡ column.Num32
 body_column t i c e is = let p = body_is t i is in at_body c (rw (p.0, p.1) at e)
 
-field_column : (t i : ℕ) (c : Column) → column_in t i ≡ Some c → is_field t i ≡ true → c ≡ column.Num32
+pub field_column : (t i : ℕ) (c : Column) → column_in t i ≡ Some c → is_field t i ≡ true → c ≡ column.Num32
 field_column t i c e is = let p = field_is t i is in at_field c (rw (p.0, p.1) at e)
 
 -- by the column and where it stands

@@ -2,5 +2,6 @@ pub mod Fills
 pub mod Gathers
 pub mod KeptValues
 pub mod ReadAs
+pub mod RefersTo
 pub mod RunStarts
 pub mod UserTexts

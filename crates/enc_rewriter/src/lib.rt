@@ -3,6 +3,8 @@
 
 mod kept;
 mod pass;
+mod placed;
+mod references;
 mod runs;
 mod users;
 
