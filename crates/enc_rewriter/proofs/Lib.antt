@@ -4,4 +4,5 @@ pub mod KeptValues
 pub mod ReadAs
 pub mod RefersTo
 pub mod RunStarts
+pub mod Says
 pub mod UserTexts

@@ -12,7 +12,11 @@ use Rattle.std.specs.Prelude.{◌^◌}
 use Rattle.enc_plain.specs.Sound.{row_count, all_kids, IsOwned, IsSound}
 use Rattle.enc_plain.proofs.Owned.{all_kids_few}
 use Rattle.enc_schema.specs.Children.{is_child_table, owner_table}
-use Rattle.enc_rewriter.specs.Numbers.{run_first, runs_begin}
+use Rattle.std.specs.Prelude.{slice_index}
+use Rattle.enc_base.specs.declared.token.Token.{Token}
+use Rattle.enc_schema.specs.Schema.{columns_in, column_in}
+use Rattle.enc_schema.specs.declared.column.Column.TheVariants.{Run}
+use Rattle.enc_rewriter.specs.Numbers.{run_first, runs_begin, RunLists, list_of_runs, AreRuns}
 
 -- the first run begins at 1
 pub first_run : (m : Module) (child : ℕ) → run_first m child 1 ≡ 1
@@ -90,3 +94,12 @@ fits_next m child n first many sound there low is kids =
     let few = run_few m child (n + 1 + 1) sound.owners.owned there in
     let small = sound.counts.few child in
     omega (arith, next, few, small, is, kids)
+
+-- the columns of runs are those of the owners' tables
+pub run_is : (m : Module) (r : RunLists) (u : Token) (i child : ℕ) → AreRuns m r → has_row m u ≡ true → column_in u.table i ≡ Some (Run child)
+    → slice_index (list_of_runs r child) (u.row - 1) ≡ run_first m child u.row
+run_is m r u i child runs there e = ?
+
+pub run_there : (m : Module) (r : RunLists) (u : Token) (i child : ℕ) → AreRuns m r → has_row m u ≡ true → column_in u.table i ≡ Some (Run child)
+    → u.row - 1 < length (list_of_runs r child)
+run_there m r u i child runs there e = ?

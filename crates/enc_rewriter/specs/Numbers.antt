@@ -37,6 +37,30 @@ run_first m child row = 1 + length (flat_map (λ (r : Row). kids_at r child) (ta
 unfoldable pub runs_begin : Module → ℕ → ℕ → List ℕ
 runs_begin m child n = map (λ k. run_first m child (k + 1)) (below n)
 
+-- where runs begin, for each child table
+pub record RunLists : Type 0 where
+  pub fields : List ℕ
+  pub methods : List ℕ
+  pub params : List ℕ
+  pub events : List ℕ
+  pub properties : List ℕ
+
+abbrev pub list_of_runs : RunLists → ℕ → List ℕ
+list_of_runs r child =
+    if child == tables.field then r.fields
+    else if child == tables.method_def then r.methods
+    else if child == tables.param then r.params
+    else if child == tables.event then r.events
+    else r.properties
+
+-- all runs of a module
+pub record AreRuns (m : Module) (r : RunLists) : Type 0 where
+  pub fields : r.fields ≡ runs_begin m tables.field (row_count m tables.type_def)
+  pub methods : r.methods ≡ runs_begin m tables.method_def (row_count m tables.type_def)
+  pub params : r.params ≡ runs_begin m tables.param (row_count m tables.method_def)
+  pub events : r.events ≡ runs_begin m tables.event (row_count m tables.event_map)
+  pub properties : r.properties ≡ runs_begin m tables.property (row_count m tables.property_map)
+
 -- what the number of a column that is no place says: its cell, or where a run begins
 abbrev pub PlainNumberSays : Module → Counted → Token → ℕ → Column → ℕ → Type 0
 PlainNumberSays m h u i (Run child) x = x ≡ run_first m child u.row

@@ -2,6 +2,7 @@
 #![tactic(auto)]
 
 mod kept;
+mod numbers;
 mod pass;
 mod placed;
 mod references;

@@ -64,7 +64,7 @@ fn add_guid(guid: [u8; 16], heaps: &mut HeapBuilder) -> Result<(), BuildFault>
 }
 
 /// The text in a column, which has no zero.
-fn text_in<V: ModuleView>(view: &V, row: Token, i: u8) -> &[u8]
+pub(crate) fn text_in<V: ModuleView>(view: &V, row: Token, i: u8) -> &[u8]
     requires sound { IsSound (V.meaning view.now) }
     requires row { IsTrue (has_row (V.meaning view.now) row) }
     requires kind { kind_in row.table i ≡ Some texts }

@@ -1,15 +1,19 @@
 //! Where the runs of children begin (ECMA-335 II.22.37, II.22.26, II.22.12, II.22.35).
-ghost use Rattle.std.specs.Prelude.{◌≡◌, ◌+◌, ◌<◌, ◌^◌, length, IsTrue, IfOk};
+ghost use Rattle.std.specs.Prelude.{◌≡◌, Some, ◌+◌, ◌<◌, ◌^◌, length, IsTrue, IfOk};
 ghost use Rattle.enc_base.specs.Token.{nth_row};
-ghost use Rattle.enc_plain.specs.Module.{kids_of};
+ghost use Rattle.enc_plain.specs.Module.{has_row, kids_of};
 ghost use Rattle.enc_plain.specs.Sound.{IsSound, row_count};
 ghost use Rattle.enc_schema.specs.Children.{is_child_table, owner_table as table_of_owners};
-ghost use Rattle.enc_rewriter.specs.Numbers.{run_first, runs_begin};
+ghost use Rattle.enc_schema.specs.Schema.{column_in};
+ghost use Rattle.enc_schema.specs.declared.column.Column.TheVariants.{Run};
+ghost use Rattle.enc_rewriter.specs.Numbers.{run_first, runs_begin, list_of_runs, AreRuns};
 
 use enc_base::Token;
 use enc_plain::ModuleView;
 use enc_schema::owner_table;
+use enc_schema::tables::{EVENT, FIELD, METHOD_DEF, PARAM, PROPERTY};
 use std::alloc::{AllocError, Global};
+use std::marker::Model;
 
 /// How many children a row has in a child table.
 #[tactic(auto, using(crate::proofs::Gathers::row_there))]
@@ -41,4 +45,74 @@ pub(crate) fn run_starts<V: ModuleView>(
         first += kids_of(view, child, n);
     }
     Ok(starts)
+}
+
+/// Where the runs of all owners begin, for each child table.
+#[derive(Drop)]
+pub(crate) struct Runs {
+    pub(crate) fields: Vec<u32>,
+    pub(crate) methods: Vec<u32>,
+    pub(crate) params: Vec<u32>,
+    pub(crate) events: Vec<u32>,
+    pub(crate) properties: Vec<u32>,
+}
+
+impl Model for Runs {
+    ghost use Rattle.enc_rewriter.specs.Numbers.{RunLists};
+
+    ghost Value = { RunLists };
+
+    ghost view = { λ r. record {
+      fields = r.fields.items;
+      methods = r.methods.items;
+      params = r.params.items;
+      events = r.events.items;
+      properties = r.properties.items;
+    } };
+}
+
+/// Where all runs of a module begin.
+pub(crate) fn all_runs<V: ModuleView>(alloc: Global, view: &V) -> Result<Runs, AllocError>
+    requires { IsSound (V.meaning view.now) }
+    ensures { IfOk result (λ r. AreRuns (V.meaning view.now) r) }
+{
+    Ok(Runs {
+        fields: run_starts(alloc, view, FIELD)?,
+        methods: run_starts(alloc, view, METHOD_DEF)?,
+        params: run_starts(alloc, view, PARAM)?,
+        events: run_starts(alloc, view, EVENT)?,
+        properties: run_starts(alloc, view, PROPERTY)?,
+    })
+}
+
+impl Runs {
+    /// Where the runs in a child table begin.
+    fn of(&self, child: u8) -> &[u32]
+        ensures { result.now ≡ list_of_runs self.now child }
+    {
+        match child {
+            FIELD => &self.fields,
+            METHOD_DEF => &self.methods,
+            PARAM => &self.params,
+            EVENT => &self.events,
+            _ => &self.properties,
+        }
+    }
+}
+
+/// Where the run of a row begins in a child table.
+#[tactic(auto, using(crate::proofs::RunStarts::run_is, crate::proofs::RunStarts::run_there))]
+pub(crate) fn run_number<V: ModuleView>(
+    view: &V,
+    runs: &Runs,
+    row: Token,
+    i: u8,
+    child: u8,
+) -> u32
+    requires runs { AreRuns (V.meaning view.now) runs.now }
+    requires row { IsTrue (has_row (V.meaning view.now) row) }
+    requires column { column_in row.table i ≡ Some (Run child) }
+    ensures { result ≡ run_first (V.meaning view.now) child row.row }
+{
+    runs.of(child)[row.row as usize - 1]
 }

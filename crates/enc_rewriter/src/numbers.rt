@@ -1,0 +1,151 @@
+//! The numbers in the columns of a row that is written (ECMA-335 II.22).
+ghost use Rattle.std.specs.Prelude.{◌≡◌, ◌<◌, ◌^◌, false, Some, IsTrue, IfOk, length};
+ghost use Rattle.enc_meta.specs.Built.{heaps_built};
+ghost use Rattle.enc_meta.specs.Heaps.{Counted};
+ghost use Rattle.enc_plain.specs.Cell.{is_body, is_field, kind_of, numbers, kind_in, number};
+ghost use Rattle.enc_plain.specs.Module.{has_row, cell_of};
+ghost use Rattle.enc_plain.specs.Reading.{cell_read};
+ghost use Rattle.enc_plain.specs.Sound.{IsSound, row_count};
+ghost use Rattle.enc_schema.specs.Schema.{columns_in, column_in};
+ghost use Rattle.enc_schema.specs.Tables.{field_rva, method_def};
+ghost use Rattle.enc_schema.specs.declared.column.Column.TheVariants.{Text, Blob, Guid};
+ghost use Rattle.enc_rewriter.specs.Numbers.{reading_by, PlainNumberSays, NumberSays, AreRuns};
+ghost use Rattle.enc_rewriter.specs.Values.{KeepValues};
+
+use crate::kept::{blob_offset, guid_number, text_offset};
+use crate::pass::text_in;
+use crate::placed::PlacedCode;
+use crate::references::{coded_number, index_number};
+use crate::runs::{Runs, run_number};
+use enc_base::Token;
+use enc_meta::HeapBuilder;
+use enc_plain::ModuleView;
+use enc_schema::Column;
+use enc_schema::tables::{FIELD_RVA, METHOD_DEF};
+use std::alloc::AllocError;
+
+/// The offset of the text in a column.
+#[tactic(auto, using(crate::proofs::Says::text_kind, crate::proofs::Says::text_is_kept, crate::proofs::Says::text_says))]
+fn text_number<V: ModuleView>(
+    view: &V,
+    heaps: &mut HeapBuilder,
+    row: Token,
+    i: u8,
+) -> Result<u32, AllocError>
+    requires sound { IsSound (V.meaning view.now) }
+    requires kept { KeepValues (V.meaning view.now) heaps.old }
+    requires row { IsTrue (has_row (V.meaning view.now) row) }
+    requires column { column_in row.table i ≡ Some Text }
+    ensures says { IfOk result (λ x. cell_read (reading_by (V.meaning view.now) (heaps_built heaps.old)) Text x ≡ cell_of (V.meaning view.now) row i) }
+    ensures same { heaps.new ≡ heaps.old }
+{
+    text_offset(heaps, text_in(view, row, i))
+}
+
+/// The offset of the blob in a column.
+#[tactic(auto, using(crate::proofs::Says::blob_kind, crate::proofs::Says::blob_is_kept, crate::proofs::Says::blob_says))]
+fn blob_number<V: ModuleView>(
+    view: &V,
+    heaps: &mut HeapBuilder,
+    row: Token,
+    i: u8,
+) -> Result<u32, AllocError>
+    requires sound { IsSound (V.meaning view.now) }
+    requires kept { KeepValues (V.meaning view.now) heaps.old }
+    requires row { IsTrue (has_row (V.meaning view.now) row) }
+    requires column { column_in row.table i ≡ Some Blob }
+    ensures says { IfOk result (λ x. cell_read (reading_by (V.meaning view.now) (heaps_built heaps.old)) Blob x ≡ cell_of (V.meaning view.now) row i) }
+    ensures same { heaps.new ≡ heaps.old }
+{
+    blob_offset(heaps, view.blob(row, i))
+}
+
+/// The number of the GUID in a column.
+#[tactic(auto, using(crate::proofs::Says::guid_kind, crate::proofs::Says::guid_is_kept, crate::proofs::Says::guid_says))]
+fn guid_number_in<V: ModuleView>(
+    view: &V,
+    heaps: &mut HeapBuilder,
+    row: Token,
+    i: u8,
+) -> Result<u32, AllocError>
+    requires sound { IsSound (V.meaning view.now) }
+    requires kept { KeepValues (V.meaning view.now) heaps.old }
+    requires row { IsTrue (has_row (V.meaning view.now) row) }
+    requires column { column_in row.table i ≡ Some Guid }
+    ensures says { IfOk result (λ x. cell_read (reading_by (V.meaning view.now) (heaps_built heaps.old)) Guid x ≡ cell_of (V.meaning view.now) row i) }
+    ensures same { heaps.new ≡ heaps.old }
+{
+    guid_number(heaps, view.guid(row, i))
+}
+
+/// The number in a column of numbers that is no place.
+#[tactic(auto, using(crate::proofs::Says::number_kind, crate::proofs::Says::number_says))]
+fn number_in<V: ModuleView>(view: &V, row: Token, i: u8, column: Column) -> u32
+    requires row { IsTrue (has_row (V.meaning view.now) row) }
+    requires column { column_in row.table i ≡ Some column }
+    requires kind { kind_of column ≡ Some numbers }
+    requires body { is_body row.table i ≡ false }
+    requires field { is_field row.table i ≡ false }
+    ensures { (h : Counted) → cell_read (reading_by (V.meaning view.now) h) column result ≡ cell_of (V.meaning view.now) row i }
+{
+    view.num(row, i)
+}
+
+/// The number in a column that is no place of bytes.
+fn plain_number<V: ModuleView>(
+    view: &V,
+    heaps: &mut HeapBuilder,
+    runs: &Runs,
+    row: Token,
+    i: u8,
+    column: Column,
+) -> Result<u32, AllocError>
+    requires sound { IsSound (V.meaning view.now) }
+    requires kept { KeepValues (V.meaning view.now) heaps.old }
+    requires runs { AreRuns (V.meaning view.now) runs.now }
+    requires row { IsTrue (has_row (V.meaning view.now) row) }
+    requires column { column_in row.table i ≡ Some column }
+    requires body { is_body row.table i ≡ false }
+    requires field { is_field row.table i ≡ false }
+    ensures says { IfOk result (λ x. PlainNumberSays (V.meaning view.now) (heaps_built heaps.old) row i column x) }
+    ensures same { heaps.new ≡ heaps.old }
+{
+    match column {
+        Column::Num8 | Column::Num16 | Column::Num32 => Ok(number_in(view, row, i, column)),
+        Column::Text => text_number(view, heaps, row, i),
+        Column::Blob => blob_number(view, heaps, row, i),
+        Column::Guid => guid_number_in(view, heaps, row, i),
+        Column::Index(table) => Ok(index_number(view, row, i, table)),
+        Column::Coded(kind) => Ok(coded_number(view, row, i, kind)),
+        Column::Run(child) => Ok(run_number(view, runs, row, i, child)),
+    }
+}
+
+/// The number in a column.
+pub(crate) fn number_at<V: ModuleView>(
+    view: &V,
+    heaps: &mut HeapBuilder,
+    runs: &Runs,
+    placed: &PlacedCode,
+    row: Token,
+    i: u8,
+    column: Column,
+) -> Result<u32, AllocError>
+    requires sound { IsSound (V.meaning view.now) }
+    requires kept { KeepValues (V.meaning view.now) heaps.old }
+    requires runs { AreRuns (V.meaning view.now) runs.now }
+    requires methods { length placed.now.bodies ≡ row_count (V.meaning view.now) method_def }
+    requires fields { length placed.now.fields ≡ row_count (V.meaning view.now) field_rva }
+    requires row { IsTrue (has_row (V.meaning view.now) row) }
+    requires column { column_in row.table i ≡ Some column }
+    ensures says { IfOk result (λ x. NumberSays (V.meaning view.now) (heaps_built heaps.old) placed.now row i column x) }
+    ensures same { heaps.new ≡ heaps.old }
+{
+    if row.table == METHOD_DEF && i == 0 {
+        return Ok(placed.body(row.row as usize - 1));
+    }
+    if row.table == FIELD_RVA && i == 0 {
+        return Ok(placed.field(row.row as usize - 1));
+    }
+    plain_number(view, heaps, runs, row, i, column)
+}
