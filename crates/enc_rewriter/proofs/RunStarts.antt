@@ -16,6 +16,16 @@ use Rattle.std.specs.Prelude.{slice_index}
 use Rattle.enc_base.specs.declared.token.Token.{Token}
 use Rattle.enc_schema.specs.Schema.{columns_in, column_in}
 use Rattle.enc_schema.specs.declared.column.Column.TheVariants.{Run}
+use Rattle.std.proofs.Common.{subst}
+use Rattle.std.specs.List.{list_all}
+use Rattle.std.proofs.lemmas.List.FromFn.{length-map-range_with_len}
+use Rattle.std.proofs.lemmas.Option.{get_or_from_slice_get}
+use Rattle.enc_plain.proofs.Columns.{both_left, both_right}
+use Rattle.enc_plain.proofs.KindsOf.{row_bounds}
+use Rattle.enc_rows.proofs.Listed.{get_below}
+use Rattle.enc_schema.proofs.ChildTables.{by_child}
+use Rattle.enc_schema.specs.Schema.{list_at, schema}
+use Rattle.enc_schema.specs.declared.column.Column.{Column}
 use Rattle.enc_rewriter.specs.Numbers.{run_first, runs_begin, RunLists, list_of_runs, AreRuns}
 
 -- the first run begins at 1
@@ -95,11 +105,63 @@ fits_next m child n first many sound there low is kids =
     let small = sound.counts.few child in
     omega (arith, next, few, small, is, kids)
 
+-- a run's list has its place for each owner
+at_place : (f : ℕ → ℕ) (n k : ℕ) → k < n → slice_index (map f (below n)) k ≡ f k
+at_place f n k low = get_or_from_slice_get (map f (below n)) k (f k) 0 (get_below f n k low)
+
+in_runs : (m : Module) (child n row : ℕ) → 0 < row → row ≤ n → (slice_index (runs_begin m child n) (row - 1) ≡ run_first m child row) × (row - 1 < length (runs_begin m child n))
+unfolding runs_begin below
+in_runs m child n row low high =
+    let e : row - 1 + 1 ≡ row = omega arith in
+    let long : length (map (λ (k : ℕ). run_first m child (k + 1)) (range_with_len 0 n)) ≡ n = length-map-range_with_len (λ (k : ℕ). run_first m child (k + 1)) 0 n in
+    (at_place (λ k. run_first m child (k + 1)) n (row - 1) (omega (arith, low, high)) ∙ ap (run_first m child) e, omega (arith, long, low, high))
+
+-- a column of runs stands in the table of its owners
+abbrev owned : ℕ → Column → Bool
+owned t (Run child) = t == owner_table child && is_child_table child
+owned t _ = true
+
+abbrev all_owned : ℕ → List (List Column) → Bool
+all_owned k [] = true
+all_owned k (columns ∷ rest) = list_all (owned k) columns && all_owned (suc k) rest
+
+in_schema : all_owned 0 schema ≡ true
+in_schema = refl
+
+in_list : (t : ℕ) (columns : List Column) (i : ℕ) (c : Column) → list_all (owned t) columns ≡ true → slice_get columns i ≡ Some c → owned t c ≡ true
+in_list t [] i c all e = absurd cc
+in_list t (x ∷ xs) zero c all e = let is : x ≡ c = cc in rw (← is) (both_left (owned t x) _ all)
+in_list t (x ∷ xs) (suc i) c all e = in_list t xs i c (both_right (owned t x) _ all) e
+
+in_table : (lists : List (List Column)) (k t i : ℕ) (c : Column) → all_owned k lists ≡ true → slice_get (list_at lists t) i ≡ Some c → owned (k + t) c ≡ true
+in_table [] k t i c all e = absurd cc
+in_table (x ∷ xs) k zero i c all e = let z : k + 0 ≡ k = omega arith in rw z (in_list k x i c (both_left (list_all (owned k) x) _ all) e)
+in_table (x ∷ xs) k (suc t) i c all e = let z : k + suc t ≡ suc k + t = omega arith in rw z (in_table xs (suc k) t i c (both_right (list_all (owned k) x) _ all) e)
+
+owner_is : (t child : ℕ) → (t == owner_table child && is_child_table child) ≡ true → (t ≡ owner_table child) × (is_child_table child ≡ true)
+owner_is t child e = let a = both_left (t == owner_table child) (is_child_table child) e in (grind (arith, nat_tests, a), both_right (t == owner_table child) (is_child_table child) e)
+
 -- the columns of runs are those of the owners' tables
+pub owners : (t i child : ℕ) → column_in t i ≡ Some (Run child) → (t ≡ owner_table child) × (is_child_table child ≡ true)
+unfolding columns_in
+owners t i child e = let z : 0 + t ≡ t = omega arith in owner_is t child (subst (λ k. owned k (Run child) ≡ true) z (in_table schema 0 t i (Run child) in_schema e))
+
+run_list : (m : Module) (r : RunLists) (child : ℕ) → AreRuns m r → is_child_table child ≡ true → list_of_runs r child ≡ runs_begin m child (row_count m (owner_table child))
+run_list m r child runs there = by_child (λ k. list_of_runs r k ≡ runs_begin m k (row_count m (owner_table k))) runs.fields runs.methods runs.params runs.events runs.properties child there
+
+run_of : (m : Module) (r : RunLists) (u : Token) (child : ℕ) → AreRuns m r → has_row m u ≡ true → u.table ≡ owner_table child → is_child_table child ≡ true
+    → (slice_index (list_of_runs r child) (u.row - 1) ≡ run_first m child u.row) × (u.row - 1 < length (list_of_runs r child))
+run_of m r u child runs there e is =
+    let row = row_bounds m u there in
+    let high : u.row ≤ row_count m (owner_table child) = subst (λ t. u.row ≤ row_count m t) e row.1 in
+    let at = in_runs m child (row_count m (owner_table child)) u.row row.0 high in
+    let list = run_list m r child runs is in
+    (ap (λ xs. slice_index xs (u.row - 1)) list ∙ at.0, subst (λ xs. u.row - 1 < length xs) (sym list) at.1)
+
 pub run_is : (m : Module) (r : RunLists) (u : Token) (i child : ℕ) → AreRuns m r → has_row m u ≡ true → column_in u.table i ≡ Some (Run child)
     → slice_index (list_of_runs r child) (u.row - 1) ≡ run_first m child u.row
-run_is m r u i child runs there e = ?
+run_is m r u i child runs there e = let o = owners u.table i child e in (run_of m r u child runs there o.0 o.1).0
 
 pub run_there : (m : Module) (r : RunLists) (u : Token) (i child : ℕ) → AreRuns m r → has_row m u ≡ true → column_in u.table i ≡ Some (Run child)
     → u.row - 1 < length (list_of_runs r child)
-run_there m r u i child runs there e = ?
+run_there m r u i child runs there e = let o = owners u.table i child e in (run_of m r u child runs there o.0 o.1).1

@@ -39,7 +39,8 @@ fn text_number<V: ModuleView>(
     ensures says { IfOk result (λ x. cell_read (reading_by (V.meaning view.now) (heaps_built heaps.old)) Text x ≡ cell_of (V.meaning view.now) row i) }
     ensures same { heaps.new ≡ heaps.old }
 {
-    text_offset(heaps, text_in(view, row, i))
+    let offset = text_offset(heaps, text_in(view, row, i))?;
+    Ok(offset)
 }
 
 /// The offset of the blob in a column.
@@ -57,7 +58,8 @@ fn blob_number<V: ModuleView>(
     ensures says { IfOk result (λ x. cell_read (reading_by (V.meaning view.now) (heaps_built heaps.old)) Blob x ≡ cell_of (V.meaning view.now) row i) }
     ensures same { heaps.new ≡ heaps.old }
 {
-    blob_offset(heaps, view.blob(row, i))
+    let offset = blob_offset(heaps, view.blob(row, i))?;
+    Ok(offset)
 }
 
 /// The number of the GUID in a column.
@@ -75,7 +77,8 @@ fn guid_number_in<V: ModuleView>(
     ensures says { IfOk result (λ x. cell_read (reading_by (V.meaning view.now) (heaps_built heaps.old)) Guid x ≡ cell_of (V.meaning view.now) row i) }
     ensures same { heaps.new ≡ heaps.old }
 {
-    guid_number(heaps, view.guid(row, i))
+    let number = guid_number(heaps, view.guid(row, i))?;
+    Ok(number)
 }
 
 /// The number in a column of numbers that is no place.
@@ -111,7 +114,9 @@ fn plain_number<V: ModuleView>(
     ensures same { heaps.new ≡ heaps.old }
 {
     match column {
-        Column::Num8 | Column::Num16 | Column::Num32 => Ok(number_in(view, row, i, column)),
+        Column::Num8 => Ok(number_in(view, row, i, Column::Num8)),
+        Column::Num16 => Ok(number_in(view, row, i, Column::Num16)),
+        Column::Num32 => Ok(number_in(view, row, i, Column::Num32)),
         Column::Text => text_number(view, heaps, row, i),
         Column::Blob => blob_number(view, heaps, row, i),
         Column::Guid => guid_number_in(view, heaps, row, i),
@@ -122,6 +127,7 @@ fn plain_number<V: ModuleView>(
 }
 
 /// The number in a column.
+#[tactic(auto, using(enc_plain::proofs::KindsOf::row_bounds))]
 pub(crate) fn number_at<V: ModuleView>(
     view: &V,
     heaps: &mut HeapBuilder,

@@ -101,7 +101,7 @@ impl Runs {
 }
 
 /// Where the run of a row begins in a child table.
-#[tactic(auto, using(crate::proofs::RunStarts::run_is, crate::proofs::RunStarts::run_there))]
+#[tactic(auto, using(crate::proofs::RunStarts::run_is, crate::proofs::RunStarts::run_there, enc_plain::proofs::KindsOf::row_bounds))]
 pub(crate) fn run_number<V: ModuleView>(
     view: &V,
     runs: &Runs,
