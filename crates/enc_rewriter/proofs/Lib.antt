@@ -3,6 +3,7 @@ pub mod Gathers
 pub mod KeptValues
 pub mod ReadAs
 pub mod RefersTo
+pub mod RowsPushed
 pub mod RunStarts
 pub mod Says
 pub mod UserTexts

@@ -7,7 +7,7 @@ use Rattle.enc_opcodes.proofs.Instructions.{rest_none, rest_more}
 use Rattle.std.proofs.Common.{◌∙◌, subst, Result}
 use Rattle.enc_meta.specs.Built.{Built}
 use Rattle.enc_meta.specs.declared.builder.BuildFault.{BuildFault}
-use Rattle.enc_rewriter.specs.Values.{text_named, texts_named, filled, IsPast}
+use Rattle.enc_rewriter.specs.Values.{text_named, texts_named, with_all, IsPast}
 use Rattle.enc_rewriter.specs.declared.pass.Pass.TheVariants.{Users}
 use Rattle.enc_rewriter.proofs.Fills.{filled_both, fill_grows, past_grows}
 use Rattle.enc_base.specs.Numbers.{AreBytes}
@@ -45,26 +45,26 @@ left_none texts code at none = rw (rest_none code at (sym none)) refl
 
 -- one more instruction
 pub next_left : (texts : ℕ → Option (List ℕ)) (code : List ℕ) (at n : ℕ) (i : Instruction ℕ) (first old new : Built) → Some (i, n) ≡ instr_in code at
-    → filled Users old (left texts code at) ≡ filled Users first (left texts code 0) → new ≡ filled Users old (text_named (told texts i.arg))
-    → filled Users new (left texts code n) ≡ filled Users first (left texts code 0)
+    → with_all Users old (left texts code at) ≡ with_all Users first (left texts code 0) → new ≡ with_all Users old (text_named (told texts i.arg))
+    → with_all Users new (left texts code n) ≡ with_all Users first (left texts code 0)
 next_left texts code at n i first old new is so_far one =
-    ap (λ h. filled Users h (left texts code n)) one
+    ap (λ h. with_all Users h (left texts code n)) one
     ∙ sym (filled_both Users old (text_named (told texts i.arg)) (left texts code n))
-    ∙ ap (λ xs. filled Users old xs) (sym (left_more texts code at n i is))
+    ∙ ap (λ xs. with_all Users old xs) (sym (left_more texts code at n i is))
     ∙ so_far
 
 -- what is refused at one instruction is refused at all
 pub past_left : (texts : ℕ → Option (List ℕ)) (code : List ℕ) (at n : ℕ) (i : Instruction ℕ) (first old : Built) (r : Result Unit BuildFault) → Some (i, n) ≡ instr_in code at
-    → filled Users old (left texts code at) ≡ filled Users first (left texts code 0) → IsPast r Users (filled Users old (text_named (told texts i.arg)))
-    → IsPast r Users (filled Users first (left texts code 0))
+    → with_all Users old (left texts code at) ≡ with_all Users first (left texts code 0) → IsPast r Users (with_all Users old (text_named (told texts i.arg)))
+    → IsPast r Users (with_all Users first (left texts code 0))
 past_left texts code at n i first old r is so_far past =
-    let e : filled Users old (left texts code at) ≡ filled Users (filled Users old (text_named (told texts i.arg))) (left texts code n) =
-        ap (λ xs. filled Users old xs) (left_more texts code at n i is) ∙ filled_both Users old (text_named (told texts i.arg)) (left texts code n) in
-    let one = filled Users old (text_named (told texts i.arg)) in
+    let e : with_all Users old (left texts code at) ≡ with_all Users (with_all Users old (text_named (told texts i.arg))) (left texts code n) =
+        ap (λ xs. with_all Users old xs) (left_more texts code at n i is) ∙ filled_both Users old (text_named (told texts i.arg)) (left texts code n) in
+    let one = with_all Users old (text_named (told texts i.arg)) in
     subst (λ h. IsPast r Users h) (sym e ∙ so_far)
-    (past_grows r Users one (filled Users one (left texts code n)) (fill_grows Users one (left texts code n)) past)
+    (past_grows r Users one (with_all Users one (left texts code n)) (fill_grows Users one (left texts code n)) past)
 
 pub all_left : (texts : ℕ → Option (List ℕ)) (code : List ℕ) (at : ℕ) (first old : Built) → None ≡ instr_in code at
-    → filled Users old (left texts code at) ≡ filled Users first (left texts code 0) → old ≡ filled Users first (left texts code 0)
-unfolding filled
-all_left texts code at first old none so_far = let e : old ≡ filled Users old (left texts code at) = rw (left_none texts code at none) refl in e ∙ so_far
+    → with_all Users old (left texts code at) ≡ with_all Users first (left texts code 0) → old ≡ with_all Users first (left texts code 0)
+unfolding with_all
+all_left texts code at first old none so_far = let e : old ≡ with_all Users old (left texts code at) = rw (left_none texts code at none) refl in e ∙ so_far

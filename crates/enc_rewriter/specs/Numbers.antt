@@ -1,5 +1,5 @@
 -- The numbers in the columns of a module's rows that are written (ECMA-335 II.22, II.24.2.6): each says its cell by the heaps, by where bodies and fields are placed, and by the order of children.
-use Rattle.std.specs.Prelude.{◌≡◌, ℕ, ◌+◌, ◌-◌, ◌<◌, ◌&&◌, bytes_eq, Bool, true, false, List, [], ◌∷◌, length, map, flat_map, take, Option, Some, None, nat_lt, nat_le, ◌==◌, if◌then◌else◌, slice_get, slice_index}
+use Rattle.std.specs.Prelude.{◌≡◌, ℕ, ◌+◌, ◌-◌, ◌<◌, ◌≤◌, ◌&&◌, bytes_eq, Bool, true, false, List, [], ◌∷◌, length, map, flat_map, take, Option, Some, None, nat_lt, nat_le, ◌==◌, if◌then◌else◌, slice_get, slice_index}
 use Rattle.std.specs.List.{range_with_len, list_any}
 use Rattle.enc_base.specs.Token.{nth_row, nil}
 use Rattle.enc_base.specs.declared.token.Token.{Token}
@@ -8,7 +8,7 @@ use Rattle.enc_opcodes.specs.Body.{Body}
 use Rattle.enc_plain.specs.Cell.{Cell, is_body, is_field}
 use Rattle.enc_plain.specs.Module.{Module, Row, rows_in, kids_at, cell_of}
 use Rattle.enc_plain.specs.Reading.{Reading, cell_read}
-use Rattle.enc_plain.specs.Sound.{row_count, all_kids, is_part}
+use Rattle.enc_plain.specs.Sound.{row_count, all_kids, is_part, IsSound}
 use Rattle.enc_rows.specs.Sums.{below}
 use Rattle.enc_rows.specs.Written.{rows_at}
 use Rattle.enc_schema.specs.Children.{is_child_table, owner_table, ptr_of}
@@ -16,7 +16,9 @@ use Rattle.enc_schema.specs.Schema.{columns_in, column_in}
 use Rattle.enc_schema.specs.declared.column.Column.{Column}
 use Rattle.enc_schema.specs.declared.column.Column.TheVariants.{Run}
 use Rattle.enc_schema.specs.Tables as tables
+use Rattle.enc_meta.specs.Built.{Built}
 use Rattle.enc_rewriter.specs.Placed.{Placed}
+use Rattle.enc_rewriter.specs.Values.{KeepValues}
 
 -- by what the numbers of a module with these heaps are read; places stand in lists of their own
 abbrev pub reading_by : Module → Counted → Reading
@@ -72,14 +74,21 @@ pub record NumberSays (m : Module) (h : Counted) (p : Placed) (u : Token) (i : �
   pub field : is_field u.table i ≡ true → x ≡ slice_index p.fields (u.row - 1)
   pub plain : is_body u.table i ≡ false → is_field u.table i ≡ false → PlainNumberSays m h u i column x
 
--- so say all numbers of a row, one for each column, and those of all rows of a table
-pub record RowSays (m : Module) (h : Counted) (p : Placed) (u : Token) (cells : List ℕ) : Type 0 where
-  pub count : length cells ≡ length (columns_in u.table)
+-- so say the first so many numbers of a row, and all of them, one for each column
+pub record FrontSays (m : Module) (h : Counted) (p : Placed) (u : Token) (many : ℕ) (cells : List ℕ) : Type 0 where
+  pub count : length cells ≡ many
   pub each : (i : ℕ) (column : Column) (x : ℕ) → column_in u.table i ≡ Some column → slice_get cells i ≡ Some x → NumberSays m h p u i column x
 
-pub record TableSays (m : Module) (h : Counted) (p : Placed) (t : ℕ) (rows : List (List ℕ)) : Type 0 where
-  pub count : length rows ≡ row_count m t
+abbrev pub RowSays : Module → Counted → Placed → Token → List ℕ → Type 0
+RowSays m h p u cells = FrontSays m h p u (length (columns_in u.table)) cells
+
+-- and those of so many rows of a table, and of all
+pub record RowsSay (m : Module) (h : Counted) (p : Placed) (t many : ℕ) (rows : List (List ℕ)) : Type 0 where
+  pub count : length rows ≡ many
   pub each : (n : ℕ) (cells : List ℕ) → slice_get rows n ≡ Some cells → RowSays m h p (nth_row t n) cells
+
+abbrev pub TableSays : Module → Counted → Placed → ℕ → List (List ℕ) → Type 0
+TableSays m h p t rows = RowsSay m h p t (row_count m t) rows
 
 -- children that stand in the order of their rows, from the first on
 abbrev pub is_in_row_order : List ℕ → Bool
@@ -104,3 +113,20 @@ has_wide_run m child =
 -- then all indices are wide
 unfoldable pub needs_jtd : Module → Bool
 needs_jtd m = list_any (has_wide_run m) (tables.field ∷ tables.method_def ∷ tables.param ∷ tables.event ∷ tables.property ∷ [])
+
+-- what the numbers of a module's rows are found by
+pub record AreReady (m : Module) (h : Built) (r : RunLists) (p : Placed) : Type 0 where
+  pub sound : IsSound m
+  pub kept : KeepValues m h
+  pub runs : AreRuns m r
+  pub methods : length p.bodies ≡ row_count m tables.method_def
+  pub fields : length p.fields ≡ row_count m tables.field_rva
+
+-- the rows of all tables but one are as they were
+abbrev pub KeepOthers : ℕ → List (List (List ℕ)) → List (List (List ℕ)) → Type 0
+KeepOthers table old new = (k : ℕ) → ¬ (k ≡ table) → rows_at new k ≡ rows_at old k
+
+-- the tables below one have the rows of the module, and those from it on have none yet
+pub record TablesSay (m : Module) (h : Counted) (p : Placed) (upto : ℕ) (rows : List (List (List ℕ))) : Type 0 where
+  pub below : (t : ℕ) → t < upto → TableSays m h p t (rows_at rows t)
+  pub behind : (t : ℕ) → upto ≤ t → rows_at rows t ≡ []

@@ -27,8 +27,8 @@ abbrev pub root_of_parts : Module → Built → List (List (List ℕ)) → List 
 root_of_parts m h rows = root_built (record { heaps = h; rows = rows }) (needs_jtd m)
 
 -- the image
-unfoldable pub image_of : Module → Built → Placed → List (List (List ℕ)) → List ℕ
-image_of m h p rows = image_written (root_of_parts m h rows) p.code m.resources m.entry
+unfoldable pub image_of_parts : Module → Built → Placed → List (List (List ℕ)) → List ℕ
+image_of_parts m h p rows = image_written (root_of_parts m h rows) p.code m.resources m.entry
 
 -- its root is shorter than 2^32 bytes, the image has at most 2^31, and the entry is a number of four bytes
 pub record FitsImage (m : Module) (h : Built) (p : Placed) (rows : List (List (List ℕ))) : Type 0 where
@@ -45,4 +45,4 @@ pub record MeansModule (m : Module) (bytes : List ℕ) : Type 0 where
 -- an image whose parts hold a sound module means it
 abbrev pub ImagesMean : Type 0
 ImagesMean = (m : Module) (h : Built) (p : Placed) (rows : List (List (List ℕ))) → IsSound m → HoldModule m h p rows → FitsImage m h p rows
-    → MeansModule m (image_of m h p rows)
+    → MeansModule m (image_of_parts m h p rows)

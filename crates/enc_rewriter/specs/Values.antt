@@ -30,14 +30,14 @@ unfoldable pub texts_named : List (ℕ × Instruction (List ℕ)) → List (List
 texts_named code = flat_map (λ (x : ℕ × Instruction (List ℕ)). text_named x.1.arg) code
 
 -- the user texts of a body, if there is one
-abbrev pub users_of : Option Body → List (List ℕ)
-users_of None = []
-users_of (Some b) = texts_named b.code
+abbrev pub users_of_body : Option Body → List (List ℕ)
+users_of_body None = []
+users_of_body (Some b) = texts_named b.code
 
 -- what a cell has for a heap: `#Strings` its text, `#US` the user texts of its body, `#Blob` its blob, `#GUID` its GUID
 abbrev pub values_for : Pass → Cell → List (List ℕ)
 values_for pass.Texts (text v) = v ∷ []
-values_for pass.Users (body there) = users_of there
+values_for pass.Users (body there) = users_of_body there
 values_for pass.Blobs (blob v) = v ∷ []
 values_for pass.Guids (guid v) = v ∷ []
 values_for _ _ = []
@@ -74,9 +74,9 @@ with_one pass.Users h v = with_user h v
 with_one pass.Blobs h v = with_blob h v
 with_one pass.Guids h v = with_guid h v
 
-unfoldable pub filled : Pass → Built → List (List ℕ) → Built
-filled p h [] = h
-filled p h (v ∷ rest) = filled p (with_one p h v) rest
+unfoldable pub with_all : Pass → Built → List (List ℕ) → Built
+with_all p h [] = h
+with_all p h (v ∷ rest) = with_all p (with_one p h v) rest
 
 -- heaps behind no others
 abbrev pub no_starts : HeapLengths
@@ -89,19 +89,19 @@ no_heaps = none_from no_starts
 -- the heaps of a module: each value once, in the order of first use
 unfoldable pub heaps_for : Module → Built
 heaps_for m =
-    filled pass.Guids (filled pass.Blobs (filled pass.Users (filled pass.Texts no_heaps (all_values pass.Texts m)) (all_values pass.Users m)) (all_values pass.Blobs m)) (all_values pass.Guids m)
+    with_all pass.Guids (with_all pass.Blobs (with_all pass.Users (with_all pass.Texts no_heaps (all_values pass.Texts m)) (all_values pass.Users m)) (all_values pass.Blobs m)) (all_values pass.Guids m)
 
 -- how long the heap of a pass is
-abbrev pub size_of : Pass → Built → ℕ
-size_of pass.Texts h = joined_end text_bytes h.starts.strings h.texts
-size_of pass.Users h = joined_end user_bytes h.starts.users h.users
-size_of pass.Blobs h = joined_end blob_bytes h.starts.blobs h.blobs
-size_of pass.Guids h = 16 * (h.starts.guids + length h.guids)
+abbrev pub heap_size : Pass → Built → ℕ
+heap_size pass.Texts h = joined_end text_bytes h.starts.strings h.texts
+heap_size pass.Users h = joined_end user_bytes h.starts.users h.users
+heap_size pass.Blobs h = joined_end blob_bytes h.starts.blobs h.blobs
+heap_size pass.Guids h = 16 * (h.starts.guids + length h.guids)
 
 -- and how long it may be
-abbrev pub limit_of : Pass → ℕ
-limit_of pass.Users = 2 ^ 24
-limit_of _ = 2 ^ 29
+abbrev pub heap_limit : Pass → ℕ
+heap_limit pass.Users = 2 ^ 24
+heap_limit _ = 2 ^ 29
 
 abbrev pub heap_of : Pass → StreamName
 heap_of pass.Texts = Strings
@@ -112,7 +112,7 @@ heap_of pass.Guids = Guids
 -- what a pass tells where it is refused: its heap, which passes its limit; want of memory tells nothing
 abbrev pub IsPast : Result Unit BuildFault → Pass → Built → Type 0
 IsPast (Ok _) p h = Unit {0}
-IsPast (Err (TooLarge heap)) p h = (heap ≡ heap_of p) × (nat_lt (limit_of p) (size_of p h) ≡ true)
+IsPast (Err (TooLarge heap)) p h = (heap ≡ heap_of p) × (nat_lt (heap_limit p) (heap_size p h) ≡ true)
 IsPast (Err Memory) p h = Unit {0}
 
 -- the bytes of a user text's whole units, none where there is no text

@@ -6,6 +6,7 @@ mod numbers;
 mod pass;
 mod placed;
 mod references;
+mod rows;
 mod runs;
 mod users;
 

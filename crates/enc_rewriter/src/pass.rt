@@ -7,7 +7,7 @@ ghost use Rattle.enc_plain.specs.Module.{has_row, cell_of};
 ghost use Rattle.enc_plain.specs.Sound.{IsSound, row_count};
 ghost use Rattle.enc_schema.specs.Schema.{columns_in, column_in};
 ghost use Rattle.enc_schema.specs.Tables.{method_def};
-ghost use Rattle.enc_rewriter.specs.Values.{gathers as does_gather, values_at, values_of_row, values_of_table, all_values, filled, IsPast};
+ghost use Rattle.enc_rewriter.specs.Values.{gathers as does_gather, values_at, values_of_row, values_of_table, all_values, with_all, IsPast};
 ghost use Rattle.enc_rewriter.specs.declared.pass.Pass.TheVariants.{Texts, Blobs, Guids, Users};
 
 use crate::users::add_named;
@@ -27,11 +27,11 @@ pub enum Pass {
 }
 
 /// Adds a text.
-#[tactic(auto, using(crate::proofs::Fills::text_past), unfolding(crate::specs::Values::filled))]
+#[tactic(auto, using(crate::proofs::Fills::text_past), unfolding(crate::specs::Values::with_all))]
 fn add_text(text: &[u8], heaps: &mut HeapBuilder) -> Result<(), BuildFault>
     requires { IsTrue (not (list_any (λ c. c == 0) text.now)) }
-    ensures filled { OnOk result (heaps.new ≡ filled Texts heaps.old (text.now ∷ [])) }
-    ensures past { IsPast result Texts (filled Texts heaps.old (text.now ∷ [])) }
+    ensures filled { OnOk result (heaps.new ≡ with_all Texts heaps.old (text.now ∷ [])) }
+    ensures past { IsPast result Texts (with_all Texts heaps.old (text.now ∷ [])) }
 {
     match heaps.add_text(text) {
         Ok(_) => Ok(()),
@@ -40,10 +40,10 @@ fn add_text(text: &[u8], heaps: &mut HeapBuilder) -> Result<(), BuildFault>
 }
 
 /// Adds a blob.
-#[tactic(auto, using(crate::proofs::Fills::blob_past), unfolding(crate::specs::Values::filled))]
+#[tactic(auto, using(crate::proofs::Fills::blob_past), unfolding(crate::specs::Values::with_all))]
 fn add_blob(blob: &[u8], heaps: &mut HeapBuilder) -> Result<(), BuildFault>
-    ensures filled { OnOk result (heaps.new ≡ filled Blobs heaps.old (blob.now ∷ [])) }
-    ensures past { IsPast result Blobs (filled Blobs heaps.old (blob.now ∷ [])) }
+    ensures filled { OnOk result (heaps.new ≡ with_all Blobs heaps.old (blob.now ∷ [])) }
+    ensures past { IsPast result Blobs (with_all Blobs heaps.old (blob.now ∷ [])) }
 {
     match heaps.add_blob(blob) {
         Ok(_) => Ok(()),
@@ -52,10 +52,10 @@ fn add_blob(blob: &[u8], heaps: &mut HeapBuilder) -> Result<(), BuildFault>
 }
 
 /// Adds a GUID.
-#[tactic(auto, using(crate::proofs::Fills::guid_past), unfolding(crate::specs::Values::filled))]
+#[tactic(auto, using(crate::proofs::Fills::guid_past), unfolding(crate::specs::Values::with_all))]
 fn add_guid(guid: [u8; 16], heaps: &mut HeapBuilder) -> Result<(), BuildFault>
-    ensures filled { OnOk result (heaps.new ≡ filled Guids heaps.old (guid ∷ [])) }
-    ensures past { IsPast result Guids (filled Guids heaps.old (guid ∷ [])) }
+    ensures filled { OnOk result (heaps.new ≡ with_all Guids heaps.old (guid ∷ [])) }
+    ensures past { IsPast result Guids (with_all Guids heaps.old (guid ∷ [])) }
 {
     match heaps.add_guid(guid) {
         Ok(_) => Ok(()),
@@ -75,7 +75,7 @@ pub(crate) fn text_in<V: ModuleView>(view: &V, row: Token, i: u8) -> &[u8]
 }
 
 /// Adds the user texts of a method's body.
-#[tactic(auto, unfolding(crate::specs::Values::values_at, crate::specs::Values::filled))]
+#[tactic(auto, unfolding(crate::specs::Values::values_at, crate::specs::Values::with_all))]
 fn add_users<V: ModuleView>(
     view: &V,
     method: Token,
@@ -83,8 +83,8 @@ fn add_users<V: ModuleView>(
 ) -> Result<(), BuildFault>
     requires row { IsTrue (has_row (V.meaning view.now) method) }
     requires table { method.table ≡ method_def }
-    ensures filled { OnOk result (heaps.new ≡ filled Users heaps.old (values_at Users (V.meaning view.now) method 0)) }
-    ensures past { IsPast result Users (filled Users heaps.old (values_at Users (V.meaning view.now) method 0)) }
+    ensures filled { OnOk result (heaps.new ≡ with_all Users heaps.old (values_at Users (V.meaning view.now) method 0)) }
+    ensures past { IsPast result Users (with_all Users heaps.old (values_at Users (V.meaning view.now) method 0)) }
 {
     match view.code(method) {
         Some(code) => add_named(view, &code, heaps),
@@ -118,8 +118,8 @@ fn add_gathered<V: ModuleView>(
     requires sound { IsSound (V.meaning view.now) }
     requires row { IsTrue (has_row (V.meaning view.now) row) }
     requires gathers { IsTrue (does_gather pass (kind_in row.table i)) }
-    ensures filled { OnOk result (heaps.new ≡ filled pass heaps.old (values_at pass (V.meaning view.now) row i)) }
-    ensures past { IsPast result pass (filled pass heaps.old (values_at pass (V.meaning view.now) row i)) }
+    ensures filled { OnOk result (heaps.new ≡ with_all pass heaps.old (values_at pass (V.meaning view.now) row i)) }
+    ensures past { IsPast result pass (with_all pass heaps.old (values_at pass (V.meaning view.now) row i)) }
 {
     match pass {
         Pass::Texts => add_text(text_in(view, row, i), heaps),
@@ -130,7 +130,7 @@ fn add_gathered<V: ModuleView>(
 }
 
 /// Adds what a row's column has for a heap.
-#[tactic(auto, using(crate::proofs::Gathers::nothing_there), unfolding(crate::specs::Values::filled))]
+#[tactic(auto, using(crate::proofs::Gathers::nothing_there), unfolding(crate::specs::Values::with_all))]
 fn add_cell<V: ModuleView>(
     view: &V,
     pass: Pass,
@@ -142,8 +142,8 @@ fn add_cell<V: ModuleView>(
     requires sound { IsSound (V.meaning view.now) }
     requires row { IsTrue (has_row (V.meaning view.now) row) }
     requires column { column_in row.table i ≡ Some column }
-    ensures filled { OnOk result (heaps.new ≡ filled pass heaps.old (values_at pass (V.meaning view.now) row i)) }
-    ensures past { IsPast result pass (filled pass heaps.old (values_at pass (V.meaning view.now) row i)) }
+    ensures filled { OnOk result (heaps.new ≡ with_all pass heaps.old (values_at pass (V.meaning view.now) row i)) }
+    ensures past { IsPast result pass (with_all pass heaps.old (values_at pass (V.meaning view.now) row i)) }
 {
     if !gathers(pass, row.table, i, column) {
         return Ok(());
@@ -156,8 +156,8 @@ fn add_cell<V: ModuleView>(
 fn add_row<V: ModuleView>(view: &V, pass: Pass, row: Token, heaps: &mut HeapBuilder) -> Result<(), BuildFault>
     requires sound { IsSound (V.meaning view.now) }
     requires row { IsTrue (has_row (V.meaning view.now) row) }
-    ensures filled { OnOk result (heaps.new ≡ filled pass heaps.old (values_of_row pass (V.meaning view.now) row)) }
-    ensures past { IsPast result pass (filled pass heaps.old (values_of_row pass (V.meaning view.now) row)) }
+    ensures filled { OnOk result (heaps.new ≡ with_all pass heaps.old (values_of_row pass (V.meaning view.now) row)) }
+    ensures past { IsPast result pass (with_all pass heaps.old (values_of_row pass (V.meaning view.now) row)) }
 {
     let columns = columns_of(row.table);
     for i in 0..columns.len() {
@@ -173,8 +173,8 @@ fn add_row<V: ModuleView>(view: &V, pass: Pass, row: Token, heaps: &mut HeapBuil
 #[tactic(auto, using(crate::proofs::Fills::fill_none, crate::proofs::Fills::fill_more, crate::proofs::Fills::past_more, crate::proofs::Gathers::row_there), unfolding(crate::specs::Values::values_of_table))]
 fn add_table<V: ModuleView>(view: &V, pass: Pass, table: u8, heaps: &mut HeapBuilder) -> Result<(), BuildFault>
     requires sound { IsSound (V.meaning view.now) }
-    ensures filled { OnOk result (heaps.new ≡ filled pass heaps.old (values_of_table pass (V.meaning view.now) table)) }
-    ensures past { IsPast result pass (filled pass heaps.old (values_of_table pass (V.meaning view.now) table)) }
+    ensures filled { OnOk result (heaps.new ≡ with_all pass heaps.old (values_of_table pass (V.meaning view.now) table)) }
+    ensures past { IsPast result pass (with_all pass heaps.old (values_of_table pass (V.meaning view.now) table)) }
 {
     for n in 0..view.count(table) {
         match add_row(view, pass, Token { table, row: n + 1 }, heaps) {
@@ -190,8 +190,8 @@ fn add_table<V: ModuleView>(view: &V, pass: Pass, table: u8, heaps: &mut HeapBui
 #[tactic(auto, using(crate::proofs::Fills::fill_none, crate::proofs::Fills::fill_more, crate::proofs::Fills::past_more), unfolding(crate::specs::Values::all_values))]
 pub fn add_values<V: ModuleView>(view: &V, pass: Pass, heaps: &mut HeapBuilder) -> Result<(), BuildFault>
     requires sound { IsSound (V.meaning view.now) }
-    ensures filled { OnOk result (heaps.new ≡ filled pass heaps.old (all_values pass (V.meaning view.now))) }
-    ensures past { IsPast result pass (filled pass heaps.old (all_values pass (V.meaning view.now))) }
+    ensures filled { OnOk result (heaps.new ≡ with_all pass heaps.old (all_values pass (V.meaning view.now))) }
+    ensures past { IsPast result pass (with_all pass heaps.old (all_values pass (V.meaning view.now))) }
 {
     for table in 0..64 {
         match add_table(view, pass, table, heaps) {

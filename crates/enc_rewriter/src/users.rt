@@ -6,7 +6,7 @@ ghost use Rattle.enc_base.specs.Units.{units_of};
 ghost use Rattle.enc_il.specs.Seen.{arg_seen};
 ghost use Rattle.enc_meta.specs.Built.{unit_bytes};
 ghost use Rattle.enc_opcodes.specs.Body.{body_of, code_seen, told};
-ghost use Rattle.enc_rewriter.specs.Values.{filled, text_named, texts_named, units_told, IsPast};
+ghost use Rattle.enc_rewriter.specs.Values.{with_all, text_named, texts_named, units_told, IsPast};
 ghost use Rattle.enc_rewriter.specs.declared.pass.Pass.TheVariants.{Users};
 
 use enc_il::instr_at;
@@ -36,11 +36,11 @@ pub(crate) fn units_at<V: ModuleView>(view: &V, offset: u32) -> &[u8]
 }
 
 /// Adds the units of a user text.
-#[tactic(auto, using(crate::proofs::Fills::user_past), unfolding(crate::specs::Values::filled))]
+#[tactic(auto, using(crate::proofs::Fills::user_past), unfolding(crate::specs::Values::with_all))]
 fn add_units(units: &[u8], heaps: &mut HeapBuilder) -> Result<(), BuildFault>
     requires { length units.now % 2 ≡ 0 }
-    ensures filled { OnOk result (heaps.new ≡ filled Users heaps.old (units.now ∷ [])) }
-    ensures past { IsPast result Users (filled Users heaps.old (units.now ∷ [])) }
+    ensures filled { OnOk result (heaps.new ≡ with_all Users heaps.old (units.now ∷ [])) }
+    ensures past { IsPast result Users (with_all Users heaps.old (units.now ∷ [])) }
 {
     match heaps.add_units(units) {
         Ok(_) => Ok(()),
@@ -49,10 +49,10 @@ fn add_units(units: &[u8], heaps: &mut HeapBuilder) -> Result<(), BuildFault>
 }
 
 /// Adds the user text of an operand, where it names one.
-#[tactic(auto, unfolding(crate::specs::Values::filled))]
+#[tactic(auto, unfolding(crate::specs::Values::with_all))]
 fn add_argument<V: ModuleView>(view: &V, arg: &Arg<'_>, heaps: &mut HeapBuilder) -> Result<(), BuildFault>
-    ensures filled { (end : ℕ) → OnOk result (heaps.new ≡ filled Users heaps.old (text_named (told (V.users view.now) (arg_seen end arg.now)))) }
-    ensures past { (end : ℕ) → IsPast result Users (filled Users heaps.old (text_named (told (V.users view.now) (arg_seen end arg.now)))) }
+    ensures filled { (end : ℕ) → OnOk result (heaps.new ≡ with_all Users heaps.old (text_named (told (V.users view.now) (arg_seen end arg.now)))) }
+    ensures past { (end : ℕ) → IsPast result Users (with_all Users heaps.old (text_named (told (V.users view.now) (arg_seen end arg.now)))) }
 {
     match *arg {
         Arg::User(offset) => add_units(units_at(view, offset), heaps),
@@ -67,8 +67,8 @@ pub(crate) fn add_named<V: ModuleView>(
     heaps: &mut HeapBuilder,
 ) -> Result<(), BuildFault>
     requires few { length code.now.code.now < 2 ^ 32 }
-    ensures filled { OnOk result (heaps.new ≡ filled Users heaps.old (texts_named (body_of (V.users view.now) (code_seen code.now)).code)) }
-    ensures past { IsPast result Users (filled Users heaps.old (texts_named (body_of (V.users view.now) (code_seen code.now)).code)) }
+    ensures filled { OnOk result (heaps.new ≡ with_all Users heaps.old (texts_named (body_of (V.users view.now) (code_seen code.now)).code)) }
+    ensures past { IsPast result Users (with_all Users heaps.old (texts_named (body_of (V.users view.now) (code_seen code.now)).code)) }
 {
     let mut at = 0;
     while let Some((instr, end)) = instr_at(code, at) {

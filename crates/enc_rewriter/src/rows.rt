@@ -1,0 +1,133 @@
+//! The rows of a module's tables, as they are written (ECMA-335 II.22).
+ghost use Rattle.std.specs.Prelude.{◌≡◌, Some, ◌+◌, ◌-◌, ◌<◌, ◌^◌, [], true, nat_lt, length, IsTrue, IfOk, OnOk};
+ghost use Rattle.enc_base.specs.Token.{nth_row};
+ghost use Rattle.enc_meta.specs.Built.{heaps_built};
+ghost use Rattle.enc_plain.specs.Module.{has_row};
+ghost use Rattle.enc_plain.specs.Sound.{row_count};
+ghost use Rattle.enc_schema.specs.Schema.{column_in};
+ghost use Rattle.enc_rows.specs.Written.{rows_at, count_at};
+ghost use Rattle.enc_rewriter.specs.Numbers.{FrontSays, RowSays, RowsSay, TableSays, TablesSay, AreReady, KeepOthers};
+
+use crate::numbers::number_at;
+use crate::placed::PlacedCode;
+use crate::runs::Runs;
+use enc_base::Token;
+use enc_meta::HeapBuilder;
+use enc_plain::ModuleView;
+use enc_rows::TableBuilder;
+use enc_schema::{Column, columns_of};
+use std::alloc::{AllocError, Global};
+
+/// Adds the number in the next column of a row.
+#[tactic(auto, using(crate::proofs::RowsPushed::more_says))]
+fn push_number<V: ModuleView>(
+    view: &V,
+    heaps: &mut HeapBuilder,
+    runs: &Runs,
+    placed: &PlacedCode,
+    row: Token,
+    i: u8,
+    column: Column,
+    cells: &mut Vec<u32>,
+) -> Result<(), AllocError>
+    requires ready { AreReady (V.meaning view.now) heaps.old runs.now placed.now }
+    requires row { IsTrue (has_row (V.meaning view.now) row) }
+    requires column { column_in row.table i ≡ Some column }
+    requires so_far { FrontSays (V.meaning view.now) (heaps_built heaps.old) placed.now row i cells.old.items }
+    ensures says { OnOk result (FrontSays (V.meaning view.now) (heaps_built heaps.old) placed.now row (i + 1) cells.new.items) }
+    ensures same { heaps.new ≡ heaps.old }
+{
+    let number = number_at(view, heaps, runs, placed, row, i, column)?;
+    cells.push(number)?;
+    Ok(())
+}
+
+/// The numbers of a row, one for each column.
+#[tactic(auto, using(crate::proofs::RowsPushed::none_says))]
+fn row_numbers<V: ModuleView>(
+    alloc: Global,
+    view: &V,
+    heaps: &mut HeapBuilder,
+    runs: &Runs,
+    placed: &PlacedCode,
+    row: Token,
+) -> Result<Vec<u32>, AllocError>
+    requires ready { AreReady (V.meaning view.now) heaps.old runs.now placed.now }
+    requires row { IsTrue (has_row (V.meaning view.now) row) }
+    ensures says { IfOk result (λ cells. RowSays (V.meaning view.now) (heaps_built heaps.old) placed.now row cells.items) }
+    ensures same { heaps.new ≡ heaps.old }
+{
+    let columns = columns_of(row.table);
+    let mut cells = Vec::new(alloc);
+    for i in 0..columns.len() {
+        push_number(view, heaps, runs, placed, row, i as u8, columns[i], &mut cells)?;
+    }
+    Ok(cells)
+}
+
+/// Adds the next row of a table.
+#[tactic(auto, using(crate::proofs::RowsPushed::some_columns, crate::proofs::RowsPushed::one_row, crate::proofs::RowsPushed::few_before, crate::proofs::RowsPushed::keep_others))]
+fn push_row<V: ModuleView>(
+    alloc: Global,
+    view: &V,
+    heaps: &mut HeapBuilder,
+    runs: &Runs,
+    placed: &PlacedCode,
+    row: Token,
+    tables: &mut TableBuilder,
+) -> Result<(), AllocError>
+    requires ready { AreReady (V.meaning view.now) heaps.old runs.now placed.now }
+    requires row { IsTrue (has_row (V.meaning view.now) row) }
+    requires so_far { RowsSay (V.meaning view.now) (heaps_built heaps.old) placed.now row.table (row.row - 1) (rows_at tables.old row.table) }
+    ensures says { OnOk result (RowsSay (V.meaning view.now) (heaps_built heaps.old) placed.now row.table row.row (rows_at tables.new row.table)) }
+    ensures others { OnOk result (KeepOthers row.table tables.old tables.new) }
+    ensures same { heaps.new ≡ heaps.old }
+{
+    let cells = row_numbers(alloc, view, heaps, runs, placed, row)?;
+    tables.push(row.table, &cells)?;
+    Ok(())
+}
+
+/// Adds the rows of a table.
+#[tactic(auto, using(crate::proofs::RowsPushed::no_row, crate::proofs::Gathers::row_there))]
+fn push_table<V: ModuleView>(
+    alloc: Global,
+    view: &V,
+    heaps: &mut HeapBuilder,
+    runs: &Runs,
+    placed: &PlacedCode,
+    table: u8,
+    tables: &mut TableBuilder,
+) -> Result<(), AllocError>
+    requires ready { AreReady (V.meaning view.now) heaps.old runs.now placed.now }
+    requires none { rows_at tables.old table ≡ [] }
+    ensures says { OnOk result (TableSays (V.meaning view.now) (heaps_built heaps.old) placed.now table (rows_at tables.new table)) }
+    ensures others { OnOk result (KeepOthers table tables.old tables.new) }
+    ensures same { heaps.new ≡ heaps.old }
+{
+    for n in 0..view.count(table) {
+        push_row(alloc, view, heaps, runs, placed, Token { table, row: n + 1 }, tables)?;
+    }
+    Ok(())
+}
+
+/// Adds the rows of all tables.
+#[tactic(auto, using(crate::proofs::RowsPushed::no_table, crate::proofs::RowsPushed::one_table))]
+pub(crate) fn push_tables<V: ModuleView>(
+    alloc: Global,
+    view: &V,
+    heaps: &mut HeapBuilder,
+    runs: &Runs,
+    placed: &PlacedCode,
+    tables: &mut TableBuilder,
+) -> Result<(), AllocError>
+    requires ready { AreReady (V.meaning view.now) heaps.old runs.now placed.now }
+    requires none { tables.old ≡ [] }
+    ensures says { OnOk result (TablesSay (V.meaning view.now) (heaps_built heaps.old) placed.now 64 tables.new) }
+    ensures same { heaps.new ≡ heaps.old }
+{
+    for table in 0..64 {
+        push_table(alloc, view, heaps, runs, placed, table, tables)?;
+    }
+    Ok(())
+}
