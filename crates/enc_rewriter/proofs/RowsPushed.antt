@@ -95,6 +95,9 @@ same_is k = grind (arith, nat_tests)
 other_is : (k t : ℕ) → ¬ (k ≡ t) → (k == t) ≡ false
 other_is k t other = grind (arith, nat_tests, other)
 
+pub here_pushed : (table : ℕ) (cells : List ℕ) (old new : List (List (List ℕ))) → Pushes table cells old new → rows_at new table ≡ rows_at old table ++ cells ∷ []
+here_pushed table cells old new pushed = pushed table ∙ rw (same_is table) refl
+
 pub one_row : (m : Module) (h : Counted) (p : Placed) (u : Token) (old new : List (List (List ℕ))) (cells : List ℕ) → 0 < u.row
     → RowsSay m h p u.table (u.row - 1) (rows_at old u.table) → RowSays m h p u cells → Pushes u.table cells old new → RowsSay m h p u.table u.row (rows_at new u.table)
 one_row m h p u old new cells low so_far says pushed =

@@ -26,11 +26,11 @@ use Rattle.enc_rows.proofs.Listed.{get_below}
 use Rattle.enc_schema.proofs.ChildTables.{by_child}
 use Rattle.enc_schema.specs.Schema.{list_at, schema}
 use Rattle.enc_schema.specs.declared.column.Column.{Column}
-use Rattle.enc_rewriter.specs.Numbers.{run_first, runs_begin, RunLists, list_of_runs, AreRuns}
+use Rattle.enc_rewriter.specs.Numbers.{run_first, kids_before, runs_begin, RunLists, list_of_runs, AreRuns}
 
 -- the first run begins at 1
 pub first_run : (m : Module) (child : ℕ) → run_first m child 1 ≡ 1
-unfolding run_first
+unfolding run_first kids_before
 first_run m child = refl
 
 one_more : {A : Type 0} (f : A → List ℕ) (xs : List A) (n : ℕ) (x : A) → slice_get xs n ≡ Some x → length (flat_map f (take (suc n) xs)) ≡ length (flat_map f (take n xs)) + length (f x)
@@ -41,7 +41,7 @@ one_more f (y ∷ ys) zero x e =
 one_more f (y ∷ ys) (suc n) x e =
     rw (length-append (f y) (flat_map f (take (suc n) ys)), length-append (f y) (flat_map f (take n ys)), one_more f ys n x e) (omega arith)
 
-some_there : {A : Type 0} (xs : List A) (n : ℕ) → n < length xs → (x : A) × (slice_get xs n ≡ Some x)
+pub some_there : {A : Type 0} (xs : List A) (n : ℕ) → n < length xs → (x : A) × (slice_get xs n ≡ Some x)
 some_there [] n low = absurd (omega (arith, low))
 some_there (x ∷ xs) zero low = (x, refl)
 some_there (x ∷ xs) (suc n) low = some_there xs n (omega (arith, low))
@@ -63,7 +63,7 @@ kids_of_row m child n r there e =
 -- a run begins behind that of the row before and its children
 pub next_run : (m : Module) (child n : ℕ) → is_child_table child ≡ true → n < row_count m (owner_table child)
     → run_first m child (n + 1 + 1) ≡ run_first m child (n + 1) + length (kids_of m (nth_row (owner_table child) n) child)
-unfolding run_first
+unfolding run_first kids_before
 next_run m child n there low =
     let x = some_there (rows_in m (owner_table child)) n low in
     let a : n + 1 + 1 - 1 ≡ suc n = omega arith in
@@ -78,7 +78,7 @@ front_few f (x ∷ xs) (suc n) = rw (length-append (f x) (flat_map f (take n xs)
 
 -- and none behind all children
 pub run_few : (m : Module) (child row : ℕ) → IsOwned m → is_child_table child ≡ true → run_first m child row ≤ row_count m child + 1
-unfolding run_first
+unfolding run_first kids_before
 run_few m child row owned there =
     let front = front_few (λ (r : Row). kids_at r child) (rows_in m (owner_table child)) (row - 1) in
     omega (arith, front, all_kids_few m child owned there)

@@ -1,6 +1,6 @@
 -- The numbers in the columns of a module's rows that are written (ECMA-335 II.22, II.24.2.6): each says its cell by the heaps, by where bodies and fields are placed, and by the order of children.
-use Rattle.std.specs.Prelude.{◌≡◌, ℕ, ◌+◌, ◌-◌, ◌<◌, ◌≤◌, ◌&&◌, bytes_eq, Bool, true, false, List, [], ◌∷◌, length, map, flat_map, take, Option, Some, None, nat_lt, nat_le, ◌==◌, if◌then◌else◌, slice_get, slice_index}
-use Rattle.std.specs.List.{range_with_len, list_any}
+use Rattle.std.specs.Prelude.{◌≡◌, ℕ, ◌+◌, ◌-◌, ◌<◌, ◌≤◌, ◌&&◌, Bool, true, false, List, [], ◌∷◌, length, map, flat_map, take, Option, Some, None, nat_lt, nat_le, ◌==◌, if◌then◌else◌, slice_get, slice_index}
+use Rattle.std.specs.List.{list_any}
 use Rattle.enc_base.specs.Token.{nth_row, nil}
 use Rattle.enc_base.specs.declared.token.Token.{Token}
 use Rattle.enc_meta.specs.Heaps.{Counted, text_at, blob_at, guid_at}
@@ -31,9 +31,13 @@ reading_by m h = record {
   field = λ row. [];
 }
 
+-- the children of the first so many owners, one owner behind the other
+unfoldable pub kids_before : Module → ℕ → ℕ → List ℕ
+kids_before m child n = flat_map (λ (r : Row). kids_at r child) (take n (rows_in m (owner_table child)))
+
 -- where the run of an owner's row begins: behind the children of the rows before it, counted from 1
 unfoldable pub run_first : Module → ℕ → ℕ → ℕ
-run_first m child row = 1 + length (flat_map (λ (r : Row). kids_at r child) (take (row - 1) (rows_in m (owner_table child))))
+run_first m child row = 1 + length (kids_before m child (row - 1))
 
 -- where those of the first so many owners begin
 unfoldable pub runs_begin : Module → ℕ → ℕ → List ℕ
@@ -90,13 +94,21 @@ pub record RowsSay (m : Module) (h : Counted) (p : Placed) (t many : ℕ) (rows 
 abbrev pub TableSays : Module → Counted → Placed → ℕ → List (List ℕ) → Type 0
 TableSays m h p t rows = RowsSay m h p t (row_count m t) rows
 
--- children that stand in the order of their rows, from the first on
+-- children that stand in the order of their rows, from one on
+abbrev pub in_order_from : ℕ → List ℕ → Bool
+in_order_from k [] = true
+in_order_from k (x ∷ rest) = x == k && in_order_from (k + 1) rest
+
 abbrev pub is_in_row_order : List ℕ → Bool
-is_in_row_order kids = bytes_eq kids (range_with_len 1 (length kids))
+is_in_row_order kids = in_order_from 1 kids
+
+-- rows of one number
+unfoldable pub rows_of_one : List ℕ → List (List ℕ)
+rows_of_one kids = map (λ k. k ∷ []) kids
 
 -- the rows of a Ptr table: the children of all owners where they don't stand in row order, else none (II.22)
 unfoldable pub ptr_rows : Module → ℕ → List (List ℕ)
-ptr_rows m child = if is_in_row_order (all_kids m child) then [] else map (λ k. k ∷ []) (all_kids m child)
+ptr_rows m child = if is_in_row_order (all_kids m child) then [] else rows_of_one (all_kids m child)
 
 -- the rows of all tables are those of the module, and of Ptr tables where they are asked for
 pub record HoldRows (m : Module) (h : Counted) (p : Placed) (rows : List (List (List ℕ))) : Type 0 where

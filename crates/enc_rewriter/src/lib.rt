@@ -5,6 +5,7 @@ mod kept;
 mod numbers;
 mod pass;
 mod placed;
+mod ptrs;
 mod references;
 mod rows;
 mod runs;
