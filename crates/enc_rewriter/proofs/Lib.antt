@@ -2,6 +2,7 @@ pub mod Fills
 pub mod Gathers
 pub mod KeptValues
 pub mod KidsListed
+pub mod PtrTables
 pub mod ReadAs
 pub mod RefersTo
 pub mod RowsPushed
