@@ -1,4 +1,5 @@
 pub mod Fills
+pub mod Gathered
 pub mod Gathers
 pub mod KeptValues
 pub mod KidsListed
