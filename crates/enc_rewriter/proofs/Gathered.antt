@@ -122,10 +122,10 @@ starts_one pass.Users h v = refl
 starts_one pass.Blobs h v = refl
 starts_one pass.Guids h v = refl
 
-starts_stay : (p : Pass) (h : Built) (vs : List (List ℕ)) → (with_all p h vs).starts ≡ h.starts
+pub starts_after : (p : Pass) (h : Built) (vs : List (List ℕ)) → (with_all p h vs).starts ≡ h.starts
 unfolding with_all
-starts_stay p h [] = refl
-starts_stay p h (v ∷ vs) = starts_stay p (with_one p h v) vs ∙ starts_one p h v
+starts_after p h [] = refl
+starts_after p h (v ∷ vs) = starts_after p (with_one p h v) vs ∙ starts_one p h v
 
 -- what holds of all pieces holds of each
 piece_of : (q : List ℕ → Bool) (f : ℕ → List (List ℕ)) (a n k : ℕ) → list_all q (flat_map f (range_with_len a n)) ≡ true → a ≤ k → k < a + n → list_all q (f k) ≡ true
@@ -163,8 +163,8 @@ kept_in pass.Guids m = all_kept pass.Guids _ (all_values pass.Guids m)
 starts_none : (m : Module) → (heaps_for m).starts ≡ no_starts
 unfolding heaps_for no_heaps
 starts_none m =
-    starts_stay pass.Guids _ (all_values pass.Guids m) ∙ starts_stay pass.Blobs _ (all_values pass.Blobs m)
-    ∙ starts_stay pass.Users _ (all_values pass.Users m) ∙ starts_stay pass.Texts _ (all_values pass.Texts m)
+    starts_after pass.Guids _ (all_values pass.Guids m) ∙ starts_after pass.Blobs _ (all_values pass.Blobs m)
+    ∙ starts_after pass.Users _ (all_values pass.Users m) ∙ starts_after pass.Texts _ (all_values pass.Texts m)
 
 pub keep_all : (m : Module) → IsSound m → KeepValues m (heaps_for m)
 keep_all m sound = record {

@@ -3,6 +3,7 @@ pub mod Gathered
 pub mod Gathers
 pub mod KeptValues
 pub mod KidsListed
+pub mod Limits
 pub mod PtrTables
 pub mod ReadAs
 pub mod RefersTo
