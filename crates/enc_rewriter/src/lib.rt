@@ -14,3 +14,6 @@ mod users;
 
 pub use gathering::gather;
 pub use pass::Pass;
+
+#[cfg(test)]
+mod tests;
