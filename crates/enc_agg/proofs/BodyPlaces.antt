@@ -82,14 +82,19 @@ none_at_zero h = refl
 stands_at : (h : History) (g n : ℕ) (s : Source) → n < 2 ^ 32 → file_of h g ≡ Some s → is_some (code_loaded s.loaded n) ≡ not (n == 0) → is_some (body_of_all h (g * 2 ^ 32 + n)) ≡ not (n == 0)
 stands_at h g n s low is some = ap is_some (in_file h g n s low is) ∙ loaded_stands s.loaded (users_of_all h) n ∙ some
 
+tells_some : (n : ℕ) → 0 < n → not (n == 0) ≡ true
+tells_some n low = grind (arith, nat_tests)
+
 -- a method that no delta lists has the body at its place in the base
 pub base_place_body : (b : Source) (added : List Added) (room : ℕ) (u : Token) (n : ℕ) → IsAggregate b added → (o : Option Found) → option_map found_seen o ≡ found_in added u → o ≡ None → IsTrue (has_row (module_in b) u) → u.table ≡ 0x06 → raw_in b u 0 ≡ n → n < 2 ^ 32 → cell_of (chain_with b (sources added)).plain u 0 ≡ Some (body (body_of_all (record { base = b; deltas = sources added; room = room }) (0 * 2 ^ 32 + n)))
 base_place_body b added room u n agg o is none there table raw low =
     let h : History = record { base = b; deltas = sources added; room = room } in
     base_loaded b added u n agg o is none there table raw ∙ ap (λ x. Some (body x)) (sym (in_file h 0 n b low refl))
 
-pub base_place_stands : (b : Source) (added : List Added) (room n : ℕ) → n < 2 ^ 32 → is_some (code_loaded b.loaded n) ≡ not (n == 0) → is_some (body_of_all (record { base = b; deltas = sources added; room = room }) (0 * 2 ^ 32 + n)) ≡ not (n == 0)
-base_place_stands b added room n low some = stands_at (record { base = b; deltas = sources added; room = room }) 0 n b low refl some
+pub base_place_stands : (b : Source) (added : List Added) (room n : ℕ) → n < 2 ^ 32 → is_some (code_loaded b.loaded n) ≡ not (n == 0) → is_some (body_of_all (record { base = b; deltas = sources added; room = room }) (0 * 2 ^ 32 + n)) ≡ not (0 * 2 ^ 32 + n == 0)
+base_place_stands b added room n low some =
+    let same : n ≡ 0 * 2 ^ 32 + n = omega arith in
+    stands_at (record { base = b; deltas = sources added; room = room }) 0 n b low refl some ∙ ap (λ k. not (k == 0)) same
 
 -- a method that a delta lists has the one at its place in the newest such delta
 found_file : (b : Source) (added upto : List Added) (room : ℕ) (u : Token) (k : ℕ) (found : IsFound b added u upto k) → found_in added u ≡ Some (upto, k) → file_of (record { base = b; deltas = sources added; room = room }) (length upto) ≡ Some found.last.delta
@@ -102,8 +107,8 @@ found_place_body b added upto room u k n found is table told low =
     let h : History = record { base = b; deltas = sources added; room = room } in
     loaded_found b added upto u k n found table told ∙ ap (λ x. Some (body x)) (sym (in_file h (length upto) n found.last.delta low (found_file b added upto room u k found is)))
 
-pub found_place_stands : (b : Source) (added upto : List Added) (room : ℕ) (u : Token) (k n : ℕ) (found : IsFound b added u upto k) → found_in added u ≡ Some (upto, k) → u.table ≡ 0x06 → newest_number upto (record { table = u.table; row = k }) 0 ≡ n → n < 2 ^ 32 → is_some (body_of_all (record { base = b; deltas = sources added; room = room }) (length upto * 2 ^ 32 + n)) ≡ not (n == 0)
-found_place_stands b added upto room u k n found is table told low =
+pub found_place_stands : (b : Source) (added upto : List Added) (room : ℕ) (u : Token) (k n : ℕ) (found : IsFound b added u upto k) → found_in added u ≡ Some (upto, k) → u.table ≡ 0x06 → newest_number upto (record { table = u.table; row = k }) 0 ≡ n → n < 2 ^ 32 → 0 < n → is_some (body_of_all (record { base = b; deltas = sources added; room = room }) (length upto * 2 ^ 32 + n)) ≡ not (length upto * 2 ^ 32 + n == 0)
+found_place_stands b added upto room u k n found is table told low more =
     let h : History = record { base = b; deltas = sources added; room = room } in
     let c = chain_with b (sources found.older) in
     let d = found.last.delta in
@@ -111,7 +116,7 @@ found_place_stands b added upto room u k n found is table told low =
     let raw : raw_in d own 0 ≡ n = raw_found b added upto u k 0 n found told in
     let good = listed_good c d u k (unbroken c d found.is_added.follows.rules).broken_body (place_row c d u k found.is_added.follows.lands found.place) table in
     let some : is_some (code_loaded d.loaded n) ≡ not (n == 0) = rw raw at (parts_stand (rows_with c (listed d)) (users_after c d) d.loaded (raw_in d own 0) (raw_in d own 1) good) in
-    stands_at h (length upto) n d low (found_file b added upto room u k found is) some
+    stands_at h (length upto) n d low (found_file b added upto room u k found is) some ∙ tells_some n more ∙ sym (tells_some (length upto * 2 ^ 32 + n) (omega (arith, more)))
 
 -- and none where that place is 0
 pub found_no_body : (b : Source) (added upto : List Added) (room : ℕ) (u : Token) (k n : ℕ) (found : IsFound b added u upto k) → u.table ≡ 0x06 → newest_number upto (record { table = u.table; row = k }) 0 ≡ n → n ≡ 0 → cell_of (chain_with b (sources added)).plain u 0 ≡ Some (body (body_of_all (record { base = b; deltas = sources added; room = room }) 0))
