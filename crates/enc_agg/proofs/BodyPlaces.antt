@@ -1,11 +1,10 @@
 -- The body at a place of all: a generation's file, and a place there.
-use Rattle.std.proofs.Common.{◌≡◌, ℕ, zero, suc, ◌+◌, ◌*◌, ◌^◌, ◌<◌, ◌≤◌, Bool, true, List, [], ◌∷◌, ◌++◌, length, reverse, Option, Some, None, refl, sym, ap, ◌∙◌, arith}
+use Rattle.std.proofs.Common.{◌≡◌, ℕ, zero, suc, ◌+◌, ◌*◌, ◌^◌, ◌<◌, ◌≤◌, true, List, [], ◌∷◌, ◌++◌, length, reverse, Option, Some, None, refl, sym, ap, ◌∙◌, arith}
 use Rattle.std.specs.Prelude.{◌==◌, not, is_some, option_map, slice_get, IsTrue}
 use Rattle.std.proofs.lemmas.Bool.Decides.{nat_tests}
 use Rattle.std.proofs.lemmas.Nat.{div-mul-add, mod-mul-add}
 use Rattle.std.proofs.lemmas.List.{reverse-append, length-map, length-reverse}
 use Rattle.enc_base.specs.declared.token.Token.{Token}
-use Rattle.enc_rows.specs.Layout.{rows_of}
 use Rattle.enc_rows.specs.Source.{Source, raw_in}
 use Rattle.enc_plain.specs.Bodies.{code_loaded, body_loaded}
 use Rattle.enc_plain.specs.Cell.{body}
@@ -19,7 +18,7 @@ use Rattle.enc_agg.specs.declared.added.Added.{Added}
 use Rattle.enc_agg.specs.declared.added.Found.{Found}
 use Rattle.enc_agg.specs.Extend.{chain_with}
 use Rattle.enc_agg.specs.Place.{delta_at}
-use Rattle.enc_agg.specs.Seen.{History, sources, IsAggregate, found_or, found_in, found_seen, newest_number, module_of_all, users_of_all, file_of, body_of_all}
+use Rattle.enc_agg.specs.Seen.{History, sources, IsAggregate, found_or, found_in, found_seen, newest_number, users_of_all, file_of, body_of_all}
 use Rattle.enc_agg.proofs.Asked.{loaded_found, base_loaded, raw_found}
 use Rattle.enc_agg.proofs.Generations.{fewer_found}
 use Rattle.enc_agg.proofs.Histories.{IsFound, some_first}

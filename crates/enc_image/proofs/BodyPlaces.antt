@@ -1,6 +1,6 @@
 -- A body stands at each place but 0.
 use Rattle.std.proofs.Common.{◌≡◌, ℕ, zero, suc, true, List, Option, Some, None, refl, sym, ◌∙◌, arith}
-use Rattle.std.specs.Prelude.{◌==◌, ◌&&◌, ◌%◌, not, is_some, option_map, IsTrue}
+use Rattle.std.specs.Prelude.{◌==◌, ◌%◌, not, is_some, option_map, IsTrue}
 use Rattle.std.proofs.lemmas.Bool.{and_parts}
 use Rattle.std.proofs.lemmas.Bool.Decides.{nat_tests}
 use Rattle.enc_base.specs.declared.token.Token.{Token}
