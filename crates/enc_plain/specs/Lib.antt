@@ -12,6 +12,7 @@ pub mod Rows
 pub mod Signatures
 pub mod Alike
 pub mod AlikeLaws
+pub mod Namesakes
 pub mod Extent
 pub mod Sound
 pub mod Debug
