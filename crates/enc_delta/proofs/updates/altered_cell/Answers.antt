@@ -6,7 +6,10 @@ use Rattle.enc_delta.proofs.updates.altered_cell.Goals as goal
 
 pub returns-in-Some : goal.returns-in-Some
 unfolding altered_cell
-returns-in-Some g c = first_found _ _ c.loop-k.k _ (rw (← c.tokens-tokens.ensures.tokens) (omega (arith, c.loop-k-test.true))) c.loop-k.invariant (sym c.in-Some.is ∙ c.altered_in.ensures ∙ nth_is (altered_in c.args.context.now.chain c.args.context.now.delta) c.args.context.now.delta c.tokens-tokens.result.now c.loop-k.k _ c.tokens-tokens.ensures.tokens (omega (arith, c.loop-k-test.true))) refl
+returns-in-Some g c = first_found _ _ c.loop-k.k _ (rw (← c.tokens-tokens.ensures.tokens) (omega (arith, c.loop-k-test.true))) c.loop-k.invariant.0 (sym c.in-Some.is ∙ c.altered_in.ensures.place ∙ nth_is (altered_in c.args.context.now.chain c.args.context.now.delta) c.args.context.now.delta c.tokens-tokens.result.now c.loop-k.k _ c.tokens-tokens.ensures.tokens (omega (arith, c.loop-k-test.true))) refl
 
 pub loop-k-preserved : goal.loop-k-preserved
-loop-k-preserved g c = first_more _ c.loop-k.k c.loop-k.invariant ∙ sym (nth_is (altered_in c.args.context.now.chain c.args.context.now.delta) c.args.context.now.delta c.tokens-tokens.result.now c.loop-k.k _ c.tokens-tokens.ensures.tokens (omega (arith, c.loop-k-test.true))) ∙ sym c.altered_in.ensures ∙ c.in-None.is
+loop-k-preserved g c = (
+  first_more _ c.loop-k.k c.loop-k.invariant.0 ∙ sym (nth_is (altered_in c.args.context.now.chain c.args.context.now.delta) c.args.context.now.delta c.tokens-tokens.result.now c.loop-k.k _ c.tokens-tokens.ensures.tokens (omega (arith, c.loop-k-test.true))) ∙ sym c.altered_in.ensures.place ∙ c.in-None.is,
+  c.altered_in.ensures.known,
+)
