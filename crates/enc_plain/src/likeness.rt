@@ -111,12 +111,7 @@ fn are_namesakes<R: CellView>(rows: &R, a: Token, b: Token) -> bool
 }
 
 /// The same, where equal names are remembered.
-fn are_namesakes_known<R: CellView>(
-    rows: &R,
-    known: &mut Namesakes,
-    a: Token,
-    b: Token,
-) -> bool
+fn are_namesakes_known<R: CellView>(rows: &R, known: &mut Namesakes, a: Token, b: Token) -> bool
     requires known { AreNamesakes (R.rows rows.now) known.old }
     ensures names { result ≡ (are_rows (R.rows rows.now) type_ref a b && same_bytes (R.rows rows.now) a b 1 && same_bytes (R.rows rows.now) a b 2) }
     ensures a { IsTrue result → a.table ≡ type_ref }
@@ -266,12 +261,7 @@ pub fn tokens_alike<R: CellView>(rows: &R, a: Token, b: Token) -> bool
 /// hands in what is known, and the names of a TypeRef are compared once, through however many
 /// scopes they are come by.
 #[tactic(auto, unfolding(crate::specs::Alike::tokens_alike))]
-pub fn tokens_alike_known<R: CellView>(
-    rows: &R,
-    known: &mut Namesakes,
-    a: Token,
-    b: Token,
-) -> bool
+pub fn tokens_alike_known<R: CellView>(rows: &R, known: &mut Namesakes, a: Token, b: Token) -> bool
     requires known { AreNamesakes (R.rows rows.now) known.old }
     ensures alike { result ≡ tokens_alike (R.rows rows.now) a b }
     ensures known { AreNamesakes (R.rows rows.now) known.new }

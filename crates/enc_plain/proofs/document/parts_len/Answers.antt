@@ -21,8 +21,7 @@ loop-i-preserved c =
     let h = said_length c.loop-i.before c.args.separator blobs (length c.args.bytes.now - c.loop-i.i) m c.loop-i.rest.now c.in-Some.text.now c.in-Some.behind.now (omega arith) (sym c.in-Some.ensures) c.loop-i.invariant.0 in
     let fewer = part_fewer blobs c.loop-i.rest.now c.in-Some.text.now c.in-Some.behind.now (sym c.in-Some.ensures) in
     let most : c.lengths-most.result.blobs ≡ length blobs = ap (λ l. l.blobs) c.lengths-most.ensures in
-    let whole : c.min.result ≡ length c.in-Some.text.now = omega (arith, c.min.ensures, most, fewer) in
-    (
+    let whole : c.min.result ≡ length c.in-Some.text.now = omega (arith, c.min.ensures, most, fewer) in (
       still_some blobs (length c.args.bytes.now - c.loop-i.i) m c.loop-i.rest.now c.in-Some.text.now c.in-Some.behind.now (omega arith) (sym c.in-Some.ensures) c.loop-i.invariant.0,
       omega (arith, h, whole, c.separator_len.ensures.len, c.loop-i.invariant.1),
       omega (arith, fewer, whole, c.separator_len.ensures.few, c.loop-i.invariant.2),
