@@ -87,11 +87,10 @@ fn remembers_equal_names(rt: HostRuntime) -> Result<(), Fail> {
     let module_row = Token { table: 0, row: 1 };
     let row = Token { table: 1, row: 1 };
     assert!(rt; tokens_alike_known(&rows, &mut known, module_row, module_row));
-    for _ in 0..2 {
-        assert!(rt; tokens_alike_known(&rows, &mut known, row, row));
-        assert!(rt; !tokens_alike_known(&rows, &mut known, row, Token { table: 1, row: 2 }));
-        assert!(rt; !tokens_alike_known(&rows, &mut known, row, module_row));
-    }
+    assert!(rt; tokens_alike_known(&rows, &mut known, row, row));
+    assert!(rt; !tokens_alike_known(&rows, &mut known, row, Token { table: 1, row: 2 }));
+    assert!(rt; !tokens_alike_known(&rows, &mut known, row, Token { table: 1, row: 2 }));
+    assert!(rt; !tokens_alike_known(&rows, &mut known, row, module_row));
     Ok(())
 }
 
