@@ -171,7 +171,7 @@ fn scope_of<R: CellView>(rows: &R, token: Token) -> Token
 /// Whether tokens are equal, or references alike by at most so many scopes one in the other; past
 /// that equal ones alone. Scopes are followed where the names are equal.
 #[tactic(auto, using(crate::proofs::Scopes::steps))]
-fn refs_alike<R: CellView>(rows: &R, depth: u8, a: Token, b: Token) -> bool
+pub(crate) fn refs_alike<R: CellView>(rows: &R, depth: u8, a: Token, b: Token) -> bool
     ensures { result ≡ refs_alike (R.rows rows.now) depth a b }
 {
     if is_same(a, b) {
@@ -188,7 +188,7 @@ fn refs_alike<R: CellView>(rows: &R, depth: u8, a: Token, b: Token) -> bool
 
 /// The same, where equal names are remembered.
 #[tactic(auto, using(crate::proofs::Scopes::steps))]
-fn refs_alike_known<R: CellView>(
+pub(crate) fn refs_alike_known<R: CellView>(
     rows: &R,
     known: &mut Namesakes,
     depth: u8,
@@ -257,11 +257,14 @@ pub fn tokens_alike<R: CellView>(rows: &R, a: Token, b: Token) -> bool
     refs_alike(rows, 100, a, b) || type_specs_alike(rows, a, b)
 }
 
-/// Whether tokens are alike, as `tokens_alike` has it. Whoever asks of many tokens of the same rows
-/// hands in what is known, and the names of a TypeRef are compared once, through however many
-/// scopes they are come by.
+/// The same, where equal names are remembered.
 #[tactic(auto, unfolding(crate::specs::Alike::tokens_alike))]
-pub fn tokens_alike_known<R: CellView>(rows: &R, known: &mut Namesakes, a: Token, b: Token) -> bool
+pub(crate) fn tokens_alike_known<R: CellView>(
+    rows: &R,
+    known: &mut Namesakes,
+    a: Token,
+    b: Token,
+) -> bool
     requires known { AreNamesakes (R.rows rows.now) known.old }
     ensures alike { result ≡ tokens_alike (R.rows rows.now) a b }
     ensures known { AreNamesakes (R.rows rows.now) known.new }

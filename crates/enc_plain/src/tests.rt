@@ -80,17 +80,20 @@ fn takes_absent_rows_for_alike_themselves_alone(rt: HostRuntime) -> Result<(), F
 }
 
 #[test]
-fn remembers_equal_names(rt: HostRuntime) -> Result<(), Fail> {
+fn remembers_what_is_alike(rt: HostRuntime) -> Result<(), Fail> {
     let module = PlainModule::begin(rt.alloc(), b"a.dll", [7; 16])?;
     let rows = Viewed { view: &module };
-    let mut known = Namesakes::new(rt.alloc());
+    let mut known = KnownAlike::new(rt.alloc());
     let module_row = Token { table: 0, row: 1 };
     let row = Token { table: 1, row: 1 };
-    assert!(rt; tokens_alike_known(&rows, &mut known, module_row, module_row));
-    assert!(rt; tokens_alike_known(&rows, &mut known, row, row));
-    assert!(rt; !tokens_alike_known(&rows, &mut known, row, Token { table: 1, row: 2 }));
-    assert!(rt; !tokens_alike_known(&rows, &mut known, row, Token { table: 1, row: 2 }));
-    assert!(rt; !tokens_alike_known(&rows, &mut known, row, module_row));
+    assert!(rt; known.tokens_alike(&rows, module_row, module_row));
+    assert!(rt; known.tokens_alike(&rows, row, row));
+    assert!(rt; !known.tokens_alike(&rows, row, Token { table: 1, row: 2 }));
+    assert!(rt; !known.tokens_alike(&rows, row, Token { table: 1, row: 2 }));
+    assert!(rt; !known.tokens_alike(&rows, row, module_row));
+    assert!(rt; known.signatures_alike(&rows, 0x04, &[6, 0x12, 5], &[6, 0x12, 0x80, 5]));
+    assert!(rt; !known.signatures_alike(&rows, 0x04, &[6, 0x12, 5], &[6, 0x12, 9]));
+    assert!(rt; !known.signatures_alike(&rows, 0x1b, &[0x0f, 0x12, 5], &[0x0f, 0x12, 9]));
     Ok(())
 }
 
