@@ -57,7 +57,7 @@ fn alike_in_table_known<R: CellView>(
     tokens_alike_known(rows, names, a, b)
 }
 
-/// Judges a pair of tokens, and remembers it where both are TypeRefs and alike.
+/// Judges a pair of tokens that isn't known, and remembers it where both are TypeRefs and alike.
 fn judge<R: CellView>(rows: &R, names: &mut Namesakes, known: &mut Pairs, a: Token, b: Token)
     requires names { AreNamesakes (R.rows rows.now) names.old }
     requires pairs { AreAlikePairs (R.rows rows.now) known.old }
@@ -65,7 +65,7 @@ fn judge<R: CellView>(rows: &R, names: &mut Namesakes, known: &mut Pairs, a: Tok
     ensures pairs { AreAlikePairs (R.rows rows.now) known.new }
     ensures table { known.new.table ≡ known.old.table }
 {
-    if a.table != TYPE_REF || b.table != TYPE_REF {
+    if a.table != TYPE_REF || b.table != TYPE_REF || known.has(a, b) {
         return;
     }
     if alike_in_table_known(rows, names, known.table(), a, b) {
