@@ -6,7 +6,9 @@ use Rattle.std.proofs.lemmas.Slice.Eq.{bytes_eq-Decides}
 use Rattle.enc_base.specs.Token.{is_token}
 use Rattle.enc_base.specs.declared.token.Token.{Token}
 use Rattle.enc_sigs.specs.Agree.{sigs_agree}
+use Rattle.enc_sigs.specs.Mix.{finished}
 use Rattle.enc_sigs.specs.Shape.{sig_shape}
+use Rattle.enc_sigs.specs.declared.mix.Mix.{Mix}
 use Rattle.enc_sigs.specs.declared.kind.SigKind.{SigKind}
 use Rattle.enc_sigs.specs.declared.kind.SigKind.TheVariants.{TypeSpec}
 use Rattle.enc_sigs.proofs.Shared.{alike_have_one_shape, both_left, both_right, or_else_right, token_is}
@@ -60,7 +62,7 @@ type_ref_step : (rows : Rows) (d : ℕ) (t : Token) → t.table ≡ 0x01 → ref
 unfolding ref_key
 type_ref_step rows d t e = let test : (t.table == 0x01) ≡ true = ap (λ n. n == 0x01) e in rw test refl
 
-scoped_one : (rows : Rows) (named : Bool) (k l : ℕ) (a b : Token) → k ≡ l → bytes_at rows a 1 ≡ bytes_at rows b 1 → bytes_at rows a 2 ≡ bytes_at rows b 2 → scoped_key rows named k a ≡ scoped_key rows named l b
+scoped_one : (rows : Rows) (named : Bool) (k l : Mix) (a b : Token) → k ≡ l → bytes_at rows a 1 ≡ bytes_at rows b 1 → bytes_at rows a 2 ≡ bytes_at rows b 2 → scoped_key rows named k a ≡ scoped_key rows named l b
 unfolding scoped_key type_ref_key
 scoped_one rows true k l a b scope name space = rw (name, space, scope) refl
 scoped_one rows false k l a b scope name space = rw scope refl
@@ -157,4 +159,4 @@ sigs_by rows k a b h = elim (or_else_right (bytes_eq a b) (sigs_agree (tokens_al
 -- alike signatures of a table whose signatures are all of one kind, and that isn't TypeSpec
 pub signatures_one : (rows : Rows) (table : ℕ) (a b : List ℕ) → (table == 0x1B) ≡ false → kind_in_table table a ≡ kind_in_table table b → signatures_alike rows table a b ≡ true → signature_key rows table a ≡ signature_key rows table b
 unfolding signatures_alike signature_key
-signatures_one rows table a b other one h = ap (λ k. sig_shape (key_of rows) k a) one ∙ sigs_by rows (kind_in_table table b) a b (rw (other, one) at h)
+signatures_one rows table a b other one h = ap finished (ap (λ k. sig_shape (key_of rows) k a) one ∙ sigs_by rows (kind_in_table table b) a b (rw (other, one) at h))
