@@ -1,6 +1,6 @@
 -- Numbers of 128 bits for bytes and for what is read: equal things have equal ones. That two are equal says nothing.
-use Rattle.std.specs.Prelude.{ℕ, zero, suc, ◌-◌, List, [], ◌∷◌, length, take, drop, min, bit_xor}
-use Rattle.std.specs.Int.{w64, rotate_left, rotate_right}
+use Rattle.std.specs.Prelude.{ℕ, zero, suc, ◌+◌, ◌-◌, ◌*◌, ◌/◌, List, length, take, drop, min, max, bit_xor}
+use Rattle.std.specs.Int.{w64, rotate_left, rotate_right, from_le_bytes}
 use Rattle.std.specs.Hash.DefaultHasher.{wrapping_add}
 use Rattle.enc_sigs.specs.declared.mix.Mix.{Mix}
 
@@ -31,14 +31,21 @@ mixed mix n = added mix (rounds n mix 8)
 unfoldable pub mixed_both : Mix → Mix → Mix
 mixed_both mix other = mixed (mixed mix other.high) other.low
 
--- bytes mixed in, one behind the other
+-- so many numbers of eight bytes mixed in, one behind the other; zeros stand for bytes past the end
+unfoldable pub mixed_words : Mix → List ℕ → ℕ → Mix
+mixed_words mix bytes zero = mix
+mixed_words mix bytes (suc n) = mixed (mixed_words mix bytes n) (from_le_bytes w64 (drop (8 * n) bytes))
+
+-- bytes mixed in, eight at a time
 unfoldable pub mixed_bytes : Mix → List ℕ → Mix
-mixed_bytes mix [] = mix
-mixed_bytes mix (b ∷ bytes) = mixed_bytes (mixed mix b) bytes
+mixed_bytes mix bytes = mixed_words mix bytes (length bytes / 8 + 1)
 
 -- the length of some bytes and so many at either end mixed in, so that long texts that share their bytes cost no more than short ones
 unfoldable pub mixed_ends : ℕ → Mix → List ℕ → Mix
-mixed_ends most mix bytes = mixed_bytes (mixed_bytes (mixed mix (length bytes)) (take (min most (length bytes)) bytes)) (drop (length bytes - most) bytes)
+mixed_ends most mix bytes =
+    let size = length bytes in
+    let front = min most size in
+    mixed_bytes (mixed_bytes (mixed mix size) (take front bytes)) (drop (max front (size - front)) bytes)
 
 -- 64 bits of what was mixed
 unfoldable pub finished : Mix → ℕ

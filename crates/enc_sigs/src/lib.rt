@@ -23,7 +23,7 @@ pub use elem::Elem;
 pub use judge::is_sig;
 pub use kind::{SigFault, SigKind};
 pub use laws::{depth_law, signature_laws};
-pub use mix::{Mix, begun, finished, mixed, mixed_both, mixed_bytes, mixed_ends};
+pub use mix::{Mix, begun, finished, mixed, mixed_both, mixed_ends};
 pub use shape::{shape_law, sig_shape};
 pub use sig::Sig;
 pub use sigs::{field_sig, locals_sig, method_sig, method_spec, property_sig, read_sig, type_spec};

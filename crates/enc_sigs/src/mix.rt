@@ -1,7 +1,8 @@
 //! Numbers of 128 bits for bytes and for what is read, by which what may be equal is found. To find two
 //! things of one number nothing better is known than to try: 2^64 of them before one is as good as
 //! another.
-ghost use Rattle.std.specs.Prelude.{◌≡◌};
+ghost use Rattle.std.specs.Prelude.{◌≡◌, ◌≤◌, length, drop, slice_index};
+ghost use Rattle.std.specs.Int.{w64, from_le_bytes};
 ghost use Rattle.enc_sigs.specs.Mix.{begun, round, rounds, added, mixed, mixed_both, mixed_bytes, mixed_ends, finished};
 
 /// Two words for all that was mixed.
@@ -73,13 +74,58 @@ pub fn mixed_both(mix: Mix, other: Mix) -> Mix
     mixed(mixed(mix, other.high), other.low)
 }
 
-/// Bytes mixed in, one behind the other.
-pub fn mixed_bytes(mix: Mix, bytes: &[u8]) -> Mix
+/// The byte at a place, 0 past the end.
+fn byte(bytes: &[u8], at: usize) -> u8
+    ensures { result ≡ slice_index bytes.now at }
+{
+    match bytes.get(at) {
+        Some(byte) => *byte,
+        None => 0,
+    }
+}
+
+/// The first eight bytes of fewer as a number, zeros for those past the end.
+fn short_word(bytes: &[u8]) -> u64
+    ensures { result ≡ from_le_bytes w64 bytes.now }
+{
+    u64::from_le_bytes([
+        byte(bytes, 0),
+        byte(bytes, 1),
+        byte(bytes, 2),
+        byte(bytes, 3),
+        byte(bytes, 4),
+        byte(bytes, 5),
+        byte(bytes, 6),
+        byte(bytes, 7),
+    ])
+}
+
+/// The first eight bytes as a number.
+fn word(bytes: &[u8]) -> u64
+    ensures { result ≡ from_le_bytes w64 bytes.now }
+{
+    match bytes.first_chunk::<8>() {
+        Some(whole) => u64::from_le_bytes(*whole),
+        None => short_word(bytes),
+    }
+}
+
+/// The eight bytes at a place as a number.
+fn word_at(bytes: &[u8], at: usize) -> u64
+    requires { at ≤ length bytes.now }
+    ensures { result ≡ from_le_bytes w64 (drop at bytes.now) }
+{
+    word(&bytes[at..])
+}
+
+/// Bytes mixed in, eight at a time.
+#[tactic(auto, using(crate::proofs::Rounds::words_none, crate::proofs::Rounds::words_more), unfolding(crate::specs::Mix::mixed_bytes))]
+fn mixed_bytes(mix: Mix, bytes: &[u8]) -> Mix
     ensures { result ≡ mixed_bytes mix bytes.now }
 {
     let mut state = mix;
-    for k in 0..bytes.len() {
-        state = mixed(state, u64::from(bytes[k]));
+    for k in 0..bytes.len() / 8 + 1 {
+        state = mixed(state, word_at(bytes, 8 * k));
     }
     state
 }
@@ -90,9 +136,9 @@ pub fn mixed_ends(most: usize, mix: Mix, bytes: &[u8]) -> Mix
     ensures { result ≡ mixed_ends most mix bytes.now }
 {
     let size = bytes.len();
-    let front = &bytes[..most.min(size)];
-    let back = &bytes[size.saturating_sub(most)..];
-    mixed_bytes(mixed_bytes(mixed(mix, size as u64), front), back)
+    let front = most.min(size);
+    let back = front.max(size - front);
+    mixed_bytes(mixed_bytes(mixed(mix, size as u64), &bytes[..front]), &bytes[back..])
 }
 
 /// 64 bits of what was mixed.
