@@ -16,4 +16,5 @@ pub mod KindsOf
 pub mod Owned
 pub mod NameParts
 pub mod OneKey
+pub mod Learnt
 pub mod MemberKeys

@@ -1,10 +1,13 @@
 -- Keys of tokens and signatures: mixes that alike ones have in common. They tell which are worth comparing; that keys are equal says nothing.
-use Rattle.std.specs.Prelude.{ℕ, zero, suc, Bool, true, false, nat_lt, ◌==◌, List, unwrap_or, if◌then◌else◌}
+use Rattle.std.specs.Prelude.{◌≡◌, ℕ, zero, suc, Bool, true, false, nat_lt, ◌==◌, List, Some, unwrap_or, if◌then◌else◌}
 use Rattle.enc_base.specs.declared.token.Token.{Token}
 use Rattle.enc_sigs.specs.Mix.{begun, mixed, mixed_both, mixed_ends, finished}
 use Rattle.enc_sigs.specs.declared.mix.Mix.{Mix}
 use Rattle.enc_sigs.specs.Shape.{sig_shape}
 use Rattle.enc_sigs.specs.declared.kind.SigKind.TheVariants.{TypeSpec}
+use Rattle.enc_index.specs.declared.index.Index.{Index}
+use Rattle.enc_index.specs.declared.key.Key.{Key}
+use Rattle.enc_index.specs.Index.{value_at}
 use Rattle.enc_plain.specs.Rows.{Rows, bytes_at, token_at}
 use Rattle.enc_plain.specs.Signatures.{kind_in_table, signature_column}
 use Rattle.enc_schema.specs.Tables as tables
@@ -16,7 +19,7 @@ token_key t = mixed (begun t.table) t.row
 
 -- of a TypeRef: its names, and the key of its scope
 unfoldable pub type_ref_key : Rows → Mix → Token → Mix
-type_ref_key rows scope t = mixed_ends 32 (mixed_ends 32 scope (bytes_at rows t columns.type_ref_type_name)) (bytes_at rows t columns.type_ref_type_namespace)
+type_ref_key rows scope t = mixed_ends 0x800 (mixed_ends 0x800 scope (bytes_at rows t columns.type_ref_type_name)) (bytes_at rows t columns.type_ref_type_namespace)
 
 -- the same, its names left out where many scopes stand around it
 unfoldable pub scoped_key : Rows → Bool → Mix → Token → Mix
@@ -25,10 +28,10 @@ scoped_key rows false scope t = mixed_both (begun tables.type_ref) scope
 
 -- of an AssemblyRef and of a ModuleRef: its name
 unfoldable pub assembly_ref_key : Rows → Token → Mix
-assembly_ref_key rows t = mixed_ends 32 (begun tables.assembly_ref) (bytes_at rows t columns.assembly_ref_name)
+assembly_ref_key rows t = mixed_ends 0x800 (begun tables.assembly_ref) (bytes_at rows t columns.assembly_ref_name)
 
 unfoldable pub module_ref_key : Rows → Token → Mix
-module_ref_key rows t = mixed_ends 32 (begun tables.module_ref) (bytes_at rows t columns.module_ref_name)
+module_ref_key rows t = mixed_ends 0x800 (begun tables.module_ref) (bytes_at rows t columns.module_ref_name)
 
 -- of a token, through at most so many scopes one in the other, with the names of those past the first 96
 unfoldable pub ref_key : Rows → ℕ → Token → Mix
@@ -41,7 +44,7 @@ ref_key rows (suc depth) t =
 
 -- of a TypeSpec: the shape of its signature
 unfoldable pub spec_key : Rows → Token → Mix
-spec_key rows t = sig_shape (ref_key rows 99) TypeSpec (bytes_at rows t columns.type_spec_signature)
+spec_key rows t = sig_shape (ref_key rows 100) TypeSpec (bytes_at rows t columns.type_spec_signature)
 
 -- of any token
 unfoldable pub key_of : Rows → Token → Mix
@@ -54,3 +57,7 @@ signature_key rows table blob = finished (sig_shape (key_of rows) (kind_in_table
 -- of a member's signature; an event has none
 unfoldable pub member_key : Rows → Token → ℕ
 member_key rows t = if t.table == tables.event then 0 else signature_key rows t.table (bytes_at rows t (unwrap_or (signature_column t.table) 0))
+
+-- an index has none but the keys of tokens
+abbrev pub AreKeys : Rows → Index Mix → Type 0
+AreKeys rows index = (q : Key) (k : Mix) → value_at index q ≡ Some k → k ≡ key_of rows (record { table = q.table; row = q.row })

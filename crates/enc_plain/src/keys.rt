@@ -1,26 +1,25 @@
 //! Keys of tokens and signatures: mixes that alike ones have in common, by which those that may be
 //! alike are found.
 ghost use Rattle.std.specs.Prelude.{◌≡◌};
-ghost use Rattle.enc_plain.specs.Keys.{token_key, type_ref_key, scoped_key, assembly_ref_key, module_ref_key, ref_key, spec_key, key_of, signature_key};
+ghost use Rattle.enc_plain.specs.Keys.{token_key, type_ref_key, scoped_key, assembly_ref_key, module_ref_key, ref_key, spec_key, key_of};
 ghost use Rattle.enc_plain.specs.Rows.{token_at, bytes_at};
 ghost use Rattle.enc_schema.specs.Tables.{assembly_ref, module_ref, type_ref, type_spec};
 
 use crate::cells::CellView;
-use crate::signature::kind_in_table;
 use enc_base::Token;
 use enc_schema::columns::{
     ASSEMBLY_REF_NAME, MODULE_REF_NAME, TYPE_REF_RESOLUTION_SCOPE, TYPE_REF_TYPE_NAME,
     TYPE_REF_TYPE_NAMESPACE, TYPE_SPEC_SIGNATURE,
 };
 use enc_schema::tables::{ASSEMBLY_REF, MODULE_REF, TYPE_REF, TYPE_SPEC};
-use enc_sigs::{Mix, SigKind, begun, finished, mixed, mixed_both, mixed_ends, sig_shape};
+use enc_sigs::{Mix, SigKind, begun, mixed, mixed_both, mixed_ends, sig_shape};
 
 /// How many bytes of a name count at either end.
-const MOST: usize = 32;
+const MOST: usize = 0x800;
 
 /// The key of a token that is alike itself alone.
 #[tactic(auto, unfolding(crate::specs::Keys::token_key))]
-fn token_key(token: Token) -> Mix
+pub fn token_key(token: Token) -> Mix
     ensures { result ≡ token_key token }
 {
     mixed(begun(u64::from(token.table)), u64::from(token.row))
@@ -88,7 +87,7 @@ fn scope_of<R: CellView>(rows: &R, token: Token) -> Token
 /// The key of a token, through at most so many scopes one in the other, with the names of those past
 /// the first 96.
 #[tactic(auto, using(crate::proofs::OneKey::ref_steps))]
-fn ref_key<R: CellView>(rows: &R, depth: u8, token: Token) -> Mix
+pub fn ref_key<R: CellView>(rows: &R, depth: u8, token: Token) -> Mix
     ensures { result ≡ ref_key (R.rows rows.now) depth token }
 {
     if depth == 0 {
@@ -107,7 +106,7 @@ fn ref_key<R: CellView>(rows: &R, depth: u8, token: Token) -> Mix
 
 /// The signature of a TypeSpec.
 #[tactic(auto, unfolding(enc_schema::specs::Schema::columns_in))]
-fn spec_of<R: CellView>(rows: &R, token: Token) -> &[u8]
+pub fn spec_of<R: CellView>(rows: &R, token: Token) -> &[u8]
     requires { token.table ≡ type_spec }
     ensures { result.now ≡ bytes_at (R.rows rows.now) token 0 }
 {
@@ -123,27 +122,17 @@ fn spec_key<R: CellView>(rows: &R, token: Token) -> Mix
     sig_shape(
         SigKind::TypeSpec,
         spec_of(rows, token),
-        |t| ref_key(rows, 99, t),
+        |t| ref_key(rows, 100, t),
     )
 }
 
 /// The key of any token. Alike tokens have one.
 #[tactic(auto, unfolding(crate::specs::Keys::key_of))]
-fn key_of<R: CellView>(rows: &R, token: Token) -> Mix
+pub fn key_of<R: CellView>(rows: &R, token: Token) -> Mix
     ensures { result ≡ key_of (R.rows rows.now) token }
 {
     if token.table == TYPE_SPEC {
         return spec_key(rows, token);
     }
     ref_key(rows, 100, token)
-}
-
-/// The key of a signature of a table's rows. Alike signatures of fields, methods or properties have
-/// one. It takes no memory.
-#[tactic(auto, unfolding(crate::specs::Keys::signature_key))]
-pub fn signature_key<R: CellView>(rows: &R, table: u8, blob: &[u8]) -> u64
-    ensures { result ≡ signature_key (R.rows rows.now) table blob.now }
-{
-    let kind = kind_in_table(table, blob);
-    finished(sig_shape(kind, blob, |t| key_of(rows, t)))
 }

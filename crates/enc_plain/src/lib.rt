@@ -11,6 +11,7 @@ mod likeness;
 mod place;
 mod plain;
 mod points;
+mod ref_keys;
 mod signature;
 mod view;
 
@@ -18,13 +19,13 @@ pub use cells::{CellView, Viewed};
 pub use chain::ChainView;
 pub use document::{DocumentRef, NameRef};
 pub use extent::{Extent, extent_in};
-pub use keys::signature_key;
 pub use laws::likeness_laws;
 pub use likeness::{alike, signatures_alike, tokens_alike};
 pub use place::RowPlace;
 pub use plain::{PlainCell, PlainModule};
 pub use points::PointSource;
 pub use signature::{is_signature, kind_in_table, signature_column};
+pub use ref_keys::RefKeys;
 pub use view::{ModuleView, index_token, is_row};
 
 #[cfg(test)]

@@ -23,6 +23,7 @@ pub use elem::Elem;
 pub use judge::is_sig;
 pub use kind::{SigFault, SigKind};
 pub use laws::{depth_law, signature_laws};
+pub use number::coded_token;
 pub use mix::{Mix, begun, finished, mixed, mixed_both, mixed_ends};
 pub use shape::{shape_law, sig_shape};
 pub use sig::Sig;
