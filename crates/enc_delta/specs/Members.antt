@@ -3,7 +3,7 @@ use Rattle.std.specs.Prelude.{◌≡◌, ℕ, zero, suc, ◌+◌, ◌-◌, ◌<�
 use Rattle.std.specs.List.{list_any, list_all}
 use Rattle.enc_base.specs.Token.{is_token, number_of}
 use Rattle.enc_base.specs.declared.token.Token.{Token}
-use Rattle.enc_sigs.specs.Mix.{begun, mixed, mixed_ends, finished}
+use Rattle.enc_sigs.specs.Mix.{mix_of, mixed, mixed_ends, finished}
 use Rattle.enc_sigs.specs.declared.mix.Mix.{Mix}
 use Rattle.enc_schema.specs.Children.{is_child_table}
 use Rattle.enc_plain.specs.Module.{Module, kids_of}
@@ -51,7 +51,7 @@ AlikeHaveOneKey q keys = (t u : Token) → q.counts t ≡ true → q.counts u �
 
 -- the number of a pair's owner and table
 unfoldable pub owner_key : Pair → Mix
-owner_key k = mixed (begun k.owner.row) k.child.table
+owner_key k = mixed (mix_of k.owner.row) k.child.table
 
 -- of its owner, its table and its child's name, with up to 32 bytes at either end
 unfoldable pub name_key : Asked → Pair → ℕ

@@ -6,7 +6,7 @@ ghost use Rattle.enc_delta.specs.Members.{owner_key, name_key, twin_key, keyed_b
 
 use crate::pairs::Pair;
 use crate::twins::Members;
-use enc_sigs::{Mix, begun, finished, mixed, mixed_ends};
+use enc_sigs::{Mix, finished, mix_of, mixed, mixed_ends};
 use std::alloc::{AllocError, Global};
 
 /// A member of an owner, with a number that its twins have too.
@@ -24,7 +24,7 @@ fn owner_key(pair: Pair) -> Mix
     ensures { result ≡ owner_key pair }
 {
     mixed(
-        begun(u64::from(pair.owner.row)),
+        mix_of(u64::from(pair.owner.row)),
         u64::from(pair.child.table),
     )
 }
@@ -89,6 +89,23 @@ fn has_neighbour(entries: &[Keyed], k: usize) -> bool
 {
     let key = entries[k].key;
     0 < k && entries[k - 1].key == key || k + 1 < entries.len() && entries[k + 1].key == key
+}
+
+/// Learns what is asked for the numbers of the members whose number another has.
+pub fn learn_shared<M: Members>(
+    alloc: Global,
+    members: &mut M,
+    entries: &[Keyed],
+) -> Result<(), AllocError>
+    ensures { members.new ≡ members.old }
+{
+    for k in 0..entries.len() {
+        let child = entries[k].pair.child;
+        if has_neighbour(entries, k) && members.counts(child) {
+            members.learn(alloc, child)?;
+        }
+    }
+    Ok(())
 }
 
 /// The members whose number another has, each by a number of its signature too.

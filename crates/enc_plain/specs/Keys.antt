@@ -1,7 +1,7 @@
 -- Keys of tokens and signatures: mixes that alike ones have in common. They tell which are worth comparing; that keys are equal says nothing.
 use Rattle.std.specs.Prelude.{◌≡◌, ℕ, zero, suc, Bool, true, false, nat_lt, ◌==◌, List, Some, unwrap_or, if◌then◌else◌}
 use Rattle.enc_base.specs.declared.token.Token.{Token}
-use Rattle.enc_sigs.specs.Mix.{begun, mixed, mixed_both, mixed_ends, finished}
+use Rattle.enc_sigs.specs.Mix.{mix_of, mixed, mixed_both, mixed_ends, finished}
 use Rattle.enc_sigs.specs.declared.mix.Mix.{Mix}
 use Rattle.enc_sigs.specs.Shape.{sig_shape}
 use Rattle.enc_sigs.specs.declared.kind.SigKind.TheVariants.{TypeSpec}
@@ -15,7 +15,7 @@ use Rattle.enc_schema.specs.Columns as columns
 
 -- of a token that is alike itself alone
 unfoldable pub token_key : Token → Mix
-token_key t = mixed (begun t.table) t.row
+token_key t = mixed (mix_of t.table) t.row
 
 -- of a TypeRef: its names, and the key of its scope
 unfoldable pub type_ref_key : Rows → Mix → Token → Mix
@@ -24,14 +24,14 @@ type_ref_key rows scope t = mixed_ends 0x800 (mixed_ends 0x800 scope (bytes_at r
 -- the same, its names left out where many scopes stand around it
 unfoldable pub scoped_key : Rows → Bool → Mix → Token → Mix
 scoped_key rows true scope t = type_ref_key rows scope t
-scoped_key rows false scope t = mixed_both (begun tables.type_ref) scope
+scoped_key rows false scope t = mixed_both (mix_of tables.type_ref) scope
 
 -- of an AssemblyRef and of a ModuleRef: its name
 unfoldable pub assembly_ref_key : Rows → Token → Mix
-assembly_ref_key rows t = mixed_ends 0x800 (begun tables.assembly_ref) (bytes_at rows t columns.assembly_ref_name)
+assembly_ref_key rows t = mixed_ends 0x800 (mix_of tables.assembly_ref) (bytes_at rows t columns.assembly_ref_name)
 
 unfoldable pub module_ref_key : Rows → Token → Mix
-module_ref_key rows t = mixed_ends 0x800 (begun tables.module_ref) (bytes_at rows t columns.module_ref_name)
+module_ref_key rows t = mixed_ends 0x800 (mix_of tables.module_ref) (bytes_at rows t columns.module_ref_name)
 
 -- of a token, through at most so many scopes one in the other, with the names of those past the first 96
 unfoldable pub ref_key : Rows → ℕ → Token → Mix

@@ -12,7 +12,7 @@ use enc_schema::columns::{
     TYPE_REF_TYPE_NAMESPACE, TYPE_SPEC_SIGNATURE,
 };
 use enc_schema::tables::{ASSEMBLY_REF, MODULE_REF, TYPE_REF, TYPE_SPEC};
-use enc_sigs::{Mix, SigKind, begun, mixed, mixed_both, mixed_ends, sig_shape};
+use enc_sigs::{Mix, SigKind, mix_of, mixed, mixed_both, mixed_ends, sig_shape};
 
 /// How many bytes of a name count at either end.
 const MOST: usize = 0x800;
@@ -22,7 +22,7 @@ const MOST: usize = 0x800;
 pub fn token_key(token: Token) -> Mix
     ensures { result ≡ token_key token }
 {
-    mixed(begun(u64::from(token.table)), u64::from(token.row))
+    mixed(mix_of(u64::from(token.table)), u64::from(token.row))
 }
 
 /// The key of a TypeRef: its names, and the key of its scope.
@@ -45,7 +45,7 @@ fn scoped_key<R: CellView>(rows: &R, is_named: bool, scope: Mix, token: Token) -
     if is_named {
         type_ref_key(rows, scope, token)
     } else {
-        mixed_both(begun(u64::from(TYPE_REF)), scope)
+        mixed_both(mix_of(u64::from(TYPE_REF)), scope)
     }
 }
 
@@ -57,7 +57,7 @@ fn assembly_ref_key<R: CellView>(rows: &R, token: Token) -> Mix
 {
     mixed_ends(
         MOST,
-        begun(u64::from(ASSEMBLY_REF)),
+        mix_of(u64::from(ASSEMBLY_REF)),
         rows.text(token, ASSEMBLY_REF_NAME),
     )
 }
@@ -70,7 +70,7 @@ fn module_ref_key<R: CellView>(rows: &R, token: Token) -> Mix
 {
     mixed_ends(
         MOST,
-        begun(u64::from(MODULE_REF)),
+        mix_of(u64::from(MODULE_REF)),
         rows.text(token, MODULE_REF_NAME),
     )
 }

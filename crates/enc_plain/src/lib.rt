@@ -24,8 +24,8 @@ pub use likeness::{alike, signatures_alike, tokens_alike};
 pub use place::RowPlace;
 pub use plain::{PlainCell, PlainModule};
 pub use points::PointSource;
-pub use signature::{is_signature, kind_in_table, signature_column};
 pub use ref_keys::RefKeys;
+pub use signature::{is_signature, kind_in_table, signature_column};
 pub use view::{ModuleView, index_token, is_row};
 
 #[cfg(test)]

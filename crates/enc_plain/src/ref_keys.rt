@@ -68,7 +68,7 @@ impl<'a, R: CellView> RefKeys<'a, R> {
     }
 
     /// The rows.
-    pub fn rows(&self) -> &R
+    pub fn rows(&self) -> &'a R
         ensures { result.now ≡ self.now }
     {
         self.rows

@@ -15,7 +15,7 @@ use Rattle.enc_base.specs.Readers.{Reader, number_in}
 use Rattle.enc_sigs.specs.Agree.{tokens_agree}
 use Rattle.enc_sigs.specs.Walk.{Walk, paired, both_numbers, alike, alike_alone, onward, upon_alike, token_walk, many_walk, counted_walk, numerals_walk, array_walk, modified_walk, instance_walk, marked_walk, params_walk, parts_walk, calling_walk, method_walk, accessed_walk, formed_walk, elem_walk, type_walk, front_walk, both_end}
 use Rattle.enc_sigs.specs.Shape.{Shaping, in_turn, number_shape, upon_shape, token_shape, many_shape, counted_shape, numerals_shape, array_shape, modified_shape, instance_shape, marked_shape, params_shape, parts_shape, calling_shape, method_shape, formed_shape, elem_shape, type_shape, accessed_shape, front_shape, mixed_of, sig_shape, AlikeHaveOneShape}
-use Rattle.enc_sigs.specs.Mix.{begun, mixed, mixed_both}
+use Rattle.enc_sigs.specs.Mix.{mix_of, mixed, mixed_both}
 use Rattle.enc_sigs.specs.declared.mix.Mix.{Mix}
 use Rattle.enc_sigs.proofs.Agreed.{sigs_agreed}
 
@@ -250,7 +250,7 @@ front_shares same key MethodSpec keys = tagged_shares (λ b. b == 0x0A) (counted
 end_by : (same : Token → Token → Bool) (key : Token → Mix) (kind : SigKind) (a b : List ℕ) (o : Option (List ℕ × List ℕ)) → HaveOneKey same key → front_walk same kind a b ≡ o → both_end o ≡ true → sig_shape key kind a ≡ sig_shape key kind b
 unfolding sig_shape
 end_by same key kind a b None keys is e = absurd (cc)
-end_by same key kind a b (Some x) keys is e = let f = front_shares same key kind keys (begun 0) a b x is in ap mixed_of f.1 ∙ sym (ap mixed_of f.2)
+end_by same key kind a b (Some x) keys is e = let f = front_shares same key kind keys (mix_of 0) a b x is in ap mixed_of f.1 ∙ sym (ap mixed_of f.2)
 
 pub alike_have_one_shape : AlikeHaveOneShape
 alike_have_one_shape same key kind a b keys e = end_by same key kind a b (front_walk same kind a b) keys refl (sigs_agreed same kind a b ∙ e)

@@ -5,8 +5,8 @@ use Rattle.std.specs.Hash.DefaultHasher.{wrapping_add}
 use Rattle.enc_sigs.specs.declared.mix.Mix.{Mix}
 
 -- what a number of 64 bits begins
-unfoldable pub begun : ℕ → Mix
-begun n = record { high = 0; low = n }
+unfoldable pub mix_of : ℕ → Mix
+mix_of n = record { high = 0; low = n }
 
 -- a round of the cipher Speck of 128 bits, with its key
 unfoldable pub round : Mix → ℕ → Mix

@@ -10,7 +10,7 @@ use Rattle.enc_sigs.specs.declared.form.Numeral.TheVariants.{Size, Bound}
 use Rattle.enc_sigs.specs.Grammar.{byte_in, numeral_in, token_in, is_coded, form_of, calling_in, begins}
 use Rattle.enc_base.specs.Readers.{Reader, number_in}
 use Rattle.enc_sigs.specs.Agree.{sigs_agree}
-use Rattle.enc_sigs.specs.Mix.{begun, mixed, mixed_both}
+use Rattle.enc_sigs.specs.Mix.{mix_of, mixed, mixed_both}
 use Rattle.enc_sigs.specs.declared.mix.Mix.{Mix}
 
 -- what mixes something at the front in, and gives what is behind it too
@@ -115,12 +115,12 @@ front_shape key MethodSpec = in_turn (number_shape (byte_in (λ b. b == 0x0A))) 
 
 -- what is mixed in the end, where something is read
 abbrev pub mixed_of : Option (Mix × List ℕ) → Mix
-mixed_of None = begun 0
+mixed_of None = mix_of 0
 mixed_of (Some x) = x.0
 
 -- the shape of a signature of this kind, by the keys of its tokens; what stands behind it isn't looked at
 unfoldable pub sig_shape : (Token → Mix) → SigKind → List ℕ → Mix
-sig_shape key kind bytes = mixed_of (front_shape key kind (begun 0) bytes)
+sig_shape key kind bytes = mixed_of (front_shape key kind (mix_of 0) bytes)
 
 -- a call answers what the function says
 abbrev pub GivesKeys : (Token → Mix → Type 0) → (Token → Mix) → Type 0

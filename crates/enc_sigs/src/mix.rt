@@ -3,7 +3,7 @@
 //! another.
 ghost use Rattle.std.specs.Prelude.{◌≡◌, ◌≤◌, length, drop, slice_index};
 ghost use Rattle.std.specs.Int.{w64, from_le_bytes};
-ghost use Rattle.enc_sigs.specs.Mix.{begun, round, rounds, added, mixed, mixed_both, mixed_bytes, mixed_ends, finished};
+ghost use Rattle.enc_sigs.specs.Mix.{mix_of, round, rounds, added, mixed, mixed_both, mixed_bytes, mixed_ends, finished};
 
 /// Two words for all that was mixed.
 #[derive(Clone, Copy, Debug, PartialEq, Eq)]
@@ -13,9 +13,9 @@ pub struct Mix {
 }
 
 /// What a number begins.
-#[tactic(auto, unfolding(crate::specs::Mix::begun))]
-pub fn begun(number: u64) -> Mix
-    ensures { result ≡ begun number }
+#[tactic(auto, unfolding(crate::specs::Mix::mix_of))]
+pub fn mix_of(number: u64) -> Mix
+    ensures { result ≡ mix_of number }
 {
     Mix {
         high: 0,
@@ -138,7 +138,10 @@ pub fn mixed_ends(most: usize, mix: Mix, bytes: &[u8]) -> Mix
     let size = bytes.len();
     let front = most.min(size);
     let back = front.max(size - front);
-    mixed_bytes(mixed_bytes(mixed(mix, size as u64), &bytes[..front]), &bytes[back..])
+    mixed_bytes(
+        mixed_bytes(mixed(mix, size as u64), &bytes[..front]),
+        &bytes[back..],
+    )
 }
 
 /// 64 bits of what was mixed.

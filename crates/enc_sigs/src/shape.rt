@@ -3,14 +3,14 @@ ghost use Rattle.std.specs.Prelude.{◌≡◌, suc, ◌==◌, ◌||◌, option_m
 ghost use Rattle.enc_base.specs.declared.token.Token.{Token};
 ghost use Rattle.enc_base.specs.Readers.{number_in};
 ghost use Rattle.enc_sigs.specs.Grammar.{byte_in, numeral_in};
-ghost use Rattle.enc_sigs.specs.Mix.{begun};
+ghost use Rattle.enc_sigs.specs.Mix.{mix_of};
 ghost use Rattle.enc_sigs.specs.declared.mix.Mix.{Mix as TheMix};
 ghost use Rattle.enc_sigs.specs.Shape.{number_shape, token_shape, many_shape, counted_shape, numerals_shape, array_shape, modified_shape, instance_shape, marked_shape, params_shape, parts_shape, calling_shape, method_shape, formed_shape, elem_shape, type_shape, accessed_shape, front_shape, mixed_of, sig_shape, GivesKeys, AlikeHaveOneShape};
 
 use crate::form::{Form, Numeral};
 use crate::held::behind_sentinel;
 use crate::kind::SigKind;
-use crate::mix::{Mix, begun, mixed, mixed_both};
+use crate::mix::{Mix, mix_of, mixed, mixed_both};
 use crate::number::{calling, coded_token, form_by, numeral};
 use enc_base::{Token, unsigned_front};
 
@@ -32,7 +32,10 @@ fn calling_shape(mix: Mix, bytes: &[u8]) -> Option<(Mix, &[u8])>
     ensures { option_map (λ x. (x.0, x.1.now)) result ≡ calling_shape mix bytes.now }
 {
     let ((first, generics), rest) = calling(bytes)?;
-    Some((mixed(mixed(mix, u64::from(first)), u64::from(generics)), rest))
+    Some((
+        mixed(mixed(mix, u64::from(first)), u64::from(generics)),
+        rest,
+    ))
 }
 
 /// The byte behind a generic instance's first.
@@ -397,7 +400,7 @@ fn mixed_of(read: Option<(Mix, &[u8])>) -> Mix
 {
     match read {
         Some((mix, _)) => mix,
-        None => begun(0),
+        None => mix_of(0),
     }
 }
 
@@ -409,7 +412,7 @@ pub fn sig_shape<F: Fn(Token) -> Mix>(kind: SigKind, bytes: &[u8], key: F) -> Mi
     requires { F.IsAlwaysCallable key }
     ensures { (keys : Token → TheMix) → GivesKeys (F.post key) keys → result ≡ sig_shape keys kind bytes.now }
 {
-    mixed_of(front_shape(kind, begun(0), bytes, &key))
+    mixed_of(front_shape(kind, mix_of(0), bytes, &key))
 }
 
 /// Signatures that are equal but for tokens of equal keys have one shape.
