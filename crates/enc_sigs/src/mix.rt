@@ -1,6 +1,5 @@
-//! Numbers of 128 bits for bytes and for what is read, by which what may be equal is found. To find two
-//! things of one number nothing better is known than to try: 2^64 of them before one is as good as
-//! another.
+//! Numbers of 128 bits for bytes and for what is read, by which what may be equal is found. No way is
+//! known to two things of one number but to try some 2^64.
 ghost use Rattle.std.specs.Prelude.{◌≡◌, ◌≤◌, length, drop, slice_index};
 ghost use Rattle.std.specs.Int.{w64, from_le_bytes};
 ghost use Rattle.enc_sigs.specs.Mix.{mix_of, round, rounds, added, mixed, mixed_both, mixed_bytes, mixed_ends, finished};
