@@ -17,4 +17,5 @@ pub mod Owned
 pub mod NameParts
 pub mod NamePlaces
 pub mod OneKey
+pub mod Learnt
 pub mod MemberKeys

@@ -14,6 +14,7 @@ mod pairs;
 mod place;
 mod plain;
 mod points;
+mod ref_keys;
 mod signature;
 mod view;
 
@@ -21,13 +22,13 @@ pub use cells::{CellView, Viewed};
 pub use chain::ChainView;
 pub use document::{DocumentRef, NameRef};
 pub use extent::{Extent, extent_in};
-pub use keys::signature_key;
 pub use known::KnownAlike;
 pub use laws::likeness_laws;
 pub use likeness::{alike, signatures_alike, tokens_alike};
 pub use place::RowPlace;
 pub use plain::{PlainCell, PlainModule};
 pub use points::PointSource;
+pub use ref_keys::RefKeys;
 pub use signature::{is_signature, kind_in_table, signature_column};
 pub use view::{ModuleView, index_token, is_row};
 
