@@ -243,10 +243,15 @@ past_none (suc r) n x e h = let a : nat_le (suc r) n ≡ false = grind (arith, n
 zero_none : (n x : ℕ) → x ≡ cond (nat_le 1 0 && nat_le 0 n) 1 0 → x ≡ 0
 zero_none n x e = e
 
--- where each child row has just one owner, no row has more children than there are rows
+-- where each child row has just one owner, all owners have no more children than there are rows
+pub all_kids_few : (m : Module) (t : ℕ) → IsOwned m → is_child_table t ≡ true → length (all_kids m t) ≤ length (rows_in m t)
+all_kids_few m t owned there =
+    at_most (length (rows_in m t)) (all_kids m t) (λ r. once_le _ _ (owned.once t r there)) (λ r h. past_none r (length (rows_in m t)) _ (owned.once t r there) h) (zero_none (length (rows_in m t)) _ (owned.once t 0 there))
+
+-- nor has one of them
 pub few_kids : (m : Module) (u : Token) (t : ℕ) → IsOwned m → is_child_table t ≡ true → length (kids_of m u t) ≤ length (rows_in m t)
 few_kids m u t owned there =
-    let all = at_most (length (rows_in m t)) (all_kids m t) (λ r. once_le _ _ (owned.once t r there)) (λ r h. past_none r (length (rows_in m t)) _ (owned.once t r there) h) (zero_none (length (rows_in m t)) _ (owned.once t 0 there)) in
+    let all = all_kids_few m t owned there in
     let part = kids_part m u t in
     omega arith
 
