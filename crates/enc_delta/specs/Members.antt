@@ -3,7 +3,8 @@ use Rattle.std.specs.Prelude.{◌≡◌, ℕ, zero, suc, ◌+◌, ◌-◌, ◌<�
 use Rattle.std.specs.List.{list_any, list_all}
 use Rattle.enc_base.specs.Token.{is_token, number_of}
 use Rattle.enc_base.specs.declared.token.Token.{Token}
-use Rattle.enc_sigs.specs.Mix.{mixed, mixed_long, mixed_ends}
+use Rattle.enc_sigs.specs.Mix.{mix_of, mixed, mixed_ends, finished}
+use Rattle.enc_sigs.specs.declared.mix.Mix.{Mix}
 use Rattle.enc_schema.specs.Children.{is_child_table}
 use Rattle.enc_plain.specs.Module.{Module, kids_of}
 use Rattle.enc_plain.specs.Apply.{Attached}
@@ -49,16 +50,16 @@ abbrev pub AlikeHaveOneKey : Asked → (Token → ℕ) → Type 0
 AlikeHaveOneKey q keys = (t u : Token) → q.counts t ≡ true → q.counts u ≡ true → t.table ≡ u.table → q.alike t u ≡ true → keys t ≡ keys u
 
 -- the number of a pair's owner and table
-unfoldable pub owner_key : Pair → ℕ
-owner_key k = mixed (mixed 0 k.owner.row) k.child.table
+unfoldable pub owner_key : Pair → Mix
+owner_key k = mixed (mix_of k.owner.row) k.child.table
 
 -- of its owner, its table and its child's name, with up to 32 bytes at either end
 unfoldable pub name_key : Asked → Pair → ℕ
-name_key q k = mixed_ends 32 (owner_key k) (q.name k.child)
+name_key q k = finished (mixed_ends 32 (owner_key k) (q.name k.child))
 
 -- of its owner, its table, its child's name with up to 2,048 bytes at either end, and the key of its signature
 unfoldable pub twin_key : Asked → (Token → ℕ) → Pair → ℕ
-twin_key q keys k = mixed_ends 0x800 (mixed_long (owner_key k) (keys k.child)) (q.name k.child)
+twin_key q keys k = finished (mixed_ends 0x800 (mixed (owner_key k) (keys k.child)) (q.name k.child))
 
 -- a member by its name's key
 abbrev pub keyed_by_name : Asked → Bool → Pair → Keyed

@@ -20,7 +20,7 @@ use crate::lists::{lesser, placed};
 use crate::pairs::Pair;
 use crate::twins::{Members, twin_fault};
 use enc_base::{Place, Token};
-use enc_plain::{CellView, ChainView, signature_key, signatures_alike};
+use enc_plain::{CellView, ChainView, RefKeys, signatures_alike};
 use enc_schema::columns::{
     FIELD_FLAGS, FIELD_SIGNATURE, METHOD_DEF_FLAGS, METHOD_DEF_SIGNATURE, TYPE_DEF_EXTENDS,
     TYPE_DEF_FLAGS, TYPE_REF_TYPE_NAME, TYPE_REF_TYPE_NAMESPACE,
@@ -180,17 +180,34 @@ fn same_signature<R: CellView>(rows: &R, member: Token, other: Token) -> bool
 
 /// The key of a member's signature; events have none.
 #[tactic(auto, using(crate::proofs::MemberKinds::told_by_signature), unfolding(enc_plain::specs::Keys::member_key))]
-fn member_key<R: CellView>(rows: &R, member: Token) -> u64
-    requires { IsTrue (is_member (R.rows rows.now) member) }
-    ensures { result ≡ member_key (R.rows rows.now) member }
+fn member_key<R: CellView>(keys: &RefKeys<'_, R>, member: Token) -> u64
+    requires { IsTrue (is_member (R.rows keys.now) member) }
+    ensures { result ≡ member_key (R.rows keys.now) member }
 {
     if member.table == EVENT {
         return 0;
     }
-    signature_key(rows, member.table, signature_of(rows, member))
+    keys.signature_key(member.table, signature_of(keys.rows(), member))
 }
 
-impl<C: ChainView> Members for Context<'_, C> {
+/// Learns the keys of the references in a member's signature; events have none.
+#[tactic(auto, using(crate::proofs::MemberKinds::told_by_signature))]
+fn learn_member<R: CellView>(
+    alloc: Global,
+    keys: &mut RefKeys<'_, R>,
+    member: Token,
+) -> Result<(), AllocError>
+    requires { IsTrue (is_member (R.rows keys.old) member) }
+    ensures { keys.new ≡ keys.old }
+{
+    if member.table == EVENT {
+        return Ok(());
+    }
+    let signature = signature_of(keys.rows(), member);
+    keys.learn(alloc, signature)
+}
+
+impl<C: ChainView> Members for RefKeys<'_, Context<'_, C>> {
     ghost asked = { λ r. asked_of (joined_rows r) };
 
     ghost keys = { λ r. member_key (joined_rows r) };
@@ -199,29 +216,35 @@ impl<C: ChainView> Members for Context<'_, C> {
 
     #[tactic(auto, using(crate::proofs::MemberKinds::field_flags, crate::proofs::MemberKinds::method_flags), unfolding(crate::specs::Changes::is_member))]
     fn counts(&self, member: Token) -> bool {
+        let rows = self.rows();
         match member.table {
-            FIELD => self.number(member, FIELD_FLAGS) % 8 != 0,
-            METHOD_DEF => self.number(member, METHOD_DEF_FLAGS) % 8 != 0,
+            FIELD => rows.number(member, FIELD_FLAGS) % 8 != 0,
+            METHOD_DEF => rows.number(member, METHOD_DEF_FLAGS) % 8 != 0,
             table => table == EVENT || table == PROPERTY,
         }
     }
 
     #[tactic(auto, using(crate::proofs::MemberKinds::name_kind))]
     fn name(&self, member: Token) -> &[u8] {
-        self.text(member, name_column(member.table))
+        self.rows().text(member, name_column(member.table))
     }
 
     fn alike(&self, member: Token, other: Token) -> bool {
-        same_signature(self, member, other)
+        same_signature(self.rows(), member, other)
     }
 
     fn key(&self, member: Token) -> u64 {
         member_key(self, member)
     }
+
+    fn learn(&mut self, alloc: Global, member: Token) -> Result<(), AllocError> {
+        learn_member(alloc, self, member)
+    }
 }
 
 /// The least new member with a sibling of equal name and, but for an event, alike signature. It
-/// takes memory for each new member and each old one beside it.
+/// takes memory for each new member and each old one beside it, and for the references that
+/// signatures of members of one name name.
 #[tactic(auto, unfolding(crate::specs::Changes::twin_member))]
 pub fn twin_member<C: ChainView>(
     alloc: Global,
@@ -229,5 +252,6 @@ pub fn twin_member<C: ChainView>(
 ) -> Result<Option<Place>, AllocError>
     ensures { IfOk result (λ p. p ≡ twin_member context.now.chain context.now.delta) }
 {
-    twin_fault(alloc, context.old.view, context, context.pairs())
+    let mut members = RefKeys::new(context);
+    twin_fault(alloc, context.old.view, &mut members, context.pairs())
 }

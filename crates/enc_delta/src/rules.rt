@@ -78,13 +78,13 @@ fn ask_lists<C: ChainView>(alloc: Global, context: &Context<'_, C>) -> Result<()
 
 /// Asks the rules of the cells of rows.
 #[tactic(auto, unfolding(crate::specs::Stops::first_cells))]
-fn ask_cells<C: ChainView>(context: &Context<'_, C>) -> Result<(), Stop>
+fn ask_cells<C: ChainView>(alloc: Global, context: &Context<'_, C>) -> Result<(), Stop>
     ensures { TellsFirst result (first_cells context.now.chain context.now.delta) }
 {
     rule(12, closed_table(context))?;
     rule(13, bad_index(context))?;
     rule(14, bad_offset(context))?;
-    rule(15, altered_cell(context))
+    rule(15, altered_cell(alloc, context))
 }
 
 /// Asks the rules of bodies and of new members.
@@ -116,7 +116,7 @@ fn ask<C: ChainView>(alloc: Global, context: &Context<'_, C>) -> Result<(), Stop
 {
     ask_identity(context)?;
     ask_lists(alloc, context)?;
-    ask_cells(context)?;
+    ask_cells(alloc, context)?;
     ask_members(alloc, context)?;
     ask_signatures(alloc, context)
 }

@@ -6,7 +6,7 @@ ghost use Rattle.enc_delta.specs.Members.{owner_key, name_key, twin_key, keyed_b
 
 use crate::pairs::Pair;
 use crate::twins::Members;
-use enc_sigs::{mixed, mixed_ends, mixed_long};
+use enc_sigs::{Mix, finished, mix_of, mixed, mixed_ends};
 use std::alloc::{AllocError, Global};
 
 /// A member of an owner, with a number that its twins have too.
@@ -20,10 +20,13 @@ pub struct Keyed {
 
 /// The number of a pair's owner and table.
 #[tactic(auto, unfolding(crate::specs::Members::owner_key))]
-fn owner_key(pair: Pair) -> u64
+fn owner_key(pair: Pair) -> Mix
     ensures { result ≡ owner_key pair }
 {
-    mixed(mixed(0, pair.owner.row), u32::from(pair.child.table))
+    mixed(
+        mix_of(u64::from(pair.owner.row)),
+        u64::from(pair.child.table),
+    )
 }
 
 /// A number of a pair's owner, of its table and of its child's name, for which long names are read at
@@ -33,7 +36,7 @@ fn name_key<M: Members>(members: &M, pair: Pair) -> u64
     requires { IsTrue ((M.asked members.now).counts pair.child) }
     ensures { result ≡ name_key (M.asked members.now) pair }
 {
-    mixed_ends(32, owner_key(pair), members.name(pair.child))
+    finished(mixed_ends(32, owner_key(pair), members.name(pair.child)))
 }
 
 /// A number of a pair's owner, of its table, of its child's name and of its child's signature.
@@ -42,8 +45,8 @@ fn twin_key<M: Members>(members: &M, pair: Pair) -> u64
     requires { IsTrue ((M.asked members.now).counts pair.child) }
     ensures { result ≡ twin_key (M.asked members.now) (M.keys members.now) pair }
 {
-    let hash = mixed_long(owner_key(pair), members.key(pair.child));
-    mixed_ends(0x800, hash, members.name(pair.child))
+    let signed = mixed(owner_key(pair), members.key(pair.child));
+    finished(mixed_ends(0x800, signed, members.name(pair.child)))
 }
 
 /// Adds the pairs whose children count, each by the number of its name.
@@ -86,6 +89,23 @@ fn has_neighbour(entries: &[Keyed], k: usize) -> bool
 {
     let key = entries[k].key;
     0 < k && entries[k - 1].key == key || k + 1 < entries.len() && entries[k + 1].key == key
+}
+
+/// Learns what is asked for the numbers of the members whose number another has.
+pub fn learn_shared<M: Members>(
+    alloc: Global,
+    members: &mut M,
+    entries: &[Keyed],
+) -> Result<(), AllocError>
+    ensures { members.new ≡ members.old }
+{
+    for k in 0..entries.len() {
+        let child = entries[k].pair.child;
+        if has_neighbour(entries, k) && members.counts(child) {
+            members.learn(alloc, child)?;
+        }
+    }
+    Ok(())
 }
 
 /// The members whose number another has, each by a number of its signature too.

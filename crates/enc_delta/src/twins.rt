@@ -10,13 +10,13 @@ ghost use Rattle.enc_delta.specs.Members.{pair_seen, is_twin_beside, twin_key, k
 
 use crate::lists::{lesser, placed};
 use crate::pairs::Pair;
-use crate::shared::{Keyed, add_named, shared, sorted};
+use crate::shared::{Keyed, add_named, learn_shared, shared, sorted};
 use crate::siblings::{is_beside, old_members};
 use enc_base::{Place, Token};
 use enc_plain::{ChainView, ModuleView};
 use std::alloc::{AllocError, Global};
 
-/// What twins are told by. No call takes memory.
+/// What twins are told by. No call but `learn` takes memory.
 pub trait Members {
     // How it answers.
     ghost asked: { Self → Asked };
@@ -44,6 +44,11 @@ pub trait Members {
     fn key(&self, member: Token) -> u64
         requires { IsTrue ((asked self.now).counts member) }
         ensures { result ≡ keys self.now member };
+
+    /// Learns what is asked for the number of a row that counts, so that it is found once for all.
+    fn learn(&mut self, alloc: Global, member: Token) -> Result<(), AllocError>
+        requires { IsTrue ((asked self.old).counts member) }
+        ensures { self.new ≡ self.old };
 
     // Those with alike signatures have one.
     ghost one: { (m : Self) → AlikeHaveOneKey (asked m) (keys m) };
@@ -164,17 +169,18 @@ fn least_twin<M: Members>(members: &M, entries: &[Keyed]) -> Option<u32>
 pub fn twin_fault<C: ChainView, M: Members>(
     alloc: Global,
     chain: &C,
-    members: &M,
+    members: &mut M,
     pairs: &[Pair],
 ) -> Result<Option<Place>, AllocError>
     requires rows { ArePairs pairs.now }
-    ensures { IfOk result (λ p. p ≡ twin_fault (M.asked members.now) (C.chain chain.now).plain (map pair_seen pairs.now)) }
+    ensures { IfOk result (λ p. p ≡ twin_fault (M.asked members.old) (C.chain chain.now).plain (map pair_seen pairs.now)) }
 {
     let old = old_members(alloc, chain, members, pairs)?;
     let mut entries = Vec::new(alloc);
     add_named(members, &mut entries, pairs, true)?;
     add_named(members, &mut entries, &old, false)?;
     let named = sorted(entries);
+    learn_shared(alloc, members, &named)?;
     let told = sorted(shared(alloc, members, &named)?);
     Ok(placed(least_twin(members, &told)))
 }

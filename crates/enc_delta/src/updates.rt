@@ -3,6 +3,7 @@ ghost use Rattle.std.specs.Prelude.{◌≡◌, ◌||◌, false, Some, length};
 ghost use Rattle.enc_base.specs.Order.{first_below};
 ghost use Rattle.enc_schema.specs.Schema.{columns_in, column_in};
 ghost use Rattle.enc_plain.specs.Cell.{is_body, is_field, kind_of, kind_in, blobs};
+ghost use Rattle.enc_plain.specs.Known.{AreKnownAlike};
 ghost use Rattle.enc_delta.specs.Context.{joined_rows};
 ghost use Rattle.enc_delta.specs.Delta.{listed};
 ghost use Rattle.enc_delta.specs.Rows.{rows_of_chain};
@@ -11,9 +12,10 @@ ghost use Rattle.enc_delta.specs.Changes.{may_differ, is_signature_column, cell_
 use crate::context::Context;
 use crate::known::is_insert;
 use enc_base::{Place, Token};
-use enc_plain::{CellView, ChainView, signature_column, signatures_alike, tokens_alike};
+use enc_plain::{CellView, ChainView, KnownAlike, signature_column};
 use enc_schema::tables::{CUSTOM_ATTRIBUTE, FIELD_RVA, METHOD_DEF, PARAM};
 use enc_schema::{Column, column_of, columns_of};
+use std::alloc::Global;
 
 /// The columns in which an update may say something else.
 fn may_differ(table: u8, column: u8) -> bool
@@ -37,36 +39,48 @@ fn is_place(table: u8, column: u8) -> bool
 }
 
 /// A blob is what it was; a signature is alike.
-fn is_blob_kept<C: ChainView>(context: &Context<'_, C>, token: Token, column: u8) -> bool
-    requires { kind_in token.table column ≡ Some blobs }
-    ensures { result ≡ cell_is_kept (rows_of_chain context.now.chain) (joined_rows context.now) token column (Some blobs) }
+fn is_blob_kept<C: ChainView>(
+    context: &Context<'_, C>,
+    known: &mut KnownAlike,
+    token: Token,
+    column: u8,
+) -> bool
+    requires kind { kind_in token.table column ≡ Some blobs }
+    requires known { AreKnownAlike (joined_rows context.now) known.old }
+    ensures known { AreKnownAlike (joined_rows context.now) known.new }
+    ensures kept { result ≡ cell_is_kept (rows_of_chain context.now.chain) (joined_rows context.now) token column (Some blobs) }
 {
     let old = context.old.blob(token, column);
     let new = context.blob(token, column);
     if is_signature_column(token.table, column) {
-        return signatures_alike(context, token.table, old, new);
+        return known.signatures_alike(context, token.table, old, new);
     }
     old == new
 }
 
 /// A cell says what it said, in a column of this kind.
-fn is_kept<C: ChainView>(context: &Context<'_, C>, token: Token, i: u8, column: Column) -> bool
+fn is_kept<C: ChainView>(
+    context: &Context<'_, C>,
+    known: &mut KnownAlike,
+    token: Token,
+    i: u8,
+    column: Column,
+) -> bool
     requires column { column_in token.table i ≡ Some column }
     requires place { (is_body token.table i || is_field token.table i) ≡ false }
-    ensures { result ≡ cell_is_kept (rows_of_chain context.now.chain) (joined_rows context.now) token i (kind_of column) }
+    requires known { AreKnownAlike (joined_rows context.now) known.old }
+    ensures kept { result ≡ cell_is_kept (rows_of_chain context.now.chain) (joined_rows context.now) token i (kind_of column) }
+    ensures known { AreKnownAlike (joined_rows context.now) known.new }
 {
     match column {
         Column::Num8 | Column::Num16 | Column::Num32 => {
             context.old.number(token, i) == context.number(token, i)
         }
         Column::Text => context.old.text(token, i) == context.text(token, i),
-        Column::Blob => is_blob_kept(context, token, i),
+        Column::Blob => is_blob_kept(context, known, token, i),
         Column::Index(_) | Column::Coded(_) => {
-            tokens_alike(
-                context,
-                context.old.token(token, i),
-                context.token(token, i),
-            )
+            let old = context.old.token(token, i);
+            known.tokens_alike(context, old, context.token(token, i))
         }
         Column::Guid | Column::Run(_) => true,
     }
@@ -74,16 +88,23 @@ fn is_kept<C: ChainView>(context: &Context<'_, C>, token: Token, i: u8, column: 
 
 /// What is wrong with a cell of an updated row.
 #[tactic(auto, unfolding(crate::specs::Changes::altered_at))]
-fn altered_at<C: ChainView>(context: &Context<'_, C>, token: Token, i: u8) -> Option<Place>
-    ensures { result ≡ altered_at context.now.chain context.now.delta token i }
+fn altered_at<C: ChainView>(
+    context: &Context<'_, C>,
+    known: &mut KnownAlike,
+    token: Token,
+    i: u8,
+) -> Option<Place>
+    requires { AreKnownAlike (joined_rows context.now) known.old }
+    ensures place { result ≡ altered_at context.now.chain context.now.delta token i }
+    ensures known { AreKnownAlike (joined_rows context.now) known.new }
 {
     let Some(column) = column_of(token.table, i) else {
         return None;
     };
-    if is_place(token.table, i)
-        || may_differ(token.table, i)
-        || is_kept(context, token, i, column)
-    {
+    if is_place(token.table, i) || may_differ(token.table, i) {
+        return None;
+    }
+    if is_kept(context, known, token, i, column) {
         return None;
     }
     Some(Place::Cell(token, i))
@@ -91,11 +112,17 @@ fn altered_at<C: ChainView>(context: &Context<'_, C>, token: Token, i: u8) -> Op
 
 /// The first such cell of a row.
 #[tactic(auto, using(enc_base::proofs::First::first_none, enc_base::proofs::First::first_found, enc_base::proofs::First::first_more))]
-fn altered_in_cells<C: ChainView>(context: &Context<'_, C>, token: Token) -> Option<Place>
-    ensures { result ≡ first_below (altered_at context.now.chain context.now.delta token) (length (columns_in token.table)) }
+fn altered_in_cells<C: ChainView>(
+    context: &Context<'_, C>,
+    known: &mut KnownAlike,
+    token: Token,
+) -> Option<Place>
+    requires { AreKnownAlike (joined_rows context.now) known.old }
+    ensures known { AreKnownAlike (joined_rows context.now) known.new }
+    ensures place { result ≡ first_below (altered_at context.now.chain context.now.delta token) (length (columns_in token.table)) }
 {
     for i in 0..columns_of(token.table).len() {
-        match altered_at(context, token, i as u8) {
+        match altered_at(context, known, token, i as u8) {
             Some(place) => return Some(place),
             None => {}
         }
@@ -105,24 +132,33 @@ fn altered_in_cells<C: ChainView>(context: &Context<'_, C>, token: Token) -> Opt
 
 /// The first such cell of a row, where it is an update.
 #[tactic(auto, unfolding(crate::specs::Changes::altered_in))]
-fn altered_in<C: ChainView>(context: &Context<'_, C>, token: Token) -> Option<Place>
-    ensures { result ≡ altered_in context.now.chain context.now.delta token }
+fn altered_in<C: ChainView>(
+    context: &Context<'_, C>,
+    known: &mut KnownAlike,
+    token: Token,
+) -> Option<Place>
+    requires { AreKnownAlike (joined_rows context.now) known.old }
+    ensures known { AreKnownAlike (joined_rows context.now) known.new }
+    ensures place { result ≡ altered_in context.now.chain context.now.delta token }
 {
     if is_insert(context.old.view, token) {
         return None;
     }
-    altered_in_cells(context, token)
+    altered_in_cells(context, known, token)
 }
 
-/// The first cell of an updated row that says something else.
+/// The first cell of an updated row that says something else. It takes memory for what is known of
+/// likeness, and for the pairs of tokens of one signature at a time; without it, they are judged
+/// again.
 #[tactic(auto, using(enc_base::proofs::First::first_none, enc_base::proofs::First::first_found, enc_base::proofs::First::first_more), unfolding(crate::specs::Changes::altered_cell))]
-pub fn altered_cell<C: ChainView>(context: &Context<'_, C>) -> Option<Place>
+pub fn altered_cell<C: ChainView>(alloc: Global, context: &Context<'_, C>) -> Option<Place>
     ensures { result ≡ altered_cell context.now.chain context.now.delta }
 {
+    let mut known = KnownAlike::new(alloc);
     let tokens = context.tokens();
     for k in 0..tokens.len() {
         let token = tokens[k];
-        match altered_in(context, token) {
+        match altered_in(context, &mut known, token) {
             Some(place) => return Some(place),
             None => {}
         }

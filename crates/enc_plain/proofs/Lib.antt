@@ -15,5 +15,7 @@ pub mod AlikeKept
 pub mod KindsOf
 pub mod Owned
 pub mod NameParts
+pub mod NamePlaces
 pub mod OneKey
+pub mod Learnt
 pub mod MemberKeys

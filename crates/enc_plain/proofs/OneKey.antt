@@ -6,7 +6,9 @@ use Rattle.std.proofs.lemmas.Slice.Eq.{bytes_eq-Decides}
 use Rattle.enc_base.specs.Token.{is_token}
 use Rattle.enc_base.specs.declared.token.Token.{Token}
 use Rattle.enc_sigs.specs.Agree.{sigs_agree}
+use Rattle.enc_sigs.specs.Mix.{finished}
 use Rattle.enc_sigs.specs.Shape.{sig_shape}
+use Rattle.enc_sigs.specs.declared.mix.Mix.{Mix}
 use Rattle.enc_sigs.specs.declared.kind.SigKind.{SigKind}
 use Rattle.enc_sigs.specs.declared.kind.SigKind.TheVariants.{TypeSpec}
 use Rattle.enc_sigs.proofs.Shared.{alike_have_one_shape, both_left, both_right, or_else_right, token_is}
@@ -60,20 +62,20 @@ type_ref_step : (rows : Rows) (d : ℕ) (t : Token) → t.table ≡ 0x01 → ref
 unfolding ref_key
 type_ref_step rows d t e = let test : (t.table == 0x01) ≡ true = ap (λ n. n == 0x01) e in rw test refl
 
-scoped_one : (rows : Rows) (named : Bool) (k l : ℕ) (a b : Token) → k ≡ l → bytes_at rows a 1 ≡ bytes_at rows b 1 → bytes_at rows a 2 ≡ bytes_at rows b 2 → scoped_key rows named k a ≡ scoped_key rows named l b
+scoped_one : (rows : Rows) (named : Bool) (k l : Mix) (a b : Token) → k ≡ l → bytes_at rows a 1 ≡ bytes_at rows b 1 → bytes_at rows a 2 ≡ bytes_at rows b 2 → scoped_key rows named k a ≡ scoped_key rows named l b
 unfolding scoped_key type_ref_key
 scoped_one rows true k l a b scope name space = rw (name, space, scope) refl
 scoped_one rows false k l a b scope name space = rw scope refl
 
-type_refs_one : (rows : Rows) (d : ℕ) (a b : Token) → ((t u : Token) → refs_alike rows d t u ≡ true → ref_key rows d t ≡ ref_key rows d u) → type_refs_alike rows (refs_alike rows d) a b ≡ true → ref_key rows (suc d) a ≡ ref_key rows (suc d) b
+type_refs_one : (rows : Rows) (same : Token → Token → Bool) (d : ℕ) (a b : Token) → ((t u : Token) → same t u ≡ true → ref_key rows d t ≡ ref_key rows d u) → type_refs_alike rows same a b ≡ true → ref_key rows (suc d) a ≡ ref_key rows (suc d) b
 unfolding type_refs_alike
-type_refs_one rows d a b step h =
-    let three = both_left (are_rows rows 0x01 a b && same_bytes rows a b 1 && same_bytes rows a b 2) (refs_alike rows d (token_at rows a 0) (token_at rows b 0)) h in
+type_refs_one rows same d a b step h =
+    let three = both_left (are_rows rows 0x01 a b && same_bytes rows a b 1 && same_bytes rows a b 2) (same (token_at rows a 0) (token_at rows b 0)) h in
     let two = both_left (are_rows rows 0x01 a b && same_bytes rows a b 1) (same_bytes rows a b 2) three in
     let tables = tables_are rows 0x01 a b (both_left (are_rows rows 0x01 a b) (same_bytes rows a b 1) two) in
     let name = bytes_are rows a b 1 (both_right (are_rows rows 0x01 a b) (same_bytes rows a b 1) two) in
     let space = bytes_are rows a b 2 (both_right (are_rows rows 0x01 a b && same_bytes rows a b 1) (same_bytes rows a b 2) three) in
-    let scope = step (token_at rows a 0) (token_at rows b 0) (both_right (are_rows rows 0x01 a b && same_bytes rows a b 1 && same_bytes rows a b 2) (refs_alike rows d (token_at rows a 0) (token_at rows b 0)) h) in
+    let scope = step (token_at rows a 0) (token_at rows b 0) (both_right (are_rows rows 0x01 a b && same_bytes rows a b 1 && same_bytes rows a b 2) (same (token_at rows a 0) (token_at rows b 0)) h) in
     let keys : scoped_key rows (nat_lt 96 (suc d)) (ref_key rows d (token_at rows a 0)) a ≡ scoped_key rows (nat_lt 96 (suc d)) (ref_key rows d (token_at rows b 0)) b = scoped_one rows (nat_lt 96 (suc d)) (ref_key rows d (token_at rows a 0)) (ref_key rows d (token_at rows b 0)) a b scope name space in
     type_ref_step rows d a tables.0 ∙ keys ∙ sym (type_ref_step rows d b tables.1)
 
@@ -101,9 +103,20 @@ unfolding refs_alike
 refs_one rows zero a b h = ap (ref_key rows zero) (token_is a b h)
 refs_one rows (suc d) a b h = elim (one_of (is_token a b) (type_refs_alike rows (refs_alike rows d) a b) (assembly_refs_alike rows a b) (module_refs_alike rows a b) h) [
   | inl same ↦ ap (ref_key rows (suc d)) (token_is a b same)
-  | inr (inl types) ↦ type_refs_one rows d a b (refs_one rows d) types
+  | inr (inl types) ↦ type_refs_one rows (refs_alike rows d) d a b (refs_one rows d) types
   | inr (inr (inl assemblies)) ↦ assembly_refs_one rows d a b assemblies
   | inr (inr (inr modules)) ↦ module_refs_one rows d a b modules
+]
+
+-- the same of keys that go one scope deeper
+refs_next : (rows : Rows) (d : ℕ) (a b : Token) → refs_alike rows d a b ≡ true → ref_key rows (suc d) a ≡ ref_key rows (suc d) b
+unfolding refs_alike
+refs_next rows zero a b h = ap (ref_key rows (suc zero)) (token_is a b h)
+refs_next rows (suc d) a b h = elim (one_of (is_token a b) (type_refs_alike rows (refs_alike rows d) a b) (assembly_refs_alike rows a b) (module_refs_alike rows a b) h) [
+  | inl same ↦ ap (ref_key rows (suc (suc d))) (token_is a b same)
+  | inr (inl types) ↦ type_refs_one rows (refs_alike rows d) (suc d) a b (refs_next rows d) types
+  | inr (inr (inl assemblies)) ↦ assembly_refs_one rows (suc d) a b assemblies
+  | inr (inr (inr modules)) ↦ module_refs_one rows (suc d) a b modules
 ]
 
 not_spec : (rows : Rows) (table : ℕ) (a b : Token) → are_rows rows table a b ≡ true → (table == 0x1B) ≡ false → ((a.table == 0x1B) ≡ false) × ((b.table == 0x1B) ≡ false)
@@ -127,10 +140,10 @@ refs_key rows a b h = elim (no_specs rows 100 a b h) [
   | inr others ↦ rw (others.0, others.1) (refs_one rows 100 a b h)
 ]
 
-specs_by : (rows : Rows) (a b : List ℕ) → (bytes_eq a b || sigs_agree (refs_alike rows 99) TypeSpec a b) ≡ true → sig_shape (ref_key rows 99) TypeSpec a ≡ sig_shape (ref_key rows 99) TypeSpec b
+specs_by : (rows : Rows) (a b : List ℕ) → (bytes_eq a b || sigs_agree (refs_alike rows 99) TypeSpec a b) ≡ true → sig_shape (ref_key rows 100) TypeSpec a ≡ sig_shape (ref_key rows 100) TypeSpec b
 specs_by rows a b h = elim (or_else_right (bytes_eq a b) (sigs_agree (refs_alike rows 99) TypeSpec a b) h) [
-  | inl same ↦ ap (sig_shape (ref_key rows 99) TypeSpec) ((bytes_eq-Decides a b).0 same)
-  | inr agree ↦ alike_have_one_shape (refs_alike rows 99) (ref_key rows 99) TypeSpec a b (refs_one rows 99) agree
+  | inl same ↦ ap (sig_shape (ref_key rows 100) TypeSpec) ((bytes_eq-Decides a b).0 same)
+  | inr agree ↦ alike_have_one_shape (refs_alike rows 99) (ref_key rows 100) TypeSpec a b (refs_next rows 99) agree
 ]
 
 spec_is : (rows : Rows) (t : Token) → t.table ≡ 0x1B → key_of rows t ≡ spec_key rows t
@@ -157,4 +170,4 @@ sigs_by rows k a b h = elim (or_else_right (bytes_eq a b) (sigs_agree (tokens_al
 -- alike signatures of a table whose signatures are all of one kind, and that isn't TypeSpec
 pub signatures_one : (rows : Rows) (table : ℕ) (a b : List ℕ) → (table == 0x1B) ≡ false → kind_in_table table a ≡ kind_in_table table b → signatures_alike rows table a b ≡ true → signature_key rows table a ≡ signature_key rows table b
 unfolding signatures_alike signature_key
-signatures_one rows table a b other one h = ap (λ k. sig_shape (key_of rows) k a) one ∙ sigs_by rows (kind_in_table table b) a b (rw (other, one) at h)
+signatures_one rows table a b other one h = ap finished (ap (λ k. sig_shape (key_of rows) k a) one ∙ sigs_by rows (kind_in_table table b) a b (rw (other, one) at h))

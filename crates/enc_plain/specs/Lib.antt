@@ -12,6 +12,9 @@ pub mod Rows
 pub mod Signatures
 pub mod Alike
 pub mod AlikeLaws
+pub mod Namesakes
+pub mod Pairs
+pub mod Known
 pub mod Extent
 pub mod Sound
 pub mod Debug

@@ -1,5 +1,5 @@
 //! The name of a document, and a document by its value (Portable PDB v1.0).
-ghost use Rattle.std.specs.Prelude.{◌≡◌, ◌++◌, true, OnOk, is_some, length, option_map, option_and_then};
+ghost use Rattle.std.specs.Prelude.{◌≡◌, ◌<◌, ◌≤◌, ◌++◌, true, OnOk, is_some, length, option_map, option_and_then, slice_get, slice_index};
 ghost use Rattle.enc_meta.specs.Heaps.{blob_at};
 ghost use Rattle.enc_plain.specs.DebugSeen.{parts_said};
 ghost use Rattle.enc_plain.specs.DocumentName.{part_in, separator_bytes, name_parts_in, document_name_in};
@@ -18,14 +18,14 @@ pub struct NameRef<'a> {
 }
 
 impl<'a> Model for NameRef<'a> {
-    ghost use Rattle.std.specs.Prelude.{◌≡◌, ℕ, List, [], true, is_some, unwrap_or};
+    ghost use Rattle.std.specs.Prelude.{◌≡◌, ◌≤◌, ℕ, List, [], true, is_some, length, unwrap_or};
     ghost use Rattle.enc_plain.specs.DocumentName.{document_name_in};
 
     ghost Value = { List ℕ };
 
     ghost view = { λ n. unwrap_or (document_name_in n.heaps.blobs n.blob.now) [] };
 
-    ghost invariant = { λ n. is_some (document_name_in n.heaps.blobs n.blob.now) ≡ true };
+    ghost invariant = { λ n. (is_some (document_name_in n.heaps.blobs n.blob.now) ≡ true) × (length n.blob.now ≤ length n.heaps.blobs) };
 }
 
 /// A document by its value: its name, the GUID of its hash algorithm, its hash, and the GUID of its
@@ -113,6 +113,77 @@ fn push_parts(
     Ok(())
 }
 
+/// How many bytes a separator has, of which 0 is none.
+fn separator_len(separator: u8) -> usize
+    ensures len { result ≡ length (separator_bytes separator) }
+    ensures few { result ≤ 1 }
+{
+    if separator == 0 { 0 } else { 1 }
+}
+
+/// How many bytes the parts to the end of the bytes say, with the separator between them. A part has
+/// at most as many as `#Blob`.
+fn parts_len(heaps: &Heaps<'_>, separator: u8, bytes: &[u8]) -> usize
+    requires some { is_some (name_parts_in heaps.now.blobs (length bytes.now) bytes.now) ≡ true }
+    requires few { length bytes.now ≤ length heaps.now.blobs }
+    ensures { result ≡ length (parts_said 0 separator (name_parts_in heaps.now.blobs (length bytes.now) bytes.now)) }
+{
+    let most = heaps.lengths().blobs as usize;
+    let mut rest = bytes;
+    let mut before = 0;
+    let mut len = 0;
+    for i in 0..bytes.len() {
+        if rest.is_empty() {
+            return len;
+        }
+        let Some((text, behind)) = part(heaps, rest) else {
+            unreachable!()
+        };
+        len += separator_len(before) + text.len().min(most);
+        before = separator;
+        rest = behind;
+    }
+    len
+}
+
+/// The byte at a place of a separator, of which 0 is none, and a part.
+fn byte_of(separator: u8, text: &[u8], i: usize) -> Option<u8>
+    ensures { result ≡ slice_get (separator_bytes separator ++ text.now) i }
+{
+    if separator == 0 {
+        return text.get(i).copied();
+    }
+    if i == 0 {
+        return Some(separator);
+    }
+    text.get(i - 1).copied()
+}
+
+/// The byte at a place of what the parts to the end of the bytes say.
+fn parts_byte(heaps: &Heaps<'_>, separator: u8, bytes: &[u8], i: usize) -> Option<u8>
+    requires { is_some (name_parts_in heaps.now.blobs (length bytes.now) bytes.now) ≡ true }
+    ensures { result ≡ slice_get (parts_said 0 separator (name_parts_in heaps.now.blobs (length bytes.now) bytes.now)) i }
+{
+    let mut rest = bytes;
+    let mut before = 0;
+    let mut left = i;
+    for k in 0..bytes.len() {
+        if rest.is_empty() {
+            return None;
+        }
+        let Some((text, behind)) = part(heaps, rest) else {
+            unreachable!()
+        };
+        if let Some(byte) = byte_of(before, text, left) {
+            return Some(byte);
+        }
+        left -= separator_len(before) + text.len();
+        before = separator;
+        rest = behind;
+    }
+    None
+}
+
 impl<'a> NameRef<'a> {
     /// The name that the blob at an offset of a file's heaps says; None exactly where no blob stands
     /// there or it says none.
@@ -124,6 +195,30 @@ impl<'a> NameRef<'a> {
             return None;
         }
         Some(NameRef { heaps, blob })
+    }
+
+    /// How many bytes the name has. It goes over the parts and takes no memory.
+    pub fn len(&self) -> usize
+        ensures { result ≡ length self.now }
+    {
+        match self.blob {
+            [separator, rest @ ..] => parts_len(&self.heaps, *separator, rest),
+            [] => unreachable!(),
+        }
+    }
+
+    /// The byte at a place of the name, from 0. It goes over the parts before it and takes no memory.
+    pub fn byte(&self, i: usize) -> u8
+        requires { i < length self.now }
+        ensures { result ≡ slice_index self.now i }
+    {
+        let [separator, rest @ ..] = self.blob else {
+            unreachable!()
+        };
+        match parts_byte(&self.heaps, *separator, rest, i) {
+            Some(byte) => byte,
+            None => unreachable!(),
+        }
     }
 
     /// Appends the bytes of the name.

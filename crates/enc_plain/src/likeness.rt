@@ -4,10 +4,12 @@ ghost use Rattle.enc_base.specs.Token.{is_token};
 ghost use Rattle.enc_plain.specs.Alike.{are_rows, same_number, same_bytes, type_refs_alike, assembly_refs_alike, module_refs_alike, type_specs_alike, refs_alike, tokens_alike, signatures_alike, inner_alike, blobs_alike};
 ghost use Rattle.enc_plain.specs.Cell.{kind_in, numbers, texts, blobs};
 ghost use Rattle.enc_plain.specs.Module.{cells_of};
+ghost use Rattle.enc_plain.specs.Namesakes.{AreNamesakes};
 ghost use Rattle.enc_plain.specs.Rows.{bytes_at, token_at};
 ghost use Rattle.enc_schema.specs.Tables.{assembly_ref, type_ref, type_spec};
 
 use crate::cells::{CellView, Viewed};
+use crate::namesakes::Namesakes;
 use crate::signature::kind_in_table;
 use crate::view::ModuleView;
 use enc_base::Token;
@@ -67,16 +69,59 @@ fn same_blob<R: CellView>(rows: &R, table: u8, a: Token, b: Token, column: u8) -
     rows.blob(a, column) == rows.blob(b, column)
 }
 
-/// TypeRefs with equal names and namespaces (ECMA-335 II.22.38).
+/// Rows of TypeRef with equal names and namespaces (ECMA-335 II.22.38).
 #[tactic(auto, unfolding(enc_schema::specs::Schema::columns_in))]
+fn same_names<R: CellView>(rows: &R, a: Token, b: Token) -> bool
+    requires a { a.table ≡ type_ref }
+    requires b { b.table ≡ type_ref }
+    ensures { result ≡ (same_bytes (R.rows rows.now) a b 1 && same_bytes (R.rows rows.now) a b 2) }
+{
+    same_text(rows, TYPE_REF, a, b, TYPE_REF_TYPE_NAME)
+        && same_text(rows, TYPE_REF, a, b, TYPE_REF_TYPE_NAMESPACE)
+}
+
+/// The same. Names that are known to be equal aren't compared again, so rows cost what their number
+/// does, and not what that of the pairs does.
+fn same_names_known<R: CellView>(rows: &R, known: &mut Namesakes, a: Token, b: Token) -> bool
+    requires a { a.table ≡ type_ref }
+    requires b { b.table ≡ type_ref }
+    requires known { AreNamesakes (R.rows rows.now) known.old }
+    ensures names { result ≡ (same_bytes (R.rows rows.now) a b 1 && same_bytes (R.rows rows.now) a b 2) }
+    ensures known { AreNamesakes (R.rows rows.now) known.new }
+{
+    let first = known.end(a.row);
+    let second = known.end(b.row);
+    if first == second {
+        return true;
+    }
+    if !same_names(rows, a, b) {
+        return false;
+    }
+    known.join(first, second);
+    true
+}
+
+/// TypeRefs with equal names and namespaces (ECMA-335 II.22.38).
 fn are_namesakes<R: CellView>(rows: &R, a: Token, b: Token) -> bool
     ensures names { result ≡ (are_rows (R.rows rows.now) type_ref a b && same_bytes (R.rows rows.now) a b 1 && same_bytes (R.rows rows.now) a b 2) }
     ensures a { IsTrue result → a.table ≡ type_ref }
     ensures b { IsTrue result → b.table ≡ type_ref }
 {
-    are_rows(rows, TYPE_REF, a, b)
-        && same_text(rows, TYPE_REF, a, b, TYPE_REF_TYPE_NAME)
-        && same_text(rows, TYPE_REF, a, b, TYPE_REF_TYPE_NAMESPACE)
+    are_rows(rows, TYPE_REF, a, b) && same_names(rows, a, b)
+}
+
+/// The same, where equal names are remembered.
+fn are_namesakes_known<R: CellView>(rows: &R, known: &mut Namesakes, a: Token, b: Token) -> bool
+    requires known { AreNamesakes (R.rows rows.now) known.old }
+    ensures names { result ≡ (are_rows (R.rows rows.now) type_ref a b && same_bytes (R.rows rows.now) a b 1 && same_bytes (R.rows rows.now) a b 2) }
+    ensures a { IsTrue result → a.table ≡ type_ref }
+    ensures b { IsTrue result → b.table ≡ type_ref }
+    ensures known { AreNamesakes (R.rows rows.now) known.new }
+{
+    if !are_rows(rows, TYPE_REF, a, b) {
+        return false;
+    }
+    same_names_known(rows, known, a, b)
 }
 
 /// AssemblyRefs with the same version and flags (ECMA-335 II.22.5).
@@ -126,7 +171,7 @@ fn scope_of<R: CellView>(rows: &R, token: Token) -> Token
 /// Whether tokens are equal, or references alike by at most so many scopes one in the other; past
 /// that equal ones alone. Scopes are followed where the names are equal.
 #[tactic(auto, using(crate::proofs::Scopes::steps))]
-fn refs_alike<R: CellView>(rows: &R, depth: u8, a: Token, b: Token) -> bool
+pub(crate) fn refs_alike<R: CellView>(rows: &R, depth: u8, a: Token, b: Token) -> bool
     ensures { result ≡ refs_alike (R.rows rows.now) depth a b }
 {
     if is_same(a, b) {
@@ -137,6 +182,33 @@ fn refs_alike<R: CellView>(rows: &R, depth: u8, a: Token, b: Token) -> bool
     }
     if are_namesakes(rows, a, b) {
         return refs_alike(rows, depth - 1, scope_of(rows, a), scope_of(rows, b));
+    }
+    assembly_refs_alike(rows, a, b) || module_refs_alike(rows, a, b)
+}
+
+/// The same, where equal names are remembered.
+#[tactic(auto, using(crate::proofs::Scopes::steps))]
+pub(crate) fn refs_alike_known<R: CellView>(
+    rows: &R,
+    known: &mut Namesakes,
+    depth: u8,
+    a: Token,
+    b: Token,
+) -> bool
+    requires known { AreNamesakes (R.rows rows.now) known.old }
+    ensures alike { result ≡ refs_alike (R.rows rows.now) depth a b }
+    ensures known { AreNamesakes (R.rows rows.now) known.new }
+{
+    if is_same(a, b) {
+        return true;
+    }
+    if depth == 0 {
+        return false;
+    }
+    if are_namesakes_known(rows, known, a, b) {
+        let a = scope_of(rows, a);
+        let b = scope_of(rows, b);
+        return refs_alike_known(rows, known, depth - 1, a, b);
     }
     assembly_refs_alike(rows, a, b) || module_refs_alike(rows, a, b)
 }
@@ -183,6 +255,24 @@ pub fn tokens_alike<R: CellView>(rows: &R, a: Token, b: Token) -> bool
     ensures { result ≡ tokens_alike (R.rows rows.now) a b }
 {
     refs_alike(rows, 100, a, b) || type_specs_alike(rows, a, b)
+}
+
+/// The same, where equal names are remembered.
+#[tactic(auto, unfolding(crate::specs::Alike::tokens_alike))]
+pub(crate) fn tokens_alike_known<R: CellView>(
+    rows: &R,
+    known: &mut Namesakes,
+    a: Token,
+    b: Token,
+) -> bool
+    requires known { AreNamesakes (R.rows rows.now) known.old }
+    ensures alike { result ≡ tokens_alike (R.rows rows.now) a b }
+    ensures known { AreNamesakes (R.rows rows.now) known.new }
+{
+    if refs_alike_known(rows, known, 100, a, b) {
+        return true;
+    }
+    type_specs_alike(rows, a, b)
 }
 
 /// Whether blobs of the signature column of a table's rows are alike: the same bytes, or signatures

@@ -1,6 +1,8 @@
 use super::*;
 use enc_base::{Counts, Token};
+use enc_meta::{Heaps, read_root};
 use enc_sigs::SigKind;
+use std::alloc::Global;
 use std::test::Fail;
 
 #[test]
@@ -78,6 +80,24 @@ fn takes_absent_rows_for_alike_themselves_alone(rt: HostRuntime) -> Result<(), F
 }
 
 #[test]
+fn remembers_what_is_alike(rt: HostRuntime) -> Result<(), Fail> {
+    let module = PlainModule::begin(rt.alloc(), b"a.dll", [7; 16])?;
+    let rows = Viewed { view: &module };
+    let mut known = KnownAlike::new(rt.alloc());
+    let module_row = Token { table: 0, row: 1 };
+    let row = Token { table: 1, row: 1 };
+    assert!(rt; known.tokens_alike(&rows, module_row, module_row));
+    assert!(rt; known.tokens_alike(&rows, row, row));
+    assert!(rt; !known.tokens_alike(&rows, row, Token { table: 1, row: 2 }));
+    assert!(rt; !known.tokens_alike(&rows, row, Token { table: 1, row: 2 }));
+    assert!(rt; !known.tokens_alike(&rows, row, module_row));
+    assert!(rt; known.signatures_alike(&rows, 0x04, &[6, 0x12, 5], &[6, 0x12, 0x80, 5]));
+    assert!(rt; !known.signatures_alike(&rows, 0x04, &[6, 0x12, 5], &[6, 0x12, 9]));
+    assert!(rt; !known.signatures_alike(&rows, 0x1b, &[0x0f, 0x12, 5], &[0x0f, 0x12, 9]));
+    Ok(())
+}
+
+#[test]
 fn judges_signatures(rt: HostRuntime) {
     let mut rows = [0; 64];
     rows[0x01] = 1;
@@ -102,5 +122,44 @@ fn compares_signatures_by_their_tokens(rt: HostRuntime) -> Result<(), Fail> {
     assert!(rt; signatures_alike(&rows, 0x04, &[6, 0x12, 5], &[6, 0x12, 0x80, 5]));
     assert!(rt; signatures_alike(&rows, 0x1b, &[0x0f, 0x12, 5], &[0x0f, 0x12, 0x80, 5]));
     assert!(rt; !signatures_alike(&rows, 0x0a, &[6, 8], &[0, 0, 8]));
+    Ok(())
+}
+
+// A root of two streams. In its `#Blob` stand the parts "ab" and "c", both with a slash between them,
+// both with no separator, and no part.
+const NAMES: [u8; 68] = [
+    0x42, 0x53, 0x4a, 0x42, 0x01, 0x00, 0x01, 0x00, 0x00, 0x00, 0x00, 0x00, 0x04, 0x00, 0x00, 0x00,
+    0x76, 0x00, 0x00, 0x00, 0x00, 0x00, 0x02, 0x00, 0x34, 0x00, 0x00, 0x00, 0x00, 0x00, 0x00, 0x00,
+    0x23, 0x7e, 0x00, 0x00, 0x34, 0x00, 0x00, 0x00, 0x10, 0x00, 0x00, 0x00, 0x23, 0x42, 0x6c, 0x6f,
+    0x62, 0x00, 0x00, 0x00, 0x00, 0x02, 0x61, 0x62, 0x01, 0x63, 0x03, 0x2f, 0x01, 0x04, 0x03, 0x00,
+    0x01, 0x04, 0x01, 0x2f,
+];
+
+/// The bytes of the name at an offset, one by one, None where there is none.
+fn name_at(alloc: Global, offset: u32) -> Result<Option<Vec<u8>>, Fail> {
+    let root = read_root(&NAMES)?;
+    let Some(name) = NameRef::at(Heaps::of(&NAMES, &root), offset) else {
+        return Ok(None);
+    };
+    let mut bytes = Vec::new(alloc);
+    for i in 0..name.len() {
+        bytes.push(name.byte(i))?;
+    }
+    Ok(Some(bytes))
+}
+
+/// Some name.
+fn name(alloc: Global, text: &str) -> Result<Option<Vec<u8>>, Fail> {
+    Ok(Some(Vec::from_slice(alloc, text.as_bytes())?))
+}
+
+#[test]
+fn lends_a_name_byte_by_byte(rt: HostRuntime) -> Result<(), Fail> {
+    let alloc = rt.alloc();
+    assert_eq!(rt; name_at(alloc, 6)?, name(alloc, "ab/c")?);
+    assert_eq!(rt; name_at(alloc, 10)?, name(alloc, "abc")?);
+    assert_eq!(rt; name_at(alloc, 14)?, name(alloc, "")?);
+    assert_eq!(rt; name_at(alloc, 0)?, None);
+    assert_eq!(rt; name_at(alloc, 1)?, None);
     Ok(())
 }

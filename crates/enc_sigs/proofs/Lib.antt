@@ -13,4 +13,4 @@ mod ReadBack
 pub mod Left
 pub mod Shapes
 pub mod Shared
-pub mod MixedBytes
+pub mod Rounds

@@ -1,4 +1,4 @@
--- Shapes of signatures: numbers that signatures have in common which are equal but for tokens of equal keys. They tell which signatures are worth comparing; that shapes are equal says nothing.
+-- Shapes of signatures: mixes that signatures have in common which are equal but for tokens of equal keys. They tell which signatures are worth comparing; that shapes are equal says nothing.
 use Rattle.std.specs.Prelude.{◌≡◌, ℕ, zero, suc, Bool, true, ◌||◌, ◌==◌, List, [], ◌∷◌, drop, Option, Some, None, option_map, option_and_then, if◌then◌else◌}
 use Rattle.enc_base.specs.declared.token.Token.{Token}
 use Rattle.enc_sigs.specs.declared.kind.SigKind.{SigKind}
@@ -10,15 +10,16 @@ use Rattle.enc_sigs.specs.declared.form.Numeral.TheVariants.{Size, Bound}
 use Rattle.enc_sigs.specs.Grammar.{byte_in, numeral_in, token_in, is_coded, form_of, calling_in, begins}
 use Rattle.enc_base.specs.Readers.{Reader, number_in}
 use Rattle.enc_sigs.specs.Agree.{sigs_agree}
-use Rattle.enc_sigs.specs.Mix.{mixed, mixed_long}
+use Rattle.enc_sigs.specs.Mix.{mix_of, mixed, mixed_both}
+use Rattle.enc_sigs.specs.declared.mix.Mix.{Mix}
 
--- what mixes something at the front into a number, and gives what is behind it too
+-- what mixes something at the front in, and gives what is behind it too
 abbrev pub Shaping : Type 0
-Shaping = ℕ → List ℕ → Option (ℕ × List ℕ)
+Shaping = Mix → List ℕ → Option (Mix × List ℕ)
 
 -- one thing, and another behind it
 abbrev pub in_turn : Shaping → Shaping → Shaping
-in_turn p q h bytes = option_and_then (λ (x : ℕ × List ℕ). q x.0 x.1) (p h bytes)
+in_turn p q h bytes = option_and_then (λ (x : Mix × List ℕ). q x.0 x.1) (p h bytes)
 
 -- a number
 unfoldable pub number_shape : Reader ℕ → Shaping
@@ -29,8 +30,8 @@ abbrev pub upon_shape : Reader ℕ → (ℕ → Shaping) → Shaping
 upon_shape r shape h bytes = option_and_then (λ (p : ℕ × List ℕ). shape p.0 (mixed h p.0) p.1) (r bytes)
 
 -- a token, by its key
-unfoldable pub token_shape : (Token → ℕ) → Shaping
-token_shape key h bytes = option_map (λ (p : Token × List ℕ). (mixed_long h (key p.0), p.1)) (token_in is_coded bytes)
+unfoldable pub token_shape : (Token → Mix) → Shaping
+token_shape key h bytes = option_map (λ (p : Token × List ℕ). (mixed_both h (key p.0), p.1)) (token_in is_coded bytes)
 
 -- so many
 unfoldable pub many_shape : Shaping → ℕ → Shaping
@@ -50,11 +51,11 @@ unfoldable pub array_shape : Shaping → Shaping
 array_shape one = in_turn one (in_turn (number_shape number_in) (in_turn (numerals_shape Size) (numerals_shape Bound)))
 
 -- modified types (II.23.2.7)
-unfoldable pub modified_shape : (Token → ℕ) → Shaping → Shaping
+unfoldable pub modified_shape : (Token → Mix) → Shaping → Shaping
 modified_shape key one = in_turn (token_shape key) one
 
 -- generic instances (II.23.2.12)
-unfoldable pub instance_shape : (Token → ℕ) → Shaping → Shaping
+unfoldable pub instance_shape : (Token → Mix) → Shaping → Shaping
 instance_shape key one = in_turn (number_shape (byte_in (λ c. c == 0x11 || c == 0x12))) (in_turn (token_shape key) (counted_shape one))
 
 -- the parameter behind a sentinel, and so many more
@@ -79,7 +80,7 @@ unfoldable pub method_shape : Shaping → Shaping
 method_shape one = in_turn calling_shape (parts_shape one)
 
 -- what follows a first byte of each form (II.23.2.12)
-unfoldable pub formed_shape : (Token → ℕ) → Shaping → Form → Shaping
+unfoldable pub formed_shape : (Token → Mix) → Shaping → Form → Shaping
 formed_shape key one form.Bare = λ h bytes. Some (h, bytes)
 formed_shape key one form.Wrapped = one
 formed_shape key one form.Named = token_shape key
@@ -90,13 +91,13 @@ formed_shape key one form.Instance = instance_shape key one
 formed_shape key one form.Pointer = method_shape one
 
 -- types, where types stand in one another at most so deep
-unfoldable pub elem_shape : (Token → ℕ) → ℕ → Shaping
+unfoldable pub elem_shape : (Token → Mix) → ℕ → Shaping
 elem_shape key zero h bytes = None
 elem_shape key (suc depth) h [] = None
 elem_shape key (suc depth) h (b ∷ rest) = option_and_then (λ f. formed_shape key (elem_shape key depth) f (mixed h b) rest) (form_of b)
 
 -- types of the greatest depth that is allowed
-unfoldable pub type_shape : (Token → ℕ) → Shaping
+unfoldable pub type_shape : (Token → Mix) → Shaping
 type_shape key = elem_shape key 100
 
 -- the count of parameters, the type, the parameters (II.23.2.5)
@@ -104,7 +105,7 @@ unfoldable pub accessed_shape : Shaping → Shaping
 accessed_shape one = upon_shape number_in (λ n. in_turn one (many_shape one n))
 
 -- signatures of each kind
-unfoldable pub front_shape : (Token → ℕ) → SigKind → Shaping
+unfoldable pub front_shape : (Token → Mix) → SigKind → Shaping
 front_shape key Method = method_shape (type_shape key)
 front_shape key Field = in_turn (number_shape (byte_in (λ b. b == 0x06))) (type_shape key)
 front_shape key Locals = in_turn (number_shape (byte_in (λ b. b == 0x07))) (counted_shape (type_shape key))
@@ -112,20 +113,20 @@ front_shape key Property = in_turn (number_shape (byte_in (λ b. b == 0x08 || b 
 front_shape key TypeSpec = type_shape key
 front_shape key MethodSpec = in_turn (number_shape (byte_in (λ b. b == 0x0A))) (counted_shape (type_shape key))
 
--- what is mixed in the end, 0 where nothing is read
-abbrev pub mixed_of : Option (ℕ × List ℕ) → ℕ
-mixed_of None = 0
+-- what is mixed in the end, where something is read
+abbrev pub mixed_of : Option (Mix × List ℕ) → Mix
+mixed_of None = mix_of 0
 mixed_of (Some x) = x.0
 
 -- the shape of a signature of this kind, by the keys of its tokens; what stands behind it isn't looked at
-unfoldable pub sig_shape : (Token → ℕ) → SigKind → List ℕ → ℕ
-sig_shape key kind bytes = mixed_of (front_shape key kind 0 bytes)
+unfoldable pub sig_shape : (Token → Mix) → SigKind → List ℕ → Mix
+sig_shape key kind bytes = mixed_of (front_shape key kind (mix_of 0) bytes)
 
 -- a call answers what the function says
-abbrev pub GivesKeys : (Token → ℕ → Type 0) → (Token → ℕ) → Type 0
-GivesKeys post key = (t : Token) (n : ℕ) → post t n → n ≡ key t
+abbrev pub GivesKeys : (Token → Mix → Type 0) → (Token → Mix) → Type 0
+GivesKeys post key = (t : Token) (k : Mix) → post t k → k ≡ key t
 
 -- signatures that are equal but for tokens of equal keys have one shape
 abbrev pub AlikeHaveOneShape : Type 0
-AlikeHaveOneShape = (same : Token → Token → Bool) (key : Token → ℕ) (kind : SigKind) (a b : List ℕ) → ((t u : Token) → same t u ≡ true → key t ≡ key u)
+AlikeHaveOneShape = (same : Token → Token → Bool) (key : Token → Mix) (kind : SigKind) (a b : List ℕ) → ((t u : Token) → same t u ≡ true → key t ≡ key u)
     → sigs_agree same kind a b ≡ true → sig_shape key kind a ≡ sig_shape key kind b

@@ -1,14 +1,16 @@
 //! The shapes of signatures: what those have in common that are equal but for alike tokens.
-ghost use Rattle.std.specs.Prelude.{◌≡◌, ℕ, suc, ◌==◌, ◌||◌, option_map};
+ghost use Rattle.std.specs.Prelude.{◌≡◌, suc, ◌==◌, ◌||◌, option_map};
 ghost use Rattle.enc_base.specs.declared.token.Token.{Token};
 ghost use Rattle.enc_base.specs.Readers.{number_in};
 ghost use Rattle.enc_sigs.specs.Grammar.{byte_in, numeral_in};
+ghost use Rattle.enc_sigs.specs.Mix.{mix_of};
+ghost use Rattle.enc_sigs.specs.declared.mix.Mix.{Mix as TheMix};
 ghost use Rattle.enc_sigs.specs.Shape.{number_shape, token_shape, many_shape, counted_shape, numerals_shape, array_shape, modified_shape, instance_shape, marked_shape, params_shape, parts_shape, calling_shape, method_shape, formed_shape, elem_shape, type_shape, accessed_shape, front_shape, mixed_of, sig_shape, GivesKeys, AlikeHaveOneShape};
 
 use crate::form::{Form, Numeral};
 use crate::held::behind_sentinel;
 use crate::kind::SigKind;
-use crate::mix::{mixed, mixed_long};
+use crate::mix::{Mix, mix_of, mixed, mixed_both};
 use crate::number::{calling, coded_token, form_by, numeral};
 use enc_base::{Token, unsigned_front};
 
@@ -17,294 +19,297 @@ const DEPTH: u32 = 100;
 
 /// A number of this kind.
 #[tactic(auto, unfolding(crate::specs::Shape::number_shape))]
-fn numeral_shape(kind: Numeral, hash: u64, bytes: &[u8]) -> Option<(u64, &[u8])>
-    ensures { option_map (λ x. (x.0, x.1.now)) result ≡ number_shape (numeral_in kind) hash bytes.now }
+fn numeral_shape(kind: Numeral, mix: Mix, bytes: &[u8]) -> Option<(Mix, &[u8])>
+    ensures { option_map (λ x. (x.0, x.1.now)) result ≡ number_shape (numeral_in kind) mix bytes.now }
 {
     let (number, rest) = numeral(kind, bytes)?;
-    Some((mixed(hash, number), rest))
+    Some((mixed(mix, u64::from(number)), rest))
 }
 
 /// The first byte of a method and the count of its generic parameters.
 #[tactic(auto, unfolding(crate::specs::Shape::calling_shape))]
-fn calling_shape(hash: u64, bytes: &[u8]) -> Option<(u64, &[u8])>
-    ensures { option_map (λ x. (x.0, x.1.now)) result ≡ calling_shape hash bytes.now }
+fn calling_shape(mix: Mix, bytes: &[u8]) -> Option<(Mix, &[u8])>
+    ensures { option_map (λ x. (x.0, x.1.now)) result ≡ calling_shape mix bytes.now }
 {
     let ((first, generics), rest) = calling(bytes)?;
-    Some((mixed(mixed(hash, u32::from(first)), generics), rest))
+    Some((
+        mixed(mixed(mix, u64::from(first)), u64::from(generics)),
+        rest,
+    ))
 }
 
 /// The byte behind a generic instance's first.
 #[tactic(auto, unfolding(crate::specs::Shape::number_shape, crate::specs::Grammar::byte_in))]
-fn class_shape(hash: u64, bytes: &[u8]) -> Option<(u64, &[u8])>
-    ensures { option_map (λ x. (x.0, x.1.now)) result ≡ number_shape (byte_in (λ c. c == 0x11 || c == 0x12)) hash bytes.now }
+fn class_shape(mix: Mix, bytes: &[u8]) -> Option<(Mix, &[u8])>
+    ensures { option_map (λ x. (x.0, x.1.now)) result ≡ number_shape (byte_in (λ c. c == 0x11 || c == 0x12)) mix bytes.now }
 {
     match bytes {
-        [0x11, rest @ ..] => Some((mixed(hash, 0x11), rest)),
-        [0x12, rest @ ..] => Some((mixed(hash, 0x12), rest)),
+        [0x11, rest @ ..] => Some((mixed(mix, 0x11), rest)),
+        [0x12, rest @ ..] => Some((mixed(mix, 0x12), rest)),
         _ => None,
     }
 }
 
 /// So many sizes or lower bounds.
-fn many_numerals_shape(kind: Numeral, count: u32, hash: u64, bytes: &[u8]) -> Option<(u64, &[u8])>
-    ensures { option_map (λ x. (x.0, x.1.now)) result ≡ many_shape (number_shape (numeral_in kind)) count hash bytes.now }
+fn many_numerals_shape(kind: Numeral, count: u32, mix: Mix, bytes: &[u8]) -> Option<(Mix, &[u8])>
+    ensures { option_map (λ x. (x.0, x.1.now)) result ≡ many_shape (number_shape (numeral_in kind)) count mix bytes.now }
 {
-    let mut hash = hash;
+    let mut mix = mix;
     let mut rest = bytes;
     for i in 0..count {
-        let Some((more, behind)) = numeral_shape(kind, hash, rest) else {
+        let Some((more, behind)) = numeral_shape(kind, mix, rest) else {
             return None;
         };
-        hash = more;
+        mix = more;
         rest = behind;
     }
-    Some((hash, rest))
+    Some((mix, rest))
 }
 
 /// A count and so many sizes or lower bounds.
 #[tactic(auto, unfolding(crate::specs::Shape::numerals_shape, crate::specs::Shape::counted_shape))]
-fn numerals_shape(kind: Numeral, hash: u64, bytes: &[u8]) -> Option<(u64, &[u8])>
-    ensures { option_map (λ x. (x.0, x.1.now)) result ≡ numerals_shape kind hash bytes.now }
+fn numerals_shape(kind: Numeral, mix: Mix, bytes: &[u8]) -> Option<(Mix, &[u8])>
+    ensures { option_map (λ x. (x.0, x.1.now)) result ≡ numerals_shape kind mix bytes.now }
 {
     let (count, rest) = unsigned_front(bytes)?;
-    many_numerals_shape(kind, count, mixed(hash, count), rest)
+    many_numerals_shape(kind, count, mixed(mix, u64::from(count)), rest)
 }
 
 /// A token, by its key.
 #[tactic(auto, unfolding(crate::specs::Shape::token_shape))]
-fn token_shape<'a, F: Fn(Token) -> u64>(
-    hash: u64,
+fn token_shape<'a, F: Fn(Token) -> Mix>(
+    mix: Mix,
     bytes: &'a [u8],
     key: &F,
-) -> Option<(u64, &'a [u8])>
+) -> Option<(Mix, &'a [u8])>
     requires { F.IsAlwaysCallable key.now }
-    ensures { (keys : Token → ℕ) → GivesKeys (F.post key.now) keys → option_map (λ x. (x.0, x.1.now)) result ≡ token_shape keys hash bytes.now }
+    ensures { (keys : Token → TheMix) → GivesKeys (F.post key.now) keys → option_map (λ x. (x.0, x.1.now)) result ≡ token_shape keys mix bytes.now }
 {
     let (token, rest) = coded_token(bytes)?;
-    Some((mixed_long(hash, key(token)), rest))
+    Some((mixed_both(mix, key(token)), rest))
 }
 
 /// A type, where types stand in one another at most so deep.
 #[cycle(shaper)]
-fn elem_shape<'a, F: Fn(Token) -> u64>(
+fn elem_shape<'a, F: Fn(Token) -> Mix>(
     depth: u32,
-    hash: u64,
+    mix: Mix,
     bytes: &'a [u8],
     key: &F,
-) -> Option<(u64, &'a [u8])>
+) -> Option<(Mix, &'a [u8])>
     requires { F.IsAlwaysCallable key.now }
-    ensures { (keys : Token → ℕ) → GivesKeys (F.post key.now) keys → option_map (λ x. (x.0, x.1.now)) result ≡ elem_shape keys depth hash bytes.now }
+    ensures { (keys : Token → TheMix) → GivesKeys (F.post key.now) keys → option_map (λ x. (x.0, x.1.now)) result ≡ elem_shape keys depth mix bytes.now }
 {
     if depth == 0 {
         return None;
     }
-    opened_shape(depth - 1, hash, bytes, key)
+    opened_shape(depth - 1, mix, bytes, key)
 }
 
 /// A type, where those within it stand at most so deep.
 #[cycle(shaper)]
 #[tactic(auto, unfolding(crate::specs::Shape::elem_shape))]
-fn opened_shape<'a, F: Fn(Token) -> u64>(
+fn opened_shape<'a, F: Fn(Token) -> Mix>(
     depth: u32,
-    hash: u64,
+    mix: Mix,
     bytes: &'a [u8],
     key: &F,
-) -> Option<(u64, &'a [u8])>
+) -> Option<(Mix, &'a [u8])>
     requires { F.IsAlwaysCallable key.now }
-    ensures { (keys : Token → ℕ) → GivesKeys (F.post key.now) keys → option_map (λ x. (x.0, x.1.now)) result ≡ elem_shape keys (suc depth) hash bytes.now }
+    ensures { (keys : Token → TheMix) → GivesKeys (F.post key.now) keys → option_map (λ x. (x.0, x.1.now)) result ≡ elem_shape keys (suc depth) mix bytes.now }
 {
     let [first, rest @ ..] = bytes else {
         return None;
     };
     let form = form_by(*first)?;
-    formed_shape(form, depth, mixed(hash, u32::from(*first)), rest, key)
+    formed_shape(form, depth, mixed(mix, u64::from(*first)), rest, key)
 }
 
 /// What stands behind a first byte.
 #[cycle(shaper)]
 #[tactic(auto, unfolding(crate::specs::Shape::formed_shape))]
-fn formed_shape<'a, F: Fn(Token) -> u64>(
+fn formed_shape<'a, F: Fn(Token) -> Mix>(
     form: Form,
     depth: u32,
-    hash: u64,
+    mix: Mix,
     bytes: &'a [u8],
     key: &F,
-) -> Option<(u64, &'a [u8])>
+) -> Option<(Mix, &'a [u8])>
     requires { F.IsAlwaysCallable key.now }
-    ensures { (keys : Token → ℕ) → GivesKeys (F.post key.now) keys → option_map (λ x. (x.0, x.1.now)) result ≡ formed_shape keys (elem_shape keys depth) form hash bytes.now }
+    ensures { (keys : Token → TheMix) → GivesKeys (F.post key.now) keys → option_map (λ x. (x.0, x.1.now)) result ≡ formed_shape keys (elem_shape keys depth) form mix bytes.now }
 {
     match form {
-        Form::Bare => Some((hash, bytes)),
-        Form::Wrapped => elem_shape(depth, hash, bytes, key),
-        Form::Named => token_shape(hash, bytes, key),
-        Form::Modified => modified_shape(depth, hash, bytes, key),
-        Form::Numbered => numeral_shape(Numeral::Size, hash, bytes),
-        Form::Array => array_shape(depth, hash, bytes, key),
-        Form::Instance => instance_shape(depth, hash, bytes, key),
-        Form::Pointer => method_shape(depth, hash, bytes, key),
+        Form::Bare => Some((mix, bytes)),
+        Form::Wrapped => elem_shape(depth, mix, bytes, key),
+        Form::Named => token_shape(mix, bytes, key),
+        Form::Modified => modified_shape(depth, mix, bytes, key),
+        Form::Numbered => numeral_shape(Numeral::Size, mix, bytes),
+        Form::Array => array_shape(depth, mix, bytes, key),
+        Form::Instance => instance_shape(depth, mix, bytes, key),
+        Form::Pointer => method_shape(depth, mix, bytes, key),
     }
 }
 
 /// A token and a type.
 #[cycle(shaper)]
 #[tactic(auto, unfolding(crate::specs::Shape::modified_shape))]
-fn modified_shape<'a, F: Fn(Token) -> u64>(
+fn modified_shape<'a, F: Fn(Token) -> Mix>(
     depth: u32,
-    hash: u64,
+    mix: Mix,
     bytes: &'a [u8],
     key: &F,
-) -> Option<(u64, &'a [u8])>
+) -> Option<(Mix, &'a [u8])>
     requires { F.IsAlwaysCallable key.now }
-    ensures { (keys : Token → ℕ) → GivesKeys (F.post key.now) keys → option_map (λ x. (x.0, x.1.now)) result ≡ modified_shape keys (elem_shape keys depth) hash bytes.now }
+    ensures { (keys : Token → TheMix) → GivesKeys (F.post key.now) keys → option_map (λ x. (x.0, x.1.now)) result ≡ modified_shape keys (elem_shape keys depth) mix bytes.now }
 {
-    let (hash, rest) = token_shape(hash, bytes, key)?;
-    elem_shape(depth, hash, rest, key)
+    let (mix, rest) = token_shape(mix, bytes, key)?;
+    elem_shape(depth, mix, rest, key)
 }
 
 /// A type, a rank, sizes and lower bounds.
 #[cycle(shaper)]
 #[tactic(auto, unfolding(crate::specs::Shape::array_shape))]
-fn array_shape<'a, F: Fn(Token) -> u64>(
+fn array_shape<'a, F: Fn(Token) -> Mix>(
     depth: u32,
-    hash: u64,
+    mix: Mix,
     bytes: &'a [u8],
     key: &F,
-) -> Option<(u64, &'a [u8])>
+) -> Option<(Mix, &'a [u8])>
     requires { F.IsAlwaysCallable key.now }
-    ensures { (keys : Token → ℕ) → GivesKeys (F.post key.now) keys → option_map (λ x. (x.0, x.1.now)) result ≡ array_shape (elem_shape keys depth) hash bytes.now }
+    ensures { (keys : Token → TheMix) → GivesKeys (F.post key.now) keys → option_map (λ x. (x.0, x.1.now)) result ≡ array_shape (elem_shape keys depth) mix bytes.now }
 {
-    let (hash, rest) = elem_shape(depth, hash, bytes, key)?;
-    let (hash, rest) = numeral_shape(Numeral::Size, hash, rest)?;
-    let (hash, rest) = numerals_shape(Numeral::Size, hash, rest)?;
-    numerals_shape(Numeral::Bound, hash, rest)
+    let (mix, rest) = elem_shape(depth, mix, bytes, key)?;
+    let (mix, rest) = numeral_shape(Numeral::Size, mix, rest)?;
+    let (mix, rest) = numerals_shape(Numeral::Size, mix, rest)?;
+    numerals_shape(Numeral::Bound, mix, rest)
 }
 
 /// So many types.
 #[cycle(shaper)]
-fn many_shape<'a, F: Fn(Token) -> u64>(
+fn many_shape<'a, F: Fn(Token) -> Mix>(
     count: u32,
     depth: u32,
-    hash: u64,
+    mix: Mix,
     bytes: &'a [u8],
     key: &F,
-) -> Option<(u64, &'a [u8])>
+) -> Option<(Mix, &'a [u8])>
     requires { F.IsAlwaysCallable key.now }
-    ensures { (keys : Token → ℕ) → GivesKeys (F.post key.now) keys → option_map (λ x. (x.0, x.1.now)) result ≡ many_shape (elem_shape keys depth) count hash bytes.now }
+    ensures { (keys : Token → TheMix) → GivesKeys (F.post key.now) keys → option_map (λ x. (x.0, x.1.now)) result ≡ many_shape (elem_shape keys depth) count mix bytes.now }
 {
-    let mut hash = hash;
+    let mut mix = mix;
     let mut rest = bytes;
     for i in 0..count {
-        let Some((more, behind)) = elem_shape(depth, hash, rest, key) else {
+        let Some((more, behind)) = elem_shape(depth, mix, rest, key) else {
             return None;
         };
-        hash = more;
+        mix = more;
         rest = behind;
     }
-    Some((hash, rest))
+    Some((mix, rest))
 }
 
 /// A generic instance: a class or a value type, and the arguments.
 #[cycle(shaper)]
 #[tactic(auto, unfolding(crate::specs::Shape::instance_shape, crate::specs::Shape::counted_shape))]
-fn instance_shape<'a, F: Fn(Token) -> u64>(
+fn instance_shape<'a, F: Fn(Token) -> Mix>(
     depth: u32,
-    hash: u64,
+    mix: Mix,
     bytes: &'a [u8],
     key: &F,
-) -> Option<(u64, &'a [u8])>
+) -> Option<(Mix, &'a [u8])>
     requires { F.IsAlwaysCallable key.now }
-    ensures { (keys : Token → ℕ) → GivesKeys (F.post key.now) keys → option_map (λ x. (x.0, x.1.now)) result ≡ instance_shape keys (elem_shape keys depth) hash bytes.now }
+    ensures { (keys : Token → TheMix) → GivesKeys (F.post key.now) keys → option_map (λ x. (x.0, x.1.now)) result ≡ instance_shape keys (elem_shape keys depth) mix bytes.now }
 {
-    let (hash, rest) = class_shape(hash, bytes)?;
-    let (hash, rest) = token_shape(hash, rest, key)?;
+    let (mix, rest) = class_shape(mix, bytes)?;
+    let (mix, rest) = token_shape(mix, rest, key)?;
     let (count, rest) = unsigned_front(rest)?;
-    many_shape(count, depth, mixed(hash, count), rest, key)
+    many_shape(count, depth, mixed(mix, u64::from(count)), rest, key)
 }
 
 /// So many parameters, one of which may stand behind a sentinel.
 #[cycle(shaper)]
-fn params_shape<'a, F: Fn(Token) -> u64>(
+fn params_shape<'a, F: Fn(Token) -> Mix>(
     count: u32,
     depth: u32,
-    hash: u64,
+    mix: Mix,
     bytes: &'a [u8],
     key: &F,
-) -> Option<(u64, &'a [u8])>
+) -> Option<(Mix, &'a [u8])>
     requires { F.IsAlwaysCallable key.now }
-    ensures { (keys : Token → ℕ) → GivesKeys (F.post key.now) keys → option_map (λ x. (x.0, x.1.now)) result ≡ params_shape (elem_shape keys depth) count hash bytes.now }
+    ensures { (keys : Token → TheMix) → GivesKeys (F.post key.now) keys → option_map (λ x. (x.0, x.1.now)) result ≡ params_shape (elem_shape keys depth) count mix bytes.now }
 {
-    let mut hash = hash;
+    let mut mix = mix;
     let mut rest = bytes;
     let mut left = count;
     while left > 0 {
         match behind_sentinel(rest) {
-            Some(marked) => return marked_shape(left - 1, depth, hash, marked, key),
+            Some(marked) => return marked_shape(left - 1, depth, mix, marked, key),
             None => {}
         }
-        let Some((more, behind)) = elem_shape(depth, hash, rest, key) else {
+        let Some((more, behind)) = elem_shape(depth, mix, rest, key) else {
             return None;
         };
-        hash = more;
+        mix = more;
         rest = behind;
         left -= 1;
     }
-    Some((hash, rest))
+    Some((mix, rest))
 }
 
 /// The parameter behind a sentinel, which is left out, and so many more.
 #[cycle(shaper)]
 #[tactic(auto, unfolding(crate::specs::Shape::marked_shape))]
-fn marked_shape<'a, F: Fn(Token) -> u64>(
+fn marked_shape<'a, F: Fn(Token) -> Mix>(
     more: u32,
     depth: u32,
-    hash: u64,
+    mix: Mix,
     bytes: &'a [u8],
     key: &F,
-) -> Option<(u64, &'a [u8])>
+) -> Option<(Mix, &'a [u8])>
     requires { F.IsAlwaysCallable key.now }
-    ensures { (keys : Token → ℕ) → GivesKeys (F.post key.now) keys → option_map (λ x. (x.0, x.1.now)) result ≡ marked_shape (elem_shape keys depth) more hash bytes.now }
+    ensures { (keys : Token → TheMix) → GivesKeys (F.post key.now) keys → option_map (λ x. (x.0, x.1.now)) result ≡ marked_shape (elem_shape keys depth) more mix bytes.now }
 {
-    let (hash, rest) = elem_shape(depth, hash, bytes, key)?;
-    many_shape(more, depth, hash, rest, key)
+    let (mix, rest) = elem_shape(depth, mix, bytes, key)?;
+    many_shape(more, depth, mix, rest, key)
 }
 
 /// The count of parameters, the return type and the parameters.
 #[cycle(shaper)]
 #[tactic(auto, unfolding(crate::specs::Shape::parts_shape))]
-fn parts_shape<'a, F: Fn(Token) -> u64>(
+fn parts_shape<'a, F: Fn(Token) -> Mix>(
     depth: u32,
-    hash: u64,
+    mix: Mix,
     bytes: &'a [u8],
     key: &F,
-) -> Option<(u64, &'a [u8])>
+) -> Option<(Mix, &'a [u8])>
     requires { F.IsAlwaysCallable key.now }
-    ensures { (keys : Token → ℕ) → GivesKeys (F.post key.now) keys → option_map (λ x. (x.0, x.1.now)) result ≡ parts_shape (elem_shape keys depth) hash bytes.now }
+    ensures { (keys : Token → TheMix) → GivesKeys (F.post key.now) keys → option_map (λ x. (x.0, x.1.now)) result ≡ parts_shape (elem_shape keys depth) mix bytes.now }
 {
     let (count, rest) = unsigned_front(bytes)?;
-    let (hash, rest) = elem_shape(depth, mixed(hash, count), rest, key)?;
-    params_shape(count, depth, hash, rest, key)
+    let (mix, rest) = elem_shape(depth, mixed(mix, u64::from(count)), rest, key)?;
+    params_shape(count, depth, mix, rest, key)
 }
 
 /// The signature of a method.
 #[cycle(shaper)]
 #[tactic(auto, unfolding(crate::specs::Shape::method_shape))]
-fn method_shape<'a, F: Fn(Token) -> u64>(
+fn method_shape<'a, F: Fn(Token) -> Mix>(
     depth: u32,
-    hash: u64,
+    mix: Mix,
     bytes: &'a [u8],
     key: &F,
-) -> Option<(u64, &'a [u8])>
+) -> Option<(Mix, &'a [u8])>
     requires { F.IsAlwaysCallable key.now }
-    ensures { (keys : Token → ℕ) → GivesKeys (F.post key.now) keys → option_map (λ x. (x.0, x.1.now)) result ≡ method_shape (elem_shape keys depth) hash bytes.now }
+    ensures { (keys : Token → TheMix) → GivesKeys (F.post key.now) keys → option_map (λ x. (x.0, x.1.now)) result ≡ method_shape (elem_shape keys depth) mix bytes.now }
 {
-    let (hash, rest) = calling_shape(hash, bytes)?;
-    parts_shape(depth, hash, rest, key)
+    let (mix, rest) = calling_shape(mix, bytes)?;
+    parts_shape(depth, mix, rest, key)
 }
 
 /// The first byte of a field, of locals or of the arguments of a generic method.
 #[tactic(auto, unfolding(crate::specs::Shape::number_shape, crate::specs::Grammar::byte_in))]
-fn byte_shape(byte: u8, hash: u64, bytes: &[u8]) -> Option<(u64, &[u8])>
-    ensures { option_map (λ x. (x.0, x.1.now)) result ≡ number_shape (byte_in (λ b. b == byte)) hash bytes.now }
+fn byte_shape(byte: u8, mix: Mix, bytes: &[u8]) -> Option<(Mix, &[u8])>
+    ensures { option_map (λ x. (x.0, x.1.now)) result ≡ number_shape (byte_in (λ b. b == byte)) mix bytes.now }
 {
     let [first, rest @ ..] = bytes else {
         return None;
@@ -312,101 +317,102 @@ fn byte_shape(byte: u8, hash: u64, bytes: &[u8]) -> Option<(u64, &[u8])>
     if *first != byte {
         return None;
     }
-    Some((mixed(hash, u32::from(*first)), rest))
+    Some((mixed(mix, u64::from(*first)), rest))
 }
 
 /// The first byte of a property.
 #[tactic(auto, unfolding(crate::specs::Shape::number_shape, crate::specs::Grammar::byte_in))]
-fn property_shape(hash: u64, bytes: &[u8]) -> Option<(u64, &[u8])>
-    ensures { option_map (λ x. (x.0, x.1.now)) result ≡ number_shape (byte_in (λ b. b == 0x08 || b == 0x28)) hash bytes.now }
+fn property_shape(mix: Mix, bytes: &[u8]) -> Option<(Mix, &[u8])>
+    ensures { option_map (λ x. (x.0, x.1.now)) result ≡ number_shape (byte_in (λ b. b == 0x08 || b == 0x28)) mix bytes.now }
 {
     match bytes {
-        [0x08, rest @ ..] => Some((mixed(hash, 0x08), rest)),
-        [0x28, rest @ ..] => Some((mixed(hash, 0x28), rest)),
+        [0x08, rest @ ..] => Some((mixed(mix, 0x08), rest)),
+        [0x28, rest @ ..] => Some((mixed(mix, 0x28), rest)),
         _ => None,
     }
 }
 
 /// A count and so many types.
 #[tactic(auto, unfolding(crate::specs::Shape::counted_shape, crate::specs::Shape::type_shape))]
-fn counted_shape<'a, F: Fn(Token) -> u64>(
-    hash: u64,
+fn counted_shape<'a, F: Fn(Token) -> Mix>(
+    mix: Mix,
     bytes: &'a [u8],
     key: &F,
-) -> Option<(u64, &'a [u8])>
+) -> Option<(Mix, &'a [u8])>
     requires { F.IsAlwaysCallable key.now }
-    ensures { (keys : Token → ℕ) → GivesKeys (F.post key.now) keys → option_map (λ x. (x.0, x.1.now)) result ≡ counted_shape (type_shape keys) hash bytes.now }
+    ensures { (keys : Token → TheMix) → GivesKeys (F.post key.now) keys → option_map (λ x. (x.0, x.1.now)) result ≡ counted_shape (type_shape keys) mix bytes.now }
 {
     let (count, rest) = unsigned_front(bytes)?;
-    many_shape(count, DEPTH, mixed(hash, count), rest, key)
+    many_shape(count, DEPTH, mixed(mix, u64::from(count)), rest, key)
 }
 
 /// A count, a type and so many types more.
 #[tactic(auto, unfolding(crate::specs::Shape::accessed_shape, crate::specs::Shape::type_shape))]
-fn accessed_shape<'a, F: Fn(Token) -> u64>(
-    hash: u64,
+fn accessed_shape<'a, F: Fn(Token) -> Mix>(
+    mix: Mix,
     bytes: &'a [u8],
     key: &F,
-) -> Option<(u64, &'a [u8])>
+) -> Option<(Mix, &'a [u8])>
     requires { F.IsAlwaysCallable key.now }
-    ensures { (keys : Token → ℕ) → GivesKeys (F.post key.now) keys → option_map (λ x. (x.0, x.1.now)) result ≡ accessed_shape (type_shape keys) hash bytes.now }
+    ensures { (keys : Token → TheMix) → GivesKeys (F.post key.now) keys → option_map (λ x. (x.0, x.1.now)) result ≡ accessed_shape (type_shape keys) mix bytes.now }
 {
     let (count, rest) = unsigned_front(bytes)?;
-    let (hash, rest) = elem_shape(DEPTH, mixed(hash, count), rest, key)?;
-    many_shape(count, DEPTH, hash, rest, key)
+    let (mix, rest) = elem_shape(DEPTH, mixed(mix, u64::from(count)), rest, key)?;
+    many_shape(count, DEPTH, mix, rest, key)
 }
 
 /// A signature of this kind at the front.
 #[tactic(auto, unfolding(crate::specs::Shape::front_shape, crate::specs::Shape::type_shape))]
-fn front_shape<'a, F: Fn(Token) -> u64>(
+fn front_shape<'a, F: Fn(Token) -> Mix>(
     kind: SigKind,
+    mix: Mix,
     bytes: &'a [u8],
     key: &F,
-) -> Option<(u64, &'a [u8])>
+) -> Option<(Mix, &'a [u8])>
     requires { F.IsAlwaysCallable key.now }
-    ensures { (keys : Token → ℕ) → GivesKeys (F.post key.now) keys → option_map (λ x. (x.0, x.1.now)) result ≡ front_shape keys kind 0 bytes.now }
+    ensures { (keys : Token → TheMix) → GivesKeys (F.post key.now) keys → option_map (λ x. (x.0, x.1.now)) result ≡ front_shape keys kind mix bytes.now }
 {
     match kind {
-        SigKind::Method => method_shape(DEPTH, 0, bytes, key),
+        SigKind::Method => method_shape(DEPTH, mix, bytes, key),
         SigKind::Field => {
-            let (hash, rest) = byte_shape(0x06, 0, bytes)?;
-            elem_shape(DEPTH, hash, rest, key)
+            let (mix, rest) = byte_shape(0x06, mix, bytes)?;
+            elem_shape(DEPTH, mix, rest, key)
         }
         SigKind::Locals => {
-            let (hash, rest) = byte_shape(0x07, 0, bytes)?;
-            counted_shape(hash, rest, key)
+            let (mix, rest) = byte_shape(0x07, mix, bytes)?;
+            counted_shape(mix, rest, key)
         }
         SigKind::Property => {
-            let (hash, rest) = property_shape(0, bytes)?;
-            accessed_shape(hash, rest, key)
+            let (mix, rest) = property_shape(mix, bytes)?;
+            accessed_shape(mix, rest, key)
         }
-        SigKind::TypeSpec => elem_shape(DEPTH, 0, bytes, key),
+        SigKind::TypeSpec => elem_shape(DEPTH, mix, bytes, key),
         SigKind::MethodSpec => {
-            let (hash, rest) = byte_shape(0x0a, 0, bytes)?;
-            counted_shape(hash, rest, key)
+            let (mix, rest) = byte_shape(0x0a, mix, bytes)?;
+            counted_shape(mix, rest, key)
         }
     }
 }
 
-/// What was mixed, 0 where nothing was read.
-fn mixed_of(read: Option<(u64, &[u8])>) -> u64
+/// What was mixed, where something was read.
+fn mixed_of(read: Option<(Mix, &[u8])>) -> Mix
     ensures { result ≡ mixed_of (option_map (λ x. (x.0, x.1.now)) read.entry) }
 {
     match read {
-        Some((hash, _)) => hash,
-        None => 0,
+        Some((mix, _)) => mix,
+        None => mix_of(0),
     }
 }
 
-/// The shape of a signature of this kind: a number of its bytes, but of its tokens' keys in place of
+/// The shape of a signature of this kind: a mix of its bytes, but of its tokens' keys in place of
 /// its tokens. Signatures that are equal but for tokens of equal keys have one shape. It takes no
 /// memory.
 #[tactic(auto, unfolding(crate::specs::Shape::sig_shape))]
-pub fn sig_shape<F: Fn(Token) -> u64>(kind: SigKind, bytes: &[u8], key: F) -> u64
+pub fn sig_shape<F: Fn(Token) -> Mix>(kind: SigKind, bytes: &[u8], key: F) -> Mix
     requires { F.IsAlwaysCallable key }
-    ensures { (keys : Token → ℕ) → GivesKeys (F.post key) keys → result ≡ sig_shape keys kind bytes.now }
+    ensures { (keys : Token → TheMix) → GivesKeys (F.post key) keys → result ≡ sig_shape keys kind bytes.now }
 {
-    mixed_of(front_shape(kind, bytes, &key))
+    mixed_of(front_shape(kind, mix_of(0), bytes, &key))
 }
 
 /// Signatures that are equal but for tokens of equal keys have one shape.

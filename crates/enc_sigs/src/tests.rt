@@ -1,6 +1,6 @@
 use super::*;
 use enc_base::{Counts, Token};
-use std::alloc::Global;
+use std::alloc::{AllocError, Global};
 use std::process::Abort;
 use std::test::Fail;
 
@@ -297,4 +297,28 @@ fn compares_but_for_tokens(rt: HostRuntime) {
             |_t, _u| true
         )
     );
+}
+
+/// A text of so many bytes that differs from others of its length in its middle.
+fn text(alloc: Global, size: usize, middle: u8) -> Result<Vec<u8>, AllocError> {
+    let mut text = Vec::new(alloc);
+    for k in 0..size {
+        text.push(if k == size / 2 { middle } else { 0x78 })?;
+    }
+    Ok(text)
+}
+
+#[test]
+fn tells_texts_by_their_ends(rt: HostRuntime) -> Result<(), Fail> {
+    let a = rt.alloc();
+    for size in [1, 7, 8, 9, 200, 0x1000] {
+        let one = mixed_ends(0x800, mix_of(1), &text(a, size, 0x30)?);
+        let other = mixed_ends(0x800, mix_of(1), &text(a, size, 0x31)?);
+        assert!(rt; one != other);
+        assert!(rt; finished(one) != finished(other));
+    }
+    let one = mixed_ends(0x800, mix_of(1), &text(a, 0x1003, 0x30)?);
+    assert!(rt; one == mixed_ends(0x800, mix_of(1), &text(a, 0x1003, 0x31)?));
+    assert!(rt; one != mixed_ends(0x800, mix_of(2), &text(a, 0x1003, 0x31)?));
+    Ok(())
 }

@@ -149,9 +149,21 @@ const C1_META: &str = concat!(
 );
 
 /// Changes of the delta, and the answer.
-const CASES: [(&[(usize, &str)], u8, &str); 5] = [
+const CASES: [(&[(usize, &str)], u8, &str); 7] = [
     // references 1 and 102 are compared at depth 99, and have one scope
     (&[], 0, "accepted 1\n"),
+    // three scopes above A's base, reference 197 has another name than reference 96
+    (
+        &[(0x3b2, "1d00")],
+        1,
+        "refused c1.meta E15 02000002.Extends\n",
+    ),
+    // B's base alone has another name; those of its scopes are known from A's
+    (
+        &[(0x3d2, "1d00")],
+        1,
+        "refused c1.meta E15 02000003.Extends\n",
+    ),
     // at depth 100, for C
     (
         &[(0x40e, "29030000")],

@@ -1,7 +1,6 @@
 use Rattle.std.proofs.Common.{◌≡◌}
-use Rattle.std.specs.Prelude.{drop}
-use Rattle.enc_sigs.specs.Mix.{mixed_bytes}
+use Rattle.enc_sigs.specs.Mix.{mixed_words}
 use Rattle.enc_sigs.proofs.mix.mixed_bytes.Given as goal
 
 abbrev pub invariant-loop-k : goal.invariant-loop-k
-invariant-loop-k l = mixed_bytes l.mix (drop l.k l.bytes) ≡ mixed_bytes l.hash l.bytes
+invariant-loop-k l = l.state ≡ mixed_words l.fn.mix l.bytes l.k

@@ -22,7 +22,7 @@ params_shape-returns-in-Some g t c = λ keys h.
     let a = c.loop-left.rest.now in
     let e : c.in-Some.marked.now ≡ drop 1 a = marked_is (begins 0x41 a) (drop 1 a) c.in-Some.marked.now c.in-Some.ensures in
     c.marked_shape.ensures keys h
-    ∙ ap (λ x. marked_shape (elem_shape keys c.args.depth) (c.loop-left.left - 1) c.loop-left.hash x) e
+    ∙ ap (λ x. marked_shape (elem_shape keys c.args.depth) (c.loop-left.left - 1) c.loop-left.mix x) e
     ∙ sym (c.loop-left.invariant keys h ∙ param_marked _ _ (c.loop-left.left - 1) _ _ (omega arith) (marked_by (begins 0x41 a) (drop 1 a) c.in-Some.marked.now c.in-Some.ensures))
 
 pub params_shape-returns-in_default : goal.params_shape-returns-in_default

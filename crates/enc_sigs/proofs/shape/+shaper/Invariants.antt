@@ -36,10 +36,10 @@ abbrev pub decreases-opened_shape : goal.decreases-opened_shape
 decreases-opened_shape g l = 8 * l.depth + 7
 
 abbrev pub invariant-many_shape-loop-i : goal.invariant-many_shape-loop-i
-invariant-many_shape-loop-i g l = (keys : _) → GivesKeys (goal.F-post g l.fn.key) keys → many_shape (elem_shape keys l.fn.depth) l.fn.count l.fn.hash l.fn.bytes ≡ many_shape (elem_shape keys l.fn.depth) (l.fn.count - l.i) l.hash l.rest
+invariant-many_shape-loop-i g l = (keys : _) → GivesKeys (goal.F-post g l.fn.key) keys → many_shape (elem_shape keys l.fn.depth) l.fn.count l.fn.mix l.fn.bytes ≡ many_shape (elem_shape keys l.fn.depth) (l.fn.count - l.i) l.mix l.rest
 
 abbrev pub invariant-params_shape-loop-left : goal.invariant-params_shape-loop-left
-invariant-params_shape-loop-left g l = (keys : _) → GivesKeys (goal.F-post g l.fn.key) keys → params_shape (elem_shape keys l.fn.depth) l.fn.count l.fn.hash l.fn.bytes ≡ params_shape (elem_shape keys l.fn.depth) l.left l.hash l.rest
+invariant-params_shape-loop-left g l = (keys : _) → GivesKeys (goal.F-post g l.fn.key) keys → params_shape (elem_shape keys l.fn.depth) l.fn.count l.fn.mix l.fn.bytes ≡ params_shape (elem_shape keys l.fn.depth) l.left l.mix l.rest
 
 abbrev pub decreases-params_shape-loop-left : goal.decreases-params_shape-loop-left
 decreases-params_shape-loop-left g l = l.left
