@@ -8,7 +8,7 @@ use Rattle.enc_opcodes.specs.Body.{Code, code_seen, body_of, texts_are_there}
 use Rattle.enc_opcodes.proofs.Bodies.{body_told_alike}
 use Rattle.enc_plain.specs.Bodies.{code_loaded, body_loaded}
 use Rattle.enc_delta.specs.Rules.{users_after}
-use Rattle.enc_image.proofs.Codes.{code_cell}
+use Rattle.enc_image.proofs.Rows.{body_cell}
 use Rattle.enc_image.proofs.Texts.{image_texts}
 use Rattle.enc_schema.specs.declared.column.Column.TheVariants.{Index, Coded}
 use Rattle.enc_schema.specs.declared.column.Coding.{Coding}
@@ -45,7 +45,7 @@ also : {A : Type 0} (o : Option A) (P Q : A → Type 0) → ((a : A) → P a →
 also None P Q more h = h
 also (Some a) P Q more h = more a h
 
-raw_found : (b : Source) (added upto : List Added) (u : Token) (k i n : ℕ) (found : IsFound b added u upto k) → newest_number upto (record { table = u.table; row = k }) i ≡ n → raw_in found.last.delta (record { table = u.table; row = k }) i ≡ n
+pub raw_found : (b : Source) (added upto : List Added) (u : Token) (k i n : ℕ) (found : IsFound b added u upto k) → newest_number upto (record { table = u.table; row = k }) i ≡ n → raw_in found.last.delta (record { table = u.table; row = k }) i ≡ n
 raw_found b added upto u k i n found is = rw found.upto_is at is
 
 -- the cell of the newest delta's row is the module's
@@ -98,28 +98,44 @@ told_more f g (Some code) there more = ap Some (body_told_alike f g code (there 
 read_as : (f : ℕ → Option (List ℕ)) (o : Option Code) (r : Option CodeRef) → option_map code_seen r ≡ o → option_map (body_of f) o ≡ option_map (λ c. body_of f (code_seen c)) r
 read_as f o r is = ap (option_map (body_of f)) (sym is) ∙ mapped (body_of f) code_seen r
 
--- the body of a method that a delta lists, in that delta's code
-pub body_found : (b : Source) (added upto : List Added) (u : Token) (k n : ℕ) (r : Option CodeRef) → IsFound b added u upto k → u.table ≡ 0x06 → newest_number upto (record { table = u.table; row = k }) 0 ≡ n → option_map code_seen r ≡ code_in upto n → cell_of (chain_with b (sources added)).plain u 0 ≡ Some (body (option_map (λ c. body_of (joined_user (chain_with b (sources added)).heaps) (code_seen c)) r))
+loaded_as : (d : Source) (n : ℕ) (f g : ℕ → Option (List ℕ)) → ((code : Code) → code_loaded d.loaded n ≡ Some code → texts_are_there f code.code ≡ true) → ((o : ℕ) (x : List ℕ) → f o ≡ Some x → g o ≡ Some x) → body_loaded d.loaded f n ≡ body_loaded d.loaded g n
 unfolding body_loaded
-body_found b added upto u k n r found is told code =
+loaded_as d n f g there more = told_more f g (code_loaded d.loaded n) there more
+
+-- the body of a method that a delta lists is the one at its place in that delta's code, by the user texts of all
+pub loaded_found : (b : Source) (added upto : List Added) (u : Token) (k n : ℕ) (found : IsFound b added u upto k) → u.table ≡ 0x06 → newest_number upto (record { table = u.table; row = k }) 0 ≡ n → cell_of (chain_with b (sources added)).plain u 0 ≡ Some (body (body_loaded found.last.delta.loaded (joined_user (chain_with b (sources added)).heaps) n))
+loaded_found b added upto u k n found is told =
     let c = chain_with b (sources found.older) in
     let d = found.last.delta in
     let raw = raw_found b added upto u k 0 n found told in
     let all = joined_user (chain_with b (sources added)).heaps in
     let cell = cell_found b added upto u k 0 (body (body_loaded d.loaded (users_after c d) n)) found (body_listed c d u k n (changes_fit c d found.sound found.is_added.follows.lands) found.place is raw) in
-    let parts : option_map code_seen r ≡ code_loaded d.loaded n = rw found.upto_is at code in
-    let same : body_loaded d.loaded (users_after c d) n ≡ option_map (body_of all) (code_loaded d.loaded n) = loaded_as d n (users_after c d) all (λ code there. texts_listed c d u k n code found.is_added.follows found.place is raw there) found.users in
-    cell ∙ ap (λ o. Some (body o)) (same ∙ read_as all (code_loaded d.loaded n) r parts)
-  where
-    loaded_as : (d : Source) (n : ℕ) (f g : ℕ → Option (List ℕ)) → ((code : Code) → code_loaded d.loaded n ≡ Some code → texts_are_there f code.code ≡ true) → ((o : ℕ) (x : List ℕ) → f o ≡ Some x → g o ≡ Some x) → body_loaded d.loaded f n ≡ option_map (body_of g) (code_loaded d.loaded n)
-    loaded_as d n f g there more = told_more f g (code_loaded d.loaded n) there more
+    let same : body_loaded d.loaded (users_after c d) n ≡ body_loaded d.loaded all n = loaded_as d n (users_after c d) all (λ code there. texts_listed c d u k n code found.is_added.follows found.place is raw there) found.users in
+    cell ∙ ap (λ o. Some (body o)) same
 
--- and of one that no delta lists, in the image
+-- by its parts
+pub body_found : (b : Source) (added upto : List Added) (u : Token) (k n : ℕ) (r : Option CodeRef) → IsFound b added u upto k → u.table ≡ 0x06 → newest_number upto (record { table = u.table; row = k }) 0 ≡ n → option_map code_seen r ≡ code_in upto n → cell_of (chain_with b (sources added)).plain u 0 ≡ Some (body (option_map (λ c. body_of (joined_user (chain_with b (sources added)).heaps) (code_seen c)) r))
+unfolding body_loaded
+body_found b added upto u k n r found is told code =
+    let d = found.last.delta in
+    let all = joined_user (chain_with b (sources added)).heaps in
+    let parts : option_map code_seen r ≡ code_loaded d.loaded n = rw found.upto_is at code in
+    loaded_found b added upto u k n found is told ∙ ap (λ o. Some (body o)) (read_as all (code_loaded d.loaded n) r parts)
+
+-- that of one that no delta lists is the one at its place in the image
+pub base_loaded : (b : Source) (added : List Added) (u : Token) (n : ℕ) → IsAggregate b added → (o : Option Found) → option_map found_seen o ≡ found_in added u → o ≡ None → IsTrue (has_row (module_in b) u) → u.table ≡ 0x06 → raw_in b u 0 ≡ n → cell_of (chain_with b (sources added)).plain u 0 ≡ Some (body (body_loaded b.loaded (joined_user (chain_with b (sources added)).heaps) n))
+base_loaded b added u n agg o is none there table raw =
+    let all = joined_user (chain_with b (sources added)).heaps in
+    let same : body_loaded b.loaded (users_of b) n ≡ body_loaded b.loaded all n = loaded_as b n (users_of b) all (λ c here. image_texts b u c agg.sound there table (rw (← raw) at here)) (base_users b added) in
+    let cell : cell_of (module_in b) u 0 ≡ Some (body (body_loaded b.loaded (users_of b) n)) = rw raw at (body_cell b u there table) in
+    base_cell b added u 0 (body (body_loaded b.loaded all n)) agg o is none (cell ∙ ap (λ o. Some (body o)) same)
+
+-- by its parts
 pub base_body : (b : Source) (added : List Added) (u : Token) (r : Option CodeRef) → IsAggregate b added → (o : Option Found) → option_map found_seen o ≡ found_in added u → o ≡ None → IsTrue (has_row (module_in b) u) → u.table ≡ 0x06 → option_map code_seen r ≡ code_loaded b.loaded (raw_in b u 0) → cell_of (chain_with b (sources added)).plain u 0 ≡ Some (body (option_map (λ c. body_of (joined_user (chain_with b (sources added)).heaps) (code_seen c)) r))
+unfolding body_loaded
 base_body b added u r agg o is none there table code =
     let all = joined_user (chain_with b (sources added)).heaps in
-    let same = told_more (users_of b) all (code_loaded b.loaded (raw_in b u 0)) (λ c here. image_texts b u c agg.sound there table here) (base_users b added) in
-    base_cell b added u 0 (body (option_map (λ c. body_of all (code_seen c)) r)) agg o is none (code_cell b u (raw_in b u 0) r there table refl code ∙ ap (λ o. Some (body o)) (sym (read_as (users_of b) (code_loaded b.loaded (raw_in b u 0)) r code) ∙ same ∙ read_as all (code_loaded b.loaded (raw_in b u 0)) r code))
+    base_loaded b added u (raw_in b u 0) agg o is none there table refl ∙ ap (λ o. Some (body o)) (read_as all (code_loaded b.loaded (raw_in b u 0)) r code)
 
 -- a field that a delta lists has no initial bytes
 pub field_found : (b : Source) (added upto : List Added) (u : Token) (k : ℕ) → IsFound b added u upto k → u.table ≡ 0x1D → cell_of (chain_with b (sources added)).plain u 0 ≡ Some (field [])

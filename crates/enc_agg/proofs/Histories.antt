@@ -95,7 +95,7 @@ pub record IsFound (b : Source) (added : List Added) (u : Token) (upto : List Ad
   pub cells : (i : ℕ) (cell : Cell) → cell_of (chain_with b (sources upto)).plain u i ≡ Some cell → cell_of (chain_with b (sources added)).plain u i ≡ Some cell
   pub users : (o : ℕ) (x : List ℕ) → joined_user ((chain_with b (sources older)).heaps ++ last.delta.heaps ∷ []) o ≡ Some x → joined_user (chain_with b (sources added)).heaps o ≡ Some x
 
-some_first : {X : Type 0} (p q : X × ℕ) → Some p ≡ Some q → p.0 ≡ q.0
+pub some_first : {X : Type 0} (p q : X × ℕ) → Some p ≡ Some q → p.0 ≡ q.0
 some_first p q h = ap (λ o. (unwrap_or o p).0) h
 
 some_second : {X : Type 0} (p q : X × ℕ) → Some p ≡ Some q → p.1 ≡ q.1

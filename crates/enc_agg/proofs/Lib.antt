@@ -28,3 +28,4 @@ pub mod SoundDeltas
 pub mod Landing
 pub mod Directories
 pub mod Gained
+pub mod BodyPlaces

@@ -82,7 +82,7 @@ unbroken : (b : Bool) (p : Place) → broken (not b) p ≡ None → b ≡ true
 unbroken true p h = refl
 unbroken false p h = absurd cc
 
-listed_good : (c : Chain) (s : Source) (u : Token) (k : ℕ) → broken_body c s ≡ None → PlaceRow s u k → u.table ≡ 0x06 → body_is_good (rows_with c (listed s)) (users_after c s) s.loaded (raw_in s (record { table = u.table; row = k }) 0) (raw_in s (record { table = u.table; row = k }) 1) ≡ true
+pub listed_good : (c : Chain) (s : Source) (u : Token) (k : ℕ) → broken_body c s ≡ None → PlaceRow s u k → u.table ≡ 0x06 → body_is_good (rows_with c (listed s)) (users_after c s) s.loaded (raw_in s (record { table = u.table; row = k }) 0) (raw_in s (record { table = u.table; row = k }) 1) ≡ true
 unfolding broken_body broken_body_at body_stands
 listed_good c s u k none at is =
     let e : k - 1 + 1 ≡ k = omega (arith, at.low) in

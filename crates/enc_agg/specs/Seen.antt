@@ -1,9 +1,9 @@
 -- What the parts of the program stand for.
-use Rattle.std.specs.Prelude.{◌≡◌, ℕ, zero, suc, ◌*◌, ◌<◌, List, [], ◌∷◌, map, length, reverse, Option, Some, None, nat_lt, nat_le, slice_index, if◌then◌else◌}
+use Rattle.std.specs.Prelude.{◌≡◌, ℕ, zero, suc, ◌*◌, ◌/◌, ◌%◌, ◌^◌, ◌<◌, List, [], ◌∷◌, map, length, reverse, Option, Some, None, option_and_then, nat_lt, nat_le, slice_index, if◌then◌else◌}
 use Rattle.enc_base.specs.declared.token.Token.{Token}
 use Rattle.enc_meta.specs.Joined.{joined_user}
-use Rattle.enc_opcodes.specs.Body.{Code}
-use Rattle.enc_plain.specs.Bodies.{code_loaded}
+use Rattle.enc_opcodes.specs.Body.{Code, Body}
+use Rattle.enc_plain.specs.Bodies.{code_loaded, body_loaded}
 use Rattle.enc_rows.specs.Source.{Source, raw_in}
 use Rattle.enc_plain.specs.Module.{Module, rows_in}
 use Rattle.enc_plain.specs.Chain.{Chain}
@@ -16,6 +16,7 @@ use Rattle.enc_agg.specs.declared.added.Found.{Found}
 use Rattle.enc_agg.specs.declared.place.HeapPlace.{HeapPlace}
 use Rattle.enc_agg.specs.Extend.{extended, chain_with}
 use Rattle.enc_agg.specs.Follows.{Follows}
+use Rattle.enc_agg.specs.Place.{delta_at}
 
 -- a base and the deltas that follow it, the newest first, and room for so many more
 pub record History : Type 0 where
@@ -75,6 +76,19 @@ code_in (a ∷ older) n = code_loaded a.delta.loaded n
 -- the user texts of all
 abbrev pub users_of_all : History → ℕ → Option (List ℕ)
 users_of_all h = joined_user (chain_of_all h).heaps
+
+-- the file of a generation: the base's, or its delta's
+abbrev pub file_of : History → ℕ → Option Source
+file_of h zero = Some h.base
+file_of h (suc n) = delta_at h.deltas (suc n)
+
+-- the body at a place of a generation's file, with the user texts of all
+abbrev pub body_in_file : History → ℕ → ℕ → Option Body
+body_in_file h generation n = option_and_then (λ (s : Source). body_loaded s.loaded (users_of_all h) n) (file_of h generation)
+
+-- the body at a place of all, in whose number the generation stands above 32 bits for the place in that generation's file
+unfoldable pub body_of_all : History → ℕ → Option Body
+body_of_all h n = body_in_file h (n / 2 ^ 32) (n % 2 ^ 32)
 
 -- the place of an offset in a generation's own heap
 abbrev pub own_place : List ℕ → ℕ → ℕ → Option HeapPlace

@@ -1,6 +1,6 @@
 //! An aggregate as a view of its plain module and of its chain.
-ghost use Rattle.std.specs.Prelude.{◌≡◌, refl};
-ghost use Rattle.enc_agg.specs.Seen.{module_of_all, chain_of_all, users_of_all};
+ghost use Rattle.std.specs.Prelude.{◌≡◌, ◌+◌, ◌*◌, ◌^◌, refl};
+ghost use Rattle.enc_agg.specs.Seen.{module_of_all, chain_of_all, users_of_all, body_of_all};
 
 use crate::added::{Added, body_in, count_in, id_in, lengths_in, number};
 use crate::aggregate::Aggregate;
@@ -21,10 +21,19 @@ fn row_found(table: u8, row: u32) -> Token
     Token { table, row }
 }
 
+/// A place in a generation's file, among those of all files.
+fn place_of_all(generation: u32, place: u32) -> u64
+    ensures { result ≡ generation * 2 ^ 32 + place }
+{
+    u64::from(generation) * 0x1_0000_0000 + u64::from(place)
+}
+
 impl ModuleView for Aggregate {
     ghost meaning = { module_of_all };
 
     ghost users = { users_of_all };
+
+    ghost places = { body_of_all };
 
     fn count(&self, table: u8) -> u32 {
         count_in(&self.image, &self.added, table)
@@ -95,6 +104,21 @@ impl ModuleView for Aggregate {
             METHOD_DEF_RVA,
         );
         body_in(found.upto, place)
+    }
+
+    fn code_place(&self, method: Token) -> u64 {
+        let Some(found) = find(&self.added, &self.directory, method) else {
+            return place_of_all(0, self.image.rva(method));
+        };
+        let place = number(
+            found.upto,
+            row_found(method.table, found.row),
+            METHOD_DEF_RVA,
+        );
+        if place == 0 {
+            return 0;
+        }
+        place_of_all(found.upto.len() as u32, place)
     }
 
     fn field_bytes(&self, row: Token) -> &[u8] {

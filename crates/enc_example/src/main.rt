@@ -99,3 +99,6 @@ fn main(rt: HostRuntime) -> io::Result<()> {
     }
     tell(rt, &module, 1)
 }
+
+#[cfg(test)]
+mod tests;

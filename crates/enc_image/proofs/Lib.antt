@@ -14,3 +14,4 @@ pub mod SoundSignatures
 pub mod SoundFields
 pub mod SoundCells
 pub mod SoundBases
+pub mod BodyPlaces

@@ -26,7 +26,7 @@ use Rattle.enc_image.proofs.Opens.{IsBase}
 use Rattle.enc_image.proofs.Told.{row_is_there, number_is, blob_is, code_tables}
 
 -- what F10 says of a method: IL code, a good body, a local signature of locals
-judged : (s : Source) (u : Token) → cells_fault s ≡ None → IsTrue (has_row (module_in s) u) → u.table ≡ 0x06 → (body_is_good (rows_of s.layout) (users_of s) s.loaded (raw_in s u 0) (raw_in s u 1) && has_locals s (code_loaded s.loaded (raw_in s u 0))) ≡ true
+pub judged : (s : Source) (u : Token) → cells_fault s ≡ None → IsTrue (has_row (module_in s) u) → u.table ≡ 0x06 → (body_is_good (rows_of s.layout) (users_of s) s.loaded (raw_in s u 0) (raw_in s u 1) && has_locals s (code_loaded s.loaded (raw_in s u 0))) ≡ true
 unfolding body_fault body_fault_at
 judged s u sound there table =
     let row = row_stands s u there in

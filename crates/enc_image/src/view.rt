@@ -1,7 +1,7 @@
 //! An image as a view of its plain module.
-ghost use Rattle.std.specs.Prelude.{◌≡◌, ◌&&◌, ◌<◌, ◌^◌, Some, None, IsTrue, IsSome, IfSome, length, option_map, nat_lt};
+ghost use Rattle.std.specs.Prelude.{◌≡◌, ◌&&◌, ◌<◌, ◌^◌, ◌==◌, Some, None, IsTrue, IsSome, IfSome, is_some, not, length, option_map, nat_lt};
 ghost use Rattle.enc_opcodes.specs.Body.{code_seen};
-ghost use Rattle.enc_plain.specs.Bodies.{code_loaded};
+ghost use Rattle.enc_plain.specs.Bodies.{code_loaded, body_loaded};
 ghost use Rattle.enc_meta.specs.Heaps.{lengths_of, part};
 ghost use Rattle.enc_rows.specs.Layout.{IsWithin};
 ghost use Rattle.enc_schema.specs.Schema.{column_in};
@@ -84,6 +84,16 @@ impl Image {
         code_at(&self.loaded(), self.number(method, METHOD_DEF_RVA))
     }
 
+    /// The RVA of a method's body, 0 where it has none.
+    pub fn rva(&self, method: Token) -> u32
+        requires row { IsTrue (has_row (module_in self.now) method) }
+        requires table { method.table ≡ method_def }
+        ensures raw { raw_in self.now method 0 ≡ result }
+        ensures some { is_some (code_loaded self.now.loaded result) ≡ not (result == 0) }
+    {
+        self.number(method, METHOD_DEF_RVA)
+    }
+
     /// Nothing in an image is refused, and its module is sound: a law, of which a caller of the view
     /// makes use.
     pub fn sound(&self)
@@ -116,6 +126,8 @@ impl ModuleView for Image {
     ghost meaning = { module_in };
 
     ghost users = { users_of };
+
+    ghost places = { λ s. body_loaded s.loaded (users_of s) };
 
     #[tactic(auto, using(crate::proofs::Rows::count_there, crate::proofs::Rows::count_other, crate::proofs::Rows::count_past))]
     fn count(&self, table: u8) -> u32 {
@@ -165,6 +177,10 @@ impl ModuleView for Image {
 
     fn code(&self, method: Token) -> Option<CodeRef<'_>> {
         self.body(method)
+    }
+
+    fn code_place(&self, method: Token) -> u64 {
+        u64::from(self.rva(method))
     }
 
     fn field_bytes(&self, row: Token) -> &[u8] {

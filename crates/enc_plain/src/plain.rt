@@ -1,5 +1,5 @@
 //! A plain module in memory.
-ghost use Rattle.std.specs.Prelude.{◌-◌, ◌≡◌, ℕ, ◌<◌, ◌^◌, ◌==◌, false, ◌∷◌, [], length, replicate, position, option_copied, IsTrue, IsSome, IfSome, IfOk};
+ghost use Rattle.std.specs.Prelude.{◌-◌, ◌≡◌, ℕ, ◌<◌, ◌^◌, ◌==◌, false, None, ◌∷◌, [], length, replicate, position, option_copied, IsTrue, IsSome, IfSome, IfOk};
 ghost use Rattle.std.specs.List.{list_any};
 ghost use Rattle.enc_meta.specs.Heaps.{user_at};
 ghost use Rattle.enc_plain.specs.Cell.{kind_in, cell_kind};
@@ -309,6 +309,8 @@ impl ModuleView for PlainModule {
 
     ghost users = { λ m. user_at m.users };
 
+    ghost places = { λ m n. None };
+
     fn count(&self, table: u8) -> u32 {
         let _ = &self.tables;
         match self.tables.get(table as usize) {
@@ -361,6 +363,14 @@ impl ModuleView for PlainModule {
         let held = self.cell(method, METHOD_DEF_RVA);
         match &held.cell {
             PlainCell::NoBody => None,
+            _ => unreachable!(),
+        }
+    }
+
+    fn code_place(&self, method: Token) -> u64 {
+        let held = self.cell(method, METHOD_DEF_RVA);
+        match &held.cell {
+            PlainCell::NoBody => 0,
             _ => unreachable!(),
         }
     }

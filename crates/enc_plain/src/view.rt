@@ -1,6 +1,6 @@
 //! A view of a module: its rows, asked for cell by cell.
-ghost use Rattle.std.specs.Prelude.{◌≡◌, ℕ, ◌<◌, ◌^◌, List, Option, Some, length, slice_get, option_map, option_copied, IsTrue, IfOk, IfSome};
-ghost use Rattle.enc_opcodes.specs.Body.{body_of, code_seen};
+ghost use Rattle.std.specs.Prelude.{◌≡◌, ℕ, ◌<◌, ◌^◌, ◌==◌, List, Option, Some, length, slice_get, option_map, option_copied, is_some, not, IsTrue, IfOk, IfSome};
+ghost use Rattle.enc_opcodes.specs.Body.{Body, body_of, code_seen};
 ghost use Rattle.enc_schema.specs.Children.{is_child_table, owner_table};
 ghost use Rattle.enc_plain.specs.Cell.{number, text, blob, guid, refer, body, field, kind_in, numbers, texts, blobs, guids, references};
 ghost use Rattle.enc_plain.specs.Module.{Module, rows_in, has_row, cell_of, owner_of, kids_of};
@@ -19,6 +19,8 @@ pub trait ModuleView {
     ghost meaning: { Self → Module };
     // The bytes of the user texts, by the offsets that the code of its bodies has.
     ghost users: { Self → ℕ → Option (List ℕ) };
+    // The body at each place of its files, None where there is none.
+    ghost places: { Self → ℕ → Option Body };
 
     /// The number of rows of a table.
     fn count(&self, table: u8) -> u32
@@ -62,6 +64,14 @@ pub trait ModuleView {
         requires table { method.table ≡ method_def }
         ensures body { cell_of (meaning self.now) method 0 ≡ Some (body (option_map (λ c. body_of (users self.now) (code_seen c)) result)) }
         ensures few { IfSome result (λ c. length c.code.now < 2 ^ 32) };
+
+    /// The place of a method's body, 0 where it has none: methods with one place have one body. What
+    /// else the number tells is the view's own matter.
+    fn code_place(&self, method: Token) -> u64
+        requires row { IsTrue (has_row (meaning self.now) method) }
+        requires table { method.table ≡ method_def }
+        ensures body { cell_of (meaning self.now) method 0 ≡ Some (body (places self.now result)) }
+        ensures some { is_some (places self.now result) ≡ not (result == 0) };
 
     /// The initial bytes of a field, by the row of FieldRVA (ECMA-335 II.22.18).
     fn field_bytes(&self, row: Token) -> &[u8]
