@@ -1,6 +1,6 @@
 -- Code that is said anew, instruction by instruction.
-use Rattle.std.proofs.Common.{◌≡◌, ℕ, zero, suc, ◌+◌, ◌-◌, ◌*◌, ◌/◌, ◌%◌, ◌^◌, ◌<◌, ◌≤◌, Bool, true, false, List, [], ◌∷◌, ◌++◌, length, map, take, drop, get_or, Option, Some, None, refl, sym, ap, subst, ◌∙◌, arith}
-use Rattle.std.specs.Prelude.{unwrap_or, ◌&&◌}
+use Rattle.std.proofs.Common.{◌≡◌, ℕ, zero, suc, ◌+◌, ◌-◌, ◌*◌, ◌/◌, ◌%◌, ◌^◌, ◌<◌, ◌≤◌, Bool, true, false, List, [], ◌∷◌, ◌++◌, length, map, take, drop, get_or, Option, Some, None, refl, sym, ap, subst, ◌∙◌, arith, Result, Ok, Err}
+use Rattle.std.specs.Prelude.{unwrap_or, ◌&&◌, OnOk}
 use Rattle.std.specs.List.{list_all}
 use Rattle.std.specs.Int.{w32, to_le_bytes}
 use Rattle.std.proofs.lemmas.List.{append_assoc, append-nil, length-append, length-take-le, length-drop, get_or-drop, get_or-take, get_or_append_left, get_or-append_right}
@@ -12,8 +12,14 @@ use Rattle.enc_opcodes.specs.Instruction.{Argument, nothing, number, target, tar
 use Rattle.enc_opcodes.proofs.Chains.{none_past}
 use Rattle.enc_opcodes.proofs.Instructions.{instr_goes, instr_ends, rest_none, rest_more, rest_end_none, rest_end_more}
 use Rattle.enc_il.proofs.Numbers.{word_between}
-use Rattle.enc_rewriter.specs.Values.{units_told}
-use Rattle.enc_rewriter.specs.Copied.{names_text, SaysSame, IsCopied}
+use Rattle.enc_il.specs.Seen.{arg_seen}
+use Rattle.enc_opcodes.specs.declared.code.Arg.{Arg}
+use Rattle.enc_opcodes.specs.declared.code.Arg.TheVariants as arg
+use Rattle.std.proofs.lemmas.Bool.{and_parts}
+use Rattle.std.proofs.lemmas.List.Folds.{list_all-append}
+use Rattle.enc_rewriter.specs.Values.{units_told, text_named}
+use Rattle.enc_rewriter.proofs.UserTexts.{left, left_more}
+use Rattle.enc_rewriter.specs.Copied.{names_text, SaysSame, IsCopied, IsNamed}
 use Rattle.enc_rewriter.proofs.OwnBytes.{Same, instr_same, instr_user, user_room}
 
 -- units are those that their bytes spell
@@ -148,6 +154,32 @@ copied_text old new code says at n t x i is names few told copied =
           let now = one_more old new code whole at n i j is there alike named later in
           subst (λ xs. SaysSame old new code xs 0) (sym split) (copied.before (piece ++ (word ++ rest)) now);
     }
+
+pub copied_named : (old new : ℕ → Option (List ℕ)) (code says after : List ℕ) (at n t : ℕ) (i : Instruction ℕ) → instr_in code at ≡ Some (i, n) → i.arg ≡ text t → IsNamed old new code at n t says after
+    → IsCopied old new code says at → IsCopied old new code after n
+copied_named old new code says after at n t i is names named copied =
+    subst (λ xs. IsCopied old new code xs n) (sym named.3) (copied_text old new code says at n t named.0 i is names named.1 named.2 copied)
+
+-- of what was pushed
+pub on_ok : {X E : Type 0} (r : Result X E) (P Q : Type 0) → (P → Q) → OnOk r P → OnOk r Q
+on_ok (Ok x) P Q goes h = goes h
+on_ok (Err e) P Q goes h = h
+
+pub plain_seen : (end : ℕ) (a : Arg) → ((x : ℕ) → a ≡ arg.User x → ⊥) → names_none (arg_seen end a) ≡ true
+plain_seen end arg.None other = refl
+plain_seen end (arg.Num n) other = refl
+plain_seen end (arg.Target t) other = refl
+plain_seen end (arg.Targets ts) other = refl
+plain_seen end (arg.Token t) other = refl
+plain_seen end (arg.User x) other = absurd (other x refl)
+plain_seen end (arg.Raw bytes) other = refl
+
+-- the user texts of one instruction are kept, and so are those behind it
+pub kept_both : (p : List ℕ → Bool) (texts : ℕ → Option (List ℕ)) (code : List ℕ) (at n : ℕ) (i : Instruction ℕ) → Some (i, n) ≡ instr_in code at → list_all p (left texts code at) ≡ true
+    → (list_all p (text_named (told texts i.arg)) ≡ true) × (list_all p (left texts code n) ≡ true)
+kept_both p texts code at n i is kept =
+    and_parts (list_all p (text_named (told texts i.arg))) (list_all p (left texts code n))
+    (sym (list_all-append p (text_named (told texts i.arg)) (left texts code n)) ∙ ap (list_all p) (sym (left_more texts code at n i is)) ∙ kept)
 
 -- all of whole code is said
 pub copied_all : (old new : ℕ → Option (List ℕ)) (code says : List ℕ) (at : ℕ) → None ≡ instr_in code at → end_of code 0 ≡ length code → IsCopied old new code says at
