@@ -5,3 +5,5 @@ pub mod KeptValues
 pub mod OwnBytes
 pub mod ReadAs
 pub mod UserTexts
+pub mod SoundCode
+pub mod BodyStands

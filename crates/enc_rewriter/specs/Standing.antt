@@ -1,0 +1,29 @@
+-- A body that stands in the code of an image that is written (ECMA-335 II.25.4).
+use Rattle.std.specs.Prelude.{◌≡◌, ℕ, ◌<◌, Bool, true, ◌||◌, List, Option, Some, ◌==◌, if◌then◌else◌}
+use Rattle.enc_base.specs.Token.{nth_row}
+use Rattle.enc_opcodes.specs.declared.code.Clause.{Clause}
+use Rattle.enc_opcodes.specs.Body.{Body, nil_or}
+use Rattle.enc_plain.specs.Bodies.{body_loaded, code_loaded, code_is_good}
+use Rattle.enc_plain.specs.Cell.{body}
+use Rattle.enc_plain.specs.Module.{Module, cell_of}
+use Rattle.enc_plain.specs.Sound.{row_count}
+use Rattle.enc_schema.specs.Tables as tables
+use Rattle.enc_rewriter.specs.Placed.{loaded_with}
+
+-- this body is at the RVA, and good there, whatever stands behind the code
+pub record StandsAt (count : ℕ → ℕ) (users : ℕ → Option (List ℕ)) (code : List ℕ) (rva : ℕ) (b : Body) : Type 0 where
+  pub some : 0 < rva
+  pub meant : (behind : List ℕ) → body_loaded (loaded_with code behind) users rva ≡ Some b
+  pub good : (behind : List ℕ) → code_is_good count users (code_loaded (loaded_with code behind) rva) ≡ true
+
+-- a clause is of a kind that is known: of a class, a filter, a finally or a fault (II.25.4.6)
+abbrev pub is_known : ℕ → Bool
+is_known kind = kind == 0 || kind == 1 || kind == 2 || kind == 4
+
+-- a clause of another kind catches a class, as one of kind 0
+abbrev pub known_as : Clause → Clause
+known_as c = record { kind = if is_known c.kind then c.kind else 0; tries = c.tries; handler = c.handler; extra = c.extra }
+
+-- a local signature that has no row is the nil token
+pub record HasNilLocals (m : Module) : Type 0 where
+  pub each : (n : ℕ) (b : Body) → n < row_count m tables.method_def → cell_of m (nth_row tables.method_def n) 0 ≡ Some (body (Some b)) → nil_or b.locals ≡ b.locals
