@@ -7,3 +7,4 @@ pub mod ReadAs
 pub mod UserTexts
 pub mod SoundCode
 pub mod BodyStands
+pub mod ClausesKnown

@@ -1,6 +1,7 @@
 //! Modules written from scratch: the heaps of a module's values, its bodies, its rows, and the image.
 #![tactic(auto)]
 
+mod bodies;
 mod code;
 mod kept;
 mod pass;

@@ -1,0 +1,134 @@
+//! Bodies in the code of an image that is written (ECMA-335 II.25.4).
+ghost use Rattle.std.specs.Prelude.{◌≡◌, ◌+◌, ◌*◌, ◌<◌, ◌^◌, ◌++◌, ℕ, true, List, Some, length, map, is_some, IsTrue, IfOk, OnOk, if◌then◌else◌};
+ghost use Rattle.std.specs.List.{list_all};
+ghost use Rattle.enc_il.specs.Seen.{all_sections};
+ghost use Rattle.enc_il.specs.Written.{clause_fits};
+ghost use Rattle.enc_meta.specs.Built.{is_kept, heaps_built};
+ghost use Rattle.enc_meta.specs.Heaps.{user_at};
+ghost use Rattle.enc_opcodes.specs.Body.{body_of, code_seen, nil_or};
+ghost use Rattle.enc_opcodes.specs.Clause.{clauses_in, clauses_of};
+ghost use Rattle.enc_opcodes.specs.Sound.{body_is_sound};
+ghost use Rattle.enc_plain.specs.Sound.{IsSound, row_count};
+ghost use Rattle.enc_rewriter.specs.Standing.{StandsAt, is_known, known_as};
+ghost use Rattle.enc_rewriter.specs.Values.{no_starts, texts_named};
+
+use crate::code::patched;
+use enc_il::{SectionRef, behind_sections, clause_front, clause_size, rest_at, section_front, write_body};
+use enc_meta::HeapBuilder;
+use enc_opcodes::{Clause, CodeRef};
+use enc_pe::CODE_RVA;
+use enc_plain::ModuleView;
+use std::alloc::{AllocError, Global};
+
+/// A clause's kind, that of a class where it is no known one.
+fn known_kind(kind: u32) -> u32
+    ensures { result ≡ (if is_known kind then kind else 0) }
+{
+    if kind == 0 || kind == 1 || kind == 2 || kind == 4 {
+        kind
+    } else {
+        0
+    }
+}
+
+/// The clause, as one of a class where its kind is no known one.
+fn known(clause: Clause) -> Clause
+    ensures known { result ≡ known_as clause }
+    ensures fits { IsTrue (clause_fits result) }
+{
+    Clause {
+        kind: known_kind(clause.kind),
+        tries: clause.tries,
+        handler: clause.handler,
+        extra: clause.extra,
+    }
+}
+
+/// Appends a section's clauses.
+#[tactic(auto, using(crate::proofs::ClausesKnown::one_fits, crate::proofs::ClausesKnown::more_known, crate::proofs::ClausesKnown::none_known))]
+fn push_clauses(section: &SectionRef<'_>, all: &mut Vec<Clause>) -> Result<(), AllocError>
+    requires fit { IsTrue (list_all clause_fits all.old.items) }
+    ensures all { OnOk result (all.new.items ≡ all.old.items ++ map known_as (clauses_in section.now.fat section.now.count section.now.clauses.now)) }
+    ensures fit { OnOk result (IsTrue (list_all clause_fits all.new.items)) }
+{
+    let mut rest = section.clauses;
+    for i in 0..section.count {
+        all.push(known(clause_front(section.fat, rest)))?;
+        rest = rest_at(rest, clause_size(section.fat));
+    }
+    Ok(())
+}
+
+/// The clauses of sections, which stand whole.
+fn clauses_in_sections(alloc: Global, sections: &[u8]) -> Result<Vec<Clause>, AllocError>
+    requires { IsTrue (is_some (all_sections sections.now)) }
+    ensures all { IfOk result (λ v. v.items ≡ map known_as (clauses_of sections.now)) }
+    ensures fit { IfOk result (λ v. IsTrue (list_all clause_fits v.items)) }
+{
+    let mut all = Vec::new(alloc);
+    let mut rest = sections;
+    while let Some((section, behind)) = section_front(rest) {
+        match push_clauses(&section, &mut all) {
+            Ok(()) => {}
+            Err(fault) => return Err(fault),
+        }
+        if !section.more {
+            return Ok(all);
+        }
+        rest = behind;
+    }
+    Ok(all)
+}
+
+/// The clauses of a body, each of a known kind. Sections of which one isn't whole have none.
+#[tactic(auto, using(enc_il::proofs::Sections::clauses_none, enc_il::proofs::Sections::behind_is))]
+fn clauses_of_body(alloc: Global, sections: &[u8]) -> Result<Vec<Clause>, AllocError>
+    ensures all { IfOk result (λ v. v.items ≡ map known_as (clauses_of sections.now)) }
+    ensures fit { IfOk result (λ v. IsTrue (list_all clause_fits v.items)) }
+{
+    match behind_sections(sections) {
+        None => Ok(Vec::new(alloc)),
+        Some(_) => clauses_in_sections(alloc, sections),
+    }
+}
+
+/// Writes a body behind the code, its user texts named in the new heap, and answers its RVA.
+pub(crate) fn push_body<V: ModuleView>(
+    alloc: Global,
+    view: &V,
+    body: &CodeRef<'_>,
+    heaps: &mut HeapBuilder,
+    out: &mut Vec<u8>,
+) -> Result<u32, AllocError>
+    requires sound { body_is_sound (row_count (V.meaning view.now)) (body_of (V.users view.now) (code_seen body.now)) ≡ true }
+    requires nil { nil_or body.now.locals ≡ body.now.locals }
+    requires rows { body.now.locals.row < 2 ^ 24 }
+    requires starts { heaps.old.starts ≡ no_starts }
+    requires kept { list_all (is_kept heaps.old.users) (texts_named (body_of (V.users view.now) (code_seen body.now)).code) ≡ true }
+    requires few { length body.now.code.now < 2 ^ 32 }
+    requires near { length out.old.items < 2 ^ 31 + 4096 }
+    requires room { length out.old.items + length body.now.code.now + 28 * length (clauses_of body.now.sections.now) + 32 < 2 ^ 32 }
+    ensures stands { IfOk result (λ rva. StandsAt (row_count (V.meaning view.now)) (user_at (heaps_built heaps.old).users) out.new.items rva (body_of (V.users view.now) (code_seen body.now))) }
+    ensures grows { OnOk result ((rest : List ℕ) × (out.new.items ≡ out.old.items ++ rest)) }
+    ensures same { heaps.new ≡ heaps.old }
+{
+    let code = match patched(alloc, view, body, heaps) {
+        Ok(code) => code,
+        Err(fault) => return Err(fault),
+    };
+    let clauses = match clauses_of_body(alloc, body.sections) {
+        Ok(clauses) => clauses,
+        Err(fault) => return Err(fault),
+    };
+    let again = CodeRef {
+        max: body.max,
+        init: body.init,
+        locals: body.locals,
+        code: &code,
+        sections: &[],
+    };
+    match write_body(alloc, &again, &clauses, out) {
+        Ok(place) => Ok(CODE_RVA + place),
+        Err(fault) => Err(fault),
+    }
+}
