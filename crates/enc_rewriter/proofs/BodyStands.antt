@@ -209,3 +209,8 @@ pub said_stands : (old new : ℕ → Option (List ℕ)) (count : ℕ → ℕ) (c
     → StandsAt count new (with_body before (said_as c says) cs) (8192 + place_for (length before) (said_as c says) cs) (body_of old c)
 said_stands old new count c before says cs same size nil fit are bytes sound fits =
     written_stands count new before (said_as c says) cs (body_of old c) fits (same_body old new c says cs same size nil fit are) (same_good old new count c says cs same size nil fit are bytes sound) (same_there old new c.code says same)
+
+-- the bytes before it stay
+pub with_grows : (before : List ℕ) (c : Code) (cs : List Clause) → (rest : List ℕ) × (with_body before c cs ≡ before ++ rest)
+unfolding with_body
+with_grows before c cs = (replicate (place_for (length before) c cs - length before) 0 ++ body_written c cs, append_assoc before (replicate (place_for (length before) c cs - length before) 0) (body_written c cs))

@@ -45,7 +45,6 @@ fn known(clause: Clause) -> Clause
 }
 
 /// Appends a section's clauses.
-#[tactic(auto, using(crate::proofs::ClausesKnown::one_fits, crate::proofs::ClausesKnown::more_known, crate::proofs::ClausesKnown::none_known))]
 fn push_clauses(section: &SectionRef<'_>, all: &mut Vec<Clause>) -> Result<(), AllocError>
     requires fit { IsTrue (list_all clause_fits all.old.items) }
     ensures all { OnOk result (all.new.items ≡ all.old.items ++ map known_as (clauses_in section.now.fat section.now.count section.now.clauses.now)) }
@@ -112,6 +111,7 @@ pub(crate) fn push_body<V: ModuleView>(
     ensures grows { OnOk result ((rest : List ℕ) × (out.new.items ≡ out.old.items ++ rest)) }
     ensures same { heaps.new ≡ heaps.old }
 {
+    let _bytes = body.code;
     let code = match patched(alloc, view, body, heaps) {
         Ok(code) => code,
         Err(fault) => return Err(fault),
