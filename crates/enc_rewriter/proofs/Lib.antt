@@ -8,3 +8,4 @@ pub mod UserTexts
 pub mod SoundCode
 pub mod BodyStands
 pub mod ClausesKnown
+pub mod CodeBytes

@@ -1,6 +1,7 @@
 //! Bodies in the code of an image that is written (ECMA-335 II.25.4).
 ghost use Rattle.std.specs.Prelude.{◌≡◌, ◌+◌, ◌*◌, ◌<◌, ◌^◌, ◌++◌, ℕ, true, List, Some, length, map, is_some, IsTrue, IfOk, OnOk, if◌then◌else◌};
 ghost use Rattle.std.specs.List.{list_all};
+ghost use Rattle.enc_base.specs.Numbers.{AreBytes};
 ghost use Rattle.enc_il.specs.Seen.{all_sections};
 ghost use Rattle.enc_il.specs.Written.{clause_fits};
 ghost use Rattle.enc_meta.specs.Built.{is_kept, heaps_built};
@@ -91,6 +92,14 @@ fn clauses_of_body(alloc: Global, sections: &[u8]) -> Result<Vec<Clause>, AllocE
     }
 }
 
+/// Each number in bytes is one of a byte.
+#[tactic(auto, using(crate::proofs::CodeBytes::all_bytes))]
+fn bytes_law(bytes: &[u8])
+    ensures { AreBytes bytes.now }
+{
+    let _all = &bytes[..];
+}
+
 /// Writes a body behind the code, its user texts named in the new heap, and answers its RVA.
 pub(crate) fn push_body<V: ModuleView>(
     alloc: Global,
@@ -111,7 +120,7 @@ pub(crate) fn push_body<V: ModuleView>(
     ensures grows { OnOk result ((rest : List ℕ) × (out.new.items ≡ out.old.items ++ rest)) }
     ensures same { heaps.new ≡ heaps.old }
 {
-    let _bytes = body.code;
+    bytes_law(body.code);
     let code = match patched(alloc, view, body, heaps) {
         Ok(code) => code,
         Err(fault) => return Err(fault),
@@ -120,11 +129,13 @@ pub(crate) fn push_body<V: ModuleView>(
         Ok(clauses) => clauses,
         Err(fault) => return Err(fault),
     };
+    let bytes: &[u8] = &code;
+    bytes_law(bytes);
     let again = CodeRef {
         max: body.max,
         init: body.init,
         locals: body.locals,
-        code: &code,
+        code: bytes,
         sections: &[],
     };
     match write_body(alloc, &again, &clauses, out) {

@@ -1,7 +1,7 @@
 use Rattle.std.proofs.Common.{◌≡◌, ℕ, ◌+◌, ◌-◌, ◌*◌, ◌<◌, ◌++◌, List, length, replicate, refl, sym, ap, subst, ◌∙◌, arith}
 use Rattle.std.proofs.lemmas.List.{append_assoc}
 use Rattle.std.specs.List.{list_all}
-use Rattle.enc_base.proofs.SmallNumbers.{EachIsByte}
+use Rattle.enc_base.proofs.SmallNumbers.{bytes_each}
 use Rattle.enc_il.specs.Written.{IsWritable, clause_fits, with_body, body_written, place_for}
 use Rattle.enc_il.proofs.BodiesShort.{place_few}
 use Rattle.enc_meta.specs.Built.{heaps_built}
@@ -16,12 +16,12 @@ use Rattle.enc_rewriter.proofs.bodies.push_body.Goals as goal
 
 pub patched-requires-clause-whole : goal.patched-requires-clause-whole
 patched-requires-clause-whole g c =
-    sound_whole (g.V.ModuleView.users c.args.view.now) (row_count (g.V.ModuleView.meaning c.args.view.now)) (code_seen c.args.body.now) (record { at = λ i. omega (arith, c.type_inv.body.code i) }) c.requires.sound
+    sound_whole (g.V.ModuleView.users c.args.view.now) (row_count (g.V.ModuleView.meaning c.args.view.now)) (code_seen c.args.body.now) (bytes_each c.args.body.now.code.now c.bytes_law.ensures) c.requires.sound
 
 pub overflow_add-result : goal.overflow_add-result
 overflow_add-result g c =
-    let few = place_few (length c.args.out.now.items) (said_as (code_seen c.args.body.now) c.deref.result.now) c.deref-2.result.now in
-    let e : c.in-Ok-write_body.place ≡ place_for (length c.args.out.now.items) (said_as (code_seen c.args.body.now) c.deref.result.now) c.deref-2.result.now = c.in-Ok-write_body.ensures.place in
+    let few = place_few (length c.args.out.now.items) (said_as (code_seen c.args.body.now) c.deref-bytes.result.now) c.deref.result.now in
+    let e : c.in-Ok-write_body.place ≡ place_for (length c.args.out.now.items) (said_as (code_seen c.args.body.now) c.deref-bytes.result.now) c.deref.result.now = c.in-Ok-write_body.ensures.place in
     omega (arith, few, e, c.requires.near)
 
 pub returns-in-Ok-write_body-clause-stands : goal.returns-in-Ok-write_body-clause-stands
@@ -31,14 +31,14 @@ returns-in-Ok-write_body-clause-stands g c =
     let count = row_count (g.V.ModuleView.meaning c.args.view.now) in
     let own = code_seen c.args.body.now in
     let before = c.args.out.now.items in
-    let says = c.deref.result.now in
-    let cs = c.deref-2.result.now in
-    let is : says ≡ c.in-Ok.code.items = c.deref.ensures.value in
-    let are : cs ≡ c.in-Ok-clauses_of_body.clauses.items = c.deref-2.ensures.value in
+    let says = c.deref-bytes.result.now in
+    let cs = c.deref.result.now in
+    let is : says ≡ c.in-Ok.code.items = c.deref-bytes.ensures.value in
+    let are : cs ≡ c.in-Ok-clauses_of_body.clauses.items = c.deref.ensures.value in
     let same : SaysSame old new own.code says 0 = subst (λ xs. SaysSame old new own.code xs 0) (sym is) c.in-Ok.ensures.says in
-    let fits : IsWritable (said_as own says) = record { max = omega (arith, c.type_inv.body.max); table = omega (arith, c.type_inv.body.locals.table); row = c.requires.rows; size = omega (arith, ap (λ (xs : List ℕ). length xs) is, c.in-Ok.ensures.size, c.requires.few) } in
+    let fits : IsWritable (said_as own says) = record { max = omega (arith, c.type_inv.body.0); table = omega (arith, c.type_inv.body.1); row = c.requires.rows; size = omega (arith, ap (λ (xs : List ℕ). length xs) is, c.in-Ok.ensures.size, c.requires.few) } in
     let stands = said_stands old new count own before says cs same (ap (λ (xs : List ℕ). length xs) is ∙ c.in-Ok.ensures.size) c.requires.nil
-        (ap (list_all clause_fits) are ∙ c.in-Ok-clauses_of_body.ensures.fit) (are ∙ c.in-Ok-clauses_of_body.ensures.all) (record { at = λ i. omega (arith, c.in-Ok.code.ok i) }) c.requires.sound fits in
+        (ap (list_all clause_fits) are ∙ c.in-Ok-clauses_of_body.ensures.fit) (are ∙ c.in-Ok-clauses_of_body.ensures.all) (bytes_each says c.bytes_law-2.ensures) c.requires.sound fits in
     let written : c.write_body.new.out.items ≡ with_body before (said_as own says) cs = c.in-Ok-write_body.ensures.written in
     let place : c.in-Ok-write_body.place ≡ place_for (length before) (said_as own says) cs = c.in-Ok-write_body.ensures.place in
     subst (λ xs. StandsAt count new xs (8192 + c.in-Ok-write_body.place) (body_of old own)) (sym written)
@@ -46,5 +46,5 @@ returns-in-Ok-write_body-clause-stands g c =
 
 pub returns-in-Ok-write_body-clause-grows : goal.returns-in-Ok-write_body-clause-grows
 returns-in-Ok-write_body-clause-grows g c =
-    let w = with_grows c.args.out.now.items (said_as (code_seen c.args.body.now) c.deref.result.now) c.deref-2.result.now in
+    let w = with_grows c.args.out.now.items (said_as (code_seen c.args.body.now) c.deref-bytes.result.now) c.deref.result.now in
     (w.0, c.in-Ok-write_body.ensures.written ∙ w.1)
