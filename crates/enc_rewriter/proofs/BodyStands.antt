@@ -26,7 +26,7 @@ use Rattle.enc_rewriter.specs.Standing.{StandsAt, is_known, known_as}
 use Rattle.enc_rewriter.proofs.SoundCode.{meant_same, all_known, sound_is_good}
 
 -- what stands in the code stands in more of it
-more_loaded : (code more behind : List ℕ) → loaded_with (code ++ more) behind ≡ loaded_with code (more ++ behind)
+pub more_loaded : (code more behind : List ℕ) → loaded_with (code ++ more) behind ≡ loaded_with code (more ++ behind)
 more_loaded code more behind = ap (λ (bytes : List ℕ). let r : Region = record { address = 8192; bytes = bytes } in r ∷ []) (append_assoc code more behind)
 
 pub stands_still : (count : ℕ → ℕ) (users : ℕ → Option (List ℕ)) (code more : List ℕ) (rva : ℕ) (b : Body) → StandsAt count users code rva b → StandsAt count users (code ++ more) rva b
@@ -71,7 +71,7 @@ place_by : (n : ℕ) (t : Bool) → n ≤ (if t then n else padded n)
 place_by n true = omega arith
 place_by n false = padded_behind n
 
-place_behind : (n : ℕ) (c : Code) (cs : List Clause) → n ≤ place_for n c cs
+pub place_behind : (n : ℕ) (c : Code) (cs : List Clause) → n ≤ place_for n c cs
 unfolding place_for
 place_behind n c cs = place_by n (is_tiny c cs)
 

@@ -9,3 +9,5 @@ pub mod SoundCode
 pub mod BodyStands
 pub mod ClausesKnown
 pub mod CodeBytes
+pub mod BodySizes
+pub mod MethodsPlaced

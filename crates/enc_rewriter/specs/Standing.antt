@@ -1,5 +1,5 @@
 -- A body that stands in the code of an image that is written (ECMA-335 II.25.4).
-use Rattle.std.specs.Prelude.{◌≡◌, ℕ, ◌<◌, Bool, true, ◌||◌, List, Option, Some, ◌==◌, if◌then◌else◌}
+use Rattle.std.specs.Prelude.{◌≡◌, ℕ, ◌+◌, ◌*◌, ◌<◌, ◌≤◌, Bool, true, ◌||◌, List, length, Option, Some, ◌==◌, if◌then◌else◌, slice_index}
 use Rattle.enc_base.specs.Token.{nth_row}
 use Rattle.enc_opcodes.specs.declared.code.Clause.{Clause}
 use Rattle.enc_opcodes.specs.Body.{Body, nil_or}
@@ -8,7 +8,9 @@ use Rattle.enc_plain.specs.Cell.{body}
 use Rattle.enc_plain.specs.Module.{Module, cell_of}
 use Rattle.enc_plain.specs.Sound.{row_count}
 use Rattle.enc_schema.specs.Tables as tables
-use Rattle.enc_rewriter.specs.Placed.{loaded_with}
+use Rattle.enc_rows.specs.Sums.{sum_below}
+use Rattle.enc_rewriter.specs.Placed.{loaded_with, IsBodyPlaced}
+use Rattle.enc_rewriter.specs.Weight.{body_weight}
 
 -- this body is at the RVA, and good there, whatever stands behind the code
 pub record StandsAt (count : ℕ → ℕ) (users : ℕ → Option (List ℕ)) (code : List ℕ) (rva : ℕ) (b : Body) : Type 0 where
@@ -27,3 +29,18 @@ known_as c = record { kind = if is_known c.kind then c.kind else 0; tries = c.tr
 -- a local signature that has no row is the nil token
 pub record HasNilLocals (m : Module) : Type 0 where
   pub each : (n : ℕ) (b : Body) → n < row_count m tables.method_def → cell_of m (nth_row tables.method_def n) 0 ≡ Some (body (Some b)) → nil_or b.locals ≡ b.locals
+
+-- bytes of such a weight: a body's sections take a few more than their clauses weigh, four for each 699050 clauses
+abbrev pub Weighs : ℕ → ℕ → Type 0
+Weighs weight size = 4194300 * size ≤ 4194301 * weight
+
+abbrev pub weight_of : Body → ℕ
+weight_of b = 32 + b.size + 24 * length b.handlers
+
+-- the weight of the bodies of the methods before one
+unfoldable pub bodies_before : Module → ℕ → ℕ
+bodies_before m n = sum_below (λ k. body_weight (cell_of m (nth_row tables.method_def k) 0)) n
+
+-- the bodies of so many methods are placed
+abbrev pub AreBodiesPlaced : Module → (ℕ → Option (List ℕ)) → List ℕ → List ℕ → ℕ → Type 0
+AreBodiesPlaced m users code rvas n = (k : ℕ) → k < n → IsBodyPlaced m users code k (slice_index rvas k)
