@@ -1,5 +1,5 @@
 //! Bodies in the code of an image that is written (ECMA-335 II.25.4).
-ghost use Rattle.std.specs.Prelude.{◌≡◌, ◌+◌, ◌*◌, ◌<◌, ◌^◌, ◌++◌, ℕ, true, List, Some, length, map, is_some, IsTrue, IfOk, OnOk, if◌then◌else◌};
+ghost use Rattle.std.specs.Prelude.{◌≡◌, ◌+◌, ◌*◌, ◌<◌, ◌≤◌, ◌^◌, ◌++◌, [], ℕ, true, List, Some, length, map, is_some, IsTrue, IfOk, OnOk, if◌then◌else◌};
 ghost use Rattle.std.specs.List.{list_all};
 ghost use Rattle.enc_base.specs.Numbers.{AreBytes};
 ghost use Rattle.enc_il.specs.Seen.{all_sections};
@@ -10,15 +10,20 @@ ghost use Rattle.enc_opcodes.specs.Body.{body_of, code_seen, nil_or};
 ghost use Rattle.enc_opcodes.specs.Clause.{clauses_in, clauses_of};
 ghost use Rattle.enc_opcodes.specs.Sound.{body_is_sound};
 ghost use Rattle.enc_plain.specs.Sound.{IsSound, row_count};
-ghost use Rattle.enc_rewriter.specs.Standing.{StandsAt, is_known, known_as};
-ghost use Rattle.enc_rewriter.specs.Values.{no_starts, texts_named};
+ghost use Rattle.enc_rewriter.specs.Standing.{StandsAt, HasNilLocals, Weighs, is_known, known_as, weight_of, bodies_before, AreBodiesPlaced};
+ghost use Rattle.enc_rewriter.specs.Placed.{IsBodyPlaced};
+ghost use Rattle.enc_rewriter.specs.Values.{KeepValues, no_starts, texts_named};
+ghost use Rattle.enc_rewriter.specs.Weight.{bodies_weight};
+ghost use Rattle.enc_schema.specs.Tables.{method_def};
 
 use crate::code::patched;
+use enc_base::Token;
 use enc_il::{SectionRef, behind_sections, clause_front, clause_size, rest_at, section_front, write_body};
 use enc_meta::HeapBuilder;
 use enc_opcodes::{Clause, CodeRef};
 use enc_pe::CODE_RVA;
 use enc_plain::ModuleView;
+use enc_schema::tables::METHOD_DEF;
 use std::alloc::{AllocError, Global};
 
 /// A clause's kind, that of a class where it is no known one.
@@ -118,6 +123,7 @@ pub(crate) fn push_body<V: ModuleView>(
     requires room { length out.old.items + length body.now.code.now + 28 * length (clauses_of body.now.sections.now) + 32 < 2 ^ 32 }
     ensures stands { IfOk result (λ rva. StandsAt (row_count (V.meaning view.now)) (user_at (heaps_built heaps.old).users) out.new.items rva (body_of (V.users view.now) (code_seen body.now))) }
     ensures grows { OnOk result ((rest : List ℕ) × (out.new.items ≡ out.old.items ++ rest)) }
+    ensures size { OnOk result (4194300 * length out.new.items ≤ 4194300 * length out.old.items + 4194301 * weight_of (body_of (V.users view.now) (code_seen body.now))) }
     ensures same { heaps.new ≡ heaps.old }
 {
     bytes_law(body.code);
@@ -142,4 +148,61 @@ pub(crate) fn push_body<V: ModuleView>(
         Ok(place) => Ok(CODE_RVA + place),
         Err(fault) => Err(fault),
     }
+}
+
+/// Writes the body of a method behind the code, and answers its RVA, 0 where it has none. Methods
+/// count from 0 here.
+fn push_method<V: ModuleView>(
+    alloc: Global,
+    view: &V,
+    n: u32,
+    heaps: &mut HeapBuilder,
+    out: &mut Vec<u8>,
+) -> Result<u32, AllocError>
+    requires sound { IsSound (V.meaning view.now) }
+    requires nils { HasNilLocals (V.meaning view.now) }
+    requires kept { KeepValues (V.meaning view.now) heaps.old }
+    requires row { n < row_count (V.meaning view.now) method_def }
+    requires light { bodies_weight (V.meaning view.now) < 2 ^ 31 }
+    requires weighs { Weighs (bodies_before (V.meaning view.now) n) (length out.old.items) }
+    ensures placed { IfOk result (λ rva. IsBodyPlaced (V.meaning view.now) (user_at (heaps_built heaps.old).users) out.new.items n rva) }
+    ensures grows { OnOk result ((rest : List ℕ) × (out.new.items ≡ out.old.items ++ rest)) }
+    ensures weighs { OnOk result (Weighs (bodies_before (V.meaning view.now) (n + 1)) (length out.new.items)) }
+    ensures same { heaps.new ≡ heaps.old }
+{
+    let method = Token {
+        table: METHOD_DEF,
+        row: n + 1,
+    };
+    match view.code(method) {
+        Some(body) => push_body(alloc, view, &body, heaps, out),
+        None => Ok(0),
+    }
+}
+
+/// Writes the bodies of all methods, and answers the RVA of each.
+pub(crate) fn place_bodies<V: ModuleView>(
+    alloc: Global,
+    view: &V,
+    heaps: &mut HeapBuilder,
+    out: &mut Vec<u8>,
+) -> Result<Vec<u32>, AllocError>
+    requires sound { IsSound (V.meaning view.now) }
+    requires nils { HasNilLocals (V.meaning view.now) }
+    requires kept { KeepValues (V.meaning view.now) heaps.old }
+    requires light { bodies_weight (V.meaning view.now) < 2 ^ 31 }
+    requires first { out.old.items ≡ [] }
+    ensures count { IfOk result (λ v. length v.items ≡ row_count (V.meaning view.now) method_def) }
+    ensures placed { IfOk result (λ v. AreBodiesPlaced (V.meaning view.now) (user_at (heaps_built heaps.old).users) out.new.items v.items (row_count (V.meaning view.now) method_def)) }
+    ensures weighs { OnOk result (Weighs (bodies_weight (V.meaning view.now)) (length out.new.items)) }
+    ensures same { heaps.new ≡ heaps.old }
+{
+    let mut bodies = Vec::new(alloc);
+    for n in 0..view.count(METHOD_DEF) {
+        match push_method(alloc, view, n, heaps, out) {
+            Ok(rva) => bodies.push(rva)?,
+            Err(fault) => return Err(fault),
+        }
+    }
+    Ok(bodies)
 }
