@@ -1,6 +1,6 @@
 -- Code that is said anew, instruction by instruction.
 use Rattle.std.proofs.Common.{◌≡◌, ℕ, zero, suc, ◌+◌, ◌-◌, ◌*◌, ◌/◌, ◌%◌, ◌^◌, ◌<◌, ◌≤◌, Bool, true, false, List, [], ◌∷◌, ◌++◌, length, map, take, drop, get_or, Option, Some, None, refl, sym, ap, subst, ◌∙◌, arith, Result, Ok, Err}
-use Rattle.std.specs.Prelude.{unwrap_or, ◌&&◌, OnOk}
+use Rattle.std.specs.Prelude.{unwrap_or, ◌&&◌, OnOk, IfOk}
 use Rattle.std.specs.List.{list_all}
 use Rattle.std.specs.Int.{w32, to_le_bytes}
 use Rattle.std.proofs.lemmas.List.{append_assoc, append-nil, length-append, length-take-le, length-drop, get_or-drop, get_or-take, get_or_append_left, get_or-append_right}
@@ -194,3 +194,7 @@ copied_all old new code says at none whole copied =
     } in
     let nil = append-nil says in
     (subst (λ xs. SaysSame old new code xs 0) nil (copied.before [] (subst (λ xs. SaysSame old new code xs at) (sym nil) here)), copied.size ∙ end)
+
+pub if_ok : {X E : Type 0} (r : Result X E) (P Q : X → Type 0) → ((x : X) → P x → Q x) → IfOk r P → IfOk r Q
+if_ok (Ok x) P Q goes h = goes x h
+if_ok (Err e) P Q goes h = h

@@ -152,3 +152,7 @@ one_placed m users code rvas n rva size all one k low =
         let e : k ≡ n = omega (arith, le, low) in
         subst (λ j. IsBodyPlaced m users code j (slice_index (rvas ++ rva ∷ []) j)) (sym e) (subst (λ x. IsBodyPlaced m users code n x) (sym (get_or_push rvas rva 0 n size)) one)
     ]
+
+pub all_weigh : (m : Module) (n : ℕ) → n ≡ row_count m 0x06 → bodies_before m n ≡ bodies_weight m
+unfolding bodies_before bodies_weight
+all_weigh m n all = ap (λ k. bodies_before m k) all
