@@ -11,3 +11,4 @@ pub mod ClausesKnown
 pub mod CodeBytes
 pub mod BodySizes
 pub mod MethodsPlaced
+pub mod FieldsPlaced

@@ -4,13 +4,13 @@ use Rattle.enc_base.specs.Token.{nth_row}
 use Rattle.enc_opcodes.specs.declared.code.Clause.{Clause}
 use Rattle.enc_opcodes.specs.Body.{Body, nil_or}
 use Rattle.enc_plain.specs.Bodies.{body_loaded, code_loaded, code_is_good}
-use Rattle.enc_plain.specs.Cell.{body}
+use Rattle.enc_plain.specs.Cell.{body, field}
 use Rattle.enc_plain.specs.Module.{Module, cell_of}
 use Rattle.enc_plain.specs.Sound.{row_count}
 use Rattle.enc_schema.specs.Tables as tables
 use Rattle.enc_rows.specs.Sums.{sum_below}
-use Rattle.enc_rewriter.specs.Placed.{loaded_with, IsBodyPlaced}
-use Rattle.enc_rewriter.specs.Weight.{body_weight}
+use Rattle.enc_rewriter.specs.Placed.{loaded_with, IsBodyPlaced, IsFieldPlaced}
+use Rattle.enc_rewriter.specs.Weight.{body_weight, field_weight}
 
 -- this body is at the RVA, and good there, whatever stands behind the code
 pub record StandsAt (count : ℕ → ℕ) (users : ℕ → Option (List ℕ)) (code : List ℕ) (rva : ℕ) (b : Body) : Type 0 where
@@ -44,3 +44,15 @@ bodies_before m n = sum_below (λ k. body_weight (cell_of m (nth_row tables.meth
 -- the bodies of so many methods are placed
 abbrev pub AreBodiesPlaced : Module → (ℕ → Option (List ℕ)) → List ℕ → List ℕ → ℕ → Type 0
 AreBodiesPlaced m users code rvas n = (k : ℕ) → k < n → IsBodyPlaced m users code k (slice_index rvas k)
+
+-- the bytes of a row of FieldRVA stand at the RVA
+abbrev pub IsFieldCellPlaced : Module → List ℕ → ℕ → ℕ → Type 0
+IsFieldCellPlaced m code n rva = (there : List ℕ) → cell_of m (nth_row tables.field_rva n) 0 ≡ Some (field there) → IsFieldPlaced code there rva
+
+-- those of so many rows do
+abbrev pub AreFieldsPlaced : Module → List ℕ → List ℕ → ℕ → Type 0
+AreFieldsPlaced m code rvas n = (k : ℕ) → k < n → IsFieldCellPlaced m code k (slice_index rvas k)
+
+-- the weight of the bytes of the rows before one
+unfoldable pub fields_before : Module → ℕ → ℕ
+fields_before m n = sum_below (λ k. field_weight (cell_of m (nth_row tables.field_rva k) 0)) n

@@ -3,6 +3,7 @@
 
 mod bodies;
 mod code;
+mod fields;
 mod kept;
 mod pass;
 mod users;
