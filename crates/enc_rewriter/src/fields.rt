@@ -30,6 +30,7 @@ fn push_bytes(bytes: &[u8], out: &mut Vec<u8>) -> Result<u32, AllocError>
 /// Writes the bytes of a row of FieldRVA behind the code, and answers their RVA, 0 where there are
 /// none. Rows count from 0 here.
 fn push_field<V: ModuleView>(view: &V, n: u32, out: &mut Vec<u8>) -> Result<u32, AllocError>
+    requires few { n < 2 ^ 24 }
     requires row { n < row_count (V.meaning view.now) field_rva }
     requires room { length out.old.items + fields_weight (V.meaning view.now) < 2 ^ 31 + 8192 + fields_before (V.meaning view.now) n }
     ensures placed { IfOk result (λ rva. IsFieldCellPlaced (V.meaning view.now) out.new.items n rva) }
