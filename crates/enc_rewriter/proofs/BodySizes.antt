@@ -38,7 +38,7 @@ few_by cs false is some next =
     let others : length (drop most_clauses cs) ≡ length cs - most_clauses = length-drop most_clauses cs in
     let rest : Few (drop most_clauses cs) = next many in
     let size : length (sections_written cs) ≡ length (data_section_written true (take most_clauses cs)) + length (sections_written (drop most_clauses cs)) =
-        ap length (written_more cs many) ∙ length-append (data_section_written true (take most_clauses cs)) (sections_written (drop most_clauses cs)) in
+    ap length (written_more cs many) ∙ length-append (data_section_written true (take most_clauses cs)) (sections_written (drop most_clauses cs)) in
     omega (arith, size, section_size true (take most_clauses cs), front, others, rest, many, most_is)
 
 few_for : (n : ℕ) (cs : List Clause) → 0 < length cs → length cs ≤ n → Few cs

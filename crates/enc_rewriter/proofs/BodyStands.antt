@@ -189,7 +189,7 @@ pub same_body : (old new : ℕ → Option (List ℕ)) (c : Code) (says : List �
 unfolding body_of
 same_body old new c says cs same size nil fit are =
     let handlers : map handler_meant (clauses_of (sections_written cs)) ≡ map handler_meant (clauses_of c.sections) =
-        ap (map handler_meant) (clauses_are_read cs fit ∙ are) ∙ meant_same (clauses_of c.sections) in
+    ap (map handler_meant) (clauses_are_read cs fit ∙ are) ∙ meant_same (clauses_of c.sections) in
     rw (nil, size, same.told, handlers) refl
 
 pub same_good : (old new : ℕ → Option (List ℕ)) (count : ℕ → ℕ) (c : Code) (says : List ℕ) (cs : List Clause) → SaysSame old new c.code says 0 → length says ≡ length c.code → nil_or c.locals ≡ c.locals → list_all clause_fits cs ≡ true

@@ -109,7 +109,7 @@ copied_plain old new code says at n i is plain copied =
           let split : (says ++ piece) ++ rest ≡ says ++ (piece ++ rest) = append_assoc says piece rest in
           let later : SaysSame old new code (says ++ (piece ++ rest)) n = subst (λ xs. SaysSame old new code xs n) split same in
           let alike : instruction_told new (at, i) ≡ instruction_told old (at, i) =
-              ap (λ (a : Argument (List ℕ)). let j : Instruction (List ℕ) = record { op = i.op; arg = a } in (at, j)) (arg_told old new i.arg plain) in
+          ap (λ (a : Argument (List ℕ)). let j : Instruction (List ℕ) = record { op = i.op; arg = a } in (at, j)) (arg_told old new i.arg plain) in
           let now = one_more old new code (says ++ (piece ++ rest)) at n i i is there alike (arg_there new i.arg plain) later in
           subst (λ xs. SaysSame old new code xs 0) (sym split) (copied.before (piece ++ rest) now);
     }
@@ -149,7 +149,7 @@ copied_text old new code says at n t x i is names few told copied =
           let there : instr_in whole at ≡ Some (j, n) = instr_user code whole at n t x i is names (same_here code says (word ++ rest) at (n - 4) copied.size from to) read2 few in
           let later : SaysSame old new code whole n = subst (λ xs. SaysSame old new code xs n) split same in
           let alike : instruction_told new (at, j) ≡ instruction_told old (at, i) =
-              ap (λ (a : Argument (List ℕ)). let k : Instruction (List ℕ) = record { op = i.op; arg = a } in (at, k)) (text_told old new t x i.arg names told) in
+          ap (λ (a : Argument (List ℕ)). let k : Instruction (List ℕ) = record { op = i.op; arg = a } in (at, k)) (text_told old new t x i.arg names told) in
           let named : names_text new (at, j) ≡ true = rw told refl in
           let now = one_more old new code whole at n i j is there alike named later in
           subst (λ xs. SaysSame old new code xs 0) (sym split) (copied.before (piece ++ (word ++ rest)) now);

@@ -76,8 +76,8 @@ one_field m code rvas n rva size all one k low =
     elim (cases_lt k n) [
       | inl lt ↦ subst (λ x. IsFieldCellPlaced m code k x) (sym (get_or_append_left rvas (rva ∷ []) 0 k (omega (arith, lt, size)))) (all k lt)
       | inr le ↦
-        let e : k ≡ n = omega (arith, le, low) in
-        subst (λ j. IsFieldCellPlaced m code j (slice_index (rvas ++ rva ∷ []) j)) (sym e) (subst (λ x. IsFieldCellPlaced m code n x) (sym (get_or_push rvas rva 0 n size)) one)
+          let e : k ≡ n = omega (arith, le, low) in
+          subst (λ j. IsFieldCellPlaced m code j (slice_index (rvas ++ rva ∷ []) j)) (sym e) (subst (λ x. IsFieldCellPlaced m code n x) (sym (get_or_push rvas rva 0 n size)) one)
     ]
 
 -- a cell has one list of bytes

@@ -12,3 +12,4 @@ pub mod CodeBytes
 pub mod BodySizes
 pub mod MethodsPlaced
 pub mod FieldsPlaced
+pub mod AllPlaced

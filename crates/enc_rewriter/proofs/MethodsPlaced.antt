@@ -149,8 +149,8 @@ one_placed m users code rvas n rva size all one k low =
     elim (cases_lt k n) [
       | inl lt ↦ subst (λ x. IsBodyPlaced m users code k x) (sym (get_or_append_left rvas (rva ∷ []) 0 k (omega (arith, lt, size)))) (all k lt)
       | inr le ↦
-        let e : k ≡ n = omega (arith, le, low) in
-        subst (λ j. IsBodyPlaced m users code j (slice_index (rvas ++ rva ∷ []) j)) (sym e) (subst (λ x. IsBodyPlaced m users code n x) (sym (get_or_push rvas rva 0 n size)) one)
+          let e : k ≡ n = omega (arith, le, low) in
+          subst (λ j. IsBodyPlaced m users code j (slice_index (rvas ++ rva ∷ []) j)) (sym e) (subst (λ x. IsBodyPlaced m users code n x) (sym (get_or_push rvas rva 0 n size)) one)
     ]
 
 pub all_weigh : (m : Module) (n : ℕ) → n ≡ row_count m 0x06 → bodies_before m n ≡ bodies_weight m

@@ -72,8 +72,8 @@ range_same a b at n p k r same from to is =
     let long : p + k ≤ length a = range_there a p k r is in
     let e : take k (drop p a) ≡ r = is_range (nat_le (p + k) (length a)) (take k (drop p a)) r is in
     let both : take k (drop p a) ≡ take k (drop p b) =
-        take_same k (drop p a) (drop p b) (rw (length-drop p a) (omega (arith, long))) (rw (length-drop p b) (omega (arith, to, same.short)))
-        (λ i low. byte_same a b at n p i same from (omega (arith, low, to))) in
+    take_same k (drop p a) (drop p b) (rw (length-drop p a) (omega (arith, long))) (rw (length-drop p b) (omega (arith, to, same.short)))
+    (λ i low. byte_same a b at n p i same from (omega (arith, low, to))) in
     rw (fits (p + k) (length b) (omega (arith, to, same.short))) (ap (λ (x : List ℕ). Some x) (sym both ∙ e))
 
 -- what was read, and the place behind it
@@ -116,10 +116,11 @@ unfolding switch_in
 switch_same a b at n p x same from h =
     follow (λ (k : ℕ). switch_of p k (range_at a (p + 4) (4 * k))) (λ (k : ℕ). switch_of p k (range_at b (p + 4) (4 * k))) (little_endian_at w32 a p) (little_endian_at w32 b p) (x, n)
     (λ k e f.
-        let end : p + 4 + 4 * k ≡ n = switch_end p k (range_at a (p + 4) (4 * k)) x n f in
-        (number32_same a b at n p k same from (omega (arith, end)) e,
-        after (λ (distances : List ℕ). with_targets (p + 4 + 4 * k) (targets_at (p + 4 + 4 * k) distances)) (range_at a (p + 4) (4 * k)) (range_at b (p + 4) (4 * k)) (x, n)
-        (λ r i. range_same a b at n (p + 4) (4 * k) r same (omega (arith, from)) (omega (arith, end)) i) f))
+    let end : p + 4 + 4 * k ≡ n = switch_end p k (range_at a (p + 4) (4 * k)) x n f in (
+      number32_same a b at n p k same from (omega (arith, end)) e,
+      after (λ (distances : List ℕ). with_targets (p + 4 + 4 * k) (targets_at (p + 4 + 4 * k) distances)) (range_at a (p + 4) (4 * k)) (range_at b (p + 4) (4 * k)) (x, n)
+          (λ r i. range_same a b at n (p + 4) (4 * k) r same (omega (arith, from)) (omega (arith, end)) i) f,
+    ))
     h
 
 -- an operand

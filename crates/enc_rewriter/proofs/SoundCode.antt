@@ -145,7 +145,7 @@ pub meant_same : (cs : List Clause) → map handler_meant (map known_as cs) ≡ 
 meant_same [] = refl
 meant_same (c ∷ cs) =
     let first : handler_meant (known_as c) ≡ handler_meant c =
-        ap (λ (k : HandlerKind). let h : Handler = record { kind = k; tries = c.tries; handler = c.handler } in h) (kind_same c.kind c.extra (c.kind == 0) (c.kind == 1) (c.kind == 2) (c.kind == 4) refl refl refl refl) in
+    ap (λ (k : HandlerKind). let h : Handler = record { kind = k; tries = c.tries; handler = c.handler } in h) (kind_same c.kind c.extra (c.kind == 0) (c.kind == 1) (c.kind == 2) (c.kind == 4) refl refl refl refl) in
     rw (first, meant_same cs) refl
 
 known_kind : (k : ℕ) (t : Bool) → is_known k ≡ t → is_known (if t then k else 0) ≡ true

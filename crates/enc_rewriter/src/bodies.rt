@@ -18,7 +18,9 @@ ghost use Rattle.enc_schema.specs.Tables.{method_def};
 
 use crate::code::patched;
 use enc_base::Token;
-use enc_il::{SectionRef, behind_sections, clause_front, clause_size, rest_at, section_front, write_body};
+use enc_il::{
+    SectionRef, behind_sections, clause_front, clause_size, rest_at, section_front, write_body,
+};
 use enc_meta::HeapBuilder;
 use enc_opcodes::{Clause, CodeRef};
 use enc_pe::CODE_RVA;

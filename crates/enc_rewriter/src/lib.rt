@@ -6,6 +6,7 @@ mod code;
 mod fields;
 mod kept;
 mod pass;
+mod placed;
 mod users;
 
 pub use pass::{Pass, add_values};

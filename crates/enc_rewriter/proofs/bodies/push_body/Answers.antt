@@ -41,7 +41,7 @@ returns-in-Ok-write_body-clause-stands g c =
     let same : SaysSame old new own.code says 0 = subst (λ xs. SaysSame old new own.code xs 0) (sym is) c.in-Ok.ensures.says in
     let fits : IsWritable (said_as own says) = record { max = omega (arith, c.type_inv.body.0); table = omega (arith, c.type_inv.body.1); row = c.requires.rows; size = omega (arith, ap (λ (xs : List ℕ). length xs) is, c.in-Ok.ensures.size, c.requires.few) } in
     let stands = said_stands old new count own before says cs same (ap (λ (xs : List ℕ). length xs) is ∙ c.in-Ok.ensures.size) c.requires.nil
-        (ap (list_all clause_fits) are ∙ c.in-Ok-clauses_of_body.ensures.fit) (are ∙ c.in-Ok-clauses_of_body.ensures.all) (bytes_each says c.bytes_law-2.ensures) c.requires.sound fits in
+    (ap (list_all clause_fits) are ∙ c.in-Ok-clauses_of_body.ensures.fit) (are ∙ c.in-Ok-clauses_of_body.ensures.all) (bytes_each says c.bytes_law-2.ensures) c.requires.sound fits in
     let written : c.write_body.new.out.items ≡ with_body before (said_as own says) cs = c.in-Ok-write_body.ensures.written in
     let place : c.in-Ok-write_body.place ≡ place_for (length before) (said_as own says) cs = c.in-Ok-write_body.ensures.place in
     subst (λ xs. StandsAt count new xs (8192 + c.in-Ok-write_body.place) (body_of old own)) (sym written)

@@ -30,10 +30,11 @@ loop-instr-smaller g c = fewer_left c.args.code.now.code.now c.loop-instr.at c.i
 pub loop-instr-preserved : goal.loop-instr-preserved
 loop-instr-preserved g c =
     let old = g.V.ModuleView.users c.args.view.now in
-    let code = c.args.code.now.code.now in
-    (c.push_instr.ensures.same ∙ c.loop-instr.invariant.0,
-    (kept_both (is_kept c.args.heaps.now.users) old code c.loop-instr.at c.in-Some.end (instr_seen (c.in-Some.instr, c.in-Some.end)).0 c.in-Some.ensures.instr c.loop-instr.invariant.1).1,
-    subst (λ (h : Built). IsCopied old (user_at (heaps_built h).users) code c.push_instr.new.out.items c.in-Some.end) c.loop-instr.invariant.0 c.in-Ok.ensures.copied)
+    let code = c.args.code.now.code.now in (
+      c.push_instr.ensures.same ∙ c.loop-instr.invariant.0,
+      (kept_both (is_kept c.args.heaps.now.users) old code c.loop-instr.at c.in-Some.end (instr_seen (c.in-Some.instr, c.in-Some.end)).0 c.in-Some.ensures.instr c.loop-instr.invariant.1).1,
+      subst (λ (h : Built). IsCopied old (user_at (heaps_built h).users) code c.push_instr.new.out.items c.in-Some.end) c.loop-instr.invariant.0 c.in-Ok.ensures.copied,
+    )
 
 pub returns-clause-says : goal.returns-clause-says
 returns-clause-says g c =

@@ -26,7 +26,7 @@ returns-in_default g c =
     record {
       copied = on_ok c.push_plain.result (c.push_plain.new.out.items ≡ c.args.out.now.items ++ take (c.args.end - c.args.at) (drop c.args.at code)) (IsCopied old new code c.push_plain.new.out.items c.args.end)
           (λ e. subst (λ xs. IsCopied old new code xs c.args.end) (sym e)
-              (copied_plain old new code c.args.out.now.items c.args.at c.args.end i c.requires.read (plain_seen c.args.end c.args.instr.now.arg c.in_default.not-User) c.requires.copied))
+          (copied_plain old new code c.args.out.now.items c.args.at c.args.end i c.requires.read (plain_seen c.args.end c.args.instr.now.arg c.in_default.not-User) c.requires.copied))
           c.push_plain.ensures;
       same = refl;
     }

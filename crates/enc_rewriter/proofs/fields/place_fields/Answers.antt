@@ -16,11 +16,12 @@ loop-n-preserved g c =
     let grown = c.in-Ok.ensures.grows in
     let before = c.loop-n.invariant.3 in
     let pushed : c.push.new.self.items ≡ fields ++ rva ∷ [] = c.in_ok-push-in-Ok.ensures.items in
-    let still : AreFieldsPlaced m new fields n = subst (λ xs. AreFieldsPlaced m xs fields n) (sym grown.1) (fields_still m old grown.0 fields n c.loop-n.invariant.1) in
-    (omega (arith, ap (λ (xs : List ℕ). length xs) pushed, length-append fields (rva ∷ []), c.loop-n.invariant.0),
-    subst (λ xs. AreFieldsPlaced m new xs (n + 1)) (sym pushed) (one_field m new fields n rva c.loop-n.invariant.0 still c.in-Ok.ensures.placed),
-    omega (arith, c.loop-n.invariant.2, c.in-Ok.ensures.size),
-    (before.0 ++ grown.0, grown.1 ∙ ap (λ xs. xs ++ grown.0) before.1 ∙ append_assoc c.args.out.now.items before.0 grown.0))
+    let still : AreFieldsPlaced m new fields n = subst (λ xs. AreFieldsPlaced m xs fields n) (sym grown.1) (fields_still m old grown.0 fields n c.loop-n.invariant.1) in (
+      omega (arith, ap (λ (xs : List ℕ). length xs) pushed, length-append fields (rva ∷ []), c.loop-n.invariant.0),
+      subst (λ xs. AreFieldsPlaced m new xs (n + 1)) (sym pushed) (one_field m new fields n rva c.loop-n.invariant.0 still c.in-Ok.ensures.placed),
+      omega (arith, c.loop-n.invariant.2, c.in-Ok.ensures.size),
+      (before.0 ++ grown.0, grown.1 ∙ ap (λ xs. xs ++ grown.0) before.1 ∙ append_assoc c.args.out.now.items before.0 grown.0),
+    )
 
 pub returns-clause-size : goal.returns-clause-size
 returns-clause-size g c =
