@@ -1,3 +1,4 @@
+pub mod CodeCopied
 pub mod Fills
 pub mod Gathered
 pub mod Gathers
@@ -5,9 +6,18 @@ pub mod KeptValues
 pub mod KidsListed
 pub mod Limits
 pub mod PtrTables
+pub mod OwnBytes
 pub mod ReadAs
 pub mod RefersTo
 pub mod RowsPushed
 pub mod RunStarts
 pub mod Says
 pub mod UserTexts
+pub mod SoundCode
+pub mod BodyStands
+pub mod ClausesKnown
+pub mod CodeBytes
+pub mod BodySizes
+pub mod MethodsPlaced
+pub mod FieldsPlaced
+pub mod AllPlaced

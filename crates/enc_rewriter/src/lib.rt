@@ -1,6 +1,9 @@
 //! Modules written from scratch: the heaps of a module's values, its bodies, its rows, and the image.
 #![tactic(auto)]
 
+mod bodies;
+mod code;
+mod fields;
 mod gathering;
 mod kept;
 mod numbers;
@@ -14,6 +17,7 @@ mod users;
 
 pub use gathering::gather;
 pub use pass::Pass;
+pub use placed::PlacedCode;
 
 #[cfg(test)]
 mod tests;

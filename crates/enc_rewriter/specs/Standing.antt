@@ -1,0 +1,58 @@
+-- A body that stands in the code of an image that is written (ECMA-335 II.25.4).
+use Rattle.std.specs.Prelude.{◌≡◌, ℕ, ◌+◌, ◌*◌, ◌<◌, ◌≤◌, Bool, true, ◌||◌, List, length, Option, Some, ◌==◌, if◌then◌else◌, slice_index}
+use Rattle.enc_base.specs.Token.{nth_row}
+use Rattle.enc_opcodes.specs.declared.code.Clause.{Clause}
+use Rattle.enc_opcodes.specs.Body.{Body, nil_or}
+use Rattle.enc_plain.specs.Bodies.{body_loaded, code_loaded, code_is_good}
+use Rattle.enc_plain.specs.Cell.{body, field}
+use Rattle.enc_plain.specs.Module.{Module, cell_of}
+use Rattle.enc_plain.specs.Sound.{row_count}
+use Rattle.enc_schema.specs.Tables as tables
+use Rattle.enc_rows.specs.Sums.{sum_below}
+use Rattle.enc_rewriter.specs.Placed.{loaded_with, IsBodyPlaced, IsFieldPlaced}
+use Rattle.enc_rewriter.specs.Weight.{body_weight, field_weight}
+
+-- this body is at the RVA, and good there, whatever stands behind the code
+pub record StandsAt (count : ℕ → ℕ) (users : ℕ → Option (List ℕ)) (code : List ℕ) (rva : ℕ) (b : Body) : Type 0 where
+  pub some : 0 < rva
+  pub meant : (behind : List ℕ) → body_loaded (loaded_with code behind) users rva ≡ Some b
+  pub good : (behind : List ℕ) → code_is_good count users (code_loaded (loaded_with code behind) rva) ≡ true
+
+-- a clause is of a kind that is known: of a class, a filter, a finally or a fault (II.25.4.6)
+abbrev pub is_known : ℕ → Bool
+is_known kind = kind == 0 || kind == 1 || kind == 2 || kind == 4
+
+-- a clause of another kind catches a class, as one of kind 0
+abbrev pub known_as : Clause → Clause
+known_as c = record { kind = if is_known c.kind then c.kind else 0; tries = c.tries; handler = c.handler; extra = c.extra }
+
+-- a local signature that has no row is the nil token
+pub record HasNilLocals (m : Module) : Type 0 where
+  pub each : (n : ℕ) (b : Body) → n < row_count m tables.method_def → cell_of m (nth_row tables.method_def n) 0 ≡ Some (body (Some b)) → nil_or b.locals ≡ b.locals
+
+-- bytes of such a weight: a body's sections take a few more than their clauses weigh, four for each 699050 clauses
+abbrev pub Weighs : ℕ → ℕ → Type 0
+Weighs weight size = 4194300 * size ≤ 4194301 * weight
+
+abbrev pub weight_of : Body → ℕ
+weight_of b = 32 + b.size + 24 * length b.handlers
+
+-- the weight of the bodies of the methods before one
+unfoldable pub bodies_before : Module → ℕ → ℕ
+bodies_before m n = sum_below (λ k. body_weight (cell_of m (nth_row tables.method_def k) 0)) n
+
+-- the bodies of so many methods are placed
+abbrev pub AreBodiesPlaced : Module → (ℕ → Option (List ℕ)) → List ℕ → List ℕ → ℕ → Type 0
+AreBodiesPlaced m users code rvas n = (k : ℕ) → k < n → IsBodyPlaced m users code k (slice_index rvas k)
+
+-- the bytes of a row of FieldRVA stand at the RVA
+abbrev pub IsFieldCellPlaced : Module → List ℕ → ℕ → ℕ → Type 0
+IsFieldCellPlaced m code n rva = (there : List ℕ) → cell_of m (nth_row tables.field_rva n) 0 ≡ Some (field there) → IsFieldPlaced code there rva
+
+-- those of so many rows do
+abbrev pub AreFieldsPlaced : Module → List ℕ → List ℕ → ℕ → Type 0
+AreFieldsPlaced m code rvas n = (k : ℕ) → k < n → IsFieldCellPlaced m code k (slice_index rvas k)
+
+-- the weight of the bytes of the rows before one
+unfoldable pub fields_before : Module → ℕ → ℕ
+fields_before m n = sum_below (λ k. field_weight (cell_of m (nth_row tables.field_rva k) 0)) n
