@@ -135,7 +135,7 @@ too_large_heap m =
     else None
 
 -- the heap that is told is the first that is too large; want of memory tells nothing
-abbrev pub TellsHeap : Result Unit BuildFault → Option StreamName → Type 0
+abbrev pub TellsHeap : {A : Type 0} → Result A BuildFault → Option StreamName → Type 0
 TellsHeap (Ok _) first = first ≡ None
 TellsHeap (Err (TooLarge heap)) first = first ≡ Some heap
 TellsHeap (Err Memory) first = Unit {0}

@@ -7,6 +7,7 @@ mod fields;
 mod gathering;
 mod kept;
 mod numbers;
+mod parts;
 mod pass;
 mod placed;
 mod ptrs;
@@ -16,6 +17,7 @@ mod runs;
 mod users;
 
 pub use gathering::gather;
+pub use parts::{ModuleParts, parts_of};
 pub use pass::Pass;
 pub use placed::PlacedCode;
 
