@@ -7,4 +7,5 @@ pub mod RefersTo
 pub mod RowsPushed
 pub mod RunStarts
 pub mod Says
+pub mod Sources
 pub mod UserTexts
