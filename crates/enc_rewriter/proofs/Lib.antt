@@ -1,11 +1,16 @@
+pub mod CellsMeant
+pub mod CodeKept
+pub mod FieldsMeant
 pub mod Fills
 pub mod Gathers
 pub mod KeptValues
 pub mod KidsListed
+pub mod NumbersMeant
 pub mod ReadAs
 pub mod RefersTo
 pub mod RowsPushed
 pub mod RunStarts
 pub mod Says
 pub mod Sources
+pub mod Unfaulted
 pub mod UserTexts

@@ -1,6 +1,6 @@
 -- An image that was written is read as its parts.
-use Rattle.std.proofs.Common.{◌≡◌, ℕ, zero, suc, ◌+◌, ◌<◌, ◌≤◌, Bool, true, false, List, [], ◌∷◌, length, Option, Some, None, Result, Ok, refl, sym, ap, ◌∙◌, arith, lt-ltb}
-use Rattle.std.specs.Prelude.{◌^◌, ◌&&◌, ◌||◌, ◌==◌, IsTrue, unwrap_or, nat_lt, slice_get, slice_index, replicate, if◌then◌else◌}
+use Rattle.std.proofs.Common.{◌≡◌, ℕ, zero, suc, ◌+◌, ◌<◌, ◌≤◌, Bool, true, false, List, [], length, Option, Result, Ok, refl, ap, ◌∙◌, arith, lt-ltb}
+use Rattle.std.specs.Prelude.{◌^◌, ◌||◌, ◌==◌, IsTrue, unwrap_or, nat_lt, slice_index, replicate, if◌then◌else◌}
 use Rattle.std.proofs.lemmas.Bool.{and_from}
 use Rattle.std.proofs.lemmas.Bool.Decides.{nat_tests}
 use Rattle.std.proofs.lemmas.Option.{slice_get_past}
@@ -18,12 +18,12 @@ use Rattle.enc_pe.specs.Container.{container_of}
 use Rattle.enc_pe.specs.Written.{image_written, image_size, most_bytes, Holds}
 use Rattle.enc_pe.specs.declared.container.Container.{Container}
 use Rattle.enc_pe.proofs.ImagesRead.{image_is_read}
-use Rattle.enc_plain.specs.Module.{Module, Row, rows_in}
+use Rattle.enc_plain.specs.Module.{Module, Row}
 use Rattle.enc_plain.specs.Sound.{IsSound, is_part, row_count}
 use Rattle.enc_rows.specs.Layout.{Layout, layout_of, form_allows, tables_or_fault, stream_tables, raw_cell}
 use Rattle.enc_rows.specs.Source.{Source}
 use Rattle.enc_rows.specs.Sums.{sum_below}
-use Rattle.enc_rows.specs.Written.{rows_at, count_at, counts_of, bit_of, valid_of, stream_of, heap_bits, AreRows, AllFit, IndicesFit, layout_written}
+use Rattle.enc_rows.specs.Written.{count_at, counts_of, bit_of, valid_of, stream_of, heap_bits, AreRows, AllFit, IndicesFit, layout_written}
 use Rattle.enc_rows.specs.declared.form.Form.TheVariants as form
 use Rattle.enc_rows.proofs.Below.{sum_suc}
 use Rattle.enc_rows.proofs.Bits.{bits_below}
