@@ -3,8 +3,10 @@ pub mod CodeKept
 pub mod FieldsMeant
 pub mod Fills
 pub mod Gathers
+pub mod ImagesMeant
 pub mod KeptValues
 pub mod KidsListed
+pub mod ModuleMeant
 pub mod NumbersMeant
 pub mod ReadAs
 pub mod RefersTo
