@@ -2,12 +2,15 @@ pub mod CellsMeant
 pub mod CodeKept
 pub mod FieldsMeant
 pub mod Fills
+pub mod Gathered
 pub mod Gathers
 pub mod ImagesMeant
 pub mod KeptValues
 pub mod KidsListed
+pub mod Limits
 pub mod ModuleMeant
 pub mod NumbersMeant
+pub mod PtrTables
 pub mod ReadAs
 pub mod RefersTo
 pub mod RowsPushed
