@@ -1,6 +1,7 @@
 pub mod Fills
 pub mod Gathers
 pub mod KeptValues
+pub mod KidsCounted
 pub mod KidsListed
 pub mod ReadAs
 pub mod RefersTo
