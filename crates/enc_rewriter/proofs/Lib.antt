@@ -3,6 +3,8 @@ pub mod Gathers
 pub mod KeptValues
 pub mod KidsCounted
 pub mod KidsListed
+pub mod KidsMeant
+pub mod NumbersWritten
 pub mod ReadAs
 pub mod RefersTo
 pub mod RowsPushed
