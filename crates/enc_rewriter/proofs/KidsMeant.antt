@@ -190,7 +190,6 @@ pub children_read : {m : Module} {h : Built} {p : Placed} {rows : List (List (Li
     → slice_get (rows_in m (owner_table child)) n ≡ Some r → children_of (rows_from s) (owner_table child) (run_column child) child n ≡ kids_at r child
 unfolding children_of
 children_read {m} {h} {p} {rows} {s} known child n r is e =
-    let t : ℕ = owner_table child in
     let low : n < row_count m (owner_table child) = there (rows_in m (owner_table child)) n r e in
     let start : run_start (rows_from s) (owner_table child) (run_column child) n ≡ run_first m child (n + 1) = run_read known (owner_table child) (run_column child) child n (run_column_is child is) low in
     let end : run_end (rows_from s) (owner_table child) (run_column child) child n ≡ run_first m child (n + 1 + 1) = end_read known (owner_table child) (run_column child) child n (run_column_is child is) low in

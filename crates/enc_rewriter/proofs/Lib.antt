@@ -1,13 +1,16 @@
 pub mod Fills
 pub mod Gathers
+pub mod IndicesGood
 pub mod KeptValues
 pub mod KidsCounted
 pub mod KidsListed
 pub mod KidsMeant
 pub mod NumbersWritten
+pub mod PtrRows
 pub mod ReadAs
 pub mod RefersTo
 pub mod RowsPushed
 pub mod RunStarts
+pub mod RunsFit
 pub mod Says
 pub mod UserTexts
