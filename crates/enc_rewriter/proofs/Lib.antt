@@ -4,6 +4,7 @@ pub mod FieldsMeant
 pub mod Fills
 pub mod Gathered
 pub mod Gathers
+pub mod ImagesMean
 pub mod ImagesMeant
 pub mod IndicesGood
 pub mod KeptValues
