@@ -1,6 +1,6 @@
 -- No index of an image that was written for a sound module is bad.
 use Rattle.std.proofs.Common.{◌≡◌, ℕ, zero, suc, ◌+◌, ◌<◌, ◌≤◌, Bool, true, false, List, [], ◌∷◌, length, Option, Some, None, refl, sym, ap, ◌∙◌, subst, inl, inr, arith}
-use Rattle.std.specs.Prelude.{◌==◌, ◌&&◌, ◌||◌, not, option_and_then, slice_get, count_by, nat_lt, if◌then◌else◌}
+use Rattle.std.specs.Prelude.{◌==◌, ◌&&◌, ◌||◌, not, slice_get, count_by, nat_lt, if◌then◌else◌}
 use Rattle.std.proofs.lemmas.Bool.{cases_lt}
 use Rattle.std.proofs.lemmas.Bool.Decides.{nat_tests}
 use Rattle.enc_base.proofs.First.{first_none, first_more}
@@ -15,8 +15,8 @@ use Rattle.enc_plain.specs.Sound.{row_count, is_part, IsSound}
 use Rattle.enc_rows.specs.Fault.{is_past, is_bad_run, is_bad_index, index_fault_at, owner_fault, index_fault_in_row, index_fault_in, index_fault}
 use Rattle.enc_rows.specs.Layout.{rows_of}
 use Rattle.enc_rows.specs.Runs.{TableStream, raw_number, run_rows, run_start, times_named}
-use Rattle.enc_rows.specs.Source.{Source, raw_in}
-use Rattle.enc_rows.specs.Written.{rows_at, count_at}
+use Rattle.enc_rows.specs.Source.{Source}
+use Rattle.enc_rows.specs.Written.{rows_at}
 use Rattle.enc_schema.proofs.ChildTables.{by_child}
 use Rattle.enc_schema.specs.Children.{is_child_table, owner_table, ptr_of}
 use Rattle.enc_schema.specs.Coding.{decoded}

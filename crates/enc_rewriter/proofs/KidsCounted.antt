@@ -1,6 +1,6 @@
 -- How many children all owners have, and which: each row of the child table once.
 use Rattle.std.proofs.Common.{◌≡◌, ℕ, zero, suc, ◌+◌, ◌-◌, ◌<◌, ◌≤◌, Bool, true, false, List, [], ◌∷◌, ◌++◌, length, take, Some, refl, sym, ap, ◌∙◌, cond, inl, inr, arith}
-use Rattle.std.specs.Prelude.{◌≢◌, ◌==◌, ◌&&◌, not, slice_get, flat_map, count_by, nat_le, nat_lt, filter}
+use Rattle.std.specs.Prelude.{◌≢◌, ◌==◌, ◌&&◌, not, slice_get, flat_map, count_by, nat_le, filter}
 use Rattle.std.proofs.lemmas.Bool.{cases_lt}
 use Rattle.std.proofs.lemmas.Bool.Decides.{nat_tests}
 use Rattle.std.proofs.lemmas.List.{length-append}

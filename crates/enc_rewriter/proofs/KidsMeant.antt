@@ -1,6 +1,6 @@
 -- The children that are read of an image that was written are those of the module.
 use Rattle.std.proofs.Common.{◌≡◌, ℕ, zero, suc, ◌+◌, ◌-◌, ◌<◌, ◌≤◌, Bool, true, false, List, [], ◌∷◌, ◌++◌, length, map, Some, refl, sym, ap, ◌∙◌, subst, inl, inr, arith}
-use Rattle.std.specs.Prelude.{◌==◌, ◌&&◌, slice_get, flat_map, nat_lt, if◌then◌else◌}
+use Rattle.std.specs.Prelude.{◌==◌, slice_get, flat_map, nat_lt}
 use Rattle.std.specs.List.{range_with_len}
 use Rattle.std.proofs.lemmas.Bool.{cases_lt, cases_eq}
 use Rattle.std.proofs.lemmas.Bool.Decides.{nat_tests}
@@ -15,7 +15,7 @@ use Rattle.enc_rows.specs.Layout.{rows_of}
 use Rattle.enc_rows.specs.Runs.{goes_by_ptr, run_rows, run_start, run_end, by_ptr, named_at, children_of, all_children}
 use Rattle.enc_rows.specs.Source.{Source, raw_in}
 use Rattle.enc_rows.specs.Sums.{below}
-use Rattle.enc_rows.specs.Written.{rows_at, count_at}
+use Rattle.enc_rows.specs.Written.{rows_at}
 use Rattle.enc_schema.proofs.ChildTables.{by_child, run_column_is}
 use Rattle.enc_schema.specs.Children.{is_child_table, owner_table, run_column, runs_in, ptr_of}
 use Rattle.enc_schema.specs.Schema.{column_in, list_at}
