@@ -113,5 +113,5 @@ pub ptr_few : (child : ℕ) (rows : List (List (List ℕ))) (kids : List ℕ) (i
 unfolding rows_of_one
 ptr_few child rows kids i low few is =
     let long : count_at rows (ptr_of child) ≡ length (take i kids) = ap (λ (r : List (List ℕ)). length r) is ∙ length_of_one (take i kids) in
-    let part : length (take i kids) ≤ i = length-take-le i kids in
+    let part : length (take i kids) ≡ i = length-take-le i kids (omega (arith, low)) in
     omega (arith, long, part, low, few)

@@ -1,12 +1,15 @@
 pub mod Fills
+pub mod Gathered
 pub mod Gathers
 pub mod IndicesGood
 pub mod KeptValues
 pub mod KidsCounted
 pub mod KidsListed
 pub mod KidsMeant
+pub mod Limits
 pub mod NumbersWritten
 pub mod PtrRows
+pub mod PtrTables
 pub mod ReadAs
 pub mod RefersTo
 pub mod RowsPushed

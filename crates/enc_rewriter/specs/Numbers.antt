@@ -142,3 +142,21 @@ KeepOthers table old new = (k : ℕ) → ¬ (k ≡ table) → rows_at new k ≡ 
 pub record TablesSay (m : Module) (h : Counted) (p : Placed) (upto : ℕ) (rows : List (List (List ℕ))) : Type 0 where
   pub below : (t : ℕ) → t < upto → TableSays m h p t (rows_at rows t)
   pub behind : (t : ℕ) → upto ≤ t → rows_at rows t ≡ []
+
+-- the child tables in order
+abbrev pub nth_child : ℕ → ℕ
+nth_child k =
+    if k == 0 then tables.field else if k == 1 then tables.method_def else if k == 2 then tables.param else if k == 3 then tables.event else tables.property
+
+abbrev pub child_order : ℕ → ℕ
+child_order child =
+    if child == tables.field then 0 else if child == tables.method_def then 1 else if child == tables.param then 2 else if child == tables.event then 3 else 4
+
+abbrev pub is_ptr_table : ℕ → Bool
+is_ptr_table table =
+    list_any (λ t. t == table) (tables.field_ptr ∷ tables.method_ptr ∷ tables.param_ptr ∷ tables.event_ptr ∷ tables.property_ptr ∷ [])
+
+-- the first so many Ptr tables have their rows, the others of them none, and all else is as it was
+pub record PtrsPushed (m : Module) (upto : ℕ) (old new : List (List (List ℕ))) : Type 0 where
+  pub ptrs : (child : ℕ) → is_child_table child ≡ true → rows_at new (ptr_of child) ≡ (if nat_lt (child_order child) upto then ptr_rows m child else [])
+  pub others : (k : ℕ) → is_ptr_table k ≡ false → rows_at new k ≡ rows_at old k

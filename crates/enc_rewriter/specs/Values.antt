@@ -1,5 +1,5 @@
 -- The values that a module's cells have for each heap, in the order of its tables, rows and columns, and the heaps that hold each of them once (ECMA-335 II.24.2.3 to II.24.2.5).
-use Rattle.std.specs.Prelude.{◌≡◌, ℕ, ◌+◌, ◌<◌, ◌^◌, ◌*◌, Bool, true, false, List, [], ◌∷◌, length, flat_map, Option, Some, None, unwrap_or, Result, Ok, Err, nat_lt}
+use Rattle.std.specs.Prelude.{◌≡◌, ℕ, ◌+◌, ◌<◌, ◌^◌, ◌*◌, Bool, true, false, List, [], ◌∷◌, length, flat_map, Option, Some, None, unwrap_or, Result, Ok, Err, nat_lt, if◌then◌else◌}
 use Rattle.std.specs.List.{list_all}
 use Rattle.enc_base.specs.Token.{nth_row}
 use Rattle.enc_base.specs.Units.{units_of}
@@ -114,6 +114,31 @@ abbrev pub IsPast : Result Unit BuildFault → Pass → Built → Type 0
 IsPast (Ok _) p h = Unit {0}
 IsPast (Err (TooLarge heap)) p h = (heap ≡ heap_of p) × (nat_lt (heap_limit p) (heap_size p h) ≡ true)
 IsPast (Err Memory) p h = Unit {0}
+
+-- a pass ends exactly where its heap is within its limit
+abbrev pub PassEnds : Result Unit BuildFault → Pass → Built → Type 0
+PassEnds (Ok _) p h = nat_lt (heap_limit p) (heap_size p h) ≡ false
+PassEnds (Err (TooLarge heap)) p h = (heap ≡ heap_of p) × (nat_lt (heap_limit p) (heap_size p h) ≡ true)
+PassEnds (Err Memory) p h = Unit {0}
+
+-- a module's heap of distinct values passes its limit
+unfoldable pub passes_limit : Pass → Module → Bool
+passes_limit p m = nat_lt (heap_limit p) (heap_size p (heaps_for m))
+
+-- the first heap that does, in the order of the passes
+unfoldable pub too_large_heap : Module → Option StreamName
+too_large_heap m =
+    if passes_limit pass.Texts m then Some Strings
+    else if passes_limit pass.Users m then Some Users
+    else if passes_limit pass.Blobs m then Some Blobs
+    else if passes_limit pass.Guids m then Some Guids
+    else None
+
+-- the heap that is told is the first that is too large; want of memory tells nothing
+abbrev pub TellsHeap : Result Unit BuildFault → Option StreamName → Type 0
+TellsHeap (Ok _) first = first ≡ None
+TellsHeap (Err (TooLarge heap)) first = first ≡ Some heap
+TellsHeap (Err Memory) first = Unit {0}
 
 -- the bytes of a user text's whole units, none where there is no text
 abbrev pub units_told : Option (List ℕ) → List ℕ

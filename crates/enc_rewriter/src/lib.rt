@@ -1,6 +1,7 @@
 //! Modules written from scratch: the heaps of a module's values, its bodies, its rows, and the image.
 #![tactic(auto)]
 
+mod gathering;
 mod kept;
 mod numbers;
 mod pass;
@@ -11,4 +12,5 @@ mod rows;
 mod runs;
 mod users;
 
-pub use pass::{Pass, add_values};
+pub use gathering::gather;
+pub use pass::Pass;

@@ -2,13 +2,11 @@
 //! (ECMA-335 II.22).
 ghost use Rattle.std.specs.Prelude.{◌≡◌, ◌+◌, ◌<◌, ◌^◌, [], length, IsTrue, IfOk, OnOk};
 ghost use Rattle.enc_base.specs.Token.{nth_row};
-ghost use Rattle.enc_meta.specs.Heaps.{Counted};
 ghost use Rattle.enc_plain.specs.Module.{kids_of};
 ghost use Rattle.enc_plain.specs.Sound.{IsSound, row_count, all_kids};
 ghost use Rattle.enc_rows.specs.Written.{rows_at};
 ghost use Rattle.enc_schema.specs.Children.{is_child_table, ptr_of, owner_table as table_of_owners};
-ghost use Rattle.enc_rewriter.specs.Numbers.{is_in_row_order as are_in_row_order, rows_of_one, ptr_rows, KeepOthers, TablesSay, HoldRows};
-ghost use Rattle.enc_rewriter.specs.Placed.{Placed};
+ghost use Rattle.enc_rewriter.specs.Numbers.{is_in_row_order as are_in_row_order, rows_of_one, ptr_rows, nth_child as child_at, KeepOthers, PtrsPushed};
 
 use enc_base::Token;
 use enc_plain::ModuleView;
@@ -100,4 +98,35 @@ fn push_ptrs<V: ModuleView>(
         return Ok(());
     }
     push_kids(child, &kids, tables)
+}
+
+/// The n-th child table.
+fn nth_child(n: u8) -> u8
+    ensures child { result ≡ child_at n }
+    ensures is { IsTrue (is_child_table result) }
+{
+    match n {
+        0 => FIELD,
+        1 => METHOD_DEF,
+        2 => PARAM,
+        3 => EVENT,
+        _ => PROPERTY,
+    }
+}
+
+/// Adds the rows of all Ptr tables that are asked for.
+#[tactic(auto, using(crate::proofs::PtrTables::one_ptr, crate::proofs::PtrTables::ptr_none))]
+pub(crate) fn push_all_ptrs<V: ModuleView>(
+    alloc: Global,
+    view: &V,
+    tables: &mut TableBuilder,
+) -> Result<(), AllocError>
+    requires sound { IsSound (V.meaning view.now) }
+    requires none { PtrsPushed (V.meaning view.now) 0 tables.old tables.old }
+    ensures { OnOk result (PtrsPushed (V.meaning view.now) 5 tables.old tables.new) }
+{
+    for n in 0..5 {
+        push_ptrs(alloc, view, nth_child(n), tables)?;
+    }
+    Ok(())
 }

@@ -6,10 +6,11 @@ ghost use Rattle.enc_plain.specs.Module.{has_row};
 ghost use Rattle.enc_plain.specs.Sound.{row_count};
 ghost use Rattle.enc_schema.specs.Schema.{column_in};
 ghost use Rattle.enc_rows.specs.Written.{rows_at, count_at};
-ghost use Rattle.enc_rewriter.specs.Numbers.{FrontSays, RowSays, RowsSay, TableSays, TablesSay, AreReady, KeepOthers};
+ghost use Rattle.enc_rewriter.specs.Numbers.{FrontSays, RowSays, RowsSay, TableSays, TablesSay, AreReady, KeepOthers, HoldRows};
 
 use crate::numbers::number_at;
 use crate::placed::PlacedCode;
+use crate::ptrs::push_all_ptrs;
 use crate::runs::Runs;
 use enc_base::Token;
 use enc_meta::HeapBuilder;
@@ -129,5 +130,25 @@ pub(crate) fn push_tables<V: ModuleView>(
     for table in 0..64 {
         push_table(alloc, view, heaps, runs, placed, table, tables)?;
     }
+    Ok(())
+}
+
+/// Adds the rows of all tables, and those of Ptr tables where they are asked for.
+#[tactic(auto, using(crate::proofs::PtrTables::no_ptrs, crate::proofs::PtrTables::all_held))]
+pub(crate) fn push_all<V: ModuleView>(
+    alloc: Global,
+    view: &V,
+    heaps: &mut HeapBuilder,
+    runs: &Runs,
+    placed: &PlacedCode,
+    tables: &mut TableBuilder,
+) -> Result<(), AllocError>
+    requires ready { AreReady (V.meaning view.now) heaps.old runs.now placed.now }
+    requires none { tables.old ≡ [] }
+    ensures held { OnOk result (HoldRows (V.meaning view.now) (heaps_built heaps.old) placed.now tables.new) }
+    ensures same { heaps.new ≡ heaps.old }
+{
+    push_tables(alloc, view, heaps, runs, placed, tables)?;
+    push_all_ptrs(alloc, view, tables)?;
     Ok(())
 }

@@ -1,0 +1,8 @@
+use Rattle.enc_meta.specs.Built.{heaps_built}
+use Rattle.enc_rewriter.proofs.PtrTables.{all_held}
+use Rattle.enc_rewriter.proofs.rows.push_all.Goals as goal
+
+pub returns-clause-held : goal.returns-clause-held
+returns-clause-held g c =
+    all_held (g.V.ModuleView.meaning c.args.view.now) (heaps_built c.args.heaps.now) c.args.placed.now c.push_tables.new.tables c.push_all_ptrs.new.tables
+    c.requires.ready.sound c.in_ok-push_tables.ensures.says c.in_ok-push_all_ptrs.ensures
