@@ -27,7 +27,7 @@ a_part t a b c d e f g =
     let e7 : (0x1F == t) ≡ false = grind (arith, nat_tests) in
     rw (e1, e2, e3, e4, e5, e6, e7) refl
 
-both_ways : (b : Bool) → b ≡ true → b ≡ false → ⊥
+pub both_ways : (b : Bool) → b ≡ true → b ≡ false → ⊥
 both_ways true e f = absurd cc
 both_ways false e f = absurd cc
 
