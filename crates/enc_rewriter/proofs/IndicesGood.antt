@@ -1,7 +1,7 @@
 -- No index of an image that was written for a sound module is bad.
 use Rattle.std.proofs.Common.{◌≡◌, ℕ, zero, suc, ◌+◌, ◌<◌, ◌≤◌, Bool, true, false, List, [], ◌∷◌, length, Option, Some, None, refl, sym, ap, ◌∙◌, subst, inl, inr, arith}
-use Rattle.std.specs.Prelude.{◌==◌, ◌&&◌, ◌||◌, not, option_and_then, slice_get, count_by, nat_lt, if◌then◌else◌}
-use Rattle.std.proofs.lemmas.Bool.{cases_lt}
+use Rattle.std.specs.Prelude.{◌==◌, ◌&&◌, ◌||◌, not, slice_get, count_by, nat_lt, if◌then◌else◌}
+use Rattle.std.proofs.lemmas.Bool.{cases_lt, le-ltb}
 use Rattle.std.proofs.lemmas.Bool.Decides.{nat_tests}
 use Rattle.enc_base.proofs.First.{first_none, first_more}
 use Rattle.enc_base.specs.Order.{or_else, first_below}
@@ -15,8 +15,8 @@ use Rattle.enc_plain.specs.Sound.{row_count, is_part, IsSound}
 use Rattle.enc_rows.specs.Fault.{is_past, is_bad_run, is_bad_index, index_fault_at, owner_fault, index_fault_in_row, index_fault_in, index_fault}
 use Rattle.enc_rows.specs.Layout.{rows_of}
 use Rattle.enc_rows.specs.Runs.{TableStream, raw_number, run_rows, run_start, times_named}
-use Rattle.enc_rows.specs.Source.{Source, raw_in}
-use Rattle.enc_rows.specs.Written.{rows_at, count_at}
+use Rattle.enc_rows.specs.Source.{Source}
+use Rattle.enc_rows.specs.Written.{rows_at}
 use Rattle.enc_schema.proofs.ChildTables.{by_child}
 use Rattle.enc_schema.specs.Children.{is_child_table, owner_table, ptr_of}
 use Rattle.enc_schema.specs.Coding.{decoded}
@@ -28,15 +28,12 @@ use Rattle.enc_rewriter.specs.Numbers.{run_first}
 use Rattle.enc_rewriter.specs.Placed.{Placed}
 use Rattle.enc_rewriter.specs.Rewritten.{HoldModule}
 use Rattle.enc_rewriter.proofs.KidsCounted.{kid_once, run_some}
-use Rattle.enc_rewriter.proofs.KidsMeant.{IsKnown, count_read, run_read, run_rows_are, all_read, ptr_low}
+use Rattle.enc_rewriter.proofs.KidsMeant.{IsKnown, known_of, count_read, run_read, run_rows_are, all_read, ptr_low}
 use Rattle.enc_rewriter.proofs.NumbersWritten.{number_written, index_written, coded_written}
-use Rattle.enc_rewriter.proofs.PtrRows.{ptr_row, ptr_columns_are, by_other}
+use Rattle.enc_rewriter.proofs.PtrRows.{ptr_row, ptr_columns_are, by_other, both_ways}
 use Rattle.enc_rewriter.proofs.ReadAs.{IsReadAs}
 use Rattle.enc_rewriter.proofs.RunsFit.{part_few, no_table}
 use Rattle.enc_rewriter.proofs.RunStarts.{next_run, run_few, owners, some_there}
-
-lt_false : (a b : ℕ) → b ≤ a → nat_lt a b ≡ false
-lt_false a b past = grind (arith, nat_tests)
 
 -- no table is read with fewer rows than the module has
 few_read : {m : Module} {h : Built} {p : Placed} {rows : List (List (List ℕ))} {s : Source} → IsKnown m h p rows s → (t : ℕ) → row_count m t ≤ rows_of s.layout t
@@ -52,12 +49,12 @@ few_read {m} {h} {p} {rows} {s} known t = elim (cases_lt t 64) [
 good_first : (x y : ℕ) → 0 < x → x ≤ y → (x == 0 || nat_lt y x) ≡ false
 good_first x y low high =
     let a : (x == 0) ≡ false = grind (arith, nat_tests) in
-    rw (a, lt_false y x high) refl
+    rw (a, le-ltb y x high) refl
 
 good_next : (x y z : ℕ) → 0 < x → x ≤ y → z ≤ x → (x == 0 || nat_lt y x || nat_lt x z) ≡ false
 good_next x y z low high behind =
     let a : (x == 0) ≡ false = grind (arith, nat_tests) in
-    rw (a, lt_false y x high, lt_false x z behind) refl
+    rw (a, le-ltb y x high, le-ltb x z behind) refl
 
 run_good : {m : Module} {h : Built} {p : Placed} {rows : List (List (List ℕ))} {s : Source} → IsKnown m h p rows s → (t i child n : ℕ) → column_in t i ≡ Some (Run child)
     → n < row_count m t → is_bad_run (rows_from s) t i child n ≡ false
@@ -94,14 +91,14 @@ index_good {m} {h} {p} {rows} {s} known t n i (Index other) part low e =
     let is : raw_number (rows_from s) (nth_row t n) i ≡ w.number = known.read.numbers t n i w.cells w.number w.row w.get in
     let there = index_written m (heaps_built h) p (nth_row t n) i other w.number known.sound (row_there m (nth_row t n) (omega arith) (omega (arith, low))) e w.says in
     let few = few_read known other in
-    lt_false (rows_of s.layout other) (raw_number (rows_from s) (nth_row t n) i) (omega (arith, is, there, few))
+    le-ltb (rows_of s.layout other) (raw_number (rows_from s) (nth_row t n) i) (omega (arith, is, there, few))
 index_good {m} {h} {p} {rows} {s} known t n i (Coded kind) part low e =
     let w = number_written m (heaps_built h) p rows t n i (Coded kind) known.said part low e in
     let is : raw_number (rows_from s) (nth_row t n) i ≡ w.number = known.read.numbers t n i w.cells w.number w.row w.get in
     let coded = coded_written m (heaps_built h) p (nth_row t n) i w.number kind known.sound (row_there m (nth_row t n) (omega arith) (omega (arith, low))) e w.says in
     let few = few_read known coded.token.table in
     let high = coded.row in
-    ap (λ v. is_past s.layout (decoded kind v)) is ∙ ap (is_past s.layout) coded.is ∙ lt_false (rows_of s.layout coded.token.table) coded.token.row (omega (arith, few, high))
+    ap (λ v. is_past s.layout (decoded kind v)) is ∙ ap (is_past s.layout) coded.is ∙ le-ltb (rows_of s.layout coded.token.table) coded.token.row (omega (arith, few, high))
 index_good {m} {h} {p} {rows} {s} known t n i (Run child) part low e = run_good known t i child n e low
 
 none_below : {A : Type 0} (rule : ℕ → Option A) (n : ℕ) → ((k : ℕ) → k < n → rule k ≡ None) → first_below rule n ≡ None
@@ -166,16 +163,12 @@ ptr_good {m} {h} {p} {rows} {s} known child n i c is low e =
     let number : raw_number (rows_from s) (nth_row (ptr_of child) n) 0 ≡ one.row = known.read.numbers (ptr_of child) n 0 row.0 one.row row.1 get in
     let few = few_read known child in
     let high = one.high in
-    let good : is_bad_index (rows_from s) (ptr_of child) n 0 (Index child) ≡ false = lt_false (rows_of s.layout child) (raw_number (rows_from s) (nth_row (ptr_of child) n) 0) (omega (arith, number, few, high)) in
+    let good : is_bad_index (rows_from s) (ptr_of child) n 0 (Index child) ≡ false = le-ltb (rows_of s.layout child) (raw_number (rows_from s) (nth_row (ptr_of child) n) 0) (omega (arith, number, few, high)) in
     let here = one_here child i c (sym (ap (λ (cs : List Column). slice_get cs i) (ptr_columns_are child is)) ∙ e) in
     subst (λ k. is_bad_index (rows_from s) (ptr_of child) n k c ≡ false) (sym here.0) (subst (λ d. is_bad_index (rows_from s) (ptr_of child) n 0 d ≡ false) here.1 good)
 
 no_child : (child : ℕ) → is_child_table child ≡ true → is_child_table (ptr_of child) ≡ false
 no_child child is = by_child (λ k. is_child_table (ptr_of k) ≡ false) refl refl refl refl refl child is
-
-both_ways : (b : Bool) → b ≡ true → b ≡ false → ⊥
-both_ways true e f = absurd cc
-both_ways false e f = absurd cc
 
 ptrs_good : {m : Module} {h : Built} {p : Placed} {rows : List (List (List ℕ))} {s : Source} → IsKnown m h p rows s → (child : ℕ) → is_child_table child ≡ true
     → index_fault_in (rows_from s) (ptr_of child) ≡ None
@@ -204,6 +197,4 @@ indices_good {m} {h} {p} {rows} {s} known = none_below (index_fault_in (rows_fro
 
 pub no_index_fault : (m : Module) (h : Built) (p : Placed) (rows : List (List (List ℕ))) (s : Source) → IsSound m → HoldModule m h p rows → IsReadAs m h p rows s
     → index_fault (rows_from s) ≡ None
-no_index_fault m h p rows s sound hold read =
-    let known : IsKnown m h p rows s = record { sound = sound; said = hold.said; read = read } in
-    indices_good known
+no_index_fault m h p rows s sound hold read = indices_good (known_of m h p rows s sound hold read)

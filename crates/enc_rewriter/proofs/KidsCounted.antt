@@ -1,7 +1,7 @@
 -- How many children all owners have, and which: each row of the child table once.
 use Rattle.std.proofs.Common.{◌≡◌, ℕ, zero, suc, ◌+◌, ◌-◌, ◌<◌, ◌≤◌, Bool, true, false, List, [], ◌∷◌, ◌++◌, length, take, Some, refl, sym, ap, ◌∙◌, cond, inl, inr, arith}
-use Rattle.std.specs.Prelude.{◌≢◌, ◌==◌, ◌&&◌, not, slice_get, flat_map, count_by, nat_le, nat_lt, filter}
-use Rattle.std.proofs.lemmas.Bool.{cases_lt}
+use Rattle.std.specs.Prelude.{◌≢◌, ◌==◌, ◌&&◌, not, slice_get, flat_map, count_by, nat_le, filter}
+use Rattle.std.proofs.lemmas.Bool.{cases_lt, ne_eqb}
 use Rattle.std.proofs.lemmas.Bool.Decides.{nat_tests}
 use Rattle.std.proofs.lemmas.List.{length-append}
 use Rattle.std.proofs.lemmas.List.Sums.{sum_by-cons}
@@ -28,13 +28,10 @@ split : (n : ℕ) (xs : List ℕ) → length xs ≡ count_by (λ k. k == n) xs +
 split n [] = omega arith
 split n (x ∷ xs) = split_step (x == n) x (count_by (λ k. k == n) xs) xs (others n xs) (split n xs) ∙ ap (λ m. m + length (others n (x ∷ xs))) (sym (count_cons (λ k. k == n) x xs))
 
-differs : (a b : ℕ) → (a ≡ b → ⊥) → (a == b) ≡ false
-differs a b h = grind (arith, nat_tests)
-
 others_step : (r n x : ℕ) (b : Bool) (ys : List ℕ) (m : ℕ) → r ≢ n → (x == n) ≡ b → count_by (λ k. k == r) ys ≡ m → count_by (λ k. k == r) (cond (not b) (x ∷ ys) ys) ≡ cond (x == r) 1 0 + m
 others_step r n x true ys m d e h =
     let is : x ≡ n = grind (arith, nat_tests) in
-    let other : (x == r) ≡ false = differs x r (λ f. d (omega arith)) in
+    let other : (x == r) ≡ false = ne_eqb x r (λ f. d (omega arith)) in
     rw other (h ∙ omega arith)
 others_step r n x false ys m d e h = count_cons (λ k. k == r) x ys ∙ ap (λ k. cond (x == r) 1 0 + k) h
 
@@ -68,9 +65,6 @@ all_kids_many m child owned there =
     let few = all_kids_few m child owned there in
     let many = at_least (row_count m child) (all_kids m child) (λ r low high. let once = kid_once m child r owned there low high in omega arith) in
     omega arith
-
-same_is : (x : ℕ) → (x == x) ≡ true
-same_is x = grind (arith, nat_tests)
 
 counted : (xs : List ℕ) (k x : ℕ) → slice_get xs k ≡ Some x → 1 ≤ count_by (λ j. j == x) xs
 counted [] k x e = absurd cc

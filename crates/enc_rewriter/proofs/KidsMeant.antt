@@ -1,8 +1,8 @@
 -- The children that are read of an image that was written are those of the module.
 use Rattle.std.proofs.Common.{◌≡◌, ℕ, zero, suc, ◌+◌, ◌-◌, ◌<◌, ◌≤◌, Bool, true, false, List, [], ◌∷◌, ◌++◌, length, map, Some, refl, sym, ap, ◌∙◌, subst, inl, inr, arith}
-use Rattle.std.specs.Prelude.{◌==◌, ◌&&◌, slice_get, flat_map, nat_lt, if◌then◌else◌}
+use Rattle.std.specs.Prelude.{◌==◌, slice_get, flat_map}
 use Rattle.std.specs.List.{range_with_len}
-use Rattle.std.proofs.lemmas.Bool.{cases_lt, cases_eq}
+use Rattle.std.proofs.lemmas.Bool.{cases_lt, cases_eq, lt-ltb, le-ltb}
 use Rattle.std.proofs.lemmas.Bool.Decides.{nat_tests}
 use Rattle.std.proofs.lemmas.List.Concat.{flat_map-cons}
 use Rattle.enc_base.specs.Token.{nth_row}
@@ -15,14 +15,16 @@ use Rattle.enc_rows.specs.Layout.{rows_of}
 use Rattle.enc_rows.specs.Runs.{goes_by_ptr, run_rows, run_start, run_end, by_ptr, named_at, children_of, all_children}
 use Rattle.enc_rows.specs.Source.{Source, raw_in}
 use Rattle.enc_rows.specs.Sums.{below}
-use Rattle.enc_rows.specs.Written.{rows_at, count_at}
+use Rattle.enc_rows.specs.Written.{rows_at}
 use Rattle.enc_schema.proofs.ChildTables.{by_child, run_column_is}
 use Rattle.enc_schema.specs.Children.{is_child_table, owner_table, run_column, runs_in, ptr_of}
 use Rattle.enc_schema.specs.Schema.{column_in, list_at}
 use Rattle.enc_schema.specs.declared.column.Column.TheVariants.{Run}
 use Rattle.enc_rewriter.specs.Numbers.{run_first, kids_before, in_order_from, is_in_row_order, rows_of_one, ptr_rows, HoldRows}
 use Rattle.enc_rewriter.specs.Placed.{Placed}
+use Rattle.enc_rewriter.specs.Rewritten.{HoldModule}
 use Rattle.enc_rewriter.proofs.KidsCounted.{all_kids_many, kid_bounds, kid_at, run_is, run_behind, run_last}
+use Rattle.enc_rewriter.proofs.KidsListed.{length_of_one}
 use Rattle.enc_rewriter.proofs.NumbersWritten.{number_written, run_written, there}
 use Rattle.enc_rewriter.proofs.ReadAs.{IsReadAs}
 use Rattle.enc_rewriter.proofs.RunStarts.{owners}
@@ -33,11 +35,8 @@ pub record IsKnown (m : Module) (h : Built) (p : Placed) (rows : List (List (Lis
   pub said : HoldRows m (heaps_built h) p rows
   pub read : IsReadAs m h p rows s
 
-lt_true : (a b : ℕ) → a < b → nat_lt a b ≡ true
-lt_true a b low = grind (arith, nat_tests)
-
-lt_false : (a b : ℕ) → b ≤ a → nat_lt a b ≡ false
-lt_false a b past = grind (arith, nat_tests)
+pub known_of : (m : Module) (h : Built) (p : Placed) (rows : List (List (List ℕ))) (s : Source) → IsSound m → HoldModule m h p rows → IsReadAs m h p rows s → IsKnown m h p rows s
+known_of m h p rows s sound hold read = record { sound = sound; said = hold.said; read = read }
 
 pub child_part : (child : ℕ) → is_child_table child ≡ true → is_part child ≡ true
 child_part child is = by_child (λ k. is_part k ≡ true) refl refl refl refl refl child is
@@ -78,11 +77,6 @@ out_of_order : (m : Module) (child : ℕ) → is_in_row_order (all_kids m child)
 unfolding ptr_rows
 out_of_order m child e = rw e refl
 
-length_of_one : (kids : List ℕ) → length (rows_of_one kids) ≡ length kids
-unfolding rows_of_one
-length_of_one [] = refl
-length_of_one (k ∷ kids) = ap suc (length_of_one kids)
-
 pub one_get : (kids : List ℕ) (k x : ℕ) → slice_get kids k ≡ Some x → slice_get (rows_of_one kids) k ≡ Some (x ∷ [])
 unfolding rows_of_one
 one_get [] k x e = absurd cc
@@ -113,7 +107,7 @@ direct : {m : Module} {h : Built} {p : Placed} {rows : List (List (List ℕ))} {
     → is_in_row_order (all_kids m child) ≡ true → goes_by_ptr s.layout child ≡ false
 direct {m} {h} {p} {rows} {s} known child is ordered =
     let none : rows_of s.layout (ptr_of child) ≡ 0 = ptr_count known child is ∙ ap (λ (r : List (List ℕ)). length r) (in_order m child ordered) in
-    lt_false 0 (rows_of s.layout (ptr_of child)) (omega (arith, none))
+    le-ltb 0 (rows_of s.layout (ptr_of child)) (omega (arith, none))
 
 ptr_many : {m : Module} {h : Built} {p : Placed} {rows : List (List (List ℕ))} {s : Source} → IsKnown m h p rows s → (child : ℕ) → is_child_table child ≡ true
     → is_in_row_order (all_kids m child) ≡ false → rows_of s.layout (ptr_of child) ≡ length (all_kids m child)
@@ -125,7 +119,7 @@ by_ptrs : {m : Module} {h : Built} {p : Placed} {rows : List (List (List ℕ))} 
 by_ptrs {m} {h} {p} {rows} {s} known child is other =
     let many = ptr_many known child is other in
     let some = some_out (all_kids m child) 1 other in
-    lt_true 0 (rows_of s.layout (ptr_of child)) (omega (arith, many, some))
+    lt-ltb 0 (rows_of s.layout (ptr_of child)) (omega (arith, many, some))
 
 run_rows_by : {m : Module} {h : Built} {p : Placed} {rows : List (List (List ℕ))} {s : Source} → IsKnown m h p rows s → (child : ℕ) (ordered : Bool) → is_child_table child ≡ true
     → is_in_row_order (all_kids m child) ≡ ordered → run_rows s.layout child ≡ row_count m child
@@ -169,10 +163,10 @@ end_read {m} {h} {p} {rows} {s} known t i child n e low =
     let small : t < 64 = subst (λ k. k < 64) (sym o.0) (owner_low child o.1) in
     let count = count_read known t part small in
     elim (cases_lt (n + 1) (row_count m t)) [
-      | inl next ↦ rw (lt_true (n + 1) (rows_of s.layout t) (omega (arith, count, next))) (run_read known t i child (n + 1) e next)
+      | inl next ↦ rw (lt-ltb (n + 1) (rows_of s.layout t) (omega (arith, count, next))) (run_read known t i child (n + 1) e next)
       | inr past ↦
           let all : row_count m (owner_table child) ≤ n + 1 = subst (λ k. row_count m k ≤ n + 1) o.0 past in
-          rw (lt_false (n + 1) (rows_of s.layout t) (omega (arith, count, past)))
+          rw (le-ltb (n + 1) (rows_of s.layout t) (omega (arith, count, past)))
           (ap (λ k. k + 1) (run_rows_are known child o.1) ∙ sym (run_last m child (n + 1) known.sound.owners.owned o.1 all))
     ]
 

@@ -1,5 +1,5 @@
 -- The tables that are no part of a module, and the rows of Ptr tables.
-use Rattle.std.proofs.Common.{◌≡◌, ℕ, zero, suc, ◌<◌, ◌≤◌, Bool, true, false, List, [], ◌∷◌, length, Some, refl, sym, ap, ◌∙◌, subst, inl, inr, arith}
+use Rattle.std.proofs.Common.{◌≡◌, ℕ, zero, suc, ◌≤◌, Bool, true, false, List, [], ◌∷◌, Some, refl, sym, ap, ◌∙◌, subst, inl, inr, arith}
 use Rattle.std.specs.Prelude.{◌==◌, slice_get}
 use Rattle.std.proofs.lemmas.Bool.{cases_eq}
 use Rattle.std.proofs.lemmas.Bool.Decides.{nat_tests}
@@ -27,7 +27,7 @@ a_part t a b c d e f g =
     let e7 : (0x1F == t) ≡ false = grind (arith, nat_tests) in
     rw (e1, e2, e3, e4, e5, e6, e7) refl
 
-both_ways : (b : Bool) → b ≡ true → b ≡ false → ⊥
+pub both_ways : (b : Bool) → b ≡ true → b ≡ false → ⊥
 both_ways true e f = absurd cc
 both_ways false e f = absurd cc
 

@@ -1,18 +1,18 @@
 -- Every number of a sound module but those of heaps fits its column.
 use Rattle.std.proofs.Common.{◌≡◌, ℕ, zero, suc, ◌+◌, ◌-◌, ◌*◌, ◌/◌, ◌%◌, ◌^◌, ◌<◌, ◌≤◌, Bool, true, false, List, [], ◌∷◌, length, Option, Some, None, option_map, refl, sym, ap, ◌∙◌, subst, inl, inr, arith}
-use Rattle.std.specs.Prelude.{IsTrue, ◌==◌, ◌&&◌, ◌||◌, option_and_then, slice_get, slice_index, nat_lt, nat_le, unwrap_or, if◌then◌else◌}
+use Rattle.std.specs.Prelude.{◌==◌, ◌&&◌, ◌||◌, option_and_then, slice_get, slice_index, nat_lt, nat_le, unwrap_or, if◌then◌else◌}
 use Rattle.std.specs.List.{list_all, list_any}
 use Rattle.std.specs.Option.{option_map_or}
-use Rattle.std.proofs.lemmas.Bool.{cases_lt}
-use Rattle.std.proofs.lemmas.Bool.Decides.{nat_tests}
+use Rattle.std.proofs.lemmas.Bool.{cases_lt, lt-ltb, ltb-true, eqb-true, leb-false, and_from}
 use Rattle.std.proofs.lemmas.Nat.{pow_pos}
 use Rattle.std.proofs.lemmas.Option.{slice_get_past}
 use Rattle.enc_base.specs.Token.{nth_row, nil}
 use Rattle.enc_base.specs.declared.token.Token.{Token}
+use Rattle.enc_meta.specs.Built.{Built, heaps_built}
 use Rattle.enc_meta.specs.Heaps.{Counted}
 use Rattle.enc_plain.proofs.Columns.{both_left, both_right}
 use Rattle.enc_plain.proofs.KindsOf.{row_there}
-use Rattle.enc_plain.specs.Module.{Module, rows_in}
+use Rattle.enc_plain.specs.Module.{Module}
 use Rattle.enc_plain.specs.Sound.{row_count, is_part, IsSound}
 use Rattle.enc_rows.proofs.Below.{any_true}
 use Rattle.enc_rows.proofs.Layouts.{count_is}
@@ -30,15 +30,10 @@ use Rattle.enc_schema.specs.declared.column.Column.{Column}
 use Rattle.enc_schema.specs.declared.column.Column.TheVariants.{Num8, Num16, Num32, Text, Guid, Blob, Index, Coded, Run}
 use Rattle.enc_rewriter.specs.Numbers.{run_first, has_wide_run, needs_jtd, NumberSays, HoldRows}
 use Rattle.enc_rewriter.specs.Placed.{Placed}
+use Rattle.enc_rewriter.specs.Rewritten.{HoldModule}
 use Rattle.enc_rewriter.proofs.NumbersWritten.{IsCoded, byte_written, short_written, index_written, coded_written, run_written, there}
 use Rattle.enc_rewriter.proofs.PtrRows.{ptr_row, ptr_columns_are, by_other}
 use Rattle.enc_rewriter.proofs.RunStarts.{owners}
-
-lt_true : (a b : ℕ) → a < b → nat_lt a b ≡ true
-lt_true a b low = grind (arith, nat_tests)
-
-lt_says : (a b : ℕ) → nat_lt a b ≡ true → a < b
-lt_says a b e = grind (arith, nat_tests)
 
 -- no table of a module has more rows than were written
 pub part_few : (m : Module) (h : Counted) (p : Placed) (rows : List (List (List ℕ))) (t : ℕ) (part : Bool) → IsSound m → HoldRows m h p rows → is_part t ≡ part → row_count m t ≤ count_at rows t
@@ -68,7 +63,7 @@ index_by : (s : Shape) (other x : ℕ) (jtd b : Bool) → s.jtd ≡ jtd → nat_
     → (jtd ≡ false → b ≡ true → x < 2 ^ 16) → nat_lt x (2 ^ (8 * index_width s other)) ≡ true
 unfolding index_width
 index_by s other x true b j e word low = rw j word
-index_by s other x false true j e word low = let small = low refl refl in rw (j, e) (lt_true x (2 ^ 16) small)
+index_by s other x false true j e word low = let small = low refl refl in rw (j, e) (lt-ltb x (2 ^ 16) small)
 index_by s other x false false j e word low = rw (j, e) word
 
 -- and a coded one
@@ -76,7 +71,7 @@ coded_by : (s : Shape) (kind : Coding) (x : ℕ) (jtd b : Bool) → s.jtd ≡ jt
     → nat_lt x (2 ^ 32) ≡ true → (jtd ≡ false → b ≡ true → x < 2 ^ 16) → nat_lt x (2 ^ (8 * coded_width s kind)) ≡ true
 unfolding coded_width
 coded_by s kind x true b j e word low = rw j word
-coded_by s kind x false true j e word low = let small = low refl refl in rw (j, e) (lt_true x (2 ^ 16) small)
+coded_by s kind x false true j e word low = let small = low refl refl in rw (j, e) (lt-ltb x (2 ^ 16) small)
 coded_by s kind x false false j e word low = rw (j, e) word
 
 -- what holds of each table of a coding holds of the one with a tag
@@ -97,9 +92,6 @@ from_table : (o : Option ℕ) (q : ℕ) (token : Token) → option_map (λ (t : 
 from_table None q token e = absurd cc
 from_table (Some t) q token e = (cc, cc)
 
-eq_says : (a b : ℕ) → (a == b) ≡ true → a ≡ b
-eq_says a b e = grind (arith, nat_tests)
-
 -- what stands above the tag has few bits where all tables of the coding have few rows
 above_by : (s : Shape) (m : Module) (kind : Coding) (x : ℕ) (token : Token) (nothing : Bool) → (x / 2 ^ tag_bits kind == 0) ≡ nothing
     → (if nothing then Some nil else option_map (λ (t : ℕ). record { table = t; row = x / 2 ^ tag_bits kind }) (table_with kind (x % 2 ^ tag_bits kind))) ≡ Some token
@@ -107,14 +99,14 @@ above_by : (s : Shape) (m : Module) (kind : Coding) (x : ℕ) (token : Token) (n
     → each_table (λ (table : ℕ). nat_lt (row_count_of s table) (2 ^ (16 - tag_bits kind))) (tables_of kind) ≡ true → x / 2 ^ tag_bits kind < 2 ^ (16 - tag_bits kind)
 unfolding table_with
 above_by s m kind x token true none is row few all =
-    let zero_row = eq_says (x / 2 ^ tag_bits kind) 0 none in
+    let zero_row = eqb-true (x / 2 ^ tag_bits kind) 0 none in
     let some = pow_pos (16 - tag_bits kind) in
     omega (arith, zero_row, some)
 above_by s m kind x token false some is row few all =
     let t = from_table (table_with kind (x % 2 ^ tag_bits kind)) (x / 2 ^ tag_bits kind) token is in
     let get = tag_get (slice_get (tables_of kind) (x % 2 ^ tag_bits kind)) token.table t.0 in
     let test : nat_lt (row_count_of s token.table) (2 ^ (16 - tag_bits kind)) ≡ true = each_in (λ (table : ℕ). nat_lt (row_count_of s table) (2 ^ (16 - tag_bits kind))) (tables_of kind) (x % 2 ^ tag_bits kind) token.table all get in
-    let low = lt_says (row_count_of s token.table) (2 ^ (16 - tag_bits kind)) test in
+    let low = ltb-true (row_count_of s token.table) (2 ^ (16 - tag_bits kind)) test in
     let there = few token.table in
     let same = t.1 in
     omega (arith, low, there, same, row)
@@ -180,17 +172,14 @@ not_wide m child e is =
     by_child (λ k. has_wide_run m k ≡ false) (or_left (has_wide_run m 0x04) _ e) (or_left (has_wide_run m 0x06) _ e1) (or_left (has_wide_run m 0x08) _ e2)
     (or_left (has_wide_run m 0x14) _ e3) (or_left (has_wide_run m 0x17) _ e4) child is
 
-le_false : (a b : ℕ) → nat_le a b ≡ false → b < a
-le_false a b e = grind (arith, nat_tests)
-
 run_narrow : (m : Module) (child row : ℕ) → needs_jtd m ≡ false → is_child_table child ≡ true → row_count m child < 0x10000 → 0 < row → row ≤ row_count m (owner_table child)
     → run_first m child row < 0x10000
 unfolding has_wide_run
 run_narrow m child row jtd is few low high =
-    let none = and_right (nat_lt (row_count m child) 0x10000) _ (lt_true (row_count m child) 0x10000 few) (not_wide m child jtd is) in
+    let none = and_right (nat_lt (row_count m child) 0x10000) _ (lt-ltb (row_count m child) 0x10000 few) (not_wide m child jtd is) in
     let e : row - 1 + 1 ≡ row = omega (arith, low) in
     let test = none_any (λ n. nat_le 0x10000 (run_first m child (n + 1))) (row - 1) (row_count m (owner_table child)) (nat_le 0x10000 (run_first m child (row - 1 + 1))) refl (omega (arith, low, high)) none in
-    subst (λ k. run_first m child k < 0x10000) e (le_false 0x10000 (run_first m child (row - 1 + 1)) test)
+    subst (λ k. run_first m child k < 0x10000) e (leb-false 0x10000 (run_first m child (row - 1 + 1)) test)
 
 -- a number of a module's row fits its column
 column_fits : (m : Module) (h : Counted) (p : Placed) (rows : List (List (List ℕ))) (t n i : ℕ) (c : Column) (x : ℕ) → IsSound m → HoldRows m h p rows
@@ -205,7 +194,7 @@ column_fits m h p rows t n i Blob x sound said low e says word = refl
 column_fits m h p rows t n i (Index other) x sound said low e says word =
     let there = index_written m h p (nth_row t n) i other x sound (row_there m (nth_row t n) (omega arith) (omega (arith, low))) e says in
     let few = few_written m h p rows other sound said in
-    index_by (shape_of rows (needs_jtd m) 0) other x (needs_jtd m) _ refl refl word (λ j b. let small = lt_says (slice_index (counts_of rows) other) 0x10000 b in omega (arith, there, few, small))
+    index_by (shape_of rows (needs_jtd m) 0) other x (needs_jtd m) _ refl refl word (λ j b. let small = ltb-true (slice_index (counts_of rows) other) 0x10000 b in omega (arith, there, few, small))
 column_fits m h p rows t n i (Coded kind) x sound said low e says word =
     let coded = coded_written m h p (nth_row t n) i x kind sound (row_there m (nth_row t n) (omega arith) (omega (arith, low))) e says in
     coded_by (shape_of rows (needs_jtd m) 0) kind x (needs_jtd m) _ refl refl word (λ j b. two_bytes kind x (above_low (shape_of rows (needs_jtd m) 0) m kind x coded (λ k. few_written m h p rows k sound said) b))
@@ -215,13 +204,9 @@ column_fits m h p rows t n i (Run child) x sound said low e says word =
     let few = few_written m h p rows child sound said in
     let high : n + 1 ≤ row_count m (owner_table child) = subst (λ k. n + 1 ≤ row_count m k) o.0 (omega (arith, low)) in
     index_by (shape_of rows (needs_jtd m) 0) child x (needs_jtd m) _ refl refl word (λ j b.
-        let small = lt_says (slice_index (counts_of rows) child) 0x10000 b in
+        let small = ltb-true (slice_index (counts_of rows) child) 0x10000 b in
         let narrow = run_narrow m child (n + 1) j o.1 (omega (arith, few, small)) (omega arith) high in
         omega (arith, is, narrow))
-
-both_true : (a b : Bool) → a ≡ true → b ≡ true → (a && b) ≡ true
-both_true true b e f = f
-both_true false b e f = absurd cc
 
 -- a row fits where each of its numbers does, and a table where each of its rows does
 row_by : (s : Shape) (columns : List Column) (cells : List ℕ) → length cells ≡ length columns
@@ -231,11 +216,11 @@ row_by s [] [] e each = refl
 row_by s [] (x ∷ cells) e each = absurd (omega (arith, e))
 row_by s (c ∷ columns) [] e each = absurd (omega (arith, e))
 row_by s (c ∷ columns) (x ∷ cells) e each =
-    both_true (index_fits s c x) (row_indices_fit s columns cells) (each 0 c x refl refl) (row_by s columns cells (omega (arith, e)) (λ i d y a b. each (suc i) d y a b))
+    and_from (index_fits s c x) (row_indices_fit s columns cells) (each 0 c x refl refl) (row_by s columns cells (omega (arith, e)) (λ i d y a b. each (suc i) d y a b))
 
 rows_by : (p : List ℕ → Bool) (rows : List (List ℕ)) → ((n : ℕ) (cells : List ℕ) → slice_get rows n ≡ Some cells → p cells ≡ true) → list_all p rows ≡ true
 rows_by p [] each = refl
-rows_by p (x ∷ rows) each = both_true (p x) (list_all p rows) (each 0 x refl) (rows_by p rows (λ n cells e. each (suc n) cells e))
+rows_by p (x ∷ rows) each = and_from (p x) (list_all p rows) (each 0 x refl) (rows_by p rows (λ n cells e. each (suc n) cells e))
 
 all_get : {A : Type 0} (p : A → Bool) (xs : List A) (n : ℕ) (x : A) → list_all p xs ≡ true → slice_get xs n ≡ Some x → p x ≡ true
 all_get p [] n x all e = absurd cc
@@ -269,8 +254,8 @@ unfolding index_fits fits
 child_fits m h p rows child x sound said high =
     let few = few_written m h p rows child sound said in
     let small = sound.counts.few child in
-    let word = lt_true x (2 ^ 32) (omega (arith, high, small)) in
-    let fit = index_by (shape_of rows (needs_jtd m) 0) child x (needs_jtd m) _ refl refl word (λ j b. let low = lt_says (slice_index (counts_of rows) child) 0x10000 b in omega (arith, high, few, low)) in
+    let word = lt-ltb x (2 ^ 32) (omega (arith, high, small)) in
+    let fit = index_by (shape_of rows (needs_jtd m) 0) child x (needs_jtd m) _ refl refl word (λ j b. let low = ltb-true (slice_index (counts_of rows) child) 0x10000 b in omega (arith, high, few, low)) in
     row_by (shape_of rows (needs_jtd m) 0) (Index child ∷ []) (x ∷ []) refl (λ i c y e get. one_column (shape_of rows (needs_jtd m) 0) child x i c y fit e get)
   where
     one_column : (s : Shape) (child x i : ℕ) (c : Column) (y : ℕ) → index_fits s (Index child) x ≡ true → slice_get (Index child ∷ []) i ≡ Some c → slice_get (x ∷ []) i ≡ Some y → index_fits s c y ≡ true
@@ -298,3 +283,6 @@ table_fits m h p rows t false sound are said e =
 -- every number but those of heaps fits its column's width, with wide indices where a run needs them
 pub rows_fit : (m : Module) (h : Counted) (p : Placed) (rows : List (List (List ℕ))) → IsSound m → AreRows rows → HoldRows m h p rows → IndicesFit rows (needs_jtd m)
 rows_fit m h p rows sound are said = record { each = λ t. table_fits m h p rows t (is_part t) sound are said refl }
+
+pub module_fits : (m : Module) (h : Built) (p : Placed) (rows : List (List (List ℕ))) → IsSound m → HoldModule m h p rows → IndicesFit rows (needs_jtd m)
+module_fits m h p rows sound hold = rows_fit m (heaps_built h) p rows sound hold.numbers hold.said
