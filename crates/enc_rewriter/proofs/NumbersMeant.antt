@@ -1,9 +1,8 @@
 -- The numbers that are read of an image that was written, and what they say of the module.
-use Rattle.std.proofs.Common.{◌≡◌, ℕ, zero, suc, ◌-◌, ◌<◌, ◌≤◌, Bool, true, false, List, [], length, Option, Some, None, refl, sym, ap, subst, ◌∙◌, inl, inr, arith}
+use Rattle.std.proofs.Common.{◌≡◌, ℕ, zero, suc, ◌-◌, ◌<◌, ◌≤◌, Bool, true, false, List, [], Option, Some, None, refl, sym, ap, subst, ◌∙◌, inl, inr, arith}
 use Rattle.std.specs.Prelude.{option_map, option_and_then, unwrap_or, is_some, nat_le, if◌then◌else◌}
 use Rattle.std.proofs.lemmas.Bool.{cases_lt}
 use Rattle.std.proofs.lemmas.Bool.Decides.{nat_tests}
-use Rattle.std.proofs.lemmas.Option.{slice_get_within}
 use Rattle.enc_base.specs.Token.{nth_row}
 use Rattle.enc_base.specs.declared.token.Token.{Token}
 use Rattle.enc_image.specs.Base.{blob_or_none, reading_of}
@@ -20,18 +19,17 @@ use Rattle.enc_plain.proofs.Columns.{plain_kind, column_with, blob_column, numbe
 use Rattle.enc_plain.proofs.KindsOf.{row_table, row_bounds}
 use Rattle.enc_rows.specs.Layout.{rows_of}
 use Rattle.enc_rows.specs.Source.{Source, raw_in}
-use Rattle.enc_rows.specs.Written.{rows_at}
 use Rattle.enc_schema.specs.Coding.{decoded}
-use Rattle.enc_schema.specs.Schema.{columns_in, column_in}
+use Rattle.enc_schema.specs.Schema.{column_in}
 use Rattle.enc_schema.specs.declared.column.Column.{Column}
 use Rattle.enc_schema.specs.declared.column.Column.TheVariants.{Num8, Num16, Num32, Text, Guid, Blob, Index, Coded, Run}
 use Rattle.enc_rewriter.specs.Numbers.{reading_by, PlainNumberSays, NumberSays}
 use Rattle.enc_rewriter.specs.Placed.{Placed}
 use Rattle.enc_rewriter.specs.Rewritten.{HoldModule}
 use Rattle.enc_rewriter.proofs.Gathers.{row_there}
+use Rattle.enc_rewriter.proofs.NumbersWritten.{number_written}
 use Rattle.enc_rewriter.proofs.ReadAs.{IsReadAs}
 use Rattle.enc_rewriter.proofs.RefersTo.{index_kind, coded_kind}
-use Rattle.enc_rewriter.proofs.RunStarts.{some_there}
 use Rattle.enc_rewriter.proofs.Sources.{part_count}
 
 -- a sound module, the parts that hold it, and what is read of their image
@@ -67,15 +65,10 @@ pub number_says : (m : Module) (h : Built) (p : Placed) (rows : List (List (List
 number_says m h p rows s u i c r there e =
     let part = row_table m u r.sound.owners.tables r.sound.counts there in
     let b = row_bounds m u there in
-    let says = r.held.said.parts u.table part.0 in
-    let row = some_there (rows_at rows u.table) (u.row - 1) (omega (arith, b.0, b.1, says.count)) in
-    let cells = says.each (u.row - 1) row.0 row.1 in
-    let low : i < length (columns_in u.table) = slice_get_within (columns_in u.table) i c e in
-    let x = some_there row.0 i (omega (arith, low, cells.count)) in
-    let number : raw_in s (nth_row u.table (u.row - 1)) i ≡ x.0 = r.read.numbers u.table (u.row - 1) i row.0 x.0 row.1 x.1 in
-    let here : NumberSays m (heaps_built h) p (nth_row u.table (u.row - 1)) i c x.0 = cells.each i c x.0 e x.1 in
+    let x = number_written m (heaps_built h) p rows u.table (u.row - 1) i c r.held.said part.0 (omega (arith, b.0, b.1)) e in
+    let number : raw_in s (nth_row u.table (u.row - 1)) i ≡ x.number = r.read.numbers u.table (u.row - 1) i x.cells x.number x.row x.get in
     subst (λ (t : Token). NumberSays m (heaps_built h) p t i c (raw_in s t i)) (token_is u b.0)
-    (subst (λ (n : ℕ). NumberSays m (heaps_built h) p (nth_row u.table (u.row - 1)) i c n) (sym number) here)
+    (subst (λ (n : ℕ). NumberSays m (heaps_built h) p (nth_row u.table (u.row - 1)) i c n) (sym number) x.says)
 
 -- a column with cells that isn't one of places
 cell_said : (m : Module) (h : Counted) (u : Token) (i : ℕ) (c : Column) (x : ℕ) → is_some (kind_of c) ≡ true → PlainNumberSays m h u i c x
