@@ -103,7 +103,7 @@ pub ptr_columns : (child : ℕ) → is_child_table child ≡ true → length (co
 unfolding columns_in
 ptr_columns child there = by_child (λ k. length (columns_in (ptr_of k)) ≡ 1) refl refl refl refl refl child there
 
-length_of_one : (kids : List ℕ) → length (rows_of_one kids) ≡ length kids
+pub length_of_one : (kids : List ℕ) → length (rows_of_one kids) ≡ length kids
 unfolding rows_of_one
 length_of_one [] = refl
 length_of_one (k ∷ kids) = ap suc (length_of_one kids)

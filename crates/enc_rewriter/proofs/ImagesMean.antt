@@ -1,0 +1,21 @@
+-- An image whose parts hold a sound module means it.
+use Rattle.std.proofs.Common.{ℕ, List}
+use Rattle.enc_meta.specs.Built.{Built, heaps_built}
+use Rattle.enc_plain.specs.Module.{Module}
+use Rattle.enc_plain.specs.Sound.{IsSound}
+use Rattle.enc_rewriter.specs.Placed.{Placed}
+use Rattle.enc_rewriter.specs.Rewritten.{HoldModule, ImagesMean}
+use Rattle.enc_rewriter.proofs.ImagesMeant.{AreRead, image_meant}
+use Rattle.enc_rewriter.proofs.IndicesGood.{no_index_fault}
+use Rattle.enc_rewriter.proofs.KidsMeant.{known_of, children_read}
+use Rattle.enc_rewriter.proofs.RunsFit.{rows_fit}
+
+are_read : (m : Module) (h : Built) (p : Placed) (rows : List (List (List ℕ))) → IsSound m → HoldModule m h p rows → AreRead m h p rows
+are_read m h p rows sound held = record {
+  fit = rows_fit m (heaps_built h) p rows sound held.numbers held.said;
+  good = λ s read. no_index_fault m h p rows s sound held read;
+  kids = λ s read. record { each = λ child n r is e. children_read (known_of m h p rows s sound held read) child n r is e };
+}
+
+pub images_mean : ImagesMean
+images_mean m h p rows sound held fits = image_meant m h p rows sound held fits (are_read m h p rows sound held)
