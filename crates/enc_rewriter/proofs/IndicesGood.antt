@@ -145,8 +145,8 @@ unfolding index_fault_in
 part_good {m} {h} {p} {rows} {s} known t small part =
     let count = count_read known t part small in
     none_below (index_fault_in_row (rows_from s) t) (rows_of s.layout t) (λ n low.
-        let here : n < row_count m t = omega (arith, low, count) in
-        row_good (rows_from s) t n (λ i c e. index_good known t n i c part here e) (owner_good (rows_from s) t n (λ is. named_once known t n here is)))
+    let here : n < row_count m t = omega (arith, low, count) in
+    row_good (rows_from s) t n (λ i c e. index_good known t n i c part here e) (owner_good (rows_from s) t n (λ is. named_once known t n here is)))
 
 -- a row of a Ptr table names a row of its child table
 one_here : (child i : ℕ) (c : Column) → slice_get (Index child ∷ []) i ≡ Some c → (i ≡ 0) × (Index child ≡ c)
@@ -175,8 +175,8 @@ ptrs_good : {m : Module} {h : Built} {p : Placed} {rows : List (List (List ℕ))
 unfolding index_fault_in
 ptrs_good {m} {h} {p} {rows} {s} known child is =
     none_below (index_fault_in_row (rows_from s) (ptr_of child)) (rows_of s.layout (ptr_of child)) (λ n low.
-        row_good (rows_from s) (ptr_of child) n (λ i c e. ptr_good known child n i c is low e)
-        (owner_good (rows_from s) (ptr_of child) n (λ other. absurd (both_ways (is_child_table (ptr_of child)) other (no_child child is)))))
+    row_good (rows_from s) (ptr_of child) n (λ i c e. ptr_good known child n i c is low e)
+    (owner_good (rows_from s) (ptr_of child) n (λ other. absurd (both_ways (is_child_table (ptr_of child)) other (no_child child is)))))
 
 no_rows_good : (s : Source) (t : ℕ) → rows_of s.layout t ≡ 0 → index_fault_in (rows_from s) t ≡ None
 unfolding index_fault_in

@@ -145,7 +145,7 @@ named_by {m} {h} {p} {rows} {s} known child k x true is ordered get =
 named_by {m} {h} {p} {rows} {s} known child k x false is other get =
     let low = kid_bounds m child k x known.sound.owners.owned is get in
     let row : slice_get (rows_at rows (ptr_of child)) k ≡ Some (x ∷ []) =
-        ap (λ (r : List (List ℕ)). slice_get r k) (known.said.ptrs child is ∙ out_of_order m child other) ∙ one_get (all_kids m child) k x get in
+    ap (λ (r : List (List ℕ)). slice_get r k) (known.said.ptrs child is ∙ out_of_order m child other) ∙ one_get (all_kids m child) k x get in
     let number : raw_in s (nth_row (ptr_of child) k) 0 ≡ x = known.read.numbers (ptr_of child) k 0 (x ∷ []) x row refl in
     rw (by_ptrs known child is other) (ap by_ptr number ∙ by_some x low.0)
 
@@ -194,8 +194,8 @@ children_read {m} {h} {p} {rows} {s} known child n r is e =
     ∙ ap (λ b. flat_map (named_at (rows_from s) child) (range_with_len (run_first m child (n + 1)) (b - run_first m child (n + 1)))) end
     ∙ ap (λ l. flat_map (named_at (rows_from s) child) (range_with_len (run_first m child (n + 1)) l)) long
     ∙ range_of (named_at (rows_from s) child) (kids_at r child) (run_first m child (n + 1)) (λ k x get.
-        let at : run_first m child (n + 1) + k ≡ length (kids_before m child n) + k + 1 = omega (arith, first) in
-        ap (named_at (rows_from s) child) at ∙ named_is known child (length (kids_before m child n) + k) x is (kid_at m child n r k x e get))
+    let at : run_first m child (n + 1) + k ≡ length (kids_before m child n) + k + 1 = omega (arith, first) in
+    ap (named_at (rows_from s) child) at ∙ named_is known child (length (kids_before m child n) + k) x is (kid_at m child n r k x e get))
 
 rows_of_all : (g : ℕ → List ℕ) (f : Row → List ℕ) (rs : List Row) (a : ℕ) → ((n : ℕ) (r : Row) → slice_get rs n ≡ Some r → g (a + n) ≡ f r) → flat_map g (range_with_len a (length rs)) ≡ flat_map f rs
 rows_of_all g f [] a h = refl
@@ -213,8 +213,8 @@ all_read {m} {h} {p} {rows} {s} known child is =
     let count = count_read known (owner_table child) (owner_part child is) (owner_low child is) in
     ap (λ n. flat_map (children_of (rows_from s) (owner_table child) (run_column child) child) (range_with_len 0 n)) count
     ∙ rows_of_all (children_of (rows_from s) (owner_table child) (run_column child) child) (λ (r : Row). kids_at r child) (rows_in m (owner_table child)) 0 (λ n r e.
-        let z : 0 + n ≡ n = omega arith in
-        ap (children_of (rows_from s) (owner_table child) (run_column child) child) z ∙ children_read known child n r is e)
+    let z : 0 + n ≡ n = omega arith in
+    ap (children_of (rows_from s) (owner_table child) (run_column child) child) z ∙ children_read known child n r is e)
 
 no_list : (xs : List (List ℕ)) → length xs ≡ 0 → [] ≡ xs
 no_list [] e = refl

@@ -23,7 +23,7 @@ use Rattle.enc_schema.specs.Children.{is_child_table, owner_table, ptr_of}
 use Rattle.enc_schema.specs.Coding.{tables_of, each_table, tag_bits, table_with, decoded}
 use Rattle.enc_schema.specs.Schema.{columns_in, column_in}
 use Rattle.enc_schema.specs.Tables as tables
-use Rattle.enc_schema.specs.Widths.{Shape, row_count_of, narrow, index_width, coded_width}
+use Rattle.enc_schema.specs.Widths.{Shape, row_count_of, index_width, coded_width}
 use Rattle.enc_schema.specs.declared.column.Coding.{Coding}
 use Rattle.enc_schema.specs.declared.column.Coding.TheVariants.{TypeDefOrRef, HasConstant, HasCustomAttribute, HasFieldMarshal, HasDeclSecurity, MemberRefParent, HasSemantics, MethodDefOrRef, MemberForwarded, Implementation, CustomAttributeType, ResolutionScope, TypeOrMethodDef, HasCustomDebugInformation}
 use Rattle.enc_schema.specs.declared.column.Column.{Column}
@@ -204,9 +204,9 @@ column_fits m h p rows t n i (Run child) x sound said low e says word =
     let few = few_written m h p rows child sound said in
     let high : n + 1 ≤ row_count m (owner_table child) = subst (λ k. n + 1 ≤ row_count m k) o.0 (omega (arith, low)) in
     index_by (shape_of rows (needs_jtd m) 0) child x (needs_jtd m) _ refl refl word (λ j b.
-        let small = ltb-true (slice_index (counts_of rows) child) 0x10000 b in
-        let narrow = run_narrow m child (n + 1) j o.1 (omega (arith, few, small)) (omega arith) high in
-        omega (arith, is, narrow))
+    let small = ltb-true (slice_index (counts_of rows) child) 0x10000 b in
+    let narrow = run_narrow m child (n + 1) j o.1 (omega (arith, few, small)) (omega arith) high in
+    omega (arith, is, narrow))
 
 -- a row fits where each of its numbers does, and a table where each of its rows does
 row_by : (s : Shape) (columns : List Column) (cells : List ℕ) → length cells ≡ length columns
@@ -242,10 +242,10 @@ part_fits m h p rows t sound are said part =
     let table = said.parts t part in
     let many : length (rows_at rows t) ≡ row_count m t = table.count in
     rows_by (row_indices_fit (shape_of rows (needs_jtd m) 0) (columns_in t)) (rows_at rows t) (λ n cells row.
-        let says = table.each n cells row in
-        let here = there (rows_at rows t) n cells row in
-        row_by (shape_of rows (needs_jtd m) 0) (columns_in t) cells says.count (λ i c x e get.
-            column_fits m h p rows t n i c x sound said (omega (arith, many, here)) e (says.each i c x e get) (word_at rows t n i cells x are row get)))
+    let says = table.each n cells row in
+    let here = there (rows_at rows t) n cells row in
+    row_by (shape_of rows (needs_jtd m) 0) (columns_in t) cells says.count (λ i c x e get.
+    column_fits m h p rows t n i c x sound said (omega (arith, many, here)) e (says.each i c x e get) (word_at rows t n i cells x are row get)))
 
 -- so does a row of a Ptr table
 child_fits : (m : Module) (h : Counted) (p : Placed) (rows : List (List (List ℕ))) (child x : ℕ) → IsSound m → HoldRows m h p rows → x ≤ row_count m child
@@ -268,9 +268,9 @@ child_fits m h p rows child x sound said high =
 ptr_fits : (m : Module) (h : Counted) (p : Placed) (rows : List (List (List ℕ))) (child : ℕ) → IsSound m → HoldRows m h p rows → is_child_table child ≡ true → Fits m rows (ptr_of child)
 ptr_fits m h p rows child sound said is =
     rows_by (row_indices_fit (shape_of rows (needs_jtd m) 0) (columns_in (ptr_of child))) (rows_at rows (ptr_of child)) (λ n cells row.
-        let one = ptr_row m h p rows child n cells sound said is row in
-        ap (λ cs. row_indices_fit (shape_of rows (needs_jtd m) 0) cs cells) (ptr_columns_are child is)
-        ∙ ap (λ xs. row_indices_fit (shape_of rows (needs_jtd m) 0) (Index child ∷ []) xs) one.is ∙ child_fits m h p rows child one.row sound said one.high)
+    let one = ptr_row m h p rows child n cells sound said is row in
+    ap (λ cs. row_indices_fit (shape_of rows (needs_jtd m) 0) cs cells) (ptr_columns_are child is)
+    ∙ ap (λ xs. row_indices_fit (shape_of rows (needs_jtd m) 0) (Index child ∷ []) xs) one.is ∙ child_fits m h p rows child one.row sound said one.high)
 
 no_rows_fit : (m : Module) (rows : List (List (List ℕ))) (t : ℕ) → rows_at rows t ≡ [] → Fits m rows t
 no_rows_fit m rows t none = ap (list_all (row_indices_fit (shape_of rows (needs_jtd m) 0) (columns_in t))) none
