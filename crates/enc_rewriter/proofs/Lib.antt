@@ -13,3 +13,4 @@ pub mod BodySizes
 pub mod MethodsPlaced
 pub mod FieldsPlaced
 pub mod AllPlaced
+pub mod KnownBodies

@@ -131,7 +131,7 @@ unfolding body_loaded code_loaded body_is_good
 placed_none m users code n is = record { meant = λ behind. is; good = λ behind. refl }
 
 -- and stays placed
-placed_still : (m : Module) (users : ℕ → Option (List ℕ)) (code more : List ℕ) (n rva : ℕ) → IsBodyPlaced m users code n rva → IsBodyPlaced m users (code ++ more) n rva
+pub placed_still : (m : Module) (users : ℕ → Option (List ℕ)) (code more : List ℕ) (n rva : ℕ) → IsBodyPlaced m users code n rva → IsBodyPlaced m users (code ++ more) n rva
 placed_still m users code more n rva is = record {
   meant = λ behind. is.meant (more ++ behind) ∙ ap (λ r. Some (body (body_loaded r users rva))) (sym (more_loaded code more behind));
   good = λ behind. ap (λ r. body_is_good (row_count m) users r rva (number_at (cells_of m) (nth_row 0x06 n) 1)) (more_loaded code more behind) ∙ is.good (more ++ behind);
@@ -156,3 +156,6 @@ one_placed m users code rvas n rva size all one k low =
 pub all_weigh : (m : Module) (n : ℕ) → n ≡ row_count m 0x06 → bodies_before m n ≡ bodies_weight m
 unfolding bodies_before bodies_weight
 all_weigh m n all = ap (λ k. bodies_before m k) all
+
+pub il_flags : (m : Module) (n : ℕ) (b : Body) → IsSound m → n < row_count m 0x06 → cell_of m (nth_row 0x06 n) 0 ≡ Some (body (Some b)) → (number_at (cells_of m) (nth_row 0x06 n) 1 % 4 == 0) ≡ true
+il_flags m n b sound low is = (body_sound m n b sound low is).flags
