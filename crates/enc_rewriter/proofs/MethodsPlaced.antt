@@ -1,5 +1,5 @@
 -- Methods whose bodies are placed, one behind the other.
-use Rattle.std.proofs.Common.{◌≡◌, ℕ, zero, suc, ◌+◌, ◌*◌, ◌%◌, ◌^◌, ◌<◌, ◌≤◌, Bool, true, false, List, [], ◌∷◌, ◌++◌, length, map, get_or, Option, Some, None, refl, sym, ap, subst, ◌∙◌, arith, inl, inr}
+use Rattle.std.proofs.Common.{◌≡◌, ℕ, zero, suc, ◌+◌, ◌*◌, ◌%◌, ◌^◌, ◌<◌, ◌≤◌, Bool, true, false, List, [], ◌∷◌, ◌++◌, length, Option, Some, None, refl, sym, ap, subst, ◌∙◌, arith, inl, inr}
 use Rattle.std.specs.Prelude.{◌==◌, ◌&&◌, ◌||◌, slice_index}
 use Rattle.std.specs.List.{list_all}
 use Rattle.std.proofs.lemmas.Bool.{cases_lt, and_parts}
@@ -15,7 +15,7 @@ use Rattle.enc_opcodes.specs.Sound.{body_is_sound}
 use Rattle.enc_opcodes.proofs.Sounds.{sound_locals, good_local}
 use Rattle.enc_plain.specs.Bodies.{body_loaded, code_loaded, code_is_good, body_is_good}
 use Rattle.enc_plain.specs.Cell.{body}
-use Rattle.enc_plain.specs.Module.{Module, has_row, cells_of, cell_of}
+use Rattle.enc_plain.specs.Module.{Module, cells_of, cell_of}
 use Rattle.enc_plain.specs.Rows.{number_at, bytes_at}
 use Rattle.enc_plain.specs.Sound.{IsSound, row_count, method_is_sound}
 use Rattle.enc_rows.proofs.Below.{sum_more, sum_part}
@@ -23,7 +23,7 @@ use Rattle.enc_schema.specs.Schema.{columns_in, column_in}
 use Rattle.enc_schema.specs.declared.column.Column.TheVariants.{Num32}
 use Rattle.enc_rewriter.specs.Placed.{loaded_with, IsBodyPlaced}
 use Rattle.enc_rewriter.specs.Standing.{StandsAt, HasNilLocals, Weighs, weight_of, bodies_before, AreBodiesPlaced}
-use Rattle.enc_rewriter.specs.Values.{KeepValues, texts_named, values_at, values_if, is_kept_by}
+use Rattle.enc_rewriter.specs.Values.{KeepValues, texts_named, values_at, values_if}
 use Rattle.enc_rewriter.specs.Weight.{body_weight, bodies_weight}
 use Rattle.enc_rewriter.specs.declared.pass.Pass.TheVariants.{Users}
 use Rattle.enc_rewriter.proofs.BodyStands.{more_loaded}

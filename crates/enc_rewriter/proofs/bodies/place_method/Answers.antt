@@ -1,4 +1,4 @@
-use Rattle.std.proofs.Common.{◌≡◌, arith}
+use Rattle.std.proofs.Common.{arith}
 use Rattle.enc_meta.specs.Built.{heaps_built}
 use Rattle.enc_meta.specs.Heaps.{user_at}
 use Rattle.enc_rewriter.proofs.Gathers.{row_there}
