@@ -30,7 +30,8 @@ known_as c = record { kind = if is_known c.kind then c.kind else 0; tries = c.tr
 
 -- a local signature that has no row is the nil token
 pub record HasNilLocals (m : Module) : Type 0 where
-  pub each : (n : ℕ) (b : Body) → n < row_count m tables.method_def → cell_of m (nth_row tables.method_def n) 0 ≡ Some (body (Some b)) → nil_or b.locals ≡ b.locals
+  pub each : (n : ℕ) (b : Body) → n < row_count m tables.method_def → cell_of m (nth_row tables.method_def n) 0 ≡ Some (body (Some b))
+      → nil_or b.locals ≡ b.locals
 
 -- bytes of such a weight: a body's sections take a few more than their clauses weigh, four for each 699050 clauses
 abbrev pub Weighs : ℕ → ℕ → Type 0
