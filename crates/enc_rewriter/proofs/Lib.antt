@@ -14,3 +14,4 @@ pub mod MethodsPlaced
 pub mod FieldsPlaced
 pub mod AllPlaced
 pub mod KnownBodies
+pub mod NilLocals
