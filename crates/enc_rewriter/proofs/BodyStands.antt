@@ -1,26 +1,25 @@
 -- A body that was written stands where it was written to.
-use Rattle.std.proofs.Common.{◌≡◌, ℕ, zero, suc, ◌+◌, ◌-◌, ◌*◌, ◌/◌, ◌%◌, ◌^◌, ◌<◌, ◌≤◌, Bool, true, false, List, [], ◌∷◌, ◌++◌, length, map, drop, replicate, get_or, Option, Some, None, option_map, refl, sym, ap, subst, ◌∙◌, arith}
-use Rattle.std.specs.Prelude.{option_and_then, nat_le, nat_lt, not, find, ◌==◌, ◌&&◌, if◌then◌else◌}
+use Rattle.std.proofs.Common.{◌≡◌, ℕ, zero, suc, ◌+◌, ◌-◌, ◌*◌, ◌%◌, ◌<◌, ◌≤◌, Bool, true, false, List, [], ◌∷◌, ◌++◌, length, map, drop, replicate, Option, Some, option_map, refl, sym, ap, ◌∙◌, arith}
+use Rattle.std.specs.Prelude.{option_and_then, nat_le, if◌then◌else◌}
 use Rattle.std.specs.List.{list_all}
 use Rattle.std.proofs.Math.Seq.{drop-append_seam}
 use Rattle.std.proofs.lemmas.Bool.Decides.{nat_tests}
 use Rattle.std.proofs.lemmas.List.{append_assoc, length-append, length-replicate}
-use Rattle.std.specs.Int.{w8, w16, w32, to_le_bytes}
+use Rattle.std.specs.Int.{w16, w32, to_le_bytes}
 use Rattle.enc_base.specs.Token.{number_of}
-use Rattle.enc_base.specs.Numbers.{little_endian_at, padded}
+use Rattle.enc_base.specs.Numbers.{padded}
 use Rattle.enc_base.proofs.SmallNumbers.{EachIsByte}
 use Rattle.enc_meta.specs.Regions.{Region, region_holds, rest_loaded}
 use Rattle.enc_opcodes.specs.declared.code.Clause.{Clause}
 use Rattle.enc_opcodes.specs.Clause.{clauses_of}
-use Rattle.enc_opcodes.specs.Instruction.{Instruction, instructions_of}
-use Rattle.enc_opcodes.specs.Body.{Code, Body, Handler, nil_or, tiny_at, fat_at, body_at, body_of, handler_meant, is_good, texts_are_there}
+use Rattle.enc_opcodes.specs.Body.{Code, Body, nil_or, body_at, body_of, handler_meant, is_good, texts_are_there}
 use Rattle.enc_opcodes.specs.Sound.{body_is_sound}
 use Rattle.enc_il.specs.Written.{is_tiny, tiny_written, fat_written, body_written, place_for, with_body, IsWritable, clause_fits, code_again, sections_written, flags_written, code_written}
 use Rattle.enc_il.proofs.BodiesWritten.{bodies_are_read}
 use Rattle.enc_il.proofs.ClausesWritten.{clauses_are_read}
 use Rattle.enc_il.proofs.Numbers.{byte_between}
 use Rattle.enc_plain.specs.Bodies.{code_there, code_loaded, body_loaded, code_is_good}
-use Rattle.enc_rewriter.specs.Copied.{names_text, SaysSame}
+use Rattle.enc_rewriter.specs.Copied.{SaysSame}
 use Rattle.enc_rewriter.specs.Placed.{loaded_with}
 use Rattle.enc_rewriter.specs.Standing.{StandsAt, is_known, known_as}
 use Rattle.enc_rewriter.proofs.SoundCode.{meant_same, all_known, sound_is_good}

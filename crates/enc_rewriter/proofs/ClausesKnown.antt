@@ -1,6 +1,6 @@
 -- The clauses of a body, gathered section by section.
-use Rattle.std.proofs.Common.{◌≡◌, ℕ, zero, suc, ◌+◌, ◌-◌, ◌<◌, Bool, true, false, List, [], ◌∷◌, ◌++◌, length, map, drop, Option, Some, None, refl, sym, ap, ◌∙◌, arith}
-use Rattle.std.specs.Prelude.{is_some, ◌&&◌}
+use Rattle.std.proofs.Common.{◌≡◌, ℕ, suc, Bool, true, false, List, [], ◌∷◌, ◌++◌, map, drop, Option, Some, None, refl, sym, ap, ◌∙◌}
+use Rattle.std.specs.Prelude.{is_some}
 use Rattle.std.specs.List.{list_all}
 use Rattle.std.proofs.lemmas.List.{append_assoc, append-nil, map-append}
 use Rattle.std.proofs.lemmas.List.Folds.{list_all-append}
@@ -8,7 +8,7 @@ use Rattle.enc_opcodes.specs.declared.code.Clause.{Clause}
 use Rattle.enc_opcodes.specs.Clause.{Section, section_in, clause_size, clause_in, clauses_in, clauses_of}
 use Rattle.enc_il.specs.Seen.{all_sections}
 use Rattle.enc_il.specs.Written.{clause_fits}
-use Rattle.enc_il.proofs.Sections.{clauses_last, clauses_more, clauses_none, whole_more, all_none}
+use Rattle.enc_il.proofs.Sections.{clauses_last, clauses_more, all_none}
 use Rattle.enc_rewriter.specs.Standing.{known_as}
 
 -- one more clause

@@ -1,17 +1,17 @@
 -- Fields whose initial bytes are placed, one behind the other.
-use Rattle.std.proofs.Common.{◌≡◌, ℕ, zero, suc, ◌+◌, ◌-◌, ◌*◌, ◌<◌, ◌≤◌, Bool, true, false, List, [], ◌∷◌, ◌++◌, length, take, drop, get_or, Option, Some, None, refl, sym, ap, subst, ◌∙◌, arith, inl, inr}
-use Rattle.std.specs.Prelude.{nat_le, ◌&&◌, slice_index}
+use Rattle.std.proofs.Common.{◌≡◌, ℕ, ◌+◌, ◌-◌, ◌<◌, ◌≤◌, true, List, [], ◌∷◌, ◌++◌, length, take, drop, Some, refl, sym, ap, subst, ◌∙◌, arith, inl, inr}
+use Rattle.std.specs.Prelude.{nat_le, slice_index}
 use Rattle.std.proofs.Math.Seq.{drop-append_seam, take-append_seam}
 use Rattle.std.proofs.lemmas.Bool.{cases_lt}
 use Rattle.std.proofs.lemmas.Bool.Decides.{nat_tests}
 use Rattle.std.proofs.lemmas.List.{append_assoc, length-append, get_or_append_left, get_or_push}
 use Rattle.enc_base.specs.Token.{nth_row}
-use Rattle.enc_meta.specs.Regions.{Region, region_holds, range_loaded}
-use Rattle.enc_plain.specs.Cell.{Cell, field}
+use Rattle.enc_meta.specs.Regions.{region_holds, range_loaded}
+use Rattle.enc_plain.specs.Cell.{field}
 use Rattle.enc_plain.specs.Module.{Module, cell_of}
 use Rattle.enc_plain.specs.Sound.{row_count}
 use Rattle.enc_rows.proofs.Below.{sum_none, sum_more, sum_part}
-use Rattle.enc_rewriter.specs.Placed.{loaded_with, IsFieldPlaced}
+use Rattle.enc_rewriter.specs.Placed.{IsFieldPlaced}
 use Rattle.enc_rewriter.specs.Standing.{IsFieldCellPlaced, AreFieldsPlaced, fields_before}
 use Rattle.enc_rewriter.specs.Weight.{field_weight, fields_weight}
 use Rattle.enc_rewriter.proofs.BodyStands.{more_loaded}

@@ -18,9 +18,11 @@ pub mod KeptValues
 pub mod KidsCounted
 pub mod KidsListed
 pub mod KidsMeant
+pub mod KnownBodies
 pub mod Limits
 pub mod MethodsPlaced
 pub mod ModuleMeant
+pub mod NilLocals
 pub mod NumbersMeant
 pub mod NumbersWritten
 pub mod OwnBytes

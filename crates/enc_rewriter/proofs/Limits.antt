@@ -102,19 +102,19 @@ told_is : (m : Module) (a b c d : Bool) → passes_limit pass.Texts m ≡ a → 
 unfolding too_large_heap
 told_is m a b c d e f g h = rw (e, f, g, h) refl
 
-pub texts_told : (e : BuildFault) (m : Module) → PassEnds (Err e) pass.Texts (after_texts m) → TellsHeap (Err e) (too_large_heap m)
+pub texts_told : (e : BuildFault) (m : Module) → PassEnds (Err e) pass.Texts (after_texts m) → TellsHeap {A = Unit} (Err e) (too_large_heap m)
 texts_told Memory m is = tt
 texts_told (TooLarge heap) m is =
     told_is m true _ _ _ (limit_is pass.Texts m (after_texts m) true (texts_size m) is.1) refl refl refl ∙ ap Some (sym is.0)
 
 pub users_told : (e : BuildFault) (m : Module) → nat_lt (heap_limit pass.Texts) (heap_size pass.Texts (after_texts m)) ≡ false → PassEnds (Err e) pass.Users (after_users m)
-    → TellsHeap (Err e) (too_large_heap m)
+    → TellsHeap {A = Unit} (Err e) (too_large_heap m)
 users_told Memory m a is = tt
 users_told (TooLarge heap) m a is =
     told_is m false true _ _ (limit_is pass.Texts m (after_texts m) false (texts_size m) a) (limit_is pass.Users m (after_users m) true (users_size m) is.1) refl refl ∙ ap Some (sym is.0)
 
 pub blobs_told : (e : BuildFault) (m : Module) → nat_lt (heap_limit pass.Texts) (heap_size pass.Texts (after_texts m)) ≡ false
-    → nat_lt (heap_limit pass.Users) (heap_size pass.Users (after_users m)) ≡ false → PassEnds (Err e) pass.Blobs (after_blobs m) → TellsHeap (Err e) (too_large_heap m)
+    → nat_lt (heap_limit pass.Users) (heap_size pass.Users (after_users m)) ≡ false → PassEnds (Err e) pass.Blobs (after_blobs m) → TellsHeap {A = Unit} (Err e) (too_large_heap m)
 blobs_told Memory m a b is = tt
 blobs_told (TooLarge heap) m a b is =
     told_is m false false true _ (limit_is pass.Texts m (after_texts m) false (texts_size m) a) (limit_is pass.Users m (after_users m) false (users_size m) b)
@@ -122,7 +122,7 @@ blobs_told (TooLarge heap) m a b is =
 
 pub all_told : (r : Result Unit BuildFault) (m : Module) → nat_lt (heap_limit pass.Texts) (heap_size pass.Texts (after_texts m)) ≡ false
     → nat_lt (heap_limit pass.Users) (heap_size pass.Users (after_users m)) ≡ false → nat_lt (heap_limit pass.Blobs) (heap_size pass.Blobs (after_blobs m)) ≡ false
-    → PassEnds r pass.Guids (heaps_for m) → TellsHeap r (too_large_heap m)
+    → PassEnds r pass.Guids (heaps_for m) → TellsHeap {A = Unit} r (too_large_heap m)
 all_told (Err Memory) m a b c is = tt
 all_told (Err (TooLarge heap)) m a b c is =
     told_is m false false false true (limit_is pass.Texts m (after_texts m) false (texts_size m) a) (limit_is pass.Users m (after_users m) false (users_size m) b)

@@ -1,5 +1,5 @@
 -- Methods whose bodies are placed, one behind the other.
-use Rattle.std.proofs.Common.{◌≡◌, ℕ, zero, suc, ◌+◌, ◌*◌, ◌%◌, ◌^◌, ◌<◌, ◌≤◌, Bool, true, false, List, [], ◌∷◌, ◌++◌, length, map, get_or, Option, Some, None, refl, sym, ap, subst, ◌∙◌, arith, inl, inr}
+use Rattle.std.proofs.Common.{◌≡◌, ℕ, zero, suc, ◌+◌, ◌*◌, ◌%◌, ◌^◌, ◌<◌, ◌≤◌, Bool, true, false, List, [], ◌∷◌, ◌++◌, length, Option, Some, None, refl, sym, ap, subst, ◌∙◌, arith, inl, inr}
 use Rattle.std.specs.Prelude.{◌==◌, ◌&&◌, ◌||◌, slice_index}
 use Rattle.std.specs.List.{list_all}
 use Rattle.std.proofs.lemmas.Bool.{cases_lt, and_parts}
@@ -15,7 +15,7 @@ use Rattle.enc_opcodes.specs.Sound.{body_is_sound}
 use Rattle.enc_opcodes.proofs.Sounds.{sound_locals, good_local}
 use Rattle.enc_plain.specs.Bodies.{body_loaded, code_loaded, code_is_good, body_is_good}
 use Rattle.enc_plain.specs.Cell.{body}
-use Rattle.enc_plain.specs.Module.{Module, has_row, cells_of, cell_of}
+use Rattle.enc_plain.specs.Module.{Module, cells_of, cell_of}
 use Rattle.enc_plain.specs.Rows.{number_at, bytes_at}
 use Rattle.enc_plain.specs.Sound.{IsSound, row_count, method_is_sound}
 use Rattle.enc_rows.proofs.Below.{sum_more, sum_part}
@@ -23,7 +23,7 @@ use Rattle.enc_schema.specs.Schema.{columns_in, column_in}
 use Rattle.enc_schema.specs.declared.column.Column.TheVariants.{Num32}
 use Rattle.enc_rewriter.specs.Placed.{loaded_with, IsBodyPlaced}
 use Rattle.enc_rewriter.specs.Standing.{StandsAt, HasNilLocals, Weighs, weight_of, bodies_before, AreBodiesPlaced}
-use Rattle.enc_rewriter.specs.Values.{KeepValues, texts_named, values_at, values_if, is_kept_by}
+use Rattle.enc_rewriter.specs.Values.{KeepValues, texts_named, values_at, values_if}
 use Rattle.enc_rewriter.specs.Weight.{body_weight, bodies_weight}
 use Rattle.enc_rewriter.specs.declared.pass.Pass.TheVariants.{Users}
 use Rattle.enc_rewriter.proofs.BodyStands.{more_loaded}
@@ -131,7 +131,7 @@ unfolding body_loaded code_loaded body_is_good
 placed_none m users code n is = record { meant = λ behind. is; good = λ behind. refl }
 
 -- and stays placed
-placed_still : (m : Module) (users : ℕ → Option (List ℕ)) (code more : List ℕ) (n rva : ℕ) → IsBodyPlaced m users code n rva → IsBodyPlaced m users (code ++ more) n rva
+pub placed_still : (m : Module) (users : ℕ → Option (List ℕ)) (code more : List ℕ) (n rva : ℕ) → IsBodyPlaced m users code n rva → IsBodyPlaced m users (code ++ more) n rva
 placed_still m users code more n rva is = record {
   meant = λ behind. is.meant (more ++ behind) ∙ ap (λ r. Some (body (body_loaded r users rva))) (sym (more_loaded code more behind));
   good = λ behind. ap (λ r. body_is_good (row_count m) users r rva (number_at (cells_of m) (nth_row 0x06 n) 1)) (more_loaded code more behind) ∙ is.good (more ++ behind);
@@ -156,3 +156,6 @@ one_placed m users code rvas n rva size all one k low =
 pub all_weigh : (m : Module) (n : ℕ) → n ≡ row_count m 0x06 → bodies_before m n ≡ bodies_weight m
 unfolding bodies_before bodies_weight
 all_weigh m n all = ap (λ k. bodies_before m k) all
+
+pub il_flags : (m : Module) (n : ℕ) (b : Body) → IsSound m → n < row_count m 0x06 → cell_of m (nth_row 0x06 n) 0 ≡ Some (body (Some b)) → (number_at (cells_of m) (nth_row 0x06 n) 1 % 4 == 0) ≡ true
+il_flags m n b sound low is = (body_sound m n b sound low is).flags

@@ -1,6 +1,6 @@
 -- An instruction is read of its own bytes alone.
 use Rattle.std.proofs.Common.{◌≡◌, ℕ, zero, suc, ◌+◌, ◌-◌, ◌*◌, ◌/◌, ◌%◌, ◌^◌, ◌<◌, ◌≤◌, Bool, true, false, cond, List, [], ◌∷◌, length, take, drop, get_or, Option, Some, None, option_map, refl, sym, ap, ◌∙◌, arith}
-use Rattle.std.specs.Prelude.{ℤ, option_and_then, nat_le, ◌==◌, if◌then◌else◌}
+use Rattle.std.specs.Prelude.{ℤ, option_and_then, nat_le, ◌==◌}
 use Rattle.std.specs.Int.{Width, byte_len, w8, w16, w32, w64, from_le_bytes}
 use Rattle.std.proofs.lemmas.List.{get_or-drop, length-drop}
 use Rattle.std.proofs.lemmas.Bool.Decides.{nat_tests}

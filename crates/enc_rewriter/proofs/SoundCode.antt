@@ -1,6 +1,6 @@
 -- Code that means a sound body is good, where its clauses are of known kinds.
-use Rattle.std.proofs.Common.{◌≡◌, ℕ, zero, suc, ◌+◌, ◌-◌, ◌<◌, ◌≤◌, Bool, true, false, List, [], ◌∷◌, length, map, Option, Some, None, refl, sym, ap, ◌∙◌, arith}
-use Rattle.std.specs.Prelude.{nat_le, not, ◌==◌, ◌&&◌, ◌||◌, if◌then◌else◌}
+use Rattle.std.proofs.Common.{◌≡◌, ℕ, zero, suc, ◌+◌, ◌-◌, Bool, true, false, List, [], ◌∷◌, length, map, Option, Some, None, refl, sym, ap, ◌∙◌, arith}
+use Rattle.std.specs.Prelude.{nat_le, ◌==◌, ◌&&◌, ◌||◌, if◌then◌else◌}
 use Rattle.std.specs.List.{list_all, list_any}
 use Rattle.std.proofs.lemmas.Bool.Decides.{nat_tests}
 use Rattle.std.proofs.lemmas.Bool.{and_parts}
@@ -10,7 +10,7 @@ use Rattle.enc_opcodes.specs.declared.op.Operand.{Operand}
 use Rattle.enc_opcodes.specs.declared.code.Clause.{Clause}
 use Rattle.enc_opcodes.specs.Clause.{clauses_of}
 use Rattle.enc_opcodes.specs.Instruction.{Argument, nothing, number, target, targets, token, text, raw, Instruction, instr_in, chain, chain_on, chain_end, end_on, IsChain, rest_of, end_of, instructions_of}
-use Rattle.enc_opcodes.specs.Body.{Code, Body, Handler, HandlerKind, catching, filtering, finishing, faulting, kind_meant, told, instruction_told, handler_meant, body_of, is_named, is_instruction_start, arg_is_good, instruction_is_good, range_is_good, extra_is_good, clause_is_good, locals_are_good, is_good, is_user}
+use Rattle.enc_opcodes.specs.Body.{Code, Handler, HandlerKind, catching, filtering, finishing, faulting, kind_meant, told, instruction_told, handler_meant, body_of, is_named, is_instruction_start, arg_is_good, instruction_is_good, range_is_good, clause_is_good, locals_are_good, is_good}
 use Rattle.enc_opcodes.specs.Sound.{begins_at, instruction_size, argument_is_sound, instruction_is_sound, handler_kind_is_sound, handler_is_sound, are_whole, body_is_sound}
 use Rattle.enc_opcodes.proofs.Whole.{chain_whole}
 use Rattle.enc_rewriter.specs.Standing.{is_known, known_as}

@@ -25,4 +25,5 @@ pub record IsCopied (old new : ℕ → Option (List ℕ)) (code says : List ℕ)
 -- behind bytes stands the instruction of a place, with the token of a text that says what the one at an offset does
 abbrev pub IsNamed : (ℕ → Option (List ℕ)) → (ℕ → Option (List ℕ)) → List ℕ → ℕ → ℕ → ℕ → List ℕ → List ℕ → Type 0
 IsNamed old new code at end offset before after =
-    (x : ℕ) × (x < 2 ^ 24) × (new x ≡ Some (units_told (old offset))) × (after ≡ (before ++ take (end - 4 - at) (drop at code)) ++ to_le_bytes w32 (0x70000000 + x))
+    (x : ℕ) × (x < 2 ^ 24) × (new x ≡ Some (units_told (old offset)))
+    × (after ≡ (before ++ take (end - 4 - at) (drop at code)) ++ to_le_bytes w32 (0x70000000 + x))

@@ -1,5 +1,7 @@
 -- A body that stands in the code of an image that is written (ECMA-335 II.25.4).
 use Rattle.std.specs.Prelude.{◌≡◌, ℕ, ◌+◌, ◌*◌, ◌<◌, ◌≤◌, Bool, true, ◌||◌, List, length, Option, Some, ◌==◌, if◌then◌else◌, slice_index}
+use Rattle.std.specs.BTreeMap.{BTreeMap, get}
+use Rattle.std.specs.Ordering.{nat_cmp}
 use Rattle.enc_base.specs.Token.{nth_row}
 use Rattle.enc_opcodes.specs.declared.code.Clause.{Clause}
 use Rattle.enc_opcodes.specs.Body.{Body, nil_or}
@@ -28,7 +30,8 @@ known_as c = record { kind = if is_known c.kind then c.kind else 0; tries = c.tr
 
 -- a local signature that has no row is the nil token
 pub record HasNilLocals (m : Module) : Type 0 where
-  pub each : (n : ℕ) (b : Body) → n < row_count m tables.method_def → cell_of m (nth_row tables.method_def n) 0 ≡ Some (body (Some b)) → nil_or b.locals ≡ b.locals
+  pub each : (n : ℕ) (b : Body) → n < row_count m tables.method_def → cell_of m (nth_row tables.method_def n) 0 ≡ Some (body (Some b))
+      → nil_or b.locals ≡ b.locals
 
 -- bytes of such a weight: a body's sections take a few more than their clauses weigh, four for each 699050 clauses
 abbrev pub Weighs : ℕ → ℕ → Type 0
@@ -56,3 +59,8 @@ AreFieldsPlaced m code rvas n = (k : ℕ) → k < n → IsFieldCellPlaced m code
 -- the weight of the bytes of the rows before one
 unfoldable pub fields_before : Module → ℕ → ℕ
 fields_before m n = sum_below (λ k. field_weight (cell_of m (nth_row tables.field_rva k) 0)) n
+
+-- what is known of places: all methods with the body of a known place have it at its RVA
+abbrev pub AreKnown : Module → (ℕ → Option (List ℕ)) → (ℕ → Option Body) → List ℕ → BTreeMap ℕ ℕ → Type 0
+AreKnown m users places code known = (place rva n : ℕ) → get nat_cmp known place ≡ Some rva → n < row_count m tables.method_def
+    → cell_of m (nth_row tables.method_def n) 0 ≡ Some (body (places place)) → IsBodyPlaced m users code n rva

@@ -10,7 +10,7 @@ ghost use Rattle.enc_opcodes.specs.Body.{body_of, code_seen, nil_or};
 ghost use Rattle.enc_opcodes.specs.Clause.{clauses_in, clauses_of};
 ghost use Rattle.enc_opcodes.specs.Sound.{body_is_sound};
 ghost use Rattle.enc_plain.specs.Sound.{IsSound, row_count};
-ghost use Rattle.enc_rewriter.specs.Standing.{StandsAt, HasNilLocals, Weighs, is_known, known_as, weight_of, bodies_before, AreBodiesPlaced};
+ghost use Rattle.enc_rewriter.specs.Standing.{StandsAt, HasNilLocals, Weighs, is_known, known_as, weight_of, bodies_before, AreBodiesPlaced, AreKnown};
 ghost use Rattle.enc_rewriter.specs.Placed.{IsBodyPlaced};
 ghost use Rattle.enc_rewriter.specs.Values.{KeepValues, no_starts, texts_named};
 ghost use Rattle.enc_rewriter.specs.Weight.{bodies_weight};
@@ -27,6 +27,7 @@ use enc_pe::CODE_RVA;
 use enc_plain::ModuleView;
 use enc_schema::tables::METHOD_DEF;
 use std::alloc::{AllocError, Global};
+use std::collections::BTreeMap;
 
 /// A clause's kind, that of a class where it is no known one.
 fn known_kind(kind: u32) -> u32
@@ -182,7 +183,48 @@ fn push_method<V: ModuleView>(
     }
 }
 
-/// Writes the bodies of all methods, and answers the RVA of each.
+/// The same. The body of a place that is known isn't written again, so methods that share a body cost
+/// what one does.
+fn place_method<V: ModuleView>(
+    alloc: Global,
+    view: &V,
+    n: u32,
+    heaps: &mut HeapBuilder,
+    known: &mut BTreeMap<u64, u32>,
+    out: &mut Vec<u8>,
+) -> Result<u32, AllocError>
+    requires sound { IsSound (V.meaning view.now) }
+    requires nils { HasNilLocals (V.meaning view.now) }
+    requires kept { KeepValues (V.meaning view.now) heaps.old }
+    requires row { n < row_count (V.meaning view.now) method_def }
+    requires light { bodies_weight (V.meaning view.now) < 2 ^ 31 }
+    requires weighs { Weighs (bodies_before (V.meaning view.now) n) (length out.old.items) }
+    requires known { AreKnown (V.meaning view.now) (user_at (heaps_built heaps.old).users) (V.places view.now) out.old.items known.old }
+    ensures placed { IfOk result (λ rva. IsBodyPlaced (V.meaning view.now) (user_at (heaps_built heaps.old).users) out.new.items n rva) }
+    ensures grows { OnOk result ((rest : List ℕ) × (out.new.items ≡ out.old.items ++ rest)) }
+    ensures weighs { OnOk result (Weighs (bodies_before (V.meaning view.now) (n + 1)) (length out.new.items)) }
+    ensures known { OnOk result (AreKnown (V.meaning view.now) (user_at (heaps_built heaps.old).users) (V.places view.now) out.new.items known.new) }
+    ensures same { heaps.new ≡ heaps.old }
+{
+    let place = view.code_place(Token {
+        table: METHOD_DEF,
+        row: n + 1,
+    });
+    if let Some(rva) = known.get(&place) {
+        return Ok(*rva);
+    }
+    let rva = match push_method(alloc, view, n, heaps, out) {
+        Ok(rva) => rva,
+        Err(fault) => return Err(fault),
+    };
+    match known.insert(place, rva) {
+        Ok(_) => Ok(rva),
+        Err(_) => Err(AllocError),
+    }
+}
+
+/// Writes the bodies of all methods, and answers the RVA of each. Methods that share a body have it
+/// at one RVA.
 pub(crate) fn place_bodies<V: ModuleView>(
     alloc: Global,
     view: &V,
@@ -200,8 +242,9 @@ pub(crate) fn place_bodies<V: ModuleView>(
     ensures same { heaps.new ≡ heaps.old }
 {
     let mut bodies = Vec::new(alloc);
+    let mut known = BTreeMap::new(alloc);
     for n in 0..view.count(METHOD_DEF) {
-        match push_method(alloc, view, n, heaps, out) {
+        match place_method(alloc, view, n, heaps, &mut known, out) {
             Ok(rva) => bodies.push(rva)?,
             Err(fault) => return Err(fault),
         }

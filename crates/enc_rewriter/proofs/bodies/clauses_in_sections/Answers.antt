@@ -1,4 +1,4 @@
-use Rattle.std.proofs.Common.{◌≡◌, ℕ, List, map, refl, sym, ap, ◌∙◌}
+use Rattle.std.proofs.Common.{ℕ, List, map, sym, ◌∙◌}
 use Rattle.enc_opcodes.specs.Clause.{Section, clauses_of}
 use Rattle.enc_il.specs.Seen.{section_seen}
 use Rattle.enc_il.proofs.Sections.{whole_more}

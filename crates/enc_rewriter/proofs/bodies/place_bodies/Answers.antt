@@ -1,6 +1,5 @@
-use Rattle.std.proofs.Common.{◌≡◌, ℕ, ◌*◌, ◌≤◌, length, refl, sym, ap, ◌∙◌, arith}
+use Rattle.std.proofs.Common.{◌≡◌, arith}
 use Rattle.enc_plain.specs.Sound.{row_count}
-use Rattle.enc_rewriter.specs.Standing.{Weighs, bodies_before}
 use Rattle.enc_rewriter.proofs.MethodsPlaced.{all_weigh}
 use Rattle.enc_rewriter.proofs.bodies.place_bodies.Goals as goal
 

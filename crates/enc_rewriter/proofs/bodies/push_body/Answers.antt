@@ -1,11 +1,11 @@
-use Rattle.std.proofs.Common.{◌≡◌, ℕ, ◌+◌, ◌-◌, ◌*◌, ◌<◌, ◌++◌, List, length, map, replicate, refl, sym, ap, subst, ◌∙◌, arith}
-use Rattle.std.proofs.lemmas.List.{append_assoc, length-map}
+use Rattle.std.proofs.Common.{◌≡◌, ℕ, ◌+◌, List, length, map, sym, ap, subst, ◌∙◌, arith}
+use Rattle.std.proofs.lemmas.List.{length-map}
 use Rattle.enc_opcodes.specs.declared.code.Clause.{Clause}
 use Rattle.enc_opcodes.specs.Clause.{clauses_of}
 use Rattle.enc_rewriter.proofs.BodySizes.{with_body_weighs}
 use Rattle.std.specs.List.{list_all}
 use Rattle.enc_base.proofs.SmallNumbers.{bytes_each}
-use Rattle.enc_il.specs.Written.{IsWritable, clause_fits, with_body, body_written, place_for}
+use Rattle.enc_il.specs.Written.{IsWritable, clause_fits, with_body, place_for}
 use Rattle.enc_il.proofs.BodiesShort.{place_few}
 use Rattle.enc_meta.specs.Built.{heaps_built}
 use Rattle.enc_meta.specs.Heaps.{user_at}

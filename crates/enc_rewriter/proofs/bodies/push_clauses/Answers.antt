@@ -1,4 +1,4 @@
-use Rattle.std.proofs.Common.{◌≡◌, ◌+◌, ◌-◌, ◌++◌, ◌∷◌, [], map, drop, suc, refl, sym, ap, ◌∙◌, arith}
+use Rattle.std.proofs.Common.{◌≡◌, ◌+◌, ◌-◌, ◌++◌, ◌∷◌, [], map, drop, ap, ◌∙◌, arith}
 use Rattle.enc_opcodes.specs.Clause.{clauses_in}
 use Rattle.enc_rewriter.specs.Standing.{known_as}
 use Rattle.enc_rewriter.proofs.ClausesKnown.{one_fits, more_known, none_known}

@@ -1,4 +1,4 @@
-use Rattle.std.proofs.Common.{◌≡◌, ℕ, ◌+◌, ◌*◌, ◌≤◌, length, refl, sym, ap, ◌∙◌, arith}
+use Rattle.std.proofs.Common.{◌+◌, ◌*◌, ◌≤◌, length, arith}
 use Rattle.enc_meta.specs.Built.{heaps_built}
 use Rattle.enc_meta.specs.Heaps.{user_at}
 use Rattle.enc_opcodes.specs.Body.{body_of, code_seen}

@@ -1,4 +1,4 @@
-use Rattle.std.proofs.Common.{◌≡◌, ℕ, List, Option, true, length, refl, sym, ap, subst, ◌∙◌}
+use Rattle.std.proofs.Common.{◌≡◌, true, refl, sym, subst, ◌∙◌}
 use Rattle.std.specs.List.{list_all}
 use Rattle.enc_il.specs.Seen.{instr_seen}
 use Rattle.enc_il.proofs.Starts.{fewer_left}

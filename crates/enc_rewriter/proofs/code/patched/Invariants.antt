@@ -1,4 +1,4 @@
-use Rattle.std.proofs.Common.{◌≡◌, ℕ, ◌-◌, true, length}
+use Rattle.std.proofs.Common.{◌≡◌, ◌-◌, true, length}
 use Rattle.std.specs.List.{list_all}
 use Rattle.enc_meta.specs.Built.{is_kept, heaps_built}
 use Rattle.enc_meta.specs.Heaps.{user_at}

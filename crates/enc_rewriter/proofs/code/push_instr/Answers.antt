@@ -1,5 +1,4 @@
-use Rattle.std.proofs.Common.{◌≡◌, ◌-◌, ◌++◌, List, take, drop, refl, sym, ap, subst}
-use Rattle.std.specs.Prelude.{OnOk}
+use Rattle.std.proofs.Common.{◌≡◌, ◌-◌, ◌++◌, take, drop, refl, sym, ap, subst}
 use Rattle.enc_il.specs.Seen.{arg_seen, instr_seen}
 use Rattle.enc_meta.specs.Built.{heaps_built}
 use Rattle.enc_meta.specs.Heaps.{user_at}

@@ -1,4 +1,4 @@
-use Rattle.std.proofs.Common.{◌≡◌, ℕ, ◌+◌, ◌≤◌, length, refl, sym, ap, ◌∙◌, arith}
+use Rattle.std.proofs.Common.{◌+◌, ◌≤◌, length, arith}
 use Rattle.enc_rewriter.specs.Standing.{fields_before}
 use Rattle.enc_rewriter.proofs.CodeCopied.{on_ok}
 use Rattle.enc_rewriter.proofs.Gathers.{row_there}

@@ -1,4 +1,4 @@
-use Rattle.std.proofs.Common.{◌<◌, arith}
+use Rattle.std.proofs.Common.{arith}
 use Rattle.enc_rewriter.proofs.placed.words_law.Goals as goal
 
 pub returns : goal.returns
