@@ -6,6 +6,7 @@ mod code;
 mod fields;
 mod gathering;
 mod kept;
+mod laws;
 mod numbers;
 mod parts;
 mod pass;
@@ -17,6 +18,7 @@ mod runs;
 mod users;
 
 pub use gathering::gather;
+pub use laws::image_means_law;
 pub use parts::{ModuleParts, parts_of};
 pub use pass::Pass;
 pub use placed::PlacedCode;
