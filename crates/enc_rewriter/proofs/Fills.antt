@@ -15,7 +15,7 @@ use Rattle.enc_meta.specs.declared.builder.BuildFault.{BuildFault}
 use Rattle.enc_meta.specs.declared.builder.BuildFault.TheVariants.{Memory, TooLarge}
 use Rattle.std.proofs.lemmas.List.Sums.{sum_by-append}
 use Rattle.enc_rows.specs.Sums.{below}
-use Rattle.enc_rewriter.specs.Values.{with_one, with_all, heap_size, heap_limit, heap_of, IsPast}
+use Rattle.enc_rewriter.specs.Values.{with_one, with_all, heap_size, heap_limit, IsPast}
 use Rattle.enc_rewriter.specs.declared.pass.Pass.{Pass}
 use Rattle.enc_rewriter.specs.declared.pass.Pass.TheVariants as pass
 

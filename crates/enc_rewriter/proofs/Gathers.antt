@@ -1,6 +1,6 @@
 -- Which columns a pass gathers.
-use Rattle.std.proofs.Common.{◌≡◌, ℕ, zero, suc, Bool, true, false, List, [], Option, Some, None, refl, sym, ap, ◌∙◌, arith}
-use Rattle.std.specs.Prelude.{◌&&◌, ◌||◌, ◌==◌, not, IsTrue, option_and_then, if◌then◌else◌}
+use Rattle.std.proofs.Common.{◌≡◌, ℕ, Bool, true, false, List, [], Option, Some, None, refl, sym, ap, ◌∙◌, arith}
+use Rattle.std.specs.Prelude.{◌==◌, not, option_and_then, if◌then◌else◌}
 use Rattle.std.specs.List.{list_any}
 use Rattle.std.proofs.lemmas.Bool.Decides.{nat_tests}
 use Rattle.enc_base.specs.declared.token.Token.{Token}
@@ -159,6 +159,7 @@ only_body t i false false is e = absurd (no_column (column_in t i) e)
     no_kind (column.Index t) e = absurd cc
     no_kind (column.Coded k) e = absurd cc
     no_kind (column.Run t) e = absurd cc
+
     no_column : (o : Option Column) → option_and_then kind_of o ≡ Some bodies → ⊥
     no_column None e = absurd cc
     no_column (Some c) e = no_kind c e

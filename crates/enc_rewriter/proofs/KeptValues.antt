@@ -1,7 +1,6 @@
 -- A value that the heaps have already has its offset there, and adding it again changes nothing.
-use Rattle.std.proofs.Common.{◌≡◌, ℕ, zero, suc, ◌+◌, ◌<◌, ◌≤◌, Bool, true, false, List, [], ◌∷◌, ◌++◌, length, Option, Some, None, refl, sym, ap, ◌∙◌, arith}
-use Rattle.std.specs.Prelude.{◌^◌, max, not, ◌&&◌, ◌||◌, nat_lt, sum_by, bytes_eq, if◌then◌else◌}
-use Rattle.std.proofs.lemmas.Bool.Decides.{nat_tests}
+use Rattle.std.proofs.Common.{◌≡◌, ℕ, ◌+◌, ◌<◌, Bool, true, false, List, [], ◌∷◌, ◌++◌, length, Some, refl, sym, ap, ◌∙◌, arith}
+use Rattle.std.specs.Prelude.{◌^◌, ◌||◌, sum_by, bytes_eq, if◌then◌else◌}
 use Rattle.enc_base.specs.Numbers.{is_empty, spelled}
 use Rattle.enc_meta.specs.Built.{Built, AreWithinLimits, is_kept, is_among, is_guid_kept, with_value, with_entry, with_text, with_user, with_blob, with_guid, passes, entry_passes, text_passes, user_passes, blob_passes, guid_passes, place_among, offset_in, joined_end, text_offset, user_offset, blob_offset, guid_number, user_bytes, mark_of, heaps_built}
 use Rattle.enc_meta.specs.BuiltLaws.{IsGood, ArePast}
@@ -9,7 +8,6 @@ use Rattle.enc_meta.specs.declared.heaps.HeapLengths.{HeapLengths}
 use Rattle.std.proofs.lemmas.List.{length-append}
 use Rattle.std.proofs.lemmas.List.Sums.{sum_by-cons}
 use Rattle.enc_meta.specs.Heaps.{text_at, user_at, blob_at, guid_at}
-use Rattle.enc_meta.specs.Joined.{joined_text}
 use Rattle.enc_meta.proofs.Alone.{text_alone, user_alone, blob_alone, guid_alone}
 use Rattle.enc_meta.proofs.BuiltMeanings.{texts_are_read, users_are_read, blobs_are_read, guids_are_read}
 use Rattle.enc_rewriter.specs.Values.{no_starts}

@@ -1,10 +1,9 @@
 -- The children of all owners in a list, and their order.
-use Rattle.std.proofs.Common.{◌≡◌, ℕ, zero, suc, ◌+◌, ◌-◌, ◌<◌, ◌≤◌, Bool, true, false, List, [], ◌∷◌, ◌++◌, length, map, take, drop, get_or, Option, Some, None, refl, sym, ap, ◌∙◌, arith, append_assoc}
-use Rattle.std.specs.Prelude.{◌^◌, ◌&&◌, ◌==◌, ◌≢◌, nat_lt, flat_map, slice_get}
+use Rattle.std.proofs.Common.{◌≡◌, ℕ, zero, suc, ◌+◌, ◌-◌, ◌<◌, ◌≤◌, true, false, List, [], ◌∷◌, ◌++◌, length, take, drop, get_or, Some, refl, sym, ap, ◌∙◌, arith, append_assoc}
+use Rattle.std.specs.Prelude.{◌^◌, ◌&&◌, ◌==◌, ◌≢◌, flat_map, slice_get}
 use Rattle.std.proofs.lemmas.Bool.Decides.{nat_tests}
-use Rattle.std.proofs.lemmas.List.{length-append, append-nil, length-take-le}
+use Rattle.std.proofs.lemmas.List.{append-nil, length-take-le}
 use Rattle.enc_rows.specs.Written.{rows_at, count_at}
-use Rattle.std.proofs.lemmas.Grind.{flat_map-append}
 use Rattle.enc_base.specs.Token.{nth_row}
 use Rattle.enc_plain.specs.Module.{Module, Row, rows_in, kids_at, kids_of}
 use Rattle.enc_plain.specs.Sound.{row_count, all_kids, IsSound}

@@ -1,6 +1,6 @@
 -- Which heap is the first that passes its limit.
-use Rattle.std.proofs.Common.{◌≡◌, ℕ, ◌+◌, ◌*◌, ◌≤◌, Bool, true, false, List, [], ◌∷◌, length, Option, Some, None, Result, Ok, Err, refl, sym, ap, ◌∙◌, arith, subst}
-use Rattle.std.specs.Prelude.{◌^◌, max, nat_lt, if◌then◌else◌}
+use Rattle.std.proofs.Common.{◌≡◌, ℕ, ◌≤◌, Bool, true, false, List, [], ◌∷◌, Option, Some, None, Result, Ok, Err, refl, sym, ap, ◌∙◌, arith}
+use Rattle.std.specs.Prelude.{nat_lt, if◌then◌else◌}
 use Rattle.std.proofs.lemmas.Bool.Decides.{nat_tests}
 use Rattle.enc_base.specs.declared.refusal.StreamName.{StreamName}
 use Rattle.enc_base.specs.declared.refusal.StreamName.TheVariants.{Strings, Users, Blobs, Guids}
@@ -9,7 +9,7 @@ use Rattle.enc_meta.specs.declared.builder.BuildFault.{BuildFault}
 use Rattle.enc_meta.specs.declared.builder.BuildFault.TheVariants.{Memory, TooLarge}
 use Rattle.enc_meta.specs.declared.heaps.HeapLengths.{HeapLengths}
 use Rattle.enc_plain.specs.Module.{Module}
-use Rattle.enc_rewriter.specs.Values.{with_one, with_all, all_values, no_starts, no_heaps, heaps_for, heap_size, heap_limit, heap_of, IsPast, PassEnds, passes_limit, too_large_heap, TellsHeap}
+use Rattle.enc_rewriter.specs.Values.{with_one, with_all, all_values, no_starts, no_heaps, heaps_for, heap_size, heap_limit, IsPast, PassEnds, passes_limit, too_large_heap, TellsHeap}
 use Rattle.enc_rewriter.specs.declared.pass.Pass.{Pass}
 use Rattle.enc_rewriter.specs.declared.pass.Pass.TheVariants as pass
 use Rattle.enc_rewriter.proofs.Gathered.{starts_after}

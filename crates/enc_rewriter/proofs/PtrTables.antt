@@ -6,7 +6,7 @@ use Rattle.std.proofs.lemmas.Option.{slice_get_past}
 use Rattle.enc_rewriter.proofs.RowsPushed.{no_row}
 use Rattle.std.proofs.lemmas.Bool.Decides.{nat_tests}
 use Rattle.enc_meta.specs.Heaps.{Counted}
-use Rattle.enc_plain.specs.Module.{Module, Row, rows_in}
+use Rattle.enc_plain.specs.Module.{Module, Row}
 use Rattle.enc_plain.specs.Sound.{row_count, is_part, IsSound}
 use Rattle.enc_rows.specs.Written.{rows_at}
 use Rattle.enc_schema.specs.Children.{is_child_table, ptr_of}
@@ -81,7 +81,7 @@ one_ptr m n first old new low so_far rows others = record {
         ∙ sym (ap (λ k. if nat_lt k (n + 1) then ptr_rows m child else []) e ∙ ap (λ b. if b then ptr_rows m child else []) (less_next n))
     | inr other ↦
         let apart : ptr_of child ≢ ptr_of (nth_child n) =
-            λ same. other (sym (ptr_order_is child there) ∙ ap ptr_order same ∙ ptr_order_is (nth_child n) (child_is n low) ∙ order_is n low) in
+        λ same. other (sym (ptr_order_is child there) ∙ ap ptr_order same ∙ ptr_order_is (nth_child n) (child_is n low) ∙ order_is n low) in
         others (ptr_of child) apart ∙ so_far.ptrs child there ∙ sym (ap (λ b. if b then ptr_rows m child else []) (less_same (child_order child) n other))
   ];
   others = λ k is. others k (λ e. not_both (is_ptr_table k) (ap is_ptr_table e ∙ ptr_is (nth_child n) (child_is n low)) is) ∙ so_far.others k is;

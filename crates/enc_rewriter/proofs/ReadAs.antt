@@ -1,5 +1,5 @@
 -- What is read of an image that was written: the premises under which it means its module.
-use Rattle.std.proofs.Common.{◌≡◌, ℕ, ◌<◌, Bool, false, List, Some}
+use Rattle.std.proofs.Common.{◌≡◌, ℕ, ◌<◌, false, List, Some}
 use Rattle.std.specs.Prelude.{slice_get}
 use Rattle.enc_base.specs.Token.{nth_row}
 use Rattle.enc_meta.specs.Built.{Built, heaps_built}

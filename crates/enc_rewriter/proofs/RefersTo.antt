@@ -1,17 +1,17 @@
 -- References of a sound module and the numbers that stand for them.
 use Rattle.std.proofs.Common.{◌≡◌, ℕ, zero, suc, ◌+◌, ◌*◌, ◌<◌, ◌≤◌, Bool, true, false, List, [], ◌∷◌, length, Option, Some, None, refl, sym, ap, ◌∙◌, arith, get_or}
-use Rattle.std.specs.Prelude.{◌^◌, ◌&&◌, ◌||◌, ◌==◌, ◌≢◌, not, nat_lt, nat_le, option_map, option_and_then, if◌then◌else◌, slice_get}
+use Rattle.std.specs.Prelude.{◌^◌, ◌&&◌, ◌||◌, ◌==◌, ◌≢◌, nat_le, option_map, option_and_then, if◌then◌else◌}
 use Rattle.std.specs.List.{list_any}
 use Rattle.std.proofs.lemmas.Bool.Decides.{nat_tests}
 use Rattle.enc_base.specs.Token.{nil, is_token}
 use Rattle.enc_base.specs.declared.token.Token.{Token}
 use Rattle.enc_meta.specs.Heaps.{Counted}
-use Rattle.enc_plain.specs.Cell.{Cell, refer, Kind, references, bodies, fields, kind_of, kind_in, is_body, is_field}
-use Rattle.enc_plain.specs.Module.{Module, rows_in, has_row, cell_of}
+use Rattle.enc_plain.specs.Cell.{refer, references, bodies, fields, kind_of, kind_in, is_body, is_field}
+use Rattle.enc_plain.specs.Module.{Module, has_row, cell_of}
 use Rattle.enc_plain.specs.Reading.{cell_read, within, index_token}
 use Rattle.enc_plain.specs.Sound.{IsSound, is_reference, can_name, is_tables, row_count}
-use Rattle.enc_schema.specs.Coding.{tables_of, tag_bits, table_with, decoded, named}
-use Rattle.enc_schema.specs.Schema.{columns_in, column_in}
+use Rattle.enc_schema.specs.Coding.{tables_of, tag_bits, decoded, named}
+use Rattle.enc_schema.specs.Schema.{column_in}
 use Rattle.enc_schema.specs.declared.column.Coding.{Coding}
 use Rattle.enc_schema.specs.declared.column.Column.{Column}
 use Rattle.enc_schema.specs.declared.column.Column.TheVariants.{Num32, Index, Coded}

@@ -1,15 +1,15 @@
 -- Rows that are written one behind the other.
-use Rattle.std.proofs.Common.{◌≡◌, ℕ, zero, suc, ◌+◌, ◌-◌, ◌<◌, ◌≤◌, Bool, true, false, List, [], ◌∷◌, ◌++◌, length, Option, Some, None, refl, sym, ap, ◌∙◌, arith, subst, inl, inr}
-use Rattle.std.specs.Prelude.{◌^◌, ◌&&◌, ◌==◌, nat_lt, slice_get, if◌then◌else◌}
+use Rattle.std.proofs.Common.{◌≡◌, ℕ, zero, suc, ◌+◌, ◌-◌, ◌<◌, ◌≤◌, Bool, true, false, List, [], ◌∷◌, ◌++◌, length, Some, refl, sym, ap, ◌∙◌, arith, subst, inl, inr}
+use Rattle.std.specs.Prelude.{◌^◌, ◌==◌, nat_lt, slice_get, if◌then◌else◌}
 use Rattle.std.specs.List.{list_all}
-use Rattle.std.proofs.lemmas.Bool.{cases_eq, cases_lt}
+use Rattle.std.proofs.lemmas.Bool.{cases_eq}
 use Rattle.std.proofs.lemmas.Bool.Decides.{nat_tests}
 use Rattle.std.proofs.lemmas.List.{length-append}
 use Rattle.enc_base.specs.Token.{nth_row}
 use Rattle.enc_base.specs.declared.token.Token.{Token}
 use Rattle.enc_meta.specs.Heaps.{Counted}
 use Rattle.enc_plain.specs.Module.{Module, has_row}
-use Rattle.enc_plain.specs.Sound.{row_count, IsSound}
+use Rattle.enc_plain.specs.Sound.{IsSound}
 use Rattle.std.specs.List.{range_with_len}
 use Rattle.enc_plain.proofs.Columns.{both_left, both_right}
 use Rattle.enc_plain.proofs.KindsOf.{row_table, row_bounds}

@@ -1,6 +1,6 @@
 -- Where runs begin: behind the children of the owners before.
-use Rattle.std.proofs.Common.{◌≡◌, ℕ, zero, suc, ◌+◌, ◌-◌, ◌<◌, ◌≤◌, Bool, true, false, List, [], ◌∷◌, ◌++◌, length, map, take, drop, Option, Some, None, refl, sym, ap, ◌∙◌, arith}
-use Rattle.std.specs.Prelude.{flat_map, slice_get, nat_lt, nat_le, ◌==◌, ◌&&◌, if◌then◌else◌}
+use Rattle.std.proofs.Common.{◌≡◌, ℕ, zero, suc, ◌+◌, ◌-◌, ◌<◌, ◌≤◌, Bool, true, false, List, [], ◌∷◌, ◌++◌, length, map, take, Some, refl, sym, ap, ◌∙◌, arith}
+use Rattle.std.specs.Prelude.{flat_map, slice_get, ◌==◌, ◌&&◌, if◌then◌else◌}
 use Rattle.std.proofs.lemmas.Bool.Decides.{nat_tests}
 use Rattle.std.proofs.lemmas.List.{length-append, map-append}
 use Rattle.std.specs.List.{range_with_len}
@@ -9,7 +9,7 @@ use Rattle.enc_rows.proofs.Runs.{range_more}
 use Rattle.enc_base.specs.Token.{nth_row}
 use Rattle.enc_plain.specs.Module.{Module, Row, rows_in, row_of, row_at, has_row, kids_at, kids_of, kids_with}
 use Rattle.std.specs.Prelude.{◌^◌}
-use Rattle.enc_plain.specs.Sound.{row_count, all_kids, IsOwned, IsSound}
+use Rattle.enc_plain.specs.Sound.{row_count, IsOwned, IsSound}
 use Rattle.enc_plain.proofs.Owned.{all_kids_few}
 use Rattle.enc_schema.specs.Children.{is_child_table, owner_table}
 use Rattle.std.specs.Prelude.{slice_index}

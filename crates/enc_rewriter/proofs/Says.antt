@@ -1,11 +1,11 @@
 -- What the numbers of columns say.
-use Rattle.std.proofs.Common.{◌≡◌, ℕ, zero, suc, ◌<◌, Bool, true, false, List, [], ◌∷◌, length, Option, Some, None, refl, sym, ap, ◌∙◌, arith}
-use Rattle.std.specs.Prelude.{◌&&◌, option_map, option_and_then, slice_get, if◌then◌else◌}
+use Rattle.std.proofs.Common.{◌≡◌, ℕ, zero, suc, ◌<◌, Bool, true, false, List, [], ◌∷◌, length, Some, refl, sym, ap, ◌∙◌, arith}
+use Rattle.std.specs.Prelude.{◌&&◌, option_map, slice_get}
 use Rattle.std.specs.List.{list_all}
 use Rattle.enc_base.specs.declared.token.Token.{Token}
 use Rattle.enc_meta.specs.Built.{Built, is_kept, is_guid_kept}
 use Rattle.enc_meta.specs.Heaps.{Counted, text_at, blob_at, guid_at}
-use Rattle.enc_plain.specs.Cell.{Cell, number, text, blob, guid, Kind, numbers, texts, blobs, guids, bodies, fields, kind_of, kind_in, is_body, is_field}
+use Rattle.enc_plain.specs.Cell.{Cell, number, text, blob, guid, numbers, texts, blobs, guids, kind_of, kind_in, is_body, is_field}
 use Rattle.enc_plain.specs.Module.{Module, has_row, cell_of}
 use Rattle.enc_plain.specs.Reading.{cell_read}
 use Rattle.enc_plain.proofs.Columns.{number_for}

@@ -153,10 +153,11 @@ read_with m h p rows jtd uncompressed root is are fine fit few texts small entry
       behind = c.2.behind;
       loaded = c.2.loaded;
     } in
-    let laid = layout_is (root_written jtd uncompressed stream (heaps_built h)) r.0 rows jtd (heap_bits rows) are fine r.2.tables r.2.wide in
-    (source_from image c.0 r.0 (layout_written rows r.0.tables jtd (heap_bits rows)),
+    let laid = layout_is (root_written jtd uncompressed stream (heaps_built h)) r.0 rows jtd (heap_bits rows) are fine r.2.tables r.2.wide in (
+      source_from image c.0 r.0 (layout_written rows r.0.tables jtd (heap_bits rows)),
       source_is image (root_written jtd uncompressed stream (heaps_built h)) c.0 r.0 (layout_written rows r.0.tables jtd (heap_bits rows)) c.1 metadata r.1 laid,
-      read_as m h p rows image (root_written jtd uncompressed stream (heaps_built h)) c.0 r.0 jtd uncompressed are fit holds r.2)
+      read_as m h p rows image (root_written jtd uncompressed stream (heaps_built h)) c.0 r.0 jtd uncompressed are fit holds r.2,
+    )
 
 -- the image of parts that hold a sound module is read as these parts, where its indices fit
 pub written_source : (m : Module) (h : Built) (p : Placed) (rows : List (List (List ℕ))) → IsSound m → HoldModule m h p rows → FitsImage m h p rows → IndicesFit rows (needs_jtd m)

@@ -1,6 +1,6 @@
 -- The bytes of user texts' units.
-use Rattle.std.proofs.Common.{◌≡◌, ℕ, ◌+◌, ◌*◌, ◌/◌, ◌%◌, ◌<◌, Bool, true, List, [], ◌∷◌, length, take, get_or, refl, ap, arith}
-use Rattle.std.proofs.Common.{zero, suc, ◌++◌, map, sym, Option, Some, None}
+use Rattle.std.proofs.Common.{◌≡◌, ℕ, ◌+◌, ◌*◌, ◌/◌, ◌%◌, ◌<◌, List, [], ◌∷◌, length, take, get_or, refl, ap, arith}
+use Rattle.std.proofs.Common.{suc, ◌++◌, map, sym, Option, Some, None}
 use Rattle.enc_opcodes.specs.Body.{told, instruction_told}
 use Rattle.enc_opcodes.specs.Instruction.{Instruction, instr_in, rest_of}
 use Rattle.enc_opcodes.proofs.Instructions.{rest_none, rest_more}
@@ -10,9 +10,7 @@ use Rattle.enc_meta.specs.declared.builder.BuildFault.{BuildFault}
 use Rattle.enc_rewriter.specs.Values.{text_named, texts_named, with_all, IsPast}
 use Rattle.enc_rewriter.specs.declared.pass.Pass.TheVariants.{Users}
 use Rattle.enc_rewriter.proofs.Fills.{filled_both, fill_grows, past_grows}
-use Rattle.enc_base.specs.Numbers.{AreBytes}
 use Rattle.enc_base.specs.Units.{units_of}
-use Rattle.enc_base.proofs.SmallNumbers.{EachIsByte, bytes_each}
 use Rattle.enc_meta.specs.Built.{unit_bytes}
 
 low : (a b : ℕ) → a < 256 → (a + 256 * b) % 0x100 ≡ a
@@ -59,7 +57,7 @@ pub past_left : (texts : ℕ → Option (List ℕ)) (code : List ℕ) (at n : �
     → IsPast r Users (with_all Users first (left texts code 0))
 past_left texts code at n i first old r is so_far past =
     let e : with_all Users old (left texts code at) ≡ with_all Users (with_all Users old (text_named (told texts i.arg))) (left texts code n) =
-        ap (λ xs. with_all Users old xs) (left_more texts code at n i is) ∙ filled_both Users old (text_named (told texts i.arg)) (left texts code n) in
+    ap (λ xs. with_all Users old xs) (left_more texts code at n i is) ∙ filled_both Users old (text_named (told texts i.arg)) (left texts code n) in
     let one = with_all Users old (text_named (told texts i.arg)) in
     subst (λ h. IsPast r Users h) (sym e ∙ so_far)
     (past_grows r Users one (with_all Users one (left texts code n)) (fill_grows Users one (left texts code n)) past)

@@ -1,11 +1,10 @@
 -- The numbers in the columns of a module's rows that are written (ECMA-335 II.22, II.24.2.6): each says its cell by the heaps, by where bodies and fields are placed, and by the order of children.
-use Rattle.std.specs.Prelude.{◌≡◌, ℕ, ◌+◌, ◌-◌, ◌<◌, ◌≤◌, ◌&&◌, Bool, true, false, List, [], ◌∷◌, length, map, flat_map, take, Option, Some, None, nat_lt, nat_le, ◌==◌, if◌then◌else◌, slice_get, slice_index}
+use Rattle.std.specs.Prelude.{◌≡◌, ℕ, ◌+◌, ◌-◌, ◌<◌, ◌≤◌, ◌&&◌, Bool, true, false, List, [], ◌∷◌, length, map, flat_map, take, Some, None, nat_lt, nat_le, ◌==◌, if◌then◌else◌, slice_get, slice_index}
 use Rattle.std.specs.List.{list_any}
-use Rattle.enc_base.specs.Token.{nth_row, nil}
+use Rattle.enc_base.specs.Token.{nth_row}
 use Rattle.enc_base.specs.declared.token.Token.{Token}
 use Rattle.enc_meta.specs.Heaps.{Counted, text_at, blob_at, guid_at}
-use Rattle.enc_opcodes.specs.Body.{Body}
-use Rattle.enc_plain.specs.Cell.{Cell, is_body, is_field}
+use Rattle.enc_plain.specs.Cell.{is_body, is_field}
 use Rattle.enc_plain.specs.Module.{Module, Row, rows_in, kids_at, cell_of}
 use Rattle.enc_plain.specs.Reading.{Reading, cell_read}
 use Rattle.enc_plain.specs.Sound.{row_count, all_kids, is_part, IsSound}

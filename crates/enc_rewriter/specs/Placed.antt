@@ -1,5 +1,5 @@
 -- Bodies and initial bytes of fields in the code of an image that is written, and where they stand in it (ECMA-335 II.22.18, II.22.26, II.25.4).
-use Rattle.std.specs.Prelude.{◌≡◌, ℕ, ◌<◌, ◌^◌, Bool, true, List, [], ◌∷◌, ◌++◌, length, Option, Some, None, slice_index}
+use Rattle.std.specs.Prelude.{◌≡◌, ℕ, ◌<◌, ◌^◌, true, List, [], ◌∷◌, ◌++◌, length, Option, Some, slice_index}
 use Rattle.enc_base.specs.Token.{nth_row}
 use Rattle.enc_meta.specs.Regions.{Region, range_loaded}
 use Rattle.enc_pe.specs.Written.{code_rva}

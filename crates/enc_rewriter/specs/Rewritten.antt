@@ -1,10 +1,10 @@
 -- The image of a module that is written from scratch, and that it means the module.
-use Rattle.std.specs.Prelude.{◌≡◌, ℕ, ◌<◌, ◌≤◌, ◌^◌, Bool, true, List, Option, Ok, IsTrue}
+use Rattle.std.specs.Prelude.{◌≡◌, ℕ, ◌<◌, ◌≤◌, ◌^◌, List, Ok}
 use Rattle.enc_emit.specs.Written.{root_built, built_size}
 use Rattle.enc_image.specs.Base.{base_of, module_in}
-use Rattle.enc_meta.specs.Built.{Built, heaps_built, is_kept, is_guid_kept}
+use Rattle.enc_meta.specs.Built.{Built, heaps_built}
 use Rattle.enc_meta.specs.BuiltLaws.{IsGood}
-use Rattle.enc_meta.specs.Heaps.{Counted, user_at}
+use Rattle.enc_meta.specs.Heaps.{user_at}
 use Rattle.enc_pe.specs.Written.{image_written, image_size, most_bytes}
 use Rattle.enc_plain.specs.Module.{Module}
 use Rattle.enc_plain.specs.Sound.{IsSound}

@@ -1,8 +1,7 @@
 -- The weight of a module: a sum that what is written of it doesn't pass.
-use Rattle.std.specs.Prelude.{ℕ, ◌+◌, ◌*◌, ◌^◌, List, length, sum_by, Option, Some, None, if◌then◌else◌}
+use Rattle.std.specs.Prelude.{ℕ, ◌+◌, ◌*◌, ◌^◌, length, sum_by, Option, Some, if◌then◌else◌}
 use Rattle.enc_base.specs.Token.{nth_row}
 use Rattle.enc_meta.specs.Built.{Built, heaps_built}
-use Rattle.enc_opcodes.specs.Body.{Body}
 use Rattle.enc_plain.specs.Cell.{Cell, body, field}
 use Rattle.enc_plain.specs.Module.{Module, cell_of}
 use Rattle.enc_plain.specs.Sound.{row_count}

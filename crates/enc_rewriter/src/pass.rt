@@ -153,7 +153,12 @@ fn add_cell<V: ModuleView>(
 
 /// Adds what a row has for a heap.
 #[tactic(auto, using(crate::proofs::Fills::fill_none, crate::proofs::Fills::fill_more, crate::proofs::Fills::past_more), unfolding(crate::specs::Values::values_of_row))]
-fn add_row<V: ModuleView>(view: &V, pass: Pass, row: Token, heaps: &mut HeapBuilder) -> Result<(), BuildFault>
+fn add_row<V: ModuleView>(
+    view: &V,
+    pass: Pass,
+    row: Token,
+    heaps: &mut HeapBuilder,
+) -> Result<(), BuildFault>
     requires sound { IsSound (V.meaning view.now) }
     requires row { IsTrue (has_row (V.meaning view.now) row) }
     ensures filled { OnOk result (heaps.new ≡ with_all pass heaps.old (values_of_row pass (V.meaning view.now) row)) }
@@ -171,7 +176,12 @@ fn add_row<V: ModuleView>(view: &V, pass: Pass, row: Token, heaps: &mut HeapBuil
 
 /// Adds what a table's rows have for a heap.
 #[tactic(auto, using(crate::proofs::Fills::fill_none, crate::proofs::Fills::fill_more, crate::proofs::Fills::past_more, crate::proofs::Gathers::row_there), unfolding(crate::specs::Values::values_of_table))]
-fn add_table<V: ModuleView>(view: &V, pass: Pass, table: u8, heaps: &mut HeapBuilder) -> Result<(), BuildFault>
+fn add_table<V: ModuleView>(
+    view: &V,
+    pass: Pass,
+    table: u8,
+    heaps: &mut HeapBuilder,
+) -> Result<(), BuildFault>
     requires sound { IsSound (V.meaning view.now) }
     ensures filled { OnOk result (heaps.new ≡ with_all pass heaps.old (values_of_table pass (V.meaning view.now) table)) }
     ensures past { IsPast result pass (with_all pass heaps.old (values_of_table pass (V.meaning view.now) table)) }
@@ -188,7 +198,11 @@ fn add_table<V: ModuleView>(view: &V, pass: Pass, table: u8, heaps: &mut HeapBui
 /// Adds what all rows have for a heap, by table, row and column. `TooLarge` exactly where the heap
 /// of distinct values passes its limit, with its name.
 #[tactic(auto, using(crate::proofs::Fills::fill_none, crate::proofs::Fills::fill_more, crate::proofs::Fills::past_more), unfolding(crate::specs::Values::all_values))]
-pub fn add_values<V: ModuleView>(view: &V, pass: Pass, heaps: &mut HeapBuilder) -> Result<(), BuildFault>
+pub fn add_values<V: ModuleView>(
+    view: &V,
+    pass: Pass,
+    heaps: &mut HeapBuilder,
+) -> Result<(), BuildFault>
     requires sound { IsSound (V.meaning view.now) }
     ensures filled { OnOk result (heaps.new ≡ with_all pass heaps.old (all_values pass (V.meaning view.now))) }
     ensures past { IsPast result pass (with_all pass heaps.old (all_values pass (V.meaning view.now))) }

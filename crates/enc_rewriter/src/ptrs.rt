@@ -34,11 +34,7 @@ fn kids_of<V: ModuleView>(
 
 /// The children of all owners in a child table, one owner behind the other.
 #[tactic(auto, using(crate::proofs::KidsListed::none_listed, crate::proofs::KidsListed::more_listed, crate::proofs::KidsListed::all_listed))]
-fn child_list<V: ModuleView>(
-    alloc: Global,
-    view: &V,
-    child: u8,
-) -> Result<Vec<u32>, AllocError>
+fn child_list<V: ModuleView>(alloc: Global, view: &V, child: u8) -> Result<Vec<u32>, AllocError>
     requires { IsTrue (is_child_table child) }
     ensures { IfOk result (λ kids. kids.items ≡ all_kids (V.meaning view.now) child) }
 {

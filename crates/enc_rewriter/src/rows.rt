@@ -61,7 +61,9 @@ fn row_numbers<V: ModuleView>(
     let columns = columns_of(row.table);
     let mut cells = Vec::new(alloc);
     for i in 0..columns.len() {
-        push_number(view, heaps, runs, placed, row, i as u8, columns[i], &mut cells)?;
+        push_number(
+            view, heaps, runs, placed, row, i as u8, columns[i], &mut cells,
+        )?;
     }
     Ok(cells)
 }
@@ -107,7 +109,15 @@ fn push_table<V: ModuleView>(
     ensures same { heaps.new ≡ heaps.old }
 {
     for n in 0..view.count(table) {
-        push_row(alloc, view, heaps, runs, placed, Token { table, row: n + 1 }, tables)?;
+        push_row(
+            alloc,
+            view,
+            heaps,
+            runs,
+            placed,
+            Token { table, row: n + 1 },
+            tables,
+        )?;
     }
     Ok(())
 }

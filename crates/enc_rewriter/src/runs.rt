@@ -102,13 +102,7 @@ impl Runs {
 
 /// Where the run of a row begins in a child table.
 #[tactic(auto, using(crate::proofs::RunStarts::run_is, crate::proofs::RunStarts::run_there, enc_plain::proofs::KindsOf::row_bounds))]
-pub(crate) fn run_number<V: ModuleView>(
-    view: &V,
-    runs: &Runs,
-    row: Token,
-    i: u8,
-    child: u8,
-) -> u32
+pub(crate) fn run_number<V: ModuleView>(view: &V, runs: &Runs, row: Token, i: u8, child: u8) -> u32
     requires runs { AreRuns (V.meaning view.now) runs.now }
     requires row { IsTrue (has_row (V.meaning view.now) row) }
     requires column { column_in row.table i ≡ Some (Run child) }

@@ -50,7 +50,11 @@ fn add_units(units: &[u8], heaps: &mut HeapBuilder) -> Result<(), BuildFault>
 
 /// Adds the user text of an operand, where it names one.
 #[tactic(auto, unfolding(crate::specs::Values::with_all))]
-fn add_argument<V: ModuleView>(view: &V, arg: &Arg<'_>, heaps: &mut HeapBuilder) -> Result<(), BuildFault>
+fn add_argument<V: ModuleView>(
+    view: &V,
+    arg: &Arg<'_>,
+    heaps: &mut HeapBuilder,
+) -> Result<(), BuildFault>
     ensures filled { (end : ℕ) → OnOk result (heaps.new ≡ with_all Users heaps.old (text_named (told (V.users view.now) (arg_seen end arg.now)))) }
     ensures past { (end : ℕ) → IsPast result Users (with_all Users heaps.old (text_named (told (V.users view.now) (arg_seen end arg.now)))) }
 {

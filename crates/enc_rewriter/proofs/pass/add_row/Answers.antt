@@ -1,4 +1,4 @@
-use Rattle.std.proofs.Common.{◌≡◌, ◌<◌, Err, length, subst}
+use Rattle.std.proofs.Common.{◌<◌, Err, length, subst}
 use Rattle.enc_schema.specs.Schema.{columns_in}
 use Rattle.enc_rewriter.specs.Values.{values_at, values_of_row}
 use Rattle.enc_rewriter.proofs.Fills.{past_more}

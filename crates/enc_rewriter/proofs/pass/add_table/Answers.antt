@@ -1,4 +1,4 @@
-use Rattle.std.proofs.Common.{◌≡◌, ◌<◌, Err, length, subst}
+use Rattle.std.proofs.Common.{◌<◌, Err, subst}
 use Rattle.enc_base.specs.Token.{nth_row}
 use Rattle.enc_plain.specs.Sound.{row_count}
 use Rattle.enc_rewriter.specs.Values.{values_of_row, values_of_table}

@@ -1,4 +1,4 @@
-use Rattle.std.proofs.Common.{◌≡◌, ◌<◌, Err}
+use Rattle.std.proofs.Common.{Err}
 use Rattle.enc_rewriter.specs.Values.{values_of_table, all_values}
 use Rattle.enc_rewriter.proofs.Fills.{past_more}
 use Rattle.enc_rewriter.proofs.pass.add_values.Goals as goal

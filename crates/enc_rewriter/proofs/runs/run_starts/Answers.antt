@@ -1,7 +1,5 @@
-use Rattle.std.proofs.Common.{◌≡◌, ◌+◌, ◌≤◌, ◌<◌, arith, ◌∙◌, ap, length, subst}
-use Rattle.enc_plain.specs.Module.{rows_in, kids_of}
-use Rattle.enc_base.specs.Token.{nth_row}
-use Rattle.enc_schema.specs.Children.{owner_table}
+use Rattle.std.proofs.Common.{◌<◌, arith, length, subst}
+use Rattle.enc_plain.specs.Module.{rows_in}
 use Rattle.enc_rewriter.proofs.RunStarts.{fits_next}
 use Rattle.enc_rewriter.proofs.runs.run_starts.Goals as goal
 

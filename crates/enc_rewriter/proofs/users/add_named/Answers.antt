@@ -1,9 +1,7 @@
-use Rattle.std.proofs.Common.{◌≡◌, ℕ, Err}
+use Rattle.std.proofs.Common.{Err}
 use Rattle.enc_il.specs.Seen.{instr_seen}
 use Rattle.enc_il.proofs.Starts.{fewer_left}
 use Rattle.enc_opcodes.specs.Body.{body_of}
-use Rattle.enc_rewriter.specs.Values.{with_all}
-use Rattle.enc_rewriter.specs.declared.pass.Pass.TheVariants.{Users}
 use Rattle.enc_rewriter.proofs.UserTexts.{next_left, past_left, all_left}
 use Rattle.enc_rewriter.proofs.users.add_named.Goals as goal
 
