@@ -29,3 +29,4 @@ pub mod Landing
 pub mod Directories
 pub mod Gained
 pub mod BodyPlaces
+pub mod BlobPlaces

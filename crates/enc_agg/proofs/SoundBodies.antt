@@ -20,10 +20,11 @@ use Rattle.enc_plain.specs.Chain.{Chain}
 use Rattle.enc_plain.specs.Module.{Module, has_row, cells_of}
 use Rattle.enc_plain.specs.Rows.{number_at, bytes_at}
 use Rattle.enc_plain.specs.Signatures.{signature_column}
-use Rattle.enc_plain.specs.Sound.{row_count, method_is_sound, cell_is_sound}
+use Rattle.enc_plain.specs.Sound.{row_count, locals_are_sound, method_is_sound, cell_is_sound}
 use Rattle.enc_plain.proofs.AlikeKept.{locals_alike}
 use Rattle.enc_plain.proofs.KindsOf.{row_there}
 use Rattle.enc_plain.proofs.LoadedBytes.{AreLoaded, code_bytes}
+use Rattle.enc_plain.proofs.NilLocals.{code_nil, nil_sound, sound_begins, sound_nil}
 use Rattle.enc_image.proofs.SoundBodies.{there_good}
 use Rattle.enc_delta.specs.Delta.{listed, of_table, place_in}
 use Rattle.enc_delta.specs.Rules.{broken, users_after, rows_with, body_stands, broken_body_at, broken_body}
@@ -72,10 +73,10 @@ same_number m q t i e = rw e refl
 pub method_kept : (c : Chain) (s : Source) (u : Token) (b : Body) → JudgedBy c s → Counted c s → place_in (listed s) u ≡ None → method_is_sound c.plain u b ≡ true → method_is_sound (extended c s).plain u b ≡ true
 unfolding method_is_sound
 method_kept c s u b j counts none h =
-    let a = and_parts (number_at (cells_of c.plain) u 1 % 4 == 0 && body_is_sound (row_count c.plain) b) (b.locals.row == 0 || begins_locals (bytes_at (cells_of c.plain) b.locals 0)) h in
+    let a = and_parts (number_at (cells_of c.plain) u 1 % 4 == 0 && body_is_sound (row_count c.plain) b) (locals_are_sound c.plain b.locals) h in
     let d = and_parts (number_at (cells_of c.plain) u 1 % 4 == 0) (body_is_sound (row_count c.plain) b) a.0 in
     let il : (number_at (cells_of (extended c s).plain) u 1 % 4 == 0) ≡ true = rw (same_number (extended c s).plain c.plain u 1 (other_cells c s u j.fit none)) d.0 in
-    all_three _ _ _ il (sound_kept (row_count c.plain) (row_count (extended c s).plain) b (code_grows c s counts) d.1) (locals_kept c s b.locals j (sound_locals (row_count c.plain) b d.1) a.1)
+    all_three _ _ _ il (sound_kept (row_count c.plain) (row_count (extended c s).plain) b (code_grows c s counts) d.1) (nil_sound (extended c s).plain b.locals (sound_nil c.plain b.locals a.1) (locals_kept c s b.locals j (sound_locals (row_count c.plain) b d.1) (sound_begins c.plain b.locals a.1)))
 
 -- what the rules say of the body of a method that it lists
 unbroken : (b : Bool) (p : Place) → broken (not b) p ≡ None → b ≡ true
@@ -120,4 +121,4 @@ method_listed c s u column k (Some code) j counts bytes bodies locals at place i
     let g = there_good (rows_with c (listed s)) (users_after c s) s.loaded (raw_in s own 0) (raw_in s own 1) code (listed_good c s u k bodies at is) there in
     let il : (number_at (cells_of (extended c s).plain) u 1 % 4 == 0) ≡ true = rw flags g.0 in
     let sound : body_is_sound (row_count (extended c s).plain) (body_of (users_after c s) code) ≡ true = good_is_sound (users_after c s) (rows_with c (listed s)) (row_count (extended c s).plain) code (code_bytes s.loaded (raw_in s own 0) code bytes there) (code_after c s counts) g.1 in
-    all_three _ _ _ il sound (listed_locals c s u k code j locals place is there)
+    all_three _ _ _ il sound (nil_sound (extended c s).plain code.locals (code_nil s.loaded (raw_in s own 0) code there) (listed_locals c s u k code j locals place is there))

@@ -1,7 +1,7 @@
 -- What the parts of the program stand for.
 use Rattle.std.specs.Prelude.{◌≡◌, ℕ, zero, suc, ◌*◌, ◌/◌, ◌%◌, ◌^◌, ◌<◌, List, [], ◌∷◌, map, length, reverse, Option, Some, None, option_and_then, nat_lt, nat_le, slice_index, if◌then◌else◌}
 use Rattle.enc_base.specs.declared.token.Token.{Token}
-use Rattle.enc_meta.specs.Joined.{joined_user}
+use Rattle.enc_meta.specs.Joined.{joined_user, joined_blob}
 use Rattle.enc_opcodes.specs.Body.{Code, Body}
 use Rattle.enc_plain.specs.Bodies.{code_loaded, body_loaded}
 use Rattle.enc_rows.specs.Source.{Source, raw_in}
@@ -76,6 +76,10 @@ code_in (a ∷ older) n = code_loaded a.delta.loaded n
 -- the user texts of all
 abbrev pub users_of_all : History → ℕ → Option (List ℕ)
 users_of_all h = joined_user (chain_of_all h).heaps
+
+-- the blob at each offset of all
+abbrev pub blob_of_all : History → ℕ → Option (List ℕ)
+blob_of_all h = joined_blob (chain_of_all h).heaps
 
 -- the file of a generation: the base's, or its delta's
 abbrev pub file_of : History → ℕ → Option Source

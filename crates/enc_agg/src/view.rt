@@ -1,6 +1,6 @@
 //! An aggregate as a view of its plain module and of its chain.
 ghost use Rattle.std.specs.Prelude.{◌≡◌, ◌+◌, ◌*◌, ◌^◌, refl};
-ghost use Rattle.enc_agg.specs.Seen.{module_of_all, chain_of_all, users_of_all, body_of_all};
+ghost use Rattle.enc_agg.specs.Seen.{module_of_all, chain_of_all, users_of_all, body_of_all, blob_of_all};
 
 use crate::added::{Added, body_in, count_in, id_in, lengths_in, number};
 use crate::aggregate::Aggregate;
@@ -35,6 +35,8 @@ impl ModuleView for Aggregate {
 
     ghost places = { body_of_all };
 
+    ghost stored = { blob_of_all };
+
     fn count(&self, table: u8) -> u32 {
         count_in(&self.image, &self.added, table)
     }
@@ -66,6 +68,13 @@ impl ModuleView for Aggregate {
             Some(blob) => blob,
             None => unreachable!(),
         }
+    }
+
+    fn blob_place(&self, row: Token, column: u8) -> u64 {
+        let Some(found) = find(&self.added, &self.directory, row) else {
+            return self.image.blob_place(row, column);
+        };
+        u64::from(number(found.upto, row_found(row.table, found.row), column))
     }
 
     fn guid(&self, row: Token, column: u8) -> [u8; 16] {
@@ -196,4 +205,6 @@ impl ChainView for Aggregate {
     ghost means = { λ h. refl };
 
     ghost tells = { λ h offset. refl };
+
+    ghost joins = { λ h offset. refl };
 }

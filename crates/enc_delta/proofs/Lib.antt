@@ -23,3 +23,4 @@ pub mod OwnRows
 pub mod SignaturesAfter
 pub mod Unbroken
 pub mod Parts
+pub mod StoredBlobs

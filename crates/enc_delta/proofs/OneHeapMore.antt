@@ -10,7 +10,7 @@ use Rattle.std.proofs.lemmas.List.{take_all, drop_all}
 use Rattle.std.proofs.lemmas.List.Sums.{sum_by-append}
 use Rattle.std.proofs.lemmas.Bool.Decides.{nat_tests, eqb_tells}
 use Rattle.enc_base.specs.Order.{or_else}
-use Rattle.enc_meta.specs.Heaps.{Counted, sixteen_at, guid_at, text_entry, user_entry, nil_guid}
+use Rattle.enc_meta.specs.Heaps.{Counted, sixteen_at, guid_at, text_entry, user_entry, blob_entry, nil_guid}
 use Rattle.enc_meta.specs.declared.heap.Heap.{Heap}
 use Rattle.enc_meta.specs.declared.heap.Heap.TheVariants as heap
 use Rattle.enc_meta.specs.HeapKinds.{bytes_in, heap_entry, joined_at, length_in}
@@ -181,5 +181,14 @@ unfolding joined_entry
 user_stays xs x o units is = by_zero (o == 0) (entry_in user_entry (map (λ (c : Counted). c.users) xs) o) (entry_in user_entry (map (λ (c : Counted). c.users) (xs ++ x ∷ [])) o) (λ h. ap (λ hs. entry_in user_entry hs o) (field_more (λ (c : Counted). c.users) xs x) ∙ entry_stays user_entry (map (λ (c : Counted). c.users) xs) x.users o units h) is
   where
     by_zero : (b : Bool) (before after : Option (List ℕ)) → (before ≡ Some units → after ≡ Some units) → (if b then Some [] else before) ≡ Some units → (if b then Some [] else after) ≡ Some units
+    by_zero true before after f h = h
+    by_zero false before after f h = f h
+
+-- so does a blob
+pub blob_stays : (xs : List Counted) (x : Counted) (o : ℕ) (bytes : List ℕ) → joined_blob xs o ≡ Some bytes → joined_blob (xs ++ x ∷ []) o ≡ Some bytes
+unfolding joined_entry
+blob_stays xs x o bytes is = by_zero (o == 0) (entry_in blob_entry (map (λ (c : Counted). c.blobs) xs) o) (entry_in blob_entry (map (λ (c : Counted). c.blobs) (xs ++ x ∷ [])) o) (λ h. ap (λ hs. entry_in blob_entry hs o) (field_more (λ (c : Counted). c.blobs) xs x) ∙ entry_stays blob_entry (map (λ (c : Counted). c.blobs) xs) x.blobs o bytes h) is
+  where
+    by_zero : (b : Bool) (before after : Option (List ℕ)) → (before ≡ Some bytes → after ≡ Some bytes) → (if b then Some [] else before) ≡ Some bytes → (if b then Some [] else after) ≡ Some bytes
     by_zero true before after f h = h
     by_zero false before after f h = f h

@@ -2,7 +2,7 @@
 use Rattle.std.specs.Prelude.{◌≡◌, ℕ, ◌<◌, ◌^◌, List, length, map, slice_index, Option, option_and_then, unwrap_or}
 use Rattle.enc_base.specs.Token.{nil}
 use Rattle.enc_base.specs.declared.token.Token.{Token}
-use Rattle.enc_meta.specs.Joined.{joined_lengths}
+use Rattle.enc_meta.specs.Joined.{joined_lengths, joined_blob}
 use Rattle.enc_rows.specs.Source.{Source}
 use Rattle.enc_plain.specs.Chain.{Chain}
 use Rattle.enc_plain.specs.Reading.{within}
@@ -12,7 +12,7 @@ use Rattle.enc_delta.specs.Delta.{log_in, listed}
 use Rattle.enc_delta.specs.Lists.{AreTokens, AreEntries}
 use Rattle.enc_delta.specs.Members.{ArePairs, pair_seen}
 use Rattle.enc_delta.specs.Pairs.{attached_of}
-use Rattle.enc_delta.specs.Rules.{inserts, rows_with}
+use Rattle.enc_delta.specs.Rules.{inserts, rows_with, heaps_after}
 use Rattle.enc_delta.specs.Rows.{rows_after}
 
 -- a chain, and a delta after it
@@ -23,6 +23,10 @@ pub record Joined : Type 0 where
 -- the rows after it
 abbrev pub joined_rows : Joined → Rows
 joined_rows j = rows_after j.chain j.delta
+
+-- the blobs of the heaps after it, by their offsets
+abbrev pub joined_blobs : Joined → ℕ → Option (List ℕ)
+joined_blobs j n = joined_blob (heaps_after j.chain j.delta) n
 
 -- a token, where it names a row after; else nil
 abbrev pub row_or_nil : Joined → Option Token → Token

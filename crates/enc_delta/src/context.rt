@@ -13,7 +13,10 @@ ghost use Rattle.enc_delta.specs.Members.{ArePairs, pair_seen};
 ghost use Rattle.enc_delta.specs.Pairs.{attached_of};
 ghost use Rattle.enc_delta.specs.Rules.{heaps_after, rows_with, users_after};
 ghost use Rattle.enc_rows.specs.Source.{raw_in};
-ghost use Rattle.enc_delta.specs.Context.{joined_rows, row_or_nil};
+ghost use Rattle.enc_delta.specs.Context.{joined_rows, joined_blobs, row_or_nil};
+ghost use Rattle.enc_plain.specs.Cell.{blobs, kind_in};
+ghost use Rattle.enc_plain.specs.Module.{cells_of};
+ghost use Rattle.enc_plain.specs.Rows.{bytes_at, AreStoredAt};
 
 use crate::delta::Delta;
 use crate::entry::Entry;
@@ -175,6 +178,25 @@ impl<C: ChainView> Context<'_, C> {
         self.blob_there(offset).is_some()
     }
 
+    /// The place of a blob at an offset of the joined `#Blob`, None where the offset isn't good.
+    fn own_place(&self, offset: u32) -> Option<u64>
+        ensures { AreStoredAt (joined_blobs self.now) result (unwrap_or (joined_blob (heaps_after self.now.chain self.now.delta) offset) []) }
+    {
+        if !self.has_blob(offset) {
+            return None;
+        }
+        Some(u64::from(offset))
+    }
+
+    /// The place of a blob in a row of the chain, in the heaps after the delta. None where there is no
+    /// such row, or none stands there.
+    pub fn old_place(&self, row: Token, column: u8) -> Option<u64>
+        requires { kind_in row.table column ≡ Some blobs }
+        ensures { AreStoredAt (joined_blobs self.now) result (bytes_at (cells_of self.now.chain.plain) row column) }
+    {
+        self.old.blob_place(row, column)
+    }
+
     /// The token that a coded index stands for, where it names a row after the delta; else nil.
     fn coded_or_nil(&self, kind: Coding, number: u32) -> Token
         ensures { result ≡ row_or_nil self.now (decoded kind number) }
@@ -208,6 +230,8 @@ impl<C: ChainView> UserTexts for Context<'_, C> {
 impl<C: ChainView> CellView for Context<'_, C> {
     ghost rows = { joined_rows };
 
+    ghost stored = { joined_blobs };
+
     #[tactic(auto, using(crate::proofs::OwnRows::has_own, crate::proofs::OwnRows::has_old))]
     fn has(&self, row: Token) -> bool {
         match self.delta.place(row) {
@@ -237,6 +261,13 @@ impl<C: ChainView> CellView for Context<'_, C> {
         match self.delta.place(row) {
             Some(place) => self.blob_or_none(self.own(row, place, column)),
             None => self.old.blob(row, column),
+        }
+    }
+
+    fn blob_place(&self, row: Token, column: u8) -> Option<u64> {
+        match self.delta.place(row) {
+            Some(place) => self.own_place(self.own(row, place, column)),
+            None => self.old_place(row, column),
         }
     }
 

@@ -1,6 +1,8 @@
 //! Judging new fields and methods by the types that gain them , and new members by their
 //! siblings.
-ghost use Rattle.std.specs.Prelude.{◌≡◌, ◌<◌, ◌==◌, ◌&&◌, ◌||◌, not, map, unwrap_or, IfOk, IsTrue};
+ghost use Rattle.std.specs.Prelude.{◌≡◌, ◌<◌, ◌==◌, ◌&&◌, ◌||◌, Some, not, map, unwrap_or, IfOk, IsTrue};
+ghost use Rattle.enc_plain.specs.Alike.{signatures_alike};
+ghost use Rattle.enc_plain.specs.Cell.{blobs, kind_in};
 ghost use Rattle.enc_plain.specs.Rows.{bytes_at};
 ghost use Rattle.enc_plain.specs.Signatures.{signature_column};
 ghost use Rattle.enc_delta.specs.Gains.{breaks, has_signature};
@@ -20,7 +22,7 @@ use crate::lists::{lesser, placed};
 use crate::pairs::Pair;
 use crate::twins::{Members, twin_fault};
 use enc_base::{Place, Token};
-use enc_plain::{CellView, ChainView, RefKeys, signatures_alike};
+use enc_plain::{CellView, ChainView, KnownAlike, PlacedBlob, RefKeys};
 use enc_schema::columns::{
     FIELD_FLAGS, FIELD_SIGNATURE, METHOD_DEF_FLAGS, METHOD_DEF_SIGNATURE, TYPE_DEF_EXTENDS,
     TYPE_DEF_FLAGS, TYPE_REF_TYPE_NAME, TYPE_REF_TYPE_NAMESPACE,
@@ -150,22 +152,58 @@ fn name_column(table: u8) -> u8
     if table == METHOD_DEF { 3 } else { 1 }
 }
 
-/// The signature of a field, a method or a property.
+/// The column of the signature of fields, methods or properties.
 #[tactic(auto, using(crate::proofs::MemberKinds::signature_kind, crate::proofs::MemberKinds::method_signature, crate::proofs::MemberKinds::signature_two, crate::proofs::MemberKinds::signature_four))]
-fn signature_of<R: CellView>(rows: &R, member: Token) -> &[u8]
-    requires { IsTrue (has_signature member.table) }
-    ensures { result.now ≡ bytes_at (R.rows rows.now) member (unwrap_or (signature_column member.table) 0) }
+fn signature_at(table: u8) -> u8
+    requires { IsTrue (has_signature table) }
+    ensures column { result ≡ unwrap_or (signature_column table) 0 }
+    ensures kind { kind_in table result ≡ Some blobs }
 {
-    if member.table == METHOD_DEF {
-        return rows.blob(member, METHOD_DEF_SIGNATURE);
+    if table == METHOD_DEF {
+        return METHOD_DEF_SIGNATURE;
     }
     // a property's stands in the same column
-    rows.blob(member, FIELD_SIGNATURE)
+    FIELD_SIGNATURE
+}
+
+/// Whether two places are one.
+pub fn is_one_place(a: Option<u64>, b: Option<u64>) -> bool
+    ensures { IsTrue result → a ≡ b }
+{
+    match a {
+        Some(m) => match b {
+            Some(n) => m == n,
+            None => false,
+        },
+        None => false,
+    }
+}
+
+/// Whether the blobs of two rows of one table are alike signatures. Those of one place aren't read.
+/// It takes memory for the pairs of tokens in them; without it, they are judged again.
+fn are_alike<R: CellView>(alloc: Global, rows: &R, column: u8, member: Token, other: Token) -> bool
+    requires table { member.table ≡ other.table }
+    requires kind { kind_in member.table column ≡ Some blobs }
+    ensures { result ≡ signatures_alike (R.rows rows.now) member.table (bytes_at (R.rows rows.now) member column) (bytes_at (R.rows rows.now) other column) }
+{
+    let left = PlacedBlob {
+        place: rows.blob_place(member, column),
+        bytes: rows.blob(member, column),
+    };
+    let right = PlacedBlob {
+        place: rows.blob_place(other, column),
+        bytes: rows.blob(other, column),
+    };
+    if is_one_place(left.place, right.place) {
+        return true;
+    }
+    let mut known = KnownAlike::new(alloc);
+    known.stored_alike(rows, member.table, &left, &right)
 }
 
 /// Whether two members of one table have alike signatures; events have none.
 #[tactic(auto, using(crate::proofs::MemberKinds::told_by_signature), unfolding(crate::specs::Changes::same_signature))]
-fn same_signature<R: CellView>(rows: &R, member: Token, other: Token) -> bool
+fn same_signature<R: CellView>(alloc: Global, rows: &R, member: Token, other: Token) -> bool
     requires counts { IsTrue (is_member (R.rows rows.now) member) }
     requires table { member.table ≡ other.table }
     ensures { result ≡ same_signature (R.rows rows.now) member other }
@@ -173,9 +211,7 @@ fn same_signature<R: CellView>(rows: &R, member: Token, other: Token) -> bool
     if member.table == EVENT {
         return true;
     }
-    let left = signature_of(rows, member);
-    let right = signature_of(rows, other);
-    signatures_alike(rows, member.table, left, right)
+    are_alike(alloc, rows, signature_at(member.table), member, other)
 }
 
 /// The key of a member's signature; events have none.
@@ -187,10 +223,10 @@ fn member_key<R: CellView>(keys: &RefKeys<'_, R>, member: Token) -> u64
     if member.table == EVENT {
         return 0;
     }
-    keys.signature_key(member.table, signature_of(keys.rows(), member))
+    keys.row_key(member, signature_at(member.table))
 }
 
-/// Learns the keys of the references in a member's signature; events have none.
+/// Learns the key of a member's signature, once for all that share it; events have none.
 #[tactic(auto, using(crate::proofs::MemberKinds::told_by_signature))]
 fn learn_member<R: CellView>(
     alloc: Global,
@@ -203,8 +239,7 @@ fn learn_member<R: CellView>(
     if member.table == EVENT {
         return Ok(());
     }
-    let signature = signature_of(keys.rows(), member);
-    keys.learn(alloc, signature)
+    keys.learn_row(alloc, member, signature_at(member.table))
 }
 
 impl<C: ChainView> Members for RefKeys<'_, Context<'_, C>> {
@@ -230,7 +265,7 @@ impl<C: ChainView> Members for RefKeys<'_, Context<'_, C>> {
     }
 
     fn alike(&self, member: Token, other: Token) -> bool {
-        same_signature(self.rows(), member, other)
+        same_signature(self.alloc(), self.rows(), member, other)
     }
 
     fn key(&self, member: Token) -> u64 {
@@ -252,6 +287,6 @@ pub fn twin_member<C: ChainView>(
 ) -> Result<Option<Place>, AllocError>
     ensures { IfOk result (λ p. p ≡ twin_member context.now.chain context.now.delta) }
 {
-    let mut members = RefKeys::new(context);
+    let mut members = RefKeys::new(alloc, context);
     twin_fault(alloc, context.old.view, &mut members, context.pairs())
 }

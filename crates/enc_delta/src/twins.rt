@@ -16,7 +16,7 @@ use enc_base::{Place, Token};
 use enc_plain::{ChainView, ModuleView};
 use std::alloc::{AllocError, Global};
 
-/// What twins are told by. No call but `learn` takes memory.
+/// What twins are told by. No call but `learn` and `alike` takes memory.
 pub trait Members {
     // How it answers.
     ghost asked: { Self → Asked };

@@ -4,15 +4,16 @@ ghost use Rattle.enc_base.specs.Order.{first_below};
 ghost use Rattle.enc_schema.specs.Schema.{columns_in, column_in};
 ghost use Rattle.enc_plain.specs.Cell.{is_body, is_field, kind_of, kind_in, blobs};
 ghost use Rattle.enc_plain.specs.Known.{AreKnownAlike};
-ghost use Rattle.enc_delta.specs.Context.{joined_rows};
+ghost use Rattle.enc_delta.specs.Context.{joined_rows, joined_blobs};
 ghost use Rattle.enc_delta.specs.Delta.{listed};
 ghost use Rattle.enc_delta.specs.Rows.{rows_of_chain};
 ghost use Rattle.enc_delta.specs.Changes.{may_differ, is_signature_column, cell_is_kept, altered_at, altered_in, of_nth, altered_cell};
 
 use crate::context::Context;
 use crate::known::is_insert;
+use crate::members::is_one_place;
 use enc_base::{Place, Token};
-use enc_plain::{CellView, ChainView, KnownAlike, signature_column};
+use enc_plain::{CellView, ChainView, KnownAlike, PlacedBlob, signature_column};
 use enc_schema::tables::{CUSTOM_ATTRIBUTE, FIELD_RVA, METHOD_DEF, PARAM};
 use enc_schema::{Column, column_of, columns_of};
 use std::alloc::Global;
@@ -38,7 +39,8 @@ fn is_place(table: u8, column: u8) -> bool
     table == METHOD_DEF && column == 0 || table == FIELD_RVA && column == 0
 }
 
-/// A blob is what it was; a signature is alike.
+/// A blob is what it was; a signature is alike. Two blobs are compared once, however many rows have
+/// them.
 fn is_blob_kept<C: ChainView>(
     context: &Context<'_, C>,
     known: &mut KnownAlike,
@@ -46,16 +48,25 @@ fn is_blob_kept<C: ChainView>(
     column: u8,
 ) -> bool
     requires kind { kind_in token.table column ≡ Some blobs }
-    requires known { AreKnownAlike (joined_rows context.now) known.old }
-    ensures known { AreKnownAlike (joined_rows context.now) known.new }
+    requires known { AreKnownAlike (joined_rows context.now) (joined_blobs context.now) known.old }
+    ensures known { AreKnownAlike (joined_rows context.now) (joined_blobs context.now) known.new }
     ensures kept { result ≡ cell_is_kept (rows_of_chain context.now.chain) (joined_rows context.now) token column (Some blobs) }
 {
-    let old = context.old.blob(token, column);
-    let new = context.blob(token, column);
-    if is_signature_column(token.table, column) {
-        return known.signatures_alike(context, token.table, old, new);
+    let old = PlacedBlob {
+        place: context.old_place(token, column),
+        bytes: context.old.blob(token, column),
+    };
+    let new = PlacedBlob {
+        place: context.blob_place(token, column),
+        bytes: context.blob(token, column),
+    };
+    if is_one_place(old.place, new.place) {
+        return true;
     }
-    old == new
+    if is_signature_column(token.table, column) {
+        return known.stored_alike(context, token.table, &old, &new);
+    }
+    known.same_blobs(context, &old, &new)
 }
 
 /// A cell says what it said, in a column of this kind.
@@ -68,9 +79,9 @@ fn is_kept<C: ChainView>(
 ) -> bool
     requires column { column_in token.table i ≡ Some column }
     requires place { (is_body token.table i || is_field token.table i) ≡ false }
-    requires known { AreKnownAlike (joined_rows context.now) known.old }
+    requires known { AreKnownAlike (joined_rows context.now) (joined_blobs context.now) known.old }
     ensures kept { result ≡ cell_is_kept (rows_of_chain context.now.chain) (joined_rows context.now) token i (kind_of column) }
-    ensures known { AreKnownAlike (joined_rows context.now) known.new }
+    ensures known { AreKnownAlike (joined_rows context.now) (joined_blobs context.now) known.new }
 {
     match column {
         Column::Num8 | Column::Num16 | Column::Num32 => {
@@ -94,9 +105,9 @@ fn altered_at<C: ChainView>(
     token: Token,
     i: u8,
 ) -> Option<Place>
-    requires { AreKnownAlike (joined_rows context.now) known.old }
+    requires { AreKnownAlike (joined_rows context.now) (joined_blobs context.now) known.old }
     ensures place { result ≡ altered_at context.now.chain context.now.delta token i }
-    ensures known { AreKnownAlike (joined_rows context.now) known.new }
+    ensures known { AreKnownAlike (joined_rows context.now) (joined_blobs context.now) known.new }
 {
     let Some(column) = column_of(token.table, i) else {
         return None;
@@ -117,8 +128,8 @@ fn altered_in_cells<C: ChainView>(
     known: &mut KnownAlike,
     token: Token,
 ) -> Option<Place>
-    requires { AreKnownAlike (joined_rows context.now) known.old }
-    ensures known { AreKnownAlike (joined_rows context.now) known.new }
+    requires { AreKnownAlike (joined_rows context.now) (joined_blobs context.now) known.old }
+    ensures known { AreKnownAlike (joined_rows context.now) (joined_blobs context.now) known.new }
     ensures place { result ≡ first_below (altered_at context.now.chain context.now.delta token) (length (columns_in token.table)) }
 {
     for i in 0..columns_of(token.table).len() {
@@ -137,8 +148,8 @@ fn altered_in<C: ChainView>(
     known: &mut KnownAlike,
     token: Token,
 ) -> Option<Place>
-    requires { AreKnownAlike (joined_rows context.now) known.old }
-    ensures known { AreKnownAlike (joined_rows context.now) known.new }
+    requires { AreKnownAlike (joined_rows context.now) (joined_blobs context.now) known.old }
+    ensures known { AreKnownAlike (joined_rows context.now) (joined_blobs context.now) known.new }
     ensures place { result ≡ altered_in context.now.chain context.now.delta token }
 {
     if is_insert(context.old.view, token) {
@@ -148,7 +159,7 @@ fn altered_in<C: ChainView>(
 }
 
 /// The first cell of an updated row that says something else. It takes memory for what is known of
-/// likeness, and for the pairs of tokens of one signature at a time; without it, they are judged
+/// likeness and of blobs, and for the pairs of tokens of one signature at a time; without it, they are judged
 /// again.
 #[tactic(auto, using(enc_base::proofs::First::first_none, enc_base::proofs::First::first_found, enc_base::proofs::First::first_more), unfolding(crate::specs::Changes::altered_cell))]
 pub fn altered_cell<C: ChainView>(alloc: Global, context: &Context<'_, C>) -> Option<Place>

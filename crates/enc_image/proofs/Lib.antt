@@ -15,3 +15,4 @@ pub mod SoundFields
 pub mod SoundCells
 pub mod SoundBases
 pub mod BodyPlaces
+pub mod StoredBlobs

@@ -19,6 +19,7 @@ use Rattle.enc_plain.specs.Module.{has_row, cells_of}
 use Rattle.enc_plain.specs.Rows.{number_at, bytes_at}
 use Rattle.enc_plain.specs.Sound.{row_count, method_is_sound, cell_is_sound}
 use Rattle.enc_plain.proofs.LoadedBytes.{code_bytes}
+use Rattle.enc_plain.proofs.NilLocals.{code_nil, nil_sound}
 use Rattle.enc_image.specs.Base.{users_of, blob_or_none, has_locals, body_fault_at, body_fault, cells_fault, module_in}
 use Rattle.enc_image.proofs.Rows.{row_stands, token_is}
 use Rattle.enc_image.proofs.Texts.{no_body_fault, if_some}
@@ -71,4 +72,4 @@ code_sound s u column (Some c) base there table is =
     let sound : body_is_sound (row_count m) (body_of (users_of s) c) ≡ true = good_is_sound (users_of s) (rows_of s.layout) (row_count m) c (code_bytes s.loaded (raw_in s u 0) c base.loaded is) (code_tables s) g.1 in
     let begins : has_locals s (Some c) ≡ true = rw is at h.1 in
     let locals : (c.locals.row == 0 || begins_locals (bytes_at (cells_of m) c.locals 0)) ≡ true = locals_begin s c.locals base.cells (good_locals_of (rows_of s.layout) c g.1) begins in
-    all_three _ _ _ il sound locals
+    all_three _ _ _ il sound (nil_sound m c.locals (code_nil s.loaded (raw_in s u 0) c is) locals)

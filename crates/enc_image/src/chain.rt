@@ -1,7 +1,7 @@
 //! An image as the chain that it begins.
 ghost use Rattle.std.specs.Prelude.{◌≡◌};
 ghost use Rattle.enc_image.specs.Base.{chain_of_base};
-ghost use Rattle.enc_image.specs.Begun.{begun_means, begun_tells};
+ghost use Rattle.enc_image.specs.Begun.{begun_means, begun_tells, begun_joins};
 
 use crate::image::Image;
 use enc_meta::{Heap, HeapLengths};
@@ -44,4 +44,6 @@ impl ChainView for Image {
     ghost means = { begun_means };
 
     ghost tells = { begun_tells };
+
+    ghost joins = { begun_joins };
 }

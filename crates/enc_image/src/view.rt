@@ -2,7 +2,7 @@
 ghost use Rattle.std.specs.Prelude.{◌≡◌, ◌&&◌, ◌<◌, ◌^◌, ◌==◌, Some, None, IsTrue, IsSome, IfSome, is_some, not, length, option_map, nat_lt};
 ghost use Rattle.enc_opcodes.specs.Body.{code_seen};
 ghost use Rattle.enc_plain.specs.Bodies.{code_loaded, body_loaded};
-ghost use Rattle.enc_meta.specs.Heaps.{lengths_of, part};
+ghost use Rattle.enc_meta.specs.Heaps.{blob_at, lengths_of, part};
 ghost use Rattle.enc_rows.specs.Layout.{IsWithin};
 ghost use Rattle.enc_schema.specs.Schema.{column_in};
 ghost use Rattle.enc_plain.specs.Module.{Module, rows_in, has_row, cell_of};
@@ -129,6 +129,8 @@ impl ModuleView for Image {
 
     ghost places = { λ s. body_loaded s.loaded (users_of s) };
 
+    ghost stored = { λ s. blob_at s.heaps.blobs };
+
     #[tactic(auto, using(crate::proofs::Rows::count_there, crate::proofs::Rows::count_other, crate::proofs::Rows::count_past))]
     fn count(&self, table: u8) -> u32 {
         if table < TABLE_COUNT && is_part(table) {
@@ -154,6 +156,10 @@ impl ModuleView for Image {
             Some(blob) => blob,
             None => unreachable!(),
         }
+    }
+
+    fn blob_place(&self, row: Token, column: u8) -> u64 {
+        u64::from(self.number(row, column))
     }
 
     fn guid(&self, row: Token, column: u8) -> [u8; 16] {

@@ -1,5 +1,5 @@
 -- The rows of a module, as they are asked for without knowing that they are there.
-use Rattle.std.proofs.Common.{◌≡◌, ℕ, zero, suc, Bool, false, List, [], ◌∷◌, length, Option, Some, None, refl, arith, sym, ap, ◌∙◌}
+use Rattle.std.proofs.Common.{◌≡◌, ℕ, zero, suc, Bool, true, false, List, [], ◌∷◌, length, Option, Some, None, refl, arith, sym, ap, ◌∙◌}
 use Rattle.std.specs.Prelude.{slice_get, option_map, option_and_then, is_some, nat_lt, nat_le, ◌&&◌}
 use Rattle.std.proofs.lemmas.Bool.Decides.{nat_tests}
 use Rattle.enc_base.specs.Token.{nil}
@@ -71,6 +71,14 @@ blob_there m t i bytes h = sym (ap bytes_of_cell (cell_there m t i ∙ h))
 pub bytes_absent : (m : Module) (t : Token) (i : ℕ) → has_row m t ≡ false → [] ≡ bytes_at (cells_of m) t i
 unfolding bytes_at
 bytes_absent m t i h = sym (ap bytes_of_cell (cell_absent m t i h))
+
+stored_is : (o : Option (List ℕ)) → is_some o ≡ true → o ≡ Some (bytes_of_cell (option_map blob o))
+stored_is None h = absurd cc
+stored_is (Some bytes) h = refl
+
+pub stored_there : (m : Module) (t : Token) (i : ℕ) (o : Option (List ℕ)) → cell_of m t i ≡ option_map blob o → is_some o ≡ true → o ≡ Some (bytes_at (cells_of m) t i)
+unfolding bytes_at
+stored_there m t i o h some = rw (cell_there m t i, h) (stored_is o some)
 
 pub token_there : (m : Module) (t : Token) (i : ℕ) (u : Token) → cell_of m t i ≡ Some (refer u) → u ≡ token_at (cells_of m) t i
 unfolding token_at

@@ -1,5 +1,5 @@
 -- Keys that are learnt: none, one more.
-use Rattle.std.proofs.Common.{◌≡◌, ℕ, Bool, true, false, Option, Some, None, refl, sym, ap, ◌∙◌, arith}
+use Rattle.std.proofs.Common.{◌≡◌, ℕ, ◌+◌, ◌*◌, ◌^◌, Bool, true, false, List, Option, Some, None, refl, sym, ap, ◌∙◌, arith}
 use Rattle.std.specs.Prelude.{◌&&◌, ◌==◌, if◌then◌else◌, unwrap_or}
 use Rattle.std.proofs.lemmas.Bool.{eqb-true}
 use Rattle.enc_base.specs.declared.token.Token.{Token}
@@ -11,7 +11,7 @@ use Rattle.enc_index.specs.Index.{value_at, entry_key, value_of, latest_one, eit
 use Rattle.enc_sigs.specs.declared.mix.Mix.{Mix}
 use Rattle.enc_sigs.proofs.Shared.{both_left, both_right}
 use Rattle.enc_plain.specs.Rows.{Rows}
-use Rattle.enc_plain.specs.Keys.{token_key, ref_key, spec_key, key_of, AreKeys}
+use Rattle.enc_plain.specs.Keys.{token_key, ref_key, spec_key, key_of, signature_key, AreKeys, AreSignatureKeys}
 use Rattle.enc_plain.proofs.OneKey.{key_other}
 
 pub none_learnt : (rows : Rows) (index : Index Mix) → ((q : Key) → value_at index q ≡ None) → AreKeys rows index
@@ -34,6 +34,32 @@ pub more_learnt : (rows : Rows) (old new : Index Mix) (e : Entry Mix) (t : Token
 more_learnt rows old new e t v kept key place value puts q k is =
     let here : value_of e ≡ key_of rows (record { table = (entry_key e).table; row = (entry_key e).row }) = value ∙ key ∙ sym (ap (λ (p : Key). key_of rows (record { table = p.table; row = p.row })) place) in
     by_test rows q (entry_key e) (value_of e) k (value_at old q) (is_key (entry_key e) q) refl here (kept q k) (sym (puts q) ∙ is)
+
+pub no_signature : (rows : Rows) (stored : ℕ → Option (List ℕ)) (index : Index ℕ) → ((q : Key) → value_at index q ≡ None) → AreSignatureKeys rows stored index
+no_signature rows stored index none q k blob e there = absurd_none (sym (none q) ∙ e)
+  where
+    absurd_none : None ≡ Some k → k ≡ signature_key rows q.table blob
+    absurd_none e = absurd cc
+
+same_blob : (a b : List ℕ) → Some a ≡ Some b → a ≡ b
+same_blob a b e = ap (λ (o : Option (List ℕ)). unwrap_or o a) e
+
+place_test : (rows : Rows) (stored : ℕ → Option (List ℕ)) (q key : Key) (here blob : List ℕ) (v k : ℕ) (old : Option ℕ) (t : Bool) → is_key key q ≡ t → stored (key.place * 2 ^ 32 + key.row) ≡ Some here → v ≡ signature_key rows key.table here → stored (q.place * 2 ^ 32 + q.row) ≡ Some blob → (old ≡ Some k → k ≡ signature_key rows q.table blob) → either (if t then Some v else None) old ≡ Some k → k ≡ signature_key rows q.table blob
+place_test rows stored q key here blob v k old false is stands v_is there rest e = rest e
+place_test rows stored q key here blob v k old true is stands v_is there rest e =
+    let both = both_left (key.table == q.table && key.row == q.row) (key.place == q.place) is in
+    let table = eqb-true key.table q.table (both_left (key.table == q.table) (key.row == q.row) both) in
+    let row = eqb-true key.row q.row (both_right (key.table == q.table) (key.row == q.row) both) in
+    let place = eqb-true key.place q.place (both_right (key.table == q.table && key.row == q.row) (key.place == q.place) is) in
+    let one : key.place * 2 ^ 32 + key.row ≡ q.place * 2 ^ 32 + q.row = rw (place, row) refl in
+    let same = same_blob here blob (sym stands ∙ ap stored one ∙ there) in
+    sym (ap (λ (o : Option ℕ). unwrap_or o v) e) ∙ v_is ∙ ap (λ n. signature_key rows n here) table ∙ ap (signature_key rows q.table) same
+
+pub more_signatures : (rows : Rows) (stored : ℕ → Option (List ℕ)) (old new : Index ℕ) (e : Entry ℕ) (at : Key) (here : List ℕ) (v : ℕ) → AreSignatureKeys rows stored old → stored (at.place * 2 ^ 32 + at.row) ≡ Some here → v ≡ signature_key rows at.table here → entry_key e ≡ at → value_of e ≡ v → ((q : Key) → value_at new q ≡ either (latest_one e q) (value_at old q)) → AreSignatureKeys rows stored new
+more_signatures rows stored old new e at here v kept stands key place value puts q k blob is there =
+    let stands_e : stored ((entry_key e).place * 2 ^ 32 + (entry_key e).row) ≡ Some here = ap (λ (p : Key). stored (p.place * 2 ^ 32 + p.row)) place ∙ stands in
+    let key_e : value_of e ≡ signature_key rows (entry_key e).table here = value ∙ key ∙ sym (ap (λ (p : Key). signature_key rows p.table here) place) in
+    place_test rows stored q (entry_key e) here blob (value_of e) k (value_at old q) (is_key (entry_key e) q) refl stands_e key_e there (λ o. kept q k blob o there) (sym (puts q) ∙ is)
 
 -- keys within a TypeSpec
 pub inner_spec : (rows : Rows) (t : Token) → t.table ≡ 0x1B → token_key t ≡ ref_key rows 100 t

@@ -19,3 +19,7 @@ pub mod NamePlaces
 pub mod OneKey
 pub mod Learnt
 pub mod MemberKeys
+pub mod NilLocals
+pub mod NumberedCells
+pub mod RelatedPlaces
+pub mod AlikeSpecs

@@ -1,5 +1,5 @@
 -- Keys of tokens and signatures: mixes that alike ones have in common. They tell which are worth comparing; that keys are equal says nothing.
-use Rattle.std.specs.Prelude.{◌≡◌, ℕ, zero, suc, Bool, true, false, nat_lt, ◌==◌, List, Some, unwrap_or, if◌then◌else◌}
+use Rattle.std.specs.Prelude.{◌≡◌, ℕ, zero, suc, ◌+◌, ◌*◌, ◌^◌, Bool, true, false, nat_lt, ◌==◌, List, Option, Some, unwrap_or, if◌then◌else◌}
 use Rattle.enc_base.specs.declared.token.Token.{Token}
 use Rattle.enc_sigs.specs.Mix.{mix_of, mixed, mixed_both, mixed_ends, finished}
 use Rattle.enc_sigs.specs.declared.mix.Mix.{Mix}
@@ -57,6 +57,11 @@ signature_key rows table blob = finished (sig_shape (key_of rows) (kind_in_table
 -- of a member's signature; an event has none
 unfoldable pub member_key : Rows → Token → ℕ
 member_key rows t = if t.table == tables.event then 0 else signature_key rows t.table (bytes_at rows t (unwrap_or (signature_column t.table) 0))
+
+-- an index has none but the keys of signatures: each by the table of its rows and by the place of its blob
+abbrev pub AreSignatureKeys : Rows → (ℕ → Option (List ℕ)) → Index ℕ → Type 0
+AreSignatureKeys rows stored index =
+    (q : Key) (k : ℕ) (blob : List ℕ) → value_at index q ≡ Some k → stored (q.place * 2 ^ 32 + q.row) ≡ Some blob → k ≡ signature_key rows q.table blob
 
 -- an index has none but the keys of tokens
 abbrev pub AreKeys : Rows → Index Mix → Type 0

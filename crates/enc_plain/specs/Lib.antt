@@ -21,3 +21,5 @@ pub mod Debug
 pub mod DocumentName
 pub mod DebugSeen
 pub mod Keys
+pub mod SoundDebug
+pub mod Places

@@ -1,8 +1,23 @@
 -- A plain module in memory.
-use Rattle.std.specs.Prelude.{ℕ, List}
-use Rattle.enc_plain.specs.Module.{Module}
+use Rattle.std.specs.Prelude.{ℕ, ◌+◌, ◌*◌, ◌/◌, ◌%◌, ◌^◌, List, Option, Some, None}
+use Rattle.enc_base.specs.declared.token.Token.{Token}
+use Rattle.enc_plain.specs.Cell.{Cell, blob}
+use Rattle.enc_plain.specs.Module.{Module, cell_of}
 
 -- a module, and the bytes of the `#US` in which the code of its bodies has its user texts
 pub record InMemory : Type 0 where
   pub plain : Module
   pub users : List ℕ
+
+-- the number of a cell
+abbrev pub cell_number : Token → ℕ → ℕ
+cell_number t i = t.row * 2 ^ 16 + t.table * 2 ^ 8 + i
+
+-- the bytes of a blob
+abbrev pub blob_said : Option Cell → Option (List ℕ)
+blob_said (Some (blob bytes)) = Some bytes
+blob_said _ = None
+
+-- the blob in the cell of a number
+unfoldable pub blob_in : Module → ℕ → Option (List ℕ)
+blob_in m n = blob_said (cell_of m (record { table = n / 2 ^ 8 % 2 ^ 8; row = n / 2 ^ 16 }) (n % 2 ^ 8))

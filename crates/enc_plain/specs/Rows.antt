@@ -1,5 +1,5 @@
 -- What stands in the columns of rows that may not be there.
-use Rattle.std.specs.Prelude.{ℕ, List, [], Option, Some, option_and_then, slice_get}
+use Rattle.std.specs.Prelude.{◌≡◌, ℕ, List, [], Option, Some, None, option_and_then, slice_get}
 use Rattle.enc_base.specs.Token.{nil}
 use Rattle.enc_base.specs.declared.token.Token.{Token}
 use Rattle.enc_plain.specs.Cell.{Cell, number, text, blob, refer}
@@ -37,3 +37,8 @@ bytes_at rows t i = bytes_of_cell (cell_at rows t i)
 
 unfoldable pub token_at : Rows → Token → ℕ → Token
 token_at rows t i = token_of_cell (cell_at rows t i)
+
+-- bytes are those that are stored at a place; where there is no place, there are none
+abbrev pub AreStoredAt : (ℕ → Option (List ℕ)) → Option ℕ → List ℕ → Type 0
+AreStoredAt stored None bytes = bytes ≡ []
+AreStoredAt stored (Some place) bytes = stored place ≡ Some bytes

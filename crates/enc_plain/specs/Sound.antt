@@ -52,12 +52,16 @@ number_fits Num8 n = nat_lt n 0x100
 number_fits Num16 n = nat_lt n 0x10000
 number_fits _ n = nat_lt n (2 ^ 32)
 
--- a body stands only where the low two bits of ImplFlags tell IL code (II.23.1.11), it is good, and its local signature is nil or one of locals (II.23.2.6)
+-- a local signature is the nil token, or the row of one of locals (II.23.2.6)
+abbrev pub locals_are_sound : Module → Token → Bool
+locals_are_sound m t = if t.row == 0 then is_token t nil else begins_locals (bytes_at (cells_of m) t columns.stand_alone_sig_signature)
+
+-- a body stands only where the low two bits of ImplFlags tell IL code (II.23.1.11), it is good, and so is its local signature
 unfoldable pub method_is_sound : Module → Token → Body → Bool
 method_is_sound m method b =
     number_at (cells_of m) method columns.method_def_impl_flags % 4 == 0
     && body_is_sound (row_count m) b
-    && (b.locals.row == 0 || begins_locals (bytes_at (cells_of m) b.locals columns.stand_alone_sig_signature))
+    && locals_are_sound m b.locals
 
 -- the size that the first row of ClassLayout with this parent tells (II.22.8)
 unfoldable pub class_size_at : Module → ℕ → ℕ → Option ℕ

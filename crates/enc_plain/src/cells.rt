@@ -3,7 +3,7 @@ ghost use Rattle.std.specs.Prelude.{◌≡◌, ℕ, List, Option, Some, is_some}
 ghost use Rattle.enc_base.specs.declared.token.Token.{Token as TheToken};
 ghost use Rattle.enc_plain.specs.Cell.{Cell, kind_in, numbers, texts, blobs, references};
 ghost use Rattle.enc_plain.specs.Module.{cells_of};
-ghost use Rattle.enc_plain.specs.Rows.{number_at, bytes_at, token_at};
+ghost use Rattle.enc_plain.specs.Rows.{number_at, bytes_at, token_at, AreStoredAt};
 
 use crate::view::{ModuleView, is_row};
 use enc_base::Token;
@@ -14,6 +14,8 @@ use enc_base::Token;
 pub trait CellView {
     // The cells of each row.
     ghost rows: { Self → TheToken → Option (List Cell) };
+    // The blob at each place.
+    ghost stored: { Self → ℕ → Option (List ℕ) };
 
     /// Whether the token names a row.
     fn has(&self, row: Token) -> bool
@@ -34,6 +36,12 @@ pub trait CellView {
         requires { kind_in row.table column ≡ Some blobs }
         ensures { result.now ≡ bytes_at (rows self.now) row column };
 
+    /// The place of a blob, None where there is no such row, or none stands there: cells with one
+    /// place have one blob.
+    fn blob_place(&self, row: Token, column: u8) -> Option<u64>
+        requires { kind_in row.table column ≡ Some blobs }
+        ensures { AreStoredAt (stored self.now) result (bytes_at (rows self.now) row column) };
+
     /// The token in a column of an index, nil where there is no such row.
     fn token(&self, row: Token, column: u8) -> Token
         requires { kind_in row.table column ≡ Some references }
@@ -49,6 +57,8 @@ pub struct Viewed<'a, V: ModuleView> {
 
 impl<V: ModuleView> CellView for Viewed<'_, V> {
     ghost rows = { λ v. cells_of (V.meaning v.view.now) };
+
+    ghost stored = { λ v. V.stored v.view.now };
 
     #[tactic(auto, using(crate::proofs::CellsOf::has_cells))]
     fn has(&self, row: Token) -> bool {
@@ -77,6 +87,14 @@ impl<V: ModuleView> CellView for Viewed<'_, V> {
             return &[];
         }
         self.view.blob(row, column)
+    }
+
+    #[tactic(auto, using(crate::proofs::CellsOf::bytes_absent))]
+    fn blob_place(&self, row: Token, column: u8) -> Option<u64> {
+        if !is_row(self.view, row) {
+            return None;
+        }
+        Some(self.view.blob_place(row, column))
     }
 
     #[tactic(auto, using(crate::proofs::CellsOf::token_there, crate::proofs::CellsOf::token_absent))]

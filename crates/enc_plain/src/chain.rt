@@ -62,4 +62,7 @@ pub trait ChainView: ModuleView {
 
     // The user texts are those of the joined `#US`.
     ghost tells: { (c : Self) (offset : ℕ) → Self.users c offset ≡ joined_user (chain c).heaps offset };
+
+    // The blobs are those of the joined `#Blob`, each at its offset.
+    ghost joins: { (c : Self) (offset : ℕ) → Self.stored c offset ≡ joined_blob (chain c).heaps offset };
 }

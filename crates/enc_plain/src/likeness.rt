@@ -31,7 +31,7 @@ fn is_same(a: Token, b: Token) -> bool
 
 /// Both are rows of a table.
 #[tactic(auto, unfolding(crate::specs::Alike::are_rows))]
-fn are_rows<R: CellView>(rows: &R, table: u8, a: Token, b: Token) -> bool
+pub(crate) fn are_rows<R: CellView>(rows: &R, table: u8, a: Token, b: Token) -> bool
     ensures rows { result ≡ are_rows (R.rows rows.now) table a b }
     ensures a { IsTrue result → a.table ≡ table }
     ensures b { IsTrue result → b.table ≡ table }
@@ -224,7 +224,7 @@ fn type_specs_alike<R: CellView>(rows: &R, a: Token, b: Token) -> bool
 
 /// The signature of a TypeSpec.
 #[tactic(auto, unfolding(enc_schema::specs::Schema::columns_in))]
-fn spec_of<R: CellView>(rows: &R, token: Token) -> &[u8]
+pub(crate) fn spec_of<R: CellView>(rows: &R, token: Token) -> &[u8]
     requires { token.table ≡ type_spec }
     ensures { result.now ≡ bytes_at (R.rows rows.now) token 0 }
 {
@@ -255,24 +255,6 @@ pub fn tokens_alike<R: CellView>(rows: &R, a: Token, b: Token) -> bool
     ensures { result ≡ tokens_alike (R.rows rows.now) a b }
 {
     refs_alike(rows, 100, a, b) || type_specs_alike(rows, a, b)
-}
-
-/// The same, where equal names are remembered.
-#[tactic(auto, unfolding(crate::specs::Alike::tokens_alike))]
-pub(crate) fn tokens_alike_known<R: CellView>(
-    rows: &R,
-    known: &mut Namesakes,
-    a: Token,
-    b: Token,
-) -> bool
-    requires known { AreNamesakes (R.rows rows.now) known.old }
-    ensures alike { result ≡ tokens_alike (R.rows rows.now) a b }
-    ensures known { AreNamesakes (R.rows rows.now) known.new }
-{
-    if refs_alike_known(rows, known, 100, a, b) {
-        return true;
-    }
-    type_specs_alike(rows, a, b)
 }
 
 /// Whether blobs of the signature column of a table's rows are alike: the same bytes, or signatures

@@ -1,21 +1,22 @@
-//! Pairs of TypeRefs that were once found alike, so that a pair is judged once however often
-//! signatures name it.
+//! Pairs of TypeRefs and of TypeSpecs that were once found alike, so that a pair is judged once
+//! however often signatures name it.
 ghost use Rattle.std.specs.Prelude.{◌≡◌, ◌+◌, ◌*◌, ◌^◌, ◌<◌, true, IsTrue};
 ghost use Rattle.enc_plain.specs.Alike.{alike_in_table};
 ghost use Rattle.enc_plain.specs.Pairs.{AreAlikePairs};
 ghost use Rattle.enc_plain.specs.Rows.{Rows};
-ghost use Rattle.enc_schema.specs.Tables.{type_ref};
+ghost use Rattle.enc_schema.specs.Tables.{type_ref, type_spec};
 
 use enc_base::Token;
-use enc_schema::tables::TYPE_REF;
+use enc_schema::tables::{TYPE_REF, TYPE_SPEC};
 use std::alloc::Global;
 use std::collections::BTreeSet;
 
-/// Pairs of TypeRefs that are alike in the signatures of a table, each by one number.
+/// Pairs of TypeRefs and of TypeSpecs that are alike in the signatures of a table, each by one number.
 #[derive(Drop)]
 pub struct Pairs {
     table: u8,
     numbers: BTreeSet<u64>,
+    specs: BTreeSet<u64>,
 }
 
 /// The number of a pair of rows.
@@ -34,6 +35,7 @@ impl Pairs {
         Pairs {
             table,
             numbers: BTreeSet::new(alloc),
+            specs: BTreeSet::new(alloc),
         }
     }
 
@@ -44,8 +46,8 @@ impl Pairs {
         self.table
     }
 
-    /// The tokens are a pair that is known.
-    pub(crate) fn has(&self, a: Token, b: Token) -> bool
+    /// The tokens are a pair of TypeRefs that is known.
+    fn has_refs(&self, a: Token, b: Token) -> bool
         ensures { (rows : Rows) → AreAlikePairs rows self.now → IsTrue result → alike_in_table rows self.now.table a b ≡ true }
     {
         a.table == TYPE_REF
@@ -53,7 +55,23 @@ impl Pairs {
             && self.numbers.contains(&number_of(a.row, b.row))
     }
 
-    /// Remembers a pair that is alike. Without memory it isn't known afterwards.
+    /// The tokens are a pair of TypeSpecs that is known.
+    fn has_specs(&self, a: Token, b: Token) -> bool
+        ensures { (rows : Rows) → AreAlikePairs rows self.now → IsTrue result → alike_in_table rows self.now.table a b ≡ true }
+    {
+        a.table == TYPE_SPEC
+            && b.table == TYPE_SPEC
+            && self.specs.contains(&number_of(a.row, b.row))
+    }
+
+    /// The tokens are a pair that is known.
+    pub(crate) fn has(&self, a: Token, b: Token) -> bool
+        ensures { (rows : Rows) → AreAlikePairs rows self.now → IsTrue result → alike_in_table rows self.now.table a b ≡ true }
+    {
+        self.has_refs(a, b) || self.has_specs(a, b)
+    }
+
+    /// Remembers a pair of TypeRefs that is alike. Without memory it isn't known afterwards.
     pub(crate) fn add(&mut self, a: Token, b: Token)
         requires a { a.table ≡ type_ref }
         requires b { b.table ≡ type_ref }
@@ -61,6 +79,19 @@ impl Pairs {
         ensures table { self.new.table ≡ self.old.table }
     {
         match self.numbers.insert(number_of(a.row, b.row)) {
+            Ok(_) => {}
+            Err(_) => {}
+        }
+    }
+
+    /// Remembers a pair of TypeSpecs that is alike. Without memory it isn't known afterwards.
+    pub(crate) fn add_specs(&mut self, a: Token, b: Token)
+        requires a { a.table ≡ type_spec }
+        requires b { b.table ≡ type_spec }
+        ensures alike { (rows : Rows) → AreAlikePairs rows self.old → alike_in_table rows self.old.table a b ≡ true → AreAlikePairs rows self.new }
+        ensures table { self.new.table ≡ self.old.table }
+    {
+        match self.specs.insert(number_of(a.row, b.row)) {
             Ok(_) => {}
             Err(_) => {}
         }

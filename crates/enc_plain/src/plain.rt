@@ -4,6 +4,7 @@ ghost use Rattle.std.specs.List.{list_any};
 ghost use Rattle.enc_meta.specs.Heaps.{user_at};
 ghost use Rattle.enc_plain.specs.Cell.{kind_in, cell_kind};
 ghost use Rattle.enc_plain.specs.Module.{rows_in, row_at, row_of, has_row, cell_of, owner_of, kids_of, kids_at, has_kid};
+ghost use Rattle.enc_plain.specs.Plain.{cell_number, blob_in};
 ghost use Rattle.enc_plain.specs.Sound.{IsSound};
 ghost use Rattle.enc_plain.specs.Begun.{module_row as row_of_module, begun};
 ghost use Rattle.enc_schema.specs.Tables.{table_count};
@@ -197,6 +198,13 @@ fn module_row(alloc: Global, name: &[u8], mvid: [u8; 16]) -> Result<PlainRow, Al
     })
 }
 
+/// The number of a cell.
+fn cell_number(row: Token, column: u8) -> u64
+    ensures { result ≡ cell_number row column }
+{
+    u64::from(row.row) * 0x1_0000 + u64::from(row.table) * 0x100 + u64::from(column)
+}
+
 /// The tables of a module, of which the first has this row and the others none.
 fn tables_with(alloc: Global, row: PlainRow) -> Result<Vec<PlainTable>, AllocError>
     ensures { IfOk result (λ t. t.items ≡ (row ∷ []) ∷ replicate (table_count - 1) []) }
@@ -311,6 +319,8 @@ impl ModuleView for PlainModule {
 
     ghost places = { λ m n. None };
 
+    ghost stored = { λ m n. blob_in m.plain n };
+
     fn count(&self, table: u8) -> u32 {
         let _ = &self.tables;
         match self.tables.get(table as usize) {
@@ -339,6 +349,15 @@ impl ModuleView for PlainModule {
         let held = self.cell(row, column);
         match &held.cell {
             PlainCell::Blob(bytes) => bytes,
+            _ => unreachable!(),
+        }
+    }
+
+    #[tactic(auto, using(crate::proofs::NumberedCells::blob_told, crate::proofs::NumberedCells::blob_is_some))]
+    fn blob_place(&self, row: Token, column: u8) -> u64 {
+        let held = self.cell(row, column);
+        match &held.cell {
+            PlainCell::Blob(_) => cell_number(row, column),
             _ => unreachable!(),
         }
     }

@@ -19,6 +19,8 @@ pub trait PointSource {
     ghost said: { Self → TheToken → MethodPoints };
     // The document that a number means at a method.
     ghost documents: { Self → TheToken → ℕ → Option Document };
+    // The documents that stand at places.
+    ghost placed: { Self → ℕ → Option Document };
 
     /// The local signature row and the points of a method; 0 and none where nothing is known of it.
     fn points(&self, alloc: Global, method: Token) -> Result<Points, AllocError>
@@ -28,6 +30,11 @@ pub trait PointSource {
     /// no such document. It takes no memory.
     fn document(&self, method: Token, number: u32) -> Option<DocumentRef<'_>>
         ensures { option_map document_seen result ≡ documents self.now method number };
+
+    /// The place of the document that a number means in a method's points: at one place stands one
+    /// document. What else the number tells is the source's own matter.
+    fn document_place(&self, method: Token, number: u32) -> u64
+        ensures { placed self.now result ≡ documents self.now method number };
 
     // What is known of a method are those points with those documents.
     ghost knows: { (s : Self) (method : TheToken) → debug_of (documents s method) (said s method) ≡ Self.debug s method };

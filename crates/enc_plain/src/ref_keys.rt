@@ -1,7 +1,9 @@
 //! Rows with the keys of those of their references that were asked for, so that each is found once.
-ghost use Rattle.std.specs.Prelude.{◌≡◌, ◌<◌, length, is_some};
+ghost use Rattle.std.specs.Prelude.{◌≡◌, ℕ, ◌+◌, ◌*◌, ◌^◌, ◌<◌, List, Some, IfSome, length, is_some};
 ghost use Rattle.enc_index.specs.declared.key.Key.{Key as TheKey};
+ghost use Rattle.enc_plain.specs.Cell.{blobs, kind_in};
 ghost use Rattle.enc_plain.specs.Keys.{ref_key, spec_key, key_of, signature_key};
+ghost use Rattle.enc_plain.specs.Rows.{bytes_at, AreStoredAt};
 ghost use Rattle.enc_schema.specs.Tables.{type_spec};
 
 use crate::cells::CellView;
@@ -14,21 +16,24 @@ use enc_sigs::{Mix, SigKind, coded_token, finished, sig_shape};
 use std::alloc::{AllocError, Global};
 use std::marker::Model;
 
-/// Rows, and the keys of TypeRefs and TypeSpecs that were learnt.
+/// Rows, and the keys of TypeRefs and TypeSpecs that were learnt, and those of signatures by the
+/// places of their blobs.
 #[derive(Drop)]
 pub struct RefKeys<'a, R: CellView> {
+    alloc: Global,
     rows: &'a R,
     index: Index<Mix>,
+    signatures: Index<u64>,
 }
 
 impl<'a, R: CellView> Model for RefKeys<'a, R> {
-    ghost use Rattle.enc_plain.specs.Keys.{AreKeys};
+    ghost use Rattle.enc_plain.specs.Keys.{AreKeys, AreSignatureKeys};
 
     ghost Value = { R };
 
     ghost view = { λ k. k.rows.now };
 
-    ghost invariant = { λ k. AreKeys (R.rows k.rows.now) k.index };
+    ghost invariant = { λ k. AreKeys (R.rows k.rows.now) k.index × AreSignatureKeys (R.rows k.rows.now) (R.stored k.rows.now) k.signatures };
 }
 
 /// What a token's key stands by.
@@ -39,6 +44,18 @@ fn place_of(token: Token) -> Key
         table: token.table,
         row: token.row,
         place: 0,
+    }
+}
+
+/// What the key of a signature of a table stands by: the place of its blob.
+fn place_of_blob(table: u8, place: u64) -> Key
+    ensures table { result.table ≡ table }
+    ensures place { result.place * 2 ^ 32 + result.row ≡ place }
+{
+    Key {
+        table,
+        row: (place % 0x1_0000_0000) as u32,
+        place: (place / 0x1_0000_0000) as u32,
     }
 }
 
@@ -57,14 +74,21 @@ fn token_behind(blob: &[u8], at: usize) -> Option<Token>
 
 impl<'a, R: CellView> RefKeys<'a, R> {
     /// No key is learnt yet.
-    #[tactic(auto, using(crate::proofs::Learnt::none_learnt))]
-    pub fn new(rows: &'a R) -> RefKeys<'a, R>
+    #[tactic(auto, using(crate::proofs::Learnt::none_learnt, crate::proofs::Learnt::no_signature))]
+    pub fn new(alloc: Global, rows: &'a R) -> RefKeys<'a, R>
         ensures { result ≡ rows.now }
     {
         RefKeys {
+            alloc,
             rows,
             index: Index::new(),
+            signatures: Index::new(),
         }
+    }
+
+    /// What takes memory.
+    pub fn alloc(&self) -> Global {
+        self.alloc
     }
 
     /// The rows.
@@ -177,7 +201,7 @@ impl<'a, R: CellView> RefKeys<'a, R> {
 
     /// Learns the keys of the TypeRefs and TypeSpecs in a signature. It takes memory for each that
     /// isn't learnt yet.
-    pub fn learn(&mut self, alloc: Global, blob: &[u8]) -> Result<(), AllocError>
+    fn learn(&mut self, alloc: Global, blob: &[u8]) -> Result<(), AllocError>
         ensures { self.new ≡ self.old }
     {
         for at in 0..blob.len() {
@@ -188,13 +212,74 @@ impl<'a, R: CellView> RefKeys<'a, R> {
         Ok(())
     }
 
-    /// The key of a signature of a table's rows. Alike signatures of fields, methods or properties
-    /// have one. It takes no memory.
+    /// The key of a signature of a table's rows.
     #[tactic(auto, unfolding(crate::specs::Keys::signature_key))]
-    pub fn signature_key(&self, table: u8, blob: &[u8]) -> u64
+    fn signature_key(&self, table: u8, blob: &[u8]) -> u64
         ensures { result ≡ signature_key (R.rows self.now) table blob.now }
     {
         let kind = kind_in_table(table, blob);
         finished(sig_shape(kind, blob, |t| self.key_of(t)))
+    }
+
+    /// The key of the signature of a table at a place, where it was learnt.
+    fn learnt_at(&self, table: u8, place: Option<u64>) -> Option<u64>
+        ensures { (blob : List ℕ) → AreStoredAt (R.stored self.now) place blob → IfSome result (λ k. k ≡ signature_key (R.rows self.now) table blob) }
+    {
+        let key = self.signatures.get(place_of_blob(table, place?))?;
+        Some(*key)
+    }
+
+    /// Learns the key of a signature of a table, by the place of its blob.
+    #[tactic(auto, using(crate::proofs::Learnt::more_signatures))]
+    fn put_signature(&mut self, alloc: Global, at: Key, blob: &[u8]) -> Result<(), AllocError>
+        requires { R.stored self.old (at.place * 2 ^ 32 + at.row) ≡ Some blob.now }
+        ensures { self.new ≡ self.old }
+    {
+        let key = self.signature_key(at.table, blob);
+        let entry = Entry::new(alloc, at, key)?;
+        self.signatures.put(entry);
+        Ok(())
+    }
+
+    /// Learns the key of a signature and those of the tokens in it, where it isn't learnt yet.
+    fn learn_at(&mut self, alloc: Global, at: Key, blob: &[u8]) -> Result<(), AllocError>
+        requires { R.stored self.old (at.place * 2 ^ 32 + at.row) ≡ Some blob.now }
+        ensures { self.new ≡ self.old }
+    {
+        if self.signatures.get(at).is_some() {
+            return Ok(());
+        }
+        self.learn(alloc, blob)?;
+        self.put_signature(alloc, at, blob)
+    }
+
+    /// Learns the key of the signature in a column of a row. It is found once for all rows of a table
+    /// whose signature stands at one place, and takes memory for each place, and for each TypeRef and
+    /// TypeSpec in it that isn't learnt yet.
+    pub fn learn_row(&mut self, alloc: Global, row: Token, column: u8) -> Result<(), AllocError>
+        requires { kind_in row.table column ≡ Some blobs }
+        ensures { self.new ≡ self.old }
+    {
+        let rows = self.rows;
+        match rows.blob_place(row, column) {
+            Some(place) => self.learn_at(
+                alloc,
+                place_of_blob(row.table, place),
+                rows.blob(row, column),
+            ),
+            None => Ok(()),
+        }
+    }
+
+    /// The key of the signature in a column of a row. Alike signatures of fields, methods or
+    /// properties have one. It takes no memory.
+    pub fn row_key(&self, row: Token, column: u8) -> u64
+        requires { kind_in row.table column ≡ Some blobs }
+        ensures { result ≡ signature_key (R.rows self.now) row.table (bytes_at (R.rows self.now) row column) }
+    {
+        match self.learnt_at(row.table, self.rows.blob_place(row, column)) {
+            Some(key) => key,
+            None => self.signature_key(row.table, self.rows.blob(row, column)),
+        }
     }
 }

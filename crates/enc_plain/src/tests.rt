@@ -75,6 +75,7 @@ fn takes_absent_rows_for_alike_themselves_alone(rt: HostRuntime) -> Result<(), F
     let rows = Viewed { view: &module };
     assert!(rt; !rows.has(row));
     assert!(rt; rows.has(Token { table: 0, row: 1 }));
+    assert!(rt; rows.blob_place(Token { table: 4, row: 1 }, 2).is_none());
     assert!(rt; signatures_alike(&rows, 0x04, &[6, 8], &[6, 8]));
     Ok(())
 }

@@ -21,6 +21,8 @@ pub trait ModuleView {
     ghost users: { Self → ℕ → Option (List ℕ) };
     // The body at each place of its files, None where there is none.
     ghost places: { Self → ℕ → Option Body };
+    // The blob at each place of its files, None where there is none.
+    ghost stored: { Self → ℕ → Option (List ℕ) };
 
     /// The number of rows of a table.
     fn count(&self, table: u8) -> u32
@@ -44,6 +46,14 @@ pub trait ModuleView {
         requires row { IsTrue (has_row (meaning self.now) row) }
         requires kind { kind_in row.table column ≡ Some blobs }
         ensures { cell_of (meaning self.now) row column ≡ Some (blob result.now) };
+
+    /// The place of a blob: cells with one place have one blob. What else the number tells is the
+    /// view's own matter.
+    fn blob_place(&self, row: Token, column: u8) -> u64
+        requires row { IsTrue (has_row (meaning self.now) row) }
+        requires kind { kind_in row.table column ≡ Some blobs }
+        ensures blob { cell_of (meaning self.now) row column ≡ option_map blob (stored self.now result) }
+        ensures some { IsTrue (is_some (stored self.now result)) };
 
     /// The sixteen bytes of a GUID as they are stored; nil is sixteen zeros.
     fn guid(&self, row: Token, column: u8) -> [u8; 16]

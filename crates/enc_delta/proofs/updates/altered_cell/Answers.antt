@@ -1,7 +1,7 @@
 use Rattle.std.proofs.Common.{refl, sym, ◌∙◌, arith}
 use Rattle.enc_base.proofs.First.{first_none, first_found, first_more}
 use Rattle.enc_delta.specs.Changes.{altered_cell, altered_in}
-use Rattle.enc_delta.specs.Context.{joined_rows}
+use Rattle.enc_delta.specs.Context.{joined_rows, joined_blobs}
 use Rattle.enc_delta.proofs.SignaturesAfter.{nth_is}
 use Rattle.enc_delta.proofs.updates.altered_cell.Goals as goal
 
@@ -16,4 +16,4 @@ loop-k-preserved g c = (
 )
 
 pub loop-k-init : goal.loop-k-init
-loop-k-init g c = (first_none _, c.new-known.ensures (joined_rows c.args.context.now))
+loop-k-init g c = (first_none _, c.new-known.ensures (joined_rows c.args.context.now) (joined_blobs c.args.context.now))
