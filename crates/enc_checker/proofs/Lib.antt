@@ -1,1 +1,2 @@
 pub mod OwnMethods
+pub mod KnownWithin

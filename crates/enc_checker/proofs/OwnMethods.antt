@@ -1,11 +1,11 @@
 -- The methods of a list of tokens, one token after the other.
-use Rattle.std.proofs.Common.{◌≡◌, ℕ, zero, suc, ◌+◌, ◌≤◌, Bool, true, false, List, [], ◌∷◌, ◌++◌, length, drop, map, filter, Option, Some, None, refl, sym, ap, ◌∙◌, arith, append_assoc, append-nil}
+use Rattle.std.proofs.Common.{◌≡◌, ℕ, zero, suc, ◌+◌, ◌≤◌, Bool, true, false, List, [], ◌∷◌, ◌++◌, length, drop, map, filter, Some, refl, sym, ap, ◌∙◌, arith, append_assoc, append-nil}
 use Rattle.std.specs.Prelude.{flat_map, slice_get, is_some, if◌then◌else◌, ◌==◌}
 use Rattle.enc_base.specs.declared.token.Token.{Token}
 use Rattle.enc_rows.specs.Source.{Source}
 use Rattle.enc_schema.specs.Tables as tables
 use Rattle.enc_delta.specs.Delta.{of_table, listed}
-use Rattle.enc_checker.specs.Check.{new_code, own_methods, code_size, code_sizes, new_bodies}
+use Rattle.enc_checker.specs.Check.{new_code, code_size, code_sizes, new_bodies}
 
 -- what a token gives
 abbrev pub size_of_one : Source → Token → List (Token × ℕ)

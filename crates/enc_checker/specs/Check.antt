@@ -1,5 +1,5 @@
 -- What a delta's files come to after a chain.
-use Rattle.std.specs.Prelude.{ℕ, Bool, List, map, filter, length, is_some, Option, Some, None, option_map, unwrap_or, Result, Ok, Err}
+use Rattle.std.specs.Prelude.{ℕ, List, map, filter, length, is_some, Option, Some, None, option_map, unwrap_or, Result, Ok, Err}
 use Rattle.enc_base.specs.declared.token.Token.{Token}
 use Rattle.enc_base.specs.declared.refusal.Code.TheVariants.{E}
 use Rattle.enc_base.specs.declared.refusal.Place.TheVariants.{Row}

@@ -3,7 +3,9 @@
 #![tactic(auto)]
 
 mod judging;
+mod laws;
 mod methods;
 
 pub use judging::{Checked, Files, check};
+pub use laws::within_law;
 pub use methods::new_bodies;

@@ -1,4 +1,4 @@
--- The headers of the five streams, and of `#JTD` behind them, are read where they were written.
+-- The headers of the five streams, and of a further one behind them, are read where they were written.
 use Rattle.std.proofs.Common.{◌≡◌, ℕ, suc, ◌+◌, ◌^◌, ◌<◌, ◌≤◌, Bool, false, List, [], ◌∷◌, ◌++◌, ◌||◌, length, Some, None, Ok, refl, arith}
 use Rattle.std.specs.Prelude.{Option, codes, nat_lt, option_and_then, if◌then◌else◌}
 use Rattle.std.specs.Int.{w16}
@@ -9,8 +9,8 @@ use Rattle.enc_base.specs.declared.refusal.StreamName.{StreamName}
 use Rattle.enc_meta.specs.Root.{Header, headers, streams, version_len, known, has_stream, fault_of, stream_fault, root_with, root_or_fault, root_in, root_of}
 use Rattle.enc_meta.specs.declared.span.Span.{Span}
 use Rattle.enc_emit.specs.Written.{stream_header_written, table_name}
-use Rattle.enc_emit.proofs.Rests.{Rests, header_here, header_past, one_more, none_yet}
-use Rattle.enc_emit.proofs.Names.{tables_name, strings_name, users_name, guids_name, blobs_name, jtd_name}
+use Rattle.enc_emit.proofs.Rests.{Rests, IsName, header_here, header_past, one_more, none_yet}
+use Rattle.enc_emit.proofs.Names.{tables_name, strings_name, users_name, guids_name, blobs_name}
 
 -- where the five streams stand
 pub record Spans : Type 0 where
@@ -28,25 +28,22 @@ pub record Ends (size : ℕ) (s : Spans) : Type 0 where
   pub guids : s.guids.start + s.guids.len ≤ size
   pub blobs : s.blobs.start + s.blobs.len ≤ size
 
-abbrev header : List ℕ → Span → Header
+abbrev pub header : List ℕ → Span → Header
 header name span = record { name = name; span = span }
-
-abbrev pub jtd_header : ℕ → Header
-jtd_header start = record { name = codes "#JTD"; span = record { start = start; len = 0 } }
 
 abbrev pub five : Bool → Spans → List Header
 five u s = header (table_name u) s.tables ∷ header (codes "#Strings") s.strings ∷ header (codes "#US") s.users ∷ header (codes "#GUID") s.guids ∷ header (codes "#Blob") s.blobs ∷ []
 
-abbrev pub six : Bool → Spans → ℕ → List Header
-six u s start = header (table_name u) s.tables ∷ header (codes "#Strings") s.strings ∷ header (codes "#US") s.users ∷ header (codes "#GUID") s.guids ∷ header (codes "#Blob") s.blobs ∷ jtd_header start ∷ []
+abbrev pub six : Bool → Spans → List ℕ → Span → List Header
+six u s name span = header (table_name u) s.tables ∷ header (codes "#Strings") s.strings ∷ header (codes "#US") s.users ∷ header (codes "#GUID") s.guids ∷ header (codes "#Blob") s.blobs ∷ header name span ∷ []
 
 abbrev pub header_of : List ℕ → Span → List ℕ
 header_of name span = stream_header_written name span.start span.len
 
-abbrev pub five_written : Bool → Spans → List ℕ → List ℕ
-five_written u s rest = header_of (table_name u) s.tables ++ (header_of (codes "#Strings") s.strings ++ (header_of (codes "#US") s.users ++ (header_of (codes "#GUID") s.guids ++ (header_of (codes "#Blob") s.blobs ++ rest))))
+abbrev pub headers_there : Bool → Spans → List ℕ → List ℕ
+headers_there u s rest = header_of (table_name u) s.tables ++ (header_of (codes "#Strings") s.strings ++ (header_of (codes "#US") s.users ++ (header_of (codes "#GUID") s.guids ++ (header_of (codes "#Blob") s.blobs ++ rest))))
 
-pub five_there : (bytes : List ℕ) (u : Bool) (s : Spans) (size : ℕ) (rest : List ℕ) → Ends size s → size < 2 ^ 32 → Rests bytes 32 (five_written u s rest) → (headers bytes 32 5 ≡ Some (five u s, 108)) × Rests bytes 108 rest
+pub five_there : (bytes : List ℕ) (u : Bool) (s : Spans) (size : ℕ) (rest : List ℕ) → Ends size s → size < 2 ^ 32 → Rests bytes 32 (headers_there u s rest) → (headers bytes 32 5 ≡ Some (five u s, 108)) × Rests bytes 108 rest
 five_there bytes u s size rest fit small r0 =
     let r1 = header_past bytes 32 44 (table_name u) 4 s.tables.start s.tables.len _ (tables_name u) r0 refl in
     let r2 = header_past bytes 44 64 (codes "#Strings") 12 s.strings.start s.strings.len _ strings_name r1 refl in
@@ -65,11 +62,12 @@ five_there bytes u s size rest fit small r0 =
     let e5 = one_more bytes 32 4 92 108 _ _ e4 h4 in
     (e5, r5)
 
-pub six_there : (bytes : List ℕ) (u : Bool) (s : Spans) (size start : ℕ) (rest : List ℕ) → Ends size s → size < 2 ^ 32 → start ≤ size → Rests bytes 32 (five_written u s (stream_header_written (codes "#JTD") start 0 ++ rest)) → (headers bytes 32 6 ≡ Some (six u s start, 124)) × Rests bytes 124 rest
-six_there bytes u s size start rest fit small le r =
-    let f = five_there bytes u s size (stream_header_written (codes "#JTD") start 0 ++ rest) fit small r in
-    let h5 = header_here bytes 108 124 (codes "#JTD") 8 start 0 rest jtd_name (omega (arith, small, le)) (omega arith) f.1 refl in
-    (one_more bytes 32 5 108 124 (five u s) _ f.0 h5, header_past bytes 108 124 (codes "#JTD") 8 start 0 rest jtd_name f.1 refl)
+pub six_there : (bytes : List ℕ) (u : Bool) (s : Spans) (size : ℕ) (name : List ℕ) (span : Span) (rest : List ℕ) → IsName name 8 → Ends size s → size < 2 ^ 32 → span.start + span.len ≤ size
+    → Rests bytes 32 (headers_there u s (header_of name span ++ rest)) → (headers bytes 32 6 ≡ Some (six u s name span, 124)) × Rests bytes 124 rest
+six_there bytes u s size name span rest is fit small le r =
+    let f = five_there bytes u s size (header_of name span ++ rest) fit small r in
+    let h5 = header_here bytes 108 124 name 8 span.start span.len rest is (omega (arith, small, le)) (omega (arith, small, le)) f.1 refl in
+    (one_more bytes 32 5 108 124 (five u s) _ f.0 h5, header_past bytes 108 124 name 8 span.start span.len rest is f.1 refl)
 
 pub streams_are : (bytes : List ℕ) (count end : ℕ) (all : List Header) → version_len bytes ≡ Some 12 → little_endian_at w16 bytes 30 ≡ Some count → headers bytes 32 count ≡ Some (all, end) → streams bytes ≡ Some all
 unfolding streams

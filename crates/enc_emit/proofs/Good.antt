@@ -1,11 +1,12 @@
 -- No stream of a root that was written is refused, and its root has their spans.
-use Rattle.std.proofs.Common.{◌≡◌, ℕ, ◌+◌, ◌≤◌, Bool, true, false, List, [], length, take, Some, None, refl, arith, ◌∷◌, ◌++◌}
-use Rattle.std.specs.Prelude.{codes, slice_get}
+use Rattle.std.proofs.Common.{◌≡◌, ℕ, ◌+◌, ◌≤◌, Bool, true, false, List, [], length, take, Some, None, refl, ◌∷◌, ◌++◌}
+use Rattle.std.specs.Prelude.{Option, codes, slice_get}
 use Rattle.enc_base.specs.Order.{first_below}
 use Rattle.enc_meta.specs.Root.{Header, has_stream, fault_at, stream_fault, has_one_table_stream, span_of, root_with}
 use Rattle.enc_meta.specs.declared.root.Root.{Root}
+use Rattle.enc_meta.specs.declared.span.Span.{Span}
 use Rattle.enc_emit.specs.Written.{table_name}
-use Rattle.enc_emit.proofs.Five.{Spans, Ends, five, six, jtd_header, no_fault, none_more, none_first}
+use Rattle.enc_emit.proofs.Five.{Spans, Ends, five, six, header, no_fault, none_more, none_first}
 
 fault_with : (size : ℕ) (all : List Header) → first_below (fault_at size all) (length all) ≡ None → has_one_table_stream all ≡ true → stream_fault size all ≡ None
 unfolding stream_fault
@@ -21,10 +22,36 @@ unfolding has_one_table_stream has_stream
 one_table_five true s = refl
 one_table_five false s = refl
 
-one_table_six : (u : Bool) (s : Spans) (start : ℕ) → has_one_table_stream (six u s start) ≡ true
+-- a further stream of this name leaves the table stream the only one, and none of the five has its name
+pub record IsBeside (name : List ℕ) : Type 0 where
+  pub tables : (u : Bool) (s : Spans) (span : Span) → has_one_table_stream (six u s name span) ≡ true
+  pub new : (u : Bool) (s : Spans) → has_stream name (five u s) ≡ false
+
+jtd_one : (u : Bool) (s : Spans) (span : Span) → has_one_table_stream (six u s (codes "#JTD") span) ≡ true
 unfolding has_one_table_stream has_stream
-one_table_six true s start = refl
-one_table_six false s start = refl
+jtd_one true s span = refl
+jtd_one false s span = refl
+
+jtd_new : (u : Bool) (s : Spans) → has_stream (codes "#JTD") (five u s) ≡ false
+unfolding has_stream
+jtd_new true s = refl
+jtd_new false s = refl
+
+pub jtd_beside : IsBeside (codes "#JTD")
+jtd_beside = record { tables = jtd_one; new = jtd_new }
+
+pdb_one : (u : Bool) (s : Spans) (span : Span) → has_one_table_stream (six u s (codes "#Pdb") span) ≡ true
+unfolding has_one_table_stream has_stream
+pdb_one true s span = refl
+pdb_one false s span = refl
+
+pdb_new : (u : Bool) (s : Spans) → has_stream (codes "#Pdb") (five u s) ≡ false
+unfolding has_stream
+pdb_new true s = refl
+pdb_new false s = refl
+
+pub pdb_beside : IsBeside (codes "#Pdb")
+pdb_beside = record { tables = pdb_one; new = pdb_new }
 
 none_stands : (text : List ℕ) → has_stream text [] ≡ false
 unfolding has_stream
@@ -36,12 +63,11 @@ pub record Apart (u : Bool) (s : Spans) : Type 0 where
   pub users : has_stream (codes "#US") (take 2 (five u s)) ≡ false
   pub guids : has_stream (codes "#GUID") (take 3 (five u s)) ≡ false
   pub blobs : has_stream (codes "#Blob") (take 4 (five u s)) ≡ false
-  pub jtd : has_stream (codes "#JTD") (five u s) ≡ false
 
 apart : (u : Bool) (s : Spans) → Apart u s
 unfolding has_stream
-apart true s = record { strings = refl; users = refl; guids = refl; blobs = refl; jtd = refl }
-apart false s = record { strings = refl; users = refl; guids = refl; blobs = refl; jtd = refl }
+apart true s = record { strings = refl; users = refl; guids = refl; blobs = refl }
+apart false s = record { strings = refl; users = refl; guids = refl; blobs = refl }
 
 -- of the first five headers none is refused, whatever stands behind them
 first_five : (size : ℕ) (u : Bool) (s : Spans) (rest : List Header) → Ends size s → first_below (fault_at size (five u s ++ rest)) 5 ≡ None
@@ -59,15 +85,15 @@ first_five size u s rest fit =
 pub five_good : (size : ℕ) (u : Bool) (s : Spans) → Ends size s → stream_fault size (five u s) ≡ None
 five_good size u s fit = fault_with size (five u s) (first_five size u s [] fit) (one_table_five u s)
 
-pub six_good : (size start : ℕ) (u : Bool) (s : Spans) → Ends size s → start ≤ size → stream_fault size (six u s start) ≡ None
-six_good size start u s fit le =
-    let all = six u s start in
-    let f5 = fault_place size 5 all (five u s) (jtd_header start) refl refl (apart u s).jtd (omega (arith, le)) in
-    fault_with size all (none_more (fault_at size all) 5 (first_five size u s (jtd_header start ∷ []) fit) f5) (one_table_six u s start)
+pub six_good : (size : ℕ) (u : Bool) (s : Spans) (name : List ℕ) (span : Span) → IsBeside name → Ends size s → span.start + span.len ≤ size → stream_fault size (six u s name span) ≡ None
+six_good size u s name span is fit le =
+    let all = six u s name span in
+    let f5 = fault_place size 5 all (five u s) (header name span) refl refl (is.new u s) le in
+    fault_with size all (none_more (fault_at size all) 5 (first_five size u s (header name span ∷ []) fit) f5) (is.tables u s span)
 
 -- the root of these spans
-abbrev pub root_for : Bool → Bool → Spans → Root
-root_for jtd u s = record {
+abbrev pub root_for : Bool → Bool → Spans → Option Span → Root
+root_for jtd u s pdb = record {
   tables = s.tables;
   uncompressed = u;
   jtd = jtd;
@@ -75,15 +101,20 @@ root_for jtd u s = record {
   users = s.users;
   blobs = s.blobs;
   guids = s.guids;
-  pdb = None;
+  pdb = pdb;
 }
 
-pub five_root : (u : Bool) (s : Spans) → root_with (five u s) ≡ root_for false u s
+pub five_root : (u : Bool) (s : Spans) → root_with (five u s) ≡ root_for false u s None
 unfolding root_with span_of has_stream
 five_root true s = refl
 five_root false s = refl
 
-pub six_root : (u : Bool) (s : Spans) (start : ℕ) → root_with (six u s start) ≡ root_for true u s
+pub jtd_root : (u : Bool) (s : Spans) (span : Span) → root_with (six u s (codes "#JTD") span) ≡ root_for true u s None
 unfolding root_with span_of has_stream
-six_root true s start = refl
-six_root false s start = refl
+jtd_root true s span = refl
+jtd_root false s span = refl
+
+pub pdb_root : (u : Bool) (s : Spans) (span : Span) → root_with (six u s (codes "#Pdb") span) ≡ root_for false u s (Some span)
+unfolding root_with span_of has_stream
+pdb_root true s span = refl
+pdb_root false s span = refl

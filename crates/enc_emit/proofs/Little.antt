@@ -1,6 +1,6 @@
 -- What the tests build fits, and is short.
 use Rattle.std.proofs.Common.{◌≡◌, ℕ, ◌+◌, ◌*◌, ◌^◌, ◌<◌, ◌≤◌, Bool, true, false, List, [], ◌∷◌, ◌++◌, length, refl, ap, arith, length-append, eqb-true}
-use Rattle.std.specs.Prelude.{flat_map, IsTrue, sum_by, replicate, ◌==◌, if◌then◌else◌}
+use Rattle.std.specs.Prelude.{flat_map, IsTrue, sum_by, codes, replicate, ◌==◌, if◌then◌else◌}
 use Rattle.std.specs.List.{list_all}
 use Rattle.std.proofs.lemmas.List.{length-replicate}
 use Rattle.std.proofs.lemmas.List.Sums.{sum_by-cons}
@@ -12,7 +12,7 @@ use Rattle.enc_meta.specs.declared.heaps.HeapLengths.{HeapLengths}
 use Rattle.enc_meta.specs.declared.span.Span.{Span}
 use Rattle.enc_rows.specs.Written.{rows_at, count_at, stream_of, heap_bits, AreRows, IndicesFit}
 use Rattle.enc_rows.proofs.Small.{small, small_indices_fit, stream_few}
-use Rattle.enc_emit.specs.Written.{Parts, built_size}
+use Rattle.enc_emit.specs.Written.{Parts, Further, five_end, streams_begin, size_with_further, built_size, pdb_built_size}
 use Rattle.enc_emit.specs.Little.{AreNear, IsLittle}
 
 pub little_none : (p : Parts) (starts : HeapLengths) → AreNear starts → p.heaps ≡ none_from starts → p.rows ≡ [] → IsLittle p
@@ -94,13 +94,9 @@ padded_few : (n : ℕ) → padded n ≤ n + 3
 unfolding padded
 padded_few n = omega arith
 
-begin_few : (jtd : Bool) → (if jtd then 124 else 108) ≤ 124
-begin_few true = omega arith
-begin_few false = omega arith
-
-pub little_size : (p : Parts) (jtd : Bool) → IsLittle p → AreRows p.rows → AreWithinLimits p.heaps → built_size p jtd < 2 ^ 32
+five_few : (p : Parts) (jtd : Bool) (start : ℕ) → IsLittle p → AreRows p.rows → AreWithinLimits p.heaps → start ≤ 124 → five_end start (stream_of p.rows jtd (heap_bits p.rows)) (heaps_built p.heaps) < 2 ^ 31
 unfolding heaps_built
-little_size p jtd little rows limits =
+five_few p jtd start little rows limits low =
     let b = p.heaps in
     let nowhere : Span = record { start = 0; len = 0 } in
     let stream = stream_few p.rows nowhere jtd (heap_bits p.rows) rows little.few in
@@ -109,4 +105,17 @@ little_size p jtd little rows limits =
     let users : length h.users ≡ 1 = no_values user_bytes b.users little.users in
     let blobs : length h.blobs ≡ 1 = no_values blob_bytes b.blobs little.blobs in
     let guids : length h.guids ≡ 16 * b.starts.guids = no_guids b.starts.guids b.guids little.guids in
-    omega (arith, stream, strings, users, blobs, guids, limits.texts, little.near.strings, little.near.guids, begin_few jtd, padded_few (length (stream_of p.rows jtd (heap_bits p.rows))), padded_few (length h.strings), padded_few (length h.users), padded_few (length h.blobs), padded_few (length h.guids))
+    omega (arith, stream, strings, users, blobs, guids, limits.texts, little.near.strings, little.near.guids, low, padded_few (length (stream_of p.rows jtd (heap_bits p.rows))), padded_few (length h.strings), padded_few (length h.users), padded_few (length h.blobs), padded_few (length h.guids))
+
+-- with a further stream that is short, of a name of four bytes
+six_few : (p : Parts) (jtd : Bool) (f : Further) → IsLittle p → AreRows p.rows → AreWithinLimits p.heaps → length f.name ≡ 4 → length f.bytes ≤ 1000 → size_with_further (f ∷ []) (stream_of p.rows jtd (heap_bits p.rows)) (heaps_built p.heaps) < 2 ^ 32
+six_few p jtd f little rows limits four short =
+    let begin : streams_begin (f ∷ []) ≤ 124 = omega (arith, four, padded_few (length f.name + 1)) in
+    omega (arith, five_few p jtd (streams_begin (f ∷ [])) little rows limits begin, short, padded_few (length f.bytes))
+
+pub little_size : (p : Parts) (jtd : Bool) → IsLittle p → AreRows p.rows → AreWithinLimits p.heaps → built_size p jtd < 2 ^ 32
+little_size p true little rows limits = six_few p true (record { name = codes "#JTD"; bytes = [] }) little rows limits refl (omega arith)
+little_size p false little rows limits = omega (arith, five_few p false 108 little rows limits (omega arith))
+
+pub little_pdb_size : (p : Parts) (pdb : List ℕ) → IsLittle p → AreRows p.rows → AreWithinLimits p.heaps → length pdb ≤ 1000 → pdb_built_size p pdb < 2 ^ 32
+little_pdb_size p pdb little rows limits short = six_few p false (record { name = codes "#Pdb"; bytes = pdb }) little rows limits refl short

@@ -1,6 +1,6 @@
 -- The front of a root and the names of its streams.
 use Rattle.std.proofs.Common.{◌≡◌, ℕ, ◌+◌, ◌≤◌, Bool, true, false, List, ◌++◌, length, drop, refl, arith, length-append, le-leb}
-use Rattle.std.specs.Prelude.{Some, codes, nat_le, if◌then◌else◌}
+use Rattle.std.specs.Prelude.{Some, codes, nat_le}
 use Rattle.std.specs.Int.{Width, byte_len, w16, w32, from_le_bytes}
 use Rattle.enc_base.specs.Numbers.{little_endian_at, padded}
 use Rattle.enc_meta.specs.Root.{version_len}
@@ -31,6 +31,10 @@ blobs_name = record { read = λ rest. refl; space = refl; less = omega arith }
 pub jtd_name : IsName (codes "#JTD") 8
 unfolding padded
 jtd_name = record { read = λ rest. refl; space = refl; less = omega arith }
+
+pub pdb_name : IsName (codes "#Pdb") 8
+unfolding padded
+pdb_name = record { read = λ rest. refl; space = refl; less = omega arith }
 
 pub front_size : (count : ℕ) → length (front_written count) ≡ 32
 unfolding front_written
@@ -68,11 +72,16 @@ front_version count rest =
     (number_from w32 (front_written count ++ rest) 8 0 (omega (arith, long)) (zero_there count rest))
     (number_from w32 (front_written count ++ rest) 12 12 (omega (arith, long)) (twelve_there count rest))
 
-count_there : (jtd : Bool) (rest : List ℕ) → from_le_bytes w16 (drop 30 (front_written (if jtd then 6 else 5) ++ rest)) ≡ (if jtd then 6 else 5)
+five_there : (rest : List ℕ) → from_le_bytes w16 (drop 30 (front_written 5 ++ rest)) ≡ 5
 unfolding front_written
-count_there true rest = refl
-count_there false rest = refl
+five_there rest = refl
 
-pub front_count : (jtd : Bool) (rest : List ℕ) → little_endian_at w16 (front_written (if jtd then 6 else 5) ++ rest) 30 ≡ Some (if jtd then 6 else 5)
-front_count jtd rest =
-    number_from w16 (front_written (if jtd then 6 else 5) ++ rest) 30 (if jtd then 6 else 5) (omega (arith, front_long (if jtd then 6 else 5) rest)) (count_there jtd rest)
+six_there : (rest : List ℕ) → from_le_bytes w16 (drop 30 (front_written 6 ++ rest)) ≡ 6
+unfolding front_written
+six_there rest = refl
+
+pub front_five : (rest : List ℕ) → little_endian_at w16 (front_written 5 ++ rest) 30 ≡ Some 5
+front_five rest = number_from w16 (front_written 5 ++ rest) 30 5 (omega (arith, front_long 5 rest)) (five_there rest)
+
+pub front_six : (rest : List ℕ) → little_endian_at w16 (front_written 6 ++ rest) 30 ≡ Some 6
+front_six rest = number_from w16 (front_written 6 ++ rest) 30 6 (omega (arith, front_long 6 rest)) (six_there rest)

@@ -1,19 +1,20 @@
 -- A root that was written is read back.
-use Rattle.std.proofs.Common.{◌≡◌, ℕ, ◌+◌, ◌-◌, ◌^◌, ◌<◌, ◌≤◌, Bool, true, false, List, [], ◌++◌, length, Some, Ok, refl, sym, ap, ◌∙◌, arith, append_assoc}
-use Rattle.std.specs.Prelude.{codes, replicate, if◌then◌else◌}
+use Rattle.std.proofs.Common.{◌≡◌, ℕ, ◌+◌, ◌-◌, ◌^◌, ◌<◌, ◌≤◌, Bool, true, false, List, [], ◌∷◌, ◌++◌, length, Some, None, Ok, refl, ap, ◌∙◌, arith, append_assoc}
+use Rattle.std.specs.Prelude.{Option, codes, replicate}
 use Rattle.std.proofs.lemmas.List.{append-nil}
 use Rattle.enc_base.specs.Numbers.{padded}
-use Rattle.enc_meta.specs.Root.{version_len, root_of}
+use Rattle.enc_meta.specs.Root.{version_len, root_of, root_with}
 use Rattle.enc_meta.specs.Heaps.{Counted, counted_strings, heaps_of, part}
 use Rattle.enc_meta.specs.declared.root.Root.{Root}
-use Rattle.enc_emit.specs.Written.{stream_header_written, stream_headers_written, front_written, root_written, in_fours, table_name, HoldsStreams, RootIsRead}
-use Rattle.enc_emit.proofs.Rests.{Rests, at_begin, as_split, past, part_here, rest_size, fours_size}
-use Rattle.enc_emit.proofs.Names.{front_size, front_version, front_count}
-use Rattle.enc_emit.proofs.Five.{Spans, Ends, five, six, header_of, five_written, five_there, six_there, streams_are, root_is}
-use Rattle.enc_emit.proofs.Good.{five_good, six_good, root_for, five_root, six_root}
+use Rattle.enc_meta.specs.declared.span.Span.{Span}
+use Rattle.enc_emit.specs.Written.{Further, jtd_streams, pdb_streams, streams_begin, five_end, five_headers_written, further_headers_written, five_written, further_written, front_written, root_with_further, root_written, root_size, pdb_root_written, in_fours, table_name, HoldsStreams, RootIsRead, PdbRootIsRead}
+use Rattle.enc_emit.proofs.Rests.{Rests, IsName, at_begin, as_split, past, part_here, rest_size, fours_size}
+use Rattle.enc_emit.proofs.Names.{front_size, front_version, front_five, front_six, jtd_name, pdb_name}
+use Rattle.enc_emit.proofs.Five.{Spans, Ends, five, six, header_of, headers_there, five_there, six_there, streams_are, root_is}
+use Rattle.enc_emit.proofs.Good.{IsBeside, jtd_beside, pdb_beside, five_good, six_good, root_for, five_root, jtd_root, pdb_root}
 
-abbrev tail : List ℕ → Counted → List ℕ
-tail stream h = in_fours stream ++ (in_fours h.strings ++ (in_fours h.users ++ (in_fours h.guids ++ in_fours h.blobs)))
+abbrev tail : List ℕ → Counted → List ℕ → List ℕ
+tail stream h last = in_fours stream ++ (in_fours h.strings ++ (in_fours h.users ++ (in_fours h.guids ++ (in_fours h.blobs ++ last))))
 
 abbrev behind : ℕ → List ℕ → ℕ
 behind at x = at + padded (length x)
@@ -25,6 +26,16 @@ spans_from at stream h = record {
   users = record { start = behind (behind at stream) h.strings; len = length h.users };
   guids = record { start = behind (behind (behind at stream) h.strings) h.users; len = length h.guids };
   blobs = record { start = behind (behind (behind (behind at stream) h.strings) h.users) h.guids; len = length h.blobs };
+}
+
+-- within more they end too
+wider : (size more : ℕ) (s : Spans) → size ≤ more → Ends size s → Ends more s
+wider size more s le e = record {
+  tables = omega (arith, le, e.tables);
+  strings = omega (arith, le, e.strings);
+  users = omega (arith, le, e.users);
+  guids = omega (arith, le, e.guids);
+  blobs = omega (arith, le, e.blobs);
 }
 
 abbrev size_from : ℕ → List ℕ → Counted → ℕ
@@ -51,88 +62,72 @@ fours_part bytes at x rest r =
 fours_past : (bytes : List ℕ) (at : ℕ) (x rest : List ℕ) → Rests bytes at (in_fours x ++ rest) → Rests bytes (behind at x) rest
 fours_past bytes at x rest r = past bytes at (behind at x) (in_fours x) rest r (ap (λ n. at + n) (fours_size x))
 
--- where the streams stand and how long all is
-record AreThere (bytes : List ℕ) (at : ℕ) (stream : List ℕ) (h : Counted) : Type 0 where
+-- where the streams stand and what stands behind them
+record AreThere (bytes : List ℕ) (at : ℕ) (stream : List ℕ) (h : Counted) (last : List ℕ) : Type 0 where
   pub tables : part bytes (spans_from at stream h).tables ≡ stream
   pub strings : part bytes (spans_from at stream h).strings ≡ h.strings
   pub users : part bytes (spans_from at stream h).users ≡ h.users
   pub guids : part bytes (spans_from at stream h).guids ≡ h.guids
   pub blobs : part bytes (spans_from at stream h).blobs ≡ h.blobs
-  pub size : length bytes ≡ size_from at stream h
+  pub rest : Rests bytes (size_from at stream h) last
 
-are_there : (bytes : List ℕ) (at : ℕ) (stream : List ℕ) (h : Counted) → Rests bytes at (tail stream h) → AreThere bytes at stream h
-are_there bytes at stream h r0 =
+are_there : (bytes : List ℕ) (at : ℕ) (stream : List ℕ) (h : Counted) (last : List ℕ) → Rests bytes at (tail stream h last) → AreThere bytes at stream h last
+are_there bytes at stream h last r0 =
     let r1 = fours_past bytes at stream _ r0 in
     let r2 = fours_past bytes _ h.strings _ r1 in
     let r3 = fours_past bytes _ h.users _ r2 in
-    let r4 = fours_past bytes _ h.guids (in_fours h.blobs) r3 in
+    let r4 = fours_past bytes _ h.guids (in_fours h.blobs ++ last) r3 in
     record {
       tables = fours_part bytes at stream _ r0;
       strings = fours_part bytes _ h.strings _ r1;
       users = fours_part bytes _ h.users _ r2;
       guids = fours_part bytes _ h.guids _ r3;
-      blobs = fours_part bytes _ h.blobs [] (as_split bytes _ _ _ r4 (sym (append-nil (in_fours h.blobs))));
-      size = omega (arith, rest_size bytes _ (in_fours h.blobs) r4, fours_size h.blobs);
+      blobs = fours_part bytes _ h.blobs last r4;
+      rest = fours_past bytes _ h.blobs last r4;
     }
 
-counted_again : (bytes : List ℕ) (jtd u : Bool) (at : ℕ) (stream : List ℕ) (h : Counted) → AreThere bytes at stream h → counted_strings h.strings ≡ h.strings → heaps_of bytes (root_for jtd u (spans_from at stream h)) ≡ h
+counted_again : (bytes : List ℕ) (jtd u : Bool) (at : ℕ) (stream : List ℕ) (h : Counted) (last : List ℕ) (pdb : Option Span) → AreThere bytes at stream h last → counted_strings h.strings ≡ h.strings
+    → heaps_of bytes (root_for jtd u (spans_from at stream h) pdb) ≡ h
 unfolding heaps_of
-counted_again bytes jtd u at stream h is counts = rw (is.strings, is.users, is.guids, is.blobs, counts) refl
+counted_again bytes jtd u at stream h last pdb is counts = rw (is.strings, is.users, is.guids, is.blobs, counts) refl
 
-holds : (bytes : List ℕ) (jtd u : Bool) (at : ℕ) (stream : List ℕ) (h : Counted) → AreThere bytes at stream h → counted_strings h.strings ≡ h.strings → HoldsStreams bytes jtd u stream h (root_for jtd u (spans_from at stream h))
-holds bytes jtd u at stream h is counts = record { tables = is.tables; form = refl; wide = refl; heaps = counted_again bytes jtd u at stream h is counts }
+holds : (bytes : List ℕ) (jtd u : Bool) (at : ℕ) (stream : List ℕ) (h : Counted) (last : List ℕ) (pdb : Option Span) → AreThere bytes at stream h last → counted_strings h.strings ≡ h.strings
+    → HoldsStreams bytes jtd u stream h (root_for jtd u (spans_from at stream h) pdb)
+holds bytes jtd u at stream h last pdb is counts = record { tables = is.tables; form = refl; wide = refl; heaps = counted_again bytes jtd u at stream h last pdb is counts }
 
-apart : (a b c d e f t : List ℕ) → (a ++ (b ++ (c ++ (d ++ (e ++ f))))) ++ t ≡ a ++ (b ++ (c ++ (d ++ (e ++ (f ++ t)))))
-apart a b c d e f t =
-    let four = append_assoc d (e ++ f) t ∙ ap (λ xs. d ++ xs) (append_assoc e f t) in
-    let three = append_assoc c (d ++ (e ++ f)) t ∙ ap (λ xs. c ++ xs) four in
-    let two = append_assoc b (c ++ (d ++ (e ++ f))) t ∙ ap (λ xs. b ++ xs) three in
-    append_assoc a (b ++ (c ++ (d ++ (e ++ f)))) t ∙ ap (λ xs. a ++ xs) two
+-- the headers of the five and what stands behind them, one part behind the other
+apart : (a b c d e t : List ℕ) → ((((a ++ b) ++ c) ++ d) ++ e) ++ t ≡ a ++ (b ++ (c ++ (d ++ (e ++ t))))
+apart a b c d e t =
+    append_assoc (((a ++ b) ++ c) ++ d) e t
+    ∙ append_assoc ((a ++ b) ++ c) d (e ++ t)
+    ∙ append_assoc (a ++ b) c (d ++ (e ++ t))
+    ∙ append_assoc a b (c ++ (d ++ (e ++ t)))
 
-abbrev headers_of : Bool → Spans → List ℕ → List ℕ
-headers_of u s f =
-    header_of (table_name u) s.tables ++ (header_of (codes "#Strings") s.strings ++ (header_of (codes "#US") s.users ++ (header_of (codes "#GUID") s.guids ++ (header_of (codes "#Blob") s.blobs ++ f))))
+headers_apart : (at : ℕ) (u : Bool) (stream : List ℕ) (h : Counted) (rest : List ℕ) → five_headers_written at u stream h ++ rest ≡ headers_there u (spans_from at stream h) rest
+unfolding five_headers_written
+headers_apart at u stream h rest =
+    let s = spans_from at stream h in
+    apart (header_of (table_name u) s.tables) (header_of (codes "#Strings") s.strings) (header_of (codes "#US") s.users) (header_of (codes "#GUID") s.guids) (header_of (codes "#Blob") s.blobs) rest
 
-spans_apart : (u : Bool) (s : Spans) (f t : List ℕ) → headers_of u s f ++ t ≡ five_written u s (f ++ t)
-spans_apart u s f t =
-    apart (header_of (table_name u) s.tables) (header_of (codes "#Strings") s.strings) (header_of (codes "#US") s.users) (header_of (codes "#GUID") s.guids) (header_of (codes "#Blob") s.blobs) f t
+streams_apart : (stream : List ℕ) (h : Counted) (last : List ℕ) → five_written stream h ++ last ≡ tail stream h last
+unfolding five_written
+streams_apart stream h last = apart (in_fours stream) (in_fours h.strings) (in_fours h.users) (in_fours h.guids) (in_fours h.blobs) last
 
-four : (a b c g : List ℕ) → ((a ++ b) ++ c) ++ g ≡ a ++ (b ++ (c ++ g))
-four a b c g = append_assoc (a ++ b) c g ∙ append_assoc a b (c ++ g)
+parts : (a b c d e : List ℕ) → (((a ++ b) ++ c) ++ d) ++ e ≡ a ++ (b ++ (c ++ (d ++ e)))
+parts a b c d e = append_assoc ((a ++ b) ++ c) d e ∙ append_assoc (a ++ b) c (d ++ e) ∙ append_assoc a b (c ++ (d ++ e))
 
-five_parts : (a b c d g : List ℕ) → (((a ++ b) ++ c) ++ d) ++ g ≡ a ++ (b ++ (c ++ (d ++ g)))
-five_parts a b c d g = append_assoc ((a ++ b) ++ c) d g ∙ four a b c (d ++ g)
-
-six_parts : (a b c d e g : List ℕ) → ((((a ++ b) ++ c) ++ d) ++ e) ++ g ≡ a ++ (b ++ (c ++ (d ++ (e ++ g))))
-six_parts a b c d e g = append_assoc (((a ++ b) ++ c) ++ d) e g ∙ five_parts a b c d (e ++ g)
-
-seven_parts : (a b c d e f g : List ℕ) → (((((a ++ b) ++ c) ++ d) ++ e) ++ f) ++ g ≡ a ++ (b ++ (c ++ (d ++ (e ++ (f ++ g)))))
-seven_parts a b c d e f g = append_assoc ((((a ++ b) ++ c) ++ d) ++ e) f g ∙ six_parts a b c d e (f ++ g)
-
-headers_parts : (u : Bool) (s : Spans) (f : List ℕ) → ((((header_of (table_name u) s.tables ++ header_of (codes "#Strings") s.strings) ++ header_of (codes "#US") s.users) ++ header_of (codes "#GUID") s.guids) ++ header_of (codes "#Blob") s.blobs) ++ f ≡ headers_of u s f
-headers_parts u s f =
-    six_parts (header_of (table_name u) s.tables) (header_of (codes "#Strings") s.strings) (header_of (codes "#US") s.users) (header_of (codes "#GUID") s.guids) (header_of (codes "#Blob") s.blobs) f
-
-five_headers : (u : Bool) (stream : List ℕ) (h : Counted) → stream_headers_written false u stream h ≡ headers_of u (spans_from 108 stream h) []
-unfolding stream_headers_written
-five_headers u stream h = headers_parts u (spans_from 108 stream h) []
-
-six_headers : (u : Bool) (stream : List ℕ) (h : Counted) → stream_headers_written true u stream h ≡ headers_of u (spans_from 124 stream h) (stream_header_written (codes "#JTD") (size_from 124 stream h) 0)
-unfolding stream_headers_written
-six_headers u stream h = headers_parts u (spans_from 124 stream h) (stream_header_written (codes "#JTD") (size_from 124 stream h) 0)
-
-root_apart : (jtd u : Bool) (stream : List ℕ) (h : Counted) → root_written jtd u stream h ≡ front_written (if jtd then 6 else 5) ++ (stream_headers_written jtd u stream h ++ tail stream h)
-unfolding root_written
-root_apart jtd u stream h =
-    seven_parts (front_written (if jtd then 6 else 5)) (stream_headers_written jtd u stream h) (in_fours stream) (in_fours h.strings) (in_fours h.users) (in_fours h.guids) (in_fours h.blobs)
-
-five_apart : (u : Bool) (stream : List ℕ) (h : Counted) → root_written false u stream h ≡ front_written 5 ++ five_written u (spans_from 108 stream h) (tail stream h)
-five_apart u stream h =
-    root_apart false u stream h ∙ ap (λ xs. front_written 5 ++ (xs ++ tail stream h)) (five_headers u stream h) ∙ ap (λ xs. front_written 5 ++ xs) (spans_apart u (spans_from 108 stream h) [] (tail stream h))
-
-six_apart : (u : Bool) (stream : List ℕ) (h : Counted) → root_written true u stream h ≡ front_written 6 ++ five_written u (spans_from 124 stream h) (stream_header_written (codes "#JTD") (size_from 124 stream h) 0 ++ tail stream h)
-six_apart u stream h =
-    root_apart true u stream h ∙ ap (λ xs. front_written 6 ++ (xs ++ tail stream h)) (six_headers u stream h) ∙ ap (λ xs. front_written 6 ++ xs) (spans_apart u (spans_from 124 stream h) (stream_header_written (codes "#JTD") (size_from 124 stream h) 0) (tail stream h))
+-- a root with its headers and its streams one behind the other
+root_apart : (more : List Further) (u : Bool) (stream : List ℕ) (h : Counted)
+    → root_with_further more u stream h
+    ≡ front_written (5 + length more) ++ headers_there u (spans_from (streams_begin more) stream h) (further_headers_written (five_end (streams_begin more) stream h) more ++ tail stream h (further_written more))
+unfolding root_with_further
+root_apart more u stream h =
+    let begin = streams_begin more in
+    let front = front_written (5 + length more) in
+    let heads = further_headers_written (five_end begin stream h) more in
+    parts front (five_headers_written begin u stream h) heads (five_written stream h) (further_written more)
+    ∙ ap (λ xs. front ++ (five_headers_written begin u stream h ++ (heads ++ xs))) (streams_apart stream h (further_written more))
+    ∙ ap (λ xs. front ++ xs) (headers_apart begin u stream h (heads ++ tail stream h (further_written more)))
 
 behind_front : (bytes : List ℕ) (count : ℕ) (rest : List ℕ) → bytes ≡ front_written count ++ rest → Rests bytes 32 rest
 behind_front bytes count rest e = past bytes 0 32 (front_written count) rest (as_split bytes 0 _ _ (at_begin bytes) e) (ap (λ n. 0 + n) (front_size count))
@@ -140,28 +135,87 @@ behind_front bytes count rest e = past bytes 0 32 (front_written count) rest (as
 version_of : (bytes : List ℕ) (count : ℕ) (rest : List ℕ) → bytes ≡ front_written count ++ rest → version_len bytes ≡ Some 12
 version_of bytes count rest e = ap version_len e ∙ front_version count rest
 
--- without `#JTD`
-five_read : (bytes : List ℕ) (u : Bool) (stream : List ℕ) (h : Counted) → bytes ≡ front_written 5 ++ five_written u (spans_from 108 stream h) (tail stream h) → size_from 108 stream h < 2 ^ 32 → counted_strings h.strings ≡ h.strings → (root : Root) × (root_of bytes ≡ Ok root) × HoldsStreams bytes false u stream h root
+-- the five streams alone
+five_read : (bytes : List ℕ) (u : Bool) (stream : List ℕ) (h : Counted) → bytes ≡ front_written 5 ++ headers_there u (spans_from 108 stream h) (tail stream h []) → size_from 108 stream h < 2 ^ 32 → counted_strings h.strings ≡ h.strings
+    → (root : Root) × (root_of bytes ≡ Ok root) × HoldsStreams bytes false u stream h root
 five_read bytes u stream h e small counts =
     let s = spans_from 108 stream h in
     let size = size_from 108 stream h in
-    let there = five_there bytes u s size (tail stream h) (ends 108 stream h) small (behind_front bytes 5 _ e) in
-    let is = are_there bytes 108 stream h there.1 in
-    let listed = streams_are bytes 5 108 (five u s) (version_of bytes 5 _ e) (rw e (front_count false _)) there.0 in
-    let read = root_is bytes (five u s) listed (rw (is.size) (five_good size u s (ends 108 stream h))) in
-    (root_for false u s, read ∙ ap (λ (r : Root). Ok r) (five_root u s), holds bytes false u 108 stream h is counts)
+    let there = five_there bytes u s size (tail stream h []) (ends 108 stream h) small (behind_front bytes 5 _ e) in
+    let is = are_there bytes 108 stream h [] there.1 in
+    let whole : length bytes ≡ size = omega (arith, rest_size bytes size [] is.rest) in
+    let listed = streams_are bytes 5 108 (five u s) (version_of bytes 5 _ e) (rw e (front_five _)) there.0 in
+    let read = root_is bytes (five u s) listed (rw whole (five_good size u s (ends 108 stream h))) in
+    (root_for false u s None, read ∙ ap (λ (r : Root). Ok r) (five_root u s), holds bytes false u 108 stream h [] None is counts)
 
--- and with it
-six_read : (bytes : List ℕ) (u : Bool) (stream : List ℕ) (h : Counted) → bytes ≡ front_written 6 ++ five_written u (spans_from 124 stream h) (stream_header_written (codes "#JTD") (size_from 124 stream h) 0 ++ tail stream h) → size_from 124 stream h < 2 ^ 32 → counted_strings h.strings ≡ h.strings → (root : Root) × (root_of bytes ≡ Ok root) × HoldsStreams bytes true u stream h root
-six_read bytes u stream h e small counts =
+-- where the further stream stands
+abbrev further_span : List ℕ → Counted → List ℕ → Span
+further_span stream h x = record { start = size_from 124 stream h; len = length x }
+
+-- a root of six: what its headers say, where its streams stand, and that none is refused
+record AreSix (bytes : List ℕ) (u : Bool) (stream : List ℕ) (h : Counted) (name x : List ℕ) : Type 0 where
+  pub read : root_of bytes ≡ Ok (root_with (six u (spans_from 124 stream h) name (further_span stream h x)))
+  pub there : AreThere bytes 124 stream h (in_fours x ++ [])
+  pub last : part bytes (further_span stream h x) ≡ x
+
+six_read : (bytes : List ℕ) (u : Bool) (stream : List ℕ) (h : Counted) (name x : List ℕ) → IsName name 8 → IsBeside name
+    → bytes ≡ front_written 6 ++ headers_there u (spans_from 124 stream h) (header_of name (further_span stream h x) ++ tail stream h (in_fours x ++ []))
+    → size_from 124 stream h + padded (length x) < 2 ^ 32 → AreSix bytes u stream h name x
+six_read bytes u stream h name x is beside e small =
     let s = spans_from 124 stream h in
-    let size = size_from 124 stream h in
-    let there = six_there bytes u s size size (tail stream h) (ends 124 stream h) small (omega arith) (behind_front bytes 6 _ e) in
-    let is = are_there bytes 124 stream h there.1 in
-    let listed = streams_are bytes 6 124 (six u s size) (version_of bytes 6 _ e) (rw e (front_count true _)) there.0 in
-    let read = root_is bytes (six u s size) listed (rw (is.size) (six_good size size u s (ends 124 stream h) (omega arith))) in
-    (root_for true u s, read ∙ ap (λ (r : Root). Ok r) (six_root u s size), holds bytes true u 124 stream h is counts)
+    let span = further_span stream h x in
+    let five_size = size_from 124 stream h in
+    let size = five_size + padded (length x) in
+    let fit = wider five_size size s (omega arith) (ends 124 stream h) in
+    let le : span.start + span.len ≤ size = omega (arith, no_less (length x)) in
+    let r = six_there bytes u s size name span (tail stream h (in_fours x ++ [])) is fit small le (behind_front bytes 6 _ e) in
+    let streams = are_there bytes 124 stream h (in_fours x ++ []) r.1 in
+    let whole : length bytes ≡ size = omega (arith, rest_size bytes size [] (fours_past bytes five_size x [] streams.rest)) in
+    let listed = streams_are bytes 6 124 (six u s name span) (version_of bytes 6 _ e) (rw e (front_six _)) r.0 in
+    record {
+      read = root_is bytes (six u s name span) listed (rw whole (six_good size u s name span beside fit le));
+      there = streams;
+      last = fours_part bytes five_size x [] streams.rest;
+    }
 
+six_of : (u : Bool) (stream : List ℕ) (h : Counted) (name x : List ℕ) → padded (length name + 1) ≡ 8
+    → root_with_further (record { name = name; bytes = x } ∷ []) u stream h
+    ≡ front_written 6 ++ headers_there u (spans_from 124 stream h) (header_of name (further_span stream h x) ++ tail stream h (in_fours x ++ []))
+six_of u stream h name x eight =
+    let f : Further = record { name = name; bytes = x } in
+    let begin : streams_begin (f ∷ []) ≡ 124 = omega (arith, eight) in
+    root_apart (f ∷ []) u stream h
+    ∙ ap (λ (n : ℕ). front_written 6 ++ headers_there u (spans_from n stream h) (further_headers_written (five_end n stream h) (f ∷ []) ++ tail stream h (further_written (f ∷ [])))) begin
+    ∙ ap (λ xs. front_written 6 ++ headers_there u (spans_from 124 stream h) (xs ++ tail stream h (in_fours x ++ []))) (append-nil (header_of name (further_span stream h x)))
+
+jtd_read : (u : Bool) (stream : List ℕ) (h : Counted) → root_size true stream h < 2 ^ 32 → counted_strings h.strings ≡ h.strings
+    → (root : Root) × (root_of (root_written true u stream h) ≡ Ok root) × HoldsStreams (root_written true u stream h) true u stream h root
+unfolding root_written padded
+jtd_read u stream h small counts =
+    let bytes = root_with_further (jtd_streams true) u stream h in
+    let are = six_read bytes u stream h (codes "#JTD") [] jtd_name jtd_beside (six_of u stream h (codes "#JTD") [] refl) small in
+    (root_for true u (spans_from 124 stream h) None, are.read ∙ ap (λ (r : Root). Ok r) (jtd_root u (spans_from 124 stream h) (further_span stream h [])), holds bytes true u 124 stream h _ None are.there counts)
+
+five_alone : (u : Bool) (stream : List ℕ) (h : Counted) → root_size false stream h < 2 ^ 32 → counted_strings h.strings ≡ h.strings
+    → (root : Root) × (root_of (root_written false u stream h) ≡ Ok root) × HoldsStreams (root_written false u stream h) false u stream h root
+unfolding root_written
+five_alone u stream h small counts = five_read (root_with_further [] u stream h) u stream h (root_apart [] u stream h) small counts
+
+-- the root of a module or of a delta
 pub root_is_read : RootIsRead
-root_is_read true u stream h small counts = six_read (root_written true u stream h) u stream h (six_apart u stream h) small counts
-root_is_read false u stream h small counts = five_read (root_written false u stream h) u stream h (five_apart u stream h) small counts
+root_is_read true u stream h small counts = jtd_read u stream h small counts
+root_is_read false u stream h small counts = five_alone u stream h small counts
+
+-- and that of a PDB
+pub pdb_root_is_read : PdbRootIsRead
+unfolding pdb_root_written padded
+pdb_root_is_read pdb u stream h small counts =
+    let bytes = root_with_further (pdb_streams pdb) u stream h in
+    let s = spans_from 124 stream h in
+    let span = further_span stream h pdb in
+    let are = six_read bytes u stream h (codes "#Pdb") pdb pdb_name pdb_beside (six_of u stream h (codes "#Pdb") pdb refl) small in (
+      root_for false u s (Some span),
+      are.read ∙ ap (λ (r : Root). Ok r) (pdb_root u s span),
+      holds bytes false u 124 stream h _ (Some span) are.there counts,
+      (span, refl, are.last),
+    )

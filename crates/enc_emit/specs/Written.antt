@@ -1,5 +1,5 @@
 -- Metadata roots that are written: the header, the streams' headers, and the streams (ECMA-335 II.24.2.1, II.24.2.2).
-use Rattle.std.specs.Prelude.{◌≡◌, ℕ, ◌+◌, ◌-◌, ◌<◌, ◌^◌, Bool, ◌||◌, List, [], ◌∷◌, ◌++◌, length, replicate, Ok, nat_lt, codes, if◌then◌else◌}
+use Rattle.std.specs.Prelude.{◌≡◌, ℕ, ◌+◌, ◌-◌, ◌<◌, ◌^◌, Bool, false, ◌||◌, List, [], ◌∷◌, ◌++◌, length, replicate, Some, Ok, nat_lt, codes, if◌then◌else◌}
 use Rattle.std.specs.List.{list_any}
 use Rattle.std.specs.Int.{w16, w32, to_le_bytes}
 use Rattle.enc_base.specs.Numbers.{padded}
@@ -7,6 +7,7 @@ use Rattle.enc_meta.specs.Root.{root_of}
 use Rattle.enc_meta.specs.Heaps.{Counted, counted_strings, heaps_of, part}
 use Rattle.enc_meta.specs.Built.{Built, heaps_built}
 use Rattle.enc_meta.specs.declared.root.Root.{Root}
+use Rattle.enc_meta.specs.declared.span.Span.{Span}
 use Rattle.enc_schema.specs.Tables.{field_ptr, method_ptr, param_ptr, event_ptr, property_ptr}
 use Rattle.enc_rows.specs.Written.{count_at, stream_of, heap_bits}
 
@@ -32,49 +33,99 @@ unfoldable pub front_written : ℕ → List ℕ
 front_written count = codes "BSJB" ++ to_le_bytes w16 1 ++ to_le_bytes w16 1 ++ to_le_bytes w32 0 ++ to_le_bytes w32 12 ++ version ++ to_le_bytes w16 0
     ++ to_le_bytes w16 count
 
--- where the streams begin: behind the header's 32 bytes, the 76 of five streams' headers, and the 16 of that of `#JTD`
-abbrev pub streams_begin : Bool → ℕ
-streams_begin jtd = if jtd then 124 else 108
+-- a stream beside the five that every root has: its name and its bytes
+pub record Further : Type 0 where
+  pub name : List ℕ
+  pub bytes : List ℕ
 
--- where each stream begins, one behind the other in fours
-abbrev pub strings_begin : Bool → List ℕ → ℕ
-strings_begin jtd stream = streams_begin jtd + padded (length stream)
+-- `#JTD`, which has no bytes, where it is there
+abbrev pub jtd_streams : Bool → List Further
+jtd_streams jtd = if jtd then record { name = codes "#JTD"; bytes = [] } ∷ [] else []
 
-abbrev pub users_begin : Bool → List ℕ → Counted → ℕ
-users_begin jtd stream h = strings_begin jtd stream + padded (length h.strings)
+-- `#Pdb` with these bytes (Portable PDB v1.0, #Pdb Stream)
+abbrev pub pdb_streams : List ℕ → List Further
+pdb_streams pdb = record { name = codes "#Pdb"; bytes = pdb } ∷ []
 
-abbrev pub guids_begin : Bool → List ℕ → Counted → ℕ
-guids_begin jtd stream h = users_begin jtd stream h + padded (length h.users)
+-- where the streams begin: behind the header's 32 bytes, the 76 of the headers of the five, and those of the further ones
+abbrev pub streams_begin : List Further → ℕ
+streams_begin [] = 108
+streams_begin (f ∷ more) = streams_begin more + (8 + padded (length f.name + 1))
 
-abbrev pub blobs_begin : Bool → List ℕ → Counted → ℕ
-blobs_begin jtd stream h = guids_begin jtd stream h + padded (length h.guids)
+-- where each of the five begins, one behind the other in fours, from a place on
+abbrev pub strings_begin : ℕ → List ℕ → ℕ
+strings_begin start stream = start + padded (length stream)
 
--- where the last ends
-abbrev pub root_size : Bool → List ℕ → Counted → ℕ
-root_size jtd stream h = blobs_begin jtd stream h + padded (length h.blobs)
+abbrev pub users_begin : ℕ → List ℕ → Counted → ℕ
+users_begin start stream h = strings_begin start stream + padded (length h.strings)
+
+abbrev pub guids_begin : ℕ → List ℕ → Counted → ℕ
+guids_begin start stream h = users_begin start stream h + padded (length h.users)
+
+abbrev pub blobs_begin : ℕ → List ℕ → Counted → ℕ
+blobs_begin start stream h = guids_begin start stream h + padded (length h.guids)
+
+-- where the last of them ends
+abbrev pub five_end : ℕ → List ℕ → Counted → ℕ
+five_end start stream h = blobs_begin start stream h + padded (length h.blobs)
+
+-- where the last of the further ones ends
+abbrev pub further_end : ℕ → List Further → ℕ
+further_end start [] = start
+further_end start (f ∷ more) = further_end (start + padded (length f.bytes)) more
 
 -- the name of the table stream: `#-` where the tables aren't in their plain form
 abbrev pub table_name : Bool → List ℕ
 table_name uncompressed = if uncompressed then codes "#-" else codes "#~"
 
--- the header of `#JTD`, which has no bytes, where it is there
-abbrev pub jtd_written : Bool → ℕ → List ℕ
-jtd_written jtd start = if jtd then stream_header_written (codes "#JTD") start 0 else []
+-- the headers of the five, which stand from a place on
+unfoldable pub five_headers_written : ℕ → Bool → List ℕ → Counted → List ℕ
+five_headers_written start uncompressed stream h =
+    stream_header_written (table_name uncompressed) start (length stream)
+    ++ stream_header_written (codes "#Strings") (strings_begin start stream) (length h.strings)
+    ++ stream_header_written (codes "#US") (users_begin start stream h) (length h.users)
+    ++ stream_header_written (codes "#GUID") (guids_begin start stream h) (length h.guids)
+    ++ stream_header_written (codes "#Blob") (blobs_begin start stream h) (length h.blobs)
 
-unfoldable pub stream_headers_written : Bool → Bool → List ℕ → Counted → List ℕ
-stream_headers_written jtd uncompressed stream h =
-    stream_header_written (table_name uncompressed) (streams_begin jtd) (length stream)
-    ++ stream_header_written (codes "#Strings") (strings_begin jtd stream) (length h.strings)
-    ++ stream_header_written (codes "#US") (users_begin jtd stream h) (length h.users)
-    ++ stream_header_written (codes "#GUID") (guids_begin jtd stream h) (length h.guids)
-    ++ stream_header_written (codes "#Blob") (blobs_begin jtd stream h) (length h.blobs)
-    ++ jtd_written jtd (root_size jtd stream h)
+-- those of the further ones
+abbrev pub further_headers_written : ℕ → List Further → List ℕ
+further_headers_written start [] = []
+further_headers_written start (f ∷ more) =
+    stream_header_written f.name start (length f.bytes) ++ further_headers_written (start + padded (length f.bytes)) more
 
+-- the bytes of the five, and of the further ones
+unfoldable pub five_written : List ℕ → Counted → List ℕ
+five_written stream h = in_fours stream ++ in_fours h.strings ++ in_fours h.users ++ in_fours h.guids ++ in_fours h.blobs
+
+abbrev pub further_written : List Further → List ℕ
+further_written [] = []
+further_written (f ∷ more) = in_fours f.bytes ++ further_written more
+
+-- a root with the five and further streams behind them
+unfoldable pub root_with_further : List Further → Bool → List ℕ → Counted → List ℕ
+root_with_further more uncompressed stream h =
+    front_written (5 + length more)
+    ++ five_headers_written (streams_begin more) uncompressed stream h
+    ++ further_headers_written (five_end (streams_begin more) stream h) more
+    ++ five_written stream h
+    ++ further_written more
+
+-- how long it is
+abbrev pub size_with_further : List Further → List ℕ → Counted → ℕ
+size_with_further more stream h = further_end (five_end (streams_begin more) stream h) more
+
+-- the root of a module, or with `#JTD` that of a delta
 unfoldable pub root_written : Bool → Bool → List ℕ → Counted → List ℕ
-root_written jtd uncompressed stream h =
-    front_written (if jtd then 6 else 5)
-    ++ stream_headers_written jtd uncompressed stream h
-    ++ in_fours stream ++ in_fours h.strings ++ in_fours h.users ++ in_fours h.guids ++ in_fours h.blobs
+root_written jtd uncompressed stream h = root_with_further (jtd_streams jtd) uncompressed stream h
+
+abbrev pub root_size : Bool → List ℕ → Counted → ℕ
+root_size jtd stream h = size_with_further (jtd_streams jtd) stream h
+
+-- the root of a PDB: the bytes of `#Pdb`, whether the table stream is `#-`, the table stream, and the heaps
+unfoldable pub pdb_root_written : List ℕ → Bool → List ℕ → Counted → List ℕ
+pdb_root_written pdb uncompressed stream h = root_with_further (pdb_streams pdb) uncompressed stream h
+
+abbrev pub pdb_root_size : List ℕ → List ℕ → Counted → ℕ
+pdb_root_size pdb stream h = size_with_further (pdb_streams pdb) stream h
 
 -- a Ptr table has rows
 unfoldable pub has_ptr_rows : List (List (List ℕ)) → Bool
@@ -88,6 +139,13 @@ root_built p jtd = root_written jtd (jtd || has_ptr_rows p.rows) (stream_of p.ro
 abbrev pub built_size : Parts → Bool → ℕ
 built_size p jtd = root_size jtd (stream_of p.rows jtd (heap_bits p.rows)) (heaps_built p.heaps)
 
+-- the root with `#Pdb`: narrow indices, and the uncompressed form only where there are Ptr rows, as no PDB has
+unfoldable pub pdb_root_built : Parts → List ℕ → List ℕ
+pdb_root_built p pdb = pdb_root_written pdb (has_ptr_rows p.rows) (stream_of p.rows false (heap_bits p.rows)) (heaps_built p.heaps)
+
+abbrev pub pdb_built_size : Parts → List ℕ → ℕ
+pdb_built_size p pdb = pdb_root_size pdb (stream_of p.rows false (heap_bits p.rows)) (heaps_built p.heaps)
+
 -- a root with these streams
 pub record HoldsStreams (bytes : List ℕ) (jtd uncompressed : Bool) (stream : List ℕ) (h : Counted) (root : Root) : Type 0 where
   pub tables : part bytes root.tables ≡ stream
@@ -100,3 +158,15 @@ abbrev pub RootIsRead : Type 0
 RootIsRead = (jtd uncompressed : Bool) (stream : List ℕ) (h : Counted) → root_size jtd stream h < 2 ^ 32 → counted_strings h.strings ≡ h.strings
     → (root : Root) × (root_of (root_written jtd uncompressed stream h) ≡ Ok root)
     × HoldsStreams (root_written jtd uncompressed stream h) jtd uncompressed stream h root
+
+-- the bytes of `#Pdb` stand in the root
+abbrev pub HoldsPdb : List ℕ → List ℕ → Root → Type 0
+HoldsPdb bytes pdb root = (span : Span) × (root.pdb ≡ Some span) × (part bytes span ≡ pdb)
+
+-- a root with `#Pdb` that was written is read back, with these very bytes
+abbrev pub PdbRootIsRead : Type 0
+PdbRootIsRead = (pdb : List ℕ) (uncompressed : Bool) (stream : List ℕ) (h : Counted) → pdb_root_size pdb stream h < 2 ^ 32
+    → counted_strings h.strings ≡ h.strings
+    → (root : Root) × (root_of (pdb_root_written pdb uncompressed stream h) ≡ Ok root)
+    × HoldsStreams (pdb_root_written pdb uncompressed stream h) false uncompressed stream h root
+    × HoldsPdb (pdb_root_written pdb uncompressed stream h) pdb root

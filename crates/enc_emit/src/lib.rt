@@ -5,7 +5,7 @@ mod laws;
 mod root;
 mod written;
 
-pub use laws::root_law;
+pub use laws::{pdb_root_law, root_law};
 pub use root::RootBuilder;
 
 #[cfg(test)]

@@ -1,10 +1,10 @@
 //! A metadata root that is built: its heaps, its tables, and then its bytes (ECMA-335 II.24.2.1).
-ghost use Rattle.std.specs.Prelude.{◌≡◌, ◌<◌, ◌^◌, ◌||◌, [], IfOk};
+ghost use Rattle.std.specs.Prelude.{◌≡◌, ◌<◌, ◌^◌, ◌||◌, false, [], IfOk};
 ghost use Rattle.enc_meta.specs.Built.{none_from};
 ghost use Rattle.enc_rows.specs.Written.{IndicesFit};
-ghost use Rattle.enc_emit.specs.Written.{has_ptr_rows as ptrs_have_rows, root_built, built_size};
+ghost use Rattle.enc_emit.specs.Written.{has_ptr_rows as ptrs_have_rows, root_built, built_size, pdb_root_built, pdb_built_size};
 
-use crate::written::root_bytes;
+use crate::written::{pdb_root_bytes, root_bytes};
 use enc_meta::{HeapBuilder, HeapLengths};
 use enc_rows::{TableBuilder, heap_bits_law};
 use enc_schema::tables::{EVENT_PTR, FIELD_PTR, METHOD_PTR, PARAM_PTR, PROPERTY_PTR};
@@ -61,6 +61,13 @@ impl RootBuilder {
         })
     }
 
+    /// A root of heaps and tables that were built apart. It takes no memory.
+    pub fn of(heaps: HeapBuilder, tables: TableBuilder) -> RootBuilder
+        ensures { result ≡ record { heaps = heaps; rows = tables } }
+    {
+        RootBuilder { heaps, tables }
+    }
+
     /// The heaps, to add values.
     pub fn heaps(&mut self) -> &mut HeapBuilder
         ensures* writes_back { sem 𝓛 (LendsHeaps self.entry result) }
@@ -94,5 +101,23 @@ impl RootBuilder {
         let stream = self.tables.finish(alloc, jtd, flags)?;
         let heaps = self.heaps.finish()?;
         root_bytes(alloc, jtd, uncompressed, &stream, &heaps)
+    }
+
+    /// The bytes of the root of a Portable PDB, with these of its stream `#Pdb` (Portable PDB v1.0,
+    /// #Pdb Stream). Offsets take four bytes as in `finish`, and indices only where the tables ask
+    /// for it. The table stream is `#~`, as no PDB has rows in a Ptr table.
+    #[tactic(auto, unfolding(crate::specs::Written::pdb_root_built))]
+    pub fn finish_pdb(self, alloc: Global, pdb: &[u8]) -> Result<Vec<u8>, AllocError>
+        requires fit { IndicesFit self.rows false }
+        requires size { pdb_built_size self pdb.now < 2 ^ 32 }
+        ensures { IfOk result (λ v. v.items ≡ pdb_root_built self pdb.now) }
+    {
+        self.tables.laws();
+        heap_bits_law();
+        let uncompressed = has_ptr_rows(&self.tables);
+        let flags = self.tables.heap_bits();
+        let stream = self.tables.finish(alloc, false, flags)?;
+        let heaps = self.heaps.finish()?;
+        pdb_root_bytes(alloc, pdb, uncompressed, &stream, &heaps)
     }
 }

@@ -1,5 +1,5 @@
 //! Roots that are built and read back.
-ghost use Rattle.std.specs.Prelude.{◌≡◌, ◌==◌, IfOk, nat_lt};
+ghost use Rattle.std.specs.Prelude.{◌≡◌, ◌≤◌, ◌==◌, IfOk, length, nat_lt};
 ghost use Rattle.std.specs.List.{list_all, list_any};
 ghost use Rattle.enc_meta.specs.Heaps.{part};
 ghost use Rattle.enc_rows.specs.Layout.{IsWithin};
@@ -7,10 +7,13 @@ ghost use Rattle.enc_emit.specs.Little.{AreNear, IsLittle};
 
 use super::*;
 use enc_base::{Counts, Token};
-use enc_meta::{BuildFault, HeapLengths, Heaps, read_root};
-use enc_rows::{Form, Tables};
-use enc_schema::columns::{MODULE_ENC_ID, MODULE_NAME, TYPE_DEF_TYPE_NAME};
-use enc_schema::tables::{METHOD_PTR, MODULE, TYPE_DEF};
+use enc_meta::{BuildFault, HeapBuilder, HeapLengths, Heaps, read_root};
+use enc_rows::{Form, TableBuilder, Tables};
+use enc_schema::columns::{
+    DOCUMENT_NAME, METHOD_DEBUG_INFORMATION_SEQUENCE_POINTS, MODULE_ENC_ID, MODULE_NAME,
+    TYPE_DEF_TYPE_NAME,
+};
+use enc_schema::tables::{DOCUMENT, METHOD_DEBUG_INFORMATION, METHOD_PTR, MODULE, TYPE_DEF};
 use enc_schema::{column_of, columns_of};
 use std::alloc::{AllocError, Global};
 use std::test::Fail;
@@ -35,6 +38,15 @@ fn begin(alloc: Global, starts: HeapLengths) -> Result<RootBuilder, AllocError>
     ensures { IfOk result (λ b. IsLittle b) }
 {
     RootBuilder::begin(alloc, starts)
+}
+
+/// The same of heaps and tables that begin apart.
+fn begin_apart(alloc: Global, starts: HeapLengths) -> Result<RootBuilder, AllocError>
+    requires { AreNear starts }
+    ensures { IfOk result (λ b. IsLittle b) }
+{
+    let heaps = HeapBuilder::begin(alloc, starts)?;
+    Ok(RootBuilder::of(heaps, TableBuilder::begin(alloc)))
 }
 
 /// Each number is below 256.
@@ -89,6 +101,16 @@ fn finish(mut root: RootBuilder, alloc: Global, jtd: bool) -> Result<Vec<u8>, Al
     root.finish(alloc, jtd)
 }
 
+/// The bytes of the root of a PDB.
+fn finish_pdb(mut root: RootBuilder, alloc: Global, pdb: &[u8]) -> Result<Vec<u8>, AllocError>
+    requires little { IsLittle root }
+    requires short { length pdb.now ≤ 1000 }
+{
+    root.tables().laws();
+    root.heaps().laws();
+    root.finish_pdb(alloc, pdb)
+}
+
 /// The number in a cell, where there is such a cell.
 fn number_in(tables: &Tables, bytes: &[u8], token: Token, column: u8) -> Option<u32>
     requires { IsWithin (part bytes.now tables.now.span) tables.now }
@@ -126,6 +148,17 @@ fn has_text(bytes: &[u8], offset: u32, text: &[u8]) -> bool {
 fn form_of(bytes: &[u8]) -> Option<(bool, bool)> {
     match read_root(bytes) {
         Ok(root) => Some((root.jtd, root.uncompressed)),
+        Err(_) => None,
+    }
+}
+
+/// The bytes of `#Pdb` in the root.
+fn pdb_of(bytes: &[u8]) -> Option<&[u8]> {
+    match read_root(bytes) {
+        Ok(root) => match root.pdb {
+            Some(span) => Some(span.part(bytes)),
+            None => None,
+        },
         Err(_) => None,
     }
 }
@@ -182,5 +215,34 @@ fn reads_ptr_rows_back(rt: HostRuntime) -> Result<(), Fail> {
     let bytes = finish(root, alloc, false)?;
     assert_eq!(rt; form_of(&bytes), Some((false, true)));
     assert_eq!(rt; cell_in(&bytes, Form::Base, METHOD_PTR, 0), Some(9));
+    Ok(())
+}
+
+#[test]
+fn reads_a_pdb_back(rt: HostRuntime) -> Result<(), Fail> {
+    let alloc = rt.alloc();
+    let mut root = begin_apart(alloc, MODULE_START)?;
+    let name = add_text(&mut root, "x".as_bytes())?;
+    assert_eq!(rt; name, 1);
+    push(&mut root, DOCUMENT, &[4, 0, 0, 0])?;
+    push(&mut root, METHOD_DEBUG_INFORMATION, &[1, 9])?;
+    let pdb = [7, 0, 0, 1, 2, 3, 4, 5, 6];
+    let bytes = finish_pdb(root, alloc, &pdb)?;
+    assert_eq!(rt; form_of(&bytes), Some((false, false)));
+    assert!(rt; pdb_of(&bytes) == Some(&pdb));
+    assert_eq!(rt;
+        cell_in(&bytes, Form::Pdb, DOCUMENT, DOCUMENT_NAME),
+        Some(4)
+    );
+    assert_eq!(rt;
+        cell_in(
+            &bytes,
+            Form::Pdb,
+            METHOD_DEBUG_INFORMATION,
+            METHOD_DEBUG_INFORMATION_SEQUENCE_POINTS
+        ),
+        Some(9)
+    );
+    assert!(rt; has_text(&bytes, 1, "x".as_bytes()));
     Ok(())
 }

@@ -57,3 +57,9 @@ tied_more seen form start end entries k v tied is within new fit =
       within = omega (arith, within);
       good = rw (more, is, list_all-append (value_is_good form) values (v ∷ []), tied.good, good) refl;
     }
+
+-- a limit is at most 2^29
+pub limit_few : (form : Form) → limit_of form ≤ 2 ^ 29
+limit_few Text = omega arith
+limit_few User = omega arith
+limit_few Blob = omega arith

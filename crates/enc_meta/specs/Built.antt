@@ -150,6 +150,12 @@ heaps_built b = record {
   guids = guid_bytes b.starts.guids b.guids;
 }
 
+-- how long the four joined heaps are together
+unfoldable pub joined_size : Built → ℕ
+joined_size b =
+    joined_end text_bytes b.starts.strings b.texts + joined_end user_bytes b.starts.users b.users + joined_end blob_bytes b.starts.blobs b.blobs
+    + 16 * (b.starts.guids + length b.guids)
+
 -- no joined heap is longer than its limit, but where it was before
 pub record AreWithinLimits (b : Built) : Type 0 where
   pub texts : joined_end text_bytes b.starts.strings b.texts ≤ max (2 ^ 29) (b.starts.strings + 1)

@@ -2,7 +2,7 @@
 ghost use Rattle.std.specs.Prelude.{◌≡◌, ◌%◌, ◌==◌, length, not, IsTrue, IfOk, OnOk, OnErr};
 ghost use Rattle.std.specs.List.{list_any};
 ghost use Rattle.enc_base.specs.declared.refusal.StreamName.TheVariants.{Strings, Users, Blobs, Guids as GuidStream};
-ghost use Rattle.enc_meta.specs.Built.{AreWithinLimits, none_from, unit_bytes, with_text, with_user, with_blob, with_guid, text_offset, user_offset, blob_offset, guid_number, text_passes, user_passes, blob_passes, guid_passes, heaps_built};
+ghost use Rattle.enc_meta.specs.Built.{AreWithinLimits, none_from, unit_bytes, with_text, with_user, with_blob, with_guid, text_offset, user_offset, blob_offset, guid_number, text_passes, user_passes, blob_passes, guid_passes, heaps_built, joined_size};
 ghost use Rattle.enc_meta.specs.BuiltLaws.{IsGood};
 ghost use Rattle.enc_meta.specs.BuiltSeen.{RefusesWhere, heap_bytes_seen};
 
@@ -163,6 +163,14 @@ impl HeapBuilder {
         ensures err { OnErr result (self.new ≡ self.old) }
     {
         self.guids.add(guid)
+    }
+
+    /// How long the four joined heaps are together, in bytes.
+    #[tactic(auto, unfolding(crate::specs::Built::joined_size))]
+    pub fn size(&self) -> u64
+        ensures { result ≡ joined_size self.now }
+    {
+        self.texts.end() + self.users.end() + self.blobs.end() + self.guids.size()
     }
 
     /// What holds of the values.

@@ -95,6 +95,14 @@ impl Guids {
         Ok(Bytes::from_vec(with_all(nil, self.entries.as_slice())?))
     }
 
+    /// How long the joined heap is.
+    pub fn size(&self) -> u64
+        ensures size { result ≡ 16 * (self.now.start + length self.now.guids) }
+        ensures few { result ≤ 2 ^ 36 }
+    {
+        16 * (u64::from(self.start) + self.entries.len() as u64)
+    }
+
     /// What holds of the GUIDs.
     pub fn laws(&self)
         ensures good { IsTrue (list_all (λ g. length g == 16) self.now.guids) }

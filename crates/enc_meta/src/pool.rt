@@ -1,5 +1,5 @@
 //! The values of one heap, each once, in the order of their first use.
-ghost use Rattle.std.specs.Prelude.{◌≡◌, ℕ, ◌+◌, ◌≤◌, true, false, max, map, [], IsTrue, IfSome, IfNone, IfOk, OnOk, OnErr};
+ghost use Rattle.std.specs.Prelude.{◌≡◌, ℕ, ◌+◌, ◌<◌, ◌≤◌, ◌^◌, true, false, max, map, [], IsTrue, IfSome, IfNone, IfOk, OnOk, OnErr};
 ghost use Rattle.std.specs.List.{list_all};
 ghost use Rattle.enc_meta.specs.Built.{is_among, is_kept, place_among, heap_bytes, joined_end};
 ghost use Rattle.enc_meta.specs.BuiltSeen.{RefusesWhere};
@@ -37,6 +37,11 @@ impl Model for Pool {
 
     ghost invariant = { λ p. IsTied (λ v. v.items) p.form p.start p.end p.offsets.entries };
 }
+
+/// A number of four bytes is one.
+fn word_law(n: u32)
+    ensures { n < 2 ^ 32 }
+{}
 
 impl Pool {
     /// No value, in a heap that begins at a joined offset.
@@ -117,6 +122,15 @@ impl Pool {
     {
         let bytes = heap_of(self.alloc(), self.form, self.offsets.keys().as_slice())?;
         Ok(Bytes::from_vec(bytes))
+    }
+
+    /// Where the joined heap ends.
+    pub fn end(&self) -> u64
+        ensures end { result ≡ joined_end (encoded self.now.form) self.now.start self.now.values }
+        ensures few { result ≤ 2 ^ 32 }
+    {
+        word_law(self.start);
+        self.end
     }
 
     /// What holds of the values.

@@ -25,7 +25,7 @@ take_short (suc n) (x ∷ xs) = omega (arith, take_short n xs)
 pub fewer_left : (n m : ℕ) (xs : List DebugDelta) → length xs ≤ m → length (take n xs) ≤ m
 fewer_left n m xs le = omega (arith, take_short n xs)
 
-newest_first : (xs : List DebugDelta) (x : DebugDelta) → 1 ≤ length xs → x ≡ get_or xs (length xs - 1) x → reverse xs ≡ x ∷ reverse (take (length xs - 1) xs)
+pub newest_first : (xs : List DebugDelta) (x : DebugDelta) → 1 ≤ length xs → x ≡ get_or xs (length xs - 1) x → reverse xs ≡ x ∷ reverse (take (length xs - 1) xs)
 newest_first xs x some is = ap reverse (by_last xs x some is) ∙ reverse-append (take (length xs - 1) xs) (x ∷ [])
 
 none_known : (base : Option Source) (method : Token) → base_row base method ≡ known_at base [] method

@@ -1,4 +1,8 @@
 pub mod There
+pub mod PdbRows
+pub mod PdbRead
+pub mod PdbGood
+pub mod PdbMeant
 pub mod TokensNamed
 pub mod PointsEnd
 pub mod Positions
@@ -8,3 +12,17 @@ pub mod Rows
 pub mod RowsBroken
 pub mod Documents
 pub mod KnownFiles
+pub mod PlacedFiles
+pub mod HeapsGrown
+pub mod DocumentKeys
+pub mod DocumentsHeld
+pub mod ValuesAdded
+pub mod DocumentsUpto
+pub mod RowsGiven
+pub mod RowsOfPoints
+pub mod MethodBlobs
+pub mod MethodsHeld
+pub mod PdbHeld
+pub mod PdbFits
+pub mod ReadSound
+pub mod SoundFiles

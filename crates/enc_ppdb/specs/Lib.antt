@@ -2,6 +2,12 @@ pub mod Pdb
 pub mod Fault
 pub mod Points
 pub mod Misplaced
+pub mod PdbsMean
 pub mod PdbChain
 pub mod Seen
 pub mod KnownAt
+pub mod PlacedAt
+pub mod Written
+pub mod Holding
+pub mod Method
+pub mod Sound

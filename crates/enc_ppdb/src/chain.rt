@@ -1,9 +1,12 @@
 //! The PDBs of a base and its deltas.
-ghost use Rattle.std.specs.Prelude.{◌≡◌, ◌+◌, ◌<◌, ◌≤◌, [], ◌∷◌, IfOk, OnOk, reverse};
+ghost use Rattle.std.specs.Prelude.{◌≡◌, ◌+◌, ◌*◌, ◌^◌, ◌<◌, ◌≤◌, [], ◌∷◌, length, IfOk, OnOk, reverse};
 ghost use Rattle.std.specs.List.{list_any};
 ghost use Rattle.enc_base.specs.Token.{is_token};
-ghost use Rattle.enc_ppdb.specs.PdbChain.{base_row, delta_row, pdb_with, points_at, documents_at};
+ghost use Rattle.enc_plain.specs.SoundDebug.{IsSoundPdb};
+ghost use Rattle.enc_ppdb.specs.PdbChain.{base_row, delta_row, pdb_begun, pdb_with, points_at, documents_at};
+ghost use Rattle.enc_ppdb.specs.Sound.{KeepsSound};
 ghost use Rattle.enc_ppdb.specs.KnownAt.{known_at};
+ghost use Rattle.enc_ppdb.specs.PlacedAt.{file_number};
 
 use crate::known::{Known, document_at, points_at};
 use crate::methods::MethodList;
@@ -38,12 +41,16 @@ pub struct PdbChain {
 }
 
 impl Model for PdbChain {
-    ghost use Rattle.std.specs.Prelude.{◌-◌, reverse, vec_len, vec_capacity};
-    ghost use Rattle.enc_ppdb.specs.PdbChain.{PdbHistory};
+    ghost use Rattle.std.specs.Prelude.{◌<◌, ◌^◌, ◌+◌, reverse, length, vec_len, vec_capacity};
+    ghost use Rattle.enc_plain.specs.SoundDebug.{IsSoundPdb};
+    ghost use Rattle.enc_ppdb.specs.PdbChain.{PdbHistory, pdb_with};
+    ghost use Rattle.enc_ppdb.specs.PlacedAt.{room_for};
 
     ghost Value = { PdbHistory };
 
-    ghost view = { λ c. record { base = c.base; deltas = reverse c.added.items; room = vec_capacity c.added - vec_len c.added } };
+    ghost view = { λ c. record { base = c.base; deltas = reverse c.added.items; room = room_for (vec_capacity c.added) (vec_len c.added) } };
+
+    ghost invariant = { λ c. (length c.added.items + 1 < 2 ^ 32) × IsSoundPdb (pdb_with c.base (reverse c.added.items)) };
 }
 
 /// Where the PDB of a base has a method.
@@ -87,27 +94,92 @@ fn known<'a>(base: &'a Option<Pdb>, added: &'a [Said], method: Token) -> Option<
     in_base(base, method)
 }
 
+/// The number of the newest file that knows a method: 0 for the base, from 1 for the deltas, and one
+/// past the last where none knows it.
+fn number_of(base: &Option<Pdb>, added: &[Said], method: Token) -> usize
+    ensures number { result ≡ file_number base.now (length added.now + 1) (reverse added.now) method }
+    ensures few { result ≤ length added.now + 1 }
+{
+    let mut rest = added;
+    while let [older @ .., newest] = rest {
+        if newest.known(method).is_some() {
+            return rest.len();
+        }
+        let changed = newest.has_changed(method);
+        if changed {
+            return added.len() + 1;
+        }
+        rest = older;
+    }
+    if in_base(base, method).is_some() {
+        return 0;
+    }
+    added.len() + 1
+}
+
+/// A place in a file.
+fn place(file: u32, number: u32) -> u64
+    ensures { result ≡ file * 2 ^ 32 + number }
+{
+    u64::from(file) * 0x1_0000_0000 + u64::from(number)
+}
+
+/// The most deltas that there may be, so that each has a number of four bytes.
+const MOST: usize = 0xffff_fffe;
+
+/// What the PDB of a base says is sound; where there is none, nothing is known.
+fn base_is_sound(base: &Option<Pdb>)
+    ensures { IsSoundPdb (pdb_begun base.now) }
+{
+    match base {
+        Some(pdb) => pdb.sound(),
+        None => {}
+    }
+}
+
+/// With what a delta's PDB says, and with a delta without one, a sound plain PDB stays sound.
+fn keeps_sound(delta: &Option<PdbDelta>)
+    ensures { KeepsSound delta.now }
+{
+    match delta {
+        Some(pdb) => pdb.keeps_sound(),
+        None => {}
+    }
+}
+
 impl PdbChain {
     /// The PDB of a base without deltas, None where it has none.
     pub fn begin(alloc: Global, pdb: Option<Pdb>) -> Result<PdbChain, AllocError>
         ensures base { IfOk result (λ c. c.base ≡ pdb) }
         ensures deltas { IfOk result (λ c. c.deltas ≡ []) }
     {
+        base_is_sound(&pdb);
         Ok(PdbChain {
             base: pdb,
             added: Vec::new(alloc),
         })
     }
 
-    /// Makes room for a delta. `AllocError` where there is no memory; nothing else that is seen
-    /// changes.
+    /// Makes room for a delta. `AllocError` where there is no memory, or where there are 2^32 - 2
+    /// deltas; nothing else that is seen changes.
     pub fn reserve(&mut self) -> Result<(), AllocError>
         ensures base { self.new.base ≡ self.old.base }
         ensures deltas { self.new.deltas ≡ self.old.deltas }
         ensures room { OnOk result (0 < self.new.room) }
         ensures kept { self.old.room ≤ self.new.room }
     {
+        if self.added.len() >= MOST {
+            return Err(AllocError);
+        }
         self.added.reserve(1)
+    }
+
+    /// What is known of the methods is sound, whatever deltas were added: a law, of which a caller
+    /// makes use.
+    pub fn sound(&self)
+        ensures { IsSoundPdb (pdb_with self.now.base self.now.deltas) }
+    {
+        let _ = &self.base;
     }
 
     /// Adds what a delta says: its PDB, where it has one, and the methods that have a new body in it.
@@ -118,6 +190,7 @@ impl PdbChain {
         ensures deltas { self.new.deltas ≡ (record { pdb = delta; changed = changed }) ∷ self.old.deltas }
         ensures room { self.new.room + 1 ≡ self.old.room }
     {
+        keeps_sound(&delta);
         self.added.push_reserved(Said {
             pdb: delta,
             changed,
@@ -127,6 +200,7 @@ impl PdbChain {
 
 impl PointSource for PdbChain {
     ghost use Rattle.enc_ppdb.specs.KnownAt.{knows as known_by};
+    ghost use Rattle.enc_ppdb.specs.PlacedAt.{document_placed};
 
     ghost debug = { λ h. pdb_with h.base h.deltas };
 
@@ -134,12 +208,18 @@ impl PointSource for PdbChain {
 
     ghost documents = { λ h method. documents_at (known_at h.base h.deltas method) };
 
+    ghost placed = { λ h place. document_placed h.base h.deltas place };
+
     fn points(&self, alloc: Global, method: Token) -> Result<Points, AllocError> {
         points_at(alloc, known(&self.base, &self.added, method))
     }
 
     fn document(&self, method: Token, number: u32) -> Option<DocumentRef<'_>> {
         document_at(known(&self.base, &self.added, method), number)
+    }
+
+    fn document_place(&self, method: Token, number: u32) -> u64 {
+        place(number_of(&self.base, &self.added, method) as u32, number)
     }
 
     ghost knows = { λ h method. known_by h.base h.deltas method };

@@ -8,18 +8,25 @@ mod fault;
 mod file;
 mod hash;
 mod known;
+mod laws;
 mod methods;
 mod misplaced;
 mod named;
 mod outer;
+mod parts;
 mod pdb;
 mod sizes;
+mod write;
+mod writer;
 
 pub use chain::PdbChain;
 pub use hash::{SHA_256, source_hash};
+pub use laws::pdb_means_law;
 pub use methods::MethodList;
+pub use parts::{PdbParts, pdb_parts};
 pub use pdb::{Pdb, PdbDelta};
 pub use sizes::CodeSizes;
+pub use write::write_pdb;
 
 #[cfg(test)]
 mod tests;

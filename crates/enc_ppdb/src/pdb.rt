@@ -1,10 +1,12 @@
 //! The PDB of a module, and that of a delta.
-ghost use Rattle.std.specs.Prelude.{◌≡◌, ◌<◌, IfOk, is_some, length, take};
+ghost use Rattle.std.specs.Prelude.{◌≡◌, ◌<◌, Some, IfOk, is_some, length, take};
 ghost use Rattle.enc_ppdb.specs.Fault.{pdb_of, pdb_delta_of, named_tokens};
 ghost use Rattle.enc_ppdb.specs.Misplaced.{misplaced_row, first_misplaced};
-ghost use Rattle.enc_ppdb.specs.PdbChain.{row_in_file, row_of_method};
+ghost use Rattle.enc_plain.specs.SoundDebug.{IsSoundPdb};
+ghost use Rattle.enc_ppdb.specs.PdbChain.{row_in_file, row_of_method, pdb_begun};
 ghost use Rattle.enc_ppdb.specs.Points.{row_for, delta_points};
 ghost use Rattle.enc_ppdb.specs.Seen.{ReadsPdb, end_by};
+ghost use Rattle.enc_ppdb.specs.Sound.{KeepsSound};
 ghost use Rattle.enc_base.specs.declared.token.Token.{Token as TheToken};
 
 use crate::ends::ends_of;
@@ -28,15 +30,14 @@ pub struct Pdb {
 }
 
 impl Model for Pdb {
-    ghost use Rattle.std.specs.Prelude.{◌≡◌, None};
     ghost use Rattle.enc_rows.specs.Source.{Source};
-    ghost use Rattle.enc_ppdb.specs.Fault.{documents_fault};
+    ghost use Rattle.enc_ppdb.specs.Sound.{IsGoodPdb};
 
     ghost Value = { Source };
 
     ghost view = { λ p. p.file };
 
-    ghost invariant = { λ p. documents_fault p.file ≡ None };
+    ghost invariant = { λ p. IsGoodPdb p.file };
 }
 
 /// The Portable PDB of a delta. Beside the file it has the tokens of MethodDebugInformation in EncMap,
@@ -82,6 +83,13 @@ impl Pdb {
         }
     }
 
+    /// What it says of the methods is sound: a law, of which a caller makes use.
+    pub(crate) fn sound(&self)
+        ensures { IsSoundPdb (pdb_begun (Some self.now)) }
+    {
+        let _ = &self.file;
+    }
+
     /// The row of a method: its own, None where MethodDebugInformation has none.
     #[tactic(auto, unfolding(crate::specs::PdbChain::row_of_method))]
     pub(crate) fn known(&self, method: Token) -> Option<Known<'_>>
@@ -123,6 +131,14 @@ impl PdbDelta {
             Ok(ends) => Ok(PdbDelta { file, named, ends }),
             Err(fault) => Err(fault),
         }
+    }
+
+    /// With what it says of the methods a sound plain PDB stays sound: a law, of which a caller makes
+    /// use.
+    pub(crate) fn keeps_sound(&self)
+        ensures { KeepsSound (Some self.now) }
+    {
+        let _ = &self.file;
     }
 
     /// The row of a method, None where EncMap has no token of MethodDebugInformation with its row.

@@ -1,3 +1,5 @@
+ghost use Rattle.std.specs.Prelude.{◌^◌, ◌<◌};
+
 use super::*;
 use enc_base::{Code, Place, ReadFault, Refusal, Token};
 use enc_plain::PointSource;
@@ -277,4 +279,44 @@ const OF_ABC: [u8; 32] = [
 fn hashes_a_source(rt: HostRuntime) {
     assert_eq!(rt; source_hash(b""), OF_NOTHING);
     assert_eq!(rt; source_hash(b"abc"), OF_ABC);
+}
+
+/// A PDB of so many methods of which nothing is known, written and read again.
+fn written_again(alloc: Global, methods: u32) -> Result<Pdb, ReadFault>
+    requires { methods < 2 ^ 24 }
+{
+    let source = PdbChain::begin(alloc, None)?;
+    match write_pdb(alloc, &source, methods, 0x0600_0001) {
+        Ok(bytes) => Pdb::read(alloc, bytes, methods),
+        Err(_) => Err(ReadFault::Memory),
+    }
+}
+
+/// The local signature rows and the numbers of points of two methods.
+fn two_methods(alloc: Global) -> Result<[(u32, usize); 2], ReadFault> {
+    let pdb = written_again(alloc, 2)?;
+    let chain = PdbChain::begin(alloc, Some(pdb))?;
+    let first = chain.points(
+        alloc,
+        Token {
+            table: 0x06,
+            row: 1,
+        },
+    )?;
+    let second = chain.points(
+        alloc,
+        Token {
+            table: 0x06,
+            row: 2,
+        },
+    )?;
+    Ok([
+        (first.locals(), first.len()),
+        (second.locals(), second.len()),
+    ])
+}
+
+#[test]
+fn writes_methods_of_which_nothing_is_known(rt: HostRuntime) {
+    assert_eq!(rt; two_methods(rt.alloc()), Ok([(0, 0), (0, 0)]));
 }

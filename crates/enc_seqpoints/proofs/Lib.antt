@@ -8,3 +8,5 @@ pub mod Readable
 pub mod Written
 pub mod Named
 pub mod Examples
+pub mod PointsSized
+pub mod PointsSpelled
