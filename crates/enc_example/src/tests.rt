@@ -4,6 +4,7 @@ use enc_agg::Aggregate;
 use enc_base::Token;
 use enc_checker::Files;
 use enc_plain::{ModuleView, is_row};
+use enc_schema::columns::METHOD_DEF_SIGNATURE;
 use enc_schema::tables::METHOD_DEF;
 use std::alloc::Global;
 use std::process::Abort;
@@ -95,6 +96,23 @@ fn places(rt: &impl Abort, module: &Aggregate) -> (u64, u64) {
     (module.code_place(say), module.code_place(main))
 }
 
+/// The places of the signatures of Say and Main.
+fn signatures(rt: &impl Abort, module: &Aggregate) -> (u64, u64) {
+    let say = Token {
+        table: METHOD_DEF,
+        row: 1,
+    };
+    let main = Token {
+        table: METHOD_DEF,
+        row: 2,
+    };
+    assert!(rt; is_row(module, say) && is_row(module, main));
+    (
+        module.blob_place(say, METHOD_DEF_SIGNATURE),
+        module.blob_place(main, METHOD_DEF_SIGNATURE),
+    )
+}
+
 #[test]
 fn one_place_for_a_shared_body(rt: HostRuntime) -> Result<(), Fail> {
     let alloc = rt.alloc();
@@ -113,5 +131,7 @@ fn one_place_for_a_shared_body(rt: HostRuntime) -> Result<(), Fail> {
     };
     apply(alloc, &mut shared, files)?;
     assert_eq!(rt; places(&rt, &shared), (0x1_0000_0004, 0x2048));
+    assert_eq!(rt; signatures(&rt, &own), (1, 1));
+    assert_eq!(rt; signatures(&rt, &shared), (0xd, 1));
     Ok(())
 }

@@ -22,14 +22,16 @@ pub mod KnownBodies
 pub mod Limits
 pub mod MethodsPlaced
 pub mod ModuleMeant
-pub mod NilLocals
 pub mod NumbersMeant
 pub mod NumbersWritten
+pub mod Passing
 pub mod OwnBytes
 pub mod PtrRows
 pub mod PtrTables
 pub mod ReadAs
 pub mod RefersTo
+pub mod RowSizes
+pub mod ImageSizes
 pub mod RowsPushed
 pub mod RunStarts
 pub mod RunsFit
@@ -38,3 +40,4 @@ pub mod SoundCode
 pub mod Sources
 pub mod Unfaulted
 pub mod UserTexts
+pub mod Weights

@@ -1,6 +1,6 @@
 -- Methods whose bodies are placed, one behind the other.
 use Rattle.std.proofs.Common.{◌≡◌, ℕ, zero, suc, ◌+◌, ◌*◌, ◌%◌, ◌^◌, ◌<◌, ◌≤◌, Bool, true, false, List, [], ◌∷◌, ◌++◌, length, Option, Some, None, refl, sym, ap, subst, ◌∙◌, arith, inl, inr}
-use Rattle.std.specs.Prelude.{◌==◌, ◌&&◌, ◌||◌, slice_index}
+use Rattle.std.specs.Prelude.{◌==◌, ◌&&◌, slice_index}
 use Rattle.std.specs.List.{list_all}
 use Rattle.std.proofs.lemmas.Bool.{cases_lt, and_parts}
 use Rattle.std.proofs.lemmas.Bool.Decides.{nat_tests}
@@ -10,19 +10,20 @@ use Rattle.enc_base.specs.declared.token.Token.{Token}
 use Rattle.enc_meta.specs.Built.{Built, is_kept}
 use Rattle.enc_meta.specs.Regions.{Region}
 use Rattle.enc_opcodes.specs.Clause.{clauses_of}
-use Rattle.enc_opcodes.specs.Body.{Code, Body, nil_or, body_of, handler_meant, begins_locals, locals_are_good}
+use Rattle.enc_opcodes.specs.Body.{Code, Body, nil_or, body_of, handler_meant, locals_are_good}
 use Rattle.enc_opcodes.specs.Sound.{body_is_sound}
 use Rattle.enc_opcodes.proofs.Sounds.{sound_locals, good_local}
 use Rattle.enc_plain.specs.Bodies.{body_loaded, code_loaded, code_is_good, body_is_good}
 use Rattle.enc_plain.specs.Cell.{body}
 use Rattle.enc_plain.specs.Module.{Module, cells_of, cell_of}
-use Rattle.enc_plain.specs.Rows.{number_at, bytes_at}
-use Rattle.enc_plain.specs.Sound.{IsSound, row_count, method_is_sound}
+use Rattle.enc_plain.specs.Rows.{number_at}
+use Rattle.enc_plain.specs.Sound.{IsSound, row_count, locals_are_sound, method_is_sound}
+use Rattle.enc_plain.proofs.NilLocals.{sound_nil}
 use Rattle.enc_rows.proofs.Below.{sum_more, sum_part}
 use Rattle.enc_schema.specs.Schema.{columns_in, column_in}
 use Rattle.enc_schema.specs.declared.column.Column.TheVariants.{Num32}
 use Rattle.enc_rewriter.specs.Placed.{loaded_with, IsBodyPlaced}
-use Rattle.enc_rewriter.specs.Standing.{StandsAt, HasNilLocals, Weighs, weight_of, bodies_before, AreBodiesPlaced}
+use Rattle.enc_rewriter.specs.Standing.{StandsAt, Weighs, weight_of, bodies_before, AreBodiesPlaced}
 use Rattle.enc_rewriter.specs.Values.{KeepValues, texts_named, values_at, values_if}
 use Rattle.enc_rewriter.specs.Weight.{body_weight, bodies_weight}
 use Rattle.enc_rewriter.specs.declared.pass.Pass.TheVariants.{Users}
@@ -33,6 +34,7 @@ use Rattle.enc_rewriter.proofs.Gathers.{row_there}
 record IsBodySound (m : Module) (n : ℕ) (b : Body) : Type 0 where
   flags : (number_at (cells_of m) (nth_row 0x06 n) 1 % 4 == 0) ≡ true
   sound : body_is_sound (row_count m) b ≡ true
+  nil : nil_or b.locals ≡ b.locals
 
 method_column : column_in 0x06 0 ≡ Some Num32
 unfolding columns_in
@@ -47,9 +49,9 @@ unfolding method_is_sound
 body_sound m n b sound low is =
     let u = nth_row 0x06 n in
     let cell : method_is_sound m u b ≡ true = sound.cells.each u 0 Num32 (body (Some b)) (row_there m 0x06 n low) method_column is in
-    let a = and_parts (number_at (cells_of m) u 1 % 4 == 0 && body_is_sound (row_count m) b) (b.locals.row == 0 || begins_locals (bytes_at (cells_of m) b.locals 0)) cell in
+    let a = and_parts (number_at (cells_of m) u 1 % 4 == 0 && body_is_sound (row_count m) b) (locals_are_sound m b.locals) cell in
     let d = and_parts (number_at (cells_of m) u 1 % 4 == 0) (body_is_sound (row_count m) b) a.0 in
-    record { flags = d.0; sound = d.1 }
+    record { flags = d.0; sound = d.1; nil = sound_nil m b.locals a.1 }
 
 row_few : (m : Module) (t : Token) (b : Bool) → (t.row == 0) ≡ b → IsSound m → locals_are_good (row_count m) t ≡ true → t.row < 2 ^ 24
 row_few m t true is sound good = let e : t.row ≡ 0 = grind (arith, nat_tests) in omega (arith, e)
@@ -93,9 +95,9 @@ locals_of : (texts : ℕ → Option (List ℕ)) (c : Code) → (body_of texts c)
 unfolding body_of
 locals_of texts c = refl
 
-pub ready : (m : Module) (h : Built) (texts : ℕ → Option (List ℕ)) (n : ℕ) (c : Code) (size : ℕ) → IsSound m → HasNilLocals m → KeepValues m h → n < row_count m 0x06 → bodies_weight m < 2 ^ 31 → Weighs (bodies_before m n) size
+pub ready : (m : Module) (h : Built) (texts : ℕ → Option (List ℕ)) (n : ℕ) (c : Code) (size : ℕ) → IsSound m → KeepValues m h → n < row_count m 0x06 → bodies_weight m < 2 ^ 31 → Weighs (bodies_before m n) size
     → cell_of m (nth_row 0x06 n) 0 ≡ Some (body (Some (body_of texts c))) → IsReady m h texts c size
-ready m h texts n c size sound nils keeps low light weighs is =
+ready m h texts n c size sound keeps low light weighs is =
     let b = body_of texts c in
     let s = body_sound m n b sound low is in
     let l = locals_of texts c in
@@ -105,7 +107,7 @@ ready m h texts n c size sound nils keeps low light weighs is =
     let weight = weight_of_code texts c in
     record {
       sound = s.sound;
-      nil = ap nil_or (sym l) ∙ nils.each n b low is ∙ l;
+      nil = ap nil_or (sym l) ∙ s.nil ∙ l;
       rows = row_few m c.locals (c.locals.row == 0) refl sound good;
       kept = users_kept m h n b keeps low is;
       near = omega (arith, weighs, within, light);

@@ -12,12 +12,12 @@ use Rattle.std.specs.Prelude.{◌^◌}
 use Rattle.enc_plain.specs.Sound.{row_count, IsOwned, IsSound}
 use Rattle.enc_plain.proofs.Owned.{all_kids_few}
 use Rattle.enc_schema.specs.Children.{is_child_table, owner_table}
-use Rattle.std.specs.Prelude.{slice_index}
+use Rattle.std.specs.Prelude.{slice_index, nat_le, ◌||◌}
 use Rattle.enc_base.specs.declared.token.Token.{Token}
 use Rattle.enc_schema.specs.Schema.{columns_in, column_in}
 use Rattle.enc_schema.specs.declared.column.Column.TheVariants.{Run}
 use Rattle.std.proofs.Common.{subst}
-use Rattle.std.specs.List.{list_all}
+use Rattle.std.specs.List.{list_all, list_any}
 use Rattle.std.proofs.lemmas.List.FromFn.{length-map-range_with_len}
 use Rattle.std.proofs.lemmas.Option.{get_or_from_slice_get}
 use Rattle.enc_plain.proofs.Columns.{both_left, both_right}
@@ -165,3 +165,15 @@ run_is m r u i child runs there e = let o = owners u.table i child e in (run_of 
 pub run_there : (m : Module) (r : RunLists) (u : Token) (i child : ℕ) → AreRuns m r → has_row m u ≡ true → column_in u.table i ≡ Some (Run child)
     → u.row - 1 < length (list_of_runs r child)
 run_there m r u i child runs there e = let o = owners u.table i child e in (run_of m r u child runs there o.0 o.1).1
+
+-- one of the numbers where runs begin is so large where a run is
+any_mapped : (p : ℕ → Bool) (f : ℕ → ℕ) (xs : List ℕ) → list_any p (map f xs) ≡ list_any (λ n. p (f n)) xs
+any_mapped p f [] = refl
+any_mapped p f (x ∷ xs) = ap (λ (b : Bool). p (f x) || b) (any_mapped p f xs)
+
+pub wide_runs : (m : Module) (r : RunLists) (child : ℕ) → AreRuns m r → is_child_table child ≡ true
+    → list_any (λ n. nat_le 0x10000 n) (list_of_runs r child) ≡ list_any (λ n. nat_le 0x10000 (run_first m child (n + 1))) (below (row_count m (owner_table child)))
+unfolding runs_begin
+wide_runs m r child runs there =
+    ap (list_any (λ n. nat_le 0x10000 n)) (run_list m r child runs there)
+    ∙ any_mapped (λ n. nat_le 0x10000 n) (λ k. run_first m child (k + 1)) (below (row_count m (owner_table child)))

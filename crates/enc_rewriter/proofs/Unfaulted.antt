@@ -23,9 +23,10 @@ use Rattle.enc_plain.specs.Module.{Module, has_row, cells_of, cell_of}
 use Rattle.enc_plain.specs.Reading.{cell_read}
 use Rattle.enc_plain.specs.Rows.{number_at, bytes_at}
 use Rattle.enc_plain.specs.Signatures.{signature_column, is_signature}
-use Rattle.enc_plain.specs.Sound.{is_part, row_count, method_is_sound}
+use Rattle.enc_plain.specs.Sound.{is_part, row_count, locals_are_sound, method_is_sound}
 use Rattle.enc_plain.proofs.Columns.{part_cases, both_left, both_right, each_of, is_plain, plain_kind}
 use Rattle.enc_plain.proofs.KindsOf.{row_bounds}
+use Rattle.enc_plain.proofs.NilLocals.{sound_begins}
 use Rattle.enc_plain.proofs.SignatureColumns.{signature_kind}
 use Rattle.enc_plain.proofs.SignatureRows.{TypesGrow, signature_kept}
 use Rattle.enc_rows.specs.Layout.{rows_of}
@@ -210,9 +211,9 @@ locals_by m h p rows s u (Some c) r there table is =
     let column : column_in u.table 0 ≡ Some Num32 = rw table refl in
     let cell : cell_of m u 0 ≡ Some (body (Some b)) = sym (body_meant m h p rows s u r there table) ∙ ap (λ (x : Option Code). Some (body (option_map (body_of (users_of s)) x))) is in
     let good : method_is_sound m u b ≡ true = r.sound.cells.each u 0 Num32 (body (Some b)) there column cell in
-    let q = and_parts (number_at (cells_of m) u 1 % 4 == 0 && body_is_sound (row_count m) b) (b.locals.row == 0 || begins_locals (bytes_at (cells_of m) b.locals 0)) good in
+    let q = and_parts (number_at (cells_of m) u 1 % 4 == 0 && body_is_sound (row_count m) b) (locals_are_sound m b.locals) good in
     let w = and_parts (number_at (cells_of m) u 1 % 4 == 0) (body_is_sound (row_count m) b) q.0 in
-    locals_begin m h p rows s c.locals r (sound_locals (row_count m) b w.1) q.1
+    locals_begin m h p rows s c.locals r (sound_locals (row_count m) b w.1) (sound_begins m c.locals q.1)
 
 body_none : (m : Module) (h : Built) (p : Placed) (rows : List (List (List ℕ))) (s : Source) (k : ℕ) → IsRead m h p rows s → k < rows_of s.layout 0x06 → body_fault_at s k ≡ None
 unfolding body_fault_at

@@ -5,3 +5,4 @@ pub mod Numbers
 pub mod Weight
 pub mod Standing
 pub mod Rewritten
+pub mod Limits

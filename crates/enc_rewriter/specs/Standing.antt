@@ -1,10 +1,10 @@
 -- A body that stands in the code of an image that is written (ECMA-335 II.25.4).
-use Rattle.std.specs.Prelude.{◌≡◌, ℕ, ◌+◌, ◌*◌, ◌<◌, ◌≤◌, Bool, true, ◌||◌, List, length, Option, Some, ◌==◌, if◌then◌else◌, slice_index}
+use Rattle.std.specs.Prelude.{◌≡◌, ℕ, ◌+◌, ◌*◌, ◌<◌, ◌≤◌, min, Bool, true, ◌||◌, List, length, Option, Some, ◌==◌, if◌then◌else◌, slice_index}
 use Rattle.std.specs.BTreeMap.{BTreeMap, get}
 use Rattle.std.specs.Ordering.{nat_cmp}
 use Rattle.enc_base.specs.Token.{nth_row}
 use Rattle.enc_opcodes.specs.declared.code.Clause.{Clause}
-use Rattle.enc_opcodes.specs.Body.{Body, nil_or}
+use Rattle.enc_opcodes.specs.Body.{Body}
 use Rattle.enc_plain.specs.Bodies.{body_loaded, code_loaded, code_is_good}
 use Rattle.enc_plain.specs.Cell.{body, field}
 use Rattle.enc_plain.specs.Module.{Module, cell_of}
@@ -12,7 +12,7 @@ use Rattle.enc_plain.specs.Sound.{row_count}
 use Rattle.enc_schema.specs.Tables as tables
 use Rattle.enc_rows.specs.Sums.{sum_below}
 use Rattle.enc_rewriter.specs.Placed.{loaded_with, IsBodyPlaced, IsFieldPlaced}
-use Rattle.enc_rewriter.specs.Weight.{body_weight, field_weight}
+use Rattle.enc_rewriter.specs.Weight.{row_weight, body_weight, field_weight, most_weight}
 
 -- this body is at the RVA, and good there, whatever stands behind the code
 pub record StandsAt (count : ℕ → ℕ) (users : ℕ → Option (List ℕ)) (code : List ℕ) (rva : ℕ) (b : Body) : Type 0 where
@@ -28,11 +28,6 @@ is_known kind = kind == 0 || kind == 1 || kind == 2 || kind == 4
 abbrev pub known_as : Clause → Clause
 known_as c = record { kind = if is_known c.kind then c.kind else 0; tries = c.tries; handler = c.handler; extra = c.extra }
 
--- a local signature that has no row is the nil token
-pub record HasNilLocals (m : Module) : Type 0 where
-  pub each : (n : ℕ) (b : Body) → n < row_count m tables.method_def → cell_of m (nth_row tables.method_def n) 0 ≡ Some (body (Some b))
-      → nil_or b.locals ≡ b.locals
-
 -- bytes of such a weight: a body's sections take a few more than their clauses weigh, four for each 699050 clauses
 abbrev pub Weighs : ℕ → ℕ → Type 0
 Weighs weight size = 4194300 * size ≤ 4194301 * weight
@@ -43,6 +38,14 @@ weight_of b = 32 + b.size + 24 * length b.handlers
 -- the weight of the bodies of the methods before one
 unfoldable pub bodies_before : Module → ℕ → ℕ
 bodies_before m n = sum_below (λ k. body_weight (cell_of m (nth_row tables.method_def k) 0)) n
+
+-- the weight of the rows of the tables before one
+unfoldable pub row_weights_before : Module → ℕ → ℕ
+row_weights_before m n = sum_below (λ t. row_count m t * row_weight t) n
+
+-- what is known of places: the weight of the body there, or the limit where it isn't less
+abbrev pub AreWeighed : (ℕ → Option Body) → BTreeMap ℕ ℕ → Type 0
+AreWeighed places known = (place weight : ℕ) → get nat_cmp known place ≡ Some weight → weight ≡ min most_weight (body_weight (Some (body (places place))))
 
 -- the bodies of so many methods are placed
 abbrev pub AreBodiesPlaced : Module → (ℕ → Option (List ℕ)) → List ℕ → List ℕ → ℕ → Type 0

@@ -1,7 +1,7 @@
 -- The weight of a module: a sum that what is written of it doesn't pass.
 use Rattle.std.specs.Prelude.{ℕ, ◌+◌, ◌*◌, ◌^◌, length, sum_by, Option, Some, if◌then◌else◌}
 use Rattle.enc_base.specs.Token.{nth_row}
-use Rattle.enc_meta.specs.Built.{Built, heaps_built}
+use Rattle.enc_meta.specs.Built.{Built, joined_size}
 use Rattle.enc_plain.specs.Cell.{Cell, body, field}
 use Rattle.enc_plain.specs.Module.{Module, cell_of}
 use Rattle.enc_plain.specs.Sound.{row_count}
@@ -27,7 +27,7 @@ rows_weight m = sum_below (λ t. row_count m t * row_weight t) 64
 
 -- the lengths of four heaps
 unfoldable pub heaps_weight : Built → ℕ
-heaps_weight h = length (heaps_built h).strings + length (heaps_built h).users + length (heaps_built h).blobs + length (heaps_built h).guids
+heaps_weight h = joined_size h
 
 -- a body: 32, its code, and 24 for each clause
 abbrev pub body_weight : Option Cell → ℕ

@@ -10,7 +10,7 @@ ghost use Rattle.enc_opcodes.specs.Body.{body_of, code_seen, nil_or};
 ghost use Rattle.enc_opcodes.specs.Clause.{clauses_in, clauses_of};
 ghost use Rattle.enc_opcodes.specs.Sound.{body_is_sound};
 ghost use Rattle.enc_plain.specs.Sound.{IsSound, row_count};
-ghost use Rattle.enc_rewriter.specs.Standing.{StandsAt, HasNilLocals, Weighs, is_known, known_as, weight_of, bodies_before, AreBodiesPlaced, AreKnown};
+ghost use Rattle.enc_rewriter.specs.Standing.{StandsAt, Weighs, is_known, known_as, weight_of, bodies_before, AreBodiesPlaced, AreKnown};
 ghost use Rattle.enc_rewriter.specs.Placed.{IsBodyPlaced};
 ghost use Rattle.enc_rewriter.specs.Values.{KeepValues, no_starts, texts_named};
 ghost use Rattle.enc_rewriter.specs.Weight.{bodies_weight};
@@ -163,7 +163,6 @@ fn push_method<V: ModuleView>(
     out: &mut Vec<u8>,
 ) -> Result<u32, AllocError>
     requires sound { IsSound (V.meaning view.now) }
-    requires nils { HasNilLocals (V.meaning view.now) }
     requires kept { KeepValues (V.meaning view.now) heaps.old }
     requires row { n < row_count (V.meaning view.now) method_def }
     requires light { bodies_weight (V.meaning view.now) < 2 ^ 31 }
@@ -194,7 +193,6 @@ fn place_method<V: ModuleView>(
     out: &mut Vec<u8>,
 ) -> Result<u32, AllocError>
     requires sound { IsSound (V.meaning view.now) }
-    requires nils { HasNilLocals (V.meaning view.now) }
     requires kept { KeepValues (V.meaning view.now) heaps.old }
     requires row { n < row_count (V.meaning view.now) method_def }
     requires light { bodies_weight (V.meaning view.now) < 2 ^ 31 }
@@ -232,7 +230,6 @@ pub(crate) fn place_bodies<V: ModuleView>(
     out: &mut Vec<u8>,
 ) -> Result<Vec<u32>, AllocError>
     requires sound { IsSound (V.meaning view.now) }
-    requires nils { HasNilLocals (V.meaning view.now) }
     requires kept { KeepValues (V.meaning view.now) heaps.old }
     requires light { bodies_weight (V.meaning view.now) < 2 ^ 31 }
     requires first { out.old.items ≡ [] }

@@ -1,8 +1,10 @@
-//! Modules written from scratch: the heaps of a module's values, its bodies, its rows, and the image.
+//! Modules and their PDBs written from scratch: the heaps of a module's values, its bodies, its rows, and
+//! the image.
 #![tactic(auto)]
 
 mod bodies;
 mod code;
+mod fault;
 mod fields;
 mod gathering;
 mod kept;
@@ -16,12 +18,14 @@ mod references;
 mod rows;
 mod runs;
 mod users;
+mod weight;
+mod written;
 
+pub use fault::RewriteFault;
 pub use gathering::gather;
 pub use laws::image_means_law;
-pub use parts::{ModuleParts, parts_of};
 pub use pass::Pass;
-pub use placed::PlacedCode;
+pub use written::{Rewritten, rewrite};
 
 #[cfg(test)]
 mod tests;

@@ -1,16 +1,19 @@
 //! The parts of an image that hold a module.
-ghost use Rattle.std.specs.Prelude.{◌≡◌, ◌+◌, ◌<◌, ◌^◌, IfOk};
+ghost use Rattle.std.specs.Prelude.{◌≡◌, ◌+◌, ◌<◌, ◌≤◌, ◌^◌, length, IfOk};
 ghost use Rattle.enc_plain.specs.Sound.{IsSound};
+ghost use Rattle.enc_rewriter.specs.Limits.{image_limit, TellsLimit};
+ghost use Rattle.enc_rewriter.specs.Numbers.{needs_jtd as jtd_is_needed};
 ghost use Rattle.enc_rewriter.specs.Rewritten.{HoldModule};
-ghost use Rattle.enc_rewriter.specs.Standing.{HasNilLocals};
-ghost use Rattle.enc_rewriter.specs.Values.{too_large_heap, KeepValues, TellsHeap};
-ghost use Rattle.enc_rewriter.specs.Weight.{bodies_weight, fields_weight};
+ghost use Rattle.enc_rewriter.specs.Values.{no_starts, heaps_for, KeepValues};
+ghost use Rattle.enc_rewriter.specs.Weight.{bodies_weight, fields_weight, module_weight as weight_of_module, most_weight};
 
+use crate::fault::RewriteFault;
 use crate::gathering::gather;
 use crate::placed::{PlacedCode, placed_code};
 use crate::rows::push_all;
-use crate::runs::all_runs;
-use enc_meta::{BuildFault, HeapBuilder, HeapLengths};
+use crate::runs::{all_runs, needs_jtd};
+use crate::weight::{MOST, module_weight};
+use enc_meta::{HeapBuilder, HeapLengths};
 use enc_plain::ModuleView;
 use enc_rows::TableBuilder;
 use std::alloc::{AllocError, Global};
@@ -23,29 +26,35 @@ const NO_STARTS: HeapLengths = HeapLengths {
     guids: 0,
 };
 
-/// The parts of an image: the heaps of its values, its code, and the rows of its tables.
+/// The parts of an image: the heaps of its values, its code, the rows of its tables, and whether all
+/// indices take four bytes, as a stream `#JTD` says.
 #[derive(Drop)]
-pub struct ModuleParts {
-    pub heaps: HeapBuilder,
-    pub placed: PlacedCode,
-    pub tables: TableBuilder,
+pub(crate) struct ModuleParts {
+    pub(crate) heaps: HeapBuilder,
+    pub(crate) placed: PlacedCode,
+    pub(crate) tables: TableBuilder,
+    pub(crate) jtd: bool,
 }
 
-/// The code and the rows of a module whose values the heaps keep.
-fn parts_with<V: ModuleView>(
+/// The parts of a module whose values the heaps keep: the bodies and the initial bytes of fields in
+/// the code, with user texts named anew, and the rows with every token as it was.
+pub(crate) fn parts_with<V: ModuleView>(
     alloc: Global,
     view: &V,
     heaps: HeapBuilder,
 ) -> Result<ModuleParts, AllocError>
     requires sound { IsSound (V.meaning view.now) }
-    requires nils { HasNilLocals (V.meaning view.now) }
     requires kept { KeepValues (V.meaning view.now) heaps }
     requires weight { bodies_weight (V.meaning view.now) + fields_weight (V.meaning view.now) < 2 ^ 31 }
-    ensures { IfOk result (λ p. HoldModule (V.meaning view.now) p.heaps p.placed p.tables) }
+    ensures held { IfOk result (λ p. HoldModule (V.meaning view.now) p.heaps p.placed p.tables) }
+    ensures heaps { IfOk result (λ p. p.heaps ≡ heaps) }
+    ensures code { IfOk result (λ p. length p.placed.code ≤ bodies_weight (V.meaning view.now) + fields_weight (V.meaning view.now) + 4096) }
+    ensures jtd { IfOk result (λ p. p.jtd ≡ jtd_is_needed (V.meaning view.now)) }
 {
     let mut heaps = heaps;
     let placed = placed_code(alloc, view, &mut heaps)?;
     let runs = all_runs(alloc, view)?;
+    let jtd = needs_jtd(view, &runs);
     let mut tables = TableBuilder::begin(alloc);
     push_all(alloc, view, &mut heaps, &runs, &placed, &mut tables)?;
     heaps.laws();
@@ -54,26 +63,30 @@ fn parts_with<V: ModuleView>(
         heaps,
         placed,
         tables,
+        jtd,
     })
 }
 
-/// The parts of an image that hold a module: each value once in its heap, the bodies and the initial
-/// bytes of fields in the code, with user texts named anew, and the rows with every token as it was.
-/// `TooLarge` exactly where a heap of distinct values passes its limit, with the first such heap of
-/// `#Strings`, `#US`, `#Blob` and `#GUID`.
+/// Heaps that keep the values of a module, each once. `TooLarge` exactly where a heap passes its limit, with the
+/// first such heap, and else `Image` exactly where the module passes the weight.
 #[tactic(auto, using(crate::proofs::Gathered::keep_all), unfolding(crate::specs::Values::no_heaps))]
-pub fn parts_of<V: ModuleView>(alloc: Global, view: &V) -> Result<ModuleParts, BuildFault>
+pub(crate) fn heaps_within<V: ModuleView>(
+    alloc: Global,
+    view: &V,
+) -> Result<HeapBuilder, RewriteFault>
     requires sound { IsSound (V.meaning view.now) }
-    requires nils { HasNilLocals (V.meaning view.now) }
-    requires weight { bodies_weight (V.meaning view.now) + fields_weight (V.meaning view.now) < 2 ^ 31 }
-    ensures held { IfOk result (λ p. HoldModule (V.meaning view.now) p.heaps p.placed p.tables) }
-    ensures tells { TellsHeap result (too_large_heap (V.meaning view.now)) }
+    ensures heaps { IfOk result (λ h. h ≡ heaps_for (V.meaning view.now)) }
+    ensures kept { IfOk result (λ h. KeepValues (V.meaning view.now) h) }
+    ensures light { IfOk result (λ h. weight_of_module (V.meaning view.now) h < most_weight) }
+    ensures tells { TellsLimit result (image_limit (V.meaning view.now)) }
 {
     let mut heaps = HeapBuilder::begin(alloc, NO_STARTS)?;
     match gather(view, &mut heaps) {
         Ok(()) => {}
-        Err(fault) => return Err(fault),
+        Err(fault) => return Err(RewriteFault::from(fault)),
     }
-    let parts = parts_with(alloc, view, heaps)?;
-    Ok(parts)
+    if module_weight(alloc, view, &heaps)? >= MOST {
+        return Err(RewriteFault::Image);
+    }
+    Ok(heaps)
 }

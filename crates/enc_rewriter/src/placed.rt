@@ -4,7 +4,6 @@ ghost use Rattle.enc_meta.specs.Built.{heaps_built};
 ghost use Rattle.enc_meta.specs.Heaps.{user_at};
 ghost use Rattle.enc_plain.specs.Sound.{IsSound};
 ghost use Rattle.enc_rewriter.specs.Placed.{IsPlaced};
-ghost use Rattle.enc_rewriter.specs.Standing.{HasNilLocals};
 ghost use Rattle.enc_rewriter.specs.Values.{KeepValues};
 ghost use Rattle.enc_rewriter.specs.Weight.{bodies_weight, fields_weight};
 
@@ -77,7 +76,6 @@ pub(crate) fn placed_code<V: ModuleView>(
     heaps: &mut HeapBuilder,
 ) -> Result<PlacedCode, AllocError>
     requires sound { IsSound (V.meaning view.now) }
-    requires nils { HasNilLocals (V.meaning view.now) }
     requires kept { KeepValues (V.meaning view.now) heaps.old }
     requires weight { bodies_weight (V.meaning view.now) + fields_weight (V.meaning view.now) < 2 ^ 31 }
     ensures placed { IfOk result (λ p. IsPlaced (V.meaning view.now) (user_at (heaps_built heaps.old).users) p) }

@@ -1,12 +1,13 @@
 //! Where the runs of children begin (ECMA-335 II.22.37, II.22.26, II.22.12, II.22.35).
-ghost use Rattle.std.specs.Prelude.{◌≡◌, Some, ◌+◌, ◌<◌, ◌^◌, length, IsTrue, IfOk};
+ghost use Rattle.std.specs.List.{list_any};
+ghost use Rattle.std.specs.Prelude.{◌≡◌, nat_le, Some, ◌+◌, ◌<◌, ◌^◌, length, IsTrue, IfOk};
 ghost use Rattle.enc_base.specs.Token.{nth_row};
 ghost use Rattle.enc_plain.specs.Module.{has_row, kids_of};
 ghost use Rattle.enc_plain.specs.Sound.{IsSound, row_count};
 ghost use Rattle.enc_schema.specs.Children.{is_child_table, owner_table as table_of_owners};
 ghost use Rattle.enc_schema.specs.Schema.{column_in};
 ghost use Rattle.enc_schema.specs.declared.column.Column.TheVariants.{Run};
-ghost use Rattle.enc_rewriter.specs.Numbers.{run_first, runs_begin, list_of_runs, AreRuns};
+ghost use Rattle.enc_rewriter.specs.Numbers.{run_first, runs_begin, list_of_runs, AreRuns, has_wide_run as run_is_wide, needs_jtd as jtd_is_needed};
 
 use enc_base::Token;
 use enc_plain::ModuleView;
@@ -98,6 +99,37 @@ impl Runs {
             _ => &self.properties,
         }
     }
+}
+
+/// Whether a number doesn't fit two bytes.
+fn any_wide(numbers: &[u32]) -> bool
+    ensures { result ≡ list_any (λ n. nat_le 0x10000 n) numbers.now }
+{
+    numbers.iter().any(|n| *n >= 0x10000)
+}
+
+/// Whether a run begins behind the last of so many children that their table's indices take two bytes,
+/// and its own number doesn't fit these.
+#[tactic(auto, using(crate::proofs::RunStarts::wide_runs), unfolding(crate::specs::Numbers::has_wide_run))]
+fn has_wide_run<V: ModuleView>(view: &V, runs: &Runs, child: u8) -> bool
+    requires runs { AreRuns (V.meaning view.now) runs.now }
+    requires child { IsTrue (is_child_table child) }
+    ensures { result ≡ run_is_wide (V.meaning view.now) child }
+{
+    view.count(child) < 0x10000 && any_wide(runs.of(child))
+}
+
+/// Whether a run needs indices of four bytes.
+#[tactic(auto, unfolding(crate::specs::Numbers::needs_jtd))]
+pub(crate) fn needs_jtd<V: ModuleView>(view: &V, runs: &Runs) -> bool
+    requires { AreRuns (V.meaning view.now) runs.now }
+    ensures { result ≡ jtd_is_needed (V.meaning view.now) }
+{
+    has_wide_run(view, runs, FIELD)
+        || has_wide_run(view, runs, METHOD_DEF)
+        || has_wide_run(view, runs, PARAM)
+        || has_wide_run(view, runs, EVENT)
+        || has_wide_run(view, runs, PROPERTY)
 }
 
 /// Where the run of a row begins in a child table.

@@ -8,4 +8,6 @@ mod rows;
 mod text;
 
 pub use rows::row_text;
-pub use text::{push_decimal, push_guid, push_long, push_str, push_token, refused_line};
+pub use text::{
+    push_decimal, push_guid, push_long, push_str, push_token, refused_line, stream_name,
+};

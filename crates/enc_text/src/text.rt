@@ -111,7 +111,8 @@ fn push_code(alloc: Global, out: &mut Vec<u8>, code: Code) -> Result<(), AllocEr
     push_decimal(alloc, out, u32::from(number))
 }
 
-fn stream_name(name: StreamName) -> &'static str
+/// The name of a stream (ECMA-335 II.24.2.2).
+pub fn stream_name(name: StreamName) -> &'static str
     ensures { result.now ≡ stream_text name }
 {
     match name {

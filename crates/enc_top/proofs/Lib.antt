@@ -3,3 +3,5 @@ pub mod Served
 pub mod Shown
 pub mod Loading
 pub mod Listed
+pub mod KnownMethods
+pub mod Applied

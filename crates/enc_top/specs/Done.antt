@@ -1,19 +1,23 @@
 -- What a command may print and save: its answer, or why it does nothing.
-use Rattle.std.specs.Prelude.{◌≡◌, ℕ, List, [], length, Ok, Err, if◌then◌else◌}
+use Rattle.std.specs.Prelude.{◌≡◌, ℕ, List, [], ◌∷◌, length, Ok, Err, if◌then◌else◌}
 use Rattle.enc_base.specs.declared.token.Token.{Token}
 use Rattle.enc_plain.specs.declared.place.RowPlace.{RowPlace}
 use Rattle.enc_plain.specs.Module.{Module, has_row}
 use Rattle.enc_plain.specs.Debug.{PlainPdb}
+use Rattle.enc_plain.specs.Sound.{row_count}
+use Rattle.enc_schema.specs.Tables as tables
 use Rattle.enc_agg.specs.Extend.{chain_with}
 use Rattle.enc_agg.specs.Place.{place_of}
 use Rattle.enc_ppdb.specs.PdbChain.{pdb_with}
+use Rattle.enc_ppdb.specs.Written.{MeansPdb}
+use Rattle.enc_rewriter.specs.Rewritten.{MeansModule}
 use Rattle.enc_text.specs.Text.{refused_line}
 use Rattle.enc_text.specs.RowText.{row_text_of}
 use Rattle.enc_top.specs.declared.plan.Outcome.{Outcome}
 use Rattle.enc_top.specs.declared.plan.Outcome.TheVariants.{Accepted, Refused, Usage, Missing}
-use Rattle.enc_top.specs.Lines.{limit_line, missing_line, absent_line, accepted_line, usage_line}
+use Rattle.enc_top.specs.Lines.{limit_line, missing_line, absent_line, accepted_line, saved_line, usage_line}
 use Rattle.enc_top.specs.Listing.{listing_of}
-use Rattle.enc_top.specs.Verdict.{Stop, no_command, absent_file, refused_file, past_limit, Followed, Done, shows, lists, counts, Verdict}
+use Rattle.enc_top.specs.Verdict.{Stop, no_command, absent_file, refused_file, past_limit, dll, pdb, Followed, plain_of, debug_after, Done, shows, lists, counts, applies, Verdict}
 
 -- the token's row, or that the module lacks it
 unfoldable pub row_or_absent : Module → PlainPdb → RowPlace → Token → List ℕ
@@ -34,9 +38,19 @@ abbrev pub IsOutput : Done → List ℕ → Type 0
 IsOutput (shows token f) output = output ≡ shown token f
 IsOutput (lists f) output = output ≡ listed_as f
 IsOutput (counts f) output = output ≡ counted_as f
+IsOutput (applies out f) output = output ≡ saved_line (dll out) (pdb out)
 
--- what may be saved of it, in order, each a name and its bytes: so far no command saves
+-- the files that say a module and its plain PDB: bytes that mean the one, and bytes that mean the other
+pub record AreFilesOf (out : List ℕ) (m : Module) (debug : PlainPdb) (saves : List (List ℕ × List ℕ)) : Type 0 where
+  pub image : List ℕ
+  pub symbols : List ℕ
+  pub saved : saves ≡ (dll out, image) ∷ (pdb out, symbols) ∷ []
+  pub module_is : MeansModule m image
+  pub debug_is : MeansPdb debug (row_count m tables.method_def) symbols
+
+-- what may be saved of it, in order, each a name and its bytes: `apply` alone saves
 abbrev pub IsSaves : Done → List (List ℕ × List ℕ) → Type 0
+IsSaves (applies out f) saves = AreFilesOf out (plain_of f) (debug_after f) saves
 IsSaves done saves = saves ≡ []
 
 -- the line of a stop

@@ -5,7 +5,10 @@ use Rattle.enc_top.specs.declared.judge.Judged.{Judged}
 use Rattle.enc_top.specs.declared.load.BaseFile.{BaseFile}
 use Rattle.enc_top.specs.declared.load.DeltaFile.{DeltaFile}
 use Rattle.enc_top.specs.declared.stop.Stop.{Stop as Halt}
-use Rattle.enc_top.specs.Verdict.{Stop, BaseFiles, DeltaFiles, Followed, followed_by}
+use Rattle.enc_plain.specs.Sound.{row_count}
+use Rattle.enc_plain.specs.SoundDebug.{KnowsWithin}
+use Rattle.enc_schema.specs.Tables as tables
+use Rattle.enc_top.specs.Verdict.{Stop, BaseFiles, DeltaFiles, Followed, plain_of, debug_after, followed_by}
 use Rattle.enc_checker.specs.Check.{Accepted}
 use Rattle.enc_top.specs.Stops.{OnPlan, StopsWith}
 
@@ -28,6 +31,10 @@ file_seen f = record {
 -- an aggregate and a chain of PDBs are a base with the deltas that follow it
 abbrev pub followed : Judged → Followed
 followed j = record { base = j.agg.base; deltas = j.agg.deltas; debug = j.debug.base; debugs = j.debug.deltas }
+
+-- what their PDBs know is of their methods
+abbrev pub KnowWithin : Judged → Type 0
+KnowWithin j = KnowsWithin (debug_after (followed j)) (row_count (plain_of (followed j)) tables.method_def)
 
 -- a delta was added, or it ended at the defined stop
 abbrev pub Adds : {U : Type 0} → Judged → Judged → Result U Halt → Result Accepted Stop → Type 0

@@ -1,6 +1,5 @@
 -- For the contracts of private functions: what the program's stop, which is called a halt here, says of the stop that is defined.
 use Rattle.std.specs.Prelude.{◌≡◌, ◌≢◌, ℕ, List, [], Result, Ok, Err}
-use Rattle.enc_base.specs.declared.refusal.Refusal.{Refusal}
 use Rattle.enc_base.specs.declared.refusal.ReadFault.{ReadFault}
 use Rattle.enc_base.specs.declared.refusal.ReadFault.TheVariants as fault
 use Rattle.enc_outside.specs.declared.store.LoadError.{LoadError}
@@ -9,7 +8,10 @@ use Rattle.enc_top.specs.declared.plan.Plan.{Plan}
 use Rattle.enc_top.specs.declared.plan.Outcome.TheVariants.{Usage}
 use Rattle.enc_top.specs.declared.stop.Stop.{Stop as Halt}
 use Rattle.enc_top.specs.declared.stop.Stop.TheVariants as halt
-use Rattle.enc_top.specs.Verdict.{Stop, refused_file, refused_name}
+use Rattle.enc_rewriter.specs.declared.fault.RewriteFault.{RewriteFault}
+use Rattle.enc_rewriter.specs.declared.fault.RewriteFault.TheVariants.{Memory, TooLarge, Image}
+use Rattle.enc_top.specs.declared.limits.Limit.TheVariants as limit
+use Rattle.enc_top.specs.Verdict.{Stop, refused_file, refused_name, past_limit, file_past}
 use Rattle.enc_top.specs.Plans.{IsPlanOf}
 
 -- the halt of a failed load
@@ -51,6 +53,12 @@ StopsQuietly (Err h) = OnPlan h IsQuiet
 abbrev pub IsUnread : List ℕ → ReadFault → Halt → Type 0
 IsUnread name (fault.Refused e) h = OnPlan h (IsPlanOf (Err (refused_file name e)))
 IsUnread name fault.Memory h = h ≡ halt.Memory
+
+-- what becomes of a module that isn't written: the stop at the limit that it passes, or want of memory
+abbrev pub IsUnwritten : List ℕ → RewriteFault → Halt → Type 0
+IsUnwritten out (TooLarge heap) h = OnPlan h (IsPlanOf (Err (past_limit (file_past out (limit.Heap heap)) (limit.Heap heap))))
+IsUnwritten out Image h = OnPlan h (IsPlanOf (Err (past_limit (file_past out limit.Image) limit.Image)))
+IsUnwritten out Memory h = h ≡ halt.Memory
 
 -- what becomes of a delta that isn't accepted: its PDB is refused, or its metadata; or want of memory
 abbrev pub IsUnaccepted : List ℕ → List ℕ → ReadFault → Halt → Type 0

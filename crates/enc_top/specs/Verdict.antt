@@ -8,16 +8,19 @@ use Rattle.enc_base.specs.declared.refusal.Code.{Code}
 use Rattle.enc_base.specs.declared.refusal.Code.TheVariants.{F, E}
 use Rattle.enc_rows.specs.Source.{Source}
 use Rattle.enc_schema.specs.Tables as tables
-use Rattle.enc_plain.specs.Module.{rows_in}
+use Rattle.enc_base.specs.declared.refusal.StreamName.TheVariants as stream
+use Rattle.enc_plain.specs.Debug.{PlainPdb}
+use Rattle.enc_plain.specs.Module.{Module, rows_in}
+use Rattle.enc_rewriter.specs.Limits.{Passed, too_large, too_heavy, rewrite_limit}
 use Rattle.enc_image.specs.Base.{base_of, chain_of_base}
 use Rattle.enc_delta.specs.Delta.{delta_of}
 use Rattle.enc_ppdb.specs.Fault.{pdb_of}
-use Rattle.enc_ppdb.specs.PdbChain.{DebugDelta}
+use Rattle.enc_ppdb.specs.PdbChain.{DebugDelta, pdb_with}
 use Rattle.enc_checker.specs.Check.{Accepted, judged, new_bodies}
 use Rattle.enc_agg.specs.Extend.{chain_with}
 use Rattle.enc_top.specs.declared.limits.Limit.{Limit}
 use Rattle.enc_top.specs.declared.limits.Limit.TheVariants as limit
-use Rattle.enc_top.specs.Words.{Job, show, list, check, job_of}
+use Rattle.enc_top.specs.Words.{Job, show, list, check, apply, job_of}
 
 -- why a command does nothing: the words are none; a file that must be there is absent; a file is refused, by a rule or by its length
 pub data Stop : Type 0 where
@@ -188,11 +191,37 @@ accept files base deltas = do
   fs ← load_deltas files deltas (base_size f)
   judge_all base f fs
 
--- what an accepted command does with them: it shows a token's row, lists them, or counts the deltas
+-- the module and the plain PDB after all deltas
+abbrev pub plain_of : Followed → Module
+plain_of f = (chain_with f.base f.deltas).plain
+
+abbrev pub debug_after : Followed → PlainPdb
+debug_after f = pdb_with f.debug f.debugs
+
+-- the limit that is passed, as it is told
+abbrev pub limit_told : Passed → Limit
+limit_told (too_large heap) = limit.Heap heap
+limit_told too_heavy = limit.Image
+
+-- the file that would pass it: the PDB, or the module
+abbrev pub file_past : List ℕ → Limit → List ℕ
+file_past out (limit.Heap stream.Pdb) = pdb out
+file_past out l = dll out
+
+-- what is written passes no limit
+abbrev pub unless_past : List ℕ → Followed → Option Passed → Result Followed Stop
+unless_past out f None = Ok f
+unless_past out f (Some passed) = Err (past_limit (file_past out (limit_told passed)) (limit_told passed))
+
+unfoldable pub can_be_written : List ℕ → Followed → Result Followed Stop
+can_be_written out f = unless_past out f (rewrite_limit (plain_of f) (debug_after f))
+
+-- what an accepted command does with them: it shows a token's row, lists them, counts the deltas, or saves the one module that has all edits
 pub data Done : Type 0 where
   shows : Token → Followed → Done
   lists : Followed → Done
   counts : Followed → Done
+  applies : List ℕ → Followed → Done
 
 -- what a command comes to: what it does, or why it does nothing
 abbrev pub Verdict : Type 0
@@ -216,10 +245,23 @@ check_on files base deltas = do
   f ← accept files base deltas
   Ok (counts f)
 
+-- what is written of accepted files
+abbrev pub write_on : List ℕ → Followed → Verdict
+write_on out f = do
+  g ← can_be_written out f
+  Ok (applies out g)
+
+-- `apply BASE OUT DELTA..`
+abbrev pub apply_on : Files → List ℕ → List ℕ → List (List ℕ) → Verdict
+apply_on files base out deltas = do
+  f ← accept files base deltas
+  write_on out f
+
 abbrev pub verdict_on : Files → Option Job → Verdict
 verdict_on files (Some (show base token deltas)) = show_on files base token deltas
 verdict_on files (Some (list base deltas)) = list_on files base deltas
 verdict_on files (Some (check base deltas)) = check_on files base deltas
+verdict_on files (Some (apply base out deltas)) = apply_on files base out deltas
 verdict_on files None = Err no_command
 
 -- what the words come to over these files

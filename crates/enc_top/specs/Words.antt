@@ -8,11 +8,12 @@ use Rattle.hex.specs.declared.error.FromHexError.{FromHexError}
 use Rattle.enc_base.specs.Token.{token_of}
 use Rattle.enc_base.specs.declared.token.Token.{Token}
 
--- what a command asks for: a row of a base with deltas, their listing, or whether all are accepted
+-- what a command asks for: a row of a base with deltas, their listing, whether all are accepted, or the one module that has all edits, under a name of its own
 pub data Job : Type 0 where
   show : List ℕ → Token → List (List ℕ) → Job
   list : List ℕ → List (List ℕ) → Job
   check : List ℕ → List (List ℕ) → Job
+  apply : List ℕ → List ℕ → List (List ℕ) → Job
 
 -- an ASCII letter, a digit, or one of _ - . /
 abbrev pub is_name_byte : ℕ → Bool
@@ -51,12 +52,18 @@ abbrev pub check_of : List (List ℕ) → Option Job
 check_of (base ∷ deltas) = if are_names base deltas then Some (check base deltas) else None
 check_of [] = None
 
+-- `apply BASE OUT DELTA..`
+abbrev pub apply_of : List (List ℕ) → Option Job
+apply_of (base ∷ out ∷ deltas) = if are_names base (out ∷ deltas) then Some (apply base out deltas) else None
+apply_of _ = None
+
 -- the row of the command table that the words are
 abbrev pub job_of : List (List ℕ) → Option Job
 job_of (name ∷ words) =
     if bytes_eq name (codes "show") then show_of words
     else if bytes_eq name (codes "list") then list_of words
     else if bytes_eq name (codes "check") then check_of words
+    else if bytes_eq name (codes "apply") then apply_of words
     else None
 job_of [] = None
 

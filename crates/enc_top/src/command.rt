@@ -1,7 +1,7 @@
 //! The words of a command.
 ghost use Rattle.std.specs.Prelude.{◌≡◌, option_map, map};
 ghost use Rattle.std.specs.List.{list_all};
-ghost use Rattle.enc_top.specs.Words.{is_name_byte, is_name, are_names, token_of_word, show_of, list_of, check_of, job_of, texts};
+ghost use Rattle.enc_top.specs.Words.{is_name_byte, is_name, are_names, token_of_word, show_of, list_of, check_of, apply_of, job_of, texts};
 ghost use Rattle.enc_top.specs.Commands.{job_seen};
 
 use enc_base::Token;
@@ -23,6 +23,12 @@ pub enum Command<'a> {
     /// Tells whether a base and its deltas are accepted.
     Check {
         base: &'a str,
+        deltas: &'a [String],
+    },
+    /// Saves the one module that has all edits of a base and its deltas.
+    Apply {
+        base: &'a str,
+        out: &'a str,
         deltas: &'a [String],
     },
 }
@@ -130,6 +136,24 @@ fn check_of(words: &[String]) -> Option<Command<'_>>
     })
 }
 
+/// The words of `apply`.
+#[tactic(auto, unfolding(crate::specs::Words::are_names))]
+fn apply_of(words: &[String]) -> Option<Command<'_>>
+    ensures { option_map job_seen result ≡ apply_of (texts words.now) }
+{
+    let [base, out, deltas @ ..] = words else {
+        return None;
+    };
+    if !is_name(base.as_str()) || !are_names(out.as_str(), deltas) {
+        return None;
+    }
+    Some(Command::Apply {
+        base: base.as_str(),
+        out: out.as_str(),
+        deltas,
+    })
+}
+
 /// The row of the command table that the words are.
 pub fn command_of(words: &[String]) -> Option<Command<'_>>
     ensures { option_map job_seen result ≡ job_of (texts words.now) }
@@ -141,6 +165,7 @@ pub fn command_of(words: &[String]) -> Option<Command<'_>>
         "show" => show_of(words),
         "list" => list_of(words),
         "check" => check_of(words),
+        "apply" => apply_of(words),
         _ => None,
     }
 }

@@ -7,6 +7,7 @@ ghost use Rattle.enc_top.specs.Plans.{IsPlanOf};
 ghost use Rattle.enc_top.specs.Stops.{IfPlan};
 
 mod accept;
+mod apply;
 mod check;
 mod list;
 mod show;
@@ -15,6 +16,7 @@ use crate::command::{Command, command_of};
 use crate::plan::{Outcome, Plan};
 use crate::plans::unknown;
 use crate::stop::Stop;
+use apply::apply;
 use check::check;
 use enc_outside::Store;
 use list::list;
@@ -42,5 +44,6 @@ pub fn plan_of<S: Store>(alloc: Global, words: &[String], store: &mut S) -> Resu
         ) => show(alloc, base, token, deltas, store),
         Some(Command::List { base, deltas }) => list(alloc, base, deltas, store),
         Some(Command::Check { base, deltas }) => check(alloc, base, deltas, store),
+        Some(Command::Apply { base, out, deltas }) => apply(alloc, base, out, deltas, store),
     }
 }

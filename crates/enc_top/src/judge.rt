@@ -1,5 +1,5 @@
 //! Judging a base and its deltas, each after those before it, with their PDBs.
-ghost use Rattle.std.specs.Prelude.{◌≡◌, ◌≢◌, ◌<◌, ◌∷◌, Option, None, length, map, Ok, IfOk, IsErrOf, string_bytes};
+ghost use Rattle.std.specs.Prelude.{◌≡◌, ◌≢◌, ◌<◌, ◌∷◌, Option, None, length, map, Ok, IfOk, OnOk, IsErrOf, string_bytes};
 ghost use Rattle.enc_schema.specs.Tables.{method_def};
 ghost use Rattle.enc_plain.specs.Module.{rows_in};
 ghost use Rattle.enc_image.specs.Base.{base_of, chain_of_base};
@@ -12,14 +12,14 @@ ghost use Rattle.enc_checker.specs.Check.{accepted, judged};
 ghost use Rattle.enc_rows.specs.Source.{Source};
 ghost use Rattle.enc_top.specs.Verdict.{dll, pdb, in_file, in_delta, is_of_pdb, base_pdb, followed_by, judge_deltas as deltas_judged, judge_all as all_judged};
 ghost use Rattle.enc_top.specs.Stops.{Comes, StopsQuietly, OnPlan, IsQuiet, IsUnaccepted};
-ghost use Rattle.enc_top.specs.Loads.{bytes_seen, base_seen, file_seen, followed, Adds};
+ghost use Rattle.enc_top.specs.Loads.{bytes_seen, base_seen, file_seen, followed, KnowWithin, Adds};
 
 use crate::load::{BaseFile, DeltaFile, name_of};
 use crate::plans::unread;
 use crate::stop::Stop;
 use enc_agg::Aggregate;
 use enc_base::{Code, ReadFault, Steps};
-use enc_checker::{Checked, Files, check, new_bodies};
+use enc_checker::{Checked, Files, check, new_bodies, within_law};
 use enc_delta::Delta;
 use enc_image::Image;
 use enc_plain::ModuleView;
@@ -89,10 +89,13 @@ fn unaccepted(alloc: Global, name: &str, debug_name: &str, fault: ReadFault) -> 
 
 /// The files of a delta judged after the deltas before it, and added.
 fn judge_delta(alloc: Global, held: &mut Judged, file: DeltaFile) -> Result<(), Stop>
+    requires within { KnowWithin held.old }
     ensures step { Adds held.old held.new result (in_delta (file_seen file) (judged (chain_of_all held.old.agg) (delta_of file.metadata.items file.code.items) (bytes_seen file.debug))) }
+    ensures within { OnOk result (KnowWithin held.new) }
     ensures quiet { StopsQuietly result }
     ensures no_fault { ¬ (IsErrOf result Stop.Failed) }
 {
+    within_law();
     let DeltaFile {
         name,
         debug_name,
@@ -106,14 +109,19 @@ fn judge_delta(alloc: Global, held: &mut Judged, file: DeltaFile) -> Result<(), 
         pdb: debug,
     };
     match check(alloc, &held.agg, files) {
-        Ok(checked) => Ok(add(alloc, held, checked)?),
+        Ok(checked) => {
+            checked.delta.was_read();
+            Ok(add(alloc, held, checked)?)
+        }
         Err(fault) => Err(unaccepted(alloc, name.as_str(), debug_name.as_str(), fault)),
     }
 }
 
 /// All deltas, in order.
 fn judge_deltas(alloc: Global, held: &mut Judged, files: Vec<DeltaFile>) -> Result<(), Stop>
+    requires within { KnowWithin held.old }
     ensures step { Comes (λ u. followed held.new) result (deltas_judged (followed held.old) (map file_seen files.items)) }
+    ensures within { OnOk result (KnowWithin held.new) }
     ensures quiet { StopsQuietly result }
     ensures no_fault { ¬ (IsErrOf result Stop.Failed) }
 {
@@ -180,9 +188,11 @@ pub fn judge_all(
     files: Vec<DeltaFile>,
 ) -> Result<Judged, Stop>
     ensures step { Comes followed result (all_judged base.now (base_seen file) (map file_seen files.items)) }
+    ensures within { IfOk result (λ j. KnowWithin j) }
     ensures quiet { StopsQuietly result }
     ensures no_fault { ¬ (IsErrOf result Stop.Failed) }
 {
+    within_law();
     let BaseFile { bytes, debug } = file;
     let image = judge_base(alloc, base, bytes)?;
     let pdb = judge_pdb(alloc, base, &image, debug)?;

@@ -1,4 +1,6 @@
-//! How long files may be.
+//! How long files may be, and what is written.
+
+use enc_base::StreamName;
 
 /// A limit that was passed.
 #[derive(Clone, Copy, Debug, PartialEq, Eq)]
@@ -7,6 +9,10 @@ pub enum Limit {
     Length,
     /// L2: of all files that are loaded.
     Total,
+    /// L4: of a heap of the module that would be written, or of its PDB.
+    Heap(StreamName),
+    /// L4: of the image that would be written.
+    Image,
 }
 
 /// The most bytes of a file.

@@ -1,23 +1,29 @@
 //! The lines of a command that isn't carried out, of a token that is absent and of deltas that are
 //! accepted.
 ghost use Rattle.std.specs.Prelude.{◌≡◌, ◌++◌, ◌∷◌, OnOk, IfOk, decimal};
-ghost use Rattle.enc_top.specs.Lines.{limit_text, limit_line, missing_line, absent_line, accepted_line, usage_line};
+ghost use Rattle.enc_top.specs.Lines.{limit_text, limit_line, missing_line, absent_line, accepted_line, saved_line, usage_line};
 
 use crate::limits::Limit;
 use enc_base::Token;
-use enc_text::{push_decimal, push_str, push_token};
+use enc_text::{push_decimal, push_str, push_token, stream_name};
 use std::alloc::{AllocError, Global};
 
-fn limit_text(limit: Limit) -> &'static str
-    ensures { result.now ≡ limit_text limit }
+/// Appends the number and the place of a limit.
+fn push_limit(out: &mut Vec<u8>, limit: Limit) -> Result<(), AllocError>
+    ensures { OnOk result (out.new.items ≡ out.old.items ++ limit_text limit) }
 {
     match limit {
-        Limit::Length => "L1 length",
-        Limit::Total => "L2 total",
+        Limit::Length => push_str(out, "L1 length"),
+        Limit::Total => push_str(out, "L2 total"),
+        Limit::Heap(heap) => {
+            push_str(out, "L4 ")?;
+            push_str(out, stream_name(heap))
+        }
+        Limit::Image => push_str(out, "L4 image"),
     }
 }
 
-/// The line of a file that is too long, or with which all are.
+/// The line of a file that is too long, with which all are, or that would be.
 #[tactic(auto, unfolding(crate::specs::Lines::limit_line))]
 pub fn limit_line(alloc: Global, name: &str, limit: Limit) -> Result<Vec<u8>, AllocError>
     ensures { IfOk result (λ line. line.items ≡ limit_line name.now limit) }
@@ -26,7 +32,7 @@ pub fn limit_line(alloc: Global, name: &str, limit: Limit) -> Result<Vec<u8>, Al
     push_str(&mut line, "refused ")?;
     push_str(&mut line, name)?;
     push_str(&mut line, " ")?;
-    push_str(&mut line, limit_text(limit))?;
+    push_limit(&mut line, limit)?;
     push_str(&mut line, "\n")?;
     Ok(line)
 }
@@ -61,6 +67,20 @@ pub fn push_accepted(alloc: Global, out: &mut Vec<u8>, count: u32) -> Result<(),
     push_str(out, "accepted ")?;
     push_decimal(alloc, out, count)?;
     push_str(out, "\n")
+}
+
+/// The line of two files that are saved.
+#[tactic(auto, unfolding(crate::specs::Lines::saved_line))]
+pub fn saved_line(alloc: Global, first: &str, second: &str) -> Result<Vec<u8>, AllocError>
+    ensures { IfOk result (λ line. line.items ≡ saved_line first.now second.now) }
+{
+    let mut line = Vec::new(alloc);
+    push_str(&mut line, "saved ")?;
+    push_str(&mut line, first)?;
+    push_str(&mut line, " ")?;
+    push_str(&mut line, second)?;
+    push_str(&mut line, "\n")?;
+    Ok(line)
 }
 
 /// The line of words that are no command.

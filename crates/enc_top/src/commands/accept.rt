@@ -1,10 +1,10 @@
 //! What the commands share: the files are loaded, and then judged.
-ghost use Rattle.std.specs.Prelude.{◌≡◌, IfSome};
+ghost use Rattle.std.specs.Prelude.{◌≡◌, IfSome, IfOk};
 ghost use Rattle.enc_outside.specs.Outside.{HasCause};
 ghost use Rattle.enc_top.specs.Words.{texts};
 ghost use Rattle.enc_top.specs.Verdict.{accept as accept_from};
 ghost use Rattle.enc_top.specs.Stops.{Comes, StopsQuietly};
-ghost use Rattle.enc_top.specs.Loads.{followed};
+ghost use Rattle.enc_top.specs.Loads.{followed, KnowWithin};
 
 use crate::judge::{Judged, judge_all};
 use crate::load::{Loaded, load_base, load_deltas};
@@ -24,6 +24,7 @@ pub fn accept<S: Store>(
     ensures stays { S.told store.new ≡ S.told store.old }
     ensures step { IfSome (S.told store.old) (λ files. Comes followed result (accept_from files base.now (texts deltas.now))) }
     ensures quiet { StopsQuietly result }
+    ensures within { IfOk result (λ j. KnowWithin j) }
 {
     let mut loaded = Loaded::nothing();
     let file = load_base(alloc, base, &mut loaded, store)?;

@@ -15,27 +15,27 @@ code-requires-clause-row g c = row_there (g.V.ModuleView.meaning c.args.view.now
 
 pub push_body-requires-clause-sound : goal.push_body-requires-clause-sound
 push_body-requires-clause-sound g c =
-    (ready (g.V.ModuleView.meaning c.args.view.now) c.args.heaps.now (g.V.ModuleView.users c.args.view.now) c.args.n (code_seen c.in-Some.body) (length c.args.out.now.items) c.requires.sound c.requires.nils c.requires.kept c.requires.row c.requires.light c.requires.weighs c.in-Some.ensures.body).sound
+    (ready (g.V.ModuleView.meaning c.args.view.now) c.args.heaps.now (g.V.ModuleView.users c.args.view.now) c.args.n (code_seen c.in-Some.body) (length c.args.out.now.items) c.requires.sound c.requires.kept c.requires.row c.requires.light c.requires.weighs c.in-Some.ensures.body).sound
 
 pub push_body-requires-clause-nil : goal.push_body-requires-clause-nil
 push_body-requires-clause-nil g c =
-    (ready (g.V.ModuleView.meaning c.args.view.now) c.args.heaps.now (g.V.ModuleView.users c.args.view.now) c.args.n (code_seen c.in-Some.body) (length c.args.out.now.items) c.requires.sound c.requires.nils c.requires.kept c.requires.row c.requires.light c.requires.weighs c.in-Some.ensures.body).nil
+    (ready (g.V.ModuleView.meaning c.args.view.now) c.args.heaps.now (g.V.ModuleView.users c.args.view.now) c.args.n (code_seen c.in-Some.body) (length c.args.out.now.items) c.requires.sound c.requires.kept c.requires.row c.requires.light c.requires.weighs c.in-Some.ensures.body).nil
 
 pub push_body-requires-clause-rows : goal.push_body-requires-clause-rows
 push_body-requires-clause-rows g c =
-    (ready (g.V.ModuleView.meaning c.args.view.now) c.args.heaps.now (g.V.ModuleView.users c.args.view.now) c.args.n (code_seen c.in-Some.body) (length c.args.out.now.items) c.requires.sound c.requires.nils c.requires.kept c.requires.row c.requires.light c.requires.weighs c.in-Some.ensures.body).rows
+    (ready (g.V.ModuleView.meaning c.args.view.now) c.args.heaps.now (g.V.ModuleView.users c.args.view.now) c.args.n (code_seen c.in-Some.body) (length c.args.out.now.items) c.requires.sound c.requires.kept c.requires.row c.requires.light c.requires.weighs c.in-Some.ensures.body).rows
 
 pub push_body-requires-clause-kept : goal.push_body-requires-clause-kept
 push_body-requires-clause-kept g c =
-    (ready (g.V.ModuleView.meaning c.args.view.now) c.args.heaps.now (g.V.ModuleView.users c.args.view.now) c.args.n (code_seen c.in-Some.body) (length c.args.out.now.items) c.requires.sound c.requires.nils c.requires.kept c.requires.row c.requires.light c.requires.weighs c.in-Some.ensures.body).kept
+    (ready (g.V.ModuleView.meaning c.args.view.now) c.args.heaps.now (g.V.ModuleView.users c.args.view.now) c.args.n (code_seen c.in-Some.body) (length c.args.out.now.items) c.requires.sound c.requires.kept c.requires.row c.requires.light c.requires.weighs c.in-Some.ensures.body).kept
 
 pub push_body-requires-clause-near : goal.push_body-requires-clause-near
 push_body-requires-clause-near g c =
-    (ready (g.V.ModuleView.meaning c.args.view.now) c.args.heaps.now (g.V.ModuleView.users c.args.view.now) c.args.n (code_seen c.in-Some.body) (length c.args.out.now.items) c.requires.sound c.requires.nils c.requires.kept c.requires.row c.requires.light c.requires.weighs c.in-Some.ensures.body).near
+    (ready (g.V.ModuleView.meaning c.args.view.now) c.args.heaps.now (g.V.ModuleView.users c.args.view.now) c.args.n (code_seen c.in-Some.body) (length c.args.out.now.items) c.requires.sound c.requires.kept c.requires.row c.requires.light c.requires.weighs c.in-Some.ensures.body).near
 
 pub push_body-requires-clause-room : goal.push_body-requires-clause-room
 push_body-requires-clause-room g c =
-    (ready (g.V.ModuleView.meaning c.args.view.now) c.args.heaps.now (g.V.ModuleView.users c.args.view.now) c.args.n (code_seen c.in-Some.body) (length c.args.out.now.items) c.requires.sound c.requires.nils c.requires.kept c.requires.row c.requires.light c.requires.weighs c.in-Some.ensures.body).room
+    (ready (g.V.ModuleView.meaning c.args.view.now) c.args.heaps.now (g.V.ModuleView.users c.args.view.now) c.args.n (code_seen c.in-Some.body) (length c.args.out.now.items) c.requires.sound c.requires.kept c.requires.row c.requires.light c.requires.weighs c.in-Some.ensures.body).room
 
 pub returns-in-Some-clause-placed : goal.returns-in-Some-clause-placed
 returns-in-Some-clause-placed g c =

@@ -12,6 +12,7 @@ loop-file-preserved c =
       next = tt;
       finite = tt;
       many = let one : length c.loop-file.file-iterator.rest.items ≡ length c.next.new.self.rest.items + 1 = rw items (omega arith) in omega (arith, one, c.in-Some.ensures.steps.1, c.loop-file.invariant.many);
+      within = c.in_ok-judge_delta.ensures.within;
       judged = c.loop-file.invariant.judged ∙ rw items (judged_more {U = Unit {0}} c.loop-file.held c.judge_delta.new.held (file_seen c.in-Some.file) _ tt c.in_ok-judge_delta.ensures.step);
     }
 

@@ -1,0 +1,8 @@
+use Rattle.std.proofs.Common.{◌≡◌, ◌≤◌}
+use Rattle.std.specs.Prelude.{min}
+use Rattle.enc_rewriter.specs.Standing.{fields_before}
+use Rattle.enc_rewriter.specs.Weight.{most_weight}
+use Rattle.enc_rewriter.proofs.weight.fields_weight.Given as goal
+
+abbrev pub invariant-loop-n : goal.invariant-loop-n
+invariant-loop-n g l = (l.sum ≡ min most_weight (fields_before (g.V.ModuleView.meaning l.view) l.n)) × (l.sum ≤ most_weight)

@@ -1,0 +1,26 @@
+use Rattle.std.proofs.Common.{ℕ, ◌<◌, ◌^◌, sym, subst}
+use Rattle.enc_meta.specs.Built.{Built}
+use Rattle.enc_rewriter.specs.Rewritten.{MeansModule}
+use Rattle.enc_rewriter.specs.Weight.{module_weight, most_weight}
+use Rattle.enc_rewriter.proofs.ImageSizes.{parts_light, image_fits}
+use Rattle.enc_rewriter.proofs.ImagesMean.{images_mean}
+use Rattle.enc_rewriter.proofs.written.image_of.Goals as goal
+
+pub parts_with-requires-clause-weight : goal.parts_with-requires-clause-weight
+parts_with-requires-clause-weight g c = parts_light (g.V.ModuleView.meaning c.args.view.now) c.args.heaps c.requires.light
+
+pub image_with-requires-clause-fits : goal.image_with-requires-clause-fits
+image_with-requires-clause-fits g c =
+    let m = g.V.ModuleView.meaning c.args.view.now in
+    let e = c.in_ok-parts.ensures in
+    image_fits m c.in_ok-parts.parts.heaps c.in_ok-parts.parts.placed c.in_ok-parts.parts.tables c.requires.sound e.held
+    (subst (λ (h : Built). module_weight m h < most_weight) (sym e.heaps) c.requires.light) e.code (subst (λ (n : ℕ). n < 2 ^ 32) c.entry.ensures c.word_law.ensures)
+
+pub returns : goal.returns
+returns g c =
+    let m = g.V.ModuleView.meaning c.args.view.now in
+    let e = c.in_ok-parts.ensures in
+    let p = c.in_ok-parts.parts in
+    subst (λ bytes. MeansModule m bytes) (sym c.in_ok-image.ensures)
+    (images_mean m p.heaps p.placed p.tables c.requires.sound e.held (image_fits m p.heaps p.placed p.tables c.requires.sound e.held
+    (subst (λ (h : Built). module_weight m h < most_weight) (sym e.heaps) c.requires.light) e.code (subst (λ (n : ℕ). n < 2 ^ 32) c.entry.ensures c.word_law.ensures)))
