@@ -107,12 +107,12 @@ both_hold : (a b : Bool) → a ≡ true → b ≡ true → (a && b) ≡ true
 both_hold true b e f = f
 both_hold false b e f = absurd cc
 
-all_kept : (p : Pass) (h : Built) (vs : List (List ℕ)) → list_all (is_kept_by p (with_all p h vs)) vs ≡ true
+pub all_kept : (p : Pass) (h : Built) (vs : List (List ℕ)) → list_all (is_kept_by p (with_all p h vs)) vs ≡ true
 unfolding with_all
 all_kept p h [] = refl
 all_kept p h (v ∷ vs) = both_hold _ _ (stays p p (with_one p h v) v vs (one_kept p h v)) (all_kept p (with_one p h v) vs)
 
-all_stay : (p q : Pass) (h : Built) (vs ws : List (List ℕ)) → list_all (is_kept_by p h) vs ≡ true → list_all (is_kept_by p (with_all q h ws)) vs ≡ true
+pub all_stay : (p q : Pass) (h : Built) (vs ws : List (List ℕ)) → list_all (is_kept_by p h) vs ≡ true → list_all (is_kept_by p (with_all q h ws)) vs ≡ true
 all_stay p q h [] ws e = refl
 all_stay p q h (v ∷ vs) ws e = both_hold _ _ (stays p q h v ws (both_left (is_kept_by p h v) _ e)) (all_stay p q h vs ws (both_right (is_kept_by p h v) _ e))
 

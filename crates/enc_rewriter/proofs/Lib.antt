@@ -41,3 +41,4 @@ pub mod Sources
 pub mod Unfaulted
 pub mod UserTexts
 pub mod Weights
+pub mod Seen

@@ -1,8 +1,13 @@
 -- A body that stands in the code of an image that is written (ECMA-335 II.25.4).
 use Rattle.std.specs.Prelude.{◌≡◌, ℕ, ◌+◌, ◌*◌, ◌<◌, ◌≤◌, min, Bool, true, ◌||◌, List, length, Option, Some, ◌==◌, if◌then◌else◌, slice_index}
+use Rattle.std.specs.List.{list_all}
 use Rattle.std.specs.BTreeMap.{BTreeMap, get}
+use Rattle.std.specs.BTreeSet.{BTreeSet}
 use Rattle.std.specs.Ordering.{nat_cmp}
+use Rattle.enc_base.specs.Passed.{AllPass}
 use Rattle.enc_base.specs.Token.{nth_row}
+use Rattle.enc_meta.specs.Built.{Built, is_kept}
+use Rattle.enc_rewriter.specs.Values.{users_of_body}
 use Rattle.enc_opcodes.specs.declared.code.Clause.{Clause}
 use Rattle.enc_opcodes.specs.Body.{Body}
 use Rattle.enc_plain.specs.Bodies.{body_loaded, code_loaded, code_is_good}
@@ -46,6 +51,13 @@ row_weights_before m n = sum_below (λ t. row_count m t * row_weight t) n
 -- what is known of places: the weight of the body there, or the limit where it isn't less
 abbrev pub AreWeighed : (ℕ → Option Body) → BTreeMap ℕ ℕ → Type 0
 AreWeighed places known = (place weight : ℕ) → get nat_cmp known place ≡ Some weight → weight ≡ min most_weight (body_weight (Some (body (places place))))
+
+-- what is known of places: the user texts of the body there are kept
+abbrev pub are_kept_at : (ℕ → Option Body) → Built → ℕ → Bool
+are_kept_at places h place = list_all (is_kept h.users) (users_of_body (places place))
+
+abbrev pub AreGathered : (ℕ → Option Body) → Built → BTreeSet ℕ → Type 0
+AreGathered places h seen = AllPass (are_kept_at places h) seen
 
 -- the bodies of so many methods are placed
 abbrev pub AreBodiesPlaced : Module → (ℕ → Option (List ℕ)) → List ℕ → List ℕ → ℕ → Type 0

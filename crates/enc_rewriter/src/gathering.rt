@@ -6,17 +6,25 @@ ghost use Rattle.enc_rewriter.specs.Values.{no_starts, no_heaps, with_all, all_v
 use crate::pass::{Pass, add_values};
 use enc_meta::{BuildFault, HeapBuilder};
 use enc_plain::ModuleView;
+use std::alloc::Global;
+use std::collections::BTreeSet;
 
 /// Adds what all rows have for a heap. `TooLarge` exactly where the heap of distinct values passes
 /// its limit.
 #[tactic(auto, using(crate::proofs::Limits::pass_ends, crate::proofs::Limits::pass_past, crate::proofs::Limits::starts_stay))]
-fn add_pass<V: ModuleView>(view: &V, pass: Pass, heaps: &mut HeapBuilder) -> Result<(), BuildFault>
+fn add_pass<V: ModuleView>(
+    alloc: Global,
+    view: &V,
+    pass: Pass,
+    heaps: &mut HeapBuilder,
+) -> Result<(), BuildFault>
     requires sound { IsSound (V.meaning view.now) }
     requires starts { heaps.old.starts ≡ no_starts }
     ensures added { OnOk result (heaps.new ≡ with_all pass heaps.old (all_values pass (V.meaning view.now))) }
     ensures ends { PassEnds result pass (with_all pass heaps.old (all_values pass (V.meaning view.now))) }
 {
-    match add_values(view, pass, heaps) {
+    let mut seen = BTreeSet::new(alloc);
+    match add_values(view, pass, &mut seen, heaps) {
         Ok(()) => {}
         Err(fault) => return Err(fault),
     }
@@ -27,23 +35,27 @@ fn add_pass<V: ModuleView>(view: &V, pass: Pass, heaps: &mut HeapBuilder) -> Res
 /// Gathers the values of a module in heaps that have none yet: each value once, in the order of
 /// tables, rows and columns. `TooLarge` exactly where a heap of distinct values passes its limit,
 /// with the first such heap of `#Strings`, `#US`, `#Blob` and `#GUID`.
-pub fn gather<V: ModuleView>(view: &V, heaps: &mut HeapBuilder) -> Result<(), BuildFault>
+pub fn gather<V: ModuleView>(
+    alloc: Global,
+    view: &V,
+    heaps: &mut HeapBuilder,
+) -> Result<(), BuildFault>
     requires sound { IsSound (V.meaning view.now) }
     requires none { heaps.old ≡ no_heaps }
     ensures gathered { OnOk result (heaps.new ≡ heaps_for (V.meaning view.now)) }
     ensures tells { TellsHeap result (too_large_heap (V.meaning view.now)) }
 {
-    match add_pass(view, Pass::Texts, heaps) {
+    match add_pass(alloc, view, Pass::Texts, heaps) {
         Ok(()) => {}
         Err(fault) => return Err(fault),
     }
-    match add_pass(view, Pass::Users, heaps) {
+    match add_pass(alloc, view, Pass::Users, heaps) {
         Ok(()) => {}
         Err(fault) => return Err(fault),
     }
-    match add_pass(view, Pass::Blobs, heaps) {
+    match add_pass(alloc, view, Pass::Blobs, heaps) {
         Ok(()) => {}
         Err(fault) => return Err(fault),
     }
-    add_pass(view, Pass::Guids, heaps)
+    add_pass(alloc, view, Pass::Guids, heaps)
 }

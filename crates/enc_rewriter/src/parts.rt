@@ -81,7 +81,7 @@ pub(crate) fn heaps_within<V: ModuleView>(
     ensures tells { TellsLimit result (image_limit (V.meaning view.now)) }
 {
     let mut heaps = HeapBuilder::begin(alloc, NO_STARTS)?;
-    match gather(view, &mut heaps) {
+    match gather(alloc, view, &mut heaps) {
         Ok(()) => {}
         Err(fault) => return Err(RewriteFault::from(fault)),
     }

@@ -7,6 +7,7 @@ ghost use Rattle.enc_plain.specs.Module.{has_row, cell_of};
 ghost use Rattle.enc_plain.specs.Sound.{IsSound, row_count};
 ghost use Rattle.enc_schema.specs.Schema.{columns_in, column_in};
 ghost use Rattle.enc_schema.specs.Tables.{method_def};
+ghost use Rattle.enc_rewriter.specs.Standing.{AreGathered};
 ghost use Rattle.enc_rewriter.specs.Values.{gathers as does_gather, values_at, values_of_row, values_of_table, all_values, with_all, IsPast};
 ghost use Rattle.enc_rewriter.specs.declared.pass.Pass.TheVariants.{Texts, Blobs, Guids, Users};
 
@@ -16,6 +17,7 @@ use enc_meta::{BuildFault, HeapBuilder};
 use enc_plain::ModuleView;
 use enc_schema::tables::METHOD_DEF;
 use enc_schema::{Column, columns_of};
+use std::collections::BTreeSet;
 
 /// Which heap's values are gathered.
 #[derive(Clone, Copy, Debug, PartialEq, Eq)]
@@ -76,7 +78,7 @@ pub(crate) fn text_in<V: ModuleView>(view: &V, row: Token, i: u8) -> &[u8]
 
 /// Adds the user texts of a method's body.
 #[tactic(auto, unfolding(crate::specs::Values::values_at, crate::specs::Values::with_all))]
-fn add_users<V: ModuleView>(
+fn add_body<V: ModuleView>(
     view: &V,
     method: Token,
     heaps: &mut HeapBuilder,
@@ -89,6 +91,35 @@ fn add_users<V: ModuleView>(
     match view.code(method) {
         Some(code) => add_named(view, &code, heaps),
         None => Ok(()),
+    }
+}
+
+/// The same. A place whose body was seen isn't looked at again, so methods that share a body cost what
+/// one does.
+fn add_users<V: ModuleView>(
+    view: &V,
+    method: Token,
+    seen: &mut BTreeSet<u64>,
+    heaps: &mut HeapBuilder,
+) -> Result<(), BuildFault>
+    requires row { IsTrue (has_row (V.meaning view.now) method) }
+    requires table { method.table ≡ method_def }
+    requires seen { AreGathered (V.places view.now) heaps.old seen.old }
+    ensures filled { OnOk result (heaps.new ≡ with_all Users heaps.old (values_at Users (V.meaning view.now) method 0)) }
+    ensures past { IsPast result Users (with_all Users heaps.old (values_at Users (V.meaning view.now) method 0)) }
+    ensures seen { OnOk result (AreGathered (V.places view.now) heaps.new seen.new) }
+{
+    let place = view.code_place(method);
+    if seen.contains(&place) {
+        return Ok(());
+    }
+    match add_body(view, method, heaps) {
+        Ok(()) => {}
+        Err(fault) => return Err(fault),
+    }
+    match seen.insert(place) {
+        Ok(_) => Ok(()),
+        Err(_) => Err(BuildFault::Memory),
     }
 }
 
@@ -107,23 +138,26 @@ fn gathers(pass: Pass, table: u8, i: u8, column: Column) -> bool
 }
 
 /// Adds what a row's column has for a heap, where its pass gathers it.
-#[tactic(auto, using(crate::proofs::Gathers::text_kind, crate::proofs::Gathers::blob_kind, crate::proofs::Gathers::guid_kind, crate::proofs::Gathers::body_kind), unfolding(crate::specs::Values::values_at))]
+#[tactic(auto, using(crate::proofs::Gathers::text_kind, crate::proofs::Gathers::blob_kind, crate::proofs::Gathers::guid_kind, crate::proofs::Gathers::body_kind, crate::proofs::Seen::seen_still), unfolding(crate::specs::Values::values_at))]
 fn add_gathered<V: ModuleView>(
     view: &V,
     pass: Pass,
     row: Token,
     i: u8,
+    seen: &mut BTreeSet<u64>,
     heaps: &mut HeapBuilder,
 ) -> Result<(), BuildFault>
     requires sound { IsSound (V.meaning view.now) }
     requires row { IsTrue (has_row (V.meaning view.now) row) }
+    requires seen { AreGathered (V.places view.now) heaps.old seen.old }
     requires gathers { IsTrue (does_gather pass (kind_in row.table i)) }
     ensures filled { OnOk result (heaps.new ≡ with_all pass heaps.old (values_at pass (V.meaning view.now) row i)) }
     ensures past { IsPast result pass (with_all pass heaps.old (values_at pass (V.meaning view.now) row i)) }
+    ensures seen { OnOk result (AreGathered (V.places view.now) heaps.new seen.new) }
 {
     match pass {
         Pass::Texts => add_text(text_in(view, row, i), heaps),
-        Pass::Users => add_users(view, row, heaps),
+        Pass::Users => add_users(view, row, seen, heaps),
         Pass::Blobs => add_blob(view.blob(row, i), heaps),
         Pass::Guids => add_guid(view.guid(row, i), heaps),
     }
@@ -137,18 +171,21 @@ fn add_cell<V: ModuleView>(
     row: Token,
     i: u8,
     column: Column,
+    seen: &mut BTreeSet<u64>,
     heaps: &mut HeapBuilder,
 ) -> Result<(), BuildFault>
     requires sound { IsSound (V.meaning view.now) }
     requires row { IsTrue (has_row (V.meaning view.now) row) }
     requires column { column_in row.table i ≡ Some column }
+    requires seen { AreGathered (V.places view.now) heaps.old seen.old }
     ensures filled { OnOk result (heaps.new ≡ with_all pass heaps.old (values_at pass (V.meaning view.now) row i)) }
     ensures past { IsPast result pass (with_all pass heaps.old (values_at pass (V.meaning view.now) row i)) }
+    ensures seen { OnOk result (AreGathered (V.places view.now) heaps.new seen.new) }
 {
     if !gathers(pass, row.table, i, column) {
         return Ok(());
     }
-    add_gathered(view, pass, row, i, heaps)
+    add_gathered(view, pass, row, i, seen, heaps)
 }
 
 /// Adds what a row has for a heap.
@@ -157,16 +194,19 @@ fn add_row<V: ModuleView>(
     view: &V,
     pass: Pass,
     row: Token,
+    seen: &mut BTreeSet<u64>,
     heaps: &mut HeapBuilder,
 ) -> Result<(), BuildFault>
     requires sound { IsSound (V.meaning view.now) }
     requires row { IsTrue (has_row (V.meaning view.now) row) }
+    requires seen { AreGathered (V.places view.now) heaps.old seen.old }
     ensures filled { OnOk result (heaps.new ≡ with_all pass heaps.old (values_of_row pass (V.meaning view.now) row)) }
     ensures past { IsPast result pass (with_all pass heaps.old (values_of_row pass (V.meaning view.now) row)) }
+    ensures seen { OnOk result (AreGathered (V.places view.now) heaps.new seen.new) }
 {
     let columns = columns_of(row.table);
     for i in 0..columns.len() {
-        match add_cell(view, pass, row, i as u8, columns[i], heaps) {
+        match add_cell(view, pass, row, i as u8, columns[i], seen, heaps) {
             Ok(()) => {}
             Err(fault) => return Err(fault),
         }
@@ -180,14 +220,17 @@ fn add_table<V: ModuleView>(
     view: &V,
     pass: Pass,
     table: u8,
+    seen: &mut BTreeSet<u64>,
     heaps: &mut HeapBuilder,
 ) -> Result<(), BuildFault>
     requires sound { IsSound (V.meaning view.now) }
+    requires seen { AreGathered (V.places view.now) heaps.old seen.old }
     ensures filled { OnOk result (heaps.new ≡ with_all pass heaps.old (values_of_table pass (V.meaning view.now) table)) }
     ensures past { IsPast result pass (with_all pass heaps.old (values_of_table pass (V.meaning view.now) table)) }
+    ensures seen { OnOk result (AreGathered (V.places view.now) heaps.new seen.new) }
 {
     for n in 0..view.count(table) {
-        match add_row(view, pass, Token { table, row: n + 1 }, heaps) {
+        match add_row(view, pass, Token { table, row: n + 1 }, seen, heaps) {
             Ok(()) => {}
             Err(fault) => return Err(fault),
         }
@@ -201,14 +244,17 @@ fn add_table<V: ModuleView>(
 pub fn add_values<V: ModuleView>(
     view: &V,
     pass: Pass,
+    seen: &mut BTreeSet<u64>,
     heaps: &mut HeapBuilder,
 ) -> Result<(), BuildFault>
     requires sound { IsSound (V.meaning view.now) }
+    requires seen { AreGathered (V.places view.now) heaps.old seen.old }
     ensures filled { OnOk result (heaps.new ≡ with_all pass heaps.old (all_values pass (V.meaning view.now))) }
     ensures past { IsPast result pass (with_all pass heaps.old (all_values pass (V.meaning view.now))) }
+    ensures seen { OnOk result (AreGathered (V.places view.now) heaps.new seen.new) }
 {
     for table in 0..64 {
-        match add_table(view, pass, table, heaps) {
+        match add_table(view, pass, table, seen, heaps) {
             Ok(()) => {}
             Err(fault) => return Err(fault),
         }

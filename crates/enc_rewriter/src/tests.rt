@@ -17,7 +17,7 @@ fn gathers_each_value_once(rt: HostRuntime) -> Result<(), Fail> {
     let module = PlainModule::begin(rt.alloc(), b"a.dll", [7; 16])?;
     module.sound();
     let mut heaps = HeapBuilder::begin(rt.alloc(), NO_STARTS)?;
-    assert!(rt; gather(&module, &mut heaps).is_ok());
+    assert!(rt; gather(rt.alloc(), &module, &mut heaps).is_ok());
     let bytes = heaps.finish()?;
     assert_eq!(rt; bytes.strings.as_slice(), b"\0a.dll\0".as_slice());
     assert_eq!(rt; bytes.users.as_slice(), [0].as_slice());

@@ -7,4 +7,4 @@ pub returns-in-Err-clause-past : goal.returns-in-Err-clause-past
 unfolding all_values
 returns-in-Err-clause-past g c =
     let m = g.V.ModuleView.meaning c.args.view.now in
-    past_more (Err c.in-Err.fault) c.args.pass c.args.heaps.now c.loop-table.heaps (values_of_table c.args.pass m) c.loop-table.table 64 c.loop-table-test.true c.loop-table.invariant c.in-Err.ensures.past
+    past_more (Err c.in-Err.fault) c.args.pass c.args.heaps.now c.loop-table.heaps (values_of_table c.args.pass m) c.loop-table.table 64 c.loop-table-test.true c.loop-table.invariant.0 c.in-Err.ensures.past
