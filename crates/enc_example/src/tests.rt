@@ -97,6 +97,7 @@ fn places(rt: &impl Abort, module: &Aggregate) -> (u64, u64) {
 }
 
 /// The places of the signatures of Say and Main.
+#[tactic(auto, unfolding(enc_schema::specs::Schema::columns_in))]
 fn signatures(rt: &impl Abort, module: &Aggregate) -> (u64, u64) {
     let say = Token {
         table: METHOD_DEF,

@@ -66,6 +66,7 @@ fn tells_the_kinds_of_signatures(rt: HostRuntime) -> Result<(), Fail> {
 }
 
 #[test]
+#[tactic(auto, unfolding(enc_schema::specs::Schema::columns_in))]
 fn takes_absent_rows_for_alike_themselves_alone(rt: HostRuntime) -> Result<(), Fail> {
     let module = PlainModule::begin(rt.alloc(), b"a.dll", [7; 16])?;
     let row = Token { table: 1, row: 1 };
