@@ -12,6 +12,7 @@ ghost use Rattle.enc_delta.specs.Context.{joined_rows};
 ghost use Rattle.enc_delta.specs.Pairs.{attached_of};
 ghost use Rattle.enc_delta.specs.Members.{pair_seen, ArePairs};
 ghost use Rattle.enc_plain.specs.Keys.{member_key};
+ghost use Rattle.enc_plain.specs.Known.{AreKnownAlike};
 ghost use Rattle.enc_delta.specs.OneKey.{one_key};
 ghost use Rattle.enc_delta.specs.Changes.{is_value_type, has_layout, breaks_layout, breaks_slots, least_child, is_member, asked_of, name_column, same_signature, field_out_of_layout, method_without_slot, twin_member};
 ghost use Rattle.enc_schema.specs.Tables.{type_def};
@@ -29,6 +30,7 @@ use enc_schema::columns::{
 };
 use enc_schema::tables::{EVENT, FIELD, METHOD_DEF, PROPERTY, TYPE_DEF, TYPE_REF};
 use std::alloc::{AllocError, Global};
+use std::marker::Model;
 
 /// A flag is set.
 fn has_flag(flag: u32, flags: u32) -> bool
@@ -179,12 +181,21 @@ pub fn is_one_place(a: Option<u64>, b: Option<u64>) -> bool
     }
 }
 
-/// Whether the blobs of two rows of one table are alike signatures. Those of one place aren't read.
-/// It takes memory for the pairs of tokens in them; without it, they are judged again.
-fn are_alike<R: CellView>(alloc: Global, rows: &R, column: u8, member: Token, other: Token) -> bool
+/// Whether the blobs of two rows of one table are alike signatures. Those of one place aren't read,
+/// and two are compared once, however many rows have them. It takes memory for what is known of
+/// likeness; without it, it is judged again.
+fn are_alike<R: CellView>(
+    rows: &R,
+    known: &mut KnownAlike,
+    column: u8,
+    member: Token,
+    other: Token,
+) -> bool
     requires table { member.table ≡ other.table }
     requires kind { kind_in member.table column ≡ Some blobs }
-    ensures { result ≡ signatures_alike (R.rows rows.now) member.table (bytes_at (R.rows rows.now) member column) (bytes_at (R.rows rows.now) other column) }
+    requires known { AreKnownAlike (R.rows rows.now) (R.stored rows.now) known.old }
+    ensures alike { result ≡ signatures_alike (R.rows rows.now) member.table (bytes_at (R.rows rows.now) member column) (bytes_at (R.rows rows.now) other column) }
+    ensures known { AreKnownAlike (R.rows rows.now) (R.stored rows.now) known.new }
 {
     let left = PlacedBlob {
         place: rows.blob_place(member, column),
@@ -197,21 +208,27 @@ fn are_alike<R: CellView>(alloc: Global, rows: &R, column: u8, member: Token, ot
     if is_one_place(left.place, right.place) {
         return true;
     }
-    let mut known = KnownAlike::new(alloc);
     known.stored_alike(rows, member.table, &left, &right)
 }
 
 /// Whether two members of one table have alike signatures; events have none.
 #[tactic(auto, using(crate::proofs::MemberKinds::told_by_signature), unfolding(crate::specs::Changes::same_signature))]
-fn same_signature<R: CellView>(alloc: Global, rows: &R, member: Token, other: Token) -> bool
+fn same_signature<R: CellView>(
+    rows: &R,
+    known: &mut KnownAlike,
+    member: Token,
+    other: Token,
+) -> bool
     requires counts { IsTrue (is_member (R.rows rows.now) member) }
     requires table { member.table ≡ other.table }
-    ensures { result ≡ same_signature (R.rows rows.now) member other }
+    requires known { AreKnownAlike (R.rows rows.now) (R.stored rows.now) known.old }
+    ensures alike { result ≡ same_signature (R.rows rows.now) member other }
+    ensures known { AreKnownAlike (R.rows rows.now) (R.stored rows.now) known.new }
 {
     if member.table == EVENT {
         return true;
     }
-    are_alike(alloc, rows, signature_at(member.table), member, other)
+    are_alike(rows, known, signature_at(member.table), member, other)
 }
 
 /// The key of a member's signature; events have none.
@@ -242,7 +259,56 @@ fn learn_member<R: CellView>(
     keys.learn_row(alloc, member, signature_at(member.table))
 }
 
-impl<C: ChainView> Members for RefKeys<'_, Context<'_, C>> {
+/// Rows with the keys of their signatures, and with what is known of the likeness of those of each
+/// table: what is known of one table's is forgotten where another's are asked for.
+#[derive(Drop)]
+struct Signatures<'a, R: CellView> {
+    keys: RefKeys<'a, R>,
+    fields: KnownAlike,
+    methods: KnownAlike,
+    properties: KnownAlike,
+}
+
+impl<'a, R: CellView> Model for Signatures<'a, R> {
+    ghost use Rattle.enc_plain.specs.Known.{AreKnownAlike};
+
+    ghost Value = { R };
+
+    ghost view = { λ s. s.keys };
+
+    ghost invariant = { λ s. AreKnownAlike (R.rows s.keys) (R.stored s.keys) s.fields × AreKnownAlike (R.rows s.keys) (R.stored s.keys) s.methods × AreKnownAlike (R.rows s.keys) (R.stored s.keys) s.properties };
+}
+
+impl<'a, R: CellView> Signatures<'a, R> {
+    /// Nothing is known yet.
+    fn new(alloc: Global, rows: &'a R) -> Signatures<'a, R>
+        ensures { result ≡ rows.now }
+    {
+        Signatures {
+            keys: RefKeys::new(rows),
+            fields: KnownAlike::new(alloc),
+            methods: KnownAlike::new(alloc),
+            properties: KnownAlike::new(alloc),
+        }
+    }
+
+    /// Whether two members of one table have alike signatures.
+    fn are_alike(&mut self, member: Token, other: Token) -> bool
+        requires counts { IsTrue (is_member (R.rows self.old) member) }
+        requires table { member.table ≡ other.table }
+        ensures alike { result ≡ same_signature (R.rows self.old) member other }
+        ensures kept { self.new ≡ self.old }
+    {
+        let rows = self.keys.rows();
+        match member.table {
+            FIELD => same_signature(rows, &mut self.fields, member, other),
+            METHOD_DEF => same_signature(rows, &mut self.methods, member, other),
+            _ => same_signature(rows, &mut self.properties, member, other),
+        }
+    }
+}
+
+impl<C: ChainView> Members for Signatures<'_, Context<'_, C>> {
     ghost asked = { λ r. asked_of (joined_rows r) };
 
     ghost keys = { λ r. member_key (joined_rows r) };
@@ -251,7 +317,7 @@ impl<C: ChainView> Members for RefKeys<'_, Context<'_, C>> {
 
     #[tactic(auto, using(crate::proofs::MemberKinds::field_flags, crate::proofs::MemberKinds::method_flags), unfolding(crate::specs::Changes::is_member))]
     fn counts(&self, member: Token) -> bool {
-        let rows = self.rows();
+        let rows = self.keys.rows();
         match member.table {
             FIELD => rows.number(member, FIELD_FLAGS) % 8 != 0,
             METHOD_DEF => rows.number(member, METHOD_DEF_FLAGS) % 8 != 0,
@@ -261,25 +327,25 @@ impl<C: ChainView> Members for RefKeys<'_, Context<'_, C>> {
 
     #[tactic(auto, using(crate::proofs::MemberKinds::name_kind))]
     fn name(&self, member: Token) -> &[u8] {
-        self.rows().text(member, name_column(member.table))
+        self.keys.rows().text(member, name_column(member.table))
     }
 
-    fn alike(&self, member: Token, other: Token) -> bool {
-        same_signature(self.alloc(), self.rows(), member, other)
+    fn alike(&mut self, member: Token, other: Token) -> bool {
+        self.are_alike(member, other)
     }
 
     fn key(&self, member: Token) -> u64 {
-        member_key(self, member)
+        member_key(&self.keys, member)
     }
 
     fn learn(&mut self, alloc: Global, member: Token) -> Result<(), AllocError> {
-        learn_member(alloc, self, member)
+        learn_member(alloc, &mut self.keys, member)
     }
 }
 
 /// The least new member with a sibling of equal name and, but for an event, alike signature. It
-/// takes memory for each new member and each old one beside it, and for the references that
-/// signatures of members of one name name.
+/// takes memory for each new member and each old one beside it, for the references that signatures of
+/// members of one name name, and for what is known of the likeness of those of one key.
 #[tactic(auto, unfolding(crate::specs::Changes::twin_member))]
 pub fn twin_member<C: ChainView>(
     alloc: Global,
@@ -287,6 +353,6 @@ pub fn twin_member<C: ChainView>(
 ) -> Result<Option<Place>, AllocError>
     ensures { IfOk result (λ p. p ≡ twin_member context.now.chain context.now.delta) }
 {
-    let mut members = RefKeys::new(alloc, context);
+    let mut members = Signatures::new(alloc, context);
     twin_fault(alloc, context.old.view, &mut members, context.pairs())
 }

@@ -34,11 +34,12 @@ pub trait Members {
         ensures { result.now ≡ (asked self.now).name member };
 
     /// Whether two rows of one table that count have alike signatures.
-    fn alike(&self, member: Token, other: Token) -> bool
-        requires member { IsTrue ((asked self.now).counts member) }
-        requires other { IsTrue ((asked self.now).counts other) }
+    fn alike(&mut self, member: Token, other: Token) -> bool
+        requires member { IsTrue ((asked self.old).counts member) }
+        requires other { IsTrue ((asked self.old).counts other) }
         requires table { member.table ≡ other.table }
-        ensures { result ≡ (asked self.now).alike member other };
+        ensures alike { result ≡ (asked self.old).alike member other }
+        ensures kept { self.new ≡ self.old };
 
     /// A number that rows with alike signatures have in common.
     fn key(&self, member: Token) -> u64
@@ -55,10 +56,11 @@ pub trait Members {
 }
 
 /// Whether another row of a member's table counts and has the same name and an alike signature.
-fn is_twin<M: Members>(members: &M, member: Token, other: Token) -> bool
-    requires counts { IsTrue ((M.asked members.now).counts member) }
+fn is_twin<M: Members>(members: &mut M, member: Token, other: Token) -> bool
+    requires counts { IsTrue ((M.asked members.old).counts member) }
     requires table { member.table ≡ other.table }
-    ensures { result ≡ is_twin (M.asked members.now) member other }
+    ensures twin { result ≡ is_twin (M.asked members.old) member other }
+    ensures kept { members.new ≡ members.old }
 {
     member.row != other.row
         && members.counts(other)
@@ -67,9 +69,10 @@ fn is_twin<M: Members>(members: &M, member: Token, other: Token) -> bool
 }
 
 /// Whether the child of another pair is a twin of a pair's child.
-fn is_twin_beside<M: Members>(members: &M, pair: Pair, other: Pair) -> bool
-    requires { IsTrue ((M.asked members.now).counts pair.child) }
-    ensures { result ≡ is_twin_beside (M.asked members.now) pair other }
+fn is_twin_beside<M: Members>(members: &mut M, pair: Pair, other: Pair) -> bool
+    requires { IsTrue ((M.asked members.old).counts pair.child) }
+    ensures twin { result ≡ is_twin_beside (M.asked members.old) pair other }
+    ensures kept { members.new ≡ members.old }
 {
     if !is_beside(pair, other) {
         return false;
@@ -82,11 +85,12 @@ fn is_twin_beside<M: Members>(members: &M, pair: Pair, other: Pair) -> bool
 }
 
 /// Whether a twin of a member stands behind it, among those of its number.
-fn has_twin_behind<M: Members>(members: &M, entries: &[Keyed], k: usize) -> bool
+fn has_twin_behind<M: Members>(members: &mut M, entries: &[Keyed], k: usize) -> bool
     requires k { k < length entries.now }
-    requires keyed { AreKeyed (M.asked members.now) (twin_key (M.asked members.now) (M.keys members.now)) entries.now }
+    requires keyed { AreKeyed (M.asked members.old) (twin_key (M.asked members.old) (M.keys members.old)) entries.now }
     requires sorted { IsNonDecreasingBy (λ (e : Keyed). e.key) entries.now }
-    ensures { IsTwinBehind (M.asked members.now) entries.now k result }
+    ensures twin { IsTwinBehind (M.asked members.old) entries.now k result }
+    ensures kept { members.new ≡ members.old }
 {
     let entry = entries[k];
     for j in k + 1..entries.len() {
@@ -102,11 +106,12 @@ fn has_twin_behind<M: Members>(members: &M, entries: &[Keyed], k: usize) -> bool
 }
 
 /// Whether a twin of a member stands before it, among those of its number.
-fn has_twin_before<M: Members>(members: &M, entries: &[Keyed], k: usize) -> bool
+fn has_twin_before<M: Members>(members: &mut M, entries: &[Keyed], k: usize) -> bool
     requires k { k < length entries.now }
-    requires keyed { AreKeyed (M.asked members.now) (twin_key (M.asked members.now) (M.keys members.now)) entries.now }
+    requires keyed { AreKeyed (M.asked members.old) (twin_key (M.asked members.old) (M.keys members.old)) entries.now }
     requires sorted { IsNonDecreasingBy (λ (e : Keyed). e.key) entries.now }
-    ensures { IsTwinBefore (M.asked members.now) entries.now k result }
+    ensures twin { IsTwinBefore (M.asked members.old) entries.now k result }
+    ensures kept { members.new ≡ members.old }
 {
     let entry = entries[k];
     let mut left = k;
@@ -124,11 +129,12 @@ fn has_twin_before<M: Members>(members: &M, entries: &[Keyed], k: usize) -> bool
 }
 
 /// Whether a member has a twin among those of its number.
-fn has_twin<M: Members>(members: &M, entries: &[Keyed], k: usize) -> bool
+fn has_twin<M: Members>(members: &mut M, entries: &[Keyed], k: usize) -> bool
     requires k { k < length entries.now }
-    requires keyed { AreKeyed (M.asked members.now) (twin_key (M.asked members.now) (M.keys members.now)) entries.now }
+    requires keyed { AreKeyed (M.asked members.old) (twin_key (M.asked members.old) (M.keys members.old)) entries.now }
     requires sorted { IsNonDecreasingBy (λ (e : Keyed). e.key) entries.now }
-    ensures { result ≡ has_twin_among (M.asked members.now) entries.now (keyed_at entries.now k) }
+    ensures twin { result ≡ has_twin_among (M.asked members.old) entries.now (keyed_at entries.now k) }
+    ensures kept { members.new ≡ members.old }
 {
     if has_twin_behind(members, entries, k) {
         return true;
@@ -137,11 +143,12 @@ fn has_twin<M: Members>(members: &M, entries: &[Keyed], k: usize) -> bool
 }
 
 /// Whether a member is new and has a twin among those of its number.
-fn is_new_twin<M: Members>(members: &M, entries: &[Keyed], k: usize) -> bool
+fn is_new_twin<M: Members>(members: &mut M, entries: &[Keyed], k: usize) -> bool
     requires k { k < length entries.now }
-    requires keyed { AreKeyed (M.asked members.now) (twin_key (M.asked members.now) (M.keys members.now)) entries.now }
+    requires keyed { AreKeyed (M.asked members.old) (twin_key (M.asked members.old) (M.keys members.old)) entries.now }
     requires sorted { IsNonDecreasingBy (λ (e : Keyed). e.key) entries.now }
-    ensures { result ≡ is_new_twin (M.asked members.now) entries.now (keyed_at entries.now k) }
+    ensures twin { result ≡ is_new_twin (M.asked members.old) entries.now (keyed_at entries.now k) }
+    ensures kept { members.new ≡ members.old }
 {
     if !entries[k].is_new {
         return false;
@@ -150,10 +157,11 @@ fn is_new_twin<M: Members>(members: &M, entries: &[Keyed], k: usize) -> bool
 }
 
 /// The least new member that has a twin among those of its number.
-fn least_twin<M: Members>(members: &M, entries: &[Keyed]) -> Option<u32>
-    requires keyed { AreKeyed (M.asked members.now) (twin_key (M.asked members.now) (M.keys members.now)) entries.now }
+fn least_twin<M: Members>(members: &mut M, entries: &[Keyed]) -> Option<u32>
+    requires keyed { AreKeyed (M.asked members.old) (twin_key (M.asked members.old) (M.keys members.old)) entries.now }
     requires sorted { IsNonDecreasingBy (λ (e : Keyed). e.key) entries.now }
-    ensures { result ≡ least (map keyed_number (filter (is_new_twin (M.asked members.now) entries.now) entries.now)) }
+    ensures twin { result ≡ least (map keyed_number (filter (is_new_twin (M.asked members.old) entries.now) entries.now)) }
+    ensures kept { members.new ≡ members.old }
 {
     let mut best: Option<u32> = None;
     for k in 0..entries.len() {

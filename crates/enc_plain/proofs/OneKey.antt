@@ -15,7 +15,7 @@ use Rattle.enc_sigs.proofs.Shared.{alike_have_one_shape, both_left, both_right, 
 use Rattle.enc_plain.specs.Rows.{Rows, bytes_at, token_at}
 use Rattle.enc_plain.specs.Signatures.{kind_in_table}
 use Rattle.enc_plain.specs.Alike.{are_rows, same_bytes, type_refs_alike, assembly_refs_alike, module_refs_alike, refs_alike, type_specs_alike, tokens_alike, signatures_alike}
-use Rattle.enc_plain.specs.Keys.{token_key, type_ref_key, scoped_key, assembly_ref_key, module_ref_key, ref_key, spec_key, key_of, signature_key}
+use Rattle.enc_plain.specs.Keys.{token_key, names_key, type_ref_key, scoped_key, assembly_ref_key, module_ref_key, ref_key, spec_shape, spec_key, key_of, signature_key}
 
 -- the key of a reference by its table
 pub key_end : (rows : Rows) (d : ℕ) (t : Token) → d ≡ 0 → token_key t ≡ ref_key rows d t
@@ -63,7 +63,7 @@ unfolding ref_key
 type_ref_step rows d t e = let test : (t.table == 0x01) ≡ true = ap (λ n. n == 0x01) e in rw test refl
 
 scoped_one : (rows : Rows) (named : Bool) (k l : Mix) (a b : Token) → k ≡ l → bytes_at rows a 1 ≡ bytes_at rows b 1 → bytes_at rows a 2 ≡ bytes_at rows b 2 → scoped_key rows named k a ≡ scoped_key rows named l b
-unfolding scoped_key type_ref_key
+unfolding scoped_key type_ref_key names_key
 scoped_one rows true k l a b scope name space = rw (name, space, scope) refl
 scoped_one rows false k l a b scope name space = rw scope refl
 
@@ -151,7 +151,7 @@ unfolding key_of
 spec_is rows t e = let test : (t.table == 0x1B) ≡ true = ap (λ n. n == 0x1B) e in rw test refl
 
 specs_key : (rows : Rows) (a b : Token) → type_specs_alike rows a b ≡ true → key_of rows a ≡ key_of rows b
-unfolding spec_key type_specs_alike kind_in_table
+unfolding spec_key spec_shape type_specs_alike kind_in_table
 specs_key rows a b h =
     let tables = tables_are rows 0x1B a b (both_left _ _ h) in
     spec_is rows a tables.0 ∙ specs_by rows (bytes_at rows a 0) (bytes_at rows b 0) (both_right (are_rows rows 0x1B a b) _ h) ∙ sym (spec_is rows b tables.1)

@@ -17,9 +17,17 @@ use Rattle.enc_schema.specs.Columns as columns
 unfoldable pub token_key : Token → Mix
 token_key t = mixed (mix_of t.table) t.row
 
+-- of a name by itself
+unfoldable pub name_mix : List ℕ → Mix
+name_mix bytes = mixed_ends 0x800 (mix_of 0) bytes
+
+-- of a TypeRef's two names
+unfoldable pub names_key : Rows → Token → Mix
+names_key rows t = mixed_both (name_mix (bytes_at rows t columns.type_ref_type_name)) (name_mix (bytes_at rows t columns.type_ref_type_namespace))
+
 -- of a TypeRef: its names, and the key of its scope
 unfoldable pub type_ref_key : Rows → Mix → Token → Mix
-type_ref_key rows scope t = mixed_ends 0x800 (mixed_ends 0x800 scope (bytes_at rows t columns.type_ref_type_name)) (bytes_at rows t columns.type_ref_type_namespace)
+type_ref_key rows scope t = mixed_both scope (names_key rows t)
 
 -- the same, its names left out where many scopes stand around it
 unfoldable pub scoped_key : Rows → Bool → Mix → Token → Mix
@@ -42,9 +50,13 @@ ref_key rows (suc depth) t =
     else if t.table == tables.module_ref then module_ref_key rows t
     else token_key t
 
--- of a TypeSpec: the shape of its signature
+-- of the signature of a TypeSpec: its shape
+unfoldable pub spec_shape : Rows → List ℕ → Mix
+spec_shape rows blob = sig_shape (ref_key rows 100) TypeSpec blob
+
+-- of a TypeSpec: that of its signature
 unfoldable pub spec_key : Rows → Token → Mix
-spec_key rows t = sig_shape (ref_key rows 100) TypeSpec (bytes_at rows t columns.type_spec_signature)
+spec_key rows t = spec_shape rows (bytes_at rows t columns.type_spec_signature)
 
 -- of any token
 unfoldable pub key_of : Rows → Token → Mix
@@ -58,11 +70,25 @@ signature_key rows table blob = finished (sig_shape (key_of rows) (kind_in_table
 unfoldable pub member_key : Rows → Token → ℕ
 member_key rows t = if t.table == tables.event then 0 else signature_key rows t.table (bytes_at rows t (unwrap_or (signature_column t.table) 0))
 
--- an index has none but the keys of signatures: each by the table of its rows and by the place of its blob
-abbrev pub AreSignatureKeys : Rows → (ℕ → Option (List ℕ)) → Index ℕ → Type 0
-AreSignatureKeys rows stored index =
-    (q : Key) (k : ℕ) (blob : List ℕ) → value_at index q ≡ Some k → stored (q.place * 2 ^ 32 + q.row) ≡ Some blob → k ≡ signature_key rows q.table blob
+-- an index has none but what a function gives blobs: each by the table of its rows and by its place
+abbrev pub AreOfBlobs : {K : Type 0} → (ℕ → List ℕ → K) → (ℕ → Option (List ℕ)) → Index K → Type 0
+AreOfBlobs key stored index =
+    (q : Key) (k : _) (blob : List ℕ) → value_at index q ≡ Some k → stored (q.place * 2 ^ 32 + q.row) ≡ Some blob → k ≡ key q.table blob
 
--- an index has none but the keys of tokens
+-- the keys of signatures, and the shapes of those of TypeSpecs
+abbrev pub AreSignatureKeys : Rows → (ℕ → Option (List ℕ)) → Index ℕ → Type 0
+AreSignatureKeys rows = AreOfBlobs (signature_key rows)
+
+abbrev pub AreSpecShapes : Rows → (ℕ → Option (List ℕ)) → Index Mix → Type 0
+AreSpecShapes rows = AreOfBlobs (λ (table : ℕ). spec_shape rows)
+
+-- an index has none but what a function gives tokens
+abbrev pub AreMixes : (Token → Mix) → Index Mix → Type 0
+AreMixes mix index = (q : Key) (k : Mix) → value_at index q ≡ Some k → k ≡ mix (record { table = q.table; row = q.row })
+
+-- the keys of tokens, and those of the names of TypeRefs
 abbrev pub AreKeys : Rows → Index Mix → Type 0
-AreKeys rows index = (q : Key) (k : Mix) → value_at index q ≡ Some k → k ≡ key_of rows (record { table = q.table; row = q.row })
+AreKeys rows = AreMixes (key_of rows)
+
+abbrev pub AreNames : Rows → Index Mix → Type 0
+AreNames rows = AreMixes (names_key rows)

@@ -45,7 +45,7 @@ pub struct Specs {
 
 /// The place of the signature of a TypeSpec.
 #[tactic(auto, unfolding(enc_schema::specs::Schema::columns_in))]
-fn spec_place<R: CellView>(rows: &R, token: Token) -> Option<u64>
+pub(crate) fn spec_place<R: CellView>(rows: &R, token: Token) -> Option<u64>
     requires { token.table ≡ type_spec }
     ensures { AreStoredAt (R.stored rows.now) result (bytes_at (R.rows rows.now) token 0) }
 {

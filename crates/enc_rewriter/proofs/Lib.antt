@@ -1,4 +1,5 @@
 pub mod AllPlaced
+pub mod Apart
 pub mod BodySizes
 pub mod BodyStands
 pub mod CellsMeant
@@ -6,6 +7,7 @@ pub mod ClausesKnown
 pub mod CodeBytes
 pub mod CodeCopied
 pub mod CodeKept
+pub mod Copying
 pub mod FieldsMeant
 pub mod FieldsPlaced
 pub mod Fills
@@ -20,6 +22,7 @@ pub mod KidsListed
 pub mod KidsMeant
 pub mod KnownBodies
 pub mod Limits
+pub mod Listing
 pub mod MethodsPlaced
 pub mod ModuleMeant
 pub mod NumbersMeant

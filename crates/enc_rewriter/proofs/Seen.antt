@@ -1,14 +1,13 @@
 -- The user texts of bodies that were seen are kept, and adding them again changes nothing.
-use Rattle.std.proofs.Common.{◌≡◌, ℕ, Bool, true, List, [], ◌∷◌, Option, Some, refl, sym, ap, subst, ◌∙◌}
+use Rattle.std.proofs.Common.{◌≡◌, ℕ, true, List, [], ◌∷◌, Option, Some, refl, sym, ap, subst, ◌∙◌}
 use Rattle.std.specs.List.{list_all}
-use Rattle.std.specs.BTreeSet.{BTreeSet, contains, Updates, IsEmpty}
+use Rattle.std.specs.BTreeSet.{BTreeSet, contains, Updates}
 use Rattle.std.specs.Ordering.{nat_cmp}
-use Rattle.enc_base.specs.Passed.{AllPass}
 use Rattle.enc_base.specs.declared.token.Token.{Token}
 use Rattle.enc_base.proofs.Passed.{one_passes}
 use Rattle.enc_meta.specs.Built.{Built, is_kept}
 use Rattle.enc_opcodes.specs.Body.{Body}
-use Rattle.enc_plain.specs.Cell.{Cell, body}
+use Rattle.enc_plain.specs.Cell.{body}
 use Rattle.enc_plain.specs.Module.{Module, cell_of}
 use Rattle.enc_plain.proofs.Columns.{both_left, both_right}
 use Rattle.enc_rewriter.specs.Standing.{are_kept_at, AreGathered}

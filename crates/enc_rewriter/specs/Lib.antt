@@ -1,4 +1,5 @@
 pub mod Values
+pub mod Distinct
 pub mod Copied
 pub mod Placed
 pub mod Numbers

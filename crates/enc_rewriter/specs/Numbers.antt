@@ -1,5 +1,7 @@
--- The numbers in the columns of a module's rows that are written (ECMA-335 II.22, II.24.2.6): each says its cell by the heaps, by where bodies and fields are placed, and by the order of children.
-use Rattle.std.specs.Prelude.{◌≡◌, ℕ, ◌+◌, ◌-◌, ◌<◌, ◌≤◌, ◌&&◌, Bool, true, false, List, [], ◌∷◌, length, map, flat_map, take, Some, None, nat_lt, nat_le, ◌==◌, if◌then◌else◌, slice_get, slice_index}
+-- The numbers in the columns of a module's rows that are written (ECMA-335 II.22, II.24.2.6): each says its cell by the heaps,
+-- by where bodies and fields are placed, and by the order of children.
+use Rattle.std.specs.Prelude.{◌≡◌, ℕ, ◌+◌, ◌-◌, ◌<◌, ◌≤◌, ◌&&◌, Bool, true, false, nat_lt, nat_le, ◌==◌, if◌then◌else◌}
+use Rattle.std.specs.Prelude.{List, [], ◌∷◌, length, map, flat_map, take, slice_get, slice_index, Some, None}
 use Rattle.std.specs.List.{list_any}
 use Rattle.enc_base.specs.Token.{nth_row}
 use Rattle.enc_base.specs.declared.token.Token.{Token}

@@ -25,7 +25,8 @@ loaded_with code behind = record { address = code_rva; bytes = code ++ behind } 
 pub record IsBodyPlaced (m : Module) (users : ℕ → Option (List ℕ)) (code : List ℕ) (n rva : ℕ) : Type 0 where
   pub meant : (behind : List ℕ) → cell_of m (nth_row tables.method_def n) 0 ≡ Some (body (body_loaded (loaded_with code behind) users rva))
   pub good : (behind : List ℕ)
-      → body_is_good (row_count m) users (loaded_with code behind) rva (number_at (cells_of m) (nth_row tables.method_def n) columns.method_def_impl_flags) ≡ true
+      → body_is_good (row_count m) users (loaded_with code behind) rva
+      (number_at (cells_of m) (nth_row tables.method_def n) columns.method_def_impl_flags) ≡ true
 
 -- these bytes stand at the RVA, where it is one; without one there are none
 pub record IsFieldPlaced (code there : List ℕ) (rva : ℕ) : Type 0 where

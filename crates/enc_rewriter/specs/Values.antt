@@ -1,12 +1,15 @@
--- The values that a module's cells have for each heap, in the order of its tables, rows and columns, and the heaps that hold each of them once (ECMA-335 II.24.2.3 to II.24.2.5).
-use Rattle.std.specs.Prelude.{◌≡◌, ℕ, ◌+◌, ◌<◌, ◌^◌, ◌*◌, Bool, true, false, List, [], ◌∷◌, length, flat_map, Option, Some, None, unwrap_or, Result, Ok, Err, nat_lt, if◌then◌else◌}
+-- The values that a module's cells have for each heap, in the order of its tables, rows and columns,
+-- and the heaps that hold each of them once (ECMA-335 II.24.2.3 to II.24.2.5).
+use Rattle.std.specs.Prelude.{◌≡◌, ℕ, ◌+◌, ◌<◌, ◌^◌, ◌*◌, Bool, true, false, nat_lt, if◌then◌else◌, List, [], ◌∷◌, length, flat_map}
+use Rattle.std.specs.Prelude.{Option, Some, None, unwrap_or, Result, Ok, Err}
 use Rattle.std.specs.List.{list_all}
 use Rattle.enc_base.specs.Token.{nth_row}
 use Rattle.enc_base.specs.Units.{units_of}
 use Rattle.enc_base.specs.declared.refusal.StreamName.{StreamName}
 use Rattle.enc_base.specs.declared.refusal.StreamName.TheVariants.{Strings, Users, Blobs, Guids}
 use Rattle.enc_base.specs.declared.token.Token.{Token}
-use Rattle.enc_meta.specs.Built.{Built, is_kept, is_guid_kept, none_from, with_text, with_user, with_blob, with_guid, joined_end, text_bytes, user_bytes, blob_bytes, unit_bytes}
+use Rattle.enc_meta.specs.Built.{Built, is_kept, is_guid_kept, none_from, with_text, with_user, with_blob, with_guid}
+use Rattle.enc_meta.specs.Built.{joined_end, text_bytes, user_bytes, blob_bytes, unit_bytes}
 use Rattle.enc_meta.specs.declared.builder.BuildFault.{BuildFault}
 use Rattle.enc_meta.specs.declared.builder.BuildFault.TheVariants.{Memory, TooLarge}
 use Rattle.enc_meta.specs.declared.heaps.HeapLengths.{HeapLengths}
@@ -89,7 +92,9 @@ no_heaps = none_from no_starts
 -- the heaps of a module: each value once, in the order of first use
 unfoldable pub heaps_for : Module → Built
 heaps_for m =
-    with_all pass.Guids (with_all pass.Blobs (with_all pass.Users (with_all pass.Texts no_heaps (all_values pass.Texts m)) (all_values pass.Users m)) (all_values pass.Blobs m)) (all_values pass.Guids m)
+    with_all pass.Guids
+    (with_all pass.Blobs (with_all pass.Users (with_all pass.Texts no_heaps (all_values pass.Texts m)) (all_values pass.Users m)) (all_values pass.Blobs m))
+    (all_values pass.Guids m)
 
 -- how long the heap of a pass is
 abbrev pub heap_size : Pass → Built → ℕ

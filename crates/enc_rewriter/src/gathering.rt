@@ -3,8 +3,9 @@ ghost use Rattle.std.specs.Prelude.{◌≡◌, OnOk};
 ghost use Rattle.enc_plain.specs.Sound.{IsSound};
 ghost use Rattle.enc_rewriter.specs.Values.{no_starts, no_heaps, with_all, all_values, heaps_for, too_large_heap, PassEnds, TellsHeap};
 
+use crate::module_values::ModuleValues;
 use crate::pass::{Pass, add_values};
-use enc_meta::{BuildFault, HeapBuilder};
+use enc_meta::BuildFault;
 use enc_plain::ModuleView;
 use std::alloc::Global;
 use std::collections::BTreeSet;
@@ -12,11 +13,11 @@ use std::collections::BTreeSet;
 /// Adds what all rows have for a heap. `TooLarge` exactly where the heap of distinct values passes
 /// its limit.
 #[tactic(auto, using(crate::proofs::Limits::pass_ends, crate::proofs::Limits::pass_past, crate::proofs::Limits::starts_stay))]
-fn add_pass<V: ModuleView>(
+fn add_pass<'a, V: ModuleView>(
     alloc: Global,
-    view: &V,
+    view: &'a V,
     pass: Pass,
-    heaps: &mut HeapBuilder,
+    heaps: &mut ModuleValues<'a>,
 ) -> Result<(), BuildFault>
     requires sound { IsSound (V.meaning view.now) }
     requires starts { heaps.old.starts ≡ no_starts }
@@ -32,13 +33,13 @@ fn add_pass<V: ModuleView>(
     Ok(())
 }
 
-/// Gathers the values of a module in heaps that have none yet: each value once, in the order of
-/// tables, rows and columns. `TooLarge` exactly where a heap of distinct values passes its limit,
-/// with the first such heap of `#Strings`, `#US`, `#Blob` and `#GUID`.
-pub fn gather<V: ModuleView>(
+/// Gathers the values of a module where none is yet: each value once, in the order of tables, rows and
+/// columns. `TooLarge` exactly where a heap of distinct values passes its limit, with the first such heap
+/// of `#Strings`, `#US`, `#Blob` and `#GUID`.
+pub(crate) fn gather<'a, V: ModuleView>(
     alloc: Global,
-    view: &V,
-    heaps: &mut HeapBuilder,
+    view: &'a V,
+    heaps: &mut ModuleValues<'a>,
 ) -> Result<(), BuildFault>
     requires sound { IsSound (V.meaning view.now) }
     requires none { heaps.old ≡ no_heaps }

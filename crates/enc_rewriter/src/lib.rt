@@ -4,11 +4,13 @@
 
 mod bodies;
 mod code;
+mod distinct;
 mod fault;
 mod fields;
 mod gathering;
 mod kept;
 mod laws;
+mod module_values;
 mod numbers;
 mod parts;
 mod pass;
@@ -22,9 +24,7 @@ mod weight;
 mod written;
 
 pub use fault::RewriteFault;
-pub use gathering::gather;
 pub use laws::image_means_law;
-pub use pass::Pass;
 pub use written::{Rewritten, rewrite};
 
 #[cfg(test)]

@@ -9,22 +9,15 @@ ghost use Rattle.enc_rewriter.specs.Weight.{bodies_weight, fields_weight, module
 
 use crate::fault::RewriteFault;
 use crate::gathering::gather;
+use crate::module_values::ModuleValues;
 use crate::placed::{PlacedCode, placed_code};
 use crate::rows::push_all;
 use crate::runs::{all_runs, needs_jtd};
 use crate::weight::{MOST, module_weight};
-use enc_meta::{HeapBuilder, HeapLengths};
+use enc_meta::HeapBuilder;
 use enc_plain::ModuleView;
 use enc_rows::TableBuilder;
 use std::alloc::{AllocError, Global};
-
-/// Heaps that stand behind no others.
-const NO_STARTS: HeapLengths = HeapLengths {
-    strings: 0,
-    users: 0,
-    blobs: 0,
-    guids: 0,
-};
 
 /// The parts of an image: the heaps of its values, its code, the rows of its tables, and whether all
 /// indices take four bytes, as a stream `#JTD` says.
@@ -67,26 +60,27 @@ pub(crate) fn parts_with<V: ModuleView>(
     })
 }
 
-/// Heaps that keep the values of a module, each once. `TooLarge` exactly where a heap passes its limit, with the
-/// first such heap, and else `Image` exactly where the module passes the weight.
+/// The values of a module, each once and none copied but its GUIDs. `TooLarge` exactly where a heap of them passes its
+/// limit, with the first such heap, and else `Image` exactly where the module passes the weight. Memory is linear in
+/// the number of values, however long they are.
 #[tactic(auto, using(crate::proofs::Gathered::keep_all), unfolding(crate::specs::Values::no_heaps))]
-pub(crate) fn heaps_within<V: ModuleView>(
+pub(crate) fn values_within<V: ModuleView>(
     alloc: Global,
     view: &V,
-) -> Result<HeapBuilder, RewriteFault>
+) -> Result<ModuleValues<'_>, RewriteFault>
     requires sound { IsSound (V.meaning view.now) }
-    ensures heaps { IfOk result (λ h. h ≡ heaps_for (V.meaning view.now)) }
-    ensures kept { IfOk result (λ h. KeepValues (V.meaning view.now) h) }
-    ensures light { IfOk result (λ h. weight_of_module (V.meaning view.now) h < most_weight) }
+    ensures values { IfOk result (λ g. g ≡ heaps_for (V.meaning view.now)) }
+    ensures kept { IfOk result (λ g. KeepValues (V.meaning view.now) g) }
+    ensures light { IfOk result (λ g. weight_of_module (V.meaning view.now) g < most_weight) }
     ensures tells { TellsLimit result (image_limit (V.meaning view.now)) }
 {
-    let mut heaps = HeapBuilder::begin(alloc, NO_STARTS)?;
-    match gather(alloc, view, &mut heaps) {
+    let mut values = ModuleValues::begin(alloc)?;
+    match gather(alloc, view, &mut values) {
         Ok(()) => {}
         Err(fault) => return Err(RewriteFault::from(fault)),
     }
-    if module_weight(alloc, view, &heaps)? >= MOST {
+    if module_weight(alloc, view, &values)? >= MOST {
         return Err(RewriteFault::Image);
     }
-    Ok(heaps)
+    Ok(values)
 }

@@ -1,5 +1,5 @@
 //! The passes over a module's cells, one for each heap.
-ghost use Rattle.std.specs.Prelude.{◌≡◌, ◌==◌, ℕ, ◌<◌, ◌^◌, [], ◌∷◌, Some, length, not, IsTrue, OnOk};
+ghost use Rattle.std.specs.Prelude.{◌≡◌, ◌==◌, ℕ, ◌<◌, ◌^◌, Some, length, not, IsTrue, OnOk};
 ghost use Rattle.std.specs.List.{list_any};
 ghost use Rattle.enc_base.specs.Token.{nth_row};
 ghost use Rattle.enc_plain.specs.Cell.{kind_in, text, texts};
@@ -9,11 +9,12 @@ ghost use Rattle.enc_schema.specs.Schema.{columns_in, column_in};
 ghost use Rattle.enc_schema.specs.Tables.{method_def};
 ghost use Rattle.enc_rewriter.specs.Standing.{AreGathered};
 ghost use Rattle.enc_rewriter.specs.Values.{gathers as does_gather, values_at, values_of_row, values_of_table, all_values, with_all, IsPast};
-ghost use Rattle.enc_rewriter.specs.declared.pass.Pass.TheVariants.{Texts, Blobs, Guids, Users};
+ghost use Rattle.enc_rewriter.specs.declared.pass.Pass.TheVariants.{Users};
 
+use crate::module_values::ModuleValues;
 use crate::users::add_named;
 use enc_base::Token;
-use enc_meta::{BuildFault, HeapBuilder};
+use enc_meta::BuildFault;
 use enc_plain::ModuleView;
 use enc_schema::tables::METHOD_DEF;
 use enc_schema::{Column, columns_of};
@@ -21,48 +22,11 @@ use std::collections::BTreeSet;
 
 /// Which heap's values are gathered.
 #[derive(Clone, Copy, Debug, PartialEq, Eq)]
-pub enum Pass {
+pub(crate) enum Pass {
     Texts,
     Users,
     Blobs,
     Guids,
-}
-
-/// Adds a text.
-#[tactic(auto, using(crate::proofs::Fills::text_past), unfolding(crate::specs::Values::with_all))]
-fn add_text(text: &[u8], heaps: &mut HeapBuilder) -> Result<(), BuildFault>
-    requires { IsTrue (not (list_any (λ c. c == 0) text.now)) }
-    ensures filled { OnOk result (heaps.new ≡ with_all Texts heaps.old (text.now ∷ [])) }
-    ensures past { IsPast result Texts (with_all Texts heaps.old (text.now ∷ [])) }
-{
-    match heaps.add_text(text) {
-        Ok(_) => Ok(()),
-        Err(fault) => Err(fault),
-    }
-}
-
-/// Adds a blob.
-#[tactic(auto, using(crate::proofs::Fills::blob_past), unfolding(crate::specs::Values::with_all))]
-fn add_blob(blob: &[u8], heaps: &mut HeapBuilder) -> Result<(), BuildFault>
-    ensures filled { OnOk result (heaps.new ≡ with_all Blobs heaps.old (blob.now ∷ [])) }
-    ensures past { IsPast result Blobs (with_all Blobs heaps.old (blob.now ∷ [])) }
-{
-    match heaps.add_blob(blob) {
-        Ok(_) => Ok(()),
-        Err(fault) => Err(fault),
-    }
-}
-
-/// Adds a GUID.
-#[tactic(auto, using(crate::proofs::Fills::guid_past), unfolding(crate::specs::Values::with_all))]
-fn add_guid(guid: [u8; 16], heaps: &mut HeapBuilder) -> Result<(), BuildFault>
-    ensures filled { OnOk result (heaps.new ≡ with_all Guids heaps.old (guid ∷ [])) }
-    ensures past { IsPast result Guids (with_all Guids heaps.old (guid ∷ [])) }
-{
-    match heaps.add_guid(guid) {
-        Ok(_) => Ok(()),
-        Err(fault) => Err(fault),
-    }
 }
 
 /// The text in a column, which has no zero.
@@ -78,10 +42,10 @@ pub(crate) fn text_in<V: ModuleView>(view: &V, row: Token, i: u8) -> &[u8]
 
 /// Adds the user texts of a method's body.
 #[tactic(auto, unfolding(crate::specs::Values::values_at, crate::specs::Values::with_all))]
-fn add_body<V: ModuleView>(
-    view: &V,
+fn add_body<'a, V: ModuleView>(
+    view: &'a V,
     method: Token,
-    heaps: &mut HeapBuilder,
+    heaps: &mut ModuleValues<'a>,
 ) -> Result<(), BuildFault>
     requires row { IsTrue (has_row (V.meaning view.now) method) }
     requires table { method.table ≡ method_def }
@@ -96,11 +60,11 @@ fn add_body<V: ModuleView>(
 
 /// The same. A place whose body was seen isn't looked at again, so methods that share a body cost what
 /// one does.
-fn add_users<V: ModuleView>(
-    view: &V,
+fn add_users<'a, V: ModuleView>(
+    view: &'a V,
     method: Token,
     seen: &mut BTreeSet<u64>,
-    heaps: &mut HeapBuilder,
+    heaps: &mut ModuleValues<'a>,
 ) -> Result<(), BuildFault>
     requires row { IsTrue (has_row (V.meaning view.now) method) }
     requires table { method.table ≡ method_def }
@@ -139,13 +103,13 @@ fn gathers(pass: Pass, table: u8, i: u8, column: Column) -> bool
 
 /// Adds what a row's column has for a heap, where its pass gathers it.
 #[tactic(auto, using(crate::proofs::Gathers::text_kind, crate::proofs::Gathers::blob_kind, crate::proofs::Gathers::guid_kind, crate::proofs::Gathers::body_kind, crate::proofs::Seen::seen_still), unfolding(crate::specs::Values::values_at))]
-fn add_gathered<V: ModuleView>(
-    view: &V,
+fn add_gathered<'a, V: ModuleView>(
+    view: &'a V,
     pass: Pass,
     row: Token,
     i: u8,
     seen: &mut BTreeSet<u64>,
-    heaps: &mut HeapBuilder,
+    heaps: &mut ModuleValues<'a>,
 ) -> Result<(), BuildFault>
     requires sound { IsSound (V.meaning view.now) }
     requires row { IsTrue (has_row (V.meaning view.now) row) }
@@ -156,23 +120,23 @@ fn add_gathered<V: ModuleView>(
     ensures seen { OnOk result (AreGathered (V.places view.now) heaps.new seen.new) }
 {
     match pass {
-        Pass::Texts => add_text(text_in(view, row, i), heaps),
+        Pass::Texts => heaps.add_text(text_in(view, row, i)),
         Pass::Users => add_users(view, row, seen, heaps),
-        Pass::Blobs => add_blob(view.blob(row, i), heaps),
-        Pass::Guids => add_guid(view.guid(row, i), heaps),
+        Pass::Blobs => heaps.add_blob(view.blob(row, i)),
+        Pass::Guids => heaps.add_guid(view.guid(row, i)),
     }
 }
 
 /// Adds what a row's column has for a heap.
 #[tactic(auto, using(crate::proofs::Gathers::nothing_there), unfolding(crate::specs::Values::with_all))]
-fn add_cell<V: ModuleView>(
-    view: &V,
+fn add_cell<'a, V: ModuleView>(
+    view: &'a V,
     pass: Pass,
     row: Token,
     i: u8,
     column: Column,
     seen: &mut BTreeSet<u64>,
-    heaps: &mut HeapBuilder,
+    heaps: &mut ModuleValues<'a>,
 ) -> Result<(), BuildFault>
     requires sound { IsSound (V.meaning view.now) }
     requires row { IsTrue (has_row (V.meaning view.now) row) }
@@ -190,12 +154,12 @@ fn add_cell<V: ModuleView>(
 
 /// Adds what a row has for a heap.
 #[tactic(auto, using(crate::proofs::Fills::fill_none, crate::proofs::Fills::fill_more, crate::proofs::Fills::past_more), unfolding(crate::specs::Values::values_of_row))]
-fn add_row<V: ModuleView>(
-    view: &V,
+fn add_row<'a, V: ModuleView>(
+    view: &'a V,
     pass: Pass,
     row: Token,
     seen: &mut BTreeSet<u64>,
-    heaps: &mut HeapBuilder,
+    heaps: &mut ModuleValues<'a>,
 ) -> Result<(), BuildFault>
     requires sound { IsSound (V.meaning view.now) }
     requires row { IsTrue (has_row (V.meaning view.now) row) }
@@ -216,12 +180,12 @@ fn add_row<V: ModuleView>(
 
 /// Adds what a table's rows have for a heap.
 #[tactic(auto, using(crate::proofs::Fills::fill_none, crate::proofs::Fills::fill_more, crate::proofs::Fills::past_more, crate::proofs::Gathers::row_there), unfolding(crate::specs::Values::values_of_table))]
-fn add_table<V: ModuleView>(
-    view: &V,
+fn add_table<'a, V: ModuleView>(
+    view: &'a V,
     pass: Pass,
     table: u8,
     seen: &mut BTreeSet<u64>,
-    heaps: &mut HeapBuilder,
+    heaps: &mut ModuleValues<'a>,
 ) -> Result<(), BuildFault>
     requires sound { IsSound (V.meaning view.now) }
     requires seen { AreGathered (V.places view.now) heaps.old seen.old }
@@ -241,11 +205,11 @@ fn add_table<V: ModuleView>(
 /// Adds what all rows have for a heap, by table, row and column. `TooLarge` exactly where the heap
 /// of distinct values passes its limit, with its name.
 #[tactic(auto, using(crate::proofs::Fills::fill_none, crate::proofs::Fills::fill_more, crate::proofs::Fills::past_more), unfolding(crate::specs::Values::all_values))]
-pub fn add_values<V: ModuleView>(
-    view: &V,
+pub(crate) fn add_values<'a, V: ModuleView>(
+    view: &'a V,
     pass: Pass,
     seen: &mut BTreeSet<u64>,
-    heaps: &mut HeapBuilder,
+    heaps: &mut ModuleValues<'a>,
 ) -> Result<(), BuildFault>
     requires sound { IsSound (V.meaning view.now) }
     requires seen { AreGathered (V.places view.now) heaps.old seen.old }

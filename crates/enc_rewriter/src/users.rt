@@ -1,5 +1,5 @@
 //! The user texts that a body names, put into `#US` (ECMA-335 II.24.2.4).
-ghost use Rattle.std.specs.Prelude.{◌≡◌, [], ◌∷◌, ◌<◌, ◌^◌, ◌%◌, ℕ, length, OnOk};
+ghost use Rattle.std.specs.Prelude.{◌≡◌, ◌<◌, ◌^◌, ◌%◌, ℕ, length, OnOk};
 ghost use Rattle.std.specs.Option.{option_map_or};
 ghost use Rattle.enc_base.specs.Token.{nth_row};
 ghost use Rattle.enc_base.specs.Units.{units_of};
@@ -9,8 +9,9 @@ ghost use Rattle.enc_opcodes.specs.Body.{body_of, code_seen, told};
 ghost use Rattle.enc_rewriter.specs.Values.{with_all, text_named, texts_named, units_told, IsPast};
 ghost use Rattle.enc_rewriter.specs.declared.pass.Pass.TheVariants.{Users};
 
+use crate::module_values::ModuleValues;
 use enc_il::instr_at;
-use enc_meta::{BuildFault, HeapBuilder};
+use enc_meta::BuildFault;
 use enc_opcodes::{Arg, CodeRef};
 use enc_plain::ModuleView;
 
@@ -35,40 +36,27 @@ pub(crate) fn units_at<V: ModuleView>(view: &V, offset: u32) -> &[u8]
     }
 }
 
-/// Adds the units of a user text.
-#[tactic(auto, using(crate::proofs::Fills::user_past), unfolding(crate::specs::Values::with_all))]
-fn add_units(units: &[u8], heaps: &mut HeapBuilder) -> Result<(), BuildFault>
-    requires { length units.now % 2 ≡ 0 }
-    ensures filled { OnOk result (heaps.new ≡ with_all Users heaps.old (units.now ∷ [])) }
-    ensures past { IsPast result Users (with_all Users heaps.old (units.now ∷ [])) }
-{
-    match heaps.add_units(units) {
-        Ok(_) => Ok(()),
-        Err(fault) => Err(fault),
-    }
-}
-
 /// Adds the user text of an operand, where it names one.
 #[tactic(auto, unfolding(crate::specs::Values::with_all))]
-fn add_argument<V: ModuleView>(
-    view: &V,
+fn add_argument<'a, V: ModuleView>(
+    view: &'a V,
     arg: &Arg<'_>,
-    heaps: &mut HeapBuilder,
+    heaps: &mut ModuleValues<'a>,
 ) -> Result<(), BuildFault>
     ensures filled { (end : ℕ) → OnOk result (heaps.new ≡ with_all Users heaps.old (text_named (told (V.users view.now) (arg_seen end arg.now)))) }
     ensures past { (end : ℕ) → IsPast result Users (with_all Users heaps.old (text_named (told (V.users view.now) (arg_seen end arg.now)))) }
 {
     match *arg {
-        Arg::User(offset) => add_units(units_at(view, offset), heaps),
+        Arg::User(offset) => heaps.add_units(units_at(view, offset)),
         _ => Ok(()),
     }
 }
 
 /// Adds the user texts that a code names, in the order of its instructions.
-pub(crate) fn add_named<V: ModuleView>(
-    view: &V,
+pub(crate) fn add_named<'a, V: ModuleView>(
+    view: &'a V,
     code: &CodeRef<'_>,
-    heaps: &mut HeapBuilder,
+    heaps: &mut ModuleValues<'a>,
 ) -> Result<(), BuildFault>
     requires few { length code.now.code.now < 2 ^ 32 }
     ensures filled { OnOk result (heaps.new ≡ with_all Users heaps.old (texts_named (body_of (V.users view.now) (code_seen code.now)).code)) }

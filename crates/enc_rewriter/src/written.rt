@@ -12,7 +12,7 @@ ghost use Rattle.enc_rewriter.specs.Weight.{module_weight, most_weight};
 ghost use Rattle.enc_rewriter.specs.Rewritten.{image_of_parts, FitsImage, HoldModule, MeansModule};
 
 use crate::fault::RewriteFault;
-use crate::parts::{ModuleParts, heaps_within, parts_with};
+use crate::parts::{ModuleParts, parts_with, values_within};
 use enc_emit::RootBuilder;
 use enc_meta::HeapBuilder;
 use enc_pe::{PeFault, write_pe};
@@ -123,14 +123,15 @@ pub fn rewrite<V: ModuleView, P: PointSource>(
     ensures pdb { IfOk result (λ r. MeansPdb (P.debug points.now) (row_count (V.meaning view.now) method_def) r.pdb.items) }
     ensures tells { TellsLimit result (rewrite_limit (V.meaning view.now) (P.debug points.now)) }
 {
-    let heaps = match heaps_within(alloc, view) {
-        Ok(heaps) => heaps,
+    let values = match values_within(alloc, view) {
+        Ok(values) => values,
         Err(fault) => return Err(fault),
     };
     let pdb = match pdb_of(alloc, view, points) {
         Ok(pdb) => pdb,
         Err(fault) => return Err(fault),
     };
+    let heaps = values.copy()?;
     let image = image_of(alloc, view, heaps)?;
     Ok(Rewritten { image, pdb })
 }

@@ -4,8 +4,8 @@ use Rattle.enc_delta.proofs.ListsChildren.{equal_no}
 use Rattle.enc_delta.proofs.NearTwins.{no_twin_below}
 use Rattle.enc_delta.proofs.twins.has_twin_before.Goals as goal
 
-pub returns-then-other-entry : goal.returns-then-other-entry
-returns-then-other-entry g c = λ l low. elim (cases_lt l c.loop-left.left) [
+pub returns-then-other-entry-clause-twin : goal.returns-then-other-entry-clause-twin
+returns-then-other-entry-clause-twin g c = λ l low. elim (cases_lt l c.loop-left.left) [
   | inl below ↦
       let few = c.loop-left.invariant.few in
       let some = c.loop-left-test.true in

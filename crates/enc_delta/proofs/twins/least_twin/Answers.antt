@@ -7,7 +7,11 @@ use Rattle.enc_delta.proofs.twins.least_twin.Goals as goal
 pub loop-k-preserved : goal.loop-k-preserved
 loop-k-preserved g c =
     let test = is_new_twin (g.M.Members.asked c.args.members.now) c.args.entries.now in
-    elim c.if-is_new_twin.branch [
-      | then-is_new_twin w ↦ w.best-is ∙ w.lesser.ensures ∙ rw (w.number.ensures, c.loop-k.invariant) (sym (keyed_more test c.args.entries.now c.loop-k.k c.loop-k-test.true (sym c.is_new_twin.ensures ∙ w.if-is_new_twin.true)))
-      | else-is_new_twin w ↦ w.best-is ∙ c.loop-k.invariant ∙ sym (keyed_past test c.args.entries.now c.loop-k.k c.loop-k-test.true (sym c.is_new_twin.ensures ∙ w.if-is_new_twin.false))
-    ]
+    let twin = rw c.loop-k.invariant.kept at c.is_new_twin.ensures.twin in
+    record {
+      kept = c.is_new_twin.ensures.kept ∙ c.loop-k.invariant.kept;
+      best = elim c.if-is_new_twin.branch [
+        | then-is_new_twin w ↦ w.best-is ∙ w.lesser.ensures ∙ rw (w.number.ensures, c.loop-k.invariant.best) (sym (keyed_more test c.args.entries.now c.loop-k.k c.loop-k-test.true (sym twin ∙ w.if-is_new_twin.true)))
+        | else-is_new_twin w ↦ w.best-is ∙ c.loop-k.invariant.best ∙ sym (keyed_past test c.args.entries.now c.loop-k.k c.loop-k-test.true (sym twin ∙ w.if-is_new_twin.false))
+      ];
+    }

@@ -44,5 +44,5 @@ returns g c =
     let rising = subst (λ (l : List Keyed). IsNonDecreasingBy (λ (k : Keyed). k.key) l) (sym c.deref-3.ensures.value) c.sorted-named.ensures.sorted in
     let shared = rw (c.in_ok-learn_shared.ensures) at c.in_ok-shared.ensures in
     let again : AreSame (near_told q keys entries (length entries)) c.deref-4.result.now = λ f. ap (list_any f) c.deref-4.ensures.value ∙ c.sorted-told.ensures.same f ∙ ap (list_any f) shared in
-    let least = rw (c.in_ok-learn_shared.ensures) at c.least_twin.ensures in
+    let least = rw (c.in_ok-learn_shared.ensures) at c.least_twin.ensures.twin in
     c.placed.ensures ∙ twins_told q keys m pairs old entries c.deref-4.result.now c.least_twin.result c.requires.rows c.in_ok-old.ensures c.in_ok-add_named.ensures.children same rising again least

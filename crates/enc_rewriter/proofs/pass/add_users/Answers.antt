@@ -1,4 +1,4 @@
-use Rattle.std.proofs.Common.{◌≡◌, sym, ◌∙◌}
+use Rattle.std.proofs.Common.{sym, ◌∙◌}
 use Rattle.enc_rewriter.proofs.Seen.{seen_before, one_seen}
 use Rattle.enc_rewriter.proofs.pass.add_users.Goals as goal
 

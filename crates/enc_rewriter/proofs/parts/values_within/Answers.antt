@@ -1,6 +1,6 @@
 use Rattle.std.proofs.Common.{arith}
 use Rattle.enc_rewriter.proofs.Passing.{heap_told, weight_told, none_told}
-use Rattle.enc_rewriter.proofs.parts.heaps_within.Goals as goal
+use Rattle.enc_rewriter.proofs.parts.values_within.Goals as goal
 
 pub returns-in-Err-clause-tells : goal.returns-in-Err-clause-tells
 returns-in-Err-clause-tells g c = heap_told (g.V.ModuleView.meaning c.args.view.now) c.in-Err.fault c.from.result c.from.ensures c.in-Err.ensures.tells

@@ -1,0 +1,12 @@
+pub mod Values
+pub mod Loops
+pub mod Rows
+pub mod Places
+pub mod Pointed
+pub mod Numbered
+pub mod Texts
+pub mod Inverse
+pub mod CellForms
+pub mod CodeForms
+pub mod EditForms
+pub mod Standing

@@ -1,0 +1,34 @@
+-- What every list that is read has.
+use Rattle.std.specs.Prelude.{◌≡◌, ℕ, ◌==◌, List, Bool, true, Some, Ok}
+use Rattle.std.specs.List.{list_all, list_any}
+use Rattle.serde_json.specs.Data.{Data}
+use Rattle.enc_edits.specs.declared.body.ArgValue.{ArgValue}
+use Rattle.enc_edits.specs.declared.body.ArgValue.TheVariants as arg
+use Rattle.enc_edits.specs.declared.body.InstrValue.{InstrValue}
+use Rattle.enc_edits.specs.declared.edit.EditList.{EditList}
+use Rattle.enc_edits.specs.Form.{list_fits}
+use Rattle.enc_jobs.specs.declared.code.Code.{Code}
+use Rattle.enc_jobs.specs.Code.{offsets_of, code_said}
+use Rattle.enc_jobs.specs.Edits.{edits_said}
+
+-- a list that a text says is of the form
+abbrev pub SaidFits : Type 0
+SaidFits = (text : List ℕ) (list : EditList) → edits_said text ≡ Ok list → list_fits list ≡ true
+
+-- the instructions that are read stand where their targets were looked for
+abbrev pub StandsAsRead : Type 0
+StandsAsRead = (d : Data) (c : Code) → code_said d ≡ Some c → offsets_of c.instrs ≡ Some c.offsets
+
+-- one of the instructions begins there
+abbrev pub begins_one : List ℕ → ℕ → Bool
+begins_one starts t = list_any (λ s. s == t) starts
+
+-- each target of an argument is where one of them begins
+abbrev pub targets_begin : List ℕ → ArgValue → Bool
+targets_begin starts (arg.Target t) = begins_one starts t
+targets_begin starts (arg.Targets ts) = list_all (begins_one starts) ts
+targets_begin starts _ = true
+
+-- and so it is of each instruction that is read
+abbrev pub TargetsBegin : Type 0
+TargetsBegin = (d : Data) (c : Code) → code_said d ≡ Some c → list_all (λ (i : InstrValue). targets_begin c.offsets.starts i.arg) c.instrs ≡ true

@@ -1,0 +1,11 @@
+pub mod Outcome
+pub mod Json
+pub mod Lists
+pub mod Cell
+pub mod Instr
+pub mod Code
+pub mod Clause
+pub mod Points
+pub mod Body
+pub mod Edits
+pub mod Laws
