@@ -23,6 +23,3 @@ pub use refusal::{Code, Place, ReadFault, Refusal, StreamName};
 pub use steps::Steps;
 pub use token::Token;
 pub use units::Units;
-
-#[cfg(test)]
-mod tests;

@@ -1,4 +1,4 @@
-//! Judging new fields and methods by the types that gain them , and new members by their
+//! Judging new fields and methods by the types that gain them, and new members by their
 //! siblings.
 ghost use Rattle.std.specs.Prelude.{◌≡◌, ◌<◌, ◌==◌, ◌&&◌, ◌||◌, Some, not, map, unwrap_or, IfOk, IsTrue};
 ghost use Rattle.enc_plain.specs.Alike.{signatures_alike};
@@ -10,6 +10,7 @@ ghost use Rattle.enc_delta.specs.Rules.{is_insert};
 ghost use Rattle.enc_base.specs.Numbers.{has_flag};
 ghost use Rattle.enc_delta.specs.Context.{joined_rows};
 ghost use Rattle.enc_delta.specs.Pairs.{attached_of};
+ghost use Rattle.enc_delta.specs.Twins.{twin_fault};
 ghost use Rattle.enc_delta.specs.Members.{pair_seen, ArePairs};
 ghost use Rattle.enc_plain.specs.Keys.{member_key};
 ghost use Rattle.enc_plain.specs.Known.{AreKnownAlike};
@@ -33,7 +34,7 @@ use std::alloc::{AllocError, Global};
 use std::marker::Model;
 
 /// A flag is set.
-fn has_flag(flag: u32, flags: u32) -> bool
+pub fn has_flag(flag: u32, flags: u32) -> bool
     requires { 0 < flag }
     ensures { result ≡ has_flag flag flags }
 {
@@ -56,7 +57,7 @@ fn is_value_type<R: CellView>(rows: &R, owner: Token) -> bool
 
 /// The type says how its fields are laid out, or is a value type.
 #[tactic(auto, using(crate::proofs::MemberKinds::type_flags))]
-fn is_laid_out<R: CellView>(rows: &R, owner: Token) -> bool
+pub fn is_laid_out<R: CellView>(rows: &R, owner: Token) -> bool
     requires { owner.table ≡ type_def }
     ensures { result ≡ (has_layout (R.rows rows.now) owner || is_value_type (R.rows rows.now) owner) }
 {
@@ -308,12 +309,12 @@ impl<'a, R: CellView> Signatures<'a, R> {
     }
 }
 
-impl<C: ChainView> Members for Signatures<'_, Context<'_, C>> {
-    ghost asked = { λ r. asked_of (joined_rows r) };
+impl<R: CellView> Members for Signatures<'_, R> {
+    ghost asked = { λ r. asked_of (R.rows r) };
 
-    ghost keys = { λ r. member_key (joined_rows r) };
+    ghost keys = { λ r. member_key (R.rows r) };
 
-    ghost one = { λ r. one_key (joined_rows r) };
+    ghost one = { λ r. one_key (R.rows r) };
 
     #[tactic(auto, using(crate::proofs::MemberKinds::field_flags, crate::proofs::MemberKinds::method_flags), unfolding(crate::specs::Changes::is_member))]
     fn counts(&self, member: Token) -> bool {
@@ -343,9 +344,24 @@ impl<C: ChainView> Members for Signatures<'_, Context<'_, C>> {
     }
 }
 
-/// The least new member with a sibling of equal name and, but for an event, alike signature. It
-/// takes memory for each new member and each old one beside it, for the references that signatures of
-/// members of one name name, and for what is known of the likeness of those of one key.
+/// The least of some new members that has a sibling of equal name and, but for an event, alike
+/// signature: one that its owner has in a chain, or another new one. Cells and likeness are those of the
+/// rows. It takes memory for each new member and each old one beside it, for the references that
+/// signatures of members of one name name, and for what is known of the likeness of those of one key.
+pub fn twin_among<C: ChainView, R: CellView>(
+    alloc: Global,
+    chain: &C,
+    rows: &R,
+    pairs: &[Pair],
+) -> Result<Option<Place>, AllocError>
+    requires { ArePairs pairs.now }
+    ensures { IfOk result (λ p. p ≡ twin_fault (asked_of (R.rows rows.now)) (C.chain chain.now).plain (map pair_seen pairs.now)) }
+{
+    let mut members = Signatures::new(alloc, rows);
+    twin_fault(alloc, chain, &mut members, pairs)
+}
+
+/// The least new member of a delta with a sibling of equal name and, but for an event, alike signature.
 #[tactic(auto, unfolding(crate::specs::Changes::twin_member))]
 pub fn twin_member<C: ChainView>(
     alloc: Global,
@@ -353,6 +369,5 @@ pub fn twin_member<C: ChainView>(
 ) -> Result<Option<Place>, AllocError>
     ensures { IfOk result (λ p. p ≡ twin_member context.now.chain context.now.delta) }
 {
-    let mut members = Signatures::new(alloc, context);
-    twin_fault(alloc, context.old.view, &mut members, context.pairs())
+    twin_among(alloc, context.old.view, context, context.pairs())
 }

@@ -10,6 +10,3 @@ pub use added::Added;
 pub use body::{ArgValue, BodyValue, ClauseList, InstrList, InstrValue, TargetList};
 pub use edit::{CellValue, Cells, DocumentValue, Documents, Edit, EditList, Edits, PointList};
 pub use list::ListOf;
-
-#[cfg(test)]
-mod tests;

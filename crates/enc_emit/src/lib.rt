@@ -7,6 +7,3 @@ mod written;
 
 pub use laws::{pdb_root_law, root_law};
 pub use root::RootBuilder;
-
-#[cfg(test)]
-mod tests;

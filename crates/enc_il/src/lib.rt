@@ -22,10 +22,3 @@ pub use laws::{body_law, written_body_law, written_clauses_law};
 pub use section::{SectionRef, behind_sections, clause_size, section_front};
 pub use texts::{UserTexts, texts_are_there};
 pub use write::write_body;
-
-#[cfg(test)]
-mod judge_tests;
-#[cfg(test)]
-mod tests;
-#[cfg(test)]
-mod write_tests;

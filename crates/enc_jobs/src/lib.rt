@@ -16,6 +16,3 @@ mod value;
 pub use fault::JobFault;
 pub use laws::{form_law, target_laws};
 pub use list::read_edits;
-
-#[cfg(test)]
-mod tests;

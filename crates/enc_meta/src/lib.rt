@@ -23,6 +23,3 @@ pub use heaps::{HeapLengths, Heaps};
 pub use laws::{built_laws, example_root, offsets_law, offsets_stay_law, padded_law, text_law};
 pub use root::{Root, read_root};
 pub use span::Span;
-
-#[cfg(test)]
-mod tests;

@@ -11,6 +11,3 @@ pub use code::{Arg, Clause, CodeRef, Instr};
 pub use laws::{code_laws, example_body, name_laws, target_law};
 pub use lookup::{op_from, op_name, op_of};
 pub use op::{Op, Operand};
-
-#[cfg(test)]
-mod tests;

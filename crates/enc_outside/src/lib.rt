@@ -9,8 +9,6 @@ mod output;
 mod sink;
 mod store;
 mod sure;
-#[cfg(test)]
-mod tests;
 
 pub use files::FileStore;
 pub use memory::{MemSink, MemStore};

@@ -18,8 +18,3 @@ pub use laws::{bare_law, image_law, range_law, written_image_law};
 pub use loaded_file::LoadedFile;
 pub use sections::Sections;
 pub use write::{CODE_RVA, PeFault, write_pe};
-
-#[cfg(test)]
-mod tests;
-#[cfg(test)]
-mod write_tests;

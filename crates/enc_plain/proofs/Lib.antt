@@ -1,7 +1,6 @@
 pub mod Applied
 pub mod AttachedTo
 pub mod Held
-pub mod Begun
 pub mod CellsOf
 pub mod Scopes
 pub mod AlikeLaws
@@ -20,6 +19,5 @@ pub mod OneKey
 pub mod Learnt
 pub mod MemberKeys
 pub mod NilLocals
-pub mod NumberedCells
 pub mod RelatedPlaces
 pub mod AlikeSpecs

@@ -5,9 +5,6 @@ pub mod Reading
 pub mod Chain
 pub mod Apply
 pub mod Fits
-pub mod Plain
-pub mod Meant
-pub mod Begun
 pub mod Rows
 pub mod Signatures
 pub mod Alike

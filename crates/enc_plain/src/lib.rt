@@ -13,7 +13,6 @@ mod namesakes;
 mod pairs;
 mod place;
 mod places;
-mod plain;
 mod points;
 mod ref_keys;
 mod signature;
@@ -27,11 +26,7 @@ pub use known::{KnownAlike, PlacedBlob};
 pub use laws::likeness_laws;
 pub use likeness::{alike, signatures_alike, tokens_alike};
 pub use place::RowPlace;
-pub use plain::{PlainCell, PlainModule};
 pub use points::PointSource;
 pub use ref_keys::RefKeys;
 pub use signature::{is_signature, kind_in_table, signature_column};
 pub use view::{ModuleView, index_token, is_row};
-
-#[cfg(test)]
-mod tests;

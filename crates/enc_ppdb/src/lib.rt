@@ -27,6 +27,3 @@ pub use parts::{PdbParts, pdb_parts};
 pub use pdb::{Pdb, PdbDelta};
 pub use sizes::CodeSizes;
 pub use write::write_pdb;
-
-#[cfg(test)]
-mod tests;

@@ -26,6 +26,3 @@ mod written;
 pub use fault::RewriteFault;
 pub use laws::image_means_law;
 pub use written::{Rewritten, rewrite};
-
-#[cfg(test)]
-mod tests;

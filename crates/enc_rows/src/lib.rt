@@ -17,6 +17,3 @@ pub use builder::TableBuilder;
 pub use form::Form;
 pub use laws::{cells_law, heap_bits_law, stream_law};
 pub use tables::Tables;
-
-#[cfg(test)]
-mod tests;

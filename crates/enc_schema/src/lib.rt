@@ -19,6 +19,3 @@ pub use laws::{child_laws, coding_laws, table_laws};
 pub use names::{column_name, table_name};
 pub use schema::{column_of, columns_of};
 pub use widths::{Widths, widths_of};
-
-#[cfg(test)]
-mod tests;

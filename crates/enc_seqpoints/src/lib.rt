@@ -15,6 +15,3 @@ pub use point::{Point, PointFault, WriteFault};
 pub use points::Points;
 pub use read::read_points;
 pub use write::write_points;
-
-#[cfg(test)]
-mod tests;

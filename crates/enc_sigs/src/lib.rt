@@ -29,6 +29,3 @@ pub use shape::{shape_law, sig_shape};
 pub use sig::Sig;
 pub use sigs::{field_sig, locals_sig, method_sig, method_spec, property_sig, read_sig, type_spec};
 pub use write::write_sig;
-
-#[cfg(test)]
-mod tests;

@@ -1,4 +1,5 @@
-//! What the top call answers over files in memory: values from outside, and each refusal once.
+//! What the top call answers where the outside fails or memory runs out. Whatever else it answers, the stored
+//! run of `enc_cases` tells.
 
 use enc_outside::{MemSink, MemStore};
 use enc_top::run_tool;
@@ -6,27 +7,9 @@ use std::alloc::{AllocError, Global};
 use std::process::Abort;
 use std::test::Fail;
 
-mod base;
-mod bodies;
-mod check;
-mod debug;
-mod delta;
-mod depth;
 mod faults;
-mod generations;
-mod image_rules;
-mod images;
-mod later;
-mod likeness;
 mod many;
-mod members;
 mod memory;
-mod owners;
-mod rules;
-mod siblings;
-mod signatures;
-mod updates;
-mod worked;
 
 /// A bare module of 200 bytes: a row each of Module, TypeRef and AssemblyRef.
 const M_DLL: &str = concat!(
@@ -67,14 +50,6 @@ const D1_LIST: &str = concat!(
     "  01000002 insert 1.1 newest 1.1\n",
 );
 
-/// A word of 201 characters: one more than a name may have.
-const LONG: &str = concat!(
-    "aaaaaaaaaaaaaaaaaaaaaaaaaaaaaaaaaaaaaaaaaaaaaaaaaaaaaaaaaaaaaaaaaaaaaa",
-    "aaaaaaaaaaaaaaaaaaaaaaaaaaaaaaaaaaaaaaaaaaaaaaaaaaaaaaaaaaaaaaaaaaaaaa",
-    "aaaaaaaaaaaaaaaaaaaaaaaaaaaaaaaaaaaaaaaaaaaaaaaaaaaaaaaaaaaa",
-    "a",
-);
-
 fn texts(alloc: Global, words: &[&str]) -> Result<Vec<String>, AllocError> {
     let mut all = Vec::new(alloc);
     for word in words {
@@ -96,26 +71,6 @@ fn changed(alloc: Global, bytes: &str, changes: &[(usize, &str)]) -> Result<Vec<
         }
     }
     Ok(all)
-}
-
-/// The words over these files in hexadecimal, of which one has these changes, print the text and have
-/// the status.
-fn over(
-    rt: &(impl Abort + AllocGlobal),
-    files: &[(&str, &str)],
-    file: &str,
-    changes: &[(usize, &str)],
-    words: &[&str],
-    status: u8,
-    output: &str,
-) -> Result<(), Fail> {
-    let mut store = MemStore::begin(rt.alloc());
-    for (name, text) in files {
-        let count = if *name == file { changes.len() } else { 0 };
-        let bytes = changed(rt.alloc(), text, &changes[..count])?;
-        store.set_file(name, bytes.as_slice())?;
-    }
-    answers_over(rt, &mut store, words, status, output)
 }
 
 /// The words over these files print the text and have the status.

@@ -1,0 +1,14 @@
+-- For the contracts of private functions: the cell that is meant by what is held of it.
+use Rattle.std.specs.Prelude.{None}
+use Rattle.enc_plain.specs.Cell.{Cell, number, text, blob, guid, refer, body, field}
+use Rattle.enc_edited.specs.declared.plain.PlainCell.{PlainCell}
+use Rattle.enc_edited.specs.declared.plain.PlainCell.TheVariants as plain
+
+abbrev pub cell_meant : PlainCell → Cell
+cell_meant (plain.Number n) = number n
+cell_meant (plain.Text bytes) = text bytes.items
+cell_meant (plain.Blob bytes) = blob bytes.items
+cell_meant (plain.Guid bytes) = guid bytes
+cell_meant (plain.Refer token) = refer token
+cell_meant plain.NoBody = body None
+cell_meant (plain.Field bytes) = field bytes.items

@@ -1,0 +1,328 @@
+use enc_base::Token;
+use enc_edits::{ArgValue, BodyValue, CellValue, Edit, EditList, InstrList, PointList};
+use enc_jobs::*;
+use enc_opcodes::Clause;
+use enc_seqpoints::Point;
+use std::alloc::{AllocError, Global};
+use std::process::Abort;
+use std::test::Fail;
+
+/// The EncId of the lists here, as it is stored.
+const ID: [u8; 16] = [1, 2, 3, 4, 5, 6, 7, 8, 9, 10, 11, 12, 13, 14, 15, 16];
+
+/// A list that replaces one body.
+const WORKED: &str =
+    r#"{"encId":"04030201-0605-0807-090a-0b0c0d0e0f10","edits":[{"do":"body","method":"06000001","code":{"max":8,"code":[["ldstr","new"],["call","0a000001"],["ret"]]}}]}"#;
+
+/// A body with an operand of each kind, a clause of each kind, and points.
+const EACH: &str = r#"{"encId":"04030201-0605-0807-090A-0B0C0D0E0F10",
+"documents":[{"name":"a.cs","language":"3f5162f8-07c6-11d3-9053-00c04fa302a1","source":"x"}],
+"edits":[{"do":"body","method":"06000002","code":{"max":65535,"init":true,"locals":"11000001","code":[
+["nop"],["ldc.i4.s",-128],["ldarg.s",255],["ldarg",65535],["ldc.i4",-2147483648],["ldc.i8",-9223372036854775808],
+["ldc.r4","0000803f"],["ldc.r8","000000000000F03F"],["br.s",0],["br",13],["switch",[1,8]],["call","0A00000b"],
+["ldstr","a\ud834\udd1e"],["ret"]],"clauses":[
+{"kind":"catch","try":[0,1],"handler":[1,14],"class":"01000002"},
+{"kind":"filter","try":[2,3],"handler":[3,4],"filter":5},
+{"kind":"finally","try":[4,5],"handler":[5,6]},
+{"kind":"fault","try":[6,7],"handler":[7,8]}]},
+"points":[{"at":1,"hidden":true},{"at":2,"document":2,"from":[10,9],"to":[11,20]},{"at":13,"hidden":true}]}]}"#;
+
+/// What an argument is to be.
+enum Said<'a> {
+    Nothing,
+    Num(i64),
+    Target(u32),
+    Targets(&'a [u32]),
+    Token(u8, u32),
+    User(&'a [u16]),
+    Raw(&'a [u8]),
+}
+
+fn is_arg(arg: &ArgValue, said: &Said<'_>) -> bool {
+    match said {
+        Said::Nothing => matches!(arg, ArgValue::None),
+        Said::Num(n) => matches!(arg, ArgValue::Num(m) if m == n),
+        Said::Target(t) => matches!(arg, ArgValue::Target(u) if u == t),
+        Said::Targets(ts) => matches!(arg, ArgValue::Targets(us) if us.as_slice() == *ts),
+        Said::Token(table, row) => {
+            matches!(arg, ArgValue::Token(t) if t.table == *table && t.row == *row)
+        }
+        Said::User(units) => matches!(arg, ArgValue::User(us) if us.as_slice() == *units),
+        Said::Raw(bytes) => matches!(arg, ArgValue::Raw(bs) if bs.as_slice() == *bytes),
+    }
+}
+
+/// The code is these instructions, by their codes.
+fn expect_code(rt: &impl Abort, code: &InstrList, expected: &[(u16, Said<'_>)]) {
+    assert_eq!(rt; code.len(), expected.len());
+    for i in 0..expected.len() {
+        let (byte, said) = &expected[i];
+        match code.get(i) {
+            Some(instr) => {
+                assert_eq!(rt; instr.op.byte, *byte);
+                assert!(rt; is_arg(&instr.arg, said));
+            }
+            None => assert!(rt; false),
+        }
+    }
+}
+
+fn expect_clause(rt: &impl Abort, body: &BodyValue, i: usize, expected: Clause) {
+    assert_eq!(rt; body.clauses.get(i).copied(), Some(expected));
+}
+
+fn expect_point(rt: &impl Abort, points: &PointList, i: usize, expected: Point) {
+    assert_eq!(rt; points.get(i).copied(), Some(expected));
+}
+
+/// The list that a text says.
+fn list_of(rt: &impl Abort, alloc: Global, text: &str) -> EditList {
+    match read_edits(alloc, text.as_bytes()) {
+        Ok(list) => list,
+        Err(_) => panic!(rt; "not read"),
+    }
+}
+
+fn expect_refused(rt: &impl Abort, alloc: Global, text: &str, expected: JobFault) {
+    match read_edits(alloc, text.as_bytes()) {
+        Ok(_) => assert!(rt; false, "{text}"),
+        Err(fault) => assert_eq!(rt; fault, expected, "{text}"),
+    }
+}
+
+#[test]
+fn a_body_is_replaced(rt: HostRuntime) -> Result<(), Fail> {
+    let list = list_of(&rt, rt.alloc(), WORKED);
+    assert!(rt; list.enc_id == ID);
+    assert_eq!(rt; list.edits.len(), 1);
+    assert_eq!(rt; list.documents.len(), 0);
+    let Some(
+        Edit::Body {
+            method,
+            code,
+            points,
+        },
+    ) = list.edits.get(0)
+    else {
+        panic!(rt; "no body");
+    };
+    assert_eq!(rt; *method, Token { table: 6, row: 1 });
+    assert_eq!(rt; points.len(), 0);
+    assert_eq!(rt; code.max, 8);
+    assert!(rt; !code.init);
+    assert_eq!(rt; code.locals, Token { table: 0, row: 0 });
+    assert_eq!(rt; code.clauses.len(), 0);
+    expect_code(
+        &rt,
+        &code.code,
+        &[
+            (0x72, Said::User(&[0x6e, 0x65, 0x77])),
+            (0x28, Said::Token(0x0a, 1)),
+            (0x2a, Said::Nothing),
+        ],
+    );
+    Ok(())
+}
+
+#[test]
+fn each_operand_is_read(rt: HostRuntime) -> Result<(), Fail> {
+    let list = list_of(&rt, rt.alloc(), EACH);
+    let Some(Edit::Body { code, .. }) = list.edits.get(0) else {
+        panic!(rt; "no body");
+    };
+    assert_eq!(rt; code.max, 0xFFFF);
+    assert!(rt; code.init);
+    assert_eq!(rt;
+        code.locals,
+        Token {
+            table: 0x11,
+            row: 1
+        }
+    );
+    expect_code(
+        &rt,
+        &code.code,
+        &[
+            (0x00, Said::Nothing),
+            (0x1f, Said::Num(-128)),
+            (0x0e, Said::Num(255)),
+            (0xfe09, Said::Num(65535)),
+            (0x20, Said::Num(-2147483648)),
+            (0x21, Said::Num(-9223372036854775808)),
+            (0x22, Said::Raw(&[0, 0, 0x80, 0x3f])),
+            (0x23, Said::Raw(&[0, 0, 0, 0, 0, 0, 0xf0, 0x3f])),
+            (0x2b, Said::Target(0)),
+            (0x38, Said::Target(67)),
+            (0x45, Said::Targets(&[1, 37])),
+            (0x28, Said::Token(0x0a, 11)),
+            (0x72, Said::User(&[0x61, 0xd834, 0xdd1e])),
+            (0x2a, Said::Nothing),
+        ],
+    );
+    Ok(())
+}
+
+fn clause(kind: u32, tries: (u32, u32), handler: (u32, u32), extra: u32) -> Clause {
+    Clause {
+        kind,
+        tries,
+        handler,
+        extra,
+    }
+}
+
+#[test]
+fn clauses_and_points_are_read(rt: HostRuntime) -> Result<(), Fail> {
+    let list = list_of(&rt, rt.alloc(), EACH);
+    let Some(Edit::Body { code, points, .. }) = list.edits.get(0) else {
+        panic!(rt; "no body");
+    };
+    assert_eq!(rt; code.clauses.len(), 4);
+    expect_clause(&rt, code, 0, clause(0, (0, 1), (1, 68), 0x0100_0002));
+    expect_clause(&rt, code, 1, clause(1, (3, 5), (5, 9), 14));
+    expect_clause(&rt, code, 2, clause(2, (9, 14), (14, 23), 0));
+    expect_clause(&rt, code, 3, clause(4, (23, 28), (28, 37), 0));
+    assert_eq!(rt; points.len(), 3);
+    expect_point(
+        &rt,
+        points,
+        0,
+        Point {
+            offset: 1,
+            document: 1,
+            lines: None,
+        },
+    );
+    expect_point(
+        &rt,
+        points,
+        1,
+        Point {
+            offset: 3,
+            document: 2,
+            lines: Some((10, 9, 11, 20)),
+        },
+    );
+    expect_point(
+        &rt,
+        points,
+        2,
+        Point {
+            offset: 67,
+            document: 2,
+            lines: None,
+        },
+    );
+    let Some(document) = list.documents.get(0) else {
+        panic!(rt; "no document");
+    };
+    assert!(rt; document.name.as_slice() == b"a.cs".as_slice());
+    assert!(rt; document.source.as_slice() == b"x".as_slice());
+    assert_eq!(rt; document.language[0], 0xf8);
+    Ok(())
+}
+
+#[test]
+fn rows_are_added(rt: HostRuntime) -> Result<(), Fail> {
+    let list = list_of(
+        &rt,
+        rt.alloc(),
+        r#"{"encId":"{04030201-0605-0807-090a-0b0c0d0e0f10}","edits":[
+{"do":"add","table":"MethodDef","owner":"02000002","cells":[0,6,"M","0001"],"points":[]},
+{"do":"add","table":"CustomDebugInformation","cells":["06000001","04030201-0605-0807-090a-0b0c0d0e0f10","Ff"]}]}"#,
+    );
+    let Some(
+        Edit::Add {
+            table,
+            owner,
+            cells,
+            code,
+            points,
+        },
+    ) = list.edits.get(0)
+    else {
+        panic!(rt; "no row");
+    };
+    assert_eq!(rt; *table, 6);
+    assert_eq!(rt; *owner, Token { table: 2, row: 2 });
+    assert!(rt; code.is_none());
+    assert_eq!(rt; points.len(), 0);
+    assert_eq!(rt; cells.len(), 4);
+    assert!(rt; matches!(cells.get(1), Some(CellValue::Num(6))));
+    assert!(rt;
+        matches!(cells.get(2), Some(CellValue::Text(t)) if t.as_slice() == b"M".as_slice())
+    );
+    assert!(rt;
+        matches!(cells.get(3), Some(CellValue::Blob(b)) if b.as_slice() == [0, 1].as_slice())
+    );
+    let Some(
+        Edit::Add {
+            table,
+            owner,
+            cells,
+            ..
+        },
+    ) = list.edits.get(1)
+    else {
+        panic!(rt; "no row");
+    };
+    assert_eq!(rt; *table, 0x37);
+    assert_eq!(rt; *owner, Token { table: 0, row: 0 });
+    assert!(rt; matches!(cells.get(0), Some(CellValue::Refer(t)) if t.table == 6 && t.row == 1));
+    assert!(rt; matches!(cells.get(1), Some(CellValue::Guid(g)) if *g == ID));
+    Ok(())
+}
+
+/// A list of one edit.
+fn with_edit(alloc: Global, edit: &str) -> Result<String, AllocError> {
+    let mut text = String::new(alloc);
+    text.push_str(r#"{"encId":"04030201-0605-0807-090a-0b0c0d0e0f10","edits":["#)?;
+    text.push_str(edit)?;
+    text.push_str("]}")?;
+    Ok(text)
+}
+
+#[test]
+fn what_is_no_list(rt: HostRuntime) -> Result<(), Fail> {
+    let alloc = rt.alloc();
+    expect_refused(&rt, alloc, "{", JobFault::J1);
+    expect_refused(&rt, alloc, "[]", JobFault::J2(0));
+    expect_refused(&rt, alloc, r#"{"encId":"04","edits":[]}"#, JobFault::J2(0));
+    expect_refused(
+        &rt,
+        alloc,
+        r#"{"encId":"04030201-0605-0807-090a-0b0c0d0e0f10","edits":[1],"documents":[1]}"#,
+        JobFault::J2(0),
+    );
+    expect_refused(
+        &rt,
+        alloc,
+        r#"{"encId":"04030201-0605-0807-090a-0b0c0d0e0f10","edits":[
+{"do":"body","method":"06000001","code":{"max":8,"code":[["ret"]]}},
+{"do":"body","method":"06000001","code":{"max":8,"code":[["ret"]]},"note":1}]}"#,
+        JobFault::J2(2),
+    );
+    Ok(())
+}
+
+#[test]
+fn what_is_no_edit(rt: HostRuntime) -> Result<(), Fail> {
+    let alloc = rt.alloc();
+    for edit in [
+        r#"{"do":"add","table":"TypeRef","cells":["00000000","A\u0000",""]}"#,
+        r#"{"do":"add","table":"TypeRef","cells":["00000000","A",""],"owner":"02000001"}"#,
+        r#"{"do":"add","table":"Field","cells":[0,"f","06"]}"#,
+        r#"{"do":"add","table":"Field","cells":[65536,"f","06"],"owner":"02000001"}"#,
+        r#"{"do":"add","table":"MethodDef","owner":"02000002","cells":[0,6,"M","0001"],"points":[{"at":0,"hidden":true}]}"#,
+        r#"{"do":"body","method":"6000001","code":{"max":8,"code":[["ret"]]}}"#,
+        r#"{"do":"body","method":"06000001","code":{"max":8,"code":[["ldc.i4.s",128]]}}"#,
+        r#"{"do":"body","method":"06000001","code":{"max":8,"code":[["ldc.i4",5.0]]}}"#,
+        r#"{"do":"body","method":"06000001","code":{"max":8,"code":[["br",1]]}}"#,
+        r#"{"do":"body","method":"06000001","code":{"max":8,"code":[["ret"]],"clauses":[{"kind":"finally","try":[0,2],"handler":[0,1]}]}}"#,
+        r#"{"do":"body","method":"06000001","code":{"max":8,"code":[["ret"]]},"points":[{"at":0,"hidden":false}]}"#,
+    ] {
+        let text = with_edit(alloc, edit)?;
+        expect_refused(&rt, alloc, text.as_str(), JobFault::J2(1));
+    }
+    Ok(())
+}
