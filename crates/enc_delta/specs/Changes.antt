@@ -72,23 +72,31 @@ is_value_type rows t =
 abbrev pub has_layout : Rows → Token → Bool
 has_layout rows t = not (number_at rows t columns.type_def_flags / 8 % 4 == 0)
 
--- E18: a new field that isn't static (flag 10, II.23.1.5), in a type that was there and has a layout or is a value type
-unfoldable pub breaks_layout : Chain → Source → Attached → Bool
-breaks_layout c s a =
+-- a field that isn't static (flag 10, II.23.1.5) comes to a type that was there and has a layout or is a value type, by these rows
+unfoldable pub is_out_of_layout : Chain → Rows → Attached → Bool
+is_out_of_layout c rows a =
     a.child.table == tables.field && a.owner.table == tables.type_def && not (is_insert c a.owner)
-    && not (has_flag 0x10 (number_at (rows_after c s) a.child columns.field_flags))
-    && (has_layout (rows_after c s) a.owner || is_value_type (rows_after c s) a.owner)
+    && not (has_flag 0x10 (number_at rows a.child columns.field_flags))
+    && (has_layout rows a.owner || is_value_type rows a.owner)
+
+-- E18: a new field that isn't static, in a type that was there and has a layout or is a value type
+abbrev pub breaks_layout : Chain → Source → Attached → Bool
+breaks_layout c s a = is_out_of_layout c (rows_after c s) a
 
 unfoldable pub field_out_of_layout : Chain → Source → Option Place
 field_out_of_layout c s = least_child (breaks_layout c s) s
 
--- E19: a new virtual method (flag 40, II.23.1.10) in an interface (flag 20, II.23.1.15) that was there, or one that is abstract too (flag 400) in any type that was there
-unfoldable pub breaks_slots : Chain → Source → Attached → Bool
-breaks_slots c s a =
+-- a virtual method (flag 40, II.23.1.10) comes to an interface (flag 20, II.23.1.15) that was there, or one that is abstract too (flag 400) to any type that was there
+unfoldable pub has_no_slot : Chain → Rows → Attached → Bool
+has_no_slot c rows a =
     a.child.table == tables.method_def && a.owner.table == tables.type_def && not (is_insert c a.owner)
-    && has_flag 0x40 (number_at (rows_after c s) a.child columns.method_def_flags)
-    && (has_flag 0x20 (number_at (rows_after c s) a.owner columns.type_def_flags)
-    || has_flag 0x400 (number_at (rows_after c s) a.child columns.method_def_flags))
+    && has_flag 0x40 (number_at rows a.child columns.method_def_flags)
+    && (has_flag 0x20 (number_at rows a.owner columns.type_def_flags)
+    || has_flag 0x400 (number_at rows a.child columns.method_def_flags))
+
+-- E19: a new virtual method in an interface that was there, or one that is abstract too in any type that was there
+abbrev pub breaks_slots : Chain → Source → Attached → Bool
+breaks_slots c s a = has_no_slot c (rows_after c s) a
 
 unfoldable pub method_without_slot : Chain → Source → Option Place
 method_without_slot c s = least_child (breaks_slots c s) s
@@ -133,11 +141,14 @@ bad_signature c s = first_below (of_nth (bad_signature_in c s) s) (length (liste
 abbrev pub own_code : Source → Token → Option Code
 own_code s t = code_loaded s.loaded (raw_in s (own_row s t) 0)
 
--- a body's local signature is nil, or one of StandAloneSig that begins as one of locals (II.23.2.6)
+-- a local signature is nil, or one of StandAloneSig that begins as one of locals (II.23.2.6)
+abbrev pub are_locals : Rows → Token → Bool
+are_locals rows t = t.row == 0 || t.table == tables.stand_alone_sig && begins_locals (bytes_at rows t columns.stand_alone_sig_signature)
+
+-- the local signature of a body, if there is one
 abbrev pub locals_begin : Rows → Option Code → Bool
 locals_begin rows None = true
-locals_begin rows (Some c) =
-    c.locals.row == 0 || c.locals.table == tables.stand_alone_sig && begins_locals (bytes_at rows c.locals columns.stand_alone_sig_signature)
+locals_begin rows (Some c) = are_locals rows c.locals
 
 -- E23: a method's local signature that isn't one of locals
 unfoldable pub bad_locals_in : Chain → Source → Token → Option Place

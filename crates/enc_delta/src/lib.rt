@@ -32,5 +32,5 @@ pub use entry::Entry;
 pub use identity::{enc_id_counted, enc_id_of};
 pub use joined::{entry_after, guid_after, has_text_after};
 pub use known::{inserts_of, is_insert};
-pub use members::{has_flag, is_laid_out, twin_among};
+pub use members::{has_no_slot, is_out_of_layout, twin_among};
 pub use pairs::{Pair, attached_of};

@@ -15,7 +15,7 @@ ghost use Rattle.enc_delta.specs.Members.{pair_seen, ArePairs};
 ghost use Rattle.enc_plain.specs.Keys.{member_key};
 ghost use Rattle.enc_plain.specs.Known.{AreKnownAlike};
 ghost use Rattle.enc_delta.specs.OneKey.{one_key};
-ghost use Rattle.enc_delta.specs.Changes.{is_value_type, has_layout, breaks_layout, breaks_slots, least_child, is_member, asked_of, name_column, same_signature, field_out_of_layout, method_without_slot, twin_member};
+ghost use Rattle.enc_delta.specs.Changes.{is_value_type, has_layout, is_out_of_layout, has_no_slot, least_child, is_member, asked_of, name_column, same_signature, field_out_of_layout, method_without_slot, twin_member};
 ghost use Rattle.enc_schema.specs.Tables.{type_def};
 
 use crate::context::Context;
@@ -34,7 +34,7 @@ use std::alloc::{AllocError, Global};
 use std::marker::Model;
 
 /// A flag is set.
-pub fn has_flag(flag: u32, flags: u32) -> bool
+fn has_flag(flag: u32, flags: u32) -> bool
     requires { 0 < flag }
     ensures { result ≡ has_flag flag flags }
 {
@@ -57,7 +57,7 @@ fn is_value_type<R: CellView>(rows: &R, owner: Token) -> bool
 
 /// The type says how its fields are laid out, or is a value type.
 #[tactic(auto, using(crate::proofs::MemberKinds::type_flags))]
-pub fn is_laid_out<R: CellView>(rows: &R, owner: Token) -> bool
+fn is_laid_out<R: CellView>(rows: &R, owner: Token) -> bool
     requires { owner.table ≡ type_def }
     ensures { result ≡ (has_layout (R.rows rows.now) owner || is_value_type (R.rows rows.now) owner) }
 {
@@ -65,37 +65,36 @@ pub fn is_laid_out<R: CellView>(rows: &R, owner: Token) -> bool
 }
 
 /// The pair gives a child of a table to a type that was there.
-fn gives_to_old<C: ChainView>(context: &Context<'_, C>, pair: Pair, table: u8) -> bool
-    ensures given { result ≡ (pair.child.table == table && pair.owner.table == type_def && not (is_insert context.now.chain pair.owner)) }
+fn gives_to_old<C: ChainView>(chain: &C, pair: Pair, table: u8) -> bool
+    ensures given { result ≡ (pair.child.table == table && pair.owner.table == type_def && not (is_insert (C.chain chain.now) pair.owner)) }
     ensures child { IsTrue result → pair.child.table ≡ table }
     ensures owner { IsTrue result → pair.owner.table ≡ type_def }
 {
-    pair.child.table == table
-        && pair.owner.table == TYPE_DEF
-        && !is_insert(context.old.view, pair.owner)
+    pair.child.table == table && pair.owner.table == TYPE_DEF && !is_insert(chain, pair.owner)
 }
 
-/// A new field that isn't static, in a type that was there and is laid out.
-#[tactic(auto, using(crate::proofs::MemberKinds::field_flags), unfolding(crate::specs::Changes::breaks_layout))]
-fn breaks_layout<C: ChainView>(context: &Context<'_, C>, pair: Pair) -> bool
-    ensures { result ≡ breaks_layout context.now.chain context.now.delta (pair_seen pair) }
+/// A field that isn't static, for a type that a chain has and that is laid out, by these rows.
+#[tactic(auto, using(crate::proofs::MemberKinds::field_flags), unfolding(crate::specs::Changes::is_out_of_layout))]
+pub fn is_out_of_layout<C: ChainView, R: CellView>(chain: &C, rows: &R, pair: Pair) -> bool
+    ensures { result ≡ is_out_of_layout (C.chain chain.now) (R.rows rows.now) (pair_seen pair) }
 {
-    gives_to_old(context, pair, FIELD)
-        && !has_flag(0x10, context.number(pair.child, FIELD_FLAGS))
-        && is_laid_out(context, pair.owner)
+    gives_to_old(chain, pair, FIELD)
+        && !has_flag(0x10, rows.number(pair.child, FIELD_FLAGS))
+        && is_laid_out(rows, pair.owner)
 }
 
-/// A new virtual method in an interface that was there, or a new abstract one in a type that was.
-#[tactic(auto, using(crate::proofs::MemberKinds::method_flags, crate::proofs::MemberKinds::type_flags), unfolding(crate::specs::Changes::breaks_slots))]
-fn breaks_slots<C: ChainView>(context: &Context<'_, C>, pair: Pair) -> bool
-    ensures { result ≡ breaks_slots context.now.chain context.now.delta (pair_seen pair) }
+/// A virtual method for an interface that a chain has, or one that is abstract too for any type that it
+/// has, by these rows.
+#[tactic(auto, using(crate::proofs::MemberKinds::method_flags, crate::proofs::MemberKinds::type_flags), unfolding(crate::specs::Changes::has_no_slot))]
+pub fn has_no_slot<C: ChainView, R: CellView>(chain: &C, rows: &R, pair: Pair) -> bool
+    ensures { result ≡ has_no_slot (C.chain chain.now) (R.rows rows.now) (pair_seen pair) }
 {
-    if !gives_to_old(context, pair, METHOD_DEF) {
+    if !gives_to_old(chain, pair, METHOD_DEF) {
         return false;
     }
-    let flags = context.number(pair.child, METHOD_DEF_FLAGS);
+    let flags = rows.number(pair.child, METHOD_DEF_FLAGS);
     has_flag(0x40, flags)
-        && (has_flag(0x20, context.number(pair.owner, TYPE_DEF_FLAGS)) || has_flag(0x400, flags))
+        && (has_flag(0x20, rows.number(pair.owner, TYPE_DEF_FLAGS)) || has_flag(0x400, flags))
 }
 
 /// Which gains are judged.
@@ -112,8 +111,8 @@ fn breaks<C: ChainView>(context: &Context<'_, C>, gain: Gain, pair: Pair) -> boo
     ensures { result ≡ breaks context.now gain (pair_seen pair) }
 {
     match gain {
-        Gain::Field => breaks_layout(context, pair),
-        Gain::Method => breaks_slots(context, pair),
+        Gain::Field => is_out_of_layout(context.old.view, context, pair),
+        Gain::Method => has_no_slot(context.old.view, context, pair),
     }
 }
 
