@@ -115,7 +115,7 @@ pub fn other_base<C: ChainView>(context: &Context<'_, C>) -> Option<Place>
 
 /// An earlier delta has this EncId.
 #[tactic(auto)]
-fn is_used<C: ChainView>(chain: &C, id: &[u8]) -> bool
+pub fn is_used<C: ChainView>(chain: &C, id: &[u8]) -> bool
     ensures { result ≡ list_any (λ (x : List ℕ). bytes_eq x id.now) (C.chain chain.now).ids }
 {
     for g in 0..chain.generations() - 1 {

@@ -71,7 +71,7 @@ pub fn uneven_table<C: ChainView>(context: &Context<'_, C>) -> Option<Place>
 }
 
 /// A delta may have rows in this table.
-fn may_change(table: u8) -> bool
+pub fn may_change(table: u8) -> bool
     ensures { result ≡ may_change table }
 {
     matches!(
