@@ -91,9 +91,9 @@ abbrev pub body_fits_if : Option BodyValue → Bool
 body_fits_if None = true
 body_fits_if (Some b) = body_fits b
 
--- an owner stands where the table is one of children
+-- an owner stands where the table is one of children; the row of a token is below 2^24
 abbrev pub owner_fits : ℕ → Token → Bool
-owner_fits table owner = is_child_table table || is_token owner nil
+owner_fits table owner = if is_child_table table then nat_lt owner.row 0x1000000 else is_token owner nil
 
 -- a body stands only at a MethodDef, and points only at a body
 abbrev pub code_fits : ℕ → Option BodyValue → List Point → Bool

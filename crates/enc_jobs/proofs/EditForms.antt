@@ -1,6 +1,6 @@
 -- Edits that are read are of the form.
-use Rattle.std.proofs.Common.{◌≡◌, ℕ, ◌<◌, List, [], ◌∷◌, inl, inr, Option, Some, None, Result, Ok, Err, Bool, true, false, ◌&&◌, ◌||◌, Ordering, Less, Equal, Greater, refl, sym, ◌∙◌}
-use Rattle.std.specs.Prelude.{MatchOption, IfOk, ok_or, option_and_then, if◌then◌else◌, slice_get, bytes_eq, codes, is_some, ◌==◌}
+use Rattle.std.proofs.Common.{◌≡◌, ℕ, ◌<◌, arith, List, [], ◌∷◌, inl, inr, Option, Some, None, Result, Ok, Err, Bool, true, false, ◌&&◌, ◌||◌, Ordering, Less, Equal, Greater, refl, sym, ◌∙◌}
+use Rattle.std.specs.Prelude.{◌%◌, nat_lt, option_map, MatchOption, IfOk, ok_or, option_and_then, if◌then◌else◌, slice_get, bytes_eq, codes, is_some, ◌==◌}
 use Rattle.std.specs.List.{list_all}
 use Rattle.std.specs.Ordering.{nat_cmp, match_ordering}
 use Rattle.std.specs.Cmp.Lexicographic.{slice_cmp}
@@ -8,7 +8,8 @@ use Rattle.std.proofs.lemmas.Bool.{and_parts, false≢true}
 use Rattle.std.proofs.lemmas.Map.Lookups.{exact_bytes}
 use Rattle.serde_json.specs.Data.{Data, null, boolean, number, string, array, object, Members, no_members, member}
 use Rattle.serde_json.specs.Find.{get, get_member, as_str}
-use Rattle.enc_base.specs.Token.{nil, is_token}
+use Rattle.std.proofs.lemmas.Bool.Decides.{nat_tests}
+use Rattle.enc_base.specs.Token.{nil, is_token, token_of}
 use Rattle.enc_base.specs.declared.token.Token.{Token}
 use Rattle.enc_base.proofs.First.{first_means}
 use Rattle.enc_schema.specs.Names.{table_name_in}
@@ -27,7 +28,8 @@ use Rattle.enc_jobs.specs.declared.fault.JobFault.{JobFault}
 use Rattle.enc_jobs.specs.declared.fault.JobFault.TheVariants.{J1}
 use Rattle.enc_jobs.specs.Outcome.{GivesList}
 use Rattle.enc_jobs.specs.declared.list.Head.{Head}
-use Rattle.enc_jobs.specs.Json.{elements_of, keys_in, is_one_of, has_only, token_said}
+use Rattle.enc_opcodes.specs.Instruction.{◌>>=◌}
+use Rattle.enc_jobs.specs.Json.{elements_of, keys_in, is_one_of, has_only, token_said, token_number_said}
 use Rattle.enc_jobs.specs.Points.{at_said, hidden_said, shown_said, point_said, points_from, points_said}
 use Rattle.enc_jobs.specs.Body.{method_said, method_said_if}
 use Rattle.enc_jobs.specs.Cell.{cells_said}
@@ -101,14 +103,27 @@ code_has known table (Some code) points m only h =
     let w = map_some _ (method_said code points) m h in
     rw (← w.2) (both_true (table == method_def) (body_fits w.0.body) (only code refl) (method_has known code points w.0 w.1))
 
+-- the row of a token is below 2^24
+small_row : (o : Option ℕ) (t : Token) → option_map token_of o ≡ Some t → nat_lt t.row 0x1000000 ≡ true
+small_row None t h = absurd cc
+small_row (Some n) t h =
+    let e : token_of n ≡ t = cc in
+    let small : n % 0x1000000 < 0x1000000 = omega arith in
+    rw (← e) (grind (arith, nat_tests, small))
+
+said_small : (o : Option Data) (t : Token) → (o >>= token_said) ≡ Some t → nat_lt t.row 0x1000000 ≡ true
+unfolding token_said
+said_small None t h = absurd cc
+said_small (Some d) t h = small_row (token_number_said d) t h
+
 -- an owner only where there is one
-owner_by : (b : Bool) (o : Option Token) (t : Token) → (if b then o else Some nil) ≡ Some t → (b || is_token t nil) ≡ true
-owner_by true o t h = refl
-owner_by false o t h = let e : nil ≡ t = cc in rw (← e) refl
+owner_by : (b : Bool) (o : Option Token) (t : Token) → (o ≡ Some t → nat_lt t.row 0x1000000 ≡ true) → (if b then o else Some nil) ≡ Some t → (if b then nat_lt t.row 0x1000000 else is_token t nil) ≡ true
+owner_by true o t small h = small h
+owner_by false o t small h = let e : nil ≡ t = cc in rw (← e) refl
 
 owner_has : (table : ℕ) (d : Data) (t : Token) → owner_said table d ≡ Some t → owner_fits table t ≡ true
 unfolding owner_said
-owner_has table d t h = owner_by (is_child_table table) _ t h
+owner_has table d t h = owner_by (is_child_table table) (get (codes "owner") d >>= token_said) t (λ e. said_small (get (codes "owner") d) t e) h
 
 all_four : (a b c d : Bool) → a ≡ true → b ≡ true → c ≡ true → d ≡ true → (a && b && c && d) ≡ true
 all_four a b c d p q r s = rw (p, q, r, s) refl

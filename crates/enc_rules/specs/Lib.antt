@@ -1,0 +1,6 @@
+pub mod Edited
+pub mod Listed
+pub mod Rules
+pub mod First
+pub mod Known
+pub mod Sooner
