@@ -25,6 +25,7 @@ pub fn heap_passes<C: ChainView>(
     ensures first { IfOk result (λ k. k ≡ first_such (heap_passes context.now.chain context.now.list) (length context.now.list.edits)) }
     ensures few { IfOk result (λ k. IfSome k (λ n. n < 2 ^ 24)) }
 {
-    let _ = (alloc, context);
+    let _ = context;
+    let _ = alloc;
     Err(AllocError)
 }

@@ -15,6 +15,7 @@ pub fn points_are_bad<C: ChainView>(
     ensures first { IfOk result (λ k. k ≡ first_such (points_are_bad context.now.chain context.now.list) (length context.now.list.edits)) }
     ensures few { IfOk result (λ k. IfSome k (λ n. n < 2 ^ 24)) }
 {
-    let _ = (alloc, context);
+    let _ = context;
+    let _ = alloc;
     Err(AllocError)
 }
