@@ -8,6 +8,7 @@ ghost use Rattle.enc_delta.specs.Members.{ArePairs, pair_seen};
 ghost use Rattle.enc_rules.specs.Edited.{row_edited, rows_edited, rows_behind, attached_by, attached_behind, attached_in};
 ghost use Rattle.enc_rules.specs.First.{first_such};
 ghost use Rattle.enc_rules.specs.Listed.{Listed, count_after};
+ghost use Rattle.enc_rules.specs.Known.{row_key};
 ghost use Rattle.enc_rules.specs.Rules.{there_are_too_many, row_is_edited_twice};
 
 use crate::context::{Context, Known};
@@ -127,6 +128,13 @@ pub fn context_of<'a, C: ChainView>(
     })
 }
 
+/// A number that no other token has.
+fn row_key(row: Token) -> u64
+    ensures { result ≡ row_key row }
+{
+    u64::from(row.table) * 0x1_0000_0000 + u64::from(row.row)
+}
+
 /// The first edit before which another is about the same row. It takes memory for each row.
 #[tactic(auto, using(enc_base::proofs::First::first_none, enc_base::proofs::First::first_found, enc_base::proofs::First::first_more))]
 pub fn row_is_edited_twice<C: ChainView>(
@@ -139,10 +147,11 @@ pub fn row_is_edited_twice<C: ChainView>(
     let mut known = BTreeSet::new(alloc);
     let rows = context.rows();
     for k in 0..rows.len() {
-        if known.contains(&rows[k]) {
+        let key = row_key(rows[k]);
+        if known.contains(&key) {
             return Ok(Some(k as u32));
         }
-        known.insert(rows[k])?;
+        known.insert(key)?;
     }
     Ok(None)
 }
