@@ -1,0 +1,4 @@
+pub mod FirstSuch
+pub mod RowsEdited
+pub mod RowsListed
+pub mod SoonestRule

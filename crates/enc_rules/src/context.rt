@@ -113,6 +113,7 @@ fn token_of(value: Option<&CellValue>) -> Token
 fn cell_number(row: Token, column: u8) -> u64
     ensures number { result ≡ cell_number row column }
     ensures few { result < 2 ^ 48 }
+    ensures table { row.table < 256 }
 {
     u64::from(row.row) * 0x1_0000 + u64::from(row.table) * 0x100 + u64::from(column)
 }
@@ -195,6 +196,7 @@ impl<C: ChainView> CellView for Context<'_, C> {
 
     ghost stored = { blobs_listed };
 
+    #[tactic(auto, using(crate::proofs::RowsListed::has_new, crate::proofs::RowsListed::has_old))]
     fn has(&self, row: Token) -> bool {
         match self.edit_of(row) {
             Some(_) => true,
@@ -202,6 +204,7 @@ impl<C: ChainView> CellView for Context<'_, C> {
         }
     }
 
+    #[tactic(auto, using(crate::proofs::RowsListed::number_new, crate::proofs::RowsListed::number_old))]
     fn number(&self, row: Token, column: u8) -> u32 {
         match self.edit_of(row) {
             Some(edit) => number_of(value_of(edit, column)),
@@ -209,6 +212,7 @@ impl<C: ChainView> CellView for Context<'_, C> {
         }
     }
 
+    #[tactic(auto, using(crate::proofs::RowsListed::bytes_new, crate::proofs::RowsListed::bytes_old))]
     fn text(&self, row: Token, column: u8) -> &[u8] {
         match self.edit_of(row) {
             Some(edit) => bytes_of(value_of(edit, column)),
@@ -216,6 +220,7 @@ impl<C: ChainView> CellView for Context<'_, C> {
         }
     }
 
+    #[tactic(auto, using(crate::proofs::RowsListed::bytes_new, crate::proofs::RowsListed::bytes_old))]
     fn blob(&self, row: Token, column: u8) -> &[u8] {
         match self.edit_of(row) {
             Some(edit) => bytes_of(value_of(edit, column)),
@@ -230,6 +235,7 @@ impl<C: ChainView> CellView for Context<'_, C> {
         }
     }
 
+    #[tactic(auto, using(crate::proofs::RowsListed::token_new, crate::proofs::RowsListed::token_old))]
     fn token(&self, row: Token, column: u8) -> Token {
         match self.edit_of(row) {
             Some(edit) => token_of(value_of(edit, column)),
