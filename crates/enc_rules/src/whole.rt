@@ -34,13 +34,21 @@ fn heaps_are_full<C: ChainView>(chain: &C, list: &EditList) -> bool
         || 0x200_0000 <= lengths.guids
 }
 
-/// A table has more than 2^24 - 1 rows after the list.
+/// The table has more than 2^24 - 1 rows after the list.
 #[tactic(auto, unfolding(crate::specs::Listed::count_after))]
+fn is_long<C: ChainView>(chain: &C, added: &Added<'_>, table: u8) -> bool
+    ensures { result ≡ nat_lt 0xFFFFFF (count_after (C.chain chain.now) added.now table) }
+{
+    added.count(table) > (0xFF_FFFF - chain.count(table)) as usize
+}
+
+/// A table has more than 2^24 - 1 rows after the list.
+#[tactic(auto, using(enc_rows::proofs::Below::any_none, enc_rows::proofs::Below::any_more, enc_rows::proofs::Below::any_true))]
 fn has_many_rows<C: ChainView>(chain: &C, added: &Added<'_>) -> bool
     ensures { result ≡ list_any (λ table. nat_lt 0xFFFFFF (count_after (C.chain chain.now) added.now table)) (below 64) }
 {
     for table in 0..64u8 {
-        if added.count(table) > (0xFF_FFFF - chain.count(table)) as usize {
+        if is_long(chain, added, table) {
             return true;
         }
     }
