@@ -1,4 +1,4 @@
--- The first edit of several rules, each asked by itself, is the first that breaks any of them.
+-- The first edit that several rules tell, each asked by itself.
 use Rattle.std.proofs.Common.{◌≡◌, ℕ, zero, suc, ◌+◌, ◌<◌, ◌≤◌, Bool, true, false, List, [], ◌∷◌, ◌++◌, length, Option, Some, None, refl, sym, ap, ◌∙◌, arith, append-nil, append_assoc}
 use Rattle.std.specs.Prelude.{nat_lt, if◌then◌else◌}
 use Rattle.std.proofs.lemmas.Bool.Decides.{nat_tests}
@@ -6,8 +6,8 @@ use Rattle.enc_base.specs.Order.{or_else, first_below}
 use Rattle.enc_base.proofs.First.{first_none, first_suc}
 use Rattle.enc_plain.specs.Chain.{Chain}
 use Rattle.enc_edits.specs.declared.edit.EditList.{EditList}
-use Rattle.enc_rules.specs.First.{EditRule, edit_rules, first_such, first_at}
-use Rattle.enc_rules.specs.Sooner.{sooner, soonest}
+use Rattle.enc_rules.specs.First.{EditRule, first_such, first_at}
+use Rattle.enc_rules.specs.Sooner.{sooner}
 
 -- what a rule tells of an edit
 abbrev pub told_at : ℕ → (ℕ → Bool) → ℕ → Option (ℕ × ℕ)
@@ -102,19 +102,16 @@ last_rule : (rules : List (ℕ × EditRule)) (r : ℕ × EditRule) (c : Chain) (
 last_rule [] r c l k = refl
 last_rule (x ∷ rules) r c l k = last_by x.0 k (x.1 c l k) (first_at rules c l k) (told_at r.0 (r.1 c l) k) (first_at (rules ++ r ∷ []) c l k) (last_rule rules r c l k)
 
-behind : (front rules : List (ℕ × EditRule)) (c : Chain) (l : EditList) (n : ℕ) → soonest (first_below (first_at front c l) n) rules c l n ≡ first_below (first_at (front ++ rules) c l) n
-behind front [] c l n = ap (λ rs. first_below (first_at rs c l) n) (sym (append-nil front))
-behind front (r ∷ rules) c l n =
-    let told : sooner (first_below (first_at front c l) n) r.0 (first_such (r.1 c l) n) ≡ first_below (first_at (front ++ r ∷ []) c l) n =
-        joined r.0 (first_at front c l) (r.1 c l) n (is_of front c l) ∙ alike _ _ n (λ k. sym (last_rule front r c l k)) in
-    ap (λ o. soonest o rules c l n) told
-    ∙ behind (front ++ r ∷ []) rules c l n
-    ∙ ap (λ rs. first_below (first_at rs c l) n) (append_assoc front (r ∷ []) rules)
+-- nothing is told before any rule is asked
+pub none_asked : (c : Chain) (l : EditList) (n : ℕ) → first_below (first_at [] c l) n ≡ None
+none_asked c l zero = first_none (first_at [] c l)
+none_asked c l (suc n) = first_suc (first_at [] c l) n ∙ ap (λ o. or_else o (first_at [] c l n)) (none_asked c l n)
 
-nothing : (c : Chain) (l : EditList) (n : ℕ) → first_below (first_at [] c l) n ≡ None
-nothing c l zero = first_none (first_at [] c l)
-nothing c l (suc n) = first_suc (first_at [] c l) n ∙ ap (λ o. or_else o (first_at [] c l n)) (nothing c l n)
-
--- so all rules, one behind the other, tell the first that any of them tells
-pub soonest_is : (c : Chain) (l : EditList) (n : ℕ) → soonest None edit_rules c l n ≡ first_below (first_at edit_rules c l) n
-soonest_is c l n = ap (λ o. soonest o edit_rules c l n) (sym (nothing c l n)) ∙ behind [] edit_rules c l n
+-- after one rule more the first is told that any of them tells
+pub asked : (front : List (ℕ × EditRule)) (r : ℕ × EditRule) (c : Chain) (l : EditList) (n : ℕ) (result told : Option (ℕ × ℕ)) (place : Option ℕ)
+    → told ≡ first_below (first_at front c l) n → place ≡ first_such (r.1 c l) n → result ≡ sooner told r.0 place → result ≡ first_below (first_at (front ++ r ∷ []) c l) n
+asked front r c l n result told place before here is =
+    is ∙ ap (λ o. sooner o r.0 place) before
+    ∙ ap (sooner (first_below (first_at front c l) n) r.0) here
+    ∙ joined r.0 (first_at front c l) (r.1 c l) n (is_of front c l)
+    ∙ alike _ _ n (λ k. sym (last_rule front r c l k))
