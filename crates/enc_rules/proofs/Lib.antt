@@ -2,3 +2,4 @@ pub mod FirstSuch
 pub mod RowsEdited
 pub mod RowsListed
 pub mod SoonestRule
+pub mod RowsFew

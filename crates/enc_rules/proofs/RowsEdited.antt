@@ -53,3 +53,49 @@ attached_more m before (x ∷ edits) e =
     ap (λ more. attached_by x (row_edited m before x) ++ more) (attached_more m (before ++ x ∷ []) edits e)
     ∙ sym (append_assoc (attached_by x (row_edited m before x)) (attached_behind m (before ++ x ∷ []) edits) (attached_by e (row_edited m ((before ++ x ∷ []) ++ edits) e)))
     ∙ ap (λ es. (attached_by x (row_edited m before x) ++ attached_behind m (before ++ x ∷ []) edits) ++ attached_by e (row_edited m es e)) (assoc before x edits)
+
+-- none, and as many rows as edits
+pub rows_none : (m : Module) → rows_edited m [] ≡ []
+unfolding rows_behind
+rows_none m = refl
+
+pub attached_none : (m : Module) → attached_in m [] ≡ []
+unfolding attached_behind
+attached_none m = refl
+
+as_many : (m : Module) (before edits : List Edit) → length (rows_behind m before edits) ≡ length edits
+unfolding rows_behind
+as_many m before [] = refl
+as_many m before (e ∷ edits) = ap suc (as_many m (before ++ e ∷ []) edits)
+
+pub rows_all : (m : Module) (edits : List Edit) → length (rows_edited m edits) ≡ length edits
+rows_all m edits = as_many m [] edits
+
+-- the edits up to a place
+take_one : (edits : List Edit) (k : ℕ) (e : Edit) → slice_get edits k ≡ Some e → take (suc k) edits ≡ take k edits ++ e ∷ []
+take_one [] k e there = absurd cc
+take_one (x ∷ edits) zero e there = let is : x ≡ e = cc in ap (λ y. y ∷ []) is
+take_one (x ∷ edits) (suc k) e there = ap (λ es. x ∷ es) (take_one edits k e there)
+
+pub take_next : (edits : List Edit) (k : ℕ) (e : Edit) → slice_get edits k ≡ Some e → take (k + 1) edits ≡ take k edits ++ e ∷ []
+take_next edits k e there = let n : k + 1 ≡ suc k = omega arith in rw n (take_one edits k e there)
+
+next_by : (m : Module) (edits : List Edit) (k : ℕ) (row : Token) (rows : List Token) (o : Option Edit) → rows ≡ rows_edited m (take k edits) → slice_get edits k ≡ o
+    → option_map (row_edited m (take k edits)) o ≡ Some row → rows ++ row ∷ [] ≡ rows_edited m (take (k + 1) edits)
+next_by m edits k row rows None before there is = absurd cc
+next_by m edits k row rows (Some e) before there is =
+    let r : row_edited m (take k edits) e ≡ row = cc in
+    rw (take_next edits k e there, before, ← r) (sym (rows_more m [] (take k edits) e))
+
+pub rows_next : (m : Module) (edits : List Edit) (k : ℕ) (row : Token) (rows : List Token) → rows ≡ rows_edited m (take k edits)
+    → option_map (row_edited m (take k edits)) (slice_get edits k) ≡ Some row → rows ++ row ∷ [] ≡ rows_edited m (take (k + 1) edits)
+rows_next m edits k row rows before is = next_by m edits k row rows (slice_get edits k) before refl is
+
+-- the children of one edit more
+pub attached_next : (m : Module) (edits : List Edit) (k : ℕ) (e : Edit) (rows : List Token) (row : Token) (seen more : List Attached)
+    → seen ≡ attached_in m (take k edits) → slice_get edits k ≡ Some e → rows ≡ rows_edited m edits → slice_get rows k ≡ Some row → more ≡ seen ++ attached_by e row
+    → more ≡ attached_in m (take (k + 1) edits)
+attached_next m edits k e rows row seen more before there all here is =
+    let told = row_there m edits k e there in
+    let r : row ≡ row_edited m (take k edits) e = cc in
+    rw (take_next edits k e there, is, before, r) (sym (attached_more m [] (take k edits) e))

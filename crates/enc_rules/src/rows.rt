@@ -26,16 +26,19 @@ fn row_at<C: ChainView>(chain: &C, added: &Added<'_>, k: usize) -> Token
     requires few { (t : ℕ) → count_after (C.chain chain.now) added.now t < 2 ^ 24 }
     ensures { option_map (row_edited (C.chain chain.now).plain (take k added.now)) (slice_get added.now k) ≡ Some result }
 {
-    match &added.edits()[k] {
+    let edits = added.edits();
+    let rank = added.rank_at(k);
+    match &edits[k] {
         Edit::Add { table, .. } => Token {
             table: *table,
-            row: chain.count(*table) + added.rank_at(k) as u32 + 1,
+            row: chain.count(*table) + rank as u32 + 1,
         },
         Edit::Body { method, .. } => *method,
     }
 }
 
 /// The rows that the edits are about, in order.
+#[tactic(auto, using(crate::proofs::RowsEdited::rows_none, crate::proofs::RowsEdited::rows_next))]
 fn rows_of<C: ChainView>(
     alloc: Global,
     chain: &C,
@@ -89,16 +92,25 @@ fn pairs_of<C: ChainView>(
     Ok(pairs)
 }
 
-/// How many rows each table has after the list.
+/// How many rows a table has after the list.
+#[tactic(auto, unfolding(crate::specs::Listed::count_after))]
+fn count_of<C: ChainView>(chain: &C, added: &Added<'_>, table: u8) -> u32
+    requires few { count_after (C.chain chain.now) added.now table < 2 ^ 24 }
+    ensures { result ≡ count_after (C.chain chain.now) added.now table }
+{
+    chain.count(table) + added.count(table) as u32
+}
+
+/// The same of each table.
 fn counts_of<C: ChainView>(chain: &C, added: &Added<'_>) -> Counts
     requires few { (t : ℕ) → count_after (C.chain chain.now) added.now t < 2 ^ 24 }
     ensures { (t : ℕ) → t < 64 → slice_index result.rows t ≡ count_after (C.chain chain.now) added.now t }
 {
-    let mut rows = [0; 64];
+    let mut counts = Counts { rows: [0; 64] };
     for table in 0..64u8 {
-        rows[table as usize] = chain.count(table) + added.count(table) as u32;
+        counts.rows[table as usize] = count_of(chain, added, table);
     }
-    Counts { rows }
+    counts
 }
 
 /// The list, to be judged after the chain.
