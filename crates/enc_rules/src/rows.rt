@@ -3,7 +3,7 @@ ghost use Rattle.std.specs.Prelude.{◌≡◌, ◌<◌, ◌^◌, ◌++◌, ◌�
 ghost use Rattle.std.specs.List.{list_all};
 ghost use Rattle.enc_edits.specs.Form.{edit_fits, list_fits};
 ghost use Rattle.enc_edits.specs.Added.{rank_of};
-ghost use Rattle.enc_plain.specs.Sound.{row_count};
+ghost use Rattle.enc_plain.specs.Sound.{IsSound};
 ghost use Rattle.enc_delta.specs.Members.{ArePairs, pair_seen};
 ghost use Rattle.enc_rules.specs.Edited.{row_edited, rows_edited, rows_behind, attached_by, attached_behind, attached_in};
 ghost use Rattle.enc_rules.specs.First.{first_such};
@@ -120,6 +120,7 @@ pub fn context_of<'a, C: ChainView>(
     list: &'a EditList,
     added: Added<'a>,
 ) -> Result<Context<'a, C>, AllocError>
+    requires sound { IsSound (C.chain chain.now).plain }
     requires form { IsTrue (list_fits list.now) }
     requires edits { added ≡ list.now.edits }
     requires few { there_are_too_many (C.chain chain.now) list.now ≡ false }
