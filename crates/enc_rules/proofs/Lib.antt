@@ -3,3 +3,4 @@ pub mod RowsEdited
 pub mod RowsListed
 pub mod SoonestRule
 pub mod RowsFew
+pub mod SameRow

@@ -143,13 +143,13 @@ pub fn context_of<'a, C: ChainView>(
 
 /// A number that no other token has.
 fn row_key(row: Token) -> u64
-    ensures { result ≡ row_key row }
+    ensures key { result ≡ row_key row }
+    ensures few { row.row < 2 ^ 32 }
 {
     u64::from(row.table) * 0x1_0000_0000 + u64::from(row.row)
 }
 
 /// The first edit before which another is about the same row. It takes memory for each row.
-#[tactic(auto, using(enc_base::proofs::First::first_none, enc_base::proofs::First::first_found, enc_base::proofs::First::first_more))]
 pub fn row_is_edited_twice<C: ChainView>(
     alloc: Global,
     context: &Context<'_, C>,
@@ -158,8 +158,9 @@ pub fn row_is_edited_twice<C: ChainView>(
     ensures few { IfOk result (λ k. IfSome k (λ n. n < 2 ^ 24)) }
 {
     let mut known = BTreeSet::new(alloc);
+    let edits = context.edits();
     let rows = context.rows();
-    for k in 0..rows.len() {
+    for k in 0..edits.len() {
         let key = row_key(rows[k]);
         if known.contains(&key) {
             return Ok(Some(k as u32));
