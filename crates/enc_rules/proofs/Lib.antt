@@ -4,3 +4,4 @@ pub mod RowsListed
 pub mod SoonestRule
 pub mod RowsFew
 pub mod SameRow
+pub mod TokensNamed

@@ -44,6 +44,7 @@ fn names_row<C: ChainView>(context: &Context<'_, C>, column: Column, token: Toke
     if !context.is_within(token.table, token.row) {
         return false;
     }
+    context.has_few_rows();
     can_name(column, token)
 }
 
@@ -65,7 +66,15 @@ fn column_at(columns: &[Column], i: usize) -> Column
     columns[i]
 }
 
+/// The value at an index.
+fn value_at(cells: &[CellValue], i: usize) -> Option<&CellValue>
+    ensures { option_map (λ v. v.now) result ≡ slice_get cells.now i }
+{
+    cells.get(i)
+}
+
 /// One of the cells for these columns but runs names no row.
+#[tactic(auto, using(crate::proofs::TokensNamed::names_start, crate::proofs::TokensNamed::names_skip, crate::proofs::TokensNamed::names_done))]
 fn cells_break<C: ChainView>(context: &Context<'_, C>, columns: &[Column], cells: &[CellValue]) -> bool
     ensures { result ≡ cells_break (listed_counts context.now) (filter is_stated columns.now) cells.now }
 {
@@ -75,7 +84,7 @@ fn cells_break<C: ChainView>(context: &Context<'_, C>, columns: &[Column], cells
         if !is_stated(column) {
             continue;
         }
-        let Some(value) = cells.get(stated) else {
+        let Some(value) = value_at(cells, stated) else {
             return false;
         };
         if cell_breaks(context, column, value) {

@@ -158,6 +158,13 @@ impl<C: ChainView> Context<'_, C> {
         row <= before || (row - before) as usize <= self.added.count(table)
     }
 
+    /// No table has more than 2^24 - 1 rows after the list.
+    pub fn has_few_rows(&self)
+        ensures few { (t : ℕ) → listed_counts self.now t < 2 ^ 24 }
+    {
+        let _ = self.known.rows.len();
+    }
+
     /// A row of the table after the list.
     pub fn is_row_of(&self, table: u8, token: Token) -> bool
         ensures { result ≡ is_row_of (listed_counts self.now) table token }
