@@ -57,7 +57,7 @@ pub new_within : (m : Module) (edits : List Edit) (k table : ℕ) (owner : Token
 new_within m edits k table owner cells code points there =
     let w = front edits k (Add table owner cells code points) there in
     let both : rows_added edits table ≡ rows_added (take k edits) table + rows_added (Add table owner cells code points ∷ w.0) table =
-        ap (λ es. rows_added es table) w.1 ∙ added_both (take k edits) (Add table owner cells code points ∷ w.0) table in
+    ap (λ es. rows_added es table) w.1 ∙ added_both (take k edits) (Add table owner cells code points ∷ w.0) table in
     omega (arith, both, added_first table owner cells code points w.0)
 
 pub rank_few : (c : Chain) (edits : List Edit) (k rank table : ℕ) (owner : Token) (cells : List CellValue) (code : Option BodyValue) (points : List Point)

@@ -70,9 +70,9 @@ one_known false true before false e f = absurd cc
 pub rows_known : (old new : BTreeSet ℕ) (rows : List Token) (r : Token) → r.row < 2 ^ 32 → AreRows old rows → Updates nat_cmp old new (row_key r) true → AreRows new (rows ++ r ∷ [])
 rows_known old new rows r low known updates = record {
   each = λ t few.
-    updates.0 (row_key t)
-    ∙ one_known (is_at (nat_cmp (row_key r)) (row_key t)) (is_token r t) (contains nat_cmp old (row_key t)) (list_any (λ u. is_token u t) rows) (keys_by r t _ _ refl refl low few) (known.each t few)
-    ∙ sym (list_any-append (λ u. is_token u t) rows (r ∷ []));
+      updates.0 (row_key t)
+      ∙ one_known (is_at (nat_cmp (row_key r)) (row_key t)) (is_token r t) (contains nat_cmp old (row_key t)) (list_any (λ u. is_token u t) rows) (keys_by r t _ _ refl refl low few) (known.each t few)
+      ∙ sym (list_any-append (λ u. is_token u t) rows (r ∷ []));
 }
 
 -- the edit at a place is about one of the rows before its own

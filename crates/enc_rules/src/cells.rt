@@ -75,7 +75,11 @@ fn value_at(cells: &[CellValue], i: usize) -> Option<&CellValue>
 
 /// One of the cells for these columns but runs names no row.
 #[tactic(auto, using(crate::proofs::TokensNamed::names_start, crate::proofs::TokensNamed::names_skip, crate::proofs::TokensNamed::names_done))]
-fn cells_break<C: ChainView>(context: &Context<'_, C>, columns: &[Column], cells: &[CellValue]) -> bool
+fn cells_break<C: ChainView>(
+    context: &Context<'_, C>,
+    columns: &[Column],
+    cells: &[CellValue],
+) -> bool
     ensures { result ≡ cells_break (listed_counts context.now) (filter is_stated columns.now) cells.now }
 {
     let mut stated: usize = 0;

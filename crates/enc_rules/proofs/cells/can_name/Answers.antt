@@ -1,4 +1,4 @@
-use Rattle.std.proofs.Common.{◌≡◌, sym, ap, ◌∙◌}
+use Rattle.std.proofs.Common.{sym, ap, ◌∙◌}
 use Rattle.enc_plain.specs.Sound.{can_name}
 use Rattle.enc_rules.proofs.TokensNamed.{coded_names}
 use Rattle.enc_rules.proofs.cells.can_name.Goals as goal

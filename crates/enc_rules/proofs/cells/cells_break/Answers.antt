@@ -1,5 +1,4 @@
-use Rattle.std.proofs.Common.{◌≡◌, ◌≤◌, Some, None, refl, sym, ap, ◌∙◌, arith}
-use Rattle.std.specs.Prelude.{slice_get}
+use Rattle.std.proofs.Common.{sym, ◌∙◌, arith}
 use Rattle.enc_rules.specs.Known.{listed_counts}
 use Rattle.enc_rules.proofs.TokensNamed.{names_found, names_more, names_short}
 use Rattle.enc_rules.proofs.cells.cells_break.Goals as goal

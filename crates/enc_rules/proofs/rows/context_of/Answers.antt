@@ -1,8 +1,4 @@
-use Rattle.std.proofs.Common.{◌≡◌, ◌<◌, ℕ, true, sym, ap, ◌∙◌}
-use Rattle.std.specs.Prelude.{◌^◌}
-use Rattle.std.specs.List.{list_all}
-use Rattle.enc_edits.specs.Form.{edit_fits, list_fits}
-use Rattle.enc_rules.specs.Listed.{count_after}
+use Rattle.enc_edits.specs.Form.{list_fits}
 use Rattle.enc_rules.proofs.RowsFew.{rows_few, edits_short}
 use Rattle.enc_rules.proofs.rows.context_of.Goals as goal
 

@@ -1,10 +1,7 @@
-use Rattle.std.proofs.Common.{◌≡◌, ◌<◌, List, length, take, map, refl, sym, ap, ◌∙◌, arith}
+use Rattle.std.proofs.Common.{◌<◌, length, map, refl, sym, ap, ◌∙◌, arith}
 use Rattle.std.proofs.lemmas.List.{take_all}
 use Rattle.std.proofs.lemmas.Option.{slice_get_read, slice_get-get_or}
-use Rattle.enc_base.specs.declared.token.Token.{Token}
 use Rattle.enc_delta.specs.Members.{pair_seen}
-use Rattle.enc_edits.specs.declared.edit.Edit.{Edit}
-use Rattle.enc_rules.specs.Edited.{attached_in}
 use Rattle.enc_rules.proofs.RowsEdited.{attached_none, attached_next, rows_all}
 use Rattle.enc_rules.proofs.RowsFew.{are_pairs}
 use Rattle.enc_rules.proofs.rows.pairs_of.Goals as goal

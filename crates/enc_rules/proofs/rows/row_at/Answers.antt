@@ -1,8 +1,6 @@
-use Rattle.std.proofs.Common.{◌≡◌, ◌+◌, ◌<◌, length, Some, take, refl, sym, ap, ◌∙◌, arith}
-use Rattle.std.specs.Prelude.{slice_get, option_map, ◌^◌}
+use Rattle.std.proofs.Common.{◌≡◌, ◌+◌, Some, take, refl, ap, ◌∙◌, arith}
+use Rattle.std.specs.Prelude.{slice_get, option_map}
 use Rattle.std.proofs.lemmas.Option.{slice_get_read}
-use Rattle.enc_base.specs.declared.token.Token.{Token}
-use Rattle.enc_plain.specs.Chain.{rows_before}
 use Rattle.enc_plain.specs.Sound.{row_count}
 use Rattle.enc_edits.specs.declared.edit.Edit.TheVariants.{Add}
 use Rattle.enc_edits.specs.Added.{rows_added}

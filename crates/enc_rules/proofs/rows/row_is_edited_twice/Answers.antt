@@ -1,4 +1,4 @@
-use Rattle.std.proofs.Common.{◌≡◌, ◌+◌, ◌<◌, ◌≤◌, ◌++◌, ◌∷◌, [], List, ℕ, Some, length, take, get_or, refl, sym, ap, ◌∙◌, arith}
+use Rattle.std.proofs.Common.{◌≡◌, ◌+◌, ◌<◌, ◌≤◌, ◌++◌, ◌∷◌, [], Some, length, take, get_or, sym, ap, ◌∙◌, arith}
 use Rattle.std.specs.Prelude.{slice_get}
 use Rattle.std.specs.List.{list_any}
 use Rattle.std.specs.Ordering.{nat_cmp}
@@ -6,7 +6,6 @@ use Rattle.std.specs.BTreeSet.{contains}
 use Rattle.std.proofs.lemmas.List.{take_more}
 use Rattle.std.proofs.lemmas.Option.{slice_get-get_or}
 use Rattle.enc_base.specs.Token.{is_token}
-use Rattle.enc_base.specs.declared.token.Token.{Token}
 use Rattle.enc_rules.specs.Edited.{rows_edited}
 use Rattle.enc_rules.specs.Rules.{row_is_edited_twice}
 use Rattle.enc_rules.proofs.FirstSuch.{such_none, such_more, such_found, such_end}
@@ -32,11 +31,11 @@ returns-then-contains-clause-first g c =
     let low : c.loop-k.k < length rows = omega (arith, ap length c.rows-rows.ensures, rows_all chain.plain list.edits, ap length c.edits-edits.ensures.edits) in
     let there : slice_get (rows_edited chain.plain list.edits) c.loop-k.k ≡ Some row = ap (λ rs. slice_get rs c.loop-k.k) (sym c.rows-rows.ensures) ∙ slice_get-get_or rows c.loop-k.k (record { table = 0; row = 0 }) low in
     let test : row_is_edited_twice chain list c.loop-k.k ≡ c.contains.result =
-        twice_is chain list c.loop-k.k row there
-        ∙ ap (λ rs. list_any (λ u. is_token u row) (take c.loop-k.k rs)) (sym c.rows-rows.ensures)
-        ∙ sym (c.loop-k.invariant.known.each row c.row_key-key.ensures.few)
-        ∙ ap (λ n. contains nat_cmp c.loop-k.known n) (sym c.row_key-key.ensures.key)
-        ∙ sym c.contains.ensures in
+    twice_is chain list c.loop-k.k row there
+    ∙ ap (λ rs. list_any (λ u. is_token u row) (take c.loop-k.k rs)) (sym c.rows-rows.ensures)
+    ∙ sym (c.loop-k.invariant.known.each row c.row_key-key.ensures.few)
+    ∙ ap (λ n. contains nat_cmp c.loop-k.known n) (sym c.row_key-key.ensures.key)
+    ∙ sym c.contains.ensures in
     such_found (row_is_edited_twice chain list) (length list.edits) c.loop-k.k (rw c.edits-edits.ensures.edits at c.loop-k-test.true) c.loop-k.invariant.none (test ∙ c.if-contains.true)
 
 pub loop-k-preserved : goal.loop-k-preserved
@@ -48,11 +47,11 @@ loop-k-preserved g c =
     let low : c.loop-k.k < length rows = omega (arith, ap length c.rows-rows.ensures, rows_all chain.plain list.edits, ap length c.edits-edits.ensures.edits) in
     let there : slice_get (rows_edited chain.plain list.edits) c.loop-k.k ≡ Some row = ap (λ rs. slice_get rs c.loop-k.k) (sym c.rows-rows.ensures) ∙ slice_get-get_or rows c.loop-k.k (record { table = 0; row = 0 }) low in
     let test : row_is_edited_twice chain list c.loop-k.k ≡ c.contains.result =
-        twice_is chain list c.loop-k.k row there
-        ∙ ap (λ rs. list_any (λ u. is_token u row) (take c.loop-k.k rs)) (sym c.rows-rows.ensures)
-        ∙ sym (c.loop-k.invariant.known.each row c.row_key-key.ensures.few)
-        ∙ ap (λ n. contains nat_cmp c.loop-k.known n) (sym c.row_key-key.ensures.key)
-        ∙ sym c.contains.ensures in
+    twice_is chain list c.loop-k.k row there
+    ∙ ap (λ rs. list_any (λ u. is_token u row) (take c.loop-k.k rs)) (sym c.rows-rows.ensures)
+    ∙ sym (c.loop-k.invariant.known.each row c.row_key-key.ensures.few)
+    ∙ ap (λ n. contains nat_cmp c.loop-k.known n) (sym c.row_key-key.ensures.key)
+    ∙ sym c.contains.ensures in
     let more : take (c.loop-k.k + 1) rows ≡ take c.loop-k.k rows ++ row ∷ [] = take_more rows c.loop-k.k (record { table = 0; row = 0 }) low in
     record {
       none = such_more (row_is_edited_twice chain list) c.loop-k.k c.loop-k.invariant.none (test ∙ c.if-contains.false);

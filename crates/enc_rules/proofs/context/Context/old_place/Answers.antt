@@ -13,11 +13,11 @@ returns-in-Some g c =
     let old : edit_of chain list.edits c.args.row ≡ None = rw (← c.self.view_is) at c.requires.old in
     let there : g.C.ModuleView.stored view c.in-Some.place ≡ Some (bytes_at (cells_of (g.C.ModuleView.meaning view)) c.args.row c.args.column) = c.in-Some.ensures in
     rw (← c.self.view_is) (
-      stored_low (record { chain = chain; list = list }) c.in-Some.place c.if-place-lt9223372036854775808.true
-      ∙ sym (g.met.C.ChainView.joins view c.in-Some.place)
-      ∙ there
-      ∙ ap (λ m. Some (bytes_at (cells_of m) c.args.row c.args.column)) (g.met.C.ChainView.means view)
-      ∙ ap Some (sym (bytes_old chain list.edits c.args.row c.args.column old))
+    stored_low (record { chain = chain; list = list }) c.in-Some.place c.if-place-lt9223372036854775808.true
+    ∙ sym (g.met.C.ChainView.joins view c.in-Some.place)
+    ∙ there
+    ∙ ap (λ m. Some (bytes_at (cells_of m) c.args.row c.args.column)) (g.met.C.ChainView.means view)
+    ∙ ap Some (sym (bytes_old chain list.edits c.args.row c.args.column old))
     )
 
 pub returns-in_default : goal.returns-in_default
