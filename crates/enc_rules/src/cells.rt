@@ -1,6 +1,6 @@
 //! The tokens that edits name.
 ghost use Rattle.std.specs.Prelude.{◌≡◌, ◌<◌, ◌^◌, length, filter, drop, slice_get, Some, option_map, if◌then◌else◌, IfSome};
-ghost use Rattle.enc_edits.specs.Form.{is_stated, begins_with_rva, stated_columns};
+ghost use Rattle.enc_edits.specs.Form.{is_stated, begins_with_rva};
 ghost use Rattle.enc_plain.specs.Sound.{can_name};
 ghost use Rattle.enc_schema.specs.Schema.{columns_in};
 ghost use Rattle.enc_rules.specs.First.{first_such};

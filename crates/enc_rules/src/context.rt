@@ -1,13 +1,12 @@
 //! An edit list after its chain: what its rules ask, and the rows that are there afterwards, asked for
 //! cell by cell.
-ghost use Rattle.std.specs.Prelude.{◌≡◌, ℕ, ◌<◌, ◌^◌, Some, None, map, option_map, slice_get, slice_index, length, nat_le, ◌==◌, ◌&&◌, ◌||◌, IfOk, IsTrue};
-ghost use Rattle.enc_edits.specs.Form.{list_fits};
-ghost use Rattle.enc_plain.specs.Cell.{Cell, kind_in, blobs};
+ghost use Rattle.std.specs.Prelude.{◌≡◌, ℕ, ◌<◌, ◌^◌, Some, None, map, option_map, slice_index, length, nat_le};
+ghost use Rattle.enc_plain.specs.Cell.{kind_in, blobs};
 ghost use Rattle.enc_plain.specs.Rows.{bytes_at};
 ghost use Rattle.enc_delta.specs.Members.{ArePairs, pair_seen};
 ghost use Rattle.enc_rules.specs.Edited.{rows_edited, attached_in};
-ghost use Rattle.enc_rules.specs.Listed.{count_after, edit_of, cells_added};
-ghost use Rattle.enc_rules.specs.Rules.{is_row_of, there_are_too_many};
+ghost use Rattle.enc_rules.specs.Listed.{edit_of};
+ghost use Rattle.enc_rules.specs.Rules.{is_row_of};
 ghost use Rattle.enc_rules.specs.Known.{value_of, value_in, number_of_value, bytes_of_value, token_of_value, cell_number, listed_rows, listed_counts, blobs_listed};
 
 use enc_base::{Counts, Token};

@@ -1,13 +1,12 @@
 //! The rows that edits are about, and the children that they give to owners.
-ghost use Rattle.std.specs.Prelude.{◌≡◌, ◌<◌, ◌^◌, ◌++◌, ◌∷◌, [], ℕ, map, take, drop, length, false, option_map, slice_get, slice_index, IfOk, IsTrue, IfSome};
+ghost use Rattle.std.specs.Prelude.{◌≡◌, ◌<◌, ◌^◌, ◌++◌, ℕ, map, take, length, false, option_map, slice_get, slice_index, IfOk, IsTrue, IfSome};
 ghost use Rattle.std.specs.List.{list_all};
 ghost use Rattle.enc_edits.specs.Form.{edit_fits, list_fits};
-ghost use Rattle.enc_edits.specs.Added.{rank_of};
 ghost use Rattle.enc_plain.specs.Sound.{IsSound};
 ghost use Rattle.enc_delta.specs.Members.{ArePairs, pair_seen};
-ghost use Rattle.enc_rules.specs.Edited.{row_edited, rows_edited, rows_behind, attached_by, attached_behind, attached_in};
+ghost use Rattle.enc_rules.specs.Edited.{row_edited, rows_edited, attached_by, attached_in};
 ghost use Rattle.enc_rules.specs.First.{first_such};
-ghost use Rattle.enc_rules.specs.Listed.{Listed, count_after};
+ghost use Rattle.enc_rules.specs.Listed.{count_after};
 ghost use Rattle.enc_rules.specs.Known.{row_key};
 ghost use Rattle.enc_rules.specs.Rules.{there_are_too_many, row_is_edited_twice};
 

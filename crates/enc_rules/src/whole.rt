@@ -1,11 +1,10 @@
 //! The rules of an edit list as a whole.
-ghost use Rattle.std.specs.Prelude.{◌≡◌, ◌+◌, ◌≤◌, ◌<◌, ◌^◌, ◌||◌, length, filter, option_map, slice_get, take, nat_lt, false, IsTrue, Some, None};
+ghost use Rattle.std.specs.Prelude.{◌≡◌, ◌+◌, ◌≤◌, length, filter, option_map, nat_lt, false, None};
 ghost use Rattle.std.specs.List.{list_any};
 ghost use Rattle.enc_rows.specs.Sums.{below};
-ghost use Rattle.enc_meta.specs.Built.{none_from};
 ghost use Rattle.enc_rules.specs.First.{first_of_list, list_rules};
 ghost use Rattle.enc_rules.specs.Listed.{count_after};
-ghost use Rattle.enc_rules.specs.Rules.{id_is_taken, heaps_are_full, there_are_too_many, has_owner, passes_limits};
+ghost use Rattle.enc_rules.specs.Rules.{id_is_taken, heaps_are_full, there_are_too_many, has_owner};
 
 use enc_delta::is_used;
 use enc_edits::{Added, Edit, EditList};
