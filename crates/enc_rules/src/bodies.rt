@@ -15,7 +15,6 @@ pub fn body_is_broken<C: ChainView>(
     ensures first { IfOk result (λ k. k ≡ first_such (body_is_broken context.now.chain context.now.list) (length context.now.list.edits)) }
     ensures few { IfOk result (λ k. IfSome k (λ n. n < 2 ^ 24)) }
 {
-    let _ = context;
-    let _ = alloc;
+    let _ = (alloc, context);
     Err(AllocError)
 }

@@ -33,7 +33,6 @@ pub fn member_has_twin<C: ChainView>(
     ensures first { IfOk result (λ k. k ≡ first_such (member_has_twin context.now.chain context.now.list) (length context.now.list.edits)) }
     ensures few { IfOk result (λ k. IfSome k (λ n. n < 2 ^ 24)) }
 {
-    let _ = context;
-    let _ = alloc;
+    let _ = (alloc, context);
     Err(AllocError)
 }

@@ -15,7 +15,6 @@ pub fn points_are_bad<C: ChainView>(
     ensures first { IfOk result (λ k. k ≡ first_such (points_are_bad context.now.chain context.now.list) (length context.now.list.edits)) }
     ensures few { IfOk result (λ k. IfSome k (λ n. n < 2 ^ 24)) }
 {
-    let _ = context;
-    let _ = alloc;
+    let _ = (alloc, context);
     Err(AllocError)
 }
