@@ -4,3 +4,4 @@ pub mod Rules
 pub mod First
 pub mod Known
 pub mod Sooner
+pub mod Told

@@ -1,5 +1,5 @@
 -- For the contracts of private functions: the first edit of several rules, of which each tells its own.
-use Rattle.std.specs.Prelude.{ℕ, ◌+◌, ◌×◌, List, [], ◌∷◌, Option, Some, None, nat_lt, if◌then◌else◌}
+use Rattle.std.specs.Prelude.{ℕ, ◌+◌, List, [], ◌∷◌, Option, Some, None, nat_lt, if◌then◌else◌}
 use Rattle.enc_plain.specs.Chain.{Chain}
 use Rattle.enc_edits.specs.declared.edit.EditList.{EditList}
 use Rattle.enc_rules.specs.First.{EditRule, first_such}

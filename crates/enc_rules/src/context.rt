@@ -75,7 +75,7 @@ fn value_of(edit: &Edit, column: u8) -> Option<&CellValue>
 
 /// The number of a value, 0 where it is none.
 fn number_of(value: Option<&CellValue>) -> u32
-    ensures { result ≡ number_of_value (option_map (λ v. v.now) value) }
+    ensures { result ≡ number_of_value (option_map (λ v. v.now) value.entry) }
 {
     match value {
         Some(CellValue::Num(n)) => *n,
@@ -85,7 +85,7 @@ fn number_of(value: Option<&CellValue>) -> u32
 
 /// The bytes of a text or of a blob, none where it is neither.
 fn bytes_of(value: Option<&CellValue>) -> &[u8]
-    ensures { result.now ≡ bytes_of_value (option_map (λ v. v.now) value) }
+    ensures { result.now ≡ bytes_of_value (option_map (λ v. v.now) value.entry) }
 {
     match value {
         Some(CellValue::Text(bytes)) => bytes.as_slice(),
@@ -96,7 +96,7 @@ fn bytes_of(value: Option<&CellValue>) -> &[u8]
 
 /// The token of a value, nil where it is none or names row 0.
 fn token_of(value: Option<&CellValue>) -> Token
-    ensures { result ≡ token_of_value (option_map (λ v. v.now) value) }
+    ensures { result ≡ token_of_value (option_map (λ v. v.now) value.entry) }
 {
     match value {
         Some(CellValue::Refer(token)) => {

@@ -1,5 +1,5 @@
 //! The rules of an edit list as a whole.
-ghost use Rattle.std.specs.Prelude.{◌≡◌, ◌≤◌, ◌<◌, ◌^◌, ◌||◌, length, filter, option_map, slice_get, take, nat_lt, false, IsTrue, Some, None};
+ghost use Rattle.std.specs.Prelude.{◌≡◌, ◌≤◌, ◌<◌, ◌+◌, ◌^◌, ◌||◌, length, filter, option_map, slice_get, take, nat_lt, false, IsTrue, Some, None};
 ghost use Rattle.std.specs.List.{list_any};
 ghost use Rattle.enc_rows.specs.Sums.{below};
 ghost use Rattle.enc_meta.specs.Built.{none_from};
