@@ -1,1 +1,2 @@
 pub mod EditAt
+pub mod Counted
