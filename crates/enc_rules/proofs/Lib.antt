@@ -1,2 +1,5 @@
 pub mod EditAt
 pub mod Counted
+pub mod Children
+pub mod Such
+pub mod TwinsByTable
