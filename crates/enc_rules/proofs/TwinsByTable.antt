@@ -30,9 +30,9 @@ use Rattle.enc_rules.specs.Edited.{row_edited, rows_edited, attached_by, attache
 use Rattle.enc_rules.specs.First.{first_such}
 use Rattle.enc_rules.specs.Listed.{rows_listed}
 use Rattle.enc_rules.specs.Rules.{at_edit, of_child, member_has_twin}
-use Rattle.enc_rules.specs.Told.{adds_row, adds_child, is_twin_in, has_twin_in, row_in}
+use Rattle.enc_rules.specs.Told.{adds_row, adds_child, is_twin_in, has_twin_in, row_in, earlier}
 use Rattle.enc_rules.proofs.EditAt.{edit_judged, nth_row_behind}
-use Rattle.enc_rules.proofs.Such.{SuchIs, none_such, such_unique, such_alike}
+use Rattle.enc_rules.proofs.Such.{SuchIs, none_such, such_unique, such_alike, earlier_is}
 
 -- the pairs of a table
 abbrev in_table : ℕ → Attached → Bool
@@ -333,3 +333,77 @@ none_named t c l pairs are is = such_unique (has_twin_in t c l) (length l.edits)
         let no_twin = none at.0 v.0 at.1 in
         let f : false ≡ true = sym no_twin ∙ yes_twin in
         cc
+
+-- a member with a twin is of one of four tables
+tables : (t : ℕ) (f m : Bool) → (t == 0x04 && f || t == 0x06 && m || t == 0x14 || t == 0x17) ≡ true → (t == 0x04) ≡ true ⊎ (t == 0x06) ≡ true ⊎ (t == 0x14) ≡ true ⊎ (t == 0x17) ≡ true
+tables t f m h = grind (arith, nat_tests)
+
+member_tables : (c : Chain) (l : EditList) (pairs : List Attached) (x : Attached) → has_twin (asked c l) c.plain pairs x ≡ true → (x.child.table == 0x04) ≡ true ⊎ (x.child.table == 0x06) ≡ true ⊎ (x.child.table == 0x14) ≡ true ⊎ (x.child.table == 0x17) ≡ true
+unfolding has_twin is_member
+member_tables c l pairs x h = tables x.child.table _ _ (both_left _ _ h)
+
+-- the four tests together
+abbrev in_any : Chain → EditList → ℕ → Bool
+in_any c l k = (has_twin_in 0x04 c l k || has_twin_in 0x06 c l k) || (has_twin_in 0x17 c l k || has_twin_in 0x14 c l k)
+
+any_left : (a b : Bool) → a ≡ true → (a || b) ≡ true
+any_left a b h = rw h refl
+
+any_right : (a b : Bool) → b ≡ true → (a || b) ≡ true
+any_right true b h = refl
+any_right false b h = h
+
+split : (a b : Bool) → (a || b) ≡ true → (a ≡ true) ⊎ (b ≡ true)
+split true b h = inl refl
+split false b h = inr h
+
+member_there : (c : Chain) (l : EditList) (k : ℕ) → member_has_twin c l k ≡ true → (x : Attached) × AddsAt c.plain [] l.edits k x × (has_twin (asked c l) c.plain (attached_in c.plain l.edits) x ≡ true)
+unfolding member_has_twin
+member_there c l k h =
+    let rule = has_twin (asked c l) c.plain (attached_in c.plain l.edits) in
+    let w = at_true (of_child rule) c l k h in
+    let v = child_true rule w.0 (row_edited c.plain (take k l.edits) w.0) w.2 in
+    (v.0, (w.0, w.1, v.1), v.2)
+
+member_at : (c : Chain) (l : EditList) (k : ℕ) (x : Attached) → AddsAt c.plain [] l.edits k x → has_twin (asked c l) c.plain (attached_in c.plain l.edits) x ≡ true → member_has_twin c l k ≡ true
+unfolding member_has_twin
+member_at c l k x w h =
+    let rule = has_twin (asked c l) c.plain (attached_in c.plain l.edits) in
+    at_is (of_child rule) c l k w.0 w.1 ∙ ap (list_any rule) (w.2) ∙ ap (λ b. b || false) h
+
+up_to_any : (c : Chain) (l : EditList) (k : ℕ) → member_has_twin c l k ≡ true → in_any c l k ≡ true
+up_to_any c l k h =
+    let v = member_there c l k h in
+    elim (member_tables c l (attached_in c.plain l.edits) v.0 v.2) [
+      | inl a ↦ any_left _ _ (any_left _ _ (twin_at 0x04 c l k v.0 v.1 (both _ _ a v.2)))
+      | inr w ↦ elim w [
+        | inl a ↦ any_left _ _ (any_right (has_twin_in 0x04 c l k) _ (twin_at 0x06 c l k v.0 v.1 (both _ _ a v.2)))
+        | inr w ↦ elim w [
+          | inl a ↦ any_right (has_twin_in 0x04 c l k || has_twin_in 0x06 c l k) _ (any_right (has_twin_in 0x17 c l k) _ (twin_at 0x14 c l k v.0 v.1 (both _ _ a v.2)))
+          | inr a ↦ any_right (has_twin_in 0x04 c l k || has_twin_in 0x06 c l k) _ (any_left _ _ (twin_at 0x17 c l k v.0 v.1 (both _ _ a v.2)))
+        ]
+      ]
+    ]
+
+of_one : (t : ℕ) (c : Chain) (l : EditList) (k : ℕ) → has_twin_in t c l k ≡ true → member_has_twin c l k ≡ true
+of_one t c l k h = let v = twin_there t c l k h in member_at c l k v.0 v.1 (both_right _ _ v.2)
+
+down_from_any : (c : Chain) (l : EditList) (k : ℕ) → in_any c l k ≡ true → member_has_twin c l k ≡ true
+down_from_any c l k h = elim (split (has_twin_in 0x04 c l k || has_twin_in 0x06 c l k) (has_twin_in 0x17 c l k || has_twin_in 0x14 c l k) h) [
+  | inl a ↦ elim (split (has_twin_in 0x04 c l k) (has_twin_in 0x06 c l k) a) [ inl b ↦ of_one 0x04 c l k b | inr b ↦ of_one 0x06 c l k b ]
+  | inr a ↦ elim (split (has_twin_in 0x17 c l k) (has_twin_in 0x14 c l k) a) [ inl b ↦ of_one 0x17 c l k b | inr b ↦ of_one 0x14 c l k b ]
+]
+
+same_bool : (a b : Bool) → (a ≡ true → b ≡ true) → (b ≡ true → a ≡ true) → a ≡ b
+same_bool true b f g = sym (f refl)
+same_bool false true f g = g refl
+same_bool false false f g = refl
+
+-- the first of all is the earliest of the first of each table
+pub first_member : (c : Chain) (l : EditList) (fields methods properties events : Option ℕ) → fields ≡ first_such (has_twin_in 0x04 c l) (length l.edits) → methods ≡ first_such (has_twin_in 0x06 c l) (length l.edits) → properties ≡ first_such (has_twin_in 0x17 c l) (length l.edits) → events ≡ first_such (has_twin_in 0x14 c l) (length l.edits) → earlier (earlier fields methods) (earlier properties events) ≡ first_such (member_has_twin c l) (length l.edits)
+first_member c l fields methods properties events a b d e =
+    let n = length l.edits in
+    rw (a, b, d, e)
+    (rw (earlier_is (has_twin_in 0x04 c l) (has_twin_in 0x06 c l) n, earlier_is (has_twin_in 0x17 c l) (has_twin_in 0x14 c l) n)
+    (earlier_is (λ k. has_twin_in 0x04 c l k || has_twin_in 0x06 c l k) (λ k. has_twin_in 0x17 c l k || has_twin_in 0x14 c l k) n
+    ∙ such_alike (in_any c l) (member_has_twin c l) n (λ k. same_bool (in_any c l k) (member_has_twin c l k) (down_from_any c l k) (up_to_any c l k))))
