@@ -3,3 +3,5 @@ pub mod Counted
 pub mod Children
 pub mod Such
 pub mod TwinsByTable
+pub mod Capped
+pub mod PointsAt

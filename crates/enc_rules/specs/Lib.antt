@@ -5,3 +5,4 @@ pub mod First
 pub mod Known
 pub mod Sooner
 pub mod Told
+pub mod Sums
