@@ -5,3 +5,4 @@ pub mod Such
 pub mod TwinsByTable
 pub mod Capped
 pub mod PointsAt
+pub mod Filling

@@ -6,3 +6,4 @@ pub mod Known
 pub mod Sooner
 pub mod Told
 pub mod Sums
+pub mod Filled
