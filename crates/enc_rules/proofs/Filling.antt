@@ -1,19 +1,22 @@
 -- Heaps that pass a limit pass it with more, and one that is refused would pass it.
-use Rattle.std.proofs.Common.{◌≡◌, ℕ, zero, suc, ◌+◌, ◌<◌, ◌≤◌, Bool, true, false, List, [], ◌∷◌, ◌++◌, length, take, get_or, refl, sym, ap, ◌∙◌, inl, inr, arith}
-use Rattle.std.specs.Prelude.{◌^◌, ◌||◌, ◌&&◌, ◌⊎◌, not, nat_lt, sum_by, if◌then◌else◌}
+use Rattle.std.proofs.Common.{◌≡◌, ℕ, zero, suc, ◌+◌, ◌<◌, ◌≤◌, Bool, true, false, List, [], ◌∷◌, ◌++◌, length, take, drop, ◌-◌, get_or, refl, sym, ap, ◌∙◌, inl, inr, arith}
+use Rattle.std.specs.Prelude.{◌^◌, ◌||◌, ◌&&◌, ◌⊎◌, not, nat_lt, sum_by, flat_map, Result, Ok, Err, if◌then◌else◌}
 use Rattle.std.proofs.lemmas.Bool.Decides.{nat_tests}
+use Rattle.std.proofs.lemmas.List.{take_all}
+use Rattle.std.proofs.lemmas.List.Sums.{sum_by_push}
 use Rattle.enc_meta.specs.Built.{Built, AreWithinLimits, is_kept, with_value, joined_end, text_bytes, user_bytes, blob_bytes, with_text, with_user, with_blob, passes, text_passes, user_passes, blob_passes, none_from}
 use Rattle.enc_meta.specs.declared.heaps.HeapLengths.{HeapLengths}
+use Rattle.enc_base.specs.declared.refusal.StreamName.{StreamName}
+use Rattle.enc_meta.specs.BuiltSeen.{RefusesWhere}
+use Rattle.enc_meta.specs.declared.builder.BuildFault.{BuildFault}
+use Rattle.enc_meta.specs.declared.builder.BuildFault.TheVariants.{Memory, TooLarge}
 use Rattle.enc_plain.proofs.Columns.{both_left, both_right}
+use Rattle.enc_rules.specs.Filled.{Fills, is_whole, are_whole}
 use Rattle.enc_rules.specs.Rules.{passes_limits, with_texts, with_users, with_blobs, with_edit, with_edits, texts_of_edit, users_of_edit, blobs_of_edit}
 
 two : (b : Bool) → (b ≡ true) ⊎ (b ≡ false)
 two true = inl refl
 two false = inr refl
-
-sum_by_push : (f : List ℕ → ℕ) (xs : List (List ℕ)) (v : List ℕ) → sum_by f (xs ++ v ∷ []) ≡ sum_by f xs + f v
-sum_by_push f [] v = omega arith
-sum_by_push f (x ∷ xs) v = let e = sum_by_push f xs v in omega arith
 
 -- a heap doesn't get shorter
 grows : (encode : List ℕ → List ℕ) (start : ℕ) (values : List (List ℕ)) (v : List ℕ) → joined_end encode start values ≤ joined_end encode start (with_value values v)
@@ -48,7 +51,10 @@ passes_user h v = any_more _ _ _ _ _ _ (same _) (more_passes (2 ^ 24) _ _ (grows
 
 pub passes_blob : (h : Built) (v : List ℕ) → passes_limits h ≡ true → passes_limits (with_blob h v) ≡ true
 unfolding passes_limits
-passes_blob h v = any_more _ _ _ _ _ _ (same _) (same _) (more_passes (2 ^ 29) _ _ (grows blob_bytes h.starts.blobs h.blobs v))
+passes_blob h v =
+    let texts = nat_lt (2 ^ 29) (joined_end text_bytes h.starts.strings h.texts) in
+    let users = nat_lt (2 ^ 24) (joined_end user_bytes h.starts.users h.users) in
+    any_more texts users _ texts users _ (same texts) (same users) (more_passes (2 ^ 29) _ _ (grows blob_bytes h.starts.blobs h.blobs v))
 
 pub passes_texts : (h : Built) (values : List (List ℕ)) → passes_limits h ≡ true → passes_limits (with_texts h values) ≡ true
 unfolding with_texts
@@ -98,7 +104,7 @@ refused_user h v p = second_of _ _ _ (refused user_bytes (2 ^ 24) h.starts.users
 
 pub refused_blob : (h : Built) (v : List ℕ) → blob_passes h v ≡ true → passes_limits (with_blob h v) ≡ true
 unfolding passes_limits
-refused_blob h v p = third_of _ _ _ (refused blob_bytes (2 ^ 29) h.starts.blobs h.blobs v p)
+refused_blob h v p = third_of (nat_lt (2 ^ 29) (joined_end text_bytes h.starts.strings h.texts)) (nat_lt (2 ^ 24) (joined_end user_bytes h.starts.users h.users)) _ (refused blob_bytes (2 ^ 29) h.starts.blobs h.blobs v p)
 
 -- some values and then others
 pub texts_append : (h : Built) (xs ys : List (List ℕ)) → with_texts h (xs ++ ys) ≡ with_texts (with_texts h xs) ys
@@ -131,3 +137,53 @@ starts_blobs : (h : Built) (values : List (List ℕ)) → (with_blobs h values).
 unfolding with_blobs
 starts_blobs h [] = refl
 starts_blobs h (v ∷ values) = starts_blobs (with_blob h v) values
+
+-- what is refused is told by what was added
+pub fills_refused : (f : BuildFault) (name : StreamName) (passed : Bool) (new filled : Built) → (passed ≡ true → passes_limits filled ≡ true) → RefusesWhere (Err f) name passed → Fills (Err f) new filled
+fills_refused Memory name passed new filled to h = tt
+fills_refused (TooLarge heap) name passed new filled to h = to h.1
+
+pub fills_later : (f : BuildFault) (new now part filled : Built) → (passes_limits part ≡ true → passes_limits filled ≡ true) → Fills (Err f) new part → Fills (Err f) now filled
+fills_later Memory new now part filled to h = tt
+fills_later (TooLarge heap) new now part filled to h = to h
+
+-- the first of some and those behind it
+front_of : {X : Type 0} (xs : List X) (d : X) → 1 ≤ length xs → xs ≡ get_or xs 0 d ∷ take (length xs - 1) (drop 1 xs)
+front_of [] d low = absurd (omega arith)
+front_of (x ∷ xs) d low = ap (λ ys. x ∷ ys) (sym (take_all (length (x ∷ xs) - 1) xs (omega arith)))
+
+pub filled_front : {X : Type 0} (fill : Built → List (List ℕ) → Built) (append : (h : Built) (xs ys : List (List ℕ)) → fill h (xs ++ ys) ≡ fill (fill h xs) ys) (f : X → List (List ℕ)) (h : Built) (rest : List X) (x : X) → 1 ≤ length rest → x ≡ get_or rest 0 x → fill h (flat_map f rest) ≡ fill (fill h (f x)) (flat_map f (take (length rest - 1) (drop 1 rest)))
+filled_front {X} fill append f h rest x low there =
+    ap (λ (xs : List X). fill h (flat_map f xs)) (front_of rest x low ∙ ap (λ (y : X). y ∷ take (length rest - 1) (drop 1 rest)) (sym there))
+    ∙ append h (f x) (flat_map f (take (length rest - 1) (drop 1 rest)))
+
+pub filled_none : {X : Type 0} (fill : Built → List (List ℕ) → Built) (none : (h : Built) → fill h [] ≡ h) (f : X → List (List ℕ)) (h : Built) (rest : List X) → length rest < 1 → fill h (flat_map f rest) ≡ h
+filled_none fill none f h [] low = none h
+filled_none fill none f h (x ∷ xs) low = absurd (omega arith)
+
+pub texts_none : (h : Built) → with_texts h [] ≡ h
+unfolding with_texts
+texts_none h = refl
+
+pub users_none : (h : Built) → with_users h [] ≡ h
+unfolding with_users
+users_none h = refl
+
+pub blobs_none : (h : Built) → with_blobs h [] ≡ h
+unfolding with_blobs
+blobs_none h = refl
+
+-- some texts without zeros, and others behind them
+both : (a b : Bool) → a ≡ true → b ≡ true → (a && b) ≡ true
+both a b h i = rw (h, i) refl
+
+whole_parts : (xs ys : List (List ℕ)) → are_whole (xs ++ ys) ≡ true → (are_whole xs ≡ true) × (are_whole ys ≡ true)
+whole_parts [] ys h = (refl, h)
+whole_parts (x ∷ xs) ys h =
+    let w = whole_parts xs ys (both_right (is_whole x) (are_whole (xs ++ ys)) h) in
+    (both (is_whole x) (are_whole xs) (both_left (is_whole x) (are_whole (xs ++ ys)) h) w.0, w.1)
+
+pub whole_front : {X : Type 0} (f : X → List (List ℕ)) (rest : List X) (x : X) → 1 ≤ length rest → x ≡ get_or rest 0 x → are_whole (flat_map f rest) ≡ true → (are_whole (f x) ≡ true) × (are_whole (flat_map f (take (length rest - 1) (drop 1 rest))) ≡ true)
+whole_front {X} f rest x low there h =
+    let split : flat_map f rest ≡ f x ++ flat_map f (take (length rest - 1) (drop 1 rest)) = ap (λ (xs : List X). flat_map f xs) (front_of rest x low ∙ ap (λ (y : X). y ∷ take (length rest - 1) (drop 1 rest)) (sym there)) in
+    whole_parts (f x) (flat_map f (take (length rest - 1) (drop 1 rest))) (sym (ap are_whole split) ∙ h)

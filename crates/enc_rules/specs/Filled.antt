@@ -7,7 +7,7 @@ use Rattle.enc_meta.specs.declared.builder.BuildFault.TheVariants.{Memory, TooLa
 use Rattle.enc_rules.specs.Rules.{passes_limits}
 
 -- the heaps have all that was to be added; where a heap is refused, they would pass a limit with it
-abbrev pub Fills : {A : Type 0} → Result A BuildFault → Built → Built → Type 0
+abbrev pub Fills : Result (Unit {0}) BuildFault → Built → Built → Type 0
 Fills (Ok _) new filled = new ≡ filled
 Fills (Err Memory) new filled = Unit {0}
 Fills (Err (TooLarge heap)) new filled = passes_limits filled ≡ true

@@ -19,7 +19,6 @@ use enc_schema::tables::METHOD_DEF;
 use std::alloc::{AllocError, Global};
 
 /// Adds a text.
-#[tactic(auto, using(crate::proofs::Filling::refused_text))]
 fn add_text(heaps: &mut HeapBuilder, text: &[u8]) -> Result<(), BuildFault>
     requires { IsTrue (is_whole text.now) }
     ensures { Fills result heaps.new (with_text heaps.old text.now) }
@@ -31,7 +30,6 @@ fn add_text(heaps: &mut HeapBuilder, text: &[u8]) -> Result<(), BuildFault>
 }
 
 /// Adds a blob.
-#[tactic(auto, using(crate::proofs::Filling::refused_blob))]
 fn add_blob(heaps: &mut HeapBuilder, blob: &[u8]) -> Result<(), BuildFault>
     ensures { Fills result heaps.new (with_blob heaps.old blob.now) }
 {
@@ -42,7 +40,6 @@ fn add_blob(heaps: &mut HeapBuilder, blob: &[u8]) -> Result<(), BuildFault>
 }
 
 /// Adds a user text.
-#[tactic(auto, using(crate::proofs::Filling::refused_user))]
 fn add_user(heaps: &mut HeapBuilder, units: &[u16]) -> Result<(), BuildFault>
     ensures { Fills result heaps.new (with_user heaps.old (unit_bytes units.now)) }
 {
