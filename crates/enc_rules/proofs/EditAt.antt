@@ -58,7 +58,7 @@ about m before (Add table owner cells code points) = eq-eqb table table refl
 about m before (Replace method code points) = refl
 
 -- the same, as a loop has edits and rows
-edit_there : (l : EditList) (edits : List Edit) (k : ℕ) (e : Edit) → edits ≡ l.edits → k < length edits → e ≡ get_or edits k e → slice_get l.edits k ≡ Some e
+pub edit_there : (l : EditList) (edits : List Edit) (k : ℕ) (e : Edit) → edits ≡ l.edits → k < length edits → e ≡ get_or edits k e → slice_get l.edits k ≡ Some e
 edit_there l edits k e are low there = ap (λ (xs : List Edit). slice_get xs k) (sym are) ∙ slice_get-get_or edits k e low ∙ ap (λ (x : Edit). Some x) (sym there)
 
 pub row_low : (c : Chain) (l : EditList) (edits : List Edit) (rows : List Token) (k : ℕ) → edits ≡ l.edits → rows ≡ rows_edited c.plain l.edits → k < length edits → k < length rows

@@ -1,6 +1,6 @@
 -- Heaps that pass a limit pass it with more, and one that is refused would pass it.
 use Rattle.std.proofs.Common.{◌≡◌, ℕ, zero, suc, ◌+◌, ◌<◌, ◌≤◌, Bool, true, false, List, [], ◌∷◌, ◌++◌, length, take, drop, ◌-◌, get_or, refl, sym, ap, ◌∙◌, inl, inr, arith}
-use Rattle.std.specs.Prelude.{◌^◌, ◌||◌, ◌&&◌, ◌⊎◌, not, nat_lt, sum_by, flat_map, Result, Ok, Err, if◌then◌else◌}
+use Rattle.std.specs.Prelude.{◌^◌, ◌||◌, ◌&&◌, ◌⊎◌, not, nat_lt, max, ◌*◌, sum_by, flat_map, Result, Ok, Err, if◌then◌else◌}
 use Rattle.std.proofs.lemmas.Bool.Decides.{nat_tests}
 use Rattle.std.proofs.lemmas.List.{take_all}
 use Rattle.std.proofs.lemmas.List.Sums.{sum_by_push}
@@ -11,8 +11,14 @@ use Rattle.enc_meta.specs.BuiltSeen.{RefusesWhere}
 use Rattle.enc_meta.specs.declared.builder.BuildFault.{BuildFault}
 use Rattle.enc_meta.specs.declared.builder.BuildFault.TheVariants.{Memory, TooLarge}
 use Rattle.enc_plain.proofs.Columns.{both_left, both_right}
+use Rattle.enc_plain.specs.Rows.{Rows}
+use Rattle.enc_plain.specs.Chain.{Chain}
+use Rattle.enc_edits.specs.declared.edit.Edit.{Edit}
+use Rattle.enc_edits.specs.declared.edit.EditList.{EditList}
+use Rattle.enc_meta.specs.Joined.{joined_lengths}
+use Rattle.enc_rules.specs.Listed.{rows_listed}
 use Rattle.enc_rules.specs.Filled.{Fills, is_whole, are_whole}
-use Rattle.enc_rules.specs.Rules.{passes_limits, with_texts, with_users, with_blobs, with_edit, with_edits, texts_of_edit, users_of_edit, blobs_of_edit}
+use Rattle.enc_rules.specs.Rules.{passes_limits, heaps_are_full, heap_passes, with_texts, with_users, with_blobs, with_edit, with_edits, texts_of_edit, users_of_edit, blobs_of_edit}
 
 two : (b : Bool) → (b ≡ true) ⊎ (b ≡ false)
 two true = inl refl
@@ -187,3 +193,104 @@ pub whole_front : {X : Type 0} (f : X → List (List ℕ)) (rest : List X) (x : 
 whole_front {X} f rest x low there h =
     let split : flat_map f rest ≡ f x ++ flat_map f (take (length rest - 1) (drop 1 rest)) = ap (λ (xs : List X). flat_map f xs) (front_of rest x low ∙ ap (λ (y : X). y ∷ take (length rest - 1) (drop 1 rest)) (sym there)) in
     whole_parts (f x) (flat_map f (take (length rest - 1) (drop 1 rest))) (sym (ap are_whole split) ∙ h)
+
+-- an edit's texts, user texts and blobs one behind the other
+pub passes_edit_texts : (rows : Rows) (h : Built) (e : Edit) → passes_limits (with_texts h (texts_of_edit rows e)) ≡ true → passes_limits (with_edit rows h e) ≡ true
+unfolding with_edit
+passes_edit_texts rows h e p = passes_blobs _ (blobs_of_edit rows e) (passes_users _ (users_of_edit e) p)
+
+pub passes_edit_users : (rows : Rows) (h part : Built) (e : Edit) → part ≡ with_texts h (texts_of_edit rows e) → passes_limits (with_users part (users_of_edit e)) ≡ true → passes_limits (with_edit rows h e) ≡ true
+unfolding with_edit
+passes_edit_users rows h part e is p = passes_blobs _ (blobs_of_edit rows e) (rw is at p)
+
+pub passes_edit_blobs : (rows : Rows) (h part more : Built) (e : Edit) → part ≡ with_texts h (texts_of_edit rows e) → more ≡ with_users part (users_of_edit e) → passes_limits (with_blobs more (blobs_of_edit rows e)) ≡ true → passes_limits (with_edit rows h e) ≡ true
+unfolding with_edit
+passes_edit_blobs rows h part more e is are p = rw (are, is) at p
+
+pub edit_filled : (rows : Rows) (h part more filled : Built) (e : Edit) → part ≡ with_texts h (texts_of_edit rows e) → more ≡ with_users part (users_of_edit e) → filled ≡ with_blobs more (blobs_of_edit rows e) → filled ≡ with_edit rows h e
+unfolding with_edit
+edit_filled rows h part more filled e is are done = done ∙ rw (are, is) refl
+
+pub passes_edits : (rows : Rows) (h : Built) (e : Edit) → passes_limits h ≡ true → passes_limits (with_edit rows h e) ≡ true
+unfolding with_edit
+passes_edits rows h e p = passes_blobs _ (blobs_of_edit rows e) (passes_users _ (users_of_edit e) (passes_texts h (texts_of_edit rows e) p))
+
+starts_edit : (rows : Rows) (h : Built) (e : Edit) → (with_edit rows h e).starts ≡ h.starts
+unfolding with_edit
+starts_edit rows h e = starts_blobs _ (blobs_of_edit rows e) ∙ starts_users _ (users_of_edit e) ∙ starts_texts h (texts_of_edit rows e)
+
+starts_edits : (rows : Rows) (h : Built) (edits : List Edit) → (with_edits rows h edits).starts ≡ h.starts
+unfolding with_edits
+starts_edits rows h [] = refl
+starts_edits rows h (e ∷ edits) = starts_edits rows (with_edit rows h e) edits ∙ starts_edit rows h e
+
+-- one edit more
+one_edit_more : (rows : Rows) (h : Built) (edits : List Edit) (k : ℕ) (e : Edit) → k < length edits → e ≡ get_or edits k e → with_edits rows h (take (suc k) edits) ≡ with_edit rows (with_edits rows h (take k edits)) e
+unfolding with_edits
+one_edit_more rows h [] k e low there = absurd (omega arith)
+one_edit_more rows h (x ∷ xs) zero e low there = ap (with_edit rows h) (sym there)
+one_edit_more rows h (x ∷ xs) (suc k) e low there = one_edit_more rows (with_edit rows h x) xs k e (omega arith) there
+
+pub edits_more : (rows : Rows) (h : Built) (edits : List Edit) (k : ℕ) (e : Edit) → k < length edits → e ≡ get_or edits k e → with_edits rows h (take (k + 1) edits) ≡ with_edit rows (with_edits rows h (take k edits)) e
+edits_more rows h edits k e low there = let s : k + 1 ≡ suc k = omega arith in rw s (one_edit_more rows h edits k e low there)
+
+pub edits_none : (rows : Rows) (h : Built) → with_edits rows h [] ≡ h
+unfolding with_edits
+edits_none rows h = refl
+
+-- heaps that have room before any edit pass no limit while they are within theirs
+not_above : (limit n : ℕ) → n ≤ limit → nat_lt limit n ≡ false
+not_above limit n le = grind (arith, nat_tests)
+
+all_false : (a b c : Bool) → a ≡ false → b ≡ false → c ≡ false → (a || b || c) ≡ false
+all_false a b c h i j = rw (h, i, j) refl
+
+left_false : (a b : Bool) → (a || b) ≡ false → a ≡ false
+left_false true b h = absurd (cc)
+left_false false b h = refl
+
+right_false : (a b : Bool) → (a || b) ≡ false → b ≡ false
+right_false true b h = absurd (cc)
+right_false false b h = h
+
+not_past : (limit n : ℕ) → nat_lt limit n ≡ false → n ≤ limit
+not_past limit n h = grind (arith, nat_tests)
+
+joined_none : (encode : List ℕ → List ℕ) (start : ℕ) → joined_end encode start [] ≡ start + 1
+unfolding joined_end
+joined_none encode start = omega arith
+
+heap_within : (encode : List ℕ → List ℕ) (limit start first : ℕ) (values : List (List ℕ)) → start ≡ first → nat_lt limit (joined_end encode first []) ≡ false → joined_end encode start values ≤ max limit (start + 1) → nat_lt limit (joined_end encode start values) ≡ false
+heap_within encode limit start first values same room within =
+    let low = not_past limit (joined_end encode first []) room in
+    let e = joined_none encode first in
+    not_above limit (joined_end encode start values) (omega arith)
+
+pub within_limits : (c : Chain) (l : EditList) (h : Built) → h.starts ≡ joined_lengths c.heaps → AreWithinLimits h → heaps_are_full c l ≡ false → passes_limits h ≡ false
+unfolding passes_limits heaps_are_full
+within_limits c l h starts within room =
+    let s = joined_lengths c.heaps in
+    let texts = nat_lt (2 ^ 29) (joined_end text_bytes s.strings []) in
+    let users = nat_lt (2 ^ 24) (joined_end user_bytes s.users []) in
+    let blobs = nat_lt (2 ^ 29) (joined_end blob_bytes s.blobs []) in
+    let three = left_false (texts || users || blobs) (nat_lt (2 ^ 29) (16 * (s.guids + 1))) room in
+    let two_of = left_false (texts || users) blobs three in
+    all_false _ _ _
+    (heap_within text_bytes (2 ^ 29) h.starts.strings s.strings h.texts (ap (λ (n : HeapLengths). n.strings) starts) (left_false texts users two_of) within.texts)
+    (heap_within user_bytes (2 ^ 24) h.starts.users s.users h.users (ap (λ (n : HeapLengths). n.users) starts) (right_false texts users two_of) within.users)
+    (heap_within blob_bytes (2 ^ 29) h.starts.blobs s.blobs h.blobs (ap (λ (n : HeapLengths). n.blobs) starts) (right_false (texts || users) blobs three) within.blobs)
+
+-- what the edits up to a place bring
+pub heaps_passed : (c : Chain) (l : EditList) (edits : List Edit) (k : ℕ) (e : Edit) (h : Built) → edits ≡ l.edits → k < length edits → e ≡ get_or edits k e → h ≡ with_edits (rows_listed c l.edits) (none_from (joined_lengths c.heaps)) (take k edits) → heap_passes c l k ≡ passes_limits (with_edit (rows_listed c l.edits) h e)
+unfolding heap_passes
+heaps_passed c l edits k e h are low there is =
+    ap (λ (es : List Edit). passes_limits (with_edits (rows_listed c l.edits) (none_from (joined_lengths c.heaps)) (take (k + 1) es))) (sym are)
+    ∙ ap passes_limits (edits_more (rows_listed c l.edits) (none_from (joined_lengths c.heaps)) edits k e low there)
+    ∙ ap (λ (b : Built). passes_limits (with_edit (rows_listed c l.edits) b e)) (sym is)
+
+-- an edit that is added whole passes no limit
+pub edit_within : (c : Chain) (l : EditList) (edits : List Edit) (k : ℕ) (e : Edit) (h more : Built) → edits ≡ l.edits → k < length edits → e ≡ get_or edits k e → h ≡ with_edits (rows_listed c l.edits) (none_from (joined_lengths c.heaps)) (take k edits) → more ≡ with_edit (rows_listed c l.edits) h e → AreWithinLimits more → heaps_are_full c l ≡ false → heap_passes c l k ≡ false
+edit_within c l edits k e h more are low there is filled within room =
+    let rows = rows_listed c l.edits in
+    let starts : more.starts ≡ joined_lengths c.heaps = ap (λ (b : Built). b.starts) filled ∙ starts_edit rows h e ∙ ap (λ (b : Built). b.starts) is ∙ starts_edits rows (none_from (joined_lengths c.heaps)) (take k edits) in
+    heaps_passed c l edits k e h are low there is ∙ ap passes_limits (sym filled) ∙ within_limits c l more starts within room

@@ -6,3 +6,4 @@ pub mod TwinsByTable
 pub mod Capped
 pub mod PointsAt
 pub mod Filling
+pub mod WholeTexts

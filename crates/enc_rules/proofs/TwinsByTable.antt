@@ -77,7 +77,7 @@ twin_here : (q : Asked) (m : Module) (pairs : List Attached) (a : Attached) → 
 unfolding has_twin
 twin_here q m pairs a = rw (chosen a.child.table (λ (b : Attached). is_token b.owner a.owner) pairs) refl
 
-equal_numbers : (a b : ℕ) → (a == b) ≡ true → a ≡ b
+pub equal_numbers : (a b : ℕ) → (a == b) ≡ true → a ≡ b
 equal_numbers a b h = grind (arith, nat_tests)
 
 twin_in : (q : Asked) (m : Module) (pairs : List Attached) (t : ℕ) (a : Attached) → in_table t a ≡ true → has_twin q m (filter (in_table t) pairs) a ≡ has_twin q m pairs a
@@ -94,7 +94,7 @@ short (Add table owner cells code points) t = elim (two (is_child_table table)) 
 ]
 short (Replace method code points) t = inl refl
 
-nowhere : {A : Type 0} (i : ℕ) (x : A) → slice_get [] i ≡ Some x → ⊥
+pub nowhere : {A : Type 0} (i : ℕ) (x : A) → slice_get [] i ≡ Some x → ⊥
 nowhere zero x h = cc
 nowhere (suc i) x h = cc
 
@@ -152,7 +152,7 @@ kept {A} p (y ∷ xs) (suc j) x h passes =
     let w = kept p xs j x h passes in
     elim (two (p y)) [ inl a ↦ (suc w.0, rw a (w.1)) | inr a ↦ (w.0, rw a (w.1)) ]
 
-passing : {A : Type 0} (p : A → Bool) (xs : List A) (i : ℕ) (x : A) → slice_get (filter p xs) i ≡ Some x → (j : ℕ) × (slice_get xs j ≡ Some x) × (p x ≡ true)
+pub passing : {A : Type 0} (p : A → Bool) (xs : List A) (i : ℕ) (x : A) → slice_get (filter p xs) i ≡ Some x → (j : ℕ) × (slice_get xs j ≡ Some x) × (p x ≡ true)
 passing p [] i x h = absurd (nowhere i x h)
 passing {A} p (y ∷ xs) i x h = elim (two (p y)) [
   | inl a ↦ elim (in_front y (filter p xs) i x (rw a at h)) [

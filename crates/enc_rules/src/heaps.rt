@@ -1,6 +1,6 @@
 //! Whether the heaps have room for what the edits bring.
 ghost use Rattle.std.specs.Prelude.{◌≡◌, ◌<◌, ◌^◌, false, flat_map, length, IfOk, IfSome, IsTrue};
-ghost use Rattle.enc_edits.specs.Form.{edit_fits};
+ghost use Rattle.enc_edits.specs.Form.{edit_fits, list_fits};
 ghost use Rattle.enc_meta.specs.Built.{AreWithinLimits, unit_bytes, with_text, with_user, with_blob};
 ghost use Rattle.enc_plain.specs.Sound.{IsSound};
 ghost use Rattle.enc_rules.specs.Filled.{Fills, is_whole, are_whole};
@@ -130,13 +130,14 @@ fn add_arguments(heaps: &mut HeapBuilder, code: &[InstrValue]) -> Result<(), Bui
 }
 
 /// Adds the texts that an edit brings.
-#[tactic(auto, unfolding(crate::specs::Rules::with_texts))]
+#[tactic(auto, using(crate::proofs::WholeTexts::method_name), unfolding(crate::specs::Rules::with_texts))]
 fn add_texts<C: ChainView>(
     context: &Context<'_, C>,
     heaps: &mut HeapBuilder,
     edit: &Edit,
 ) -> Result<(), BuildFault>
     requires sound { IsSound context.now.chain.plain }
+    requires list { IsTrue (list_fits context.now.list) }
     requires form { IsTrue (edit_fits edit.now) }
     ensures { Fills result heaps.new (with_texts heaps.old (texts_of_edit (listed_rows context.now) edit.now)) }
 {
@@ -163,7 +164,7 @@ fn add_users(heaps: &mut HeapBuilder, edit: &Edit) -> Result<(), BuildFault>
 }
 
 /// Adds the blobs that an edit brings.
-#[tactic(auto, unfolding(crate::specs::Rules::with_blobs))]
+#[tactic(auto, using(crate::proofs::WholeTexts::method_signature), unfolding(crate::specs::Rules::with_blobs))]
 fn add_blobs<C: ChainView>(
     context: &Context<'_, C>,
     heaps: &mut HeapBuilder,
@@ -189,6 +190,7 @@ fn add_edit<C: ChainView>(
     edit: &Edit,
 ) -> Result<(), BuildFault>
     requires sound { IsSound context.now.chain.plain }
+    requires list { IsTrue (list_fits context.now.list) }
     requires form { IsTrue (edit_fits edit.now) }
     ensures filled { Fills result heaps.new (with_edit (listed_rows context.now) heaps.old edit.now) }
     ensures within { IfOk result (λ _. AreWithinLimits heaps.new) }
