@@ -82,11 +82,11 @@ users_in_body (Some b) = flat_map (λ (i : InstrValue). users_in_argument i.arg)
 -- the values that an edit brings for each heap: those of its row, which for a method whose body is replaced are its name and signature, and of its body
 abbrev pub texts_of_edit : Rows → Edit → List (List ℕ)
 texts_of_edit rows (Add table owner cells code points) = flat_map texts_in_cell cells
-texts_of_edit rows (Replace method code points) = bytes_at rows method columns.method_def_name ∷ []
+texts_of_edit rows (Replace method code points) = if method.table == tables.method_def then bytes_at rows method columns.method_def_name ∷ [] else []
 
 abbrev pub blobs_of_edit : Rows → Edit → List (List ℕ)
 blobs_of_edit rows (Add table owner cells code points) = flat_map blobs_in_cell cells
-blobs_of_edit rows (Replace method code points) = bytes_at rows method columns.method_def_signature ∷ []
+blobs_of_edit rows (Replace method code points) = if method.table == tables.method_def then bytes_at rows method columns.method_def_signature ∷ [] else []
 
 abbrev pub users_of_edit : Edit → List (List ℕ)
 users_of_edit e = users_in_body (body_given e)

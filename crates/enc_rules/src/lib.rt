@@ -12,6 +12,7 @@ mod owners;
 mod points;
 mod rows;
 mod signatures;
+mod sums;
 mod whole;
 
 pub use first::first_broken;
