@@ -1,12 +1,8 @@
 -- For the contracts of private functions: the first edit of several rules, of which each tells its own.
-<<<<<<< HEAD
-use Rattle.std.specs.Prelude.{ℕ, ◌+◌, Option, Some, None, nat_lt, if◌then◌else◌}
-=======
 use Rattle.std.specs.Prelude.{ℕ, ◌+◌, List, [], ◌∷◌, Option, Some, None, nat_lt, if◌then◌else◌}
 use Rattle.enc_plain.specs.Chain.{Chain}
 use Rattle.enc_edits.specs.declared.edit.EditList.{EditList}
 use Rattle.enc_rules.specs.First.{EditRule, first_such}
->>>>>>> fb2c20d96f4b3e5cb28ed1b1f059d7b3c3a426f5
 
 -- what is told so far, or the first place at which another rule is broken, where that is sooner; of one edit the rule that is told first stays
 abbrev pub sooner : Option (ℕ × ℕ) → ℕ → Option ℕ → Option (ℕ × ℕ)
