@@ -7,3 +7,5 @@ pub mod Capped
 pub mod PointsAt
 pub mod Filling
 pub mod WholeTexts
+pub mod Fronts
+pub mod InstructionsPlaced
