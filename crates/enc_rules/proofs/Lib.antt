@@ -9,3 +9,4 @@ pub mod Filling
 pub mod WholeTexts
 pub mod Fronts
 pub mod InstructionsPlaced
+pub mod BodiesAt
