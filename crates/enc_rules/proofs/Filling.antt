@@ -2,7 +2,6 @@
 use Rattle.std.proofs.Common.{◌≡◌, ℕ, zero, suc, ◌+◌, ◌<◌, ◌≤◌, Bool, true, false, List, [], ◌∷◌, ◌++◌, length, take, drop, ◌-◌, get_or, refl, sym, ap, ◌∙◌, inl, inr, arith}
 use Rattle.std.specs.Prelude.{◌^◌, ◌||◌, ◌&&◌, ◌⊎◌, not, nat_lt, max, ◌*◌, sum_by, flat_map, Result, Ok, Err, if◌then◌else◌}
 use Rattle.std.proofs.lemmas.Bool.Decides.{nat_tests}
-use Rattle.std.proofs.lemmas.List.{take_all}
 use Rattle.std.proofs.lemmas.List.Sums.{sum_by_push}
 use Rattle.enc_meta.specs.Built.{Built, AreWithinLimits, is_kept, with_value, joined_end, text_bytes, user_bytes, blob_bytes, with_text, with_user, with_blob, passes, text_passes, user_passes, blob_passes, none_from}
 use Rattle.enc_meta.specs.declared.heaps.HeapLengths.{HeapLengths}
@@ -16,6 +15,7 @@ use Rattle.enc_plain.specs.Chain.{Chain}
 use Rattle.enc_edits.specs.declared.edit.Edit.{Edit}
 use Rattle.enc_edits.specs.declared.edit.EditList.{EditList}
 use Rattle.enc_meta.specs.Joined.{joined_lengths}
+use Rattle.enc_rules.proofs.Fronts.{front_of}
 use Rattle.enc_rules.specs.Listed.{rows_listed}
 use Rattle.enc_rules.specs.Filled.{Fills, is_whole, are_whole}
 use Rattle.enc_rules.specs.Rules.{passes_limits, heaps_are_full, heap_passes, with_texts, with_users, with_blobs, with_edit, with_edits, texts_of_edit, users_of_edit, blobs_of_edit}
@@ -152,11 +152,6 @@ fills_refused (TooLarge heap) name passed new filled to h = to h.1
 pub fills_later : (f : BuildFault) (new now part filled : Built) → (passes_limits part ≡ true → passes_limits filled ≡ true) → Fills (Err f) new part → Fills (Err f) now filled
 fills_later Memory new now part filled to h = tt
 fills_later (TooLarge heap) new now part filled to h = to h
-
--- the first of some and those behind it
-front_of : {X : Type 0} (xs : List X) (d : X) → 1 ≤ length xs → xs ≡ get_or xs 0 d ∷ take (length xs - 1) (drop 1 xs)
-front_of [] d low = absurd (omega arith)
-front_of (x ∷ xs) d low = ap (λ ys. x ∷ ys) (sym (take_all (length (x ∷ xs) - 1) xs (omega arith)))
 
 pub filled_front : {X : Type 0} (fill : Built → List (List ℕ) → Built) (append : (h : Built) (xs ys : List (List ℕ)) → fill h (xs ++ ys) ≡ fill (fill h xs) ys) (f : X → List (List ℕ)) (h : Built) (rest : List X) (x : X) → 1 ≤ length rest → x ≡ get_or rest 0 x → fill h (flat_map f rest) ≡ fill (fill h (f x)) (flat_map f (take (length rest - 1) (drop 1 rest)))
 filled_front {X} fill append f h rest x low there =

@@ -14,3 +14,6 @@ pub mod Capped
 pub mod PointsAt
 pub mod Filling
 pub mod WholeTexts
+pub mod Fronts
+pub mod InstructionsPlaced
+pub mod BodiesAt

@@ -7,3 +7,4 @@ pub mod Sooner
 pub mod Told
 pub mod Sums
 pub mod Filled
+pub mod Marked

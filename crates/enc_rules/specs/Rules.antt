@@ -207,11 +207,15 @@ room_of_edit e = room_of (body_given e)
 abbrev pub has_body : Edit → Bool
 has_body e = nat_lt 0 (room_of_edit e)
 
--- E16: a method that isn't IL, which the low two bits of ImplFlags tell (II.23.1.11), a body that isn't good, or code that passes 2^32 bytes with it
+-- the row is a method of IL code, which the low two bits of ImplFlags tell (II.23.1.11)
+abbrev pub is_il : Rows → Token → Bool
+is_il rows t = t.table == tables.method_def && number_at rows t columns.method_def_impl_flags % 4 == 0
+
+-- E16: a body of what isn't a method of IL code, a body that isn't good, or code that passes 2^32 bytes with it
 unfoldable pub body_is_broken : Chain → EditList → ℕ → Bool
 body_is_broken c l k = at_edit
     (λ e t. has_body e
-    && (not (number_at (rows_listed c l.edits) t columns.method_def_impl_flags % 4 == 0)
+    && (not (is_il (rows_listed c l.edits) t)
     || not (body_is_missing_or_stands (count_after c l.edits) (body_given e))
     || nat_le (2 ^ 32) (sum_by room_of_edit (take (k + 1) l.edits))))
     c l k

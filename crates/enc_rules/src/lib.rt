@@ -6,6 +6,7 @@ mod cells;
 mod context;
 mod first;
 mod heaps;
+mod instructions;
 mod members;
 mod order;
 mod owners;
