@@ -34,6 +34,8 @@ mod ppdb;
 #[cfg(test)]
 mod rows;
 #[cfg(test)]
+mod rules;
+#[cfg(test)]
 mod schema;
 #[cfg(test)]
 mod seqpoints;
