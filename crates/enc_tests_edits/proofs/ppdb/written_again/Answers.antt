@@ -1,5 +1,5 @@
 use Rattle.enc_ppdb.proofs.ReadSound.{begun_sound, begun_within}
-use Rattle.enc_tests.proofs.ppdb.written_again.Goals as goal
+use Rattle.enc_tests_edits.proofs.ppdb.written_again.Goals as goal
 
 pub write_pdb-requires-clause-sound : goal.write_pdb-requires-clause-sound
 write_pdb-requires-clause-sound c = begun_sound c.in_ok-source.source.base c.in_ok-source.source.deltas c.in_ok-source.ensures.base c.in_ok-source.ensures.deltas
