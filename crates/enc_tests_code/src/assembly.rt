@@ -1,3 +1,11 @@
+ghost use Rattle.std.specs.Prelude.{◌≡◌, ℕ, List, true};
+ghost use Rattle.std.specs.List.{list_all};
+ghost use Rattle.enc_meta.specs.Built.{Built};
+ghost use Rattle.enc_edits.specs.Form.{instr_fits};
+ghost use Rattle.enc_edits.specs.Sizes.{length_of_code};
+ghost use Rattle.enc_edits.specs.declared.body.InstrValue.{InstrValue as TheInstr};
+ghost use Rattle.enc_assembly.specs.Assembly.{are_small, text_is_kept};
+
 use enc_assembly::assemble;
 use enc_base::Token;
 use enc_edits::*;
@@ -6,7 +14,12 @@ use enc_opcodes::{Op, Operand};
 use std::test::Fail;
 
 /// `ldarg.s 5`, `br.s` to the last instruction, `call 0a000001`, `ret`.
-fn code() -> [InstrValue; 4] {
+fn code() -> [InstrValue; 4]
+    ensures fits { list_all instr_fits result ≡ true }
+    ensures small { (offset : List ℕ → ℕ) → are_small offset result ≡ true }
+    ensures kept { (heaps : Built) → list_all (λ (i : TheInstr). text_is_kept heaps i.arg) result ≡ true }
+    ensures size { length_of_code result ≡ 10 }
+{
     [
         InstrValue {
             op: Op {
