@@ -1,13 +1,12 @@
 -- Stated instructions one behind the other, by the first of them.
-use Rattle.std.proofs.Common.{◌≡◌, ℕ, zero, suc, ◌+◌, ◌-◌, ◌<◌, ◌≤◌, Bool, true, false, List, [], ◌∷◌, length, take, drop, get_or, set, refl, sym, ap, ◌∙◌, inl, inr, arith}
-use Rattle.std.specs.Prelude.{◌⊎◌, ◌&&◌, ◌||◌, ◌==◌, ◌^◌, min, replicate}
+use Rattle.std.proofs.Common.{◌≡◌, ℕ, zero, suc, ◌+◌, ◌-◌, ◌<◌, ◌≤◌, Bool, true, false, List, [], ◌∷◌, length, take, drop, get_or, set, refl, sym, ap, ◌∙◌, arith}
+use Rattle.std.specs.Prelude.{◌&&◌, ◌||◌, ◌==◌, replicate}
 use Rattle.std.proofs.lemmas.Bool.Decides.{nat_tests}
 use Rattle.enc_opcodes.specs.Sound.{instruction_size, begins_at}
 use Rattle.enc_edits.specs.Sizes.{instr_meant, length_of_code, placed}
 use Rattle.enc_edits.specs.declared.body.InstrValue.{InstrValue}
 use Rattle.enc_rules.specs.Marked.{mark_at}
 use Rattle.enc_rules.specs.Rules.{argument_reaches, branches_reach}
-use Rattle.enc_rules.specs.Sums.{most_room}
 use Rattle.enc_rules.proofs.Fronts.{front_is}
 
 abbrev behind : List InstrValue → List InstrValue

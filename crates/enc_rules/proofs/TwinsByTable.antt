@@ -63,9 +63,9 @@ chosen : (t : ℕ) (f : Attached → Bool) (pairs : List Attached) → filter (�
 chosen t f [] = refl
 chosen t f (a ∷ rest) = elim (two (a.child.table == t)) [
   | inl is ↦ elim (two (f a)) [
-      | inl here ↦ rw (is, is, here) (ap (λ xs. a ∷ xs) (chosen t f rest))
-      | inr other ↦ rw (is, is, other) (chosen t f rest)
-    ]
+    | inl here ↦ rw (is, is, here) (ap (λ xs. a ∷ xs) (chosen t f rest))
+    | inr other ↦ rw (is, is, other) (chosen t f rest)
+  ]
   | inr past ↦ rw past (rw (never (f a)) (chosen t f rest))
 ]
   where
@@ -122,11 +122,11 @@ comes_from m before (e ∷ rest) i x h = elim (short e (row_edited m before e)) 
       let w = comes_from m (before ++ e ∷ []) rest i x (rw none at h) in
       (suc w.0, later m before e rest w.0 x w.1)
   | inr one ↦ elim (in_front one.0 (attached_behind m (before ++ e ∷ []) rest) i x (rw (one.1) at h)) [
-      | inl here ↦ (0, (e, refl, ap (λ (b : List Edit). attached_by e (row_edited m b e)) (append-nil before) ∙ one.1 ∙ ap (λ (y : Attached). y ∷ []) here))
-      | inr there ↦
-          let w = comes_from m (before ++ e ∷ []) rest there.0 x there.1 in
-          (suc w.0, later m before e rest w.0 x w.1)
-    ]
+    | inl here ↦ (0, (e, refl, ap (λ (b : List Edit). attached_by e (row_edited m b e)) (append-nil before) ∙ one.1 ∙ ap (λ (y : Attached). y ∷ []) here))
+    | inr there ↦
+        let w = comes_from m (before ++ e ∷ []) rest there.0 x there.1 in
+        (suc w.0, later m before e rest w.0 x w.1)
+  ]
 ]
 
 -- and each edit's child is among them
@@ -156,9 +156,9 @@ pub passing : {A : Type 0} (p : A → Bool) (xs : List A) (i : ℕ) (x : A) → 
 passing p [] i x h = absurd (nowhere i x h)
 passing {A} p (y ∷ xs) i x h = elim (two (p y)) [
   | inl a ↦ elim (in_front y (filter p xs) i x (rw a at h)) [
-      | inl same ↦ (0, ap (λ (z : A). Some z) same, sym (ap p same) ∙ a)
-      | inr there ↦ let w = passing p xs there.0 x there.1 in (suc w.0, w.1, w.2)
-    ]
+    | inl same ↦ (0, ap (λ (z : A). Some z) same, sym (ap p same) ∙ a)
+    | inr there ↦ let w = passing p xs there.0 x there.1 in (suc w.0, w.1, w.2)
+  ]
   | inr a ↦ let w = passing p xs i x (rw a at h) in (suc w.0, w.1, w.2)
 ]
 
@@ -286,6 +286,7 @@ found t c l x least =
         let b = child_is c.plain l.edits k x w in
         let up = rise x.child.table l.edits j k v.0 before v.1 a.0 in
         omega (arith, up, a.1, b.1)
+
     sooner_twin : (k : ℕ) (w : AddsAt c.plain [] l.edits k x) → in_table t x ≡ true → (j : ℕ) → j < k → has_twin_in t c l j ≡ true → ⊥
     sooner_twin k w here j before h =
         let pairs = attached_in c.plain l.edits in

@@ -71,11 +71,7 @@ pub fn length_of_code(code: &[InstrValue]) -> u64
 }
 
 /// For each byte of the code, whether an instruction begins there.
-pub fn marks_of(
-    alloc: Global,
-    code: &[InstrValue],
-    size: usize,
-) -> Result<Vec<bool>, AllocError>
+pub fn marks_of(alloc: Global, code: &[InstrValue], size: usize) -> Result<Vec<bool>, AllocError>
     requires size { length_of_code code.now ≡ size }
     requires few { size < 2 ^ 32 }
     ensures { IfOk result (λ marks. (t : ℕ) → mark_at marks.items t ≡ begins_at (placed 0 code.now) t) }

@@ -184,8 +184,5 @@ pub fn member_has_twin<C: ChainView>(
     let methods = first_in(alloc, context, METHOD_DEF)?;
     let properties = first_in(alloc, context, PROPERTY)?;
     let events = first_in(alloc, context, EVENT)?;
-    Ok(earlier(
-        earlier(fields, methods),
-        earlier(properties, events),
-    ))
+    Ok(earlier(earlier(fields, methods), earlier(properties, events)))
 }

@@ -1,4 +1,4 @@
-use Rattle.std.proofs.Common.{◌≡◌, sym, ap, ◌∙◌}
+use Rattle.std.proofs.Common.{ap, ◌∙◌}
 use Rattle.std.specs.Prelude.{Bool, List}
 use Rattle.enc_opcodes.specs.Sound.{begins_at}
 use Rattle.enc_edits.specs.Sizes.{placed}

@@ -16,9 +16,9 @@ pub loop-k-init : goal.loop-k-init
 loop-k-init g c = record {
   none = such_none (heap_passes c.args.context.now.chain c.args.context.now.list);
   filled =
-    c.in_ok-heaps.ensures ∙ ap none_from c.lengths.ensures
-    ∙ ap (λ (j : Listed). none_from (joined_lengths j.chain.heaps)) c.context.view_is
-    ∙ sym (edits_none (listed_rows c.args.context.now) (none_from (joined_lengths c.args.context.now.chain.heaps)));
+      c.in_ok-heaps.ensures ∙ ap none_from c.lengths.ensures
+      ∙ ap (λ (j : Listed). none_from (joined_lengths j.chain.heaps)) c.context.view_is
+      ∙ sym (edits_none (listed_rows c.args.context.now) (none_from (joined_lengths c.args.context.now.chain.heaps)));
 }
 
 pub add_edit-requires-clause-form : goal.add_edit-requires-clause-form
@@ -35,8 +35,8 @@ returns-in-Err-TooLarge-clause-first g c =
 pub loop-k-preserved : goal.loop-k-preserved
 loop-k-preserved g c = record {
   none = such_more (heap_passes c.args.context.now.chain c.args.context.now.list) c.loop-k.k c.loop-k.invariant.none
-    (edit_within c.args.context.now.chain c.args.context.now.list c.edits-edits.result.now c.loop-k.k c.index-edits-k.result c.loop-k.heaps c.add_edit.new.heaps c.edits-edits.ensures.edits c.loop-k-test.true c.index-edits-k.is c.loop-k.invariant.filled c.in-Ok.ensures.filled c.in-Ok.ensures.within c.requires.room);
+      (edit_within c.args.context.now.chain c.args.context.now.list c.edits-edits.result.now c.loop-k.k c.index-edits-k.result c.loop-k.heaps c.add_edit.new.heaps c.edits-edits.ensures.edits c.loop-k-test.true c.index-edits-k.is c.loop-k.invariant.filled c.in-Ok.ensures.filled c.in-Ok.ensures.within c.requires.room);
   filled =
-    c.in-Ok.ensures.filled ∙ ap (λ (b : Built). with_edit (listed_rows c.args.context.now) b c.index-edits-k.result) c.loop-k.invariant.filled
-    ∙ sym (edits_more (listed_rows c.args.context.now) (none_from (joined_lengths c.args.context.now.chain.heaps)) c.edits-edits.result.now c.loop-k.k c.index-edits-k.result c.loop-k-test.true c.index-edits-k.is);
+      c.in-Ok.ensures.filled ∙ ap (λ (b : Built). with_edit (listed_rows c.args.context.now) b c.index-edits-k.result) c.loop-k.invariant.filled
+      ∙ sym (edits_more (listed_rows c.args.context.now) (none_from (joined_lengths c.args.context.now.chain.heaps)) c.edits-edits.result.now c.loop-k.k c.index-edits-k.result c.loop-k-test.true c.index-edits-k.is);
 }

@@ -16,9 +16,9 @@ use Rattle.enc_rules.proofs.members.first_in.Goals as goal
 pub returns-in-Ok-Some : goal.returns-in-Ok-Some
 returns-in-Ok-Some g c = record {
   first =
-    c.edit_of.ensures.first
-    ∙ ap (λ (t : Token). first_such (adds_child t c.args.context.now.chain c.args.context.now.list) (length c.args.context.now.list.edits)) c.row_in.ensures
-    ∙ first_named c.args.table c.args.context.now.chain c.args.context.now.list c.deref.result.now c.in-Ok-Some.place
+      c.edit_of.ensures.first
+      ∙ ap (λ (t : Token). first_such (adds_child t c.args.context.now.chain c.args.context.now.list) (length c.args.context.now.list.edits)) c.row_in.ensures
+      ∙ first_named c.args.table c.args.context.now.chain c.args.context.now.list c.deref.result.now c.in-Ok-Some.place
       (ap (map pair_seen) c.deref.ensures.value ∙ c.in_ok-pairs.ensures.pairs ∙ ap (filter (λ (a : Attached). a.child.table == c.args.table)) c.pairs.ensures.pairs)
       (subst (λ (l : List Pair). ArePairs l) (sym c.deref.ensures.value) c.in_ok-pairs.ensures.rows)
       (sym c.in-Ok-Some.field-0-is ∙ c.in-Ok-Some.ensures ∙ ap (λ (j : Listed). twin_fault (asked_of (listed_rows c.args.context.now)) j.chain.plain (map pair_seen c.deref.result.now)) c.context.view_is);
