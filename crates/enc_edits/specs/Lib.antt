@@ -1,3 +1,4 @@
 pub mod Form
 pub mod Sizes
 pub mod Added
+pub mod Reach

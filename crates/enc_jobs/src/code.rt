@@ -2,8 +2,8 @@
 ghost use Rattle.std.specs.Prelude.{◌≡◌, ◌+◌, ◌<◌, ◌^◌, nat_lt, Some, None, map, slice_get, if◌then◌else◌};
 ghost use Rattle.std.specs.Result.{result_map_both};
 ghost use Rattle.serde_json.specs.View.{view};
-ghost use Rattle.enc_opcodes.specs.Sound.{target_count, operand_size as bytes_of_operand, instruction_size};
-ghost use Rattle.enc_edits.specs.Sizes.{arg_meant, instr_meant, length_of_code, placed};
+ghost use Rattle.enc_opcodes.specs.Sound.{instruction_size};
+ghost use Rattle.enc_edits.specs.Sizes.{instr_meant, length_of_code, placed};
 ghost use Rattle.enc_jobs.specs.Outcome.{ReadsAs};
 ghost use Rattle.enc_jobs.specs.Lists.{every};
 ghost use Rattle.enc_jobs.specs.Code.{within_word, offsets_of, arg_placed, instr_placed, code_said};
@@ -11,8 +11,7 @@ ghost use Rattle.enc_jobs.specs.Code.{within_word, offsets_of, arg_placed, instr
 use crate::fault::Refused;
 use crate::instr::instrs;
 use crate::value::elements;
-use enc_edits::{ArgValue, InstrList, InstrValue, TargetList};
-use enc_opcodes::Operand;
+use enc_edits::{ArgValue, InstrList, InstrValue, TargetList, instruction_size};
 use serde_json::Value;
 use std::alloc::Global;
 
@@ -30,46 +29,11 @@ pub struct Code {
     pub instrs: InstrList,
 }
 
-/// How many targets a `switch` has.
-fn target_count(arg: &ArgValue) -> usize
-    ensures { result ≡ target_count (arg_meant arg.now) }
-{
-    match arg {
-        ArgValue::Targets(targets) => targets.len(),
-        _ => 0,
-    }
-}
-
-/// The bytes of an operand.
-fn operand_size(kind: Operand, arg: &ArgValue) -> u128
-    ensures size { result ≡ bytes_of_operand kind (arg_meant arg.now) }
-    ensures few { result < 2 ^ 68 }
-{
-    match kind {
-        Operand::None => 0,
-        Operand::I8 | Operand::U8 | Operand::Branch8 => 1,
-        Operand::U16 => 2,
-        Operand::I32 | Operand::R4 | Operand::Branch32 | Operand::Token | Operand::User => 4,
-        Operand::I64 | Operand::R8 => 8,
-        Operand::Switch => 4 + 4 * target_count(arg) as u128,
-    }
-}
-
-/// The bytes of an instruction.
-#[tactic(auto, unfolding(enc_opcodes::specs::Sound::instruction_size))]
-fn size_of(instr: &InstrValue) -> u128
-    ensures size { result ≡ instruction_size (instr_meant instr.now) }
-    ensures few { result < 2 ^ 69 }
-{
-    let code = if instr.op.byte >= 0xFE00 { 2 } else { 1 };
-    code + operand_size(instr.op.operand, &instr.arg)
-}
-
 /// The offset behind an instruction at an offset.
 fn offset_behind(offset: u32, instr: &InstrValue) -> Result<u32, Refused>
     ensures { ReadsAs result (within_word (offset + instruction_size (instr_meant instr.now))) }
 {
-    let end = u128::from(offset) + size_of(instr);
+    let end = u128::from(offset) + instruction_size(instr);
     if end < 0x1_0000_0000 {
         return Ok(end as u32);
     }

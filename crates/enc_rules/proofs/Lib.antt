@@ -10,3 +10,10 @@ pub mod WholeTexts
 pub mod Fronts
 pub mod InstructionsPlaced
 pub mod BodiesAt
+pub mod FirstSuch
+pub mod RowsEdited
+pub mod RowsListed
+pub mod SoonestRule
+pub mod RowsFew
+pub mod SameRow
+pub mod TokensNamed

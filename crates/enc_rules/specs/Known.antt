@@ -5,8 +5,7 @@ use Rattle.enc_base.specs.declared.token.Token.{Token}
 use Rattle.enc_meta.specs.Joined.{joined_blob}
 use Rattle.enc_schema.specs.Tables as tables
 use Rattle.enc_opcodes.specs.Body.{nil_or}
-use Rattle.enc_plain.specs.Cell.{Cell, blob}
-use Rattle.enc_plain.specs.Rows.{Rows, cell_at}
+use Rattle.enc_plain.specs.Rows.{Rows, bytes_at}
 use Rattle.enc_plain.specs.Chain.{Chain}
 use Rattle.enc_delta.specs.Members.{ArePairs, pair_seen}
 use Rattle.enc_edits.specs.declared.edit.CellValue.{CellValue}
@@ -55,20 +54,20 @@ token_of_value _ = nil
 abbrev pub cell_number : Token → ℕ → ℕ
 cell_number t i = t.row * 2 ^ 16 + t.table * 2 ^ 8 + i
 
--- the blob in the cell of a number, of a cell without one no bytes
-abbrev pub blob_of_cell : Option Cell → List ℕ
-blob_of_cell (Some (blob bytes)) = bytes
-blob_of_cell _ = []
-
-abbrev pub numbered_blob : Rows → ℕ → Option (List ℕ)
-numbered_blob rows n = Some (blob_of_cell (cell_at rows (record { table = n / 2 ^ 8 % 2 ^ 8; row = n / 2 ^ 16 }) (n % 2 ^ 8)))
+-- the bytes in the cell of a number
+abbrev pub numbered_bytes : Rows → ℕ → Option (List ℕ)
+numbered_bytes rows n = Some (bytes_at rows (record { table = n / 2 ^ 8 % 2 ^ 8; row = n / 2 ^ 16 }) (n % 2 ^ 8))
 
 -- the blobs of a list's rows: those of the chain at their places, and the others behind 2^63 by the numbers of their cells
 unfoldable pub blobs_listed : Listed → ℕ → Option (List ℕ)
-blobs_listed j n = if nat_lt n (2 ^ 63) then joined_blob j.chain.heaps n else numbered_blob (rows_listed j.chain j.list.edits) (n - 2 ^ 63)
+blobs_listed j n = if nat_lt n (2 ^ 63) then joined_blob j.chain.heaps n else numbered_bytes (rows_listed j.chain j.list.edits) (n - 2 ^ 63)
 
 abbrev pub listed_rows : Listed → Rows
 listed_rows j = rows_listed j.chain j.list.edits
 
 abbrev pub listed_counts : Listed → ℕ → ℕ
 listed_counts j = count_after j.chain j.list.edits
+
+-- a number that no other token has
+abbrev pub row_key : Token → ℕ
+row_key t = t.table * 2 ^ 32 + t.row

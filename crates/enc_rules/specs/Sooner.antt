@@ -1,16 +1,8 @@
 -- For the contracts of private functions: the first edit of several rules, of which each tells its own.
-use Rattle.std.specs.Prelude.{ℕ, ◌+◌, List, [], ◌∷◌, Option, Some, None, nat_lt, if◌then◌else◌}
-use Rattle.enc_plain.specs.Chain.{Chain}
-use Rattle.enc_edits.specs.declared.edit.EditList.{EditList}
-use Rattle.enc_rules.specs.First.{EditRule, first_such}
+use Rattle.std.specs.Prelude.{ℕ, ◌+◌, Option, Some, None, nat_lt, if◌then◌else◌}
 
 -- what is told so far, or the first place at which another rule is broken, where that is sooner; of one edit the rule that is told first stays
 abbrev pub sooner : Option (ℕ × ℕ) → ℕ → Option ℕ → Option (ℕ × ℕ)
 sooner told rule None = told
 sooner None rule (Some k) = Some (rule, k + 1)
 sooner (Some t) rule (Some k) = if nat_lt (k + 1) t.1 then Some (rule, k + 1) else Some t
-
--- what some rules tell of the edits below n, one behind the other
-abbrev pub soonest : Option (ℕ × ℕ) → List (ℕ × EditRule) → Chain → EditList → ℕ → Option (ℕ × ℕ)
-soonest told [] c l n = told
-soonest told (r ∷ rs) c l n = soonest (sooner told r.0 (first_such (r.1 c l) n)) rs c l n

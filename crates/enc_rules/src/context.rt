@@ -1,13 +1,12 @@
 //! An edit list after its chain: what its rules ask, and the rows that are there afterwards, asked for
 //! cell by cell.
-ghost use Rattle.std.specs.Prelude.{◌≡◌, ℕ, ◌<◌, ◌^◌, Some, None, map, option_map, slice_get, slice_index, length, nat_le, ◌==◌, ◌&&◌, ◌||◌, IfOk, IsTrue};
-ghost use Rattle.enc_edits.specs.Form.{list_fits};
-ghost use Rattle.enc_plain.specs.Cell.{Cell, kind_in, blobs};
+ghost use Rattle.std.specs.Prelude.{◌≡◌, ℕ, ◌<◌, ◌^◌, Some, None, map, option_map, slice_index, length, nat_le};
+ghost use Rattle.enc_plain.specs.Cell.{kind_in, blobs};
 ghost use Rattle.enc_plain.specs.Rows.{bytes_at};
 ghost use Rattle.enc_delta.specs.Members.{ArePairs, pair_seen};
 ghost use Rattle.enc_rules.specs.Edited.{rows_edited, attached_in};
-ghost use Rattle.enc_rules.specs.Listed.{count_after, edit_of, cells_added};
-ghost use Rattle.enc_rules.specs.Rules.{is_row_of, there_are_too_many};
+ghost use Rattle.enc_rules.specs.Listed.{edit_of};
+ghost use Rattle.enc_rules.specs.Rules.{is_row_of};
 ghost use Rattle.enc_rules.specs.Known.{value_of, value_in, number_of_value, bytes_of_value, token_of_value, cell_number, listed_rows, listed_counts, blobs_listed};
 
 use enc_base::{Counts, Token};
@@ -113,6 +112,7 @@ fn token_of(value: Option<&CellValue>) -> Token
 fn cell_number(row: Token, column: u8) -> u64
     ensures number { result ≡ cell_number row column }
     ensures few { result < 2 ^ 48 }
+    ensures table { row.table < 256 }
 {
     u64::from(row.row) * 0x1_0000 + u64::from(row.table) * 0x100 + u64::from(column)
 }
@@ -157,6 +157,13 @@ impl<C: ChainView> Context<'_, C> {
         row <= before || (row - before) as usize <= self.added.count(table)
     }
 
+    /// No table has more than 2^24 - 1 rows after the list.
+    pub fn has_few_rows(&self)
+        ensures few { (t : ℕ) → listed_counts self.now t < 2 ^ 24 }
+    {
+        let _ = self.known.rows.len();
+    }
+
     /// A row of the table after the list.
     pub fn is_row_of(&self, table: u8, token: Token) -> bool
         ensures { result ≡ is_row_of (listed_counts self.now) table token }
@@ -195,6 +202,7 @@ impl<C: ChainView> CellView for Context<'_, C> {
 
     ghost stored = { blobs_listed };
 
+    #[tactic(auto, using(crate::proofs::RowsListed::has_new, crate::proofs::RowsListed::has_old))]
     fn has(&self, row: Token) -> bool {
         match self.edit_of(row) {
             Some(_) => true,
@@ -202,6 +210,7 @@ impl<C: ChainView> CellView for Context<'_, C> {
         }
     }
 
+    #[tactic(auto, using(crate::proofs::RowsListed::number_new, crate::proofs::RowsListed::number_old))]
     fn number(&self, row: Token, column: u8) -> u32 {
         match self.edit_of(row) {
             Some(edit) => number_of(value_of(edit, column)),
@@ -209,6 +218,7 @@ impl<C: ChainView> CellView for Context<'_, C> {
         }
     }
 
+    #[tactic(auto, using(crate::proofs::RowsListed::bytes_new, crate::proofs::RowsListed::bytes_old))]
     fn text(&self, row: Token, column: u8) -> &[u8] {
         match self.edit_of(row) {
             Some(edit) => bytes_of(value_of(edit, column)),
@@ -216,6 +226,7 @@ impl<C: ChainView> CellView for Context<'_, C> {
         }
     }
 
+    #[tactic(auto, using(crate::proofs::RowsListed::bytes_new, crate::proofs::RowsListed::bytes_old))]
     fn blob(&self, row: Token, column: u8) -> &[u8] {
         match self.edit_of(row) {
             Some(edit) => bytes_of(value_of(edit, column)),
@@ -230,6 +241,7 @@ impl<C: ChainView> CellView for Context<'_, C> {
         }
     }
 
+    #[tactic(auto, using(crate::proofs::RowsListed::token_new, crate::proofs::RowsListed::token_old))]
     fn token(&self, row: Token, column: u8) -> Token {
         match self.edit_of(row) {
             Some(edit) => token_of(value_of(edit, column)),

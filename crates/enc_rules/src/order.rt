@@ -1,5 +1,5 @@
 //! The first edit that breaks a rule, and the first rule that it breaks.
-ghost use Rattle.std.specs.Prelude.{◌≡◌, ◌<◌, ◌^◌, ◌≤◌, IfSome};
+ghost use Rattle.std.specs.Prelude.{◌≡◌, ◌<◌, ◌^◌, IfSome};
 ghost use Rattle.enc_rules.specs.Sooner.{sooner};
 
 /// What is told so far, or the first place at which another rule is broken, from 0, where that is sooner.

@@ -1,6 +1,5 @@
 //! The owners of added rows, and the tables in which rows may be added.
 ghost use Rattle.std.specs.Prelude.{◌≡◌, ◌<◌, ◌^◌, length, IfSome};
-ghost use Rattle.enc_base.specs.Order.{first_below};
 ghost use Rattle.enc_rules.specs.First.{first_such};
 ghost use Rattle.enc_rules.specs.Known.{listed_counts};
 ghost use Rattle.enc_rules.specs.Rules.{owner_breaks, owner_is_missing, table_breaks, table_is_closed};

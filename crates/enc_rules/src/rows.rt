@@ -1,13 +1,13 @@
 //! The rows that edits are about, and the children that they give to owners.
-ghost use Rattle.std.specs.Prelude.{◌≡◌, ◌<◌, ◌^◌, ◌++◌, ◌∷◌, [], ℕ, map, take, drop, length, false, option_map, slice_get, slice_index, IfOk, IsTrue, IfSome};
+ghost use Rattle.std.specs.Prelude.{◌≡◌, ◌<◌, ◌^◌, ◌++◌, ℕ, map, take, length, false, option_map, slice_get, slice_index, IfOk, IsTrue, IfSome};
 ghost use Rattle.std.specs.List.{list_all};
 ghost use Rattle.enc_edits.specs.Form.{edit_fits, list_fits};
-ghost use Rattle.enc_edits.specs.Added.{rank_of};
-ghost use Rattle.enc_plain.specs.Sound.{row_count};
+ghost use Rattle.enc_plain.specs.Sound.{IsSound};
 ghost use Rattle.enc_delta.specs.Members.{ArePairs, pair_seen};
-ghost use Rattle.enc_rules.specs.Edited.{row_edited, rows_edited, rows_behind, attached_by, attached_behind, attached_in};
+ghost use Rattle.enc_rules.specs.Edited.{row_edited, rows_edited, attached_by, attached_in};
 ghost use Rattle.enc_rules.specs.First.{first_such};
-ghost use Rattle.enc_rules.specs.Listed.{Listed, count_after};
+ghost use Rattle.enc_rules.specs.Listed.{count_after};
+ghost use Rattle.enc_rules.specs.Known.{row_key};
 ghost use Rattle.enc_rules.specs.Rules.{there_are_too_many, row_is_edited_twice};
 
 use crate::context::{Context, Known};
@@ -25,16 +25,19 @@ fn row_at<C: ChainView>(chain: &C, added: &Added<'_>, k: usize) -> Token
     requires few { (t : ℕ) → count_after (C.chain chain.now) added.now t < 2 ^ 24 }
     ensures { option_map (row_edited (C.chain chain.now).plain (take k added.now)) (slice_get added.now k) ≡ Some result }
 {
-    match &added.edits()[k] {
+    let edits = added.edits();
+    let rank = added.rank_at(k);
+    match &edits[k] {
         Edit::Add { table, .. } => Token {
             table: *table,
-            row: chain.count(*table) + added.rank_at(k) as u32 + 1,
+            row: chain.count(*table) + rank as u32 + 1,
         },
         Edit::Body { method, .. } => *method,
     }
 }
 
 /// The rows that the edits are about, in order.
+#[tactic(auto, using(crate::proofs::RowsEdited::rows_none, crate::proofs::RowsEdited::rows_next))]
 fn rows_of<C: ChainView>(
     alloc: Global,
     chain: &C,
@@ -88,16 +91,25 @@ fn pairs_of<C: ChainView>(
     Ok(pairs)
 }
 
-/// How many rows each table has after the list.
+/// How many rows a table has after the list.
+#[tactic(auto, unfolding(crate::specs::Listed::count_after))]
+fn count_of<C: ChainView>(chain: &C, added: &Added<'_>, table: u8) -> u32
+    requires few { count_after (C.chain chain.now) added.now table < 2 ^ 24 }
+    ensures { result ≡ count_after (C.chain chain.now) added.now table }
+{
+    chain.count(table) + added.count(table) as u32
+}
+
+/// The same of each table.
 fn counts_of<C: ChainView>(chain: &C, added: &Added<'_>) -> Counts
     requires few { (t : ℕ) → count_after (C.chain chain.now) added.now t < 2 ^ 24 }
     ensures { (t : ℕ) → t < 64 → slice_index result.rows t ≡ count_after (C.chain chain.now) added.now t }
 {
-    let mut rows = [0; 64];
+    let mut counts = Counts { rows: [0; 64] };
     for table in 0..64u8 {
-        rows[table as usize] = chain.count(table) + added.count(table) as u32;
+        counts.rows[table as usize] = count_of(chain, added, table);
     }
-    Counts { rows }
+    counts
 }
 
 /// The list, to be judged after the chain.
@@ -107,6 +119,7 @@ pub fn context_of<'a, C: ChainView>(
     list: &'a EditList,
     added: Added<'a>,
 ) -> Result<Context<'a, C>, AllocError>
+    requires sound { IsSound (C.chain chain.now).plain }
     requires form { IsTrue (list_fits list.now) }
     requires edits { added ≡ list.now.edits }
     requires few { there_are_too_many (C.chain chain.now) list.now ≡ false }
@@ -127,8 +140,15 @@ pub fn context_of<'a, C: ChainView>(
     })
 }
 
+/// A number that no other token has.
+fn row_key(row: Token) -> u64
+    ensures key { result ≡ row_key row }
+    ensures few { row.row < 2 ^ 32 }
+{
+    u64::from(row.table) * 0x1_0000_0000 + u64::from(row.row)
+}
+
 /// The first edit before which another is about the same row. It takes memory for each row.
-#[tactic(auto, using(enc_base::proofs::First::first_none, enc_base::proofs::First::first_found, enc_base::proofs::First::first_more))]
 pub fn row_is_edited_twice<C: ChainView>(
     alloc: Global,
     context: &Context<'_, C>,
@@ -137,12 +157,14 @@ pub fn row_is_edited_twice<C: ChainView>(
     ensures few { IfOk result (λ k. IfSome k (λ n. n < 2 ^ 24)) }
 {
     let mut known = BTreeSet::new(alloc);
+    let edits = context.edits();
     let rows = context.rows();
-    for k in 0..rows.len() {
-        if known.contains(&rows[k]) {
+    for k in 0..edits.len() {
+        let key = row_key(rows[k]);
+        if known.contains(&key) {
             return Ok(Some(k as u32));
         }
-        known.insert(rows[k])?;
+        known.insert(key)?;
     }
     Ok(None)
 }

@@ -1,11 +1,10 @@
 //! The rules of an edit list as a whole.
-ghost use Rattle.std.specs.Prelude.{◌≡◌, ◌≤◌, ◌<◌, ◌+◌, ◌^◌, ◌||◌, length, filter, option_map, slice_get, take, nat_lt, false, IsTrue, Some, None};
+ghost use Rattle.std.specs.Prelude.{◌≡◌, ◌+◌, ◌≤◌, length, filter, option_map, nat_lt, false, None};
 ghost use Rattle.std.specs.List.{list_any};
 ghost use Rattle.enc_rows.specs.Sums.{below};
-ghost use Rattle.enc_meta.specs.Built.{none_from};
 ghost use Rattle.enc_rules.specs.First.{first_of_list, list_rules};
 ghost use Rattle.enc_rules.specs.Listed.{count_after};
-ghost use Rattle.enc_rules.specs.Rules.{id_is_taken, heaps_are_full, there_are_too_many, has_owner, passes_limits};
+ghost use Rattle.enc_rules.specs.Rules.{id_is_taken, heaps_are_full, there_are_too_many, has_owner};
 
 use enc_delta::is_used;
 use enc_edits::{Added, Edit, EditList};
@@ -34,13 +33,21 @@ fn heaps_are_full<C: ChainView>(chain: &C, list: &EditList) -> bool
         || 0x200_0000 <= lengths.guids
 }
 
-/// A table has more than 2^24 - 1 rows after the list.
+/// The table has more than 2^24 - 1 rows after the list.
 #[tactic(auto, unfolding(crate::specs::Listed::count_after))]
+fn is_long<C: ChainView>(chain: &C, added: &Added<'_>, table: u8) -> bool
+    ensures { result ≡ nat_lt 0xFFFFFF (count_after (C.chain chain.now) added.now table) }
+{
+    added.count(table) > (0xFF_FFFF - chain.count(table)) as usize
+}
+
+/// A table has more than 2^24 - 1 rows after the list.
+#[tactic(auto, using(enc_rows::proofs::Below::any_none, enc_rows::proofs::Below::any_more, enc_rows::proofs::Below::any_true))]
 fn has_many_rows<C: ChainView>(chain: &C, added: &Added<'_>) -> bool
     ensures { result ≡ list_any (λ table. nat_lt 0xFFFFFF (count_after (C.chain chain.now) added.now table)) (below 64) }
 {
     for table in 0..64u8 {
-        if added.count(table) > (0xFF_FFFF - chain.count(table)) as usize {
+        if is_long(chain, added, table) {
             return true;
         }
     }

@@ -1,0 +1,23 @@
+-- When the short branches of a stated body reach their targets (ECMA-335 III.1.7.2).
+use Rattle.std.specs.Prelude.{ℕ, ◌+◌, Bool, true, ◌&&◌, nat_le, List, [], ◌∷◌}
+use Rattle.enc_opcodes.specs.declared.op.Operand.{Operand}
+use Rattle.enc_opcodes.specs.declared.op.Operand.TheVariants as operand
+use Rattle.enc_opcodes.specs.Sound.{instruction_size}
+use Rattle.enc_edits.specs.declared.body.ArgValue.{ArgValue}
+use Rattle.enc_edits.specs.declared.body.ArgValue.TheVariants as arg
+use Rattle.enc_edits.specs.declared.body.InstrValue.{InstrValue}
+use Rattle.enc_edits.specs.Sizes.{instr_meant}
+
+-- at most 128 bytes before the end of the instruction and 127 behind it
+abbrev pub is_close : ℕ → ℕ → Bool
+is_close end target = nat_le end (target + 128) && nat_le target (end + 127)
+
+abbrev pub argument_reaches : ℕ → Operand → ArgValue → Bool
+argument_reaches end operand.Branch8 (arg.Target target) = is_close end target
+argument_reaches end _ _ = true
+
+-- each of the instructions that stand one behind the other from a place on reaches its target
+unfoldable pub branches_reach : ℕ → List InstrValue → Bool
+branches_reach at [] = true
+branches_reach at (i ∷ rest) =
+    argument_reaches (at + instruction_size (instr_meant i)) i.op.operand i.arg && branches_reach (at + instruction_size (instr_meant i)) rest
