@@ -1,5 +1,5 @@
 -- The body of an edit, by marks and by sums up to the limit.
-use Rattle.std.proofs.Common.{◌≡◌, ℕ, ◌+◌, ◌*◌, ◌<◌, ◌≤◌, Bool, true, false, List, [], ◌∷◌, length, take, get_or, map, Option, Some, None, refl, sym, ap, ◌∙◌, inl, inr, arith, eq-eqb, lit<, subst}
+use Rattle.std.proofs.Common.{◌≡◌, ℕ, ◌+◌, ◌*◌, ◌<◌, Bool, true, false, List, [], ◌∷◌, length, take, get_or, map, Option, Some, refl, sym, ap, ◌∙◌, arith, eq-eqb, lit<, subst}
 use Rattle.std.specs.Prelude.{◌^◌, ◌&&◌, ◌||◌, not, min, sum_by, nat_le, nat_lt}
 use Rattle.std.specs.List.{list_all}
 use Rattle.std.proofs.lemmas.Bool.Decides.{nat_tests}

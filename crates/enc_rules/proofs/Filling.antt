@@ -1,6 +1,6 @@
 -- Heaps that pass a limit pass it with more, and one that is refused would pass it.
 use Rattle.std.proofs.Common.{◌≡◌, ℕ, zero, suc, ◌+◌, ◌<◌, ◌≤◌, Bool, true, false, List, [], ◌∷◌, ◌++◌, length, take, drop, ◌-◌, get_or, refl, sym, ap, ◌∙◌, inl, inr, arith}
-use Rattle.std.specs.Prelude.{◌^◌, ◌||◌, ◌&&◌, ◌⊎◌, not, nat_lt, max, ◌*◌, sum_by, flat_map, Result, Ok, Err, if◌then◌else◌}
+use Rattle.std.specs.Prelude.{◌^◌, ◌||◌, ◌&&◌, ◌⊎◌, not, nat_lt, max, ◌*◌, flat_map, Err}
 use Rattle.std.proofs.lemmas.Bool.Decides.{nat_tests}
 use Rattle.std.proofs.lemmas.List.Sums.{sum_by_push}
 use Rattle.enc_meta.specs.Built.{Built, AreWithinLimits, is_kept, with_value, joined_end, text_bytes, user_bytes, blob_bytes, with_text, with_user, with_blob, passes, text_passes, user_passes, blob_passes, none_from}

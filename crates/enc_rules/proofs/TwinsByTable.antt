@@ -1,38 +1,36 @@
 -- The first edit that adds a member with a twin, by the least such member of each table.
-use Rattle.std.proofs.Common.{◌≡◌, ℕ, zero, suc, ◌+◌, ◌*◌, ◌<◌, ◌≤◌, Bool, true, false, List, [], ◌∷◌, ◌++◌, length, take, map, Option, Some, None, refl, sym, ap, ◌∙◌, arith, inl, inr, append_assoc, eq-eqb}
-use Rattle.std.specs.Prelude.{◌⊎◌, ◌==◌, ◌&&◌, ◌||◌, filter, slice_get, nat_lt, option_map, ◌^◌, if◌then◌else◌, IsTrue}
+use Rattle.std.proofs.Common.{◌≡◌, ℕ, zero, suc, ◌+◌, ◌<◌, ◌≤◌, Bool, true, false, List, [], ◌∷◌, ◌++◌, length, take, map, Option, Some, None, refl, sym, ap, ◌∙◌, arith, inl, inr, append_assoc, eq-eqb}
+use Rattle.std.specs.Prelude.{◌⊎◌, ◌==◌, ◌&&◌, ◌||◌, filter, slice_get, nat_lt, option_map, ◌^◌}
 use Rattle.std.specs.List.{list_any, list_all}
 use Rattle.std.proofs.lemmas.Bool.Decides.{nat_tests}
 use Rattle.std.proofs.lemmas.List.{append-nil}
-use Rattle.enc_base.specs.Token.{is_token, number_of}
+use Rattle.enc_base.specs.Token.{is_token}
 use Rattle.enc_base.specs.declared.token.Token.{Token}
 use Rattle.enc_base.specs.declared.refusal.Place.{Place}
-use Rattle.enc_base.specs.declared.refusal.Place.TheVariants.{Row}
 use Rattle.enc_schema.specs.Children.{is_child_table}
-use Rattle.enc_plain.specs.Apply.{Attached, gained}
+use Rattle.enc_plain.specs.Apply.{Attached}
 use Rattle.enc_plain.specs.Chain.{Chain}
 use Rattle.enc_plain.specs.Module.{Module}
-use Rattle.enc_plain.specs.Rows.{Rows}
 use Rattle.enc_plain.specs.Sound.{row_count}
 use Rattle.enc_plain.proofs.Columns.{both_left, both_right}
 use Rattle.enc_delta.specs.declared.pairs.Pair.{Pair}
 use Rattle.enc_delta.specs.Changes.{asked_of, is_member}
 use Rattle.enc_delta.specs.Members.{ArePairs, pair_seen}
 use Rattle.enc_delta.specs.Twins.{Asked, has_twin, twin_fault}
-use Rattle.enc_delta.specs.TwinLaw.{IsLeastOf, NonePasses, NamesTwin, child_number}
+use Rattle.enc_delta.specs.TwinLaw.{IsLeastOf, child_number}
 use Rattle.enc_delta.proofs.ListsChildren.{two}
 use Rattle.enc_delta.proofs.LeastTwin.{names_least_twin}
 use Rattle.enc_edits.specs.Added.{adds_to, adding, rows_added}
 use Rattle.enc_edits.specs.declared.edit.Edit.{Edit}
 use Rattle.enc_edits.specs.declared.edit.Edit.TheVariants.{Add, Body as Replace}
 use Rattle.enc_edits.specs.declared.edit.EditList.{EditList}
-use Rattle.enc_rules.specs.Edited.{row_edited, rows_edited, attached_by, attached_behind, attached_in}
+use Rattle.enc_rules.specs.Edited.{row_edited, attached_by, attached_behind, attached_in}
 use Rattle.enc_rules.specs.First.{first_such}
 use Rattle.enc_rules.specs.Listed.{rows_listed}
 use Rattle.enc_rules.specs.Rules.{at_edit, of_child, member_has_twin}
 use Rattle.enc_rules.specs.Told.{adds_row, adds_child, is_twin_in, has_twin_in, row_in, earlier}
 use Rattle.enc_rules.proofs.EditAt.{edit_judged, nth_row_behind}
-use Rattle.enc_rules.proofs.Such.{SuchIs, none_such, such_unique, such_alike, earlier_is}
+use Rattle.enc_rules.proofs.Such.{such_unique, such_alike, earlier_is}
 
 -- the pairs of a table
 abbrev in_table : ℕ → Attached → Bool

@@ -1,14 +1,14 @@
 -- Texts have no zeros: those of cells by the form of the list, and those of the chain's rows since its module is sound.
-use Rattle.std.proofs.Common.{◌≡◌, ℕ, zero, suc, ◌+◌, ◌-◌, Bool, true, false, List, [], ◌∷◌, ◌++◌, map, length, get_or, ◌<◌, Option, Some, None, refl, sym, ap, ◌∙◌, inl, inr}
-use Rattle.std.specs.Prelude.{◌&&◌, ◌⊎◌, ◌==◌, not, flat_map, filter, slice_get, option_map, nat_lt, if◌then◌else◌}
-use Rattle.std.specs.List.{list_any, list_all}
+use Rattle.std.proofs.Common.{◌≡◌, ℕ, zero, suc, ◌-◌, Bool, true, false, List, [], ◌∷◌, ◌++◌, map, length, get_or, ◌<◌, Option, Some, None, refl, ◌∙◌, inl, inr}
+use Rattle.std.specs.Prelude.{◌&&◌, ◌⊎◌, flat_map, slice_get, option_map, nat_lt}
+use Rattle.std.specs.List.{list_all}
 use Rattle.enc_base.specs.Order.{or_else}
 use Rattle.enc_base.specs.declared.token.Token.{Token}
 use Rattle.enc_schema.specs.declared.column.Column.{Column}
 use Rattle.enc_schema.specs.declared.column.Column.TheVariants.{Num8, Num16, Num32, Text, Guid, Blob, Index, Coded, Run}
 use Rattle.enc_schema.specs.Schema.{columns_in, column_in}
 use Rattle.enc_seqpoints.specs.declared.point.Point.{Point}
-use Rattle.enc_plain.specs.Cell.{Cell, number, text, blob, guid, refer, body, field, Kind, texts, blobs, kind_in, cell_kind}
+use Rattle.enc_plain.specs.Cell.{Cell, number, text, blob, guid, refer, body, field, texts, blobs, kind_in, cell_kind}
 use Rattle.enc_plain.specs.Chain.{Chain, rows_before}
 use Rattle.enc_plain.specs.Module.{Module, has_row, cell_of, cells_of}
 use Rattle.enc_plain.specs.Rows.{bytes_of_cell, bytes_at, cell_at}

@@ -1,7 +1,7 @@
 -- The rules of an edit list after its chain, each of the list as a whole or of the edit at a place, from 0.
-use Rattle.std.specs.Prelude.{◌≡◌, ℕ, ◌+◌, ◌-◌, ◌*◌, ◌%◌, ◌^◌, ◌≤◌, Bool, true, false, not, ◌&&◌, ◌||◌, ◌==◌, nat_lt, nat_le, List, [], ◌∷◌, ◌++◌, length, filter, flat_map, take, sum_by, Option, Some, None, unwrap_or, is_ok, if◌then◌else◌, slice_get, bytes_eq}
+use Rattle.std.specs.Prelude.{ℕ, ◌+◌, ◌*◌, ◌%◌, ◌^◌, Bool, true, false, not, ◌&&◌, ◌||◌, ◌==◌, nat_lt, nat_le, List, [], ◌∷◌, length, filter, flat_map, take, sum_by, Option, Some, None, is_ok, if◌then◌else◌, slice_get, bytes_eq}
 use Rattle.std.specs.List.{list_any, list_all}
-use Rattle.enc_base.specs.Token.{is_token, nil}
+use Rattle.enc_base.specs.Token.{is_token}
 use Rattle.enc_base.specs.declared.token.Token.{Token}
 use Rattle.enc_meta.specs.Heaps.{nil_guid}
 use Rattle.enc_meta.specs.Joined.{joined_lengths}

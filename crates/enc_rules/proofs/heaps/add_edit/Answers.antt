@@ -1,4 +1,3 @@
-use Rattle.std.proofs.Common.{◌≡◌, sym, ap, ◌∙◌}
 use Rattle.enc_rules.specs.Known.{listed_rows}
 use Rattle.enc_rules.specs.Rules.{with_edit, with_texts, with_users, with_blobs, texts_of_edit, users_of_edit, blobs_of_edit}
 use Rattle.enc_rules.proofs.Filling.{fills_later, passes_edit_texts, passes_edit_users, passes_edit_blobs, edit_filled}

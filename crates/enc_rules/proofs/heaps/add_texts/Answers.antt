@@ -1,4 +1,4 @@
-use Rattle.std.proofs.Common.{◌≡◌, sym, ap, ◌∙◌}
+use Rattle.std.proofs.Common.{sym, ap, ◌∙◌}
 use Rattle.std.specs.Prelude.{flat_map}
 use Rattle.enc_edits.specs.Form.{edit_fits}
 use Rattle.enc_rules.specs.Filled.{is_whole, are_whole}

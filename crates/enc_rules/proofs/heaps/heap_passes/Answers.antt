@@ -1,10 +1,8 @@
-use Rattle.std.proofs.Common.{◌≡◌, sym, ap, ◌∙◌, arith, length, take, Err}
-use Rattle.enc_meta.specs.declared.builder.BuildFault.{BuildFault}
+use Rattle.std.proofs.Common.{sym, ap, ◌∙◌, arith, length}
 use Rattle.enc_meta.specs.Built.{Built, none_from}
 use Rattle.enc_meta.specs.Joined.{joined_lengths}
 use Rattle.enc_edits.specs.Form.{list_fits}
 use Rattle.enc_rules.specs.Known.{listed_rows}
-use Rattle.enc_rules.specs.Filled.{Fills}
 use Rattle.enc_rules.specs.Listed.{Listed}
 use Rattle.enc_rules.specs.Rules.{heap_passes, with_edit}
 use Rattle.enc_rules.proofs.EditAt.{such_none, such_more, such_found}

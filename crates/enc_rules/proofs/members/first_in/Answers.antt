@@ -1,4 +1,4 @@
-use Rattle.std.proofs.Common.{◌≡◌, sym, ap, ◌∙◌, subst, length, map, List}
+use Rattle.std.proofs.Common.{sym, ap, ◌∙◌, subst, length, map, List}
 use Rattle.std.specs.Prelude.{◌==◌, filter}
 use Rattle.enc_base.specs.declared.token.Token.{Token}
 use Rattle.enc_plain.specs.Apply.{Attached}

@@ -1,4 +1,4 @@
-use Rattle.std.proofs.Common.{◌≡◌, ap, ◌∙◌}
+use Rattle.std.proofs.Common.{ap, ◌∙◌}
 use Rattle.enc_rules.specs.Told.{earlier}
 use Rattle.enc_rules.proofs.TwinsByTable.{first_member}
 use Rattle.enc_rules.proofs.members.member_has_twin.Goals as goal
