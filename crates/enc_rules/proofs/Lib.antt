@@ -1,3 +1,15 @@
+pub mod EditAt
+pub mod Counted
+pub mod Children
+pub mod Such
+pub mod TwinsByTable
+pub mod Capped
+pub mod PointsAt
+pub mod Filling
+pub mod WholeTexts
+pub mod Fronts
+pub mod InstructionsPlaced
+pub mod BodiesAt
 pub mod FirstSuch
 pub mod RowsEdited
 pub mod RowsListed

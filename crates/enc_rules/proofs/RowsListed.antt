@@ -1,26 +1,23 @@
 -- The rows after an edit list, cell by cell.
-use Rattle.std.proofs.Common.{◌≡◌, ℕ, zero, suc, ◌+◌, ◌-◌, ◌*◌, ◌<◌, ◌≤◌, Bool, true, false, List, [], ◌∷◌, ◌++◌, map, Option, Some, None, refl, sym, ap, ◌∙◌, arith}
+use Rattle.std.proofs.Common.{◌≡◌, ℕ, zero, suc, ◌+◌, ◌-◌, ◌<◌, Bool, true, false, List, [], ◌∷◌, map, Option, Some, None, refl, ap, ◌∙◌, arith}
 use Rattle.std.specs.Prelude.{◌/◌, ◌%◌, ◌^◌, ◌==◌, nat_lt, slice_get, is_some, option_map, option_and_then, if◌then◌else◌}
 use Rattle.std.proofs.lemmas.Bool.Decides.{nat_tests}
 use Rattle.std.proofs.lemmas.Option.{slice_get-map}
-use Rattle.enc_base.specs.Token.{nil}
 use Rattle.enc_base.specs.declared.token.Token.{Token}
 use Rattle.enc_meta.specs.Joined.{joined_blob}
 use Rattle.enc_schema.specs.Tables as tables
-use Rattle.enc_plain.specs.Cell.{Cell, number, text, blob, guid, refer, body, field}
+use Rattle.enc_plain.specs.Cell.{Cell, body, field}
 use Rattle.enc_plain.specs.Chain.{Chain}
 use Rattle.enc_plain.specs.Module.{cells_of}
-use Rattle.enc_plain.specs.Rows.{Rows, cell_at, number_at, bytes_at, token_at, number_of_cell, bytes_of_cell, token_of_cell, AreStoredAt}
-use Rattle.enc_seqpoints.specs.declared.point.Point.{Point}
+use Rattle.enc_plain.specs.Rows.{cell_at, number_at, bytes_at, token_at, number_of_cell, bytes_of_cell, token_of_cell}
 use Rattle.enc_edits.specs.declared.body.BodyValue.{BodyValue}
 use Rattle.enc_edits.specs.declared.edit.CellValue.{CellValue}
 use Rattle.enc_edits.specs.declared.edit.CellValue.TheVariants as cell
 use Rattle.enc_edits.specs.declared.edit.Edit.{Edit}
 use Rattle.enc_edits.specs.declared.edit.Edit.TheVariants.{Add, Body as Replace}
-use Rattle.enc_edits.specs.Form.{begins_with_rva}
 use Rattle.enc_rules.specs.Edited.{cell_stated, body_stated, cells_stated}
 use Rattle.enc_rules.specs.Listed.{Listed, edit_of, cells_added, rows_listed}
-use Rattle.enc_rules.specs.Known.{value_in, value_of, number_of_value, bytes_of_value, token_of_value, cell_number, numbered_bytes, blobs_listed, listed_rows}
+use Rattle.enc_rules.specs.Known.{value_in, value_of, number_of_value, bytes_of_value, token_of_value, cell_number, blobs_listed, listed_rows}
 
 -- an added row has the cells of its edit, and any other those of the chain
 pub new_is : (c : Chain) (edits : List Edit) (t : Token) (e : Edit) → edit_of c edits t ≡ Some e → rows_listed c edits t ≡ Some (cells_added e)

@@ -4,3 +4,7 @@ pub mod Rules
 pub mod First
 pub mod Known
 pub mod Sooner
+pub mod Told
+pub mod Sums
+pub mod Filled
+pub mod Marked

@@ -1,7 +1,7 @@
 -- The rules of an edit list after its chain, each of the list as a whole or of the edit at a place, from 0.
-use Rattle.std.specs.Prelude.{◌≡◌, ℕ, ◌+◌, ◌-◌, ◌*◌, ◌%◌, ◌^◌, ◌≤◌, Bool, true, false, not, ◌&&◌, ◌||◌, ◌==◌, nat_lt, nat_le, List, [], ◌∷◌, ◌++◌, length, filter, flat_map, take, sum_by, Option, Some, None, unwrap_or, is_ok, if◌then◌else◌, slice_get, bytes_eq}
+use Rattle.std.specs.Prelude.{ℕ, ◌+◌, ◌*◌, ◌%◌, ◌^◌, Bool, true, false, not, ◌&&◌, ◌||◌, ◌==◌, nat_lt, nat_le, List, [], ◌∷◌, length, filter, flat_map, take, sum_by, Option, Some, None, is_ok, if◌then◌else◌, slice_get, bytes_eq}
 use Rattle.std.specs.List.{list_any, list_all}
-use Rattle.enc_base.specs.Token.{is_token, nil}
+use Rattle.enc_base.specs.Token.{is_token}
 use Rattle.enc_base.specs.declared.token.Token.{Token}
 use Rattle.enc_meta.specs.Heaps.{nil_guid}
 use Rattle.enc_meta.specs.Joined.{joined_lengths}
@@ -82,11 +82,11 @@ users_in_body (Some b) = flat_map (λ (i : InstrValue). users_in_argument i.arg)
 -- the values that an edit brings for each heap: those of its row, which for a method whose body is replaced are its name and signature, and of its body
 abbrev pub texts_of_edit : Rows → Edit → List (List ℕ)
 texts_of_edit rows (Add table owner cells code points) = flat_map texts_in_cell cells
-texts_of_edit rows (Replace method code points) = bytes_at rows method columns.method_def_name ∷ []
+texts_of_edit rows (Replace method code points) = if method.table == tables.method_def then bytes_at rows method columns.method_def_name ∷ [] else []
 
 abbrev pub blobs_of_edit : Rows → Edit → List (List ℕ)
 blobs_of_edit rows (Add table owner cells code points) = flat_map blobs_in_cell cells
-blobs_of_edit rows (Replace method code points) = bytes_at rows method columns.method_def_signature ∷ []
+blobs_of_edit rows (Replace method code points) = if method.table == tables.method_def then bytes_at rows method columns.method_def_signature ∷ [] else []
 
 abbrev pub users_of_edit : Edit → List (List ℕ)
 users_of_edit e = users_in_body (body_given e)
@@ -207,11 +207,15 @@ room_of_edit e = room_of (body_given e)
 abbrev pub has_body : Edit → Bool
 has_body e = nat_lt 0 (room_of_edit e)
 
--- E16: a method that isn't IL, which the low two bits of ImplFlags tell (II.23.1.11), a body that isn't good, or code that passes 2^32 bytes with it
+-- the row is a method of IL code, which the low two bits of ImplFlags tell (II.23.1.11)
+abbrev pub is_il : Rows → Token → Bool
+is_il rows t = t.table == tables.method_def && number_at rows t columns.method_def_impl_flags % 4 == 0
+
+-- E16: a body of what isn't a method of IL code, a body that isn't good, or code that passes 2^32 bytes with it
 unfoldable pub body_is_broken : Chain → EditList → ℕ → Bool
 body_is_broken c l k = at_edit
     (λ e t. has_body e
-    && (not (number_at (rows_listed c l.edits) t columns.method_def_impl_flags % 4 == 0)
+    && (not (is_il (rows_listed c l.edits) t)
     || not (body_is_missing_or_stands (count_after c l.edits) (body_given e))
     || nat_le (2 ^ 32) (sum_by room_of_edit (take (k + 1) l.edits))))
     c l k

@@ -6,12 +6,14 @@ mod cells;
 mod context;
 mod first;
 mod heaps;
+mod instructions;
 mod members;
 mod order;
 mod owners;
 mod points;
 mod rows;
 mod signatures;
+mod sums;
 mod whole;
 
 pub use first::first_broken;
