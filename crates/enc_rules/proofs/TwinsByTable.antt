@@ -28,7 +28,7 @@ use Rattle.enc_rules.specs.Edited.{row_edited, attached_by, attached_behind, att
 use Rattle.enc_rules.specs.First.{first_such}
 use Rattle.enc_rules.specs.Listed.{rows_listed}
 use Rattle.enc_rules.specs.Rules.{at_edit, of_child, member_has_twin}
-use Rattle.enc_rules.specs.Told.{adds_row, adds_child, is_twin_in, has_twin_in, row_in, earlier}
+use Rattle.enc_rules.specs.Told.{adds_row, adds_child, is_twin_in, has_twin_in, row_of_place, earlier}
 use Rattle.enc_rules.proofs.EditAt.{edit_judged, nth_row_behind}
 use Rattle.enc_rules.proofs.Such.{such_unique, such_alike, earlier_is}
 
@@ -308,7 +308,7 @@ small_child (p ∷ ps) zero a h there =
 small_child (p ∷ ps) (suc i) a h there = small_child ps i a (both_right (nat_lt p.owner.row 0x1000000 && nat_lt p.child.row 0x1000000) (list_all (λ (k : Pair). nat_lt k.owner.row 0x1000000 && nat_lt k.child.row 0x1000000) ps) h) there
 
 -- the place that is named leads to the edit
-pub first_named : (t : ℕ) (c : Chain) (l : EditList) (pairs : List Pair) (p : Place) → map pair_seen pairs ≡ filter (in_table t) (attached_in c.plain l.edits) → ArePairs pairs → Some p ≡ twin_fault (asked_of (rows_listed c l.edits)) c.plain (map pair_seen pairs) → first_such (adds_child (row_in p) c l) (length l.edits) ≡ first_such (has_twin_in t c l) (length l.edits)
+pub first_named : (t : ℕ) (c : Chain) (l : EditList) (pairs : List Pair) (p : Place) → map pair_seen pairs ≡ filter (in_table t) (attached_in c.plain l.edits) → ArePairs pairs → Some p ≡ twin_fault (asked_of (rows_listed c l.edits)) c.plain (map pair_seen pairs) → first_such (adds_child (row_of_place p) c l) (length l.edits) ≡ first_such (has_twin_in t c l) (length l.edits)
 first_named t c l pairs p are rows is =
     let chosen_pairs = filter (in_table t) (attached_in c.plain l.edits) in
     let named = rw (← (rw are at is)) at (names_least_twin (asked c l) c.plain chosen_pairs) in
