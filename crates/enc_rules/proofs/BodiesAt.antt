@@ -1,5 +1,5 @@
 -- The body of an edit, by marks and by sums up to the limit.
-use Rattle.std.proofs.Common.{◌≡◌, ℕ, ◌+◌, ◌*◌, ◌<◌, ◌≤◌, Bool, true, false, List, [], ◌∷◌, length, take, get_or, map, Option, Some, None, refl, sym, ap, ◌∙◌, inl, inr, arith, eq-eqb, lit<, subst}
+use Rattle.std.proofs.Common.{◌≡◌, ℕ, ◌+◌, ◌*◌, ◌<◌, Bool, true, false, List, [], ◌∷◌, length, take, get_or, map, Option, Some, refl, sym, ap, ◌∙◌, arith, eq-eqb, lit<, subst}
 use Rattle.std.specs.Prelude.{◌^◌, ◌&&◌, ◌||◌, not, min, sum_by, nat_le, nat_lt}
 use Rattle.std.specs.List.{list_all}
 use Rattle.std.proofs.lemmas.Bool.Decides.{nat_tests}
@@ -18,8 +18,9 @@ use Rattle.enc_edits.specs.declared.edit.Edit.{Edit}
 use Rattle.enc_edits.specs.declared.edit.EditList.{EditList}
 use Rattle.enc_rules.specs.Edited.{body_stated, rows_edited}
 use Rattle.enc_rules.specs.Listed.{count_after, rows_listed, body_given}
-use Rattle.enc_rules.specs.Marked.{mark_at, value_is_sound, clause_is_sound, body_breaks}
-use Rattle.enc_rules.specs.Rules.{room_of, room_of_edit, has_body, is_il, body_stands, body_is_missing_or_stands, body_is_broken, branches_reach}
+use Rattle.enc_rules.specs.Marked.{is_marked, value_is_sound, clause_is_sound, body_breaks}
+use Rattle.enc_edits.specs.Reach.{branches_reach}
+use Rattle.enc_rules.specs.Rules.{room_of, room_of_edit, gives_body, is_il, given_stands, body_is_missing_or_stands, body_is_broken}
 use Rattle.enc_rules.specs.Sums.{most_room}
 use Rattle.enc_rules.proofs.EditAt.{judged_at}
 
@@ -55,8 +56,8 @@ whole_from_front : (code : List InstrValue) → are_whole (length_of_code code) 
 whole_from_front code = stand_whole (length_of_code code) 0 code (omega arith)
 
 stands_plain : (count : ℕ → ℕ) (b : BodyValue) (size : ℕ) → length_of_code b.code ≡ size
-    → (list_all (value_is_sound count (begins_at (placed 0 b.code))) b.code && list_all (clause_is_sound count (begins_at (placed 0 b.code)) size) b.clauses && locals_are_good count (nil_or b.locals) && branches_reach 0 b.code) ≡ body_stands count b
-unfolding body_stands body_is_sound body_stated
+    → (list_all (value_is_sound count (begins_at (placed 0 b.code))) b.code && list_all (clause_is_sound count (begins_at (placed 0 b.code)) size) b.clauses && locals_are_good count (nil_or b.locals) && branches_reach 0 b.code) ≡ given_stands count b
+unfolding given_stands body_is_sound body_stated
 stands_plain count b size long =
     let begins : ℕ → Bool = begins_at (placed 0 b.code) in
     let clauses = list_all (clause_is_sound count begins size) b.clauses in
@@ -68,11 +69,11 @@ stands_plain count b size long =
     ∙ ap (λ x. code && x && locals && reach) (ap (λ n. list_all (clause_is_sound count begins n) b.clauses) (sym long) ∙ sym (sound_clauses count begins (length_of_code b.code) b.clauses))
     ∙ ap (λ x. x && code && handlers && locals && reach) (sym (whole_from_front b.code))
 
-pub stands_marked : (count : ℕ → ℕ) (b : BodyValue) (marks : List Bool) (size : ℕ) → length_of_code b.code ≡ size → ((t : ℕ) → mark_at marks t ≡ begins_at (placed 0 b.code) t)
-    → (list_all (value_is_sound count (mark_at marks)) b.code && list_all (clause_is_sound count (mark_at marks) size) b.clauses && locals_are_good count (nil_or b.locals) && branches_reach 0 b.code) ≡ body_stands count b
+pub stands_marked : (count : ℕ → ℕ) (b : BodyValue) (marks : List Bool) (size : ℕ) → length_of_code b.code ≡ size → ((t : ℕ) → is_marked marks t ≡ begins_at (placed 0 b.code) t)
+    → (list_all (value_is_sound count (is_marked marks)) b.code && list_all (clause_is_sound count (is_marked marks) size) b.clauses && locals_are_good count (nil_or b.locals) && branches_reach 0 b.code) ≡ given_stands count b
 stands_marked count b marks size long marked =
     ap (λ (f : ℕ → Bool). list_all (value_is_sound count f) b.code && list_all (clause_is_sound count f size) b.clauses && locals_are_good count (nil_or b.locals) && branches_reach 0 b.code)
-    (same_functions (mark_at marks) (begins_at (placed 0 b.code)) marked)
+    (same_functions (is_marked marks) (begins_at (placed 0 b.code)) marked)
     ∙ stands_plain count b size long
 
 -- an edit's body, where the code's room is known
@@ -89,10 +90,10 @@ some_room n m = grind (arith, nat_tests)
 not_past : (n m : ℕ) → m < n → nat_le n m ≡ false
 not_past n m low = grind (arith, nat_tests)
 
-pub body_judged : (count : ℕ → ℕ) (rows : Rows) (room : ℕ) (e : Edit) (t : Token) (b : BodyValue) (good : Bool) → Some b ≡ body_given e → is_il rows t ≡ true → room < 2 ^ 32 → good ≡ body_stands count b → not good ≡ body_breaks count rows room e t
+pub body_judged : (count : ℕ → ℕ) (rows : Rows) (room : ℕ) (e : Edit) (t : Token) (b : BodyValue) (good : Bool) → Some b ≡ body_given e → is_il rows t ≡ true → room < 2 ^ 32 → good ≡ given_stands count b → not good ≡ body_breaks count rows room e t
 body_judged count rows room e t b good is il low stands =
     let Told : Option BodyValue → Type 0 = λ o. not good ≡ (nat_lt 0 (room_of o) && (not (is_il rows t) || not (body_is_missing_or_stands count o) || nat_le (2 ^ 32) room)) in
-    subst Told is (judged_by _ (is_il rows t) (body_stands count b) (nat_le (2 ^ 32) room) good (some_room (length_of_code b.code) (length b.clauses)) il (not_past (2 ^ 32) room low) stands)
+    subst Told is (judged_by _ (is_il rows t) (given_stands count b) (nat_le (2 ^ 32) room) good (some_room (length_of_code b.code) (length b.clauses)) il (not_past (2 ^ 32) room low) stands)
 
 -- the edit at a place
 limit_alike : (limit m n : ℕ) → limit < most_room → m ≡ min most_room n → nat_le limit m ≡ nat_le limit n
@@ -106,4 +107,4 @@ body_at c l edits rows k e d sum are is low there summed =
     let past : nat_le (2 ^ 32) sum ≡ nat_le (2 ^ 32) room = limit_alike (2 ^ 32) sum room (lit< tt) (rw are at summed) in
     let t = get_or rows k d in
     judged_at (body_breaks (count_after c l.edits) (rows_listed c l.edits) room) c l edits rows k e d are is low there
-    ∙ ap (λ b. has_body e && (not (is_il (rows_listed c l.edits) t) || not (body_is_missing_or_stands (count_after c l.edits) (body_given e)) || b)) (sym past)
+    ∙ ap (λ b. gives_body e && (not (is_il (rows_listed c l.edits) t) || not (body_is_missing_or_stands (count_after c l.edits) (body_given e)) || b)) (sym past)

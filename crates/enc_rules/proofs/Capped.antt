@@ -1,6 +1,6 @@
 -- Sums up to the limit, with one more, and what is told by them.
-use Rattle.std.proofs.Common.{◌≡◌, ℕ, ◌+◌, ◌<◌, ◌≤◌, Bool, true, false, List, length, take, get_or, refl, sym, ap, ◌∙◌, arith}
-use Rattle.std.specs.Prelude.{◌^◌, min, sum_by, nat_lt, nat_le}
+use Rattle.std.proofs.Common.{◌≡◌, ℕ, ◌+◌, ◌<◌, List, length, take, get_or, ap, arith}
+use Rattle.std.specs.Prelude.{min, sum_by, nat_lt}
 use Rattle.std.proofs.lemmas.Bool.Decides.{nat_tests}
 use Rattle.std.proofs.lemmas.List.Sums.{sum_by_more}
 use Rattle.enc_rules.specs.Sums.{most_room}

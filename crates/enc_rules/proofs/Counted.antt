@@ -1,12 +1,11 @@
 -- Signatures by numbers of rows that are equal for each table.
-use Rattle.std.proofs.Common.{◌≡◌, ℕ, ◌<◌, Bool, List, Option, Some, refl, sym, ap, ◌∙◌, arith}
+use Rattle.std.proofs.Common.{◌≡◌, ℕ, ◌<◌, Bool, List, refl, ap, ◌∙◌, arith}
 use Rattle.std.specs.Prelude.{◌%◌, not, slice_index}
 use Rattle.enc_base.specs.declared.token.Token.{Token}
 use Rattle.enc_sigs.specs.Grammar.{is_counted, table_of}
 use Rattle.enc_plain.specs.Rows.{Rows, bytes_at}
-use Rattle.enc_plain.specs.Signatures.{signature_column, is_signature}
+use Rattle.enc_plain.specs.Signatures.{is_signature}
 use Rattle.enc_edits.specs.declared.edit.Edit.{Edit}
-use Rattle.enc_edits.specs.declared.edit.Edit.TheVariants.{Add}
 use Rattle.enc_rules.specs.Rules.{new_signature_breaks}
 
 -- two functions with the same values are one

@@ -1,9 +1,8 @@
 -- The first edit that breaks a rule, as a loop over the edits finds it.
-use Rattle.std.proofs.Common.{◌≡◌, ℕ, zero, suc, ◌+◌, ◌<◌, Bool, true, false, List, [], ◌∷◌, ◌++◌, length, take, Option, Some, None, refl, sym, ap, ◌∙◌, arith, append_assoc, eq-eqb}
+use Rattle.std.proofs.Common.{◌≡◌, ℕ, zero, suc, ◌+◌, ◌<◌, Bool, true, false, List, [], ◌∷◌, ◌++◌, length, take, Some, None, refl, sym, ap, ◌∙◌, arith, append_assoc, eq-eqb}
 use Rattle.std.specs.Prelude.{slice_get, get_or, option_map, if◌then◌else◌}
 use Rattle.std.proofs.lemmas.List.{append-nil}
 use Rattle.std.proofs.lemmas.Option.{slice_get-get_or}
-use Rattle.enc_base.specs.Order.{first_below}
 use Rattle.enc_base.specs.Token.{nil}
 use Rattle.enc_base.specs.declared.token.Token.{Token}
 use Rattle.enc_base.proofs.First.{first_none, first_found, first_more}
@@ -16,7 +15,7 @@ use Rattle.enc_edits.specs.declared.edit.Edit.TheVariants.{Add, Body as Replace}
 use Rattle.enc_edits.specs.declared.edit.EditList.{EditList}
 use Rattle.enc_rules.specs.Edited.{row_edited, rows_behind, rows_edited}
 use Rattle.enc_rules.specs.First.{first_such}
-use Rattle.enc_rules.specs.Rules.{of_edit, at_edit}
+use Rattle.enc_rules.specs.Rules.{at_edit}
 use Rattle.enc_rules.specs.Told.{is_about}
 
 -- no place below 0 passes a test

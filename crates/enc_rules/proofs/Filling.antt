@@ -1,6 +1,6 @@
 -- Heaps that pass a limit pass it with more, and one that is refused would pass it.
 use Rattle.std.proofs.Common.{◌≡◌, ℕ, zero, suc, ◌+◌, ◌<◌, ◌≤◌, Bool, true, false, List, [], ◌∷◌, ◌++◌, length, take, drop, ◌-◌, get_or, refl, sym, ap, ◌∙◌, inl, inr, arith}
-use Rattle.std.specs.Prelude.{◌^◌, ◌||◌, ◌&&◌, ◌⊎◌, not, nat_lt, max, ◌*◌, sum_by, flat_map, Result, Ok, Err, if◌then◌else◌}
+use Rattle.std.specs.Prelude.{◌^◌, ◌||◌, ◌&&◌, ◌⊎◌, not, nat_lt, max, ◌*◌, flat_map, Err}
 use Rattle.std.proofs.lemmas.Bool.Decides.{nat_tests}
 use Rattle.std.proofs.lemmas.List.Sums.{sum_by_push}
 use Rattle.enc_meta.specs.Built.{Built, AreWithinLimits, is_kept, with_value, joined_end, text_bytes, user_bytes, blob_bytes, with_text, with_user, with_blob, passes, text_passes, user_passes, blob_passes, none_from}
@@ -17,8 +17,8 @@ use Rattle.enc_edits.specs.declared.edit.EditList.{EditList}
 use Rattle.enc_meta.specs.Joined.{joined_lengths}
 use Rattle.enc_rules.proofs.Fronts.{front_of}
 use Rattle.enc_rules.specs.Listed.{rows_listed}
-use Rattle.enc_rules.specs.Filled.{Fills, is_whole, are_whole}
-use Rattle.enc_rules.specs.Rules.{passes_limits, heaps_are_full, heap_passes, with_texts, with_users, with_blobs, with_edit, with_edits, texts_of_edit, users_of_edit, blobs_of_edit}
+use Rattle.enc_rules.specs.Filled.{Fills, has_no_zero, have_no_zero}
+use Rattle.enc_rules.specs.Rules.{passes_limits, heaps_are_full, heap_passes, with_texts, with_users, with_blobs, heaps_after_edit, with_edits, texts_of_edit, users_of_edit, blobs_of_edit}
 
 two : (b : Bool) → (b ≡ true) ⊎ (b ≡ false)
 two true = inl refl
@@ -178,55 +178,55 @@ blobs_none h = refl
 both : (a b : Bool) → a ≡ true → b ≡ true → (a && b) ≡ true
 both a b h i = rw (h, i) refl
 
-whole_parts : (xs ys : List (List ℕ)) → are_whole (xs ++ ys) ≡ true → (are_whole xs ≡ true) × (are_whole ys ≡ true)
+whole_parts : (xs ys : List (List ℕ)) → have_no_zero (xs ++ ys) ≡ true → (have_no_zero xs ≡ true) × (have_no_zero ys ≡ true)
 whole_parts [] ys h = (refl, h)
 whole_parts (x ∷ xs) ys h =
-    let w = whole_parts xs ys (both_right (is_whole x) (are_whole (xs ++ ys)) h) in
-    (both (is_whole x) (are_whole xs) (both_left (is_whole x) (are_whole (xs ++ ys)) h) w.0, w.1)
+    let w = whole_parts xs ys (both_right (has_no_zero x) (have_no_zero (xs ++ ys)) h) in
+    (both (has_no_zero x) (have_no_zero xs) (both_left (has_no_zero x) (have_no_zero (xs ++ ys)) h) w.0, w.1)
 
-pub whole_front : {X : Type 0} (f : X → List (List ℕ)) (rest : List X) (x : X) → 1 ≤ length rest → x ≡ get_or rest 0 x → are_whole (flat_map f rest) ≡ true → (are_whole (f x) ≡ true) × (are_whole (flat_map f (take (length rest - 1) (drop 1 rest))) ≡ true)
+pub whole_front : {X : Type 0} (f : X → List (List ℕ)) (rest : List X) (x : X) → 1 ≤ length rest → x ≡ get_or rest 0 x → have_no_zero (flat_map f rest) ≡ true → (have_no_zero (f x) ≡ true) × (have_no_zero (flat_map f (take (length rest - 1) (drop 1 rest))) ≡ true)
 whole_front {X} f rest x low there h =
     let split : flat_map f rest ≡ f x ++ flat_map f (take (length rest - 1) (drop 1 rest)) = ap (λ (xs : List X). flat_map f xs) (front_of rest x low ∙ ap (λ (y : X). y ∷ take (length rest - 1) (drop 1 rest)) (sym there)) in
-    whole_parts (f x) (flat_map f (take (length rest - 1) (drop 1 rest))) (sym (ap are_whole split) ∙ h)
+    whole_parts (f x) (flat_map f (take (length rest - 1) (drop 1 rest))) (sym (ap have_no_zero split) ∙ h)
 
 -- an edit's texts, user texts and blobs one behind the other
-pub passes_edit_texts : (rows : Rows) (h : Built) (e : Edit) → passes_limits (with_texts h (texts_of_edit rows e)) ≡ true → passes_limits (with_edit rows h e) ≡ true
-unfolding with_edit
+pub passes_edit_texts : (rows : Rows) (h : Built) (e : Edit) → passes_limits (with_texts h (texts_of_edit rows e)) ≡ true → passes_limits (heaps_after_edit rows h e) ≡ true
+unfolding heaps_after_edit
 passes_edit_texts rows h e p = passes_blobs _ (blobs_of_edit rows e) (passes_users _ (users_of_edit e) p)
 
-pub passes_edit_users : (rows : Rows) (h part : Built) (e : Edit) → part ≡ with_texts h (texts_of_edit rows e) → passes_limits (with_users part (users_of_edit e)) ≡ true → passes_limits (with_edit rows h e) ≡ true
-unfolding with_edit
+pub passes_edit_users : (rows : Rows) (h part : Built) (e : Edit) → part ≡ with_texts h (texts_of_edit rows e) → passes_limits (with_users part (users_of_edit e)) ≡ true → passes_limits (heaps_after_edit rows h e) ≡ true
+unfolding heaps_after_edit
 passes_edit_users rows h part e is p = passes_blobs _ (blobs_of_edit rows e) (rw is at p)
 
-pub passes_edit_blobs : (rows : Rows) (h part more : Built) (e : Edit) → part ≡ with_texts h (texts_of_edit rows e) → more ≡ with_users part (users_of_edit e) → passes_limits (with_blobs more (blobs_of_edit rows e)) ≡ true → passes_limits (with_edit rows h e) ≡ true
-unfolding with_edit
+pub passes_edit_blobs : (rows : Rows) (h part more : Built) (e : Edit) → part ≡ with_texts h (texts_of_edit rows e) → more ≡ with_users part (users_of_edit e) → passes_limits (with_blobs more (blobs_of_edit rows e)) ≡ true → passes_limits (heaps_after_edit rows h e) ≡ true
+unfolding heaps_after_edit
 passes_edit_blobs rows h part more e is are p = rw (are, is) at p
 
-pub edit_filled : (rows : Rows) (h part more filled : Built) (e : Edit) → part ≡ with_texts h (texts_of_edit rows e) → more ≡ with_users part (users_of_edit e) → filled ≡ with_blobs more (blobs_of_edit rows e) → filled ≡ with_edit rows h e
-unfolding with_edit
+pub edit_filled : (rows : Rows) (h part more filled : Built) (e : Edit) → part ≡ with_texts h (texts_of_edit rows e) → more ≡ with_users part (users_of_edit e) → filled ≡ with_blobs more (blobs_of_edit rows e) → filled ≡ heaps_after_edit rows h e
+unfolding heaps_after_edit
 edit_filled rows h part more filled e is are done = done ∙ rw (are, is) refl
 
-pub passes_edits : (rows : Rows) (h : Built) (e : Edit) → passes_limits h ≡ true → passes_limits (with_edit rows h e) ≡ true
-unfolding with_edit
+pub passes_edits : (rows : Rows) (h : Built) (e : Edit) → passes_limits h ≡ true → passes_limits (heaps_after_edit rows h e) ≡ true
+unfolding heaps_after_edit
 passes_edits rows h e p = passes_blobs _ (blobs_of_edit rows e) (passes_users _ (users_of_edit e) (passes_texts h (texts_of_edit rows e) p))
 
-starts_edit : (rows : Rows) (h : Built) (e : Edit) → (with_edit rows h e).starts ≡ h.starts
-unfolding with_edit
+starts_edit : (rows : Rows) (h : Built) (e : Edit) → (heaps_after_edit rows h e).starts ≡ h.starts
+unfolding heaps_after_edit
 starts_edit rows h e = starts_blobs _ (blobs_of_edit rows e) ∙ starts_users _ (users_of_edit e) ∙ starts_texts h (texts_of_edit rows e)
 
 starts_edits : (rows : Rows) (h : Built) (edits : List Edit) → (with_edits rows h edits).starts ≡ h.starts
 unfolding with_edits
 starts_edits rows h [] = refl
-starts_edits rows h (e ∷ edits) = starts_edits rows (with_edit rows h e) edits ∙ starts_edit rows h e
+starts_edits rows h (e ∷ edits) = starts_edits rows (heaps_after_edit rows h e) edits ∙ starts_edit rows h e
 
 -- one edit more
-one_edit_more : (rows : Rows) (h : Built) (edits : List Edit) (k : ℕ) (e : Edit) → k < length edits → e ≡ get_or edits k e → with_edits rows h (take (suc k) edits) ≡ with_edit rows (with_edits rows h (take k edits)) e
+one_edit_more : (rows : Rows) (h : Built) (edits : List Edit) (k : ℕ) (e : Edit) → k < length edits → e ≡ get_or edits k e → with_edits rows h (take (suc k) edits) ≡ heaps_after_edit rows (with_edits rows h (take k edits)) e
 unfolding with_edits
 one_edit_more rows h [] k e low there = absurd (omega arith)
-one_edit_more rows h (x ∷ xs) zero e low there = ap (with_edit rows h) (sym there)
-one_edit_more rows h (x ∷ xs) (suc k) e low there = one_edit_more rows (with_edit rows h x) xs k e (omega arith) there
+one_edit_more rows h (x ∷ xs) zero e low there = ap (heaps_after_edit rows h) (sym there)
+one_edit_more rows h (x ∷ xs) (suc k) e low there = one_edit_more rows (heaps_after_edit rows h x) xs k e (omega arith) there
 
-pub edits_more : (rows : Rows) (h : Built) (edits : List Edit) (k : ℕ) (e : Edit) → k < length edits → e ≡ get_or edits k e → with_edits rows h (take (k + 1) edits) ≡ with_edit rows (with_edits rows h (take k edits)) e
+pub edits_more : (rows : Rows) (h : Built) (edits : List Edit) (k : ℕ) (e : Edit) → k < length edits → e ≡ get_or edits k e → with_edits rows h (take (k + 1) edits) ≡ heaps_after_edit rows (with_edits rows h (take k edits)) e
 edits_more rows h edits k e low there = let s : k + 1 ≡ suc k = omega arith in rw s (one_edit_more rows h edits k e low there)
 
 pub edits_none : (rows : Rows) (h : Built) → with_edits rows h [] ≡ h
@@ -276,15 +276,15 @@ within_limits c l h starts within room =
     (heap_within blob_bytes (2 ^ 29) h.starts.blobs s.blobs h.blobs (ap (λ (n : HeapLengths). n.blobs) starts) (right_false (texts || users) blobs three) within.blobs)
 
 -- what the edits up to a place bring
-pub heaps_passed : (c : Chain) (l : EditList) (edits : List Edit) (k : ℕ) (e : Edit) (h : Built) → edits ≡ l.edits → k < length edits → e ≡ get_or edits k e → h ≡ with_edits (rows_listed c l.edits) (none_from (joined_lengths c.heaps)) (take k edits) → heap_passes c l k ≡ passes_limits (with_edit (rows_listed c l.edits) h e)
+pub heaps_passed : (c : Chain) (l : EditList) (edits : List Edit) (k : ℕ) (e : Edit) (h : Built) → edits ≡ l.edits → k < length edits → e ≡ get_or edits k e → h ≡ with_edits (rows_listed c l.edits) (none_from (joined_lengths c.heaps)) (take k edits) → heap_passes c l k ≡ passes_limits (heaps_after_edit (rows_listed c l.edits) h e)
 unfolding heap_passes
 heaps_passed c l edits k e h are low there is =
     ap (λ (es : List Edit). passes_limits (with_edits (rows_listed c l.edits) (none_from (joined_lengths c.heaps)) (take (k + 1) es))) (sym are)
     ∙ ap passes_limits (edits_more (rows_listed c l.edits) (none_from (joined_lengths c.heaps)) edits k e low there)
-    ∙ ap (λ (b : Built). passes_limits (with_edit (rows_listed c l.edits) b e)) (sym is)
+    ∙ ap (λ (b : Built). passes_limits (heaps_after_edit (rows_listed c l.edits) b e)) (sym is)
 
 -- an edit that is added whole passes no limit
-pub edit_within : (c : Chain) (l : EditList) (edits : List Edit) (k : ℕ) (e : Edit) (h more : Built) → edits ≡ l.edits → k < length edits → e ≡ get_or edits k e → h ≡ with_edits (rows_listed c l.edits) (none_from (joined_lengths c.heaps)) (take k edits) → more ≡ with_edit (rows_listed c l.edits) h e → AreWithinLimits more → heaps_are_full c l ≡ false → heap_passes c l k ≡ false
+pub edit_within : (c : Chain) (l : EditList) (edits : List Edit) (k : ℕ) (e : Edit) (h more : Built) → edits ≡ l.edits → k < length edits → e ≡ get_or edits k e → h ≡ with_edits (rows_listed c l.edits) (none_from (joined_lengths c.heaps)) (take k edits) → more ≡ heaps_after_edit (rows_listed c l.edits) h e → AreWithinLimits more → heaps_are_full c l ≡ false → heap_passes c l k ≡ false
 edit_within c l edits k e h more are low there is filled within room =
     let rows = rows_listed c l.edits in
     let starts : more.starts ≡ joined_lengths c.heaps = ap (λ (b : Built). b.starts) filled ∙ starts_edit rows h e ∙ ap (λ (b : Built). b.starts) is ∙ starts_edits rows (none_from (joined_lengths c.heaps)) (take k edits) in

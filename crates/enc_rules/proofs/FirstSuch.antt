@@ -1,7 +1,6 @@
 -- The first place that passes a test, as a loop works it out.
-use Rattle.std.proofs.Common.{◌≡◌, ℕ, ◌+◌, ◌<◌, ◌≤◌, Bool, true, false, Option, Some, None, refl, sym, ap, ◌∙◌, arith}
+use Rattle.std.proofs.Common.{◌≡◌, ℕ, ◌+◌, ◌<◌, ◌≤◌, Bool, true, false, Some, None, refl, sym, ◌∙◌, arith}
 use Rattle.std.specs.Prelude.{if◌then◌else◌}
-use Rattle.enc_base.specs.Order.{first_below}
 use Rattle.enc_base.proofs.First.{first_none, first_more, first_found}
 use Rattle.enc_rules.specs.First.{first_such}
 

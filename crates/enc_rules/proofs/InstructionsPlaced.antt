@@ -1,13 +1,12 @@
 -- Stated instructions one behind the other, by the first of them.
-use Rattle.std.proofs.Common.{◌≡◌, ℕ, zero, suc, ◌+◌, ◌-◌, ◌<◌, ◌≤◌, Bool, true, false, List, [], ◌∷◌, length, take, drop, get_or, set, refl, sym, ap, ◌∙◌, inl, inr, arith}
-use Rattle.std.specs.Prelude.{◌⊎◌, ◌&&◌, ◌||◌, ◌==◌, ◌^◌, min, replicate}
+use Rattle.std.proofs.Common.{◌≡◌, ℕ, zero, suc, ◌+◌, ◌-◌, ◌<◌, ◌≤◌, Bool, true, false, List, [], ◌∷◌, length, take, drop, get_or, set, refl, sym, ap, ◌∙◌, arith}
+use Rattle.std.specs.Prelude.{◌&&◌, ◌||◌, ◌==◌, replicate}
 use Rattle.std.proofs.lemmas.Bool.Decides.{nat_tests}
 use Rattle.enc_opcodes.specs.Sound.{instruction_size, begins_at}
 use Rattle.enc_edits.specs.Sizes.{instr_meant, length_of_code, placed}
 use Rattle.enc_edits.specs.declared.body.InstrValue.{InstrValue}
-use Rattle.enc_rules.specs.Marked.{mark_at}
-use Rattle.enc_rules.specs.Rules.{argument_reaches, branches_reach}
-use Rattle.enc_rules.specs.Sums.{most_room}
+use Rattle.enc_rules.specs.Marked.{is_marked}
+use Rattle.enc_edits.specs.Reach.{argument_reaches, branches_reach}
 use Rattle.enc_rules.proofs.Fronts.{front_is}
 
 abbrev behind : List InstrValue → List InstrValue
@@ -60,7 +59,7 @@ or_none false c h = sym h
 sym_test : (at t : ℕ) → (at == t) ≡ (suc at == suc t)
 sym_test at t = grind (arith, nat_tests)
 
-pub mark_more : (marks : List Bool) (at t : ℕ) → at < length marks → mark_at (set marks at true) t ≡ (mark_at marks t || (at == t))
+pub mark_more : (marks : List Bool) (at t : ℕ) → at < length marks → is_marked (set marks at true) t ≡ (is_marked marks t || (at == t))
 mark_more [] at t low = absurd (omega arith)
 mark_more (true ∷ marks) zero zero low = refl
 mark_more (false ∷ marks) zero zero low = refl
@@ -68,7 +67,7 @@ mark_more (m ∷ marks) zero (suc t) low = or_none (get_or marks t false) (0 == 
 mark_more (m ∷ marks) (suc at) zero low = or_none m (suc at == 0) (grind (arith, nat_tests))
 mark_more (m ∷ marks) (suc at) (suc t) low = mark_more marks at t (omega arith) ∙ ap (λ b. get_or marks t false || b) (sym_test at t)
 
-pub no_mark : (n t : ℕ) → mark_at (replicate n false) t ≡ false
+pub no_mark : (n t : ℕ) → is_marked (replicate n false) t ≡ false
 no_mark zero t = refl
 no_mark (suc n) zero = refl
 no_mark (suc n) (suc t) = no_mark n t
@@ -77,22 +76,22 @@ either_assoc : (a b c : Bool) → (a || (b || c)) ≡ ((a || b) || c)
 either_assoc true b c = refl
 either_assoc false b c = refl
 
-pub marked_more : (marks : List Bool) (at t : ℕ) (all : Bool) (rest : List InstrValue) (x : InstrValue) → at < length marks → 1 ≤ length rest → x ≡ get_or rest 0 x → all ≡ (mark_at marks t || begins_at (placed at rest) t)
-    → all ≡ (mark_at (set marks at true) t || begins_at (placed (at + instruction_size (instr_meant x)) (take (length rest - 1) (drop 1 rest))) t)
+pub marked_more : (marks : List Bool) (at t : ℕ) (all : Bool) (rest : List InstrValue) (x : InstrValue) → at < length marks → 1 ≤ length rest → x ≡ get_or rest 0 x → all ≡ (is_marked marks t || begins_at (placed at rest) t)
+    → all ≡ (is_marked (set marks at true) t || begins_at (placed (at + instruction_size (instr_meant x)) (take (length rest - 1) (drop 1 rest))) t)
 marked_more marks at t all rest x low some there is =
-    is ∙ ap (λ b. mark_at marks t || b) (begins_front at rest x t some there)
-    ∙ either_assoc (mark_at marks t) (at == t) _
+    is ∙ ap (λ b. is_marked marks t || b) (begins_front at rest x t some there)
+    ∙ either_assoc (is_marked marks t) (at == t) _
     ∙ ap (λ b. b || begins_at (placed (at + instruction_size (instr_meant x)) (take (length rest - 1) (drop 1 rest))) t) (sym (mark_more marks at t low))
 
 all_marked : (a b c : Bool) → a ≡ (b || c) → c ≡ false → b ≡ a
 all_marked a true c h i = sym h
 all_marked a false c h i = sym (h ∙ i)
 
-pub marked_all : (marks : List Bool) (at t : ℕ) (all : Bool) (rest : List InstrValue) → length rest < 1 → all ≡ (mark_at marks t || begins_at (placed at rest) t) → mark_at marks t ≡ all
-marked_all marks at t all rest none is = all_marked all (mark_at marks t) _ is (begins_none at rest t none)
+pub marked_all : (marks : List Bool) (at t : ℕ) (all : Bool) (rest : List InstrValue) → length rest < 1 → all ≡ (is_marked marks t || begins_at (placed at rest) t) → is_marked marks t ≡ all
+marked_all marks at t all rest none is = all_marked all (is_marked marks t) _ is (begins_none at rest t none)
 
-pub marks_begin : (n t : ℕ) (rest : List InstrValue) (marks : List Bool) → marks ≡ replicate n false → begins_at (placed 0 rest) t ≡ (mark_at marks t || begins_at (placed 0 rest) t)
-marks_begin n t rest marks is = ap (λ b. b || begins_at (placed 0 rest) t) (sym (no_mark n t)) ∙ ap (λ (ms : List Bool). mark_at ms t || begins_at (placed 0 rest) t) (sym is)
+pub marks_begin : (n t : ℕ) (rest : List InstrValue) (marks : List Bool) → marks ≡ replicate n false → begins_at (placed 0 rest) t ≡ (is_marked marks t || begins_at (placed 0 rest) t)
+marks_begin n t rest marks is = ap (λ b. b || begins_at (placed 0 rest) t) (sym (no_mark n t)) ∙ ap (λ (ms : List Bool). is_marked ms t || begins_at (placed 0 rest) t) (sym is)
 
 -- the branches behind one that reaches, and one that doesn't
 pub reach_more : (at size : ℕ) (rest : List InstrValue) (x : InstrValue) (all : Bool) → 1 ≤ length rest → x ≡ get_or rest 0 x → size ≡ instruction_size (instr_meant x) → branches_reach at rest ≡ all → argument_reaches (at + size) x.op.operand x.arg ≡ true → branches_reach (at + size) (take (length rest - 1) (drop 1 rest)) ≡ all

@@ -1,10 +1,3 @@
-pub mod FirstSuch
-pub mod RowsEdited
-pub mod RowsListed
-pub mod SoonestRule
-pub mod RowsFew
-pub mod SameRow
-pub mod TokensNamed
 pub mod EditAt
 pub mod Counted
 pub mod Children
@@ -17,3 +10,10 @@ pub mod WholeTexts
 pub mod Fronts
 pub mod InstructionsPlaced
 pub mod BodiesAt
+pub mod FirstSuch
+pub mod RowsEdited
+pub mod RowsListed
+pub mod SoonestRule
+pub mod RowsFew
+pub mod SameRow
+pub mod TokensNamed

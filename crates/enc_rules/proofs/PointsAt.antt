@@ -1,5 +1,5 @@
 -- The points of an edit, by sums up to the limit.
-use Rattle.std.proofs.Common.{◌≡◌, ℕ, ◌+◌, ◌<◌, List, length, take, get_or, refl, sym, ap, ◌∙◌, lit<}
+use Rattle.std.proofs.Common.{◌≡◌, ℕ, ◌+◌, ◌<◌, List, length, take, get_or, sym, ap, ◌∙◌, lit<}
 use Rattle.std.specs.Prelude.{◌^◌, ◌&&◌, ◌||◌, not, min, sum_by, nat_lt, is_ok}
 use Rattle.std.specs.List.{list_all}
 use Rattle.enc_seqpoints.specs.Spelling.{blob_of}

@@ -1,26 +1,23 @@
 -- The rows after an edit list, cell by cell.
-use Rattle.std.proofs.Common.{◌≡◌, ℕ, zero, suc, ◌+◌, ◌-◌, ◌*◌, ◌<◌, ◌≤◌, Bool, true, false, List, [], ◌∷◌, ◌++◌, map, Option, Some, None, refl, sym, ap, ◌∙◌, arith}
+use Rattle.std.proofs.Common.{◌≡◌, ℕ, zero, suc, ◌+◌, ◌-◌, ◌<◌, Bool, true, false, List, [], ◌∷◌, map, Option, Some, None, refl, ap, ◌∙◌, arith}
 use Rattle.std.specs.Prelude.{◌/◌, ◌%◌, ◌^◌, ◌==◌, nat_lt, slice_get, is_some, option_map, option_and_then, if◌then◌else◌}
 use Rattle.std.proofs.lemmas.Bool.Decides.{nat_tests}
 use Rattle.std.proofs.lemmas.Option.{slice_get-map}
-use Rattle.enc_base.specs.Token.{nil}
 use Rattle.enc_base.specs.declared.token.Token.{Token}
 use Rattle.enc_meta.specs.Joined.{joined_blob}
 use Rattle.enc_schema.specs.Tables as tables
-use Rattle.enc_plain.specs.Cell.{Cell, number, text, blob, guid, refer, body, field}
+use Rattle.enc_plain.specs.Cell.{Cell, body, field}
 use Rattle.enc_plain.specs.Chain.{Chain}
 use Rattle.enc_plain.specs.Module.{cells_of}
-use Rattle.enc_plain.specs.Rows.{Rows, cell_at, number_at, bytes_at, token_at, number_of_cell, bytes_of_cell, token_of_cell, AreStoredAt}
-use Rattle.enc_seqpoints.specs.declared.point.Point.{Point}
+use Rattle.enc_plain.specs.Rows.{cell_at, number_at, bytes_at, token_at, number_of_cell, bytes_of_cell, token_of_cell}
 use Rattle.enc_edits.specs.declared.body.BodyValue.{BodyValue}
 use Rattle.enc_edits.specs.declared.edit.CellValue.{CellValue}
 use Rattle.enc_edits.specs.declared.edit.CellValue.TheVariants as cell
 use Rattle.enc_edits.specs.declared.edit.Edit.{Edit}
 use Rattle.enc_edits.specs.declared.edit.Edit.TheVariants.{Add, Body as Replace}
-use Rattle.enc_edits.specs.Form.{begins_with_rva}
 use Rattle.enc_rules.specs.Edited.{cell_stated, body_stated, cells_stated}
-use Rattle.enc_rules.specs.Listed.{Listed, edit_of, cells_added, rows_listed}
-use Rattle.enc_rules.specs.Known.{value_in, value_of, number_of_value, bytes_of_value, token_of_value, cell_number, numbered_bytes, blobs_listed, listed_rows}
+use Rattle.enc_rules.specs.Listed.{AfterList, edit_of, cells_added, rows_listed}
+use Rattle.enc_rules.specs.Known.{stated_in, stated_of, number_of_value, bytes_of_value, token_of_value, cell_key, blobs_listed, listed_rows}
 
 -- an added row has the cells of its edit, and any other those of the chain
 pub new_is : (c : Chain) (edits : List Edit) (t : Token) (e : Edit) → edit_of c edits t ≡ Some e → rows_listed c edits t ≡ Some (cells_added e)
@@ -77,13 +74,13 @@ front_says : (first : Cell) (cells : List CellValue) (i : ℕ) → Says (Some fi
 front_says first cells zero says = says
 front_says first cells (suc i) says = let z : (suc i == 0) ≡ false = grind (arith, nat_tests) in let e : suc i - 1 ≡ i = omega arith in rw (z, e) (stated_says cells i)
 
-by_table : (table : ℕ) (cells : List CellValue) (code : Option BodyValue) (i : ℕ) (method rva : Bool) → (table == tables.method_def) ≡ method → (table == tables.field_rva) ≡ rva → Says (slice_get (cells_stated table cells code) i) (value_in table cells i)
+by_table : (table : ℕ) (cells : List CellValue) (code : Option BodyValue) (i : ℕ) (method rva : Bool) → (table == tables.method_def) ≡ method → (table == tables.field_rva) ≡ rva → Says (slice_get (cells_stated table cells code) i) (stated_in table cells i)
 unfolding cells_stated
 by_table table cells code i true rva is_method is_rva = rw is_method (front_says (body (option_map body_stated code)) cells i (record { number = refl; bytes = refl; token = refl }))
 by_table table cells code i false true is_method is_rva = rw (is_method, is_rva) (front_says (field []) cells i (record { number = refl; bytes = refl; token = refl }))
 by_table table cells code i false false is_method is_rva = rw (is_method, is_rva) (stated_says cells i)
 
-added_says : (e : Edit) (i : ℕ) → Says (slice_get (cells_added e) i) (value_of e i)
+added_says : (e : Edit) (i : ℕ) → Says (slice_get (cells_added e) i) (stated_of e i)
 added_says (Add table owner cells code points) i = by_table table cells code i _ _ refl refl
 added_says (Replace method code points) i = record { number = refl; bytes = refl; token = refl }
 
@@ -91,15 +88,15 @@ added_says (Replace method code points) i = record { number = refl; bytes = refl
 cell_new : (c : Chain) (edits : List Edit) (t : Token) (i : ℕ) (e : Edit) → edit_of c edits t ≡ Some e → cell_at (rows_listed c edits) t i ≡ slice_get (cells_added e) i
 cell_new c edits t i e there = ap (option_and_then (λ (cells : List Cell). slice_get cells i)) (new_is c edits t e there)
 
-pub number_new : (c : Chain) (edits : List Edit) (t : Token) (i : ℕ) (e : Edit) → edit_of c edits t ≡ Some e → number_at (rows_listed c edits) t i ≡ number_of_value (value_of e i)
+pub number_new : (c : Chain) (edits : List Edit) (t : Token) (i : ℕ) (e : Edit) → edit_of c edits t ≡ Some e → number_at (rows_listed c edits) t i ≡ number_of_value (stated_of e i)
 unfolding number_at
 number_new c edits t i e there = ap number_of_cell (cell_new c edits t i e there) ∙ (added_says e i).number
 
-pub bytes_new : (c : Chain) (edits : List Edit) (t : Token) (i : ℕ) (e : Edit) → edit_of c edits t ≡ Some e → bytes_at (rows_listed c edits) t i ≡ bytes_of_value (value_of e i)
+pub bytes_new : (c : Chain) (edits : List Edit) (t : Token) (i : ℕ) (e : Edit) → edit_of c edits t ≡ Some e → bytes_at (rows_listed c edits) t i ≡ bytes_of_value (stated_of e i)
 unfolding bytes_at
 bytes_new c edits t i e there = ap bytes_of_cell (cell_new c edits t i e there) ∙ (added_says e i).bytes
 
-pub token_new : (c : Chain) (edits : List Edit) (t : Token) (i : ℕ) (e : Edit) → edit_of c edits t ≡ Some e → token_at (rows_listed c edits) t i ≡ token_of_value (value_of e i)
+pub token_new : (c : Chain) (edits : List Edit) (t : Token) (i : ℕ) (e : Edit) → edit_of c edits t ≡ Some e → token_at (rows_listed c edits) t i ≡ token_of_value (stated_of e i)
 unfolding token_at
 token_new c edits t i e there = ap token_of_cell (cell_new c edits t i e there) ∙ (added_says e i).token
 
@@ -117,14 +114,14 @@ unfolding token_at
 token_old c edits t i none = rw (old_is c edits t none) refl
 
 -- a blob at a place of the chain, and one by the number of its cell
-pub stored_low : (j : Listed) (place : ℕ) → place < 2 ^ 63 → blobs_listed j place ≡ joined_blob j.chain.heaps place
+pub stored_low : (j : AfterList) (place : ℕ) → place < 2 ^ 63 → blobs_listed j place ≡ joined_blob j.chain.heaps place
 unfolding blobs_listed
 stored_low j place low = let e : nat_lt place (2 ^ 63) ≡ true = grind (arith, nat_tests) in rw e refl
 
-pub stored_number : (j : Listed) (t : Token) (i : ℕ) → t.table < 256 → i < 256 → blobs_listed j (2 ^ 63 + cell_number t i) ≡ Some (bytes_at (listed_rows j) t i)
+pub stored_number : (j : AfterList) (t : Token) (i : ℕ) → t.table < 256 → i < 256 → blobs_listed j (2 ^ 63 + cell_key t i) ≡ Some (bytes_at (listed_rows j) t i)
 unfolding blobs_listed
 stored_number j t i low few =
-    let n = cell_number t i in
+    let n = cell_key t i in
     let e : nat_lt (2 ^ 63 + n) (2 ^ 63) ≡ false = grind (arith, nat_tests) in
     let m : 2 ^ 63 + n - 2 ^ 63 ≡ n = omega arith in
     let column : n % 2 ^ 8 ≡ i = omega arith in

@@ -1,5 +1,5 @@
 -- The rows of edits, kept in a set by their numbers.
-use Rattle.std.proofs.Common.{◌≡◌, ℕ, zero, suc, ◌+◌, ◌*◌, ◌<◌, ◌≤◌, Bool, true, false, cond, List, [], ◌∷◌, ◌++◌, length, take, Option, Some, None, refl, sym, ap, ◌∙◌, arith}
+use Rattle.std.proofs.Common.{◌≡◌, ℕ, ◌<◌, Bool, true, false, cond, List, [], ◌∷◌, ◌++◌, take, Option, Some, None, refl, sym, ap, ◌∙◌, arith}
 use Rattle.std.specs.Prelude.{◌==◌, ◌&&◌, ◌||◌, ◌^◌, slice_get, option_map}
 use Rattle.std.specs.List.{list_any}
 use Rattle.std.specs.Ordering.{nat_cmp}
@@ -14,13 +14,13 @@ use Rattle.enc_plain.specs.Module.{Module}
 use Rattle.enc_edits.specs.declared.edit.Edit.{Edit}
 use Rattle.enc_edits.specs.declared.edit.EditList.{EditList}
 use Rattle.enc_rules.specs.Edited.{row_edited, rows_edited}
-use Rattle.enc_rules.specs.Known.{row_key}
+use Rattle.enc_rules.specs.Known.{key_of_row}
 use Rattle.enc_rules.specs.Rules.{row_is_edited_twice}
 use Rattle.enc_rules.proofs.RowsEdited.{row_behind, at_edit_is}
 
 -- the rows whose numbers are in a set
 pub record AreRows (known : BTreeSet ℕ) (rows : List Token) : Type 0 where
-  pub each : (t : Token) → t.row < 2 ^ 32 → contains nat_cmp known (row_key t) ≡ list_any (λ u. is_token u t) rows
+  pub each : (t : Token) → t.row < 2 ^ 32 → contains nat_cmp known (key_of_row t) ≡ list_any (λ u. is_token u t) rows
 
 pub rows_unknown : (known : BTreeSet ℕ) → IsEmpty known → AreRows known []
 rows_unknown known empty = record { each = λ t low. rw empty refl }
@@ -42,11 +42,11 @@ equal a b h = grind (arith, nat_tests, h)
 equal_test : (a b : ℕ) → a ≡ b → (a == b) ≡ true
 equal_test a b e = grind (arith, nat_tests, e)
 
-keys_by : (r t : Token) (here there : Bool) → is_at (nat_cmp (row_key r)) (row_key t) ≡ here → is_token r t ≡ there → r.row < 2 ^ 32 → t.row < 2 ^ 32 → here ≡ there
+keys_by : (r t : Token) (here there : Bool) → is_at (nat_cmp (key_of_row r)) (key_of_row t) ≡ here → is_token r t ≡ there → r.row < 2 ^ 32 → t.row < 2 ^ 32 → here ≡ there
 keys_by r t true true h k low few = refl
 keys_by r t false false h k low few = refl
 keys_by r t true false h k low few =
-    let key = same_number (row_key r) (row_key t) h in
+    let key = same_number (key_of_row r) (key_of_row t) h in
     let row : r.row ≡ t.row = omega (arith, key) in
     let table : r.table ≡ t.table = omega (arith, key) in
     let is : is_token r t ≡ true = rw (equal_test r.table t.table table, equal_test r.row t.row row) refl in
@@ -55,8 +55,8 @@ keys_by r t false true h k low few =
     let parts = both_equal (r.table == t.table) (r.row == t.row) k in
     let table = equal r.table t.table parts.0 in
     let row = equal r.row t.row parts.1 in
-    let key : row_key r ≡ row_key t = omega (arith, table, row) in
-    sym h ∙ itself (row_key r) (row_key t) key
+    let key : key_of_row r ≡ key_of_row t = omega (arith, table, row) in
+    sym h ∙ itself (key_of_row r) (key_of_row t) key
 
 one_known : (here is before there : Bool) → here ≡ is → before ≡ there → cond here true before ≡ (there || (is || false))
 one_known true is before true e f = refl
@@ -67,11 +67,11 @@ one_known false false before false e f = f
 one_known false true before false e f = absurd cc
 
 -- one row more
-pub rows_known : (old new : BTreeSet ℕ) (rows : List Token) (r : Token) → r.row < 2 ^ 32 → AreRows old rows → Updates nat_cmp old new (row_key r) true → AreRows new (rows ++ r ∷ [])
+pub rows_known : (old new : BTreeSet ℕ) (rows : List Token) (r : Token) → r.row < 2 ^ 32 → AreRows old rows → Updates nat_cmp old new (key_of_row r) true → AreRows new (rows ++ r ∷ [])
 rows_known old new rows r low known updates = record {
   each = λ t few.
-      updates.0 (row_key t)
-      ∙ one_known (is_at (nat_cmp (row_key r)) (row_key t)) (is_token r t) (contains nat_cmp old (row_key t)) (list_any (λ u. is_token u t) rows) (keys_by r t _ _ refl refl low few) (known.each t few)
+      updates.0 (key_of_row t)
+      ∙ one_known (is_at (nat_cmp (key_of_row r)) (key_of_row t)) (is_token r t) (contains nat_cmp old (key_of_row t)) (list_any (λ u. is_token u t) rows) (keys_by r t _ _ refl refl low few) (known.each t few)
       ∙ sym (list_any-append (λ u. is_token u t) rows (r ∷ []));
 }
 

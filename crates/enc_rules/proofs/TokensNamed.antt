@@ -1,5 +1,5 @@
 -- Whether the cells of an added row name rows, column by column.
-use Rattle.std.proofs.Common.{◌≡◌, ℕ, zero, suc, ◌+◌, ◌*◌, ◌<◌, ◌≤◌, Bool, true, false, List, [], ◌∷◌, inl, inr, length, get_or, drop, Option, Some, None, refl, sym, ap, ◌∙◌, arith}
+use Rattle.std.proofs.Common.{◌≡◌, ℕ, zero, suc, ◌+◌, ◌*◌, ◌<◌, ◌≤◌, Bool, true, false, List, [], ◌∷◌, length, get_or, drop, Option, Some, None, refl, sym, ap, ◌∙◌, arith}
 use Rattle.std.specs.Prelude.{◌≢◌, ◌==◌, ◌||◌, ◌/◌, ◌%◌, ◌^◌, nat_le, filter, slice_get, is_some, IfSome, IfNone, option_map, option_and_then, if◌then◌else◌}
 use Rattle.std.specs.List.{list_any}
 use Rattle.std.proofs.lemmas.Bool.Decides.{nat_tests}
@@ -14,7 +14,7 @@ use Rattle.enc_schema.proofs.TableNames.{tags_fit}
 use Rattle.enc_plain.specs.Sound.{is_tables}
 use Rattle.enc_edits.specs.declared.edit.CellValue.{CellValue}
 use Rattle.enc_edits.specs.Form.{is_stated}
-use Rattle.enc_rules.specs.Rules.{cell_breaks, cells_break}
+use Rattle.enc_rules.specs.Rules.{value_breaks, cells_break}
 
 -- whether the cells from one on break for the columns from another on
 abbrev pub left : (ℕ → ℕ) → List Column → List CellValue → ℕ → ℕ → Bool
@@ -45,7 +45,7 @@ names_skip count columns cells i k c at is = rw (drop_next columns i c at, is) r
 stated : (c : Column) (columns : List Column) → is_stated c ≡ true → filter is_stated (c ∷ columns) ≡ c ∷ filter is_stated columns
 stated c columns is = rw is refl
 
-one_cell : (count : ℕ → ℕ) (c : Column) (columns : List Column) (v : CellValue) (cells : List CellValue) → cells_break count (c ∷ columns) (v ∷ cells) ≡ (cell_breaks count c v || cells_break count columns cells)
+one_cell : (count : ℕ → ℕ) (c : Column) (columns : List Column) (v : CellValue) (cells : List CellValue) → cells_break count (c ∷ columns) (v ∷ cells) ≡ (value_breaks count c v || cells_break count columns cells)
 unfolding cells_break
 one_cell count c columns v cells = refl
 
@@ -59,16 +59,16 @@ no_column count cells = refl
 
 -- a cell
 one_more : (count : ℕ → ℕ) (columns : List Column) (cells : List CellValue) (i k : ℕ) (c : Column) (v : CellValue) → slice_get columns i ≡ Some c → is_stated c ≡ true → slice_get cells k ≡ Some v
-    → left count columns cells i k ≡ (cell_breaks count c v || left count columns cells (i + 1) (k + 1))
+    → left count columns cells i k ≡ (value_breaks count c v || left count columns cells (i + 1) (k + 1))
 one_more count columns cells i k c v at is there =
     rw (drop_next columns i c at, stated c (drop (i + 1) columns) is, drop_next cells k v there) (one_cell count c (filter is_stated (drop (i + 1) columns)) v (drop (k + 1) cells))
 
 pub names_found : (count : ℕ → ℕ) (columns : List Column) (cells : List CellValue) (i k : ℕ) (c : Column) (v : CellValue) → slice_get columns i ≡ Some c → is_stated c ≡ true
-    → slice_get cells k ≡ Some v → cell_breaks count c v ≡ true → left count columns cells i k ≡ true
+    → slice_get cells k ≡ Some v → value_breaks count c v ≡ true → left count columns cells i k ≡ true
 names_found count columns cells i k c v at is there breaks = one_more count columns cells i k c v at is there ∙ rw breaks refl
 
 pub names_more : (count : ℕ → ℕ) (columns : List Column) (cells : List CellValue) (i k : ℕ) (c : Column) (v : CellValue) → slice_get columns i ≡ Some c → is_stated c ≡ true
-    → slice_get cells k ≡ Some v → cell_breaks count c v ≡ false → left count columns cells i k ≡ left count columns cells (i + 1) (k + 1)
+    → slice_get cells k ≡ Some v → value_breaks count c v ≡ false → left count columns cells i k ≡ left count columns cells (i + 1) (k + 1)
 names_more count columns cells i k c v at is there stands = one_more count columns cells i k c v at is there ∙ rw stands refl
 
 -- no cell is left, or no column

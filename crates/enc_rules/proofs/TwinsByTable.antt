@@ -1,38 +1,36 @@
 -- The first edit that adds a member with a twin, by the least such member of each table.
-use Rattle.std.proofs.Common.{◌≡◌, ℕ, zero, suc, ◌+◌, ◌*◌, ◌<◌, ◌≤◌, Bool, true, false, List, [], ◌∷◌, ◌++◌, length, take, map, Option, Some, None, refl, sym, ap, ◌∙◌, arith, inl, inr, append_assoc, eq-eqb}
-use Rattle.std.specs.Prelude.{◌⊎◌, ◌==◌, ◌&&◌, ◌||◌, filter, slice_get, nat_lt, option_map, ◌^◌, if◌then◌else◌, IsTrue}
+use Rattle.std.proofs.Common.{◌≡◌, ℕ, zero, suc, ◌+◌, ◌<◌, ◌≤◌, Bool, true, false, List, [], ◌∷◌, ◌++◌, length, take, map, Option, Some, None, refl, sym, ap, ◌∙◌, arith, inl, inr, append_assoc, eq-eqb}
+use Rattle.std.specs.Prelude.{◌⊎◌, ◌==◌, ◌&&◌, ◌||◌, filter, slice_get, nat_lt, option_map, ◌^◌}
 use Rattle.std.specs.List.{list_any, list_all}
 use Rattle.std.proofs.lemmas.Bool.Decides.{nat_tests}
 use Rattle.std.proofs.lemmas.List.{append-nil}
-use Rattle.enc_base.specs.Token.{is_token, number_of}
+use Rattle.enc_base.specs.Token.{is_token}
 use Rattle.enc_base.specs.declared.token.Token.{Token}
 use Rattle.enc_base.specs.declared.refusal.Place.{Place}
-use Rattle.enc_base.specs.declared.refusal.Place.TheVariants.{Row}
 use Rattle.enc_schema.specs.Children.{is_child_table}
-use Rattle.enc_plain.specs.Apply.{Attached, gained}
+use Rattle.enc_plain.specs.Apply.{Attached}
 use Rattle.enc_plain.specs.Chain.{Chain}
 use Rattle.enc_plain.specs.Module.{Module}
-use Rattle.enc_plain.specs.Rows.{Rows}
 use Rattle.enc_plain.specs.Sound.{row_count}
 use Rattle.enc_plain.proofs.Columns.{both_left, both_right}
 use Rattle.enc_delta.specs.declared.pairs.Pair.{Pair}
 use Rattle.enc_delta.specs.Changes.{asked_of, is_member}
 use Rattle.enc_delta.specs.Members.{ArePairs, pair_seen}
 use Rattle.enc_delta.specs.Twins.{Asked, has_twin, twin_fault}
-use Rattle.enc_delta.specs.TwinLaw.{IsLeastOf, NonePasses, NamesTwin, child_number}
+use Rattle.enc_delta.specs.TwinLaw.{IsLeastOf, child_number}
 use Rattle.enc_delta.proofs.ListsChildren.{two}
 use Rattle.enc_delta.proofs.LeastTwin.{names_least_twin}
 use Rattle.enc_edits.specs.Added.{adds_to, adding, rows_added}
 use Rattle.enc_edits.specs.declared.edit.Edit.{Edit}
 use Rattle.enc_edits.specs.declared.edit.Edit.TheVariants.{Add, Body as Replace}
 use Rattle.enc_edits.specs.declared.edit.EditList.{EditList}
-use Rattle.enc_rules.specs.Edited.{row_edited, rows_edited, attached_by, attached_behind, attached_in}
+use Rattle.enc_rules.specs.Edited.{row_edited, attached_by, attached_behind, attached_in}
 use Rattle.enc_rules.specs.First.{first_such}
 use Rattle.enc_rules.specs.Listed.{rows_listed}
 use Rattle.enc_rules.specs.Rules.{at_edit, of_child, member_has_twin}
-use Rattle.enc_rules.specs.Told.{adds_row, adds_child, is_twin_in, has_twin_in, row_in, earlier}
+use Rattle.enc_rules.specs.Told.{adds_row, adds_child, is_twin_in, has_twin_in, row_of_place, earlier}
 use Rattle.enc_rules.proofs.EditAt.{edit_judged, nth_row_behind}
-use Rattle.enc_rules.proofs.Such.{SuchIs, none_such, such_unique, such_alike, earlier_is}
+use Rattle.enc_rules.proofs.Such.{such_unique, such_alike, earlier_is}
 
 -- the pairs of a table
 abbrev in_table : ℕ → Attached → Bool
@@ -63,9 +61,9 @@ chosen : (t : ℕ) (f : Attached → Bool) (pairs : List Attached) → filter (�
 chosen t f [] = refl
 chosen t f (a ∷ rest) = elim (two (a.child.table == t)) [
   | inl is ↦ elim (two (f a)) [
-      | inl here ↦ rw (is, is, here) (ap (λ xs. a ∷ xs) (chosen t f rest))
-      | inr other ↦ rw (is, is, other) (chosen t f rest)
-    ]
+    | inl here ↦ rw (is, is, here) (ap (λ xs. a ∷ xs) (chosen t f rest))
+    | inr other ↦ rw (is, is, other) (chosen t f rest)
+  ]
   | inr past ↦ rw past (rw (never (f a)) (chosen t f rest))
 ]
   where
@@ -122,11 +120,11 @@ comes_from m before (e ∷ rest) i x h = elim (short e (row_edited m before e)) 
       let w = comes_from m (before ++ e ∷ []) rest i x (rw none at h) in
       (suc w.0, later m before e rest w.0 x w.1)
   | inr one ↦ elim (in_front one.0 (attached_behind m (before ++ e ∷ []) rest) i x (rw (one.1) at h)) [
-      | inl here ↦ (0, (e, refl, ap (λ (b : List Edit). attached_by e (row_edited m b e)) (append-nil before) ∙ one.1 ∙ ap (λ (y : Attached). y ∷ []) here))
-      | inr there ↦
-          let w = comes_from m (before ++ e ∷ []) rest there.0 x there.1 in
-          (suc w.0, later m before e rest w.0 x w.1)
-    ]
+    | inl here ↦ (0, (e, refl, ap (λ (b : List Edit). attached_by e (row_edited m b e)) (append-nil before) ∙ one.1 ∙ ap (λ (y : Attached). y ∷ []) here))
+    | inr there ↦
+        let w = comes_from m (before ++ e ∷ []) rest there.0 x there.1 in
+        (suc w.0, later m before e rest w.0 x w.1)
+  ]
 ]
 
 -- and each edit's child is among them
@@ -156,9 +154,9 @@ pub passing : {A : Type 0} (p : A → Bool) (xs : List A) (i : ℕ) (x : A) → 
 passing p [] i x h = absurd (nowhere i x h)
 passing {A} p (y ∷ xs) i x h = elim (two (p y)) [
   | inl a ↦ elim (in_front y (filter p xs) i x (rw a at h)) [
-      | inl same ↦ (0, ap (λ (z : A). Some z) same, sym (ap p same) ∙ a)
-      | inr there ↦ let w = passing p xs there.0 x there.1 in (suc w.0, w.1, w.2)
-    ]
+    | inl same ↦ (0, ap (λ (z : A). Some z) same, sym (ap p same) ∙ a)
+    | inr there ↦ let w = passing p xs there.0 x there.1 in (suc w.0, w.1, w.2)
+  ]
   | inr a ↦ let w = passing p xs i x (rw a at h) in (suc w.0, w.1, w.2)
 ]
 
@@ -286,6 +284,7 @@ found t c l x least =
         let b = child_is c.plain l.edits k x w in
         let up = rise x.child.table l.edits j k v.0 before v.1 a.0 in
         omega (arith, up, a.1, b.1)
+
     sooner_twin : (k : ℕ) (w : AddsAt c.plain [] l.edits k x) → in_table t x ≡ true → (j : ℕ) → j < k → has_twin_in t c l j ≡ true → ⊥
     sooner_twin k w here j before h =
         let pairs = attached_in c.plain l.edits in
@@ -309,7 +308,7 @@ small_child (p ∷ ps) zero a h there =
 small_child (p ∷ ps) (suc i) a h there = small_child ps i a (both_right (nat_lt p.owner.row 0x1000000 && nat_lt p.child.row 0x1000000) (list_all (λ (k : Pair). nat_lt k.owner.row 0x1000000 && nat_lt k.child.row 0x1000000) ps) h) there
 
 -- the place that is named leads to the edit
-pub first_named : (t : ℕ) (c : Chain) (l : EditList) (pairs : List Pair) (p : Place) → map pair_seen pairs ≡ filter (in_table t) (attached_in c.plain l.edits) → ArePairs pairs → Some p ≡ twin_fault (asked_of (rows_listed c l.edits)) c.plain (map pair_seen pairs) → first_such (adds_child (row_in p) c l) (length l.edits) ≡ first_such (has_twin_in t c l) (length l.edits)
+pub first_named : (t : ℕ) (c : Chain) (l : EditList) (pairs : List Pair) (p : Place) → map pair_seen pairs ≡ filter (in_table t) (attached_in c.plain l.edits) → ArePairs pairs → Some p ≡ twin_fault (asked_of (rows_listed c l.edits)) c.plain (map pair_seen pairs) → first_such (adds_child (row_of_place p) c l) (length l.edits) ≡ first_such (has_twin_in t c l) (length l.edits)
 first_named t c l pairs p are rows is =
     let chosen_pairs = filter (in_table t) (attached_in c.plain l.edits) in
     let named = rw (← (rw are at is)) at (names_least_twin (asked c l) c.plain chosen_pairs) in

@@ -1,14 +1,14 @@
 -- Texts have no zeros: those of cells by the form of the list, and those of the chain's rows since its module is sound.
-use Rattle.std.proofs.Common.{◌≡◌, ℕ, zero, suc, ◌+◌, ◌-◌, Bool, true, false, List, [], ◌∷◌, ◌++◌, map, length, get_or, ◌<◌, Option, Some, None, refl, sym, ap, ◌∙◌, inl, inr}
-use Rattle.std.specs.Prelude.{◌&&◌, ◌⊎◌, ◌==◌, not, flat_map, filter, slice_get, option_map, nat_lt, if◌then◌else◌}
-use Rattle.std.specs.List.{list_any, list_all}
+use Rattle.std.proofs.Common.{◌≡◌, ℕ, zero, suc, ◌-◌, Bool, true, false, List, [], ◌∷◌, ◌++◌, map, length, get_or, ◌<◌, Option, Some, None, refl, ◌∙◌, inl, inr}
+use Rattle.std.specs.Prelude.{◌&&◌, ◌⊎◌, flat_map, slice_get, option_map, nat_lt}
+use Rattle.std.specs.List.{list_all}
 use Rattle.enc_base.specs.Order.{or_else}
 use Rattle.enc_base.specs.declared.token.Token.{Token}
 use Rattle.enc_schema.specs.declared.column.Column.{Column}
 use Rattle.enc_schema.specs.declared.column.Column.TheVariants.{Num8, Num16, Num32, Text, Guid, Blob, Index, Coded, Run}
 use Rattle.enc_schema.specs.Schema.{columns_in, column_in}
 use Rattle.enc_seqpoints.specs.declared.point.Point.{Point}
-use Rattle.enc_plain.specs.Cell.{Cell, number, text, blob, guid, refer, body, field, Kind, texts, blobs, kind_in, cell_kind}
+use Rattle.enc_plain.specs.Cell.{Cell, number, text, blob, guid, refer, body, field, texts, blobs, kind_in, cell_kind}
 use Rattle.enc_plain.specs.Chain.{Chain, rows_before}
 use Rattle.enc_plain.specs.Module.{Module, has_row, cell_of, cells_of}
 use Rattle.enc_plain.specs.Rows.{bytes_of_cell, bytes_at, cell_at}
@@ -24,7 +24,7 @@ use Rattle.enc_edits.specs.declared.edit.Edit.{Edit}
 use Rattle.enc_edits.specs.declared.edit.Edit.TheVariants.{Add, Body as Replace}
 use Rattle.enc_edits.specs.declared.edit.EditList.{EditList}
 use Rattle.enc_rules.specs.Edited.{cell_stated, cells_stated}
-use Rattle.enc_rules.specs.Filled.{is_whole, are_whole}
+use Rattle.enc_rules.specs.Filled.{has_no_zero, have_no_zero}
 use Rattle.enc_rules.specs.Listed.{edit_of, cells_added, rows_listed}
 use Rattle.enc_rules.specs.Rules.{texts_in_cell}
 use Rattle.enc_rules.proofs.EditAt.{edit_there as edit_there_at}
@@ -38,7 +38,7 @@ both : (a b : Bool) → a ≡ true → b ≡ true → (a && b) ≡ true
 both a b h i = rw (h, i) refl
 
 -- a cell that fits its column
-one_whole : (c : Column) (v : CellValue) → cell_fits c v ≡ true → are_whole (texts_in_cell v) ≡ true
+one_whole : (c : Column) (v : CellValue) → cell_fits c v ≡ true → have_no_zero (texts_in_cell v) ≡ true
 one_whole c (cell.Num n) h = refl
 one_whole c (cell.Blob b) h = refl
 one_whole c (cell.Guid g) h = refl
@@ -53,11 +53,11 @@ one_whole (Index n) (cell.Text t) h = absurd (cc)
 one_whole (Coded k) (cell.Text t) h = absurd (cc)
 one_whole (Run n) (cell.Text t) h = absurd (cc)
 
-joined : (xs ys : List (List ℕ)) → are_whole xs ≡ true → are_whole ys ≡ true → are_whole (xs ++ ys) ≡ true
+joined : (xs ys : List (List ℕ)) → have_no_zero xs ≡ true → have_no_zero ys ≡ true → have_no_zero (xs ++ ys) ≡ true
 joined [] ys h i = i
-joined (x ∷ xs) ys h i = both _ _ (both_left (is_whole x) (are_whole xs) h) (joined xs ys (both_right (is_whole x) (are_whole xs) h) i)
+joined (x ∷ xs) ys h i = both _ _ (both_left (has_no_zero x) (have_no_zero xs) h) (joined xs ys (both_right (has_no_zero x) (have_no_zero xs) h) i)
 
-fits_whole : (columns : List Column) (cells : List CellValue) → cells_fit columns cells ≡ true → are_whole (flat_map texts_in_cell cells) ≡ true
+fits_whole : (columns : List Column) (cells : List CellValue) → cells_fit columns cells ≡ true → have_no_zero (flat_map texts_in_cell cells) ≡ true
 unfolding cells_fit
 fits_whole [] [] h = refl
 fits_whole [] (v ∷ cells) h = absurd (cc)
@@ -72,14 +72,14 @@ add_fits table owner cells code points h =
     (both_left (is_known_table table && owner_fits table owner && cells_fit (stated_columns table) cells) (code_fits table code points) h)
 
 -- the texts of an added row
-pub added_whole : (table : ℕ) (owner : Token) (cells : List CellValue) (code : Option BodyValue) (points : List Point) → edit_fits (Add table owner cells code points) ≡ true → are_whole (flat_map texts_in_cell cells) ≡ true
+pub added_whole : (table : ℕ) (owner : Token) (cells : List CellValue) (code : Option BodyValue) (points : List Point) → edit_fits (Add table owner cells code points) ≡ true → have_no_zero (flat_map texts_in_cell cells) ≡ true
 added_whole table owner cells code points h = fits_whole (stated_columns table) cells (add_fits table owner cells code points h)
 
 third : (x y z w : Bool) → (x && (y && (z && w))) ≡ true → z ≡ true
 third x y z w h = both_left z w (both_right y (z && w) (both_right x (y && (z && w)) h))
 
 -- the name of an added method
-name_fits : (cells : List CellValue) → cells_fit (stated_columns 0x06) cells ≡ true → is_whole (bytes_of_cell (slice_get (map cell_stated cells) 2)) ≡ true
+name_fits : (cells : List CellValue) → cells_fit (stated_columns 0x06) cells ≡ true → has_no_zero (bytes_of_cell (slice_get (map cell_stated cells) 2)) ≡ true
 unfolding cells_fit stated_columns columns_in
 name_fits [] h = refl
 name_fits (a ∷ []) h = refl
@@ -88,9 +88,9 @@ name_fits (a ∷ b ∷ cell.Num n ∷ rest) h = refl
 name_fits (a ∷ b ∷ cell.Guid n ∷ rest) h = refl
 name_fits (a ∷ b ∷ cell.Refer n ∷ rest) h = refl
 name_fits (a ∷ b ∷ cell.Blob t ∷ rest) h = let f : false ≡ true = third (cell_fits Num16 a) (cell_fits Num16 b) false (cells_fit (Blob ∷ []) rest) h in absurd (cc)
-name_fits (a ∷ b ∷ cell.Text t ∷ rest) h = third (cell_fits Num16 a) (cell_fits Num16 b) (is_whole t) (cells_fit (Blob ∷ []) rest) h
+name_fits (a ∷ b ∷ cell.Text t ∷ rest) h = third (cell_fits Num16 a) (cell_fits Num16 b) (has_no_zero t) (cells_fit (Blob ∷ []) rest) h
 
-name_added : (table : ℕ) (cells : List CellValue) (code : Option BodyValue) → table ≡ 0x06 → cells_fit (stated_columns table) cells ≡ true → is_whole (bytes_of_cell (slice_get (cells_stated table cells code) 3)) ≡ true
+name_added : (table : ℕ) (cells : List CellValue) (code : Option BodyValue) → table ≡ 0x06 → cells_fit (stated_columns table) cells ≡ true → has_no_zero (bytes_of_cell (slice_get (cells_stated table cells code) 3)) ≡ true
 unfolding cells_stated
 name_added table cells code is h = rw is (name_fits cells (rw is at h))
 
@@ -99,12 +99,12 @@ all_there [] j e h there = absurd (nowhere j e there)
 all_there (x ∷ xs) zero e h there = let same : x ≡ e = cc in rw (← same) (both_left (edit_fits x) (list_all edit_fits xs) h)
 all_there (x ∷ xs) (suc j) e h there = all_there xs j e (both_right (edit_fits x) (list_all edit_fits xs) h) there
 
-name_of_added : (t : Token) (e : Edit) → t.table ≡ 0x06 → adds_to t.table e ≡ true → edit_fits e ≡ true → is_whole (bytes_of_cell (slice_get (cells_added e) 3)) ≡ true
+name_of_added : (t : Token) (e : Edit) → t.table ≡ 0x06 → adds_to t.table e ≡ true → edit_fits e ≡ true → has_no_zero (bytes_of_cell (slice_get (cells_added e) 3)) ≡ true
 name_of_added t (Add table owner cells code points) is adds fits = name_added table cells code (equal_numbers table t.table adds ∙ is) (add_fits table owner cells code points fits)
 name_of_added t (Replace method code points) is adds fits = absurd (cc)
 
 -- the name of a method that the chain has
-name_kind : (o : Option Cell) (m : Module) (t : Token) → option_map cell_kind o ≡ Some texts → ((c : Cell) → o ≡ Some c → cell_is_sound m t Text c ≡ true) → (x : List ℕ) × (o ≡ Some (text x)) × (is_whole x ≡ true)
+name_kind : (o : Option Cell) (m : Module) (t : Token) → option_map cell_kind o ≡ Some texts → ((c : Cell) → o ≡ Some c → cell_is_sound m t Text c ≡ true) → (x : List ℕ) × (o ≡ Some (text x)) × (has_no_zero x ≡ true)
 name_kind None m t h sound = absurd (cc)
 name_kind (Some (text x)) m t h sound = (x, refl, sound (text x) refl)
 name_kind (Some (number x)) m t h sound = absurd (cc)
@@ -126,7 +126,7 @@ name_column : (t : ℕ) → t ≡ 0x06 → column_in t 3 ≡ Some Text
 unfolding columns_in
 name_column t e = rw e refl
 
-name_there : (m : Module) (t : Token) → IsSound m → t.table ≡ 0x06 → is_whole (bytes_at (cells_of m) t 3) ≡ true
+name_there : (m : Module) (t : Token) → IsSound m → t.table ≡ 0x06 → has_no_zero (bytes_at (cells_of m) t 3) ≡ true
 name_there m t sound is = elim (two (has_row m t)) [
   | inl has ↦
       let w = name_kind (cell_of m t 3) m t (sound.kinds.kinds t 3 texts has (method_name t.table is)) (λ c there. sound.cells.each t 3 Text c has (name_column t.table is) there) in
@@ -141,11 +141,11 @@ edit_there c edits t e some = elim (two (nat_lt (rows_before c t.table) t.row)) 
   | inr a ↦ absurd (cc (rw a at some))
 ]
 
-pub name_whole : (c : Chain) (l : EditList) (t : Token) → IsSound c.plain → list_fits l ≡ true → t.table ≡ 0x06 → is_whole (bytes_at (rows_listed c l.edits) t 3) ≡ true
+pub name_whole : (c : Chain) (l : EditList) (t : Token) → IsSound c.plain → list_fits l ≡ true → t.table ≡ 0x06 → has_no_zero (bytes_at (rows_listed c l.edits) t 3) ≡ true
 unfolding rows_listed bytes_at list_fits
 name_whole c l t sound fits is = go (edit_of c l.edits t) refl
   where
-    go : (o : Option Edit) → edit_of c l.edits t ≡ o → is_whole (bytes_of_cell (cell_at (λ u. or_else (option_map cells_added (edit_of c l.edits u)) (cells_of c.plain u)) t 3)) ≡ true
+    go : (o : Option Edit) → edit_of c l.edits t ≡ o → has_no_zero (bytes_of_cell (cell_at (λ u. or_else (option_map cells_added (edit_of c l.edits u)) (cells_of c.plain u)) t 3)) ≡ true
     go None none = rw none (name_there c.plain t sound is)
     go (Some e) some =
         let w = edit_there c l.edits t e some in

@@ -13,8 +13,8 @@ Fills (Err Memory) new filled = Unit {0}
 Fills (Err (TooLarge heap)) new filled = passes_limits filled ≡ true
 
 -- no text has a zero
-abbrev pub is_whole : List ℕ → Bool
-is_whole t = not (list_any (λ c. c == 0) t)
+abbrev pub has_no_zero : List ℕ → Bool
+has_no_zero t = not (list_any (λ c. c == 0) t)
 
-abbrev pub are_whole : List (List ℕ) → Bool
-are_whole texts = list_all is_whole texts
+abbrev pub have_no_zero : List (List ℕ) → Bool
+have_no_zero texts = list_all has_no_zero texts

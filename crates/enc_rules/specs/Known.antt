@@ -3,7 +3,6 @@ use Rattle.std.specs.Prelude.{◌≡◌, ℕ, ◌+◌, ◌-◌, ◌*◌, ◌/◌
 use Rattle.enc_base.specs.Token.{nil}
 use Rattle.enc_base.specs.declared.token.Token.{Token}
 use Rattle.enc_meta.specs.Joined.{joined_blob}
-use Rattle.enc_schema.specs.Tables as tables
 use Rattle.enc_opcodes.specs.Body.{nil_or}
 use Rattle.enc_plain.specs.Rows.{Rows, bytes_at}
 use Rattle.enc_plain.specs.Chain.{Chain}
@@ -16,10 +15,10 @@ use Rattle.enc_edits.specs.declared.edit.EditList.{EditList}
 use Rattle.enc_edits.specs.Form.{list_fits, begins_with_rva}
 use Rattle.enc_rules.specs.declared.context.Known.{Known}
 use Rattle.enc_rules.specs.Edited.{rows_edited, attached_in}
-use Rattle.enc_rules.specs.Listed.{Listed, count_after, rows_listed}
+use Rattle.enc_rules.specs.Listed.{AfterList, count_after, rows_listed}
 
 -- what is known is that of this chain and this list, which has the form of one, and no table has more than 2^24 - 1 rows after it
-pub record IsKnown (c : Chain) (l : EditList) (k : Known) : Type 0 where
+pub record KnowsList (c : Chain) (l : EditList) (k : Known) : Type 0 where
   pub form : list_fits l ≡ true
   pub rows : k.rows.items ≡ rows_edited c.plain l.edits
   pub pairs : map pair_seen k.pairs.items ≡ attached_in c.plain l.edits
@@ -29,12 +28,12 @@ pub record IsKnown (c : Chain) (l : EditList) (k : Known) : Type 0 where
   pub short : length l.edits < 2 ^ 24
 
 -- the value that an added row states for a column
-abbrev pub value_in : ℕ → List CellValue → ℕ → Option CellValue
-value_in table cells i = if begins_with_rva table then (if i == 0 then None else slice_get cells (i - 1)) else slice_get cells i
+abbrev pub stated_in : ℕ → List CellValue → ℕ → Option CellValue
+stated_in table cells i = if begins_with_rva table then (if i == 0 then None else slice_get cells (i - 1)) else slice_get cells i
 
-abbrev pub value_of : Edit → ℕ → Option CellValue
-value_of (Add table owner cells code points) i = value_in table cells i
-value_of (Replace method code points) i = None
+abbrev pub stated_of : Edit → ℕ → Option CellValue
+stated_of (Add table owner cells code points) i = stated_in table cells i
+stated_of (Replace method code points) i = None
 
 -- the number of a value, 0 where it is none; the bytes of a text or of a blob; the token
 abbrev pub number_of_value : Option CellValue → ℕ
@@ -51,23 +50,23 @@ token_of_value (Some (cell.Refer t)) = nil_or t
 token_of_value _ = nil
 
 -- the number of a cell
-abbrev pub cell_number : Token → ℕ → ℕ
-cell_number t i = t.row * 2 ^ 16 + t.table * 2 ^ 8 + i
+abbrev pub cell_key : Token → ℕ → ℕ
+cell_key t i = t.row * 2 ^ 16 + t.table * 2 ^ 8 + i
 
 -- the bytes in the cell of a number
 abbrev pub numbered_bytes : Rows → ℕ → Option (List ℕ)
 numbered_bytes rows n = Some (bytes_at rows (record { table = n / 2 ^ 8 % 2 ^ 8; row = n / 2 ^ 16 }) (n % 2 ^ 8))
 
 -- the blobs of a list's rows: those of the chain at their places, and the others behind 2^63 by the numbers of their cells
-unfoldable pub blobs_listed : Listed → ℕ → Option (List ℕ)
+unfoldable pub blobs_listed : AfterList → ℕ → Option (List ℕ)
 blobs_listed j n = if nat_lt n (2 ^ 63) then joined_blob j.chain.heaps n else numbered_bytes (rows_listed j.chain j.list.edits) (n - 2 ^ 63)
 
-abbrev pub listed_rows : Listed → Rows
+abbrev pub listed_rows : AfterList → Rows
 listed_rows j = rows_listed j.chain j.list.edits
 
-abbrev pub listed_counts : Listed → ℕ → ℕ
+abbrev pub listed_counts : AfterList → ℕ → ℕ
 listed_counts j = count_after j.chain j.list.edits
 
 -- a number that no other token has
-abbrev pub row_key : Token → ℕ
-row_key t = t.table * 2 ^ 32 + t.row
+abbrev pub key_of_row : Token → ℕ
+key_of_row t = t.table * 2 ^ 32 + t.row

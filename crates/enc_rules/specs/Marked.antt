@@ -9,11 +9,11 @@ use Rattle.enc_edits.specs.Sizes.{arg_meant}
 use Rattle.enc_edits.specs.declared.body.InstrValue.{InstrValue}
 use Rattle.enc_edits.specs.declared.edit.Edit.{Edit}
 use Rattle.enc_rules.specs.Listed.{body_given}
-use Rattle.enc_rules.specs.Rules.{has_body, is_il, body_is_missing_or_stands}
+use Rattle.enc_rules.specs.Rules.{gives_body, is_il, body_is_missing_or_stands}
 
 -- whether an instruction begins at an offset, as marked for each byte of the code
-abbrev pub mark_at : List Bool → ℕ → Bool
-mark_at marks t = slice_index_or marks t false
+abbrev pub is_marked : List Bool → ℕ → Bool
+is_marked marks t = slice_index_or marks t false
 
 -- an instruction and a clause by where instructions begin
 abbrev pub value_is_sound : (ℕ → ℕ) → (ℕ → Bool) → InstrValue → Bool
@@ -24,4 +24,4 @@ clause_is_sound count begins size c = handler_is_sound count begins size (handle
 
 -- an edit gives a body to what isn't a method of IL code, or one that isn't good, or with which the code takes so much room
 abbrev pub body_breaks : (ℕ → ℕ) → Rows → ℕ → Edit → Token → Bool
-body_breaks count rows room e t = has_body e && (not (is_il rows t) || not (body_is_missing_or_stands count (body_given e)) || nat_le (2 ^ 32) room)
+body_breaks count rows room e t = gives_body e && (not (is_il rows t) || not (body_is_missing_or_stands count (body_given e)) || nat_le (2 ^ 32) room)

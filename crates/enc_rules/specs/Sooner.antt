@@ -1,8 +1,5 @@
 -- For the contracts of private functions: the first edit of several rules, of which each tells its own.
-use Rattle.std.specs.Prelude.{ℕ, ◌+◌, List, [], ◌∷◌, Option, Some, None, nat_lt, if◌then◌else◌}
-use Rattle.enc_plain.specs.Chain.{Chain}
-use Rattle.enc_edits.specs.declared.edit.EditList.{EditList}
-use Rattle.enc_rules.specs.First.{EditRule, first_such}
+use Rattle.std.specs.Prelude.{ℕ, ◌+◌, Option, Some, None, nat_lt, if◌then◌else◌}
 
 -- what is told so far, or the first place at which another rule is broken, where that is sooner; of one edit the rule that is told first stays
 abbrev pub sooner : Option (ℕ × ℕ) → ℕ → Option ℕ → Option (ℕ × ℕ)

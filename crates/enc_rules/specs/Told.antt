@@ -42,6 +42,6 @@ earlier (Some m) None = Some m
 earlier (Some m) (Some n) = Some (if nat_le m n then m else n)
 
 -- the row at a place
-abbrev pub row_in : Place → Token
-row_in (Row t) = t
-row_in _ = nil
+abbrev pub row_of_place : Place → Token
+row_of_place (Row t) = t
+row_of_place _ = nil

@@ -6,8 +6,9 @@ ghost use Rattle.enc_opcodes.specs.Sound.{handler_kind_is_sound};
 ghost use Rattle.enc_edits.specs.Sizes.{length_of_code};
 ghost use Rattle.enc_rules.specs.First.{first_such};
 ghost use Rattle.enc_rules.specs.Known.{listed_counts, listed_rows};
-ghost use Rattle.enc_rules.specs.Marked.{mark_at, value_is_sound, clause_is_sound, body_breaks};
-ghost use Rattle.enc_rules.specs.Rules.{room_of_edit, is_il, body_stands, body_is_broken, branches_reach};
+ghost use Rattle.enc_rules.specs.Marked.{is_marked, value_is_sound, clause_is_sound, body_breaks};
+ghost use Rattle.enc_edits.specs.Reach.{branches_reach};
+ghost use Rattle.enc_rules.specs.Rules.{room_of_edit, is_il, given_stands, body_is_broken};
 ghost use Rattle.enc_rules.specs.Sums.{most_room};
 
 use crate::context::Context;
@@ -26,7 +27,7 @@ use std::alloc::{AllocError, Global};
 
 /// An instruction begins at the offset.
 fn is_start(marks: &[bool], offset: u32) -> bool
-    ensures { result ≡ mark_at marks.now offset }
+    ensures { result ≡ is_marked marks.now offset }
 {
     match marks.get(offset as usize) {
         Some(mark) => *mark,
@@ -61,7 +62,7 @@ fn is_user(operand: Operand) -> bool
 
 /// An instruction begins at each of the offsets.
 fn are_starts(marks: &[bool], offsets: &[u32]) -> bool
-    ensures { result ≡ list_all (mark_at marks.now) offsets.now }
+    ensures { result ≡ list_all (is_marked marks.now) offsets.now }
 {
     let mut rest = offsets;
     while let [offset, tail @ ..] = rest {
@@ -79,7 +80,7 @@ fn value_is_sound<C: ChainView>(
     marks: &[bool],
     instr: &InstrValue,
 ) -> bool
-    ensures { result ≡ value_is_sound (listed_counts context.now) (mark_at marks.now) instr.now }
+    ensures { result ≡ value_is_sound (listed_counts context.now) (is_marked marks.now) instr.now }
 {
     match &instr.arg {
         ArgValue::Target(offset) => is_start(marks, *offset),
@@ -95,7 +96,7 @@ fn are_values_sound<C: ChainView>(
     marks: &[bool],
     code: &[InstrValue],
 ) -> bool
-    ensures { result ≡ list_all (value_is_sound (listed_counts context.now) (mark_at marks.now)) code.now }
+    ensures { result ≡ list_all (value_is_sound (listed_counts context.now) (is_marked marks.now)) code.now }
 {
     let mut rest = code;
     while let [instr, tail @ ..] = rest {
@@ -109,7 +110,7 @@ fn are_values_sound<C: ChainView>(
 
 /// A range begins at an instruction, and ends at one or with the code, and not before it begins.
 fn range_is_good(marks: &[bool], size: u64, range: (u32, u32)) -> bool
-    ensures { result ≡ range_is_good (mark_at marks.now) size range }
+    ensures { result ≡ range_is_good (is_marked marks.now) size range }
 {
     is_start(marks, range.0)
         && range.0 <= range.1
@@ -123,7 +124,7 @@ fn kind_is_sound<C: ChainView>(
     kind: u32,
     extra: u32,
 ) -> bool
-    ensures { result ≡ handler_kind_is_sound (listed_counts context.now) (mark_at marks.now) (kind_meant kind extra) }
+    ensures { result ≡ handler_kind_is_sound (listed_counts context.now) (is_marked marks.now) (kind_meant kind extra) }
 {
     match kind {
         4 | 2 => true,
@@ -140,7 +141,7 @@ fn clause_is_sound<C: ChainView>(
     size: u64,
     clause: Clause,
 ) -> bool
-    ensures { result ≡ clause_is_sound (listed_counts context.now) (mark_at marks.now) size clause }
+    ensures { result ≡ clause_is_sound (listed_counts context.now) (is_marked marks.now) size clause }
 {
     range_is_good(marks, size, clause.tries)
         && range_is_good(marks, size, clause.handler)
@@ -154,7 +155,7 @@ fn are_clauses_sound<C: ChainView>(
     size: u64,
     clauses: &[Clause],
 ) -> bool
-    ensures { result ≡ list_all (clause_is_sound (listed_counts context.now) (mark_at marks.now) size) clauses.now }
+    ensures { result ≡ list_all (clause_is_sound (listed_counts context.now) (is_marked marks.now) size) clauses.now }
 {
     let mut rest = clauses;
     while let [clause, tail @ ..] = rest {
@@ -183,8 +184,8 @@ fn are_parts_sound<C: ChainView>(
     body: &BodyValue,
 ) -> bool
     requires { length_of_code body.now.code < 2 ^ 32 }
-    ensures { result ≡ (list_all (value_is_sound (listed_counts context.now) (mark_at marks.now)) body.now.code
-        && list_all (clause_is_sound (listed_counts context.now) (mark_at marks.now) size) body.now.clauses
+    ensures { result ≡ (list_all (value_is_sound (listed_counts context.now) (is_marked marks.now)) body.now.code
+        && list_all (clause_is_sound (listed_counts context.now) (is_marked marks.now) size) body.now.clauses
         && locals_are_good (listed_counts context.now) (nil_or body.now.locals)
         && branches_reach 0 body.now.code) }
 {
@@ -196,7 +197,7 @@ fn are_parts_sound<C: ChainView>(
 
 /// The body is good by the rows after the list, and its short branches reach. It takes memory for a mark for
 /// each byte of its code.
-fn body_stands<C: ChainView>(
+fn given_stands<C: ChainView>(
     alloc: Global,
     context: &Context<'_, C>,
     body: &BodyValue,
@@ -204,7 +205,7 @@ fn body_stands<C: ChainView>(
 ) -> Result<bool, AllocError>
     requires size { length_of_code body.now.code ≡ size }
     requires few { size < 2 ^ 32 }
-    ensures { IfOk result (λ good. good ≡ body_stands (listed_counts context.now) body.now) }
+    ensures { IfOk result (λ good. good ≡ given_stands (listed_counts context.now) body.now) }
 {
     let marks = marks_of(alloc, body.code.as_slice(), size as usize)?;
     Ok(are_parts_sound(context, &marks, size, body))
@@ -250,7 +251,7 @@ fn body_breaks<C: ChainView>(
         return Ok(true);
     }
     let size = length_of_code(body.code.as_slice());
-    Ok(!body_stands(alloc, context, body, size)?)
+    Ok(!given_stands(alloc, context, body, size)?)
 }
 
 /// The first edit whose body isn't good, or whose method isn't IL, or with which the delta's code gets too long. It takes

@@ -5,7 +5,7 @@ ghost use Rattle.enc_plain.specs.Sound.{can_name};
 ghost use Rattle.enc_schema.specs.Schema.{columns_in};
 ghost use Rattle.enc_rules.specs.First.{first_such};
 ghost use Rattle.enc_rules.specs.Known.{listed_counts};
-ghost use Rattle.enc_rules.specs.Rules.{names_row, cell_breaks, cells_break, token_breaks, token_is_missing};
+ghost use Rattle.enc_rules.specs.Rules.{names_row, value_breaks, cells_break, token_breaks, token_is_missing};
 
 use crate::context::Context;
 use enc_base::Token;
@@ -49,8 +49,8 @@ fn names_row<C: ChainView>(context: &Context<'_, C>, column: Column, token: Toke
 }
 
 /// The value names no row.
-fn cell_breaks<C: ChainView>(context: &Context<'_, C>, column: Column, value: &CellValue) -> bool
-    ensures { result ≡ cell_breaks (listed_counts context.now) column value.now }
+fn value_breaks<C: ChainView>(context: &Context<'_, C>, column: Column, value: &CellValue) -> bool
+    ensures { result ≡ value_breaks (listed_counts context.now) column value.now }
 {
     match value {
         CellValue::Refer(token) => !names_row(context, column, *token),
@@ -91,7 +91,7 @@ fn cells_break<C: ChainView>(
         let Some(value) = value_at(cells, stated) else {
             return false;
         };
-        if cell_breaks(context, column, value) {
+        if value_breaks(context, column, value) {
             return true;
         }
         stated += 1;

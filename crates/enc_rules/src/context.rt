@@ -7,7 +7,7 @@ ghost use Rattle.enc_delta.specs.Members.{ArePairs, pair_seen};
 ghost use Rattle.enc_rules.specs.Edited.{rows_edited, attached_in};
 ghost use Rattle.enc_rules.specs.Listed.{edit_of};
 ghost use Rattle.enc_rules.specs.Rules.{is_row_of};
-ghost use Rattle.enc_rules.specs.Known.{value_of, value_in, number_of_value, bytes_of_value, token_of_value, cell_number, listed_rows, listed_counts, blobs_listed};
+ghost use Rattle.enc_rules.specs.Known.{stated_of, stated_in, number_of_value, bytes_of_value, token_of_value, cell_key, listed_rows, listed_counts, blobs_listed};
 
 use enc_base::{Counts, Token};
 use enc_delta::Pair;
@@ -39,19 +39,19 @@ pub struct Context<'a, C: ChainView> {
 
 impl<'a, C: ChainView> Model for Context<'a, C> {
     ghost use Rattle.std.specs.Prelude.{◌≡◌};
-    ghost use Rattle.enc_rules.specs.Listed.{Listed};
-    ghost use Rattle.enc_rules.specs.Known.{IsKnown};
+    ghost use Rattle.enc_rules.specs.Listed.{AfterList};
+    ghost use Rattle.enc_rules.specs.Known.{KnowsList};
 
-    ghost Value = { Listed };
+    ghost Value = { AfterList };
 
     ghost view = { λ r. record { chain = C.chain r.old.view.now; list = r.list.now } };
 
-    ghost invariant = { λ r. IsKnown (C.chain r.old.view.now) r.list.now r.known × (r.added ≡ r.list.now.edits) };
+    ghost invariant = { λ r. KnowsList (C.chain r.old.view.now) r.list.now r.known × (r.added ≡ r.list.now.edits) };
 }
 
 /// The value that an added row states for a column: the RVA in front is none.
-fn value_in(table: u8, cells: &[CellValue], column: u8) -> Option<&CellValue>
-    ensures { option_map (λ v. v.now) result ≡ value_in table cells.now column }
+fn stated_in(table: u8, cells: &[CellValue], column: u8) -> Option<&CellValue>
+    ensures { option_map (λ v. v.now) result ≡ stated_in table cells.now column }
 {
     if table != METHOD_DEF && table != FIELD_RVA {
         return cells.get(column as usize);
@@ -63,11 +63,11 @@ fn value_in(table: u8, cells: &[CellValue], column: u8) -> Option<&CellValue>
 }
 
 /// The value that an edit states for a column of the row that it adds.
-fn value_of(edit: &Edit, column: u8) -> Option<&CellValue>
-    ensures { option_map (λ v. v.now) result ≡ value_of edit.now column }
+fn stated_of(edit: &Edit, column: u8) -> Option<&CellValue>
+    ensures { option_map (λ v. v.now) result ≡ stated_of edit.now column }
 {
     match edit {
-        Edit::Add { table, cells, .. } => value_in(*table, cells.as_slice(), column),
+        Edit::Add { table, cells, .. } => stated_in(*table, cells.as_slice(), column),
         Edit::Body { .. } => None,
     }
 }
@@ -109,8 +109,8 @@ fn token_of(value: Option<&CellValue>) -> Token
 }
 
 /// The number of a cell.
-fn cell_number(row: Token, column: u8) -> u64
-    ensures number { result ≡ cell_number row column }
+fn cell_key(row: Token, column: u8) -> u64
+    ensures number { result ≡ cell_key row column }
     ensures few { result < 2 ^ 48 }
     ensures table { row.table < 256 }
 {
@@ -192,7 +192,7 @@ impl<C: ChainView> Context<'_, C> {
     {
         match self.old.blob_place(row, column) {
             Some(place) if place < 0x8000_0000_0000_0000 => place,
-            _ => 0x8000_0000_0000_0000 + cell_number(row, column),
+            _ => 0x8000_0000_0000_0000 + cell_key(row, column),
         }
     }
 }
@@ -213,7 +213,7 @@ impl<C: ChainView> CellView for Context<'_, C> {
     #[tactic(auto, using(crate::proofs::RowsListed::number_new, crate::proofs::RowsListed::number_old))]
     fn number(&self, row: Token, column: u8) -> u32 {
         match self.edit_of(row) {
-            Some(edit) => number_of(value_of(edit, column)),
+            Some(edit) => number_of(stated_of(edit, column)),
             None => self.old.number(row, column),
         }
     }
@@ -221,7 +221,7 @@ impl<C: ChainView> CellView for Context<'_, C> {
     #[tactic(auto, using(crate::proofs::RowsListed::bytes_new, crate::proofs::RowsListed::bytes_old))]
     fn text(&self, row: Token, column: u8) -> &[u8] {
         match self.edit_of(row) {
-            Some(edit) => bytes_of(value_of(edit, column)),
+            Some(edit) => bytes_of(stated_of(edit, column)),
             None => self.old.text(row, column),
         }
     }
@@ -229,14 +229,14 @@ impl<C: ChainView> CellView for Context<'_, C> {
     #[tactic(auto, using(crate::proofs::RowsListed::bytes_new, crate::proofs::RowsListed::bytes_old))]
     fn blob(&self, row: Token, column: u8) -> &[u8] {
         match self.edit_of(row) {
-            Some(edit) => bytes_of(value_of(edit, column)),
+            Some(edit) => bytes_of(stated_of(edit, column)),
             None => self.old.blob(row, column),
         }
     }
 
     fn blob_place(&self, row: Token, column: u8) -> Option<u64> {
         match self.edit_of(row) {
-            Some(_) => Some(0x8000_0000_0000_0000 + cell_number(row, column)),
+            Some(_) => Some(0x8000_0000_0000_0000 + cell_key(row, column)),
             None => Some(self.old_place(row, column)),
         }
     }
@@ -244,7 +244,7 @@ impl<C: ChainView> CellView for Context<'_, C> {
     #[tactic(auto, using(crate::proofs::RowsListed::token_new, crate::proofs::RowsListed::token_old))]
     fn token(&self, row: Token, column: u8) -> Token {
         match self.edit_of(row) {
-            Some(edit) => token_of(value_of(edit, column)),
+            Some(edit) => token_of(stated_of(edit, column)),
             None => self.old.token(row, column),
         }
     }

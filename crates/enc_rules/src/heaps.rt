@@ -3,10 +3,10 @@ ghost use Rattle.std.specs.Prelude.{◌≡◌, ◌<◌, ◌^◌, false, flat_map
 ghost use Rattle.enc_edits.specs.Form.{edit_fits, list_fits};
 ghost use Rattle.enc_meta.specs.Built.{AreWithinLimits, unit_bytes, with_text, with_user, with_blob};
 ghost use Rattle.enc_plain.specs.Sound.{IsSound};
-ghost use Rattle.enc_rules.specs.Filled.{Fills, is_whole, are_whole};
+ghost use Rattle.enc_rules.specs.Filled.{Fills, has_no_zero, have_no_zero};
 ghost use Rattle.enc_rules.specs.First.{first_such};
 ghost use Rattle.enc_rules.specs.Known.{listed_rows};
-ghost use Rattle.enc_rules.specs.Rules.{heap_passes, heaps_are_full, with_edit, with_texts, with_users, with_blobs, texts_in_cell, blobs_in_cell, users_in_argument, texts_of_edit, users_of_edit, blobs_of_edit};
+ghost use Rattle.enc_rules.specs.Rules.{heap_passes, heaps_are_full, heaps_after_edit, with_texts, with_users, with_blobs, texts_in_cell, blobs_in_cell, users_in_argument, texts_of_edit, users_of_edit, blobs_of_edit};
 ghost use Rattle.enc_edits.specs.declared.body.InstrValue.{InstrValue as TheInstr};
 
 use crate::context::Context;
@@ -20,7 +20,7 @@ use std::alloc::{AllocError, Global};
 
 /// Adds a text.
 fn add_text(heaps: &mut HeapBuilder, text: &[u8]) -> Result<(), BuildFault>
-    requires { IsTrue (is_whole text.now) }
+    requires { IsTrue (has_no_zero text.now) }
     ensures { Fills result heaps.new (with_text heaps.old text.now) }
 {
     match heaps.add_text(text) {
@@ -52,7 +52,7 @@ fn add_user(heaps: &mut HeapBuilder, units: &[u16]) -> Result<(), BuildFault>
 /// Adds the text of a cell, where it is one.
 #[tactic(auto, unfolding(crate::specs::Rules::with_texts))]
 fn add_cell_text(heaps: &mut HeapBuilder, cell: &CellValue) -> Result<(), BuildFault>
-    requires { IsTrue (are_whole (texts_in_cell cell.now)) }
+    requires { IsTrue (have_no_zero (texts_in_cell cell.now)) }
     ensures { Fills result heaps.new (with_texts heaps.old (texts_in_cell cell.now)) }
 {
     match cell {
@@ -63,7 +63,7 @@ fn add_cell_text(heaps: &mut HeapBuilder, cell: &CellValue) -> Result<(), BuildF
 
 /// Adds the texts of cells.
 fn add_cell_texts(heaps: &mut HeapBuilder, cells: &[CellValue]) -> Result<(), BuildFault>
-    requires { IsTrue (are_whole (flat_map texts_in_cell cells.now)) }
+    requires { IsTrue (have_no_zero (flat_map texts_in_cell cells.now)) }
     ensures { Fills result heaps.new (with_texts heaps.old (flat_map texts_in_cell cells.now)) }
 {
     let mut rest = cells;
@@ -192,7 +192,7 @@ fn add_edit<C: ChainView>(
     requires sound { IsSound context.now.chain.plain }
     requires list { IsTrue (list_fits context.now.list) }
     requires form { IsTrue (edit_fits edit.now) }
-    ensures filled { Fills result heaps.new (with_edit (listed_rows context.now) heaps.old edit.now) }
+    ensures filled { Fills result heaps.new (heaps_after_edit (listed_rows context.now) heaps.old edit.now) }
     ensures within { IfOk result (λ _. AreWithinLimits heaps.new) }
 {
     match add_texts(context, heaps, edit) {

@@ -7,7 +7,7 @@ ghost use Rattle.enc_rules.specs.Edited.{attached_in};
 ghost use Rattle.enc_rules.specs.First.{first_such};
 ghost use Rattle.enc_rules.specs.Known.{listed_rows};
 ghost use Rattle.enc_rules.specs.Rules.{of_child, field_is_out_of_layout, method_has_no_slot, member_has_twin};
-ghost use Rattle.enc_rules.specs.Told.{adds_row, adds_child, has_twin_in, row_in, earlier};
+ghost use Rattle.enc_rules.specs.Told.{adds_row, adds_child, has_twin_in, row_of_place, earlier};
 
 use crate::context::Context;
 use enc_base::{Place, Token};
@@ -107,8 +107,8 @@ fn edit_of<C: ChainView>(context: &Context<'_, C>, child: Token) -> Option<u32>
 }
 
 /// The row at a place.
-fn row_in(place: Place) -> Token
-    ensures { result ≡ row_in place }
+fn row_of_place(place: Place) -> Token
+    ensures { result ≡ row_of_place place }
 {
     match place {
         Place::Row(token) => token,
@@ -145,7 +145,7 @@ fn first_in<C: ChainView>(
     let pairs = pairs_in(alloc, context.pairs(), table)?;
     match twin_among(alloc, context.old.view, context, &pairs) {
         Err(error) => Err(error),
-        Ok(Some(place)) => Ok(edit_of(context, row_in(place))),
+        Ok(Some(place)) => Ok(edit_of(context, row_of_place(place))),
         Ok(None) => Ok(None),
     }
 }
@@ -184,8 +184,5 @@ pub fn member_has_twin<C: ChainView>(
     let methods = first_in(alloc, context, METHOD_DEF)?;
     let properties = first_in(alloc, context, PROPERTY)?;
     let events = first_in(alloc, context, EVENT)?;
-    Ok(earlier(
-        earlier(fields, methods),
-        earlier(properties, events),
-    ))
+    Ok(earlier(earlier(fields, methods), earlier(properties, events)))
 }

@@ -83,12 +83,7 @@ fn room_of_documents(documents: &[DocumentValue]) -> u64
 
 /// The edit has points that can't be spelled, or that name none of so many documents, or with which the PDB
 /// takes so much room.
-fn points_break(
-    alloc: Global,
-    edit: &Edit,
-    documents: usize,
-    room: u64,
-) -> Result<bool, AllocError>
+fn points_break(alloc: Global, edit: &Edit, documents: usize, room: u64) -> Result<bool, AllocError>
     ensures { IfOk result (λ bad. bad ≡ points_break documents room edit.now) }
 {
     let points = points_given(edit);

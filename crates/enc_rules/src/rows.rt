@@ -7,7 +7,7 @@ ghost use Rattle.enc_delta.specs.Members.{ArePairs, pair_seen};
 ghost use Rattle.enc_rules.specs.Edited.{row_edited, rows_edited, attached_by, attached_in};
 ghost use Rattle.enc_rules.specs.First.{first_such};
 ghost use Rattle.enc_rules.specs.Listed.{count_after};
-ghost use Rattle.enc_rules.specs.Known.{row_key};
+ghost use Rattle.enc_rules.specs.Known.{key_of_row};
 ghost use Rattle.enc_rules.specs.Rules.{there_are_too_many, row_is_edited_twice};
 
 use crate::context::{Context, Known};
@@ -141,8 +141,8 @@ pub fn context_of<'a, C: ChainView>(
 }
 
 /// A number that no other token has.
-fn row_key(row: Token) -> u64
-    ensures key { result ≡ row_key row }
+fn key_of_row(row: Token) -> u64
+    ensures key { result ≡ key_of_row row }
     ensures few { row.row < 2 ^ 32 }
 {
     u64::from(row.table) * 0x1_0000_0000 + u64::from(row.row)
@@ -160,7 +160,7 @@ pub fn row_is_edited_twice<C: ChainView>(
     let edits = context.edits();
     let rows = context.rows();
     for k in 0..edits.len() {
-        let key = row_key(rows[k]);
+        let key = key_of_row(rows[k]);
         if known.contains(&key) {
             return Ok(Some(k as u32));
         }

@@ -21,7 +21,7 @@ loop-k-preserved g c =
     let more : c.capped-sum.result ≡ min most_room (sum_by room_of_edit (take (c.loop-k.k + 1) c.edits-edits.result.now)) = capped_more room_of_edit c.edits-edits.result.now c.loop-k.k c.index-edits-k.result c.loop-k.sum c.room_of_edit.result c.capped-sum.result c.loop-k-test.true c.index-edits-k.is c.loop-k.invariant.sum c.room_of_edit.ensures.room c.capped-sum.ensures.capped in
     record {
       none = such_more (body_is_broken c.args.context.now.chain c.args.context.now.list) c.loop-k.k c.loop-k.invariant.none
-        (body_at c.args.context.now.chain c.args.context.now.list c.edits-edits.result.now c.rows-rows.result.now c.loop-k.k c.index-edits-k.result _ c.capped-sum.result c.edits-edits.ensures.edits c.rows-rows.ensures c.loop-k-test.true c.index-edits-k.is more ∙ sym c.in-Ok-false.ensures ∙ c.in-Ok-false.field-0-test);
+          (body_at c.args.context.now.chain c.args.context.now.list c.edits-edits.result.now c.rows-rows.result.now c.loop-k.k c.index-edits-k.result _ c.capped-sum.result c.edits-edits.ensures.edits c.rows-rows.ensures c.loop-k-test.true c.index-edits-k.is more ∙ sym c.in-Ok-false.ensures ∙ c.in-Ok-false.field-0-test);
       sum = more;
       few = c.capped-sum.ensures.most;
     }

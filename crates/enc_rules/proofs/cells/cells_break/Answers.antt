@@ -6,12 +6,12 @@ use Rattle.enc_rules.proofs.cells.cells_break.Goals as goal
 pub returns-in_default : goal.returns-in_default
 returns-in_default g c = sym (names_short (listed_counts c.args.context.now) c.args.columns.now c.args.cells.now c.loop-i.i c.loop-i.stated c.column_at-column.result c.column_at-column.ensures (sym c.is_stated.ensures ∙ c.if-not-is_stated.false) (sym c.in_default.ensures)) ∙ c.loop-i.invariant.same
 
-pub returns-then-cell_breaks : goal.returns-then-cell_breaks
-returns-then-cell_breaks g c = sym (names_found (listed_counts c.args.context.now) c.args.columns.now c.args.cells.now c.loop-i.i c.loop-i.stated c.column_at-column.result _ c.column_at-column.ensures (sym c.is_stated.ensures ∙ c.if-not-is_stated.false) (sym c.in-Some.ensures) (sym c.cell_breaks.ensures ∙ c.if-cell_breaks.true)) ∙ c.loop-i.invariant.same
+pub returns-then-value_breaks : goal.returns-then-value_breaks
+returns-then-value_breaks g c = sym (names_found (listed_counts c.args.context.now) c.args.columns.now c.args.cells.now c.loop-i.i c.loop-i.stated c.column_at-column.result _ c.column_at-column.ensures (sym c.is_stated.ensures ∙ c.if-not-is_stated.false) (sym c.in-Some.ensures) (sym c.value_breaks.ensures ∙ c.if-value_breaks.true)) ∙ c.loop-i.invariant.same
 
 pub loop-i-preserved : goal.loop-i-preserved
 loop-i-preserved g c = record {
-  same = sym (names_more (listed_counts c.args.context.now) c.args.columns.now c.args.cells.now c.loop-i.i c.loop-i.stated c.column_at-column.result _ c.column_at-column.ensures (sym c.is_stated.ensures ∙ c.if-not-is_stated.false) (sym c.in-Some.ensures) (sym c.cell_breaks.ensures ∙ c.if-cell_breaks.false)) ∙ c.loop-i.invariant.same;
+  same = sym (names_more (listed_counts c.args.context.now) c.args.columns.now c.args.cells.now c.loop-i.i c.loop-i.stated c.column_at-column.result _ c.column_at-column.ensures (sym c.is_stated.ensures ∙ c.if-not-is_stated.false) (sym c.in-Some.ensures) (sym c.value_breaks.ensures ∙ c.if-value_breaks.false)) ∙ c.loop-i.invariant.same;
   few = omega arith;
 }
 

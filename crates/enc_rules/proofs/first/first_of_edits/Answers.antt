@@ -1,5 +1,4 @@
-use Rattle.std.proofs.Common.{ℕ, List, [], ◌∷◌, length, Option, None, sym}
-use Rattle.enc_rules.specs.First.{EditRule}
+use Rattle.std.proofs.Common.{[], ◌∷◌, length, None, sym}
 use Rattle.enc_rules.specs.Rules.{heap_passes, row_is_edited_twice, owner_is_missing, table_is_closed, token_is_missing, body_is_broken, field_is_out_of_layout, method_has_no_slot, member_has_twin, signature_is_bad, locals_are_bad, points_are_bad}
 use Rattle.enc_rules.proofs.SoonestRule.{none_asked, asked}
 use Rattle.enc_rules.proofs.first.first_of_edits.Goals as goal

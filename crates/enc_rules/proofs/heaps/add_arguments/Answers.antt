@@ -1,4 +1,4 @@
-use Rattle.std.proofs.Common.{◌≡◌, ◌-◌, sym, ap, ◌∙◌, take, drop, length}
+use Rattle.std.proofs.Common.{◌-◌, sym, ap, ◌∙◌, take, drop, length}
 use Rattle.std.specs.Prelude.{flat_map}
 use Rattle.enc_meta.specs.Built.{Built}
 use Rattle.enc_edits.specs.declared.body.InstrValue.{InstrValue}

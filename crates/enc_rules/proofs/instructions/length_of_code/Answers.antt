@@ -1,5 +1,5 @@
 use Rattle.std.proofs.Common.{arith}
-use Rattle.enc_rules.proofs.InstructionsPlaced.{length_front, length_none, marked_more}
+use Rattle.enc_rules.proofs.InstructionsPlaced.{length_front, length_none}
 use Rattle.enc_rules.proofs.instructions.length_of_code.Goals as goal
 
 pub loop-rest-preserved : goal.loop-rest-preserved

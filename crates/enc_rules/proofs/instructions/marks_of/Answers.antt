@@ -1,10 +1,8 @@
-use Rattle.std.proofs.Common.{◌≡◌, ◌+◌, ◌-◌, ◌<◌, ◌∙◌, sym, ap, subst, arith, length, take, drop, set, true}
-use Rattle.std.specs.Prelude.{◌||◌, ℕ}
+use Rattle.std.proofs.Common.{◌<◌, ◌∙◌, arith, length}
 use Rattle.std.proofs.lemmas.List.{length-set}
 use Rattle.enc_opcodes.specs.Sound.{begins_at}
 use Rattle.enc_edits.specs.Sizes.{placed}
-use Rattle.enc_rules.specs.Marked.{mark_at}
-use Rattle.enc_rules.proofs.InstructionsPlaced.{length_front, marks_begin, marked_more, marked_all, no_mark}
+use Rattle.enc_rules.proofs.InstructionsPlaced.{length_front, marked_more, marked_all}
 use Rattle.enc_rules.proofs.instructions.marks_of.Goals as goal
 
 pub index_mut-requires : goal.index_mut-requires

@@ -1,4 +1,4 @@
-use Rattle.std.proofs.Common.{◌≡◌, sym, ◌∙◌, ap, arith, length}
+use Rattle.std.proofs.Common.{sym, ◌∙◌, ap, arith, length}
 use Rattle.enc_rules.specs.Told.{adds_row, adds_child}
 use Rattle.enc_rules.proofs.EditAt.{row_low, judged_at, such_more, such_found}
 use Rattle.enc_rules.proofs.members.edit_of.Goals as goal

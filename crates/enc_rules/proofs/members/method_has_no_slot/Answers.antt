@@ -1,6 +1,5 @@
-use Rattle.std.proofs.Common.{◌≡◌, sym, ◌∙◌, ap, arith, length}
+use Rattle.std.proofs.Common.{sym, ◌∙◌, ap, arith, length}
 use Rattle.enc_delta.specs.Changes.{has_no_slot}
-use Rattle.enc_rules.specs.First.{first_such}
 use Rattle.enc_rules.specs.Known.{listed_rows}
 use Rattle.enc_rules.specs.Rules.{of_child, method_has_no_slot}
 use Rattle.enc_rules.proofs.EditAt.{row_low, judged_at, such_more, such_found}

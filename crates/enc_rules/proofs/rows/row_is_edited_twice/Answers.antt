@@ -33,8 +33,8 @@ returns-then-contains-clause-first g c =
     let test : row_is_edited_twice chain list c.loop-k.k ≡ c.contains.result =
     twice_is chain list c.loop-k.k row there
     ∙ ap (λ rs. list_any (λ u. is_token u row) (take c.loop-k.k rs)) (sym c.rows-rows.ensures)
-    ∙ sym (c.loop-k.invariant.known.each row c.row_key-key.ensures.few)
-    ∙ ap (λ n. contains nat_cmp c.loop-k.known n) (sym c.row_key-key.ensures.key)
+    ∙ sym (c.loop-k.invariant.known.each row c.key_of_row-key.ensures.few)
+    ∙ ap (λ n. contains nat_cmp c.loop-k.known n) (sym c.key_of_row-key.ensures.key)
     ∙ sym c.contains.ensures in
     such_found (row_is_edited_twice chain list) (length list.edits) c.loop-k.k (rw c.edits-edits.ensures.edits at c.loop-k-test.true) c.loop-k.invariant.none (test ∙ c.if-contains.true)
 
@@ -49,13 +49,13 @@ loop-k-preserved g c =
     let test : row_is_edited_twice chain list c.loop-k.k ≡ c.contains.result =
     twice_is chain list c.loop-k.k row there
     ∙ ap (λ rs. list_any (λ u. is_token u row) (take c.loop-k.k rs)) (sym c.rows-rows.ensures)
-    ∙ sym (c.loop-k.invariant.known.each row c.row_key-key.ensures.few)
-    ∙ ap (λ n. contains nat_cmp c.loop-k.known n) (sym c.row_key-key.ensures.key)
+    ∙ sym (c.loop-k.invariant.known.each row c.key_of_row-key.ensures.few)
+    ∙ ap (λ n. contains nat_cmp c.loop-k.known n) (sym c.key_of_row-key.ensures.key)
     ∙ sym c.contains.ensures in
     let more : take (c.loop-k.k + 1) rows ≡ take c.loop-k.k rows ++ row ∷ [] = take_more rows c.loop-k.k (record { table = 0; row = 0 }) low in
     record {
       none = such_more (row_is_edited_twice chain list) c.loop-k.k c.loop-k.invariant.none (test ∙ c.if-contains.false);
-      known = rw more (rows_known c.loop-k.known c.insert.new.self (take c.loop-k.k rows) row c.row_key-key.ensures.few c.loop-k.invariant.known (rw c.row_key-key.ensures.key at c.in_ok-insert.ensures.updates));
+      known = rw more (rows_known c.loop-k.known c.insert.new.self (take c.loop-k.k rows) row c.key_of_row-key.ensures.few c.loop-k.invariant.known (rw c.key_of_row-key.ensures.key at c.in_ok-insert.ensures.updates));
     }
 
 pub returns-clause-first : goal.returns-clause-first

@@ -1,4 +1,4 @@
-use Rattle.std.proofs.Common.{◌≡◌, refl, sym, ◌∙◌, ap}
+use Rattle.std.proofs.Common.{◌∙◌, ap}
 use Rattle.std.specs.Prelude.{slice_index, not}
 use Rattle.enc_plain.specs.Rows.{bytes_at}
 use Rattle.enc_plain.specs.Signatures.{is_signature}

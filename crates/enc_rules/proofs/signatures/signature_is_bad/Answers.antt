@@ -1,5 +1,4 @@
-use Rattle.std.proofs.Common.{◌≡◌, sym, ◌∙◌, ap, arith, length}
-use Rattle.enc_rules.specs.First.{first_such}
+use Rattle.std.proofs.Common.{sym, ◌∙◌, ap, arith, length}
 use Rattle.enc_rules.specs.Known.{listed_counts, listed_rows}
 use Rattle.enc_rules.specs.Rules.{new_signature_breaks, signature_is_bad}
 use Rattle.enc_rules.proofs.EditAt.{row_low, about_its_table, judged_at, such_more, such_found}

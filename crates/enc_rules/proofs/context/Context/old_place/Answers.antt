@@ -21,4 +21,4 @@ returns-in-Some g c =
     )
 
 pub returns-in_default : goal.returns-in_default
-returns-in_default g c = rw c.cell_number.ensures.number (stored_number c.args.self.now c.args.row c.args.column c.cell_number.ensures.table c.ranges.column.fits)
+returns-in_default g c = rw c.cell_key.ensures.number (stored_number c.args.self.now c.args.row c.args.column c.cell_key.ensures.table c.ranges.column.fits)
