@@ -10,9 +10,7 @@ use Rattle.enc_schema.specs.declared.column.Column.{Column}
 use Rattle.enc_schema.specs.Children.{is_child_table, owner_table}
 use Rattle.enc_schema.specs.Tables as tables
 use Rattle.enc_schema.specs.Columns as columns
-use Rattle.enc_opcodes.specs.declared.op.Operand.{Operand}
-use Rattle.enc_opcodes.specs.declared.op.Operand.TheVariants as operand
-use Rattle.enc_opcodes.specs.Sound.{body_is_sound, instruction_size}
+use Rattle.enc_opcodes.specs.Sound.{body_is_sound}
 use Rattle.enc_rows.specs.Sums.{below}
 use Rattle.enc_seqpoints.specs.declared.point.Point.{Point}
 use Rattle.enc_seqpoints.specs.Spelling.{blob_of}
@@ -36,7 +34,7 @@ use Rattle.enc_edits.specs.declared.edit.Edit.TheVariants.{Add, Body as Replace}
 use Rattle.enc_edits.specs.declared.edit.EditList.{EditList}
 use Rattle.enc_edits.specs.Form.{stated_columns}
 use Rattle.enc_edits.specs.Reach.{branches_reach}
-use Rattle.enc_edits.specs.Sizes.{instr_meant, length_of_code}
+use Rattle.enc_edits.specs.Sizes.{length_of_code}
 use Rattle.enc_rules.specs.Edited.{body_stated, rows_edited, attached_by, attached_in}
 use Rattle.enc_rules.specs.Listed.{count_after, rows_listed, body_given, points_given}
 

@@ -4,7 +4,7 @@ use Rattle.enc_rules.proofs.instructions.length_of_code.Goals as goal
 
 pub loop-rest-preserved : goal.loop-rest-preserved
 loop-rest-preserved c = record {
-  sum = omega (arith, length_front c.loop-rest.rest.now c.instr-item.result c.in-len1-up.len_at_least c.instr-item.is, c.loop-rest.invariant.sum, c.instruction_size.ensures.size, c.capped-sum.ensures.capped);
+  sum = omega (arith, length_front c.loop-rest.rest.now c.instr-item.result c.in-len1-up.len_at_least c.instr-item.is, c.loop-rest.invariant.sum, c.size_of.ensures.size, c.capped-sum.ensures.capped);
   few = c.capped-sum.ensures.most;
 }
 
