@@ -1,0 +1,5 @@
+-- The lemmas of this crate.
+pub mod RefusalNumbers
+pub mod Items
+pub mod Boxes
+pub mod Handles

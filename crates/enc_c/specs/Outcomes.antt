@@ -1,0 +1,42 @@
+-- How calls that change a handle end.
+use Rattle.std.specs.Prelude.{◌≡◌, ◌⊎◌, ℕ, Option, Some, None, Result, Ok, Err}
+use Rattle.enc_base.specs.declared.refusal.Refusal.{Refusal}
+use Rattle.enc_base.specs.declared.refusal.ReadFault.{ReadFault}
+use Rattle.enc_base.specs.declared.refusal.ReadFault.TheVariants as fault
+use Rattle.enc_c.specs.declared.status.Status.{Status}
+use Rattle.enc_c.specs.declared.status.Status.TheVariants.{Done, Refused, Memory, Closed, Open}
+use Rattle.enc_c.specs.declared.refusal.RefusalNumbers.{RefusalNumbers}
+use Rattle.enc_c.specs.Status.{number_of_status}
+use Rattle.enc_c.specs.Refusals.{numbers_of}
+use Rattle.enc_c.specs.State.{State}
+
+-- files were read, or refused; want of memory tells nothing
+abbrev pub Reads : Result State ReadFault → Result State Refusal → Type 0
+Reads (Ok s) said = said ≡ Ok s
+Reads (Err (fault.Refused e)) said = said ≡ Err e
+Reads (Err fault.Memory) said = Unit {0}
+
+-- the same of a state that is changed; where files are refused, and where there is no memory, it stays
+abbrev pub Follows : {U : Type 0} → State → State → Result U ReadFault → Result State Refusal → Type 0
+Follows old new (Ok u) said = said ≡ Ok new
+Follows old new (Err (fault.Refused e)) said = (said ≡ Err e) × (new ≡ old)
+Follows old new (Err fault.Memory) said = new ≡ old
+
+-- a fault by a status, and a refusal by its numbers
+abbrev pub TellsFault : ℕ → RefusalNumbers → RefusalNumbers → ReadFault → Type 0
+TellsFault status old new (fault.Refused e) = (status ≡ number_of_status Refused) × (new ≡ numbers_of e)
+TellsFault status old new fault.Memory = (status ≡ number_of_status Memory) × (new ≡ old)
+
+-- the handle and the refusal stay as they were
+abbrev pub Stays : Status → ℕ → Option State → Option State → RefusalNumbers → RefusalNumbers → Type 0
+Stays s status old new refusal refusal_new = (status ≡ number_of_status s) × (new ≡ old) × (refusal_new ≡ refusal)
+
+-- the handle has the new state; or the files are refused, and it stays as it was
+abbrev pub Changes : ℕ → Option State → Option State → RefusalNumbers → RefusalNumbers → Result State Refusal → Type 0
+Changes status old new refusal refusal_new (Ok s) = (status ≡ number_of_status Done) × (new ≡ Some s) × (refusal_new ≡ refusal)
+Changes status old new refusal refusal_new (Err e) = (status ≡ number_of_status Refused) × (new ≡ old) × (refusal_new ≡ numbers_of e)
+
+-- so it is, or there is no memory
+abbrev pub ChangesOrStays : ℕ → Option State → Option State → RefusalNumbers → RefusalNumbers → Result State Refusal → Type 0
+ChangesOrStays status old new refusal refusal_new said =
+    Changes status old new refusal refusal_new said ⊎ Stays Memory status old new refusal refusal_new

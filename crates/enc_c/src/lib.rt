@@ -1,0 +1,14 @@
+//! The toolkit as a C library: modules behind handles, and what is asked of them.
+#![tactic(auto)]
+
+mod cells;
+mod code;
+mod copy;
+mod family;
+mod handle;
+mod held;
+mod kinds;
+mod loose;
+mod points;
+mod refusal;
+mod status;
