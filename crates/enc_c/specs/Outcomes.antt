@@ -1,5 +1,6 @@
 -- How calls that change a handle end.
-use Rattle.std.specs.Prelude.{◌≡◌, ◌⊎◌, ℕ, Option, Some, None, Result, Ok, Err}
+use Rattle.std.specs.Prelude.{◌≡◌, ◌⊎◌, ℕ, List, Option, Some, None, option_map, Result, Ok, Err, Vec}
+use Rattle.std.specs.declared.alloc.Global.{Global}
 use Rattle.enc_base.specs.declared.refusal.Refusal.{Refusal}
 use Rattle.enc_base.specs.declared.refusal.ReadFault.{ReadFault}
 use Rattle.enc_base.specs.declared.refusal.ReadFault.TheVariants as fault
@@ -9,6 +10,10 @@ use Rattle.enc_c.specs.declared.refusal.RefusalNumbers.{RefusalNumbers}
 use Rattle.enc_c.specs.Status.{number_of_status}
 use Rattle.enc_c.specs.Refusals.{numbers_of}
 use Rattle.enc_c.specs.State.{State}
+
+-- the bytes of a file that may be absent
+abbrev pub bytes_seen : Option (Vec ℕ Global) → Option (List ℕ)
+bytes_seen bytes = option_map (λ (b : Vec ℕ Global). b.items) bytes
 
 -- files were read, or refused; want of memory tells nothing
 abbrev pub Reads : Result State ReadFault → Result State Refusal → Type 0

@@ -1,16 +1,15 @@
 //! What an open handle holds.
-ghost use Rattle.std.specs.Prelude.{◌≡◌, ◌<◌, ◌∷◌, Option, IfOk, OnErr, option_map, length};
-ghost use Rattle.std.specs.declared.alloc.Global.{Global as TheGlobal};
+ghost use Rattle.std.specs.Prelude.{◌≡◌, ◌<◌, ◌∷◌, Ok, None, IfOk, OnErr, length};
 ghost use Rattle.enc_schema.specs.Tables.{method_def};
 ghost use Rattle.enc_plain.specs.Module.{rows_in};
-ghost use Rattle.enc_image.specs.Base.{base_of, chain_of_base};
+ghost use Rattle.enc_image.specs.Base.{chain_of_base};
 ghost use Rattle.enc_ppdb.specs.Fault.{pdb_of};
 ghost use Rattle.enc_ppdb.specs.Seen.{ReadsPdb};
 ghost use Rattle.enc_delta.specs.Judged.{first_meta};
 ghost use Rattle.enc_agg.specs.Seen.{chain_of_all};
 ghost use Rattle.enc_checker.specs.Check.{accepted};
-ghost use Rattle.enc_c.specs.State.{State, chain_after, begun, with_pdb, opened, followed_by, applied};
-ghost use Rattle.enc_c.specs.Outcomes.{Reads, Follows};
+ghost use Rattle.enc_c.specs.State.{chain_after, begun, with_pdb, opened, followed_by, applied};
+ghost use Rattle.enc_c.specs.Outcomes.{bytes_seen, Reads, Follows};
 
 use enc_agg::Aggregate;
 use enc_base::{ReadFault, Steps};
@@ -68,10 +67,75 @@ fn read_pdb(alloc: Global, image: &Image, bytes: Vec<u8>) -> Result<Pdb, ReadFau
 
 /// A base without deltas.
 fn begin(alloc: Global, image: Image, pdb: Option<Pdb>) -> Result<Held, ReadFault>
-    ensures { IfOk result (λ h. h ≡ begun image pdb) }
+    ensures { Reads result (Ok (begun image pdb)) }
 {
-    Ok(Held {
-        agg: Aggregate::begin(alloc, image)?,
-        debug: PdbChain::begin(alloc, pdb)?,
-    })
+    let agg = Aggregate::begin(alloc, image)?;
+    let debug = PdbChain::begin(alloc, pdb)?;
+    Ok(Held { agg, debug })
+}
+
+/// A base with its PDB, where it has one.
+fn begin_with(alloc: Global, image: Image, pdb: Option<Vec<u8>>) -> Result<Held, ReadFault>
+    ensures { Reads result (with_pdb image (bytes_seen pdb)) }
+{
+    let Some(bytes) = pdb else {
+        return begin(alloc, image, None);
+    };
+    let pdb = read_pdb(alloc, &image, bytes)?;
+    begin(alloc, image, Some(pdb))
+}
+
+impl Held {
+    /// Judges a base and its PDB. `Refused` names the first rule that they break; a base may have no
+    /// PDB.
+    #[tactic(auto, unfolding(crate::specs::State::opened))]
+    pub fn open(alloc: Global, bytes: Vec<u8>, pdb: Option<Vec<u8>>) -> Result<Held, ReadFault>
+        ensures { Reads result (opened bytes.items (bytes_seen pdb)) }
+    {
+        let image = Image::read(alloc, bytes)?;
+        begin_with(alloc, image, pdb)
+    }
+
+    /// Adds a delta that breaks no rule, with its PDB.
+    fn add(&mut self, alloc: Global, checked: Checked) -> Result<(), AllocError>
+        requires { first_meta (chain_after self.old) checked.delta ≡ None }
+        ensures added { IfOk result (λ u. self.new ≡ followed_by self.old (accepted checked.delta checked.pdb)) }
+        ensures kept { OnErr result (self.new ≡ self.old) }
+    {
+        let Checked { delta, pdb } = checked;
+        let changed = new_bodies(alloc, &delta)?;
+        self.debug.reserve()?;
+        add_counted::<Brand>(&mut self.agg, delta, Blank::new(1))?;
+        self.debug.add(pdb, changed);
+        Ok(())
+    }
+
+    /// Judges the files of a delta after those before it, and adds it where they break no rule.
+    /// `Refused` names the first rule that they break. Where it isn't added, nothing changes.
+    #[tactic(auto, unfolding(crate::specs::State::applied))]
+    pub fn apply(&mut self, alloc: Global, files: Files) -> Result<(), ReadFault>
+        ensures { Follows self.old self.new result (applied self.old files.meta.items files.il.items (bytes_seen files.pdb)) }
+    {
+        let checked = check(alloc, &self.agg, files)?;
+        match self.add(alloc, checked) {
+            Ok(()) => Ok(()),
+            Err(AllocError) => Err(ReadFault::Memory),
+        }
+    }
+
+    /// The base and the deltas.
+    pub fn agg(&self) -> &Aggregate
+        ensures base { result.now.base ≡ self.now.base }
+        ensures deltas { result.now.deltas ≡ self.now.deltas }
+    {
+        &self.agg
+    }
+
+    /// Their PDBs.
+    pub fn debug(&self) -> &PdbChain
+        ensures base { result.now.base ≡ self.now.pdb }
+        ensures deltas { result.now.deltas ≡ self.now.debugs }
+    {
+        &self.debug
+    }
 }
