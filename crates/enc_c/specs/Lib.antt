@@ -9,3 +9,4 @@ pub mod Points
 pub mod State
 pub mod Handle
 pub mod Outcomes
+pub mod Asked

@@ -26,8 +26,8 @@ use std::sync::ledger::{Blank, Ledger};
 /// A base with the deltas that follow it, and what their PDBs say.
 #[derive(Drop)]
 pub struct Held {
-    agg: Aggregate,
-    debug: PdbChain,
+    pub(crate) agg: Aggregate,
+    pub(crate) debug: PdbChain,
 }
 
 impl Model for Held {
@@ -121,21 +121,5 @@ impl Held {
             Ok(()) => Ok(()),
             Err(AllocError) => Err(ReadFault::Memory),
         }
-    }
-
-    /// The base and the deltas.
-    pub fn agg(&self) -> &Aggregate
-        ensures base { result.now.base ≡ self.now.base }
-        ensures deltas { result.now.deltas ≡ self.now.deltas }
-    {
-        &self.agg
-    }
-
-    /// Their PDBs.
-    pub fn debug(&self) -> &PdbChain
-        ensures base { result.now.base ≡ self.now.pdb }
-        ensures deltas { result.now.deltas ≡ self.now.debugs }
-    {
-        &self.debug
     }
 }

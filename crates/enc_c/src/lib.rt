@@ -1,6 +1,8 @@
 //! The toolkit as a C library: modules behind handles, and what is asked of them.
 #![tactic(auto)]
 
+mod asked;
+mod calls;
 mod cells;
 mod code;
 mod copy;
