@@ -3,3 +3,4 @@ pub mod RefusalNumbers
 pub mod Items
 pub mod Boxes
 pub mod Handles
+pub mod TokensFit

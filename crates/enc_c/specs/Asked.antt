@@ -1,10 +1,10 @@
 -- What is asked of an open handle.
-use Rattle.std.specs.Prelude.{◌≡◌, ◌⊎◌, ℕ, ◌+◌, ◌==◌, List, length, nat_lt, Option, Some, None, Result, Ok, Err, if◌then◌else◌}
+use Rattle.std.specs.Prelude.{ℕ, ◌+◌, ◌==◌, List, length, nat_lt, Option, Some, None, Result, Ok, Err, if◌then◌else◌}
 use Rattle.enc_base.specs.Token.{number_of}
 use Rattle.enc_base.specs.declared.token.Token.{Token}
 use Rattle.enc_base.specs.declared.refusal.StreamName.{StreamName}
 use Rattle.enc_schema.specs.Tables as tables
-use Rattle.enc_plain.specs.Module.{rows_in}
+use Rattle.enc_plain.specs.Module.{has_row, rows_in}
 use Rattle.enc_plain.specs.Chain.{Chain, id_of}
 use Rattle.enc_plain.specs.declared.place.RowPlace.{RowPlace}
 use Rattle.enc_agg.specs.Place.{place_of, place_in_heaps}
@@ -13,7 +13,7 @@ use Rattle.enc_ppdb.specs.KnownAt.{known_at}
 use Rattle.enc_ppdb.specs.PdbChain.{points_at, documents_at}
 use Rattle.enc_text.specs.RowText.{row_text_of}
 use Rattle.enc_c.specs.declared.status.Status.{Status}
-use Rattle.enc_c.specs.declared.status.Status.TheVariants.{Memory, Closed, Absent, Unlike, Later}
+use Rattle.enc_c.specs.declared.status.Status.TheVariants.{Closed, Absent, Unlike, Later}
 use Rattle.enc_c.specs.declared.asked.PlaceNumbers.{PlaceNumbers}
 use Rattle.enc_c.specs.declared.points.PointNumbers.{PointNumbers}
 use Rattle.enc_c.specs.Cells.{of_row}
@@ -66,14 +66,18 @@ heap_place_in s heap offset = heap_place_by (chain_after s) (stream_by heap) off
 unfoldable pub row_in : State → Token → Result (List ℕ) Status
 row_in s t = of_row (module_after s) t (Ok (row_text_of (module_after s) (pdb_after s) (place_of s.deltas t) t))
 
--- an answer about a method
-abbrev pub of_method : {A : Type 0} → State → Token → Result A Status → Result A Status
-of_method s t answer = of_row (module_after s) t (if t.table == tables.method_def then answer else Err Unlike)
+-- why nothing is said of a token: it is no row, or no method
+abbrev pub unlike_method : State → Token → Option Status
+unlike_method s t = if has_row (module_after s) t then (if t.table == tables.method_def then None else Some Unlike) else Some Absent
+
+abbrev pub unless : {A : Type 0} → Option Status → Result A Status → Result A Status
+unless None answer = answer
+unless (Some s) answer = Err s
 
 -- the points of a method, by numbers, as the newest file that knows it says them
 unfoldable pub points_in : State → Token → Result (List PointNumbers) Status
-points_in s t = of_method s t (Ok (points_numbers (points_at (known_at s.pdb s.debugs t))))
+points_in s t = unless (unlike_method s t) (Ok (points_numbers (points_at (known_at s.pdb s.debugs t))))
 
 -- the name of the document that a number of its points means
 unfoldable pub document_in : State → Token → ℕ → Result (List ℕ) Status
-document_in s t number = of_method s t (name_told (documents_at (known_at s.pdb s.debugs t) number))
+document_in s t number = unless (unlike_method s t) (name_told (documents_at (known_at s.pdb s.debugs t) number))

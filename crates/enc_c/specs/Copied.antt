@@ -1,7 +1,7 @@
 -- What is copied into a buffer.
-use Rattle.std.specs.Prelude.{◌≡◌, ℕ, List, ◌++◌, length, drop, nat_le, Result, Ok, Err, if◌then◌else◌}
+use Rattle.std.specs.Prelude.{◌≡◌, ◌⊎◌, ℕ, List, ◌++◌, length, drop, nat_le, Result, Ok, Err, if◌then◌else◌}
 use Rattle.enc_c.specs.declared.status.Status.{Status}
-use Rattle.enc_c.specs.declared.status.Status.TheVariants.{Done, Short}
+use Rattle.enc_c.specs.declared.status.Status.TheVariants.{Done, Memory, Short}
 use Rattle.enc_c.specs.Status.{number_of_status}
 
 -- all items stand at the buffer's front, or, where it is too short, nothing is written
@@ -21,3 +21,7 @@ pub record IsCopied {A : Type 0} (number : ℕ) (old new : List A) (count : ℕ)
 abbrev pub Copies : {A : Type 0} → ℕ → List A → List A → ℕ → ℕ → Result (List A) Status → Type 0
 Copies number old new before count (Ok items) = IsCopied number old new count items
 Copies number old new before count (Err s) = (number ≡ number_of_status s) × (new ≡ old) × (count ≡ before)
+
+-- so it is, or there is no memory
+abbrev pub CopiesOrStays : {A : Type 0} → ℕ → List A → List A → ℕ → ℕ → Result (List A) Status → Type 0
+CopiesOrStays number old new before count said = Copies number old new before count said ⊎ Copies number old new before count (Err Memory)

@@ -45,3 +45,13 @@ Changes status old new refusal refusal_new (Err e) = (status ≡ number_of_statu
 abbrev pub ChangesOrStays : ℕ → Option State → Option State → RefusalNumbers → RefusalNumbers → Result State Refusal → Type 0
 ChangesOrStays status old new refusal refusal_new said =
     Changes status old new refusal refusal_new said ⊎ Stays Memory status old new refusal refusal_new
+
+-- a handle that is open stays as it is, and one that is closed has what was opened, or stays closed
+abbrev pub Opens : ℕ → Option State → Option State → RefusalNumbers → RefusalNumbers → Result State Refusal → Type 0
+Opens status None new refusal refusal_new said = ChangesOrStays status None new refusal refusal_new said
+Opens status (Some s) new refusal refusal_new said = Stays Open status (Some s) new refusal refusal_new
+
+-- a handle that is closed stays so, and one that is open has what follows its state, or stays as it is
+abbrev pub Applies : ℕ → Option State → Option State → RefusalNumbers → RefusalNumbers → (State → Result State Refusal) → Type 0
+Applies status None new refusal refusal_new answer = Stays Closed status None new refusal refusal_new
+Applies status (Some s) new refusal refusal_new answer = ChangesOrStays status (Some s) new refusal refusal_new (answer s)

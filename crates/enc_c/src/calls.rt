@@ -1,27 +1,15 @@
-//! The calls that open, change and close a handle, and those that tell numbers.
-ghost use Rattle.std.specs.Prelude.{◌≡◌, None, Ok, if◌then◌else◌, is_some};
+//! The calls that tell numbers.
+ghost use Rattle.std.specs.Prelude.{◌≡◌};
 ghost use Rattle.enc_base.specs.Token.{token_of};
-ghost use Rattle.enc_c.specs.Status.{Tells, number_of_status};
+ghost use Rattle.enc_c.specs.Status.{Tells};
 ghost use Rattle.enc_c.specs.State.{module_after};
 ghost use Rattle.enc_c.specs.Cells.{number_in};
-ghost use Rattle.enc_c.specs.Asked.{of_open, count_in, generations_in, place_in};
+ghost use Rattle.enc_c.specs.Asked.{of_open, count_in};
 
 use crate::handle::{Handle, put, take};
 use crate::status::{Status, tell};
 use enc_base::Token;
 use std::alloc::Global;
-
-/// Closes a handle.
-#[unsafe(no_mangle)]
-pub extern "C" fn enc_close(alloc: Global, handle: &mut Handle) -> u32
-    ensures closed { handle.new.held ≡ None }
-    ensures status { result ≡ (if is_some handle.old.held then number_of_status Status.Done else number_of_status Status.Closed) }
-{
-    match take(handle, alloc) {
-        Some(_) => Status::Done.number(),
-        None => Status::Closed.number(),
-    }
-}
 
 /// Tells how many rows a table has.
 #[unsafe(no_mangle)]

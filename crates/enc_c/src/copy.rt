@@ -2,6 +2,7 @@
 ghost use Rattle.std.specs.Prelude.{◌≡◌};
 ghost use Rattle.enc_c.specs.Copied.{IsCopied, Copies};
 ghost use Rattle.enc_c.specs.Cells.{lent};
+ghost use Rattle.enc_c.specs.Family.{listed};
 
 use crate::status::Status;
 
@@ -25,6 +26,30 @@ pub fn copy_bytes(answer: Result<&[u8], Status>, buffer: &mut [u8], size: &mut u
 {
     match answer {
         Ok(bytes) => copy_out(bytes, buffer, size),
+        Err(status) => status.number(),
+    }
+}
+
+/// Copies the bytes of a GUID, or tells why there are none.
+pub fn copy_guid(answer: Result<[u8; 16], Status>, buffer: &mut [u8], size: &mut usize) -> u32
+    ensures { Copies result buffer.old buffer.new size.old size.new answer }
+{
+    match answer {
+        Ok(bytes) => copy_out(&bytes, buffer, size),
+        Err(status) => status.number(),
+    }
+}
+
+/// Copies items, or tells why there are none.
+pub fn copy_items<T: Copy>(
+    answer: Result<Vec<T>, Status>,
+    buffer: &mut [T],
+    size: &mut usize,
+) -> u32
+    ensures { Copies result buffer.old buffer.new size.old size.new (listed answer) }
+{
+    match answer {
+        Ok(items) => copy_out(&items, buffer, size),
         Err(status) => status.number(),
     }
 }

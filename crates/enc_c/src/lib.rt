@@ -11,6 +11,7 @@ mod handle;
 mod held;
 mod kinds;
 mod loose;
+mod open;
 mod points;
 mod refusal;
 mod status;
