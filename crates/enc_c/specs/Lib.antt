@@ -10,3 +10,4 @@ pub mod State
 pub mod Handle
 pub mod Outcomes
 pub mod Asked
+pub mod Opened

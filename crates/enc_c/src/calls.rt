@@ -1,15 +1,31 @@
-//! The calls that tell numbers.
+//! The calls that tell numbers, tokens and places.
 ghost use Rattle.std.specs.Prelude.{◌≡◌};
 ghost use Rattle.enc_base.specs.Token.{token_of};
 ghost use Rattle.enc_c.specs.Status.{Tells};
 ghost use Rattle.enc_c.specs.State.{module_after};
-ghost use Rattle.enc_c.specs.Cells.{number_in};
-ghost use Rattle.enc_c.specs.Asked.{of_open, count_in};
+ghost use Rattle.enc_c.specs.Cells.{number_in, token_in};
+ghost use Rattle.enc_c.specs.Family.{owner_in};
+ghost use Rattle.enc_c.specs.Asked.{of_open, numbered, generations_in, count_in, place_in, heap_place_in};
 
+use crate::asked::PlaceNumbers;
 use crate::handle::{Handle, put, take};
 use crate::status::{Status, tell};
 use enc_base::Token;
 use std::alloc::Global;
+
+/// Tells how many generations there are, the base among them.
+#[unsafe(no_mangle)]
+pub extern "C" fn enc_generations(alloc: Global, handle: &mut Handle, count: &mut u32) -> u32
+    ensures kept { handle.new.held ≡ handle.old.held }
+    ensures answer { Tells result count.old count.new (of_open handle.old.held generations_in) }
+{
+    let Some(held) = take(handle, alloc) else {
+        return Status::Closed.number();
+    };
+    *count = held.generations();
+    put(handle, alloc, held);
+    Status::Done.number()
+}
 
 /// Tells how many rows a table has.
 #[unsafe(no_mangle)]
@@ -30,6 +46,45 @@ pub extern "C" fn enc_count(
     Status::Done.number()
 }
 
+/// Tells where a row stands.
+#[unsafe(no_mangle)]
+pub extern "C" fn enc_locate(
+    alloc: Global,
+    handle: &mut Handle,
+    row: u32,
+    place: &mut PlaceNumbers,
+) -> u32
+    ensures kept { handle.new.held ≡ handle.old.held }
+    ensures answer { Tells result place.old place.new (of_open handle.old.held (λ s. place_in s (token_of row))) }
+{
+    let Some(held) = take(handle, alloc) else {
+        return Status::Closed.number();
+    };
+    let answer = held.place(Token::of(row));
+    put(handle, alloc, held);
+    tell(answer, place)
+}
+
+/// Tells where an offset of a joined heap stands; of `#GUID` it is the number of an entry.
+#[unsafe(no_mangle)]
+pub extern "C" fn enc_locate_heap(
+    alloc: Global,
+    handle: &mut Handle,
+    heap: u32,
+    offset: u32,
+    place: &mut PlaceNumbers,
+) -> u32
+    ensures kept { handle.new.held ≡ handle.old.held }
+    ensures answer { Tells result place.old place.new (of_open handle.old.held (λ s. heap_place_in s heap offset)) }
+{
+    let Some(held) = take(handle, alloc) else {
+        return Status::Closed.number();
+    };
+    let answer = held.heap_place(heap, offset);
+    put(handle, alloc, held);
+    tell(answer, place)
+}
+
 /// Tells the number in a column.
 #[unsafe(no_mangle)]
 pub extern "C" fn enc_number(
@@ -48,4 +103,43 @@ pub extern "C" fn enc_number(
     let answer = held.number(Token::of(row), column);
     put(handle, alloc, held);
     tell(answer, number)
+}
+
+/// Tells the token in a column of an index, by its number.
+#[unsafe(no_mangle)]
+pub extern "C" fn enc_token(
+    alloc: Global,
+    handle: &mut Handle,
+    row: u32,
+    column: u8,
+    token: &mut u32,
+) -> u32
+    ensures kept { handle.new.held ≡ handle.old.held }
+    ensures answer { Tells result token.old token.new (of_open handle.old.held (λ s. numbered (token_in (module_after s) (token_of row) column))) }
+{
+    let Some(held) = take(handle, alloc) else {
+        return Status::Closed.number();
+    };
+    let answer = held.token(Token::of(row), column);
+    put(handle, alloc, held);
+    tell(answer, token)
+}
+
+/// Tells the token of the row that owns a row of Field, MethodDef, Param, Event or Property.
+#[unsafe(no_mangle)]
+pub extern "C" fn enc_owner(
+    alloc: Global,
+    handle: &mut Handle,
+    row: u32,
+    owner: &mut u32,
+) -> u32
+    ensures kept { handle.new.held ≡ handle.old.held }
+    ensures answer { Tells result owner.old owner.new (of_open handle.old.held (λ s. numbered (owner_in (module_after s) (token_of row)))) }
+{
+    let Some(held) = take(handle, alloc) else {
+        return Status::Closed.number();
+    };
+    let answer = held.owner(Token::of(row));
+    put(handle, alloc, held);
+    tell(answer, owner)
 }

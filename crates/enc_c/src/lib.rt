@@ -5,6 +5,7 @@ mod asked;
 mod calls;
 mod cells;
 mod code;
+mod copies;
 mod copy;
 mod family;
 mod handle;

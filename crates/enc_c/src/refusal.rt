@@ -1,8 +1,10 @@
 //! A refusal by numbers, as C sees it, and its words.
 ghost use Rattle.std.specs.Prelude.{◌≡◌, ◌∷◌, [], option_map, Some, IfOk, drop, MatchResult, IsTrue, is_some};
 ghost use Rattle.enc_text.specs.Text.{refused_line as line_of_refusal};
-ghost use Rattle.enc_c.specs.Refusals.{letter_of, rule_of, number_of_stream, numbers_at, numbers_of, placed, code_by, stream_by, place_by, refusal_by, words_of, NumbersAreTheRefusals};
+ghost use Rattle.enc_c.specs.Refusals.{letter_of, rule_of, number_of_stream, numbers_at, numbers_of, placed, code_by, stream_by, place_by, refusal_by, words_of, words_by, NumbersAreTheRefusals};
+ghost use Rattle.enc_c.specs.Family.{OrMemory, listed};
 
+use crate::status::Status;
 use enc_base::{Code, Place, Refusal, StreamName, Token};
 use enc_text::refused_line;
 use std::alloc::{AllocError, Global};
@@ -187,5 +189,18 @@ fn behind(alloc: Global, line: &[u8]) -> Result<Vec<u8>, AllocError>
     match line.get(9..) {
         Some(words) => Vec::from_slice(alloc, words),
         None => Ok(Vec::new(alloc)),
+    }
+}
+
+/// The words of the refusal that numbers say.
+pub fn words_by(alloc: Global, numbers: RefusalNumbers) -> Result<Vec<u8>, Status>
+    ensures { OrMemory (listed result) (words_by numbers) }
+{
+    let Some(refusal) = refusal_by(numbers) else {
+        return Err(Status::Unlike);
+    };
+    match words(alloc, refusal) {
+        Ok(words) => Ok(words),
+        Err(AllocError) => Err(Status::Memory),
     }
 }

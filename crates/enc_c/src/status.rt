@@ -44,13 +44,13 @@ impl Status {
     }
 }
 
-/// Tells a number, or why there is none.
-pub fn tell(answer: Result<u32, Status>, told: &mut u32) -> u32
+/// Tells a value, or why there is none.
+pub fn tell<T: Copy>(answer: Result<T, Status>, told: &mut T) -> u32
     ensures { Tells result told.old told.new answer }
 {
     match answer {
-        Ok(number) => {
-            *told = number;
+        Ok(value) => {
+            *told = value;
             Status::Done.number()
         }
         Err(status) => status.number(),
