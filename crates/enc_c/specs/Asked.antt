@@ -1,11 +1,12 @@
 -- What is asked of an open handle.
-use Rattle.std.specs.Prelude.{ℕ, ◌+◌, ◌==◌, List, length, nat_lt, Option, Some, None, Result, Ok, Err, if◌then◌else◌}
+use Rattle.std.specs.Prelude.{◌≡◌, ℕ, ◌+◌, ◌==◌, List, length, nat_lt, Option, Some, None, Result, Ok, Err, if◌then◌else◌}
 use Rattle.enc_base.specs.Token.{number_of}
 use Rattle.enc_base.specs.declared.token.Token.{Token}
 use Rattle.enc_base.specs.declared.refusal.StreamName.{StreamName}
 use Rattle.enc_schema.specs.Tables as tables
 use Rattle.enc_plain.specs.Module.{has_row, rows_in}
 use Rattle.enc_plain.specs.Chain.{Chain, id_of}
+use Rattle.enc_plain.specs.Debug.{debug_of}
 use Rattle.enc_plain.specs.declared.place.RowPlace.{RowPlace}
 use Rattle.enc_agg.specs.Place.{place_of, place_in_heaps}
 use Rattle.enc_agg.specs.declared.place.HeapPlace.{HeapPlace}
@@ -81,3 +82,8 @@ points_in s t = unless (unlike_method s t) (Ok (points_numbers (points_at (known
 -- the name of the document that a number of its points means
 unfoldable pub document_in : State → Token → ℕ → Result (List ℕ) Status
 document_in s t number = unless (unlike_method s t) (name_told (documents_at (known_at s.pdb s.debugs t) number))
+
+-- the points and the documents that are told of a method are those of the plain PDB
+abbrev pub PointsAreThePdbs : Type 0
+PointsAreThePdbs =
+    (s : State) (t : Token) → debug_of (documents_at (known_at s.pdb s.debugs t)) (points_at (known_at s.pdb s.debugs t)) ≡ pdb_after s t

@@ -26,9 +26,9 @@ abbrev pub body_lent : (ℕ → Option (List ℕ)) → Result CodeRef Status →
 body_lent users (Ok c) = Ok (body_of users (code_seen c))
 body_lent users (Err s) = Err s
 
--- what stands before the code: the most values on the stack, the row of the local signature, 0 where there is none, and the init flag
+-- what stands before the code: the most values on the stack, the row of the local signature, 0 where there is none, and whether locals begin as zeros
 abbrev pub head_of : Code → CodeHead
-head_of c = record { stack = c.max; locals = c.locals.row; init = c.init }
+head_of c = record { stack = c.max; locals = c.locals.row; init = if c.init then 1 else 0 }
 
 -- the code is copied, and its head is told; or the status says why there is none, and then nothing is written
 abbrev pub CopiesCode : ℕ → List ℕ → List ℕ → ℕ → ℕ → CodeHead → CodeHead → Result CodeRef Status → Type 0

@@ -17,8 +17,8 @@ pub struct CodeHead {
     pub stack: u32,
     /// The row of StandAloneSig, 0 where there are no locals.
     pub locals: u32,
-    /// Whether locals begin as zeros.
-    pub init: bool,
+    /// 1 where locals begin as zeros, and else 0.
+    pub init: u32,
 }
 
 /// The body of a method.
@@ -52,7 +52,7 @@ pub fn copy_code(
             *head = CodeHead {
                 stack: u32::from(code.max),
                 locals: code.locals.row,
-                init: code.init,
+                init: u32::from(code.init),
             };
             copy_out(code.code, buffer, size)
         }

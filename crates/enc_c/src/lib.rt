@@ -11,8 +11,11 @@ mod family;
 mod handle;
 mod held;
 mod kinds;
+mod laws;
 mod loose;
 mod open;
 mod points;
 mod refusal;
 mod status;
+
+pub use laws::{numbers_law, points_law};

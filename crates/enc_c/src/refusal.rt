@@ -1,7 +1,7 @@
 //! A refusal by numbers, as C sees it, and its words.
 ghost use Rattle.std.specs.Prelude.{◌≡◌, ◌∷◌, [], option_map, Some, IfOk, drop, MatchResult, IsTrue, is_some};
 ghost use Rattle.enc_text.specs.Text.{refused_line as line_of_refusal};
-ghost use Rattle.enc_c.specs.Refusals.{letter_of, rule_of, number_of_stream, numbers_at, numbers_of, placed, code_by, stream_by, place_by, refusal_by, words_of, words_by, NumbersAreTheRefusals};
+ghost use Rattle.enc_c.specs.Refusals.{letter_of, rule_of, number_of_stream, numbers_at, numbers_of, placed, code_by, stream_by, place_by, refusal_by, words_of, words_by};
 ghost use Rattle.enc_c.specs.Family.{OrMemory, listed};
 
 use crate::status::Status;
@@ -167,11 +167,6 @@ pub fn refusal_by(numbers: RefusalNumbers) -> Option<Refusal>
         place: place_by(numbers)?,
     })
 }
-
-/// What the numbers of a refusal say is that refusal.
-pub fn numbers_law()
-    ensures { NumbersAreTheRefusals }
-{}
 
 /// The words of a refusal: its rule and its place, with the end of a line.
 #[tactic(auto, using(crate::proofs::RefusalNumbers::words_in_line))]
