@@ -53,10 +53,10 @@ impl Held {
         if !is_row(&self.agg, row) {
             return Err(Status::Absent);
         }
-        let place = self.agg.place(row);
+        let found = self.agg.place(row);
         Ok(PlaceNumbers {
-            generation: place.generation,
-            position: place.row,
+            generation: found.generation,
+            position: found.row,
         })
     }
 

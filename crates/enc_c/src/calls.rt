@@ -29,12 +29,7 @@ pub extern "C" fn enc_generations(alloc: Global, handle: &mut Handle, count: &mu
 
 /// Tells how many rows a table has.
 #[unsafe(no_mangle)]
-pub extern "C" fn enc_count(
-    alloc: Global,
-    handle: &mut Handle,
-    table: u8,
-    count: &mut u32,
-) -> u32
+pub extern "C" fn enc_count(alloc: Global, handle: &mut Handle, table: u8, count: &mut u32) -> u32
     ensures kept { handle.new.held ≡ handle.old.held }
     ensures answer { Tells result count.old count.new (of_open handle.old.held (λ s. count_in s table)) }
 {
@@ -127,12 +122,7 @@ pub extern "C" fn enc_token(
 
 /// Tells the token of the row that owns a row of Field, MethodDef, Param, Event or Property.
 #[unsafe(no_mangle)]
-pub extern "C" fn enc_owner(
-    alloc: Global,
-    handle: &mut Handle,
-    row: u32,
-    owner: &mut u32,
-) -> u32
+pub extern "C" fn enc_owner(alloc: Global, handle: &mut Handle, row: u32, owner: &mut u32) -> u32
     ensures kept { handle.new.held ≡ handle.old.held }
     ensures answer { Tells result owner.old owner.new (of_open handle.old.held (λ s. numbered (owner_in (module_after s) (token_of row)))) }
 {

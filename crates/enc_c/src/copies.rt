@@ -178,7 +178,11 @@ pub extern "C" fn enc_document(
     let Some(held) = take(handle, alloc) else {
         return Status::Closed.number();
     };
-    let status = copy_items(held.document(alloc, Token::of(method), number), buffer, size);
+    let status = copy_items(
+        held.document(alloc, Token::of(method), number),
+        buffer,
+        size,
+    );
     put(handle, alloc, held);
     status
 }
