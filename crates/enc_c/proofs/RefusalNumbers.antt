@@ -1,15 +1,14 @@
 -- What the numbers of a refusal say is that refusal; and its words stand in its line.
-use Rattle.std.specs.Prelude.{◌≡◌, ℕ, [], drop, Option, Some}
+use Rattle.std.specs.Prelude.{◌≡◌, [], drop, Some}
 use Rattle.std.proofs.Common.{refl}
 use Rattle.enc_base.specs.declared.refusal.Code.{Code}
 use Rattle.enc_base.specs.declared.refusal.Code.TheVariants.{F, E}
 use Rattle.enc_base.specs.declared.refusal.Place.{Place}
 use Rattle.enc_base.specs.declared.refusal.Place.TheVariants as place
-use Rattle.enc_base.specs.declared.refusal.StreamName.{StreamName}
 use Rattle.enc_base.specs.declared.refusal.StreamName.TheVariants as stream
 use Rattle.enc_base.specs.declared.refusal.Refusal.{Refusal}
 use Rattle.enc_text.specs.Text.{refused_line}
-use Rattle.enc_c.specs.Refusals.{letter_of, rule_of, number_of_stream, numbers_at, numbers_of, code_by, stream_by, place_by, refusal_by, words_of, NumbersAreTheRefusals}
+use Rattle.enc_c.specs.Refusals.{numbers_at, numbers_of, refusal_by, words_of, NumbersAreTheRefusals}
 
 at_law : (code : Code) (p : Place) → refusal_by (numbers_at code p) ≡ Some (record { code = code; place = p })
 unfolding refusal_by

@@ -1,6 +1,6 @@
 -- The rows of tokens that a sound module tells are of three bytes.
-use Rattle.std.proofs.Common.{◌≡◌, ℕ, ◌+◌, ◌<◌, ◌≤◌, Bool, true, false, length, Option, Some, None, refl, ap, ◌∙◌, sym, arith}
-use Rattle.std.specs.Prelude.{◌^◌, ◌&&◌, ◌||◌, ◌==◌, position, option_map, option_and_then, if◌then◌else◌, Result, Ok, Err}
+use Rattle.std.proofs.Common.{◌≡◌, ℕ, ◌+◌, ◌<◌, ◌≤◌, Bool, true, false, Option, Some, None, refl, arith}
+use Rattle.std.specs.Prelude.{◌^◌, ◌&&◌, ◌||◌, position, option_map, option_and_then, if◌then◌else◌, Ok, Err}
 use Rattle.std.proofs.lemmas.Bool.Decides.{nat_tests}
 use Rattle.enc_base.specs.Token.{nil, is_token, nth_row}
 use Rattle.enc_base.specs.declared.token.Token.{Token}
@@ -12,10 +12,9 @@ use Rattle.enc_plain.specs.Module.{Module, has_row, has_kid, rows_in, cell_of, o
 use Rattle.enc_plain.specs.Sound.{IsSound, is_reference, can_name, row_count}
 use Rattle.enc_plain.proofs.Columns.{both_right}
 use Rattle.enc_ppdb.proofs.Positions.{position_within}
-use Rattle.enc_c.specs.declared.status.Status.{Status}
 use Rattle.enc_c.specs.declared.status.Status.TheVariants.{Absent, Unlike}
-use Rattle.enc_c.specs.Cells.{token_told, token_in}
-use Rattle.enc_c.specs.Family.{owner_told, owner_in}
+use Rattle.enc_c.specs.Cells.{token_told, asked_token}
+use Rattle.enc_c.specs.Family.{owner_told, asked_owner}
 
 -- a row that is there
 low_row : (m : Module) (t : Token) → IsSound m → has_row m t ≡ true → t.row < 2 ^ 24
@@ -62,8 +61,8 @@ token_by m t i u true sound there e =
     let column = column_there (is_body t.table i) (is_field t.table i) (column_in t.table i) told.0 in
     low_reference m column.0 u sound (sound.cells.each t i column.0 (refer u) there column.1 told.1)
 
-pub token_fits : (m : Module) (t : Token) (i : ℕ) (u : Token) → IsSound m → Ok u ≡ token_in m t i → u.row < 2 ^ 24
-unfolding token_in
+pub token_fits : (m : Module) (t : Token) (i : ℕ) (u : Token) → IsSound m → Ok u ≡ asked_token m t i → u.row < 2 ^ 24
+unfolding asked_token
 token_fits m t i u sound e = token_by m t i u (has_row m t) sound refl e
 
 owner_there : (o : Option Token) (u : Token) → Ok u ≡ owner_told o → o ≡ Some u
@@ -88,6 +87,6 @@ owner_by m t u false c sound e = absurd cc
 owner_by m t u true false sound e = absurd cc
 owner_by m t u true true sound e = owner_of_low m t u sound (owner_there (owner_of m t) u e)
 
-pub owner_fits : (m : Module) (t u : Token) → IsSound m → Ok u ≡ owner_in m t → u.row < 2 ^ 24
-unfolding owner_in
+pub owner_fits : (m : Module) (t u : Token) → IsSound m → Ok u ≡ asked_owner m t → u.row < 2 ^ 24
+unfolding asked_owner
 owner_fits m t u sound e = owner_by m t u (has_row m t) (is_child_table t.table) sound e

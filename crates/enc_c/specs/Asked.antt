@@ -28,60 +28,60 @@ of_open None answer = Err Closed
 of_open (Some s) answer = answer s
 
 -- a token by its number
-abbrev pub numbered : Result Token Status → Result ℕ Status
-numbered (Ok t) = Ok (number_of t)
-numbered (Err s) = Err s
+abbrev pub told_by_number : Result Token Status → Result ℕ Status
+told_by_number (Ok t) = Ok (number_of t)
+told_by_number (Err s) = Err s
 
 -- how many generations there are, the base among them
-abbrev pub generations_in : State → Result ℕ Status
-generations_in s = Ok (length (chain_after s).ids + 1)
+abbrev pub asked_generations : State → Result ℕ Status
+asked_generations s = Ok (length (chain_after s).ids + 1)
 
 -- the EncId of a generation
-abbrev pub id_in : Chain → ℕ → Result (List ℕ) Status
-id_in c g = if nat_lt g (length c.heaps) then Ok (id_of c g) else Err Later
+abbrev pub asked_id : Chain → ℕ → Result (List ℕ) Status
+asked_id c g = if nat_lt g (length c.heaps) then Ok (id_of c g) else Err Later
 
 -- how many rows a table has
-abbrev pub count_in : State → ℕ → Result ℕ Status
-count_in s table = Ok (length (rows_in (module_after s) table))
+abbrev pub asked_count : State → ℕ → Result ℕ Status
+asked_count s table = Ok (length (rows_in (module_after s) table))
 
 -- where a row stands: its generation, and its position there
 abbrev pub row_place : RowPlace → PlaceNumbers
 row_place p = record { generation = p.generation; position = p.row }
 
-unfoldable pub place_in : State → Token → Result PlaceNumbers Status
-place_in s t = of_row (module_after s) t (Ok (row_place (place_of s.deltas t)))
+unfoldable pub asked_place : State → Token → Result PlaceNumbers Status
+asked_place s t = of_row (module_after s) t (Ok (row_place (place_of s.deltas t)))
 
 -- and where an offset of a joined heap stands
-abbrev pub heap_place : Option HeapPlace → Result PlaceNumbers Status
-heap_place (Some p) = Ok (record { generation = p.generation; position = p.offset })
-heap_place None = Err Absent
+abbrev pub told_heap_place : Option HeapPlace → Result PlaceNumbers Status
+told_heap_place (Some p) = Ok (record { generation = p.generation; position = p.offset })
+told_heap_place None = Err Absent
 
-abbrev pub heap_place_by : Chain → Option StreamName → ℕ → Result PlaceNumbers Status
-heap_place_by c (Some heap) offset = heap_place (place_in_heaps c.heaps heap offset)
-heap_place_by c None offset = Err Unlike
+abbrev pub told_heap_place_by : Chain → Option StreamName → ℕ → Result PlaceNumbers Status
+told_heap_place_by c (Some heap) offset = told_heap_place (place_in_heaps c.heaps heap offset)
+told_heap_place_by c None offset = Err Unlike
 
-unfoldable pub heap_place_in : State → ℕ → ℕ → Result PlaceNumbers Status
-heap_place_in s heap offset = heap_place_by (chain_after s) (stream_by heap) offset
+unfoldable pub asked_heap_place : State → ℕ → ℕ → Result PlaceNumbers Status
+asked_heap_place s heap offset = told_heap_place_by (chain_after s) (stream_by heap) offset
 
 -- the printed row
-unfoldable pub row_in : State → Token → Result (List ℕ) Status
-row_in s t = of_row (module_after s) t (Ok (row_text_of (module_after s) (pdb_after s) (place_of s.deltas t) t))
+unfoldable pub asked_row : State → Token → Result (List ℕ) Status
+asked_row s t = of_row (module_after s) t (Ok (row_text_of (module_after s) (pdb_after s) (place_of s.deltas t) t))
 
 -- why nothing is said of a token: it is no row, or no method
 abbrev pub unlike_method : State → Token → Option Status
 unlike_method s t = if has_row (module_after s) t then (if t.table == tables.method_def then None else Some Unlike) else Some Absent
 
-abbrev pub unless : {A : Type 0} → Option Status → Result A Status → Result A Status
-unless None answer = answer
-unless (Some s) answer = Err s
+abbrev pub unless_unlike : {A : Type 0} → Option Status → Result A Status → Result A Status
+unless_unlike None answer = answer
+unless_unlike (Some s) answer = Err s
 
 -- the points of a method, by numbers, as the newest file that knows it says them
-unfoldable pub points_in : State → Token → Result (List PointNumbers) Status
-points_in s t = unless (unlike_method s t) (Ok (points_numbers (points_at (known_at s.pdb s.debugs t))))
+unfoldable pub asked_points : State → Token → Result (List PointNumbers) Status
+asked_points s t = unless_unlike (unlike_method s t) (Ok (points_numbers (points_at (known_at s.pdb s.debugs t))))
 
 -- the name of the document that a number of its points means
-unfoldable pub document_in : State → Token → ℕ → Result (List ℕ) Status
-document_in s t number = unless (unlike_method s t) (name_told (documents_at (known_at s.pdb s.debugs t) number))
+unfoldable pub asked_document : State → Token → ℕ → Result (List ℕ) Status
+asked_document s t number = unless_unlike (unlike_method s t) (name_told (documents_at (known_at s.pdb s.debugs t) number))
 
 -- the points and the documents that are told of a method are those of the plain PDB
 abbrev pub PointsAreThePdbs : Type 0

@@ -1,5 +1,5 @@
 -- The body of a method, as it is asked for.
-use Rattle.std.specs.Prelude.{◌≡◌, ℕ, ◌==◌, List, Option, Some, None, Result, Ok, Err, if◌then◌else◌}
+use Rattle.std.specs.Prelude.{◌≡◌, ℕ, ◌==◌, List, Option, Some, Result, Ok, Err, if◌then◌else◌}
 use Rattle.enc_base.specs.declared.token.Token.{Token}
 use Rattle.enc_opcodes.specs.Body.{Code, Body, body_of, code_seen}
 use Rattle.enc_opcodes.specs.declared.code.CodeRef.{CodeRef}
@@ -11,15 +11,15 @@ use Rattle.enc_c.specs.declared.status.Status.TheVariants.{Absent, Unlike}
 use Rattle.enc_c.specs.declared.code.CodeHead.{CodeHead}
 use Rattle.enc_c.specs.Status.{number_of_status}
 use Rattle.enc_c.specs.Cells.{of_row}
-use Rattle.enc_c.specs.Copied.{IsCopied}
+use Rattle.enc_c.specs.Copied.{IsCopiedOut}
 
 -- the body in the cell of a method, where it has one
 abbrev pub body_told : Option Cell → Result Body Status
 body_told (Some (body (Some b))) = Ok b
 body_told _ = Err Absent
 
-unfoldable pub body_in : Module → Token → Result Body Status
-body_in m t = of_row m t (if t.table == tables.method_def then body_told (cell_of m t 0) else Err Unlike)
+unfoldable pub asked_body : Module → Token → Result Body Status
+asked_body m t = of_row m t (if t.table == tables.method_def then body_told (cell_of m t 0) else Err Unlike)
 
 -- the body of code that is lent, with these user texts
 abbrev pub body_lent : (ℕ → Option (List ℕ)) → Result CodeRef Status → Result Body Status
@@ -32,11 +32,13 @@ head_of c = record { stack = c.max; locals = c.locals.row; init = if c.init then
 
 -- the code is copied, and its head is told; or the status says why there is none, and then nothing is written
 abbrev pub CopiesCode : ℕ → List ℕ → List ℕ → ℕ → ℕ → CodeHead → CodeHead → Result CodeRef Status → Type 0
-CopiesCode number old new before count head head_new (Ok c) = IsCopied number old new count c.code.now × (head_new ≡ head_of (code_seen c))
-CopiesCode number old new before count head head_new (Err s) = (number ≡ number_of_status s) × (new ≡ old) × (count ≡ before) × (head_new ≡ head)
+CopiesCode number old new before count head head_new (Ok c) = IsCopiedOut number old new count c.code.now × (head_new ≡ head_of (code_seen c))
+CopiesCode number old new before count head head_new (Err s) =
+    (number ≡ number_of_status s) × (new ≡ old) × (count ≡ before) × (head_new ≡ head)
 
 -- so it is of the code that means the body
 abbrev pub TellsBody : (ℕ → Option (List ℕ)) → ℕ → List ℕ → List ℕ → ℕ → ℕ → CodeHead → CodeHead → Result Body Status → Type 0
 TellsBody users number old new before count head head_new (Ok b) =
-    (c : Code) × (b ≡ body_of users c) × IsCopied number old new count c.code × (head_new ≡ head_of c)
-TellsBody users number old new before count head head_new (Err s) = (number ≡ number_of_status s) × (new ≡ old) × (count ≡ before) × (head_new ≡ head)
+    (c : Code) × (b ≡ body_of users c) × IsCopiedOut number old new count c.code × (head_new ≡ head_of c)
+TellsBody users number old new before count head head_new (Err s) =
+    (number ≡ number_of_status s) × (new ≡ old) × (count ≡ before) × (head_new ≡ head)

@@ -12,20 +12,20 @@ use Rattle.enc_c.specs.Refusals.{numbers_of}
 use Rattle.enc_c.specs.State.{State}
 
 -- the bytes of a file that may be absent
-abbrev pub bytes_seen : Option (Vec ℕ Global) → Option (List ℕ)
-bytes_seen bytes = option_map (λ (b : Vec ℕ Global). b.items) bytes
+abbrev pub bytes_held : Option (Vec ℕ Global) → Option (List ℕ)
+bytes_held bytes = option_map (λ (b : Vec ℕ Global). b.items) bytes
 
 -- files were read, or refused; want of memory tells nothing
-abbrev pub Reads : Result State ReadFault → Result State Refusal → Type 0
-Reads (Ok s) said = said ≡ Ok s
-Reads (Err (fault.Refused e)) said = said ≡ Err e
-Reads (Err fault.Memory) said = Unit {0}
+abbrev pub ReadsState : Result State ReadFault → Result State Refusal → Type 0
+ReadsState (Ok s) said = said ≡ Ok s
+ReadsState (Err (fault.Refused e)) said = said ≡ Err e
+ReadsState (Err fault.Memory) said = Unit {0}
 
 -- the same of a state that is changed; where files are refused, and where there is no memory, it stays
-abbrev pub Follows : {U : Type 0} → State → State → Result U ReadFault → Result State Refusal → Type 0
-Follows old new (Ok u) said = said ≡ Ok new
-Follows old new (Err (fault.Refused e)) said = (said ≡ Err e) × (new ≡ old)
-Follows old new (Err fault.Memory) said = new ≡ old
+abbrev pub Becomes : {U : Type 0} → State → State → Result U ReadFault → Result State Refusal → Type 0
+Becomes old new (Ok u) said = said ≡ Ok new
+Becomes old new (Err (fault.Refused e)) said = (said ≡ Err e) × (new ≡ old)
+Becomes old new (Err fault.Memory) said = new ≡ old
 
 -- a fault by a status, and a refusal by its numbers
 abbrev pub TellsFault : ℕ → RefusalNumbers → RefusalNumbers → ReadFault → Type 0

@@ -33,24 +33,24 @@ number_of_stream stream.Pdb = 6
 number_of_stream stream.Jtd = 7
 
 -- a place by its kind, and the numbers that it has; the others are 0
-abbrev pub placed : Code → ℕ → ℕ → ℕ → ℕ → ℕ → ℕ → RefusalNumbers
-placed code place stream table column row entry =
+abbrev pub placed_numbers : Code → ℕ → ℕ → ℕ → ℕ → ℕ → ℕ → RefusalNumbers
+placed_numbers code place stream table column row entry =
     record { letter = letter_of code; rule = rule_of code; place = place; stream = stream; table = table; column = column; row = row; entry = entry }
 
 abbrev pub numbers_at : Code → Place → RefusalNumbers
-numbers_at code place.Root = placed code 0 0 0 0 0 0
-numbers_at code (place.Stream name) = placed code 1 (number_of_stream name) 0 0 0 0
-numbers_at code place.Headers = placed code 2 0 0 0 0 0
-numbers_at code place.Cli = placed code 3 0 0 0 0 0
-numbers_at code place.Metadata = placed code 4 0 0 0 0 0
-numbers_at code place.Resources = placed code 5 0 0 0 0 0
-numbers_at code place.Debug = placed code 6 0 0 0 0 0
-numbers_at code place.Tables = placed code 7 0 0 0 0 0
-numbers_at code place.Pdb = placed code 8 0 0 0 0 0
-numbers_at code (place.Row token) = placed code 9 0 token.table 0 token.row 0
-numbers_at code (place.Cell token column) = placed code 10 0 token.table column token.row 0
-numbers_at code (place.Owner token) = placed code 11 0 token.table 0 token.row 0
-numbers_at code (place.Log entry) = placed code 12 0 0 0 0 entry
+numbers_at code place.Root = placed_numbers code 0 0 0 0 0 0
+numbers_at code (place.Stream name) = placed_numbers code 1 (number_of_stream name) 0 0 0 0
+numbers_at code place.Headers = placed_numbers code 2 0 0 0 0 0
+numbers_at code place.Cli = placed_numbers code 3 0 0 0 0 0
+numbers_at code place.Metadata = placed_numbers code 4 0 0 0 0 0
+numbers_at code place.Resources = placed_numbers code 5 0 0 0 0 0
+numbers_at code place.Debug = placed_numbers code 6 0 0 0 0 0
+numbers_at code place.Tables = placed_numbers code 7 0 0 0 0 0
+numbers_at code place.Pdb = placed_numbers code 8 0 0 0 0 0
+numbers_at code (place.Row token) = placed_numbers code 9 0 token.table 0 token.row 0
+numbers_at code (place.Cell token column) = placed_numbers code 10 0 token.table column token.row 0
+numbers_at code (place.Owner token) = placed_numbers code 11 0 token.table 0 token.row 0
+numbers_at code (place.Log entry) = placed_numbers code 12 0 0 0 0 entry
 
 unfoldable pub numbers_of : Refusal → RefusalNumbers
 numbers_of e = numbers_at e.code e.place

@@ -16,6 +16,6 @@ number_of_status Unlike = 11
 number_of_status Later = 12
 
 -- a value is told, or the status says why there is none, and then nothing is written
-abbrev pub Tells : {A : Type 0} → ℕ → A → A → Result A Status → Type 0
-Tells status old new (Ok a) = (status ≡ number_of_status Done) × (new ≡ a)
-Tells status old new (Err s) = (status ≡ number_of_status s) × (new ≡ old)
+abbrev pub TellsValue : {A : Type 0} → ℕ → A → A → Result A Status → Type 0
+TellsValue status old new (Ok a) = (status ≡ number_of_status Done) × (new ≡ a)
+TellsValue status old new (Err s) = (status ≡ number_of_status s) × (new ≡ old)

@@ -2,10 +2,10 @@
 ghost use Rattle.std.specs.Prelude.{◌≡◌, Ok};
 ghost use Rattle.enc_meta.specs.Joined.{joined_user};
 ghost use Rattle.enc_c.specs.State.{chain_after, module_after};
-ghost use Rattle.enc_c.specs.Cells.{number_in, text_in, blob_in, guid_in, token_in, lent};
-ghost use Rattle.enc_c.specs.Family.{owner_in, kids_in, OrMemory, listed};
-ghost use Rattle.enc_c.specs.Code.{body_in, body_lent};
-ghost use Rattle.enc_c.specs.Asked.{numbered, generations_in, id_in, count_in, row_place, place_in, heap_place, heap_place_by, heap_place_in, row_in, unlike_method, points_in, document_in};
+ghost use Rattle.enc_c.specs.Cells.{asked_number, asked_text, asked_blob, asked_guid, asked_token, lent};
+ghost use Rattle.enc_c.specs.Family.{asked_owner, asked_kids, OrMemory, items_listed};
+ghost use Rattle.enc_c.specs.Code.{asked_body, body_lent};
+ghost use Rattle.enc_c.specs.Asked.{told_by_number, asked_generations, asked_id, asked_count, row_place, asked_place, told_heap_place, told_heap_place_by, asked_heap_place, asked_row, unlike_method, asked_points, asked_document};
 
 use crate::cells::{blob, guid, number, text, token};
 use crate::code::code;
@@ -33,22 +33,22 @@ pub struct PlaceNumbers {
 impl Held {
     /// How many generations there are, the base among them.
     pub fn generations(&self) -> u32
-        ensures { Ok result ≡ generations_in self.now }
+        ensures { Ok result ≡ asked_generations self.now }
     {
         self.agg.generations()
     }
 
     /// How many rows a table has.
     pub fn count(&self, table: u8) -> u32
-        ensures { Ok result ≡ count_in self.now table }
+        ensures { Ok result ≡ asked_count self.now table }
     {
         self.agg.count(table)
     }
 
     /// Where a row stands.
-    #[tactic(auto, unfolding(crate::specs::Asked::place_in))]
+    #[tactic(auto, unfolding(crate::specs::Asked::asked_place))]
     pub fn place(&self, row: Token) -> Result<PlaceNumbers, Status>
-        ensures { result ≡ place_in self.now row }
+        ensures { result ≡ asked_place self.now row }
     {
         if !is_row(&self.agg, row) {
             return Err(Status::Absent);
@@ -62,14 +62,14 @@ impl Held {
 
     /// The number in a column.
     pub fn number(&self, row: Token, column: u8) -> Result<u32, Status>
-        ensures { result ≡ number_in (module_after self.now) row column }
+        ensures { result ≡ asked_number (module_after self.now) row column }
     {
         number(&self.agg, row, column)
     }
 
     /// The EncId of a generation.
     pub fn id(&self, generation: u32) -> Result<[u8; 16], Status>
-        ensures { result ≡ id_in (chain_after self.now) generation }
+        ensures { result ≡ asked_id (chain_after self.now) generation }
     {
         if generation >= self.agg.generations() {
             return Err(Status::Later);
@@ -78,9 +78,9 @@ impl Held {
     }
 
     /// Where an offset of a joined heap stands.
-    #[tactic(auto, unfolding(crate::specs::Asked::heap_place_in))]
+    #[tactic(auto, unfolding(crate::specs::Asked::asked_heap_place))]
     pub fn heap_place(&self, heap: u32, offset: u32) -> Result<PlaceNumbers, Status>
-        ensures { result ≡ heap_place_in self.now heap offset }
+        ensures { result ≡ asked_heap_place self.now heap offset }
     {
         let Some(heap) = stream_by(heap) else {
             return Err(Status::Unlike);
@@ -96,21 +96,21 @@ impl Held {
 
     /// The bytes of a text.
     pub fn text(&self, row: Token, column: u8) -> Result<&[u8], Status>
-        ensures { lent result ≡ text_in (module_after self.now) row column }
+        ensures { lent result ≡ asked_text (module_after self.now) row column }
     {
         text(&self.agg, row, column)
     }
 
     /// The bytes of a blob.
     pub fn blob(&self, row: Token, column: u8) -> Result<&[u8], Status>
-        ensures { lent result ≡ blob_in (module_after self.now) row column }
+        ensures { lent result ≡ asked_blob (module_after self.now) row column }
     {
         blob(&self.agg, row, column)
     }
 
     /// The bytes of a GUID.
     pub fn guid(&self, row: Token, column: u8) -> Result<[u8; 16], Status>
-        ensures { result ≡ guid_in (module_after self.now) row column }
+        ensures { result ≡ asked_guid (module_after self.now) row column }
     {
         guid(&self.agg, row, column)
     }
@@ -118,7 +118,7 @@ impl Held {
     /// The number of the token in a column of an index.
     #[tactic(auto, using(crate::proofs::TokensFit::token_fits))]
     pub fn token(&self, row: Token, column: u8) -> Result<u32, Status>
-        ensures { result ≡ numbered (token_in (module_after self.now) row column) }
+        ensures { result ≡ told_by_number (asked_token (module_after self.now) row column) }
     {
         self.agg.sound();
         match token(&self.agg, row, column) {
@@ -130,7 +130,7 @@ impl Held {
     /// The number of the token of a child row's owner.
     #[tactic(auto, using(crate::proofs::TokensFit::owner_fits))]
     pub fn owner(&self, row: Token) -> Result<u32, Status>
-        ensures { result ≡ numbered (owner_in (module_after self.now) row) }
+        ensures { result ≡ told_by_number (asked_owner (module_after self.now) row) }
     {
         self.agg.sound();
         match owner(&self.agg, row) {
@@ -141,15 +141,15 @@ impl Held {
 
     /// The rows of a row's children in a child table.
     pub fn kids(&self, alloc: Global, row: Token, table: u8) -> Result<Vec<u32>, Status>
-        ensures { OrMemory (listed result) (kids_in (module_after self.now) row table) }
+        ensures { OrMemory (items_listed result) (asked_kids (module_after self.now) row table) }
     {
         kids(alloc, &self.agg, row, table)
     }
 
     /// The printed row.
-    #[tactic(auto, unfolding(crate::specs::Asked::row_in))]
+    #[tactic(auto, unfolding(crate::specs::Asked::asked_row))]
     pub fn row(&self, alloc: Global, row: Token) -> Result<Vec<u8>, Status>
-        ensures { OrMemory (listed result) (row_in self.now row) }
+        ensures { OrMemory (items_listed result) (asked_row self.now row) }
     {
         if !is_row(&self.agg, row) {
             return Err(Status::Absent);
@@ -164,7 +164,7 @@ impl Held {
 
     /// The body of a method.
     pub fn code(&self, method: Token) -> Result<CodeRef<'_>, Status>
-        ensures { body_lent (joined_user (chain_after self.now).heaps) result ≡ body_in (module_after self.now) method }
+        ensures { body_lent (joined_user (chain_after self.now).heaps) result ≡ asked_body (module_after self.now) method }
     {
         code(&self.agg, method)
     }
@@ -183,9 +183,9 @@ impl Held {
     }
 
     /// The points of a method.
-    #[tactic(auto, unfolding(crate::specs::Asked::points_in))]
+    #[tactic(auto, unfolding(crate::specs::Asked::asked_points))]
     pub fn points(&self, alloc: Global, method: Token) -> Result<Vec<PointNumbers>, Status>
-        ensures { OrMemory (listed result) (points_in self.now method) }
+        ensures { OrMemory (items_listed result) (asked_points self.now method) }
     {
         if let Some(status) = self.unlike_method(method) {
             return Err(status);
@@ -197,9 +197,9 @@ impl Held {
     }
 
     /// The name of a document.
-    #[tactic(auto, unfolding(crate::specs::Asked::document_in))]
+    #[tactic(auto, unfolding(crate::specs::Asked::asked_document))]
     pub fn document(&self, alloc: Global, method: Token, number: u32) -> Result<Vec<u8>, Status>
-        ensures { OrMemory (listed result) (document_in self.now method number) }
+        ensures { OrMemory (items_listed result) (asked_document self.now method number) }
     {
         if let Some(status) = self.unlike_method(method) {
             return Err(status);

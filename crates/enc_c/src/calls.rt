@@ -1,11 +1,11 @@
 //! The calls that tell numbers, tokens and places.
 ghost use Rattle.std.specs.Prelude.{◌≡◌};
 ghost use Rattle.enc_base.specs.Token.{token_of};
-ghost use Rattle.enc_c.specs.Status.{Tells};
+ghost use Rattle.enc_c.specs.Status.{TellsValue};
 ghost use Rattle.enc_c.specs.State.{module_after};
-ghost use Rattle.enc_c.specs.Cells.{number_in, token_in};
-ghost use Rattle.enc_c.specs.Family.{owner_in};
-ghost use Rattle.enc_c.specs.Asked.{of_open, numbered, generations_in, count_in, place_in, heap_place_in};
+ghost use Rattle.enc_c.specs.Cells.{asked_number, asked_token};
+ghost use Rattle.enc_c.specs.Family.{asked_owner};
+ghost use Rattle.enc_c.specs.Asked.{of_open, told_by_number, asked_generations, asked_count, asked_place, asked_heap_place};
 
 use crate::asked::PlaceNumbers;
 use crate::handle::{Handle, put, take};
@@ -17,7 +17,7 @@ use std::alloc::Global;
 #[unsafe(no_mangle)]
 pub extern "C" fn enc_generations(alloc: Global, handle: &mut Handle, count: &mut u32) -> u32
     ensures kept { handle.new.held ≡ handle.old.held }
-    ensures answer { Tells result count.old count.new (of_open handle.old.held generations_in) }
+    ensures answer { TellsValue result count.old count.new (of_open handle.old.held asked_generations) }
 {
     let Some(held) = take(handle, alloc) else {
         return Status::Closed.number();
@@ -31,7 +31,7 @@ pub extern "C" fn enc_generations(alloc: Global, handle: &mut Handle, count: &mu
 #[unsafe(no_mangle)]
 pub extern "C" fn enc_count(alloc: Global, handle: &mut Handle, table: u8, count: &mut u32) -> u32
     ensures kept { handle.new.held ≡ handle.old.held }
-    ensures answer { Tells result count.old count.new (of_open handle.old.held (λ s. count_in s table)) }
+    ensures answer { TellsValue result count.old count.new (of_open handle.old.held (λ s. asked_count s table)) }
 {
     let Some(held) = take(handle, alloc) else {
         return Status::Closed.number();
@@ -50,7 +50,7 @@ pub extern "C" fn enc_locate(
     place: &mut PlaceNumbers,
 ) -> u32
     ensures kept { handle.new.held ≡ handle.old.held }
-    ensures answer { Tells result place.old place.new (of_open handle.old.held (λ s. place_in s (token_of row))) }
+    ensures answer { TellsValue result place.old place.new (of_open handle.old.held (λ s. asked_place s (token_of row))) }
 {
     let Some(held) = take(handle, alloc) else {
         return Status::Closed.number();
@@ -70,7 +70,7 @@ pub extern "C" fn enc_locate_heap(
     place: &mut PlaceNumbers,
 ) -> u32
     ensures kept { handle.new.held ≡ handle.old.held }
-    ensures answer { Tells result place.old place.new (of_open handle.old.held (λ s. heap_place_in s heap offset)) }
+    ensures answer { TellsValue result place.old place.new (of_open handle.old.held (λ s. asked_heap_place s heap offset)) }
 {
     let Some(held) = take(handle, alloc) else {
         return Status::Closed.number();
@@ -90,7 +90,7 @@ pub extern "C" fn enc_number(
     number: &mut u32,
 ) -> u32
     ensures kept { handle.new.held ≡ handle.old.held }
-    ensures answer { Tells result number.old number.new (of_open handle.old.held (λ s. number_in (module_after s) (token_of row) column)) }
+    ensures answer { TellsValue result number.old number.new (of_open handle.old.held (λ s. asked_number (module_after s) (token_of row) column)) }
 {
     let Some(held) = take(handle, alloc) else {
         return Status::Closed.number();
@@ -110,7 +110,7 @@ pub extern "C" fn enc_token(
     token: &mut u32,
 ) -> u32
     ensures kept { handle.new.held ≡ handle.old.held }
-    ensures answer { Tells result token.old token.new (of_open handle.old.held (λ s. numbered (token_in (module_after s) (token_of row) column))) }
+    ensures answer { TellsValue result token.old token.new (of_open handle.old.held (λ s. told_by_number (asked_token (module_after s) (token_of row) column))) }
 {
     let Some(held) = take(handle, alloc) else {
         return Status::Closed.number();
@@ -124,7 +124,7 @@ pub extern "C" fn enc_token(
 #[unsafe(no_mangle)]
 pub extern "C" fn enc_owner(alloc: Global, handle: &mut Handle, row: u32, owner: &mut u32) -> u32
     ensures kept { handle.new.held ≡ handle.old.held }
-    ensures answer { Tells result owner.old owner.new (of_open handle.old.held (λ s. numbered (owner_in (module_after s) (token_of row)))) }
+    ensures answer { TellsValue result owner.old owner.new (of_open handle.old.held (λ s. told_by_number (asked_owner (module_after s) (token_of row)))) }
 {
     let Some(held) = take(handle, alloc) else {
         return Status::Closed.number();

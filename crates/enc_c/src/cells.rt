@@ -1,6 +1,6 @@
 //! The value in a column of a row, over any view of a module.
 ghost use Rattle.std.specs.Prelude.{◌≡◌};
-ghost use Rattle.enc_c.specs.Cells.{number_in, text_in, blob_in, guid_in, token_in, lent};
+ghost use Rattle.enc_c.specs.Cells.{asked_number, asked_text, asked_blob, asked_guid, asked_token, lent};
 
 use crate::kinds::{CellKind, kind_in};
 use crate::status::Status;
@@ -8,9 +8,9 @@ use enc_base::Token;
 use enc_plain::{ModuleView, is_row};
 
 /// The number in a column.
-#[tactic(auto, unfolding(crate::specs::Cells::number_in))]
+#[tactic(auto, unfolding(crate::specs::Cells::asked_number))]
 pub fn number<V: ModuleView>(view: &V, row: Token, column: u8) -> Result<u32, Status>
-    ensures { result ≡ number_in (V.meaning view.now) row column }
+    ensures { result ≡ asked_number (V.meaning view.now) row column }
 {
     if !is_row(view, row) {
         return Err(Status::Absent);
@@ -22,9 +22,9 @@ pub fn number<V: ModuleView>(view: &V, row: Token, column: u8) -> Result<u32, St
 }
 
 /// The bytes of a text.
-#[tactic(auto, unfolding(crate::specs::Cells::text_in))]
+#[tactic(auto, unfolding(crate::specs::Cells::asked_text))]
 pub fn text<V: ModuleView>(view: &V, row: Token, column: u8) -> Result<&[u8], Status>
-    ensures { lent result ≡ text_in (V.meaning view.now) row column }
+    ensures { lent result ≡ asked_text (V.meaning view.now) row column }
 {
     if !is_row(view, row) {
         return Err(Status::Absent);
@@ -36,9 +36,9 @@ pub fn text<V: ModuleView>(view: &V, row: Token, column: u8) -> Result<&[u8], St
 }
 
 /// The bytes of a blob.
-#[tactic(auto, unfolding(crate::specs::Cells::blob_in))]
+#[tactic(auto, unfolding(crate::specs::Cells::asked_blob))]
 pub fn blob<V: ModuleView>(view: &V, row: Token, column: u8) -> Result<&[u8], Status>
-    ensures { lent result ≡ blob_in (V.meaning view.now) row column }
+    ensures { lent result ≡ asked_blob (V.meaning view.now) row column }
 {
     if !is_row(view, row) {
         return Err(Status::Absent);
@@ -50,9 +50,9 @@ pub fn blob<V: ModuleView>(view: &V, row: Token, column: u8) -> Result<&[u8], St
 }
 
 /// The sixteen bytes of a GUID.
-#[tactic(auto, unfolding(crate::specs::Cells::guid_in))]
+#[tactic(auto, unfolding(crate::specs::Cells::asked_guid))]
 pub fn guid<V: ModuleView>(view: &V, row: Token, column: u8) -> Result<[u8; 16], Status>
-    ensures { result ≡ guid_in (V.meaning view.now) row column }
+    ensures { result ≡ asked_guid (V.meaning view.now) row column }
 {
     if !is_row(view, row) {
         return Err(Status::Absent);
@@ -64,9 +64,9 @@ pub fn guid<V: ModuleView>(view: &V, row: Token, column: u8) -> Result<[u8; 16],
 }
 
 /// The token in a column of an index.
-#[tactic(auto, unfolding(crate::specs::Cells::token_in))]
+#[tactic(auto, unfolding(crate::specs::Cells::asked_token))]
 pub fn token<V: ModuleView>(view: &V, row: Token, column: u8) -> Result<Token, Status>
-    ensures { result ≡ token_in (V.meaning view.now) row column }
+    ensures { result ≡ asked_token (V.meaning view.now) row column }
 {
     if !is_row(view, row) {
         return Err(Status::Absent);

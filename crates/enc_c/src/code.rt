@@ -1,6 +1,6 @@
 //! The body of a method, over any view of a module.
 ghost use Rattle.std.specs.Prelude.{◌≡◌};
-ghost use Rattle.enc_c.specs.Code.{body_in, body_lent, CopiesCode, TellsBody};
+ghost use Rattle.enc_c.specs.Code.{asked_body, body_lent, CopiesCode, TellsBody};
 
 use crate::copy::copy_out;
 use crate::status::Status;
@@ -22,9 +22,9 @@ pub struct CodeHead {
 }
 
 /// The body of a method.
-#[tactic(auto, unfolding(crate::specs::Code::body_in))]
+#[tactic(auto, unfolding(crate::specs::Code::asked_body))]
 pub fn code<V: ModuleView>(view: &V, method: Token) -> Result<CodeRef<'_>, Status>
-    ensures { body_lent (V.users view.now) result ≡ body_in (V.meaning view.now) method }
+    ensures { body_lent (V.users view.now) result ≡ asked_body (V.meaning view.now) method }
 {
     if !is_row(view, method) {
         return Err(Status::Absent);

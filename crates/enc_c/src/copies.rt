@@ -3,11 +3,11 @@ ghost use Rattle.std.specs.Prelude.{◌≡◌};
 ghost use Rattle.enc_base.specs.Token.{token_of};
 ghost use Rattle.enc_c.specs.Copied.{Copies, CopiesOrStays};
 ghost use Rattle.enc_c.specs.State.{chain_after, module_after};
-ghost use Rattle.enc_c.specs.Cells.{text_in, blob_in, guid_in};
-ghost use Rattle.enc_c.specs.Family.{kids_in};
+ghost use Rattle.enc_c.specs.Cells.{asked_text, asked_blob, asked_guid};
+ghost use Rattle.enc_c.specs.Family.{asked_kids};
 ghost use Rattle.enc_c.specs.Opened.{TellsBodyOf};
 ghost use Rattle.enc_c.specs.Refusals.{words_by};
-ghost use Rattle.enc_c.specs.Asked.{of_open, id_in, row_in, points_in, document_in};
+ghost use Rattle.enc_c.specs.Asked.{of_open, asked_id, asked_row, asked_points, asked_document};
 
 use crate::code::{CodeHead, copy_code};
 use crate::copy::{copy_bytes, copy_guid, copy_items};
@@ -28,7 +28,7 @@ pub extern "C" fn enc_id(
     size: &mut usize,
 ) -> u32
     ensures kept { handle.new.held ≡ handle.old.held }
-    ensures answer { Copies result buffer.old buffer.new size.old size.new (of_open handle.old.held (λ s. id_in (chain_after s) generation)) }
+    ensures answer { Copies result buffer.old buffer.new size.old size.new (of_open handle.old.held (λ s. asked_id (chain_after s) generation)) }
 {
     let Some(held) = take(handle, alloc) else {
         return Status::Closed.number();
@@ -49,7 +49,7 @@ pub extern "C" fn enc_text(
     size: &mut usize,
 ) -> u32
     ensures kept { handle.new.held ≡ handle.old.held }
-    ensures answer { Copies result buffer.old buffer.new size.old size.new (of_open handle.old.held (λ s. text_in (module_after s) (token_of row) column)) }
+    ensures answer { Copies result buffer.old buffer.new size.old size.new (of_open handle.old.held (λ s. asked_text (module_after s) (token_of row) column)) }
 {
     let Some(held) = take(handle, alloc) else {
         return Status::Closed.number();
@@ -70,7 +70,7 @@ pub extern "C" fn enc_blob(
     size: &mut usize,
 ) -> u32
     ensures kept { handle.new.held ≡ handle.old.held }
-    ensures answer { Copies result buffer.old buffer.new size.old size.new (of_open handle.old.held (λ s. blob_in (module_after s) (token_of row) column)) }
+    ensures answer { Copies result buffer.old buffer.new size.old size.new (of_open handle.old.held (λ s. asked_blob (module_after s) (token_of row) column)) }
 {
     let Some(held) = take(handle, alloc) else {
         return Status::Closed.number();
@@ -91,7 +91,7 @@ pub extern "C" fn enc_guid(
     size: &mut usize,
 ) -> u32
     ensures kept { handle.new.held ≡ handle.old.held }
-    ensures answer { Copies result buffer.old buffer.new size.old size.new (of_open handle.old.held (λ s. guid_in (module_after s) (token_of row) column)) }
+    ensures answer { Copies result buffer.old buffer.new size.old size.new (of_open handle.old.held (λ s. asked_guid (module_after s) (token_of row) column)) }
 {
     let Some(held) = take(handle, alloc) else {
         return Status::Closed.number();
@@ -112,7 +112,7 @@ pub extern "C" fn enc_kids(
     size: &mut usize,
 ) -> u32
     ensures kept { handle.new.held ≡ handle.old.held }
-    ensures answer { CopiesOrStays result buffer.old buffer.new size.old size.new (of_open handle.old.held (λ s. kids_in (module_after s) (token_of row) table)) }
+    ensures answer { CopiesOrStays result buffer.old buffer.new size.old size.new (of_open handle.old.held (λ s. asked_kids (module_after s) (token_of row) table)) }
 {
     let Some(held) = take(handle, alloc) else {
         return Status::Closed.number();
@@ -132,7 +132,7 @@ pub extern "C" fn enc_row(
     size: &mut usize,
 ) -> u32
     ensures kept { handle.new.held ≡ handle.old.held }
-    ensures answer { CopiesOrStays result buffer.old buffer.new size.old size.new (of_open handle.old.held (λ s. row_in s (token_of row))) }
+    ensures answer { CopiesOrStays result buffer.old buffer.new size.old size.new (of_open handle.old.held (λ s. asked_row s (token_of row))) }
 {
     let Some(held) = take(handle, alloc) else {
         return Status::Closed.number();
@@ -152,7 +152,7 @@ pub extern "C" fn enc_points(
     size: &mut usize,
 ) -> u32
     ensures kept { handle.new.held ≡ handle.old.held }
-    ensures answer { CopiesOrStays result buffer.old buffer.new size.old size.new (of_open handle.old.held (λ s. points_in s (token_of method))) }
+    ensures answer { CopiesOrStays result buffer.old buffer.new size.old size.new (of_open handle.old.held (λ s. asked_points s (token_of method))) }
 {
     let Some(held) = take(handle, alloc) else {
         return Status::Closed.number();
@@ -173,7 +173,7 @@ pub extern "C" fn enc_document(
     size: &mut usize,
 ) -> u32
     ensures kept { handle.new.held ≡ handle.old.held }
-    ensures answer { CopiesOrStays result buffer.old buffer.new size.old size.new (of_open handle.old.held (λ s. document_in s (token_of method) number)) }
+    ensures answer { CopiesOrStays result buffer.old buffer.new size.old size.new (of_open handle.old.held (λ s. asked_document s (token_of method) number)) }
 {
     let Some(held) = take(handle, alloc) else {
         return Status::Closed.number();

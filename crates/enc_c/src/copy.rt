@@ -1,8 +1,8 @@
 //! Copying out into a buffer of the caller's.
 ghost use Rattle.std.specs.Prelude.{◌≡◌};
-ghost use Rattle.enc_c.specs.Copied.{IsCopied, Copies};
+ghost use Rattle.enc_c.specs.Copied.{IsCopiedOut, Copies};
 ghost use Rattle.enc_c.specs.Cells.{lent};
-ghost use Rattle.enc_c.specs.Family.{listed};
+ghost use Rattle.enc_c.specs.Family.{items_listed};
 
 use crate::status::Status;
 
@@ -10,7 +10,7 @@ use crate::status::Status;
 /// case.
 #[tactic(auto, unfolding(crate::specs::Copied::copied, crate::specs::Copied::status_of_copy))]
 pub fn copy_out<T: Copy>(items: &[T], buffer: &mut [T], size: &mut usize) -> u32
-    ensures { IsCopied result buffer.old buffer.new size.new items.now }
+    ensures { IsCopiedOut result buffer.old buffer.new size.new items.now }
 {
     *size = items.len();
     if items.len() > buffer.len() {
@@ -46,7 +46,7 @@ pub fn copy_items<T: Copy>(
     buffer: &mut [T],
     size: &mut usize,
 ) -> u32
-    ensures { Copies result buffer.old buffer.new size.old size.new (listed answer) }
+    ensures { Copies result buffer.old buffer.new size.old size.new (items_listed answer) }
 {
     match answer {
         Ok(items) => copy_out(&items, buffer, size),

@@ -8,8 +8,8 @@ ghost use Rattle.enc_ppdb.specs.Seen.{ReadsPdb};
 ghost use Rattle.enc_delta.specs.Judged.{first_meta};
 ghost use Rattle.enc_agg.specs.Seen.{chain_of_all};
 ghost use Rattle.enc_checker.specs.Check.{accepted};
-ghost use Rattle.enc_c.specs.State.{chain_after, begun, with_pdb, opened, followed_by, applied};
-ghost use Rattle.enc_c.specs.Outcomes.{bytes_seen, Reads, Follows};
+ghost use Rattle.enc_c.specs.State.{chain_after, begun_state, state_with_pdb, opened_state, followed_state, applied_state};
+ghost use Rattle.enc_c.specs.Outcomes.{bytes_held, ReadsState, Becomes};
 
 use enc_agg::Aggregate;
 use enc_base::{ReadFault, Steps};
@@ -67,7 +67,7 @@ fn read_pdb(alloc: Global, image: &Image, bytes: Vec<u8>) -> Result<Pdb, ReadFau
 
 /// A base without deltas.
 fn begin(alloc: Global, image: Image, pdb: Option<Pdb>) -> Result<Held, ReadFault>
-    ensures { Reads result (Ok (begun image pdb)) }
+    ensures { ReadsState result (Ok (begun_state image pdb)) }
 {
     let agg = Aggregate::begin(alloc, image)?;
     let debug = PdbChain::begin(alloc, pdb)?;
@@ -76,7 +76,7 @@ fn begin(alloc: Global, image: Image, pdb: Option<Pdb>) -> Result<Held, ReadFaul
 
 /// A base with its PDB, where it has one.
 fn begin_with(alloc: Global, image: Image, pdb: Option<Vec<u8>>) -> Result<Held, ReadFault>
-    ensures { Reads result (with_pdb image (bytes_seen pdb)) }
+    ensures { ReadsState result (state_with_pdb image (bytes_held pdb)) }
 {
     let Some(bytes) = pdb else {
         return begin(alloc, image, None);
@@ -88,9 +88,9 @@ fn begin_with(alloc: Global, image: Image, pdb: Option<Vec<u8>>) -> Result<Held,
 impl Held {
     /// Judges a base and its PDB. `Refused` names the first rule that they break; a base may have no
     /// PDB.
-    #[tactic(auto, unfolding(crate::specs::State::opened))]
+    #[tactic(auto, unfolding(crate::specs::State::opened_state))]
     pub fn open(alloc: Global, bytes: Vec<u8>, pdb: Option<Vec<u8>>) -> Result<Held, ReadFault>
-        ensures { Reads result (opened bytes.items (bytes_seen pdb)) }
+        ensures { ReadsState result (opened_state bytes.items (bytes_held pdb)) }
     {
         let image = Image::read(alloc, bytes)?;
         begin_with(alloc, image, pdb)
@@ -99,7 +99,7 @@ impl Held {
     /// Adds a delta that breaks no rule, with its PDB.
     fn add(&mut self, alloc: Global, checked: Checked) -> Result<(), AllocError>
         requires { first_meta (chain_after self.old) checked.delta ≡ None }
-        ensures added { IfOk result (λ u. self.new ≡ followed_by self.old (accepted checked.delta checked.pdb)) }
+        ensures added { IfOk result (λ u. self.new ≡ followed_state self.old (accepted checked.delta checked.pdb)) }
         ensures kept { OnErr result (self.new ≡ self.old) }
     {
         let Checked { delta, pdb } = checked;
@@ -112,9 +112,9 @@ impl Held {
 
     /// Judges the files of a delta after those before it, and adds it where they break no rule.
     /// `Refused` names the first rule that they break. Where it isn't added, nothing changes.
-    #[tactic(auto, unfolding(crate::specs::State::applied))]
+    #[tactic(auto, unfolding(crate::specs::State::applied_state))]
     pub fn apply(&mut self, alloc: Global, files: Files) -> Result<(), ReadFault>
-        ensures { Follows self.old self.new result (applied self.old files.meta.items files.il.items (bytes_seen files.pdb)) }
+        ensures { Becomes self.old self.new result (applied_state self.old files.meta.items files.il.items (bytes_held files.pdb)) }
     {
         let checked = check(alloc, &self.agg, files)?;
         match self.add(alloc, checked) {

@@ -1,8 +1,8 @@
 //! The calls that open, change and close a handle.
 ghost use Rattle.std.specs.Prelude.{◌≡◌, None, Some, IfOk, OnErr, OnOk, is_some, if◌then◌else◌};
 ghost use Rattle.enc_c.specs.Status.{number_of_status};
-ghost use Rattle.enc_c.specs.State.{given, opened, applied};
-ghost use Rattle.enc_c.specs.Outcomes.{bytes_seen, Reads, TellsFault, ChangesOrStays, Opens, Applies};
+ghost use Rattle.enc_c.specs.State.{given_bytes, opened_state, applied_state};
+ghost use Rattle.enc_c.specs.Outcomes.{bytes_held, ReadsState, TellsFault, ChangesOrStays, Opens, Applies};
 
 use crate::handle::{Handle, put, take};
 use crate::held::Held;
@@ -14,7 +14,7 @@ use std::alloc::{AllocError, Global};
 
 /// The bytes of a file that may be absent: where there are none.
 fn given(alloc: Global, bytes: &[u8]) -> Result<Option<Vec<u8>>, AllocError>
-    ensures { IfOk result (λ o. bytes_seen o ≡ given bytes.now) }
+    ensures { IfOk result (λ o. bytes_held o ≡ given_bytes bytes.now) }
 {
     match bytes {
         [] => Ok(None),
@@ -37,7 +37,7 @@ fn tell_fault(fault: ReadFault, refusal: &mut RefusalNumbers) -> u32
 
 /// Judges a base and its PDB.
 fn read(alloc: Global, bytes: &[u8], pdb: &[u8]) -> Result<Held, ReadFault>
-    ensures { Reads result (opened bytes.now (given pdb.now)) }
+    ensures { ReadsState result (opened_state bytes.now (given_bytes pdb.now)) }
 {
     let bytes = Vec::from_slice(alloc, bytes)?;
     let pdb = given(alloc, pdb)?;
@@ -67,7 +67,7 @@ fn open_closed(
     refusal: &mut RefusalNumbers,
 ) -> u32
     requires { handle.old.held ≡ None }
-    ensures { ChangesOrStays result handle.old.held handle.new.held refusal.old refusal.new (opened bytes.now (given pdb.now)) }
+    ensures { ChangesOrStays result handle.old.held handle.new.held refusal.old refusal.new (opened_state bytes.now (given_bytes pdb.now)) }
 {
     match read(alloc, bytes, pdb) {
         Ok(held) => match hold(alloc, handle, held) {
@@ -87,7 +87,7 @@ pub extern "C" fn enc_open(
     pdb: &[u8],
     refusal: &mut RefusalNumbers,
 ) -> u32
-    ensures { Opens result handle.old.held handle.new.held refusal.old refusal.new (opened bytes.now (given pdb.now)) }
+    ensures { Opens result handle.old.held handle.new.held refusal.old refusal.new (opened_state bytes.now (given_bytes pdb.now)) }
 {
     match take(handle, alloc) {
         Some(held) => {
@@ -102,7 +102,7 @@ pub extern "C" fn enc_open(
 fn files_of(alloc: Global, meta: &[u8], il: &[u8], pdb: &[u8]) -> Result<Files, AllocError>
     ensures meta { IfOk result (λ f. f.meta.items ≡ meta.now) }
     ensures il { IfOk result (λ f. f.il.items ≡ il.now) }
-    ensures pdb { IfOk result (λ f. bytes_seen f.pdb ≡ given pdb.now) }
+    ensures pdb { IfOk result (λ f. bytes_held f.pdb ≡ given_bytes pdb.now) }
 {
     Ok(Files {
         meta: Vec::from_slice(alloc, meta)?,
@@ -120,7 +120,7 @@ fn apply(
     pdb: &[u8],
     refusal: &mut RefusalNumbers,
 ) -> u32
-    ensures { ChangesOrStays result (Some held.old) (Some held.new) refusal.old refusal.new (applied held.old meta.now il.now (given pdb.now)) }
+    ensures { ChangesOrStays result (Some held.old) (Some held.new) refusal.old refusal.new (applied_state held.old meta.now il.now (given_bytes pdb.now)) }
 {
     let Ok(files) = files_of(alloc, meta, il, pdb) else {
         return Status::Memory.number();
@@ -141,7 +141,7 @@ pub extern "C" fn enc_apply(
     pdb: &[u8],
     refusal: &mut RefusalNumbers,
 ) -> u32
-    ensures { Applies result handle.old.held handle.new.held refusal.old refusal.new (λ s. applied s meta.now il.now (given pdb.now)) }
+    ensures { Applies result handle.old.held handle.new.held refusal.old refusal.new (λ s. applied_state s meta.now il.now (given_bytes pdb.now)) }
 {
     let Some(held) = take(handle, alloc) else {
         return Status::Closed.number();

@@ -1,7 +1,7 @@
 //! The sequence points of a method by numbers, over any source of them.
 ghost use Rattle.std.specs.Prelude.{◌≡◌, IfOk, map, take};
 ghost use Rattle.enc_c.specs.Points.{numbers_in, point_numbers, points_numbers, name_told};
-ghost use Rattle.enc_c.specs.Family.{OrMemory, listed};
+ghost use Rattle.enc_c.specs.Family.{OrMemory, items_listed};
 
 use crate::status::Status;
 use enc_base::Token;
@@ -81,7 +81,7 @@ pub fn document_name<P: PointSource>(
     method: Token,
     number: u32,
 ) -> Result<Vec<u8>, Status>
-    ensures { OrMemory (listed result) (name_told (P.documents source.now method number)) }
+    ensures { OrMemory (items_listed result) (name_told (P.documents source.now method number)) }
 {
     let Some(document) = source.document(method, number) else {
         return Err(Status::Absent);

@@ -1,8 +1,8 @@
 //! A refusal by numbers, as C sees it, and its words.
 ghost use Rattle.std.specs.Prelude.{◌≡◌, ◌∷◌, [], option_map, Some, IfOk, drop, MatchResult, IsTrue, is_some};
 ghost use Rattle.enc_text.specs.Text.{refused_line as line_of_refusal};
-ghost use Rattle.enc_c.specs.Refusals.{letter_of, rule_of, number_of_stream, numbers_at, numbers_of, placed, code_by, stream_by, place_by, refusal_by, words_of, words_by};
-ghost use Rattle.enc_c.specs.Family.{OrMemory, listed};
+ghost use Rattle.enc_c.specs.Refusals.{letter_of, rule_of, number_of_stream, numbers_at, numbers_of, placed_numbers, code_by, stream_by, place_by, refusal_by, words_of, words_by};
+ghost use Rattle.enc_c.specs.Family.{OrMemory, items_listed};
 
 use crate::status::Status;
 use enc_base::{Code, Place, Refusal, StreamName, Token};
@@ -77,7 +77,7 @@ pub fn stream_by(number: u32) -> Option<StreamName>
 
 /// A place of these numbers.
 fn placed(code: Code, place: u8, stream: u8, token: Token, column: u8, entry: u32) -> RefusalNumbers
-    ensures { result ≡ placed code place stream token.table column token.row entry }
+    ensures { result ≡ placed_numbers code place stream token.table column token.row entry }
 {
     RefusalNumbers {
         letter: letter_of(code),
@@ -93,7 +93,7 @@ fn placed(code: Code, place: u8, stream: u8, token: Token, column: u8, entry: u3
 
 /// A place without numbers.
 fn bare(code: Code, place: u8) -> RefusalNumbers
-    ensures { result ≡ placed code place 0 0 0 0 0 }
+    ensures { result ≡ placed_numbers code place 0 0 0 0 0 }
 {
     placed(code, place, 0, Token { table: 0, row: 0 }, 0, 0)
 }
@@ -189,7 +189,7 @@ fn behind(alloc: Global, line: &[u8]) -> Result<Vec<u8>, AllocError>
 
 /// The words of the refusal that numbers say.
 pub fn words_by(alloc: Global, numbers: RefusalNumbers) -> Result<Vec<u8>, Status>
-    ensures { OrMemory (listed result) (words_by numbers) }
+    ensures { OrMemory (items_listed result) (words_by numbers) }
 {
     let Some(refusal) = refusal_by(numbers) else {
         return Err(Status::Unlike);

@@ -1,6 +1,6 @@
 //! What a call comes to.
 ghost use Rattle.std.specs.Prelude.{◌≡◌, Result};
-ghost use Rattle.enc_c.specs.Status.{number_of_status, Tells};
+ghost use Rattle.enc_c.specs.Status.{number_of_status, TellsValue};
 
 /// The status of a call. Those that the program has too have its numbers.
 #[derive(Clone, Copy, Debug, PartialEq, Eq)]
@@ -46,7 +46,7 @@ impl Status {
 
 /// Tells a value, or why there is none.
 pub fn tell<T: Copy>(answer: Result<T, Status>, told: &mut T) -> u32
-    ensures { Tells result told.old told.new answer }
+    ensures { TellsValue result told.old told.new answer }
 {
     match answer {
         Ok(value) => {

@@ -1,4 +1,4 @@
-use Rattle.std.proofs.Common.{◌≡◌, ◌++◌, [], ◌∷◌, ◌∙◌, sym, ap, List, map, take}
+use Rattle.std.proofs.Common.{◌++◌, [], ◌∷◌, ◌∙◌, sym, ap, List, map, take}
 use Rattle.enc_c.specs.Points.{point_numbers}
 use Rattle.enc_c.specs.declared.points.PointNumbers.{PointNumbers}
 use Rattle.enc_c.proofs.Items.{one_more}

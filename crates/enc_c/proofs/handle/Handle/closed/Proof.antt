@@ -1,5 +1,5 @@
 -- `closed` makes a null pointer, which owns nothing.
-use Rattle.std.proofs.Common.{◌≡◌, List, [], ◌∷◌, refl, lit<}
+use Rattle.std.proofs.Common.{◌≡◌, [], ◌∷◌, refl, lit<}
 use mir.Val.{Val, vint}
 use mir.Syntax.{w64}
 use base.Logic.{SProp, emp}
@@ -17,7 +17,7 @@ use denote.Steps.{nothing}
 use denote.Triple.Walked.{Stays, walk_of}
 use Rattle.std.specs.Prelude.{None}
 use Rattle.std.proofs.raw_atomic.Walks.{proved_at, leaves}
-use Rattle.enc_c.proofs.Handles.{Handle, single, handle_in}
+use Rattle.enc_c.proofs.Handles.{single, handle_in}
 use Rattle.enc_c.specs.contracts.handle.Handle.closed as f
 use Rattle.enc_c.proofs.handle.Handle.closed.Statement.{statement}
 use Rattle.enc_c.proofs.handle.Handle.closed.Code as code

@@ -1,11 +1,11 @@
 -- `into_loose` tests the pointer: a closed handle owns nothing, and an open one a value.
-use Rattle.std.proofs.Common.{◌≡◌, ℕ, List, [], ◌∷◌, ◌++◌, refl, sym, ap, ◌∙◌, subst, lit<}
+use Rattle.std.proofs.Common.{◌≡◌, List, [], ◌∷◌, ◌++◌, refl, sym, ap, ◌∙◌, subst, lit<}
 use mir.Syntax.{w64}
 use mir.Val.{Val, vint, vptr, vcons, vnil}
 use base.Logic.{SProp, ent, emp, id⊢}
-use base.Fml.{ftrue, fsep}
+use base.Fml.{ftrue}
 use prog.Wp.{WpFn}
-use types.Kit.{‵, raw, ◌⊛◌, at_ret, ◌$◌, ◌∵◌, !, qed, by, move, keep, drop, split, fsplit3, fjoin, use0, use1, suffices}
+use types.Kit.{‵, raw, ◌⊛◌, at_ret, ◌$◌, ◌∵◌, !, qed, by, move, keep, split, fsplit3, fjoin, use0, use1, suffices}
 use types.Run.{stop, fld, lit, of_opd, bin, no_more, and_then, first, branches, exec, returns, enter}
 use types.ByLocal.{alloc_all, pass_all, free_all, look_at, get, get_in, sets, sets_last, env}
 use types.Part.{agg, sub, whole}
@@ -16,7 +16,7 @@ use denote.Exit.{yes}
 use denote.Param.{layout}
 use denote.RattleType.{RattleType, owns}
 use denote.Signature.{types_at, type_at, plain}
-use denote.RawPtr.{Ptr, block_ptr, null_ptr, ptr_val, tests_null}
+use denote.RawPtr.{Ptr, block_ptr, ptr_val, tests_null}
 use denote.Steps.{nothing}
 use denote.Triple.Walked.{Stays, stay_dropped, walk_of, Goes-dropped}
 use Rattle.std.specs.Prelude.{Some, None}
@@ -30,7 +30,7 @@ use Rattle.std.proofs.option.Made.{Some-of, none_of}
 use Rattle.std.proofs.ResultValues.{and_tt}
 use Rattle.std.proofs.raw_atomic.Walks.{proved_at, leaves}
 use Rattle.enc_c.proofs.Boxes.{both, al, Loose, loose_good, loose_in}
-use Rattle.enc_c.proofs.Handles.{R, Handle, single, boxed, handle_out, either_held}
+use Rattle.enc_c.proofs.Handles.{R, Handle, single, handle_out, either_held}
 use Rattle.enc_c.specs.contracts.handle.Handle.into_loose as f
 use Rattle.enc_c.proofs.handle.Handle.into_loose.Statement.{statement}
 use Rattle.enc_c.proofs.handle.Handle.into_loose.Code as code
