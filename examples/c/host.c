@@ -1,13 +1,10 @@
 /* A hot reload host: it opens a base, takes the deltas 1, 2, .. from its folder, and says what each changed, or why one is refused.
- * With a number of rounds it opens, is refused and closes so often, and says nothing but a wrong status. */
+ * With a number of rounds it opens, is refused and closes so often, and says nothing but a wrong status. Usage: host FOLDER BASE [ROUNDS] */
 #include <stdio.h>
 #include <stdlib.h>
 #include "enc.h"
 
-typedef struct {
-    uint8_t *at;
-    size_t length;
-} file;
+typedef struct { uint8_t *at; size_t length; } file;
 
 /* The bytes of a file; none where it isn't there. */
 static file load(const char *folder, const char *name, const char *ending) {
@@ -25,11 +22,12 @@ static file load(const char *folder, const char *name, const char *ending) {
     return f;
 }
 
-/* A line of a refusal, as the program prints it. */
-static void say_refusal(const char *name, const enc_refusal *refusal) {
+/* A line of a refusal, as the program prints it: rules 12 of bases and 22 of deltas are those of PDBs. */
+static void say_refusal(const char *name, const char *ending, const enc_refusal *refusal) {
     uint8_t words[256];
     size_t size = 0;
-    if (enc_words(refusal, words, sizeof words, &size) == ENC_DONE) printf("refused %s %.*s", name, (int)size, (const char *)words);
+    if (refusal->rule == (refusal->letter == 'F' ? 12 : 22)) ending = "pdb";
+    if (enc_words(refusal, words, sizeof words, &size) == ENC_DONE) printf("refused %s.%s %.*s", name, ending, (int)size, (const char *)words);
 }
 
 /* The rows whose newest place is this generation, as they are now. */
@@ -58,7 +56,7 @@ static uint32_t apply(enc_handle *module, const file *d, enc_refusal *refusal) {
 /* One round: a base cut short is refused, and so is a delta cut short, which changes nothing; a handle is closed once. */
 static int round_of(file base, file pdb, const file *d) {
     enc_handle module = NULL;
-    enc_refusal refusal;
+    enc_refusal refusal = {0};
     uint32_t before = 0, after = 0;
     file cut[3] = {{d[0].at, d[0].length / 2}, d[1], d[2]};
     return enc_open(&module, base.at, base.length / 2, pdb.at, pdb.length, &refusal) == ENC_REFUSED && module == NULL
@@ -73,12 +71,12 @@ static int round_of(file base, file pdb, const file *d) {
 int main(int count, char **words) {
     if (count < 3) return 2;
     const char *folder = words[1], *name = words[2];
-    int rounds = count > 3 ? atoi(words[3]) : 0;
-    file base = load(folder, name, "dll"), pdb = load(folder, name, "pdb");
+    const int rounds = count > 3 ? atoi(words[3]) : 0;
+    const file base = load(folder, name, "dll"), pdb = load(folder, name, "pdb");
     enc_handle module = NULL;
     enc_refusal refusal;
     uint32_t status = enc_open(&module, base.at, base.length, pdb.at, pdb.length, &refusal);
-    if (status == ENC_REFUSED) say_refusal(name, &refusal);
+    if (status == ENC_REFUSED) say_refusal(name, "dll", &refusal);
     for (uint32_t n = 1; status == ENC_DONE; n++) {
         char next[16];
         snprintf(next, sizeof next, "%u", n);
@@ -88,7 +86,7 @@ int main(int count, char **words) {
         if (d[0].at != NULL && rounds == 0) {
             status = apply(&module, d, &refusal);
             if (status == ENC_DONE) say_changed(&module, n);
-            if (status == ENC_REFUSED) say_refusal(next, &refusal);
+            if (status == ENC_REFUSED) say_refusal(next, "meta", &refusal);
         }
         for (int i = 0; i < 3; i++) free(d[i].at);
         if (d[0].at == NULL || rounds > 0) break;

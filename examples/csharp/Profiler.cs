@@ -80,7 +80,7 @@ static class Profiler
         for (int i = 1; i < files.Length; i++)
         {
             byte[] metadata = File.ReadAllBytes(files[i] + ".meta"), il = File.ReadAllBytes(files[i] + ".il");
-            Must(Enc.Apply(ref module, metadata, Length(metadata), il, Length(il), null, UIntPtr.Zero, ref refusal), files[i], refusal);
+            Must(Enc.Apply(ref module, metadata, Length(metadata), il, Length(il), null, UIntPtr.Zero, ref refusal), files[i] + ".meta", refusal);
         }
         uint count = 0, owner = 0;
         Enc.Count(ref module, 6, ref count);

@@ -1,4 +1,4 @@
--- The machine values of a `Loose` and of a `OnceBox`. Assumes `Logic`.
+-- The machine value of a `Loose`, a pointer and an allocator, and what it owns. Assumes `Logic`.
 use Rattle.std.proofs.Common.{◌≡◌, ℕ, List, [], ◌∷◌, ◌++◌, refl, subst}
 use mathlib.Core.Bool.{Bool, true, false, ◌&&◌}
 use lib.Dec.{T}
@@ -25,13 +25,9 @@ use Rattle.std.specs.Box.Ownership.{box_owns}
 use Rattle.std.proofs.ResultValues.{and_tt}
 use Rattle.enc_c.specs.contracts.loose.Loose as loose
 
+-- two values of a struct
 abbrev pub both : Val → Val → Val
 both v w = vstruct (vcons v (vcons w vnil))
-
-pub both_tt : (x y : Bool) → T x → T y → T (x && (y && true))
-both_tt true true s t = tt
-both_tt true false s t = absurd t
-both_tt false y s t = absurd s
 
 module _ (R Z : RattleType) (L : Laws Z) (g : Ghosts Z.Denot) where
   abbrev pub Loose : RattleType
