@@ -24,7 +24,7 @@ impl Model for Handle {
 
 impl Handle {
     /// A closed handle.
-    fn closed() -> Handle
+    pub fn closed() -> Handle
         ensures { result.held ≡ None }
     {
         Handle { at: null_mut() }
@@ -39,7 +39,7 @@ impl Handle {
     }
 
     /// What the handle holds; None where it is closed.
-    fn into_loose(self, alloc: Global) -> Option<Loose<Held, Global>>
+    pub fn into_loose(self, alloc: Global) -> Option<Loose<Held, Global>>
         ensures { MatchOption result (self.held ≡ None) (λ l. self.held ≡ Some l.value) }
     {
         let Handle { at } = self;

@@ -19,3 +19,6 @@ mod refusal;
 mod status;
 
 pub use laws::{numbers_law, points_law};
+
+#[cfg(test)]
+mod tests;
