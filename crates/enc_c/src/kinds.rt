@@ -8,7 +8,7 @@ use enc_schema::tables::{FIELD_RVA, METHOD_DEF};
 use enc_schema::{Column, column_of};
 
 /// The kinds of cells.
-#[derive(Clone, Copy, Debug, PartialEq, Eq)]
+#[derive(Clone, Copy)]
 pub enum CellKind {
     Numbers,
     Texts,

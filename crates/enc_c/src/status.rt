@@ -3,7 +3,7 @@ ghost use Rattle.std.specs.Prelude.{◌≡◌, Result};
 ghost use Rattle.enc_c.specs.Status.{number_of_status, TellsValue};
 
 /// The status of a call. Those that the program has too have its numbers.
-#[derive(Clone, Copy, Debug, PartialEq, Eq)]
+#[derive(Clone, Copy)]
 pub enum Status {
     /// All is done.
     Done,
