@@ -1,0 +1,6 @@
+-- The lemmas of this crate.
+pub mod RefusalNumbers
+pub mod Items
+pub mod Boxes
+pub mod Handles
+pub mod TokensFit

@@ -1,0 +1,13 @@
+pub mod Status
+pub mod Copied
+pub mod Kinds
+pub mod Cells
+pub mod Refusals
+pub mod Family
+pub mod Code
+pub mod Points
+pub mod State
+pub mod Handle
+pub mod Outcomes
+pub mod Asked
+pub mod Opened

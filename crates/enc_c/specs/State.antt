@@ -1,0 +1,74 @@
+-- What an open handle means: a base, the deltas that follow it, and what their PDBs say.
+use Rattle.std.specs.Prelude.{ℕ, List, [], ◌∷◌, length, Option, Some, None, Result, Ok, Err}
+use Rattle.enc_base.specs.declared.refusal.Refusal.{Refusal}
+use Rattle.enc_schema.specs.Tables as tables
+use Rattle.enc_rows.specs.Source.{Source}
+use Rattle.enc_plain.specs.Module.{Module, rows_in}
+use Rattle.enc_plain.specs.Chain.{Chain}
+use Rattle.enc_plain.specs.Debug.{PlainPdb}
+use Rattle.enc_image.specs.Base.{base_of, chain_of_base}
+use Rattle.enc_delta.specs.Delta.{delta_of}
+use Rattle.enc_agg.specs.Extend.{chain_with}
+use Rattle.enc_ppdb.specs.Fault.{pdb_of}
+use Rattle.enc_ppdb.specs.PdbChain.{DebugDelta, pdb_with}
+use Rattle.enc_checker.specs.Check.{Accepted, judged, new_bodies}
+
+-- a base and its PDB, where it has one, and the deltas with what they say of methods, the newest first
+pub record State : Type 0 where
+  pub base : Source
+  pub deltas : List Source
+  pub pdb : Option Source
+  pub debugs : List DebugDelta
+
+-- the chain, the plain module and the plain PDB after all deltas
+abbrev pub chain_after : State → Chain
+chain_after s = chain_with s.base s.deltas
+
+abbrev pub module_after : State → Module
+module_after s = (chain_after s).plain
+
+abbrev pub pdb_after : State → PlainPdb
+pdb_after s = pdb_with s.pdb s.debugs
+
+-- bytes that may be absent: where there are none
+abbrev pub given_bytes : List ℕ → Option (List ℕ)
+given_bytes [] = None
+given_bytes (b ∷ bytes) = Some (b ∷ bytes)
+
+-- a base without deltas
+abbrev pub begun_state : Source → Option Source → State
+begun_state base pdb = record { base = base; deltas = []; pdb = pdb; debugs = [] }
+
+abbrev pub begun_state_with : Source → Result Source Refusal → Result State Refusal
+begun_state_with base (Ok pdb) = Ok (begun_state base (Some pdb))
+begun_state_with base (Err e) = Err e
+
+-- a base with its PDB, which is read with as many methods as the base has
+abbrev pub state_with_pdb : Source → Option (List ℕ) → Result State Refusal
+state_with_pdb base None = Ok (begun_state base None)
+state_with_pdb base (Some bytes) = begun_state_with base (pdb_of bytes (length (rows_in (chain_of_base base).plain tables.method_def)))
+
+abbrev pub opened_state_with : Result Source Refusal → Option (List ℕ) → Result State Refusal
+opened_state_with (Ok base) pdb = state_with_pdb base pdb
+opened_state_with (Err e) pdb = Err e
+
+-- what the files of a base come to
+unfoldable pub opened_state : List ℕ → Option (List ℕ) → Result State Refusal
+opened_state bytes pdb = opened_state_with (base_of bytes) pdb
+
+-- with a delta that is accepted
+abbrev pub followed_state : State → Accepted → State
+followed_state s a = record {
+  base = s.base;
+  deltas = a.delta ∷ s.deltas;
+  pdb = s.pdb;
+  debugs = (record { pdb = a.pdb; changed = new_bodies a.delta }) ∷ s.debugs;
+}
+
+abbrev pub followed_state_if : State → Result Accepted Refusal → Result State Refusal
+followed_state_if s (Ok a) = Ok (followed_state s a)
+followed_state_if s (Err e) = Err e
+
+-- what the files of a delta come to, after those before it
+unfoldable pub applied_state : State → List ℕ → List ℕ → Option (List ℕ) → Result State Refusal
+applied_state s meta il pdb = followed_state_if s (judged (chain_after s) (delta_of meta il) pdb)

@@ -1,0 +1,24 @@
+//! The toolkit as a C library: modules behind handles, and what is asked of them.
+#![tactic(auto)]
+
+mod asked;
+mod calls;
+mod cells;
+mod code;
+mod copies;
+mod copy;
+mod family;
+mod handle;
+mod held;
+mod kinds;
+mod laws;
+mod loose;
+mod open;
+mod points;
+mod refusal;
+mod status;
+
+pub use laws::{numbers_law, points_law};
+
+#[cfg(test)]
+mod tests;
