@@ -1,6 +1,7 @@
 use enc_agg::Aggregate;
+use enc_base::ReadFault;
 use enc_image::Image;
-use enc_jobs::read_edits;
+use enc_jobs::{JobFault, read_edits};
 use enc_rules::first_broken;
 use std::alloc::{AllocError, Global};
 use std::process::Abort;
@@ -59,6 +60,7 @@ fn base_with(rt: &impl Abort, alloc: Global, users: u32) -> Result<Aggregate, Al
     bytes.extend_from_slice(&zeros)?;
     match Image::read(alloc, bytes) {
         Ok(image) => Aggregate::begin(alloc, image),
+        Err(ReadFault::Memory) => Err(AllocError),
         Err(_) => panic!(rt; "no base"),
     }
 }
@@ -73,6 +75,7 @@ fn broken_by(
     base.sound();
     match read_edits(alloc, text.as_bytes()) {
         Ok(list) => first_broken(alloc, base, &list),
+        Err(JobFault::Memory) => Err(AllocError),
         Err(_) => panic!(rt; "not read: {text}"),
     }
 }
