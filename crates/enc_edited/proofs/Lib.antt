@@ -1,2 +1,6 @@
 pub mod Begun
 pub mod NumberedCells
+pub mod Split
+pub mod Fitted
+pub mod Landed
+pub mod Tallied

@@ -2,5 +2,3 @@ pub mod Edited
 pub mod Listed
 pub mod Rules
 pub mod First
-pub mod Known
-pub mod Sooner

@@ -1,0 +1,21 @@
+-- Edits that break no rule of their own leave a sound module sound.
+use Rattle.std.specs.Prelude.{◌≡◌, ℕ, true, false}
+use Rattle.enc_plain.specs.Chain.{Chain}
+use Rattle.enc_plain.specs.Sound.{IsSound}
+use Rattle.enc_edits.specs.declared.edit.EditList.{EditList}
+use Rattle.enc_edits.specs.Form.{list_fits}
+use Rattle.enc_rules.specs.Edited.{edited}
+use Rattle.enc_rules.specs.Rules.{there_are_too_many, row_is_edited_twice, owner_is_missing, table_is_closed, token_is_missing, body_is_broken, signature_is_bad, locals_are_bad}
+
+-- no edit breaks a rule that speaks of what its row says
+pub record BreakNothing (c : Chain) (l : EditList) : Type 0 where
+  pub rows : (k : ℕ) → row_is_edited_twice c l k ≡ false
+  pub owners : (k : ℕ) → owner_is_missing c l k ≡ false
+  pub tables : (k : ℕ) → table_is_closed c l k ≡ false
+  pub tokens : (k : ℕ) → token_is_missing c l k ≡ false
+  pub bodies : (k : ℕ) → body_is_broken c l k ≡ false
+  pub signatures : (k : ℕ) → signature_is_bad c l k ≡ false
+  pub locals : (k : ℕ) → locals_are_bad c l k ≡ false
+
+abbrev pub EditsKeepSound : Type 0
+EditsKeepSound = (c : Chain) (l : EditList) → list_fits l ≡ true → there_are_too_many c l ≡ false → BreakNothing c l → IsSound c.plain → IsSound (edited c.plain l.edits)
