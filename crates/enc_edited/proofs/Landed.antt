@@ -128,7 +128,7 @@ differ xs j k e f t a b p q is = absurd (contra (xs))
     contra : List Edit → ⊥
     contra ys = let g : Some e ≡ Some f = sym a ∙ (rw is b) in let h : e ≡ f = cc in let n : adds_to t f ≡ true = rw (← h) p in absurd cc
 
-no_rows : (t : ℕ) → rows_added [] t ≡ 0
+pub no_rows : (t : ℕ) → rows_added [] t ≡ 0
 unfolding rows_added adding
 no_rows t = refl
 

@@ -4,3 +4,4 @@ pub mod Split
 pub mod Fitted
 pub mod Landed
 pub mod Tallied
+pub mod Changed

@@ -1,4 +1,4 @@
-use Rattle.enc_edited.proofs.Tallied.{fits_from, tally_from}
+use Rattle.enc_edited.proofs.Changed.{row_is, counts_after, tables_after}
 use Rattle.enc_edited.proofs.laws.edits_keep_sound_law.Goals as goal
 
 pub returns : goal.returns
