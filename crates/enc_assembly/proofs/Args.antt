@@ -103,7 +103,7 @@ reads offset front rest at end operand.I32 (arg.Num n) long ends fits reach smal
     let b = bits_32 n fits in
     rw (word_between front rest (cast_unsigned w32 n) at long b.0, b.1, ends) refl
 reads offset front rest at end operand.I64 (arg.Num n) long ends fits reach small few =
-    let b = bits_64 n small in
+    let b = bits_64 n fits in
     rw (quad_between front rest (cast_unsigned w64 n) at long b.0, b.1, ends) refl
 reads offset front rest at end operand.R4 (arg.Raw bytes) long ends fits reach small few =
     let many : length bytes ≡ 4 = grind (arith, nat_tests, fits) in

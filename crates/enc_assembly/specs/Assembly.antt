@@ -13,7 +13,7 @@ use Rattle.enc_opcodes.specs.Sound.{instruction_size}
 use Rattle.enc_edits.specs.declared.body.ArgValue.{ArgValue}
 use Rattle.enc_edits.specs.declared.body.ArgValue.TheVariants as arg
 use Rattle.enc_edits.specs.declared.body.InstrValue.{InstrValue}
-use Rattle.enc_edits.specs.Form.{lies_in, instr_fits}
+use Rattle.enc_edits.specs.Form.{instr_fits}
 use Rattle.enc_edits.specs.Sizes.{instr_meant, length_of_code}
 use Rattle.enc_edits.specs.Reach.{branches_reach}
 
@@ -71,12 +71,12 @@ unfoldable pub placed_named : (List ℕ → ℕ) → ℕ → List InstrValue →
 placed_named offset at [] = []
 placed_named offset at (i ∷ rest) = (at, instr_named offset i) ∷ placed_named offset (at + instruction_size (instr_meant i)) rest
 
--- the numbers of an argument fit the bytes that they have: whole numbers eight, targets lie below 2^31, as far as a signed distance reaches, tokens have a table and three bytes for the row, offsets of user texts three
+-- the numbers of an argument fit the bytes that they have: targets lie below 2^31, as far as a signed distance reaches, tokens have a table and three bytes for the row, offsets of user texts three
 abbrev pub token_is_small : Token → Bool
 token_is_small t = nat_lt t.table 0x100 && nat_lt t.row 0x1000000
 
 abbrev pub arg_is_small : (List ℕ → ℕ) → ArgValue → Bool
-arg_is_small offset (arg.Num n) = lies_in n (2 ^ 63) (2 ^ 63 - 1)
+arg_is_small offset (arg.Num n) = true
 arg_is_small offset (arg.Target t) = nat_lt t (2 ^ 31)
 arg_is_small offset (arg.Targets ts) = nat_lt (length ts) (2 ^ 29) && list_all (λ t. nat_lt t (2 ^ 31)) ts
 arg_is_small offset (arg.Token t) = token_is_small t

@@ -40,7 +40,7 @@ stated_columns table = filter is_stated (drop (if begins_with_rva table then 1 e
 abbrev pub cell_fits : Column → CellValue → Bool
 cell_fits Num8 (cell.Num n) = nat_lt n 0x100
 cell_fits Num16 (cell.Num n) = nat_lt n 0x10000
-cell_fits Num32 (cell.Num n) = true
+cell_fits Num32 (cell.Num n) = nat_lt n 0x100000000
 cell_fits Text (cell.Text t) = not (list_any (λ b. b == 0) t)
 cell_fits Blob (cell.Blob b) = true
 cell_fits Guid (cell.Guid g) = true
@@ -66,7 +66,7 @@ arg_fits operand.I8 (arg.Num n) = lies_in n 0x80 0x7F
 arg_fits operand.U8 (arg.Num n) = lies_in n 0 0xFF
 arg_fits operand.U16 (arg.Num n) = lies_in n 0 0xFFFF
 arg_fits operand.I32 (arg.Num n) = lies_in n 0x80000000 0x7FFFFFFF
-arg_fits operand.I64 (arg.Num n) = true
+arg_fits operand.I64 (arg.Num n) = lies_in n 0x8000000000000000 0x7FFFFFFFFFFFFFFF
 arg_fits operand.R4 (arg.Raw bytes) = length bytes == 4
 arg_fits operand.R8 (arg.Raw bytes) = length bytes == 8
 arg_fits operand.Branch8 (arg.Target t) = true

@@ -34,7 +34,7 @@ pub cell_has : (c : Column) (d : Data) (v : CellValue) → cell_said c d ≡ Som
 unfolding cell_said text_cell_said
 cell_has Num8 d v h = let w = number_cell 0xFF d v h in rw (← w.1) w.2
 cell_has Num16 d v h = let w = number_cell 0xFFFF d v h in rw (← w.1) w.2
-cell_has Num32 d v h = let w = map_some cell.Num (word_said d) v h in rw (← w.2) refl
+cell_has Num32 d v h = let w = number_cell 0xFFFFFFFF d v h in rw (← w.1) w.2
 cell_has Text d v h =
     let t = then_some (as_str d) _ v h in
     let w = unless_some (list_any (λ b. b == 0) t.0) (Some (cell.Text t.0)) v t.2 in

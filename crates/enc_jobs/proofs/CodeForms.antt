@@ -55,7 +55,7 @@ operand_has operand.I8 d a h = let w = whole_has 0x80 0x7F d a h in rw (← w.2)
 operand_has operand.U8 d a h = let w = whole_has 0 0xFF d a h in rw (← w.2) w.1
 operand_has operand.U16 d a h = let w = whole_has 0 0xFFFF d a h in rw (← w.2) w.1
 operand_has operand.I32 d a h = let w = whole_has 0x80000000 0x7FFFFFFF d a h in rw (← w.2) w.1
-operand_has operand.I64 d a h = let w = whole_has 0x8000000000000000 0x7FFFFFFFFFFFFFFF d a h in rw (← w.2) refl
+operand_has operand.I64 d a h = let w = whole_has 0x8000000000000000 0x7FFFFFFFFFFFFFFF d a h in rw (← w.2) w.1
 operand_has operand.R4 d a h = let w = raw_has 4 d a h in rw (← w.2) w.1
 operand_has operand.R8 d a h = let w = raw_has 8 d a h in rw (← w.2) w.1
 operand_has operand.Branch8 d a h = let w = map_some arg.Target (word_said d) a h in rw (← w.2) refl
