@@ -5,3 +5,5 @@ pub mod Fitted
 pub mod Landed
 pub mod Tallied
 pub mod Changed
+pub mod Stated
+pub mod AddedRow
