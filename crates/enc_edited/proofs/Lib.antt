@@ -7,3 +7,4 @@ pub mod Tallied
 pub mod Changed
 pub mod Stated
 pub mod AddedRow
+pub mod Agreed

@@ -1,5 +1,5 @@
 -- An edit among others: what its place is, and what its row is.
-use Rattle.std.proofs.Common.{◌≡◌, ℕ, zero, suc, ◌+◌, Bool, true, false, List, [], ◌∷◌, ◌++◌, length, take, drop, Option, Some, None, refl, sym, ap, ◌∙◌, arith, append_assoc}
+use Rattle.std.proofs.Common.{◌≡◌, ℕ, zero, suc, ◌+◌, ◌<◌, Bool, true, false, List, [], ◌∷◌, ◌++◌, length, take, drop, Option, Some, None, refl, sym, ap, ◌∙◌, arith, append_assoc}
 use Rattle.std.specs.Prelude.{slice_get, filter, if◌then◌else◌, ◌==◌}
 use Rattle.std.proofs.lemmas.List.{append-nil, length-append}
 use Rattle.enc_base.specs.declared.token.Token.{Token}
@@ -62,3 +62,9 @@ one_if false x = refl
 pub added_more : (before : List Edit) (e : Edit) (t : ℕ) → rows_added (before ++ e ∷ []) t ≡ rows_added before t + (if adds_to t e then 1 else 0)
 unfolding rows_added adding
 added_more before e t = rw (filter_append (adds_to t) before (e ∷ []), length-append (filter (adds_to t) before) (filter (adds_to t) (e ∷ [])), one_if (adds_to t e) e) refl
+
+-- an item that is there stands within the list
+pub few_of : (xs : List Edit) (i : ℕ) (e : Edit) → slice_get xs i ≡ Some e → i < length xs
+few_of [] i e h = absurd cc
+few_of (x ∷ xs) zero e h = omega arith
+few_of (x ∷ xs) (suc i) e h = let w = few_of xs i e h in omega (arith, w)
