@@ -8,3 +8,4 @@ pub mod Changed
 pub mod Stated
 pub mod AddedRow
 pub mod Agreed
+pub mod CellCases
