@@ -101,7 +101,7 @@ pub record HasValue (count : ℕ → ℕ) (table i : ℕ) (column : Column) (all
   pub value : CellValue
   pub there : slice_get all i ≡ Some (cell_stated value)
   pub fits : Rattle.enc_edits.specs.Form.cell_fits column value ≡ true
-  pub unbroken : Rattle.enc_rules.specs.Rules.cell_breaks count column value ≡ false
+  pub unbroken : Rattle.enc_rules.specs.Rules.value_breaks count column value ≡ false
   pub short : blob_is_short value ≡ true
 
 mapped : (vs : List CellValue) (i : ℕ) (v : CellValue) → slice_get vs i ≡ Some v → slice_get (map cell_stated vs) i ≡ Some (cell_stated v)

@@ -18,7 +18,7 @@ use Rattle.enc_edits.specs.declared.edit.Edit.{Edit}
 use Rattle.enc_edits.specs.declared.edit.Edit.TheVariants.{Add, Body as Replace}
 use Rattle.enc_edits.specs.declared.edit.EditList.{EditList}
 use Rattle.enc_edits.specs.Added.{adds_to, adding, rows_added}
-use Rattle.enc_rules.specs.Edited.{row_edited, rows_behind, rows_edited, cells_edited, with_body, changes_behind, edited}
+use Rattle.enc_rules.specs.Edited.{row_edited, rows_behind, rows_edited, cells_edited, cells_with, changes_behind, edited}
 use Rattle.enc_rules.specs.Listed.{count_after, edit_of, cells_added, rows_listed}
 use Rattle.enc_edited.specs.Kept.{BreakNothing}
 use Rattle.enc_edited.proofs.Split.{seam, row_there, adding_append, few_of}
@@ -113,11 +113,11 @@ none_of c l u (Some e) is none = absurd (adds (nat_lt (rows_before c u.table) u.
 abbrev AgreeAt : ℕ → ℕ → Option (List Cell) → Option (List Cell) → Type 0
 AgreeAt table i new old = is_body table i ≡ false → option_and_then (λ (cells : List Cell). slice_get cells i) new ≡ option_and_then (λ (cells : List Cell). slice_get cells i) old
 
-behind_body : (i : ℕ) (b : _) (cells : List Cell) → slice_get (with_body b cells) (suc i) ≡ slice_get cells (suc i)
+behind_body : (i : ℕ) (b : _) (cells : List Cell) → slice_get (cells_with b cells) (suc i) ≡ slice_get cells (suc i)
 behind_body i b [] = refl
 behind_body i b (x ∷ cells) = refl
 
-with_old : (i : ℕ) (b : _) (old : Option (List Cell)) → AgreeAt 6 i (Some (with_body b (unwrap_or old []))) old
+with_old : (i : ℕ) (b : _) (old : Option (List Cell)) → AgreeAt 6 i (Some (cells_with b (unwrap_or old []))) old
 with_old zero b old h = absurd (false≢true (sym h))
 with_old (suc i) b None h = refl
 with_old (suc i) b (Some cells) h = behind_body i b cells

@@ -19,9 +19,9 @@ use Rattle.enc_edits.specs.declared.edit.Edit.{Edit}
 use Rattle.enc_edits.specs.declared.edit.Edit.TheVariants.{Add, Body as Replace}
 use Rattle.enc_edits.specs.declared.edit.EditList.{EditList}
 use Rattle.enc_edits.specs.Form.{cell_fits, list_fits}
-use Rattle.enc_rules.specs.Edited.{row_edited, rows_edited, cell_stated, body_stated, cells_stated, cells_edited, with_body, edited}
+use Rattle.enc_rules.specs.Edited.{row_edited, rows_edited, cell_stated, body_stated, cells_stated, cells_edited, cells_with, edited}
 use Rattle.enc_rules.specs.Listed.{count_after, body_given}
-use Rattle.enc_rules.specs.Rules.{cell_breaks}
+use Rattle.enc_rules.specs.Rules.{value_breaks}
 use Rattle.enc_edited.specs.Kept.{BreakNothing, blob_is_short}
 use Rattle.enc_edited.proofs.Landed.{lands}
 use Rattle.enc_edited.proofs.Changed.{IsEditOf, IsRow, changed, kept, row_is}
@@ -37,7 +37,7 @@ pub record GivesBody (c : Chain) (l : EditList) (u : Token) (b : Option BodyValu
   pub given : body_given edit ≡ b
 
 pub data CellCase (c : Chain) (l : EditList) (u : Token) (i : ℕ) (column : Column) (x : Cell) : Type 0 where
-  stated : (v : CellValue) → x ≡ cell_stated v → cell_fits column v ≡ true → cell_breaks (count_after c l.edits) column v ≡ false → blob_is_short v ≡ true → is_body u.table i ≡ false → is_field u.table i ≡ false → (u.table == 0) ≡ false → CellCase c l u i column x
+  stated : (v : CellValue) → x ≡ cell_stated v → cell_fits column v ≡ true → value_breaks (count_after c l.edits) column v ≡ false → blob_is_short v ≡ true → is_body u.table i ≡ false → is_field u.table i ≡ false → (u.table == 0) ≡ false → CellCase c l u i column x
   given : (b : Option BodyValue) → x ≡ body (option_map body_stated b) → u.table ≡ 6 → i ≡ 0 → GivesBody c l u b → CellCase c l u i column x
   old : has_row c.plain u ≡ true → cell_of c.plain u i ≡ Some x → CellCase c l u i column x
 
@@ -100,7 +100,7 @@ of_added c l u i k table owner cells code points column x false six add is e kin
     of_value c l u i table column x (cells_stated table cells code) is add.own nobody nofield (plain_value (count_after c l.edits) table i column cells code six rva add.fits add.unbroken add.short e kind) h
 
 -- of a method whose body is replaced
-of_replaced : (c : Chain) (l : EditList) (u : Token) (i k : ℕ) (code : BodyValue) (points : _) (column : Column) (x : Cell) (old_cells : Option (List Cell)) → u.table ≡ 6 → has_row c.plain u ≡ true → cells_of c.plain u ≡ old_cells → slice_get l.edits k ≡ Some (Replace u code points) → slice_get (rows_edited c.plain l.edits) k ≡ Some u → slice_get (with_body (body_stated code) (unwrap_or old_cells [])) i ≡ Some x → CellCase c l u i column x
+of_replaced : (c : Chain) (l : EditList) (u : Token) (i k : ℕ) (code : BodyValue) (points : _) (column : Column) (x : Cell) (old_cells : Option (List Cell)) → u.table ≡ 6 → has_row c.plain u ≡ true → cells_of c.plain u ≡ old_cells → slice_get l.edits k ≡ Some (Replace u code points) → slice_get (rows_edited c.plain l.edits) k ≡ Some u → slice_get (cells_with (body_stated code) (unwrap_or old_cells [])) i ≡ Some x → CellCase c l u i column x
 of_replaced c l u i k code points column x None is has cells there row h = absurd cc
 of_replaced c l u i k code points column x (Some []) is has cells there row h = absurd cc
 of_replaced c l u zero k code points column x (Some (y ∷ ys)) is has cells there row h =
@@ -120,7 +120,7 @@ by_edit c l u i k (Replace method code points) column x form none there row e ki
     let same : method ≡ u = same_some method u (sym (row_at_place c.plain l.edits k (Replace method code points) there) ∙ row) in
     let land = lands c l k (Replace method code points) u none there row (sym same) in
     let has : has_row c.plain method ≡ true = row_there c.plain method land.1 (rw land.0 land.2) in
-    of_replaced c l u i k code points column x (cells_of c.plain u) (ap (λ (t : Token). t.table) (sym same) ∙ land.0) (rw (← same) has) refl (subst (λ t. slice_get l.edits k ≡ Some (Replace t code points)) same there) row (subst (λ t. slice_get (with_body (body_stated code) (unwrap_or (cells_of c.plain t) [])) i ≡ Some x) same h)
+    of_replaced c l u i k code points column x (cells_of c.plain u) (ap (λ (t : Token). t.table) (sym same) ∙ land.0) (rw (← same) has) refl (subst (λ t. slice_get l.edits k ≡ Some (Replace t code points)) same there) row (subst (λ t. slice_get (cells_with (body_stated code) (unwrap_or (cells_of c.plain t) [])) i ≡ Some x) same h)
 
 by_row : (c : Chain) (l : EditList) (u : Token) (i : ℕ) (column : Column) (x : Cell) (cells : List Cell) → list_fits l ≡ true → BreakNothing c l → column_in u.table i ≡ Some column → is_some (kind_of column) ≡ true → slice_get cells i ≡ Some x → IsRow c l u cells → CellCase c l u i column x
 by_row c l u i column x cells form none e kind h (changed w) = by_edit c l u i w.at w.edit column x form none w.there w.row e kind (subst (λ cs. slice_get cs i ≡ Some x) w.gives h)

@@ -12,7 +12,7 @@ use Rattle.enc_edits.specs.declared.edit.CellValue.{CellValue}
 use Rattle.enc_edits.specs.declared.edit.CellValue.TheVariants as cell
 use Rattle.enc_edits.specs.Form.{is_stated, begins_with_rva, stated_columns, cell_fits, cells_fit}
 use Rattle.enc_rules.specs.Edited.{cell_stated}
-use Rattle.enc_rules.specs.Rules.{cell_breaks, cells_break}
+use Rattle.enc_rules.specs.Rules.{value_breaks, cells_break}
 
 -- a column is stated exactly where it has a kind
 stated_is : (c : Column) → is_stated c ≡ is_some (kind_of c)
@@ -54,7 +54,7 @@ pub record IsValue (count : ℕ → ℕ) (c : Column) (vs : List CellValue) (i :
   pub value : CellValue
   pub there : slice_get vs i ≡ Some value
   pub fits : cell_fits c value ≡ true
-  pub unbroken : cell_breaks count c value ≡ false
+  pub unbroken : value_breaks count c value ≡ false
 
 neither : (a b : Bool) → (a || b) ≡ false → (a ≡ false) × (b ≡ false)
 neither false b h = (refl, h)
@@ -66,9 +66,9 @@ value_at count [] vs i c fit none e = absurd cc
 value_at count (x ∷ cs) [] i c fit none e = absurd cc
 value_at count (x ∷ cs) (v ∷ vs) zero c fit none e =
     let is : x ≡ c = cc in
-    record { value = v; there = refl; fits = rw (← is) (both_left (cell_fits x v) (cells_fit cs vs) fit); unbroken = rw (← is) ((neither (cell_breaks count x v) (cells_break count cs vs) none).0) }
+    record { value = v; there = refl; fits = rw (← is) (both_left (cell_fits x v) (cells_fit cs vs) fit); unbroken = rw (← is) ((neither (value_breaks count x v) (cells_break count cs vs) none).0) }
 value_at count (x ∷ cs) (v ∷ vs) (suc i) c fit none e =
-    let w = value_at count cs vs i c (both_right (cell_fits x v) (cells_fit cs vs) fit) ((neither (cell_breaks count x v) (cells_break count cs vs) none).1) e in
+    let w = value_at count cs vs i c (both_right (cell_fits x v) (cells_fit cs vs) fit) ((neither (value_breaks count x v) (cells_break count cs vs) none).1) e in
     record { value = w.value; there = w.there; fits = w.fits; unbroken = w.unbroken }
 
 -- the cell of a value is of its column's kind

@@ -9,11 +9,11 @@ use Rattle.enc_edits.specs.declared.body.InstrValue.{InstrValue}
 use Rattle.enc_edits.specs.Sizes.{instr_meant}
 
 -- at most 128 bytes before the end of the instruction and 127 behind it
-abbrev pub is_close : ℕ → ℕ → Bool
-is_close end target = nat_le end (target + 128) && nat_le target (end + 127)
+abbrev pub lies_close : ℕ → ℕ → Bool
+lies_close end target = nat_le end (target + 128) && nat_le target (end + 127)
 
 abbrev pub argument_reaches : ℕ → Operand → ArgValue → Bool
-argument_reaches end operand.Branch8 (arg.Target target) = is_close end target
+argument_reaches end operand.Branch8 (arg.Target target) = lies_close end target
 argument_reaches end _ _ = true
 
 -- each of the instructions that stand one behind the other from a place on reaches its target

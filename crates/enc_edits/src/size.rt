@@ -1,5 +1,5 @@
 //! How many bytes a stated instruction takes.
-ghost use Rattle.std.specs.Prelude.{◌≡◌, ◌<◌, ◌^◌};
+ghost use Rattle.std.specs.Prelude.{◌≡◌, ◌<◌, ◌≤◌, ◌+◌, ◌^◌};
 ghost use Rattle.enc_opcodes.specs.Sound.{target_count, operand_size as bytes_of_operand, instruction_size};
 ghost use Rattle.enc_edits.specs.Sizes.{arg_meant, instr_meant};
 
@@ -8,10 +8,11 @@ use enc_opcodes::Operand;
 
 /// How many targets a `switch` has.
 fn target_count(arg: &ArgValue) -> usize
-    ensures { result ≡ target_count (arg_meant arg.now) }
+    ensures count { result ≡ target_count (arg_meant arg.now) }
+    ensures few { result < 2 ^ 61 }
 {
     match arg {
-        ArgValue::Targets(targets) => targets.len(),
+        ArgValue::Targets(targets) => targets.as_slice().len(),
         _ => 0,
     }
 }
@@ -19,7 +20,7 @@ fn target_count(arg: &ArgValue) -> usize
 /// The bytes of an operand.
 fn operand_size(kind: Operand, arg: &ArgValue) -> u128
     ensures size { result ≡ bytes_of_operand kind (arg_meant arg.now) }
-    ensures few { result < 2 ^ 68 }
+    ensures few { result ≤ 2 ^ 63 }
 {
     match kind {
         Operand::None => 0,
@@ -35,7 +36,8 @@ fn operand_size(kind: Operand, arg: &ArgValue) -> u128
 #[tactic(auto, unfolding(enc_opcodes::specs::Sound::instruction_size))]
 pub fn instruction_size(instr: &InstrValue) -> u128
     ensures size { result ≡ instruction_size (instr_meant instr.now) }
-    ensures few { result < 2 ^ 69 }
+    ensures some { 1 ≤ result }
+    ensures few { result ≤ 2 ^ 63 + 2 }
 {
     let code = if instr.op.byte >= 0xFE00 { 2 } else { 1 };
     code + operand_size(instr.op.operand, &instr.arg)

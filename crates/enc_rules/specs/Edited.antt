@@ -1,5 +1,5 @@
 -- What an edit list makes of a module: each edit made directly.
-use Rattle.std.specs.Prelude.{ℕ, ◌+◌, ◌==◌, List, [], ◌∷◌, ◌++◌, map, Option, Some, None, option_map, unwrap_or, if◌then◌else◌}
+use Rattle.std.specs.Prelude.{ℕ, ◌+◌, ◌==◌, List, [], ◌∷◌, ◌++◌, map, Option, Some, option_map, unwrap_or, if◌then◌else◌}
 use Rattle.enc_base.specs.declared.token.Token.{Token}
 use Rattle.enc_schema.specs.Children.{is_child_table}
 use Rattle.enc_schema.specs.Tables as tables
@@ -57,14 +57,14 @@ abbrev pub rows_edited : Module → List Edit → List Token
 rows_edited m edits = rows_behind m [] edits
 
 -- the cells of a method with another body
-abbrev pub with_body : Body → List Cell → List Cell
-with_body b [] = []
-with_body b (c ∷ cells) = body (Some b) ∷ cells
+abbrev pub cells_with : Body → List Cell → List Cell
+cells_with b [] = []
+cells_with b (c ∷ cells) = body (Some b) ∷ cells
 
 -- the cells that an edit gives its row
 abbrev pub cells_edited : Module → Edit → List Cell
 cells_edited m (Add table owner cells code points) = cells_stated table cells code
-cells_edited m (Replace method code points) = with_body (body_stated code) (unwrap_or (cells_of m method) [])
+cells_edited m (Replace method code points) = cells_with (body_stated code) (unwrap_or (cells_of m method) [])
 
 -- the cells that edits behind others give their rows
 unfoldable pub changes_behind : Module → List Edit → List Edit → List Change

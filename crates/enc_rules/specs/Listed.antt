@@ -15,7 +15,7 @@ use Rattle.enc_edits.specs.Added.{adding, rows_added}
 use Rattle.enc_rules.specs.Edited.{cells_stated}
 
 -- a chain, and an edit list after it
-pub record Listed : Type 0 where
+pub record AfterList : Type 0 where
   pub chain : Chain
   pub list : EditList
 

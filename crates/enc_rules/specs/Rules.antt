@@ -1,7 +1,7 @@
 -- The rules of an edit list after its chain, each of the list as a whole or of the edit at a place, from 0.
-use Rattle.std.specs.Prelude.{◌≡◌, ℕ, ◌+◌, ◌-◌, ◌*◌, ◌%◌, ◌^◌, ◌≤◌, Bool, true, false, not, ◌&&◌, ◌||◌, ◌==◌, nat_lt, nat_le, List, [], ◌∷◌, ◌++◌, length, filter, flat_map, take, sum_by, Option, Some, None, unwrap_or, is_ok, if◌then◌else◌, slice_get, bytes_eq}
+use Rattle.std.specs.Prelude.{ℕ, ◌+◌, ◌*◌, ◌%◌, ◌^◌, Bool, true, false, not, ◌&&◌, ◌||◌, ◌==◌, nat_lt, nat_le, List, [], ◌∷◌, length, filter, flat_map, take, sum_by, Option, Some, None, is_ok, if◌then◌else◌, slice_get, bytes_eq}
 use Rattle.std.specs.List.{list_any, list_all}
-use Rattle.enc_base.specs.Token.{is_token, nil}
+use Rattle.enc_base.specs.Token.{is_token}
 use Rattle.enc_base.specs.declared.token.Token.{Token}
 use Rattle.enc_meta.specs.Heaps.{nil_guid}
 use Rattle.enc_meta.specs.Joined.{joined_lengths}
@@ -35,6 +35,7 @@ use Rattle.enc_edits.specs.declared.edit.Edit.{Edit}
 use Rattle.enc_edits.specs.declared.edit.Edit.TheVariants.{Add, Body as Replace}
 use Rattle.enc_edits.specs.declared.edit.EditList.{EditList}
 use Rattle.enc_edits.specs.Form.{stated_columns}
+use Rattle.enc_edits.specs.Reach.{branches_reach}
 use Rattle.enc_edits.specs.Sizes.{instr_meant, length_of_code}
 use Rattle.enc_rules.specs.Edited.{body_stated, rows_edited, attached_by, attached_in}
 use Rattle.enc_rules.specs.Listed.{count_after, rows_listed, body_given, points_given}
@@ -82,11 +83,11 @@ users_in_body (Some b) = flat_map (λ (i : InstrValue). users_in_argument i.arg)
 -- the values that an edit brings for each heap: those of its row, which for a method whose body is replaced are its name and signature, and of its body
 abbrev pub texts_of_edit : Rows → Edit → List (List ℕ)
 texts_of_edit rows (Add table owner cells code points) = flat_map texts_in_cell cells
-texts_of_edit rows (Replace method code points) = bytes_at rows method columns.method_def_name ∷ []
+texts_of_edit rows (Replace method code points) = if method.table == tables.method_def then bytes_at rows method columns.method_def_name ∷ [] else []
 
 abbrev pub blobs_of_edit : Rows → Edit → List (List ℕ)
 blobs_of_edit rows (Add table owner cells code points) = flat_map blobs_in_cell cells
-blobs_of_edit rows (Replace method code points) = bytes_at rows method columns.method_def_signature ∷ []
+blobs_of_edit rows (Replace method code points) = if method.table == tables.method_def then bytes_at rows method columns.method_def_signature ∷ [] else []
 
 abbrev pub users_of_edit : Edit → List (List ℕ)
 users_of_edit e = users_in_body (body_given e)
@@ -105,12 +106,12 @@ with_blobs h [] = h
 with_blobs h (v ∷ values) = with_blobs (with_blob h v) values
 
 -- the heaps behind a chain's with what edits bring
-unfoldable pub with_edit : Rows → Built → Edit → Built
-with_edit rows h e = with_blobs (with_users (with_texts h (texts_of_edit rows e)) (users_of_edit e)) (blobs_of_edit rows e)
+unfoldable pub heaps_after_edit : Rows → Built → Edit → Built
+heaps_after_edit rows h e = with_blobs (with_users (with_texts h (texts_of_edit rows e)) (users_of_edit e)) (blobs_of_edit rows e)
 
 unfoldable pub with_edits : Rows → Built → List Edit → Built
 with_edits rows h [] = h
-with_edits rows h (e ∷ edits) = with_edits rows (with_edit rows h e) edits
+with_edits rows h (e ∷ edits) = with_edits rows (heaps_after_edit rows h e) edits
 
 abbrev pub heaps_with : Chain → List Edit → List Edit → Built
 heaps_with c all edits = with_edits (rows_listed c all) (none_from (joined_lengths c.heaps)) edits
@@ -158,12 +159,12 @@ table_is_closed c l k = at_edit (λ e t. table_breaks e) c l k
 abbrev pub names_row : (ℕ → ℕ) → Column → Token → Bool
 names_row count column t = t.row == 0 || can_name column t.table && nat_le t.row (count t.table)
 
-abbrev pub cell_breaks : (ℕ → ℕ) → Column → CellValue → Bool
-cell_breaks count column (cell.Refer t) = not (names_row count column t)
-cell_breaks count column _ = false
+abbrev pub value_breaks : (ℕ → ℕ) → Column → CellValue → Bool
+value_breaks count column (cell.Refer t) = not (names_row count column t)
+value_breaks count column _ = false
 
 unfoldable pub cells_break : (ℕ → ℕ) → List Column → List CellValue → Bool
-cells_break count (column ∷ columns) (v ∷ cells) = cell_breaks count column v || cells_break count columns cells
+cells_break count (column ∷ columns) (v ∷ cells) = value_breaks count column v || cells_break count columns cells
 cells_break count _ _ = false
 
 -- E13: a cell names no row, or the method whose body is replaced is none
@@ -174,27 +175,13 @@ token_breaks count (Replace method code points) = not (is_row_of count tables.me
 unfoldable pub token_is_missing : Chain → EditList → ℕ → Bool
 token_is_missing c l k = at_edit (λ e t. token_breaks (count_after c l.edits) e) c l k
 
--- a short branch reaches its target from the end of its instruction (III.1.7.2): at most 128 bytes before and 127 behind it
-abbrev pub is_close : ℕ → ℕ → Bool
-is_close end target = nat_le end (target + 128) && nat_le target (end + 127)
-
-abbrev pub argument_reaches : ℕ → Operand → ArgValue → Bool
-argument_reaches end operand.Branch8 (arg.Target target) = is_close end target
-argument_reaches end _ _ = true
-
--- so does each of the instructions that stand one behind the other from a place on
-unfoldable pub branches_reach : ℕ → List InstrValue → Bool
-branches_reach at [] = true
-branches_reach at (i ∷ rest) =
-    argument_reaches (at + instruction_size (instr_meant i)) i.op.operand i.arg && branches_reach (at + instruction_size (instr_meant i)) rest
-
 -- a body is good by the rows after, and its short branches reach
-unfoldable pub body_stands : (ℕ → ℕ) → BodyValue → Bool
-body_stands count b = body_is_sound count (body_stated b) && branches_reach 0 b.code
+unfoldable pub given_stands : (ℕ → ℕ) → BodyValue → Bool
+given_stands count b = body_is_sound count (body_stated b) && branches_reach 0 b.code
 
 abbrev pub body_is_missing_or_stands : (ℕ → ℕ) → Option BodyValue → Bool
 body_is_missing_or_stands count None = true
-body_is_missing_or_stands count (Some b) = body_stands count b
+body_is_missing_or_stands count (Some b) = given_stands count b
 
 -- the bytes that a body takes in the delta's code, at most: its code, 64 for its header and 28 for each clause
 abbrev pub room_of : Option BodyValue → ℕ
@@ -204,14 +191,18 @@ room_of (Some b) = length_of_code b.code + 64 + 28 * length b.clauses
 abbrev pub room_of_edit : Edit → ℕ
 room_of_edit e = room_of (body_given e)
 
-abbrev pub has_body : Edit → Bool
-has_body e = nat_lt 0 (room_of_edit e)
+abbrev pub gives_body : Edit → Bool
+gives_body e = nat_lt 0 (room_of_edit e)
 
--- E16: a method that isn't IL, which the low two bits of ImplFlags tell (II.23.1.11), a body that isn't good, or code that passes 2^32 bytes with it
+-- the row is a method of IL code, which the low two bits of ImplFlags tell (II.23.1.11)
+abbrev pub is_il : Rows → Token → Bool
+is_il rows t = t.table == tables.method_def && number_at rows t columns.method_def_impl_flags % 4 == 0
+
+-- E16: a body of what isn't a method of IL code, a body that isn't good, or code that passes 2^32 bytes with it
 unfoldable pub body_is_broken : Chain → EditList → ℕ → Bool
 body_is_broken c l k = at_edit
-    (λ e t. has_body e
-    && (not (number_at (rows_listed c l.edits) t columns.method_def_impl_flags % 4 == 0)
+    (λ e t. gives_body e
+    && (not (is_il (rows_listed c l.edits) t)
     || not (body_is_missing_or_stands (count_after c l.edits) (body_given e))
     || nat_le (2 ^ 32) (sum_by room_of_edit (take (k + 1) l.edits))))
     c l k
@@ -265,7 +256,7 @@ room_of_points e = if has_points e then 64 + 32 * length (points_given e) else 0
 abbrev pub room_of_document : DocumentValue → ℕ
 room_of_document d = 128 + length d.name
 
--- E22: points that can't be spelled (Portable PDB v1.0, Sequence Points Blob), a document that isn't there, or a PDB of more than 2^29 bytes with this edit's points
+-- E22: points that can't be spelled (Portable PDB v1.0, Sequence Points Blob), a document that isn't there, or a PDB of more than 2^29 bytes with these
 unfoldable pub points_are_bad : Chain → EditList → ℕ → Bool
 points_are_bad c l k = at_edit
     (λ e t. has_points e

@@ -1,0 +1,13 @@
+use Rattle.std.proofs.Common.{◌≡◌, None, take}
+use Rattle.enc_meta.specs.Built.{none_from}
+use Rattle.enc_meta.specs.Joined.{joined_lengths}
+use Rattle.enc_rules.specs.First.{first_such}
+use Rattle.enc_rules.specs.Known.{listed_rows}
+use Rattle.enc_rules.specs.Rules.{heap_passes, with_edits}
+use Rattle.enc_rules.proofs.heaps.heap_passes.Given as goal
+
+abbrev pub invariant-loop-k : goal.invariant-loop-k
+invariant-loop-k g l = record {
+  none : first_such (heap_passes l.context.chain l.context.list) l.k ≡ None;
+  filled : l.heaps ≡ with_edits (listed_rows l.context) (none_from (joined_lengths l.context.chain.heaps)) (take l.k l.edits);
+}
