@@ -114,11 +114,11 @@ unfolding columns_in runs_last
 columns_last table = each runs_last schema table all_last refl
 
 -- of a table whose rows begin with no place of bytes
-cells_plain : (table : ℕ) (cells : List CellValue) (code : Option BodyValue) → (table == 6) ≡ false → (table == 0x1D) ≡ false → cells_stated table cells code ≡ map cell_stated cells
+pub cells_plain : (table : ℕ) (cells : List CellValue) (code : Option BodyValue) → (table == 6) ≡ false → (table == 0x1D) ≡ false → cells_stated table cells code ≡ map cell_stated cells
 unfolding cells_stated
 cells_plain table cells code six rva = rw (six, rva) refl
 
-columns_plain : (table : ℕ) → (table == 6) ≡ false → (table == 0x1D) ≡ false → stated_columns table ≡ filter is_stated (columns_in table)
+pub columns_plain : (table : ℕ) → (table == 6) ≡ false → (table == 0x1D) ≡ false → stated_columns table ≡ filter is_stated (columns_in table)
 unfolding stated_columns
 columns_plain table six rva = rw (six, rva) refl
 

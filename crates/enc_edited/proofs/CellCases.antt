@@ -108,7 +108,7 @@ of_replaced c l u zero k code points column x (Some (y ∷ ys)) is has cells the
 of_replaced c l u (suc i) k code points column x (Some (y ∷ ys)) is has cells there row h =
     old has (cell_of_cells c.plain u (suc i) ∙ (rw cells h))
 
-edit_table : (c : Chain) (l : EditList) (k table : ℕ) (owner : Token) (cells : _) (code : _) (points : _) (u : Token) → slice_get l.edits k ≡ Some (Add table owner cells code points) → slice_get (rows_edited c.plain l.edits) k ≡ Some u → u.table ≡ table
+pub edit_table : (c : Chain) (l : EditList) (k table : ℕ) (owner : Token) (cells : _) (code : _) (points : _) (u : Token) → slice_get l.edits k ≡ Some (Add table owner cells code points) → slice_get (rows_edited c.plain l.edits) k ≡ Some u → u.table ≡ table
 edit_table c l k table owner cells code points u there row =
     ap (λ (t : Token). t.table) (same_some u (row_edited c.plain _ (Add table owner cells code points)) (sym row ∙ row_at_place c.plain l.edits k (Add table owner cells code points) there))
 

@@ -9,3 +9,7 @@ pub mod Stated
 pub mod AddedRow
 pub mod Agreed
 pub mod CellCases
+pub mod Grown
+pub mod KindsAfter
+pub mod CountsAfter
+pub mod SignaturesAfter

@@ -15,7 +15,7 @@ use Rattle.enc_rules.specs.Edited.{cell_stated}
 use Rattle.enc_rules.specs.Rules.{value_breaks, cells_break}
 
 -- a column is stated exactly where it has a kind
-stated_is : (c : Column) → is_stated c ≡ is_some (kind_of c)
+pub stated_is : (c : Column) → is_stated c ≡ is_some (kind_of c)
 stated_is Num8 = refl
 stated_is Num16 = refl
 stated_is Num32 = refl

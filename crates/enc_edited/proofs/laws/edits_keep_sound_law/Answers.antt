@@ -1,5 +1,7 @@
-use Rattle.enc_edited.proofs.Agreed.{cells_agree, tokens_stay, bytes_stay}
-use Rattle.enc_edited.proofs.CellCases.{cell_case}
+use Rattle.enc_edited.proofs.Grown.{row_stays}
+use Rattle.enc_edited.proofs.KindsAfter.{kinds_after}
+use Rattle.enc_edited.proofs.CountsAfter.{counts_stay}
+use Rattle.enc_edited.proofs.SignaturesAfter.{signatures_stay}
 use Rattle.enc_edited.proofs.laws.edits_keep_sound_law.Goals as goal
 
 pub returns : goal.returns
