@@ -13,3 +13,5 @@ pub mod Grown
 pub mod KindsAfter
 pub mod CountsAfter
 pub mod SignaturesAfter
+pub mod BodiesAfter
+pub mod FieldsAfter
