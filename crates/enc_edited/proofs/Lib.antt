@@ -15,3 +15,6 @@ pub mod CountsAfter
 pub mod SignaturesAfter
 pub mod BodiesAfter
 pub mod FieldsAfter
+pub mod CellsAfter
+pub mod OwnersAfter
+pub mod KeptSound
