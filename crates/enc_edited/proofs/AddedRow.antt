@@ -1,31 +1,28 @@
 -- The cells of a row that an edit adds.
-use Rattle.std.proofs.Common.{◌≡◌, ◌≢◌, ℕ, zero, suc, ◌+◌, ◌-◌, ◌<◌, ◌≤◌, Bool, true, false, List, [], ◌∷◌, ◌++◌, length, map, drop, Option, Some, None, refl, sym, ap, ◌∙◌, inl, inr, arith, subst}
-use Rattle.std.specs.Prelude.{slice_get, ◌==◌, ◌&&◌, ◌||◌, not, nat_lt, nat_le, option_map, option_and_then, is_some, filter, if◌then◌else◌}
-use Rattle.std.specs.List.{list_all, list_any}
+use Rattle.std.proofs.Common.{◌≡◌, ℕ, zero, suc, Bool, true, false, List, [], ◌∷◌, map, drop, Option, Some, refl, ap, ◌∙◌, arith, subst}
+use Rattle.std.specs.Prelude.{slice_get, ◌==◌, ◌&&◌, ◌||◌, not, is_some, filter}
+use Rattle.std.specs.List.{list_all}
 use Rattle.std.proofs.lemmas.Bool.{false≢true}
 use Rattle.std.proofs.lemmas.Bool.Decides.{nat_tests}
-use Rattle.std.proofs.lemmas.List.{length-map}
 use Rattle.enc_base.specs.declared.token.Token.{Token}
-use Rattle.enc_opcodes.specs.Body.{Body}
 use Rattle.enc_schema.specs.declared.column.Column.{Column}
-use Rattle.enc_schema.specs.declared.column.Column.TheVariants.{Guid}
-use Rattle.enc_schema.specs.Schema.{columns_in, column_in, schema, list_at}
-use Rattle.enc_plain.specs.Cell.{Cell, body, field, Kind, bodies, kind_of, cell_kind, cell_count, is_body, is_field, kind_in}
+use Rattle.enc_schema.specs.Schema.{columns_in, column_in, schema}
+use Rattle.enc_plain.specs.Cell.{Cell, kind_of}
 use Rattle.enc_plain.specs.Chain.{Chain}
-use Rattle.enc_plain.proofs.Columns.{runs_last, all_last, each, each_of, in_cells}
+use Rattle.enc_plain.proofs.Columns.{runs_last, all_last, each}
 use Rattle.enc_seqpoints.specs.declared.point.Point.{Point}
 use Rattle.enc_edits.specs.declared.body.BodyValue.{BodyValue}
 use Rattle.enc_edits.specs.declared.edit.CellValue.{CellValue}
 use Rattle.enc_edits.specs.declared.edit.Edit.{Edit}
-use Rattle.enc_edits.specs.declared.edit.Edit.TheVariants.{Add, Body as Replace}
+use Rattle.enc_edits.specs.declared.edit.Edit.TheVariants.{Add}
 use Rattle.enc_edits.specs.declared.edit.EditList.{EditList}
 use Rattle.enc_edits.specs.Form.{is_stated, begins_with_rva, stated_columns, is_known_table, owner_fits, cells_fit, code_fits, edit_fits, list_fits}
 use Rattle.enc_delta.specs.Rules.{may_change}
-use Rattle.enc_rules.specs.Edited.{rows_edited, cell_stated, body_stated, cells_stated}
+use Rattle.enc_rules.specs.Edited.{rows_edited, cell_stated, cells_stated}
 use Rattle.enc_rules.specs.Listed.{count_after}
 use Rattle.enc_rules.specs.Rules.{cells_break, table_breaks, table_is_closed, token_breaks, token_is_missing}
 use Rattle.enc_edited.specs.Kept.{BreakNothing, blob_is_short, blobs_are_short}
-use Rattle.enc_edited.proofs.Stated.{stated_at, fit_length, IsValue, value_at}
+use Rattle.enc_edited.proofs.Stated.{stated_at, value_at}
 
 -- what holds of an edit that adds a row
 pub record IsAdd (c : Chain) (l : EditList) (k table : ℕ) (owner : Token) (cells : List CellValue) (code : Option BodyValue) (points : List Point) (t : Token) : Type 0 where

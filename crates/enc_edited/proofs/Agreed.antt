@@ -1,29 +1,27 @@
 -- The rows by which a list is judged are those after it, but for the bodies that it replaces.
-use Rattle.std.proofs.Common.{◌≡◌, ◌≢◌, ℕ, zero, suc, ◌+◌, ◌-◌, ◌<◌, ◌≤◌, Bool, true, false, List, [], ◌∷◌, ◌++◌, length, map, take, drop, Option, Some, None, refl, sym, ap, ◌∙◌, inl, inr, arith, subst, append_assoc}
-use Rattle.std.specs.Prelude.{slice_get, ◌==◌, ◌&&◌, ◌||◌, not, nat_lt, nat_le, option_map, option_and_then, unwrap_or, is_some, filter, if◌then◌else◌}
+use Rattle.std.proofs.Common.{◌≡◌, ℕ, zero, suc, ◌+◌, ◌-◌, ◌<◌, ◌≤◌, Bool, true, false, List, [], ◌∷◌, ◌++◌, length, take, drop, Option, Some, None, refl, sym, ap, ◌∙◌, arith, subst}
+use Rattle.std.specs.Prelude.{slice_get, ◌==◌, nat_lt, option_and_then, unwrap_or, is_some, if◌then◌else◌}
 use Rattle.std.proofs.lemmas.Bool.{false≢true}
 use Rattle.std.proofs.lemmas.Bool.Decides.{nat_tests}
-use Rattle.std.proofs.lemmas.List.{length-append}
 use Rattle.enc_base.specs.Order.{or_else}
 use Rattle.enc_base.specs.Token.{is_token}
 use Rattle.enc_base.specs.declared.token.Token.{Token}
-use Rattle.enc_plain.specs.Apply.{Change}
 use Rattle.enc_plain.specs.Cell.{Cell, is_body}
 use Rattle.enc_plain.specs.Chain.{Chain, rows_before}
 use Rattle.enc_plain.specs.Fits.{cells_for}
 use Rattle.enc_plain.specs.Module.{Module, cells_of}
-use Rattle.enc_plain.specs.Rows.{Rows, cell_at, number_at, bytes_at, token_at}
+use Rattle.enc_plain.specs.Rows.{cell_at, number_at, bytes_at, token_at}
 use Rattle.enc_plain.specs.Sound.{row_count, HasTables}
 use Rattle.enc_edits.specs.declared.edit.Edit.{Edit}
 use Rattle.enc_edits.specs.declared.edit.Edit.TheVariants.{Add, Body as Replace}
 use Rattle.enc_edits.specs.declared.edit.EditList.{EditList}
 use Rattle.enc_edits.specs.Added.{adds_to, adding, rows_added}
 use Rattle.enc_rules.specs.Edited.{row_edited, rows_behind, rows_edited, cells_edited, cells_with, changes_behind, edited}
-use Rattle.enc_rules.specs.Listed.{count_after, edit_of, cells_added, rows_listed}
+use Rattle.enc_rules.specs.Listed.{edit_of, rows_listed}
 use Rattle.enc_edited.specs.Kept.{BreakNothing}
 use Rattle.enc_edited.proofs.Split.{seam, row_there, adding_append, few_of}
-use Rattle.enc_edited.proofs.Landed.{Lands, row_is_of, lands, IsAdder, adder, no_rows}
-use Rattle.enc_edited.proofs.Changed.{IsEditOf, edit_found, cells_after}
+use Rattle.enc_edited.proofs.Landed.{lands, adder, no_rows}
+use Rattle.enc_edited.proofs.Changed.{edit_found, cells_after}
 
 -- a list is split at the item of a place
 split : {A : Type 0} (xs : List A) (k : ℕ) (x : A) → slice_get xs k ≡ Some x → (xs ≡ take k xs ++ x ∷ drop (suc k) xs) × (length (take k xs) ≡ k)

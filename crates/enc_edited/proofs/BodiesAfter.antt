@@ -1,5 +1,5 @@
 -- The bodies of methods are sound after edits: those that were there, and those that edits give.
-use Rattle.std.proofs.Common.{◌≡◌, ℕ, ◌+◌, ◌*◌, ◌%◌, ◌^◌, ◌≤◌, Bool, true, false, List, length, take, Option, Some, None, refl, sym, ap, subst, ◌∙◌, arith}
+use Rattle.std.proofs.Common.{◌≡◌, ℕ, ◌+◌, ◌*◌, ◌%◌, ◌^◌, ◌≤◌, Bool, true, false, List, length, take, Some, refl, sym, ap, ◌∙◌, arith}
 use Rattle.std.specs.Prelude.{◌==◌, ◌&&◌, ◌||◌, not, nat_lt, nat_le, slice_get, sum_by, if◌then◌else◌}
 use Rattle.std.proofs.lemmas.Bool.{and_parts}
 use Rattle.std.proofs.lemmas.Bool.Decides.{nat_tests}
@@ -23,7 +23,7 @@ use Rattle.enc_edits.specs.Reach.{branches_reach}
 use Rattle.enc_edits.specs.Sizes.{length_of_code}
 use Rattle.enc_rules.specs.Edited.{rows_edited, body_stated, edited}
 use Rattle.enc_rules.specs.Listed.{count_after, rows_listed, body_given}
-use Rattle.enc_rules.specs.Rules.{given_stands, body_is_missing_or_stands, room_of, room_of_edit, is_il, body_is_broken, locals_break, locals_are_bad}
+use Rattle.enc_rules.specs.Rules.{given_stands, room_of_edit, is_il, body_is_broken, locals_are_bad}
 use Rattle.enc_edited.specs.Kept.{BreakNothing}
 use Rattle.enc_edited.proofs.Agreed.{numbers_agree, bytes_agree, numbers_stay, bytes_stay}
 use Rattle.enc_edited.proofs.CellCases.{GivesBody}

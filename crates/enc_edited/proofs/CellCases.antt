@@ -1,18 +1,16 @@
 -- What stands in a column of a row after edits: a stated value, a body that was given, or what stood there.
-use Rattle.std.proofs.Common.{◌≡◌, ◌≢◌, ℕ, zero, suc, ◌+◌, ◌-◌, ◌<◌, ◌≤◌, Bool, true, false, List, [], ◌∷◌, ◌++◌, length, map, Option, Some, None, refl, sym, ap, ◌∙◌, inl, inr, arith, subst}
-use Rattle.std.specs.Prelude.{slice_get, ◌==◌, ◌&&◌, ◌||◌, not, nat_lt, nat_le, option_map, option_and_then, unwrap_or, is_some, if◌then◌else◌}
-use Rattle.std.specs.List.{list_all}
-use Rattle.std.proofs.lemmas.Bool.{false≢true}
+use Rattle.std.proofs.Common.{◌≡◌, ℕ, zero, suc, ◌<◌, Bool, true, false, List, [], ◌∷◌, length, Option, Some, None, refl, sym, ap, ◌∙◌, arith, subst}
+use Rattle.std.specs.Prelude.{slice_get, ◌==◌, ◌&&◌, nat_lt, nat_le, option_map, option_and_then, unwrap_or, is_some}
 use Rattle.std.proofs.lemmas.Bool.Decides.{nat_tests}
 use Rattle.enc_base.specs.declared.token.Token.{Token}
 use Rattle.enc_schema.specs.declared.column.Column.{Column}
-use Rattle.enc_schema.specs.Schema.{column_in, columns_in}
-use Rattle.enc_plain.specs.Cell.{Cell, body, Kind, kind_of, is_body, is_field, kind_in}
+use Rattle.enc_schema.specs.Schema.{column_in}
+use Rattle.enc_plain.specs.Cell.{Cell, body, kind_of, is_body, is_field}
 use Rattle.enc_plain.specs.Chain.{Chain}
 use Rattle.enc_plain.specs.Module.{Module, Row, rows_in, row_at, row_of, has_row, cells_of, cell_of}
 use Rattle.enc_plain.specs.Rows.{cell_at}
-use Rattle.enc_plain.specs.Sound.{row_count, HasTables}
-use Rattle.enc_plain.proofs.KindsOf.{row_bounds, row_there}
+use Rattle.enc_plain.specs.Sound.{HasTables}
+use Rattle.enc_plain.proofs.KindsOf.{row_there}
 use Rattle.enc_edits.specs.declared.body.BodyValue.{BodyValue}
 use Rattle.enc_edits.specs.declared.edit.CellValue.{CellValue}
 use Rattle.enc_edits.specs.declared.edit.Edit.{Edit}
@@ -24,7 +22,7 @@ use Rattle.enc_rules.specs.Listed.{count_after, body_given}
 use Rattle.enc_rules.specs.Rules.{value_breaks}
 use Rattle.enc_edited.specs.Kept.{BreakNothing, blob_is_short}
 use Rattle.enc_edited.proofs.Landed.{lands}
-use Rattle.enc_edited.proofs.Changed.{IsEditOf, IsRow, changed, kept, row_is}
+use Rattle.enc_edited.proofs.Changed.{IsRow, changed, kept, row_is}
 use Rattle.enc_edited.proofs.AddedRow.{IsAdd, add_is, no_field_rva, HasValue, plain_value, method_value}
 use Rattle.enc_edited.proofs.Agreed.{row_at_place}
 
@@ -64,6 +62,7 @@ there_by_cells m u cells h = by_place (u.row) h
     within [] n (Some r) e g = absurd cc
     within (r ∷ rows) zero o e g = omega arith
     within (r ∷ rows) (suc n) o e g = let w = within rows n o e g in omega (arith, w)
+
     by_place : (row : ℕ) → option_map (λ (r : Row). r.cells) (row_at (rows_in m u.table) row) ≡ Some cells → (nat_lt 0 row && nat_le row (length (rows_in m u.table))) ≡ true
     by_place zero g = absurd cc
     by_place (suc n) g =

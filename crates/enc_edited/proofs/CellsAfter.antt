@@ -1,16 +1,15 @@
 -- What each cell says fits its column after edits.
-use Rattle.std.proofs.Common.{◌≡◌, ℕ, zero, suc, ◌^◌, ◌<◌, ◌≤◌, Bool, true, false, List, [], ◌∷◌, take, drop, Option, Some, None, refl, sym, ap, ◌∙◌, inl, inr, arith}
-use Rattle.std.specs.Prelude.{◌==◌, ◌&&◌, ◌||◌, not, nat_lt, nat_le, is_some, slice_get, option_map, option_and_then, if◌then◌else◌}
+use Rattle.std.proofs.Common.{◌≡◌, ℕ, zero, suc, ◌<◌, ◌≤◌, Bool, true, false, List, [], ◌∷◌, take, drop, Option, Some, None, refl, sym, ap, ◌∙◌, inl, inr, arith}
+use Rattle.std.specs.Prelude.{◌==◌, ◌&&◌, ◌||◌, not, nat_le, is_some, slice_get, option_map, option_and_then, if◌then◌else◌}
 use Rattle.std.specs.List.{list_all}
 use Rattle.std.proofs.lemmas.Bool.{false≢true, or_cases, and_parts}
 use Rattle.std.proofs.lemmas.Bool.Decides.{nat_tests}
 use Rattle.enc_base.specs.Token.{nil, is_token}
 use Rattle.enc_base.specs.declared.token.Token.{Token}
-use Rattle.enc_opcodes.specs.Body.{Body, nil_or}
 use Rattle.enc_schema.specs.declared.column.Column.{Column}
 use Rattle.enc_schema.specs.declared.column.Column.TheVariants.{Num8, Num16, Num32, Text, Guid, Blob, Index, Coded, Run}
 use Rattle.enc_schema.specs.Schema.{list_at, schema, columns_in, column_in}
-use Rattle.enc_plain.specs.Cell.{Cell, number, text, blob, guid, refer, body, field, Kind, bodies, fields, kind_of, cell_kind, is_body, is_field, kind_in}
+use Rattle.enc_plain.specs.Cell.{Cell, number, text, blob, guid, refer, body, field, bodies, fields, kind_of, cell_kind, is_body, is_field}
 use Rattle.enc_plain.specs.Chain.{Chain}
 use Rattle.enc_plain.specs.Module.{Module, has_row, cell_of}
 use Rattle.enc_plain.specs.Sound.{row_count, can_name, is_reference, cell_is_sound, HasTables, HasCounts, HasKinds, HasCells}
@@ -158,5 +157,6 @@ one_fits : (c : Chain) (l : EditList) (u : Token) (i : ℕ) (column : Column) (x
 one_fits c l u i column x has form none kinds cells tables_new counts_new kinds_new there e is =
     fits_by c l u i column x has none kinds cells (row_table (edited c.plain l.edits) u tables_new counts_new there).1 e (cell_case c l u i column x has form none e (kind_there (edited c.plain l.edits) u i column x kinds_new there e is) is)
 
+-- so each cell fits its column after edits
 pub cells_fit_after : (c : Chain) (l : EditList) → HasTables c.plain → list_fits l ≡ true → BreakNothing c l → HasKinds c.plain → HasCells c.plain → HasTables (edited c.plain l.edits) → HasCounts (edited c.plain l.edits) → HasKinds (edited c.plain l.edits) → HasCells (edited c.plain l.edits)
 cells_fit_after c l has form none kinds cells tables_new counts_new kinds_new = record { each = λ u i column x there e is. one_fits c l u i column x has form none kinds cells tables_new counts_new kinds_new there e is }

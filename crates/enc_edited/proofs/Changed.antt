@@ -1,23 +1,21 @@
 -- The cells of a row after edits: those that the edit of it gives, or those that it had.
-use Rattle.std.proofs.Common.{◌≡◌, ◌≢◌, ℕ, zero, suc, ◌+◌, ◌-◌, ◌<◌, ◌≤◌, Bool, true, false, List, [], ◌∷◌, ◌++◌, length, Option, Some, None, refl, sym, ap, ◌∙◌, inl, inr, arith, append_assoc, subst}
-use Rattle.std.specs.Prelude.{slice_get, ◌==◌, ◌&&◌, nat_lt, nat_le, option_map, is_some, if◌then◌else◌}
-use Rattle.std.proofs.lemmas.Bool.Decides.{nat_tests}
-use Rattle.std.proofs.lemmas.List.{append-nil}
+use Rattle.std.proofs.Common.{◌≡◌, ℕ, suc, ◌+◌, Bool, true, false, List, [], ◌∷◌, ◌++◌, length, Option, Some, None, refl, sym, ap, ◌∙◌, arith}
+use Rattle.std.specs.Prelude.{slice_get, if◌then◌else◌}
 use Rattle.enc_base.specs.Order.{or_else}
 use Rattle.enc_base.specs.Token.{is_token}
 use Rattle.enc_base.specs.declared.token.Token.{Token}
-use Rattle.enc_plain.specs.Apply.{Change, put, apply, attach_all}
+use Rattle.enc_plain.specs.Apply.{apply}
 use Rattle.enc_plain.specs.Cell.{Cell}
 use Rattle.enc_plain.specs.Chain.{Chain}
 use Rattle.enc_plain.specs.Fits.{cells_for, Fits}
-use Rattle.enc_plain.specs.Module.{Module, Row, rows_in, row_at, row_of, has_row, cells_of}
+use Rattle.enc_plain.specs.Module.{Module, cells_of}
 use Rattle.enc_plain.specs.Sound.{row_count, HasTables}
 use Rattle.enc_plain.proofs.Applied.{applied, same_is}
 use Rattle.enc_plain.proofs.AttachedTo.{cells_attached, count_attached}
 use Rattle.enc_edits.specs.declared.edit.Edit.{Edit}
 use Rattle.enc_edits.specs.declared.edit.EditList.{EditList}
-use Rattle.enc_edits.specs.Added.{rows_added, adding}
-use Rattle.enc_rules.specs.Edited.{row_edited, rows_behind, rows_edited, cells_edited, changes_behind, attached_in, edited}
+use Rattle.enc_edits.specs.Added.{rows_added}
+use Rattle.enc_rules.specs.Edited.{row_edited, rows_behind, cells_edited, changes_behind, attached_in, edited}
 use Rattle.enc_edited.specs.Kept.{BreakNothing}
 use Rattle.enc_edited.proofs.Fitted.{all_fresh}
 use Rattle.enc_edited.proofs.Landed.{no_rows}

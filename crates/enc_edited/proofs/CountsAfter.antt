@@ -1,6 +1,6 @@
 -- The tables that are no part of a module stay empty after edits, Module keeps its one row, and no table has too many.
-use Rattle.std.proofs.Common.{◌≡◌, ℕ, zero, suc, ◌+◌, ◌^◌, ◌<◌, Bool, true, false, List, [], ◌∷◌, length, Some, refl, sym, ap, ◌∙◌, arith}
-use Rattle.std.specs.Prelude.{slice_get, ◌==◌, ◌&&◌, ◌||◌, not}
+use Rattle.std.proofs.Common.{◌≡◌, ℕ, zero, suc, ◌^◌, ◌<◌, Bool, true, false, List, [], ◌∷◌, length, Some, refl, sym, ap, ◌∙◌, arith}
+use Rattle.std.specs.Prelude.{slice_get, ◌==◌, ◌||◌, not}
 use Rattle.std.specs.List.{list_any}
 use Rattle.std.proofs.lemmas.Bool.{false≢true}
 use Rattle.std.proofs.lemmas.Bool.Decides.{nat_tests}
@@ -8,7 +8,7 @@ use Rattle.enc_base.specs.declared.token.Token.{Token}
 use Rattle.enc_plain.specs.Chain.{Chain}
 use Rattle.enc_plain.specs.Module.{Row, rows_in}
 use Rattle.enc_plain.specs.Sound.{is_part, row_count, HasTables, HasCounts}
-use Rattle.enc_plain.proofs.Columns.{each_of, both_left, both_right}
+use Rattle.enc_plain.proofs.Columns.{each_of}
 use Rattle.enc_edits.specs.declared.edit.Edit.{Edit}
 use Rattle.enc_edits.specs.declared.edit.Edit.TheVariants.{Add, Body as Replace}
 use Rattle.enc_edits.specs.declared.edit.EditList.{EditList}
@@ -19,7 +19,7 @@ use Rattle.enc_rules.specs.Edited.{rows_edited, edited}
 use Rattle.enc_rules.specs.Rules.{table_breaks, table_is_closed, there_are_too_many}
 use Rattle.enc_rules.proofs.RowsFew.{rows_few}
 use Rattle.enc_edited.specs.Kept.{BreakNothing}
-use Rattle.enc_edited.proofs.Landed.{IsAdder, adder}
+use Rattle.enc_edited.proofs.Landed.{adder}
 use Rattle.enc_edited.proofs.Changed.{counts_after}
 use Rattle.enc_edited.proofs.Grown.{count_is}
 
@@ -72,6 +72,7 @@ single_after c l has none before =
 few_after : (c : Chain) (l : EditList) (t : ℕ) → HasTables c.plain → list_fits l ≡ true → there_are_too_many c l ≡ false → BreakNothing c l → ((k : ℕ) → row_count c.plain k < 2 ^ 24) → row_count (edited c.plain l.edits) t < 2 ^ 24
 few_after c l t has form many none before = rw (count_is c l t has none) (rows_few c l form many before t)
 
+-- so the numbers of rows are a module's after edits
 pub counts_stay : (c : Chain) (l : EditList) → HasTables c.plain → list_fits l ≡ true → there_are_too_many c l ≡ false → BreakNothing c l → HasCounts c.plain → HasCounts (edited c.plain l.edits)
 counts_stay c l has form many none before = record {
   absent = λ t part. absent_after c l t has none part (before.absent t part);

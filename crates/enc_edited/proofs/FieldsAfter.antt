@@ -2,7 +2,6 @@
 use Rattle.std.proofs.Common.{◌≡◌, ℕ, zero, suc, ◌<◌, ◌≤◌, Bool, true, false, List, length, Option, Some, None, refl, sym, ap, ◌∙◌, inl, inr, arith}
 use Rattle.std.specs.Prelude.{◌==◌, ◌&&◌, ◌||◌, option_map, if◌then◌else◌}
 use Rattle.std.proofs.lemmas.Bool.{or_cases, and_parts}
-use Rattle.std.proofs.lemmas.Bool.Decides.{nat_tests}
 use Rattle.enc_base.specs.Order.{first_below}
 use Rattle.enc_base.specs.Token.{nth_row, nil, is_token}
 use Rattle.enc_base.specs.declared.token.Token.{Token}
@@ -20,7 +19,7 @@ use Rattle.enc_plain.specs.declared.extent.Extent.{Extent}
 use Rattle.enc_plain.specs.declared.extent.Extent.TheVariants.{Bytes, Class}
 use Rattle.enc_plain.proofs.Applied.{same_is}
 use Rattle.enc_plain.proofs.CellsOf.{token_there}
-use Rattle.enc_plain.proofs.KindsOf.{row_bounds, row_there}
+use Rattle.enc_plain.proofs.KindsOf.{row_bounds}
 use Rattle.enc_edits.specs.declared.edit.EditList.{EditList}
 use Rattle.enc_rules.specs.Edited.{edited}
 use Rattle.enc_edited.specs.Kept.{BreakNothing}

@@ -1,24 +1,18 @@
 -- The rows of edits that break no rule fit the module, one behind the other.
-use Rattle.std.proofs.Common.{◌≡◌, ◌≢◌, ℕ, zero, suc, ◌+◌, ◌-◌, ◌<◌, ◌≤◌, Bool, true, false, List, [], ◌∷◌, ◌++◌, length, take, Option, Some, None, refl, sym, ap, ◌∙◌, arith, append_assoc}
-use Rattle.std.specs.Prelude.{slice_get, ◌||◌, ◌&&◌, ◌==◌, not, nat_lt, nat_le, if◌then◌else◌}
-use Rattle.std.specs.List.{list_any, list_all}
+use Rattle.std.proofs.Common.{◌≡◌, ℕ, Bool, true, false, List, [], ◌∷◌, ◌++◌, length, refl, sym, ◌∙◌, arith, append_assoc}
+use Rattle.std.specs.Prelude.{◌||◌}
+use Rattle.std.specs.List.{list_any}
 use Rattle.std.proofs.lemmas.Bool.Decides.{nat_tests}
-use Rattle.std.proofs.lemmas.List.{append-nil}
 use Rattle.enc_base.specs.Token.{is_token}
 use Rattle.enc_base.specs.declared.token.Token.{Token}
-use Rattle.enc_plain.specs.Apply.{Change, put, apply}
 use Rattle.enc_plain.specs.Chain.{Chain}
-use Rattle.enc_plain.specs.Fits.{changes, FitsOne, Fits}
-use Rattle.enc_plain.specs.Module.{Module, rows_in}
-use Rattle.enc_plain.specs.Sound.{row_count}
+use Rattle.enc_plain.specs.Fits.{changes}
+use Rattle.enc_plain.specs.Module.{Module}
 use Rattle.enc_edits.specs.declared.edit.Edit.{Edit}
-use Rattle.enc_edits.specs.declared.edit.Edit.TheVariants.{Add, Body as Replace}
 use Rattle.enc_edits.specs.declared.edit.EditList.{EditList}
-use Rattle.enc_edits.specs.Added.{adds_to, rows_added}
-use Rattle.enc_rules.specs.Edited.{row_edited, rows_behind, rows_edited, cells_edited, changes_behind}
-use Rattle.enc_rules.specs.Rules.{of_edit, at_edit, row_is_edited_twice}
-use Rattle.enc_agg.proofs.Counting.{put_within, put_past, put_tables, rows_other, rows_same}
-use Rattle.enc_edited.proofs.Split.{seam, row_there, rows_before_it, rows_append, added_more}
+use Rattle.enc_rules.specs.Edited.{row_edited, rows_behind, rows_edited, changes_behind}
+use Rattle.enc_rules.specs.Rules.{row_is_edited_twice}
+use Rattle.enc_edited.proofs.Split.{seam, row_there, rows_before_it, rows_append}
 
 -- what no test passes of a list doesn't pass for a token among it
 abbrev pub Among : Token → List Token → Type 0

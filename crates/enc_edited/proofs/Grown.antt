@@ -53,6 +53,7 @@ new_row c l u has none past high =
     let row : row_count c.plain u.table + rows_added [] u.table + (u.row - row_count c.plain u.table - 1) + 1 ≡ u.row = omega (arith, zero_added, past) in
     record { at = w.at; edit = w.edit; there = w.there; row = w.row ∙ (rw row refl); adds = w.adds }
 
+-- which of the two it is
 pub origin : (c : Chain) (l : EditList) (u : Token) → HasTables c.plain → BreakNothing c l → has_row (edited c.plain l.edits) u ≡ true → Origin c l u
 origin c l u has none there =
     let bounds = row_bounds (edited c.plain l.edits) u there in

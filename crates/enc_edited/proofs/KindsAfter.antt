@@ -1,6 +1,6 @@
 -- Each row has a cell of its kind in each column after edits.
-use Rattle.std.proofs.Common.{◌≡◌, ℕ, zero, suc, ◌+◌, ◌<◌, Bool, true, false, List, [], ◌∷◌, length, map, drop, Option, Some, None, refl, sym, ap, ◌∙◌, arith, subst}
-use Rattle.std.specs.Prelude.{slice_get, ◌==◌, ◌&&◌, option_map, option_and_then, unwrap_or, is_some, filter, if◌then◌else◌}
+use Rattle.std.proofs.Common.{◌≡◌, ℕ, zero, suc, ◌+◌, ◌<◌, Bool, true, false, List, [], ◌∷◌, length, Option, Some, None, refl, sym, ap, ◌∙◌, arith, subst}
+use Rattle.std.specs.Prelude.{slice_get, ◌==◌, option_map, option_and_then, unwrap_or, is_some, filter, if◌then◌else◌}
 use Rattle.std.proofs.lemmas.Bool.Decides.{nat_tests}
 use Rattle.std.proofs.lemmas.List.{length-map}
 use Rattle.enc_base.specs.Token.{nth_row}
@@ -20,31 +20,32 @@ use Rattle.enc_edits.specs.declared.edit.CellValue.{CellValue}
 use Rattle.enc_edits.specs.declared.edit.Edit.{Edit}
 use Rattle.enc_edits.specs.declared.edit.Edit.TheVariants.{Add, Body as Replace}
 use Rattle.enc_edits.specs.declared.edit.EditList.{EditList}
-use Rattle.enc_edits.specs.Form.{is_stated, begins_with_rva, stated_columns, cells_fit, list_fits}
-use Rattle.enc_rules.specs.Edited.{rows_edited, row_edited, cell_stated, cells_stated, cells_edited, cells_with, body_stated, edited}
+use Rattle.enc_edits.specs.Form.{is_stated, stated_columns, cells_fit, list_fits}
+use Rattle.enc_rules.specs.Edited.{rows_edited, cell_stated, cells_stated, cells_edited, cells_with, body_stated, edited}
 use Rattle.enc_edited.specs.Kept.{BreakNothing}
 use Rattle.enc_edited.proofs.Landed.{lands}
-use Rattle.enc_edited.proofs.Changed.{IsEditOf, IsRow, changed, kept, row_is}
+use Rattle.enc_edited.proofs.Changed.{IsRow, changed, kept, row_is}
 use Rattle.enc_edited.proofs.Stated.{stated_is, fit_length, kind_fits}
 use Rattle.enc_edited.proofs.AddedRow.{IsAdd, add_is, no_field_rva, cells_plain, columns_plain}
 use Rattle.enc_edited.proofs.Agreed.{row_at_place}
 use Rattle.enc_edited.proofs.CellCases.{CellCase, stated, given, old, cell_of_cells, cell_case, edit_table}
 
 -- each row has as many cells as columns with one
-abbrev pub HasLengths : Module → Type 0
+abbrev HasLengths : Module → Type 0
 HasLengths m = (t n : ℕ) (r : Row) → slice_get (rows_in m t) n ≡ Some r → length r.cells ≡ cell_count t
 
 same_some : {A : Type 0} (a b : A) → Some a ≡ Some b → a ≡ b
 same_some a b h = cc
 
 -- and so has a token's row
-pub cells_length : (m : Module) (u : Token) (cells : List Cell) → HasLengths m → cells_of m u ≡ Some cells → length cells ≡ cell_count u.table
+cells_length : (m : Module) (u : Token) (cells : List Cell) → HasLengths m → cells_of m u ≡ Some cells → length cells ≡ cell_count u.table
 unfolding row_of
 cells_length m u cells has h = by_place u.row h
   where
     by_row : (n : ℕ) (o : Option Row) → slice_get (rows_in m u.table) n ≡ o → option_map (λ (r : Row). r.cells) o ≡ Some cells → length cells ≡ cell_count u.table
     by_row n None is g = absurd cc
     by_row n (Some r) is g = rw (← same_some r.cells cells g) (has u.table n r is)
+
     by_place : (row : ℕ) → option_map (λ (r : Row). r.cells) (row_at (rows_in m u.table) row) ≡ Some cells → length cells ≡ cell_count u.table
     by_place zero g = absurd cc
     by_place (suc n) g = by_row n (slice_get (rows_in m u.table) n) refl g
@@ -106,10 +107,10 @@ length_by : (c : Chain) (l : EditList) (u : Token) (cells : List Cell) → HasLe
 length_by c l u cells has form none (changed w) = ap length w.gives ∙ edit_length c l w.at w.edit u has form none w.there w.row
 length_by c l u cells has form none (kept w) = cells_length c.plain u cells has w
 
-pub lengths_after : (c : Chain) (l : EditList) → HasTables c.plain → HasLengths c.plain → list_fits l ≡ true → BreakNothing c l → HasLengths (edited c.plain l.edits)
+lengths_after : (c : Chain) (l : EditList) → HasTables c.plain → HasLengths c.plain → list_fits l ≡ true → BreakNothing c l → HasLengths (edited c.plain l.edits)
 lengths_after c l tables has form none = λ t n r e. length_by c l (nth_row t n) r.cells has form none (row_is c l (nth_row t n) r.cells tables none (cells_at (edited c.plain l.edits) t n r e))
 
--- where a cell has a kind, there is a column with a kind
+-- the column of a cell of this kind has a kind too
 kinded_by : (table i : ℕ) (k : Kind) (b f : Bool) → is_body table i ≡ b → is_field table i ≡ f → (if b then Some bodies else if f then Some fields else option_and_then kind_of (column_in table i)) ≡ Some k → (column : Column) × (column_in table i ≡ Some column) × (is_some (kind_of column) ≡ true)
 unfolding columns_in
 kinded_by table i k true f b1 f1 h =
@@ -122,6 +123,7 @@ kinded_by table i k false true b1 f1 h =
     (Num32, rw (t, z) refl, refl)
 kinded_by table i k false false b1 f1 h = let w = column_with (column_in table i) k h in (w.0, w.1, rw w.2 refl)
 
+-- where a cell has a kind, there is a column with a kind
 pub kinded : (table i : ℕ) (k : Kind) → kind_in table i ≡ Some k → (column : Column) × (column_in table i ≡ Some column) × (is_some (kind_of column) ≡ true)
 kinded table i k h = kinded_by table i k (is_body table i) (is_field table i) refl refl h
 
@@ -136,7 +138,7 @@ some_of None h = absurd cc
 some_of (Some x) h = (x, refl)
 
 -- so a cell stands in each such column of a row
-pub cell_exists : (m : Module) (u : Token) (i : ℕ) (column : Column) → HasLengths m → has_row m u ≡ true → column_in u.table i ≡ Some column → is_some (kind_of column) ≡ true → (x : Cell) × (cell_of m u i ≡ Some x)
+cell_exists : (m : Module) (u : Token) (i : ℕ) (column : Column) → HasLengths m → has_row m u ≡ true → column_in u.table i ≡ Some column → is_some (kind_of column) ≡ true → (x : Cell) × (cell_of m u i ≡ Some x)
 cell_exists m u i column has there e kind =
     let cells = some_of (cells_of m u) (sym (has_cells m u) ∙ there) in
     let many = cells_length m u cells.0 has cells.1 in
@@ -161,5 +163,6 @@ one_kind c l u i k tables before form none there kind =
     let x = cell_exists (edited c.plain l.edits) u i w.0 (lengths_after c l tables before.lengths form none) there w.1 w.2 in
     ap (λ o. option_map cell_kind o) x.1 ∙ kind_by c l u i k w.0 x.0 before kind w.1 (cell_case c l u i w.0 x.0 tables form none w.1 w.2 x.1)
 
+-- after edits each row has as many cells as columns with one, each of its column's kind
 pub kinds_after : (c : Chain) (l : EditList) → HasTables c.plain → HasKinds c.plain → list_fits l ≡ true → BreakNothing c l → HasKinds (edited c.plain l.edits)
 kinds_after c l tables before form none = record { lengths = lengths_after c l tables before.lengths form none; kinds = λ u i k there kind. one_kind c l u i k tables before form none there kind }

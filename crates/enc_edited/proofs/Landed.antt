@@ -1,14 +1,12 @@
 -- Where the rows of edits land: behind the last of their table, or in the place of a method that was there.
-use Rattle.std.proofs.Common.{◌≡◌, ◌≢◌, ℕ, zero, suc, ◌+◌, ◌-◌, ◌<◌, ◌≤◌, Bool, true, false, List, [], ◌∷◌, ◌++◌, length, take, Option, Some, None, refl, sym, ap, ◌∙◌, inl, inr, arith, append_assoc}
+use Rattle.std.proofs.Common.{◌≡◌, ◌≢◌, ℕ, zero, suc, ◌+◌, ◌-◌, ◌<◌, ◌≤◌, Bool, true, false, List, [], ◌∷◌, ◌++◌, length, take, Some, refl, sym, ap, ◌∙◌, arith}
 use Rattle.std.specs.Prelude.{slice_get, ◌||◌, ◌&&◌, ◌==◌, not, nat_lt, nat_le, if◌then◌else◌}
-use Rattle.std.specs.List.{list_any, list_all}
-use Rattle.std.proofs.lemmas.Bool.{cases_eq}
+use Rattle.std.specs.List.{list_any}
 use Rattle.std.proofs.lemmas.Bool.Decides.{nat_tests}
-use Rattle.std.proofs.lemmas.List.{append-nil}
 use Rattle.enc_base.specs.Token.{is_token}
 use Rattle.enc_base.specs.declared.token.Token.{Token}
 use Rattle.enc_plain.specs.Chain.{Chain}
-use Rattle.enc_plain.specs.Module.{Module, rows_in}
+use Rattle.enc_plain.specs.Module.{Module}
 use Rattle.enc_plain.specs.Sound.{row_count}
 use Rattle.enc_edits.specs.declared.edit.Edit.{Edit}
 use Rattle.enc_edits.specs.declared.edit.Edit.TheVariants.{Add, Body as Replace}
@@ -17,10 +15,10 @@ use Rattle.enc_edits.specs.Added.{adds_to, adding, rows_added}
 use Rattle.enc_delta.specs.Rules.{may_change}
 use Rattle.enc_rules.specs.Edited.{row_edited, rows_behind, rows_edited}
 use Rattle.enc_rules.specs.Listed.{count_after}
-use Rattle.enc_rules.specs.Rules.{of_edit, at_edit, row_is_edited_twice, table_breaks, table_is_closed, is_row_of, token_breaks, token_is_missing}
+use Rattle.enc_rules.specs.Rules.{row_is_edited_twice, table_breaks, table_is_closed, is_row_of, token_is_missing}
 use Rattle.enc_agg.proofs.InTables.{may_small}
 use Rattle.enc_edited.specs.Kept.{BreakNothing}
-use Rattle.enc_edited.proofs.Split.{seam, row_there, rows_before_it, rows_append, rows_length, added_more, take_seam}
+use Rattle.enc_edited.proofs.Split.{added_more}
 
 -- an edit that adds the r-th of the rows that some edits add to a table, and its row
 pub record IsAdder (m : Module) (pre xs : List Edit) (t r : ℕ) : Type 0 where
@@ -142,10 +140,12 @@ new_method c l k method f none there row adds table low high past = by_order (na
   where
     w : IsAdder c.plain [] l.edits 6 (method.row - row_count c.plain 6 - 1)
     w = adder c.plain [] l.edits 6 (method.row - row_count c.plain 6 - 1) (omega (arith, high, past))
+
     is : slice_get (rows_edited c.plain l.edits) w.at ≡ Some method
     is = let zero_added = no_rows 6 in
         let n : row_count c.plain 6 + rows_added [] 6 + (method.row - row_count c.plain 6 - 1) + 1 ≡ method.row = omega (arith, zero_added, past) in
         w.row ∙ (rw (n, ← table) refl)
+
     by_order : (a b : Bool) → nat_lt w.at k ≡ a → nat_lt k w.at ≡ b → ⊥
     by_order true b p q = meets (is_token method method) (same_self method) (apart c l w.at k w.edit f method method none w.there there is row (grind (arith, nat_tests, p)))
     by_order false true p q = meets (is_token method method) (same_self method) (apart c l k w.at f w.edit method method none there w.there row is (grind (arith, nat_tests, q)))

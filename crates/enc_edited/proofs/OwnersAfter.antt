@@ -1,7 +1,7 @@
 -- Each row of a child table is the child of one owner after edits.
-use Rattle.std.proofs.Common.{◌≡◌, ℕ, zero, suc, ◌+◌, ◌<◌, ◌≤◌, Bool, true, false, cond, List, [], ◌∷◌, ◌++◌, length, Some, refl, sym, ap, subst, ◌∙◌, inl, inr, arith, append_assoc}
+use Rattle.std.proofs.Common.{◌≡◌, ℕ, zero, suc, ◌+◌, ◌<◌, ◌≤◌, Bool, true, false, cond, List, [], ◌∷◌, ◌++◌, length, Some, refl, sym, ap, ◌∙◌, inl, inr, arith, append_assoc}
 use Rattle.std.specs.Prelude.{slice_get, ◌==◌, ◌&&◌, not, nat_lt, nat_le, count_by, if◌then◌else◌}
-use Rattle.std.proofs.lemmas.Bool.{cases_lt, cases_eq, and_parts}
+use Rattle.std.proofs.lemmas.Bool.{cases_lt, cases_eq}
 use Rattle.std.proofs.lemmas.Bool.Decides.{nat_tests}
 use Rattle.std.proofs.lemmas.List.{append-nil}
 use Rattle.enc_base.specs.declared.token.Token.{Token}
@@ -10,7 +10,7 @@ use Rattle.enc_schema.proofs.ChildTables.{by_child}
 use Rattle.enc_plain.specs.Apply.{Attached, change_row, with_child, attach, attach_all, apply}
 use Rattle.enc_plain.specs.Chain.{Chain}
 use Rattle.enc_plain.specs.Fits.{Attaches, AllAttach, HasRuns}
-use Rattle.enc_plain.specs.Module.{Module, rows_in, has_row}
+use Rattle.enc_plain.specs.Module.{Module}
 use Rattle.enc_plain.specs.Sound.{row_count, all_kids, HasTables, IsOwned, HasOwners}
 use Rattle.enc_plain.proofs.Applied.{runs_applied}
 use Rattle.enc_plain.proofs.AttachedTo.{change_length, count_attached, runs_attached}
@@ -235,6 +235,7 @@ once_after c l has none runs before t row there =
     ∙ ap (λ n. cond (nat_le 1 row && nat_le row (row_count c.plain t)) 1 0 + n) (new_pairs c l t row has none there)
     ∙ total row (row_count c.plain t) (row_count (edited c.plain l.edits) t) (rows_grow c l t has none)
 
+-- so after edits each row has lists of children, and each child row stands once in one of them
 pub owners_after : (c : Chain) (l : EditList) → BreakNothing c l → HasOwners c.plain → HasOwners (edited c.plain l.edits)
 owners_after c l none before = record {
   tables = has_tables c l before.tables none;

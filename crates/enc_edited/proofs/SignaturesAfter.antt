@@ -1,6 +1,6 @@
 -- Each signature is one of its table's kind after edits.
-use Rattle.std.proofs.Common.{◌≡◌, ℕ, ◌≤◌, Bool, true, false, List, Option, Some, refl, sym, ap, subst, ◌∙◌, arith}
-use Rattle.std.specs.Prelude.{slice_get, not, ◌==◌, ◌&&◌}
+use Rattle.std.proofs.Common.{◌≡◌, ℕ, ◌≤◌, Bool, true, false, Some, refl, sym, subst, arith}
+use Rattle.std.specs.Prelude.{slice_get, not, ◌==◌}
 use Rattle.std.proofs.lemmas.Bool.Decides.{nat_tests}
 use Rattle.enc_base.specs.declared.token.Token.{Token}
 use Rattle.enc_plain.specs.Cell.{is_body}
@@ -72,5 +72,6 @@ by_origin : (c : Chain) (l : EditList) (u : Token) (i : ℕ) → HasTables c.pla
 by_origin c l u i has none before (was there low) column = old_signature c l u i has none before there low column
 by_origin c l u i has none before (new w) column = new_signature c l u i has none w column
 
+-- so each signature is one after edits
 pub signatures_stay : (c : Chain) (l : EditList) → HasTables c.plain → BreakNothing c l → HasSignatures c.plain → HasSignatures (edited c.plain l.edits)
 signatures_stay c l has none before = record { each = λ u i there column. by_origin c l u i has none before (origin c l u has none there) column }

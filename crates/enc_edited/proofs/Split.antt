@@ -1,11 +1,9 @@
 -- An edit among others: what its place is, and what its row is.
-use Rattle.std.proofs.Common.{◌≡◌, ℕ, zero, suc, ◌+◌, ◌<◌, Bool, true, false, List, [], ◌∷◌, ◌++◌, length, take, drop, Option, Some, None, refl, sym, ap, ◌∙◌, arith, append_assoc}
-use Rattle.std.specs.Prelude.{slice_get, filter, if◌then◌else◌, ◌==◌}
+use Rattle.std.proofs.Common.{◌≡◌, ℕ, zero, suc, ◌+◌, ◌<◌, Bool, true, false, List, [], ◌∷◌, ◌++◌, length, take, Some, refl, ap, ◌∙◌, arith, append_assoc}
+use Rattle.std.specs.Prelude.{slice_get, filter, if◌then◌else◌}
 use Rattle.std.proofs.lemmas.List.{append-nil, length-append}
-use Rattle.enc_base.specs.declared.token.Token.{Token}
 use Rattle.enc_plain.specs.Module.{Module}
 use Rattle.enc_edits.specs.declared.edit.Edit.{Edit}
-use Rattle.enc_edits.specs.declared.edit.Edit.TheVariants.{Add, Body as Replace}
 use Rattle.enc_edits.specs.Added.{adds_to, adding, rows_added}
 use Rattle.enc_rules.specs.Edited.{row_edited, rows_behind, rows_edited}
 

@@ -1,16 +1,14 @@
 -- What stands in the columns of an added row: the value that is stated for each, of its column's kind.
-use Rattle.std.proofs.Common.{◌≡◌, ◌≢◌, ℕ, zero, suc, ◌+◌, ◌-◌, ◌<◌, ◌≤◌, Bool, true, false, List, [], ◌∷◌, ◌++◌, length, map, drop, Option, Some, None, refl, sym, ap, ◌∙◌, inl, inr, arith, subst}
-use Rattle.std.specs.Prelude.{slice_get, ◌==◌, ◌&&◌, ◌||◌, not, nat_lt, nat_le, option_map, is_some, filter, if◌then◌else◌}
+use Rattle.std.proofs.Common.{◌≡◌, ℕ, zero, suc, Bool, true, false, List, [], ◌∷◌, length, Some, refl, sym, ap, ◌∙◌}
+use Rattle.std.specs.Prelude.{slice_get, ◌||◌, not, is_some, filter, if◌then◌else◌}
 use Rattle.std.specs.List.{list_all}
-use Rattle.std.proofs.lemmas.Bool.Decides.{nat_tests}
 use Rattle.enc_schema.specs.declared.column.Column.{Column}
 use Rattle.enc_schema.specs.declared.column.Column.TheVariants.{Num8, Num16, Num32, Text, Guid, Blob, Index, Coded, Run}
-use Rattle.enc_schema.specs.Schema.{columns_in, column_in, schema, list_at}
-use Rattle.enc_plain.specs.Cell.{Cell, Kind, numbers, texts, blobs, guids, references, kind_of, cell_kind, cell_count}
-use Rattle.enc_plain.proofs.Columns.{runs_last, all_last, each, none_last, both_left, both_right}
+use Rattle.enc_plain.specs.Cell.{kind_of, cell_kind}
+use Rattle.enc_plain.proofs.Columns.{runs_last, none_last, both_left, both_right}
 use Rattle.enc_edits.specs.declared.edit.CellValue.{CellValue}
 use Rattle.enc_edits.specs.declared.edit.CellValue.TheVariants as cell
-use Rattle.enc_edits.specs.Form.{is_stated, begins_with_rva, stated_columns, cell_fits, cells_fit}
+use Rattle.enc_edits.specs.Form.{is_stated, begins_with_rva, cell_fits, cells_fit}
 use Rattle.enc_rules.specs.Edited.{cell_stated}
 use Rattle.enc_rules.specs.Rules.{value_breaks, cells_break}
 

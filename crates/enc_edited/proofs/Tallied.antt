@@ -1,6 +1,6 @@
 -- How many rows each table has while the rows of edits are put, and that each fits.
-use Rattle.std.proofs.Common.{◌≡◌, ◌≢◌, ℕ, zero, suc, ◌+◌, ◌-◌, ◌<◌, ◌≤◌, Bool, true, false, List, [], ◌∷◌, ◌++◌, length, Option, Some, None, refl, sym, ap, ◌∙◌, inl, inr, arith, append_assoc, subst}
-use Rattle.std.specs.Prelude.{slice_get, ◌==◌, nat_lt, if◌then◌else◌}
+use Rattle.std.proofs.Common.{◌≡◌, ◌≢◌, ℕ, ◌+◌, ◌-◌, ◌<◌, ◌≤◌, Bool, true, false, List, [], ◌∷◌, ◌++◌, length, refl, sym, ap, ◌∙◌, arith, append_assoc, subst}
+use Rattle.std.specs.Prelude.{◌==◌}
 use Rattle.std.proofs.lemmas.Bool.Decides.{nat_tests}
 use Rattle.std.proofs.lemmas.List.{append-nil}
 use Rattle.enc_base.specs.declared.token.Token.{Token}
@@ -17,7 +17,7 @@ use Rattle.enc_rules.specs.Edited.{row_edited, rows_behind, rows_edited, cells_e
 use Rattle.enc_agg.proofs.Counting.{put_within, put_past, put_tables, rows_other, rows_same}
 use Rattle.enc_edited.specs.Kept.{BreakNothing}
 use Rattle.enc_edited.proofs.Split.{seam, row_there, rows_append, added_more}
-use Rattle.enc_edited.proofs.Fitted.{Among, among_last, Fresh, none_changed, all_fresh}
+use Rattle.enc_edited.proofs.Fitted.{among_last, Fresh, none_changed}
 use Rattle.enc_edited.proofs.Landed.{Lands, row_is_of, lands}
 
 -- with the rows of some edits put into a module, each table has so many
