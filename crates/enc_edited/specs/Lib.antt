@@ -1,3 +1,4 @@
 pub mod Plain
 pub mod Meant
 pub mod Begun
+pub mod Kept
