@@ -7,6 +7,7 @@
  *   (handle, buffer, size, structs) lies apart from all else that the call is given; where a length is 0
  *   its pointer may be NULL;
  * - one call at a time on a handle, also of those that only look: a handle is closed while a call runs;
+ * - a handle stays on the thread that opened it;
  * - malloc, realloc and free are those of one allocator;
  * - no call from a signal handler, or from the forked child of a process with threads.
  */
