@@ -66,6 +66,9 @@ fn assembles_a_branch_over_a_call(rt: HostRuntime) -> Result<(), Fail> {
     };
     let mut heaps = HeapBuilder::begin(alloc, none)?;
     let bytes = assemble(alloc, &code(), &mut heaps)?;
-    assert_eq!(rt; bytes.as_slice(), [0x0E, 5, 0x2B, 5, 0x28, 1, 0, 0, 0x0A, 0x2A].as_slice());
+    assert_eq!(rt;
+        bytes.as_slice(),
+        [0x0E, 5, 0x2B, 5, 0x28, 1, 0, 0, 0x0A, 0x2A].as_slice()
+    );
     Ok(())
 }
