@@ -1,7 +1,8 @@
 -- A list with no first rule that it breaks breaks none, and so keeps a sound module sound.
 use Rattle.std.proofs.Common.{◌≡◌, ℕ, zero, suc, ◌+◌, ◌<◌, ◌≤◌, Bool, true, false, List, [], ◌∷◌, length, take, Option, Some, None, slice_get, if◌then◌else◌, ◌⊎◌, inl, inr, refl, sym, ap, ◌∙◌, arith}
 use Rattle.std.specs.List.{list_all}
-use Rattle.std.proofs.lemmas.Option.{slice_get_past}
+use Rattle.std.proofs.lemmas.List.{take_all}
+use Rattle.std.proofs.lemmas.Option.{slice_get_cases}
 use Rattle.enc_base.specs.Order.{or_else, first_below}
 use Rattle.enc_base.specs.declared.token.Token.{Token}
 use Rattle.enc_base.proofs.First.{silent}
@@ -46,28 +47,13 @@ few c l none =
     (not_told (there_are_too_many c l) (24, 0) None last.1).0
 
 -- past the list no rule is broken
-past_edits : (rule : Edit → Token → Bool) (c : Chain) (l : EditList) (k : ℕ) → length l.edits ≤ k → at_edit rule c l k ≡ false
-past_edits rule c l k high = rw (slice_get_past l.edits k high) refl
-
-where_is : (k n : ℕ) → (k < n) ⊎ (n ≤ k)
-where_is zero zero = inr (omega arith)
-where_is zero (suc n) = inl (omega arith)
-where_is (suc k) zero = inr (omega arith)
-where_is (suc k) (suc n) = elim (where_is k n) [
-  | inl low ↦ inl (omega (arith, low))
-  | inr high ↦ inr (omega (arith, high))
+everywhere : (rule : ℕ → Edit → Token → Bool) (c : Chain) (l : EditList) → ((k : ℕ) → k < length l.edits → at_edit (rule k) c l k ≡ false) → (k : ℕ) → at_edit (rule k) c l k ≡ false
+everywhere rule c l within k = elim (slice_get_cases l.edits k).1 [
+  | inl there ↦ within k there.1.0
+  | inr past ↦ rw past.1 refl
 ]
 
-everywhere : (rule : Edit → Token → Bool) (c : Chain) (l : EditList) → ((k : ℕ) → k < length l.edits → at_edit rule c l k ≡ false) → (k : ℕ) → at_edit rule c l k ≡ false
-everywhere rule c l within k = elim (where_is k (length l.edits)) [
-  | inl low ↦ within k low
-  | inr high ↦ past_edits rule c l k high
-]
-
-whole : (edits : List Edit) → take (length edits) edits ≡ edits
-whole [] = refl
-whole (e ∷ edits) = ap (λ (es : List Edit). e ∷ es) (whole edits)
-
+-- with the last edit no heap passes its limit
 short_all : (c : Chain) (l : EditList) → ((k : ℕ) → k < length l.edits → heap_passes c l k ≡ false) → list_all blobs_are_short l.edits ≡ true
 unfolding heap_passes
 short_all c l within = by l.edits refl
@@ -78,7 +64,7 @@ short_all c l within = by l.edits refl
         let low : length edits < length l.edits = rw is (omega arith) in
         let all : length edits + 1 ≡ length l.edits = rw is (omega arith) in
         let room : passes_limits (with_edits (rows_listed c l.edits) (none_from (joined_lengths c.heaps)) (take (length edits + 1) l.edits)) ≡ false = within (length edits) low in
-        short_edits (rows_listed c l.edits) (none_from (joined_lengths c.heaps)) l.edits (rw (all, whole l.edits) at room)
+        short_edits (rows_listed c l.edits) (none_from (joined_lengths c.heaps)) l.edits (rw (all, take_all (length l.edits) l.edits (omega arith)) at room)
 
 nothing_breaks : (c : Chain) (l : EditList) → ((k : ℕ) → k < length l.edits → Unbroken edit_rules c l k) → BreakNothing c l
 unfolding row_is_edited_twice owner_is_missing table_is_closed token_is_missing body_is_broken signature_is_bad locals_are_bad

@@ -89,6 +89,7 @@ short_cells (cell.Text bytes ∷ cells) all = short_cells cells all
 short_cells (cell.Blob bytes ∷ cells) all =
     let two = parts (is_short bytes) (list_all is_short (flat_map blobs_in_cell cells)) all in
     both (is_short bytes) (list_all blob_is_short cells) two.0 (short_cells cells two.1)
+short_cells (cell.Guid bytes ∷ cells) all = short_cells cells all
 short_cells (cell.Refer t ∷ cells) all = short_cells cells all
 
 short_edit : (rows : Rows) (h : Built) (e : Edit) → passes_limits (heaps_after_edit rows h e) ≡ false → blobs_are_short e ≡ true
