@@ -1,5 +1,5 @@
 -- A list with no first rule that it breaks breaks none, and so keeps a sound module sound.
-use Rattle.std.proofs.Common.{◌≡◌, ℕ, zero, suc, ◌+◌, ◌<◌, ◌≤◌, Bool, true, false, List, [], ◌∷◌, length, take, Option, Some, None, slice_get, if◌then◌else◌, ◌⊎◌, inl, inr, refl, sym, ap, ◌∙◌, arith}
+use Rattle.std.proofs.Common.{◌≡◌, ℕ, ◌+◌, ◌<◌, Bool, true, false, List, [], ◌∷◌, length, take, Option, Some, None, if◌then◌else◌, inl, inr, refl, arith}
 use Rattle.std.specs.List.{list_all}
 use Rattle.std.proofs.lemmas.List.{take_all}
 use Rattle.std.proofs.lemmas.Option.{slice_get_cases}
@@ -13,10 +13,10 @@ use Rattle.enc_plain.specs.Sound.{IsSound}
 use Rattle.enc_edits.specs.declared.edit.Edit.{Edit}
 use Rattle.enc_edits.specs.declared.edit.EditList.{EditList}
 use Rattle.enc_edits.specs.Form.{list_fits}
-use Rattle.enc_rules.specs.Edited.{rows_edited, edited}
+use Rattle.enc_rules.specs.Edited.{edited}
 use Rattle.enc_rules.specs.First.{EditRule, list_rules, edit_rules, first_of_list, first_at, first_edit}
 use Rattle.enc_rules.specs.Listed.{rows_listed}
-use Rattle.enc_rules.specs.Rules.{at_edit, of_edit, id_is_taken, heaps_are_full, there_are_too_many, passes_limits, with_edits, heap_passes, row_is_edited_twice, owner_is_missing, table_is_closed, token_is_missing, body_is_broken, signature_is_bad, locals_are_bad}
+use Rattle.enc_rules.specs.Rules.{at_edit, id_is_taken, heaps_are_full, there_are_too_many, passes_limits, with_edits, heap_passes, row_is_edited_twice, owner_is_missing, table_is_closed, token_is_missing, body_is_broken, signature_is_bad, locals_are_bad}
 use Rattle.enc_edited.proofs.Unbroken.{blobs_are_short, BreakNothing}
 use Rattle.enc_edited.proofs.ShortBlobs.{short_edits}
 use Rattle.enc_edited.proofs.KeptSound.{sound_after}
@@ -49,7 +49,7 @@ few c l none =
 -- past the list no rule is broken
 everywhere : (rule : ℕ → Edit → Token → Bool) (c : Chain) (l : EditList) → ((k : ℕ) → k < length l.edits → at_edit (rule k) c l k ≡ false) → (k : ℕ) → at_edit (rule k) c l k ≡ false
 everywhere rule c l within k = elim (slice_get_cases l.edits k).1 [
-  | inl there ↦ within k there.1.0
+  | inl there ↦ within k there.1
   | inr past ↦ rw past.1 refl
 ]
 

@@ -1,11 +1,11 @@
 -- Blobs that are put into a heap within its limit can be spelled.
-use Rattle.std.proofs.Common.{◌≡◌, ℕ, zero, suc, ◌+◌, ◌<◌, ◌≤◌, ◌^◌, Bool, true, false, ◌||◌, ◌&&◌, List, [], ◌∷◌, ◌++◌, length, flat_map, sum_by, nat_lt, bytes_eq, refl, ap, ◌∙◌, sym, arith}
+use Rattle.std.proofs.Common.{◌≡◌, ℕ, ◌<◌, ◌≤◌, ◌^◌, Bool, true, false, ◌||◌, ◌&&◌, List, [], ◌∷◌, length, flat_map, sum_by, nat_lt, bytes_eq, refl, ap, arith}
 use Rattle.std.specs.List.{list_all}
 use Rattle.std.proofs.lemmas.Bool.{false≢true}
 use Rattle.std.proofs.lemmas.Bool.Decides.{nat_tests}
 use Rattle.std.proofs.lemmas.List.{length-append}
 use Rattle.std.proofs.lemmas.List.Sums.{sum_by-cons, sum_by_push}
-use Rattle.enc_base.specs.Numbers.{spelled, is_empty}
+use Rattle.enc_base.specs.Numbers.{spelled}
 use Rattle.enc_meta.specs.Built.{Built, is_among, is_kept, with_value, joined_end, text_bytes, user_bytes, blob_bytes, with_blob}
 use Rattle.enc_meta.proofs.Standing.{same_bytes}
 use Rattle.enc_plain.specs.Rows.{Rows}
@@ -13,7 +13,7 @@ use Rattle.enc_edits.specs.declared.edit.CellValue.{CellValue}
 use Rattle.enc_edits.specs.declared.edit.CellValue.TheVariants as cell
 use Rattle.enc_edits.specs.declared.edit.Edit.{Edit}
 use Rattle.enc_edits.specs.declared.edit.Edit.TheVariants.{Add, Body as Replace}
-use Rattle.enc_rules.specs.Rules.{passes_limits, blobs_in_cell, with_texts, with_users, with_blobs, texts_of_edit, users_of_edit, heaps_after_edit, with_edits}
+use Rattle.enc_rules.specs.Rules.{passes_limits, blobs_in_cell, with_blobs, heaps_after_edit, with_edits}
 use Rattle.enc_rules.proofs.Filling.{passes_blobs, passes_edits}
 use Rattle.enc_edited.proofs.Unbroken.{blob_is_short, blobs_are_short}
 
