@@ -18,7 +18,7 @@ use Rattle.enc_edits.specs.declared.edit.EditList.{EditList}
 use Rattle.enc_edits.specs.Added.{adds_to, adding, rows_added}
 use Rattle.enc_rules.specs.Edited.{row_edited, rows_behind, rows_edited, cells_edited, cells_with, changes_behind, edited}
 use Rattle.enc_rules.specs.Listed.{edit_of, rows_listed}
-use Rattle.enc_edited.specs.Kept.{BreakNothing}
+use Rattle.enc_edited.proofs.Unbroken.{BreakNothing}
 use Rattle.enc_edited.proofs.Split.{seam, row_there, adding_append, few_of}
 use Rattle.enc_edited.proofs.Landed.{lands, adder, no_rows}
 use Rattle.enc_edited.proofs.Changed.{edit_found, cells_after}

@@ -24,7 +24,7 @@ use Rattle.enc_edits.specs.Sizes.{length_of_code}
 use Rattle.enc_rules.specs.Edited.{rows_edited, body_stated, edited}
 use Rattle.enc_rules.specs.Listed.{count_after, rows_listed, body_given}
 use Rattle.enc_rules.specs.Rules.{given_stands, room_of_edit, is_il, body_is_broken, locals_are_bad}
-use Rattle.enc_edited.specs.Kept.{BreakNothing}
+use Rattle.enc_edited.proofs.Unbroken.{BreakNothing}
 use Rattle.enc_edited.proofs.Agreed.{numbers_agree, bytes_agree, numbers_stay, bytes_stay}
 use Rattle.enc_edited.proofs.CellCases.{GivesBody}
 use Rattle.enc_edited.proofs.Grown.{count_is, rows_grow}

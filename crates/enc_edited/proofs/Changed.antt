@@ -16,7 +16,7 @@ use Rattle.enc_edits.specs.declared.edit.Edit.{Edit}
 use Rattle.enc_edits.specs.declared.edit.EditList.{EditList}
 use Rattle.enc_edits.specs.Added.{rows_added}
 use Rattle.enc_rules.specs.Edited.{row_edited, rows_behind, cells_edited, changes_behind, attached_in, edited}
-use Rattle.enc_edited.specs.Kept.{BreakNothing}
+use Rattle.enc_edited.proofs.Unbroken.{BreakNothing}
 use Rattle.enc_edited.proofs.Fitted.{all_fresh}
 use Rattle.enc_edited.proofs.Landed.{no_rows}
 use Rattle.enc_edited.proofs.Tallied.{Tally, fits_from, tally_from}

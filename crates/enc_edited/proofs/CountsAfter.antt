@@ -18,7 +18,7 @@ use Rattle.enc_delta.specs.Rules.{may_change}
 use Rattle.enc_rules.specs.Edited.{rows_edited, edited}
 use Rattle.enc_rules.specs.Rules.{table_breaks, table_is_closed, there_are_too_many}
 use Rattle.enc_rules.proofs.RowsFew.{rows_few}
-use Rattle.enc_edited.specs.Kept.{BreakNothing}
+use Rattle.enc_edited.proofs.Unbroken.{BreakNothing}
 use Rattle.enc_edited.proofs.Landed.{adder}
 use Rattle.enc_edited.proofs.Changed.{counts_after}
 use Rattle.enc_edited.proofs.Grown.{count_is}

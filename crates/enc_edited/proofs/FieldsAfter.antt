@@ -22,7 +22,7 @@ use Rattle.enc_plain.proofs.CellsOf.{token_there}
 use Rattle.enc_plain.proofs.KindsOf.{row_bounds}
 use Rattle.enc_edits.specs.declared.edit.EditList.{EditList}
 use Rattle.enc_rules.specs.Edited.{edited}
-use Rattle.enc_edited.specs.Kept.{BreakNothing}
+use Rattle.enc_edited.proofs.Unbroken.{BreakNothing}
 use Rattle.enc_edited.proofs.Agreed.{numbers_stay, bytes_stay, tokens_stay}
 use Rattle.enc_edited.proofs.Grown.{rows_grow}
 use Rattle.enc_edited.proofs.BodiesAfter.{no_body}

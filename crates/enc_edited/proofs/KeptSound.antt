@@ -6,7 +6,7 @@ use Rattle.enc_edits.specs.declared.edit.EditList.{EditList}
 use Rattle.enc_edits.specs.Form.{list_fits}
 use Rattle.enc_rules.specs.Edited.{edited}
 use Rattle.enc_rules.specs.Rules.{there_are_too_many}
-use Rattle.enc_edited.specs.Kept.{BreakNothing}
+use Rattle.enc_edited.proofs.Unbroken.{BreakNothing}
 use Rattle.enc_edited.proofs.CellsAfter.{cells_fit_after}
 use Rattle.enc_edited.proofs.CountsAfter.{counts_stay}
 use Rattle.enc_edited.proofs.KindsAfter.{kinds_after}

@@ -22,7 +22,7 @@ use Rattle.enc_edits.specs.declared.edit.Edit.TheVariants.{Add, Body as Replace}
 use Rattle.enc_edits.specs.declared.edit.EditList.{EditList}
 use Rattle.enc_edits.specs.Form.{is_stated, stated_columns, cells_fit, list_fits}
 use Rattle.enc_rules.specs.Edited.{rows_edited, cell_stated, cells_stated, cells_edited, cells_with, body_stated, edited}
-use Rattle.enc_edited.specs.Kept.{BreakNothing}
+use Rattle.enc_edited.proofs.Unbroken.{BreakNothing}
 use Rattle.enc_edited.proofs.Landed.{lands}
 use Rattle.enc_edited.proofs.Changed.{IsRow, changed, kept, row_is}
 use Rattle.enc_edited.proofs.Stated.{stated_is, fit_length, kind_fits}

@@ -17,7 +17,7 @@ use Rattle.enc_rules.specs.Edited.{row_edited, rows_behind, rows_edited}
 use Rattle.enc_rules.specs.Listed.{count_after}
 use Rattle.enc_rules.specs.Rules.{row_is_edited_twice, table_breaks, table_is_closed, is_row_of, token_is_missing}
 use Rattle.enc_agg.proofs.InTables.{may_small}
-use Rattle.enc_edited.specs.Kept.{BreakNothing}
+use Rattle.enc_edited.proofs.Unbroken.{BreakNothing}
 use Rattle.enc_edited.proofs.Split.{added_more}
 
 -- an edit that adds the r-th of the rows that some edits add to a table, and its row

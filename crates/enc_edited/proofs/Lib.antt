@@ -1,4 +1,5 @@
 pub mod Begun
+pub mod Unbroken
 pub mod NumberedCells
 pub mod Split
 pub mod Fitted
@@ -18,3 +19,5 @@ pub mod FieldsAfter
 pub mod CellsAfter
 pub mod OwnersAfter
 pub mod KeptSound
+pub mod ShortBlobs
+pub mod NoneBroken

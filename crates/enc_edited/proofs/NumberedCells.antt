@@ -1,8 +1,8 @@
 -- A cell by its number.
-use Rattle.std.proofs.Common.{◌≡◌, ℕ, ◌+◌, ◌*◌, ◌/◌, ◌%◌, ◌^◌, ◌<◌, true, List, Option, Some, None, refl, sym, ap, ◌∙◌, arith}
+use Rattle.std.proofs.Common.{◌≡◌, ℕ, ◌+◌, ◌*◌, ◌/◌, ◌%◌, ◌<◌, true, List, Some, ap, arith}
 use Rattle.std.specs.Prelude.{is_some, option_map}
 use Rattle.enc_base.specs.declared.token.Token.{Token}
-use Rattle.enc_plain.specs.Cell.{Cell, blob}
+use Rattle.enc_plain.specs.Cell.{blob}
 use Rattle.enc_plain.specs.Module.{Module, cell_of}
 use Rattle.enc_edited.specs.Plain.{cell_number, blob_said, blob_in}
 

@@ -25,7 +25,7 @@ use Rattle.enc_rules.specs.Edited.{row_edited, rows_edited, attached_by, attache
 use Rattle.enc_rules.specs.Listed.{count_after}
 use Rattle.enc_rules.specs.Rules.{is_row_of, owner_breaks, owner_is_missing}
 use Rattle.enc_rules.proofs.RowsFew.{added_both}
-use Rattle.enc_edited.specs.Kept.{BreakNothing}
+use Rattle.enc_edited.proofs.Unbroken.{BreakNothing}
 use Rattle.enc_edited.proofs.Split.{seam, row_there as edit_row, added_more}
 use Rattle.enc_edited.proofs.Landed.{no_rows}
 use Rattle.enc_edited.proofs.Changed.{all_fit, counts_after, tables_after}

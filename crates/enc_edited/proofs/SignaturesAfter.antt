@@ -17,7 +17,7 @@ use Rattle.enc_edits.specs.Added.{adds_to}
 use Rattle.enc_rules.specs.Edited.{rows_edited, edited}
 use Rattle.enc_rules.specs.Listed.{count_after, rows_listed}
 use Rattle.enc_rules.specs.Rules.{new_signature_breaks, signature_is_bad}
-use Rattle.enc_edited.specs.Kept.{BreakNothing}
+use Rattle.enc_edited.proofs.Unbroken.{BreakNothing}
 use Rattle.enc_edited.proofs.Agreed.{bytes_agree, bytes_stay}
 use Rattle.enc_edited.proofs.Grown.{count_is, rows_grow, AddsRow, Origin, was, new, origin}
 

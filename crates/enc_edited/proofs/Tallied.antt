@@ -15,7 +15,7 @@ use Rattle.enc_edits.specs.declared.edit.EditList.{EditList}
 use Rattle.enc_edits.specs.Added.{adds_to, rows_added}
 use Rattle.enc_rules.specs.Edited.{row_edited, rows_behind, rows_edited, cells_edited, changes_behind}
 use Rattle.enc_agg.proofs.Counting.{put_within, put_past, put_tables, rows_other, rows_same}
-use Rattle.enc_edited.specs.Kept.{BreakNothing}
+use Rattle.enc_edited.proofs.Unbroken.{BreakNothing}
 use Rattle.enc_edited.proofs.Split.{seam, row_there, rows_append, added_more}
 use Rattle.enc_edited.proofs.Fitted.{among_last, Fresh, none_changed}
 use Rattle.enc_edited.proofs.Landed.{Lands, row_is_of, lands}

@@ -1,36 +1,12 @@
--- Edits that break no rule of their own leave a sound module sound.
-use Rattle.std.specs.Prelude.{◌≡◌, ℕ, ◌^◌, Bool, true, false, List, length, nat_lt}
-use Rattle.std.specs.List.{list_all}
+-- A list that breaks no rule leaves a sound module sound.
+use Rattle.std.specs.Prelude.{◌≡◌, true, None}
 use Rattle.enc_plain.specs.Chain.{Chain}
 use Rattle.enc_plain.specs.Sound.{IsSound}
-use Rattle.enc_edits.specs.declared.edit.CellValue.{CellValue}
-use Rattle.enc_edits.specs.declared.edit.CellValue.TheVariants as cell
-use Rattle.enc_edits.specs.declared.edit.Edit.{Edit}
-use Rattle.enc_edits.specs.declared.edit.Edit.TheVariants.{Add, Body as Replace}
 use Rattle.enc_edits.specs.declared.edit.EditList.{EditList}
 use Rattle.enc_edits.specs.Form.{list_fits}
 use Rattle.enc_rules.specs.Edited.{edited}
-use Rattle.enc_rules.specs.Rules.{there_are_too_many, row_is_edited_twice, owner_is_missing, table_is_closed, token_is_missing, body_is_broken, signature_is_bad, locals_are_bad}
+use Rattle.enc_rules.specs.First.{first_edit}
 
--- the length of a blob can be spelled (ECMA-335 II.23.2)
-abbrev pub blob_is_short : CellValue → Bool
-blob_is_short (cell.Blob bytes) = nat_lt (length bytes) (2 ^ 29)
-blob_is_short _ = true
-
-abbrev pub blobs_are_short : Edit → Bool
-blobs_are_short (Add table owner cells code points) = list_all blob_is_short cells
-blobs_are_short (Replace method code points) = true
-
--- no edit breaks a rule that speaks of what its row says, and its blobs can be spelled
-pub record BreakNothing (c : Chain) (l : EditList) : Type 0 where
-  pub rows : (k : ℕ) → row_is_edited_twice c l k ≡ false
-  pub owners : (k : ℕ) → owner_is_missing c l k ≡ false
-  pub tables : (k : ℕ) → table_is_closed c l k ≡ false
-  pub tokens : (k : ℕ) → token_is_missing c l k ≡ false
-  pub bodies : (k : ℕ) → body_is_broken c l k ≡ false
-  pub signatures : (k : ℕ) → signature_is_bad c l k ≡ false
-  pub locals : (k : ℕ) → locals_are_bad c l k ≡ false
-  pub blobs : list_all blobs_are_short l.edits ≡ true
-
-abbrev pub EditsKeepSound : Type 0
-EditsKeepSound = (c : Chain) (l : EditList) → list_fits l ≡ true → there_are_too_many c l ≡ false → BreakNothing c l → IsSound c.plain → IsSound (edited c.plain l.edits)
+-- after a chain with a sound module, a list of the form that breaks no rule makes one
+abbrev pub ListsKeepSound : Type 0
+ListsKeepSound = (c : Chain) (l : EditList) → list_fits l ≡ true → first_edit c l ≡ None → IsSound c.plain → IsSound (edited c.plain l.edits)

@@ -1,7 +1,7 @@
 //! What edits leave as it was, as the contract of a function that does nothing.
-ghost use Rattle.enc_edited.specs.Kept.{EditsKeepSound};
+ghost use Rattle.enc_edited.specs.Kept.{ListsKeepSound};
 
-/// Edits that break no rule leave a sound module sound.
-pub fn edits_keep_sound_law()
-    ensures { EditsKeepSound }
+/// A list that breaks no rule leaves a sound module sound.
+pub fn lists_keep_sound_law()
+    ensures { ListsKeepSound }
 {}

@@ -4,5 +4,5 @@
 mod laws;
 mod plain;
 
-pub use laws::edits_keep_sound_law;
+pub use laws::lists_keep_sound_law;
 pub use plain::{PlainCell, PlainModule};

@@ -1,0 +1,88 @@
+-- A list with no first rule that it breaks breaks none, and so keeps a sound module sound.
+use Rattle.std.proofs.Common.{◌≡◌, ℕ, ◌+◌, ◌<◌, Bool, true, false, List, [], ◌∷◌, length, take, Option, Some, None, if◌then◌else◌, inl, inr, refl, arith}
+use Rattle.std.specs.List.{list_all}
+use Rattle.std.proofs.lemmas.List.{take_all}
+use Rattle.std.proofs.lemmas.Option.{slice_get_cases}
+use Rattle.enc_base.specs.Order.{or_else, first_below}
+use Rattle.enc_base.specs.declared.token.Token.{Token}
+use Rattle.enc_base.proofs.First.{silent}
+use Rattle.enc_meta.specs.Built.{none_from}
+use Rattle.enc_meta.specs.Joined.{joined_lengths}
+use Rattle.enc_plain.specs.Chain.{Chain}
+use Rattle.enc_plain.specs.Sound.{IsSound}
+use Rattle.enc_edits.specs.declared.edit.Edit.{Edit}
+use Rattle.enc_edits.specs.declared.edit.EditList.{EditList}
+use Rattle.enc_edits.specs.Form.{list_fits}
+use Rattle.enc_rules.specs.Edited.{edited}
+use Rattle.enc_rules.specs.First.{EditRule, list_rules, edit_rules, first_of_list, first_at, first_edit}
+use Rattle.enc_rules.specs.Listed.{rows_listed}
+use Rattle.enc_rules.specs.Rules.{at_edit, id_is_taken, heaps_are_full, there_are_too_many, passes_limits, with_edits, heap_passes, row_is_edited_twice, owner_is_missing, table_is_closed, token_is_missing, body_is_broken, signature_is_bad, locals_are_bad}
+use Rattle.enc_edited.proofs.Unbroken.{blobs_are_short, BreakNothing}
+use Rattle.enc_edited.proofs.ShortBlobs.{short_edits}
+use Rattle.enc_edited.proofs.KeptSound.{sound_after}
+
+none_of_both : (a b : Option (ℕ × ℕ)) → or_else a b ≡ None → (a ≡ None) × (b ≡ None)
+none_of_both None b h = (refl, h)
+none_of_both (Some x) b h = absurd cc
+
+not_told : (b : Bool) (x : ℕ × ℕ) (o : Option (ℕ × ℕ)) → (if b then Some x else o) ≡ None → (b ≡ false) × (o ≡ None)
+not_told false x o h = (refl, h)
+not_told true x o h = absurd cc
+
+-- some rules, none of which is broken by the edit at a place
+abbrev Unbroken : List (ℕ × EditRule) → Chain → EditList → ℕ → Type 0
+Unbroken [] c l k = Unit {0}
+Unbroken (r ∷ rules) c l k = (r.1 c l k ≡ false) × Unbroken rules c l k
+
+unbroken : (rules : List (ℕ × EditRule)) (c : Chain) (l : EditList) (k : ℕ) → first_at rules c l k ≡ None → Unbroken rules c l k
+unbroken [] c l k none = tt
+unbroken (r ∷ rules) c l k none =
+    let two = not_told (r.1 c l k) (r.0, k + 1) (first_at rules c l k) none in
+    (two.0, unbroken rules c l k two.1)
+
+few : (c : Chain) (l : EditList) → first_of_list list_rules c l ≡ None → there_are_too_many c l ≡ false
+few c l none =
+    let later = not_told (id_is_taken c l) (4, 0) _ none in
+    let last = not_told (heaps_are_full c l) (5, 0) _ later.1 in
+    (not_told (there_are_too_many c l) (24, 0) None last.1).0
+
+-- past the list no rule is broken
+everywhere : (rule : ℕ → Edit → Token → Bool) (c : Chain) (l : EditList) → ((k : ℕ) → k < length l.edits → at_edit (rule k) c l k ≡ false) → (k : ℕ) → at_edit (rule k) c l k ≡ false
+everywhere rule c l within k = elim (slice_get_cases l.edits k).1 [
+  | inl there ↦ within k there.1
+  | inr past ↦ rw past.1 refl
+]
+
+-- with the last edit no heap passes its limit
+short_all : (c : Chain) (l : EditList) → ((k : ℕ) → k < length l.edits → heap_passes c l k ≡ false) → list_all blobs_are_short l.edits ≡ true
+unfolding heap_passes
+short_all c l within = by l.edits refl
+  where
+    by : (edits : List Edit) → l.edits ≡ edits → list_all blobs_are_short l.edits ≡ true
+    by [] is = rw is refl
+    by (e ∷ edits) is =
+        let low : length edits < length l.edits = rw is (omega arith) in
+        let all : length edits + 1 ≡ length l.edits = rw is (omega arith) in
+        let room : passes_limits (with_edits (rows_listed c l.edits) (none_from (joined_lengths c.heaps)) (take (length edits + 1) l.edits)) ≡ false = within (length edits) low in
+        short_edits (rows_listed c l.edits) (none_from (joined_lengths c.heaps)) l.edits (rw (all, take_all (length l.edits) l.edits (omega arith)) at room)
+
+nothing_breaks : (c : Chain) (l : EditList) → ((k : ℕ) → k < length l.edits → Unbroken edit_rules c l k) → BreakNothing c l
+unfolding row_is_edited_twice owner_is_missing table_is_closed token_is_missing body_is_broken signature_is_bad locals_are_bad
+nothing_breaks c l each = record {
+  rows = everywhere _ c l (λ k low. (each k low).1.0);
+  owners = everywhere _ c l (λ k low. (each k low).1.1.0);
+  tables = everywhere _ c l (λ k low. (each k low).1.1.1.0);
+  tokens = everywhere _ c l (λ k low. (each k low).1.1.1.1.0);
+  bodies = everywhere _ c l (λ k low. (each k low).1.1.1.1.1.0);
+  signatures = everywhere _ c l (λ k low. (each k low).1.1.1.1.1.1.1.1.1.0);
+  locals = everywhere _ c l (λ k low. (each k low).1.1.1.1.1.1.1.1.1.1.0);
+  blobs = short_all c l (λ k low. (each k low).0);
+}
+
+-- a list that breaks no rule keeps a sound module sound
+pub sound_kept : (c : Chain) (l : EditList) → list_fits l ≡ true → first_edit c l ≡ None → IsSound c.plain → IsSound (edited c.plain l.edits)
+unfolding first_edit
+sound_kept c l form none sound =
+    let two = none_of_both (first_of_list list_rules c l) (first_below (first_at edit_rules c l) (length l.edits)) none in
+    let each : (k : ℕ) → k < length l.edits → Unbroken edit_rules c l k = λ k low. unbroken edit_rules c l k (silent (first_at edit_rules c l) (length l.edits) k two.1 low) in
+    sound_after c l form (few c l two.0) (nothing_breaks c l each) sound
