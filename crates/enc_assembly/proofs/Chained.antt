@@ -58,7 +58,7 @@ size_of_front o = by_form (nat_le 0xFE00 o.byte)
     by_form false = refl
 
 -- the whole instruction
-instr_read : CodesTell → (offset : List ℕ → ℕ) (before rest : List ℕ) (at : ℕ) (i : InstrValue) → length before ≡ at → instr_fits i ≡ true → argument_reaches (at + instruction_size (instr_meant i)) i.op.operand i.arg ≡ true → arg_is_small offset i.arg ≡ true → at + instruction_size (instr_meant i) < 2 ^ 31
+instr_read : CodesTell → (offset : List ℕ → ℕ) (before rest : List ℕ) (at : ℕ) (i : InstrValue) → length before ≡ at → instr_fits i ≡ true → argument_reaches (at + instruction_size (instr_meant i)) i.op.operand i.arg ≡ true → arg_is_small offset i.arg ≡ true → at + instruction_size (instr_meant i) < 2 ^ 32
     → instr_in (before ++ (instr_bytes offset (at + instruction_size (instr_meant i)) i ++ rest)) at ≡ Some (instr_named offset i, at + instruction_size (instr_meant i))
 unfolding instr_in instr_bytes instruction_size
 instr_read tells offset before rest at i long fits reach small few =
@@ -84,7 +84,7 @@ code_size offset at (i ∷ rest) fits =
     rw (length-append (instr_bytes offset end i) (code_bytes offset end rest), instr_size offset end i (first_of (instr_fits i) (list_all instr_fits rest) fits), code_size offset end rest (second_of (instr_fits i) (list_all instr_fits rest) fits)) refl
 
 -- all instructions of a code that stands between other bytes
-pub chained : CodesTell → (offset : List ℕ → ℕ) (all before : List ℕ) (at : ℕ) (code : List InstrValue) → all ≡ before ++ code_bytes offset at code → length before ≡ at → list_all instr_fits code ≡ true → branches_reach at code ≡ true → are_small offset code ≡ true → at + length_of_code code < 2 ^ 31
+pub chained : CodesTell → (offset : List ℕ → ℕ) (all before : List ℕ) (at : ℕ) (code : List InstrValue) → all ≡ before ++ code_bytes offset at code → length before ≡ at → list_all instr_fits code ≡ true → branches_reach at code ≡ true → are_small offset code ≡ true → at + length_of_code code < 2 ^ 32
     → IsChain (instr_in all) (length all) at (placed_named offset at code)
 unfolding IsChain placed_named code_bytes branches_reach length_of_code
 chained tells offset all before at [] is long fits reach small few = rw (is, append-nil before) (sym long)

@@ -71,14 +71,14 @@ unfoldable pub placed_named : (List ℕ → ℕ) → ℕ → List InstrValue →
 placed_named offset at [] = []
 placed_named offset at (i ∷ rest) = (at, instr_named offset i) ∷ placed_named offset (at + instruction_size (instr_meant i)) rest
 
--- the numbers of an argument fit the bytes that they have: targets lie below 2^31, as far as a signed distance reaches, tokens have a table and three bytes for the row, offsets of user texts three
+-- the numbers of an argument fit the bytes that they have: targets four, tokens one for the table and three for the row, offsets of user texts three
 abbrev pub token_is_small : Token → Bool
 token_is_small t = nat_lt t.table 0x100 && nat_lt t.row 0x1000000
 
 abbrev pub arg_is_small : (List ℕ → ℕ) → ArgValue → Bool
 arg_is_small offset (arg.Num n) = true
-arg_is_small offset (arg.Target t) = nat_lt t (2 ^ 31)
-arg_is_small offset (arg.Targets ts) = nat_lt (length ts) (2 ^ 29) && list_all (λ t. nat_lt t (2 ^ 31)) ts
+arg_is_small offset (arg.Target t) = nat_lt t (2 ^ 32)
+arg_is_small offset (arg.Targets ts) = list_all (λ t. nat_lt t (2 ^ 32)) ts
 arg_is_small offset (arg.Token t) = token_is_small t
 arg_is_small offset (arg.User units) = nat_lt (offset (unit_bytes units)) 0x1000000
 arg_is_small offset _ = true
@@ -89,7 +89,7 @@ are_small offset code = list_all (λ (i : InstrValue). arg_is_small offset i.arg
 -- code that was assembled is read as its instructions, and ends with the last
 abbrev pub AssembledIsRead : Type 0
 AssembledIsRead = (offset : List ℕ → ℕ) (code : List InstrValue)
-    → list_all instr_fits code ≡ true → branches_reach 0 code ≡ true → are_small offset code ≡ true → length_of_code code < 2 ^ 31
+    → list_all instr_fits code ≡ true → branches_reach 0 code ≡ true → are_small offset code ≡ true → length_of_code code < 2 ^ 32
     → (instructions_of (code_bytes offset 0 code) ≡ placed_named offset 0 code)
     × (end_of (code_bytes offset 0 code) 0 ≡ length_of_code code)
     × (length (code_bytes offset 0 code) ≡ length_of_code code)

@@ -4,7 +4,9 @@ ghost use Rattle.std.specs.Int.{w8, w16, w32, w64, to_le_bytes, cast_unsigned};
 ghost use Rattle.enc_base.specs.Token.{number_of};
 ghost use Rattle.enc_opcodes.specs.Opcodes.{is_op};
 ghost use Rattle.enc_meta.specs.Built.{is_kept, unit_bytes, user_offset};
+ghost use Rattle.enc_opcodes.specs.Sound.{operand_size, instruction_size};
 ghost use Rattle.enc_edits.specs.Form.{arg_fits, instr_fits};
+ghost use Rattle.enc_edits.specs.Sizes.{arg_meant, instr_meant};
 ghost use Rattle.enc_edits.specs.declared.body.ArgValue.TheVariants.{Num, Target};
 ghost use Rattle.enc_assembly.specs.Assembly.{op_bytes, distance, switch_bytes, arg_bytes, instr_bytes, token_is_small, arg_is_small, text_is_kept};
 
@@ -115,6 +117,7 @@ fn push_arg(
     out: &mut Vec<u8>,
 ) -> Result<(), AllocError>
     requires fits { IsTrue (arg_fits instr.now.op.operand instr.now.arg) }
+    requires size { operand_size instr.now.op.operand (arg_meant instr.now.arg) < 2 ^ 32 }
     requires small { IsTrue (arg_is_small (user_offset heaps.old) instr.now.arg) }
     requires kept { IsTrue (text_is_kept heaps.old instr.now.arg) }
     ensures bytes { OnOk result (out.new.items ≡ out.old.items ++ arg_bytes (user_offset heaps.old) end instr.now.op.operand instr.now.arg) }
@@ -132,7 +135,7 @@ fn push_arg(
 }
 
 /// Appends an instruction that ends at a place.
-#[tactic(auto, unfolding(crate::specs::Assembly::instr_bytes))]
+#[tactic(auto, unfolding(crate::specs::Assembly::instr_bytes, enc_opcodes::specs::Sound::instruction_size))]
 pub fn push_instr(
     instr: &InstrValue,
     end: u32,
@@ -140,6 +143,7 @@ pub fn push_instr(
     out: &mut Vec<u8>,
 ) -> Result<(), AllocError>
     requires fits { IsTrue (instr_fits instr.now) }
+    requires size { instruction_size (instr_meant instr.now) < 2 ^ 32 }
     requires small { IsTrue (arg_is_small (user_offset heaps.old) instr.now.arg) }
     requires kept { IsTrue (text_is_kept heaps.old instr.now.arg) }
     ensures bytes { OnOk result (out.new.items ≡ out.old.items ++ instr_bytes (user_offset heaps.old) end instr.now) }

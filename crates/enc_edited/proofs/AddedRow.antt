@@ -21,7 +21,8 @@ use Rattle.enc_delta.specs.Rules.{may_change}
 use Rattle.enc_rules.specs.Edited.{rows_edited, cell_stated, cells_stated}
 use Rattle.enc_rules.specs.Listed.{count_after}
 use Rattle.enc_rules.specs.Rules.{cells_break, table_breaks, table_is_closed, token_breaks, token_is_missing}
-use Rattle.enc_edited.proofs.Unbroken.{BreakNothing, blob_is_short, blobs_are_short}
+use Rattle.enc_edited.specs.Applied.{blob_is_short, blobs_are_short}
+use Rattle.enc_edited.proofs.Unbroken.{BreakNothing}
 use Rattle.enc_edited.proofs.Stated.{stated_at, value_at}
 
 -- what holds of an edit that adds a row

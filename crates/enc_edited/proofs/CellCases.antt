@@ -20,7 +20,8 @@ use Rattle.enc_edits.specs.Form.{cell_fits, list_fits}
 use Rattle.enc_rules.specs.Edited.{row_edited, rows_edited, cell_stated, body_stated, cells_stated, cells_edited, cells_with, edited}
 use Rattle.enc_rules.specs.Listed.{count_after, body_given}
 use Rattle.enc_rules.specs.Rules.{value_breaks}
-use Rattle.enc_edited.proofs.Unbroken.{BreakNothing, blob_is_short}
+use Rattle.enc_edited.specs.Applied.{blob_is_short}
+use Rattle.enc_edited.proofs.Unbroken.{BreakNothing}
 use Rattle.enc_edited.proofs.Landed.{lands}
 use Rattle.enc_edited.proofs.Changed.{IsRow, changed, kept, row_is}
 use Rattle.enc_edited.proofs.AddedRow.{IsAdd, add_is, no_field_rva, HasValue, plain_value, method_value}

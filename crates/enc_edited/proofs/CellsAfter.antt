@@ -23,7 +23,8 @@ use Rattle.enc_edits.specs.Form.{cell_fits, list_fits}
 use Rattle.enc_rules.specs.Edited.{cell_stated, body_stated, edited}
 use Rattle.enc_rules.specs.Listed.{count_after}
 use Rattle.enc_rules.specs.Rules.{names_row, value_breaks}
-use Rattle.enc_edited.proofs.Unbroken.{BreakNothing, blob_is_short}
+use Rattle.enc_edited.specs.Applied.{blob_is_short}
+use Rattle.enc_edited.proofs.Unbroken.{BreakNothing}
 use Rattle.enc_edited.proofs.BodiesAfter.{old_body, given_body}
 use Rattle.enc_edited.proofs.CellCases.{CellCase, stated, given, old, GivesBody, cell_case}
 use Rattle.enc_edited.proofs.FieldsAfter.{old_field}

@@ -1,6 +1,14 @@
 pub mod Begun
 pub mod Unbroken
 pub mod NumberedCells
+pub mod HeldBodies
+pub mod PutInPlace
+pub mod StatedCells
+pub mod Rest
+pub mod Gathering
+pub mod Assembling
+pub mod FollowingEdits
+pub mod MethodTexts
 pub mod Split
 pub mod Fitted
 pub mod Landed
@@ -21,3 +29,4 @@ pub mod OwnersAfter
 pub mod KeptSound
 pub mod ShortBlobs
 pub mod NoneBroken
+pub mod MayBeApplied

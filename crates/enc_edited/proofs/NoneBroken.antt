@@ -17,7 +17,8 @@ use Rattle.enc_rules.specs.Edited.{edited}
 use Rattle.enc_rules.specs.First.{EditRule, list_rules, edit_rules, first_of_list, first_at, first_edit}
 use Rattle.enc_rules.specs.Listed.{rows_listed}
 use Rattle.enc_rules.specs.Rules.{at_edit, id_is_taken, heaps_are_full, there_are_too_many, passes_limits, with_edits, heap_passes, row_is_edited_twice, owner_is_missing, table_is_closed, token_is_missing, body_is_broken, signature_is_bad, locals_are_bad}
-use Rattle.enc_edited.proofs.Unbroken.{blobs_are_short, BreakNothing}
+use Rattle.enc_edited.specs.Applied.{rules_of_rows, blobs_are_short}
+use Rattle.enc_edited.proofs.Unbroken.{BreakNothing}
 use Rattle.enc_edited.proofs.ShortBlobs.{short_edits}
 use Rattle.enc_edited.proofs.KeptSound.{sound_after}
 
@@ -30,11 +31,11 @@ not_told false x o h = (refl, h)
 not_told true x o h = absurd cc
 
 -- some rules, none of which is broken by the edit at a place
-abbrev Unbroken : List (ℕ × EditRule) → Chain → EditList → ℕ → Type 0
+abbrev pub Unbroken : List (ℕ × EditRule) → Chain → EditList → ℕ → Type 0
 Unbroken [] c l k = Unit {0}
 Unbroken (r ∷ rules) c l k = (r.1 c l k ≡ false) × Unbroken rules c l k
 
-unbroken : (rules : List (ℕ × EditRule)) (c : Chain) (l : EditList) (k : ℕ) → first_at rules c l k ≡ None → Unbroken rules c l k
+pub unbroken : (rules : List (ℕ × EditRule)) (c : Chain) (l : EditList) (k : ℕ) → first_at rules c l k ≡ None → Unbroken rules c l k
 unbroken [] c l k none = tt
 unbroken (r ∷ rules) c l k none =
     let two = not_told (r.1 c l k) (r.0, k + 1) (first_at rules c l k) none in
@@ -66,17 +67,17 @@ short_all c l within = by l.edits refl
         let room : passes_limits (with_edits (rows_listed c l.edits) (none_from (joined_lengths c.heaps)) (take (length edits + 1) l.edits)) ≡ false = within (length edits) low in
         short_edits (rows_listed c l.edits) (none_from (joined_lengths c.heaps)) l.edits (rw (all, take_all (length l.edits) l.edits (omega arith)) at room)
 
-nothing_breaks : (c : Chain) (l : EditList) → ((k : ℕ) → k < length l.edits → Unbroken edit_rules c l k) → BreakNothing c l
+pub nothing_breaks : (c : Chain) (l : EditList) → list_all blobs_are_short l.edits ≡ true → ((k : ℕ) → k < length l.edits → Unbroken rules_of_rows c l k) → BreakNothing c l
 unfolding row_is_edited_twice owner_is_missing table_is_closed token_is_missing body_is_broken signature_is_bad locals_are_bad
-nothing_breaks c l each = record {
-  rows = everywhere _ c l (λ k low. (each k low).1.0);
-  owners = everywhere _ c l (λ k low. (each k low).1.1.0);
-  tables = everywhere _ c l (λ k low. (each k low).1.1.1.0);
-  tokens = everywhere _ c l (λ k low. (each k low).1.1.1.1.0);
-  bodies = everywhere _ c l (λ k low. (each k low).1.1.1.1.1.0);
-  signatures = everywhere _ c l (λ k low. (each k low).1.1.1.1.1.1.1.1.1.0);
-  locals = everywhere _ c l (λ k low. (each k low).1.1.1.1.1.1.1.1.1.1.0);
-  blobs = short_all c l (λ k low. (each k low).0);
+nothing_breaks c l blobs each = record {
+  rows = everywhere _ c l (λ k low. (each k low).0);
+  owners = everywhere _ c l (λ k low. (each k low).1.0);
+  tables = everywhere _ c l (λ k low. (each k low).1.1.0);
+  tokens = everywhere _ c l (λ k low. (each k low).1.1.1.0);
+  bodies = everywhere _ c l (λ k low. (each k low).1.1.1.1.0);
+  signatures = everywhere _ c l (λ k low. (each k low).1.1.1.1.1.1.1.1.0);
+  locals = everywhere _ c l (λ k low. (each k low).1.1.1.1.1.1.1.1.1.0);
+  blobs = blobs;
 }
 
 -- a list that breaks no rule keeps a sound module sound
@@ -85,4 +86,4 @@ unfolding first_edit
 sound_kept c l form none sound =
     let two = none_of_both (first_of_list list_rules c l) (first_below (first_at edit_rules c l) (length l.edits)) none in
     let each : (k : ℕ) → k < length l.edits → Unbroken edit_rules c l k = λ k low. unbroken edit_rules c l k (silent (first_at edit_rules c l) (length l.edits) k two.1 low) in
-    sound_after c l form (few c l two.0) (nothing_breaks c l each) sound
+    sound_after c l form (few c l two.0) (nothing_breaks c l (short_all c l (λ k low. (each k low).0)) (λ k low. (each k low).1)) sound

@@ -15,7 +15,7 @@ use Rattle.enc_edits.specs.declared.edit.Edit.{Edit}
 use Rattle.enc_edits.specs.declared.edit.Edit.TheVariants.{Add, Body as Replace}
 use Rattle.enc_rules.specs.Rules.{passes_limits, blobs_in_cell, with_blobs, heaps_after_edit, with_edits}
 use Rattle.enc_rules.proofs.Filling.{passes_blobs, passes_edits}
-use Rattle.enc_edited.proofs.Unbroken.{blob_is_short, blobs_are_short}
+use Rattle.enc_edited.specs.Applied.{blob_is_short, blobs_are_short}
 
 -- a blob with its length is longer than it
 longer : (v : List ℕ) → length v ≤ length (blob_bytes v)

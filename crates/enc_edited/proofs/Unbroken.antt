@@ -1,22 +1,10 @@
 -- What a list has that breaks none of the rules that speak of what its rows say.
-use Rattle.std.proofs.Common.{◌≡◌, ℕ, ◌^◌, Bool, true, false, length, nat_lt}
+use Rattle.std.proofs.Common.{◌≡◌, ℕ, true, false}
 use Rattle.std.specs.List.{list_all}
 use Rattle.enc_plain.specs.Chain.{Chain}
-use Rattle.enc_edits.specs.declared.edit.CellValue.{CellValue}
-use Rattle.enc_edits.specs.declared.edit.CellValue.TheVariants as cell
-use Rattle.enc_edits.specs.declared.edit.Edit.{Edit}
-use Rattle.enc_edits.specs.declared.edit.Edit.TheVariants.{Add, Body as Replace}
 use Rattle.enc_edits.specs.declared.edit.EditList.{EditList}
 use Rattle.enc_rules.specs.Rules.{row_is_edited_twice, owner_is_missing, table_is_closed, token_is_missing, body_is_broken, signature_is_bad, locals_are_bad}
-
--- the length of a blob can be spelled
-abbrev pub blob_is_short : CellValue → Bool
-blob_is_short (cell.Blob bytes) = nat_lt (length bytes) (2 ^ 29)
-blob_is_short _ = true
-
-abbrev pub blobs_are_short : Edit → Bool
-blobs_are_short (Add table owner cells code points) = list_all blob_is_short cells
-blobs_are_short (Replace method code points) = true
+use Rattle.enc_edited.specs.Applied.{blobs_are_short}
 
 -- no edit breaks a rule that speaks of what its row says, and its blobs can be spelled
 pub record BreakNothing (c : Chain) (l : EditList) : Type 0 where

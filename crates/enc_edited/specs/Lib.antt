@@ -1,4 +1,9 @@
 pub mod Plain
+pub mod Standing
 pub mod Meant
+pub mod Encoded
+pub mod Stated
+pub mod Following
 pub mod Begun
 pub mod Kept
+pub mod Applied

@@ -1,8 +1,10 @@
 -- A plain module in memory.
 use Rattle.std.specs.Prelude.{ℕ, ◌+◌, ◌*◌, ◌/◌, ◌%◌, ◌^◌, List, Option, Some, None}
 use Rattle.enc_base.specs.declared.token.Token.{Token}
-use Rattle.enc_plain.specs.Cell.{Cell, blob}
+use Rattle.enc_opcodes.specs.Body.{Body}
+use Rattle.enc_plain.specs.Cell.{Cell, blob, body}
 use Rattle.enc_plain.specs.Module.{Module, cell_of}
+use Rattle.enc_schema.specs.Tables.{method_def}
 
 -- a module, and the bytes of the `#US` in which the code of its bodies has its user texts
 pub record InMemory : Type 0 where
@@ -21,3 +23,12 @@ blob_said _ = None
 -- the blob in the cell of a number
 unfoldable pub blob_in : Module → ℕ → Option (List ℕ)
 blob_in m n = blob_said (cell_of m (record { table = n / 2 ^ 8 % 2 ^ 8; row = n / 2 ^ 16 }) (n % 2 ^ 8))
+
+-- the body that a method's cell has
+abbrev pub body_said : Option Cell → Option Body
+body_said (Some (body there)) = there
+body_said _ = None
+
+-- the body of the method of a row
+unfoldable pub body_in : Module → ℕ → Option Body
+body_in m row = body_said (cell_of m (record { table = method_def; row = row }) 0)

@@ -1,19 +1,24 @@
 //! A plain module in memory.
-ghost use Rattle.std.specs.Prelude.{◌-◌, ◌≡◌, ℕ, ◌<◌, ◌^◌, ◌==◌, false, None, ◌∷◌, [], length, replicate, position, option_copied, IsTrue, IsSome, IfSome, IfOk};
+ghost use Rattle.std.specs.Prelude.{◌-◌, ◌≡◌, ℕ, ◌<◌, ◌^◌, ◌==◌, false, ◌∷◌, [], length, replicate, position, option_copied, option_map, unwrap_or, slice_get, IsTrue, IsSome, IfSome, IfOk};
 ghost use Rattle.std.specs.List.{list_any};
 ghost use Rattle.enc_meta.specs.Heaps.{user_at};
-ghost use Rattle.enc_plain.specs.Cell.{kind_in, cell_kind};
-ghost use Rattle.enc_plain.specs.Module.{rows_in, row_at, row_of, has_row, cell_of, owner_of, kids_of, kids_at, has_kid};
-ghost use Rattle.enc_edited.specs.Plain.{cell_number, blob_in};
+ghost use Rattle.enc_opcodes.specs.Body.{body_of, code_seen};
+ghost use Rattle.enc_plain.specs.Cell.{kind_in, cell_kind, body};
+ghost use Rattle.enc_plain.specs.Module.{rows_in, row_at, row_of, has_row, cells_of, cell_of, owner_of, kids_of, kids_at, has_kid};
+ghost use Rattle.enc_edited.specs.Plain.{cell_number, blob_in, body_in};
+ghost use Rattle.enc_edited.specs.Encoded.{with_tables};
 ghost use Rattle.enc_plain.specs.Sound.{IsSound};
 ghost use Rattle.enc_edited.specs.Begun.{module_row as row_of_module, begun};
-ghost use Rattle.enc_schema.specs.Tables.{table_count};
+ghost use Rattle.enc_schema.specs.Tables.{table_count, method_def};
 
+use crate::copy::copied_tables;
 use enc_base::Token;
+use enc_edits::BodyValue;
+use enc_il::read_body;
 use enc_meta::user_text_at;
 use enc_opcodes::CodeRef;
 use enc_plain::ModuleView;
-use enc_schema::columns::{FIELD_RVA_RVA, METHOD_DEF_RVA};
+use enc_schema::columns::FIELD_RVA_RVA;
 use enc_schema::tables::TABLE_COUNT;
 use enc_schema::{is_child_table, owner_table, run_index};
 use std::alloc::{AllocError, Global};
@@ -29,8 +34,8 @@ pub enum PlainCell {
     Guid([u8; 16]),
     /// Nil is 00000000.
     Refer(Token),
-    /// That a method has no body.
-    NoBody,
+    /// The body of a method as it was stated, None where it has none.
+    Body(Option<BodyValue>),
     /// The initial bytes of a field.
     Field(Vec<u8>),
 }
@@ -38,7 +43,7 @@ pub enum PlainCell {
 /// A cell of a row.
 #[derive(Drop)]
 pub struct Held {
-    cell: PlainCell,
+    pub(crate) cell: PlainCell,
 }
 
 impl Model for Held {
@@ -46,15 +51,17 @@ impl Model for Held {
 
     ghost Value = { Cell };
 
-    ghost use Rattle.enc_edited.specs.Meant.{cell_meant};
+    ghost use Rattle.enc_edited.specs.Meant.{cell_meant, CellStands};
 
     ghost view = { λ h. cell_meant h.cell };
+
+    ghost invariant = { λ h. CellStands h.cell };
 }
 
 /// The children of a row in one table, in order of attachment.
 #[derive(Drop)]
 pub struct Kids {
-    rows: Vec<u32>,
+    pub(crate) rows: Vec<u32>,
 }
 
 impl Model for Kids {
@@ -68,8 +75,8 @@ impl Model for Kids {
 /// A row: the cells of its columns, and the children of its runs.
 #[derive(Drop)]
 pub struct PlainRow {
-    cells: Vec<Held>,
-    kids: Vec<Kids>,
+    pub(crate) cells: Vec<Held>,
+    pub(crate) kids: Vec<Kids>,
 }
 
 impl Model for PlainRow {
@@ -83,7 +90,7 @@ impl Model for PlainRow {
 /// The rows of a table.
 #[derive(Drop)]
 pub struct PlainTable {
-    rows: Vec<PlainRow>,
+    pub(crate) rows: Vec<PlainRow>,
 }
 
 impl Model for PlainTable {
@@ -95,24 +102,67 @@ impl Model for PlainTable {
     ghost view = { λ t. t.rows.items };
 }
 
-/// A plain module that holds its rows itself, and the user texts of its bodies in a `#US` of its
-/// own.
+/// The bytes of a method's body, as one that is written and begins with them; None where it has none
+/// (ECMA-335 II.25.4).
+#[derive(Drop)]
+pub struct HeldCode {
+    pub(crate) bytes: Option<Vec<u8>>,
+}
+
+impl Model for HeldCode {
+    ghost use Rattle.std.specs.Prelude.{Option, option_map};
+    ghost use Rattle.enc_opcodes.specs.Body.{Code};
+
+    ghost Value = { Option Code };
+
+    ghost use Rattle.enc_edited.specs.Encoded.{code_read, IsRead};
+
+    ghost view = { λ h. code_read (option_map (λ b. b.items) h.bytes) };
+
+    ghost invariant = { λ h. IsRead (option_map (λ b. b.items) h.bytes) };
+}
+
+impl HeldCode {
+    /// The body, None where there is none.
+    fn code(&self) -> Option<CodeRef<'_>>
+        ensures code { option_map code_seen result ≡ self.now }
+        ensures few { IfSome result (λ c. length c.code.now < 2 ^ 32) }
+    {
+        let Some(bytes) = &self.bytes else {
+            return None;
+        };
+        match read_body(bytes, 0, 0) {
+            Ok(code) => Some(code),
+            Err(_) => unreachable!(),
+        }
+    }
+}
+
+/// The code at a place.
+fn code_at(codes: &[HeldCode], n: usize) -> Option<&HeldCode>
+    ensures { option_copied result ≡ slice_get codes.now n }
+{
+    codes.get(n)
+}
+
+/// A plain module that holds its rows itself, the user texts of its bodies in a `#US` of its own, and
+/// the bodies of its methods, in their order.
 #[derive(Drop)]
 pub struct PlainModule {
-    tables: Vec<PlainTable>,
-    users: Vec<u8>,
+    pub(crate) tables: Vec<PlainTable>,
+    pub(crate) users: Vec<u8>,
+    pub(crate) codes: Vec<HeldCode>,
 }
 
 impl Model for PlainModule {
     ghost use Rattle.enc_edited.specs.Plain.{InMemory};
-    ghost use Rattle.enc_plain.specs.Sound.{IsSound};
-    ghost use Rattle.std.specs.Prelude.{[]};
+    ghost use Rattle.enc_edited.specs.Encoded.{Holds, with_tables};
 
     ghost Value = { InMemory };
 
-    ghost view = { λ m. record { plain = record { tables = m.tables.items; resources = []; entry = 0 }; users = m.users.items } };
+    ghost view = { λ m. record { plain = with_tables m.tables.items; users = m.users.items } };
 
-    ghost invariant = { λ m. IsSound (record { tables = m.tables.items; resources = []; entry = 0 }) };
+    ghost invariant = { λ m. Holds (with_tables m.tables.items) m.users.items m.codes.items };
 }
 
 impl PlainRow {
@@ -235,6 +285,7 @@ impl PlainModule {
         Ok(PlainModule {
             tables,
             users: Vec::new(alloc),
+            codes: Vec::new(alloc),
         })
     }
 
@@ -264,6 +315,35 @@ impl PlainModule {
         match self.row(row) {
             Some(found) => found.cells.get(column as usize),
             None => None,
+        }
+    }
+
+    /// Its tables, copied.
+    pub(crate) fn copied(&self, alloc: Global) -> Result<Vec<PlainTable>, AllocError>
+        ensures { IfOk result (λ t. with_tables t.items ≡ self.now.plain) }
+    {
+        copied_tables(alloc, &self.tables)
+    }
+
+    /// The cells of a row, none where it isn't there.
+    pub(crate) fn cells(&self, row: Token) -> &[Held]
+        ensures { result.now ≡ unwrap_or (cells_of self.now.plain row) [] }
+    {
+        match self.row(row) {
+            Some(found) => &found.cells,
+            None => &[],
+        }
+    }
+
+    /// The body of a method.
+    fn held_code(&self, method: Token) -> &HeldCode
+        requires row { IsTrue (has_row self.now.plain method) }
+        requires table { method.table ≡ method_def }
+        ensures { cell_of self.now.plain method 0 ≡ Some (body (option_map (body_of (user_at self.now.users)) result.now)) }
+    {
+        match code_at(&self.codes, method.row as usize - 1) {
+            Some(code) => code,
+            None => unreachable!(),
         }
     }
 
@@ -317,7 +397,7 @@ impl ModuleView for PlainModule {
 
     ghost users = { λ m. user_at m.users };
 
-    ghost places = { λ m n. None };
+    ghost places = { λ m n. body_in m.plain n };
 
     ghost stored = { λ m n. blob_in m.plain n };
 
@@ -379,18 +459,14 @@ impl ModuleView for PlainModule {
     }
 
     fn code(&self, method: Token) -> Option<CodeRef<'_>> {
-        let held = self.cell(method, METHOD_DEF_RVA);
-        match &held.cell {
-            PlainCell::NoBody => None,
-            _ => unreachable!(),
-        }
+        let held = self.held_code(method);
+        held.code()
     }
 
     fn code_place(&self, method: Token) -> u64 {
-        let held = self.cell(method, METHOD_DEF_RVA);
-        match &held.cell {
-            PlainCell::NoBody => 0,
-            _ => unreachable!(),
+        match self.code(method) {
+            Some(_) => u64::from(method.row),
+            None => 0,
         }
     }
 

@@ -1,5 +1,6 @@
--- When the short branches of a stated body reach their targets (ECMA-335 III.1.7.2).
-use Rattle.std.specs.Prelude.{ℕ, ◌+◌, Bool, true, ◌&&◌, nat_le, List, [], ◌∷◌}
+-- When the branches of a stated body reach their targets (ECMA-335 III.1.7.2).
+use Rattle.std.specs.Prelude.{ℕ, ◌+◌, Bool, true, ◌&&◌, nat_lt, nat_le, List, [], ◌∷◌}
+use Rattle.std.specs.List.{list_all}
 use Rattle.enc_opcodes.specs.declared.op.Operand.{Operand}
 use Rattle.enc_opcodes.specs.declared.op.Operand.TheVariants as operand
 use Rattle.enc_opcodes.specs.Sound.{instruction_size}
@@ -12,8 +13,15 @@ use Rattle.enc_edits.specs.Sizes.{instr_meant}
 abbrev pub lies_close : ℕ → ℕ → Bool
 lies_close end target = nat_le end (target + 128) && nat_le target (end + 127)
 
+-- at most 2^31 bytes before it, and less than that behind it
+abbrev pub lies_in_reach : ℕ → ℕ → Bool
+lies_in_reach end target = nat_le end (target + 0x80000000) && nat_lt target (end + 0x80000000)
+
+-- a short branch has a distance of one byte, all others of four
 abbrev pub argument_reaches : ℕ → Operand → ArgValue → Bool
 argument_reaches end operand.Branch8 (arg.Target target) = lies_close end target
+argument_reaches end operand.Branch32 (arg.Target target) = lies_in_reach end target
+argument_reaches end operand.Switch (arg.Targets targets) = list_all (lies_in_reach end) targets
 argument_reaches end _ _ = true
 
 -- each of the instructions that stand one behind the other from a place on reaches its target

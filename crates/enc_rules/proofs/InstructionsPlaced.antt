@@ -38,7 +38,7 @@ unfolding placed
 begins_none at [] t low = refl
 begins_none at (x ∷ xs) t low = absurd (omega arith)
 
--- whether short branches reach
+-- whether branches reach
 reach_first : (at : ℕ) (x : InstrValue) (xs : List InstrValue) → branches_reach at (x ∷ xs) ≡ (argument_reaches (at + instruction_size (instr_meant x)) x.op.operand x.arg && branches_reach (at + instruction_size (instr_meant x)) xs)
 unfolding branches_reach
 reach_first at x xs = refl

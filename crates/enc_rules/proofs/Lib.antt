@@ -17,3 +17,4 @@ pub mod SoonestRule
 pub mod RowsFew
 pub mod SameRow
 pub mod TokensNamed
+pub mod RoomForAll

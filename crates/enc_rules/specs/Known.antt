@@ -1,4 +1,4 @@
--- For the contracts of private functions: what is known of an edit list after a chain.
+-- What is known of an edit list after a chain.
 use Rattle.std.specs.Prelude.{◌≡◌, ℕ, ◌+◌, ◌-◌, ◌*◌, ◌/◌, ◌%◌, ◌<◌, ◌^◌, ◌==◌, true, List, [], length, map, Option, Some, None, nat_lt, slice_get, slice_index, if◌then◌else◌}
 use Rattle.enc_base.specs.Token.{nil}
 use Rattle.enc_base.specs.declared.token.Token.{Token}

@@ -173,7 +173,7 @@ token_breaks count (Replace method code points) = not (is_row_of count tables.me
 unfoldable pub token_is_missing : Chain → EditList → ℕ → Bool
 token_is_missing c l k = at_edit (λ e t. token_breaks (count_after c l.edits) e) c l k
 
--- a body is good by the rows after, and its short branches reach
+-- a body is good by the rows after, and its branches reach
 unfoldable pub given_stands : (ℕ → ℕ) → BodyValue → Bool
 given_stands count b = body_is_sound count (body_stated b) && branches_reach 0 b.code
 

@@ -176,7 +176,7 @@ fn locals_are_good<C: ChainView>(context: &Context<'_, C>, locals: Token) -> boo
         || locals.table == STAND_ALONE_SIG && context.is_within(STAND_ALONE_SIG, locals.row)
 }
 
-/// The parts of a body are good by the marks of where its instructions begin, and its short branches reach.
+/// The parts of a body are good by the marks of where its instructions begin, and its branches reach.
 fn are_parts_sound<C: ChainView>(
     context: &Context<'_, C>,
     marks: &[bool],
@@ -195,7 +195,7 @@ fn are_parts_sound<C: ChainView>(
         && branches_reach(body.code.as_slice())
 }
 
-/// The body is good by the rows after the list, and its short branches reach. It takes memory for a mark for
+/// The body is good by the rows after the list, and its branches reach. It takes memory for a mark for
 /// each byte of its code.
 fn given_stands<C: ChainView>(
     alloc: Global,

@@ -1,12 +1,12 @@
 //! Whether the heaps have room for what the edits bring.
-ghost use Rattle.std.specs.Prelude.{◌≡◌, ◌<◌, ◌^◌, false, flat_map, length, IfOk, IfSome, IsTrue};
+ghost use Rattle.std.specs.Prelude.{◌≡◌, ◌<◌, ◌^◌, false, None, flat_map, length, IfOk, IfSome, IsTrue};
 ghost use Rattle.enc_edits.specs.Form.{edit_fits, list_fits};
 ghost use Rattle.enc_meta.specs.Built.{AreWithinLimits, unit_bytes, with_text, with_user, with_blob};
 ghost use Rattle.enc_plain.specs.Sound.{IsSound};
 ghost use Rattle.enc_rules.specs.Filled.{Fills, has_no_zero, have_no_zero};
-ghost use Rattle.enc_rules.specs.First.{first_such};
+ghost use Rattle.enc_rules.specs.First.{first_edit, first_such};
 ghost use Rattle.enc_rules.specs.Known.{listed_rows};
-ghost use Rattle.enc_rules.specs.Rules.{heap_passes, heaps_are_full, heaps_after_edit, with_texts, with_users, with_blobs, texts_in_cell, blobs_in_cell, users_in_argument, texts_of_edit, users_of_edit, blobs_of_edit};
+ghost use Rattle.enc_rules.specs.Rules.{heaps_with, heap_passes, heaps_are_full, heaps_after_edit, with_texts, with_users, with_blobs, texts_in_cell, blobs_in_cell, users_in_argument, texts_of_edit, users_of_edit, blobs_of_edit};
 ghost use Rattle.enc_edits.specs.declared.body.InstrValue.{InstrValue as TheInstr};
 
 use crate::context::Context;
@@ -233,4 +233,27 @@ pub fn heap_passes<C: ChainView>(
         }
     }
     Ok(None)
+}
+
+/// The heaps behind the chain's with all that the edits bring, each value once. The list breaks no rule, so
+/// they have room.
+pub fn heaps_of<C: ChainView>(
+    alloc: Global,
+    context: &Context<'_, C>,
+) -> Result<HeapBuilder, AllocError>
+    requires sound { IsSound context.now.chain.plain }
+    requires rules { first_edit context.now.chain context.now.list ≡ None }
+    ensures { IfOk result (λ h. h ≡ heaps_with context.now.chain context.now.list.edits context.now.list.edits) }
+{
+    let mut heaps = HeapBuilder::begin(alloc, context.old.view.lengths())?;
+    let edits = context.edits();
+    for k in 0..edits.len() {
+        let edit = &edits[k];
+        match add_edit(context, &mut heaps, edit) {
+            Err(BuildFault::Memory) => return Err(AllocError),
+            Err(BuildFault::TooLarge(_)) => unreachable!(),
+            Ok(()) => {}
+        }
+    }
+    Ok(heaps)
 }

@@ -1,8 +1,10 @@
 //! How long stated instructions are, and where they begin (ECMA-335 III.1.2).
 ghost use Rattle.std.specs.Prelude.{◌≡◌, ℕ, ◌≤◌, ◌<◌, ◌^◌, ◌+◌, min, if◌then◌else◌, nat_le, IfOk};
+ghost use Rattle.std.specs.List.{list_all};
 ghost use Rattle.enc_opcodes.specs.Sound.{instruction_size, begins_at};
 ghost use Rattle.enc_edits.specs.Sizes.{instr_meant, length_of_code, placed};
-ghost use Rattle.enc_edits.specs.Reach.{lies_close, argument_reaches, branches_reach};
+ghost use Rattle.enc_edits.specs.Reach.{lies_close, lies_in_reach, argument_reaches, branches_reach};
+ghost use Rattle.enc_edits.specs.declared.body.ArgValue.TheVariants.{Target, Targets};
 ghost use Rattle.enc_rules.specs.Marked.{is_marked};
 ghost use Rattle.enc_rules.specs.Sums.{most_room};
 
@@ -60,21 +62,65 @@ fn lies_close(end: u64, target: u32) -> bool
     end <= u64::from(target) + 128 && u64::from(target) <= end + 127
 }
 
-/// The instruction that ends there reaches its target.
-fn argument_reaches(end: u64, instr: &InstrValue) -> bool
+/// A long branch reaches its target from the end of its instruction.
+fn lies_in_reach(end: u64, target: u32) -> bool
     requires { end < 2 ^ 32 }
-    ensures { result ≡ argument_reaches end instr.now.op.operand instr.now.arg }
+    ensures { result ≡ lies_in_reach end target }
 {
-    if instr.op.operand != Operand::Branch8 {
-        return true;
-    }
-    match &instr.arg {
-        ArgValue::Target(target) => lies_close(end, *target),
+    end <= u64::from(target) + 0x8000_0000 && u64::from(target) < end + 0x8000_0000
+}
+
+/// A branch of this operand reaches its target.
+fn target_reaches(end: u64, operand: Operand, target: u32) -> bool
+    requires { end < 2 ^ 32 }
+    ensures { result ≡ argument_reaches end operand (Target target) }
+{
+    match operand {
+        Operand::Branch8 => lies_close(end, target),
+        Operand::Branch32 => lies_in_reach(end, target),
         _ => true,
     }
 }
 
-/// All short branches reach their targets.
+/// A `switch` reaches all its targets.
+fn lie_in_reach(end: u64, targets: &[u32]) -> bool
+    requires { end < 2 ^ 32 }
+    ensures { result ≡ list_all (lies_in_reach end) targets.now }
+{
+    let mut rest = targets;
+    while let [target, tail @ ..] = rest {
+        if !lies_in_reach(end, *target) {
+            return false;
+        }
+        rest = tail;
+    }
+    true
+}
+
+/// An instruction of this operand reaches all its targets.
+fn targets_reach(end: u64, operand: Operand, targets: &[u32]) -> bool
+    requires { end < 2 ^ 32 }
+    ensures { result ≡ argument_reaches end operand (Targets targets.now) }
+{
+    match operand {
+        Operand::Switch => lie_in_reach(end, targets),
+        _ => true,
+    }
+}
+
+/// The instruction that ends there reaches its targets.
+fn argument_reaches(end: u64, instr: &InstrValue) -> bool
+    requires { end < 2 ^ 32 }
+    ensures { result ≡ argument_reaches end instr.now.op.operand instr.now.arg }
+{
+    match &instr.arg {
+        ArgValue::Target(target) => target_reaches(end, instr.op.operand, *target),
+        ArgValue::Targets(targets) => targets_reach(end, instr.op.operand, targets.as_slice()),
+        _ => true,
+    }
+}
+
+/// All branches reach their targets.
 pub fn branches_reach(code: &[InstrValue]) -> bool
     requires { length_of_code code.now < 2 ^ 32 }
     ensures { result ≡ branches_reach 0 code.now }

@@ -1,4 +1,4 @@
-//! Which rule an edit list breaks first after a chain.
+//! Which rule an edit list breaks first after a chain, and the rows and heaps after it.
 #![tactic(auto)]
 
 mod bodies;
@@ -16,4 +16,9 @@ mod signatures;
 mod sums;
 mod whole;
 
+pub use context::{Context, Known};
 pub use first::first_broken;
+pub use heaps::heaps_of;
+pub use points::points_given;
+pub use rows::context_of;
+pub use signatures::body_given;

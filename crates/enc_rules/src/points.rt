@@ -15,7 +15,7 @@ use enc_seqpoints::{Point, WriteFault, write_points};
 use std::alloc::{AllocError, Global};
 
 /// The sequence points that an edit gives a method.
-fn points_given(edit: &Edit) -> &[Point]
+pub fn points_given(edit: &Edit) -> &[Point]
     ensures { result.now ≡ points_given edit.now }
 {
     match edit {

@@ -8,5 +8,5 @@ use Rattle.enc_edited.proofs.plain.PlainModule.cell.Goals as goal
 
 pub returns-clause-kind : goal.returns-clause-kind
 returns-clause-kind c =
-    let sound : IsSound c.args.self.now.plain = rw (ap (λ (m : InMemory). m.plain) c.self.view_is) at c.self.invariant in
+    let sound : IsSound c.args.self.now.plain = rw (ap (λ (m : InMemory). m.plain) c.self.view_is) at c.self.invariant.sound in
     kind_is c.args.self.now.plain c.args.row c.args.column sound c.requires.row c.requires.kind ∙ ap (λ o. option_map cell_kind o) (sym c.found.ensures) ∙ (rw c.in-Some.is refl)

@@ -6,7 +6,7 @@ use Rattle.enc_edited.proofs.plain.PlainModuleModuleView.kids.Goals as goal
 
 pub overflow_cast-result : goal.overflow_cast-result
 overflow_cast-result c =
-    let sound : IsSound c.args.self.now.plain = rw (ap (λ (m : InMemory). m.plain) c.self.view_is) at c.self.invariant in
+    let sound : IsSound c.args.self.now.plain = rw (ap (λ (m : InMemory). m.plain) c.self.view_is) at c.self.invariant.sound in
     let few = few_kids c.args.self.now.plain c.args.owner c.args.table sound.owners.owned c.requires.table in
     let all = sound.counts.few c.args.table in
     rw c.kids_in.ensures (omega (arith, few, all))

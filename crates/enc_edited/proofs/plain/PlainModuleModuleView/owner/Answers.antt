@@ -6,5 +6,5 @@ use Rattle.enc_edited.proofs.plain.PlainModuleModuleView.owner.Goals as goal
 
 pub unreachable-requires : goal.unreachable-requires
 unreachable-requires c =
-    let sound : IsSound c.args.self.now.plain = rw (ap (λ (m : InMemory). m.plain) c.self.view_is) at c.self.invariant in
+    let sound : IsSound c.args.self.now.plain = rw (ap (λ (m : InMemory). m.plain) c.self.view_is) at c.self.invariant.sound in
     child_owned c.args.self.now.plain c.args.child _ sound.owners.owned c.requires.row c.requires.table (sym c.owner_found.ensures) c.in-None.is

@@ -1,0 +1,8 @@
+use Rattle.enc_edited.proofs.StatedCells.{both}
+use Rattle.enc_edited.proofs.copy.copied_body.Goals as goal
+
+pub returns-clause-held : goal.returns-clause-held
+returns-clause-held c =
+    let code = rw c.as_slice.ensures at c.in_ok-code.ensures.held in
+    let clauses = rw c.as_slice-2.ensures at c.in_ok-clauses.ensures.fit in
+    both _ _ (both _ _ (both _ _ c.held_law.ensures.max c.held_law.ensures.table) code) clauses

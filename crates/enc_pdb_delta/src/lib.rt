@@ -1,0 +1,12 @@
+//! The Portable PDB of a delta: the points that an edit list gives its methods.
+#![tactic(auto)]
+
+mod documents;
+mod edits;
+mod laws;
+mod names;
+mod points;
+mod write;
+
+pub use laws::{none_is_misplaced_law, pdbs_are_edited_law};
+pub use write::write_pdb_delta;

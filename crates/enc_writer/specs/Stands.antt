@@ -1,0 +1,44 @@
+-- Files that stand for an edit list after a chain.
+use Rattle.std.specs.Prelude.{◌≡◌, ℕ, length, Some, None, Result, Ok, Err}
+use Rattle.enc_base.specs.declared.token.Token.{Token}
+use Rattle.enc_plain.specs.Chain.{Chain, mvid_of, id_of}
+use Rattle.enc_plain.specs.Debug.{PlainPdb}
+use Rattle.enc_meta.specs.Joined.{joined_guid}
+use Rattle.enc_rows.specs.Source.{Source}
+use Rattle.enc_delta.specs.Delta.{delta_of}
+use Rattle.enc_agg.specs.Extend.{extended}
+use Rattle.enc_edits.specs.declared.edit.EditList.{EditList}
+use Rattle.enc_rules.specs.Edited.{rows_edited, edited}
+use Rattle.enc_rules.specs.First.{first_edit}
+use Rattle.enc_ppdb.specs.PdbChain.{pdb_changed}
+use Rattle.enc_pdb_delta.specs.Stated.{pdb_edited}
+use Rattle.enc_pdb_delta.specs.Written.{SaysEdits}
+use Rattle.enc_checker.specs.Check.{accepted, judged}
+use Rattle.enc_checker.specs.Within.{debug_of_accepted}
+use Rattle.enc_written.specs.Holds.{SaysDelta}
+use Rattle.enc_writer.specs.declared.bytes.DeltaBytes.{DeltaBytes}
+use Rattle.enc_writer.specs.declared.fault.EditFault.{EditFault}
+use Rattle.enc_writer.specs.declared.fault.EditFault.TheVariants.{Memory, Broken}
+
+-- the files of a delta that say what a list states and are accepted after the chain, which then has the module and the plain PDB with all edits made directly
+pub record StandsFor (c : Chain) (l : EditList) (d : DeltaBytes) : Type 0 where
+  pub rules : first_edit c l ≡ None
+  pub source : Source
+  pub read : delta_of d.meta d.il ≡ Ok source
+  pub says : SaysDelta c l source
+  pub points : SaysEdits l (rows_edited c.plain l.edits) d.pdb
+  pub stands : judged c (delta_of d.meta d.il) (Some d.pdb) ≡ Ok (accepted source (Some points.source))
+  pub means : (extended c source).plain ≡ edited c.plain l.edits
+  pub debug : (before : PlainPdb) (method : Token)
+      → pdb_changed before (debug_of_accepted (accepted source (Some points.source))) method ≡ pdb_edited before (rows_edited c.plain l.edits) l method
+
+-- the files, or the first rule that the list breaks, with its edit; want of memory tells nothing
+abbrev pub Writes : Chain → EditList → Result DeltaBytes EditFault → Type 0
+Writes c l (Ok d) = StandsFor c l d
+Writes c l (Err (Broken rule edit)) = first_edit c l ≡ Some (rule, edit)
+Writes c l (Err Memory) = Unit {0}
+
+-- the Mvid of the module and the last EncId can be named in the joined `#GUID`
+pub record NamesGuids (c : Chain) : Type 0 where
+  pub mvid : (k : ℕ) × (joined_guid c.heaps k ≡ Some (mvid_of c))
+  pub last : (k : ℕ) × (joined_guid c.heaps k ≡ Some (id_of c (length c.ids)))
