@@ -21,7 +21,7 @@ use Rattle.enc_rewriter.specs.declared.pass.Pass.TheVariants as pass
 use Rattle.enc_rows.specs.Sums.{below}
 use Rattle.enc_schema.specs.Schema.{columns_in, column_in}
 use Rattle.enc_schema.specs.declared.column.Column.{Column}
-use Rattle.enc_edited.specs.Plain.{body_said}
+use Rattle.enc_edited.specs.Plain.{body_in_cell}
 use Rattle.enc_edited.specs.Encoded.{body_of_row, users_of_row, users_of_rows, IsSoundIf}
 use Rattle.enc_edited.proofs.HeldBodies.{method_cell, said_of_row}
 
@@ -67,7 +67,7 @@ six_columns : 0 < length (columns_in 6)
 unfolding columns_in
 six_columns = omega arith
 
-users_said : (o : Option Cell) → o ≡ Some (body (body_said o)) → values_if pass.Users o ≡ users_of_body (body_said o)
+users_said : (o : Option Cell) → o ≡ Some (body (body_in_cell o)) → values_if pass.Users o ≡ users_of_body (body_in_cell o)
 users_said None h = absurd cc
 users_said (Some (number n)) h = absurd cc
 users_said (Some (text b)) h = absurd cc
@@ -78,7 +78,7 @@ users_said (Some (body b)) h = refl
 users_said (Some (field b)) h = absurd cc
 
 -- that one has those of its body
-of_method : (m : Module) (u : Token) → IsSound m → has_row m u ≡ true → u.table ≡ 6 → values_of_row pass.Users m u ≡ users_of_body (body_said (cell_of m u 0))
+of_method : (m : Module) (u : Token) → IsSound m → has_row m u ≡ true → u.table ≡ 6 → values_of_row pass.Users m u ≡ users_of_body (body_in_cell (cell_of m u 0))
 unfolding values_of_row values_at below
 of_method m u sound there is =
     one_has (values_at pass.Users m u) 0 (length (columns_in u.table)) 0 (omega arith) (let some = six_columns in rw is (omega (arith, some)))
@@ -101,7 +101,7 @@ by_items g (r ∷ rows) a each =
     let rest = by_items g rows (a + 1) (λ n x there. let e : a + 1 + n ≡ a + suc n = omega arith in rw e (each (suc n) x there)) in
     rw (first, rest) refl
 
-row_said : (m : Module) (n : ℕ) (r : Row) → slice_get (rows_in m 6) n ≡ Some r → body_said (cell_of m (nth_row 6 n) 0) ≡ body_of_row r
+row_said : (m : Module) (n : ℕ) (r : Row) → slice_get (rows_in m 6) n ≡ Some r → body_in_cell (cell_of m (nth_row 6 n) 0) ≡ body_of_row r
 row_said m n r there =
     let e : n + 1 - 1 ≡ n = omega arith in
     said_of_row m (nth_row 6 n) r refl (omega arith) (rw e there)

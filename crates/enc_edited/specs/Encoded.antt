@@ -11,27 +11,27 @@ use Rattle.enc_plain.specs.Sound.{IsSound}
 use Rattle.enc_schema.specs.Tables.{method_def}
 use Rattle.enc_edits.specs.declared.body.BodyValue.{BodyValue}
 use Rattle.enc_rewriter.specs.Values.{texts_named, users_of_body}
-use Rattle.enc_edited.specs.Plain.{body_said}
+use Rattle.enc_edited.specs.Plain.{body_in_cell}
 
 -- the body that its bytes say, which begins with them
 abbrev pub code_read : Option (List ℕ) → Option Code
 code_read bytes = option_and_then (λ b. body_at b 0 0) bytes
 
 -- one is read where there are bytes
-abbrev pub IsRead : Option (List ℕ) → Type 0
-IsRead None = Unit {0}
-IsRead (Some b) = is_some (body_at b 0 0) ≡ true
+abbrev pub IsCodeRead : Option (List ℕ) → Type 0
+IsCodeRead None = Unit {0}
+IsCodeRead (Some b) = is_some (body_at b 0 0) ≡ true
 
 -- the body of a method's row, which its first cell has
 abbrev pub body_of_row : Row → Option Body
-body_of_row r = body_said (slice_get r.cells 0)
+body_of_row r = body_in_cell (slice_get r.cells 0)
 
 -- what bodies mean with the user texts of a `#US`
 abbrev pub bodies_meant : List ℕ → List (Option Code) → List (Option Body)
 bodies_meant users codes = map (option_map (body_of (user_at users))) codes
 
 -- the module is sound, and there is the body of each of its methods, in order
-pub record Holds (m : Module) (users : List ℕ) (codes : List (Option Code)) : Type 0 where
+pub record HoldsCodes (m : Module) (users : List ℕ) (codes : List (Option Code)) : Type 0 where
   pub sound : IsSound m
   pub bodies : bodies_meant users codes ≡ map body_of_row (rows_in m method_def)
 

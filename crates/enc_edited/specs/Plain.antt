@@ -25,10 +25,10 @@ unfoldable pub blob_in : Module → ℕ → Option (List ℕ)
 blob_in m n = blob_said (cell_of m (record { table = n / 2 ^ 8 % 2 ^ 8; row = n / 2 ^ 16 }) (n % 2 ^ 8))
 
 -- the body that a method's cell has
-abbrev pub body_said : Option Cell → Option Body
-body_said (Some (body there)) = there
-body_said _ = None
+abbrev pub body_in_cell : Option Cell → Option Body
+body_in_cell (Some (body there)) = there
+body_in_cell _ = None
 
 -- the body of the method of a row
-unfoldable pub body_in : Module → ℕ → Option Body
-body_in m row = body_said (cell_of m (record { table = method_def; row = row }) 0)
+unfoldable pub body_at_row : Module → ℕ → Option Body
+body_at_row m row = body_in_cell (cell_of m (record { table = method_def; row = row }) 0)

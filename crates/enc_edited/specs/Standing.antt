@@ -13,12 +13,12 @@ use Rattle.enc_edits.specs.Sizes.{length_of_code}
 use Rattle.enc_rules.specs.Listed.{body_given}
 
 -- the numbers of an argument are as wide as they are held: an offset has four bytes, a token's table one
-abbrev pub is_offset : ℕ → Bool
-is_offset n = nat_lt n (2 ^ 32)
+abbrev pub is_any_offset : ℕ → Bool
+is_any_offset n = nat_lt n (2 ^ 32)
 
 abbrev pub argument_is_held : ArgValue → Bool
-argument_is_held (arg.Target t) = is_offset t
-argument_is_held (arg.Targets ts) = list_all is_offset ts
+argument_is_held (arg.Target t) = is_any_offset t
+argument_is_held (arg.Targets ts) = list_all is_any_offset ts
 argument_is_held (arg.Token t) = nat_lt t.table 0x100
 argument_is_held _ = true
 

@@ -4,7 +4,7 @@ ghost use Rattle.std.specs.List.{list_all};
 ghost use Rattle.enc_il.specs.Written.{clause_fits};
 ghost use Rattle.enc_plain.specs.Cell.{text, blob, body, field};
 ghost use Rattle.enc_rules.specs.Edited.{body_stated};
-ghost use Rattle.enc_edited.specs.Standing.{is_offset, argument_is_held, code_is_held, body_is_held, body_assembles, assembles_if};
+ghost use Rattle.enc_edited.specs.Standing.{is_any_offset, argument_is_held, code_is_held, body_is_held, body_assembles, assembles_if};
 
 use crate::plain::{Held, Kids, PlainCell, PlainRow, PlainTable};
 use enc_base::{Bytes, Token, Units};
@@ -32,7 +32,7 @@ pub(crate) fn held_law(token: Token, max: u16)
 /// The offsets of a `switch`.
 fn copied_targets(alloc: Global, targets: &[u32]) -> Result<TargetList, AllocError>
     ensures same { IfOk result (λ t. t ≡ targets.now) }
-    ensures held { OnOk result (list_all is_offset targets.now ≡ true) }
+    ensures held { OnOk result (list_all is_any_offset targets.now ≡ true) }
 {
     let mut out = ListOf::begin(alloc);
     for target in targets {

@@ -8,7 +8,7 @@ ghost use Rattle.enc_rewriter.specs.Values.{with_all, text_named, texts_named, h
 ghost use Rattle.enc_rewriter.specs.declared.pass.Pass.TheVariants.{Users};
 ghost use Rattle.enc_rules.specs.Edited.{body_stated};
 ghost use Rattle.enc_edited.specs.Encoded.{body_of_row, bodies_meant, code_for, users_of_row, users_of_rows, IsSoundIf, CanBeEncoded, CanBeEncodedIf, texts_of};
-ghost use Rattle.enc_edited.specs.Plain.{body_said};
+ghost use Rattle.enc_edited.specs.Plain.{body_in_cell};
 ghost use Rattle.enc_edited.specs.Standing.{Stands};
 
 use crate::copy::held_law;
@@ -38,7 +38,7 @@ pub(crate) struct Encoded {
 impl Held {
     /// The body that the cell has.
     fn body(&self) -> Option<&BodyValue>
-        ensures body { option_map (λ b. body_stated b.now) result ≡ body_said (Some self.now) }
+        ensures body { option_map (λ b. body_stated b.now) result ≡ body_in_cell (Some self.now) }
         ensures stands { IfSome result (λ b. Stands b.now) }
     {
         match &self.cell {

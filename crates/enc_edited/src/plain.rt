@@ -5,7 +5,7 @@ ghost use Rattle.enc_meta.specs.Heaps.{user_at};
 ghost use Rattle.enc_opcodes.specs.Body.{body_of, code_seen};
 ghost use Rattle.enc_plain.specs.Cell.{kind_in, cell_kind, body};
 ghost use Rattle.enc_plain.specs.Module.{rows_in, row_at, row_of, has_row, cells_of, cell_of, owner_of, kids_of, kids_at, has_kid};
-ghost use Rattle.enc_edited.specs.Plain.{cell_number, blob_in, body_in};
+ghost use Rattle.enc_edited.specs.Plain.{cell_number, blob_in, body_at_row};
 ghost use Rattle.enc_edited.specs.Encoded.{with_tables};
 ghost use Rattle.enc_plain.specs.Sound.{IsSound};
 ghost use Rattle.enc_edited.specs.Begun.{module_row as row_of_module, begun};
@@ -115,11 +115,11 @@ impl Model for HeldCode {
 
     ghost Value = { Option Code };
 
-    ghost use Rattle.enc_edited.specs.Encoded.{code_read, IsRead};
+    ghost use Rattle.enc_edited.specs.Encoded.{code_read, IsCodeRead};
 
     ghost view = { λ h. code_read (option_map (λ b. b.items) h.bytes) };
 
-    ghost invariant = { λ h. IsRead (option_map (λ b. b.items) h.bytes) };
+    ghost invariant = { λ h. IsCodeRead (option_map (λ b. b.items) h.bytes) };
 }
 
 impl HeldCode {
@@ -156,13 +156,13 @@ pub struct PlainModule {
 
 impl Model for PlainModule {
     ghost use Rattle.enc_edited.specs.Plain.{InMemory};
-    ghost use Rattle.enc_edited.specs.Encoded.{Holds, with_tables};
+    ghost use Rattle.enc_edited.specs.Encoded.{HoldsCodes, with_tables};
 
     ghost Value = { InMemory };
 
     ghost view = { λ m. record { plain = with_tables m.tables.items; users = m.users.items } };
 
-    ghost invariant = { λ m. Holds (with_tables m.tables.items) m.users.items m.codes.items };
+    ghost invariant = { λ m. HoldsCodes (with_tables m.tables.items) m.users.items m.codes.items };
 }
 
 impl PlainRow {
@@ -397,7 +397,7 @@ impl ModuleView for PlainModule {
 
     ghost users = { λ m. user_at m.users };
 
-    ghost places = { λ m n. body_in m.plain n };
+    ghost places = { λ m n. body_at_row m.plain n };
 
     ghost stored = { λ m n. blob_in m.plain n };
 

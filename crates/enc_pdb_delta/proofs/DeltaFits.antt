@@ -24,7 +24,7 @@ use Rattle.enc_schema.specs.Schema.{columns_in}
 use Rattle.enc_schema.specs.Widths.{Shape, width_of, space_of, row_width}
 use Rattle.enc_schema.specs.declared.column.Column.{Column}
 use Rattle.enc_ppdb.specs.Written.{pdb_starts}
-use Rattle.enc_pdb_delta.specs.Holding.{HoldDelta}
+use Rattle.enc_pdb_delta.specs.Holding.{HoldPdbDelta}
 use Rattle.enc_pdb_delta.specs.declared.edits.MethodEdit.{MethodEdit}
 
 -- a column takes four bytes at most
@@ -69,10 +69,10 @@ sum_same f n (suc m) each =
     let e : n + suc m ≡ suc (n + m) = omega arith in
     ap (sum_below f) e ∙ sum_suc f (n + m) ∙ omega (arith, sum_same f n m (λ k low high. each k low (omega (arith, high))), each (n + m) (omega arith) (omega arith))
 
-other_none : (p : PlainPdb) (placed : List MethodEdit) (h : Built) (rows : List (List (List ℕ))) (t : ℕ) → HoldDelta p placed h rows → (t ≡ 0x30 → ⊥) → (t ≡ 0x31 → ⊥) → (t ≡ 0x1F → ⊥) → count_at rows t ≡ 0
+other_none : (p : PlainPdb) (placed : List MethodEdit) (h : Built) (rows : List (List (List ℕ))) (t : ℕ) → HoldPdbDelta p placed h rows → (t ≡ 0x30 → ⊥) → (t ≡ 0x31 → ⊥) → (t ≡ 0x1F → ⊥) → count_at rows t ≡ 0
 other_none p placed h rows t held a b c = held.others t (grind (arith, nat_tests, a)) (grind (arith, nat_tests, b)) (grind (arith, nat_tests, c))
 
-tables_few : (p : PlainPdb) (placed : List MethodEdit) (h : Built) (rows : List (List (List ℕ))) (span : Span) (flags : ℕ) → HoldDelta p placed h rows
+tables_few : (p : PlainPdb) (placed : List MethodEdit) (h : Built) (rows : List (List (List ℕ))) (span : Span) (flags : ℕ) → HoldPdbDelta p placed h rows
     → sum_below (table_bytes (layout_written rows span false flags)) 64 ≤ count_at rows 0x1F * 4 + count_at rows 0x30 * 16 + count_at rows 0x31 * 8
 tables_few p placed h rows span flags held =
     let f = table_bytes (layout_written rows span false flags) in
@@ -110,7 +110,7 @@ begin_few valid flags = by (flags / 0x40 % 2 == 1)
     by true = omega (arith, ones_few (has_table valid) 64)
     by false = omega (arith, ones_few (has_table valid) 64)
 
-stream_few : (p : PlainPdb) (placed : List MethodEdit) (h : Built) (rows : List (List (List ℕ))) (flags : ℕ) → AreRows rows → HoldDelta p placed h rows
+stream_few : (p : PlainPdb) (placed : List MethodEdit) (h : Built) (rows : List (List (List ℕ))) (flags : ℕ) → AreRows rows → HoldPdbDelta p placed h rows
     → length (stream_of rows false flags) ≤ 284 + (count_at rows 0x1F * 4 + count_at rows 0x30 * 16 + count_at rows 0x31 * 8)
 unfolding table_start
 stream_few p placed h rows flags are held =
@@ -158,7 +158,7 @@ size_few : (pdb stream : List ℕ) (h : Counted) → pdb_root_size pdb stream h 
 size_few pdb stream h =
     omega (arith, padded_few (length pdb), padded_few (length stream), padded_few (length h.strings), padded_few (length h.users), padded_few (length h.guids), padded_few (length h.blobs), padded_few (length (codes "#Pdb") + 1))
 
-pub delta_root_fits : (p : PlainPdb) (placed : List MethodEdit) (h : Built) (rows : List (List (List ℕ))) (pdb : List ℕ) → HoldDelta p placed h rows → IsGood h → AreWithinLimits h → AreRows rows → count_at rows 0x30 < 2 ^ 23 → length pdb ≡ 32
+pub delta_root_fits : (p : PlainPdb) (placed : List MethodEdit) (h : Built) (rows : List (List (List ℕ))) (pdb : List ℕ) → HoldPdbDelta p placed h rows → IsGood h → AreWithinLimits h → AreRows rows → count_at rows 0x30 < 2 ^ 23 → length pdb ≡ 32
     → pdb_built_size (record { heaps = h; rows = rows }) pdb < 2 ^ 32
 delta_root_fits p placed h rows pdb held good within are documents long =
     let stream = stream_of rows false (heap_bits rows) in

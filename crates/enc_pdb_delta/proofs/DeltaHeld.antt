@@ -13,7 +13,7 @@ use Rattle.enc_schema.specs.Tables as tables
 use Rattle.enc_schema.specs.Widths.{Shape, narrow, index_width}
 use Rattle.enc_schema.specs.declared.column.Column.{Column}
 use Rattle.enc_ppdb.specs.Written.{HoldPdb}
-use Rattle.enc_pdb_delta.specs.Holding.{map_cells, MoreNamed, HoldDelta}
+use Rattle.enc_pdb_delta.specs.Holding.{map_cells, MoreNamed, HoldPdbDelta}
 use Rattle.enc_pdb_delta.specs.Listed.{has_short_row}
 use Rattle.enc_pdb_delta.specs.declared.edits.MethodEdit.{MethodEdit}
 
@@ -37,7 +37,7 @@ other_rows p count table h old new more held pushed a b c =
     pushed table ∙ ap (λ (t : Bool). if t then rows_at old table ++ more else rows_at old table) c ∙ empty (rows_at old table) (held.others table a b)
 
 -- with EncMap's rows the parts hold the delta
-pub delta_held : (p : PlainPdb) (placed : List MethodEdit) (h : Built) (old new : List (List (List ℕ))) → HoldPdb p (length placed) h old → MoreNamed old new (map map_cells placed) → HoldDelta p placed h new
+pub delta_held : (p : PlainPdb) (placed : List MethodEdit) (h : Built) (old new : List (List (List ℕ))) → HoldPdb p (length placed) h old → MoreNamed old new (map map_cells placed) → HoldPdbDelta p placed h new
 delta_held p placed h old new held pushed = record {
   starts = held.starts;
   documents = ap length (documents_same old new (map map_cells placed) pushed) ∙ held.documents;

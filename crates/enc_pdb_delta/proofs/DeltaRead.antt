@@ -29,7 +29,7 @@ use Rattle.enc_ppdb.specs.Written.{documents_of, nth_method, row_among, points_n
 use Rattle.enc_ppdb.proofs.PdbGood.{IsDocumentOf}
 use Rattle.enc_ppdb.proofs.PdbRead.{IsPdbReadAs}
 use Rattle.enc_ppdb.proofs.PdbRows.{has_row, have_rows, documents_there, StandsAs, stands, row_is}
-use Rattle.enc_pdb_delta.specs.Holding.{map_cells, HoldDelta}
+use Rattle.enc_pdb_delta.specs.Holding.{map_cells, HoldPdbDelta}
 use Rattle.enc_pdb_delta.specs.Listed.{has_short_row}
 use Rattle.enc_pdb_delta.specs.declared.edits.MethodEdit.{MethodEdit}
 use Rattle.enc_pdb_delta.proofs.Lists.{one_of_all}
@@ -157,7 +157,7 @@ filter_all [] = refl
 filter_all (m ∷ xs) = ap (λ (ts : List Token). debug_token m.row ∷ ts) (filter_all xs)
 
 -- what is read of parts that hold a plain PDB and the names of its methods
-module _ (p : PlainPdb) (placed : List MethodEdit) (h : Built) (rows : List (List (List ℕ))) (s : Source) (is : IsPdbReadAs h rows s) (held : HoldDelta p placed h rows) where
+module _ (p : PlainPdb) (placed : List MethodEdit) (h : Built) (rows : List (List (List ℕ))) (s : Source) (is : IsPdbReadAs h rows s) (held : HoldPdbDelta p placed h rows) where
   documents_counted : rows_of s.layout tables.document ≡ length (documents_of p (length placed))
   documents_counted = is.counts tables.document (omega arith) ∙ held.documents
 

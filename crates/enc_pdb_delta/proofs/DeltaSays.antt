@@ -32,9 +32,9 @@ use Rattle.enc_ppdb.specs.Points.{names_method}
 use Rattle.enc_ppdb.specs.Written.{pdb_stream, nth_method}
 use Rattle.enc_ppdb.proofs.PdbRead.{IsPdbReadAs, pdb_is_read}
 use Rattle.enc_pdb_delta.specs.declared.edits.MethodEdit.{MethodEdit}
-use Rattle.enc_pdb_delta.specs.Holding.{HoldDelta}
-use Rattle.enc_pdb_delta.specs.Listed.{row_of, said_by, documents_used, numbered_document, pdb_listed, list_pdb, AreByRows, IsListed}
-use Rattle.enc_pdb_delta.specs.Stated.{document_stated, document_numbered, locals_row, debug_stated, giving, AreMethods}
+use Rattle.enc_pdb_delta.specs.Holding.{HoldPdbDelta}
+use Rattle.enc_pdb_delta.specs.Listed.{row_placed, said_by, documents_used, numbered_document, pdb_listed, list_pdb, AreByRows, IsPdbListed}
+use Rattle.enc_pdb_delta.specs.Stated.{document_stated, document_numbered, locals_row, debug_stated, edit_giving, AreMethods}
 use Rattle.enc_pdb_delta.specs.Written.{gives_points, method_named, SaysEdits}
 use Rattle.enc_pdb_delta.proofs.Lists.{one_of_all, one_of_some, some_by_one, none_by_each}
 use Rattle.enc_pdb_delta.proofs.Told.{named_is, given_at}
@@ -61,12 +61,12 @@ token_of : (placed : List MethodEdit) (k : ℕ) (t : Token) → slice_get (map t
 token_of placed k t at = token_by placed k t (slice_get placed k) refl (sym (slice_get-map token_for placed k) ∙ at)
 
 -- the rows rise
-rows_apart : (placed : List MethodEdit) (i k : ℕ) (m n : MethodEdit) → IsStrictlyIncreasing (map row_of placed) → i < k → slice_get placed i ≡ Some m → slice_get placed k ≡ Some n → m.row < n.row
+rows_apart : (placed : List MethodEdit) (i k : ℕ) (m n : MethodEdit) → IsStrictlyIncreasing (map row_placed placed) → i < k → slice_get placed i ≡ Some m → slice_get placed k ≡ Some n → m.row < n.row
 rows_apart placed i k m n up lt a b =
-    let x = slice_get-map row_of placed i ∙ ap (option_map row_of) a in
-    let y = slice_get-map row_of placed k ∙ ap (option_map row_of) b in
-    let low = AllPairs-from_increasing (map row_of placed) up i k 0 lt (slice_get_within (map row_of placed) k n.row y) in
-    omega (arith, low, get_or_from_slice_get (map row_of placed) i m.row 0 x, get_or_from_slice_get (map row_of placed) k n.row 0 y)
+    let x = slice_get-map row_placed placed i ∙ ap (option_map row_placed) a in
+    let y = slice_get-map row_placed placed k ∙ ap (option_map row_placed) b in
+    let low = AllPairs-from_increasing (map row_placed placed) up i k 0 lt (slice_get_within (map row_placed placed) k n.row y) in
+    omega (arith, low, get_or_from_slice_get (map row_placed placed) i m.row 0 x, get_or_from_slice_get (map row_placed placed) k n.row 0 y)
 
 taken : {X : Type 0} (xs : List X) (k i : ℕ) (x : X) → slice_get (take k xs) i ≡ Some x → (i < k) × (slice_get xs i ≡ Some x)
 taken [] zero i x at = absurd cc
@@ -78,7 +78,7 @@ taken (y ∷ ys) (suc k) (suc i) x at = let r = taken ys k i x at in (omega (ari
 not_behind : (u t : Token) (m n : MethodEdit) → token_for m ≡ u → token_for n ≡ t → m.row < n.row → nat_le t.row u.row ≡ false
 not_behind u t m n a b low = rw (← a, ← b) (grind (arith, nat_tests, low))
 
-pub rises : (placed : List MethodEdit) (k : ℕ) (t : Token) → IsStrictlyIncreasing (map row_of placed) → slice_get (map token_for placed) k ≡ Some t → is_behind (take k (map token_for placed)) t ≡ false
+pub rises : (placed : List MethodEdit) (k : ℕ) (t : Token) → IsStrictlyIncreasing (map row_placed placed) → slice_get (map token_for placed) k ≡ Some t → is_behind (take k (map token_for placed)) t ≡ false
 rises placed k t up at =
     let later = token_of placed k t at in
     none_by_each (λ (u : Token). nat_le t.row u.row) (take k (map token_for placed)) (λ i u a.
@@ -91,7 +91,7 @@ record GivesPlaced (l : EditList) (methods : List Token) (m : MethodEdit) : Type
   edit : Edit
   here : slice_get l.edits m.place ≡ Some edit
   points : has_points edit ≡ true
-  gives : giving methods l.edits (method_named (token_for m)) ≡ Some edit
+  gives : edit_giving methods l.edits (method_named (token_for m)) ≡ Some edit
 
 token_is : (t : Token) (row : ℕ) → t.table ≡ tables.method_def → row ≡ t.row → t ≡ record { table = tables.method_def; row = row }
 token_is t row table same =
@@ -108,7 +108,7 @@ gives_placed l methods placed k m form are by at =
       edit = e;
       here = place.here;
       points = place.points;
-      gives = ap (giving methods l.edits) (sym (token_is (place.token) m.row row.0 (place.row))) ∙ gives_at methods l.edits m.place e (place.token) are (place.here) (place.named) body;
+      gives = ap (edit_giving methods l.edits) (sym (token_is (place.token) m.row row.0 (place.row))) ∙ gives_at methods l.edits m.place e (place.token) are (place.here) (place.named) body;
     }
 
 -- a method is named exactly where its edit has points
@@ -120,13 +120,13 @@ points_of_some None is = absurd cc
 points_of_some (Some e) is = (e, refl, is)
 
 named_then : (l : EditList) (methods : List Token) (placed : List MethodEdit) (method : Token) → list_all edit_fits l.edits ≡ true → AreMethods methods l.edits → AreByRows methods l.edits placed → list_any (names_method method) (map token_for placed) ≡ true
-    → gives_points (giving methods l.edits method) ≡ true
+    → gives_points (edit_giving methods l.edits method) ≡ true
 named_then l methods placed method form are by some =
     let r = one_of_some (names_method method) (map token_for placed) some in
     let t = token_of placed r.0 (r.1.element) (r.1.here) in
     let g = gives_placed l methods placed r.0 (t.method) form are by (t.here) in
     let same = ap method_named (t.same) ∙ named_is method (r.1.element) (r.1.passes) in
-    some_points (giving methods l.edits method) (g.edit) (ap (giving methods l.edits) (sym same) ∙ g.gives) (g.points)
+    some_points (edit_giving methods l.edits method) (g.edit) (ap (edit_giving methods l.edits) (sym same) ∙ g.gives) (g.points)
 
 names_by : (method : Token) (row : ℕ) → method.table ≡ tables.method_def → row ≡ method.row → names_method method (debug_token row) ≡ true
 names_by method row table same =
@@ -134,10 +134,10 @@ names_by method row table same =
     let b : (row == method.row) ≡ true = grind (arith, nat_tests, same) in
     rw (a, b) refl
 
-points_then : (l : EditList) (methods : List Token) (placed : List MethodEdit) (method : Token) → AreMethods methods l.edits → AreByRows methods l.edits placed → gives_points (giving methods l.edits method) ≡ true
+points_then : (l : EditList) (methods : List Token) (placed : List MethodEdit) (method : Token) → AreMethods methods l.edits → AreByRows methods l.edits placed → gives_points (edit_giving methods l.edits method) ≡ true
     → list_any (names_method method) (map token_for placed) ≡ true
 points_then l methods placed method are by some =
-    let r = points_of_some (giving methods l.edits method) some in
+    let r = points_of_some (edit_giving methods l.edits method) some in
     let g = given_at methods l.edits method r.0 r.1 in
     let token : g.token ≡ method = same_is (g.token) method (g.same) in
     let p = is_placed methods l.edits placed (g.place) r.0 (g.token) by (g.here) (g.named) r.2 in
@@ -182,16 +182,16 @@ nth_is l placed k m e at here some =
     ∙ stated_is l.documents e some
 
 row_says : (l : EditList) (methods : List Token) (placed : List MethodEdit) (k : ℕ) (t : Token) (e : Edit) → list_all edit_fits l.edits ≡ true → AreMethods methods l.edits → AreByRows methods l.edits placed → slice_get (map token_for placed) k ≡ Some t
-    → giving methods l.edits (method_named t) ≡ Some e → (k < length placed) × (nth_method (list_pdb l placed) k ≡ debug_stated l.documents e)
+    → edit_giving methods l.edits (method_named t) ≡ Some e → (k < length placed) × (nth_method (list_pdb l placed) k ≡ debug_stated l.documents e)
 row_says l methods placed k t e form are by at given =
     let r = token_of placed k t at in
     let g = gives_placed l methods placed k (r.method) form are by (r.here) in
-    let both : Some (g.edit) ≡ Some e = sym (g.gives) ∙ ap (λ (u : Token). giving methods l.edits (method_named u)) (r.same) ∙ given in
+    let both : Some (g.edit) ≡ Some e = sym (g.gives) ∙ ap (λ (u : Token). edit_giving methods l.edits (method_named u)) (r.same) ∙ given in
     let same : g.edit ≡ e = cc in
     (slice_get_within placed k (r.method) (r.here), nth_is l placed k (r.method) (g.edit) (r.here) (g.here) (g.points) ∙ ap (debug_stated l.documents) same)
 
 -- no table but those of a PDB has rows
-none_else : (p : PlainPdb) (placed : List MethodEdit) (h : Built) (rows : List (List (List ℕ))) (t : ℕ) → HoldDelta p placed h rows → is_pdb_table t ≡ false → count_at rows t ≡ 0
+none_else : (p : PlainPdb) (placed : List MethodEdit) (h : Built) (rows : List (List (List ℕ))) (t : ℕ) → HoldPdbDelta p placed h rows → is_pdb_table t ≡ false → count_at rows t ≡ 0
 none_else p placed h rows t held e = held.others t (by t 0x30 refl e) (by t 0x31 refl e) (by t 0x1F refl e)
   where
     by : (t u : ℕ) → is_pdb_table u ≡ true → is_pdb_table t ≡ false → (t == u) ≡ false
@@ -203,7 +203,7 @@ none_else p placed h rows t held e = held.others t (by t 0x30 refl e) (by t 0x31
 
 -- what is read says the list
 source_says : (l : EditList) (methods : List Token) (placed : List MethodEdit) (h : Built) (rows : List (List (List ℕ))) (s : Source) (bytes : List ℕ) → list_all edit_fits l.edits ≡ true → AreMethods methods l.edits → AreByRows methods l.edits placed
-    → IsListed l placed → IsPdbReadAs h rows s → HoldDelta (list_pdb l placed) placed h rows → pdb_delta_of bytes ≡ Ok s → SaysEdits l methods bytes
+    → IsPdbListed l placed → IsPdbReadAs h rows s → HoldPdbDelta (list_pdb l placed) placed h rows → pdb_delta_of bytes ≡ Ok s → SaysEdits l methods bytes
 source_says l methods placed h rows s bytes form are by listed is held read =
     let p = list_pdb l placed in
     let tokens = tokens_are p placed h rows s is held listed.rows in
@@ -212,14 +212,14 @@ source_says l methods placed h rows s bytes form are by listed is held read =
       read = read;
       rises = λ k t at. ap (λ (ts : List Token). is_behind (take k ts) t) tokens ∙ rises placed k t by.rises (sym (ap (λ (ts : List Token). slice_get ts k) tokens) ∙ at);
       named = λ method. ap (list_any (names_method method)) tokens
-          ∙ both_ways (list_any (names_method method) (map token_for placed)) (gives_points (giving methods l.edits method)) (named_then l methods placed method form are by) (points_then l methods placed method are by);
+          ∙ both_ways (list_any (names_method method) (map token_for placed)) (gives_points (edit_giving methods l.edits method)) (named_then l methods placed method form are by) (points_then l methods placed method are by);
       says = λ k t e at given.
           let r = row_says l methods placed k t e form are by (sym (ap (λ (ts : List Token). slice_get ts k) tokens) ∙ at) given in
           method_back p placed h rows s is held k listed.sound r.0 ∙ r.1;
     }
 
-pub delta_says : (l : EditList) (methods : List Token) (placed : List MethodEdit) (h : Built) (rows : List (List (List ℕ))) → list_fits l ≡ true → AreMethods methods l.edits → AreByRows methods l.edits placed → IsListed l placed
-    → HoldDelta (list_pdb l placed) placed h rows → IsGood h → AreRows rows → IndicesFit rows false → pdb_built_size (record { heaps = h; rows = rows }) (pdb_stream 0) < 2 ^ 32
+pub delta_says : (l : EditList) (methods : List Token) (placed : List MethodEdit) (h : Built) (rows : List (List (List ℕ))) → list_fits l ≡ true → AreMethods methods l.edits → AreByRows methods l.edits placed → IsPdbListed l placed
+    → HoldPdbDelta (list_pdb l placed) placed h rows → IsGood h → AreRows rows → IndicesFit rows false → pdb_built_size (record { heaps = h; rows = rows }) (pdb_stream 0) < 2 ^ 32
     → SaysEdits l methods (pdb_root_built (record { heaps = h; rows = rows }) (pdb_stream 0))
 unfolding pdb_root_built list_fits
 delta_says l methods placed h rows form are by listed held good rowed fit small =

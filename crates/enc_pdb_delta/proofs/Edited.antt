@@ -16,7 +16,7 @@ use Rattle.enc_ppdb.specs.PdbChain.{row_in_file, debug_at, debug_or, pdb_changed
 use Rattle.enc_ppdb.specs.Points.{names_method, row_for}
 use Rattle.enc_ppdb.proofs.Positions.{position_any}
 use Rattle.enc_pdb_delta.specs.Laws.{PdbsAreEdited}
-use Rattle.enc_pdb_delta.specs.Stated.{debug_stated, giving, debug_or_kept, pdb_edited}
+use Rattle.enc_pdb_delta.specs.Stated.{debug_stated, edit_giving, debug_or_kept, pdb_edited}
 use Rattle.enc_pdb_delta.specs.Written.{SaysEdits, gives_points}
 use Rattle.enc_pdb_delta.proofs.Lists.{first_passes}
 use Rattle.enc_pdb_delta.proofs.Told.{named_is}
@@ -48,16 +48,16 @@ said_is s None before = refl
 said_is s (Some k) before = refl
 
 by_place : (l : EditList) (methods : List Token) (bytes : List ℕ) (says : SaysEdits l methods bytes) (method : Token) (before : MethodDebug) (changed : Bool) (o : Option ℕ) → position (names_method method) (named_tokens says.source) ≡ o
-    → changed ≡ is_some (giving methods l.edits method) → said_at says.source (if changed then unknown else before) o ≡ debug_or_kept l.documents (giving methods l.edits method) before
+    → changed ≡ is_some (edit_giving methods l.edits method) → said_at says.source (if changed then unknown else before) o ≡ debug_or_kept l.documents (edit_giving methods l.edits method) before
 unfolding said_at
 by_place l methods bytes says method before changed None e is =
-    let none : gives_points (giving methods l.edits method) ≡ false = sym (says.named method) ∙ sym (position_any (names_method method) (named_tokens says.source)) ∙ ap is_some e in
-    ap (λ (b : Bool). if b then unknown else before) is ∙ without_row l.documents (giving methods l.edits method) before none
+    let none : gives_points (edit_giving methods l.edits method) ≡ false = sym (says.named method) ∙ sym (position_any (names_method method) (named_tokens says.source)) ∙ ap is_some e in
+    ap (λ (b : Bool). if b then unknown else before) is ∙ without_row l.documents (edit_giving methods l.edits method) before none
 by_place l methods bytes says method before changed (Some k) e is =
-    let some : gives_points (giving methods l.edits method) ≡ true = sym (says.named method) ∙ sym (position_any (names_method method) (named_tokens says.source)) ∙ ap is_some e in
+    let some : gives_points (edit_giving methods l.edits method) ≡ true = sym (says.named method) ∙ sym (position_any (names_method method) (named_tokens says.source)) ∙ ap is_some e in
     let at = first_passes (names_method method) (named_tokens says.source) k e in
-    with_row l (giving methods l.edits method) (debug_at (Some (says.source, nth_row tables.method_debug_information k))) before some
-    (λ d given. says.says k (at.element) d (at.here) (ap (giving methods l.edits) (named_is method (at.element) (at.passes)) ∙ given))
+    with_row l (edit_giving methods l.edits method) (debug_at (Some (says.source, nth_row tables.method_debug_information k))) before some
+    (λ d given. says.says k (at.element) d (at.here) (ap (edit_giving methods l.edits) (named_is method (at.element) (at.passes)) ∙ given))
 
 pub pdbs_are_edited : PdbsAreEdited
 unfolding pdb_changed pdb_edited row_for

@@ -19,7 +19,7 @@ use Rattle.enc_edits.specs.declared.edit.EditList.{EditList}
 use Rattle.enc_rules.specs.Listed.{body_given, points_given}
 use Rattle.enc_rules.specs.Rules.{has_document, has_points}
 use Rattle.enc_pdb_delta.specs.declared.edits.MethodEdit.{MethodEdit}
-use Rattle.enc_pdb_delta.specs.Listed.{said_by, said_at, can_be_said, can_be_spelled_at, documents_used, edit_of_row, has_short_row, method_said, numbered_document, pdb_listed, list_pdb, AreByRows, IsListed}
+use Rattle.enc_pdb_delta.specs.Listed.{said_by, said_at, can_be_said, can_be_spelled_at, documents_used, edit_of_row, has_short_row, points_said_of, numbered_document, pdb_listed, list_pdb, AreByRows, IsPdbListed}
 use Rattle.enc_pdb_delta.specs.Stated.{document_stated, locals_row, edit_points_stand, points_stand, AreMethods}
 use Rattle.enc_pdb_delta.proofs.Lists.{one_of_all, all_of_each}
 use Rattle.enc_pdb_delta.proofs.PlacedEdits.{has_place}
@@ -135,8 +135,8 @@ good_row : (l : EditList) (methods : List Token) (placed : List MethodEdit) (row
 good_row l methods placed zero e stands are by is = absurd cc
 good_row l methods placed (suc n) e stands are by is = row_by l methods placed n e (slice_get placed n) refl stands are by is
 
-said_none : (edits : List Edit) (placed : List MethodEdit) (method : Token) → (method.table == tables.method_def) ≡ false → method_said (said_at edits placed) method ≡ method_points 0 []
-unfolding method_said
+said_none : (edits : List Edit) (placed : List MethodEdit) (method : Token) → (method.table == tables.method_def) ≡ false → points_said_of (said_at edits placed) method ≡ method_points 0 []
+unfolding points_said_of
 said_none edits placed method other = rw other refl
 
 documents_are : (placed : List MethodEdit) (documents : List DocumentValue) (n : ℕ) (e : Edit) (edits : List Edit) → edit_of_row edits placed n ≡ Some e → documents_used placed documents ≡ documents
@@ -145,7 +145,7 @@ documents_are [] documents (suc n) e edits is = absurd cc
 documents_are (m ∷ placed) documents n e edits is = refl
 
 sound_method : (l : EditList) (methods : List Token) (placed : List MethodEdit) (method : Token) (b : Bool) → (method.table == tables.method_def) ≡ b → points_stand l ≡ true → AreMethods methods l.edits → AreByRows methods l.edits placed
-    → IsSoundDebug (debug_of (numbered_document (map document_stated (documents_used placed l.documents))) (method_said (said_at l.edits placed) method))
+    → IsSoundDebug (debug_of (numbered_document (map document_stated (documents_used placed l.documents))) (points_said_of (said_at l.edits placed) method))
 sound_method l methods placed method false other stands are by =
     let f = numbered_document (map document_stated (documents_used placed l.documents)) in
     subst (λ (m : MethodPoints). IsSoundDebug (debug_of f m)) (sym (said_none l.edits placed method other)) (sound_none f)
@@ -180,7 +180,7 @@ short_rows l methods placed are by = all_of_each has_short_row placed (λ k m at
     let row = are.each m.place (place.edit) (place.token) (place.here) (place.named) (place.points) in
     short_row m (place.token) (place.row) (row.2))
 
-pub is_listed : (l : EditList) (methods : List Token) (placed : List MethodEdit) → points_stand l ≡ true → AreMethods methods l.edits → AreByRows methods l.edits placed → IsListed l placed
+pub is_listed : (l : EditList) (methods : List Token) (placed : List MethodEdit) → points_stand l ≡ true → AreMethods methods l.edits → AreByRows methods l.edits placed → IsPdbListed l placed
 is_listed l methods placed stands are by = record {
   room = has_room l methods placed stands by;
   said = all_can l methods placed stands are by;

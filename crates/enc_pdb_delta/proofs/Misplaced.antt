@@ -24,7 +24,7 @@ use Rattle.enc_ppdb.specs.Pdb.{points_of}
 use Rattle.enc_ppdb.specs.PdbChain.{documents_at, points_at, debug_at}
 use Rattle.enc_ppdb.specs.Points.{names_method}
 use Rattle.enc_pdb_delta.specs.Laws.{size_given, AreSizes, NoneIsMisplaced}
-use Rattle.enc_pdb_delta.specs.Stated.{document_numbered, debug_stated, giving, stands_within, points_lie_within}
+use Rattle.enc_pdb_delta.specs.Stated.{document_numbered, debug_stated, edit_giving, stands_within, points_lie_within}
 use Rattle.enc_pdb_delta.specs.Written.{SaysEdits, gives_points, method_named}
 use Rattle.enc_pdb_delta.proofs.Lists.{one_of_all, some_by_one}
 use Rattle.enc_pdb_delta.proofs.Told.{names_itself, given_at}
@@ -85,7 +85,7 @@ unfolding is_misplaced
 goes_with l methods bytes says sizes k t are within at =
     let row = nth_row tables.method_debug_information k in
     let some = sym (says.named (method_named t)) ∙ some_by_one (names_method (method_named t)) (named_tokens says.source) k t at (names_itself t) in
-    let r = given_points (giving methods l.edits (method_named t)) some in
+    let r = given_points (edit_giving methods l.edits (method_named t)) some in
     let e = r.0 in
     let place = given_at methods l.edits (method_named t) e r.1 in
     let low = one_of_all points_lie_within l.edits (place.place) e within (place.here) in

@@ -20,7 +20,7 @@ use Rattle.enc_ppdb.specs.Written.{pdb_starts}
 use Rattle.enc_ppdb.proofs.RowsGiven.{blob_low}
 use Rattle.enc_edits.specs.declared.edit.DocumentValue.{DocumentValue}
 use Rattle.enc_rules.specs.Rules.{room_of_document}
-use Rattle.enc_pdb_delta.specs.Names.{name_of, name_at, has_name, name_kept, SaysName, AreSaid}
+use Rattle.enc_pdb_delta.specs.Names.{name_stated, kept_name_at, has_name, name_kept, SaysName, AreSaid}
 
 -- what has room doesn't pass the limit
 not_past : (b : Bool) (size : ℕ) → size ≤ 2 ^ 29 → (not b && nat_lt (2 ^ 29) size) ≡ true → ⊥
@@ -68,8 +68,8 @@ unfolding document_name_in name_blob
 name_read blobs offset name written low there = one_part blobs (spelled offset) name (spelled_some offset) (part_read blobs offset name written low there)
 
 -- a name that is said is read
-said_read : (h : Built) (name : List ℕ) (offset : ℕ) → WrittenIsRead → IsGood h → h.starts ≡ pdb_starts → heaps_size h ≤ 2 ^ 29 → SaysName h name offset → name_at (heaps_built h).blobs offset ≡ Some name
-unfolding name_at
+said_read : (h : Built) (name : List ℕ) (offset : ℕ) → WrittenIsRead → IsGood h → h.starts ≡ pdb_starts → heaps_size h ≤ 2 ^ 29 → SaysName h name offset → kept_name_at (heaps_built h).blobs offset ≡ Some name
+unfolding kept_name_at
 said_read h name offset written good none size says =
     let blobs = (heaps_built h).blobs in
     let at : blob_at blobs offset ≡ Some (name_blob (blob_offset h name)) = ap (blob_at blobs) says.here ∙ blob_told h (name_blob (blob_offset h name)) good none says.blob in
@@ -81,7 +81,7 @@ unfolding has_name
 all_named h names offsets written good none size said = by names offsets said.many said.each
   where
     by : (names : List (List ℕ)) (offsets : List ℕ) → length offsets ≡ length names → ((k offset : ℕ) (name : List ℕ) → slice_get names k ≡ Some name → slice_get offsets k ≡ Some offset → SaysName h name offset)
-        → list_all (λ offset. is_some (name_at (heaps_built h).blobs offset)) offsets ≡ true
+        → list_all (λ offset. is_some (kept_name_at (heaps_built h).blobs offset)) offsets ≡ true
     by names [] many each = refl
     by [] (o ∷ offsets) many each = absurd (omega (arith, many))
     by (name ∷ names) (o ∷ offsets) many each =
@@ -92,7 +92,7 @@ unfolding name_kept
 names_are h names offsets written good none size said = by names offsets said.many said.each
   where
     by : (names : List (List ℕ)) (offsets : List ℕ) → length offsets ≡ length names → ((k offset : ℕ) (name : List ℕ) → slice_get names k ≡ Some name → slice_get offsets k ≡ Some offset → SaysName h name offset)
-        → map (λ offset. unwrap_or (name_at (heaps_built h).blobs offset) []) offsets ≡ names
+        → map (λ offset. unwrap_or (kept_name_at (heaps_built h).blobs offset) []) offsets ≡ names
     by [] [] many each = refl
     by (name ∷ names) [] many each = absurd (omega (arith, many))
     by [] (o ∷ offsets) many each = absurd (omega (arith, many))
@@ -104,9 +104,9 @@ kept_by : (o : Option (List ℕ)) → is_some o ≡ true → o ≡ Some (unwrap_
 kept_by None some = absurd cc
 kept_by (Some x) some = refl
 
-pub name_here : (blobs : List ℕ) (offsets : List ℕ) (i offset : ℕ) → has_name blobs offset ≡ true → slice_get offsets i ≡ Some offset → name_at blobs offset ≡ slice_get (map (name_kept blobs) offsets) i
+pub name_here : (blobs : List ℕ) (offsets : List ℕ) (i offset : ℕ) → has_name blobs offset ≡ true → slice_get offsets i ≡ Some offset → kept_name_at blobs offset ≡ slice_get (map (name_kept blobs) offsets) i
 unfolding has_name name_kept
-name_here blobs offsets i offset has at = kept_by (name_at blobs offset) has ∙ sym (slice_get-map (λ o. unwrap_or (name_at blobs o) []) offsets i ∙ ap (option_map (λ o. unwrap_or (name_at blobs o) [])) at)
+name_here blobs offsets i offset has at = kept_by (kept_name_at blobs offset) has ∙ sym (slice_get-map (λ o. unwrap_or (kept_name_at blobs o) []) offsets i ∙ ap (option_map (λ o. unwrap_or (kept_name_at blobs o) [])) at)
 
 -- a name, and then the blob that says it
 pub said_now : (h k : Built) (name blob : List ℕ) (at offset : ℕ) → is_kept h.blobs name ≡ true → at ≡ blob_offset h name → blob ≡ name_blob at → Grown h k → is_kept k.blobs blob ≡ true → offset ≡ blob_offset k blob → SaysName k name offset
@@ -147,8 +147,8 @@ pub said_as : (h : Built) (a b : List ℕ) (offset : ℕ) → a ≡ b → SaysNa
 said_as h a b offset same says = subst (λ v. SaysName h v offset) same says
 
 -- one document more
-pub names_more : (ds : List DocumentValue) (i : ℕ) (d : DocumentValue) → i < length ds → map name_of (take (i + 1) ds) ≡ map name_of (take i ds) ++ (get_or ds i d).name ∷ []
-names_more ds i d low = ap (map name_of) (take_more ds i d low) ∙ map-append name_of (take i ds) (get_or ds i d ∷ [])
+pub names_more : (ds : List DocumentValue) (i : ℕ) (d : DocumentValue) → i < length ds → map name_stated (take (i + 1) ds) ≡ map name_stated (take i ds) ++ (get_or ds i d).name ∷ []
+names_more ds i d low = ap (map name_stated) (take_more ds i d low) ∙ map-append name_stated (take i ds) (get_or ds i d ∷ [])
 
 pub rooms_more : (ds : List DocumentValue) (i : ℕ) (d : DocumentValue) → i < length ds → sum_by room_of_document (take (i + 1) ds) ≡ sum_by room_of_document (take i ds) + (128 + length (get_or ds i d).name)
 rooms_more ds i d low = sum_by_more room_of_document ds i d low

@@ -14,7 +14,7 @@ use Rattle.enc_seqpoints.specs.Reads.{Writes}
 use Rattle.enc_seqpoints.specs.Spelling.{preceded, records_of, first_document, header_bytes, blob_of}
 use Rattle.enc_edits.specs.declared.edit.Edit.{Edit}
 use Rattle.enc_rules.specs.Listed.{body_given, points_given}
-use Rattle.enc_pdb_delta.specs.Listed.{said_by, said_at, can_be_said, can_be_spelled_at, edit_of_row, row_said, method_said}
+use Rattle.enc_pdb_delta.specs.Listed.{said_by, said_at, can_be_said, can_be_spelled_at, edit_of_row, row_said, points_said_of}
 use Rattle.enc_pdb_delta.specs.Stated.{locals_row}
 use Rattle.enc_pdb_delta.specs.declared.edits.MethodEdit.{MethodEdit}
 use Rattle.enc_pdb_delta.proofs.Lists.{one_of_all}
@@ -68,8 +68,8 @@ row_can edits placed zero e all is = absurd cc
 row_can edits placed (suc n) e all is = can_by edits placed n e (slice_get placed n) refl all is
 
 -- what is said of a method is what the edit of its row says
-pub method_is : (edits : List Edit) (placed : List MethodEdit) (method : Token) (o : Option Edit) → method.table ≡ tables.method_def → edit_of_row edits placed method.row ≡ o → method_said (said_at edits placed) method ≡ said_by o
-unfolding method_said
+pub method_is : (edits : List Edit) (placed : List MethodEdit) (method : Token) (o : Option Edit) → method.table ≡ tables.method_def → edit_of_row edits placed method.row ≡ o → points_said_of (said_at edits placed) method ≡ said_by o
+unfolding points_said_of
 method_is edits placed method o is at =
     let e : (method.table == tables.method_def) ≡ true = grind (arith, nat_tests, is) in
     rw e (row_is edits placed method.row ∙ ap said_by at)

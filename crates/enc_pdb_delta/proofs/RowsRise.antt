@@ -16,7 +16,7 @@ use Rattle.enc_edits.specs.Form.{is_known_table, owner_fits, cells_fit, stated_c
 use Rattle.enc_rules.specs.Rules.{room_of, gives_body, has_points}
 use Rattle.enc_pdb_delta.specs.Stated.{AreMethods}
 use Rattle.enc_pdb_delta.specs.declared.edits.MethodEdit.{MethodEdit}
-use Rattle.enc_pdb_delta.specs.Listed.{placed_edit, placed_from, row_of}
+use Rattle.enc_pdb_delta.specs.Listed.{placed_edit, placed_from, row_placed}
 use Rattle.enc_pdb_delta.proofs.Lists.{one_of_all}
 
 -- an edit with points gives a body
@@ -58,8 +58,8 @@ apart_rest : (t : Token) (methods : List Token) (e : Edit) (edits : List Edit) �
 apart_rest t methods e edits are = record { apart = λ i k d f u v lt a b p q m n same. are.apart (suc i) (suc k) d f u v (omega (arith, lt)) a b p q m n same }
 
 -- a row that no edit behind it has
-rows_with : (row : ℕ) (n : ℕ) (t : Token) (e : Edit) (rest : List MethodEdit) (b : Bool) → has_points e ≡ b → (has_points e ≡ true → eqb row t.row ≡ false) → AllByRecursion (λ y. eqb row y ≡ false) (map row_of rest)
-    → AllByRecursion (λ y. eqb row y ≡ false) (map row_of ((if b then record { row = t.row; place = n } ∷ [] else []) ++ rest))
+rows_with : (row : ℕ) (n : ℕ) (t : Token) (e : Edit) (rest : List MethodEdit) (b : Bool) → has_points e ≡ b → (has_points e ≡ true → eqb row t.row ≡ false) → AllByRecursion (λ y. eqb row y ≡ false) (map row_placed rest)
+    → AllByRecursion (λ y. eqb row y ≡ false) (map row_placed ((if b then record { row = t.row; place = n } ∷ [] else []) ++ rest))
 rows_with row n t e rest true is here later = (here is, later)
 rows_with row n t e rest false is here later = later
 
@@ -67,7 +67,7 @@ differs : (row other : ℕ) → (row ≡ other → ⊥) → eqb row other ≡ fa
 differs row other not = grind (arith, nat_tests, not)
 
 row_absent : (row n : ℕ) (methods : List Token) (edits : List Edit) → ((k : ℕ) (e : Edit) (u : Token) → slice_get edits k ≡ Some e → has_points e ≡ true → slice_get methods k ≡ Some u → row ≡ u.row → ⊥)
-    → AllByRecursion (λ y. eqb row y ≡ false) (map row_of (placed_from n methods edits))
+    → AllByRecursion (λ y. eqb row y ≡ false) (map row_placed (placed_from n methods edits))
 unfolding placed_from placed_edit
 row_absent row n [] edits none = tt
 row_absent row n (t ∷ methods) [] none = tt
@@ -75,16 +75,16 @@ row_absent row n (t ∷ methods) (e ∷ edits) none =
     rows_with row n t e (placed_from (n + 1) methods edits) (has_points e) refl (λ some. differs row t.row (none 0 e t refl some refl))
     (row_absent row (n + 1) methods edits (λ k f u a p m. none (suc k) f u a p m))
 
-distinct_with : (n : ℕ) (t : Token) (e : Edit) (rest : List MethodEdit) (b : Bool) → has_points e ≡ b → (has_points e ≡ true → AllByRecursion (λ y. eqb t.row y ≡ false) (map row_of rest)) → IsDistinct eqb (map row_of rest)
-    → IsDistinct eqb (map row_of ((if b then record { row = t.row; place = n } ∷ [] else []) ++ rest))
-distinct_with n t e rest true is here later = IsDistinct-cons eqb t.row (map row_of rest) (here is) later
+distinct_with : (n : ℕ) (t : Token) (e : Edit) (rest : List MethodEdit) (b : Bool) → has_points e ≡ b → (has_points e ≡ true → AllByRecursion (λ y. eqb t.row y ≡ false) (map row_placed rest)) → IsDistinct eqb (map row_placed rest)
+    → IsDistinct eqb (map row_placed ((if b then record { row = t.row; place = n } ∷ [] else []) ++ rest))
+distinct_with n t e rest true is here later = IsDistinct-cons eqb t.row (map row_placed rest) (here is) later
 distinct_with n t e rest false is here later = later
 
 none_distinct : IsDistinct eqb []
 unfolding IsDistinct
 none_distinct = tt
 
-distinct : (n : ℕ) (methods : List Token) (edits : List Edit) → Apart methods edits → IsDistinct eqb (map row_of (placed_from n methods edits))
+distinct : (n : ℕ) (methods : List Token) (edits : List Edit) → Apart methods edits → IsDistinct eqb (map row_placed (placed_from n methods edits))
 unfolding placed_from placed_edit
 distinct n [] edits are = none_distinct
 distinct n (t ∷ methods) [] are = none_distinct
@@ -96,14 +96,14 @@ distinct n (t ∷ methods) (e ∷ edits) are =
 flips : (x y : ℕ) → eqb x y ≡ eqb y x
 flips x y = grind (arith, nat_tests)
 
-rows_low : (placed : List MethodEdit) → IsNonDecreasingBy row_of placed → IsNonDecreasing (map row_of placed)
+rows_low : (placed : List MethodEdit) → IsNonDecreasingBy row_placed placed → IsNonDecreasing (map row_placed placed)
 rows_low placed up i j d le lt =
     let none : MethodEdit = record { row = 0; place = 0 } in
-    let low : j < length placed = omega (arith, lt, length-map placed row_of) in
-    rw (get_or-map row_of placed i none d (omega (arith, le, low)), get_or-map row_of placed j none d low) (up i j none le low)
+    let low : j < length placed = omega (arith, lt, length-map placed row_placed) in
+    rw (get_or-map row_placed placed i none d (omega (arith, le, low)), get_or-map row_placed placed j none d low) (up i j none le low)
 
 -- sorted rows rise
-pub rows_rise : (methods : List Token) (edits : List Edit) (placed : List MethodEdit) → list_all edit_fits edits ≡ true → AreMethods methods edits → IsPermutation (placed_from 0 methods edits) placed → IsNonDecreasingBy row_of placed → IsStrictlyIncreasing (map row_of placed)
+pub rows_rise : (methods : List Token) (edits : List Edit) (placed : List MethodEdit) → list_all edit_fits edits ≡ true → AreMethods methods edits → IsPermutation (placed_from 0 methods edits) placed → IsNonDecreasingBy row_placed placed → IsStrictlyIncreasing (map row_placed placed)
 rows_rise methods edits placed fit are same up =
-    IsStrictlyIncreasing-from_distinct (map row_of placed) (rows_low placed up)
-    (IsDistinct-IsPermutation eqb flips (map row_of (placed_from 0 methods edits)) (map row_of placed) (IsPermutation-map row_of (placed_from 0 methods edits) placed same) (distinct 0 methods edits (are_apart methods edits fit are)))
+    IsStrictlyIncreasing-from_distinct (map row_placed placed) (rows_low placed up)
+    (IsDistinct-IsPermutation eqb flips (map row_placed (placed_from 0 methods edits)) (map row_placed placed) (IsPermutation-map row_placed (placed_from 0 methods edits) placed same) (distinct 0 methods edits (are_apart methods edits fit are)))

@@ -9,7 +9,7 @@ use Rattle.enc_schema.specs.Tables as tables
 use Rattle.enc_edits.specs.declared.edit.Edit.{Edit}
 use Rattle.enc_rules.specs.Rules.{gives_body}
 use Rattle.enc_ppdb.specs.Points.{names_method}
-use Rattle.enc_pdb_delta.specs.Stated.{giving}
+use Rattle.enc_pdb_delta.specs.Stated.{edit_giving}
 use Rattle.enc_pdb_delta.specs.Written.{method_named}
 
 token_parts : (table row : ℕ) (method : Token) → method.table ≡ table → row ≡ method.row → record { table = table; row = row } ≡ method
@@ -36,16 +36,16 @@ pub record GivenAt (methods : List Token) (edits : List Edit) (method : Token) (
 given_later : (u : Token) (methods : List Token) (d : Edit) (edits : List Edit) (method : Token) (e : Edit) → GivenAt methods edits method e → GivenAt (u ∷ methods) (d ∷ edits) method e
 given_later u methods d edits method e is = record { place = suc (is.place); token = is.token; here = is.here; named = is.named; gives = is.gives; same = is.same }
 
-given_by : (t : Token) (methods : List Token) (d : Edit) (edits : List Edit) (method : Token) (e : Edit) (b : Bool) → (gives_body d && is_token t method) ≡ b → (giving methods edits method ≡ Some e → GivenAt methods edits method e)
-    → (if b then Some d else giving methods edits method) ≡ Some e → GivenAt (t ∷ methods) (d ∷ edits) method e
+given_by : (t : Token) (methods : List Token) (d : Edit) (edits : List Edit) (method : Token) (e : Edit) (b : Bool) → (gives_body d && is_token t method) ≡ b → (edit_giving methods edits method ≡ Some e → GivenAt methods edits method e)
+    → (if b then Some d else edit_giving methods edits method) ≡ Some e → GivenAt (t ∷ methods) (d ∷ edits) method e
 given_by t methods d edits method e true test later is =
     let parts = and_parts (gives_body d) (is_token t method) test in
     let same : d ≡ e = cc in
     record { place = 0; token = t; here = ap (λ (x : Edit). Some x) same; named = refl; gives = ap gives_body (sym same) ∙ parts.0; same = parts.1 }
 given_by t methods d edits method e false test later is = given_later t methods d edits method e (later is)
 
-pub given_at : (methods : List Token) (edits : List Edit) (method : Token) (e : Edit) → giving methods edits method ≡ Some e → GivenAt methods edits method e
-unfolding giving
+pub given_at : (methods : List Token) (edits : List Edit) (method : Token) (e : Edit) → edit_giving methods edits method ≡ Some e → GivenAt methods edits method e
+unfolding edit_giving
 given_at [] edits method e is = absurd cc
 given_at (t ∷ methods) [] method e is = absurd cc
 given_at (t ∷ methods) (d ∷ edits) method e is = given_by t methods d edits method e (gives_body d && is_token t method) refl (λ later. given_at methods edits method e later) is

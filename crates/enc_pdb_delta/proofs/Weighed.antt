@@ -24,7 +24,7 @@ use Rattle.enc_rules.specs.Rules.{has_points, room_of_points, room_of_document}
 use Rattle.enc_ppdb.specs.Written.{is_same, nth_method, documents_of, document_weight, method_weight, pdb_weight}
 use Rattle.enc_ppdb.proofs.PdbRows.{same_self}
 use Rattle.enc_pdb_delta.specs.declared.edits.MethodEdit.{MethodEdit}
-use Rattle.enc_pdb_delta.specs.Listed.{said_by, said_at, documents_used, Listed, row_said, method_said, numbered_document, pdb_listed, list_pdb, AreByRows}
+use Rattle.enc_pdb_delta.specs.Listed.{said_by, said_at, documents_used, ListedPdb, row_said, points_said_of, numbered_document, pdb_listed, list_pdb, AreByRows}
 use Rattle.enc_pdb_delta.specs.Names.{HaveRoom}
 use Rattle.enc_pdb_delta.specs.Stated.{document_stated, edit_points_stand, points_stand, AreMethods}
 use Rattle.enc_pdb_delta.proofs.Lists.{some_by_one}
@@ -42,14 +42,14 @@ sum_listed f w xs (suc n) d le each =
     ap (sum_below f) n1 ∙ same ∙ ap (λ (m : ℕ). sum_by w (take m xs)) (sym n1)
 
 -- what is said of the n-th row
-pub nth_said : (methods : List MethodPoints) (n : ℕ) → method_said methods (nth_row tables.method_def n) ≡ unwrap_or (slice_get methods n) (method_points 0 [])
-unfolding method_said
+pub nth_said : (methods : List MethodPoints) (n : ℕ) → points_said_of methods (nth_row tables.method_def n) ≡ unwrap_or (slice_get methods n) (method_points 0 [])
+unfolding points_said_of
 nth_said methods n = let e : n + 1 ≡ suc n = omega arith in ap (row_said methods) e
 
 abbrev nobody : MethodEdit
 nobody = record { row = 0; place = 0 }
 
-pub nth_placed : (edits : List Edit) (placed : List MethodEdit) (n : ℕ) (m : MethodEdit) → slice_get placed n ≡ Some m → method_said (said_at edits placed) (nth_row tables.method_def n) ≡ said_by (slice_get edits m.place)
+pub nth_placed : (edits : List Edit) (placed : List MethodEdit) (n : ℕ) (m : MethodEdit) → slice_get placed n ≡ Some m → points_said_of (said_at edits placed) (nth_row tables.method_def n) ≡ said_by (slice_get edits m.place)
 unfolding said_at
 nth_placed edits placed n m at =
     nth_said (said_at edits placed) n
@@ -64,7 +64,7 @@ nth_weight : (documents : List Document) (edits : List Edit) (placed : List Meth
 unfolding pdb_listed
 nth_weight documents edits placed n lt =
     let said = nth_placed edits placed n (get_or placed n nobody) (slice_get-get_or placed n nobody lt) in
-    ap (λ (k : ℕ). 64 + 32 * k) (many_points (numbered_document documents) (method_said (said_at edits placed) (nth_row tables.method_def n)) ∙ ap (λ (m : MethodPoints). length m.points) said)
+    ap (λ (k : ℕ). 64 + 32 * k) (many_points (numbered_document documents) (points_said_of (said_at edits placed) (nth_row tables.method_def n)) ∙ ap (λ (m : MethodPoints). length m.points) said)
 
 methods_weight : (documents : List Document) (edits : List Edit) (placed : List MethodEdit)
     → sum_below (λ n. method_weight (nth_method (pdb_listed (record { documents = documents; methods = said_at edits placed })) n)) (length placed) ≡ sum_by (weight_placed edits) placed
@@ -85,9 +85,9 @@ debug_among : (all : List Document) (points : List Point) → points_among all (
 debug_among all [] = refl
 debug_among all (p ∷ points) = rw (numbered_among all p.document, debug_among all points) refl
 
-listed_among : (l : Listed) (method : Token) → points_among l.documents (pdb_listed l method).points ≡ true
+listed_among : (l : ListedPdb) (method : Token) → points_among l.documents (pdb_listed l method).points ≡ true
 unfolding pdb_listed debug_of
-listed_among l method = debug_among l.documents (method_said l.methods method).points
+listed_among l method = debug_among l.documents (points_said_of l.methods method).points
 
 documents_weight : (documents : List DocumentValue) → sum_by document_weight (map document_stated documents) ≡ sum_by room_of_document documents
 documents_weight [] = refl

@@ -18,7 +18,7 @@ abbrev pub MoreNamed : List (List (List ℕ)) → List (List (List ℕ)) → Lis
 MoreNamed old new more = (k : ℕ) → rows_at new k ≡ (if k == tables.enc_map then rows_at old k ++ more else rows_at old k)
 
 -- the rows say the documents and the methods of a plain PDB, EncMap names these, and there are no others
-pub record HoldDelta (p : PlainPdb) (placed : List MethodEdit) (h : Built) (rows : List (List (List ℕ))) : Type 0 where
+pub record HoldPdbDelta (p : PlainPdb) (placed : List MethodEdit) (h : Built) (rows : List (List (List ℕ))) : Type 0 where
   pub starts : h.starts ≡ pdb_starts
   pub documents : count_at rows tables.document ≡ length (documents_of p (length placed))
   pub document : (n : ℕ) (d : Document) (cells : List ℕ) → slice_get (documents_of p (length placed)) n ≡ Some d

@@ -11,13 +11,13 @@ use Rattle.enc_edits.specs.Sizes.{length_of_code}
 use Rattle.enc_rules.specs.Listed.{body_given}
 use Rattle.enc_ppdb.specs.Misplaced.{size_for, first_misplaced}
 use Rattle.enc_ppdb.specs.PdbChain.{pdb_changed}
-use Rattle.enc_pdb_delta.specs.Stated.{giving, pdb_edited, points_lie_within}
+use Rattle.enc_pdb_delta.specs.Stated.{edit_giving, pdb_edited, points_lie_within}
 use Rattle.enc_pdb_delta.specs.Written.{SaysEdits, method_named}
 
 -- where exactly the methods with a new body are told as such, it makes the plain PDB of the edits made directly
 abbrev pub PdbsAreEdited : Type 0
 PdbsAreEdited = (l : EditList) (methods changed : List Token) (bytes : List ℕ) (says : SaysEdits l methods bytes) (before : PlainPdb) (method : Token)
-    → list_any (is_token method) changed ≡ is_some (giving methods l.edits method)
+    → list_any (is_token method) changed ≡ is_some (edit_giving methods l.edits method)
     → pdb_changed before (record { pdb = Some says.source; changed = changed }) method ≡ pdb_edited before methods l method
 
 abbrev pub size_given : Option BodyValue → ℕ
@@ -27,7 +27,7 @@ size_given (Some b) = length_of_code b.code
 -- the sizes are those of the code that edits give
 abbrev pub AreSizes : List (Token × ℕ) → List Token → List Edit → Type 0
 AreSizes sizes methods edits = (t : Token) (e : Edit)
-    → giving methods edits (method_named t) ≡ Some e → size_for sizes t ≡ Some (size_given (body_given e))
+    → edit_giving methods edits (method_named t) ≡ Some e → size_for sizes t ≡ Some (size_given (body_given e))
 
 -- where each point stands in the code of its body, none of its rows is out of place
 abbrev pub NoneIsMisplaced : Type 0

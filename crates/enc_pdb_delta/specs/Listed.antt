@@ -28,8 +28,8 @@ unfoldable pub placed_from : ℕ → List Token → List Edit → List MethodEdi
 placed_from n (t ∷ methods) (e ∷ edits) = placed_edit n t e ++ placed_from (n + 1) methods edits
 placed_from n _ _ = []
 
-abbrev pub row_of : MethodEdit → ℕ
-row_of m = m.row
+abbrev pub row_placed : MethodEdit → ℕ
+row_placed m = m.row
 
 -- a row of three bytes
 abbrev pub has_short_row : MethodEdit → Bool
@@ -37,7 +37,7 @@ has_short_row m = nat_lt m.row (2 ^ 24)
 
 -- the edits with points by the rising rows of their methods
 pub record AreByRows (methods : List Token) (edits : List Edit) (placed : List MethodEdit) : Type 0 where
-  pub rises : IsStrictlyIncreasing (map row_of placed)
+  pub rises : IsStrictlyIncreasing (map row_placed placed)
   pub same : IsPermutation (placed_from 0 methods edits) placed
 
 -- what an edit says of its method, where there is one
@@ -73,7 +73,7 @@ abbrev pub hash_of : DocumentValue → List ℕ
 hash_of d = sha256 d.source
 
 -- the documents that points can have, and what is said of the first methods, in the order of their rows
-pub record Listed : Type 0 where
+pub record ListedPdb : Type 0 where
   pub documents : List Document
   pub methods : List MethodPoints
 
@@ -82,8 +82,8 @@ abbrev pub row_said : List MethodPoints → ℕ → MethodPoints
 row_said methods zero = method_points 0 []
 row_said methods (suc n) = unwrap_or (slice_get methods n) (method_points 0 [])
 
-unfoldable pub method_said : List MethodPoints → Token → MethodPoints
-method_said methods method = if method.table == tables.method_def then row_said methods method.row else method_points 0 []
+unfoldable pub points_said_of : List MethodPoints → Token → MethodPoints
+points_said_of methods method = if method.table == tables.method_def then row_said methods method.row else method_points 0 []
 
 -- the document with a number, from 1
 abbrev pub numbered_document : List Document → ℕ → Option Document
@@ -91,11 +91,11 @@ numbered_document documents zero = None
 numbered_document documents (suc n) = slice_get documents n
 
 -- the plain PDB that is meant
-unfoldable pub pdb_listed : Listed → PlainPdb
-pdb_listed l method = debug_of (numbered_document l.documents) (method_said l.methods method)
+unfoldable pub pdb_listed : ListedPdb → PlainPdb
+pdb_listed l method = debug_of (numbered_document l.documents) (points_said_of l.methods method)
 
 -- by the points and the documents that are lent
-pub listed_known : (l : Listed) (method : Token) → debug_of (numbered_document l.documents) (method_said l.methods method) ≡ pdb_listed l method
+pub listed_known : (l : ListedPdb) (method : Token) → debug_of (numbered_document l.documents) (points_said_of l.methods method) ≡ pdb_listed l method
 unfolding pdb_listed
 listed_known l method = refl
 
@@ -104,7 +104,7 @@ abbrev pub list_pdb : EditList → List MethodEdit → PlainPdb
 list_pdb l placed = pdb_listed (record { documents = map document_stated (documents_used placed l.documents); methods = said_at l.edits placed })
 
 -- a PDB can be written of what is meant of an edit list
-pub record IsListed (l : EditList) (placed : List MethodEdit) : Type 0 where
+pub record IsPdbListed (l : EditList) (placed : List MethodEdit) : Type 0 where
   pub room : HaveRoom (documents_used placed l.documents)
   pub said : can_be_spelled_at l.edits placed ≡ true
   pub sound : IsSoundPdb (list_pdb l placed)

@@ -11,14 +11,14 @@ use Rattle.enc_rules.specs.Rules.{room_of_document}
 use Rattle.enc_ppdb.specs.Holding.{name_blob}
 
 -- the name that the blob at an offset says
-unfoldable pub name_at : List ℕ → ℕ → Option (List ℕ)
-name_at blobs offset = option_and_then (document_name_in blobs) (blob_at blobs offset)
+unfoldable pub kept_name_at : List ℕ → ℕ → Option (List ℕ)
+kept_name_at blobs offset = option_and_then (document_name_in blobs) (blob_at blobs offset)
 
 unfoldable pub has_name : List ℕ → ℕ → Bool
-has_name blobs offset = is_some (name_at blobs offset)
+has_name blobs offset = is_some (kept_name_at blobs offset)
 
 unfoldable pub name_kept : List ℕ → ℕ → List ℕ
-name_kept blobs offset = unwrap_or (name_at blobs offset) []
+name_kept blobs offset = unwrap_or (kept_name_at blobs offset) []
 
 -- the names at offsets of a root's blobs
 unfoldable pub names_kept : List ℕ → Root → List ℕ → List (List ℕ)
@@ -29,8 +29,8 @@ pub record KeepsNames (bytes : List ℕ) (root : Root) (offsets : List ℕ) : Ty
   pub reads : root_of bytes ≡ Ok root
   pub names : list_all (has_name (heaps_of bytes root).blobs) offsets ≡ true
 
-abbrev pub name_of : DocumentValue → List ℕ
-name_of d = d.name
+abbrev pub name_stated : DocumentValue → List ℕ
+name_stated d = d.name
 
 -- heaps keep a name, and at an offset the blob that says it
 pub record SaysName (h : Built) (name : List ℕ) (offset : ℕ) : Type 0 where

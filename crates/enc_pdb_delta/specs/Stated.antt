@@ -42,9 +42,9 @@ debug_stated documents e =
     else unknown
 
 -- of edits, each with the token of its method, the one that gives a method its body
-unfoldable pub giving : List Token → List Edit → Token → Option Edit
-giving (t ∷ methods) (e ∷ edits) method = if gives_body e && is_token t method then Some e else giving methods edits method
-giving _ _ method = None
+unfoldable pub edit_giving : List Token → List Edit → Token → Option Edit
+edit_giving (t ∷ methods) (e ∷ edits) method = if gives_body e && is_token t method then Some e else edit_giving methods edits method
+edit_giving _ _ method = None
 
 abbrev pub debug_or_kept : List DocumentValue → Option Edit → MethodDebug → MethodDebug
 debug_or_kept documents None before = before
@@ -52,7 +52,7 @@ debug_or_kept documents (Some e) before = debug_stated documents e
 
 -- the plain PDB with all edits made directly: a method that an edit gives its body has the points of that edit, and all others keep theirs
 unfoldable pub pdb_edited : PlainPdb → List Token → EditList → PlainPdb
-pdb_edited before methods l method = debug_or_kept l.documents (giving methods l.edits method) (before method)
+pdb_edited before methods l method = debug_or_kept l.documents (edit_giving methods l.edits method) (before method)
 
 -- the points of an edit can be spelled, and each has its document (Sequence Points Blob)
 abbrev pub edit_points_stand : ℕ → Edit → Bool

@@ -12,7 +12,7 @@ use Rattle.enc_ppdb.specs.Fault.{pdb_delta_of, named_tokens}
 use Rattle.enc_ppdb.specs.Misplaced.{is_behind}
 use Rattle.enc_ppdb.specs.PdbChain.{debug_at}
 use Rattle.enc_ppdb.specs.Points.{names_method}
-use Rattle.enc_pdb_delta.specs.Stated.{debug_stated, giving}
+use Rattle.enc_pdb_delta.specs.Stated.{debug_stated, edit_giving}
 
 abbrev pub gives_points : Option Edit → Bool
 gives_points None = false
@@ -27,6 +27,6 @@ pub record SaysEdits (l : EditList) (methods : List Token) (bytes : List ℕ) : 
   pub source : Source
   pub read : pdb_delta_of bytes ≡ Ok source
   pub rises : (k : ℕ) (t : Token) → slice_get (named_tokens source) k ≡ Some t → is_behind (take k (named_tokens source)) t ≡ false
-  pub named : (method : Token) → list_any (names_method method) (named_tokens source) ≡ gives_points (giving methods l.edits method)
-  pub says : (k : ℕ) (t : Token) (e : Edit) → slice_get (named_tokens source) k ≡ Some t → giving methods l.edits (method_named t) ≡ Some e
+  pub named : (method : Token) → list_any (names_method method) (named_tokens source) ≡ gives_points (edit_giving methods l.edits method)
+  pub says : (k : ℕ) (t : Token) (e : Edit) → slice_get (named_tokens source) k ≡ Some t → edit_giving methods l.edits (method_named t) ≡ Some e
       → debug_at (Some (source, nth_row tables.method_debug_information k)) ≡ debug_stated l.documents e

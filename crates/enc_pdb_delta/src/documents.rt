@@ -24,14 +24,14 @@ impl<'a> Model for StatedDocuments<'a> {
     ghost use Rattle.std.specs.Prelude.{◌≡◌, List, map};
     ghost use Rattle.enc_plain.specs.Debug.{Document};
     ghost use Rattle.enc_pdb_delta.specs.Listed.{hash_of};
-    ghost use Rattle.enc_pdb_delta.specs.Names.{name_of};
+    ghost use Rattle.enc_pdb_delta.specs.Names.{name_stated};
     ghost use Rattle.enc_pdb_delta.specs.Stated.{document_stated};
 
     ghost Value = { List Document };
 
     ghost view = { λ d. map document_stated d.documents.now };
 
-    ghost invariant = { λ d. (d.hashes.items ≡ map hash_of d.documents.now) × (d.names ≡ map name_of d.documents.now) };
+    ghost invariant = { λ d. (d.hashes.items ≡ map hash_of d.documents.now) × (d.names ≡ map name_stated d.documents.now) };
 }
 
 /// The hashes of the documents' sources.

@@ -5,7 +5,7 @@ ghost use Rattle.std.specs.List.Sorted.{IsPermutation, IsNonDecreasingBy};
 ghost use Rattle.enc_edits.specs.Form.{edit_fits};
 ghost use Rattle.enc_rules.specs.Listed.{body_given, points_given};
 ghost use Rattle.enc_rules.specs.Rules.{has_points};
-ghost use Rattle.enc_pdb_delta.specs.Listed.{placed_edit, placed_from, row_of, AreByRows};
+ghost use Rattle.enc_pdb_delta.specs.Listed.{placed_edit, placed_from, row_placed, AreByRows};
 ghost use Rattle.enc_pdb_delta.specs.Stated.{locals_row, AreMethods};
 
 use enc_base::Token;
@@ -75,7 +75,7 @@ fn with_points(
 
 /// The edits in the order of the rows of their methods.
 fn sorted(mut placed: Vec<MethodEdit>) -> Vec<MethodEdit>
-    ensures rises { IsNonDecreasingBy row_of result.items }
+    ensures rises { IsNonDecreasingBy row_placed result.items }
     ensures same { IsPermutation placed.items result.items }
 {
     placed.sort_unstable_by_key(|edit| edit.row);

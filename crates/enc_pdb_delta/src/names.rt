@@ -6,7 +6,7 @@ ghost use Rattle.enc_meta.specs.Root.{root_of};
 ghost use Rattle.enc_meta.specs.declared.root.Root.{Root as TheRoot};
 ghost use Rattle.enc_ppdb.specs.Holding.{heaps_size, name_blob as name_blob_of, Grown};
 ghost use Rattle.enc_ppdb.specs.Written.{pdb_starts};
-ghost use Rattle.enc_pdb_delta.specs.Names.{SaysName, AreSaid, HaveRoom, name_of};
+ghost use Rattle.enc_pdb_delta.specs.Names.{SaysName, AreSaid, HaveRoom, name_stated};
 
 use enc_base::{push_unsigned, written_laws};
 use enc_edits::DocumentValue;
@@ -96,7 +96,7 @@ fn add_names(
     requires room { HaveRoom documents.now }
     requires none { heaps_size heaps.old ≤ 1 }
     ensures grown { OnOk result (Grown heaps.old heaps.new) }
-    ensures said { IfOk result (λ offsets. AreSaid heaps.new (map name_of documents.now) offsets.items) }
+    ensures said { IfOk result (λ offsets. AreSaid heaps.new (map name_stated documents.now) offsets.items) }
     ensures few { OnOk result (heaps_size heaps.new ≤ 2 ^ 29) }
 {
     let mut offsets = Vec::new(alloc);
@@ -131,7 +131,7 @@ impl Names {
     /// The names of documents, in their order.
     pub(crate) fn of(alloc: Global, documents: &[DocumentValue]) -> Result<Names, AllocError>
         requires { HaveRoom documents.now }
-        ensures { IfOk result (λ names. names ≡ map name_of documents.now) }
+        ensures { IfOk result (λ names. names ≡ map name_stated documents.now) }
     {
         let mut heaps = HeapBuilder::begin(alloc, NO_STARTS)?;
         let offsets = add_names(alloc, documents, &mut heaps)?;

@@ -1,7 +1,7 @@
 //! The points of the edits that have some, as a source of points for rows that have no gaps.
 ghost use Rattle.std.specs.Prelude.{◌≡◌, true, [], option_map, IfOk, Some};
 ghost use Rattle.enc_seqpoints.specs.Grammar.{method_points, points_in};
-ghost use Rattle.enc_pdb_delta.specs.Listed.{said_by, said_at, can_be_said, can_be_spelled_at, edit_of_row, numbered_document, method_said, pdb_listed, listed_known};
+ghost use Rattle.enc_pdb_delta.specs.Listed.{said_by, said_at, can_be_said, can_be_spelled_at, edit_of_row, numbered_document, points_said_of, pdb_listed, listed_known};
 
 use crate::documents::StatedDocuments;
 use crate::edits::{MethodEdit, locals_row};
@@ -25,9 +25,9 @@ pub(crate) struct ListPoints<'a> {
 
 impl<'a> Model for ListPoints<'a> {
     ghost use Rattle.std.specs.Prelude.{◌≡◌, true};
-    ghost use Rattle.enc_pdb_delta.specs.Listed.{said_at, can_be_spelled_at, Listed};
+    ghost use Rattle.enc_pdb_delta.specs.Listed.{said_at, can_be_spelled_at, ListedPdb};
 
-    ghost Value = { Listed };
+    ghost Value = { ListedPdb };
 
     ghost view = { λ s. record { documents = s.documents; methods = said_at s.edits.now s.placed.now } };
 
@@ -81,7 +81,7 @@ fn edit_of<'a>(edits: &'a [Edit], placed: &[MethodEdit], row: u32) -> Option<&'a
 }
 
 /// The local signature row and the points of a method, 0 and none where no edit has points for it.
-#[tactic(auto, unfolding(crate::specs::Listed::method_said))]
+#[tactic(auto, unfolding(crate::specs::Listed::points_said_of))]
 fn points_of(
     alloc: Global,
     edits: &[Edit],
@@ -89,7 +89,7 @@ fn points_of(
     method: Token,
 ) -> Result<Points, AllocError>
     requires { can_be_spelled_at edits.now placed.now ≡ true }
-    ensures { IfOk result (λ points. points ≡ method_said (said_at edits.now placed.now) method) }
+    ensures { IfOk result (λ points. points ≡ points_said_of (said_at edits.now placed.now) method) }
 {
     if method.table != METHOD_DEF {
         return no_points(alloc);
@@ -103,7 +103,7 @@ fn points_of(
 impl PointSource for ListPoints<'_> {
     ghost debug = { λ s. pdb_listed s };
 
-    ghost said = { λ s method. method_said s.methods method };
+    ghost said = { λ s method. points_said_of s.methods method };
 
     ghost documents = { λ s method. numbered_document s.documents };
 

@@ -5,8 +5,8 @@ ghost use Rattle.enc_edits.specs.Form.{list_fits};
 ghost use Rattle.enc_ppdb.specs.Written.{HoldPdb};
 ghost use Rattle.enc_rows.specs.Written.{count_at, IndicesFit};
 ghost use Rattle.enc_schema.specs.Tables.{document as document_table, enc_map};
-ghost use Rattle.enc_pdb_delta.specs.Holding.{map_cells, MoreNamed, HoldDelta};
-ghost use Rattle.enc_pdb_delta.specs.Listed.{documents_used, has_short_row, pdb_listed, list_pdb, AreByRows, IsListed};
+ghost use Rattle.enc_pdb_delta.specs.Holding.{map_cells, MoreNamed, HoldPdbDelta};
+ghost use Rattle.enc_pdb_delta.specs.Listed.{documents_used, has_short_row, pdb_listed, list_pdb, AreByRows, IsPdbListed};
 ghost use Rattle.enc_pdb_delta.specs.Stated.{AreMethods, points_stand};
 ghost use Rattle.enc_pdb_delta.specs.Written.{SaysEdits};
 
@@ -38,7 +38,7 @@ fn listed(alloc: Global, list: &EditList, methods: &[Token]) -> Result<Vec<Metho
     requires points { IsTrue (points_stand list.now) }
     requires methods { AreMethods methods.now list.now.edits }
     ensures placed { IfOk result (λ placed. AreByRows methods.now list.now.edits placed.items) }
-    ensures listed { IfOk result (λ placed. IsListed list.now placed.items) }
+    ensures listed { IfOk result (λ placed. IsPdbListed list.now placed.items) }
 {
     let placed = by_rows(alloc, list.edits.as_slice(), methods)?;
     Ok(placed)
@@ -50,7 +50,7 @@ fn source_of<'a>(
     list: &'a EditList,
     placed: &'a [MethodEdit],
 ) -> Result<ListPoints<'a>, AllocError>
-    requires { IsListed list.now placed.now }
+    requires { IsPdbListed list.now placed.now }
     ensures { IfOk result (λ source. pdb_listed source ≡ list_pdb list.now placed.now) }
 {
     let documents = documents_used(placed, list.documents.as_slice());
@@ -63,7 +63,7 @@ fn source_of<'a>(
 
 /// The parts of a PDB with the points of the edits, one method behind the other.
 fn parts_of(alloc: Global, list: &EditList, placed: &[MethodEdit]) -> Result<PdbParts, AllocError>
-    requires { IsListed list.now placed.now }
+    requires { IsPdbListed list.now placed.now }
     ensures held { IfOk result (λ r. HoldPdb (list_pdb list.now placed.now) (length placed.now) r.heaps r.tables) }
     ensures fit { IfOk result (λ r. IndicesFit r.tables false) }
     ensures documents { IfOk result (λ r. count_at r.tables document_table < 2 ^ 23) }
@@ -99,8 +99,8 @@ fn named_parts(
     list: &EditList,
     placed: &[MethodEdit],
 ) -> Result<PdbParts, AllocError>
-    requires { IsListed list.now placed.now }
-    ensures held { IfOk result (λ r. HoldDelta (list_pdb list.now placed.now) placed.now r.heaps r.tables) }
+    requires { IsPdbListed list.now placed.now }
+    ensures held { IfOk result (λ r. HoldPdbDelta (list_pdb list.now placed.now) placed.now r.heaps r.tables) }
     ensures fit { IfOk result (λ r. IndicesFit r.tables false) }
     ensures documents { IfOk result (λ r. count_at r.tables document_table < 2 ^ 23) }
 {

@@ -11,7 +11,7 @@ use Rattle.enc_ppdb.specs.Misplaced.{first_misplaced}
 use Rattle.enc_checker.specs.Check.{accepted, judged, with_pdb, code_sizes}
 use Rattle.enc_written.specs.Laws.{DeltasAreRead, DeltasFollow, DeltasMean}
 use Rattle.enc_writer.specs.Files.{FilesStand}
-use Rattle.enc_writer.specs.PdbFollows.{PdbsFollow, PdbsMean}
+use Rattle.enc_writer.specs.PdbFollows.{PdbsFollow, PdbsOfListsMean}
 
 accepted_pdb : (s p : Source) (bytes : List ℕ) → pdb_delta_of bytes ≡ Ok p → first_misplaced p (code_sizes s) ≡ None → with_pdb s (Some bytes) ≡ Ok (accepted s (Some p))
 unfolding with_pdb
@@ -21,7 +21,7 @@ accepted_files : (c : Chain) (d : Result Source Refusal) (s p : Source) (bytes :
     → judged c d (Some bytes) ≡ Ok (accepted s (Some p))
 accepted_files c d s p bytes delta follows read placed = rw (delta, follows) (accepted_pdb s p bytes read placed)
 
-pub files_stand : DeltasAreRead → DeltasFollow → DeltasMean → PdbsFollow → PdbsMean → FilesStand
+pub files_stand : DeltasAreRead → DeltasFollow → DeltasMean → PdbsFollow → PdbsOfListsMean → FilesStand
 files_stand are_read follow mean placed debug c l d may within files =
     let r = are_read c l d.il files.meta.rows may files.meta.held files.meta.size in
     let read : delta_of d.meta d.il ≡ Ok r.0 = ap (λ bytes. delta_of bytes d.il) files.meta.root ∙ r.1 in

@@ -197,9 +197,9 @@ within_entries heaps (suc n) g is = elim (cases_lt n (guid_entries heaps)) [
 ]
 
 -- what no number below the entries names, the last one does
-pub entries_of : (heaps : List Counted) (lengths : HeapLengths) → lengths ≡ joined_lengths heaps → lengths.guids ≡ guid_entries heaps
+pub entries_logged : (heaps : List Counted) (lengths : HeapLengths) → lengths ≡ joined_lengths heaps → lengths.guids ≡ guid_entries heaps
 unfolding joined_lengths
-entries_of heaps lengths is = ap (λ (h : HeapLengths). h.guids) is
+entries_logged heaps lengths is = ap (λ (h : HeapLengths). h.guids) is
 
 pub last_named_by : (heaps : List Counted) (n : ℕ) (g : List ℕ) → n ≡ guid_entries heaps → ((m : ℕ) → m < n → joined_guid heaps m ≡ Some g → ⊥) → (k : ℕ) × (joined_guid heaps k ≡ Some g) → joined_guid heaps n ≡ Some g
 last_named_by heaps n g is none named = elim (cases_lt named.0 n) [

@@ -25,7 +25,7 @@ use Rattle.enc_written.specs.Holds.{MayFollow, entry_numbers}
 use Rattle.enc_written.proofs.TokensUnbroken.{other_rules, nothing_breaks, counts_fit}
 use Rattle.enc_written.proofs.TokensAbout.{stands_after, edit_about}
 use Rattle.enc_written.proofs.LogRulesEdits.{own_entry, owner_entry}
-use Rattle.enc_writer.specs.LogWriting.{is_asked, entries_of, entries_upto, entries_given, entries_at, has_number}
+use Rattle.enc_writer.specs.LogWriting.{is_asked, entries_logged, entries_upto, entries_given, entries_at, has_number}
 
 -- EncLog has two columns
 pub log_columns : nat_lt 0 (length (columns_in enc_log)) ≡ true
@@ -117,7 +117,7 @@ front_few asks m before (e ∷ edits) (suc n) =
     let all = length-append first (entries_behind asks m (before ++ e ∷ []) edits) in
     omega (arith, rest, less, all)
 
-upto_few : (references : Bool) (c : Chain) (l : EditList) (k : ℕ) → k < length l.edits → length (entries_upto references c l k) + length (entries_at references c l k) ≤ length (entries_of references c l)
+upto_few : (references : Bool) (c : Chain) (l : EditList) (k : ℕ) → k < length l.edits → length (entries_upto references c l k) + length (entries_at references c l k) ≤ length (entries_logged references c l)
 upto_few references c l k low =
     let few = front_few (is_asked references) c.plain [] l.edits (k + 1) in
     let more = ap length (upto_more references c l k low) ∙ length-append (entries_upto references c l k) (entries_at references c l k) in
@@ -151,7 +151,7 @@ entries_counted m before (e ∷ edits) =
     ∙ owner_length (has_owner e) e edits (length es) (one_or_two e (row_edited m before e) (has_owner e) refl) refl
 
 -- which are fewer than a table may have
-log_few : (c : Chain) (l : EditList) → MayFollow c l → length (entries_of true c l) + length (entries_of false c l) < 2 ^ 24 - 1
+log_few : (c : Chain) (l : EditList) → MayFollow c l → length (entries_logged true c l) + length (entries_logged false c l) < 2 ^ 24 - 1
 unfolding there_are_too_many
 log_few c l may =
     let many = nat_lt 0xFFFFFE (length l.edits + length (filter has_owner l.edits)) in
@@ -181,26 +181,26 @@ edit_logged references c l k old so_far new low before after =
     ∙ ap (λ es. old ++ map entry_numbers es) (sym (upto_more references c l k low))
 
 pub edit_has_room : (references : Bool) (c : Chain) (l : EditList) (k : ℕ) (old so_far : List (List ℕ)) → k < length l.edits → so_far ≡ old ++ map entry_numbers (entries_upto references c l k)
-    → length old + length (entries_of references c l) < 2 ^ 24 - 1 → length so_far + length (entries_at references c l k) < 2 ^ 24
+    → length old + length (entries_logged references c l) < 2 ^ 24 - 1 → length so_far + length (entries_at references c l k) < 2 ^ 24
 edit_has_room references c l k old so_far low before room =
     let many = joined_length old so_far (entries_upto references c l k) before in
     let few = upto_few references c l k low in
     omega (arith, many, few, room)
 
 -- the log of all edits has room, and is that which is written
-pub references_have_room : (c : Chain) (l : EditList) (old : List (List ℕ)) → MayFollow c l → old ≡ [] → length old + length (entries_of true c l) < 2 ^ 24 - 1
+pub references_have_room : (c : Chain) (l : EditList) (old : List (List ℕ)) → MayFollow c l → old ≡ [] → length old + length (entries_logged true c l) < 2 ^ 24 - 1
 references_have_room c l old may none =
     let empty = ap length none in
     omega (arith, empty, log_few c l may)
 
-pub others_have_room : (c : Chain) (l : EditList) (old new : List (List ℕ)) → MayFollow c l → old ≡ [] → new ≡ old ++ map entry_numbers (entries_of true c l) → length new + length (entries_of false c l) < 2 ^ 24 - 1
+pub others_have_room : (c : Chain) (l : EditList) (old new : List (List ℕ)) → MayFollow c l → old ≡ [] → new ≡ old ++ map entry_numbers (entries_logged true c l) → length new + length (entries_logged false c l) < 2 ^ 24 - 1
 others_have_room c l old new may none is =
     let empty = ap length none in
-    let many = joined_length old new (entries_of true c l) is in
+    let many = joined_length old new (entries_logged true c l) is in
     omega (arith, empty, many, log_few c l may)
 
-pub all_logged : (c : Chain) (l : EditList) (old so_far new : List (List ℕ)) → old ≡ [] → so_far ≡ old ++ map entry_numbers (entries_of true c l) → new ≡ so_far ++ map entry_numbers (entries_of false c l)
+pub all_logged : (c : Chain) (l : EditList) (old so_far new : List (List ℕ)) → old ≡ [] → so_far ≡ old ++ map entry_numbers (entries_logged true c l) → new ≡ so_far ++ map entry_numbers (entries_logged false c l)
     → new ≡ map entry_numbers (log_written c.plain l.edits)
 unfolding log_written
 all_logged c l old so_far new none first rest =
-    joined old so_far new (entries_of true c l) (entries_of false c l) first rest ∙ ap (λ rows. rows ++ map entry_numbers (entries_of true c l ++ entries_of false c l)) none
+    joined old so_far new (entries_logged true c l) (entries_logged false c l) first rest ∙ ap (λ rows. rows ++ map entry_numbers (entries_logged true c l ++ entries_logged false c l)) none

@@ -14,7 +14,7 @@ use Rattle.enc_edits.specs.declared.edit.EditList.{EditList}
 use Rattle.enc_rules.specs.Edited.{rows_edited}
 use Rattle.enc_rules.specs.Listed.{body_given}
 use Rattle.enc_rules.specs.Rules.{gives_body}
-use Rattle.enc_pdb_delta.specs.Stated.{giving}
+use Rattle.enc_pdb_delta.specs.Stated.{edit_giving}
 use Rattle.enc_pdb_delta.proofs.Edited.{pdbs_are_edited}
 use Rattle.enc_pdb_delta.proofs.Givings.{gives_at}
 use Rattle.enc_pdb_delta.proofs.Lists.{PassesAt, some_by_one, one_of_some}
@@ -23,7 +23,7 @@ use Rattle.enc_checker.specs.Check.{new_code, new_bodies, own_methods}
 use Rattle.enc_written.specs.Holds.{MayFollow, SaysDelta}
 use Rattle.enc_written.proofs.Tokens.{is_written, listed_of_table}
 use Rattle.enc_written.proofs.TokensAbout.{IsEdit, about_edit, self}
-use Rattle.enc_writer.specs.PdbFollows.{PdbsMean}
+use Rattle.enc_writer.specs.PdbFollows.{PdbsOfListsMean}
 use Rattle.enc_writer.proofs.PdbCode.{code_of_edit, is_there}
 use Rattle.enc_writer.proofs.PdbFollows.{has_method}
 use Rattle.enc_writer.proofs.PdbPoints.{body_gives, gives_method, points_can_be_written}
@@ -60,27 +60,27 @@ new_by_edit c l s method e may says g =
     some_by_one (has_code s method) (own_methods s) own.0 method own.1 (both_hold (is_some (new_code s method)) (is_token method method) there (self method))
 
 -- and nowhere else
-given_by_code : (c : Chain) (l : EditList) (s : Source) (u : Token) → MayFollow c l → SaysDelta c l s → IsEdit c.plain l.edits u → u.table ≡ 6 → is_some (new_code s u) ≡ true → is_some (giving (rows_edited c.plain l.edits) l.edits u) ≡ true
+given_by_code : (c : Chain) (l : EditList) (s : Source) (u : Token) → MayFollow c l → SaysDelta c l s → IsEdit c.plain l.edits u → u.table ≡ 6 → is_some (new_code s u) ≡ true → is_some (edit_giving (rows_edited c.plain l.edits) l.edits u) ≡ true
 given_by_code c l s u may says w table some =
     let gives = sym (code_as_given c l s w.at w.edit u may says w.there w.row table) ∙ some in
     ap is_some (gives_at (rows_edited c.plain l.edits) l.edits w.at w.edit u (points_can_be_written c l may).1 w.there w.row gives)
 
-given_by_new : (c : Chain) (l : EditList) (s : Source) (method : Token) (n : ℕ) → MayFollow c l → SaysDelta c l s → PassesAt (has_code s method) (own_methods s) n → is_some (giving (rows_edited c.plain l.edits) l.edits method) ≡ true
+given_by_new : (c : Chain) (l : EditList) (s : Source) (method : Token) (n : ℕ) → MayFollow c l → SaysDelta c l s → PassesAt (has_code s method) (own_methods s) n → is_some (edit_giving (rows_edited c.plain l.edits) l.edits method) ≡ true
 given_by_new c l s method n may says p =
     let u = p.element in
     let two = and_parts (is_some (new_code s u)) (is_token method u) p.passes in
     let w = is_written c l.edits 6 n u (subst (λ (ts : List Token). slice_get ts n ≡ Some u) (listed_of_table c l s may says 6) p.here) in
-    ap (λ (t : Token). is_some (giving (rows_edited c.plain l.edits) l.edits t)) (same_is method u two.1)
+    ap (λ (t : Token). is_some (edit_giving (rows_edited c.plain l.edits) l.edits t)) (same_is method u two.1)
     ∙ given_by_code c l s u may says (about_edit c.plain l.edits u w.about) w.own two.0
 
-new_is_given : (c : Chain) (l : EditList) (s : Source) (method : Token) → MayFollow c l → SaysDelta c l s → list_any (is_token method) (new_bodies s) ≡ is_some (giving (rows_edited c.plain l.edits) l.edits method)
+new_is_given : (c : Chain) (l : EditList) (s : Source) (method : Token) → MayFollow c l → SaysDelta c l s → list_any (is_token method) (new_bodies s) ≡ is_some (edit_giving (rows_edited c.plain l.edits) l.edits method)
 unfolding new_bodies
 new_is_given c l s method may says =
     any_filter (λ t. is_some (new_code s t)) (is_token method) (own_methods s)
-    ∙ one_test (list_any (has_code s method) (own_methods s)) (is_some (giving (rows_edited c.plain l.edits) l.edits method))
+    ∙ one_test (list_any (has_code s method) (own_methods s)) (is_some (edit_giving (rows_edited c.plain l.edits) l.edits method))
     (λ new. let w = one_of_some (has_code s method) (own_methods s) new in given_by_new c l s method w.0 may says w.1)
-    (λ some. let w = some_edit (giving (rows_edited c.plain l.edits) l.edits method) some in new_by_edit c l s method w.0 may says (given_at (rows_edited c.plain l.edits) l.edits method w.0 w.1))
+    (λ some. let w = some_edit (edit_giving (rows_edited c.plain l.edits) l.edits method) some in new_by_edit c l s method w.0 may says (given_at (rows_edited c.plain l.edits) l.edits method w.0 w.1))
 
-pub pdbs_mean : PdbsMean
+pub pdbs_mean : PdbsOfListsMean
 pdbs_mean c l s bytes may says points before method =
     pdbs_are_edited l (rows_edited c.plain l.edits) (new_bodies s) bytes points before method (new_is_given c l s method may says)

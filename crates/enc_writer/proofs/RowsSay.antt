@@ -28,10 +28,10 @@ use Rattle.enc_written.proofs.TokensAbout.{stands_after, old_about, new_about}
 use Rattle.enc_written.proofs.TokensWritten.{one_more, none_passing, one_of}
 use Rattle.enc_written.proofs.TokensUnbroken.{nothing_breaks, counts_fit}
 use Rattle.enc_writer.specs.Writing.{MethodsPlaced, method_token, row_fits_wide, OthersStay, IsTableWritten, AreTablesWritten}
-use Rattle.enc_writer.specs.RowsWriting.{joined_with, SaysNumber, FrontSays, RowSays, edited_below, RowsWritten}
+use Rattle.enc_writer.specs.RowsWriting.{joined_with, SaysNumber, DeltaFrontSays, DeltaRowSays, edited_below, RowsWritten}
 
 -- no number yet, and one more
-pub none_says : (c : Chain) (l : EditList) (il : List ℕ) (u : Token) → FrontSays c l il u 0 []
+pub none_says : (c : Chain) (l : EditList) (il : List ℕ) (u : Token) → DeltaFrontSays c l il u 0 []
 none_says c l il u = record { count = refl; each = λ i column x e f. absurd cc }
 
 last_get : {A : Type 0} (xs : List A) (y x : A) (i : ℕ) → slice_get (xs ++ y ∷ []) i ≡ Some x → (i ≡ length xs → ⊥) → slice_get xs i ≡ Some x
@@ -47,10 +47,10 @@ last_here (z ∷ xs) y x e = last_here xs y x e
 same_column : (t i : ℕ) (c d : Column) → column_in t i ≡ Some c → column_in t i ≡ Some d → c ≡ d
 same_column t i c d e f = let g = sym e ∙ f in cc
 
-pub more_says : (c : Chain) (l : EditList) (il : List ℕ) (u : Token) (i : ℕ) (numbers new : List ℕ) (column : Column) (y : ℕ) → FrontSays c l il u i numbers → column_in u.table i ≡ Some column
-    → SaysNumber c l il u i column y → new ≡ numbers ++ y ∷ [] → FrontSays c l il u (i + 1) new
+pub more_says : (c : Chain) (l : EditList) (il : List ℕ) (u : Token) (i : ℕ) (numbers new : List ℕ) (column : Column) (y : ℕ) → DeltaFrontSays c l il u i numbers → column_in u.table i ≡ Some column
+    → SaysNumber c l il u i column y → new ≡ numbers ++ y ∷ [] → DeltaFrontSays c l il u (i + 1) new
 more_says c l il u i numbers new column y so_far here says is =
-    subst (λ xs. FrontSays c l il u (i + 1) xs) (sym is) (record {
+    subst (λ xs. DeltaFrontSays c l il u (i + 1) xs) (sym is) (record {
       count = length-append numbers (y ∷ []) ∙ ap (λ n. n + 1) so_far.count;
       each = λ j d x at get. elim (cases_eq j (length numbers)) [
         | inl last ↦
@@ -68,7 +68,7 @@ index_low [] i x h = absurd cc
 index_low (y ∷ xs) zero x h = omega arith
 index_low (y ∷ xs) (suc i) x h = omega (arith, index_low xs i x h)
 
-pub row_says : (c : Chain) (l : EditList) (il : List ℕ) (u : Token) (numbers : List ℕ) → RowSays c l il u numbers → SaysRow c l (joined_with c l) il u (slice_index numbers)
+pub row_says : (c : Chain) (l : EditList) (il : List ℕ) (u : Token) (numbers : List ℕ) → DeltaRowSays c l il u numbers → SaysRow c l (joined_with c l) il u (slice_index numbers)
 unfolding columns_in
 row_says c l il u numbers so = record {
   each = λ i column at.
@@ -87,7 +87,7 @@ all_fit [] numbers each = refl
 all_fit (d ∷ columns) [] each = refl
 all_fit (d ∷ columns) (x ∷ numbers) each = rw (each 0 d x refl refl) (all_fit columns numbers (λ i e y at get. each (suc i) e y at get))
 
-pub row_fits : (c : Chain) (l : EditList) (il : List ℕ) (u : Token) (numbers : List ℕ) → RowSays c l il u numbers → row_fits_wide (columns_in u.table) numbers ≡ true
+pub row_fits : (c : Chain) (l : EditList) (il : List ℕ) (u : Token) (numbers : List ℕ) → DeltaRowSays c l il u numbers → row_fits_wide (columns_in u.table) numbers ≡ true
 row_fits c l il u numbers so = all_fit (columns_in u.table) numbers (λ i column x at get. (so.each i column x at get).fit)
 
 -- no row yet, one more that is edited, and one that isn't
@@ -112,7 +112,7 @@ suc_is : (n : ℕ) → suc n ≡ n + 1
 suc_is n = omega arith
 
 pub one_written : (c : Chain) (l : EditList) (il : List ℕ) (table n : ℕ) (rows : List (List ℕ)) (r : List ℕ) → RowsWritten c l il table n rows → is_edited c.plain l.edits (nth_row table n) ≡ true
-    → RowSays c l il (nth_row table n) r → RowsWritten c l il table (n + 1) (rows ++ r ∷ [])
+    → DeltaRowSays c l il (nth_row table n) r → RowsWritten c l il table (n + 1) (rows ++ r ∷ [])
 one_written c l il table n rows r so_far about so = record {
   say = subst (λ k. SayRows c l (joined_with c l) il (edited_below c l table k) (rows ++ r ∷ [])) (suc_is n)
       (one_more (λ ts. SayRows c l (joined_with c l) il ts (rows ++ r ∷ [])) (is_edited c.plain l.edits) table n
@@ -246,7 +246,7 @@ low_row c l table n may about =
     omega (arith, high, few)
 
 pub row_pushed : (c : Chain) (l : EditList) (il : List ℕ) (table n : ℕ) (old new : List (List (List ℕ))) (r : List ℕ) → RowsWritten c l il table n (rows_at old table) → is_edited c.plain l.edits (nth_row table n) ≡ true
-    → RowSays c l il (nth_row table n) r → ((k : ℕ) → rows_at new k ≡ (if k == table then rows_at old k ++ r ∷ [] else rows_at old k)) → RowsWritten c l il table (n + 1) (rows_at new table)
+    → DeltaRowSays c l il (nth_row table n) r → ((k : ℕ) → rows_at new k ≡ (if k == table then rows_at old k ++ r ∷ [] else rows_at old k)) → RowsWritten c l il table (n + 1) (rows_at new table)
 row_pushed c l il table n old new r so_far about so pushed =
     let same : (table == table) ≡ true = grind (arith, nat_tests) in
     let at : rows_at new table ≡ rows_at old table ++ r ∷ [] = pushed table ∙ rw same refl in

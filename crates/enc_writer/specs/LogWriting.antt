@@ -14,8 +14,8 @@ is_asked true e = adds_reference e
 is_asked false e = not (adds_reference e)
 
 -- the entries of all such edits, and of those among the first so many edits
-abbrev pub entries_of : Bool → Chain → EditList → List Entry
-entries_of references c l = entries_behind (is_asked references) c.plain [] l.edits
+abbrev pub entries_logged : Bool → Chain → EditList → List Entry
+entries_logged references c l = entries_behind (is_asked references) c.plain [] l.edits
 
 abbrev pub entries_upto : Bool → Chain → EditList → ℕ → List Entry
 entries_upto references c l n = entries_behind (is_asked references) c.plain [] (take n l.edits)

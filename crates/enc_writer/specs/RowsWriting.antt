@@ -25,7 +25,7 @@ abbrev pub joined_with : Chain → EditList → List Counted
 joined_with c l = heaps_joined c.heaps (heaps_written c l)
 
 -- what the numbers of rows are found by
-pub record AreReady (c : Chain) (l : EditList) (h : Built) (il : List ℕ) (methods : BTreeMap ℕ ℕ) : Type 0 where
+pub record AreRowsReady (c : Chain) (l : EditList) (h : Built) (il : List ℕ) (methods : BTreeMap ℕ ℕ) : Type 0 where
   pub may : MayFollow c l
   pub heaps : h ≡ heaps_written c l
   pub bodies : MethodsPlaced c l (joined_with c l) il methods
@@ -42,12 +42,12 @@ pub record SaysNumber (c : Chain) (l : EditList) (il : List ℕ) (u : Token) (i 
   pub fit : number_fits column x ≡ true
 
 -- so do the first so many numbers of a row, and all of them, one for each column
-pub record FrontSays (c : Chain) (l : EditList) (il : List ℕ) (u : Token) (many : ℕ) (numbers : List ℕ) : Type 0 where
+pub record DeltaFrontSays (c : Chain) (l : EditList) (il : List ℕ) (u : Token) (many : ℕ) (numbers : List ℕ) : Type 0 where
   pub count : length numbers ≡ many
   pub each : (i : ℕ) (column : Column) (x : ℕ) → column_in u.table i ≡ Some column → slice_get numbers i ≡ Some x → SaysNumber c l il u i column x
 
-abbrev pub RowSays : Chain → EditList → List ℕ → Token → List ℕ → Type 0
-RowSays c l il u numbers = FrontSays c l il u (length (columns_in u.table)) numbers
+abbrev pub DeltaRowSays : Chain → EditList → List ℕ → Token → List ℕ → Type 0
+DeltaRowSays c l il u numbers = DeltaFrontSays c l il u (length (columns_in u.table)) numbers
 
 -- the edited rows among the first so many of a table
 abbrev pub edited_below : Chain → EditList → ℕ → ℕ → List Token

@@ -33,10 +33,10 @@ pub record StandsFor (c : Chain) (l : EditList) (d : DeltaBytes) : Type 0 where
       → pdb_changed before (debug_of_accepted (accepted source (Some points.source))) method ≡ pdb_edited before (rows_edited c.plain l.edits) l method
 
 -- the files, or the first rule that the list breaks, with its edit; want of memory tells nothing
-abbrev pub Writes : Chain → EditList → Result DeltaBytes EditFault → Type 0
-Writes c l (Ok d) = StandsFor c l d
-Writes c l (Err (Broken rule edit)) = first_edit c l ≡ Some (rule, edit)
-Writes c l (Err Memory) = Unit {0}
+abbrev pub WritesEdits : Chain → EditList → Result DeltaBytes EditFault → Type 0
+WritesEdits c l (Ok d) = StandsFor c l d
+WritesEdits c l (Err (Broken rule edit)) = first_edit c l ≡ Some (rule, edit)
+WritesEdits c l (Err Memory) = Unit {0}
 
 -- the Mvid of the module and the last EncId can be named in the joined `#GUID`
 pub record NamesGuids (c : Chain) : Type 0 where

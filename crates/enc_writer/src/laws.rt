@@ -1,5 +1,5 @@
 //! What holds of a delta's PDB that says an edit list, as the contracts of functions that do nothing.
-ghost use Rattle.enc_writer.specs.PdbFollows.{PointsCanBeWritten, PdbsFollow, PdbsMean};
+ghost use Rattle.enc_writer.specs.PdbFollows.{PointsCanBeWritten, PdbsFollow, PdbsOfListsMean};
 
 /// The points of a list that breaks no rule can be written.
 pub(crate) fn points_law()
@@ -13,5 +13,5 @@ pub(crate) fn pdbs_follow_law()
 
 /// With it a plain PDB is the one with all edits made directly.
 pub(crate) fn pdbs_mean_law()
-    ensures { PdbsMean }
+    ensures { PdbsOfListsMean }
 {}

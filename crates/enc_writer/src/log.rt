@@ -7,7 +7,7 @@ ghost use Rattle.enc_rules.specs.Edited.{rows_edited};
 ghost use Rattle.enc_written.specs.Delta.{add_code, adds_reference, entries_for, is_reference_table, log_written};
 ghost use Rattle.enc_written.specs.Holds.{MayFollow, entry_numbers};
 ghost use Rattle.enc_writer.specs.Writing.{OthersStay};
-ghost use Rattle.enc_writer.specs.LogWriting.{entries_at, entries_of, has_number, is_asked, owner_entries};
+ghost use Rattle.enc_writer.specs.LogWriting.{entries_at, entries_logged, has_number, is_asked, owner_entries};
 
 use crate::edit::{edit_at, row_at};
 use enc_base::Token;
@@ -155,8 +155,8 @@ fn push_edits<C: ChainView>(
     tables: &mut TableBuilder,
 ) -> Result<(), AllocError>
     requires may { MayFollow context.now.chain context.now.list }
-    requires few { count_at tables.old enc_log + length (entries_of references context.now.chain context.now.list) < 2 ^ 24 - 1 }
-    ensures pushed { OnOk result (rows_at tables.new enc_log ≡ rows_at tables.old enc_log ++ map entry_numbers (entries_of references context.now.chain context.now.list)) }
+    requires few { count_at tables.old enc_log + length (entries_logged references context.now.chain context.now.list) < 2 ^ 24 - 1 }
+    ensures pushed { OnOk result (rows_at tables.new enc_log ≡ rows_at tables.old enc_log ++ map entry_numbers (entries_logged references context.now.chain context.now.list)) }
     ensures others { OnOk result (OthersStay enc_log tables.old tables.new) }
 {
     for k in 0..context.edits().len() {

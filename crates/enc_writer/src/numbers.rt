@@ -7,7 +7,7 @@ ghost use Rattle.enc_schema.specs.declared.column.Column.TheVariants.{Text, Blob
 ghost use Rattle.enc_rules.specs.Edited.{edited};
 ghost use Rattle.enc_written.specs.Delta.{is_edited, cells_written};
 ghost use Rattle.enc_written.specs.Holds.{MayFollow, heaps_written};
-ghost use Rattle.enc_writer.specs.RowsWriting.{AreReady, SaysPlain, SaysNumber};
+ghost use Rattle.enc_writer.specs.RowsWriting.{AreRowsReady, SaysPlain, SaysNumber};
 
 use crate::bodies::Bodies;
 use crate::kept::{blob_offset, text_offset};
@@ -141,7 +141,7 @@ pub(crate) fn number_at<C: ChainView>(
     i: u8,
     column: Column,
 ) -> Result<u32, AllocError>
-    requires ready { AreReady context.now.chain context.now.list heaps.old bodies.now.il.items bodies.now.methods }
+    requires ready { AreRowsReady context.now.chain context.now.list heaps.old bodies.now.il.items bodies.now.methods }
     requires row { is_edited context.now.chain.plain context.now.list.edits row ≡ true }
     requires column { column_in row.table i ≡ Some column }
     ensures says { IfOk result (λ x. SaysNumber context.now.chain context.now.list bodies.now.il.items row i column x) }

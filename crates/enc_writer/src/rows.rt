@@ -10,7 +10,7 @@ ghost use Rattle.enc_rules.specs.Listed.{count_after};
 ghost use Rattle.enc_written.specs.Delta.{is_edited};
 ghost use Rattle.enc_written.specs.Holds.{MayFollow, heaps_written, is_listed_table};
 ghost use Rattle.enc_writer.specs.Writing.{MethodsPlaced, OthersStay, IsTableWritten, AreTablesWritten};
-ghost use Rattle.enc_writer.specs.RowsWriting.{AreReady, FrontSays, RowSays, RowsWritten, joined_with};
+ghost use Rattle.enc_writer.specs.RowsWriting.{AreRowsReady, DeltaFrontSays, DeltaRowSays, RowsWritten, joined_with};
 
 use crate::bodies::Bodies;
 use crate::numbers::number_at;
@@ -34,11 +34,11 @@ fn push_number<C: ChainView>(
     column: Column,
     numbers: &mut Vec<u32>,
 ) -> Result<(), AllocError>
-    requires ready { AreReady context.now.chain context.now.list heaps.old bodies.now.il.items bodies.now.methods }
+    requires ready { AreRowsReady context.now.chain context.now.list heaps.old bodies.now.il.items bodies.now.methods }
     requires row { is_edited context.now.chain.plain context.now.list.edits row ≡ true }
     requires column { column_in row.table i ≡ Some column }
-    requires so_far { FrontSays context.now.chain context.now.list bodies.now.il.items row i numbers.old.items }
-    ensures says { OnOk result (FrontSays context.now.chain context.now.list bodies.now.il.items row (i + 1) numbers.new.items) }
+    requires so_far { DeltaFrontSays context.now.chain context.now.list bodies.now.il.items row i numbers.old.items }
+    ensures says { OnOk result (DeltaFrontSays context.now.chain context.now.list bodies.now.il.items row (i + 1) numbers.new.items) }
     ensures same { heaps.new ≡ heaps.old }
 {
     let number = number_at(context, heaps, bodies, row, i, column)?;
@@ -55,9 +55,9 @@ fn row_numbers<C: ChainView>(
     bodies: &Bodies,
     row: Token,
 ) -> Result<Vec<u32>, AllocError>
-    requires ready { AreReady context.now.chain context.now.list heaps.old bodies.now.il.items bodies.now.methods }
+    requires ready { AreRowsReady context.now.chain context.now.list heaps.old bodies.now.il.items bodies.now.methods }
     requires row { is_edited context.now.chain.plain context.now.list.edits row ≡ true }
-    ensures says { IfOk result (λ numbers. RowSays context.now.chain context.now.list bodies.now.il.items row numbers.items) }
+    ensures says { IfOk result (λ numbers. DeltaRowSays context.now.chain context.now.list bodies.now.il.items row numbers.items) }
     ensures same { heaps.new ≡ heaps.old }
 {
     let columns = columns_of(row.table);
@@ -86,7 +86,7 @@ fn push_row<C: ChainView>(
     n: u32,
     tables: &mut TableBuilder,
 ) -> Result<(), AllocError>
-    requires ready { AreReady context.now.chain context.now.list heaps.old bodies.now.il.items bodies.now.methods }
+    requires ready { AreRowsReady context.now.chain context.now.list heaps.old bodies.now.il.items bodies.now.methods }
     requires row { is_edited context.now.chain.plain context.now.list.edits (nth_row table n) ≡ true }
     requires so_far { RowsWritten context.now.chain context.now.list bodies.now.il.items table n (rows_at tables.old table) }
     ensures says { OnOk result (RowsWritten context.now.chain context.now.list bodies.now.il.items table (n + 1) (rows_at tables.new table)) }
@@ -146,7 +146,7 @@ fn push_if_edited<C: ChainView>(
     n: u32,
     tables: &mut TableBuilder,
 ) -> Result<(), AllocError>
-    requires ready { AreReady context.now.chain context.now.list heaps.old bodies.now.il.items bodies.now.methods }
+    requires ready { AreRowsReady context.now.chain context.now.list heaps.old bodies.now.il.items bodies.now.methods }
     requires there { n < count_after context.now.chain context.now.list.edits table }
     requires so_far { RowsWritten context.now.chain context.now.list bodies.now.il.items table n (rows_at tables.old table) }
     ensures says { OnOk result (RowsWritten context.now.chain context.now.list bodies.now.il.items table (n + 1) (rows_at tables.new table)) }
@@ -182,7 +182,7 @@ fn push_table<C: ChainView>(
     table: u8,
     tables: &mut TableBuilder,
 ) -> Result<(), AllocError>
-    requires ready { AreReady context.now.chain context.now.list heaps.old bodies.now.il.items bodies.now.methods }
+    requires ready { AreRowsReady context.now.chain context.now.list heaps.old bodies.now.il.items bodies.now.methods }
     requires table { table < 64 }
     requires none { rows_at tables.old table ≡ [] }
     ensures written { OnOk result (IsTableWritten context.now.chain context.now.list (joined_with context.now.chain context.now.list) bodies.now.il.items table tables.new) }
@@ -212,7 +212,7 @@ fn push_if_listed<C: ChainView>(
     table: u8,
     tables: &mut TableBuilder,
 ) -> Result<(), AllocError>
-    requires ready { AreReady context.now.chain context.now.list heaps.old bodies.now.il.items bodies.now.methods }
+    requires ready { AreRowsReady context.now.chain context.now.list heaps.old bodies.now.il.items bodies.now.methods }
     requires table { table < 64 }
     requires so_far { AreTablesWritten context.now.chain context.now.list (joined_with context.now.chain context.now.list) bodies.now.il.items table tables.old }
     ensures written { OnOk result (AreTablesWritten context.now.chain context.now.list (joined_with context.now.chain context.now.list) bodies.now.il.items (table + 1) tables.new) }

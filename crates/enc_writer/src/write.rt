@@ -6,7 +6,7 @@ ghost use Rattle.enc_edits.specs.Form.{list_fits};
 ghost use Rattle.enc_pdb_delta.specs.Stated.{points_lie_within};
 ghost use Rattle.enc_rules.specs.First.{first_edit};
 ghost use Rattle.enc_written.specs.Holds.{MayFollow};
-ghost use Rattle.enc_writer.specs.Stands.{NamesGuids, StandsFor, Writes};
+ghost use Rattle.enc_writer.specs.Stands.{NamesGuids, StandsFor, WritesEdits};
 ghost use Rattle.enc_writer.specs.Files.{HoldFiles, FilesStand};
 
 use crate::bodies::bodies_of;
@@ -75,7 +75,7 @@ fn written(alloc: Global, agg: &Aggregate, list: &EditList) -> Result<DeltaBytes
 pub fn write_delta(alloc: Global, agg: &Aggregate, list: &EditList) -> Result<DeltaBytes, EditFault>
     requires form { IsTrue (list_fits list.now) }
     requires points { IsTrue (list_all points_lie_within list.now.edits) }
-    ensures { Writes (chain_of_all agg.now) list.now result }
+    ensures { WritesEdits (chain_of_all agg.now) list.now result }
 {
     agg.sound();
     if let Some((rule, edit)) = first_broken(alloc, agg, list)? {

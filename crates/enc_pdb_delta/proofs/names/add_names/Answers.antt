@@ -1,6 +1,6 @@
 use Rattle.std.proofs.Common.{◌≡◌, ◌+◌, ap, length, map, take, get_or, arith}
 use Rattle.enc_ppdb.proofs.HeapsGrown.{grown_twice}
-use Rattle.enc_pdb_delta.specs.Names.{name_of}
+use Rattle.enc_pdb_delta.specs.Names.{name_stated}
 use Rattle.enc_pdb_delta.proofs.NamesKept.{names_more, rooms_more, said_more, said_as}
 use Rattle.enc_pdb_delta.proofs.names.add_names.Goals as goal
 
@@ -14,7 +14,7 @@ loop-i-preserved c =
     let few : length c.as_slice.result.now ≡ length d.name = ap length c.as_slice.ensures in
     record {
       grown = grown_twice c.args.heaps.now h k c.loop-i.invariant.grown c.in_ok-offset.ensures.grown;
-      said = said_more h k (map name_of (take c.loop-i.i ds)) (map name_of (take (c.loop-i.i + 1) ds)) d.name c.loop-i.offsets.items c.push.new.self.items c.in_ok-offset.offset
+      said = said_more h k (map name_stated (take c.loop-i.i ds)) (map name_stated (take (c.loop-i.i + 1) ds)) d.name c.loop-i.offsets.items c.push.new.self.items c.in_ok-offset.offset
           (names_more ds c.loop-i.i c.index-documents-i.result c.loop-i-test.true) c.in_ok-push.ensures.items c.in_ok-offset.ensures.grown c.loop-i.invariant.said says;
       size = omega (arith, c.in_ok-offset.ensures.size, c.loop-i.invariant.size, few, rooms_more ds c.loop-i.i c.index-documents-i.result c.loop-i-test.true);
     }

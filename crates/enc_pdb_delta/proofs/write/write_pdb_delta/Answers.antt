@@ -4,7 +4,7 @@ use Rattle.enc_emit.specs.Written.{Parts, pdb_root_built, pdb_built_size}
 use Rattle.enc_rows.specs.Written.{IndicesFit}
 use Rattle.enc_ppdb.specs.Written.{pdb_stream}
 use Rattle.enc_pdb_delta.specs.declared.edits.MethodEdit.{MethodEdit}
-use Rattle.enc_pdb_delta.specs.Holding.{HoldDelta}
+use Rattle.enc_pdb_delta.specs.Holding.{HoldPdbDelta}
 use Rattle.enc_pdb_delta.specs.Listed.{list_pdb}
 use Rattle.enc_pdb_delta.specs.Written.{SaysEdits}
 use Rattle.enc_pdb_delta.proofs.DeltaFits.{delta_root_fits}
@@ -19,7 +19,7 @@ finish_pdb-requires-clause-size c =
     let placed = c.in_ok-placed.placed.items in
     let h = c.in_ok-parts.parts.heaps in
     let rows = c.in_ok-parts.parts.tables in
-    let held = subst (λ (ms : List MethodEdit). HoldDelta (list_pdb c.args.list.now ms) ms h rows) c.deref.ensures.value c.in_ok-parts.ensures.held in
+    let held = subst (λ (ms : List MethodEdit). HoldPdbDelta (list_pdb c.args.list.now ms) ms h rows) c.deref.ensures.value c.in_ok-parts.ensures.held in
     subst (λ (r : Parts). pdb_built_size r (replicate 32 0) < 2 ^ 32) (sym c.of-root.ensures)
     (delta_root_fits (list_pdb c.args.list.now placed) placed h rows (replicate 32 0) held c.laws.ensures.good c.laws.ensures.within c.laws-2.ensures c.in_ok-parts.ensures.documents refl)
 
@@ -30,7 +30,7 @@ returns c =
     let placed = c.in_ok-placed.placed.items in
     let h = c.in_ok-parts.parts.heaps in
     let rows = c.in_ok-parts.parts.tables in
-    let held = subst (λ (ms : List MethodEdit). HoldDelta (list_pdb l ms) ms h rows) c.deref.ensures.value c.in_ok-parts.ensures.held in
+    let held = subst (λ (ms : List MethodEdit). HoldPdbDelta (list_pdb l ms) ms h rows) c.deref.ensures.value c.in_ok-parts.ensures.held in
     let small = delta_root_fits (list_pdb l placed) placed h rows (pdb_stream 0) held c.laws.ensures.good c.laws.ensures.within c.laws-2.ensures c.in_ok-parts.ensures.documents refl in
     let bytes = c.in_ok-bytes.ensures ∙ ap (λ (r : Parts). pdb_root_built r (pdb_stream 0)) c.of-root.ensures in
     record {

@@ -1,7 +1,7 @@
 use Rattle.std.proofs.Common.{◌-◌, ap, sym, ◌∙◌, subst}
 use Rattle.std.specs.Prelude.{option_copied, slice_get}
 use Rattle.enc_plain.proofs.KindsOf.{row_bounds}
-use Rattle.enc_edited.specs.Encoded.{Holds}
+use Rattle.enc_edited.specs.Encoded.{HoldsCodes}
 use Rattle.enc_edited.specs.Plain.{InMemory}
 use Rattle.enc_edited.proofs.HeldBodies.{held_stands, some_held}
 use Rattle.enc_edited.proofs.plain.PlainModule.held_code.Goals as goal
@@ -11,12 +11,12 @@ overflow_sub-method c = (row_bounds c.args.self.now.plain c.args.method c.requir
 
 pub unreachable-requires : goal.unreachable-requires
 unreachable-requires c =
-    let holds = subst (λ (m : InMemory). Holds m.plain m.users c.self.inside.codes.items) c.self.view_is c.self.invariant in
+    let holds = subst (λ (m : InMemory). HoldsCodes m.plain m.users c.self.inside.codes.items) c.self.view_is c.self.invariant in
     some_held c.args.self.now.plain c.args.self.now.users c.self.inside.codes.items c.args.method holds c.requires.row c.requires.table
     (ap (λ codes. slice_get codes (c.args.method.row - 1)) (sym c.deref.ensures.value) ∙ sym c.code_at.ensures ∙ ap option_copied c.in-None.is)
 
 pub returns : goal.returns
 returns c =
-    let holds = subst (λ (m : InMemory). Holds m.plain m.users c.self.inside.codes.items) c.self.view_is c.self.invariant in
+    let holds = subst (λ (m : InMemory). HoldsCodes m.plain m.users c.self.inside.codes.items) c.self.view_is c.self.invariant in
     held_stands c.args.self.now.plain c.args.self.now.users c.self.inside.codes.items c.args.method c.in-Some.code.now holds c.requires.row c.requires.table
     (ap (λ codes. slice_get codes (c.args.method.row - 1)) (sym c.deref.ensures.value) ∙ sym c.code_at.ensures ∙ ap option_copied c.in-Some.is)

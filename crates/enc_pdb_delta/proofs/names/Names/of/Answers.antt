@@ -3,7 +3,7 @@ use Rattle.std.specs.List.{list_all}
 use Rattle.enc_meta.specs.Built.{Built}
 use Rattle.enc_meta.specs.Heaps.{Counted}
 use Rattle.enc_meta.specs.Root.{root_of}
-use Rattle.enc_pdb_delta.specs.Names.{name_of, has_name, name_kept, names_kept}
+use Rattle.enc_pdb_delta.specs.Names.{name_stated, has_name, name_kept, names_kept}
 use Rattle.enc_pdb_delta.proofs.NamesKept.{none_small, all_named, names_are}
 use Rattle.enc_pdb_delta.proofs.names.Names.of.Goals as goal
 
@@ -22,7 +22,7 @@ invariant_of-result c =
     record {
       reads = here;
       names = ap (λ (k : Counted). list_all (has_name k.blobs) offsets) (c.in_ok-bytes.ensures.heaps c.in-Ok.root here)
-          ∙ all_named h (map name_of c.args.documents.now) offsets c.written_laws.ensures.back c.laws.ensures.good starts c.in_ok-offsets.ensures.few c.in_ok-offsets.ensures.said;
+          ∙ all_named h (map name_stated c.args.documents.now) offsets c.written_laws.ensures.back c.laws.ensures.good starts c.in_ok-offsets.ensures.few c.in_ok-offsets.ensures.said;
     }
 
 pub returns : goal.returns
@@ -33,4 +33,4 @@ returns c =
     let here = ap root_of (sym c.deref.ensures.value) ∙ sym c.read_root.ensures.root ∙ c.in-Ok.is in
     let starts = c.in_ok-offsets.ensures.grown.starts ∙ ap (λ (k : Built). k.starts) c.in_ok-heaps.ensures in
     ap (λ (k : Counted). map (name_kept k.blobs) offsets) (c.in_ok-bytes.ensures.heaps c.in-Ok.root here)
-    ∙ names_are h (map name_of c.args.documents.now) offsets c.written_laws.ensures.back c.laws.ensures.good starts c.in_ok-offsets.ensures.few c.in_ok-offsets.ensures.said
+    ∙ names_are h (map name_stated c.args.documents.now) offsets c.written_laws.ensures.back c.laws.ensures.good starts c.in_ok-offsets.ensures.few c.in_ok-offsets.ensures.said
