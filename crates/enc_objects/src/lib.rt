@@ -1,0 +1,12 @@
+//! The interpreter's values, what instructions on values alone give, and the store of objects (ECMA-335 I.8, III.1.1, III.3).
+#![tactic(auto)]
+
+mod kind;
+mod number;
+mod operation;
+mod trap;
+mod value;
+
+pub use kind::Kind;
+pub use trap::Trap;
+pub use value::Value;
