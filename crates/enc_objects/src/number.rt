@@ -68,7 +68,7 @@ pub(crate) fn held(kind: Kind, n: i128) -> Value
 
 /// Whether the kind has the number.
 #[tactic(auto, unfolding(crate::specs::Values::is_of))]
-fn is_of(kind: Kind, n: i128) -> bool
+pub(crate) fn is_of(kind: Kind, n: i128) -> bool
     ensures { result ≡ is_of_kind kind n }
 {
     match kind {
