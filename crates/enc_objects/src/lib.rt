@@ -2,12 +2,18 @@
 #![tactic(auto)]
 
 mod arithmetic;
+mod comparisons;
+mod conversion;
+mod instructions;
 mod kind;
 mod number;
 mod operation;
+mod shifts;
+mod table;
 mod trap;
 mod value;
 
+pub use instructions::{binary, convert};
 pub use kind::Kind;
 pub use trap::Trap;
 pub use value::Value;

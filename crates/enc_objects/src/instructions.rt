@@ -1,0 +1,40 @@
+//! What instructions on values alone give.
+ghost use Rattle.std.specs.Prelude.{◌≡◌};
+ghost use Rattle.enc_objects.specs.Instructions.{on_two, on_one};
+
+use crate::arithmetic::calculate;
+use crate::comparisons::compare;
+use crate::conversion::change;
+use crate::operation::Binary;
+use crate::shifts::shift;
+use crate::table::{binary_in, unary_in};
+use crate::trap::Trap;
+use crate::value::Value;
+use enc_opcodes::Op;
+
+/// What an instruction gives for the two values that it takes from the stack, `b` the upper: arithmetic, shifts, and
+/// the comparisons that aren't branches (ECMA-335 III.3). X2 where the instruction is none of these, X4 where it
+/// doesn't take such values, X6 for a division by zero, X7 where the result doesn't fit.
+#[tactic(auto, unfolding(crate::specs::Values::binary_of))]
+pub fn binary(op: Op, a: Value, b: Value) -> Result<Value, Trap>
+    ensures { result ≡ on_two op a b }
+{
+    match binary_in(op) {
+        None => Err(Trap::X2),
+        Some(Binary::Calculates(o)) => calculate(o, a, b),
+        Some(Binary::Shifts(o)) => shift(o, a, b),
+        Some(Binary::Compares(o)) => compare(o, a, b),
+    }
+}
+
+/// What an instruction gives for the value that it takes from the stack: the conversions to integers of a size,
+/// `neg` and `not` (ECMA-335 III.3). X2 where the instruction is none of these, X4 for a reference, X7 where a checked
+/// conversion's kind doesn't have the number.
+pub fn convert(op: Op, a: Value) -> Result<Value, Trap>
+    ensures { result ≡ on_one op a }
+{
+    match unary_in(op) {
+        None => Err(Trap::X2),
+        Some(o) => change(o, a),
+    }
+}
