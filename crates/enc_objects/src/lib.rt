@@ -4,10 +4,12 @@
 mod arithmetic;
 mod comparisons;
 mod conversion;
+mod fields;
 mod instructions;
 mod kind;
 mod number;
 mod operation;
+mod shape;
 mod shifts;
 mod table;
 mod trap;
@@ -15,5 +17,6 @@ mod value;
 
 pub use instructions::{binary, convert};
 pub use kind::Kind;
+pub use shape::Shape;
 pub use trap::Trap;
 pub use value::Value;
