@@ -1,3 +1,5 @@
 pub mod Values
 pub mod Instructions
 pub mod Entries
+pub mod Limits
+pub mod Objects

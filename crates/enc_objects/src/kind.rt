@@ -1,3 +1,8 @@
+ghost use Rattle.std.specs.Prelude.{◌≡◌};
+ghost use Rattle.enc_objects.specs.Values.{default_of};
+
+use crate::value::Value;
+
 /// What an argument, a local, a field or an element can hold (ECMA-335 III.1.1.1): an integer of so many
 /// bytes, with a sign or without, or a reference. `I8` and `U8` stand on the stack as `Value::I8`, the other
 /// integers as `Value::I4`.
@@ -14,4 +19,18 @@ pub enum Kind {
     I8,
     U8,
     Ref,
+}
+
+impl Kind {
+    /// What a place of the kind holds before anything is stored there.
+    #[tactic(auto, unfolding(crate::specs::Values::default_of))]
+    pub(crate) fn default_value(self) -> Value
+        ensures { result ≡ default_of self }
+    {
+        match self {
+            Kind::I1 | Kind::U1 | Kind::I2 | Kind::U2 | Kind::I4 | Kind::U4 => Value::I4(0),
+            Kind::I8 | Kind::U8 => Value::I8(0),
+            Kind::Ref => Value::Null,
+        }
+    }
 }

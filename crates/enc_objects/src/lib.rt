@@ -3,11 +3,13 @@
 
 mod arithmetic;
 mod comparisons;
+mod contents;
 mod conversion;
 mod fields;
 mod instructions;
 mod kind;
 mod number;
+mod object;
 mod operation;
 mod shape;
 mod shifts;
