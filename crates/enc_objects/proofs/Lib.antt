@@ -1,1 +1,2 @@
 pub mod Overflow
+pub mod Storing

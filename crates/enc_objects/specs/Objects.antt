@@ -22,6 +22,10 @@ pub record Store : Type 0 where
   pub objects : List Object
   pub statics : Entries
 
+-- the store in which nothing was made
+abbrev pub no_objects : Store
+no_objects = record { objects = []; statics = [] }
+
 -- an object by its number
 abbrev pub object_at : Store → ℕ → Option Object
 object_at s zero = None
@@ -73,9 +77,16 @@ shape_in s id = option_map (λ (o : Object). shape_of o.content) (object_at s id
 abbrev pub fields_in : Store → ℕ → Entries
 fields_in s id = unwrap_or (option_map (λ (o : Object). o.fields) (object_at s id)) []
 
--- the value of an object's field: its kind's default where none was set
+-- the value that entries have for a field: its kind's default where none was set
+abbrev pub value_or_default : Token → Kind → Entries → Value
+value_or_default field k entries = unwrap_or (value_for field entries) (default_of k)
+
+abbrev pub field_of : Token → Kind → Object → Value
+field_of field k o = value_or_default field k o.fields
+
+-- the value of an object's field
 abbrev pub field_in : Store → ℕ → Token → Kind → Value
-field_in s id field k = unwrap_or (value_for field (fields_in s id)) (default_of k)
+field_in s id field k = value_or_default field k (fields_in s id)
 
 abbrev pub with_field_of : Token → Value → Object → Object
 with_field_of field value o = record o { fields = put_value field value o.fields }
@@ -86,7 +97,7 @@ with_field id field value s = with_changed id (with_field_of field value) s
 
 -- the same of statics
 abbrev pub static_in : Store → Token → Kind → Value
-static_in s field k = unwrap_or (value_for field s.statics) (default_of k)
+static_in s field k = value_or_default field k s.statics
 
 abbrev pub with_static : Token → Value → Store → Store
 with_static field value s = record s { statics = put_value field value s.statics }

@@ -10,6 +10,7 @@ mod instructions;
 mod kind;
 mod number;
 mod object;
+mod objects;
 mod operation;
 mod shape;
 mod shifts;
@@ -19,6 +20,7 @@ mod value;
 
 pub use instructions::{binary, convert};
 pub use kind::Kind;
+pub use objects::{MakeFault, Objects};
 pub use shape::Shape;
 pub use trap::Trap;
 pub use value::Value;

@@ -1,6 +1,6 @@
 //! One object: what it is, and the values of its fields.
 ghost use Rattle.std.specs.Prelude.{◌≡◌, ◌≤◌, option_map, is_some, OnOk, OnErr};
-ghost use Rattle.enc_objects.specs.Objects.{parts_of, shape_of, element_of, with_element_of, with_field_of, units_of_content};
+ghost use Rattle.enc_objects.specs.Objects.{parts_of, shape_of, element_of, with_element_of, field_of, with_field_of, units_of_content};
 ghost use Rattle.enc_objects.specs.Limits.{most_parts};
 
 use crate::contents::{Elements, TextUnits};
@@ -83,6 +83,16 @@ impl Object {
         match &mut self.content {
             Content::Instance(_) | Content::Text(_) => false,
             Content::Array(_, elements) => elements.set(i, value),
+        }
+    }
+
+    /// The value of a field, which is its kind's default where none was set.
+    pub(crate) fn field(&self, field: Token, kind: Kind) -> Value
+        ensures { result ≡ field_of field kind self.now }
+    {
+        match self.fields.get(field) {
+            None => kind.default_value(),
+            Some(value) => value,
         }
     }
 
