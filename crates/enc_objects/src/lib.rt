@@ -15,6 +15,8 @@ mod operation;
 mod shape;
 mod shifts;
 mod table;
+#[cfg(test)]
+mod tests;
 mod trap;
 mod value;
 

@@ -40,7 +40,12 @@ pub(crate) fn shift(o: Shift, a: Value, b: Value) -> Result<Value, Trap>
     ensures { result ≡ binary_of (Shifts o) a b }
 {
     match (a, b) {
-        (Value::I4(x), Value::I4(n)) => Ok(shifted(o, Size::Four, i64::from(x), n.cast_unsigned() % 32)),
+        (Value::I4(x), Value::I4(n)) => Ok(shifted(
+            o,
+            Size::Four,
+            i64::from(x),
+            n.cast_unsigned() % 32,
+        )),
         (Value::I8(x), Value::I4(n)) => Ok(shifted(o, Size::Eight, x, n.cast_unsigned() % 64)),
         _ => Err(Trap::X4),
     }
