@@ -3,3 +3,4 @@ pub mod Instructions
 pub mod Entries
 pub mod Limits
 pub mod Objects
+pub mod Laws

@@ -8,6 +8,7 @@ mod conversion;
 mod fields;
 mod instructions;
 mod kind;
+mod laws;
 mod number;
 mod object;
 mod objects;
@@ -22,6 +23,7 @@ mod value;
 
 pub use instructions::{binary, convert};
 pub use kind::Kind;
+pub use laws::{instruction_laws, kind_laws, store_laws};
 pub use objects::{MakeFault, Objects};
 pub use shape::Shape;
 pub use trap::Trap;

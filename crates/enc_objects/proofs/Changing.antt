@@ -1,0 +1,167 @@
+-- One object of a store is changed: it is what it was changed to, and every other is as it was.
+use Rattle.std.proofs.Common.{◌≡◌, ℕ, zero, suc, ◌-◌, Bool, true, false, cond, List, [], ◌∷◌, map, Option, Some, None, refl, sym, ap, ◌∙◌, arith}
+use Rattle.std.specs.Prelude.{◌==◌, ◌&&◌, option_map, option_and_then, unwrap_or, is_some, slice_get, slice_set}
+use Rattle.std.specs.Ordering.{is_eq}
+use Rattle.enc_base.specs.Token.{is_token}
+use Rattle.enc_base.specs.declared.token.Token.{Token}
+use Rattle.enc_objects.specs.declared.value.Value.{Value}
+use Rattle.enc_objects.specs.declared.kind.Kind.{Kind}
+use Rattle.enc_objects.specs.declared.object.Object.{Object}
+use Rattle.enc_objects.specs.declared.object.Content.{Content}
+use Rattle.enc_objects.specs.declared.object.Content.TheVariants.{Instance, Array, Text}
+use Rattle.enc_objects.specs.Entries.{Entries, token_order, value_for, put_value}
+use Rattle.enc_objects.specs.Objects.{Store, object_at, with_changed, with_field, with_field_of, with_element, with_element_of, elements_of, element_of, element_in}
+use Rattle.enc_objects.specs.Laws.{FieldsAreSet, OtherFieldsStay, StaticsAreSet, OtherStaticsStay, ElementsAreSet, OtherElementsStay, PartsStayApart, field_value}
+use Rattle.enc_objects.proofs.Placed.{found_after_put, same_in_order}
+
+same : {X : Type 0} → (z x : X) → Some z ≡ Some x → x ≡ z
+same z x e = cc
+
+-- an item of a list that is set
+set_here : {X : Type 0} → (xs : List X) (k i : ℕ) (x y : X) → k ≡ i → slice_get xs i ≡ Some x → slice_get (slice_set xs k y) i ≡ Some y
+set_here [] k i x y e there = absurd cc
+set_here (z ∷ xs) zero zero x y e there = refl
+set_here (z ∷ xs) zero (suc i) x y e there = absurd (omega (arith, e))
+set_here (z ∷ xs) (suc k) zero x y e there = absurd (omega (arith, e))
+set_here (z ∷ xs) (suc k) (suc i) x y e there = set_here xs k i x y (omega (arith, e)) there
+
+set_apart : {X : Type 0} → (xs : List X) (k j : ℕ) (y : X) → (j == k) ≡ false → slice_get (slice_set xs k y) j ≡ slice_get xs j
+set_apart [] k j y apart = refl
+set_apart (z ∷ xs) zero zero y apart = absurd cc
+set_apart (z ∷ xs) zero (suc j) y apart = refl
+set_apart (z ∷ xs) (suc k) zero y apart = refl
+set_apart (z ∷ xs) (suc k) (suc j) y apart = set_apart xs k j y (grind (arith, apart))
+
+-- items that are replaced by one that can't be told apart
+set_alike : {X Y : Type 0} → (g : X → Y) (xs : List X) (k i : ℕ) (x y : X) → k ≡ i → slice_get xs i ≡ Some x → g y ≡ g x → map g (slice_set xs k y) ≡ map g xs
+set_alike g [] k i x y e there alike = refl
+set_alike g (z ∷ xs) zero zero x y e there alike = ap (λ (v : _). v ∷ map g xs) (alike ∙ ap g (same z x there))
+set_alike g (z ∷ xs) zero (suc i) x y e there alike = absurd (omega (arith, e))
+set_alike g (z ∷ xs) (suc k) zero x y e there alike = absurd (omega (arith, e))
+set_alike g (z ∷ xs) (suc k) (suc i) x y e there alike = ap (λ (l : _). g z ∷ l) (set_alike g xs k i x y (omega (arith, e)) there alike)
+
+pub changed_here : (s : Store) (id : ℕ) (f : Object → Object) → object_at (with_changed id f s) id ≡ option_map f (object_at s id)
+changed_here s zero f = refl
+changed_here s (suc i) f = by (slice_get s.objects i) refl
+  where
+    by : (o : Option Object) → slice_get s.objects i ≡ o
+        → object_at (unwrap_or (option_map (λ (x : Object). record s { objects = slice_set s.objects (suc i - 1) (f x) }) o) s) (suc i) ≡ option_map f o
+    by None e = e
+    by (Some x) e = set_here s.objects (suc i - 1) i x (f x) (omega arith) e
+
+pub changed_apart : (s : Store) (id other : ℕ) (f : Object → Object) → (other == id) ≡ false → object_at (with_changed id f s) other ≡ object_at s other
+changed_apart s id zero f apart = refl
+changed_apart s zero (suc j) f apart = refl
+changed_apart s (suc i) (suc j) f apart = by (slice_get s.objects i)
+  where
+    by : (o : Option Object) → object_at (unwrap_or (option_map (λ (x : Object). record s { objects = slice_set s.objects (suc i - 1) (f x) }) o) s) (suc j) ≡ slice_get s.objects j
+    by None = refl
+    by (Some x) = set_apart s.objects (suc i - 1) j (f x) (grind (arith, apart))
+
+-- what a change leaves
+pub change_keeps : {Y : Type 0} → (g : Object → Y) (s : Store) (id : ℕ) (f : Object → Object) → ((x : Object) → g (f x) ≡ g x) → map g (with_changed id f s).objects ≡ map g s.objects
+change_keeps g s zero f keeps = refl
+change_keeps g s (suc i) f keeps = by (slice_get s.objects i) refl
+  where
+    by : (o : Option Object) → slice_get s.objects i ≡ o
+        → map g (unwrap_or (option_map (λ (x : Object). record s { objects = slice_set s.objects (suc i - 1) (f x) }) o) s).objects ≡ map g s.objects
+    by None e = refl
+    by (Some x) e = set_alike g s.objects (suc i - 1) i x (f x) (omega arith) e (keeps x)
+
+pub change_keeps_statics : (s : Store) (id : ℕ) (f : Object → Object) → (with_changed id f s).statics ≡ s.statics
+change_keeps_statics s id f = by (object_at s id)
+  where
+    by : (o : Option Object) → (unwrap_or (option_map (λ (x : Object). record s { objects = slice_set s.objects (id - 1) (f x) }) o) s).statics ≡ s.statics
+    by None = refl
+    by (Some x) = refl
+
+token_is_itself : (t : Token) → is_token t t ≡ true
+token_is_itself t = grind arith
+
+-- the value of a token that was put, and of another
+put_found : (t : Token) (v : Value) (es : Entries) → value_for t (put_value t v es) ≡ Some v
+put_found t v es = found_after_put t t v es ∙ ap (λ (b : Bool). cond b (Some v) (value_for t es)) (same_in_order t t ∙ token_is_itself t)
+
+put_other : (q t : Token) (v : Value) (es : Entries) → is_token q t ≡ false → value_for q (put_value t v es) ≡ value_for q es
+put_other q t v es apart = found_after_put q t v es ∙ ap (λ (b : Bool). cond b (Some v) (value_for q es)) (same_in_order q t ∙ apart)
+
+-- the fields of an object that may not be there
+fields_or_none : Token → Option Object → Option Value
+fields_or_none asked o = value_for asked (unwrap_or (option_map (λ (o : Object). o.fields) o) [])
+
+pub fields_are_set : FieldsAreSet
+unfolding fields_or_none
+fields_are_set s id field value there =
+    ap (fields_or_none field) (changed_here s id (with_field_of field value)) ∙ by (object_at s id) there
+  where
+    by : (o : Option Object) → is_some o ≡ true → fields_or_none field (option_map (with_field_of field value) o) ≡ Some value
+    by None h = absurd cc
+    by (Some x) h = put_found field value x.fields
+
+pub other_fields_stay : OtherFieldsStay
+unfolding fields_or_none
+other_fields_stay s id other field asked value apart = by (other == id) refl apart
+  where
+    here : is_token asked field ≡ false → (o : Option Object) → fields_or_none asked (option_map (with_field_of field value) o) ≡ fields_or_none asked o
+    here h None = refl
+    here h (Some x) = put_other asked field value x.fields h
+    at : (k : ℕ) → k ≡ id → is_token asked field ≡ false → fields_or_none asked (object_at (with_field id field value s) k) ≡ fields_or_none asked (object_at s k)
+    at k e h = rw e (ap (fields_or_none asked) (changed_here s id (with_field_of field value)) ∙ here h (object_at s id))
+    by : (b : Bool) → (other == id) ≡ b → (b && is_token asked field) ≡ false → fields_or_none asked (object_at (with_field id field value s) other) ≡ fields_or_none asked (object_at s other)
+    by false e h = ap (fields_or_none asked) (changed_apart s id other (with_field_of field value) e)
+    by true e h = at other (grind (arith, e)) h
+
+pub statics_are_set : StaticsAreSet
+statics_are_set s field value = put_found field value s.statics
+
+pub other_statics_stay : OtherStaticsStay
+other_statics_stay s field asked value apart = put_other asked field value s.statics apart
+
+-- the element of an object that may not be there
+element_or_none : ℕ → Option Object → Option Value
+element_or_none i o = option_and_then (element_of i) o
+
+element_set : (i : ℕ) (v : Value) (c : Content) (fields : Entries) → is_some (slice_get (elements_of c) i) ≡ true
+    → element_of i (with_element_of i v (record { content = c; fields = fields })) ≡ Some v
+element_set i v (Instance class) fields h = absurd cc
+element_set i v (Array k elements) fields h = by (slice_get elements i) refl h
+  where
+    by : (o : Option Value) → slice_get elements i ≡ o → is_some o ≡ true → slice_get (slice_set elements i v) i ≡ Some v
+    by None e h = absurd cc
+    by (Some x) e h = set_here elements i i x v refl e
+element_set i v (Text units) fields h = absurd cc
+
+element_apart : (i j : ℕ) (v : Value) (c : Content) (fields : Entries) → (j == i) ≡ false
+    → element_of j (with_element_of i v (record { content = c; fields = fields })) ≡ slice_get (elements_of c) j
+element_apart i j v (Instance class) fields h = refl
+element_apart i j v (Array k elements) fields h = set_apart elements i j v h
+element_apart i j v (Text units) fields h = refl
+
+pub elements_are_set : ElementsAreSet
+unfolding element_or_none
+elements_are_set s id i value there =
+    ap (element_or_none i) (changed_here s id (with_element_of i value)) ∙ by (object_at s id) there
+  where
+    by : (o : Option Object) → is_some (element_or_none i o) ≡ true → element_or_none i (option_map (with_element_of i value) o) ≡ Some value
+    by None h = absurd cc
+    by (Some x) h = element_set i value x.content x.fields h
+
+pub other_elements_stay : OtherElementsStay
+unfolding element_or_none
+other_elements_stay s id other i j value apart = by (other == id) refl apart
+  where
+    here : (j == i) ≡ false → (o : Option Object) → element_or_none j (option_map (with_element_of i value) o) ≡ element_or_none j o
+    here h None = refl
+    here h (Some x) = element_apart i j value x.content x.fields h
+    at : (k : ℕ) → k ≡ id → (j == i) ≡ false → element_or_none j (object_at (with_element id i value s) k) ≡ element_or_none j (object_at s k)
+    at k e h = rw e (ap (element_or_none j) (changed_here s id (with_element_of i value)) ∙ here h (object_at s id))
+    by : (b : Bool) → (other == id) ≡ b → (b && (j == i)) ≡ false → element_or_none j (object_at (with_element id i value s) other) ≡ element_or_none j (object_at s other)
+    by false e h = ap (element_or_none j) (changed_apart s id other (with_element_of i value) e)
+    by true e h = at other (grind (arith, e)) h
+
+pub parts_stay_apart : PartsStayApart
+parts_stay_apart s id field value i =
+    (change_keeps (λ (o : Object). o.content) s id (with_field_of field value) (λ x. refl),
+     change_keeps_statics s id (with_field_of field value),
+     change_keeps (λ (o : Object). o.fields) s id (with_element_of i value) (λ x. refl),
+     change_keeps_statics s id (with_element_of i value))
