@@ -9,8 +9,8 @@ use Rattle.enc_objects.specs.declared.kind.Kind.{Kind}
 use Rattle.enc_objects.specs.declared.object.Object.{Object}
 use Rattle.enc_objects.specs.declared.object.Content.{Content}
 use Rattle.enc_objects.specs.declared.object.Content.TheVariants.{Instance, Array, Text}
-use Rattle.enc_objects.specs.Entries.{Entries, token_order, value_for, put_value}
-use Rattle.enc_objects.specs.Objects.{Store, object_at, with_changed, with_field, with_field_of, with_element, with_element_of, elements_of, element_of, element_in}
+use Rattle.enc_objects.specs.Entries.{Entries, token_ordering, value_for, put_value}
+use Rattle.enc_objects.specs.Objects.{Store, object_at, with_changed, with_field, with_field_of, with_element, with_element_of, array_elements, element_of, element_in}
 use Rattle.enc_objects.specs.Laws.{FieldsAreSet, OtherFieldsStay, StaticsAreSet, OtherStaticsStay, ElementsAreSet, OtherElementsStay, PartsStayApart, field_value}
 use Rattle.enc_objects.proofs.Placed.{found_after_put, same_in_order}
 
@@ -121,7 +121,7 @@ other_statics_stay s field asked value apart = put_other asked field value s.sta
 element_or_none : ℕ → Option Object → Option Value
 element_or_none i o = option_and_then (element_of i) o
 
-element_set : (i : ℕ) (v : Value) (c : Content) (fields : Entries) → is_some (slice_get (elements_of c) i) ≡ true
+element_set : (i : ℕ) (v : Value) (c : Content) (fields : Entries) → is_some (slice_get (array_elements c) i) ≡ true
     → element_of i (with_element_of i v (record { content = c; fields = fields })) ≡ Some v
 element_set i v (Instance class) fields h = absurd cc
 element_set i v (Array k elements) fields h = by (slice_get elements i) refl h
@@ -132,7 +132,7 @@ element_set i v (Array k elements) fields h = by (slice_get elements i) refl h
 element_set i v (Text units) fields h = absurd cc
 
 element_apart : (i j : ℕ) (v : Value) (c : Content) (fields : Entries) → (j == i) ≡ false
-    → element_of j (with_element_of i v (record { content = c; fields = fields })) ≡ slice_get (elements_of c) j
+    → element_of j (with_element_of i v (record { content = c; fields = fields })) ≡ slice_get (array_elements c) j
 element_apart i j v (Instance class) fields h = refl
 element_apart i j v (Array k elements) fields h = set_apart elements i j v h
 element_apart i j v (Text units) fields h = refl

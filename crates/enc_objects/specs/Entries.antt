@@ -8,16 +8,16 @@ use Rattle.enc_base.specs.declared.token.Token.{Token}
 use Rattle.enc_objects.specs.declared.value.Value.{Value}
 
 -- tokens go by table, then by row
-abbrev pub token_order : Token → Token → Ordering
-token_order a b = ordering_then (nat_cmp a.table b.table) (nat_cmp a.row b.row)
+abbrev pub token_ordering : Token → Token → Ordering
+token_ordering a b = ordering_then (nat_cmp a.table b.table) (nat_cmp a.row b.row)
 
 abbrev pub Entries : Type 0
 Entries = List (Token × Value)
 
 -- the value set for a token
 abbrev pub value_for : Token → Entries → Option Value
-value_for token entries = lookup (is_at (token_order token)) entries
+value_for token entries = lookup (is_at (token_ordering token)) entries
 
 -- the entries with a value set for a token
 abbrev pub put_value : Token → Value → Entries → Entries
-put_value token value entries = insert_entry token_order entries token value
+put_value token value entries = insert_entry token_ordering entries token value

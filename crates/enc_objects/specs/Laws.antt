@@ -12,7 +12,7 @@ use Rattle.enc_objects.specs.declared.operation.Unary.{Unary}
 use Rattle.enc_objects.specs.Values.{cut, is_of}
 use Rattle.enc_objects.specs.Instructions.{from_add, from_add_ovf, from_ceq, from_neg, from_conv_u4, from_conv_ovf_i1_un, from_conv_ovf_i1, from_conv_u2, binary_in, unary_in}
 use Rattle.enc_objects.specs.Entries.{value_for}
-use Rattle.enc_objects.specs.Objects.{Store, is_there, fields_in, with_field, with_static, element_in, with_element, with_changed}
+use Rattle.enc_objects.specs.Objects.{Store, has_object, fields_in, with_field, with_static, element_in, with_element, with_changed}
 
 -- whether a kind is one of integers
 abbrev pub is_integer : Kind → Bool
@@ -67,7 +67,7 @@ field_value s id field = value_for field (fields_in s id)
 
 -- a field that is set has the value
 abbrev pub FieldsAreSet : Type 0
-FieldsAreSet = (s : Store) (id : ℕ) (field : Token) (value : Value) → IsTrue (is_there s id) → field_value (with_field id field value s) id field ≡ Some value
+FieldsAreSet = (s : Store) (id : ℕ) (field : Token) (value : Value) → IsTrue (has_object s id) → field_value (with_field id field value s) id field ≡ Some value
 
 -- and every other field has what it had
 abbrev pub OtherFieldsStay : Type 0

@@ -31,47 +31,47 @@ abbrev pub object_at : Store → ℕ → Option Object
 object_at s zero = None
 object_at s (suc i) = slice_get s.objects i
 
-abbrev pub is_there : Store → ℕ → Bool
-is_there s id = is_some (object_at s id)
+abbrev pub has_object : Store → ℕ → Bool
+has_object s id = is_some (object_at s id)
 
 -- the store with another object of that number
 abbrev pub with_changed : ℕ → (Object → Object) → Store → Store
 with_changed id change s = unwrap_or (option_map (λ (o : Object). record s { objects = slice_set s.objects (id - 1) (change o) }) (object_at s id)) s
 
 -- the elements of an array and the units of a text
-abbrev pub parts_of : Content → ℕ
-parts_of (Instance class) = 0
-parts_of (Array k elements) = length elements
-parts_of (Text units) = length units
+abbrev pub part_count : Content → ℕ
+part_count (Instance class) = 0
+part_count (Array k elements) = length elements
+part_count (Text units) = length units
 
 -- those of all objects
-abbrev pub parts_in : List Object → ℕ
-parts_in objects = sum_by (λ (o : Object). parts_of o.content) objects
+abbrev pub parts_held : List Object → ℕ
+parts_held objects = sum_by (λ (o : Object). part_count o.content) objects
 
 -- one object more, with so many parts, would pass a limit
 unfoldable pub is_full : Store → ℕ → Bool
-is_full s parts = nat_le most_objects (length s.objects) || nat_lt most_parts (parts_in s.objects + parts)
+is_full s parts = nat_le most_objects (length s.objects) || nat_lt most_parts (parts_held s.objects + parts)
 
 -- the store with one object more, of which no field is set
 abbrev pub with_object : Content → Store → Store
 with_object c s = record s { objects = s.objects ++ record { content = c; fields = [] } ∷ [] }
 
 -- its number
-abbrev pub next_number : Store → ℕ
-next_number s = length s.objects + 1
+abbrev pub next_object : Store → ℕ
+next_object s = length s.objects + 1
 
 -- an array of so many elements, each of which is its kind's default
 abbrev pub new_array_of : Kind → ℕ → Content
 new_array_of k n = Array k (replicate n (default_of k))
 
-abbrev pub shape_of : Content → Shape
-shape_of (Instance class) = shape.Object class
-shape_of (Array k elements) = shape.Array k (length elements)
-shape_of (Text units) = shape.Text (length units)
+abbrev pub content_shape : Content → Shape
+content_shape (Instance class) = shape.Object class
+content_shape (Array k elements) = shape.Array k (length elements)
+content_shape (Text units) = shape.Text (length units)
 
 -- what an object is
 abbrev pub shape_in : Store → ℕ → Option Shape
-shape_in s id = option_map (λ (o : Object). shape_of o.content) (object_at s id)
+shape_in s id = option_map (λ (o : Object). content_shape o.content) (object_at s id)
 
 -- the values that were set for an object's fields
 abbrev pub fields_in : Store → ℕ → Entries
@@ -102,14 +102,14 @@ static_in s field k = value_or_default field k s.statics
 abbrev pub with_static : Token → Value → Store → Store
 with_static field value s = record s { statics = put_value field value s.statics }
 
-abbrev pub elements_of : Content → List Value
-elements_of (Instance class) = []
-elements_of (Array k elements) = elements
-elements_of (Text units) = []
+abbrev pub array_elements : Content → List Value
+array_elements (Instance class) = []
+array_elements (Array k elements) = elements
+array_elements (Text units) = []
 
 -- an element of an array, by its index from 0
 abbrev pub element_of : ℕ → Object → Option Value
-element_of i o = slice_get (elements_of o.content) i
+element_of i o = slice_get (array_elements o.content) i
 
 abbrev pub element_in : Store → ℕ → ℕ → Option Value
 element_in s id i = option_and_then (element_of i) (object_at s id)
@@ -132,5 +132,5 @@ units_of_content (Array k elements) = None
 units_of_content (Text units) = Some units
 
 -- the UTF-16 units of a text
-abbrev pub units_in : Store → ℕ → Option (List ℕ)
-units_in s id = option_and_then (λ (o : Object). units_of_content o.content) (object_at s id)
+abbrev pub units_held : Store → ℕ → Option (List ℕ)
+units_held s id = option_and_then (λ (o : Object). units_of_content o.content) (object_at s id)

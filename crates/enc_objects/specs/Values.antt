@@ -78,59 +78,59 @@ abbrev pub checked : Kind → ℤ → Result Value Trap
 checked k z = if is_of k z then Ok (held k z) else Err X7
 
 -- the kinds of integers on the stack, with a sign and without
-abbrev pub signed : Size → Kind
-signed Four = kind.I4
-signed Eight = kind.I8
+abbrev pub signed_kind : Size → Kind
+signed_kind Four = kind.I4
+signed_kind Eight = kind.I8
 
-abbrev pub unsigned : Size → Kind
-unsigned Four = kind.U4
-unsigned Eight = kind.U8
+abbrev pub unsigned_kind : Size → Kind
+unsigned_kind Four = kind.U4
+unsigned_kind Eight = kind.U8
 
 -- the number that an integer is without its sign
-abbrev pub bits_of : Size → ℤ → ℕ
-bits_of Four z = modulo 32 z
-bits_of Eight z = modulo 64 z
+abbrev pub without_sign : Size → ℤ → ℕ
+without_sign Four z = modulo 32 z
+without_sign Eight z = modulo 64 z
 
 -- a quotient or remainder with a sign: none by zero, and none where the quotient isn't of the size, that of the least integer by -1 (III.3.31, III.3.55)
 abbrev pub divided : Size → ℤ → ℤ → ℤ → Result Value Trap
-divided s x y z = if int_eq y (pos 0) then Err X6 else if is_of (signed s) (int_div x y) then Ok (held (signed s) z) else Err X7
+divided s x y z = if int_eq y (pos 0) then Err X6 else if is_of (signed_kind s) (int_div x y) then Ok (held (signed_kind s) z) else Err X7
 
 -- and without a sign: none by zero
 abbrev pub divided_unsigned : Size → ℕ → ℕ → Result Value Trap
-divided_unsigned s y n = if y == 0 then Err X6 else Ok (held (unsigned s) (pos n))
+divided_unsigned s y n = if y == 0 then Err X6 else Ok (held (unsigned_kind s) (pos n))
 
 -- what two integers of one size give (III.3)
 unfoldable pub calculated : Arithmetic → Size → ℤ → ℤ → Result Value Trap
-calculated arithmetic.Add s x y = Ok (held (signed s) (x +ℤ y))
-calculated arithmetic.Sub s x y = Ok (held (signed s) (x -ℤ y))
-calculated arithmetic.Mul s x y = Ok (held (signed s) (x *ℤ y))
+calculated arithmetic.Add s x y = Ok (held (signed_kind s) (x +ℤ y))
+calculated arithmetic.Sub s x y = Ok (held (signed_kind s) (x -ℤ y))
+calculated arithmetic.Mul s x y = Ok (held (signed_kind s) (x *ℤ y))
 calculated arithmetic.Div s x y = divided s x y (int_div x y)
-calculated arithmetic.DivUn s x y = divided_unsigned s (bits_of s y) (bits_of s x / bits_of s y)
+calculated arithmetic.DivUn s x y = divided_unsigned s (without_sign s y) (without_sign s x / without_sign s y)
 calculated arithmetic.Rem s x y = divided s x y (int_rem x y)
-calculated arithmetic.RemUn s x y = divided_unsigned s (bits_of s y) (bits_of s x % bits_of s y)
-calculated arithmetic.And s x y = Ok (held (unsigned s) (pos (bit_and (bits_of s x) (bits_of s y))))
-calculated arithmetic.Or s x y = Ok (held (unsigned s) (pos (bit_or (bits_of s x) (bits_of s y))))
-calculated arithmetic.Xor s x y = Ok (held (unsigned s) (pos (bit_xor (bits_of s x) (bits_of s y))))
-calculated arithmetic.AddOvf s x y = checked (signed s) (x +ℤ y)
-calculated arithmetic.AddOvfUn s x y = checked (unsigned s) (pos (bits_of s x) +ℤ pos (bits_of s y))
-calculated arithmetic.MulOvf s x y = checked (signed s) (x *ℤ y)
-calculated arithmetic.MulOvfUn s x y = checked (unsigned s) (pos (bits_of s x) *ℤ pos (bits_of s y))
-calculated arithmetic.SubOvf s x y = checked (signed s) (x -ℤ y)
-calculated arithmetic.SubOvfUn s x y = checked (unsigned s) (pos (bits_of s x) -ℤ pos (bits_of s y))
+calculated arithmetic.RemUn s x y = divided_unsigned s (without_sign s y) (without_sign s x % without_sign s y)
+calculated arithmetic.And s x y = Ok (held (unsigned_kind s) (pos (bit_and (without_sign s x) (without_sign s y))))
+calculated arithmetic.Or s x y = Ok (held (unsigned_kind s) (pos (bit_or (without_sign s x) (without_sign s y))))
+calculated arithmetic.Xor s x y = Ok (held (unsigned_kind s) (pos (bit_xor (without_sign s x) (without_sign s y))))
+calculated arithmetic.AddOvf s x y = checked (signed_kind s) (x +ℤ y)
+calculated arithmetic.AddOvfUn s x y = checked (unsigned_kind s) (pos (without_sign s x) +ℤ pos (without_sign s y))
+calculated arithmetic.MulOvf s x y = checked (signed_kind s) (x *ℤ y)
+calculated arithmetic.MulOvfUn s x y = checked (unsigned_kind s) (pos (without_sign s x) *ℤ pos (without_sign s y))
+calculated arithmetic.SubOvf s x y = checked (signed_kind s) (x -ℤ y)
+calculated arithmetic.SubOvfUn s x y = checked (unsigned_kind s) (pos (without_sign s x) -ℤ pos (without_sign s y))
 
 -- an integer whose bits moved by so many places: to the left, to the right with its sign (rounded down), to the right with zeros (III.3.58 to III.3.60)
 unfoldable pub shifted : Shift → Size → ℤ → ℕ → Value
-shifted shift.Shl s x n = held (signed s) (x *ℤ pos (2 ^ n))
-shifted shift.Shr s x n = held (signed s) (int_shr x n)
-shifted shift.ShrUn s x n = held (unsigned s) (pos (bits_of s x / 2 ^ n))
+shifted shift.Shl s x n = held (signed_kind s) (x *ℤ pos (2 ^ n))
+shifted shift.Shr s x n = held (signed_kind s) (int_shr x n)
+shifted shift.ShrUn s x n = held (unsigned_kind s) (pos (without_sign s x / 2 ^ n))
 
 -- what a comparison says of two integers of one size (III.3.21 to III.3.26)
 unfoldable pub compares : Comparison → Size → ℤ → ℤ → Bool
 compares comparison.Ceq s x y = int_eq x y
 compares comparison.Cgt s x y = int_lt y x
-compares comparison.CgtUn s x y = nat_lt (bits_of s y) (bits_of s x)
+compares comparison.CgtUn s x y = nat_lt (without_sign s y) (without_sign s x)
 compares comparison.Clt s x y = int_lt x y
-compares comparison.CltUn s x y = nat_lt (bits_of s x) (bits_of s y)
+compares comparison.CltUn s x y = nat_lt (without_sign s x) (without_sign s y)
 
 -- true is 1, false is 0
 abbrev pub truth : Bool → Value
@@ -160,30 +160,30 @@ unfoldable pub binary_of : Binary → Value → Value → Result Value Trap
 binary_of (Calculates o) (I4 x) (I4 y) = calculated o Four x y
 binary_of (Calculates o) (I8 x) (I8 y) = calculated o Eight x y
 binary_of (Calculates o) _ _ = Err X4
-binary_of (Shifts o) (I4 x) (I4 n) = Ok (shifted o Four x (bits_of Four n % 32))
-binary_of (Shifts o) (I8 x) (I4 n) = Ok (shifted o Eight x (bits_of Four n % 64))
+binary_of (Shifts o) (I4 x) (I4 n) = Ok (shifted o Four x (without_sign Four n % 32))
+binary_of (Shifts o) (I8 x) (I4 n) = Ok (shifted o Eight x (without_sign Four n % 64))
 binary_of (Shifts o) _ _ = Err X4
 binary_of (Compares o) a b = compared o a b
 
 -- an integer as a kind's number: by its sign, or without one for a kind without one
 abbrev pub read_as : Kind → Size → ℤ → ℤ
 read_as kind.I1 s x = x
-read_as kind.U1 s x = pos (bits_of s x)
+read_as kind.U1 s x = pos (without_sign s x)
 read_as kind.I2 s x = x
-read_as kind.U2 s x = pos (bits_of s x)
+read_as kind.U2 s x = pos (without_sign s x)
 read_as kind.I4 s x = x
-read_as kind.U4 s x = pos (bits_of s x)
+read_as kind.U4 s x = pos (without_sign s x)
 read_as kind.I8 s x = x
-read_as kind.U8 s x = pos (bits_of s x)
+read_as kind.U8 s x = pos (without_sign s x)
 read_as kind.Ref s x = x
 
 -- what an operation gives for an integer (III.3.19, III.3.27, III.3.50, III.3.51)
 unfoldable pub unary_on : Unary → Size → ℤ → Result Value Trap
-unary_on unary.Neg s x = Ok (held (signed s) (neg_ℤ x))
-unary_on unary.Not s x = Ok (held (signed s) (neg_ℤ x -ℤ pos 1))
+unary_on unary.Neg s x = Ok (held (signed_kind s) (neg_ℤ x))
+unary_on unary.Not s x = Ok (held (signed_kind s) (neg_ℤ x -ℤ pos 1))
 unary_on (unary.Conv k) s x = Ok (held k (cut k (read_as k s x)))
 unary_on (unary.ConvOvf k) s x = checked k x
-unary_on (unary.ConvOvfUn k) s x = checked k (pos (bits_of s x))
+unary_on (unary.ConvOvfUn k) s x = checked k (pos (without_sign s x))
 
 -- and for a value
 abbrev pub unary_of : Unary → Value → Result Value Trap

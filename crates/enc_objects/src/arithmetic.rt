@@ -1,6 +1,6 @@
 //! Sums, differences, products, quotients and bits of two integers (ECMA-335 III.3).
 ghost use Rattle.std.specs.Prelude.{◌≡◌, ◌*◌, ◌/◌, ◌%◌, ◌≢◌, ℤ, pos, ◌+ℤ◌, ◌-ℤ◌, ◌*ℤ◌, int_div, int_rem, bit_and, bit_or, bit_xor};
-ghost use Rattle.enc_objects.specs.Values.{signed, unsigned, divided as divided_as, divided_unsigned, checked as checked_as, calculated as calculated_as, binary_of};
+ghost use Rattle.enc_objects.specs.Values.{unsigned_kind, divided as divided_as, divided_unsigned, checked as checked_as, calculated as calculated_as, binary_of};
 ghost use Rattle.enc_objects.specs.declared.operation.Binary.TheVariants.{Calculates};
 
 use crate::number::{bits_of, checked, held, is_of};
@@ -56,7 +56,7 @@ fn difference_without_sign(x: u64, y: u64) -> i128
 
 /// The product where the size has it, else an overflow.
 fn product_without_sign(size: Size, x: u64, y: u64) -> Result<Value, Trap>
-    ensures { result ≡ checked_as (unsigned size) (pos x *ℤ pos y) }
+    ensures { result ≡ checked_as (unsigned_kind size) (pos x *ℤ pos y) }
 {
     match x.checked_mul(y) {
         None => Err(Trap::X7),

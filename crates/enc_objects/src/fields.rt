@@ -2,7 +2,7 @@
 ghost use Rattle.std.specs.Prelude.{◌≡◌, [], slice_get, IfOk, OnOk, OnErr};
 ghost use Rattle.std.specs.List.Sorted.{IsStrictlySortedBy};
 ghost use Rattle.std.specs.Map.{keys_of};
-ghost use Rattle.enc_objects.specs.Entries.{token_order, value_for, put_value};
+ghost use Rattle.enc_objects.specs.Entries.{token_ordering, value_for, put_value};
 
 use crate::value::Value;
 use enc_base::Token;
@@ -55,7 +55,7 @@ impl Fields {
     /// The i-th token with its value, from 0 in the order of tokens.
     pub(crate) fn at(&self, i: u32) -> Option<(Token, Value)>
         ensures entry { result ≡ slice_get self.now i }
-        ensures ordered { IsStrictlySortedBy token_order (keys_of self.now) }
+        ensures ordered { IsStrictlySortedBy token_ordering (keys_of self.now) }
     {
         match self.values.iter().nth(i as usize) {
             Some((token, value)) => Some((*token, *value)),

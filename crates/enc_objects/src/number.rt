@@ -1,6 +1,6 @@
 //! Integers as numbers: to the kinds and back.
 ghost use Rattle.std.specs.Prelude.{◌≡◌};
-ghost use Rattle.enc_objects.specs.Values.{modulo, cut as number_cut, held as held_as, is_of as is_of_kind, checked as checked_as, bits_of as bits_without_sign, signed as signed_kind, unsigned as unsigned_kind};
+ghost use Rattle.enc_objects.specs.Values.{modulo, cut as number_cut, held as held_as, is_of as is_of_kind, checked as checked_as, without_sign, signed_kind, unsigned_kind};
 
 use crate::kind::Kind;
 use crate::operation::Size;
@@ -118,7 +118,7 @@ impl Size {
 
 /// The number that an integer is without its sign.
 pub(crate) fn bits_of(size: Size, n: i128) -> u64
-    ensures { result ≡ bits_without_sign size n }
+    ensures { result ≡ without_sign size n }
 {
     match size {
         Size::Four => u64::from(modulo_32(n)),

@@ -1,6 +1,6 @@
 //! One object: what it is, and the values of its fields.
 ghost use Rattle.std.specs.Prelude.{◌≡◌, ◌≤◌, option_map, is_some, OnOk, OnErr};
-ghost use Rattle.enc_objects.specs.Objects.{parts_of, shape_of, element_of, with_element_of, field_of, with_field_of, units_of_content};
+ghost use Rattle.enc_objects.specs.Objects.{part_count, content_shape, element_of, with_element_of, field_of, with_field_of, units_of_content};
 ghost use Rattle.enc_objects.specs.Limits.{most_parts};
 
 use crate::contents::{Elements, TextUnits};
@@ -32,7 +32,7 @@ pub(crate) struct Object {
 impl Content {
     /// How many elements of an array and units of a text it has.
     pub(crate) fn parts(&self) -> u32
-        ensures parts { result ≡ parts_of self.now }
+        ensures parts { result ≡ part_count self.now }
         ensures few { result ≤ most_parts }
     {
         match self {
@@ -44,7 +44,7 @@ impl Content {
 
     /// What it is, without its parts.
     pub(crate) fn shape(&self) -> Shape
-        ensures { result ≡ shape_of self.now }
+        ensures { result ≡ content_shape self.now }
     {
         match self {
             Content::Instance(class) => Shape::Object(*class),

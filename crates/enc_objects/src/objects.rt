@@ -2,9 +2,9 @@
 ghost use Rattle.std.specs.Prelude.{◌≡◌, ◌+◌, ◌-◌, ◌≤◌, ◌↔◌, Some, None, length, option_map, is_some, unwrap_or, slice_get, IsTrue, IsErrOf, false, IfOk, OnOk, OnErr};
 ghost use Rattle.std.specs.List.Sorted.{IsStrictlySortedBy};
 ghost use Rattle.std.specs.Map.{keys_of};
-ghost use Rattle.enc_objects.specs.Entries.{token_order};
+ghost use Rattle.enc_objects.specs.Entries.{token_ordering};
 ghost use Rattle.enc_objects.specs.Limits.{most_objects, most_parts};
-ghost use Rattle.enc_objects.specs.Objects.{object_at, is_there, is_full, with_object, next_number, parts_of, new_array_of, shape_in, fields_in, field_in, with_field, static_in, with_static, element_in, with_element, units_in, no_objects};
+ghost use Rattle.enc_objects.specs.Objects.{object_at, has_object, is_full, with_object, next_object, part_count, new_array_of, shape_in, fields_in, field_in, with_field, static_in, with_static, element_in, with_element, units_held, no_objects};
 ghost use Rattle.enc_objects.specs.declared.objects.MakeFault.{MakeFault};
 ghost use Rattle.enc_objects.specs.declared.object.Content.TheVariants.{Instance, Text};
 
@@ -53,13 +53,13 @@ pub struct Objects {
 impl Model for Objects {
     ghost use Rattle.std.specs.Prelude.{◌≡◌, ◌≤◌, length};
     ghost use Rattle.enc_objects.specs.Limits.{most_objects, most_parts};
-    ghost use Rattle.enc_objects.specs.Objects.{Store, parts_in};
+    ghost use Rattle.enc_objects.specs.Objects.{Store, parts_held};
 
     ghost Value = { Store };
 
     ghost view = { λ o. record { objects = o.objects.items; statics = o.statics } };
 
-    ghost invariant = { λ o. (length o.objects.items ≤ most_objects) × (o.parts ≤ most_parts) × (o.parts ≡ parts_in o.objects.items) };
+    ghost invariant = { λ o. (length o.objects.items ≤ most_objects) × (o.parts ≤ most_parts) × (o.parts ≡ parts_held o.objects.items) };
 }
 
 impl Objects {
@@ -86,8 +86,8 @@ impl Objects {
 
     /// One object more, and its number. Without memory nothing changes.
     fn add(&mut self, content: Content) -> Result<u32, AllocError>
-        requires { is_full self.old (parts_of content) ≡ false }
-        ensures number { IfOk result (λ id. id ≡ next_number self.old) }
+        requires { is_full self.old (part_count content) ≡ false }
+        ensures number { IfOk result (λ id. id ≡ next_object self.old) }
         ensures ok { OnOk result (self.new ≡ with_object content self.old) }
         ensures err { OnErr result (self.new ≡ self.old) }
     {
@@ -104,7 +104,7 @@ impl Objects {
     /// A new instance of a class, and its number. `Full` exactly where it would pass a limit. After a fault nothing
     /// has changed.
     pub fn new_object(&mut self, class: Token) -> Result<u32, MakeFault>
-        ensures number { IfOk result (λ id. id ≡ next_number self.old) }
+        ensures number { IfOk result (λ id. id ≡ next_object self.old) }
         ensures ok { OnOk result (self.new ≡ with_object (Instance class) self.old) }
         ensures err { OnErr result (self.new ≡ self.old) }
         ensures full { IsErrOf result MakeFault.Full ↔ IsTrue (is_full self.old 0) }
@@ -118,7 +118,7 @@ impl Objects {
     /// A new array of so many elements, each its kind's default, and its number. `Full` exactly where it would pass a
     /// limit. After a fault nothing has changed.
     pub fn new_array(&mut self, kind: Kind, len: u32) -> Result<u32, MakeFault>
-        ensures number { IfOk result (λ id. id ≡ next_number self.old) }
+        ensures number { IfOk result (λ id. id ≡ next_object self.old) }
         ensures ok { OnOk result (self.new ≡ with_object (new_array_of kind len) self.old) }
         ensures err { OnErr result (self.new ≡ self.old) }
         ensures full { IsErrOf result MakeFault.Full ↔ IsTrue (is_full self.old len) }
@@ -133,7 +133,7 @@ impl Objects {
     /// A new text of these UTF-16 units, and its number. `Full` exactly where it would pass a limit. After a fault
     /// nothing has changed.
     pub fn new_text(&mut self, units: &[u16]) -> Result<u32, MakeFault>
-        ensures number { IfOk result (λ id. id ≡ next_number self.old) }
+        ensures number { IfOk result (λ id. id ≡ next_object self.old) }
         ensures ok { OnOk result (self.new ≡ with_object (Text units.now) self.old) }
         ensures err { OnErr result (self.new ≡ self.old) }
         ensures full { IsErrOf result MakeFault.Full ↔ IsTrue (is_full self.old (length units.now)) }
@@ -171,7 +171,7 @@ impl Objects {
 
     /// The value of an object's field, which is its kind's default where none was set.
     pub fn get_field(&self, id: u32, field: Token, kind: Kind) -> Value
-        requires { IsTrue (is_there self.now id) }
+        requires { IsTrue (has_object self.now id) }
         ensures { result ≡ field_in self.now id field kind }
     {
         match self.object(id) {
@@ -182,7 +182,7 @@ impl Objects {
 
     /// Sets the value of an object's field, as it is. Without memory nothing changes.
     pub fn set_field(&mut self, id: u32, field: Token, value: Value) -> Result<(), AllocError>
-        requires { IsTrue (is_there self.old id) }
+        requires { IsTrue (has_object self.old id) }
         ensures ok { OnOk result (self.new ≡ with_field id field value self.old) }
         ensures err { OnErr result (self.new ≡ self.old) }
     {
@@ -236,7 +236,7 @@ impl Objects {
 
     /// The UTF-16 units of a text. None exactly where there is no such object or it isn't a text.
     pub fn units(&self, id: u32) -> Option<&[u16]>
-        ensures { option_map (λ u. u.now) result ≡ units_in self.now id }
+        ensures { option_map (λ u. u.now) result ≡ units_held self.now id }
     {
         match self.object(id) {
             None => None,
@@ -248,7 +248,7 @@ impl Objects {
     /// exactly where there are no more.
     pub fn field_at(&self, id: u32, i: u32) -> Option<(Token, Value)>
         ensures field { result ≡ slice_get (fields_in self.now id) i }
-        ensures ordered { IsStrictlySortedBy token_order (keys_of (fields_in self.now id)) }
+        ensures ordered { IsStrictlySortedBy token_ordering (keys_of (fields_in self.now id)) }
     {
         match self.object(id) {
             None => None,
@@ -260,7 +260,7 @@ impl Objects {
     /// where there are no more.
     pub fn static_at(&self, i: u32) -> Option<(Token, Value)>
         ensures field { result ≡ slice_get self.now.statics i }
-        ensures ordered { IsStrictlySortedBy token_order (keys_of self.now.statics) }
+        ensures ordered { IsStrictlySortedBy token_ordering (keys_of self.now.statics) }
     {
         self.statics.at(i)
     }
