@@ -105,8 +105,10 @@ other_fields_stay s id other field asked value apart = by (other == id) refl apa
     here : is_token asked field ≡ false → (o : Option Object) → fields_or_none asked (option_map (with_field_of field value) o) ≡ fields_or_none asked o
     here h None = refl
     here h (Some x) = put_other asked field value x.fields h
+
     at : (k : ℕ) → k ≡ id → is_token asked field ≡ false → fields_or_none asked (object_at (with_field id field value s) k) ≡ fields_or_none asked (object_at s k)
     at k e h = rw e (ap (fields_or_none asked) (changed_here s id (with_field_of field value)) ∙ here h (object_at s id))
+
     by : (b : Bool) → (other == id) ≡ b → (b && is_token asked field) ≡ false → fields_or_none asked (object_at (with_field id field value s) other) ≡ fields_or_none asked (object_at s other)
     by false e h = ap (fields_or_none asked) (changed_apart s id other (with_field_of field value) e)
     by true e h = at other (grind (arith, e)) h
@@ -153,15 +155,18 @@ other_elements_stay s id other i j value apart = by (other == id) refl apart
     here : (j == i) ≡ false → (o : Option Object) → element_or_none j (option_map (with_element_of i value) o) ≡ element_or_none j o
     here h None = refl
     here h (Some x) = element_apart i j value x.content x.fields h
+
     at : (k : ℕ) → k ≡ id → (j == i) ≡ false → element_or_none j (object_at (with_element id i value s) k) ≡ element_or_none j (object_at s k)
     at k e h = rw e (ap (element_or_none j) (changed_here s id (with_element_of i value)) ∙ here h (object_at s id))
+
     by : (b : Bool) → (other == id) ≡ b → (b && (j == i)) ≡ false → element_or_none j (object_at (with_element id i value s) other) ≡ element_or_none j (object_at s other)
     by false e h = ap (element_or_none j) (changed_apart s id other (with_element_of i value) e)
     by true e h = at other (grind (arith, e)) h
 
 pub parts_stay_apart : PartsStayApart
-parts_stay_apart s id field value i =
-    (change_keeps (λ (o : Object). o.content) s id (with_field_of field value) (λ x. refl),
-     change_keeps_statics s id (with_field_of field value),
-     change_keeps (λ (o : Object). o.fields) s id (with_element_of i value) (λ x. refl),
-     change_keeps_statics s id (with_element_of i value))
+parts_stay_apart s id field value i = (
+  change_keeps (λ (o : Object). o.content) s id (with_field_of field value) (λ x. refl),
+  change_keeps_statics s id (with_field_of field value),
+  change_keeps (λ (o : Object). o.fields) s id (with_element_of i value) (λ x. refl),
+  change_keeps_statics s id (with_element_of i value),
+)

@@ -1,4 +1,4 @@
-use crate::Value::{I4, I8, Null, Obj};
+use crate::Value::{self, I4, I8, Null, Obj};
 use crate::{Kind, MakeFault, Objects, Shape};
 use enc_base::Token;
 use std::alloc::AllocError;
@@ -40,23 +40,34 @@ fn numbers_objects_from_one(rt: HostRuntime) -> Result<(), Fail> {
     Ok(())
 }
 
+/// The value of an object's field, None where there is no such object.
+fn get(objects: &Objects, id: u32, field: Token, kind: Kind) -> Option<Value> {
+    objects.shape(id)?;
+    Some(objects.get_field(id, field, kind))
+}
+
+/// Sets a field, where there is such an object.
+fn set(objects: &mut Objects, id: u32, field: Token, value: Value) -> Result<(), AllocError> {
+    if objects.shape(id).is_none() {
+        return Ok(());
+    }
+    objects.set_field(id, field, value)
+}
+
 #[test]
 fn keeps_fields_in_order(rt: HostRuntime) -> Result<(), Fail> {
     let mut objects = Objects::begin(rt.alloc());
     let first = made(objects.new_object(CLASS))?;
     let second = made(objects.new_object(CLASS))?;
-    if objects.shape(first).is_none() || objects.shape(second).is_none() {
-        return Ok(());
-    }
-    assert_eq!(rt; objects.get_field(first, field(1), Kind::I4), I4(0));
-    assert_eq!(rt; objects.get_field(first, field(1), Kind::U8), I8(0));
-    assert_eq!(rt; objects.get_field(first, field(1), Kind::Ref), Null);
-    objects.set_field(first, field(9), I4(5))?;
-    objects.set_field(first, field(3), Obj(2))?;
-    objects.set_field(first, field(9), I4(6))?;
-    assert_eq!(rt; objects.get_field(first, field(9), Kind::I4), I4(6));
-    assert_eq!(rt; objects.get_field(first, field(3), Kind::Ref), Obj(2));
-    assert_eq!(rt; objects.get_field(second, field(9), Kind::I4), I4(0));
+    assert_eq!(rt; get(&objects, first, field(1), Kind::I4), Some(I4(0)));
+    assert_eq!(rt; get(&objects, first, field(1), Kind::U8), Some(I8(0)));
+    assert_eq!(rt; get(&objects, first, field(1), Kind::Ref), Some(Null));
+    set(&mut objects, first, field(9), I4(5))?;
+    set(&mut objects, first, field(3), Obj(2))?;
+    set(&mut objects, first, field(9), I4(6))?;
+    assert_eq!(rt; get(&objects, first, field(9), Kind::I4), Some(I4(6)));
+    assert_eq!(rt; get(&objects, first, field(3), Kind::Ref), Some(Obj(2)));
+    assert_eq!(rt; get(&objects, second, field(9), Kind::I4), Some(I4(0)));
     assert_eq!(rt; objects.field_at(first, 0), Some((field(3), Obj(2))));
     assert_eq!(rt; objects.field_at(first, 1), Some((field(9), I4(6))));
     assert_eq!(rt; objects.field_at(first, 2), None);
@@ -101,17 +112,26 @@ fn keeps_elements(rt: HostRuntime) -> Result<(), Fail> {
     Ok(())
 }
 
+/// Whether the object is a text of these units.
+fn is_text(objects: &Objects, id: u32, units: &[u16]) -> bool {
+    match objects.units(id) {
+        Some(held) => held == units,
+        None => false,
+    }
+}
+
 #[test]
 fn keeps_texts(rt: HostRuntime) -> Result<(), Fail> {
     let mut objects = Objects::begin(rt.alloc());
     let text = made(objects.new_text(&[0x68, 0xd800, 0]))?;
     let empty = made(objects.new_text(&[]))?;
     let object = made(objects.new_object(CLASS))?;
-    assert_eq!(rt; objects.units(text), Some([0x68, 0xd800, 0].as_slice()));
-    assert_eq!(rt; objects.units(empty), Some([].as_slice()));
+    assert_eq!(rt; is_text(&objects, text, &[0x68, 0xd800, 0]), true);
+    assert_eq!(rt; is_text(&objects, text, &[0x68, 0xd800]), false);
+    assert_eq!(rt; is_text(&objects, empty, &[]), true);
     assert_eq!(rt; objects.shape(empty), Some(Shape::Text(0)));
-    assert_eq!(rt; objects.units(object), None);
-    assert_eq!(rt; objects.units(9), None);
+    assert_eq!(rt; objects.units(object).is_none(), true);
+    assert_eq!(rt; objects.units(9).is_none(), true);
     Ok(())
 }
 
