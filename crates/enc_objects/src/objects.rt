@@ -163,7 +163,8 @@ impl Objects {
 
     /// What the object of a number is. None exactly where there is no such object.
     pub fn shape(&self, id: u32) -> Option<Shape>
-        ensures { result ≡ shape_in self.now id }
+        ensures shape { result ≡ shape_in self.now id }
+        ensures there { is_some result ≡ has_object self.now id }
     {
         let object = self.object(id)?;
         Some(object.content.shape())
