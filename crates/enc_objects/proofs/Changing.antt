@@ -10,7 +10,7 @@ use Rattle.enc_objects.specs.declared.object.Object.{Object}
 use Rattle.enc_objects.specs.declared.object.Content.{Content}
 use Rattle.enc_objects.specs.declared.object.Content.TheVariants.{Instance, Array, Text}
 use Rattle.enc_objects.specs.Entries.{Entries, token_ordering, value_for, put_value}
-use Rattle.enc_objects.specs.Objects.{Store, object_at, with_changed, with_field, with_field_of, with_element, with_element_of, array_elements, element_of, element_in}
+use Rattle.enc_objects.specs.Objects.{Store, object_at, has_object, fields_in, with_static, with_changed, with_field, with_field_of, with_element, with_element_of, array_elements, element_of, element_in}
 use Rattle.enc_objects.specs.Laws.{FieldsAreSet, OtherFieldsStay, StaticsAreSet, OtherStaticsStay, ElementsAreSet, OtherElementsStay, PartsStayApart, field_value}
 use Rattle.enc_objects.proofs.Placed.{found_after_put, same_in_order}
 
@@ -90,7 +90,7 @@ fields_or_none : Token → Option Object → Option Value
 fields_or_none asked o = value_for asked (unwrap_or (option_map (λ (o : Object). o.fields) o) [])
 
 pub fields_are_set : FieldsAreSet
-unfolding fields_or_none
+unfolding fields_or_none fields_in with_field has_object
 fields_are_set s id field value there =
     ap (fields_or_none field) (changed_here s id (with_field_of field value)) ∙ by (object_at s id) there
   where
@@ -99,7 +99,7 @@ fields_are_set s id field value there =
     by (Some x) h = put_found field value x.fields
 
 pub other_fields_stay : OtherFieldsStay
-unfolding fields_or_none
+unfolding fields_or_none fields_in with_field
 other_fields_stay s id other field asked value apart = by (other == id) refl apart
   where
     here : is_token asked field ≡ false → (o : Option Object) → fields_or_none asked (option_map (with_field_of field value) o) ≡ fields_or_none asked o
@@ -114,9 +114,11 @@ other_fields_stay s id other field asked value apart = by (other == id) refl apa
     by true e h = at other (grind (arith, e)) h
 
 pub statics_are_set : StaticsAreSet
+unfolding with_static
 statics_are_set s field value = put_found field value s.statics
 
 pub other_statics_stay : OtherStaticsStay
+unfolding with_static
 other_statics_stay s field asked value apart = put_other asked field value s.statics apart
 
 -- the element of an object that may not be there
@@ -140,7 +142,7 @@ element_apart i j v (Array k elements) fields h = set_apart elements i j v h
 element_apart i j v (Text units) fields h = refl
 
 pub elements_are_set : ElementsAreSet
-unfolding element_or_none
+unfolding element_or_none element_in with_element
 elements_are_set s id i value there =
     ap (element_or_none i) (changed_here s id (with_element_of i value)) ∙ by (object_at s id) there
   where
@@ -149,7 +151,7 @@ elements_are_set s id i value there =
     by (Some x) h = element_set i value x.content x.fields h
 
 pub other_elements_stay : OtherElementsStay
-unfolding element_or_none
+unfolding element_or_none element_in with_element
 other_elements_stay s id other i j value apart = by (other == id) refl apart
   where
     here : (j == i) ≡ false → (o : Option Object) → element_or_none j (option_map (with_element_of i value) o) ≡ element_or_none j o
@@ -164,6 +166,7 @@ other_elements_stay s id other i j value apart = by (other == id) refl apart
     by true e h = at other (grind (arith, e)) h
 
 pub parts_stay_apart : PartsStayApart
+unfolding with_field with_element
 parts_stay_apart s id field value i = (
   change_keeps (λ (o : Object). o.content) s id (with_field_of field value) (λ x. refl),
   change_keeps_statics s id (with_field_of field value),

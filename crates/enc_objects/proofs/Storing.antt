@@ -26,5 +26,5 @@ more_parts_fit s parts h = grind (arith, h)
 
 -- no field is set of an object that isn't there
 pub none_in_order : (s : Store) (id : ℕ) → object_at s id ≡ None → IsStrictlySortedBy token_ordering (keys_of (fields_in s id))
-unfolding IsStrictlySortedBy
+unfolding IsStrictlySortedBy fields_in
 none_in_order s id h = rw h tt

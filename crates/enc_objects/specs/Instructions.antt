@@ -79,7 +79,7 @@ abbrev pub operated : Option Binary → Value → Value → Result Value Trap
 operated None a b = Err X2
 operated (Some o) a b = binary_of o a b
 
-abbrev pub on_two : Op → Value → Value → Result Value Trap
+unfoldable pub on_two : Op → Value → Value → Result Value Trap
 on_two op a b = operated (binary_in op) a b
 
 -- and for one value
@@ -87,5 +87,5 @@ abbrev pub converted : Option Unary → Value → Result Value Trap
 converted None a = Err X2
 converted (Some o) a = unary_of o a
 
-abbrev pub on_one : Op → Value → Result Value Trap
+unfoldable pub on_one : Op → Value → Result Value Trap
 on_one op a = converted (unary_in op) a

@@ -31,7 +31,7 @@ abbrev pub object_at : Store → ℕ → Option Object
 object_at s zero = None
 object_at s (suc i) = slice_get s.objects i
 
-abbrev pub has_object : Store → ℕ → Bool
+unfoldable pub has_object : Store → ℕ → Bool
 has_object s id = is_some (object_at s id)
 
 -- the store with another object of that number
@@ -70,11 +70,11 @@ content_shape (Array k elements) = shape.Array k (length elements)
 content_shape (Text units) = shape.Text (length units)
 
 -- what an object is
-abbrev pub shape_in : Store → ℕ → Option Shape
+unfoldable pub shape_in : Store → ℕ → Option Shape
 shape_in s id = option_map (λ (o : Object). content_shape o.content) (object_at s id)
 
 -- the values that were set for an object's fields
-abbrev pub fields_in : Store → ℕ → Entries
+unfoldable pub fields_in : Store → ℕ → Entries
 fields_in s id = unwrap_or (option_map (λ (o : Object). o.fields) (object_at s id)) []
 
 -- the value that entries have for a field: its kind's default where none was set
@@ -85,21 +85,21 @@ abbrev pub field_of : Token → Kind → Object → Value
 field_of field k o = value_or_default field k o.fields
 
 -- the value of an object's field
-abbrev pub field_in : Store → ℕ → Token → Kind → Value
+unfoldable pub field_in : Store → ℕ → Token → Kind → Value
 field_in s id field k = value_or_default field k (fields_in s id)
 
 abbrev pub with_field_of : Token → Value → Object → Object
 with_field_of field value o = record o { fields = put_value field value o.fields }
 
 -- the store with a value set for an object's field
-abbrev pub with_field : ℕ → Token → Value → Store → Store
+unfoldable pub with_field : ℕ → Token → Value → Store → Store
 with_field id field value s = with_changed id (with_field_of field value) s
 
 -- the same of statics
-abbrev pub static_in : Store → Token → Kind → Value
+unfoldable pub static_in : Store → Token → Kind → Value
 static_in s field k = value_or_default field k s.statics
 
-abbrev pub with_static : Token → Value → Store → Store
+unfoldable pub with_static : Token → Value → Store → Store
 with_static field value s = record s { statics = put_value field value s.statics }
 
 abbrev pub array_elements : Content → List Value
@@ -111,7 +111,7 @@ array_elements (Text units) = []
 abbrev pub element_of : ℕ → Object → Option Value
 element_of i o = slice_get (array_elements o.content) i
 
-abbrev pub element_in : Store → ℕ → ℕ → Option Value
+unfoldable pub element_in : Store → ℕ → ℕ → Option Value
 element_in s id i = option_and_then (element_of i) (object_at s id)
 
 abbrev pub with_element_in_content : ℕ → Value → Content → Content
@@ -123,7 +123,7 @@ abbrev pub with_element_of : ℕ → Value → Object → Object
 with_element_of i value o = record o { content = with_element_in_content i value o.content }
 
 -- the store with a value set for an element of an array
-abbrev pub with_element : ℕ → ℕ → Value → Store → Store
+unfoldable pub with_element : ℕ → ℕ → Value → Store → Store
 with_element id i value s = with_changed id (with_element_of i value) s
 
 abbrev pub units_of_content : Content → Option (List ℕ)
@@ -132,5 +132,5 @@ units_of_content (Array k elements) = None
 units_of_content (Text units) = Some units
 
 -- the UTF-16 units of a text
-abbrev pub units_held : Store → ℕ → Option (List ℕ)
+unfoldable pub units_held : Store → ℕ → Option (List ℕ)
 units_held s id = option_and_then (λ (o : Object). units_of_content o.content) (object_at s id)

@@ -15,7 +15,7 @@ use enc_opcodes::Op;
 /// What an instruction gives for the two values that it takes from the stack, `b` the upper: arithmetic, shifts, and
 /// the comparisons that aren't branches (ECMA-335 III.3). X2 where the instruction is none of these, X4 where it
 /// doesn't take such values, X6 for a division by zero, X7 where the result doesn't fit.
-#[tactic(auto, unfolding(crate::specs::Values::binary_of))]
+#[tactic(auto, unfolding(crate::specs::Values::binary_of, crate::specs::Instructions::on_two))]
 pub fn binary(op: Op, a: Value, b: Value) -> Result<Value, Trap>
     ensures { result ≡ on_two op a b }
 {
@@ -30,6 +30,7 @@ pub fn binary(op: Op, a: Value, b: Value) -> Result<Value, Trap>
 /// What an instruction gives for the value that it takes from the stack: the conversions to integers of a size,
 /// `neg` and `not` (ECMA-335 III.3). X2 where the instruction is none of these, X4 for a reference, X7 where a checked
 /// conversion's kind doesn't have the number.
+#[tactic(auto, unfolding(crate::specs::Instructions::on_one))]
 pub fn convert(op: Op, a: Value) -> Result<Value, Trap>
     ensures { result ≡ on_one op a }
 {

@@ -162,6 +162,7 @@ impl Objects {
     }
 
     /// What the object of a number is. None exactly where there is no such object.
+    #[tactic(auto, unfolding(crate::specs::Objects::shape_in, crate::specs::Objects::has_object))]
     pub fn shape(&self, id: u32) -> Option<Shape>
         ensures shape { result ≡ shape_in self.now id }
         ensures there { is_some result ≡ has_object self.now id }
@@ -171,6 +172,7 @@ impl Objects {
     }
 
     /// The value of an object's field, which is its kind's default where none was set.
+    #[tactic(auto, unfolding(crate::specs::Objects::field_in, crate::specs::Objects::fields_in, crate::specs::Objects::has_object))]
     pub fn get_field(&self, id: u32, field: Token, kind: Kind) -> Value
         requires { IsTrue (has_object self.now id) }
         ensures { result ≡ field_in self.now id field kind }
@@ -182,6 +184,7 @@ impl Objects {
     }
 
     /// Sets the value of an object's field, as it is. Without memory nothing changes.
+    #[tactic(auto, unfolding(crate::specs::Objects::with_field, crate::specs::Objects::has_object))]
     pub fn set_field(&mut self, id: u32, field: Token, value: Value) -> Result<(), AllocError>
         requires { IsTrue (has_object self.old id) }
         ensures ok { OnOk result (self.new ≡ with_field id field value self.old) }
@@ -192,6 +195,7 @@ impl Objects {
     }
 
     /// The value of a static field, which is its kind's default where none was set.
+    #[tactic(auto, unfolding(crate::specs::Objects::static_in))]
     pub fn get_static(&self, field: Token, kind: Kind) -> Value
         ensures { result ≡ static_in self.now field kind }
     {
@@ -202,6 +206,7 @@ impl Objects {
     }
 
     /// Sets the value of a static field, as it is. Without memory nothing changes.
+    #[tactic(auto, unfolding(crate::specs::Objects::with_static))]
     pub fn set_static(&mut self, field: Token, value: Value) -> Result<(), AllocError>
         ensures ok { OnOk result (self.new ≡ with_static field value self.old) }
         ensures err { OnErr result (self.new ≡ self.old) }
@@ -211,6 +216,7 @@ impl Objects {
 
     /// The element of an array at an index from 0. None exactly where there is no such object, it isn't an array, or
     /// it hasn't so many elements.
+    #[tactic(auto, unfolding(crate::specs::Objects::element_in))]
     pub fn element(&self, id: u32, i: u32) -> Option<Value>
         ensures { result ≡ element_in self.now id i }
     {
@@ -222,6 +228,7 @@ impl Objects {
 
     /// Sets the element of an array, as it is, and answers true. Where `element` gives None nothing changes, and it
     /// answers false.
+    #[tactic(auto, unfolding(crate::specs::Objects::element_in, crate::specs::Objects::with_element))]
     pub fn set_element(&mut self, id: u32, i: u32, value: Value) -> bool
         ensures there { result ≡ is_some (element_in self.old id i) }
         ensures set { self.new ≡ with_element id i value self.old }
@@ -236,6 +243,7 @@ impl Objects {
     }
 
     /// The UTF-16 units of a text. None exactly where there is no such object or it isn't a text.
+    #[tactic(auto, unfolding(crate::specs::Objects::units_held))]
     pub fn units(&self, id: u32) -> Option<&[u16]>
         ensures { option_map (λ u. u.now) result ≡ units_held self.now id }
     {
@@ -247,6 +255,7 @@ impl Objects {
 
     /// The i-th field of an object for which a value was set, and the value, from 0 in the order of tokens. None
     /// exactly where there are no more.
+    #[tactic(auto, unfolding(crate::specs::Objects::fields_in))]
     pub fn field_at(&self, id: u32, i: u32) -> Option<(Token, Value)>
         ensures field { result ≡ slice_get (fields_in self.now id) i }
         ensures ordered { IsStrictlySortedBy token_ordering (keys_of (fields_in self.now id)) }
