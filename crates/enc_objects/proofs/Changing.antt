@@ -1,17 +1,15 @@
 -- One object of a store is changed: it is what it was changed to, and every other is as it was.
-use Rattle.std.proofs.Common.{◌≡◌, ℕ, zero, suc, ◌-◌, Bool, true, false, cond, List, [], ◌∷◌, map, Option, Some, None, refl, sym, ap, ◌∙◌, arith}
+use Rattle.std.proofs.Common.{◌≡◌, ℕ, zero, suc, ◌-◌, Bool, true, false, cond, List, [], ◌∷◌, map, Option, Some, None, refl, ap, ◌∙◌, arith}
 use Rattle.std.specs.Prelude.{◌==◌, ◌&&◌, option_map, option_and_then, unwrap_or, is_some, slice_get, slice_set}
-use Rattle.std.specs.Ordering.{is_eq}
 use Rattle.enc_base.specs.Token.{is_token}
 use Rattle.enc_base.specs.declared.token.Token.{Token}
 use Rattle.enc_objects.specs.declared.value.Value.{Value}
-use Rattle.enc_objects.specs.declared.kind.Kind.{Kind}
 use Rattle.enc_objects.specs.declared.object.Object.{Object}
 use Rattle.enc_objects.specs.declared.object.Content.{Content}
 use Rattle.enc_objects.specs.declared.object.Content.TheVariants.{Instance, Array, Text}
-use Rattle.enc_objects.specs.Entries.{Entries, token_ordering, value_for, put_value}
+use Rattle.enc_objects.specs.Entries.{Entries, value_for, put_value}
 use Rattle.enc_objects.specs.Objects.{Store, object_at, has_object, fields_in, with_static, with_changed, with_field, with_field_of, with_element, with_element_of, array_elements, element_of, element_in}
-use Rattle.enc_objects.specs.Laws.{FieldsAreSet, OtherFieldsStay, StaticsAreSet, OtherStaticsStay, ElementsAreSet, OtherElementsStay, PartsStayApart, field_value}
+use Rattle.enc_objects.specs.Laws.{FieldsAreSet, OtherFieldsStay, StaticsAreSet, OtherStaticsStay, ElementsAreSet, OtherElementsStay, PartsStayApart}
 use Rattle.enc_objects.proofs.Placed.{found_after_put, same_in_order}
 
 same : {X : Type 0} → (z x : X) → Some z ≡ Some x → x ≡ z

@@ -1,7 +1,5 @@
 -- Numbers that are cut to kinds.
-use Rattle.std.proofs.Common.{◌≡◌, ℕ, Bool, true, ℤ, pos, negsuc, refl, arith}
-use Rattle.std.specs.Prelude.{IsTrue}
-use Rattle.enc_objects.specs.declared.kind.Kind.{Kind}
+use Rattle.std.proofs.Common.{pos, negsuc, refl, arith}
 use Rattle.enc_objects.specs.declared.kind.Kind.TheVariants as kind
 use Rattle.enc_objects.specs.Values.{cut, is_of}
 use Rattle.enc_objects.specs.Laws.{CutsAreOfKinds, NumbersOfKindsStay}

@@ -1,5 +1,5 @@
 -- Numbers that no kind has.
-use Rattle.std.proofs.Common.{◌≡◌, ℕ, ◌≤◌, ◌^◌, Err, pos, refl, arith}
+use Rattle.std.proofs.Common.{◌≡◌, ℕ, ◌≤◌, ◌^◌, Err, pos, arith}
 use Rattle.enc_objects.specs.declared.operation.Size.{Size}
 use Rattle.enc_objects.specs.declared.operation.Size.TheVariants.{Four, Eight}
 use Rattle.enc_objects.specs.declared.trap.Trap.TheVariants.{X7}

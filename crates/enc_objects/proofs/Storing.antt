@@ -1,5 +1,5 @@
 -- What one object more changes, and what an object that isn't there has.
-use Rattle.std.proofs.Common.{◌≡◌, ℕ, ◌+◌, ◌≤◌, Bool, false, List, [], ◌∷◌, ◌++◌, length, None, ap, ◌∙◌, length-append, arith}
+use Rattle.std.proofs.Common.{◌≡◌, ℕ, ◌+◌, ◌≤◌, false, List, [], ◌∷◌, ◌++◌, length, None, ap, ◌∙◌, length-append, arith}
 use Rattle.std.proofs.lemmas.List.Sums.{sum_by_push}
 use Rattle.std.specs.List.Sorted.{IsStrictlySortedBy}
 use Rattle.std.specs.Map.{keys_of}

@@ -1,5 +1,5 @@
 -- Values by token: a finite map, as the list of its entries in the order of tokens.
-use Rattle.std.specs.Prelude.{List, ◌∷◌, Option}
+use Rattle.std.specs.Prelude.{List, Option}
 use Rattle.std.specs.Map.{lookup}
 use Rattle.std.specs.BTreeMap.{insert_entry, is_at}
 use Rattle.std.specs.Ordering.{nat_cmp, ordering_then}

@@ -1,5 +1,5 @@
 -- Which instructions work on values alone (ECMA-335 III.1.2.1, III.3).
-use Rattle.std.specs.Prelude.{ℕ, ◌-◌, Bool, true, false, List, [], ◌∷◌, Option, Some, None, Result, Ok, Err, slice_get, nat_le, if◌then◌else◌}
+use Rattle.std.specs.Prelude.{ℕ, ◌-◌, Bool, true, false, List, [], ◌∷◌, Option, Some, None, Result, Err, slice_get, nat_le, if◌then◌else◌}
 use Rattle.enc_base.specs.Order.{or_else}
 use Rattle.enc_opcodes.specs.declared.op.Op.{Op}
 use Rattle.enc_opcodes.specs.declared.op.Operand.{Operand}

@@ -12,7 +12,7 @@ use Rattle.enc_objects.specs.declared.operation.Unary.{Unary}
 use Rattle.enc_objects.specs.Values.{cut, is_of}
 use Rattle.enc_objects.specs.Instructions.{from_add, from_add_ovf, from_ceq, from_neg, from_conv_u4, from_conv_ovf_i1_un, from_conv_ovf_i1, from_conv_u2, binary_in, unary_in}
 use Rattle.enc_objects.specs.Entries.{value_for}
-use Rattle.enc_objects.specs.Objects.{Store, has_object, fields_in, with_field, with_static, element_in, with_element, with_changed}
+use Rattle.enc_objects.specs.Objects.{Store, has_object, fields_in, with_field, with_static, element_in, with_element}
 
 -- whether a kind is one of integers
 abbrev pub is_integer : Kind → Bool

@@ -1,10 +1,6 @@
 -- The store of objects: what each is, the values set for fields and statics (ECMA-335 I.8, I.12.1).
 use Rattle.std.specs.Prelude.{ℕ, zero, suc, ◌+◌, ◌-◌, Bool, ◌||◌, List, [], ◌∷◌, ◌++◌, length, Option, Some, None, option_map, option_and_then, unwrap_or, is_some, slice_get, slice_set, replicate, nat_le, nat_lt}
 use Rattle.std.specs.List.{sum_by}
-use Rattle.std.specs.Map.{lookup}
-use Rattle.std.specs.BTreeMap.{insert_entry, is_at}
-use Rattle.std.specs.Ordering.{nat_cmp, ordering_then}
-use Rattle.std.specs.declared.cmp.Ordering.{Ordering}
 use Rattle.enc_base.specs.declared.token.Token.{Token}
 use Rattle.enc_objects.specs.declared.value.Value.{Value}
 use Rattle.enc_objects.specs.declared.kind.Kind.{Kind}

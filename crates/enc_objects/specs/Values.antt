@@ -1,5 +1,5 @@
 -- The integers of the interpreter as numbers, and what operations on values give (ECMA-335 III.1.1, III.1.5, III.3).
-use Rattle.std.specs.Prelude.{ℕ, ◌+◌, ◌*◌, ◌/◌, ◌%◌, ◌^◌, ℤ, pos, negsuc, ◌+ℤ◌, ◌-ℤ◌, ◌*ℤ◌, neg_ℤ, Bool, true, false, ◌&&◌, Option, Some, None, Result, Ok, Err, nat_lt, ◌==◌, bit_and, bit_or, bit_xor, unsigned_abs, int_lt, int_le, int_div, int_rem, if◌then◌else◌}
+use Rattle.std.specs.Prelude.{ℕ, ◌+◌, ◌/◌, ◌%◌, ◌^◌, ℤ, pos, negsuc, ◌+ℤ◌, ◌-ℤ◌, ◌*ℤ◌, neg_ℤ, Bool, true, false, ◌&&◌, Result, Ok, Err, nat_lt, ◌==◌, bit_and, bit_or, bit_xor, unsigned_abs, int_lt, int_le, int_div, int_rem, if◌then◌else◌}
 use Rattle.std.specs.Ordering.{int_eq}
 use Rattle.std.specs.Int.{w8, w16, w32, w64, cast_signed, int_rem_euclid, int_shr}
 use Rattle.enc_objects.specs.declared.value.Value.{Value}
@@ -7,7 +7,7 @@ use Rattle.enc_objects.specs.declared.value.Value.TheVariants.{I4, I8, Null, Obj
 use Rattle.enc_objects.specs.declared.kind.Kind.{Kind}
 use Rattle.enc_objects.specs.declared.kind.Kind.TheVariants as kind
 use Rattle.enc_objects.specs.declared.trap.Trap.{Trap}
-use Rattle.enc_objects.specs.declared.trap.Trap.TheVariants.{X2, X4, X6, X7}
+use Rattle.enc_objects.specs.declared.trap.Trap.TheVariants.{X4, X6, X7}
 use Rattle.enc_objects.specs.declared.operation.Size.{Size}
 use Rattle.enc_objects.specs.declared.operation.Size.TheVariants.{Four, Eight}
 use Rattle.enc_objects.specs.declared.operation.Arithmetic.{Arithmetic}
@@ -25,7 +25,7 @@ use Rattle.enc_objects.specs.declared.operation.Unary.TheVariants as unary
 abbrev pub modulo : ℕ → ℤ → ℕ
 modulo n z = unsigned_abs (int_rem_euclid z (pos (2 ^ n)))
 
--- the number of a kind that is equal to z modulo 2 to the kind's bits (III.1.1.1)
+-- the number of a kind that has the low bits of z (III.1.1.1)
 unfoldable pub cut : Kind → ℤ → ℤ
 cut kind.I1 z = cast_signed w8 (modulo 8 z)
 cut kind.U1 z = pos (modulo 8 z)
@@ -177,7 +177,7 @@ read_as kind.I8 s x = x
 read_as kind.U8 s x = pos (without_sign s x)
 read_as kind.Ref s x = x
 
--- what an operation gives for an integer (III.3.19, III.3.27, III.3.50, III.3.51)
+-- what an operation gives for an integer (III.3.27 to III.3.29, III.3.50, III.3.52)
 unfoldable pub unary_on : Unary → Size → ℤ → Result Value Trap
 unary_on unary.Neg s x = Ok (held (signed_kind s) (neg_ℤ x))
 unary_on unary.Not s x = Ok (held (signed_kind s) (neg_ℤ x -ℤ pos 1))

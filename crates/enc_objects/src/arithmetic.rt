@@ -1,5 +1,5 @@
 //! Sums, differences, products, quotients and bits of two integers (ECMA-335 III.3).
-ghost use Rattle.std.specs.Prelude.{◌≡◌, ◌*◌, ◌/◌, ◌%◌, ◌≢◌, ℤ, pos, ◌+ℤ◌, ◌-ℤ◌, ◌*ℤ◌, int_div, int_rem, bit_and, bit_or, bit_xor};
+ghost use Rattle.std.specs.Prelude.{◌≡◌, ◌/◌, ◌%◌, ◌≢◌, pos, ◌+ℤ◌, ◌-ℤ◌, ◌*ℤ◌, int_div, int_rem};
 ghost use Rattle.enc_objects.specs.Values.{unsigned_kind, divided as divided_as, divided_unsigned, checked as checked_as, calculated as calculated_as, binary_of};
 ghost use Rattle.enc_objects.specs.declared.operation.Binary.TheVariants.{Calculates};
 

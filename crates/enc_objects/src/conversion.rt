@@ -1,5 +1,5 @@
-//! Negation, complement and conversions of an integer (ECMA-335 III.3.19, III.3.27, III.3.50, III.3.51).
-ghost use Rattle.std.specs.Prelude.{◌≡◌, ℤ, pos, neg_ℤ, ◌-ℤ◌};
+//! Negation, complement and conversions of an integer (ECMA-335 III.3.27 to III.3.29, III.3.50, III.3.52).
+ghost use Rattle.std.specs.Prelude.{◌≡◌, pos, neg_ℤ, ◌-ℤ◌};
 ghost use Rattle.enc_objects.specs.Values.{read_as as number_read_as, unary_on, unary_of};
 
 use crate::kind::Kind;

@@ -2,7 +2,7 @@
 
 use crate::kind::Kind;
 
-/// How many bits an integer on the stack has: 32 or 64.
+/// How many bytes an integer on the stack has (ECMA-335 III.1.1.1).
 #[derive(Clone, Copy, Debug, PartialEq, Eq)]
 pub(crate) enum Size {
     Four,
@@ -56,7 +56,7 @@ pub(crate) enum Binary {
     Compares(Comparison),
 }
 
-/// On one value (ECMA-335 III.1.5, tables 3 and 8).
+/// On one value (ECMA-335 III.1.5, tables 3, 5 and 8).
 #[derive(Clone, Copy, Debug, PartialEq, Eq)]
 pub(crate) enum Unary {
     Neg,

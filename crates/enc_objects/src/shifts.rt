@@ -1,6 +1,5 @@
 //! Integers whose bits are moved (ECMA-335 III.3.58 to III.3.60).
-ghost use Rattle.std.specs.Prelude.{◌≡◌, ◌<◌, ◌*ℤ◌, ◌/◌, ◌^◌, ℤ, pos};
-ghost use Rattle.std.specs.Int.{int_shr};
+ghost use Rattle.std.specs.Prelude.{◌≡◌, ◌<◌, ◌*ℤ◌, ◌^◌, pos};
 ghost use Rattle.enc_objects.specs.Values.{shifted as shifted_as, binary_of};
 ghost use Rattle.enc_objects.specs.declared.operation.Binary.TheVariants.{Shifts};
 

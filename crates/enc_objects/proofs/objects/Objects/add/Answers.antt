@@ -1,4 +1,4 @@
-use Rattle.std.proofs.Common.{◌≡◌, arith}
+use Rattle.std.proofs.Common.{arith}
 use Rattle.enc_objects.proofs.Storing.{one_more, parts_more, one_more_fits, more_parts_fit}
 use Rattle.enc_objects.proofs.objects.Objects.add.Goals as goal
 

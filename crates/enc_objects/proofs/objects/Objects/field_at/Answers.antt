@@ -1,4 +1,4 @@
-use Rattle.std.proofs.Common.{◌≡◌, arith}
+use Rattle.std.proofs.Common.{arith}
 use Rattle.enc_objects.proofs.Storing.{none_in_order}
 use Rattle.enc_objects.proofs.objects.Objects.field_at.Goals as goal
 
