@@ -1,5 +1,5 @@
 -- One object of a store is changed: it is what it was changed to, and every other is as it was.
-use Rattle.std.proofs.Common.{◌≡◌, ℕ, zero, suc, ◌-◌, Bool, true, false, cond, List, [], ◌∷◌, map, Option, Some, None, refl, ap, ◌∙◌, arith}
+use Rattle.std.proofs.Common.{◌≡◌, ℕ, zero, suc, ◌+◌, ◌-◌, Bool, true, false, cond, List, [], ◌∷◌, ◌++◌, length, map, Option, Some, None, refl, ap, ◌∙◌, arith}
 use Rattle.std.specs.Prelude.{◌==◌, ◌&&◌, option_map, option_and_then, unwrap_or, is_some, slice_get, slice_set}
 use Rattle.enc_base.specs.Token.{is_token}
 use Rattle.enc_base.specs.declared.token.Token.{Token}
@@ -8,8 +8,8 @@ use Rattle.enc_objects.specs.declared.object.Object.{Object}
 use Rattle.enc_objects.specs.declared.object.Content.{Content}
 use Rattle.enc_objects.specs.declared.object.Content.TheVariants.{Instance, Array, Text}
 use Rattle.enc_objects.specs.Entries.{Entries, value_for, put_value}
-use Rattle.enc_objects.specs.Objects.{Store, object_at, has_object, fields_in, with_static, with_changed, with_field, with_field_of, with_element, with_element_of, array_elements, element_of, element_in}
-use Rattle.enc_objects.specs.Laws.{FieldsAreSet, OtherFieldsStay, StaticsAreSet, OtherStaticsStay, ElementsAreSet, OtherElementsStay, PartsStayApart}
+use Rattle.enc_objects.specs.Objects.{Store, object_at, has_object, with_object, next_object, fields_in, with_static, with_changed, with_field, with_field_of, with_element, with_element_of, array_elements, element_of, element_in}
+use Rattle.enc_objects.specs.Laws.{FieldsAreSet, OtherFieldsStay, StaticsAreSet, OtherStaticsStay, ElementsAreSet, OtherElementsStay, PartsStayApart, NewObjectsAreThere, OldObjectsStay, ObjectsStayThere}
 use Rattle.enc_objects.proofs.Placed.{found_after_put, same_in_order}
 
 same : {X : Type 0} → (z x : X) → Some z ≡ Some x → x ≡ z
@@ -171,3 +171,41 @@ parts_stay_apart s id field value i = (
   change_keeps (λ (o : Object). o.fields) s id (with_element_of i value) (λ x. refl),
   change_keeps_statics s id (with_element_of i value),
 )
+
+-- an object before one more, and that one
+before_more : {X : Type 0} → (xs : List X) (y : X) (i : ℕ) → is_some (slice_get xs i) ≡ true → slice_get (xs ++ y ∷ []) i ≡ slice_get xs i
+before_more [] y i h = absurd cc
+before_more (x ∷ xs) y zero h = refl
+before_more (x ∷ xs) y (suc i) h = before_more xs y i h
+
+last_of_more : {X : Type 0} → (xs : List X) (y : X) → slice_get (xs ++ y ∷ []) (length xs) ≡ Some y
+last_of_more [] y = refl
+last_of_more (x ∷ xs) y = last_of_more xs y
+
+at_suc : (s : Store) (n i : ℕ) → n ≡ i + 1 → object_at s n ≡ slice_get s.objects i
+at_suc s zero i e = absurd (omega (arith, e))
+at_suc s (suc n) i e = ap (slice_get s.objects) (omega (arith, e))
+
+pub new_objects_are_there : NewObjectsAreThere
+new_objects_are_there s c = at_suc (with_object c s) (next_object s) (length s.objects) refl ∙ last_of_more s.objects (record { content = c; fields = [] })
+
+pub old_objects_stay : OldObjectsStay
+unfolding has_object
+old_objects_stay s c zero there = refl
+old_objects_stay s c (suc i) there = before_more s.objects (record { content = c; fields = [] }) i there
+
+pub stays_there : (s : Store) (id other : ℕ) (f : Object → Object) → is_some (object_at (with_changed id f s) other) ≡ is_some (object_at s other)
+stays_there s id other f = by (other == id) refl
+  where
+    here : (o : Option Object) → is_some (option_map f o) ≡ is_some o
+    here None = refl
+    here (Some x) = refl
+    at : (k : ℕ) → k ≡ id → is_some (object_at (with_changed id f s) k) ≡ is_some (object_at s k)
+    at k e = rw e (ap (λ (o : Option Object). is_some o) (changed_here s id f) ∙ here (object_at s id))
+    by : (b : Bool) → (other == id) ≡ b → is_some (object_at (with_changed id f s) other) ≡ is_some (object_at s other)
+    by false e = ap (λ (o : Option Object). is_some o) (changed_apart s id other f e)
+    by true e = at other (grind (arith, e))
+
+pub objects_stay_there : ObjectsStayThere
+unfolding has_object with_field with_element
+objects_stay_there s id other field value i = (stays_there s id other (with_field_of field value), stays_there s id other (with_element_of i value))

@@ -7,12 +7,13 @@ use Rattle.enc_objects.specs.declared.value.Value.{Value}
 use Rattle.enc_objects.specs.declared.kind.Kind.{Kind}
 use Rattle.enc_objects.specs.declared.kind.Kind.TheVariants as kind
 use Rattle.enc_objects.specs.declared.object.Object.{Object}
+use Rattle.enc_objects.specs.declared.object.Content.{Content}
 use Rattle.enc_objects.specs.declared.operation.Binary.{Binary}
 use Rattle.enc_objects.specs.declared.operation.Unary.{Unary}
 use Rattle.enc_objects.specs.Values.{cut, is_of}
 use Rattle.enc_objects.specs.Instructions.{from_add, from_add_ovf, from_ceq, from_neg, from_conv_u4, from_conv_ovf_i1_un, from_conv_ovf_i1, from_conv_u2, binary_in, unary_in}
 use Rattle.enc_objects.specs.Entries.{value_for}
-use Rattle.enc_objects.specs.Objects.{Store, has_object, fields_in, with_field, with_static, element_in, with_element}
+use Rattle.enc_objects.specs.Objects.{Store, object_at, has_object, with_object, next_object, fields_in, with_field, with_static, element_in, with_element}
 
 -- whether a kind is one of integers
 abbrev pub is_integer : Kind → Bool
@@ -95,3 +96,15 @@ PartsStayApart = (s : Store) (id : ℕ) (field : Token) (value : Value) (i : ℕ
     × ((with_field id field value s).statics ≡ s.statics)
     × (map (λ (o : Object). o.fields) (with_element id i value s).objects ≡ map (λ (o : Object). o.fields) s.objects)
     × ((with_element id i value s).statics ≡ s.statics)
+
+-- a new object is there, has its content and no field, and every object before it is as it was
+abbrev pub NewObjectsAreThere : Type 0
+NewObjectsAreThere = (s : Store) (c : Content) → object_at (with_object c s) (next_object s) ≡ Some (record { content = c; fields = [] })
+
+abbrev pub OldObjectsStay : Type 0
+OldObjectsStay = (s : Store) (c : Content) (id : ℕ) → IsTrue (has_object s id) → object_at (with_object c s) id ≡ object_at s id
+
+-- the same objects are there after a value is set
+abbrev pub ObjectsStayThere : Type 0
+ObjectsStayThere = (s : Store) (id other : ℕ) (field : Token) (value : Value) (i : ℕ)
+    → (has_object (with_field id field value s) other ≡ has_object s other) × (has_object (with_element id i value s) other ≡ has_object s other)
