@@ -200,8 +200,10 @@ stays_there s id other f = by (other == id) refl
     here : (o : Option Object) → is_some (option_map f o) ≡ is_some o
     here None = refl
     here (Some x) = refl
+
     at : (k : ℕ) → k ≡ id → is_some (object_at (with_changed id f s) k) ≡ is_some (object_at s k)
     at k e = rw e (ap (λ (o : Option Object). is_some o) (changed_here s id f) ∙ here (object_at s id))
+
     by : (b : Bool) → (other == id) ≡ b → is_some (object_at (with_changed id f s) other) ≡ is_some (object_at s other)
     by false e = ap (λ (o : Option Object). is_some o) (changed_apart s id other f e)
     by true e = at other (grind (arith, e))
