@@ -10,7 +10,7 @@ use Rattle.enc_schema.specs.declared.column.Column.TheVariants.{Num8, Num16, Num
 use Rattle.enc_edits.specs.declared.edit.CellValue.{CellValue}
 use Rattle.enc_edits.specs.declared.edit.CellValue.TheVariants as cell
 use Rattle.enc_edits.specs.Form.{cell_fits, cells_fit}
-use Rattle.enc_jobs.specs.Json.{number_said, word_said, hex_said, token_said, guid_said}
+use Rattle.enc_jobs.specs.Json.{number_said, hex_said, token_said, guid_said}
 use Rattle.enc_jobs.specs.Cell.{text_cell_said, cell_said, cells_said}
 use Rattle.enc_jobs.proofs.Inverse.{map_some, then_some, if_some, unless_some, both_true, first_some}
 

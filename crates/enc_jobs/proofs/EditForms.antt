@@ -1,5 +1,5 @@
 -- Edits that are read are of the form.
-use Rattle.std.proofs.Common.{◌≡◌, ℕ, ◌<◌, arith, List, [], ◌∷◌, inl, inr, Option, Some, None, Result, Ok, Err, Bool, true, false, ◌&&◌, ◌||◌, Ordering, Less, Equal, Greater, refl, sym, ◌∙◌}
+use Rattle.std.proofs.Common.{◌≡◌, ℕ, ◌<◌, arith, List, [], ◌∷◌, inl, inr, Option, Some, None, Result, Ok, Err, Bool, true, false, ◌&&◌, Ordering, Less, Equal, Greater, refl, sym, ◌∙◌}
 use Rattle.std.specs.Prelude.{◌%◌, nat_lt, option_map, MatchOption, IfOk, ok_or, option_and_then, if◌then◌else◌, slice_get, bytes_eq, codes, is_some, ◌==◌}
 use Rattle.std.specs.List.{list_all}
 use Rattle.std.specs.Ordering.{nat_cmp, match_ordering}
@@ -88,7 +88,7 @@ unfolding points_from
 no_points [] ps h = cc
 no_points (d ∷ ds) ps h = let w = then_some (point_said [] 1 d) _ ps h in absurd (false≢true (no_point 1 d w.0 w.1))
 
-no_points_if : (o : Option Data) (ps : List Point) → points_said [] o ≡ Some ps → ps ≡ []
+pub no_points_if : (o : Option Data) (ps : List Point) → points_said [] o ≡ Some ps → ps ≡ []
 unfolding points_said
 no_points_if None ps h = cc
 no_points_if (Some d) ps h = let w = then_some (elements_of d) (points_from [] 1) ps h in no_points w.0 ps w.2
@@ -190,37 +190,41 @@ edit_has known d e h =
     let kind = then_some (option_and_then as_str (get (codes "do") d)) (edit_of_kind d) e h in
     kind_has known d kind.0 e kind.2
 
-edit_by : NamedAreFound → (n : ℕ) (o : Option Edit) (r : Result (List Edit) JobFault) (es : List Edit) → ((e : Edit) → o ≡ Some e → edit_fits e ≡ true) → ((rest : List Edit) → r ≡ Ok rest → list_all edit_fits rest ≡ true) → with_edit n o r ≡ Ok es → list_all edit_fits es ≡ true
-edit_by known n None r es first later h = absurd (cc)
-edit_by known n (Some e) (Ok rest) es first later h = let q : e ∷ rest ≡ es = cc in rw (← q) (both_true (edit_fits e) (list_all edit_fits rest) (first e refl) (later rest refl))
-edit_by known n (Some e) (Err fault) es first later h = absurd (cc)
+-- what each edit that is read has, all edits of a list have
+edit_by : (q : Edit → Bool) (n : ℕ) (o : Option Edit) (r : Result (List Edit) JobFault) (es : List Edit) → ((e : Edit) → o ≡ Some e → q e ≡ true) → ((rest : List Edit) → r ≡ Ok rest → list_all q rest ≡ true) → with_edit n o r ≡ Ok es → list_all q es ≡ true
+edit_by q n None r es first later h = absurd (cc)
+edit_by q n (Some e) (Ok rest) es first later h = let is : e ∷ rest ≡ es = cc in rw (← is) (both_true (q e) (list_all q rest) (first e refl) (later rest refl))
+edit_by q n (Some e) (Err fault) es first later h = absurd (cc)
 
-edits_have : NamedAreFound → (n : ℕ) (ds : List Data) (es : List Edit) → edits_from n ds ≡ Ok es → list_all edit_fits es ≡ true
+edits_have : (q : Edit → Bool) → ((d : Data) (e : Edit) → edit_said d ≡ Some e → q e ≡ true) → (n : ℕ) (ds : List Data) (es : List Edit) → edits_from n ds ≡ Ok es → list_all q es ≡ true
 unfolding edits_from
-edits_have known n [] es h = let q : [] ≡ es = cc in rw (← q) refl
-edits_have known n (d ∷ ds) es h = edit_by known n (edit_said d) (edits_from (next_number n) ds) es (λ e is. edit_has known d e is) (λ rest is. edits_have known (next_number n) ds rest is) h
+edits_have q each n [] es h = let is : [] ≡ es = cc in rw (← is) refl
+edits_have q each n (d ∷ ds) es h = edit_by q n (edit_said d) (edits_from (next_number n) ds) es (each d) (λ rest is. edits_have q each (next_number n) ds rest is) h
 
-head_by : NamedAreFound → (head : Head) (items : List Data) (r : Result (List Edit) JobFault) (list : EditList) → edits_from 1 items ≡ r → with_head head r ≡ Ok list → list_fits list ≡ true
-unfolding list_fits
-head_by known head items (Ok edits) list is h =
-    let q : record { enc_id = head.enc_id; edits = edits; documents = head.documents } ≡ list = cc in
-    rw (← q) (edits_have known 1 items edits is)
-head_by known head items (Err fault) list is h = absurd (cc)
+head_by : (q : Edit → Bool) → ((d : Data) (e : Edit) → edit_said d ≡ Some e → q e ≡ true) → (head : Head) (items : List Data) (r : Result (List Edit) JobFault) (list : EditList) → edits_from 1 items ≡ r → with_head head r ≡ Ok list → list_all q list.edits ≡ true
+head_by q each head items (Ok edits) list is h =
+    let same : record { enc_id = head.enc_id; edits = edits; documents = head.documents } ≡ list = cc in
+    rw (← same) (edits_have q each 1 items edits is)
+head_by q each head items (Err fault) list is h = absurd (cc)
 
-items_by : NamedAreFound → (head : Option Head) (items : Option (List Data)) (list : EditList) → with_items head items ≡ Ok list → list_fits list ≡ true
-items_by known (Some head) (Some items) list h = head_by known head items (edits_from 1 items) list refl h
-items_by known (Some head) None list h = absurd (cc)
-items_by known None (Some items) list h = absurd (cc)
-items_by known None None list h = absurd (cc)
+items_by : (q : Edit → Bool) → ((d : Data) (e : Edit) → edit_said d ≡ Some e → q e ≡ true) → (head : Option Head) (items : Option (List Data)) (list : EditList) → with_items head items ≡ Ok list → list_all q list.edits ≡ true
+items_by q each (Some head) (Some items) list h = head_by q each head items (edits_from 1 items) list refl h
+items_by q each (Some head) None list h = absurd (cc)
+items_by q each None (Some items) list h = absurd (cc)
+items_by q each None None list h = absurd (cc)
 
-value_by : NamedAreFound → (o : Option Data) (list : EditList) → list_of_value o ≡ Ok list → list_fits list ≡ true
+value_by : (q : Edit → Bool) → ((d : Data) (e : Edit) → edit_said d ≡ Some e → q e ≡ true) → (o : Option Data) (list : EditList) → list_of_value o ≡ Ok list → list_all q list.edits ≡ true
 unfolding list_said
-value_by known None list h = absurd (cc)
-value_by known (Some d) list h = items_by known (head_said d) (option_and_then elements_of (get (codes "edits") d)) list h
+value_by q each None list h = absurd (cc)
+value_by q each (Some d) list h = items_by q each (head_said d) (option_and_then elements_of (get (codes "edits") d)) list h
+
+pub said_have : (q : Edit → Bool) → ((d : Data) (e : Edit) → edit_said d ≡ Some e → q e ≡ true) → (text : List ℕ) (list : EditList) → edits_said text ≡ Ok list → list_all q list.edits ≡ true
+unfolding edits_said
+said_have q each text list h = value_by q each (json_value text) list h
 
 pub said_fits : NamedAreFound → SaidFits
-unfolding edits_said
-said_fits known text list h = value_by known (json_value text) list h
+unfolding list_fits
+said_fits known text list h = said_have edit_fits (edit_has known) text list h
 
 ok_is : (o : Option Data) (d : Data) → ok_or o J1 ≡ Ok d → o ≡ Some d
 ok_is None d h = absurd (cc)

@@ -10,3 +10,15 @@ pub mod CellForms
 pub mod CodeForms
 pub mod EditForms
 pub mod Standing
+pub mod PointForms
+pub mod Turning
+pub mod NamesApart
+pub mod Acts
+pub mod ActsAdded
+pub mod Ready
+pub mod Obeys
+pub mod Applied
+pub mod BaseActs
+pub mod ListActs
+pub mod Cases
+pub mod GeneratedPoints

@@ -22,7 +22,7 @@ pub places_front : (at : ℕ) (x : InstrValue) (rest : List InstrValue) → plac
 unfolding placed
 places_front at x rest = refl
 
-places_none : (at : ℕ) → places at [] ≡ []
+pub places_none : (at : ℕ) → places at [] ≡ []
 unfolding placed
 places_none at = refl
 

@@ -1,5 +1,5 @@
 -- What every list that is read has.
-use Rattle.std.specs.Prelude.{◌≡◌, ℕ, ◌==◌, List, Bool, true, Some, Ok}
+use Rattle.std.specs.Prelude.{◌≡◌, ℕ, ◌≤◌, ◌==◌, List, Bool, true, Some, Ok, slice_get, take}
 use Rattle.std.specs.List.{list_all, list_any}
 use Rattle.serde_json.specs.Data.{Data}
 use Rattle.enc_edits.specs.declared.body.ArgValue.{ArgValue}
@@ -7,13 +7,20 @@ use Rattle.enc_edits.specs.declared.body.ArgValue.TheVariants as arg
 use Rattle.enc_edits.specs.declared.body.InstrValue.{InstrValue}
 use Rattle.enc_edits.specs.declared.edit.EditList.{EditList}
 use Rattle.enc_edits.specs.Form.{list_fits}
+use Rattle.enc_pdb_delta.specs.Stated.{points_lie_within}
+use Rattle.enc_edited.specs.Applied.{MayApply}
 use Rattle.enc_jobs.specs.declared.code.Code.{Code}
 use Rattle.enc_jobs.specs.Code.{offsets_of, code_said}
 use Rattle.enc_jobs.specs.Edits.{edits_said}
+use Rattle.enc_jobs.specs.Generated.{generated_base, generated_lists, edited_by}
 
 -- a list that a text says is of the form
 abbrev pub SaidFits : Type 0
 SaidFits = (text : List ℕ) (list : EditList) → edits_said text ≡ Ok list → list_fits list ≡ true
+
+-- each sequence point of a list that a text says stands in the code of its body
+abbrev pub PointsLie : Type 0
+PointsLie = (text : List ℕ) (list : EditList) → edits_said text ≡ Ok list → list_all points_lie_within list.edits ≡ true
 
 -- the instructions that are read stand where their targets were looked for
 abbrev pub StandsAsRead : Type 0
@@ -32,3 +39,16 @@ targets_begin starts _ = true
 -- and so it is of each instruction that is read
 abbrev pub TargetsBegin : Type 0
 TargetsBegin = (d : Data) (c : Code) → code_said d ≡ Some c → list_all (λ (i : InstrValue). targets_begin c.offsets.starts i.arg) c.instrs ≡ true
+
+-- each list of a case is of the form
+abbrev pub GeneratedFits : Type 0
+GeneratedFits = (start count j : ℕ) (l : EditList) → count ≤ 64 → slice_get (generated_lists start count) j ≡ Some l → list_fits l ≡ true
+
+-- each of its points stands in the code of its body
+abbrev pub GeneratedLie : Type 0
+GeneratedLie = (start count j : ℕ) (l : EditList) → slice_get (generated_lists start count) j ≡ Some l → list_all points_lie_within l.edits ≡ true
+
+-- and it may be applied to the module that stands before it
+abbrev pub GeneratedMayApply : Type 0
+GeneratedMayApply = (start count j : ℕ) (l : EditList) → count ≤ 64 → slice_get (generated_lists start count) j ≡ Some l
+    → MayApply (edited_by generated_base (take j (generated_lists start count))) l

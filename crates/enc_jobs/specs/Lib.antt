@@ -9,3 +9,5 @@ pub mod Points
 pub mod Body
 pub mod Edits
 pub mod Laws
+pub mod Generated
+pub mod Drawn

@@ -1,5 +1,5 @@
-//! What every list that is read has, each as the contract of a function that does nothing.
-ghost use Rattle.enc_jobs.specs.Laws.{SaidFits, StandsAsRead, TargetsBegin};
+//! What every list that is read or drawn has, each as the contract of a function that does nothing.
+ghost use Rattle.enc_jobs.specs.Laws.{SaidFits, PointsLie, StandsAsRead, TargetsBegin, GeneratedFits, GeneratedLie, GeneratedMayApply};
 
 use enc_opcodes::name_laws;
 
@@ -10,9 +10,22 @@ pub fn form_law()
     name_laws();
 }
 
+/// Each sequence point of a list that a text says stands in the code of its body.
+pub fn points_law()
+    ensures { PointsLie }
+{}
+
 /// The instructions of a body that is read stand where their targets were looked for, so each target is
 /// the offset at which an instruction begins.
 pub fn target_laws()
     ensures stand { StandsAsRead }
     ensures begin { TargetsBegin }
+{}
+
+/// Each list of a case is of the form and has no points, and may be applied to the module that stands before it: the
+/// base with the lists before it made directly, one after the other.
+pub fn generated_laws()
+    ensures fit { GeneratedFits }
+    ensures points { GeneratedLie }
+    ensures apply { GeneratedMayApply }
 {}

@@ -1,4 +1,4 @@
-//! Edit lists as JSON.
+//! Edit lists as JSON, and drawn from a number.
 #![tactic(auto)]
 
 mod body;
@@ -7,6 +7,7 @@ mod clause;
 mod code;
 mod edit;
 mod fault;
+mod generate;
 mod instr;
 mod laws;
 mod list;
@@ -14,5 +15,6 @@ mod point;
 mod value;
 
 pub use fault::JobFault;
-pub use laws::{form_law, target_laws};
+pub use generate::{Case, EditLists, make_case};
+pub use laws::{form_law, generated_laws, points_law, target_laws};
 pub use list::read_edits;

@@ -1,12 +1,14 @@
 //! Edit lists.
 ghost use Rattle.std.specs.Prelude.{◌≡◌, List, [], map, option_and_then, ok_or, codes, true, IfOk};
 ghost use Rattle.std.specs.Borrow.{Bor};
+ghost use Rattle.std.specs.List.{list_all};
 ghost use Rattle.std.specs.Result.{result_map_both};
 ghost use Rattle.serde_json.specs.Find.{get};
 ghost use Rattle.serde_json.specs.View.{view};
 ghost use Rattle.serde_json.specs.declared.value.Value.{Value as TheValue};
 ghost use Rattle.enc_jobs.specs.declared.fault.JobFault.TheVariants.{J1};
 ghost use Rattle.enc_edits.specs.Form.{list_fits};
+ghost use Rattle.enc_pdb_delta.specs.Stated.{points_lie_within};
 ghost use Rattle.enc_jobs.specs.Outcome.{ReadsAs, GivesList, fault_of_element};
 ghost use Rattle.enc_jobs.specs.Json.{at_key_or, elements_of};
 ghost use Rattle.enc_jobs.specs.Lists.{every};
@@ -14,7 +16,7 @@ ghost use Rattle.enc_jobs.specs.Edits.{document_said, documents_said, head_said,
 
 use crate::edit::one_edit;
 use crate::fault::{JobFault, Refused};
-use crate::laws::form_law;
+use crate::laws::{form_law, points_law};
 use crate::value::{at_key, bytes_of, elements, guid, has_only, text};
 use enc_edits::{DocumentValue, Documents, EditList, Edits};
 use serde_json::Value;
@@ -167,8 +169,10 @@ fn parsed(alloc: Global, text: &[u8]) -> Result<Value, JobFault>
 pub fn read_edits(alloc: Global, text: &[u8]) -> Result<EditList, JobFault>
     ensures said { GivesList result (edits_said text.now) }
     ensures fits { IfOk result (λ l. list_fits l ≡ true) }
+    ensures points { IfOk result (λ l. list_all points_lie_within l.edits ≡ true) }
 {
     form_law();
+    points_law();
     let value = parsed(alloc, text)?;
     list_of(alloc, &value)
 }

@@ -1,5 +1,8 @@
-//! What the crate of edit lists' rules answers, asked by its public call: values from outside.
+//! What the crates of edit lists' rules and of newest bodies answer, asked by their public calls: values
+//! from outside.
 #![tactic(auto)]
 
 #[cfg(test)]
 mod rules;
+#[cfg(test)]
+mod versions;

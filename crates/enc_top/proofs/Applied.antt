@@ -9,19 +9,19 @@ use Rattle.enc_rewriter.specs.declared.fault.RewriteFault.TheVariants.{Memory, T
 use Rattle.enc_top.specs.Lines.{saved_line}
 use Rattle.enc_top.specs.Plans.{saves_of, IsPlanOf}
 use Rattle.enc_top.specs.Stops.{OnPlan, IsUnwritten}
-use Rattle.enc_top.specs.Verdict.{◌>>=◌, dll, pdb, Followed, plain_of, debug_after, applies, Verdict, limit_told, file_past, past_limit, unless_past, write_on}
+use Rattle.enc_top.specs.Verdict.{◌>>=◌, dll, pdb, Followed, plain_of, debug_after, applies, Verdict, limit_told, file_past, past_limit, unless_past, rewrite_on}
 use Rattle.enc_top.specs.Verdict.{can_be_written}
 use Rattle.enc_top.specs.declared.plan.Plan.{Plan}
 use Rattle.enc_top.specs.declared.plan.Outcome.TheVariants.{Accepted}
 use Rattle.enc_top.specs.declared.stop.Stop.{Stop as Halt}
 
 -- what is written, by the limit that is passed
-write_by : (out : List ℕ) (f : Followed) (o : Option Passed) → rewrite_limit (plain_of f) (debug_after f) ≡ o → write_on out f ≡ (unless_past out f o >>= λ (g : Followed). Ok (applies out g))
+write_by : (out : List ℕ) (f : Followed) (o : Option Passed) → rewrite_limit (plain_of f) (debug_after f) ≡ o → rewrite_on out f ≡ (unless_past out f o >>= λ (g : Followed). Ok (applies out g))
 unfolding can_be_written
 write_by out f o is = ap (λ (x : Option Passed). unless_past out f x >>= λ (g : Followed). Ok (applies out g)) is
 
 pub plan_written : (out : List ℕ) (f : Followed) (plan : Plan) (image symbols : List ℕ) → rewrite_limit (plain_of f) (debug_after f) ≡ None → MeansModule (plain_of f) image → MeansPdb (debug_after f) (row_count (plain_of f) 0x06) symbols
-    → plan.outcome ≡ Accepted → plan.output.items ≡ saved_line (dll out) (pdb out) → saves_of plan.saves.items ≡ (dll out, image) ∷ (pdb out, symbols) ∷ [] → IsPlanOf (write_on out f) plan
+    → plan.outcome ≡ Accepted → plan.output.items ≡ saved_line (dll out ∷ pdb out ∷ []) → saves_of plan.saves.items ≡ (dll out, image) ∷ (pdb out, symbols) ∷ [] → IsPlanOf (rewrite_on out f) plan
 plan_written out f plan image symbols none module_is debug_is done line saved =
     subst (λ (v : Verdict). IsPlanOf v plan) (sym (write_by out f None none)) (record {
       outcome = done;
@@ -30,10 +30,10 @@ plan_written out f plan image symbols none module_is debug_is done line saved =
     })
 
 past : (out : List ℕ) (f : Followed) (p : Passed) (h : Halt) → rewrite_limit (plain_of f) (debug_after f) ≡ Some p → OnPlan h (IsPlanOf (Err (past_limit (file_past out (limit_told p)) (limit_told p))))
-    → OnPlan h (IsPlanOf (write_on out f))
+    → OnPlan h (IsPlanOf (rewrite_on out f))
 past out f p h is plan = subst (λ (v : Verdict). OnPlan h (IsPlanOf v)) (sym (write_by out f (Some p) is)) plan
 
-pub plan_unwritten : (out : List ℕ) (f : Followed) (fault : RewriteFault) (h : Halt) → IsFault fault (rewrite_limit (plain_of f) (debug_after f)) → IsUnwritten out fault h → OnPlan h (IsPlanOf (write_on out f))
+pub plan_unwritten : (out : List ℕ) (f : Followed) (fault : RewriteFault) (h : Halt) → IsFault fault (rewrite_limit (plain_of f) (debug_after f)) → IsUnwritten out fault h → OnPlan h (IsPlanOf (rewrite_on out f))
 plan_unwritten out f Memory h told is = rw is tt
 plan_unwritten out f (TooLarge heap) h told is = past out f (too_large heap) h told is
 plan_unwritten out f Image h told is = past out f too_heavy h told is

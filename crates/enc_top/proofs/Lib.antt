@@ -5,3 +5,8 @@ pub mod Loading
 pub mod Listed
 pub mod KnownMethods
 pub mod Applied
+pub mod Sums
+pub mod Spaced
+pub mod Numerals
+pub mod Cases
+pub mod Written

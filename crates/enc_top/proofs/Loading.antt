@@ -9,7 +9,7 @@ use Rattle.enc_top.specs.declared.stop.Stop.TheVariants as halt
 use Rattle.enc_delta.specs.Delta.{delta_of}
 use Rattle.enc_agg.specs.Extend.{chain_with}
 use Rattle.enc_agg.specs.Seen.{chain_of_all}
-use Rattle.enc_top.specs.Verdict.{Stop, Done, ◌>>=◌, BaseFiles, DeltaFiles, Followed, base_size, files_size, load_base, load_delta, load_deltas, in_delta, judge_deltas, judge_all, accept}
+use Rattle.enc_top.specs.Verdict.{Stop, Done, ◌>>=◌, BaseFiles, DeltaFiles, Followed, base_size, files_size, load_one, load_base, load_delta, load_deltas, in_delta, judge_deltas, judge_all, accept, accept_text}
 use Rattle.enc_checker.specs.Check.{judged}
 use Rattle.enc_top.specs.declared.load.DeltaFile.{DeltaFile}
 use Rattle.enc_top.specs.declared.judge.Judged.{Judged}
@@ -78,6 +78,22 @@ accept_stops files base deltas f h one stops = rw one (halts_then h (load_deltas
 pub accept_judged : (files : Files) (base : List ℕ) (deltas : List (List ℕ)) (f : BaseFiles) (fs : List DeltaFiles) → load_base files base 0 ≡ Ok f → load_deltas files deltas (base_size f) ≡ Ok fs → accept files base deltas ≡ judge_all base f fs
 unfolding accept
 accept_judged files base deltas f fs one all = rw (one, all) refl
+
+-- the same with a text behind the base, up to where loading stops
+pub text_stops : (files : Files) (base edits : List ℕ) (deltas : List (List ℕ)) (f : BaseFiles) (h : Halt) → load_base files base 0 ≡ Ok f → OnPlan h (StopsWith (load_one files edits (base_size f))) → OnPlan h (StopsWith (accept_text files base edits deltas))
+unfolding accept_text
+text_stops files base edits deltas f h one stops = rw one (halts_then h (load_one files edits (base_size f)) _ stops)
+
+pub deltas_stop : (files : Files) (base edits : List ℕ) (deltas : List (List ℕ)) (f : BaseFiles) (text : List ℕ) (h : Halt) → load_base files base 0 ≡ Ok f → load_one files edits (base_size f) ≡ Ok text
+    → OnPlan h (StopsWith (load_deltas files deltas (base_size f + length text))) → OnPlan h (StopsWith (accept_text files base edits deltas))
+unfolding accept_text
+deltas_stop files base edits deltas f text h one two stops = rw (one, two) (halts_then h (load_deltas files deltas (base_size f + length text)) _ stops)
+
+-- and where all files are loaded
+pub text_judged : (files : Files) (base edits : List ℕ) (deltas : List (List ℕ)) (f : BaseFiles) (text : List ℕ) (fs : List DeltaFiles) → load_base files base 0 ≡ Ok f → load_one files edits (base_size f) ≡ Ok text
+    → load_deltas files deltas (base_size f + length text) ≡ Ok fs → accept_text files base edits deltas ≡ (judge_all base f fs >>= λ (g : Followed). Ok (record { followed = g; text = text }))
+unfolding accept_text
+text_judged files base edits deltas f text fs one two all = rw (one, two, all) refl
 
 -- a delta that was added, and those behind it
 pub judged_more : {U : Type 0} (old new : Judged) (f : DeltaFiles) (fs : List DeltaFiles) (u : U) → Adds old new (Ok u) (in_delta f (judged (chain_of_all old.agg) (delta_of f.metadata f.code) f.debug)) → judge_deltas (followed old) (f ∷ fs) ≡ judge_deltas (followed new) fs

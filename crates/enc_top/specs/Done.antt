@@ -11,13 +11,17 @@ use Rattle.enc_agg.specs.Place.{place_of}
 use Rattle.enc_ppdb.specs.PdbChain.{pdb_with}
 use Rattle.enc_ppdb.specs.Written.{MeansPdb}
 use Rattle.enc_rewriter.specs.Rewritten.{MeansModule}
+use Rattle.enc_writer.specs.declared.bytes.DeltaBytes.{DeltaBytes}
+use Rattle.enc_writer.specs.Stands.{StandsFor}
 use Rattle.enc_text.specs.Text.{refused_line}
 use Rattle.enc_text.specs.RowText.{row_text_of}
 use Rattle.enc_top.specs.declared.plan.Outcome.{Outcome}
 use Rattle.enc_top.specs.declared.plan.Outcome.TheVariants.{Accepted, Refused, Usage, Missing}
-use Rattle.enc_top.specs.Lines.{limit_line, missing_line, absent_line, accepted_line, saved_line, usage_line}
+use Rattle.enc_top.specs.Lines.{limit_line, missing_line, absent_line, accepted_line, saved_line, unlisted_line, broken_line, usage_line}
 use Rattle.enc_top.specs.Listing.{listing_of}
-use Rattle.enc_top.specs.Verdict.{Stop, no_command, absent_file, refused_file, past_limit, dll, pdb, Followed, plain_of, debug_after, Done, shows, lists, counts, applies, Verdict}
+use Rattle.enc_jobs.specs.Generated.{generated_base, generated_lists, edited_by}
+use Rattle.enc_top.specs.Generating.{case_line, AreFilesOfCase}
+use Rattle.enc_top.specs.Verdict.{Stop, no_command, absent_file, refused_file, past_limit, no_list, broken_list, dll, meta, il, pdb, Followed, plain_of, debug_after, Edited, Done, shows, lists, counts, applies, writes, generates, Verdict}
 
 -- the token's row, or that the module lacks it
 unfoldable pub row_or_absent : Module → PlainPdb → RowPlace → Token → List ℕ
@@ -38,7 +42,9 @@ abbrev pub IsOutput : Done → List ℕ → Type 0
 IsOutput (shows token f) output = output ≡ shown token f
 IsOutput (lists f) output = output ≡ listed_as f
 IsOutput (counts f) output = output ≡ counted_as f
-IsOutput (applies out f) output = output ≡ saved_line (dll out) (pdb out)
+IsOutput (applies out f) output = output ≡ saved_line (dll out ∷ pdb out ∷ [])
+IsOutput (writes out e) output = output ≡ saved_line (meta out ∷ il out ∷ pdb out ∷ [])
+IsOutput (generates start count out) output = output ≡ case_line start.digits count.digits (edited_by generated_base (generated_lists start.value count.value))
 
 -- the files that say a module and its plain PDB: bytes that mean the one, and bytes that mean the other
 pub record AreFilesOf (out : List ℕ) (m : Module) (debug : PlainPdb) (saves : List (List ℕ × List ℕ)) : Type 0 where
@@ -48,9 +54,17 @@ pub record AreFilesOf (out : List ℕ) (m : Module) (debug : PlainPdb) (saves : 
   pub module_is : MeansModule m image
   pub debug_is : MeansPdb debug (row_count m tables.method_def) symbols
 
--- what may be saved of it, in order, each a name and its bytes: `apply` alone saves
+-- the files of a delta that stand for an edit list after a base with its deltas: they are accepted, and make the edits
+pub record AreFilesOfList (out : List ℕ) (e : Edited) (saves : List (List ℕ × List ℕ)) : Type 0 where
+  pub files : DeltaBytes
+  pub saved : saves ≡ (meta out, files.meta) ∷ (il out, files.il) ∷ (pdb out, files.pdb) ∷ []
+  pub stand : StandsFor (chain_with e.followed.base e.followed.deltas) e.list files
+
+-- what may be saved of it, in order, each a name and its bytes: `apply`, `write` and `gen` alone save
 abbrev pub IsSaves : Done → List (List ℕ × List ℕ) → Type 0
 IsSaves (applies out f) saves = AreFilesOf out (plain_of f) (debug_after f) saves
+IsSaves (writes out e) saves = AreFilesOfList out e saves
+IsSaves (generates start count out) saves = AreFilesOfCase out (generated_lists start.value count.value) saves
 IsSaves done saves = saves ≡ []
 
 -- the line of a stop
@@ -59,6 +73,8 @@ stop_line no_command = usage_line
 stop_line (absent_file name) = missing_line name
 stop_line (refused_file name e) = refused_line name e
 stop_line (past_limit name l) = limit_line name l
+stop_line (no_list name fault) = unlisted_line name fault
+stop_line (broken_list name rule edit) = broken_line name rule edit
 
 -- what may be printed of a verdict: an output of what is done, or the line of the stop
 abbrev pub IsAnswer : Verdict → List ℕ → Type 0
@@ -75,6 +91,8 @@ outcome_of_stop no_command = Usage
 outcome_of_stop (absent_file name) = Missing
 outcome_of_stop (refused_file name e) = Refused
 outcome_of_stop (past_limit name l) = Refused
+outcome_of_stop (no_list name fault) = Refused
+outcome_of_stop (broken_list name rule edit) = Refused
 
 abbrev pub outcome_of : Verdict → Outcome
 outcome_of (Ok done) = Accepted

@@ -10,3 +10,5 @@ pub mod Stops
 pub mod Loads
 pub mod Answers
 pub mod Example
+pub mod Generating
+pub mod Series

@@ -1,7 +1,9 @@
 -- The lines of what isn't a row, a listing or a refusal by a rule.
-use Rattle.std.specs.Prelude.{ℕ, List, [], ◌∷◌, ◌++◌, codes, decimal}
+use Rattle.std.specs.Prelude.{ℕ, List, [], ◌∷◌, ◌++◌, codes, decimal, flat_map}
 use Rattle.enc_base.specs.declared.token.Token.{Token}
 use Rattle.enc_text.specs.Text.{token_text, stream_text}
+use Rattle.enc_jobs.specs.declared.fault.JobFault.{JobFault}
+use Rattle.enc_jobs.specs.declared.fault.JobFault.TheVariants.{Memory, J1, J2, L3}
 use Rattle.enc_top.specs.declared.limits.Limit.{Limit}
 use Rattle.enc_top.specs.declared.limits.Limit.TheVariants as limit
 
@@ -27,9 +29,28 @@ absent_line token = codes "absent " ++ token_text token ++ 0x0a ∷ []
 unfoldable pub accepted_line : ℕ → List ℕ
 accepted_line count = codes "accepted " ++ decimal count ++ 0x0a ∷ []
 
--- the line of two files that are saved
-unfoldable pub saved_line : List ℕ → List ℕ → List ℕ
-saved_line first second = codes "saved " ++ first ++ 0x20 ∷ second ++ 0x0a ∷ []
+-- names, each behind a space
+unfoldable pub spaced : List (List ℕ) → List ℕ
+spaced names = flat_map (λ name. 0x20 ∷ name) names
+
+-- the line of files that are saved
+unfoldable pub saved_line : List (List ℕ) → List ℕ
+saved_line names = codes "saved" ++ spaced names ++ 0x0a ∷ []
+
+-- the number and the place of what isn't an edit list
+abbrev pub fault_text : JobFault → List ℕ
+fault_text J1 = codes "J1 json"
+fault_text (J2 n) = codes "J2 " ++ decimal n
+fault_text L3 = codes "L3 commands"
+fault_text Memory = []
+
+-- the line of a file that is no edit list
+unfoldable pub unlisted_line : List ℕ → JobFault → List ℕ
+unlisted_line name fault = codes "refused " ++ name ++ 0x20 ∷ fault_text fault ++ 0x0a ∷ []
+
+-- the line of an edit list that breaks a rule, with the number of its edit
+unfoldable pub broken_line : List ℕ → ℕ → ℕ → List ℕ
+broken_line name rule edit = codes "refused " ++ name ++ codes " E" ++ decimal rule ++ 0x20 ∷ decimal edit ++ 0x0a ∷ []
 
 -- the line of words that are no command
 unfoldable pub usage_line : List ℕ

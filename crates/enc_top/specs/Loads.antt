@@ -2,13 +2,14 @@
 use Rattle.std.specs.Prelude.{◌≡◌, ℕ, List, Option, option_map, Vec, Result, Ok, Err, string_bytes}
 use Rattle.std.specs.declared.alloc.Global.{Global}
 use Rattle.enc_top.specs.declared.judge.Judged.{Judged}
+use Rattle.enc_top.specs.declared.commands.accept.Texted.{Texted}
 use Rattle.enc_top.specs.declared.load.BaseFile.{BaseFile}
 use Rattle.enc_top.specs.declared.load.DeltaFile.{DeltaFile}
 use Rattle.enc_top.specs.declared.stop.Stop.{Stop as Halt}
 use Rattle.enc_plain.specs.Sound.{row_count}
 use Rattle.enc_plain.specs.SoundDebug.{KnowsWithin}
 use Rattle.enc_schema.specs.Tables as tables
-use Rattle.enc_top.specs.Verdict.{Stop, BaseFiles, DeltaFiles, Followed, plain_of, debug_after, followed_by}
+use Rattle.enc_top.specs.Verdict.{Stop, BaseFiles, DeltaFiles, Followed, plain_of, debug_after, followed_by, WithText}
 use Rattle.enc_checker.specs.Check.{Accepted}
 use Rattle.enc_top.specs.Stops.{OnPlan, StopsWith}
 
@@ -31,6 +32,10 @@ file_seen f = record {
 -- an aggregate and a chain of PDBs are a base with the deltas that follow it
 abbrev pub followed : Judged → Followed
 followed j = record { base = j.agg.base; deltas = j.agg.deltas; debug = j.debug.base; debugs = j.debug.deltas }
+
+-- and so they are with a text
+abbrev pub texted : Texted → WithText
+texted t = record { followed = followed t.judged; text = t.text.items }
 
 -- what their PDBs know is of their methods
 abbrev pub KnowWithin : Judged → Type 0

@@ -10,8 +10,10 @@ use Rattle.enc_top.specs.declared.stop.Stop.{Stop as Halt}
 use Rattle.enc_top.specs.declared.stop.Stop.TheVariants as halt
 use Rattle.enc_rewriter.specs.declared.fault.RewriteFault.{RewriteFault}
 use Rattle.enc_rewriter.specs.declared.fault.RewriteFault.TheVariants.{Memory, TooLarge, Image}
+use Rattle.enc_jobs.specs.declared.fault.JobFault.{JobFault}
+use Rattle.enc_jobs.specs.declared.fault.JobFault.TheVariants as job
 use Rattle.enc_top.specs.declared.limits.Limit.TheVariants as limit
-use Rattle.enc_top.specs.Verdict.{Stop, refused_file, refused_name, past_limit, file_past}
+use Rattle.enc_top.specs.Verdict.{Stop, refused_file, refused_name, past_limit, file_past, no_list}
 use Rattle.enc_top.specs.Plans.{IsPlanOf}
 
 -- the halt of a failed load
@@ -64,3 +66,8 @@ IsUnwritten out Memory h = h ≡ halt.Memory
 abbrev pub IsUnaccepted : List ℕ → List ℕ → ReadFault → Halt → Type 0
 IsUnaccepted name debug_name (fault.Refused e) h = OnPlan h (IsPlanOf (Err (refused_file (refused_name name debug_name e) e)))
 IsUnaccepted name debug_name fault.Memory h = h ≡ halt.Memory
+
+-- what becomes of a text that isn't read as an edit list: the stop of its fault, or want of memory
+abbrev pub IsUnlisted : List ℕ → JobFault → Halt → Type 0
+IsUnlisted name job.Memory h = h ≡ halt.Memory
+IsUnlisted name fault h = OnPlan h (IsPlanOf (Err (no_list name fault)))

@@ -18,16 +18,22 @@ use Rattle.enc_ppdb.specs.Fault.{pdb_of}
 use Rattle.enc_ppdb.specs.PdbChain.{DebugDelta, pdb_with}
 use Rattle.enc_checker.specs.Check.{Accepted, judged, new_bodies}
 use Rattle.enc_agg.specs.Extend.{chain_with}
+use Rattle.enc_edits.specs.declared.edit.EditList.{EditList}
+use Rattle.enc_jobs.specs.declared.fault.JobFault.{JobFault}
+use Rattle.enc_jobs.specs.Edits.{edits_said}
+use Rattle.enc_rules.specs.First.{first_edit}
 use Rattle.enc_top.specs.declared.limits.Limit.{Limit}
 use Rattle.enc_top.specs.declared.limits.Limit.TheVariants as limit
-use Rattle.enc_top.specs.Words.{Job, show, list, check, apply, job_of}
+use Rattle.enc_top.specs.Words.{Numeral, Job, show, list, check, apply, write, gen, job_of}
 
--- why a command does nothing: the words are none; a file that must be there is absent; a file is refused, by a rule or by its length
+-- why a command does nothing: the words are none; a file that must be there is absent; a file is refused, by a rule or by its length, or as an edit list: it isn't one, or one of its edits breaks a rule
 pub data Stop : Type 0 where
   no_command : Stop
   absent_file : List ℕ → Stop
   refused_file : List ℕ → Refusal → Stop
   past_limit : List ℕ → Limit → Stop
+  no_list : List ℕ → JobFault → Stop
+  broken_list : List ℕ → ℕ → ℕ → Stop
 
 -- one thing after the other, up to the first stop
 infixl 10 ◌>>=◌
@@ -216,12 +222,46 @@ unless_past out f (Some passed) = Err (past_limit (file_past out (limit_told pas
 unfoldable pub can_be_written : List ℕ → Followed → Result Followed Stop
 can_be_written out f = unless_past out f (rewrite_limit (plain_of f) (debug_after f))
 
--- what an accepted command does with them: it shows a token's row, lists them, counts the deltas, or saves the one module that has all edits
+-- a base with its deltas, and an edit list to follow them
+pub record Edited : Type 0 where
+  pub followed : Followed
+  pub list : EditList
+
+-- the edit list that a file says
+abbrev pub list_in_file : List ℕ → Result EditList JobFault → Result EditList Stop
+list_in_file name (Ok l) = Ok l
+list_in_file name (Err fault) = Err (no_list name fault)
+
+-- it breaks no rule after them
+abbrev pub unless_list_broken : List ℕ → Edited → Option (ℕ × ℕ) → Result Edited Stop
+unless_list_broken name e None = Ok e
+unless_list_broken name e (Some broken) = Err (broken_list name broken.0 broken.1)
+
+abbrev pub judge_edits : List ℕ → Edited → Result Edited Stop
+judge_edits name e = unless_list_broken name e (first_edit (chain_with e.followed.base e.followed.deltas) e.list)
+
+-- a base with its deltas, and the text of an edit list to follow them
+pub record WithText : Type 0 where
+  pub followed : Followed
+  pub text : List ℕ
+
+-- the files loaded, the text behind the base and before the deltas, and then the base and the deltas judged
+unfoldable pub accept_text : Files → List ℕ → List ℕ → List (List ℕ) → Result WithText Stop
+accept_text files base edits deltas = do
+  f ← load_base files base 0
+  text ← load_one files edits (base_size f)
+  fs ← load_deltas files deltas (base_size f + length text)
+  g ← judge_all base f fs
+  Ok (record { followed = g; text = text })
+
+-- what an accepted command does with them: it shows a token's row, lists them, counts the deltas, saves the one module that has all edits, or the delta of an edit list; or it saves a generated case
 pub data Done : Type 0 where
   shows : Token → Followed → Done
   lists : Followed → Done
   counts : Followed → Done
   applies : List ℕ → Followed → Done
+  writes : List ℕ → Edited → Done
+  generates : Numeral → Numeral → List ℕ → Done
 
 -- what a command comes to: what it does, or why it does nothing
 abbrev pub Verdict : Type 0
@@ -246,8 +286,8 @@ check_on files base deltas = do
   Ok (counts f)
 
 -- what is written of accepted files
-abbrev pub write_on : List ℕ → Followed → Verdict
-write_on out f = do
+abbrev pub rewrite_on : List ℕ → Followed → Verdict
+rewrite_on out f = do
   g ← can_be_written out f
   Ok (applies out g)
 
@@ -255,13 +295,33 @@ write_on out f = do
 abbrev pub apply_on : Files → List ℕ → List ℕ → List (List ℕ) → Verdict
 apply_on files base out deltas = do
   f ← accept files base deltas
-  write_on out f
+  rewrite_on out f
+
+-- an edit list that breaks no rule after a base with its deltas
+abbrev pub edits_on : List ℕ → List ℕ → Edited → Verdict
+edits_on name out e = do
+  f ← judge_edits name e
+  Ok (writes out f)
+
+-- the text of an edit list read, and judged last
+abbrev pub text_on : List ℕ → List ℕ → WithText → Verdict
+text_on name out t = do
+  l ← list_in_file name (edits_said t.text)
+  edits_on name out (record { followed = t.followed; list = l })
+
+-- `write BASE EDITS OUT DELTA..`
+abbrev pub write_on : Files → List ℕ → List ℕ → List ℕ → List (List ℕ) → Verdict
+write_on files base edits out deltas = do
+  t ← accept_text files base edits deltas
+  text_on edits out t
 
 abbrev pub verdict_on : Files → Option Job → Verdict
 verdict_on files (Some (show base token deltas)) = show_on files base token deltas
 verdict_on files (Some (list base deltas)) = list_on files base deltas
 verdict_on files (Some (check base deltas)) = check_on files base deltas
 verdict_on files (Some (apply base out deltas)) = apply_on files base out deltas
+verdict_on files (Some (write base edits out deltas)) = write_on files base edits out deltas
+verdict_on files (Some (gen start count out)) = Ok (generates start count out)
 verdict_on files None = Err no_command
 
 -- what the words come to over these files

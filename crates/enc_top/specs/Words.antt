@@ -1,19 +1,27 @@
 -- What a list of words asks for: a row of the command table, or none.
-use Rattle.std.specs.Prelude.{ℕ, Bool, ◌&&◌, ◌||◌, List, [], ◌∷◌, length, map, Option, Some, None, option_map, Result, Ok, Err, nat_le, ◌==◌, if◌then◌else◌, codes, bytes_eq, String, string_bytes}
+use Rattle.std.specs.Prelude.{ℕ, ◌-◌, ◌^◌, Bool, ◌&&◌, ◌||◌, List, [], ◌∷◌, length, map, Option, Some, None, option_map, Result, Ok, Err, nat_le, ◌==◌, if◌then◌else◌, codes, bytes_eq, String, string_bytes}
 use Rattle.std.specs.List.{list_all}
 use Rattle.std.specs.Int.{w32, from_be_bytes}
+use Rattle.std.specs.Str.Parse.{digits_value}
 use Rattle.std.specs.declared.alloc.Global.{Global}
 use Rattle.hex.specs.Hex.{decode_sized}
 use Rattle.hex.specs.declared.error.FromHexError.{FromHexError}
 use Rattle.enc_base.specs.Token.{token_of}
 use Rattle.enc_base.specs.declared.token.Token.{Token}
 
--- what a command asks for: a row of a base with deltas, their listing, whether all are accepted, or the one module that has all edits, under a name of its own
+-- a number, and the digits that say it
+pub record Numeral : Type 0 where
+  pub digits : List ℕ
+  pub value : ℕ
+
+-- what a command asks for: a row of a base with deltas, their listing, whether all are accepted, the one module that has all edits, under a name of its own, the delta of an edit list, in a file, that follows them, or a generated case by its two numbers
 pub data Job : Type 0 where
   show : List ℕ → Token → List (List ℕ) → Job
   list : List ℕ → List (List ℕ) → Job
   check : List ℕ → List (List ℕ) → Job
   apply : List ℕ → List ℕ → List (List ℕ) → Job
+  write : List ℕ → List ℕ → List ℕ → List (List ℕ) → Job
+  gen : Numeral → Numeral → List ℕ → Job
 
 -- an ASCII letter, a digit, or one of _ - . /
 abbrev pub is_name_byte : ℕ → Bool
@@ -57,6 +65,30 @@ abbrev pub apply_of : List (List ℕ) → Option Job
 apply_of (base ∷ out ∷ deltas) = if are_names base (out ∷ deltas) then Some (apply base out deltas) else None
 apply_of _ = None
 
+-- `write BASE EDITS OUT DELTA..`
+abbrev pub write_of : List (List ℕ) → Option Job
+write_of (base ∷ edits ∷ out ∷ deltas) = if are_names base (edits ∷ out ∷ deltas) then Some (write base edits out deltas) else None
+write_of _ = None
+
+-- a decimal digit
+abbrev pub is_digit : ℕ → Bool
+is_digit b = nat_le 0x30 b && nat_le b 0x39
+
+-- 1 to so many decimal digits that say a number up to a bound
+unfoldable pub numeral_of : ℕ → ℕ → List ℕ → Option Numeral
+numeral_of most bound word =
+    if nat_le 1 (length word) && nat_le (length word) most && list_all is_digit word && nat_le (digits_value 10 word) bound
+    then Some (record { digits = word; value = digits_value 10 word }) else None
+
+abbrev pub gen_with : List ℕ → Option Numeral → Option Numeral → Option Job
+gen_with out (Some start) (Some count) = if is_name out then Some (gen start count out) else None
+gen_with out _ _ = None
+
+-- `gen START COUNT OUT`
+abbrev pub gen_of : List (List ℕ) → Option Job
+gen_of (start ∷ count ∷ out ∷ []) = gen_with out (numeral_of 20 (2 ^ 64 - 1) start) (numeral_of 2 64 count)
+gen_of _ = None
+
 -- the row of the command table that the words are
 abbrev pub job_of : List (List ℕ) → Option Job
 job_of (name ∷ words) =
@@ -64,6 +96,8 @@ job_of (name ∷ words) =
     else if bytes_eq name (codes "list") then list_of words
     else if bytes_eq name (codes "check") then check_of words
     else if bytes_eq name (codes "apply") then apply_of words
+    else if bytes_eq name (codes "write") then write_of words
+    else if bytes_eq name (codes "gen") then gen_of words
     else None
 job_of [] = None
 

@@ -1,10 +1,18 @@
 //! The words of a command.
-ghost use Rattle.std.specs.Prelude.{◌≡◌, option_map, map};
+ghost use Rattle.std.specs.Prelude.{◌≡◌, ◌≤◌, true, length, option_map, map, IfSome};
+ghost use Rattle.std.specs.Str.Parse.{digits_value};
 ghost use Rattle.std.specs.List.{list_all};
-ghost use Rattle.enc_top.specs.Words.{is_name_byte, is_name, are_names, token_of_word, show_of, list_of, check_of, apply_of, job_of, texts};
-ghost use Rattle.enc_top.specs.Commands.{job_seen};
+ghost use Rattle.enc_top.specs.Words.{is_name_byte, is_name, are_names, token_of_word, show_of, list_of, check_of, apply_of, write_of, is_digit, numeral_of, gen_of, job_of, texts};
+ghost use Rattle.enc_top.specs.Commands.{numeral_seen, job_seen, HasFewLists, IsValue};
 
 use enc_base::Token;
+
+/// A number, and the digits that say it.
+#[derive(Clone, Copy, Debug)]
+pub struct Number<'a> {
+    pub digits: &'a str,
+    pub value: u64,
+}
 
 /// A command with its words.
 #[derive(Clone, Copy, Debug)]
@@ -30,6 +38,19 @@ pub enum Command<'a> {
         base: &'a str,
         out: &'a str,
         deltas: &'a [String],
+    },
+    /// Saves the delta of an edit list that follows a base and its deltas.
+    Write {
+        base: &'a str,
+        edits: &'a str,
+        out: &'a str,
+        deltas: &'a [String],
+    },
+    /// Saves a generated base, the deltas of generated edit lists, and the module after all.
+    Gen {
+        start: Number<'a>,
+        count: Number<'a>,
+        out: &'a str,
     },
 }
 
@@ -154,9 +175,88 @@ fn apply_of(words: &[String]) -> Option<Command<'_>>
     })
 }
 
+/// The words of `write`.
+#[tactic(auto, unfolding(crate::specs::Words::are_names))]
+fn write_of(words: &[String]) -> Option<Command<'_>>
+    ensures { option_map job_seen result ≡ write_of (texts words.now) }
+{
+    let [base, edits, out, deltas @ ..] = words else {
+        return None;
+    };
+    if !is_name(base.as_str()) || !is_name(edits.as_str()) || !are_names(out.as_str(), deltas) {
+        return None;
+    }
+    Some(Command::Write {
+        base: base.as_str(),
+        edits: edits.as_str(),
+        out: out.as_str(),
+        deltas,
+    })
+}
+
+fn are_digits(bytes: &[u8]) -> bool
+    ensures { result ≡ list_all is_digit bytes.now }
+{
+    for b in bytes {
+        if !b.is_ascii_digit() {
+            return false;
+        }
+    }
+    true
+}
+
+/// The number that digits say, where it has at most 64 bits.
+fn value_of(word: &str) -> Option<u64>
+    requires some { 1 ≤ length word.now }
+    requires digits { list_all is_digit word.now ≡ true }
+    ensures { IsValue result (digits_value 10 word.now) }
+{
+    word.parse::<u64>().ok()
+}
+
+/// The number of 1 to so many decimal digits, up to a bound.
+#[tactic(auto, unfolding(crate::specs::Words::numeral_of))]
+fn number_of(most: usize, bound: u64, word: &str) -> Option<Number<'_>>
+    ensures number { option_map numeral_seen result ≡ numeral_of most bound word.now }
+    ensures within { IfSome result (λ n. n.value ≤ bound) }
+{
+    if word.is_empty() || word.len() > most || !are_digits(word.as_bytes()) {
+        return None;
+    }
+    let value = value_of(word)?;
+    if value > bound {
+        return None;
+    }
+    Some(Number {
+        digits: word,
+        value,
+    })
+}
+
+/// The words of `gen`.
+fn gen_of(words: &[String]) -> Option<Command<'_>>
+    ensures job { option_map job_seen result ≡ gen_of (texts words.now) }
+    ensures few { IfSome result HasFewLists }
+{
+    let [start, count, out] = words else {
+        return None;
+    };
+    let start = number_of(20, u64::MAX, start.as_str())?;
+    let count = number_of(2, 64, count.as_str())?;
+    if !is_name(out.as_str()) {
+        return None;
+    }
+    Some(Command::Gen {
+        start,
+        count,
+        out: out.as_str(),
+    })
+}
+
 /// The row of the command table that the words are.
 pub fn command_of(words: &[String]) -> Option<Command<'_>>
-    ensures { option_map job_seen result ≡ job_of (texts words.now) }
+    ensures job { option_map job_seen result ≡ job_of (texts words.now) }
+    ensures few { IfSome result HasFewLists }
 {
     let [name, words @ ..] = words else {
         return None;
@@ -166,6 +266,8 @@ pub fn command_of(words: &[String]) -> Option<Command<'_>>
         "list" => list_of(words),
         "check" => check_of(words),
         "apply" => apply_of(words),
+        "write" => write_of(words),
+        "gen" => gen_of(words),
         _ => None,
     }
 }

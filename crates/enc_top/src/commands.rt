@@ -9,8 +9,10 @@ ghost use Rattle.enc_top.specs.Stops.{IfPlan};
 mod accept;
 mod apply;
 mod check;
+mod generate;
 mod list;
 mod show;
+mod write;
 
 use crate::command::{Command, command_of};
 use crate::plan::{Outcome, Plan};
@@ -19,9 +21,11 @@ use crate::stop::Stop;
 use apply::apply;
 use check::check;
 use enc_outside::Store;
+use generate::generate;
 use list::list;
 use show::show;
 use std::alloc::Global;
+use write::write;
 
 /// The plan of the words over the store's files, or the stop at which they end.
 pub fn plan_of<S: Store>(alloc: Global, words: &[String], store: &mut S) -> Result<Plan, Stop>
@@ -45,5 +49,14 @@ pub fn plan_of<S: Store>(alloc: Global, words: &[String], store: &mut S) -> Resu
         Some(Command::List { base, deltas }) => list(alloc, base, deltas, store),
         Some(Command::Check { base, deltas }) => check(alloc, base, deltas, store),
         Some(Command::Apply { base, out, deltas }) => apply(alloc, base, out, deltas, store),
+        Some(
+            Command::Write {
+                base,
+                edits,
+                out,
+                deltas,
+            },
+        ) => write(alloc, base, edits, out, deltas, store),
+        Some(Command::Gen { start, count, out }) => generate(alloc, start, count, out),
     }
 }

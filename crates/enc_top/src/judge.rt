@@ -88,7 +88,7 @@ fn unaccepted(alloc: Global, name: &str, debug_name: &str, fault: ReadFault) -> 
 }
 
 /// The files of a delta judged after the deltas before it, and added.
-fn judge_delta(alloc: Global, held: &mut Judged, file: DeltaFile) -> Result<(), Stop>
+pub fn judge_delta(alloc: Global, held: &mut Judged, file: DeltaFile) -> Result<(), Stop>
     requires within { KnowWithin held.old }
     ensures step { Adds held.old held.new result (in_delta (file_seen file) (judged (chain_of_all held.old.agg) (delta_of file.metadata.items file.code.items) (bytes_seen file.debug))) }
     ensures within { OnOk result (KnowWithin held.new) }

@@ -11,6 +11,7 @@ mod laws;
 mod limits;
 mod lines;
 mod load;
+mod loaded;
 mod plan;
 mod plans;
 mod run;

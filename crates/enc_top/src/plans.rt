@@ -1,14 +1,15 @@
 //! Plans that save nothing, and the stops of commands that do nothing.
 ghost use Rattle.std.specs.Prelude.{◌≡◌, ◌≢◌, [], Err};
-ghost use Rattle.enc_top.specs.Verdict.{no_command, absent_file, refused_file, past_limit};
+ghost use Rattle.enc_top.specs.Verdict.{no_command, absent_file, refused_file, past_limit, no_list, broken_list};
 ghost use Rattle.enc_top.specs.Plans.{IsPlanOf};
-ghost use Rattle.enc_top.specs.Stops.{OnPlan, IsQuiet, IsUnread};
+ghost use Rattle.enc_top.specs.Stops.{OnPlan, IsQuiet, IsUnread, IsUnlisted};
 
 use crate::limits::Limit;
-use crate::lines::{limit_line, missing_line, usage_line};
+use crate::lines::{broken_line, limit_line, missing_line, unlisted_line, usage_line};
 use crate::plan::{Outcome, Plan};
 use crate::stop::Stop;
 use enc_base::{ReadFault, Refusal};
+use enc_jobs::JobFault;
 use enc_text::refused_line;
 use std::alloc::Global;
 
@@ -69,6 +70,42 @@ pub fn missing(alloc: Global, name: &str) -> Stop
 {
     match missing_line(alloc, name) {
         Ok(line) => Stop::Plan(saving_nothing(alloc, Outcome::Missing, line)),
+        Err(_) => Stop::Memory,
+    }
+}
+
+/// The stop at a file whose text is no edit list.
+fn refused_text(alloc: Global, name: &str, fault: JobFault) -> Stop
+    ensures plan { OnPlan result (IsPlanOf (Err (no_list name.now fault))) }
+    ensures quiet { OnPlan result IsQuiet }
+    ensures no_fault { result ≢ Stop.Failed }
+{
+    match unlisted_line(alloc, name, fault) {
+        Ok(line) => Stop::Plan(saving_nothing(alloc, Outcome::Refused, line)),
+        Err(_) => Stop::Memory,
+    }
+}
+
+/// The stop at a file that isn't read as an edit list.
+pub fn unlisted(alloc: Global, name: &str, fault: JobFault) -> Stop
+    ensures plan { IsUnlisted name.now fault result }
+    ensures quiet { OnPlan result IsQuiet }
+    ensures no_fault { result ≢ Stop.Failed }
+{
+    match fault {
+        JobFault::Memory => Stop::Memory,
+        fault => refused_text(alloc, name, fault),
+    }
+}
+
+/// The stop at an edit list that breaks a rule.
+pub fn broken(alloc: Global, name: &str, rule: u8, edit: u32) -> Stop
+    ensures plan { OnPlan result (IsPlanOf (Err (broken_list name.now rule edit))) }
+    ensures quiet { OnPlan result IsQuiet }
+    ensures no_fault { result ≢ Stop.Failed }
+{
+    match broken_line(alloc, name, rule, edit) {
+        Ok(line) => Stop::Plan(saving_nothing(alloc, Outcome::Refused, line)),
         Err(_) => Stop::Memory,
     }
 }

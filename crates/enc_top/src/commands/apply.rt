@@ -3,7 +3,7 @@ ghost use Rattle.std.specs.Prelude.{◌≡◌, ◌≢◌, ◌⊎◌, ◌∷◌, 
 ghost use Rattle.enc_outside.specs.Outside.{HasCause};
 ghost use Rattle.enc_top.specs.Lines.{saved_line as line_of_saved};
 ghost use Rattle.enc_top.specs.Words.{texts};
-ghost use Rattle.enc_top.specs.Verdict.{dll, pdb, past_limit, file_past as file_of_limit, write_on, apply_on};
+ghost use Rattle.enc_top.specs.Verdict.{dll, pdb, past_limit, file_past as file_of_limit, rewrite_on, apply_on};
 ghost use Rattle.enc_top.specs.Plans.{IsPlanOf, saves_of};
 ghost use Rattle.enc_top.specs.Stops.{OnPlan, IfPlan, IsQuiet, IsUnwritten};
 ghost use Rattle.enc_top.specs.Loads.{followed, KnowWithin};
@@ -59,12 +59,12 @@ fn unwritten(alloc: Global, out: &str, fault: RewriteFault) -> Stop
 /// The plan that saves what was written: the module, then its PDB.
 fn saving(alloc: Global, out: &str, written: Rewritten) -> Result<Plan, AllocError>
     ensures outcome { IfOk result (λ plan. plan.outcome ≡ Outcome.Accepted) }
-    ensures output { IfOk result (λ plan. plan.output.items ≡ line_of_saved (dll out.now) (pdb out.now)) }
+    ensures output { IfOk result (λ plan. plan.output.items ≡ line_of_saved (dll out.now ∷ pdb out.now ∷ [])) }
     ensures saves { IfOk result (λ plan. saves_of plan.saves.items ≡ (dll out.now, written.image.items) ∷ (pdb out.now, written.pdb.items) ∷ []) }
 {
     let dll = name_of(alloc, out, ".dll")?;
     let pdb = name_of(alloc, out, ".pdb")?;
-    let output = saved_line(alloc, dll.as_str(), pdb.as_str())?;
+    let output = saved_line(alloc, &[dll.as_str(), pdb.as_str()])?;
     let mut saves = Vec::new(alloc);
     saves.push(Save {
         name: dll,
@@ -82,9 +82,9 @@ fn saving(alloc: Global, out: &str, written: Rewritten) -> Result<Plan, AllocErr
 }
 
 /// The plan of what is written of an accepted chain.
-fn write(alloc: Global, out: &str, judged: &Judged) -> Result<Plan, Stop>
+fn rewritten(alloc: Global, out: &str, judged: &Judged) -> Result<Plan, Stop>
     requires { KnowWithin judged.now }
-    ensures plan { IfPlan result (IsPlanOf (write_on out.now (followed judged.now))) }
+    ensures plan { IfPlan result (IsPlanOf (rewrite_on out.now (followed judged.now))) }
     ensures told { IfPlan result (λ plan. plan.outcome ≢ Outcome.Usage) }
     ensures kept { IfPlan result (λ plan. (plan.outcome ≡ Outcome.Accepted) ⊎ (plan.saves.items ≡ [])) }
     ensures no_fault { ¬ (IsErrOf result Stop.Failed) }
@@ -112,5 +112,5 @@ pub fn apply<S: Store>(
     ensures kept { IfPlan result (λ plan. (plan.outcome ≡ Outcome.Accepted) ⊎ (plan.saves.items ≡ [])) }
 {
     let judged = accept(alloc, base, deltas, store)?;
-    write(alloc, out, &judged)
+    rewritten(alloc, out, &judged)
 }

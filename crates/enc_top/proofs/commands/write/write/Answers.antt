@@ -1,0 +1,11 @@
+use Rattle.std.proofs.Common.{◌≡◌, Ok}
+use Rattle.enc_top.specs.Words.{texts}
+use Rattle.enc_top.specs.Verdict.{accept_text}
+use Rattle.enc_top.specs.Loads.{texted}
+use Rattle.enc_top.proofs.Served.{if_some}
+use Rattle.enc_top.proofs.commands.write.write.Goals as goal
+
+pub returns-clause-plan : goal.returns-clause-plan
+returns-clause-plan g c =
+    if_some (g.S.Store.told c.args.store.now) (λ files. accept_text files c.args.base.now c.args.edits.now (texts c.args.deltas.now) ≡ Ok (texted c.in_ok-texted.texted)) _ c.in_ok-texted.ensures.step
+    (λ files is. rw (is, rw c.deref.ensures.value at c.in_ok-list.ensures.step) c.written.ensures.plan)

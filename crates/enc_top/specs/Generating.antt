@@ -1,0 +1,97 @@
+-- What `gen` saves and prints: the generated base, a delta for each generated list, and the module after all lists.
+use Rattle.std.specs.Prelude.{◌≡◌, ℕ, ◌+◌, ◌-◌, ◌*◌, ◌%◌, ◌^◌, ◌==◌, List, [], ◌∷◌, ◌++◌, length, sum_by, Option, Some, None, Ok, codes, decimal, slice_get, if◌then◌else◌}
+use Rattle.std.specs.Int.{w64, cast_unsigned}
+use Rattle.enc_schema.specs.Tables as tables
+use Rattle.enc_opcodes.specs.Instruction.{Argument, number, Instruction}
+use Rattle.enc_opcodes.specs.Body.{Body}
+use Rattle.enc_plain.specs.Cell.{Cell, body}
+use Rattle.enc_plain.specs.Debug.{PlainPdb, unknown}
+use Rattle.enc_plain.specs.Module.{Module, Row, rows_in}
+use Rattle.enc_plain.specs.Sound.{row_count}
+use Rattle.enc_delta.specs.Delta.{delta_of}
+use Rattle.enc_image.specs.Base.{base_of}
+use Rattle.enc_agg.specs.Extend.{chain_with}
+use Rattle.enc_ppdb.specs.Written.{MeansPdb}
+use Rattle.enc_checker.specs.Check.{Accepted, judged}
+use Rattle.enc_rewriter.specs.Rewritten.{MeansModule}
+use Rattle.enc_edits.specs.declared.edit.EditList.{EditList}
+use Rattle.enc_writer.specs.declared.bytes.DeltaBytes.{DeltaBytes}
+use Rattle.enc_writer.specs.Stands.{StandsFor}
+use Rattle.enc_jobs.specs.Generated.{generated_base, edited_by}
+use Rattle.enc_top.specs.Verdict.{dll, meta, il, pdb, Followed, followed_by, base_pdb, plain_of, debug_after}
+
+-- a number as one of 64 bits without a sign
+abbrev pub number_loaded : {T : Type 0} → Argument T → ℕ
+number_loaded (number n) = cast_unsigned w64 n
+number_loaded _ = 0
+
+-- what an instruction loads, if it is `ldc.i4` with an operand
+abbrev pub loaded_by : {T : Type 0} → Instruction T → ℕ
+loaded_by i = if i.op.byte == 0x20 then number_loaded i.arg else 0
+
+-- and all instructions of a method
+abbrev pub loaded_in_body : Option Cell → ℕ
+loaded_in_body (Some (body (Some b))) = sum_by (λ (x : ℕ × Instruction (List ℕ)). loaded_by x.1) b.code
+loaded_in_body _ = 0
+
+-- and of all methods, modulo 2^64
+unfoldable pub sum_loaded : Module → ℕ
+sum_loaded m = sum_by (λ (r : Row). loaded_in_body (slice_get r.cells 0)) (rows_in m tables.method_def) % 2 ^ 64
+
+-- the line of a case, with its words as they were given
+unfoldable pub case_line : List ℕ → List ℕ → Module → List ℕ
+case_line start count m =
+    codes "gen " ++ start ++ 0x20 ∷ count ++ codes " methods " ++ decimal (row_count m tables.method_def) ++ codes " sum " ++ decimal (sum_loaded m) ++ 0x0a ∷ []
+
+-- a PDB in which nothing is known
+abbrev pub no_points : PlainPdb
+no_points method = unknown
+
+-- the names of a list's delta, and of the module after all
+abbrev pub delta_name : List ℕ → ℕ → List ℕ
+delta_name out list = out ++ codes "_" ++ decimal list
+
+abbrev pub last_name : List ℕ → List ℕ
+last_name out = out ++ codes "_all"
+
+-- the saves of a module with its PDB, and those of a delta
+abbrev pub module_saves : List ℕ → List ℕ → List ℕ → List (List ℕ × List ℕ)
+module_saves name image symbols = (dll name, image) ∷ (pdb name, symbols) ∷ []
+
+abbrev pub delta_saves : List ℕ → DeltaBytes → List (List ℕ × List ℕ)
+delta_saves name d = (meta name, d.meta) ∷ (il name, d.il) ∷ (pdb name, d.pdb) ∷ []
+
+-- a module that was written, with its PDB, is the base of what follows
+pub record Begins (image symbols : List ℕ) (f : Followed) : Type 0 where
+  pub base : base_of image ≡ Ok f.base
+  pub debug : base_pdb f.base (Some symbols) ≡ Ok f.debug
+  pub deltas : f.deltas ≡ []
+  pub debugs : f.debugs ≡ []
+
+-- the saves of lists, the first with a number: each list's delta stands for it after those before it, and is accepted
+abbrev pub StandInTurn : List ℕ → ℕ → Followed → List EditList → List (List ℕ × List ℕ) → Followed → Type 0
+StandInTurn out list f [] saves after = (saves ≡ []) × (after ≡ f)
+StandInTurn out list f (l ∷ lists) saves after =
+    (d : DeltaBytes) × (a : Accepted) × (rest : List (List ℕ × List ℕ))
+    × (StandsFor (chain_with f.base f.deltas) l d)
+    × (judged (chain_with f.base f.deltas) (delta_of d.meta d.il) (Some d.pdb) ≡ Ok a)
+    × (saves ≡ delta_saves (delta_name out list) d ++ rest)
+    × StandInTurn out (list + 1) (followed_by f a) lists rest after
+
+-- the saves of a case: the generated base, each list's delta, and the module with all of them, which is the base with all lists made directly
+pub record AreFilesOfCase (out : List ℕ) (lists : List EditList) (saves : List (List ℕ × List ℕ)) : Type 0 where
+  pub image : List ℕ
+  pub symbols : List ℕ
+  pub deltas : List (List ℕ × List ℕ)
+  pub last_image : List ℕ
+  pub last_symbols : List ℕ
+  pub begun : Followed
+  pub after : Followed
+  pub saved : saves ≡ module_saves out image symbols ++ deltas ++ module_saves (last_name out) last_image last_symbols
+  pub base_is : MeansModule generated_base image
+  pub base_debug : MeansPdb no_points (row_count generated_base tables.method_def) symbols
+  pub begins : Begins image symbols begun
+  pub stand : StandInTurn out 1 begun lists deltas after
+  pub plain_is : plain_of after ≡ edited_by generated_base lists
+  pub last_is : MeansModule (plain_of after) last_image
+  pub last_debug : MeansPdb (debug_after after) (row_count (plain_of after) tables.method_def) last_symbols

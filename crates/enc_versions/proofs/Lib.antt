@@ -1,0 +1,4 @@
+pub mod Lines
+pub mod Begun
+pub mod Committed
+pub mod AfterCommit

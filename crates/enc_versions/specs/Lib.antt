@@ -1,0 +1,5 @@
+pub mod Version
+pub mod StandFor
+pub mod Commit
+pub mod Laws
+pub mod Shared

@@ -1,0 +1,128 @@
+//! The body of one method in one generation.
+ghost use Rattle.std.specs.Prelude.{◌≡◌, ◌<◌, ◌^◌, length, IsTrue, IfOk};
+ghost use Rattle.enc_opcodes.specs.Body.{code_seen};
+ghost use Rattle.enc_versions.specs.Commit.{is_entry, version_in};
+
+use crate::list::CodeEntry;
+use enc_base::{Bytes, Token};
+use enc_opcodes::CodeRef;
+use enc_seqpoints::Points;
+use std::alloc::{AllocError, Global};
+use std::marker::Model;
+use std::rc::Rc;
+
+/// The bytes of a body and what its header says; methods that share a body share one of these.
+#[derive(Drop)]
+pub(crate) struct Stored {
+    max: u16,
+    init: bool,
+    locals: Token,
+    code: Bytes,
+    sections: Bytes,
+}
+
+impl Model for Stored {
+    ghost use Rattle.std.specs.Prelude.{◌<◌, ◌^◌, length};
+    ghost use Rattle.enc_opcodes.specs.Body.{Code};
+
+    ghost Value = { Code };
+
+    ghost view = { λ b. record { max = b.max; init = b.init; locals = b.locals; code = b.code; sections = b.sections } };
+
+    ghost invariant = { λ b. length b.code < 2 ^ 32 };
+}
+
+impl Stored {
+    /// A copy of a body.
+    pub(crate) fn of(alloc: Global, code: &CodeRef<'_>) -> Result<Stored, AllocError>
+        requires { length code.now.code.now < 2 ^ 32 }
+        ensures { IfOk result (λ b. b ≡ code_seen code.now) }
+    {
+        Ok(Stored {
+            max: code.max,
+            init: code.init,
+            locals: code.locals,
+            code: copied(alloc, code.code)?,
+            sections: copied(alloc, code.sections)?,
+        })
+    }
+
+    /// The body where it stands.
+    fn code(&self) -> CodeRef<'_>
+        ensures body { code_seen result ≡ self.now }
+        ensures few { length self.now.code < 2 ^ 32 }
+    {
+        CodeRef {
+            max: self.max,
+            init: self.init,
+            locals: self.locals,
+            code: self.code.as_slice(),
+            sections: self.sections.as_slice(),
+        }
+    }
+}
+
+/// A copy of bytes.
+fn copied(alloc: Global, bytes: &[u8]) -> Result<Bytes, AllocError>
+    ensures { IfOk result (λ b. b ≡ bytes.now) }
+{
+    let mut copy = Vec::new(alloc);
+    copy.extend_from_slice(bytes)?;
+    Ok(Bytes::from_vec(copy))
+}
+
+/// The body of one method in one generation and its sequence points. It is made by `Versions` alone
+/// and never changes, so that whoever holds it goes on in it while newer ones come.
+#[derive(Drop)]
+pub struct Code {
+    stored: Rc<Stored>,
+    points: Points,
+}
+
+impl Model for Code {
+    ghost use Rattle.enc_versions.specs.Version.{Version};
+
+    ghost Value = { Version };
+
+    ghost view = { λ c. record { code = c.stored.value; points = c.points } };
+}
+
+impl Code {
+    /// A body with its points.
+    pub(crate) fn of(stored: Rc<Stored>, points: Points) -> Code
+        ensures { result ≡ record { code = stored.value; points = points } }
+    {
+        Code { stored, points }
+    }
+
+    /// The body that an entry brings, with its points.
+    pub(crate) fn from_entry(alloc: Global, entry: CodeEntry) -> Result<Code, AllocError>
+        requires { IsTrue (is_entry entry) }
+        ensures { IfOk result (λ c. c ≡ (version_in entry).version) }
+    {
+        let stored = Stored {
+            max: entry.max,
+            init: entry.init,
+            locals: entry.locals,
+            code: entry.code,
+            sections: entry.sections,
+        };
+        Ok(Code::of(Rc::new(alloc, stored)?, entry.points))
+    }
+
+    /// The body (ECMA-335 II.25.4). It takes no memory.
+    pub fn body(&self) -> CodeRef<'_>
+        ensures body { code_seen result ≡ self.now.code }
+        ensures few { length self.now.code.code < 2 ^ 32 }
+    {
+        self.stored.as_ref().code()
+    }
+
+    /// The sequence points and the local signature row of the method in that generation (Portable PDB
+    /// v1.0). They take no memory.
+    pub fn points(&self) -> &Points
+        ensures { result.now ≡ self.now.points }
+    {
+        &self.points
+    }
+}
