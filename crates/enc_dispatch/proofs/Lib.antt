@@ -1,0 +1,12 @@
+pub mod Equivalence
+pub mod Climbs
+pub mod Turns
+pub mod Meant
+pub mod Reached
+pub mod Each
+pub mod Put
+pub mod Sharing
+pub mod Found
+pub mod Owns
+pub mod Bodies
+pub mod SlotLaws

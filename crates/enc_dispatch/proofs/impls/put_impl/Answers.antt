@@ -1,0 +1,14 @@
+use Rattle.std.proofs.Common.{sym, ◌∙◌}
+use Rattle.std.proofs.lemmas.Result.{IfOk-weaker}
+use Rattle.enc_dispatch.proofs.Put.{impl_other, impl_put}
+use Rattle.enc_dispatch.proofs.impls.put_impl.Goals as goal
+
+pub returns-then-not-is_given : goal.returns-then-not-is_given
+returns-then-not-is_given g c =
+    impl_other (g.V.ModuleView.meaning c.args.view.now) c.args.n c.token-class.result c.token-body.result c.token-declaration.result c.args.impls.now
+    c.token-class.ensures c.token-body.ensures c.token-declaration.ensures (sym c.is_given.ensures ∙ c.if-not-is_given.true)
+
+pub returns : goal.returns
+returns g c =
+    IfOk-weaker c.put_first.result _ _ (λ x put. impl_put (g.V.ModuleView.meaning c.args.view.now) c.args.n c.token-class.result c.token-body.result c.token-declaration.result c.impl_key.result c.args.impls.now _
+    c.impl_key.ensures c.token-class.ensures c.token-body.ensures c.token-declaration.ensures (sym c.is_given.ensures ∙ c.if-not-is_given.false) put) c.put_first.ensures

@@ -1,0 +1,10 @@
+use Rattle.std.proofs.Common.{◌≡◌, ℕ, take}
+use Rattle.enc_base.specs.Order.{or_else}
+use Rattle.enc_index.specs.Index.{value_at}
+use Rattle.enc_dispatch.specs.Index.{own_key}
+use Rattle.enc_dispatch.specs.Own.{own_among, in_class}
+use Rattle.enc_dispatch.proofs.own.put_kids.Given as goal
+
+abbrev pub invariant-loop-i : goal.invariant-loop-i
+invariant-loop-i g l =
+    (c s : ℕ) → value_at l.own (own_key c s) ≡ or_else (value_at l.fn.own (own_key c s)) (in_class l.class c (own_among (g.V.ModuleView.meaning l.view) l.methods l.wanted s (take l.i l.kids)))

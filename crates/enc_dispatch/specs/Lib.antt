@@ -1,0 +1,11 @@
+pub mod Columns
+pub mod Path
+pub mod Walks
+pub mod Target
+pub mod Slots
+pub mod Parts
+pub mod Buckets
+pub mod Index
+pub mod Walked
+pub mod Own
+pub mod Laws

@@ -1,0 +1,26 @@
+//! Which method a virtual call reaches, kept as a sparse index beside a module (ECMA-335 I.8.10.4, II.12.2).
+#![tactic(auto)]
+
+mod class_part;
+mod classes;
+mod climb;
+mod columns;
+mod dispatch;
+mod first;
+mod impl_part;
+mod impls;
+mod interfaces;
+mod keys;
+mod laws;
+mod method_part;
+mod methods;
+mod names;
+mod own;
+mod own_method;
+mod path;
+mod slots;
+mod walk;
+mod wanted;
+
+pub use dispatch::Dispatch;
+pub use laws::{path_law, slot_law};

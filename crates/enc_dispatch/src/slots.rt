@@ -1,0 +1,140 @@
+//! The slots of methods: each method is given the one of the first method that shares it.
+ghost use Rattle.std.specs.Prelude.{◌≡◌, ◌+◌, ◌-◌, ◌<◌, ◌≤◌, ◌^◌, ◌++◌, ◌∷◌, [], ℕ, Some, None, IfOk, length, slice_get, if◌then◌else◌};
+ghost use Rattle.enc_base.specs.Token.{nth_row};
+ghost use Rattle.enc_index.specs.declared.key.Key.{Key as TheKey};
+ghost use Rattle.enc_index.specs.Key.{is_key};
+ghost use Rattle.enc_index.specs.Index.{value_at, either};
+ghost use Rattle.enc_plain.specs.Rows.{Rows};
+ghost use Rattle.enc_schema.specs.Tables.{method_def};
+ghost use Rattle.enc_dispatch.specs.Buckets.{alike_first, bucket_key, AreBuckets};
+ghost use Rattle.enc_dispatch.specs.Slots.{slot_in};
+
+use crate::names::MethodNames;
+use enc_base::Token;
+use enc_index::{Entry, Index, Key};
+use enc_plain::CellView;
+use enc_schema::tables::METHOD_DEF;
+use std::alloc::{AllocError, Global};
+
+/// The first methods of all slots, by their keys: of each key the newest, and behind each method the
+/// one that was the newest before it.
+#[derive(Drop)]
+pub(crate) struct Slots {
+    pub heads: Index<u32>,
+    pub next: Vec<Option<u32>>,
+}
+
+/// What the newest first method with a key stands by.
+fn bucket_key(key: u64) -> Key
+    ensures { result ≡ bucket_key key }
+{
+    Key {
+        table: METHOD_DEF,
+        row: (key % 0x1_0000_0000) as u32,
+        place: (key / 0x1_0000_0000) as u32,
+    }
+}
+
+impl Slots {
+    /// No method has a slot yet. It takes no memory.
+    pub fn new(alloc: Global) -> Slots
+        ensures size { length result.next.items ≡ 0 }
+        ensures buckets { (rows : Rows) → AreBuckets rows result.heads result.next.items }
+    {
+        Slots {
+            heads: Index::new(),
+            next: Vec::new(alloc),
+        }
+    }
+
+    /// The newest first method with a key.
+    fn head(&self, key: u64) -> Option<u32>
+        ensures { result ≡ value_at self.now.heads (bucket_key key) }
+    {
+        self.heads.get(bucket_key(key)).copied()
+    }
+
+    /// The first method that was the newest with its key before a row.
+    fn before(&self, row: u32) -> Option<u32>
+        requires some { 0 < row }
+        requires there { row ≤ length self.now.next.items }
+        ensures { slice_get self.now.next.items (row - 1) ≡ Some result }
+    {
+        match self.next.get(row as usize - 1) {
+            Some(next) => *next,
+            None => unreachable!(),
+        }
+    }
+
+    /// The first method of the slot that a method shares, among those with its key.
+    fn first_alike<R: CellView>(
+        &self,
+        names: &mut MethodNames<'_, R>,
+        key: u64,
+        method: Token,
+    ) -> Option<u32>
+        requires table { method.table ≡ method_def }
+        requires buckets { AreBuckets (R.rows names.old) self.now.heads self.now.next.items }
+        ensures first { result ≡ alike_first (R.rows names.old) key method (length self.now.next.items) }
+        ensures names { names.new ≡ names.old }
+    {
+        let mut at = self.head(key);
+        while let Some(row) = at {
+            if names.share_slot(row, method) {
+                return Some(row);
+            }
+            at = self.before(row);
+        }
+        None
+    }
+
+    /// Puts a method behind the others. Without memory nothing changes.
+    fn add(&mut self, key: u64) -> Result<(), AllocError>
+        ensures heads { self.new.heads ≡ self.old.heads }
+        ensures next { IfOk result (λ _. self.new.next.items ≡ self.old.next.items ++ value_at self.old.heads (bucket_key key) ∷ []) }
+    {
+        let head = self.head(key);
+        self.next.push(head)?;
+        Ok(())
+    }
+
+    /// Puts a method that is the first of its slot behind the others.
+    fn add_first(&mut self, alloc: Global, key: u64, row: u32) -> Result<(), AllocError>
+        ensures heads { IfOk result (λ _. (q : TheKey) → value_at self.new.heads q ≡ either (if is_key (bucket_key key) q then Some row else None) (value_at self.old.heads q)) }
+        ensures next { IfOk result (λ _. self.new.next.items ≡ self.old.next.items ++ value_at self.old.heads (bucket_key key) ∷ []) }
+    {
+        let entry = Entry::new(alloc, bucket_key(key), row)?;
+        self.add(key)?;
+        self.heads.put(entry);
+        Ok(())
+    }
+
+    /// The slot of the next method, the n-th from 0: the row of the first that shares it. It takes
+    /// memory for the method and for what `MethodNames::key` learns.
+    pub fn slot_for<R: CellView>(
+        &mut self,
+        alloc: Global,
+        names: &mut MethodNames<'_, R>,
+        n: u32,
+    ) -> Result<u32, AllocError>
+        requires few { n < 2 ^ 24 }
+        requires size { length self.old.next.items ≡ n }
+        requires buckets { AreBuckets (R.rows names.old) self.old.heads self.old.next.items }
+        ensures slot { IfOk result (λ s. slot_in (R.rows names.old) (nth_row method_def n) ≡ Some s) }
+        ensures buckets { IfOk result (λ _. AreBuckets (R.rows names.old) self.new.heads self.new.next.items) }
+        ensures size { IfOk result (λ _. length self.new.next.items ≡ n + 1) }
+        ensures names { names.new ≡ names.old }
+    {
+        let method = Token {
+            table: METHOD_DEF,
+            row: n + 1,
+        };
+        let key = names.key(alloc, method)?;
+        let Some(row) = self.first_alike(names, key, method) else {
+            self.add_first(alloc, key, n + 1)?;
+            return Ok(n + 1);
+        };
+        self.add(key)?;
+        Ok(row)
+    }
+}

@@ -1,0 +1,5 @@
+pub mod Thrown
+pub mod Search
+pub mod Walk
+pub mod Laws
+pub mod Example

@@ -1,0 +1,18 @@
+//! Which clause of a body is next where an object is thrown or protected code is left (ECMA-335 I.12.4.2).
+#![tactic(auto)]
+
+mod catches;
+mod kinds;
+mod laws;
+mod passing;
+mod runs;
+mod search;
+mod stop;
+mod thrown;
+mod types;
+mod walk;
+
+pub use laws::{caught_law, example_searches, search_laws};
+pub use search::{catch_in, next_handler};
+pub use stop::Stop;
+pub use thrown::Thrown;
