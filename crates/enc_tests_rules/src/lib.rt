@@ -1,7 +1,9 @@
-//! What the crates of edit lists' rules and of newest bodies answer, asked by their public calls: values
-//! from outside.
+//! What the crates of edit lists' rules, of newest bodies, of targets and of the search for clauses answer,
+//! asked by their public calls: values from outside.
 #![tactic(auto)]
 
+#[cfg(test)]
+mod dispatch;
 #[cfg(test)]
 mod rules;
 #[cfg(test)]
