@@ -9,6 +9,7 @@ use Rattle.enc_plain.specs.Rows.{Rows}
 use Rattle.enc_plain.specs.Signatures.{signature_column}
 use Rattle.enc_delta.specs.Changes.{is_member, name_column}
 use Rattle.enc_delta.specs.Gains.{has_signature}
+use Rattle.enc_delta.specs.Members.{is_member_table}
 
 pub field_flags : (t : ℕ) → t ≡ 0x04 → kind_in t 0 ≡ Some numbers
 unfolding columns_in
@@ -49,10 +50,9 @@ named t h =
       ]
     ]
 
--- it has a name
-pub name_kind : (rows : Rows) (t : Token) → IsTrue (is_member rows t) → kind_in t.table (name_column t.table) ≡ Some texts
-unfolding is_member
-name_kind rows t h = named t.table (tables t.table _ _ h)
+-- rows of these tables have names
+pub name_kind : (t : ℕ) → IsTrue (is_member_table t) → kind_in t (name_column t) ≡ Some texts
+name_kind t h = named t (grind (arith, nat_tests))
 
 -- and a signature, where it is no event
 signed : (t : ℕ) → (t ≡ 0x04) ⊎ (t ≡ 0x06) ⊎ (t ≡ 0x14) ⊎ (t ≡ 0x17) → (t == 0x14) ≡ false → has_signature t ≡ true

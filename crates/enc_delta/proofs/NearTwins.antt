@@ -26,14 +26,14 @@ use Rattle.enc_delta.proofs.MembersBeside.{no_pair, any_filter, any_map, any_sam
 use Rattle.enc_delta.proofs.TwinsTold.{twin_counts, twin_name, twin_alike, child_is, absorbed, swap_or, filtered, least_more}
 
 -- tests of lists by their places
-where_one : {A : Type 0} (f : A → Bool) (xs : List A) (d : A) → list_any f xs ≡ true → (i : ℕ) × (i < length xs) × (f (get_or xs i d) ≡ true)
+pub where_one : {A : Type 0} (f : A → Bool) (xs : List A) (d : A) → list_any f xs ≡ true → (i : ℕ) × (i < length xs) × (f (get_or xs i d) ≡ true)
 where_one f [] d h = absurd cc
 where_one f (x ∷ xs) d h = elim (two (f x)) [
   | inl is ↦ (0, omega arith, is)
   | inr fails ↦ let w = where_one f xs d (rw fails at h) in (suc w.0, omega (arith, w.1), w.2)
 ]
 
-iff_is : (a b : Bool) → (a ≡ true → b ≡ true) → (b ≡ true → a ≡ true) → a ≡ b
+pub iff_is : (a b : Bool) → (a ≡ true → b ≡ true) → (b ≡ true → a ≡ true) → a ≡ b
 iff_is true true f g = refl
 iff_is true false f g = sym (f refl)
 iff_is false true f g = g refl
@@ -49,7 +49,7 @@ none_at f xs i d h l = elim (two (f (get_or xs i d))) [ inl is ↦ let e : false
 no_true : {A : Type 0} (b : Bool) → b ≡ true → b ≡ false → A
 no_true b h e = let f : false ≡ true = sym e ∙ h in absurd cc
 
-both_true : (a b : Bool) → a ≡ true → b ≡ true → (a && b) ≡ true
+pub both_true : (a b : Bool) → a ≡ true → b ≡ true → (a && b) ≡ true
 both_true a b e f = rw (e, f) refl
 
 three_of : (a b c : Bool) → not (a && b && c) ≡ false → (a ≡ true) × (b ≡ true) × (c ≡ true)
@@ -82,7 +82,7 @@ twin_of q a k h = both_right (is_beside a k) (is_twin_row q a k.child.row) h
 name_of : (q : Asked) (a k : Pair) → is_twin_beside q a k ≡ true → q.name k.child ≡ q.name a.child
 name_of q a k h = ap q.name (child_is a k (beside_of q a k h)) ∙ sym (twin_name q a.child (record { table = a.child.table; row = k.child.row }) (twin_of q a k h))
 
-counts_of : (q : Asked) (a k : Pair) → is_twin_beside q a k ≡ true → q.counts k.child ≡ true
+pub counts_of : (q : Asked) (a k : Pair) → is_twin_beside q a k ≡ true → q.counts k.child ≡ true
 counts_of q a k h = ap q.counts (child_is a k (beside_of q a k h)) ∙ twin_counts q a.child (record { table = a.child.table; row = k.child.row }) (twin_of q a k h)
 
 alike_of : (q : Asked) (a k : Pair) → is_twin_beside q a k ≡ true → q.alike a.child k.child ≡ true
@@ -95,7 +95,7 @@ owners : (q : Asked) (a k : Pair) → is_twin_beside q a k ≡ true → owner_ke
 unfolding owner_key
 owners q a k h = rw (owner_same a k (beside_of q a k h), table_same a k (beside_of q a k h)) refl
 
-names_one : (q : Asked) (a k : Pair) → is_twin_beside q a k ≡ true → name_key q k ≡ name_key q a
+pub names_one : (q : Asked) (a k : Pair) → is_twin_beside q a k ≡ true → name_key q k ≡ name_key q a
 unfolding name_key
 names_one q a k h = rw (name_of q a k h, owners q a k h) refl
 
@@ -223,7 +223,7 @@ reordered q before after g same = same (twinned q g after) ∙ any_same (twinned
 abbrev pub gathered : Asked → List Pair → List Pair → List Keyed
 gathered q pairs old = map (keyed_by_name q true) (filter (λ (k : Pair). q.counts k.child) pairs) ++ map (keyed_by_name q false) (filter (λ (k : Pair). q.counts k.child) old)
 
-any_named : (q : Asked) (new : Bool) (f : Keyed → Bool) (xs : List Pair) → list_any f (map (keyed_by_name q new) (filter (λ (k : Pair). q.counts k.child) xs)) ≡ list_any (λ (k : Pair). q.counts k.child && f (keyed_by_name q new k)) xs
+pub any_named : (q : Asked) (new : Bool) (f : Keyed → Bool) (xs : List Pair) → list_any f (map (keyed_by_name q new) (filter (λ (k : Pair). q.counts k.child) xs)) ≡ list_any (λ (k : Pair). q.counts k.child && f (keyed_by_name q new k)) xs
 any_named q new f xs = any_map (keyed_by_name q new) f (filter (λ (k : Pair). q.counts k.child) xs) ∙ any_filter (λ (k : Pair). q.counts k.child) (λ k. f (keyed_by_name q new k)) xs
 
 any_gathered : (q : Asked) (f : Keyed → Bool) (pairs old : List Pair) → list_any f (gathered q pairs old) ≡ (list_any (λ (k : Pair). q.counts k.child && f (keyed_by_name q true k)) pairs || list_any (λ (k : Pair). q.counts k.child && f (keyed_by_name q false k)) old)
@@ -280,7 +280,7 @@ named_keyed q pairs old entries rows same = same_keyed q (name_key q) (gathered 
 least_same : (ns ms : List ℕ) → ((n : ℕ) → stands_in ns n ≡ stands_in ms n) → least ns ≡ least ms
 least_same ns ms h = least_unique (stands_in ns) (stands_in ms) (least ns) (least ms) h (least_is ns) (least_is ms)
 
-abbrev in_all : Asked → List Pair → Pair → Bool
+abbrev pub in_all : Asked → List Pair → Pair → Bool
 in_all q all a = q.counts a.child && list_any (is_twin_beside q a) all
 
 aside : (a b c : Bool) → ((a && b) && c) ≡ ((a && c) && b)
@@ -327,7 +327,7 @@ told_by q m pairs old a are child there =
     ∙ ap (λ b. list_any (is_twin_row q a) (kids_of m a.owner a.child.table) || b) (sym (any_gained (is_twin_row q a) pairs a))
     ∙ sym (list_any-append (is_twin_row q a) (kids_of m a.owner a.child.table) (gained (map pair_seen pairs) a.owner a.child.table))
 
-twin_is : (q : Asked) (m : Module) (pairs old : List Pair) (i : ℕ) → AreOld q m pairs old → AreChildren q pairs → i < length pairs → in_all q (pairs ++ old) (get_or pairs i no_pair) ≡ has_twin q m (map pair_seen pairs) (pair_seen (get_or pairs i no_pair))
+pub twin_is : (q : Asked) (m : Module) (pairs old : List Pair) (i : ℕ) → AreOld q m pairs old → AreChildren q pairs → i < length pairs → in_all q (pairs ++ old) (get_or pairs i no_pair) ≡ has_twin q m (map pair_seen pairs) (pair_seen (get_or pairs i no_pair))
 unfolding has_twin
 twin_is q m pairs old i are children l =
     let a = get_or pairs i no_pair in
@@ -339,10 +339,11 @@ twin_is q m pairs old i are children l =
       | inr c ↦ rw c refl
     ]
 
-pub twins_told : (q : Asked) (keys : Token → ℕ) (m : Module) (pairs old : List Pair) (entries last : List Keyed) (o : Option ℕ) → ArePairs pairs → AreOld q m pairs old → AreChildren q pairs → AreSame (gathered q pairs old) entries → IsNonDecreasingBy (λ (e : Keyed). e.key) entries → AreSame (near_told q keys entries (length entries)) last → o ≡ least (map keyed_number (filter (is_new_twin q last) last)) → at_token o ≡ twin_fault q m (map pair_seen pairs)
+-- so the least that has one is named, once each is told by these
+pub twins_told : (q : Asked) (keys : Token → ℕ) (m : Module) (pairs old : List Pair) (entries last : List Keyed) (o : Option ℕ) → ArePairs pairs → ((i : ℕ) → i < length pairs → in_all q (pairs ++ old) (get_or pairs i no_pair) ≡ has_twin q m (map pair_seen pairs) (pair_seen (get_or pairs i no_pair))) → AreSame (gathered q pairs old) entries → IsNonDecreasingBy (λ (e : Keyed). e.key) entries → AreSame (near_told q keys entries (length entries)) last → o ≡ least (map keyed_number (filter (is_new_twin q last) last)) → at_token o ≡ twin_fault q m (map pair_seen pairs)
 unfolding twin_fault
-twins_told q keys m pairs old entries last o rows are children same sorted again is =
-    ap at_token (is ∙ least_same (map keyed_number (filter (is_new_twin q last) last)) (map (λ (k : Pair). number_of k.child) (filter (in_all q (pairs ++ old)) pairs)) (λ n. numbers_same q keys pairs old entries last n rows same sorted again) ∙ ap least (filtered (in_all q (pairs ++ old)) (has_twin q m (map pair_seen pairs)) pairs (λ i l. twin_is q m pairs old i are children l)))
+twins_told q keys m pairs old entries last o rows told same sorted again is =
+    ap at_token (is ∙ least_same (map keyed_number (filter (is_new_twin q last) last)) (map (λ (k : Pair). number_of k.child) (filter (in_all q (pairs ++ old)) pairs)) (λ n. numbers_same q keys pairs old entries last n rows same sorted again) ∙ ap least (filtered (in_all q (pairs ++ old)) (has_twin q m (map pair_seen pairs)) pairs told))
 
 -- one of another key is no twin, and beyond it there is none
 pub no_twin_above : (q : Asked) (keys : Token → ℕ) (entries : List Keyed) (k j l : ℕ) → AlikeHaveOneKey q keys → AreKeyed q (twin_key q keys) entries → IsNonDecreasingBy (λ (e : Keyed). e.key) entries → k < j → j ≤ l → l < length entries → ((keyed_at entries j).key == (keyed_at entries k).key) ≡ false → is_twin_of q (keyed_at entries k) (keyed_at entries l) ≡ false

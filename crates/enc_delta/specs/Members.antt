@@ -1,11 +1,12 @@
 -- For the contracts of private functions: how twins are looked for: among the members of all owners, by numbers that twins have in common.
-use Rattle.std.specs.Prelude.{◌≡◌, ℕ, zero, suc, ◌+◌, ◌-◌, ◌<◌, Bool, true, false, not, ◌&&◌, ◌||◌, ◌==◌, nat_lt, List, [], ◌∷◌, ◌++◌, length, slice_index_or, Option, Some, None, if◌then◌else◌, IsTrue}
+use Rattle.std.specs.Prelude.{◌≡◌, ℕ, zero, suc, ◌+◌, ◌-◌, ◌<◌, ◌≤◌, Bool, true, false, not, ◌&&◌, ◌||◌, ◌==◌, nat_lt, List, [], ◌∷◌, ◌++◌, length, slice_index_or, Option, Some, None, if◌then◌else◌, IsTrue}
 use Rattle.std.specs.List.{list_any, list_all}
 use Rattle.enc_base.specs.Token.{is_token, number_of}
 use Rattle.enc_base.specs.declared.token.Token.{Token}
 use Rattle.enc_sigs.specs.Mix.{mix_of, mixed, mixed_ends, finished}
 use Rattle.enc_sigs.specs.declared.mix.Mix.{Mix}
 use Rattle.enc_schema.specs.Children.{is_child_table}
+use Rattle.enc_schema.specs.Tables as tables
 use Rattle.enc_plain.specs.Module.{Module, kids_of}
 use Rattle.enc_plain.specs.Apply.{Attached}
 use Rattle.enc_delta.specs.declared.pairs.Pair.{Pair}
@@ -45,6 +46,14 @@ is_twin_row q a row = is_twin q a.child (record { table = a.child.table; row = r
 abbrev pub is_twin_beside : Asked → Pair → Pair → Bool
 is_twin_beside q a k = is_beside a k && is_twin_row q a k.child.row
 
+-- the tables of members: Field, MethodDef, Event, Property (ECMA-335 II.22.15, II.22.26, II.22.13, II.22.34)
+abbrev pub is_member_table : ℕ → Bool
+is_member_table table = table == tables.field || table == tables.method_def || table == tables.event || table == tables.property
+
+-- those that count are rows of these
+abbrev pub AreInMemberTables : Asked → Type 0
+AreInMemberTables q = (t : Token) → q.counts t ≡ true → is_member_table t.table ≡ true
+
 -- members with alike signatures have one key
 abbrev pub AlikeHaveOneKey : Asked → (Token → ℕ) → Type 0
 AlikeHaveOneKey q keys = (t u : Token) → q.counts t ≡ true → q.counts u ≡ true → t.table ≡ u.table → q.alike t u ≡ true → keys t ≡ keys u
@@ -75,6 +84,20 @@ no_keyed = record { key = 0; pair = record { owner = record { table = 0; row = 0
 -- the k-th of some members
 abbrev pub keyed_at : List Keyed → ℕ → Keyed
 keyed_at entries k = slice_index_or entries k no_keyed
+
+-- one of some members has a key
+abbrev pub has_key : List Keyed → ℕ → Bool
+has_key entries key = list_any (λ (e : Keyed). e.key == key) entries
+
+-- of members in the order of their keys, those of a lesser one stand in front
+pub record IsKeyCut (entries : List Keyed) (key i : ℕ) : Type 0 where
+  pub within : i ≤ length entries
+  pub less : (k : ℕ) → k < i → (keyed_at entries k).key < key
+  pub rest : (k : ℕ) → i ≤ k → k < length entries → key ≤ (keyed_at entries k).key
+
+-- the child is of a table of members, and one of some members has its name's key
+abbrev pub is_namesake : Asked → List Keyed → Pair → Bool
+is_namesake q entries k = is_member_table k.child.table && has_key entries (name_key q k)
 
 -- the one before or the one behind has the same key
 unfoldable pub has_neighbour : List Keyed → ℕ → Bool

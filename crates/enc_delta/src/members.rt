@@ -14,7 +14,7 @@ ghost use Rattle.enc_delta.specs.Twins.{twin_fault};
 ghost use Rattle.enc_delta.specs.Members.{pair_seen, ArePairs};
 ghost use Rattle.enc_plain.specs.Keys.{member_key};
 ghost use Rattle.enc_plain.specs.Known.{AreKnownAlike};
-ghost use Rattle.enc_delta.specs.OneKey.{one_key};
+ghost use Rattle.enc_delta.specs.OneKey.{in_member_tables, one_key};
 ghost use Rattle.enc_delta.specs.Changes.{is_value_type, has_layout, is_out_of_layout, has_no_slot, least_child, is_member, asked_of, name_column, same_signature, field_out_of_layout, method_without_slot, twin_member};
 ghost use Rattle.enc_schema.specs.Tables.{type_def};
 
@@ -312,6 +312,8 @@ impl<R: CellView> Members for Signatures<'_, R> {
     ghost asked = { λ r. asked_of (R.rows r) };
 
     ghost keys = { λ r. member_key (R.rows r) };
+
+    ghost tables = { λ r. in_member_tables (R.rows r) };
 
     ghost one = { λ r. one_key (R.rows r) };
 

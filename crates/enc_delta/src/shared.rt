@@ -2,10 +2,11 @@
 //! compared.
 ghost use Rattle.std.specs.Prelude.{◌≡◌, ◌<◌, ◌++◌, map, filter, length, IsTrue, IfOk};
 ghost use Rattle.std.specs.List.Sorted.{IsNonDecreasingBy};
-ghost use Rattle.enc_delta.specs.Members.{owner_key, name_key, twin_key, keyed_by_name, keyed_by_signature, has_neighbour, near_told, is_other, AreKeyed, AreChildren, AreSame};
+ghost use Rattle.enc_delta.specs.Members.{is_member_table, owner_key, name_key, twin_key, keyed_by_name, keyed_by_signature, has_key, is_namesake, has_neighbour, near_told, is_other, AreKeyed, AreChildren, AreSame, IsKeyCut};
 
 use crate::pairs::Pair;
 use crate::twins::Members;
+use enc_schema::tables::{EVENT, FIELD, METHOD_DEF, PROPERTY};
 use enc_sigs::{Mix, finished, mix_of, mixed, mixed_ends};
 use std::alloc::{AllocError, Global};
 
@@ -33,7 +34,7 @@ fn owner_key(pair: Pair) -> Mix
 /// their ends alone.
 #[tactic(auto, unfolding(crate::specs::Members::name_key))]
 fn name_key<M: Members>(members: &M, pair: Pair) -> u64
-    requires { IsTrue ((M.asked members.now).counts pair.child) }
+    requires { IsTrue (is_member_table pair.child.table) }
     ensures { result ≡ name_key (M.asked members.now) pair }
 {
     finished(mixed_ends(32, owner_key(pair), members.name(pair.child)))
@@ -79,6 +80,62 @@ pub fn sorted(mut entries: Vec<Keyed>) -> Vec<Keyed>
 {
     entries.sort_unstable_by_key(|entry| entry.key);
     entries
+}
+
+/// Whether a table is one of members (ECMA-335 II.22.15, II.22.26, II.22.13, II.22.34).
+fn is_member_table(table: u8) -> bool
+    ensures { result ≡ is_member_table table }
+{
+    table == FIELD || table == METHOD_DEF || table == EVENT || table == PROPERTY
+}
+
+/// How many of some members in the order of their numbers have a lesser one.
+fn cut(entries: &[Keyed], key: u64) -> usize
+    requires { IsNonDecreasingBy (λ (e : Keyed). e.key) entries.now }
+    ensures { IsKeyCut entries.now key result }
+{
+    entries.partition_point(|entry| entry.key < key)
+}
+
+/// Whether one of some members in the order of their numbers has a number.
+fn has_key(entries: &[Keyed], key: u64) -> bool
+    requires { IsNonDecreasingBy (λ (e : Keyed). e.key) entries.now }
+    ensures { result ≡ has_key entries.now key }
+{
+    let i = cut(entries, key);
+    if i >= entries.len() {
+        return false;
+    }
+    entries[i].key == key
+}
+
+/// Whether a pair's child is of a table of members, and one of some members has its name's number.
+fn is_namesake<M: Members>(members: &M, entries: &[Keyed], pair: Pair) -> bool
+    requires { IsNonDecreasingBy (λ (e : Keyed). e.key) entries.now }
+    ensures { result ≡ is_namesake (M.asked members.now) entries.now pair }
+{
+    is_member_table(pair.child.table) && has_key(entries, name_key(members, pair))
+}
+
+/// The pairs with whose names some members have a number in common. Nothing but the name is read, and
+/// no other pair's child is a twin of one of those members.
+pub fn namesakes<M: Members>(
+    alloc: Global,
+    members: &M,
+    entries: &[Keyed],
+    pairs: &[Pair],
+) -> Result<Vec<Pair>, AllocError>
+    requires { IsNonDecreasingBy (λ (e : Keyed). e.key) entries.now }
+    ensures { IfOk result (λ l. l.items ≡ filter (is_namesake (M.asked members.now) entries.now) pairs.now) }
+{
+    let mut kept = Vec::new(alloc);
+    for k in 0..pairs.len() {
+        let pair = pairs[k];
+        if is_namesake(members, entries, pair) {
+            kept.push(pair)?;
+        }
+    }
+    Ok(kept)
 }
 
 /// Whether the member before one or the one behind it has the same number.

@@ -6,11 +6,11 @@ ghost use Rattle.enc_schema.specs.Children.{is_child_table};
 ghost use Rattle.enc_delta.specs.Twins.{Asked, is_twin, twin_fault};
 ghost use Rattle.enc_delta.specs.TwinLaw.{NamesLeastTwin};
 ghost use Rattle.enc_delta.specs.Rules.{least};
-ghost use Rattle.enc_delta.specs.Members.{pair_seen, is_twin_beside, twin_key, keyed_at, keyed_number, has_twin_among, is_new_twin, IsTwinBehind, IsTwinBefore, AreKeyed, ArePairs, AlikeHaveOneKey};
+ghost use Rattle.enc_delta.specs.Members.{pair_seen, is_member_table, is_twin_beside, twin_key, keyed_at, keyed_number, has_twin_among, is_new_twin, IsTwinBehind, IsTwinBefore, AreKeyed, ArePairs, AreInMemberTables, AlikeHaveOneKey};
 
 use crate::lists::{lesser, placed};
 use crate::pairs::Pair;
-use crate::shared::{Keyed, add_named, learn_shared, shared, sorted};
+use crate::shared::{Keyed, add_named, learn_shared, namesakes, shared, sorted};
 use crate::siblings::{is_beside, old_members};
 use enc_base::{Place, Token};
 use enc_plain::{ChainView, ModuleView};
@@ -28,9 +28,9 @@ pub trait Members {
         ensures counts { result ≡ (asked self.now).counts member }
         ensures child { IsTrue result → IsTrue (is_child_table member.table) };
 
-    /// The name of a row that counts.
+    /// The name of a row of a table of members, whether it counts or not.
     fn name(&self, member: Token) -> &[u8]
-        requires { IsTrue ((asked self.now).counts member) }
+        requires { IsTrue (is_member_table member.table) }
         ensures { result.now ≡ (asked self.now).name member };
 
     /// Whether two rows of one table that count have alike signatures.
@@ -50,6 +50,9 @@ pub trait Members {
     fn learn(&mut self, alloc: Global, member: Token) -> Result<(), AllocError>
         requires { IsTrue ((asked self.old).counts member) }
         ensures { self.new ≡ self.old };
+
+    // Those that count are of tables of members.
+    ghost tables: { (m : Self) → AreInMemberTables (asked m) };
 
     // Those with alike signatures have one.
     ghost one: { (m : Self) → AlikeHaveOneKey (asked m) (keys m) };
@@ -184,9 +187,11 @@ pub fn twin_fault<C: ChainView, M: Members>(
     ensures { IfOk result (λ p. p ≡ twin_fault (M.asked members.old) (C.chain chain.now).plain (map pair_seen pairs.now)) }
 {
     let old = old_members(alloc, chain, members, pairs)?;
-    let mut entries = Vec::new(alloc);
-    add_named(members, &mut entries, pairs, true)?;
-    add_named(members, &mut entries, &old, false)?;
+    let mut new = Vec::new(alloc);
+    add_named(members, &mut new, pairs, true)?;
+    let mut entries = sorted(new);
+    let kept = namesakes(alloc, members, &entries, &old)?;
+    add_named(members, &mut entries, &kept, false)?;
     let named = sorted(entries);
     learn_shared(alloc, members, &named)?;
     let told = sorted(shared(alloc, members, &named)?);
