@@ -14,6 +14,7 @@ pub mod Placing
 pub mod Halves
 pub mod MembersBeside
 pub mod NearTwins
+pub mod CutBy
 pub mod Namesakes
 pub mod PairsIn
 pub mod TwinsTold

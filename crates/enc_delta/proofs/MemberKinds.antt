@@ -4,36 +4,12 @@ use Rattle.std.specs.Prelude.{◌==◌, ◌||◌, ◌&&◌, ◌⊎◌, unwrap_or
 use Rattle.std.proofs.lemmas.Bool.Decides.{nat_tests}
 use Rattle.enc_base.specs.declared.token.Token.{Token}
 use Rattle.enc_schema.specs.Schema.{columns_in}
-use Rattle.enc_plain.specs.Cell.{numbers, texts, blobs, references, kind_in}
+use Rattle.enc_plain.specs.Cell.{texts, blobs, kind_in}
 use Rattle.enc_plain.specs.Rows.{Rows}
 use Rattle.enc_plain.specs.Signatures.{signature_column}
 use Rattle.enc_delta.specs.Changes.{is_member, name_column}
 use Rattle.enc_delta.specs.Gains.{has_signature}
 use Rattle.enc_delta.specs.Members.{is_member_table}
-
-pub field_flags : (t : ℕ) → t ≡ 0x04 → kind_in t 0 ≡ Some numbers
-unfolding columns_in
-field_flags t e = rw e refl
-
-pub method_flags : (t : ℕ) → t ≡ 0x06 → kind_in t 2 ≡ Some numbers
-unfolding columns_in
-method_flags t e = rw e refl
-
-pub type_flags : (t : ℕ) → t ≡ 0x02 → kind_in t 0 ≡ Some numbers
-unfolding columns_in
-type_flags t e = rw e refl
-
-pub type_base : (t : ℕ) → t ≡ 0x02 → kind_in t 3 ≡ Some references
-unfolding columns_in
-type_base t e = rw e refl
-
-pub reference_name : (t : ℕ) → t ≡ 0x01 → kind_in t 1 ≡ Some texts
-unfolding columns_in
-reference_name t e = rw e refl
-
-pub reference_space : (t : ℕ) → t ≡ 0x01 → kind_in t 2 ≡ Some texts
-unfolding columns_in
-reference_space t e = rw e refl
 
 -- a member is of one of four tables
 tables : (t : ℕ) (f m : Bool) → (t == 0x04 && f || t == 0x06 && m || t == 0x14 || t == 0x17) ≡ true → (t ≡ 0x04) ⊎ (t ≡ 0x06) ⊎ (t ≡ 0x14) ⊎ (t ≡ 0x17)
@@ -69,10 +45,6 @@ pub signature_kind : (t : ℕ) → IsTrue (has_signature t) → (t == 0x06) ≡ 
 unfolding columns_in
 signature_kind t h other = elim (two t h other) [ inl e ↦ rw e refl | inr e ↦ rw e refl ]
 
-pub method_signature : (t : ℕ) → t ≡ 0x06 → kind_in t 4 ≡ Some blobs
-unfolding columns_in
-method_signature t e = rw e refl
-
 pub signature_two : (t : ℕ) → IsTrue (has_signature t) → (t == 0x06) ≡ false → unwrap_or (signature_column t) 0 ≡ 2
 unfolding signature_column
 signature_two t h other = elim (two t h other) [ inl e ↦ rw e refl | inr e ↦ rw e refl ]
@@ -80,7 +52,3 @@ signature_two t h other = elim (two t h other) [ inl e ↦ rw e refl | inr e ↦
 pub signature_four : (t : ℕ) → t ≡ 0x06 → unwrap_or (signature_column t) 0 ≡ 4
 unfolding signature_column
 signature_four t e = rw e refl
-
-pub alone_kind : (t : ℕ) → t ≡ 0x11 → kind_in t 0 ≡ Some blobs
-unfolding columns_in
-alone_kind t e = rw e refl

@@ -1,20 +1,17 @@
 -- Of the old members only those that have a new member's name can be its twins.
-use Rattle.std.proofs.Common.{◌≡◌, ℕ, ◌<◌, ◌≤◌, Bool, true, false, List, ◌++◌, length, get_or, map, refl, sym, ap, ◌∙◌, inl, inr, arith}
-use Rattle.std.specs.Prelude.{◌==◌, ◌&&◌, ◌||◌, filter, nat_lt}
+use Rattle.std.proofs.Common.{◌≡◌, ℕ, ◌<◌, Bool, true, false, List, ◌++◌, length, get_or, map, refl, sym, ap, ◌∙◌, inl, inr}
+use Rattle.std.specs.Prelude.{◌==◌, ◌&&◌, ◌||◌, filter}
 use Rattle.std.specs.List.{list_any}
-use Rattle.std.specs.List.Sorted.{IsNonDecreasingBy, IsPartitionPoint}
-use Rattle.std.proofs.lemmas.Bool.{cases_lt}
-use Rattle.std.proofs.lemmas.Bool.Decides.{nat_tests}
 use Rattle.std.proofs.lemmas.List.Folds.{list_any-append, list_any_at}
 use Rattle.enc_plain.specs.Module.{Module}
 use Rattle.enc_delta.specs.declared.pairs.Pair.{Pair}
 use Rattle.enc_delta.specs.declared.shared.Keyed.{Keyed}
 use Rattle.enc_delta.specs.Twins.{Asked, has_twin}
-use Rattle.enc_delta.specs.Members.{pair_seen, is_member_table, is_twin_beside, name_key, keyed_by_name, no_keyed, keyed_at, has_key, is_namesake, AreInMemberTables, AreSame, AreOld, AreChildren, IsKeyCut}
-use Rattle.enc_delta.proofs.ListsChildren.{two, equal, equal_is}
+use Rattle.enc_delta.specs.Members.{pair_seen, is_member_table, is_twin_beside, name_key, keyed_by_name, has_key, is_namesake, AreInMemberTables, AreSame, AreOld, AreChildren}
+use Rattle.enc_delta.proofs.ListsChildren.{two, equal_is}
 use Rattle.enc_delta.proofs.MembersBeside.{no_pair, any_filter}
 use Rattle.enc_delta.proofs.TwinsTold.{absorbed}
-use Rattle.enc_delta.proofs.NearTwins.{where_one, iff_is, both_true, counts_of, names_one, gathered, any_named, in_all, twin_is}
+use Rattle.enc_delta.proofs.NearTwins.{both_true, counts_of, names_one, gathered, any_named, in_all, twin_is}
 
 -- the members that count, by their names' keys
 abbrev pub by_name : Asked → Bool → List Pair → List Keyed
@@ -50,45 +47,3 @@ kept_told q m pairs old kept new entries tables are children all same is i l = r
 pub named_same : (q : Asked) (pairs kept : List Pair) (new entries all named : List Keyed) → new ≡ by_name q true pairs → AreSame new entries → all ≡ entries ++ by_name q false kept → AreSame all named → AreSame (gathered q pairs kept) named
 named_same q pairs kept new entries all named first same both again = λ f.
     again f ∙ ap (list_any f) both ∙ list_any-append f entries (by_name q false kept) ∙ ap (λ b. b || list_any f (by_name q false kept)) (same f ∙ ap (list_any f) first) ∙ sym (list_any-append f (by_name q true pairs) (by_name q false kept))
-
--- where members are cut by a key
-lt_true : (n m : ℕ) → nat_lt n m ≡ true → n < m
-lt_true n m e = grind (arith, nat_tests)
-
-lt_false : (n m : ℕ) → nat_lt n m ≡ false → m ≤ n
-lt_false n m e = grind (arith, nat_tests)
-
-pub cut_at : (entries : List Keyed) (key i : ℕ) → i ≤ length entries → IsPartitionPoint (λ (e : Keyed). nat_lt e.key key ≡ true) (λ (e : Keyed). nat_lt e.key key ≡ false) entries i → IsKeyCut entries key i
-cut_at entries key i le p = record {
-  within = le;
-  less = λ k a. lt_true (keyed_at entries k).key key (p.0 k no_keyed (omega arith) a);
-  rest = λ k a b. lt_false (keyed_at entries k).key key (p.1 k no_keyed a b);
-}
-
--- one that has the key stands there or behind it
-found_behind : (entries : List Keyed) (key i : ℕ) → IsKeyCut entries key i → has_key entries key ≡ true → (j : ℕ) × (i ≤ j) × (j < length entries) × ((keyed_at entries j).key ≡ key)
-found_behind entries key i cut has =
-    let w = where_one (λ (e : Keyed). e.key == key) entries no_keyed has in
-    let same : (keyed_at entries w.0).key ≡ key = equal _ _ w.2 in
-    elim (cases_lt w.0 i) [
-      | inl a ↦ let less = cut.less w.0 a in absurd (omega arith)
-      | inr a ↦ (w.0, a, w.1, same)
-    ]
-
--- past the end there is none
-pub none_past : (entries : List Keyed) (key i : ℕ) → IsKeyCut entries key i → length entries ≤ i → false ≡ has_key entries key
-none_past entries key i cut past = elim (two (has_key entries key)) [
-  | inl has ↦ let w = found_behind entries key i cut has in absurd (omega (arith, w.1, w.2))
-  | inr fails ↦ sym fails
-]
-
--- the one that stands there has it, or none has
-pub one_there : (entries : List Keyed) (key i : ℕ) → IsNonDecreasingBy (λ (e : Keyed). e.key) entries → IsKeyCut entries key i → i < length entries → ((keyed_at entries i).key == key) ≡ has_key entries key
-one_there entries key i sorted cut l = iff_is _ _ (λ is. list_any_at (λ (e : Keyed). e.key == key) entries i no_keyed l is) back
-  where
-    back : has_key entries key ≡ true → ((keyed_at entries i).key == key) ≡ true
-    back has =
-        let w = found_behind entries key i cut has in
-        let up = sorted i w.0 no_keyed w.1 w.2 in
-        let least = cut.rest i (omega arith) l in
-        equal_is _ _ (omega (arith, w.3))

@@ -1,5 +1,5 @@
 -- What a delta may do to rows that are there, to the owners of its new rows, and with signatures.
-use Rattle.std.specs.Prelude.{ℕ, ◌/◌, ◌%◌, Bool, true, not, ◌&&◌, ◌||◌, ◌==◌, length, map, filter, Option, Some, None, option_and_then, unwrap_or, if◌then◌else◌, slice_get, bytes_eq, codes}
+use Rattle.std.specs.Prelude.{ℕ, ◌/◌, ◌%◌, Bool, true, not, ◌&&◌, ◌||◌, ◌==◌, length, map, filter, Option, Some, None, option_and_then, unwrap_or, if◌then◌else◌, slice_get, bytes_eq}
 use Rattle.enc_base.specs.Order.{first_below}
 use Rattle.enc_base.specs.Token.{number_of}
 use Rattle.enc_base.specs.declared.token.Token.{Token}
@@ -14,6 +14,7 @@ use Rattle.enc_plain.specs.Rows.{Rows, number_at, bytes_at, token_at}
 use Rattle.enc_plain.specs.Signatures.{signature_column, is_signature}
 use Rattle.enc_plain.specs.Alike.{tokens_alike, signatures_alike}
 use Rattle.enc_plain.specs.Apply.{Attached}
+use Rattle.enc_plain.specs.ValueType.{is_value_type}
 use Rattle.enc_plain.specs.Bodies.{code_loaded}
 use Rattle.enc_plain.specs.Chain.{Chain}
 use Rattle.enc_delta.specs.Delta.{listed}
@@ -59,14 +60,6 @@ altered_cell c s = first_below (of_nth (altered_in c s) s) (length (listed s))
 -- the least child of the Add entries of which a rule says so
 abbrev pub least_child : (Attached → Bool) → Source → Option Place
 least_child breaks s = at_token (least (map (λ (a : Attached). number_of a.child) (filter breaks (attached_of s))))
-
--- the type extends a TypeRef that is named System.ValueType or System.Enum, whatever its scope (II.10.1.3)
-unfoldable pub is_value_type : Rows → Token → Bool
-is_value_type rows t =
-    (token_at rows t columns.type_def_extends).table == tables.type_ref
-    && bytes_eq (bytes_at rows (token_at rows t columns.type_def_extends) columns.type_ref_type_namespace) (codes "System")
-    && (bytes_eq (bytes_at rows (token_at rows t columns.type_def_extends) columns.type_ref_type_name) (codes "ValueType")
-    || bytes_eq (bytes_at rows (token_at rows t columns.type_def_extends) columns.type_ref_type_name) (codes "Enum"))
 
 -- the type says how its fields are laid out, by either bit of 18 (II.23.1.15)
 abbrev pub has_layout : Rows → Token → Bool

@@ -4,6 +4,7 @@ pub mod Seen
 pub mod Cells
 pub mod Context
 pub mod Lists
+pub mod Cuts
 pub mod Pairs
 pub mod Twins
 pub mod Members

@@ -1,9 +1,9 @@
 -- For the contracts of private functions: how twins are looked for: among the members of all owners, by numbers that twins have in common.
-use Rattle.std.specs.Prelude.{◌≡◌, ℕ, zero, suc, ◌+◌, ◌-◌, ◌<◌, ◌≤◌, Bool, true, false, not, ◌&&◌, ◌||◌, ◌==◌, nat_lt, List, [], ◌∷◌, ◌++◌, length, slice_index_or, Option, Some, None, if◌then◌else◌, IsTrue}
+use Rattle.std.specs.Prelude.{◌≡◌, ℕ, zero, suc, ◌+◌, ◌-◌, ◌<◌, Bool, true, false, not, ◌&&◌, ◌||◌, ◌==◌, nat_lt, List, [], ◌∷◌, ◌++◌, length, slice_index_or, Option, Some, None, if◌then◌else◌, IsTrue}
 use Rattle.std.specs.List.{list_any, list_all}
 use Rattle.enc_base.specs.Token.{is_token, number_of}
 use Rattle.enc_base.specs.declared.token.Token.{Token}
-use Rattle.enc_sigs.specs.Mix.{mix_of, mixed, mixed_ends, finished}
+use Rattle.enc_sigs.specs.Mix.{mixed, mixed_ends, finished}
 use Rattle.enc_sigs.specs.declared.mix.Mix.{Mix}
 use Rattle.enc_schema.specs.Children.{is_child_table}
 use Rattle.enc_schema.specs.Tables as tables
@@ -12,6 +12,7 @@ use Rattle.enc_plain.specs.Apply.{Attached}
 use Rattle.enc_delta.specs.declared.pairs.Pair.{Pair}
 use Rattle.enc_delta.specs.declared.shared.Keyed.{Keyed}
 use Rattle.enc_delta.specs.declared.entry.Entry.{Entry}
+use Rattle.enc_delta.specs.Cuts.{is_number_of}
 use Rattle.enc_delta.specs.Rules.{is_add}
 use Rattle.enc_delta.specs.Twins.{Asked, is_twin}
 
@@ -58,9 +59,9 @@ AreInMemberTables q = (t : Token) → q.counts t ≡ true → is_member_table t.
 abbrev pub AlikeHaveOneKey : Asked → (Token → ℕ) → Type 0
 AlikeHaveOneKey q keys = (t u : Token) → q.counts t ≡ true → q.counts u ≡ true → t.table ≡ u.table → q.alike t u ≡ true → keys t ≡ keys u
 
--- the number of a pair's owner and table
+-- what the numbers of the members of a pair's owner in its child's table begin with
 unfoldable pub owner_key : Pair → Mix
-owner_key k = mixed (mix_of k.owner.row) k.child.table
+owner_key k = record { high = k.child.table; low = k.owner.row }
 
 -- of its owner, its table and its child's name, with up to 32 bytes at either end
 unfoldable pub name_key : Asked → Pair → ℕ
@@ -87,13 +88,7 @@ keyed_at entries k = slice_index_or entries k no_keyed
 
 -- one of some members has a key
 abbrev pub has_key : List Keyed → ℕ → Bool
-has_key entries key = list_any (λ (e : Keyed). e.key == key) entries
-
--- of members in the order of their keys, those of a lesser one stand in front
-pub record IsKeyCut (entries : List Keyed) (key i : ℕ) : Type 0 where
-  pub within : i ≤ length entries
-  pub less : (k : ℕ) → k < i → (keyed_at entries k).key < key
-  pub rest : (k : ℕ) → i ≤ k → k < length entries → key ≤ (keyed_at entries k).key
+has_key entries key = is_number_of (λ (e : Keyed). e.key) entries key
 
 -- the child is of a table of members, and one of some members has its name's key
 abbrev pub is_namesake : Asked → List Keyed → Pair → Bool

@@ -7,7 +7,7 @@ ghost use Rattle.enc_opcodes.specs.Body.{code_seen};
 ghost use Rattle.enc_plain.specs.Bodies.{code_loaded};
 ghost use Rattle.enc_schema.specs.Coding.{decoded};
 ghost use Rattle.enc_rows.specs.Layout.{rows_of};
-ghost use Rattle.enc_delta.specs.Delta.{listed, log_in};
+ghost use Rattle.enc_delta.specs.Delta.{listed, log_in, place_in};
 ghost use Rattle.enc_delta.specs.Lists.{AreTokens, AreEntries};
 ghost use Rattle.enc_delta.specs.Members.{ArePairs, pair_seen};
 ghost use Rattle.enc_delta.specs.Pairs.{attached_of};
@@ -23,6 +23,7 @@ use crate::entry::Entry;
 use crate::joined::entry_after;
 use crate::known::Known;
 use crate::pairs::Pair;
+use crate::place::{has_number, number_of};
 use enc_base::{Counts, Token};
 use enc_il::UserTexts;
 use enc_meta::Heap;
@@ -114,6 +115,17 @@ impl<C: ChainView> Context<'_, C> {
     {
         let before = self.old.view.count(table);
         row <= before || (row - before) as usize <= self.known.inserts[table as usize]
+    }
+
+    /// The position of a token among its table's in EncMap, from 1. None where EncMap lacks it: where its
+    /// tokens rise, those in memory tell so.
+    fn place(&self, token: Token) -> Option<u32>
+        ensures { result ≡ place_in (listed self.now.delta) token }
+    {
+        if self.delta.rises() && !has_number(self.tokens(), number_of(token)) {
+            return None;
+        }
+        self.delta.place(token)
     }
 
     /// The number that stands in a column of the delta's own row for a token.
@@ -234,7 +246,7 @@ impl<C: ChainView> CellView for Context<'_, C> {
 
     #[tactic(auto, using(crate::proofs::OwnRows::has_own, crate::proofs::OwnRows::has_old))]
     fn has(&self, row: Token) -> bool {
-        match self.delta.place(row) {
+        match self.place(row) {
             Some(_) => true,
             None => self.old.has(row),
         }
@@ -242,7 +254,7 @@ impl<C: ChainView> CellView for Context<'_, C> {
 
     #[tactic(auto, using(crate::proofs::OwnRows::number_own, crate::proofs::OwnRows::number_old))]
     fn number(&self, row: Token, column: u8) -> u32 {
-        match self.delta.place(row) {
+        match self.place(row) {
             Some(place) => self.own(row, place, column),
             None => self.old.number(row, column),
         }
@@ -250,7 +262,7 @@ impl<C: ChainView> CellView for Context<'_, C> {
 
     #[tactic(auto, using(crate::proofs::OwnRows::text_own, crate::proofs::OwnRows::bytes_old))]
     fn text(&self, row: Token, column: u8) -> &[u8] {
-        match self.delta.place(row) {
+        match self.place(row) {
             Some(place) => self.text_or_none(self.own(row, place, column)),
             None => self.old.text(row, column),
         }
@@ -258,14 +270,14 @@ impl<C: ChainView> CellView for Context<'_, C> {
 
     #[tactic(auto, using(crate::proofs::OwnRows::blob_own, crate::proofs::OwnRows::bytes_old))]
     fn blob(&self, row: Token, column: u8) -> &[u8] {
-        match self.delta.place(row) {
+        match self.place(row) {
             Some(place) => self.blob_or_none(self.own(row, place, column)),
             None => self.old.blob(row, column),
         }
     }
 
     fn blob_place(&self, row: Token, column: u8) -> Option<u64> {
-        match self.delta.place(row) {
+        match self.place(row) {
             Some(place) => self.own_place(self.own(row, place, column)),
             None => self.old_place(row, column),
         }
@@ -273,7 +285,7 @@ impl<C: ChainView> CellView for Context<'_, C> {
 
     #[tactic(auto, using(crate::proofs::OwnRows::index_own, crate::proofs::OwnRows::coded_own, crate::proofs::OwnRows::token_old))]
     fn token(&self, row: Token, column: u8) -> Token {
-        let Some(place) = self.delta.place(row) else {
+        let Some(place) = self.place(row) else {
             return self.old.token(row, column);
         };
         let number = self.own(row, place, column);

@@ -29,7 +29,7 @@ fn begins_locals(blob: &[u8]) -> bool
 }
 
 /// The body's local signature is nil, or begins as one of locals.
-#[tactic(auto, using(crate::proofs::MemberKinds::alone_kind))]
+#[tactic(auto, using(enc_plain::proofs::ColumnKinds::alone_kind))]
 fn locals_begin<C: ChainView>(context: &Context<'_, C>, code: &CodeRef<'_>) -> bool
     ensures { result ≡ locals_begin (joined_rows context.now) (Some (code_seen code.now)) }
 {

@@ -15,7 +15,8 @@ ghost use Rattle.enc_delta.specs.Members.{pair_seen, ArePairs};
 ghost use Rattle.enc_plain.specs.Keys.{member_key};
 ghost use Rattle.enc_plain.specs.Known.{AreKnownAlike};
 ghost use Rattle.enc_delta.specs.OneKey.{in_member_tables, one_key};
-ghost use Rattle.enc_delta.specs.Changes.{is_value_type, has_layout, is_out_of_layout, has_no_slot, least_child, is_member, asked_of, name_column, same_signature, field_out_of_layout, method_without_slot, twin_member};
+ghost use Rattle.enc_plain.specs.ValueType.{is_value_type};
+ghost use Rattle.enc_delta.specs.Changes.{has_layout, is_out_of_layout, has_no_slot, least_child, is_member, asked_of, name_column, same_signature, field_out_of_layout, method_without_slot, twin_member};
 ghost use Rattle.enc_schema.specs.Tables.{type_def};
 
 use crate::context::Context;
@@ -24,12 +25,11 @@ use crate::lists::{lesser, placed};
 use crate::pairs::Pair;
 use crate::twins::{Members, twin_fault};
 use enc_base::{Place, Token};
-use enc_plain::{CellView, ChainView, KnownAlike, PlacedBlob, RefKeys};
+use enc_plain::{CellView, ChainView, KnownAlike, PlacedBlob, RefKeys, is_value_type};
 use enc_schema::columns::{
-    FIELD_FLAGS, FIELD_SIGNATURE, METHOD_DEF_FLAGS, METHOD_DEF_SIGNATURE, TYPE_DEF_EXTENDS,
-    TYPE_DEF_FLAGS, TYPE_REF_TYPE_NAME, TYPE_REF_TYPE_NAMESPACE,
+    FIELD_FLAGS, FIELD_SIGNATURE, METHOD_DEF_FLAGS, METHOD_DEF_SIGNATURE, TYPE_DEF_FLAGS,
 };
-use enc_schema::tables::{EVENT, FIELD, METHOD_DEF, PROPERTY, TYPE_DEF, TYPE_REF};
+use enc_schema::tables::{EVENT, FIELD, METHOD_DEF, PROPERTY, TYPE_DEF};
 use std::alloc::{AllocError, Global};
 use std::marker::Model;
 
@@ -41,22 +41,8 @@ fn has_flag(flag: u32, flags: u32) -> bool
     flags / flag % 2 == 1
 }
 
-/// The type extends System.ValueType or System.Enum, whatever its scope.
-#[tactic(auto, using(crate::proofs::MemberKinds::type_base, crate::proofs::MemberKinds::reference_name, crate::proofs::MemberKinds::reference_space), unfolding(crate::specs::Changes::is_value_type))]
-fn is_value_type<R: CellView>(rows: &R, owner: Token) -> bool
-    requires { owner.table ≡ type_def }
-    ensures { result ≡ is_value_type (R.rows rows.now) owner }
-{
-    let base = rows.token(owner, TYPE_DEF_EXTENDS);
-    if base.table != TYPE_REF || rows.text(base, TYPE_REF_TYPE_NAMESPACE) != b"System".as_slice() {
-        return false;
-    }
-    let name = rows.text(base, TYPE_REF_TYPE_NAME);
-    name == b"ValueType".as_slice() || name == b"Enum".as_slice()
-}
-
 /// The type says how its fields are laid out, or is a value type.
-#[tactic(auto, using(crate::proofs::MemberKinds::type_flags))]
+#[tactic(auto, using(enc_plain::proofs::ColumnKinds::type_flags))]
 fn is_laid_out<R: CellView>(rows: &R, owner: Token) -> bool
     requires { owner.table ≡ type_def }
     ensures { result ≡ (has_layout (R.rows rows.now) owner || is_value_type (R.rows rows.now) owner) }
@@ -74,7 +60,7 @@ fn gives_to_old<C: ChainView>(chain: &C, pair: Pair, table: u8) -> bool
 }
 
 /// A field that isn't static, for a type that a chain has and that is laid out, by these rows.
-#[tactic(auto, using(crate::proofs::MemberKinds::field_flags), unfolding(crate::specs::Changes::is_out_of_layout))]
+#[tactic(auto, using(enc_plain::proofs::ColumnKinds::field_flags), unfolding(crate::specs::Changes::is_out_of_layout))]
 pub fn is_out_of_layout<C: ChainView, R: CellView>(chain: &C, rows: &R, pair: Pair) -> bool
     ensures { result ≡ is_out_of_layout (C.chain chain.now) (R.rows rows.now) (pair_seen pair) }
 {
@@ -85,7 +71,7 @@ pub fn is_out_of_layout<C: ChainView, R: CellView>(chain: &C, rows: &R, pair: Pa
 
 /// A virtual method for an interface that a chain has, or one that is abstract too for any type that it
 /// has, by these rows.
-#[tactic(auto, using(crate::proofs::MemberKinds::method_flags, crate::proofs::MemberKinds::type_flags), unfolding(crate::specs::Changes::has_no_slot))]
+#[tactic(auto, using(enc_plain::proofs::ColumnKinds::method_flags, enc_plain::proofs::ColumnKinds::type_flags), unfolding(crate::specs::Changes::has_no_slot))]
 pub fn has_no_slot<C: ChainView, R: CellView>(chain: &C, rows: &R, pair: Pair) -> bool
     ensures { result ≡ has_no_slot (C.chain chain.now) (R.rows rows.now) (pair_seen pair) }
 {
@@ -155,7 +141,7 @@ fn name_column(table: u8) -> u8
 }
 
 /// The column of the signature of fields, methods or properties.
-#[tactic(auto, using(crate::proofs::MemberKinds::signature_kind, crate::proofs::MemberKinds::method_signature, crate::proofs::MemberKinds::signature_two, crate::proofs::MemberKinds::signature_four))]
+#[tactic(auto, using(crate::proofs::MemberKinds::signature_kind, enc_plain::proofs::ColumnKinds::method_signature, crate::proofs::MemberKinds::signature_two, crate::proofs::MemberKinds::signature_four))]
 fn signature_at(table: u8) -> u8
     requires { IsTrue (has_signature table) }
     ensures column { result ≡ unwrap_or (signature_column table) 0 }
@@ -317,7 +303,7 @@ impl<R: CellView> Members for Signatures<'_, R> {
 
     ghost one = { λ r. one_key (R.rows r) };
 
-    #[tactic(auto, using(crate::proofs::MemberKinds::field_flags, crate::proofs::MemberKinds::method_flags), unfolding(crate::specs::Changes::is_member))]
+    #[tactic(auto, using(enc_plain::proofs::ColumnKinds::field_flags, enc_plain::proofs::ColumnKinds::method_flags), unfolding(crate::specs::Changes::is_member))]
     fn counts(&self, member: Token) -> bool {
         let rows = self.keys.rows();
         match member.table {

@@ -1,7 +1,9 @@
 //! Where a token stands in a delta's map.
 ghost use Rattle.std.specs.Prelude.{◌≡◌, ◌+◌, ◌<◌, nat_lt};
 ghost use Rattle.std.specs.List.{count_by};
-ghost use Rattle.enc_base.specs.Token.{number_of};
+ghost use Rattle.std.specs.List.Sorted.{IsNonDecreasingBy};
+ghost use Rattle.enc_base.specs.Token.{number_of, nil};
+ghost use Rattle.enc_delta.specs.Cuts.{is_number_of, IsCutBy};
 ghost use Rattle.enc_base.specs.declared.token.Token.{Token as TheToken};
 ghost use Rattle.enc_delta.specs.Delta.{map_in, listed, place_in};
 ghost use Rattle.enc_delta.specs.Seen.{IsRising};
@@ -10,6 +12,33 @@ use crate::copy::is_module;
 use crate::delta::Delta;
 use enc_base::{Steps, Token};
 use std::sync::ledger::Ledger;
+
+/// A token's number, for a row of more than three bytes too.
+pub(crate) fn number_of(token: Token) -> u64
+    ensures { result ≡ number_of token }
+{
+    u64::from(token.table) * 0x100_0000 + u64::from(token.row)
+}
+
+/// How many of some tokens in the order of their numbers have a lesser one.
+fn cut(tokens: &[Token], number: u64) -> usize
+    requires { IsNonDecreasingBy number_of tokens.now }
+    ensures { IsCutBy number_of nil tokens.now number result }
+{
+    tokens.partition_point(|token| number_of(*token) < number)
+}
+
+/// Whether one of some tokens in the order of their numbers has a number.
+pub(crate) fn has_number(tokens: &[Token], number: u64) -> bool
+    requires { IsNonDecreasingBy number_of tokens.now }
+    ensures { result ≡ is_number_of number_of tokens.now number }
+{
+    let i = cut(tokens, number);
+    if i >= tokens.len() {
+        return false;
+    }
+    number_of(tokens[i]) == number
+}
 
 impl Delta {
     /// The position of a token among its table's in the map, from 1. None where the map lacks it.

@@ -2,12 +2,13 @@
 //! compared.
 ghost use Rattle.std.specs.Prelude.{◌≡◌, ◌<◌, ◌++◌, map, filter, length, IsTrue, IfOk};
 ghost use Rattle.std.specs.List.Sorted.{IsNonDecreasingBy};
-ghost use Rattle.enc_delta.specs.Members.{is_member_table, owner_key, name_key, twin_key, keyed_by_name, keyed_by_signature, has_key, is_namesake, has_neighbour, near_told, is_other, AreKeyed, AreChildren, AreSame, IsKeyCut};
+ghost use Rattle.enc_delta.specs.Members.{is_member_table, owner_key, name_key, twin_key, keyed_by_name, keyed_by_signature, has_key, is_namesake, has_neighbour, near_told, no_keyed, is_other, AreKeyed, AreChildren, AreSame};
+ghost use Rattle.enc_delta.specs.Cuts.{IsCutBy};
 
 use crate::pairs::Pair;
 use crate::twins::Members;
 use enc_schema::tables::{EVENT, FIELD, METHOD_DEF, PROPERTY};
-use enc_sigs::{Mix, finished, mix_of, mixed, mixed_ends};
+use enc_sigs::{Mix, finished, mixed, mixed_ends};
 use std::alloc::{AllocError, Global};
 
 /// A member of an owner, with a number that its twins have too.
@@ -19,15 +20,15 @@ pub struct Keyed {
     pub is_new: bool,
 }
 
-/// The number of a pair's owner and table.
+/// What the numbers of the members of a pair's owner in its child's table begin with.
 #[tactic(auto, unfolding(crate::specs::Members::owner_key))]
 fn owner_key(pair: Pair) -> Mix
     ensures { result ≡ owner_key pair }
 {
-    mixed(
-        mix_of(u64::from(pair.owner.row)),
-        u64::from(pair.child.table),
-    )
+    Mix {
+        high: u64::from(pair.child.table),
+        low: u64::from(pair.owner.row),
+    }
 }
 
 /// A number of a pair's owner, of its table and of its child's name, for which long names are read at
@@ -92,7 +93,7 @@ fn is_member_table(table: u8) -> bool
 /// How many of some members in the order of their numbers have a lesser one.
 fn cut(entries: &[Keyed], key: u64) -> usize
     requires { IsNonDecreasingBy (λ (e : Keyed). e.key) entries.now }
-    ensures { IsKeyCut entries.now key result }
+    ensures { IsCutBy (λ (e : Keyed). e.key) no_keyed entries.now key result }
 {
     entries.partition_point(|entry| entry.key < key)
 }

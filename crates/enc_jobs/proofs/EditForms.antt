@@ -33,7 +33,8 @@ use Rattle.enc_jobs.specs.Json.{elements_of, keys_in, is_one_of, has_only, token
 use Rattle.enc_jobs.specs.Points.{at_said, hidden_said, shown_said, point_said, points_from, points_said}
 use Rattle.enc_jobs.specs.Body.{method_said, method_said_if}
 use Rattle.enc_jobs.specs.Cell.{cells_said}
-use Rattle.enc_jobs.specs.Edits.{has_this_name, table_named, add_keys, owner_said, add_to_said, add_said, replace_said, edit_of_kind, edit_said, head_said, with_edit, edits_from, next_number, with_head, with_items, list_said, json_value, list_of_value, edits_said}
+use Rattle.enc_jobs.specs.Lists.{next_number, with_numbered, read_in_turn}
+use Rattle.enc_jobs.specs.Edits.{has_this_name, table_named, add_keys, owner_said, add_to_said, add_said, replace_said, edit_of_kind, edit_said, head_said, with_head, with_items, list_said, json_value, list_of_value, edits_said}
 use Rattle.enc_jobs.specs.Laws.{SaidFits}
 use Rattle.enc_jobs.proofs.Inverse.{map_some, then_some, if_some, either_some, both_true}
 use Rattle.enc_jobs.proofs.CellForms.{cells_have}
@@ -191,24 +192,24 @@ edit_has known d e h =
     kind_has known d kind.0 e kind.2
 
 -- what each edit that is read has, all edits of a list have
-edit_by : (q : Edit → Bool) (n : ℕ) (o : Option Edit) (r : Result (List Edit) JobFault) (es : List Edit) → ((e : Edit) → o ≡ Some e → q e ≡ true) → ((rest : List Edit) → r ≡ Ok rest → list_all q rest ≡ true) → with_edit n o r ≡ Ok es → list_all q es ≡ true
+edit_by : (q : Edit → Bool) (n : ℕ) (o : Option Edit) (r : Result (List Edit) JobFault) (es : List Edit) → ((e : Edit) → o ≡ Some e → q e ≡ true) → ((rest : List Edit) → r ≡ Ok rest → list_all q rest ≡ true) → with_numbered n o r ≡ Ok es → list_all q es ≡ true
 edit_by q n None r es first later h = absurd (cc)
 edit_by q n (Some e) (Ok rest) es first later h = let is : e ∷ rest ≡ es = cc in rw (← is) (both_true (q e) (list_all q rest) (first e refl) (later rest refl))
 edit_by q n (Some e) (Err fault) es first later h = absurd (cc)
 
-edits_have : (q : Edit → Bool) → ((d : Data) (e : Edit) → edit_said d ≡ Some e → q e ≡ true) → (n : ℕ) (ds : List Data) (es : List Edit) → edits_from n ds ≡ Ok es → list_all q es ≡ true
-unfolding edits_from
+edits_have : (q : Edit → Bool) → ((d : Data) (e : Edit) → edit_said d ≡ Some e → q e ≡ true) → (n : ℕ) (ds : List Data) (es : List Edit) → read_in_turn edit_said n ds ≡ Ok es → list_all q es ≡ true
+unfolding read_in_turn
 edits_have q each n [] es h = let is : [] ≡ es = cc in rw (← is) refl
-edits_have q each n (d ∷ ds) es h = edit_by q n (edit_said d) (edits_from (next_number n) ds) es (each d) (λ rest is. edits_have q each (next_number n) ds rest is) h
+edits_have q each n (d ∷ ds) es h = edit_by q n (edit_said d) (read_in_turn edit_said (next_number n) ds) es (each d) (λ rest is. edits_have q each (next_number n) ds rest is) h
 
-head_by : (q : Edit → Bool) → ((d : Data) (e : Edit) → edit_said d ≡ Some e → q e ≡ true) → (head : Head) (items : List Data) (r : Result (List Edit) JobFault) (list : EditList) → edits_from 1 items ≡ r → with_head head r ≡ Ok list → list_all q list.edits ≡ true
+head_by : (q : Edit → Bool) → ((d : Data) (e : Edit) → edit_said d ≡ Some e → q e ≡ true) → (head : Head) (items : List Data) (r : Result (List Edit) JobFault) (list : EditList) → read_in_turn edit_said 1 items ≡ r → with_head head r ≡ Ok list → list_all q list.edits ≡ true
 head_by q each head items (Ok edits) list is h =
     let same : record { enc_id = head.enc_id; edits = edits; documents = head.documents } ≡ list = cc in
     rw (← same) (edits_have q each 1 items edits is)
 head_by q each head items (Err fault) list is h = absurd (cc)
 
 items_by : (q : Edit → Bool) → ((d : Data) (e : Edit) → edit_said d ≡ Some e → q e ≡ true) → (head : Option Head) (items : Option (List Data)) (list : EditList) → with_items head items ≡ Ok list → list_all q list.edits ≡ true
-items_by q each (Some head) (Some items) list h = head_by q each head items (edits_from 1 items) list refl h
+items_by q each (Some head) (Some items) list h = head_by q each head items (read_in_turn edit_said 1 items) list refl h
 items_by q each (Some head) None list h = absurd (cc)
 items_by q each None (Some items) list h = absurd (cc)
 items_by q each None None list h = absurd (cc)

@@ -21,7 +21,7 @@ use Rattle.enc_jobs.specs.declared.fault.JobFault.{JobFault}
 use Rattle.enc_jobs.specs.declared.fault.JobFault.TheVariants.{J1, J2}
 use Rattle.enc_jobs.specs.declared.list.Head.{Head}
 use Rattle.enc_jobs.specs.Json.{at_key_or, elements_of, has_only, token_said, guid_said}
-use Rattle.enc_jobs.specs.Lists.{every}
+use Rattle.enc_jobs.specs.Lists.{every, read_in_turn}
 use Rattle.enc_jobs.specs.Cell.{cells_said}
 use Rattle.enc_jobs.specs.Body.{method_said, method_said_if}
 
@@ -93,21 +93,6 @@ head_said d = if has_only (codes "encId" ∷ codes "edits" ∷ codes "documents"
   documents ← at_key_or [] documents_said (get (codes "documents") d)
   Some (record { enc_id = id; documents = documents })) else None
 
--- the number behind one, up to 2^32 - 1
-abbrev pub next_number : ℕ → ℕ
-next_number n = min (n + 1) (2 ^ 32 - 1)
-
--- an edit, or its number where it isn't one, before what follows it
-abbrev pub with_edit : ℕ → Option Edit → Result (List Edit) JobFault → Result (List Edit) JobFault
-with_edit n None rest = Err (J2 n)
-with_edit n (Some e) (Ok rest) = Ok (e ∷ rest)
-with_edit n (Some e) (Err fault) = Err fault
-
--- the edits, the first with this number, or the number of the first that isn't one
-unfoldable pub edits_from : ℕ → List Data → Result (List Edit) JobFault
-edits_from n [] = Ok []
-edits_from n (d ∷ ds) = with_edit n (edit_said d) (edits_from (next_number n) ds)
-
 -- the whole, where all edits are
 abbrev pub with_head : Head → Result (List Edit) JobFault → Result EditList JobFault
 with_head head (Ok edits) = Ok (record { enc_id = head.enc_id; edits = edits; documents = head.documents })
@@ -115,7 +100,7 @@ with_head head (Err fault) = Err fault
 
 -- 0 where the whole isn't of the form
 abbrev pub with_items : Option Head → Option (List Data) → Result EditList JobFault
-with_items (Some head) (Some items) = with_head head (edits_from 1 items)
+with_items (Some head) (Some items) = with_head head (read_in_turn edit_said 1 items)
 with_items _ _ = Err (J2 0)
 
 -- the whole is judged before any edit

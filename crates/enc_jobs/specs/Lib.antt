@@ -11,3 +11,4 @@ pub mod Edits
 pub mod Laws
 pub mod Generated
 pub mod Drawn
+pub mod Scripts

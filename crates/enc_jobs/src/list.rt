@@ -11,8 +11,8 @@ ghost use Rattle.enc_edits.specs.Form.{list_fits};
 ghost use Rattle.enc_pdb_delta.specs.Stated.{points_lie_within};
 ghost use Rattle.enc_jobs.specs.Outcome.{ReadsAs, GivesList, fault_of_element};
 ghost use Rattle.enc_jobs.specs.Json.{at_key_or, elements_of};
-ghost use Rattle.enc_jobs.specs.Lists.{every};
-ghost use Rattle.enc_jobs.specs.Edits.{document_said, documents_said, head_said, edits_from, with_head, list_said, json_value, edits_said};
+ghost use Rattle.enc_jobs.specs.Lists.{every, read_in_turn};
+ghost use Rattle.enc_jobs.specs.Edits.{document_said, documents_said, head_said, edit_said, with_head, list_said, json_value, edits_said};
 
 use crate::edit::one_edit;
 use crate::fault::{JobFault, Refused};
@@ -87,7 +87,7 @@ fn head_of(alloc: Global, value: &Value) -> Result<Head, Refused>
 }
 
 /// Why the element with this number isn't read.
-fn at_number(number: u32, refused: Refused) -> JobFault
+pub fn at_number(number: u32, refused: Refused) -> JobFault
     ensures { result ≡ fault_of_element number refused }
 {
     match refused {
@@ -97,9 +97,9 @@ fn at_number(number: u32, refused: Refused) -> JobFault
 }
 
 /// Edits, the first with number 1.
-#[tactic(auto, using(crate::proofs::Numbered::edit_steps))]
+#[tactic(auto, using(crate::proofs::Numbered::numbered_steps))]
 fn edits(alloc: Global, items: &[Value]) -> Result<Edits, JobFault>
-    ensures { GivesList result (edits_from 1 (map view items.now)) }
+    ensures { GivesList result (read_in_turn edit_said 1 (map view items.now)) }
 {
     let mut list = Edits::begin(alloc);
     let mut number: u32 = 1;
@@ -124,7 +124,7 @@ fn items_of(value: &Value) -> Result<&[Value], Refused>
 
 /// The edit list of these parts.
 fn list_of_parts(alloc: Global, head: Head, items: &[Value]) -> Result<EditList, JobFault>
-    ensures { GivesList result (with_head head (edits_from 1 (map view items.now))) }
+    ensures { GivesList result (with_head head (read_in_turn edit_said 1 (map view items.now))) }
 {
     let edits = edits(alloc, items)?;
     let enc_id = head.enc_id;
@@ -152,7 +152,7 @@ fn list_of(alloc: Global, value: &Value) -> Result<EditList, JobFault>
 
 /// The value of a text.
 #[tactic(auto, using(crate::proofs::Texts::text_values))]
-fn parsed(alloc: Global, text: &[u8]) -> Result<Value, JobFault>
+pub fn parsed(alloc: Global, text: &[u8]) -> Result<Value, JobFault>
     ensures { GivesList (result_map_both view (λ e. e) result) (ok_or (json_value text.now) J1) }
 {
     match Value::from_slice(alloc, text) {

@@ -4,3 +4,4 @@ pub mod Entries
 pub mod Limits
 pub mod Objects
 pub mod Laws
+pub mod Places

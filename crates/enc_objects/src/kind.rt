@@ -24,7 +24,7 @@ pub enum Kind {
 impl Kind {
     /// What a place of the kind holds before anything is stored there.
     #[tactic(auto, unfolding(crate::specs::Values::default_of))]
-    pub(crate) fn default_value(self) -> Value
+    pub fn default_value(self) -> Value
         ensures { result ≡ default_of self }
     {
         match self {

@@ -15,6 +15,7 @@ mod objects;
 mod operation;
 mod shape;
 mod shifts;
+mod stored;
 mod table;
 #[cfg(test)]
 mod tests;

@@ -77,7 +77,7 @@ impl Objects {
 
     /// Whether one object more, with so many elements or units, would pass a limit.
     #[tactic(auto, unfolding(crate::specs::Objects::is_full))]
-    fn is_full(&self, parts: usize) -> bool
+    pub fn is_full(&self, parts: usize) -> bool
         ensures full { result ≡ is_full self.now parts }
         ensures room { result ≡ false → parts ≤ most_parts }
     {
@@ -171,27 +171,32 @@ impl Objects {
         Some(object.content.shape())
     }
 
-    /// The value of an object's field, which is its kind's default where none was set.
-    #[tactic(auto, unfolding(crate::specs::Objects::field_in, crate::specs::Objects::fields_in, crate::specs::Objects::has_object))]
+    /// The value of an object's field, which is its kind's default where none was set, or where there is no such
+    /// object.
+    #[tactic(auto, unfolding(crate::specs::Objects::field_in, crate::specs::Objects::fields_in))]
     pub fn get_field(&self, id: u32, field: Token, kind: Kind) -> Value
-        requires { IsTrue (has_object self.now id) }
         ensures { result ≡ field_in self.now id field kind }
     {
         match self.object(id) {
-            None => unreachable!(),
+            None => kind.default_value(),
             Some(object) => object.field(field, kind),
         }
     }
 
-    /// Sets the value of an object's field, as it is. Without memory nothing changes.
-    #[tactic(auto, unfolding(crate::specs::Objects::with_field, crate::specs::Objects::has_object))]
+    /// Sets the value of an object's field, as it is. Where there is no such object, and without memory, nothing
+    /// changes.
+    #[tactic(auto, unfolding(crate::specs::Objects::with_field))]
     pub fn set_field(&mut self, id: u32, field: Token, value: Value) -> Result<(), AllocError>
-        requires { IsTrue (has_object self.old id) }
         ensures ok { OnOk result (self.new ≡ with_field id field value self.old) }
         ensures err { OnErr result (self.new ≡ self.old) }
     {
-        let i = id as usize - 1;
-        self.objects[i].set_field(field, value)
+        let Some(at) = id.checked_sub(1) else {
+            return Ok(());
+        };
+        match self.objects.get_mut(at as usize) {
+            None => Ok(()),
+            Some(object) => object.set_field(field, value),
+        }
     }
 
     /// The value of a static field, which is its kind's default where none was set.

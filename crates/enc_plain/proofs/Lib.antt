@@ -21,3 +21,4 @@ pub mod MemberKeys
 pub mod NilLocals
 pub mod RelatedPlaces
 pub mod AlikeSpecs
+pub mod ColumnKinds

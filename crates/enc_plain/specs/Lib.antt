@@ -20,3 +20,4 @@ pub mod DebugSeen
 pub mod Keys
 pub mod SoundDebug
 pub mod Places
+pub mod ValueType

@@ -16,6 +16,7 @@ mod places;
 mod points;
 mod ref_keys;
 mod signature;
+mod value_type;
 mod view;
 
 pub use cells::{CellView, Viewed};
@@ -29,4 +30,5 @@ pub use place::RowPlace;
 pub use points::PointSource;
 pub use ref_keys::RefKeys;
 pub use signature::{is_signature, kind_in_table, signature_column};
+pub use value_type::is_value_type;
 pub use view::{ModuleView, index_token, is_row};

@@ -252,7 +252,7 @@ formed_element good form.Array b r bytes p e = map_known (λ t. t.element ≡ b)
 formed_element good form.Instance b r bytes p e = map_known (λ t. t.element ≡ b) (λ (p : ℕ × (Token × List Tree)). tree b p.1.0 p.0 p.1.1) (both (byte_in (λ c. c == 0x11 || c == 0x12)) (both (token_in good) (list_in r)) bytes) p (λ q f. refl) e
 formed_element good form.Pointer b r bytes p e = map_known (λ t. t.element ≡ b) (λ (p : (ℕ × ℕ) × List Tree). tree b nil p.0.0 (tree 0 nil p.0.1 [] ∷ p.1)) (method_in r bytes) p (λ q f. refl) e
 
-opened_element : (good : ℕ → Bool) (o : Option Form) (b : ℕ) (r : Reader Tree) (bytes : List ℕ) (p : Tree × List ℕ) → option_and_then {T = Form} (λ f. formed_in good r f b bytes) o ≡ Some p → p.0.element ≡ b
+pub opened_element : (good : ℕ → Bool) (o : Option Form) (b : ℕ) (r : Reader Tree) (bytes : List ℕ) (p : Tree × List ℕ) → option_and_then {T = Form} (λ f. formed_in good r f b bytes) o ≡ Some p → p.0.element ≡ b
 opened_element good None b r bytes p e = absurd (cc)
 opened_element good (Some f) b r bytes p e = formed_element good f b r bytes p e
 

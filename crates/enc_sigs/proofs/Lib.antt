@@ -14,3 +14,4 @@ pub mod Left
 pub mod Shapes
 pub mod Shared
 pub mod Rounds
+pub mod TypeFronts

@@ -10,6 +10,8 @@ use Rattle.enc_sigs.specs.declared.kind.SigKind.{SigKind}
 use Rattle.enc_sigs.specs.declared.kind.SigKind.TheVariants.{Method, Field, Locals, Property, TypeSpec, MethodSpec}
 use Rattle.enc_sigs.specs.declared.form.Form.{Form}
 use Rattle.enc_sigs.specs.declared.form.Form.TheVariants as form
+use Rattle.enc_sigs.specs.declared.row_test.RowTest.{RowTest}
+use Rattle.enc_sigs.specs.declared.row_test.RowTest.TheVariants.{Any, Within}
 use Rattle.enc_sigs.specs.declared.form.Numeral.{Numeral}
 use Rattle.enc_sigs.specs.declared.form.Numeral.TheVariants.{Size, Bound}
 use Rattle.enc_sigs.specs.Tree.{Tree, SigTree, forest_of}
@@ -211,3 +213,8 @@ NamesTables good = (n : ℕ) → good n ≡ true → is_coded n ≡ true
 -- by the number of rows of each table
 abbrev pub in_counts : Counts → ℕ → Bool
 in_counts counts = is_counted (λ t. slice_index counts.rows t)
+
+-- by the rows that a token may name
+abbrev pub test_of : RowTest → ℕ → Bool
+test_of Any = is_coded
+test_of (Within counts) = in_counts counts.now

@@ -33,3 +33,7 @@ AreRead (Err f) o = Refused f o
 -- what is left behind what is read
 abbrev pub left_after : {A : Type 0} → Option (A × List ℕ) → Option (List ℕ)
 left_after o = option_map (λ p. p.1) o
+
+-- the element of the type that is read, and what is left behind it
+abbrev pub element_front : Option (Tree × List ℕ) → Option (ℕ × List ℕ)
+element_front o = option_map (λ (p : Tree × List ℕ). (p.0.element, p.1)) o

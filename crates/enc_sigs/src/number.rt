@@ -2,9 +2,10 @@
 ghost use Rattle.std.specs.Prelude.{◌≡◌, ◌<◌, ◌^◌, ◌/◌, ◌%◌, option_map, if◌then◌else◌, IfSome};
 ghost use Rattle.enc_base.specs.Numbers.{has_flag};
 ghost use Rattle.enc_base.specs.Readers.{number_in, signed_in};
-ghost use Rattle.enc_sigs.specs.Grammar.{byte_in, numeral_in, token_in, table_of, token_named, is_coded, is_counted, in_counts, form_of, is_calling, calling_in};
+ghost use Rattle.enc_sigs.specs.Grammar.{byte_in, numeral_in, token_in, table_of, token_named, is_coded, is_counted, in_counts, test_of, form_of, is_calling, calling_in};
 
 use crate::form::{Form, Numeral};
+use crate::row_test::RowTest;
 use enc_base::{Counts, Token, signed_front, unsigned_front};
 use enc_schema::tables::{TYPE_DEF, TYPE_REF, TYPE_SPEC};
 
@@ -73,6 +74,16 @@ pub fn token<'a>(bytes: &'a [u8], counts: &Counts) -> Option<(Token, &'a [u8])>
         return None;
     }
     Some((token_named(number)?, rest))
+}
+
+/// The token of such a row at the front (ECMA-335 II.23.2.8).
+pub fn tested_token<'a>(bytes: &'a [u8], rows: &RowTest<'_>) -> Option<(Token, &'a [u8])>
+    ensures { option_map (λ x. (x.0, x.1.now)) result ≡ token_in (test_of rows.now) bytes.now }
+{
+    match rows {
+        RowTest::Any => coded_token(bytes),
+        RowTest::Within(counts) => token(bytes, counts),
+    }
 }
 
 /// What follows a type's first byte, None where it begins no type.

@@ -29,7 +29,7 @@ impl Model for Stored {
 
     ghost view = { λ b. record { max = b.max; init = b.init; locals = b.locals; code = b.code; sections = b.sections } };
 
-    ghost invariant = { λ b. length b.code < 2 ^ 32 };
+    ghost invariant = { λ b. (length b.code < 2 ^ 32) × (length b.sections < 2 ^ 32) };
 }
 
 impl Stored {
@@ -43,7 +43,7 @@ impl Stored {
             init: code.init,
             locals: code.locals,
             code: copied(alloc, code.code)?,
-            sections: copied(alloc, code.sections)?,
+            sections: short(copied(alloc, code.sections)?)?,
         })
     }
 
@@ -51,6 +51,7 @@ impl Stored {
     fn code(&self) -> CodeRef<'_>
         ensures body { code_seen result ≡ self.now }
         ensures few { length self.now.code < 2 ^ 32 }
+        ensures short { length self.now.sections < 2 ^ 32 }
     {
         CodeRef {
             max: self.max,
@@ -69,6 +70,17 @@ fn copied(alloc: Global, bytes: &[u8]) -> Result<Bytes, AllocError>
     let mut copy = Vec::new(alloc);
     copy.extend_from_slice(bytes)?;
     Ok(Bytes::from_vec(copy))
+}
+
+/// Bytes that are fewer than 2^32. There is no memory for more, so that clauses have numbers of 32 bits.
+fn short(bytes: Bytes) -> Result<Bytes, AllocError>
+    ensures same { IfOk result (λ b. b ≡ bytes) }
+    ensures short { IfOk result (λ b. length b < 2 ^ 32) }
+{
+    if bytes.len() >= 1 << 32 {
+        return Err(AllocError);
+    }
+    Ok(bytes)
 }
 
 /// The body of one method in one generation and its sequence points. It is made by `Versions` alone
@@ -105,7 +117,7 @@ impl Code {
             init: entry.init,
             locals: entry.locals,
             code: entry.code,
-            sections: entry.sections,
+            sections: short(entry.sections)?,
         };
         Ok(Code::of(Rc::new(alloc, stored)?, entry.points))
     }
@@ -114,6 +126,7 @@ impl Code {
     pub fn body(&self) -> CodeRef<'_>
         ensures body { code_seen result ≡ self.now.code }
         ensures few { length self.now.code.code < 2 ^ 32 }
+        ensures short { length self.now.code.sections < 2 ^ 32 }
     {
         self.stored.as_ref().code()
     }

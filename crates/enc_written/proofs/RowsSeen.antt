@@ -11,7 +11,8 @@ use Rattle.enc_plain.specs.Module.{cells_of}
 use Rattle.enc_plain.specs.Rows.{Rows, number_at, bytes_at, token_at}
 use Rattle.enc_plain.specs.Sound.{IsSound, row_count}
 use Rattle.enc_plain.proofs.KindsOf.{row_there}
-use Rattle.enc_delta.specs.Changes.{is_value_type, is_out_of_layout, has_no_slot, name_column, is_member, same_signature, asked_of}
+use Rattle.enc_plain.specs.ValueType.{is_value_type}
+use Rattle.enc_delta.specs.Changes.{is_out_of_layout, has_no_slot, name_column, is_member, same_signature, asked_of}
 use Rattle.enc_agg.proofs.Viewing.{has_is}
 use Rattle.enc_edits.specs.declared.edit.Edit.{Edit}
 use Rattle.enc_edits.specs.declared.edit.Edit.TheVariants.{Add, Body as Replace}

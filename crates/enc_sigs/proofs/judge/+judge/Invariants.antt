@@ -1,5 +1,5 @@
 use Rattle.std.proofs.Common.{◌≡◌, ◌+◌, ◌-◌, ◌*◌}
-use Rattle.enc_sigs.specs.Grammar.{elem_in, many, params, in_counts}
+use Rattle.enc_sigs.specs.Grammar.{elem_in, many, params, test_of}
 use Rattle.enc_sigs.specs.Reads.{left_after}
 use Rattle.enc_sigs.proofs.judge.+judge.Given as goal
 
@@ -34,10 +34,10 @@ abbrev pub decreases-past_opened : goal.decreases-past_opened
 decreases-past_opened l = 8 * l.depth + 7
 
 abbrev pub invariant-past_many-loop-i : goal.invariant-past_many-loop-i
-invariant-past_many-loop-i l = left_after (many (elem_in (in_counts l.fn.counts) l.fn.depth) l.fn.count l.fn.bytes) ≡ left_after (many (elem_in (in_counts l.fn.counts) l.fn.depth) (l.fn.count - l.i) l.rest)
+invariant-past_many-loop-i l = left_after (many (elem_in (test_of l.fn.rows) l.fn.depth) l.fn.count l.fn.bytes) ≡ left_after (many (elem_in (test_of l.fn.rows) l.fn.depth) (l.fn.count - l.i) l.rest)
 
 abbrev pub invariant-past_parameters-loop-left : goal.invariant-past_parameters-loop-left
-invariant-past_parameters-loop-left l = left_after (params (elem_in (in_counts l.fn.counts) l.fn.depth) l.fn.count l.fn.bytes) ≡ left_after (params (elem_in (in_counts l.fn.counts) l.fn.depth) l.left l.rest)
+invariant-past_parameters-loop-left l = left_after (params (elem_in (test_of l.fn.rows) l.fn.depth) l.fn.count l.fn.bytes) ≡ left_after (params (elem_in (test_of l.fn.rows) l.fn.depth) l.left l.rest)
 
 abbrev pub decreases-past_parameters-loop-left : goal.decreases-past_parameters-loop-left
 decreases-past_parameters-loop-left l = l.left

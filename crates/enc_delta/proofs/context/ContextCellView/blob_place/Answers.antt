@@ -5,17 +5,14 @@ use Rattle.enc_delta.proofs.context.ContextCellView.blob_place.Goals as goal
 
 pub returns-in-Some : goal.returns-in-Some
 returns-in-Some g c =
-    let chain = g.C.ChainView.chain c.self.inside.old.view.now in
-    let delta = c.self.inside.delta.now in
+    let chain = c.args.self.now.chain in
+    let delta = c.args.self.now.delta in
     let told : place_in (listed delta) c.args.row ≡ Some c.in-Some.place = sym c.place.ensures ∙ c.in-Some.is in
-    let own = rw (← c.self.view_is) at c.own.ensures in
-    let here = rw (← c.self.view_is) at c.own_place.ensures in
-    rw (← c.self.view_is, blob_own chain delta c.args.row c.in-Some.place c.args.column c.requires told, ← own) here
+    rw (blob_own chain delta c.args.row c.in-Some.place c.args.column c.requires told, ← c.own.ensures) c.own_place.ensures
 
 pub returns-in-None : goal.returns-in-None
 returns-in-None g c =
-    let chain = g.C.ChainView.chain c.self.inside.old.view.now in
-    let delta = c.self.inside.delta.now in
+    let chain = c.args.self.now.chain in
+    let delta = c.args.self.now.delta in
     let told : place_in (listed delta) c.args.row ≡ None = sym c.place.ensures ∙ c.in-None.is in
-    let here = rw (← c.self.view_is) at c.old_place.ensures in
-    rw (← c.self.view_is, bytes_old chain delta c.args.row c.args.column told) here
+    rw (bytes_old chain delta c.args.row c.args.column told) c.old_place.ensures

@@ -1,0 +1,26 @@
+//! What the interpreter sees of a module's types and members: the kinds of fields, parameters and local
+//! variables, and the members outside that it knows (ECMA-335 II.23.2).
+#![tactic(auto)]
+
+mod element;
+mod front;
+mod kinds;
+mod members;
+mod members_outside;
+mod outside;
+mod runs;
+mod shape;
+mod signature;
+mod types;
+
+pub use element::kind_of_element;
+pub use kinds::Kinds;
+pub use members::{
+    field_kind, is_constructor, is_static_field, is_static_method, local_kinds, method_shape,
+    type_constructor,
+};
+pub use members_outside::outside_of;
+pub use outside::Outside;
+pub use runs::runs_body;
+pub use shape::MethodShape;
+pub use types::{is_of_system, type_kind};
