@@ -1,8 +1,8 @@
 pub mod KindsRead
 pub mod KindsAt
 pub mod PartsRead
-pub mod LocalRows
 pub mod FilterClauses
 pub mod KindsLeft
 pub mod FirstKid
 pub mod Ended
+pub mod Absent

@@ -20,9 +20,12 @@ call_shape m method = call_shape_in (bytes_at (cells_of m) method columns.method
 abbrev pub field_kind : Module → Token → Option Kind
 field_kind m field = field_kind_in (bytes_at (cells_of m) field columns.field_signature)
 
--- the kinds of a body's local variables: none where its token is nil
+-- the kinds of a body's local variables: none where its token is nil (II.25.4.4)
 unfoldable pub local_kinds : Module → Token → Option (List Kind)
-local_kinds m locals = if locals.row == 0 then Some [] else local_kinds_in (bytes_at (cells_of m) locals columns.stand_alone_sig_signature)
+local_kinds m locals =
+    if locals.row == 0 then Some []
+    else if locals.table == tables.stand_alone_sig then local_kinds_in (bytes_at (cells_of m) locals columns.stand_alone_sig_signature)
+    else None
 
 -- the method, or the field, is static (II.23.1.10, II.23.1.5)
 abbrev pub is_static_method : Module → Token → Bool

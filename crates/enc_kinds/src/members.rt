@@ -1,11 +1,11 @@
 //! What the interpreter sees of fields and methods (ECMA-335 II.22.15, II.22.26).
-ghost use Rattle.std.specs.Prelude.{◌≡◌, Some, IsTrue};
+ghost use Rattle.std.specs.Prelude.{◌≡◌, Some, IfSome, IsTrue};
+ghost use Rattle.enc_kinds.specs.Elements.{takes_nothing};
+ghost use Rattle.enc_schema.specs.Columns.{method_def_signature};
 ghost use Rattle.enc_schema.specs.Tables.{field, method_def, type_def};
-ghost use Rattle.enc_opcodes.specs.Body.{locals_are_good};
 ghost use Rattle.enc_plain.specs.Cell.{blobs, kind_in};
 ghost use Rattle.enc_plain.specs.Module.{cells_of, has_row};
 ghost use Rattle.enc_plain.specs.Rows.{bytes_at};
-ghost use Rattle.enc_plain.specs.Sound.{row_count};
 ghost use Rattle.enc_kinds.specs.Members.{call_shape, field_kind, local_kinds, is_static_method, is_static_field, is_named_as, is_constructor, is_type_constructor, type_constructor};
 
 use crate::kinds::Kinds;
@@ -13,53 +13,64 @@ use crate::shape::MethodShape;
 use crate::signature::{call_shape_in, field_kind_in, local_kinds_in, takes_nothing};
 use enc_base::Token;
 use enc_objects::Kind;
-use enc_plain::{CellView, ModuleView, Viewed};
+use enc_plain::{CellView, ModuleView, Viewed, is_row};
 use enc_schema::columns::{
     FIELD_FLAGS, FIELD_SIGNATURE, METHOD_DEF_FLAGS, METHOD_DEF_NAME, METHOD_DEF_SIGNATURE,
     STAND_ALONE_SIG_SIGNATURE,
 };
-use enc_schema::tables::METHOD_DEF;
+use enc_schema::tables::{METHOD_DEF, STAND_ALONE_SIG};
 
-/// The blob in a row's column.
-#[tactic(auto, using(enc_plain::proofs::CellsOf::blob_there))]
+/// The blob in a row's column, without bytes where there is no such row.
+#[tactic(auto, using(enc_plain::proofs::CellsOf::blob_there, enc_plain::proofs::CellsOf::bytes_absent))]
 fn blob_of<V: ModuleView>(view: &V, row: Token, column: u8) -> &[u8]
-    requires row { IsTrue (has_row (V.meaning view.now) row) }
-    requires kind { kind_in row.table column ≡ Some blobs }
+    requires { kind_in row.table column ≡ Some blobs }
     ensures { result.now ≡ bytes_at (cells_of (V.meaning view.now)) row column }
 {
+    if !is_row(view, row) {
+        return &[];
+    }
     view.blob(row, column)
 }
 
 /// How a method is called, None where it isn't of the plain calling convention, where it is generic, or
 /// where a type has no kind (ECMA-335 II.22.26, II.23.2.1).
-#[tactic(auto, using(enc_plain::proofs::ColumnKinds::method_signature))]
+#[tactic(auto, using(enc_plain::proofs::ColumnKinds::method_signature, crate::proofs::Absent::no_shape))]
 pub fn method_shape<V: ModuleView>(view: &V, method: Token) -> Option<MethodShape<'_>>
-    requires row { IsTrue (has_row (V.meaning view.now) method) }
-    requires table { method.table ≡ method_def }
-    ensures { result ≡ call_shape (V.meaning view.now) method }
+    requires { method.table ≡ method_def }
+    ensures shape { result ≡ call_shape (V.meaning view.now) method }
+    ensures row { IfSome result (λ _. IsTrue (has_row (V.meaning view.now) method)) }
 {
+    if !is_row(view, method) {
+        return None;
+    }
     call_shape_in(blob_of(view, method, METHOD_DEF_SIGNATURE))
 }
 
 /// The kind of a field, None where its type has none (ECMA-335 II.22.15, II.23.2.4).
-#[tactic(auto, using(enc_plain::proofs::ColumnKinds::field_signature))]
+#[tactic(auto, using(enc_plain::proofs::ColumnKinds::field_signature, crate::proofs::Absent::no_kind))]
 pub fn field_kind<V: ModuleView>(view: &V, member: Token) -> Option<Kind>
     requires { member.table ≡ field }
-    ensures { result ≡ field_kind (V.meaning view.now) member }
+    ensures kind { result ≡ field_kind (V.meaning view.now) member }
+    ensures row { IfSome result (λ _. IsTrue (has_row (V.meaning view.now) member)) }
 {
+    if !is_row(view, member) {
+        return None;
+    }
     let rows = Viewed { view };
     field_kind_in(rows.blob(member, FIELD_SIGNATURE))
 }
 
-/// The kinds of a body's local variables, none where its token is nil; None where a type has no kind
-/// (ECMA-335 II.25.4.4, II.23.2.6).
-#[tactic(auto, using(crate::proofs::LocalRows::row_there, crate::proofs::LocalRows::blob_kind), unfolding(crate::specs::Members::local_kinds))]
+/// The kinds of a body's local variables, none where its token is nil; None where a type has no kind, and
+/// where the token names no signature (ECMA-335 II.25.4.4, II.23.2.6).
+#[tactic(auto, using(enc_plain::proofs::ColumnKinds::alone_kind), unfolding(crate::specs::Members::local_kinds))]
 pub fn local_kinds<V: ModuleView>(view: &V, locals: Token) -> Option<Kinds<'_>>
-    requires { IsTrue (locals_are_good (row_count (V.meaning view.now)) locals) }
     ensures { result ≡ local_kinds (V.meaning view.now) locals }
 {
     if locals.row == 0 {
         return Some(Kinds::none());
+    }
+    if locals.table != STAND_ALONE_SIG {
+        return None;
     }
     local_kinds_in(blob_of(view, locals, STAND_ALONE_SIG_SIGNATURE))
 }
@@ -102,18 +113,26 @@ pub fn is_constructor<V: ModuleView>(view: &V, method: Token) -> bool
     is_named_as(view, b".ctor".as_slice(), method)
 }
 
+/// Whether a method is called without an object and without parameters (ECMA-335 II.23.2.1).
+#[tactic(auto, using(enc_plain::proofs::ColumnKinds::method_signature))]
+pub fn is_called_with_nothing<V: ModuleView>(view: &V, method: Token) -> bool
+    requires { method.table ≡ method_def }
+    ensures { result ≡ takes_nothing (bytes_at (cells_of (V.meaning view.now)) method method_def_signature) }
+{
+    let rows = Viewed { view };
+    takes_nothing(rows.blob(method, METHOD_DEF_SIGNATURE))
+}
+
 /// Whether a method is the constructor of a type: static, without parameters, by its name (ECMA-335
 /// II.10.5.3).
-#[tactic(auto, using(enc_plain::proofs::ColumnKinds::method_signature), unfolding(crate::specs::Members::is_type_constructor))]
+#[tactic(auto, unfolding(crate::specs::Members::is_type_constructor))]
 fn is_type_constructor<V: ModuleView>(view: &V, method: Token) -> bool
     requires { method.table ≡ method_def }
     ensures { result ≡ is_type_constructor (V.meaning view.now) method }
 {
-    if !is_named_as(view, b".cctor".as_slice(), method) || !is_static_method(view, method) {
-        return false;
-    }
-    let rows = Viewed { view };
-    takes_nothing(rows.blob(method, METHOD_DEF_SIGNATURE))
+    is_named_as(view, b".cctor".as_slice(), method)
+        && is_static_method(view, method)
+        && is_called_with_nothing(view, method)
 }
 
 /// The first constructor of a type in order of attachment, None where it has none (ECMA-335

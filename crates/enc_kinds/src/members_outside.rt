@@ -1,5 +1,5 @@
 //! The members outside that a token names.
-ghost use Rattle.std.specs.Prelude.{◌≡◌, map};
+ghost use Rattle.std.specs.Prelude.{◌≡◌, map, IfSome};
 ghost use Rattle.enc_schema.specs.Tables.{member_ref};
 ghost use Rattle.enc_kinds.specs.Outside.{is_system_member, first_member, outside_of};
 ghost use Rattle.enc_kinds.specs.Seen.{member_seen};
@@ -64,7 +64,8 @@ fn first_member<V: ModuleView>(view: &V, token: Token, rows: &[MemberRow]) -> Op
 /// signature alone, whatever the assembly (ECMA-335 II.22.25).
 #[tactic(auto, unfolding(crate::specs::Outside::outside_of))]
 pub fn outside_of<V: ModuleView>(view: &V, token: Token) -> Option<Outside>
-    ensures { result ≡ outside_of (V.meaning view.now) token }
+    ensures member { result ≡ outside_of (V.meaning view.now) token }
+    ensures table { IfSome result (λ _. token.table ≡ member_ref) }
 {
     if token.table != MEMBER_REF {
         return None;

@@ -2,9 +2,8 @@
 ghost use Rattle.std.specs.Prelude.{◌≡◌, length, map, not, is_some, IsTrue};
 ghost use Rattle.std.specs.List.{list_any};
 ghost use Rattle.enc_il.specs.Seen.{all_sections};
-ghost use Rattle.enc_opcodes.specs.Body.{body_of, code_seen, locals_are_good};
+ghost use Rattle.enc_opcodes.specs.Body.{body_of, code_seen};
 ghost use Rattle.enc_opcodes.specs.Clause.{clauses_in, clauses_of};
-ghost use Rattle.enc_plain.specs.Sound.{row_count};
 ghost use Rattle.enc_kinds.specs.Filters.{filters};
 ghost use Rattle.enc_kinds.specs.Members.{runs_body};
 
@@ -59,7 +58,6 @@ fn has_filter(code: &CodeRef<'_>) -> bool
 /// (ECMA-335 II.25.4.4, II.25.4.6).
 #[tactic(auto, using(crate::proofs::FilterClauses::runs_is))]
 pub fn runs_body<V: ModuleView>(view: &V, code: &CodeRef<'_>) -> bool
-    requires { IsTrue (locals_are_good (row_count (V.meaning view.now)) code.now.locals) }
     ensures { result ≡ runs_body (V.meaning view.now) (body_of (V.users view.now) (code_seen code.now)) }
 {
     local_kinds(view, code.locals).is_some() && !has_filter(code)

@@ -19,7 +19,9 @@ use Rattle.enc_objects.specs.Values.{binary_of, unary_of}
 
 -- the instructions from `add` on, in the order of their codes
 abbrev pub from_add : List Binary
-from_add = Calculates Add ∷ Calculates Sub ∷ Calculates Mul ∷ Calculates Div ∷ Calculates DivUn ∷ Calculates Rem ∷ Calculates RemUn ∷ Calculates And ∷ Calculates Or ∷ Calculates Xor
+from_add =
+    Calculates Add ∷ Calculates Sub ∷ Calculates Mul ∷ Calculates Div ∷ Calculates DivUn ∷ Calculates Rem ∷ Calculates RemUn ∷ Calculates And ∷
+    Calculates Or ∷ Calculates Xor
     ∷ Shifts Shl ∷ Shifts Shr ∷ Shifts ShrUn ∷ []
 
 -- from `add.ovf` on
@@ -40,11 +42,14 @@ from_conv_u4 = Conv kind.U4 ∷ Conv kind.U8 ∷ []
 
 -- from `conv.ovf.i1.un` to `conv.ovf.u8.un`
 abbrev pub from_conv_ovf_i1_un : List Unary
-from_conv_ovf_i1_un = ConvOvfUn kind.I1 ∷ ConvOvfUn kind.I2 ∷ ConvOvfUn kind.I4 ∷ ConvOvfUn kind.I8 ∷ ConvOvfUn kind.U1 ∷ ConvOvfUn kind.U2 ∷ ConvOvfUn kind.U4 ∷ ConvOvfUn kind.U8 ∷ []
+from_conv_ovf_i1_un =
+    ConvOvfUn kind.I1 ∷ ConvOvfUn kind.I2 ∷ ConvOvfUn kind.I4 ∷ ConvOvfUn kind.I8 ∷ ConvOvfUn kind.U1 ∷ ConvOvfUn kind.U2 ∷ ConvOvfUn kind.U4 ∷
+    ConvOvfUn kind.U8 ∷ []
 
 -- from `conv.ovf.i1` to `conv.ovf.u8`
 abbrev pub from_conv_ovf_i1 : List Unary
-from_conv_ovf_i1 = ConvOvf kind.I1 ∷ ConvOvf kind.U1 ∷ ConvOvf kind.I2 ∷ ConvOvf kind.U2 ∷ ConvOvf kind.I4 ∷ ConvOvf kind.U4 ∷ ConvOvf kind.I8 ∷ ConvOvf kind.U8 ∷ []
+from_conv_ovf_i1 =
+    ConvOvf kind.I1 ∷ ConvOvf kind.U1 ∷ ConvOvf kind.I2 ∷ ConvOvf kind.U2 ∷ ConvOvf kind.I4 ∷ ConvOvf kind.U4 ∷ ConvOvf kind.I8 ∷ ConvOvf kind.U8 ∷ []
 
 -- `conv.u2` and `conv.u1`
 abbrev pub from_conv_u2 : List Unary
@@ -60,7 +65,11 @@ binary_at code = or_else (in_run 0x58 from_add code) (or_else (in_run 0xD6 from_
 
 -- the operation on one value with this code
 unfoldable pub unary_at : ℕ → Option Unary
-unary_at code = or_else (in_run 0x65 from_neg code) (or_else (in_run 0x6D from_conv_u4 code) (or_else (in_run 0x82 from_conv_ovf_i1_un code) (or_else (in_run 0xB3 from_conv_ovf_i1 code) (in_run 0xD1 from_conv_u2 code))))
+unary_at code =
+    or_else (in_run 0x65 from_neg code)
+    (or_else (in_run 0x6D from_conv_u4 code)
+    (or_else (in_run 0x82 from_conv_ovf_i1_un code)
+    (or_else (in_run 0xB3 from_conv_ovf_i1 code) (in_run 0xD1 from_conv_u2 code))))
 
 -- nothing stands behind the instruction's code
 abbrev pub stands_alone : Operand → Bool

@@ -56,7 +56,8 @@ unary_names =
 
 -- the instructions of these names do what stands at their codes
 abbrev pub BinaryAreNamed : Type 0
-BinaryAreNamed = map (λ (name : List ℕ). option_and_then binary_in (op_named name)) binary_names ≡ map (λ (o : Binary). Some o) (from_add ++ from_add_ovf ++ from_ceq)
+BinaryAreNamed =
+    map (λ (name : List ℕ). option_and_then binary_in (op_named name)) binary_names ≡ map (λ (o : Binary). Some o) (from_add ++ from_add_ovf ++ from_ceq)
 
 abbrev pub UnaryAreNamed : Type 0
 UnaryAreNamed = map (λ (name : List ℕ). option_and_then unary_in (op_named name)) unary_names
@@ -80,14 +81,18 @@ abbrev pub StaticsAreSet : Type 0
 StaticsAreSet = (s : Store) (field : Token) (value : Value) → value_for field (with_static field value s).statics ≡ Some value
 
 abbrev pub OtherStaticsStay : Type 0
-OtherStaticsStay = (s : Store) (field asked : Token) (value : Value) → is_token asked field ≡ false → value_for asked (with_static field value s).statics ≡ value_for asked s.statics
+OtherStaticsStay =
+    (s : Store) (field asked : Token) (value : Value) → is_token asked field ≡ false
+    → value_for asked (with_static field value s).statics ≡ value_for asked s.statics
 
 -- and of elements that are there
 abbrev pub ElementsAreSet : Type 0
 ElementsAreSet = (s : Store) (id i : ℕ) (value : Value) → IsTrue (is_some (element_in s id i)) → element_in (with_element id i value s) id i ≡ Some value
 
 abbrev pub OtherElementsStay : Type 0
-OtherElementsStay = (s : Store) (id other i j : ℕ) (value : Value) → (other == id && j == i) ≡ false → element_in (with_element id i value s) other j ≡ element_in s other j
+OtherElementsStay =
+    (s : Store) (id other i j : ℕ) (value : Value) → (other == id && j == i) ≡ false
+    → element_in (with_element id i value s) other j ≡ element_in s other j
 
 -- fields, elements and statics don't meddle with each other, nor with what objects are
 abbrev pub PartsStayApart : Type 0

@@ -122,6 +122,15 @@ with_element_of i value o = record o { content = with_element_in_content i value
 unfoldable pub with_element : ℕ → ℕ → Value → Store → Store
 with_element id i value s = with_changed id (with_element_of i value) s
 
+abbrev pub elements_of_content : Content → Option (List Value)
+elements_of_content (Instance class) = None
+elements_of_content (Array k elements) = Some elements
+elements_of_content (Text units) = None
+
+-- the elements of an array
+unfoldable pub elements_held : Store → ℕ → Option (List Value)
+elements_held s id = option_and_then (λ (o : Object). elements_of_content o.content) (object_at s id)
+
 abbrev pub units_of_content : Content → Option (List ℕ)
 units_of_content (Instance class) = None
 units_of_content (Array k elements) = None

@@ -54,6 +54,13 @@ impl Elements {
         self.items.get(i as usize).copied()
     }
 
+    /// All, in order.
+    pub(crate) fn as_slice(&self) -> &[Value]
+        ensures { result.now ≡ self.now }
+    {
+        self.items.as_slice()
+    }
+
     /// Sets the element at an index, where there is one, and answers whether there is.
     pub(crate) fn set(&mut self, i: u32, value: Value) -> bool
         ensures set { self.new ≡ slice_set self.old i value }

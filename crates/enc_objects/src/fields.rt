@@ -1,5 +1,5 @@
 //! Values by token.
-ghost use Rattle.std.specs.Prelude.{◌≡◌, [], slice_get, OnOk, OnErr};
+ghost use Rattle.std.specs.Prelude.{◌≡◌, [], slice_get, IfOk, OnOk, OnErr};
 ghost use Rattle.std.specs.List.Sorted.{IsStrictlySortedBy};
 ghost use Rattle.std.specs.Map.{keys_of};
 ghost use Rattle.enc_objects.specs.Entries.{token_ordering, value_for, put_value};
@@ -50,6 +50,17 @@ impl Fields {
             Ok(_) => Ok(()),
             Err(_) => Err(AllocError),
         }
+    }
+
+    /// All tokens with their values, in the order of tokens.
+    pub(crate) fn all(&self, alloc: Global) -> Result<Vec<(Token, Value)>, AllocError>
+        ensures { IfOk result (λ l. l.items ≡ self.now) }
+    {
+        let mut all = Vec::with_capacity(alloc, self.values.len())?;
+        for (token, value) in &self.values {
+            all.push((*token, *value))?;
+        }
+        Ok(all)
     }
 
     /// The i-th token with its value, from 0 in the order of tokens.

@@ -1,6 +1,6 @@
 //! What instructions on values alone give.
-ghost use Rattle.std.specs.Prelude.{◌≡◌};
-ghost use Rattle.enc_objects.specs.Instructions.{on_two, on_one};
+ghost use Rattle.std.specs.Prelude.{◌≡◌, is_some};
+ghost use Rattle.enc_objects.specs.Instructions.{on_two, on_one, binary_in as binary_of_op, unary_in as unary_of_op};
 
 use crate::arithmetic::calculate;
 use crate::comparisons::compare;
@@ -25,6 +25,20 @@ pub fn binary(op: Op, a: Value, b: Value) -> Result<Value, Trap>
         Some(Binary::Shifts(o)) => shift(o, a, b),
         Some(Binary::Compares(o)) => compare(o, a, b),
     }
+}
+
+/// Whether an instruction takes two values from the stack and gives one, as `binary` says.
+pub fn is_binary(op: Op) -> bool
+    ensures { result ≡ is_some (binary_of_op op) }
+{
+    binary_in(op).is_some()
+}
+
+/// Whether an instruction takes one value from the stack and gives one, as `convert` says.
+pub fn is_unary(op: Op) -> bool
+    ensures { result ≡ is_some (unary_of_op op) }
+{
+    unary_in(op).is_some()
 }
 
 /// What an instruction gives for the value that it takes from the stack: the conversions to integers of a size,

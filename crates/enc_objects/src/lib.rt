@@ -22,7 +22,7 @@ mod tests;
 mod trap;
 mod value;
 
-pub use instructions::{binary, convert};
+pub use instructions::{binary, convert, is_binary, is_unary};
 pub use kind::Kind;
 pub use laws::{instruction_laws, kind_laws, store_laws};
 pub use objects::{MakeFault, Objects};

@@ -1,6 +1,6 @@
 //! One object: what it is, and the values of its fields.
-ghost use Rattle.std.specs.Prelude.{◌≡◌, ◌≤◌, option_map, is_some, OnOk, OnErr};
-ghost use Rattle.enc_objects.specs.Objects.{part_count, content_shape, element_of, with_element_of, field_of, with_field_of, units_of_content};
+ghost use Rattle.std.specs.Prelude.{◌≡◌, ◌≤◌, ℕ, List, length, option_map, is_some, IfSome, OnOk, OnErr};
+ghost use Rattle.enc_objects.specs.Objects.{part_count, content_shape, element_of, with_element_of, field_of, with_field_of, elements_of_content, units_of_content};
 ghost use Rattle.enc_objects.specs.Limits.{most_parts};
 
 use crate::contents::{Elements, TextUnits};
@@ -50,6 +50,27 @@ impl Content {
             Content::Instance(class) => Shape::Object(*class),
             Content::Array(kind, elements) => Shape::Array(*kind, elements.len()),
             Content::Text(units) => Shape::Text(units.len()),
+        }
+    }
+
+    /// The elements of an array, None where it is none.
+    pub(crate) fn elements(&self) -> Option<&[Value]>
+        ensures { option_map (λ e. e.now) result ≡ elements_of_content self.now }
+    {
+        match self {
+            Content::Array(_, elements) => Some(elements.as_slice()),
+            _ => None,
+        }
+    }
+
+    /// How many units a text has, None where it is none.
+    pub(crate) fn text_len(&self) -> Option<u32>
+        ensures len { result ≡ option_map (λ (u : List ℕ). length u) (units_of_content self.now) }
+        ensures few { IfSome result (λ n. n ≤ most_parts) }
+    {
+        match self {
+            Content::Text(units) => Some(units.len()),
+            _ => None,
         }
     }
 

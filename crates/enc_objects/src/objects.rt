@@ -1,10 +1,10 @@
 //! The store of objects.
-ghost use Rattle.std.specs.Prelude.{◌≡◌, ◌≤◌, ◌↔◌, false, length, option_map, is_some, slice_get, IsTrue, IsErrOf, IfOk, OnOk, OnErr};
+ghost use Rattle.std.specs.Prelude.{◌≡◌, ◌≤◌, ◌↔◌, ℕ, List, false, length, option_map, is_some, slice_get, IsTrue, IsErrOf, IfOk, IfSome, OnOk, OnErr};
 ghost use Rattle.std.specs.List.Sorted.{IsStrictlySortedBy};
 ghost use Rattle.std.specs.Map.{keys_of};
 ghost use Rattle.enc_objects.specs.Entries.{token_ordering};
 ghost use Rattle.enc_objects.specs.Limits.{most_objects, most_parts};
-ghost use Rattle.enc_objects.specs.Objects.{object_at, has_object, is_full, with_object, next_object, part_count, new_array_of, shape_in, fields_in, field_in, with_field, static_in, with_static, element_in, with_element, units_held, no_objects};
+ghost use Rattle.enc_objects.specs.Objects.{object_at, has_object, is_full, with_object, next_object, part_count, new_array_of, shape_in, fields_in, field_in, with_field, static_in, with_static, element_in, with_element, elements_held, units_held, no_objects};
 ghost use Rattle.enc_objects.specs.declared.objects.MakeFault.{MakeFault};
 ghost use Rattle.enc_objects.specs.declared.object.Content.TheVariants.{Instance, Text};
 
@@ -256,6 +256,48 @@ impl Objects {
             None => None,
             Some(object) => object.content.units(),
         }
+    }
+
+    /// How many UTF-16 units a text has. None exactly where there is no such object, or it isn't a text.
+    #[tactic(auto, unfolding(crate::specs::Objects::units_held))]
+    pub fn text_len(&self, id: u32) -> Option<u32>
+        ensures len { result ≡ option_map (λ (u : List ℕ). length u) (units_held self.now id) }
+        ensures few { IfSome result (λ n. n ≤ most_parts) }
+    {
+        match self.object(id) {
+            None => None,
+            Some(object) => object.content.text_len(),
+        }
+    }
+
+    /// The elements of an array. None exactly where there is no such object, or it isn't an array.
+    #[tactic(auto, unfolding(crate::specs::Objects::elements_held))]
+    pub fn elements(&self, id: u32) -> Option<&[Value]>
+        ensures { option_map (λ e. e.now) result ≡ elements_held self.now id }
+    {
+        match self.object(id) {
+            None => None,
+            Some(object) => object.content.elements(),
+        }
+    }
+
+    /// All fields of an object for which a value was set, and the values, in the order of tokens; none where there
+    /// is no such object.
+    #[tactic(auto, unfolding(crate::specs::Objects::fields_in))]
+    pub fn fields(&self, id: u32) -> Result<Vec<(Token, Value)>, AllocError>
+        ensures { IfOk result (λ l. l.items ≡ fields_in self.now id) }
+    {
+        match self.object(id) {
+            None => Ok(Vec::new(self.alloc)),
+            Some(object) => object.fields.all(self.alloc),
+        }
+    }
+
+    /// All static fields for which a value was set, and the values, in the order of tokens.
+    pub fn statics(&self) -> Result<Vec<(Token, Value)>, AllocError>
+        ensures { IfOk result (λ l. l.items ≡ self.now.statics) }
+    {
+        self.statics.all(self.alloc)
     }
 
     /// The i-th field of an object for which a value was set, and the value, from 0 in the order of tokens. None

@@ -4,8 +4,8 @@ use Rattle.std.proofs.lemmas.Bool.Decides.{nat_tests}
 use Rattle.enc_kinds.specs.Outside.{outside_of}
 use Rattle.enc_kinds.proofs.members_outside.outside_of.Goals as goal
 
-pub returns : goal.returns
+pub returns-clause-member : goal.returns-clause-member
 unfolding outside_of
-returns g c =
+returns-clause-member g c =
     let e : (c.args.token.table == 0x0A) ≡ true = grind (arith, nat_tests) in
     rw e c.first_member.ensures

@@ -1,0 +1,33 @@
+use Rattle.std.proofs.Common.{◌∙◌, sym, ap, Some, None}
+use Rattle.enc_base.specs.declared.token.Token.{Token}
+use Rattle.enc_vm.proofs.TouchedOn.{touches, makes_as}
+use Rattle.enc_vm.specs.Calls.{call_with, call_touches, declaring}
+use Rattle.enc_vm.specs.Machine.{version_world}
+use Rattle.enc_vm.specs.TouchSeen.{first_touch}
+use Rattle.enc_vm.proofs.thread.Thread.touch_and_call.Goals as goal
+
+-- it isn't the first touch
+pub returns-in-Ok-None : goal.returns-in-Ok-None
+returns-in-Ok-None g c =
+    makes_as _ _ _ _ _ _ _
+    (touches (g.V.ModuleView.users c.args.view.now) (g.V.ModuleView.meaning c.args.view.now) c.args.versions.now.methods c.args.self.now
+    (declaring (g.V.ModuleView.meaning c.args.view.now) c.args.method)
+    (call_with (version_world (g.V.ModuleView.users c.args.view.now) (g.V.ModuleView.meaning c.args.view.now) c.args.versions.now.methods)
+    c.args.manner.asks c.args.manner.by_object c.args.next c.args.method c.args.shape.now c.args.self.now)
+    c.args.objects.now c.args.touched.now (call_touches (g.V.ModuleView.meaning c.args.view.now) c.args.method) None
+    (sym c.if-not-call_touches.ensures)
+    (sym c.in-Ok-None.field-0-is ∙ c.in-Ok-None.ensures ∙ ap (λ (t : Token). first_touch (g.V.ModuleView.meaning c.args.view.now) t c.args.touched.now) c.declaring-owner.ensures.owner))
+    (c.call_with-in-Ok-None.ensures c.args.touched.now)
+
+-- it is
+pub returns-in-Ok-Some : goal.returns-in-Ok-Some
+returns-in-Ok-Some g c =
+    makes_as _ _ _ _ _ _ _
+    (touches (g.V.ModuleView.users c.args.view.now) (g.V.ModuleView.meaning c.args.view.now) c.args.versions.now.methods c.args.self.now
+    (declaring (g.V.ModuleView.meaning c.args.view.now) c.args.method)
+    (call_with (version_world (g.V.ModuleView.users c.args.view.now) (g.V.ModuleView.meaning c.args.view.now) c.args.versions.now.methods)
+    c.args.manner.asks c.args.manner.by_object c.args.next c.args.method c.args.shape.now c.args.self.now)
+    c.args.objects.now c.args.touched.now (call_touches (g.V.ModuleView.meaning c.args.view.now) c.args.method) (Some c.in-Ok-Some.first)
+    (sym c.if-not-call_touches.ensures)
+    (sym c.in-Ok-Some.field-0-is ∙ c.in-Ok-Some.ensures ∙ ap (λ (t : Token). first_touch (g.V.ModuleView.meaning c.args.view.now) t c.args.touched.now) c.declaring-owner.ensures.owner))
+    c.call_first.ensures

@@ -1,0 +1,77 @@
+//! The frames below the innermost.
+ghost use Rattle.std.specs.Prelude.{◌≡◌, ◌∷◌, [], ◌<◌, length, reverse, OnOk, OnErr, Option, Some, None};
+ghost use Rattle.enc_vm.specs.Does.{Does};
+ghost use Rattle.enc_vm.specs.Callers.{without_first, first_if_any};
+
+use crate::frame::Frame;
+use crate::stop::Stop;
+use enc_objects::{Trap, Value};
+use std::alloc::{AllocError, Global};
+use std::marker::Model;
+use std::mem;
+
+/// The frames below the innermost one, fewer than 1,024; their list begins with the nearest.
+#[derive(Drop)]
+pub(crate) struct Callers {
+    pub(crate) items: Vec<Frame>,
+}
+
+impl Model for Callers {
+    ghost use Rattle.std.specs.Prelude.{◌<◌, List, length, reverse};
+    ghost use Rattle.enc_versions.specs.Version.{Version};
+    ghost use Rattle.enc_vm.specs.Machine.{Frame as TheFrame};
+
+    ghost Value = { List (TheFrame Version) };
+
+    ghost view = { λ c. reverse c.items.items };
+
+    ghost invariant = { λ c. length c.items.items < 1024 };
+}
+
+impl Callers {
+    /// None. It takes no memory.
+    pub(crate) fn begin(alloc: Global) -> Callers
+        ensures { result ≡ [] }
+    {
+        Callers {
+            items: Vec::new(alloc),
+        }
+    }
+
+    /// How many there are.
+    pub(crate) fn len(&self) -> usize
+        ensures len { result ≡ length self.now }
+        ensures few { result < 1024 }
+    {
+        self.items.len()
+    }
+
+    /// All, the outermost first.
+    pub(crate) fn as_slice(&self) -> &[Frame]
+        ensures { reverse result.now ≡ self.now }
+    {
+        self.items.as_slice()
+    }
+
+    /// A frame becomes the innermost one, and what was it the nearest below. Without memory nothing changes.
+    pub(crate) fn enter(&mut self, top: &mut Frame, frame: Frame) -> Result<(), AllocError>
+        requires { length self.old < 1023 }
+        ensures top { OnOk result (top.new ≡ frame) }
+        ensures below { OnOk result (self.new ≡ top.old ∷ self.old) }
+        ensures same_top { OnErr result (top.new ≡ top.old) }
+        ensures same_below { OnErr result (self.new ≡ self.old) }
+    {
+        self.items.push(frame)?;
+        let last = self.items.len() - 1;
+        mem::swap(top, &mut self.items[last]);
+        Ok(())
+    }
+
+    /// The nearest frame becomes the innermost one, None where there is none.
+    pub(crate) fn leave(&mut self) -> Option<Frame>
+        ensures frame { result ≡ first_if_any self.old }
+        ensures rest { self.new ≡ without_first self.old }
+    {
+        self.items.pop()
+    }
+}

@@ -1,0 +1,403 @@
+//! Calls of methods of the module (ECMA-335 III.3.19, III.4.2).
+ghost use Rattle.std.specs.Prelude.{◌≡◌, List, length, option_and_then, IsTrue, ◌&&◌, if◌then◌else◌};
+ghost use Rattle.enc_base.specs.declared.token.Token.{Token as TheToken};
+ghost use Rattle.enc_dispatch.specs.Index.{StandsForModule};
+ghost use Rattle.enc_dispatch.specs.Target.{target_of, is_interface};
+ghost use Rattle.enc_dispatch.specs.Walks.{is_virtual};
+ghost use Rattle.enc_objects.specs.declared.trap.Trap.TheVariants.{X9, X10};
+ghost use Rattle.enc_plain.specs.Module.{has_row};
+ghost use Rattle.enc_schema.specs.Tables.{method_def};
+ghost use Rattle.enc_vm.specs.ArgumentsSeen.{GivesItems, fitting};
+ghost use Rattle.enc_vm.specs.Calls.{object_of, ask_object, class_of_object, reached_on, chosen, call_with, declaring, touch_if, call_touches, call, call_virtual};
+ghost use Rattle.enc_vm.specs.CallsSeen.{AreBodiesOf, Makes, called_on, shared_by};
+ghost use Rattle.enc_vm.specs.Machine.{version_world};
+ghost use Rattle.enc_vm.specs.Straight.{argument_kinds};
+ghost use Rattle.enc_vm.specs.TouchSeen.{constructed_in, first_on};
+ghost use Rattle.enc_vm.specs.Machine.{Shared};
+
+use crate::arguments::{called_kinds, fitting};
+use crate::declaring::{
+    FirstTouch, call_touches, declaring, first_touch, is_interface, is_virtual,
+};
+use crate::places::named_method;
+use crate::returns::FrameChange;
+use crate::stack::Stack;
+use crate::stop::Stop;
+use crate::thread::Thread;
+use crate::touched::Touched;
+use crate::values::reference;
+use enc_base::Token;
+use enc_dispatch::Dispatch;
+use enc_kinds::MethodShape;
+use enc_objects::{Objects, Shape, Trap, Value};
+use enc_plain::{ModuleView, is_row};
+use enc_versions::Versions;
+use std::alloc::Global;
+
+/// The object that is the first argument. X3 where there is none, X4 where it is no reference, X5 where it
+/// is null.
+fn object_of(args: &[Value]) -> Result<u32, Trap>
+    ensures { result ≡ object_of args.now }
+{
+    let [first, ..] = args else {
+        return Err(Trap::X3);
+    };
+    let object = reference(*first)?;
+    match object {
+        None => Err(Trap::X5),
+        Some(id) => Ok(id),
+    }
+}
+
+/// The first argument isn't null, where that is asked for.
+fn ask_object(wanted: bool, args: &[Value]) -> Result<bool, Trap>
+    ensures { result ≡ ask_object wanted args.now }
+{
+    if !wanted {
+        return Ok(true);
+    }
+    let _ = object_of(args)?;
+    Ok(true)
+}
+
+/// The class of an object, None of a text and of an array.
+fn class_in(objects: &Objects, id: u32) -> Option<Token>
+    ensures { result ≡ class_of_object objects.now id }
+{
+    match objects.shape(id) {
+        Some(Shape::Object(class)) => Some(class),
+        Some(Shape::Array(_, _)) | Some(Shape::Text(_)) | None => None,
+    }
+}
+
+/// The method that a virtual call reaches on an object of a class, None where there is none (ECMA-335
+/// I.8.10.4).
+fn target_in<V: ModuleView>(
+    view: &V,
+    dispatch: &Dispatch,
+    class: Option<Token>,
+    method: Token,
+) -> Option<Token>
+    requires row { IsTrue (has_row (V.meaning view.now) method) }
+    requires stands { StandsForModule dispatch.now (V.meaning view.now) }
+    ensures { result ≡ option_and_then (λ (c : TheToken). target_of (V.meaning view.now) c method) class }
+{
+    let Some(class) = class else {
+        return None;
+    };
+    if !is_row(view, class) {
+        return None;
+    }
+    dispatch.target(class, method)
+}
+
+/// Why a virtual call reaches no method: X10 of a method of an interface, and else X9.
+fn unreached<V: ModuleView>(view: &V, method: Token) -> Trap
+    requires row { IsTrue (has_row (V.meaning view.now) method) }
+    requires table { method.table ≡ method_def }
+    ensures { result ≡ (if is_interface (V.meaning view.now) (declaring (V.meaning view.now) method) then X10 else X9) }
+{
+    let owner = declaring(view, method);
+    if is_interface(view, owner) {
+        return Trap::X10;
+    }
+    Trap::X9
+}
+
+/// The method that a virtual call reaches on an object (ECMA-335 III.4.2).
+#[tactic(auto, unfolding(crate::specs::Calls::reached_on))]
+fn reached_on<V: ModuleView>(
+    view: &V,
+    dispatch: &Dispatch,
+    objects: &Objects,
+    id: u32,
+    method: Token,
+) -> Result<Token, Trap>
+    requires row { IsTrue (has_row (V.meaning view.now) method) }
+    requires table { method.table ≡ method_def }
+    requires stands { StandsForModule dispatch.now (V.meaning view.now) }
+    ensures { result ≡ reached_on (V.meaning view.now) objects.now id method }
+{
+    let class = class_in(objects, id);
+    match target_in(view, dispatch, class, method) {
+        None => Err(unreached(view, method)),
+        Some(target) => Ok(target),
+    }
+}
+
+/// Which method is entered: the named one, or the one that the object has for it.
+fn chosen<V: ModuleView>(
+    view: &V,
+    dispatch: &Dispatch,
+    objects: &Objects,
+    by_object: bool,
+    args: &[Value],
+    method: Token,
+) -> Result<Token, Trap>
+    requires row { IsTrue (has_row (V.meaning view.now) method) }
+    requires table { method.table ≡ method_def }
+    requires stands { StandsForModule dispatch.now (V.meaning view.now) }
+    ensures { result ≡ chosen by_object (V.meaning view.now) objects.now args.now method }
+{
+    if !by_object {
+        return Ok(method);
+    }
+    match object_of(args) {
+        Err(trap) => Err(trap),
+        Ok(id) => reached_on(view, dispatch, objects, id, method),
+    }
+}
+
+/// How many values a method is called with.
+fn called_count(shape: &MethodShape<'_>) -> usize
+    ensures { result ≡ length (argument_kinds shape.now) }
+{
+    let count = shape.takes().len() as usize;
+    if shape.has_this() {
+        return count + 1;
+    }
+    count
+}
+
+/// The arguments of a call from the top of a stack, as places of their kinds hold them.
+fn called_args(alloc: Global, stack: &Stack, shape: &MethodShape<'_>) -> Result<Vec<Value>, Stop>
+    ensures { GivesItems result (fitting (argument_kinds shape.now) stack.now) }
+{
+    match called_kinds(alloc, shape) {
+        Err(_) => Err(Stop::Memory),
+        Ok(kinds) => fitting(alloc, stack, kinds.as_slice()),
+    }
+}
+
+/// How a call goes: whether the object may not be null, and whether the object tells the method.
+#[derive(Clone, Copy, Debug, PartialEq, Eq)]
+pub(crate) struct Manner {
+    pub asks: bool,
+    pub by_object: bool,
+}
+
+impl Thread {
+    /// A call with these arguments, which are so many values on the stack.
+    fn call_on<V: ModuleView>(
+        &mut self,
+        alloc: Global,
+        view: &V,
+        versions: &Versions,
+        dispatch: &Dispatch,
+        objects: &Objects,
+        manner: Manner,
+        next: u32,
+        n: usize,
+        method: Token,
+        args: Vec<Value>,
+    ) -> Result<FrameChange, Stop>
+        requires row { IsTrue (has_row (V.meaning view.now) method) }
+        requires table { method.table ≡ method_def }
+        requires versions { AreBodiesOf (V.users view.now) (V.meaning view.now) versions.now.methods }
+        requires stands { StandsForModule dispatch.now (V.meaning view.now) }
+        ensures { (touched : List TheToken) → Makes result (shared_by objects.now touched) (shared_by objects.now touched) self.new self.old (called_on (version_world (V.users view.now) (V.meaning view.now) versions.now.methods) (V.meaning view.now) manner.asks manner.by_object next n method args.items self.old (shared_by objects.now touched)) }
+    {
+        let _ = ask_object(manner.asks, args.as_slice())?;
+        let target = chosen(
+            view,
+            dispatch,
+            objects,
+            manner.by_object,
+            args.as_slice(),
+            method,
+        )?;
+        match self.enter(alloc, view, versions, target, args, next, n) {
+            Err(stop) => Err(stop),
+            Ok(()) => Ok(FrameChange::Entered(target)),
+        }
+    }
+
+    /// A call of a method with what stands on the stack (ECMA-335 III.3.19).
+    #[tactic(auto, using(crate::proofs::Called::call_with_is))]
+    pub(crate) fn call_with<V: ModuleView>(
+        &mut self,
+        alloc: Global,
+        view: &V,
+        versions: &Versions,
+        dispatch: &Dispatch,
+        objects: &Objects,
+        manner: Manner,
+        next: u32,
+        method: Token,
+        shape: &MethodShape<'_>,
+    ) -> Result<FrameChange, Stop>
+        requires row { IsTrue (has_row (V.meaning view.now) method) }
+        requires table { method.table ≡ method_def }
+        requires versions { AreBodiesOf (V.users view.now) (V.meaning view.now) versions.now.methods }
+        requires stands { StandsForModule dispatch.now (V.meaning view.now) }
+        ensures { (touched : List TheToken) → Makes result (shared_by objects.now touched) (shared_by objects.now touched) self.new self.old (call_with (version_world (V.users view.now) (V.meaning view.now) versions.now.methods) manner.asks manner.by_object next method shape.now self.old (shared_by objects.now touched)) }
+    {
+        let n = called_count(shape);
+        match called_args(alloc, &self.top.stack, shape) {
+            Err(stop) => Err(stop),
+            Ok(args) => self.call_on(
+                alloc, view, versions, dispatch, objects, manner, next, n, method, args,
+            ),
+        }
+    }
+}
+
+impl Thread {
+    /// The constructor of a type is entered over the innermost frame, which goes on later where it stands
+    /// (ECMA-335 II.10.5.3).
+    pub(crate) fn enter_constructor<V: ModuleView>(
+        &mut self,
+        alloc: Global,
+        view: &V,
+        versions: &Versions,
+        constructor: Token,
+    ) -> Result<FrameChange, Stop>
+        requires versions { AreBodiesOf (V.users view.now) (V.meaning view.now) versions.now.methods }
+        ensures { (s : Shared) → Makes result s s self.new self.old (constructed_in (version_world (V.users view.now) (V.meaning view.now) versions.now.methods) constructor self.old s) }
+    {
+        let next = self.top.offset;
+        match self.enter(alloc, view, versions, constructor, Vec::new(alloc), next, 0) {
+            Err(stop) => Err(stop),
+            Ok(()) => Ok(FrameChange::Entered(constructor)),
+        }
+    }
+}
+
+impl Thread {
+    /// A call behind the first touch of its method's type: the type's constructor is entered, where it has
+    /// one, and else the method.
+    fn call_first<V: ModuleView>(
+        &mut self,
+        alloc: Global,
+        view: &V,
+        versions: &Versions,
+        dispatch: &Dispatch,
+        objects: &Objects,
+        touched: &mut Touched,
+        first: FirstTouch,
+        manner: Manner,
+        next: u32,
+        method: Token,
+        shape: &MethodShape<'_>,
+    ) -> Result<FrameChange, Stop>
+        requires row { IsTrue (has_row (V.meaning view.now) method) }
+        requires table { method.table ≡ method_def }
+        requires versions { AreBodiesOf (V.users view.now) (V.meaning view.now) versions.now.methods }
+        requires stands { StandsForModule dispatch.now (V.meaning view.now) }
+        ensures { Makes result (shared_by objects.now touched.new) (shared_by objects.now touched.old) self.new self.old (first_on (version_world (V.users view.now) (V.meaning view.now) versions.now.methods) first (call_with (version_world (V.users view.now) (V.meaning view.now) versions.now.methods) manner.asks manner.by_object next method shape.now self.old) self.old objects.now) }
+    {
+        let Some(constructor) = first.constructor else {
+            let change = self.call_with(
+                alloc, view, versions, dispatch, objects, manner, next, method, shape,
+            )?;
+            *touched = first.touched;
+            return Ok(change);
+        };
+        let change = self.enter_constructor(alloc, view, versions, constructor)?;
+        *touched = first.touched;
+        Ok(change)
+    }
+
+    /// A call behind the touch of its method's type, where it touches that (ECMA-335 II.10.5.3).
+    fn touch_and_call<V: ModuleView>(
+        &mut self,
+        alloc: Global,
+        view: &V,
+        versions: &Versions,
+        dispatch: &Dispatch,
+        objects: &Objects,
+        touched: &mut Touched,
+        manner: Manner,
+        next: u32,
+        method: Token,
+        shape: &MethodShape<'_>,
+    ) -> Result<FrameChange, Stop>
+        requires row { IsTrue (has_row (V.meaning view.now) method) }
+        requires table { method.table ≡ method_def }
+        requires versions { AreBodiesOf (V.users view.now) (V.meaning view.now) versions.now.methods }
+        requires stands { StandsForModule dispatch.now (V.meaning view.now) }
+        ensures { Makes result (shared_by objects.now touched.new) (shared_by objects.now touched.old) self.new self.old (touch_if (call_touches (V.meaning view.now) method) (version_world (V.users view.now) (V.meaning view.now) versions.now.methods) (shared_by objects.now touched.old) self.old (declaring (V.meaning view.now) method) (call_with (version_world (V.users view.now) (V.meaning view.now) versions.now.methods) manner.asks manner.by_object next method shape.now self.old)) }
+    {
+        if !call_touches(view, method) {
+            return self.call_with(
+                alloc, view, versions, dispatch, objects, manner, next, method, shape,
+            );
+        }
+        let owner = declaring(view, method);
+        match first_touch(alloc, view, touched, owner) {
+            Err(_) => Err(Stop::Memory),
+            Ok(None) => self.call_with(
+                alloc, view, versions, dispatch, objects, manner, next, method, shape,
+            ),
+            Ok(Some(first)) => self.call_first(
+                alloc, view, versions, dispatch, objects, touched, first, manner, next, method,
+                shape,
+            ),
+        }
+    }
+}
+
+/// Whether the object tells which method a virtual call reaches: where the method has one, and is virtual.
+fn is_by_object<V: ModuleView>(view: &V, shape: &MethodShape<'_>, method: Token) -> bool
+    requires { method.table ≡ method_def }
+    ensures { result ≡ (shape.now.this && is_virtual (V.meaning view.now) method) }
+{
+    shape.has_this() && is_virtual(view, method)
+}
+
+impl Thread {
+    /// `call` of a method of the module (ECMA-335 III.3.19).
+    #[tactic(auto, using(crate::proofs::TouchedOn::call_is))]
+    pub(crate) fn call<V: ModuleView>(
+        &mut self,
+        alloc: Global,
+        view: &V,
+        versions: &Versions,
+        dispatch: &Dispatch,
+        objects: &Objects,
+        touched: &mut Touched,
+        next: u32,
+        method: Token,
+    ) -> Result<FrameChange, Stop>
+        requires versions { AreBodiesOf (V.users view.now) (V.meaning view.now) versions.now.methods }
+        requires stands { StandsForModule dispatch.now (V.meaning view.now) }
+        ensures { Makes result (shared_by objects.now touched.new) (shared_by objects.now touched.old) self.new self.old (call (version_world (V.users view.now) (V.meaning view.now) versions.now.methods) next method (shared_by objects.now touched.old) self.old) }
+    {
+        let shape = named_method(view, method)?;
+        let manner = Manner {
+            asks: false,
+            by_object: false,
+        };
+        self.touch_and_call(
+            alloc, view, versions, dispatch, objects, touched, manner, next, method, &shape,
+        )
+    }
+
+    /// `callvirt` of a method of the module (ECMA-335 III.4.2).
+    #[tactic(auto, using(crate::proofs::TouchedOn::call_virtual_is))]
+    pub(crate) fn call_virtual<V: ModuleView>(
+        &mut self,
+        alloc: Global,
+        view: &V,
+        versions: &Versions,
+        dispatch: &Dispatch,
+        objects: &Objects,
+        touched: &mut Touched,
+        next: u32,
+        method: Token,
+    ) -> Result<FrameChange, Stop>
+        requires versions { AreBodiesOf (V.users view.now) (V.meaning view.now) versions.now.methods }
+        requires stands { StandsForModule dispatch.now (V.meaning view.now) }
+        ensures { Makes result (shared_by objects.now touched.new) (shared_by objects.now touched.old) self.new self.old (call_virtual (version_world (V.users view.now) (V.meaning view.now) versions.now.methods) next method (shared_by objects.now touched.old) self.old) }
+    {
+        let shape = named_method(view, method)?;
+        let by_object = is_by_object(view, &shape, method);
+        let manner = Manner {
+            asks: shape.has_this(),
+            by_object,
+        };
+        self.touch_and_call(
+            alloc, view, versions, dispatch, objects, touched, manner, next, method, &shape,
+        )
+    }
+}

@@ -1,0 +1,121 @@
+//! What instructions make of a task, by what they change.
+ghost use Rattle.std.specs.Prelude.{◌≡◌, ℕ, List, Option};
+ghost use Rattle.enc_base.specs.declared.token.Token.{Token as TheToken};
+ghost use Rattle.enc_dispatch.specs.Index.{StandsForModule};
+ghost use Rattle.enc_versions.specs.Version.{Version};
+ghost use Rattle.enc_vm.specs.Calls.{return_from};
+ghost use Rattle.enc_vm.specs.CallsSeen.{shared_by};
+ghost use Rattle.enc_vm.specs.EffectsSeen.{Performs};
+ghost use Rattle.enc_vm.specs.Handlers.{end_finally, throw_object};
+ghost use Rattle.enc_vm.specs.Machine.{Shared, version_world};
+ghost use Rattle.enc_vm.specs.Step.{frame_act, object_act, framed, stored, threaded};
+ghost use Rattle.enc_vm.specs.Straight.{on_upper_two, on_top};
+
+use crate::act::{FrameAct, ObjectAct};
+use crate::effect::Effect;
+use crate::object_act::act_on_objects;
+use crate::returns::FrameChange;
+use crate::stop::Stop;
+use crate::thread::Thread;
+use enc_dispatch::Dispatch;
+use enc_objects::Objects;
+use enc_opcodes::Op;
+use enc_plain::ModuleView;
+use std::alloc::Global;
+
+impl Thread {
+    /// What an instruction does to its frame alone.
+    pub(crate) fn act_on_frame<V: ModuleView>(
+        &mut self,
+        alloc: Global,
+        view: &V,
+        next: u32,
+        act: FrameAct,
+    ) -> Result<Effect, Stop>
+        ensures { (users : ℕ → Option (List ℕ)) (methods : List (Option Version)) (s : Shared) → Performs result s s self.new self.old (framed s self.old (frame_act (version_world users (V.meaning view.now) methods) next act self.old.top)) }
+    {
+        match self.top.act(alloc, view, next, act) {
+            Err(stop) => Err(stop),
+            Ok(()) => Ok(Effect::Frames(FrameChange::Stays)),
+        }
+    }
+
+    /// What an instruction does to objects and its frame.
+    pub(crate) fn act_on_objects<V: ModuleView>(
+        &mut self,
+        view: &V,
+        dispatch: &Dispatch,
+        objects: &mut Objects,
+        next: u32,
+        act: ObjectAct,
+    ) -> Result<Effect, Stop>
+        requires stands { StandsForModule dispatch.now (V.meaning view.now) }
+        ensures { (users : ℕ → Option (List ℕ)) (methods : List (Option Version)) (touched : List TheToken) → Performs result (shared_by objects.new touched) (shared_by objects.old touched) self.new self.old (stored (shared_by objects.old touched) self.old (object_act (version_world users (V.meaning view.now) methods) next act objects.old self.old.top)) }
+    {
+        match act_on_objects(view, dispatch, objects, &mut self.top, next, act) {
+            Err(stop) => Err(stop),
+            Ok(()) => Ok(Effect::Frames(FrameChange::Stays)),
+        }
+    }
+
+    /// `ret`.
+    pub(crate) fn return_one<V: ModuleView>(&mut self, view: &V) -> Result<Effect, Stop>
+        ensures { (users : ℕ → Option (List ℕ)) (methods : List (Option Version)) (s : Shared) → Performs result s s self.new self.old (return_from (version_world users (V.meaning view.now) methods) s self.old) }
+    {
+        match self.leave_method(view) {
+            Err(stop) => Err(stop),
+            Ok(change) => Ok(Effect::Frames(change)),
+        }
+    }
+
+    /// `throw`.
+    pub(crate) fn throw_one<V: ModuleView>(
+        &mut self,
+        view: &V,
+        objects: &Objects,
+    ) -> Result<Effect, Stop>
+        ensures { (users : ℕ → Option (List ℕ)) (methods : List (Option Version)) (touched : List TheToken) → Performs result (shared_by objects.now touched) (shared_by objects.now touched) self.new self.old (threaded (shared_by objects.now touched) (throw_object (version_world users (V.meaning view.now) methods) objects.now self.old)) }
+    {
+        match self.throw_object(view, objects) {
+            Err(stop) => Err(stop),
+            Ok(()) => Ok(Effect::Frames(FrameChange::Stays)),
+        }
+    }
+
+    /// `endfinally`.
+    #[tactic(auto, unfolding(crate::specs::Machine::version_world, enc_opcodes::specs::Body::body_of))]
+    pub(crate) fn end_handler<V: ModuleView>(
+        &mut self,
+        alloc: Global,
+        view: &V,
+    ) -> Result<Effect, Stop>
+        ensures { (users : ℕ → Option (List ℕ)) (methods : List (Option Version)) (s : Shared) → Performs result s s self.new self.old (threaded s (end_finally (((version_world users (V.meaning view.now) methods).body self.old.top.code).handlers) self.old)) }
+    {
+        match self.end_finally(alloc) {
+            Err(stop) => Err(stop),
+            Ok(()) => Ok(Effect::Frames(FrameChange::Stays)),
+        }
+    }
+}
+
+impl Thread {
+    /// An instruction on two values.
+    pub(crate) fn on_two(&mut self, op: Op, next: u32) -> Result<Effect, Stop>
+        ensures { (s : Shared) → Performs result s s self.new self.old (framed s self.old (on_upper_two op next self.old.top)) }
+    {
+        match self.top.on_upper_two(op, next) {
+            Err(stop) => Err(stop),
+            Ok(()) => Ok(Effect::Frames(FrameChange::Stays)),
+        }
+    }
+
+    /// An instruction on one value.
+    pub(crate) fn on_one(&mut self, op: Op, next: u32) -> Result<Effect, Stop>
+        ensures { (s : Shared) → Performs result s s self.new self.old (framed s self.old (on_top op next self.old.top)) }
+    {
+        match self.top.on_top(op, next) {
+            Err(stop) => Err(stop),
+            Ok(()) => Ok(Effect::Frames(FrameChange::Stays)),
+        }
+    }
+}

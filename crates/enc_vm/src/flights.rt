@@ -1,0 +1,215 @@
+//! Thrown objects on their way, and what runs on the way (ECMA-335 I.12.4.2).
+ghost use Rattle.std.specs.Prelude.{◌≡◌, ◌∷◌, [], ◌<◌, ◌^◌, length, Option, Some, None, option_map};
+ghost use Rattle.enc_vm.specs.Callers.{without_first};
+ghost use Rattle.enc_vm.specs.Does.{Does};
+ghost use Rattle.enc_vm.specs.FlightsSeen.{FliesTo, Flies};
+ghost use Rattle.enc_vm.specs.declared.handler.Reason.TheVariants as TheReason;
+ghost use Rattle.enc_vm.specs.Handlers.{ending_handler, end_finally, resumed_by, is_taking, way_out, fly, flown, handled, taken_in, object_taken, left_on, leave_to};
+ghost use Rattle.enc_vm.specs.HandlersSeen.{own_clauses};
+ghost use Rattle.std.specs.Prelude.{Ok};
+
+use crate::frame::Frame;
+use crate::handler::{Flight, Reason, Running};
+use crate::handlers::{handler_range, is_within};
+use crate::stop::Stop;
+use crate::thread::Thread;
+use enc_base::Token;
+use enc_objects::{Trap, Value};
+use enc_unwind::{Stop as WayOut, next_handler};
+use std::alloc::Global;
+use std::mem;
+
+impl Frame {
+    /// `leave` to an offset (ECMA-335 III.3.46).
+    #[tactic(auto, unfolding(crate::specs::Handlers::leave_to))]
+    pub(crate) fn leave(&mut self, alloc: Global, goal: u32) -> Result<(), Stop>
+        ensures { Does result self.new self.old (Ok (leave_to (own_clauses self.old) goal self.old)) }
+    {
+        let next = next_handler(&self.body(), None, self.offset, WayOut::Leave(goal));
+        self.leave_by(alloc, self.offset, goal, next)
+    }
+}
+
+impl Frame {
+    /// The handler of a clause begins with a thrown object.
+    #[tactic(auto, unfolding(crate::specs::Handlers::gone_to))]
+    fn take(&mut self, alloc: Global, clause: u32, object: u32) -> Result<(), Stop>
+        ensures { Does result self.new self.old (Ok (taken_in (own_clauses self.old) clause object self.old)) }
+    {
+        let code = self.body();
+        let begin = handler_range(&code, clause).0;
+        let running = self.running.kept(alloc, &code, begin)?;
+        self.stack.be_single(Value::Obj(object))?;
+        self.running = running;
+        self.offset = begin;
+        Ok(())
+    }
+}
+
+impl Thread {
+    /// Whether the innermost frame takes the object of a flight.
+    fn is_taking(&self, flight: Flight) -> bool
+        ensures { result ≡ is_taking self.now flight }
+    {
+        flight.frame == self.below.len()
+    }
+
+    /// How far the innermost frame's clauses run.
+    fn way_out(&self, flight: Flight) -> WayOut
+        ensures { result ≡ way_out self.now flight }
+    {
+        if self.is_taking(flight) {
+            return WayOut::Before(flight.clause);
+        }
+        WayOut::All
+    }
+}
+
+impl Thread {
+    /// The handler that ends where the innermost frame stands, None where none does.
+    fn ending(&self) -> Option<Running>
+        ensures { option_map (λ r. (r, without_first self.now.top.running)) result ≡ ending_handler (own_clauses self.now.top) self.now.top.offset self.now.top.running }
+    {
+        let handler = self.top.running.last()?;
+        let range = handler_range(&self.top.body(), handler.clause);
+        if !is_within(range, self.top.offset) {
+            return None;
+        }
+        Some(handler)
+    }
+
+    /// The way out by `leave` goes on behind a handler, which ends.
+    fn resume(&mut self, alloc: Global, handler: Running, goal: u32) -> Result<(), Stop>
+        ensures { Does result self.new self.old (Ok (resumed_by (own_clauses self.old.top) self.old handler (TheReason.Leave goal) (record self.old.top { running = without_first self.old.top.running }))) }
+    {
+        let next = next_handler(
+            &self.top.body(),
+            Some(handler.clause),
+            handler.origin,
+            WayOut::Leave(goal),
+        );
+        let rest = self.top.running.before_last(alloc)?;
+        let running = mem::replace(&mut self.top.running, rest);
+        match self.top.leave_by(alloc, handler.origin, goal, next) {
+            Ok(()) => Ok(()),
+            Err(stop) => {
+                self.top.running = running;
+                Err(stop)
+            }
+        }
+    }
+
+    /// `endfinally` (ECMA-335 III.3.35).
+    #[tactic(auto, unfolding(crate::specs::Handlers::end_finally))]
+    pub(crate) fn end_finally(&mut self, alloc: Global) -> Result<(), Stop>
+        ensures { Does result self.new self.old (end_finally (own_clauses self.old.top) self.old) }
+    {
+        let Some(handler) = self.ending() else {
+            return Err(Stop::Trap(Trap::X2));
+        };
+        match handler.reason {
+            Reason::Leave(goal) => self.resume(alloc, handler, goal),
+            Reason::Flight(flight) => {
+                self.top.running.end_last();
+                self.flight = Some(flight);
+                Ok(())
+            }
+        }
+    }
+}
+
+/// What a flight's step made of a task's frames.
+#[derive(Clone, Copy, Debug, PartialEq, Eq)]
+pub(crate) enum FlightEnd {
+    /// The innermost frame goes on in a handler.
+    Stays,
+    /// The innermost frame was left, which was of this method.
+    Left(Token),
+    /// So was the last one, and the task ends.
+    LeftLast(Token),
+}
+
+impl Thread {
+    /// The handler of a clause begins on the way of an object.
+    fn handle(&mut self, alloc: Global, flight: Flight, clause: u32) -> Result<(), Stop>
+        ensures { Does result (Some self.new) (Some self.old) (Ok (handled (own_clauses self.old.top) self.old flight clause).thread) }
+    {
+        let on_way = Flight {
+            tried: Some(clause),
+            ..flight
+        };
+        self.top.start(
+            alloc,
+            Running {
+                clause,
+                origin: flight.origin,
+                reason: Reason::Flight(on_way),
+            },
+        )?;
+        self.flight = None;
+        Ok(())
+    }
+
+    /// The innermost frame takes the object.
+    fn take(&mut self, alloc: Global, flight: Flight) -> Result<(), Stop>
+        ensures { Does result (Some self.new) (Some self.old) (Ok (object_taken (own_clauses self.old.top) self.old flight).thread) }
+    {
+        self.top.take(alloc, flight.clause, flight.object)?;
+        self.flight = None;
+        Ok(())
+    }
+
+    /// The innermost frame is left on the way of an object.
+    fn leave_on(&mut self, flight: Flight) -> FlightEnd
+        ensures { FliesTo result self.new self.old (left_on self.old flight self.old.below) }
+    {
+        let method = self.top.method;
+        let Some(frame) = self.below.leave() else {
+            return FlightEnd::LeftLast(method);
+        };
+        let origin = frame.offset.saturating_sub(1);
+        self.top = frame;
+        self.flight = Some(Flight {
+            origin,
+            tried: None,
+            ..flight
+        });
+        FlightEnd::Left(method)
+    }
+}
+
+impl Thread {
+    /// A step of a task whose object is on its way: the handler of the next clause begins, or the object is
+    /// taken, or the innermost frame is left. Without memory nothing changes.
+    #[tactic(auto, unfolding(crate::specs::Handlers::fly))]
+    pub(crate) fn fly(&mut self, alloc: Global, flight: Flight) -> Result<FlightEnd, Stop>
+        ensures { Flies result self.new self.old (fly (own_clauses self.old.top) self.old flight) }
+    {
+        let next = next_handler(
+            &self.top.body(),
+            flight.tried,
+            flight.origin,
+            self.way_out(flight),
+        );
+        let Some(clause) = next else {
+            return self.take_or_leave(alloc, flight);
+        };
+        match self.handle(alloc, flight, clause) {
+            Err(stop) => Err(stop),
+            Ok(()) => Ok(FlightEnd::Stays),
+        }
+    }
+
+    /// The object is taken by the innermost frame, or that is left.
+    fn take_or_leave(&mut self, alloc: Global, flight: Flight) -> Result<FlightEnd, Stop>
+        ensures { Flies result self.new self.old (flown (own_clauses self.old.top) self.old flight None) }
+    {
+        if !self.is_taking(flight) {
+            return Ok(self.leave_on(flight));
+        }
+        match self.take(alloc, flight) {
+            Err(stop) => Err(stop),
+            Ok(()) => Ok(FlightEnd::Stays),
+        }
+    }
+}
