@@ -72,7 +72,7 @@ impl Case {
         )?;
         printed.extend_from_slice(head.as_bytes())?;
         printed.extend_from_slice(sink.bytes())?;
-        if printed.last() != Some(&b'\n') {
+        if sink.bytes().last() != Some(&b'\n') {
             printed.push(b'\n')?;
         }
         Ok(printed)

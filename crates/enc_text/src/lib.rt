@@ -7,6 +7,7 @@ mod points;
 mod rows;
 mod text;
 
+pub use operand::{push_label, push_signed, push_units};
 pub use rows::row_text;
 pub use text::{
     push_decimal, push_guid, push_long, push_str, push_token, refused_line, stream_name,

@@ -109,15 +109,29 @@ fn units_of(alloc: Global, bytes: &[u8]) -> Result<Vec<u16>, AllocError>
     Ok(units)
 }
 
-/// Appends a space and a user text in UTF-8, by the bytes of its UTF-16 units.
+/// Appends a text in UTF-8 between `"` signs, by its UTF-16 units; a surrogate without its partner is U+FFFD.
 #[tactic(auto, unfolding(crate::specs::BodyText::utf8_of))]
+pub fn push_units(alloc: Global, units: &[u16], out: &mut Vec<u8>) -> Result<(), AllocError>
+    ensures { OnOk result (out.new.items ≡ out.old.items ++ quoted (utf8_of units.now)) }
+{
+    let text = String::from_utf16_lossy(alloc, units)?;
+    push_quoted(out, text.as_bytes())
+}
+
+/// Appends a space and a user text in UTF-8, by the bytes of its UTF-16 units.
 fn push_user_text(alloc: Global, bytes: &[u8], out: &mut Vec<u8>) -> Result<(), AllocError>
     ensures { OnOk result (out.new.items ≡ out.old.items ++ 0x20 ∷ quoted (utf8_of (units_of bytes.now))) }
 {
     let units = units_of(alloc, bytes)?;
-    let text = String::from_utf16_lossy(alloc, units.as_slice())?;
     push_str(out, " ")?;
-    push_quoted(out, text.as_bytes())
+    push_units(alloc, units.as_slice(), out)
+}
+
+/// Appends a number in decimal digits, with a sign where it is negative.
+pub fn push_signed(alloc: Global, number: i64, out: &mut Vec<u8>) -> Result<(), AllocError>
+    ensures { OnOk result (out.new.items ≡ out.old.items ++ signed_decimal number) }
+{
+    push_str(out, number.to_string(alloc)?.as_str())
 }
 
 /// Appends a space and a number in decimal digits.
@@ -125,7 +139,7 @@ fn push_number(alloc: Global, number: i64, out: &mut Vec<u8>) -> Result<(), Allo
     ensures { OnOk result (out.new.items ≡ out.old.items ++ 0x20 ∷ signed_decimal number) }
 {
     push_str(out, " ")?;
-    push_str(out, number.to_string(alloc)?.as_str())
+    push_signed(alloc, number, out)
 }
 
 /// Appends a space and the digits of bytes.

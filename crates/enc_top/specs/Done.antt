@@ -11,6 +11,7 @@ use Rattle.enc_agg.specs.Place.{place_of}
 use Rattle.enc_ppdb.specs.PdbChain.{pdb_with}
 use Rattle.enc_ppdb.specs.Written.{MeansPdb}
 use Rattle.enc_rewriter.specs.Rewritten.{MeansModule}
+use Rattle.enc_session.specs.Run.{run_text}
 use Rattle.enc_writer.specs.declared.bytes.DeltaBytes.{DeltaBytes}
 use Rattle.enc_writer.specs.Stands.{StandsFor}
 use Rattle.enc_text.specs.Text.{refused_line}
@@ -21,7 +22,7 @@ use Rattle.enc_top.specs.Lines.{limit_line, missing_line, absent_line, accepted_
 use Rattle.enc_top.specs.Listing.{listing_of}
 use Rattle.enc_jobs.specs.Generated.{generated_base, generated_lists, edited_by}
 use Rattle.enc_top.specs.Generating.{case_line, AreFilesOfCase}
-use Rattle.enc_top.specs.Verdict.{Stop, no_command, absent_file, refused_file, past_limit, no_list, broken_list, dll, meta, il, pdb, Followed, plain_of, debug_after, Edited, Done, shows, lists, counts, applies, writes, generates, Verdict}
+use Rattle.enc_top.specs.Verdict.{Stop, no_command, absent_file, refused_file, past_limit, no_list, broken_list, dll, meta, il, pdb, Followed, plain_of, debug_after, Edited, Done, shows, lists, counts, applies, writes, runs, generates, Verdict}
 
 -- the token's row, or that the module lacks it
 unfoldable pub row_or_absent : Module → PlainPdb → RowPlace → Token → List ℕ
@@ -44,6 +45,7 @@ IsOutput (lists f) output = output ≡ listed_as f
 IsOutput (counts f) output = output ≡ counted_as f
 IsOutput (applies out f) output = output ≡ saved_line (dll out ∷ pdb out ∷ [])
 IsOutput (writes out e) output = output ≡ saved_line (meta out ∷ il out ∷ pdb out ∷ [])
+IsOutput (runs f script) output = output ≡ run_text (plain_of f) (debug_after f) script
 IsOutput (generates start count out) output = output ≡ case_line start.digits count.digits (edited_by generated_base (generated_lists start.value count.value))
 
 -- the files that say a module and its plain PDB: bytes that mean the one, and bytes that mean the other

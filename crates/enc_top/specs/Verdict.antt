@@ -21,12 +21,14 @@ use Rattle.enc_agg.specs.Extend.{chain_with}
 use Rattle.enc_edits.specs.declared.edit.EditList.{EditList}
 use Rattle.enc_jobs.specs.declared.fault.JobFault.{JobFault}
 use Rattle.enc_jobs.specs.Edits.{edits_said}
+use Rattle.enc_jobs.specs.Scripts.{script_said}
+use Rattle.enc_jobs.specs.declared.command.Command.{Command}
 use Rattle.enc_rules.specs.First.{first_edit}
 use Rattle.enc_top.specs.declared.limits.Limit.{Limit}
 use Rattle.enc_top.specs.declared.limits.Limit.TheVariants as limit
-use Rattle.enc_top.specs.Words.{Numeral, Job, show, list, check, apply, write, gen, job_of}
+use Rattle.enc_top.specs.Words.{Numeral, Job, show, list, check, apply, write, run, gen, job_of}
 
--- why a command does nothing: the words are none; a file that must be there is absent; a file is refused, by a rule or by its length, or as an edit list: it isn't one, or one of its edits breaks a rule
+-- why a command does nothing: the words are none; a file that must be there is absent; a file is refused, by a rule or by its length, or as an edit list or a script: it isn't one, or one of its edits breaks a rule
 pub data Stop : Type 0 where
   no_command : Stop
   absent_file : List ℕ → Stop
@@ -227,8 +229,8 @@ pub record Edited : Type 0 where
   pub followed : Followed
   pub list : EditList
 
--- the edit list that a file says
-abbrev pub list_in_file : List ℕ → Result EditList JobFault → Result EditList Stop
+-- the edit list or the script that a file says
+abbrev pub list_in_file : {A : Type 0} → List ℕ → Result A JobFault → Result A Stop
 list_in_file name (Ok l) = Ok l
 list_in_file name (Err fault) = Err (no_list name fault)
 
@@ -240,7 +242,7 @@ unless_list_broken name e (Some broken) = Err (broken_list name broken.0 broken.
 abbrev pub judge_edits : List ℕ → Edited → Result Edited Stop
 judge_edits name e = unless_list_broken name e (first_edit (chain_with e.followed.base e.followed.deltas) e.list)
 
--- a base with its deltas, and the text of an edit list to follow them
+-- a base with its deltas, and the text of an edit list to follow them, or of a script
 pub record WithText : Type 0 where
   pub followed : Followed
   pub text : List ℕ
@@ -254,13 +256,14 @@ accept_text files base edits deltas = do
   g ← judge_all base f fs
   Ok (record { followed = g; text = text })
 
--- what an accepted command does with them: it shows a token's row, lists them, counts the deltas, saves the one module that has all edits, or the delta of an edit list; or it saves a generated case
+-- what an accepted command does with them: it shows a token's row, lists them, counts the deltas, saves the one module that has all edits, or the delta of an edit list; it runs a script over a base; or it saves a generated case
 pub data Done : Type 0 where
   shows : Token → Followed → Done
   lists : Followed → Done
   counts : Followed → Done
   applies : List ℕ → Followed → Done
   writes : List ℕ → Edited → Done
+  runs : Followed → List Command → Done
   generates : Numeral → Numeral → List ℕ → Done
 
 -- what a command comes to: what it does, or why it does nothing
@@ -315,12 +318,25 @@ write_on files base edits out deltas = do
   t ← accept_text files base edits deltas
   text_on edits out t
 
+-- the text of a script read, and judged last
+abbrev pub script_on : List ℕ → WithText → Verdict
+script_on name t = do
+  cs ← list_in_file name (script_said t.text)
+  Ok (runs t.followed cs)
+
+-- `run BASE SCRIPT`
+abbrev pub run_on : Files → List ℕ → List ℕ → Verdict
+run_on files base script = do
+  t ← accept_text files base script []
+  script_on script t
+
 abbrev pub verdict_on : Files → Option Job → Verdict
 verdict_on files (Some (show base token deltas)) = show_on files base token deltas
 verdict_on files (Some (list base deltas)) = list_on files base deltas
 verdict_on files (Some (check base deltas)) = check_on files base deltas
 verdict_on files (Some (apply base out deltas)) = apply_on files base out deltas
 verdict_on files (Some (write base edits out deltas)) = write_on files base edits out deltas
+verdict_on files (Some (run base script)) = run_on files base script
 verdict_on files (Some (gen start count out)) = Ok (generates start count out)
 verdict_on files None = Err no_command
 

@@ -14,13 +14,14 @@ pub record Numeral : Type 0 where
   pub digits : List ℕ
   pub value : ℕ
 
--- what a command asks for: a row of a base with deltas, their listing, whether all are accepted, the one module that has all edits, under a name of its own, the delta of an edit list, in a file, that follows them, or a generated case by its two numbers
+-- what a command asks for: a row of a base with deltas, their listing, whether all are accepted, the one module that has all edits, under a name of its own, the delta of an edit list, in a file, that follows them, what a script prints over a base, or a generated case by its two numbers
 pub data Job : Type 0 where
   show : List ℕ → Token → List (List ℕ) → Job
   list : List ℕ → List (List ℕ) → Job
   check : List ℕ → List (List ℕ) → Job
   apply : List ℕ → List ℕ → List (List ℕ) → Job
   write : List ℕ → List ℕ → List ℕ → List (List ℕ) → Job
+  run : List ℕ → List ℕ → Job
   gen : Numeral → Numeral → List ℕ → Job
 
 -- an ASCII letter, a digit, or one of _ - . /
@@ -70,6 +71,11 @@ abbrev pub write_of : List (List ℕ) → Option Job
 write_of (base ∷ edits ∷ out ∷ deltas) = if are_names base (edits ∷ out ∷ deltas) then Some (write base edits out deltas) else None
 write_of _ = None
 
+-- `run BASE SCRIPT`
+abbrev pub run_of : List (List ℕ) → Option Job
+run_of (base ∷ script ∷ []) = if is_name base && is_name script then Some (run base script) else None
+run_of _ = None
+
 -- a decimal digit
 abbrev pub is_digit : ℕ → Bool
 is_digit b = nat_le 0x30 b && nat_le b 0x39
@@ -97,6 +103,7 @@ job_of (name ∷ words) =
     else if bytes_eq name (codes "check") then check_of words
     else if bytes_eq name (codes "apply") then apply_of words
     else if bytes_eq name (codes "write") then write_of words
+    else if bytes_eq name (codes "run") then run_of words
     else if bytes_eq name (codes "gen") then gen_of words
     else None
 job_of [] = None

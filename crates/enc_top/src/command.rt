@@ -2,7 +2,7 @@
 ghost use Rattle.std.specs.Prelude.{◌≡◌, ◌≤◌, true, length, option_map, map, IfSome};
 ghost use Rattle.std.specs.Str.Parse.{digits_value};
 ghost use Rattle.std.specs.List.{list_all};
-ghost use Rattle.enc_top.specs.Words.{is_name_byte, is_name, are_names, token_of_word, show_of, list_of, check_of, apply_of, write_of, is_digit, numeral_of, gen_of, job_of, texts};
+ghost use Rattle.enc_top.specs.Words.{is_name_byte, is_name, are_names, token_of_word, show_of, list_of, check_of, apply_of, write_of, run_of, is_digit, numeral_of, gen_of, job_of, texts};
 ghost use Rattle.enc_top.specs.Commands.{numeral_seen, job_seen, HasFewLists, IsValue};
 
 use enc_base::Token;
@@ -45,6 +45,11 @@ pub enum Command<'a> {
         edits: &'a str,
         out: &'a str,
         deltas: &'a [String],
+    },
+    /// Prints what a script does over a base.
+    Run {
+        base: &'a str,
+        script: &'a str,
     },
     /// Saves a generated base, the deltas of generated edit lists, and the module after all.
     Gen {
@@ -194,6 +199,22 @@ fn write_of(words: &[String]) -> Option<Command<'_>>
     })
 }
 
+/// The words of `run`.
+fn run_of(words: &[String]) -> Option<Command<'_>>
+    ensures { option_map job_seen result ≡ run_of (texts words.now) }
+{
+    let [base, script] = words else {
+        return None;
+    };
+    if !is_name(base.as_str()) || !is_name(script.as_str()) {
+        return None;
+    }
+    Some(Command::Run {
+        base: base.as_str(),
+        script: script.as_str(),
+    })
+}
+
 fn are_digits(bytes: &[u8]) -> bool
     ensures { result ≡ list_all is_digit bytes.now }
 {
@@ -267,6 +288,7 @@ pub fn command_of(words: &[String]) -> Option<Command<'_>>
         "check" => check_of(words),
         "apply" => apply_of(words),
         "write" => write_of(words),
+        "run" => run_of(words),
         "gen" => gen_of(words),
         _ => None,
     }

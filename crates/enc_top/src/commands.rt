@@ -11,6 +11,7 @@ mod apply;
 mod check;
 mod generate;
 mod list;
+mod run;
 mod show;
 mod write;
 
@@ -23,6 +24,7 @@ use check::check;
 use enc_outside::Store;
 use generate::generate;
 use list::list;
+use run::run;
 use show::show;
 use std::alloc::Global;
 use write::write;
@@ -57,6 +59,7 @@ pub fn plan_of<S: Store>(alloc: Global, words: &[String], store: &mut S) -> Resu
                 deltas,
             },
         ) => write(alloc, base, edits, out, deltas, store),
+        Some(Command::Run { base, script }) => run(alloc, base, script, store),
         Some(Command::Gen { start, count, out }) => generate(alloc, start, count, out),
     }
 }

@@ -1,7 +1,8 @@
-use Rattle.enc_top.specs.Words.{texts}
-use Rattle.enc_top.specs.Verdict.{verdict_of}
+use Rattle.std.proofs.Common.{Err}
+use Rattle.enc_top.specs.Words.{job_of, texts}
+use Rattle.enc_top.specs.Verdict.{no_command, verdict_of}
 use Rattle.enc_top.specs.Plans.{IsPlanOf}
-use Rattle.enc_top.proofs.Served.{if_some, leaves_at, unchanged_by}
+use Rattle.enc_top.proofs.Served.{asked_for, if_some, leaves_at, unchanged_by}
 use Rattle.enc_top.proofs.run.serve.Goals as goal
 
 pub returns-in-Ok-clause-files : goal.returns-in-Ok-clause-files
@@ -12,3 +13,14 @@ returns-in-Ok-clause-unchanged g c = unchanged_by _ _ _ _ _ c.finish.ensures.end
 
 pub returns-in-Err-Plan-clause-unchanged : goal.returns-in-Err-Plan-clause-unchanged
 returns-in-Err-Plan-clause-unchanged g c = unchanged_by _ _ _ _ _ c.finish-in-Err-Plan.ensures.ending (rw c.in-Err-Plan.field-0-is at c.in-Err-Plan.ensures.kept) (rw c.in-Err-Plan.ensures.stays at c.finish-in-Err-Plan.ensures.files)
+
+pub returns-in-Ok-clause-asked : goal.returns-in-Ok-clause-asked
+returns-in-Ok-clause-asked g c =
+    asked_for (job_of (texts c.args.words.now)) c.finish.result _ _ _
+    (λ none. let p : IsPlanOf (Err no_command) c.in-Ok.plan = c.in-Ok.ensures.usage none in p.saves) c.finish.ensures.files
+
+pub returns-in-Err-Plan-clause-asked : goal.returns-in-Err-Plan-clause-asked
+returns-in-Err-Plan-clause-asked g c =
+    asked_for (job_of (texts c.args.words.now)) c.finish-in-Err-Plan.result _ _ _
+    (λ none. let p : IsPlanOf (Err no_command) c.in-Err-Plan.plan = rw c.in-Err-Plan.field-0-is at c.in-Err-Plan.ensures.usage none in p.saves)
+    c.finish-in-Err-Plan.ensures.files

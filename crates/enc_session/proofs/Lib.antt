@@ -1,0 +1,6 @@
+mod Commands
+mod Contents
+mod Numbered
+mod Looked
+mod Turned
+mod Rest

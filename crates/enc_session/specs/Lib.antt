@@ -1,0 +1,5 @@
+pub mod Lines
+pub mod States
+pub mod Run
+pub mod Seen
+pub mod StatesSeen

@@ -1,0 +1,65 @@
+-- The lines of a run, by what happens.
+use Rattle.std.specs.Prelude.{ℕ, List, [], ◌∷◌, ◌++◌, Option, Some, None, codes, decimal}
+use Rattle.enc_base.specs.declared.token.Token.{Token}
+use Rattle.enc_objects.specs.declared.trap.Trap.{Trap}
+use Rattle.enc_objects.specs.declared.trap.Trap.TheVariants as trap
+use Rattle.enc_text.specs.Text.{token_text, quoted}
+use Rattle.enc_text.specs.BodyText.{label, utf8_of}
+use Rattle.enc_vm.specs.Machine.{Frame}
+use Rattle.enc_vm.specs.Step.{Ending, ran, done, stopped, Spawning, begun, too_many, no_method}
+
+-- a line of a task: its number, and what is said of it
+unfoldable pub task_line : ℕ → List ℕ → List ℕ
+task_line task said = codes "task " ++ decimal task ++ 0x20 ∷ said ++ 0x0a ∷ []
+
+-- why a trap is one
+abbrev pub trap_text : Trap → List ℕ
+trap_text trap.X1 = codes "X1"
+trap_text trap.X2 = codes "X2"
+trap_text trap.X3 = codes "X3"
+trap_text trap.X4 = codes "X4"
+trap_text trap.X5 = codes "X5"
+trap_text trap.X6 = codes "X6"
+trap_text trap.X7 = codes "X7"
+trap_text trap.X8 = codes "X8"
+trap_text trap.X9 = codes "X9"
+trap_text trap.X10 = codes "X10"
+trap_text trap.X11 = codes "X11"
+trap_text trap.X12 = codes "X12"
+trap_text trap.X13 = codes "X13"
+trap_text trap.X14 = codes "X14"
+
+-- the line of a spawn
+unfoldable pub refused_spawn : Token → List ℕ → List ℕ
+refused_spawn method why = codes "spawn refused " ++ token_text method ++ 0x20 ∷ why ++ 0x0a ∷ []
+
+abbrev pub spawn_line : {C : Type 0} → Token → Spawning C → List ℕ
+spawn_line method (begun n s) = task_line n (codes "spawned " ++ token_text method)
+spawn_line method too_many = refused_spawn method (codes "limit")
+spawn_line method no_method = refused_spawn method (codes "method")
+
+-- the line of what a step writes, none where it writes nothing
+abbrev pub written_line : ℕ → Option (List ℕ) → List ℕ
+written_line task None = []
+written_line task (Some units) = task_line task (codes "writes " ++ quoted (utf8_of units))
+
+-- the line of a trap, with the offset of the instruction that trapped
+unfoldable pub trapped_line : ℕ → Trap → ℕ → List ℕ
+trapped_line task x offset = task_line task (codes "trapped " ++ trap_text x ++ 0x20 ∷ label offset)
+
+-- the line of how a step ended, none where the task goes on; a trap is told with where the innermost frame stands
+abbrev pub ending_line : {C : Type 0} → ℕ → Ending → Option (Frame C) → List ℕ
+ending_line task ran innermost = []
+ending_line task done innermost = task_line task (codes "ended")
+ending_line task (stopped x) None = []
+ending_line task (stopped x) (Some f) = trapped_line task x f.offset
+
+-- the lines of a command that makes steps
+unfoldable pub ran_line : ℕ → ℕ → List ℕ
+ran_line task count = task_line task (codes "ran " ++ decimal count)
+
+unfoldable pub idle_line : ℕ → List ℕ
+idle_line task = task_line task (codes "idle")
+
+unfoldable pub absent_task_line : ℕ → List ℕ
+absent_task_line task = task_line task (codes "absent")

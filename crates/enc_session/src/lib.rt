@@ -1,0 +1,11 @@
+//! Runs of scripts: tasks that begin and make steps, and the lines that tell of them.
+#![tactic(auto)]
+
+mod lines;
+mod objects;
+mod script;
+mod states;
+mod steps;
+mod values;
+
+pub use script::run;
