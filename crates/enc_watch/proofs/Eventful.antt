@@ -26,7 +26,7 @@ last (e ∷ events) event deaf seats =
     let first = told_event e deaf seats in
     ap (behind_text first.text) (last events event first.deaf first.seats)
     ∙ sym (both first.text (told_events events first.deaf first.seats).text
-        (told_event event (told_events events first.deaf first.seats).deaf (told_events events first.deaf first.seats).seats))
+    (told_event event (told_events events first.deaf first.seats).deaf (told_events events first.deaf first.seats).seats))
 
 more_told : (events : List Event) (event : Event) (new half old : List Seat) (later now before : List ℕ) → AreTold events half old now before → IsTold event new half later now
     → AreTold (events ++ event ∷ []) new old later before

@@ -53,7 +53,7 @@ half_heard event kept rest old s w now before half number heard = record {
   appended = half.appended;
   told = λ more.
       let first : behind_seat s.number (hearing event false s.watching) (told_event event more rest) ≡ behind_seat s.number (Ok w.watching) (told_event event more rest) =
-          ap (λ (r : Result Watching HearError). behind_seat s.number r (told_event event more rest)) heard in
+      ap (λ (r : Result Watching HearError). behind_seat s.number r (told_event event more rest)) heard in
       ap (λ (ds : List Bool). told_event event ds old) (append_assoc half.deaf (false ∷ []) more)
       ∙ half.told (false ∷ more)
       ∙ ap (in_front kept half.text) first
@@ -71,7 +71,7 @@ half_gone event kept rest old s fault b now before half gone = record {
   appended = ap (λ (xs : List ℕ). xs ++ fault_line s.number fault) half.appended ∙ append_assoc before half.text (fault_line s.number fault);
   told = λ more.
       let first : behind_seat s.number (hearing event b s.watching) (told_event event more rest) ≡ behind_seat s.number (Err fault) (told_event event more rest) =
-          ap (λ (r : Result Watching HearError). behind_seat s.number r (told_event event more rest)) gone in
+      ap (λ (r : Result Watching HearError). behind_seat s.number r (told_event event more rest)) gone in
       ap (λ (ds : List Bool). told_event event ds old) (append_assoc half.deaf (b ∷ []) more)
       ∙ half.told (b ∷ more)
       ∙ ap (in_front kept half.text) first
@@ -166,7 +166,6 @@ pub gone_room : (event : Event) (new seats : List Seat) (i : ℕ) (fault : HearE
     → seat_room gone + fault_room (remove new i) ≡ fault_room seats
 gone_room event new seats i fault gone at is =
     removed_room new i gone is ∙ ap fault_room at.set ∙ set_room seats i at.before at.after at.there (number_by event at.before at.after fault at.hearing)
-
 
 -- as many are there
 set_length : {A : Type 0} (xs : List A) (i : ℕ) (y : A) → length (slice_set xs i y) ≡ length xs

@@ -1,8 +1,8 @@
 //! Reports as they are printed, a watcher that fails, and a watcher of one's own.
-ghost use Rattle.std.specs.Prelude.{◌≡◌, ◌++◌, ◌∷◌, [], None, OnOk, OnErr};
+ghost use Rattle.std.specs.Prelude.{◌≡◌, ◌<◌, ◌+◌, ◌++◌, ◌∷◌, [], None, IfOk, OnOk, OnErr};
 ghost use Rattle.enc_watch.specs.declared.event.WatchKind.TheVariants as kind;
 
-use crate::{Cover, Event, Failing, HearError, Trace, WatchKind, Watcher};
+use crate::{Audience, Cover, Event, Failing, Handed, HearError, Trace, WatchKind, Watcher};
 use enc_base::{Code, Token};
 use enc_objects::Trap;
 use std::alloc::{AllocError, Global};
@@ -125,6 +125,111 @@ fn fails_after_two_events(rt: HostRuntime) -> Result<(), Fail> {
     let mut text = Vec::new(rt.alloc());
     failing.report(&mut text)?;
     assert_eq!(rt; text.as_slice(), b"ended 1\napplied 1\n".as_slice());
+    Ok(())
+}
+
+/// Attaches a watcher that fails after so many events.
+fn attach(alloc: Global, audience: &mut Audience<Failing>, after: u32) -> Result<(), Fail>
+    requires { audience.old.given < 9 }
+    ensures { OnOk result (audience.new.given ≡ audience.old.given + 1) }
+{
+    match audience.attach(Failing::begin(alloc, after)) {
+        Ok(_) => Ok(()),
+        Err(_) => Err(Fail::from(AllocError)),
+    }
+}
+
+/// Three watchers that are attached; the second fails after an event.
+fn three(alloc: Global) -> Result<Audience<Failing>, Fail>
+    ensures { IfOk result (λ a. a.given ≡ 3) }
+{
+    let mut audience = Audience::begin(alloc);
+    attach(alloc, &mut audience, 9)?;
+    attach(alloc, &mut audience, 1)?;
+    attach(alloc, &mut audience, 9)?;
+    Ok(audience)
+}
+
+#[test]
+fn one_that_fails_is_gone(rt: HostRuntime) -> Result<(), Fail> {
+    let mut audience = three(rt.alloc())?;
+    let mut text = Vec::new(rt.alloc());
+    let Some(room) = audience.fault_room() else {
+        return Err(Fail::from(AllocError));
+    };
+    text.reserve(room)?;
+    audience.tell(&[entered(1), entered(2), entered(3)], &mut text);
+    assert_eq!(rt; text.as_slice(), b"watcher 2 failed\n".as_slice());
+    assert_eq!(rt; audience.detach(2).is_none(), true);
+    text.clear();
+    audience.push_reports(&mut text)?;
+    let reports = b"watcher 1 report
+entered 1 06000001
+entered 1 06000002
+entered 1 06000003
+watcher 3 report
+entered 1 06000001
+entered 1 06000002
+entered 1 06000003
+";
+    assert_eq!(rt; text.as_slice(), reports.as_slice());
+    Ok(())
+}
+
+#[test]
+fn numbers_are_given_once(rt: HostRuntime) -> Result<(), Fail> {
+    let mut audience = three(rt.alloc())?;
+    let Some(third) = audience.detach(3) else {
+        return Err(Fail::from(AllocError));
+    };
+    assert_eq!(rt; audience.detach(3).is_none(), true);
+    assert_eq!(rt; audience.attach(third).ok(), Some(4));
+    assert_eq!(rt; audience.given(), 4);
+    assert_eq!(rt; audience.detach(4).is_some(), true);
+    assert_eq!(rt; audience.detach(1).is_some(), true);
+    Ok(())
+}
+
+/// What two watchers report that are attached and told that a line was come to.
+fn told<W: Watcher>(alloc: Global, first: W, second: W) -> Result<Vec<u8>, Fail> {
+    let mut audience = Audience::begin(alloc);
+    if audience.attach(first).is_err() || audience.attach(second).is_err() {
+        return Err(Fail::from(AllocError));
+    }
+    let mut text = Vec::new(alloc);
+    let Some(room) = audience.fault_room() else {
+        return Err(Fail::from(AllocError));
+    };
+    text.reserve(room)?;
+    audience.tell(&[came_to(1, 7)], &mut text);
+    audience.push_reports(&mut text)?;
+    Ok(text)
+}
+
+#[test]
+fn boxed_watchers_are_told(rt: HostRuntime) -> Result<(), Fail> {
+    let trace: Box<dyn Watcher> = Box::new(rt.alloc(), Trace::begin(rt.alloc()))?;
+    let cover: Box<dyn Watcher> = Box::new(rt.alloc(), Cover::begin(rt.alloc()))?;
+    let text = told(rt.alloc(), trace, cover)?;
+    let reports = b"watcher 1 report\nline 1 06000001 7\nwatcher 2 report\n06000001 7 1\n";
+    assert_eq!(rt; text.as_slice(), reports.as_slice());
+    Ok(())
+}
+
+#[test]
+fn the_first_of_a_kind_is_taken(rt: HostRuntime) -> Result<(), Fail> {
+    let mut watchers = Vec::new(rt.alloc());
+    watchers.push(Failing::begin(rt.alloc(), 1))?;
+    watchers.push(Failing::begin(rt.alloc(), 2))?;
+    let mut handed = Handed::from_vec(watchers);
+    assert_eq!(rt; handed.take(WatchKind::Trace).is_none(), true);
+    let Some(mut first) = handed.take(WatchKind::Failing) else {
+        return Err(Fail::from(AllocError));
+    };
+    assert_eq!(rt; first.hear(entered(1)), Ok(()));
+    assert_eq!(rt; first.hear(entered(2)), Err(HearError::Failed));
+    assert_eq!(rt; handed.take(WatchKind::Failing).is_some(), true);
+    assert_eq!(rt; handed.take(WatchKind::Failing).is_none(), true);
     Ok(())
 }
 

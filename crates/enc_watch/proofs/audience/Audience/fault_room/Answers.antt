@@ -9,5 +9,5 @@ loop-seat-preserved g c =
     let there = got_at c.deref-seat-items.result.now c.loop-seat.seat-index c.seat-item.result c.loop-seat-test.true c.seat-item.is in
     let more = room_more c.deref-seat-items.result.now c.loop-seat.seat-index c.seat-item.result there in
     let sum : c.in_ok-room.room ≡ fault_room (take (c.loop-seat.seat-index + 1) c.deref-seat-items.result.now) =
-        omega (arith, more, c.in_ok-room.ensures, c.loop-seat.invariant, c.room.ensures) in
+    omega (arith, more, c.in_ok-room.ensures, c.loop-seat.invariant, c.room.ensures) in
     sum
