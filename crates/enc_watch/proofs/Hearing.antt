@@ -1,11 +1,11 @@
 -- An event that is told to one watcher after the other.
-use Rattle.std.proofs.Common.{◌≡◌, ℕ, zero, suc, ◌+◌, ◌<◌, ◌≤◌, Bool, true, false, List, [], ◌∷◌, ◌++◌, length, take, drop, Option, Some, None, Result, Ok, Err, refl, sym, ap, ◌∙◌, arith}
+use Rattle.std.proofs.Common.{◌≡◌, ℕ, zero, suc, ◌+◌, ◌<◌, ◌≤◌, Bool, true, false, List, [], ◌∷◌, ◌++◌, length, take, drop, Some, Result, Ok, Err, refl, sym, ap, ◌∙◌, arith}
 use Rattle.std.specs.Prelude.{slice_get, slice_set, remove}
 use Rattle.std.proofs.lemmas.List.{append-nil, append_assoc}
 use Rattle.enc_watch.specs.declared.event.Event.{Event}
 use Rattle.enc_watch.specs.declared.event.HearError.{HearError}
 use Rattle.enc_watch.specs.declared.event.HearError.TheVariants.{Memory, Failed}
-use Rattle.enc_watch.specs.Audience.{Watching, Seat, Heard, hearing, fault_line, behind_seat, told_event, seat_room, fault_room}
+use Rattle.enc_watch.specs.Audience.{Watching, Seat, hearing, fault_line, behind_seat, told_event, seat_room, fault_room}
 use Rattle.enc_watch.specs.Telling.{IsHearing, IsHeardAt, in_front, IsHalfTold, IsTold}
 
 -- lists around a place

@@ -1,6 +1,6 @@
 -- The first of a list that a test takes, and the others.
-use Rattle.std.proofs.Common.{◌≡◌, ℕ, zero, suc, ◌+◌, ◌<◌, ◌≤◌, ◌⊎◌, inl, inr, Bool, true, false, List, [], ◌∷◌, length, map, Option, Some, None, refl, sym, ap, ◌∙◌, arith, eq-or-lt_of_le}
-use Rattle.std.specs.Prelude.{slice_get, slice_index_or, remove, ◌==◌}
+use Rattle.std.proofs.Common.{◌≡◌, ℕ, zero, suc, ◌+◌, ◌<◌, ◌≤◌, ◌⊎◌, inl, inr, Bool, true, false, List, [], ◌∷◌, length, map, Some, None, refl, sym, ap, ◌∙◌, arith, eq-or-lt_of_le}
+use Rattle.std.specs.Prelude.{slice_get, slice_index_or, remove}
 use Rattle.std.proofs.lemmas.Bool.Decides.{nat_tests}
 use Rattle.enc_watch.specs.Audience.{Seat, first_taken, others, has_number}
 

@@ -1,5 +1,4 @@
-use Rattle.std.proofs.Common.{◌≡◌, ◌∙◌, sym, ap, arith, Some, length, ◌≤◌}
-use Rattle.std.specs.Prelude.{slice_get}
+use Rattle.std.proofs.Common.{◌∙◌, sym, ap, arith, length, ◌≤◌}
 use Rattle.enc_watch.specs.Audience.{Seat, has_number}
 use Rattle.enc_watch.proofs.Taken.{none_of_none, none_of_more, first_at, others_at, first_past, others_past, got_at, has_it, has_not}
 use Rattle.enc_watch.proofs.audience.place_of.Goals as goal

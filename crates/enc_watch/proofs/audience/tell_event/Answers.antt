@@ -1,7 +1,4 @@
-use Rattle.std.proofs.Common.{◌≡◌, ◌∙◌, sym, ap, arith, Some, Err, length, ◌≤◌, ◌<◌}
-use Rattle.std.specs.Prelude.{slice_get}
-use Rattle.enc_watch.specs.Audience.{Seat, fault_room}
-use Rattle.enc_watch.specs.Telling.{IsHeardAt}
+use Rattle.std.proofs.Common.{ap, arith, Err, length, ◌<◌}
 use Rattle.enc_watch.proofs.Hearing.{half_none, step_heard, step_gone, all_told, heard_room, gone_room, heard_length, removed_length}
 use Rattle.enc_watch.proofs.Taken.{got_at}
 use Rattle.enc_watch.proofs.audience.tell_event.Goals as goal

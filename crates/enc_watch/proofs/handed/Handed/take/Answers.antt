@@ -1,4 +1,4 @@
-use Rattle.std.proofs.Common.{◌≡◌, ◌∙◌, sym, ap, map}
+use Rattle.std.proofs.Common.{◌∙◌, sym, ap, map}
 use Rattle.std.specs.Prelude.{remove}
 use Rattle.enc_watch.specs.Audience.{Watching, without_kind}
 use Rattle.enc_watch.proofs.Taken.{map_removed}
