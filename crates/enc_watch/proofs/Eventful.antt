@@ -4,7 +4,7 @@ use Rattle.std.specs.Prelude.{slice_get}
 use Rattle.std.proofs.lemmas.List.{append-nil, append_assoc}
 use Rattle.enc_watch.specs.declared.event.Event.{Event}
 use Rattle.enc_watch.specs.Audience.{Seat, Heard, told_event, behind_text, told_events, AreTold}
-use Rattle.enc_watch.specs.Telling.{IsTold}
+use Rattle.enc_watch.specs.Telling.{IsEventTold}
 
 pub told_none : (seats : List Seat) (before : List ℕ) → AreTold [] seats seats before before
 unfolding told_events
@@ -21,14 +21,16 @@ last : (events : List Event) (event : Event) (deaf : List Bool) (seats : List Se
     → told_events (events ++ event ∷ []) deaf seats
     ≡ behind_text (told_events events deaf seats).text (told_event event (told_events events deaf seats).deaf (told_events events deaf seats).seats)
 unfolding told_events
-last [] event deaf seats = ap (λ (t : List ℕ). record { seats = (told_event event deaf seats).seats; text = t; deaf = (told_event event deaf seats).deaf }) (append-nil (told_event event deaf seats).text)
+last [] event deaf seats = ap (λ (t : List ℕ). record { seats = (told_event event deaf seats).seats; text = t; deaf = (told_event event deaf seats).deaf })
+    (append-nil (told_event event deaf seats).text)
 last (e ∷ events) event deaf seats =
     let first = told_event e deaf seats in
     ap (behind_text first.text) (last events event first.deaf first.seats)
     ∙ sym (both first.text (told_events events first.deaf first.seats).text
     (told_event event (told_events events first.deaf first.seats).deaf (told_events events first.deaf first.seats).seats))
 
-more_told : (events : List Event) (event : Event) (new half old : List Seat) (later now before : List ℕ) → AreTold events half old now before → IsTold event new half later now
+more_told : (events : List Event) (event : Event) (new half old : List Seat) (later now before : List ℕ) → AreTold events half old now before
+    → IsEventTold event new half later now
     → AreTold (events ++ event ∷ []) new old later before
 more_told events event new half old later now before are is = record {
   deaf = are.deaf ++ is.deaf;
@@ -47,5 +49,6 @@ take_more (y ∷ ys) zero x there = cc
 take_more (y ∷ ys) (suc i) x there = let e : suc i + 1 ≡ suc (i + 1) = omega arith in rw e (ap (λ zs. y ∷ zs) (take_more ys i x there))
 
 pub told_more : (events : List Event) (i : ℕ) (event : Event) (new half old : List Seat) (later now before : List ℕ) → slice_get events i ≡ Some event
-    → AreTold (take i events) half old now before → IsTold event new half later now → AreTold (take (i + 1) events) new old later before
-told_more events i event new half old later now before there are is = rw (take_more events i event there) (more_told (take i events) event new half old later now before are is)
+    → AreTold (take i events) half old now before → IsEventTold event new half later now → AreTold (take (i + 1) events) new old later before
+told_more events i event new half old later now before there are is = rw (take_more events i event there) (more_told (take i events) event new half old
+    later now before are is)

@@ -6,7 +6,7 @@ use Rattle.enc_watch.specs.declared.event.Event.{Event}
 use Rattle.enc_watch.specs.declared.event.HearError.{HearError}
 use Rattle.enc_watch.specs.declared.event.HearError.TheVariants.{Memory, Failed}
 use Rattle.enc_watch.specs.Audience.{Watching, Seat, hearing, fault_line, behind_seat, told_event, seat_room, fault_room}
-use Rattle.enc_watch.specs.Telling.{IsHearing, IsHeardAt, in_front, IsHalfTold, IsTold}
+use Rattle.enc_watch.specs.Telling.{IsHearing, IsHeardAt, in_front, IsHalfTold, IsEventTold}
 
 -- lists around a place
 pub drop_at : {A : Type 0} (xs : List A) (i : ℕ) (x : A) → slice_get xs i ≡ Some x → drop i xs ≡ x ∷ drop (i + 1) xs
@@ -52,17 +52,20 @@ half_heard event kept rest old s w now before half number heard = record {
   text = half.text;
   appended = half.appended;
   told = λ more.
-      let first : behind_seat s.number (hearing event false s.watching) (told_event event more rest) ≡ behind_seat s.number (Ok w.watching) (told_event event more rest) =
+      let first : behind_seat s.number (hearing event false s.watching) (told_event event more rest) ≡ behind_seat s.number (Ok w.watching) (told_event
+      event more rest) =
       ap (λ (r : Result Watching HearError). behind_seat s.number r (told_event event more rest)) heard in
       ap (λ (ds : List Bool). told_event event ds old) (append_assoc half.deaf (false ∷ []) more)
       ∙ half.told (false ∷ more)
       ∙ ap (in_front kept half.text) first
       ∙ ap (λ (n : ℕ). in_front kept half.text (behind_seat n (Ok w.watching) (told_event event more rest))) (sym number)
-      ∙ ap (λ (xs : List Seat). record { seats = xs; text = half.text ++ (told_event event more rest).text; deaf = (told_event event more rest).deaf }) (sym (append_assoc kept (w ∷ []) (told_event event more rest).seats));
+      ∙ ap (λ (xs : List Seat). record { seats = xs; text = half.text ++ (told_event event more rest).text; deaf = (told_event event more rest).deaf })
+      (sym (append_assoc kept (w ∷ []) (told_event event more rest).seats));
 }
 
 -- the next one is gone
-half_gone : (event : Event) (kept rest old : List Seat) (s : Seat) (fault : HearError) (b : Bool) (now before : List ℕ) → IsHalfTold event kept (s ∷ rest) old now before
+half_gone : (event : Event) (kept rest old : List Seat) (s : Seat) (fault : HearError) (b : Bool) (now before : List ℕ)
+    → IsHalfTold event kept (s ∷ rest) old now before
     → hearing event b s.watching ≡ Err fault → IsHalfTold event kept rest old (now ++ fault_line s.number fault) before
 unfolding told_event
 half_gone event kept rest old s fault b now before half gone = record {
@@ -70,16 +73,18 @@ half_gone event kept rest old s fault b now before half gone = record {
   text = half.text ++ fault_line s.number fault;
   appended = ap (λ (xs : List ℕ). xs ++ fault_line s.number fault) half.appended ∙ append_assoc before half.text (fault_line s.number fault);
   told = λ more.
-      let first : behind_seat s.number (hearing event b s.watching) (told_event event more rest) ≡ behind_seat s.number (Err fault) (told_event event more rest) =
+      let first : behind_seat s.number (hearing event b s.watching) (told_event event more rest) ≡ behind_seat s.number (Err fault) (told_event event more
+      rest) =
       ap (λ (r : Result Watching HearError). behind_seat s.number r (told_event event more rest)) gone in
       ap (λ (ds : List Bool). told_event event ds old) (append_assoc half.deaf (b ∷ []) more)
       ∙ half.told (b ∷ more)
       ∙ ap (in_front kept half.text) first
-      ∙ ap (λ (xs : List ℕ). record { seats = kept ++ (told_event event more rest).seats; text = xs; deaf = (told_event event more rest).deaf }) (sym (append_assoc half.text (fault_line s.number fault) (told_event event more rest).text));
+      ∙ ap (λ (xs : List ℕ). record { seats = kept ++ (told_event event more rest).seats; text = xs; deaf = (told_event event more rest).deaf }) (sym
+      (append_assoc half.text (fault_line s.number fault) (told_event event more rest).text));
 }
 
 -- all were told
-done : (event : Event) (kept old : List Seat) (now before : List ℕ) → IsHalfTold event kept [] old now before → IsTold event kept old now before
+done : (event : Event) (kept old : List Seat) (now before : List ℕ) → IsHalfTold event kept [] old now before → IsEventTold event kept old now before
 unfolding told_event
 done event kept old now before half = record {
   deaf = half.deaf;
@@ -106,7 +111,8 @@ number_by : (event : Event) (s w : Seat) (fault : HearError) → IsHearing (Err 
 number_by event s w Failed h = h.0
 number_by event s w Memory h = h.0
 
-pub step_gone : (event : Event) (new seats old : List Seat) (i : ℕ) (fault : HearError) (now before : List ℕ) (gone : Seat) → IsHeardAt (Err fault) event i new seats
+pub step_gone : (event : Event) (new seats old : List Seat) (i : ℕ) (fault : HearError) (now before : List ℕ) (gone : Seat)
+    → IsHeardAt (Err fault) event i new seats
     → slice_get new i ≡ Some gone → IsHalfTold event (take i seats) (drop i seats) old now before
     → IsHalfTold event (take i (remove new i)) (drop i (remove new i)) old (now ++ fault_line gone.number fault) before
 step_gone event new seats old i fault now before gone at is half =
@@ -127,8 +133,9 @@ none_left [] (suc i) long = (refl, refl)
 none_left (x ∷ xs) zero long = absurd (omega (arith, long))
 none_left (x ∷ xs) (suc i) long = let h = none_left xs i (omega (arith, long)) in (h.0, ap (λ ys. x ∷ ys) h.1)
 
-pub all_told : (event : Event) (seats old : List Seat) (i : ℕ) (now before : List ℕ) → length seats ≤ i → IsHalfTold event (take i seats) (drop i seats) old now before
-    → IsTold event seats old now before
+pub all_told : (event : Event) (seats old : List Seat) (i : ℕ) (now before : List ℕ) → length seats ≤ i
+    → IsHalfTold event (take i seats) (drop i seats) old now before
+    → IsEventTold event seats old now before
 all_told event seats old i now before long half =
     let h = none_left seats i long in
     let whole : IsHalfTold event seats [] old now before = rw (h.0, h.1) at half in
@@ -162,7 +169,8 @@ removed_room (z ∷ zs) (suc i) y there =
     moved : (a b r t : ℕ) → b + r ≡ t → b + (a + r) ≡ a + t
     moved a b r t e = omega (arith, e)
 
-pub gone_room : (event : Event) (new seats : List Seat) (i : ℕ) (fault : HearError) (gone : Seat) → IsHeardAt (Err fault) event i new seats → slice_get new i ≡ Some gone
+pub gone_room : (event : Event) (new seats : List Seat) (i : ℕ) (fault : HearError) (gone : Seat) → IsHeardAt (Err fault) event i new seats
+    → slice_get new i ≡ Some gone
     → seat_room gone + fault_room (remove new i) ≡ fault_room seats
 gone_room event new seats i fault gone at is =
     removed_room new i gone is ∙ ap fault_room at.set ∙ set_room seats i at.before at.after at.there (number_by event at.before at.after fault at.hearing)
@@ -173,7 +181,8 @@ set_length [] i y = refl
 set_length (z ∷ zs) zero y = refl
 set_length (z ∷ zs) (suc i) y = ap suc (set_length zs i y)
 
-pub heard_length : (result : Result Unit HearError) (event : Event) (i : ℕ) (new seats : List Seat) → IsHeardAt result event i new seats → length new ≡ length seats
+pub heard_length : (result : Result Unit HearError) (event : Event) (i : ℕ) (new seats : List Seat) → IsHeardAt result event i new seats
+    → length new ≡ length seats
 heard_length result event i new seats at = ap length at.set ∙ set_length seats i at.after
 
 pub removed_length : {A : Type 0} (xs : List A) (i : ℕ) → i < length xs → length (remove xs i) + 1 ≡ length xs

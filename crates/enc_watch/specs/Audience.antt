@@ -31,12 +31,12 @@ unfoldable pub watcher_line : ℕ → List ℕ → List ℕ
 watcher_line number said = line_front number ++ said ++ 0x0a ∷ []
 
 -- why it is gone
-abbrev pub fault_text : HearError → List ℕ
-fault_text Failed = codes "failed"
-fault_text Memory = codes "out of memory"
+abbrev pub gone_text : HearError → List ℕ
+gone_text Failed = codes "failed"
+gone_text Memory = codes "out of memory"
 
 abbrev pub fault_line : ℕ → HearError → List ℕ
-fault_line number fault = watcher_line number (fault_text fault)
+fault_line number fault = watcher_line number (gone_text fault)
 
 -- its limit is reached
 abbrev pub has_reached : Option ℕ → List Event → Bool
@@ -106,14 +106,14 @@ others test [] = []
 others test (x ∷ xs) = if test x then xs else x ∷ others test xs
 
 -- the watcher at a number, and the others
-abbrev pub has_number : ℕ → Seat → Bool
-has_number number s = s.number == number
+abbrev pub sits_at : ℕ → Seat → Bool
+sits_at number s = s.number == number
 
 abbrev pub seat_at : ℕ → List Seat → Option Seat
-seat_at number seats = first_taken (has_number number) seats
+seat_at number seats = first_taken (sits_at number) seats
 
 abbrev pub without : ℕ → List Seat → List Seat
-without number seats = others (has_number number) seats
+without number seats = others (sits_at number) seats
 
 -- one more is attached
 abbrev pub attached : Watching → Seated → Seated

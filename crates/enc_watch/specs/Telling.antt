@@ -31,7 +31,7 @@ pub record IsHalfTold (event : Event) (kept rest old : List Seat) (now before : 
   pub told : (more : List Bool) → told_event event (deaf ++ more) old ≡ in_front kept text (told_event event more rest)
 
 -- it was told to all
-pub record IsTold (event : Event) (new old : List Seat) (now before : List ℕ) : Type 0 where
+pub record IsEventTold (event : Event) (new old : List Seat) (now before : List ℕ) : Type 0 where
   pub deaf : List Bool
   pub text : List ℕ
   pub appended : now ≡ before ++ text

@@ -1,6 +1,6 @@
 //! A watcher that is attached.
 ghost use Rattle.std.specs.Prelude.{◌≡◌, ◌≤◌, ◌+◌, ◌++◌, length, IfOk, IfErr, OnOk, vec_len, vec_capacity};
-ghost use Rattle.enc_watch.specs.Audience.{fault_line, fault_text, line_front, seat_report, seat_room};
+ghost use Rattle.enc_watch.specs.Audience.{fault_line, gone_text, line_front, seat_report, seat_room};
 ghost use Rattle.enc_watch.specs.Telling.{IsHearing};
 
 use crate::event::{Event, HearError};
@@ -41,7 +41,7 @@ fn name_of(alloc: Global, number: u32) -> Result<Vec<u8>, AllocError>
 
 /// Why a watcher is gone.
 fn fault_word(fault: HearError) -> &'static str
-    ensures word { result.now ≡ fault_text fault }
+    ensures word { result.now ≡ gone_text fault }
     ensures short { length result.now ≤ 13 }
 {
     match fault {

@@ -1,7 +1,7 @@
 //! Watchers that are attached, and what is told to them.
 ghost use Rattle.std.specs.Prelude.{◌≡◌, ◌≢◌, ◌+◌, ◌<◌, ◌≤◌, ◌^◌, ◌++◌, ◌∷◌, [], IfOk, IfErr, OnOk, OnErr, IfSome, IfNone, length, option_map, remove, slice_get, vec_len, vec_capacity};
 ghost use Rattle.enc_watch.specs.Audience.{AreTold, Seat, attached, fault_room, reports, seat_at, without};
-ghost use Rattle.enc_watch.specs.Telling.{IsHeardAt, IsTold};
+ghost use Rattle.enc_watch.specs.Telling.{IsHeardAt, IsEventTold};
 
 use crate::attached::Attached;
 use crate::event::{Event, HearError};
@@ -44,7 +44,7 @@ fn hear_at<W: Watcher>(
 /// Tells an event to all, in order of number. One that doesn't hear it is gone, and a line says so.
 fn tell_event<W: Watcher>(seats: &mut Vec<Attached<W>>, event: Event, out: &mut Vec<u8>)
     requires { vec_len out.old + fault_room seats.old.items ≤ vec_capacity out.old }
-    ensures told { IsTold event seats.new.items seats.old.items out.new.items out.old.items }
+    ensures told { IsEventTold event seats.new.items seats.old.items out.new.items out.old.items }
     ensures room { vec_len out.new + fault_room seats.new.items ≤ vec_capacity out.new }
 {
     let mut i = 0;

@@ -16,7 +16,8 @@ loop-i-smaller-in-Ok g c =
 pub loop-i-preserved-in-Ok : goal.loop-i-preserved-in-Ok
 loop-i-preserved-in-Ok g c =
     let at = c.in-Ok.ensures.at in (
-      step_heard c.args.event c.hear_at.new.seats.items c.loop-i.seats.items c.args.seats.now.items c.loop-i.i c.in-Ok.field-0 c.loop-i.out.items c.args.out.now.items at c.loop-i.invariant.0,
+      step_heard c.args.event c.hear_at.new.seats.items c.loop-i.seats.items c.args.seats.now.items c.loop-i.i c.in-Ok.field-0 c.loop-i.out.items
+          c.args.out.now.items at c.loop-i.invariant.0,
       rw (heard_room c.args.event c.hear_at.new.seats.items c.loop-i.seats.items c.loop-i.i c.in-Ok.field-0 at) c.loop-i.invariant.1,
     )
 
@@ -45,13 +46,15 @@ loop-i-preserved g c =
     let low : c.loop-i.i < length c.hear_at.new.seats.items = omega (arith, n, c.len.ensures, c.loop-i-test.true) in
     let there = got_at c.hear_at.new.seats.items c.loop-i.i c.remove-gone.result low c.remove-gone.ensures.value in
     let room = gone_room c.args.event c.hear_at.new.seats.items c.loop-i.seats.items c.loop-i.i c.in-Err.fault c.remove-gone.result at there in
-    let half = step_gone c.args.event c.hear_at.new.seats.items c.loop-i.seats.items c.args.seats.now.items c.loop-i.i c.in-Err.fault c.loop-i.out.items c.args.out.now.items c.remove-gone.result at there c.loop-i.invariant.0 in (
+    let half = step_gone c.args.event c.hear_at.new.seats.items c.loop-i.seats.items c.args.seats.now.items c.loop-i.i c.in-Err.fault c.loop-i.out.items
+    c.args.out.now.items c.remove-gone.result at there c.loop-i.invariant.0 in (
       rw (c.remove-gone.ensures.items, c.push_fault.ensures.text) half,
       rw c.remove-gone.ensures.items (omega (arith, room, c.loop-i.invariant.1, c.push_fault.ensures.len, c.push_fault.ensures.capacity)),
     )
 
 pub returns-clause-told : goal.returns-clause-told
-returns-clause-told g c = all_told c.args.event c.loop-i.seats.items c.args.seats.now.items c.loop-i.i c.loop-i.out.items c.args.out.now.items (omega (arith, c.loop-i-test.false, c.len.ensures)) c.loop-i.invariant.0
+returns-clause-told g c = all_told c.args.event c.loop-i.seats.items c.args.seats.now.items c.loop-i.i c.loop-i.out.items c.args.out.now.items (omega
+    (arith, c.loop-i-test.false, c.len.ensures)) c.loop-i.invariant.0
 
 pub returns-clause-room : goal.returns-clause-room
 returns-clause-room g c = c.loop-i.invariant.1
