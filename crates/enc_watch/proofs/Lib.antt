@@ -1,2 +1,6 @@
 pub mod Placed
 pub mod Counted
+pub mod Hearings
+pub mod Taken
+pub mod Hearing
+pub mod Eventful

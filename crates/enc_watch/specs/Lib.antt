@@ -1,2 +1,4 @@
 pub mod Watched
 pub mod Laws
+pub mod Audience
+pub mod Telling

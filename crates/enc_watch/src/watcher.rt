@@ -39,3 +39,23 @@ pub trait Watcher: Drop {
             out.old.items ++ report_of (kind_of self.now) (heard self.now)) }
         ensures err { OnErr result (out.new.items ≡ out.old.items) };
 }
+
+impl Watcher for Box<dyn Watcher> {
+    ghost heard = { λ b. (Watcher-box b).heard b.value };
+
+    ghost limit = { λ b. (Watcher-box b).limit b.value };
+
+    ghost kind_of = { λ b. (Watcher-box b).kind_of b.value };
+
+    fn kind(&self) -> WatchKind {
+        self.as_ref().kind()
+    }
+
+    fn hear(&mut self, event: Event) -> Result<(), HearError> {
+        self.as_mut().hear(event)
+    }
+
+    fn report(&self, out: &mut Vec<u8>) -> Result<(), AllocError> {
+        self.as_ref().report(out)
+    }
+}
