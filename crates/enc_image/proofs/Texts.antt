@@ -1,13 +1,14 @@
 -- The user texts that bodies name are there.
 use Rattle.std.proofs.Common.{◌≡◌, ℕ, zero, suc, ◌-◌, ◌≤◌, Bool, true, false, List, Option, Some, None, refl, sym, ap, ◌∙◌, arith}
-use Rattle.std.specs.Prelude.{◌&&◌, ◌==◌, ◌%◌, if◌then◌else◌, IsTrue}
+use Rattle.std.specs.Prelude.{◌&&◌, ◌==◌, ◌%◌, if◌then◌else◌, IsTrue, IfSome, option_map}
 use Rattle.enc_base.specs.Token.{nth_row}
 use Rattle.enc_base.specs.declared.token.Token.{Token}
 use Rattle.enc_base.specs.declared.refusal.Place.{Place}
 use Rattle.enc_base.specs.Order.{or_else}
 use Rattle.enc_base.proofs.First.{silent}
 use Rattle.enc_meta.specs.Regions.{Region}
-use Rattle.enc_opcodes.specs.Body.{Code, is_good, texts_are_there}
+use Rattle.enc_opcodes.specs.declared.code.CodeRef.{CodeRef}
+use Rattle.enc_opcodes.specs.Body.{Code, code_seen, is_good, texts_are_there}
 use Rattle.enc_rows.specs.Layout.{rows_of}
 use Rattle.enc_rows.specs.Source.{Source, raw_in}
 use Rattle.enc_plain.specs.Bodies.{code_loaded, body_is_good}
@@ -64,3 +65,9 @@ image_texts s u c sound there table is =
     let row_token = nth_row 0x06 (u.row - 1) in
     let good : body_is_good (rows_of s.layout) (users_of s) s.loaded (raw_in s row_token 0) (raw_in s row_token 1) ≡ true = left (body_is_good (rows_of s.layout) (users_of s) s.loaded (raw_in s row_token 0) (raw_in s row_token 1)) (has_locals s (code_loaded s.loaded (raw_in s row_token 0))) (if_some _ _ silent_row) in
     good_texts (rows_of s.layout) (users_of s) s.loaded (raw_in s u 0) (raw_in s u 1) c (rw e at good) is
+
+-- and those that the parts of a body name that were read
+pub read_texts : (s : Source) (u : Token) (r : Option CodeRef) → cells_fault s ≡ None → IsTrue (has_row (module_in s) u) → u.table ≡ 0x06
+    → option_map code_seen r ≡ code_loaded s.loaded (raw_in s u 0) → IfSome r (λ (c : CodeRef). IsTrue (texts_are_there (users_of s) c.code.now))
+read_texts s u None sound there table is = _
+read_texts s u (Some r) sound there table is = image_texts s u (code_seen r) sound there table (sym is)

@@ -22,3 +22,4 @@ pub mod NilLocals
 pub mod RelatedPlaces
 pub mod AlikeSpecs
 pub mod ColumnKinds
+pub mod MoreTexts

@@ -1,6 +1,6 @@
 //! A view of a module: its rows, asked for cell by cell.
 ghost use Rattle.std.specs.Prelude.{◌≡◌, ℕ, ◌<◌, ◌^◌, ◌==◌, List, Option, Some, length, slice_get, option_map, option_copied, is_some, not, IsTrue, IfOk, IfSome};
-ghost use Rattle.enc_opcodes.specs.Body.{Body, body_of, code_seen};
+ghost use Rattle.enc_opcodes.specs.Body.{Body, body_of, code_seen, texts_are_there};
 ghost use Rattle.enc_schema.specs.Children.{is_child_table, owner_table};
 ghost use Rattle.enc_plain.specs.Cell.{number, text, blob, guid, refer, body, field, kind_in, numbers, texts, blobs, guids, references};
 ghost use Rattle.enc_plain.specs.Module.{Module, rows_in, has_row, cell_of, owner_of, kids_of};
@@ -68,11 +68,12 @@ pub trait ModuleView {
         ensures { cell_of (meaning self.now) row column ≡ Some (refer result) };
 
     /// The body of a method, None where it has none (ECMA-335 II.25.4). The user texts that its
-    /// code names are those of `user_text`.
+    /// code names are those of `user_text`, and each is there.
     fn code(&self, method: Token) -> Option<CodeRef<'_>>
         requires row { IsTrue (has_row (meaning self.now) method) }
         requires table { method.table ≡ method_def }
         ensures body { cell_of (meaning self.now) method 0 ≡ Some (body (option_map (λ c. body_of (users self.now) (code_seen c)) result)) }
+        ensures texts { IfSome result (λ c. IsTrue (texts_are_there (users self.now) c.code.now)) }
         ensures few { IfSome result (λ c. length c.code.now < 2 ^ 32) };
 
     /// The place of a method's body, 0 where it has none: methods with one place have one body. What

@@ -6,11 +6,13 @@ use Rattle.std.proofs.Math.ListN.{get_or-eq_default}
 use Rattle.enc_base.specs.Order.{or_else}
 use Rattle.enc_base.specs.declared.token.Token.{Token}
 use Rattle.enc_opcodes.specs.Body.{Body, body_of}
+use Rattle.enc_opcodes.proofs.Bodies.{body_told_alike}
 use Rattle.enc_plain.specs.Cell.{body}
 use Rattle.enc_plain.specs.Module.{Module, rows_in, has_row, cell_of}
+use Rattle.enc_plain.proofs.MoreTexts.{texts_more}
 use Rattle.enc_schema.specs.Tables.{method_def}
 use Rattle.enc_versions.specs.Commit.{NewVersion, brought}
-use Rattle.enc_versions.specs.Laws.{Meant, AreNewIn, MeanTheSame, CommitStands}
+use Rattle.enc_versions.specs.Laws.{Meant, AreNewIn, KeepsTexts, CommitStands}
 use Rattle.enc_versions.specs.StandFor.{IsVersionOf, AreVersionsOf, lines_known}
 use Rattle.enc_versions.specs.Version.{Version, version_at, newest_of}
 
@@ -33,20 +35,23 @@ none_of methods m method low is none =
     by_test false e = refl
 
 -- a body that is kept
-stays : (m n : Meant) (method : Token) (o : Option Version) → cell_of n.plain method 0 ≡ cell_of m.plain method 0 → ((b : Body) → cell_of m.plain method 0 ≡ Some (body (Some b)) → n.pdb method ≡ m.pdb method) → ((v : Version) → o ≡ Some v → body_of n.users v.code ≡ body_of m.users v.code) → IsVersionOf m.users m.plain m.pdb method o → IsVersionOf n.users n.plain n.pdb method o
-stays m n method None cell pdb same is = record { means = cell ∙ is.means; lines = _ }
-stays m n method (Some v) cell pdb same is = record {
-  means = cell ∙ is.means ∙ sym (ap (λ b. Some (body (Some b))) (same v refl));
+stays : (m n : Meant) (method : Token) (o : Option Version) → cell_of n.plain method 0 ≡ cell_of m.plain method 0
+    → ((b : Body) → cell_of m.plain method 0 ≡ Some (body (Some b)) → n.pdb method ≡ m.pdb method) → KeepsTexts m.users n.users
+    → IsVersionOf m.users m.plain m.pdb method o → IsVersionOf n.users n.plain n.pdb method o
+stays m n method None cell pdb keeps is = record { means = cell ∙ is.means; texts = _; lines = _ }
+stays m n method (Some v) cell pdb keeps is = record {
+  means = cell ∙ is.means ∙ ap (λ b. Some (body (Some b))) (body_told_alike m.users n.users v.code is.texts keeps);
+  texts = texts_more m.users n.users v.code.code is.texts keeps;
   lines = is.lines ∙ sym (ap lines_known (pdb (body_of m.users v.code) is.means));
 }
 
 -- by what is brought, and by whether the method was there
-unbrought : (m n : Meant) (new : List NewVersion) (before : List (Option Version)) (method : Token) (there : Bool) → AreVersionsOf m.users m.plain m.pdb before → AreNewIn new m n → MeanTheSame m.users n.users before → method.table ≡ method_def → IsTrue (has_row n.plain method) → brought new method ≡ None → has_row m.plain method ≡ there → IsVersionOf n.users n.plain n.pdb method (newest_of before method)
-unbrought m n new before method true stand lead same is row none there = stays m n method (newest_of before method) (lead.kept method (is, there) none) (λ b has. lead.known method b (is, there) has none) (same method) (stand.each method is there)
+unbrought : (m n : Meant) (new : List NewVersion) (before : List (Option Version)) (method : Token) (there : Bool) → AreVersionsOf m.users m.plain m.pdb before → AreNewIn new m n → KeepsTexts m.users n.users → method.table ≡ method_def → IsTrue (has_row n.plain method) → brought new method ≡ None → has_row m.plain method ≡ there → IsVersionOf n.users n.plain n.pdb method (newest_of before method)
+unbrought m n new before method true stand lead same is row none there = stays m n method (newest_of before method) (lead.kept method (is, there) none) (λ b has. lead.known method b (is, there) has none) same (stand.each method is there)
 unbrought m n new before method false stand lead same is row none there =
-    rw (none_of before m.plain method stand.within is there) (record { means = lead.added method (is, row) there none; lines = _ })
+    rw (none_of before m.plain method stand.within is there) (record { means = lead.added method (is, row) there none; texts = _; lines = _ })
 
-by_brought : (m n : Meant) (new : List NewVersion) (before : List (Option Version)) (method : Token) (o : Option Version) → AreVersionsOf m.users m.plain m.pdb before → AreNewIn new m n → MeanTheSame m.users n.users before → method.table ≡ method_def → IsTrue (has_row n.plain method) → brought new method ≡ o → IsVersionOf n.users n.plain n.pdb method (or_else o (newest_of before method))
+by_brought : (m n : Meant) (new : List NewVersion) (before : List (Option Version)) (method : Token) (o : Option Version) → AreVersionsOf m.users m.plain m.pdb before → AreNewIn new m n → KeepsTexts m.users n.users → method.table ≡ method_def → IsTrue (has_row n.plain method) → brought new method ≡ o → IsVersionOf n.users n.plain n.pdb method (or_else o (newest_of before method))
 by_brought m n new before method (Some v) stand lead same is row e = lead.changed method (is, row) v e
 by_brought m n new before method None stand lead same is row e = unbrought m n new before method (has_row m.plain method) stand lead same is row e refl
 

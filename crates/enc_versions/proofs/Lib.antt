@@ -2,3 +2,4 @@ pub mod Lines
 pub mod Begun
 pub mod Committed
 pub mod AfterCommit
+pub mod Known

@@ -1,14 +1,14 @@
 -- The law of committed bodies, as a fact of all modules.
 use Rattle.std.specs.Prelude.{◌≡◌, ℕ, ◌≤◌, false, List, length, Option, Some, None, IsTrue}
 use Rattle.enc_base.specs.declared.token.Token.{Token}
-use Rattle.enc_opcodes.specs.Body.{Body, body_of}
+use Rattle.enc_opcodes.specs.Body.{Body}
 use Rattle.enc_plain.specs.Cell.{body}
 use Rattle.enc_plain.specs.Debug.{PlainPdb}
 use Rattle.enc_plain.specs.Module.{Module, rows_in, has_row, cell_of}
 use Rattle.enc_schema.specs.Tables.{method_def}
 use Rattle.enc_versions.specs.Commit.{NewVersion, brought, last_row, AreCommitted}
 use Rattle.enc_versions.specs.StandFor.{IsVersionOf, AreVersionsOf}
-use Rattle.enc_versions.specs.Version.{Version, newest_of}
+use Rattle.enc_versions.specs.Version.{Version}
 
 -- a module, its PDB and its user texts, by which code means a body
 pub record Meant : Type 0 where
@@ -32,16 +32,15 @@ pub record AreNewIn (new : List NewVersion) (m n : Meant) : Type 0 where
   pub added : (method : Token) → IsMethodOf n method → has_row m.plain method ≡ false → brought new method ≡ None
       → cell_of n.plain method 0 ≡ Some (body None)
 
--- bodies mean the same with other user texts
-abbrev pub MeanTheSame : (ℕ → Option (List ℕ)) → (ℕ → Option (List ℕ)) → List (Option Version) → Type 0
-MeanTheSame users others methods =
-    (method : Token) (v : Version) → newest_of methods method ≡ Some v → body_of others v.code ≡ body_of users v.code
+-- each text that is there is there still, and the same
+abbrev pub KeepsTexts : (ℕ → Option (List ℕ)) → (ℕ → Option (List ℕ)) → Type 0
+KeepsTexts users others = (offset : ℕ) (bytes : List ℕ) → users offset ≡ Some bytes → others offset ≡ Some bytes
 
 -- newest bodies that stand for a module, after such new ones were committed, stand for the next
 abbrev pub CommitStands : Type 0
 CommitStands = (m n : Meant) (new : List NewVersion) (before after : List (Option Version))
     → AreVersionsOf m.users m.plain m.pdb before
     → AreNewIn new m n
-    → MeanTheSame m.users n.users before
+    → KeepsTexts m.users n.users
     → AreCommitted new before after
     → AreVersionsOf n.users n.plain n.pdb after

@@ -1,6 +1,6 @@
 //! Bodies by their places, so that methods that share a body share its bytes in memory.
-ghost use Rattle.std.specs.Prelude.{◌≡◌, ℕ, List, Option, Some, option_map, IsTrue, IfOk};
-ghost use Rattle.enc_opcodes.specs.Body.{Body, body_of};
+ghost use Rattle.std.specs.Prelude.{◌≡◌, ℕ, List, Option, Some, option_map, IsTrue, IfOk, IfSome};
+ghost use Rattle.enc_opcodes.specs.Body.{Body, body_of, texts_are_there};
 ghost use Rattle.enc_plain.specs.Cell.{body};
 ghost use Rattle.enc_plain.specs.Module.{has_row, cell_of};
 ghost use Rattle.enc_schema.specs.Tables.{method_def};
@@ -41,6 +41,7 @@ impl Shared {
         requires table { method.table ≡ method_def }
         requires shared { AreShared (V.users view.now) (V.places view.now) self.old }
         ensures shared { IfOk result (λ _. AreShared (V.users view.now) (V.places view.now) self.new) }
+        ensures texts { IfOk result (λ b. IfSome b (λ s. IsTrue (texts_are_there (V.users view.now) s.value.code))) }
         ensures body { IfOk result (λ b. cell_of (V.meaning view.now) method 0 ≡ Some (body (option_map (λ s. body_of (V.users view.now) s.value) b))) }
     {
         let place = view.code_place(method);

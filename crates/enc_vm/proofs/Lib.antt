@@ -49,3 +49,4 @@ pub mod LooksMeant
 pub mod Quiet
 pub mod Written
 pub mod FramesSeen
+pub mod TextsKept

@@ -28,3 +28,4 @@ pub mod ConstructSeen
 pub mod StaticsSeen
 pub mod Room
 pub mod RoomSeen
+pub mod Texts

@@ -2,6 +2,7 @@
 ghost use Rattle.enc_vm.specs.Laws.{StepsMean, SpawnsMean, TasksMean, StatesMean};
 ghost use Rattle.enc_vm.specs.Laws.{PlainStepsStayPlaced, PlainSpawnsArePlaced, StepsStayPlaced, SpawnsArePlaced};
 ghost use Rattle.enc_vm.specs.Laws.{PlainPlacesAreKept, PlacesAreMeant};
+ghost use Rattle.enc_vm.specs.Texts.{MoreTextsMeanTheSame};
 
 /// A step of a task whose frames hold versions means the plain machine's step of what the task means, by a module and
 /// a PDB that the newest versions stand for; and so does a spawn (ECMA-335 I.12.3.2). Tasks by their numbers, and the
@@ -26,4 +27,11 @@ pub fn place_laws()
 pub fn kept_place_laws()
     ensures kept { PlainPlacesAreKept }
     ensures meant { PlacesAreMeant }
+{}
+
+/// Where more user texts come and those before stay, frames mean the same: each goes on in its own body, with its own
+/// texts (ECMA-335 II.24.2.4).
+#[tactic(auto, using(crate::proofs::TextsKept::more_texts))]
+pub fn text_law()
+    ensures { MoreTextsMeanTheSame }
 {}

@@ -51,7 +51,7 @@ mod values;
 
 pub use ends::{SpawnEnd, StepEnd, TaskState};
 pub use frame_ref::FrameRef;
-pub use laws::{kept_place_laws, meaning_laws, place_laws};
+pub use laws::{kept_place_laws, meaning_laws, place_laws, text_law};
 pub use look::look_laws;
 pub use machine::Machine;
 pub use seen::Seen;

@@ -1,10 +1,11 @@
 //! The machine: tasks and the objects that they share (ECMA-335 I.12.3).
-ghost use Rattle.std.specs.Prelude.{◌≡◌, length, slice_get, IfSome, Some, is_some};
+ghost use Rattle.std.specs.Prelude.{◌≡◌, ℕ, List, Option, length, slice_get, IfSome, Some, is_some, IsTrue};
 ghost use Rattle.enc_dispatch.specs.Index.{StandsForModule};
 ghost use Rattle.enc_plain.specs.Sound.{IsSound};
 ghost use Rattle.enc_vm.specs.CallsSeen.{AreBodiesOf};
 ghost use Rattle.enc_vm.specs.Machine.{at_rest, version_world};
 ghost use Rattle.enc_vm.specs.Step.{spawn_in};
+ghost use Rattle.enc_vm.specs.Texts.{machine_texts};
 ghost use Rattle.enc_vm.specs.Turns.{IsPlainSpawn, IsPlainTurn, IsSpawn, IsTurn, KeepsSeen, machine_turn};
 
 use crate::declaring::declaring;
@@ -50,7 +51,8 @@ impl Model for Machine {
 impl Machine {
     /// No tasks, no objects. It takes no memory.
     pub fn begin(alloc: Global) -> Machine
-        ensures { result ≡ at_rest }
+        ensures rest { result ≡ at_rest }
+        ensures texts { (users : ℕ → Option (List ℕ)) → IsTrue (machine_texts users result) }
     {
         Machine {
             objects: Objects::begin(alloc),
@@ -128,7 +130,7 @@ impl Machine {
     /// tasks, and else `Method` where the method is no static one without parameters, or where the interpreter
     /// doesn't run it or the constructor of its type. The type is touched (ECMA-335 II.10.5.3). Without memory
     /// nothing changes.
-    #[tactic(auto, using(crate::proofs::PlainTurns::plain_spawn))]
+    #[tactic(auto, using(crate::proofs::PlainTurns::plain_spawn, crate::proofs::TextsKept::spawn_texts))]
     pub fn spawn<V: ModuleView>(
         &mut self,
         view: &V,
@@ -139,6 +141,7 @@ impl Machine {
         requires versions { AreBodiesOf (V.users view.now) (V.meaning view.now) versions.now.methods }
         ensures plain { IsPlainSpawn (V.users view.now) (V.meaning view.now) versions.now.methods method result self.new self.old }
         ensures kept { IsSpawn result self.new self.old (spawn_in (version_world (V.users view.now) (V.meaning view.now) versions.now.methods) method self.old) }
+        ensures texts { IsTrue (machine_texts (V.users view.now) self.old) → IsTrue (machine_texts (V.users view.now) self.new) }
     {
         self.spawn_version(view, versions, method)
     }
@@ -146,7 +149,7 @@ impl Machine {
     /// A step of a task: `Absent` where no task has the number, `Idle` where it has ended or trapped, and else
     /// one instruction, or what comes next on the way of a thrown object (ECMA-335 I.12.3, III). What it shows is
     /// put into `seen`, which stays as it is where there is no step. Without memory nothing changes.
-    #[tactic(auto, using(crate::proofs::PlainTurns::plain_turn))]
+    #[tactic(auto, using(crate::proofs::PlainTurns::plain_turn, crate::proofs::TextsKept::turn_texts))]
     pub fn step<V: ModuleView>(
         &mut self,
         view: &V,
@@ -160,6 +163,7 @@ impl Machine {
         requires stands { StandsForModule dispatch.now (V.meaning view.now) }
         ensures plain { IsPlainTurn (V.users view.now) (V.meaning view.now) versions.now.methods task result seen.new self.new self.old }
         ensures kept { IsTurn result seen.new self.new self.old (machine_turn (version_world (V.users view.now) (V.meaning view.now) versions.now.methods) task self.old) }
+        ensures texts { IsTrue (machine_texts (V.users view.now) self.old) → IsTrue (machine_texts (V.users view.now) self.new) }
         ensures seen { KeepsSeen result seen.new seen.old }
     {
         self.step_version(view, versions, dispatch, task, seen)
