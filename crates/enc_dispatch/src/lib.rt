@@ -15,12 +15,15 @@ mod laws;
 mod method_part;
 mod methods;
 mod names;
+mod new_dispatch;
 mod own;
 mod own_method;
 mod path;
+mod ready;
 mod slots;
 mod walk;
 mod wanted;
 
 pub use dispatch::Dispatch;
 pub use laws::{path_law, slot_law};
+pub use new_dispatch::NewDispatch;
