@@ -9,5 +9,7 @@ pub mod Stored
 pub mod Walked
 pub mod Own
 pub mod Index
+pub mod Changed
+pub mod Keeps
 pub mod Ready
 pub mod Laws

@@ -10,6 +10,7 @@ mod first;
 mod impl_part;
 mod impls;
 mod interfaces;
+mod keeps;
 mod keys;
 mod laws;
 mod method_part;
