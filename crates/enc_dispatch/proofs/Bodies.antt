@@ -19,7 +19,7 @@ use Rattle.enc_schema.specs.declared.column.Coding.TheVariants.{MethodDefOrRef}
 use Rattle.enc_schema.specs.Schema.{columns_in, column_in}
 use Rattle.enc_schema.specs.Tables as tables
 use Rattle.enc_dispatch.specs.declared.impl_part.ImplPart.{ImplPart}
-use Rattle.enc_dispatch.specs.Index.{class_at, impl_key, impl_for}
+use Rattle.enc_dispatch.specs.Stored.{class_at, impl_key, impl_for}
 use Rattle.enc_dispatch.specs.Walks.{impl_class, impl_body, impl_declaration, method_at}
 
 body_column : column_in 0x19 1 ≡ Some (Coded MethodDefOrRef)

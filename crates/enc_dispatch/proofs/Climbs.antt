@@ -5,7 +5,7 @@ use Rattle.std.specs.List.{list_any}
 use Rattle.enc_base.specs.Token.{is_token}
 use Rattle.enc_base.specs.declared.token.Token.{Token}
 use Rattle.enc_dispatch.specs.declared.class_part.ClassPart.{ClassPart}
-use Rattle.enc_dispatch.specs.Index.{DispatchParts}
+use Rattle.enc_dispatch.specs.Stored.{DispatchParts}
 use Rattle.enc_dispatch.specs.Walked.{class_part, with_class, climb_in, has_interface_in, from_interface_in, path_with, place_on}
 
 -- at its end, at what is no class, and at a class

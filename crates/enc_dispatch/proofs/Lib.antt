@@ -10,3 +10,9 @@ pub mod Found
 pub mod Owns
 pub mod Bodies
 pub mod SlotLaws
+pub mod Named
+pub mod OneShape
+pub mod References
+pub mod Kept
+pub mod Stays
+pub mod Unchanged

@@ -17,7 +17,8 @@ use Rattle.enc_dispatch.specs.declared.impl_part.ImplPart.{ImplPart}
 use Rattle.enc_dispatch.specs.Path.{is_class, class_base, climb, path_of, is_on_path, has_interface, says_interface, implements, extends}
 use Rattle.enc_dispatch.specs.Walks.{impl_class, impl_body, impl_declaration, impl_at, impl_of, method_at}
 use Rattle.enc_dispatch.specs.Target.{from_interface, is_interface}
-use Rattle.enc_dispatch.specs.Index.{DispatchParts, class_at, impl_for, StandsForModule}
+use Rattle.enc_dispatch.specs.Index.{StandsForModule}
+use Rattle.enc_dispatch.specs.Stored.{DispatchParts, class_at, impl_for}
 use Rattle.enc_dispatch.specs.Parts.{nth_part}
 use Rattle.enc_dispatch.specs.Walked.{class_part, with_class, climb_in, path_in, extends_in, has_interface_in, implements_in, earlier_impl, body_row, impl_in, from_interface_in}
 

@@ -17,9 +17,9 @@ use Rattle.enc_dispatch.specs.declared.own_method.OwnMethod.{OwnMethod}
 use Rattle.enc_dispatch.specs.declared.wanted.Wanted.{Wanted}
 use Rattle.enc_dispatch.specs.declared.wanted.Wanted.TheVariants.{Virtual, Public}
 use Rattle.enc_dispatch.specs.Buckets.{is_slot}
-use Rattle.enc_dispatch.specs.Index.{class_at, own_key, own_part, IsMethodPart}
+use Rattle.enc_dispatch.specs.Stored.{class_at, own_key, own_part, IsMethodPart}
 use Rattle.enc_dispatch.specs.Parts.{nth_part, EachPart}
-use Rattle.enc_dispatch.specs.Own.{virtual_slot, wanted_slot, row_part, own_one, own_among, in_class, in_classes, own_in_class, AreOwn}
+use Rattle.enc_dispatch.specs.Own.{virtual_slot, wanted_slot, row_part, own_one, own_among, in_class, in_classes, own_in_class, AreAllOwn, AreOwn}
 use Rattle.enc_dispatch.specs.Slots.{shares_slot, slot_in}
 use Rattle.enc_dispatch.specs.Walked.{slot_at}
 use Rattle.enc_dispatch.specs.Walks.{method_at, is_virtual, is_public, same_slot, takes_slot, meets, first_method}
@@ -138,6 +138,9 @@ class_start c o = let not : (nat_lt 0 c && nat_le c 0) ≡ false = grind (arith,
 pub class_all : (m : Module) (c n : ℕ) (o : Option OwnMethod) (v : Option OwnMethod) → n ≡ row_count m tables.type_def → IsTrue (has_row m (class_at c)) → v ≡ in_classes n c o → v ≡ o
 unfolding has_row
 class_all m c n o v size there e = e ∙ ap (λ k. in_classes k c o) size ∙ rw there refl
+
+pub own_there : (m : Module) (methods : List MethodPart) (wanted : Wanted) (own : Index OwnMethod) → AreAllOwn m methods wanted own → AreOwn m methods wanted own
+own_there m methods wanted own are c s there = class_all m c (row_count m tables.type_def) (own_in_class m methods wanted s c) (value_at own (own_key c s)) refl there (are c s)
 
 -- what stands by class and slot is the first that takes it
 same_is_shares : (m : Module) (a b : Token) → same_slot m a b ≡ shares_slot (cells_of m) a b

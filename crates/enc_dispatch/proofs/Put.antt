@@ -18,7 +18,7 @@ use Rattle.enc_dispatch.specs.declared.impl_part.ImplPart.{ImplPart}
 use Rattle.enc_dispatch.specs.Columns.{interface_impl_class, interface_impl_interface}
 use Rattle.enc_dispatch.specs.Path.{says_interface}
 use Rattle.enc_dispatch.specs.Walks.{impl_class, impl_body, impl_declaration}
-use Rattle.enc_dispatch.specs.Index.{class_at, impl_key, interface_key, impl_for}
+use Rattle.enc_dispatch.specs.Stored.{class_at, impl_key, interface_key, impl_for}
 
 same_parts : (t r p u s q : ℕ) → t ≡ u → r ≡ s → p ≡ q → ◌≡◌ {A = Key} (record { table = t; row = r; place = p }) (record { table = u; row = s; place = q })
 same_parts t r p u s q e f h = rw (e, f, h) refl

@@ -18,7 +18,8 @@ use Rattle.enc_dispatch.specs.declared.impl_part.ImplPart.{ImplPart}
 use Rattle.enc_dispatch.specs.Path.{is_class, before_class}
 use Rattle.enc_dispatch.specs.Walks.{impl_of, method_at, is_virtual, is_public, is_new_slot, same_slot, takes_slot, meets, first_method}
 use Rattle.enc_dispatch.specs.Target.{own_turn, turn, go_on, walk_down, class_target, from_interface, given_by, first_given, interface_target, is_interface, target_by, target_of}
-use Rattle.enc_dispatch.specs.Index.{DispatchParts, own_key, impl_key, own_part, StandsForModule}
+use Rattle.enc_dispatch.specs.Index.{StandsForModule}
+use Rattle.enc_dispatch.specs.Stored.{DispatchParts, own_key, impl_key, own_part}
 use Rattle.enc_dispatch.specs.Parts.{nth_part}
 use Rattle.enc_dispatch.specs.Walked.{class_part, path_in, is_interface_part, earlier_impl, body_row, row_of_own, impl_in, own_turn_in, turn_in, go_on_in, walk_down_in, place_on, class_walk_in, class_target_in, from_interface_in, given_by_in, with_class_row, first_given_in, interface_target_in, target_by_in, target_in}
 use Rattle.enc_dispatch.proofs.Meant.{has_part, class_there, class_none, AreClasses, path_is, path_classes, taken_classes, reversed_classes, class_row, class_has_row, from_is, from_classes, impl_is}

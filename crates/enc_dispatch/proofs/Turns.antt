@@ -2,7 +2,7 @@
 use Rattle.std.proofs.Common.{◌≡◌, ℕ, zero, suc, ◌-◌, ◌<◌, List, [], ◌∷◌, ◌++◌, take, reverse, Option, Some, None, slice_get, refl, sym, ap, ◌∙◌, arith}
 use Rattle.std.proofs.lemmas.List.{reverse-append}
 use Rattle.enc_base.specs.declared.token.Token.{Token}
-use Rattle.enc_dispatch.specs.Index.{DispatchParts}
+use Rattle.enc_dispatch.specs.Stored.{DispatchParts}
 use Rattle.enc_dispatch.specs.Walked.{turn_in, go_on_in, walk_down_in, given_by_in, first_given_in}
 
 pub take_one_more : {A : Type 0} (xs : List A) (i : ℕ) (x : A) → slice_get xs i ≡ Some x → take (suc i) xs ≡ take i xs ++ x ∷ []

@@ -1,74 +1,20 @@
--- The parts of the index, and what they say of the module that it stands for.
-use Rattle.std.specs.Prelude.{◌≡◌, ℕ, List, length, Option, Some, None, option_map, IsTrue, ◌&&◌, ◌==◌, if◌then◌else◌}
+-- What the parts of the index say of the module that it stands for.
+use Rattle.std.specs.Prelude.{◌≡◌, ℕ, length, Some, option_map, IsTrue}
 use Rattle.enc_base.specs.Order.{first_below}
-use Rattle.enc_base.specs.Token.{nth_row, is_token}
 use Rattle.enc_base.specs.declared.token.Token.{Token}
-use Rattle.enc_index.specs.declared.index.Index.{Index}
-use Rattle.enc_index.specs.declared.key.Key.{Key}
 use Rattle.enc_index.specs.Index.{value_at}
-use Rattle.enc_plain.specs.Module.{Module, has_row, cells_of, owner_of}
+use Rattle.enc_plain.specs.Module.{Module, has_row, cells_of}
 use Rattle.enc_plain.specs.Sound.{row_count}
 use Rattle.enc_schema.specs.Tables as tables
-use Rattle.enc_dispatch.specs.declared.class_part.ClassPart.{ClassPart}
 use Rattle.enc_dispatch.specs.declared.method_part.MethodPart.{MethodPart}
-use Rattle.enc_dispatch.specs.declared.own_method.OwnMethod.{OwnMethod}
 use Rattle.enc_dispatch.specs.declared.impl_part.ImplPart.{ImplPart}
+use Rattle.enc_dispatch.specs.declared.wanted.Wanted.TheVariants.{Virtual, Public}
 use Rattle.enc_dispatch.specs.Buckets.{AreBuckets}
+use Rattle.enc_dispatch.specs.Own.{AreAllOwn}
 use Rattle.enc_dispatch.specs.Parts.{nth_part, EachPart}
-use Rattle.enc_dispatch.specs.Path.{class_base, says_interface}
-use Rattle.enc_dispatch.specs.Slots.{slot_of}
-use Rattle.enc_dispatch.specs.Target.{is_interface}
-use Rattle.enc_dispatch.specs.Walks.{impl_class, impl_body, impl_declaration, method_at, takes_slot, meets, first_method, is_new_slot}
-
--- of each class what it extends and whether it is an interface; of each method its type and its slot; by class and slot the first virtual method
--- and the first public one; by class and declaration the first row of MethodImpl; by class and interface that it has it;
--- by key the newest first method of a slot, and behind each method the one that was so before it
-pub record DispatchParts : Type 0 where
-  pub classes : List ClassPart
-  pub methods : List MethodPart
-  pub own : Index OwnMethod
-  pub met : Index OwnMethod
-  pub impls : Index ImplPart
-  pub interfaces : Index Token
-  pub heads : Index ℕ
-  pub links : List (Option ℕ)
-
--- a class's row by its number
-abbrev pub class_at : ℕ → Token
-class_at row = record { table = tables.type_def; row = row }
-
--- what a class's virtual method stands by: its class and its slot
-abbrev pub own_key : ℕ → ℕ → Key
-own_key class slot = record { table = tables.method_def; row = class; place = slot }
-
--- what a row of MethodImpl stands by: its class and its declaration, a MethodDef
-abbrev pub impl_key : ℕ → ℕ → Key
-impl_key class declaration = record { table = tables.method_impl; row = class; place = declaration }
-
--- what an interface of a class stands by
-abbrev pub interface_key : ℕ → Token → Key
-interface_key class interface = record { table = interface.table; row = class; place = interface.row }
-
--- a row of MethodImpl that gives a class a MethodDef for a declaration, with its number from 0
-unfoldable pub impl_for : Module → ℕ → ℕ → ℕ → Option ImplPart
-impl_for m class declaration k =
-    if is_token (impl_class m k) (class_at class) && (impl_body m k).table == tables.method_def && is_token (impl_declaration m k) (method_at declaration)
-    then Some (record { number = k; body = (impl_body m k).row })
-    else None
-
--- a part is of the n-th class, n from 0
-pub record IsClassPart (m : Module) (n : ℕ) (p : ClassPart) : Type 0 where
-  pub base : p.base ≡ class_base m (nth_row tables.type_def n)
-  pub interface : p.is_interface ≡ is_interface m (nth_row tables.type_def n)
-
--- a part is of the n-th method, n from 0
-pub record IsMethodPart (m : Module) (n : ℕ) (p : MethodPart) : Type 0 where
-  pub owner : owner_of m (nth_row tables.method_def n) ≡ Some p.owner
-  pub slot : slot_of m (nth_row tables.method_def n) ≡ Some p.slot
-
--- what stands of a class's own virtual method
-abbrev pub own_part : Module → Token → OwnMethod
-own_part m method = record { row = method.row; is_new_slot = is_new_slot m method }
+use Rattle.enc_dispatch.specs.Path.{says_interface}
+use Rattle.enc_dispatch.specs.Stored.{DispatchParts, class_at, own_key, impl_key, interface_key, impl_for, IsClassPart, IsMethodPart, own_part}
+use Rattle.enc_dispatch.specs.Walks.{method_at, takes_slot, meets, first_method}
 
 -- the index stands for the module: each of its parts is the module's
 pub record StandsForModule (d : DispatchParts) (m : Module) : Type 0 where
@@ -80,6 +26,8 @@ pub record StandsForModule (d : DispatchParts) (m : Module) : Type 0 where
       → value_at d.own (own_key class p.slot) ≡ option_map (own_part m) (first_method m (takes_slot m (method_at row)) (class_at class))
   pub met : (class row : ℕ) (p : MethodPart) → IsTrue (has_row m (class_at class)) → nth_part d.methods row ≡ Some p
       → value_at d.met (own_key class p.slot) ≡ option_map (own_part m) (first_method m (meets m (method_at row)) (class_at class))
+  pub own_all : AreAllOwn m d.methods Virtual d.own
+  pub met_all : AreAllOwn m d.methods Public d.met
   pub impls : (class declaration : ℕ)
       → value_at d.impls (impl_key class declaration) ≡ first_below (impl_for m class declaration) (row_count m tables.method_impl)
   pub bodies : (class declaration : ℕ) (p : ImplPart) → value_at d.impls (impl_key class declaration) ≡ Some p → IsTrue (has_row m (method_at p.body))

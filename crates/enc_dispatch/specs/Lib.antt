@@ -5,7 +5,11 @@ pub mod Target
 pub mod Slots
 pub mod Parts
 pub mod Buckets
-pub mod Index
+pub mod Stored
 pub mod Walked
 pub mod Own
+pub mod Index
+pub mod Changed
+pub mod Keeps
+pub mod Ready
 pub mod Laws

@@ -3,13 +3,14 @@ use Rattle.std.specs.Prelude.{◌≡◌, IsTrue, ℕ, Option, Some, None, List, 
 use Rattle.enc_index.specs.declared.index.Index.{Index}
 use Rattle.enc_index.specs.Index.{value_at}
 use Rattle.enc_plain.specs.Module.{Module, has_row, kids_of}
+use Rattle.enc_plain.specs.Sound.{row_count}
 use Rattle.enc_schema.specs.Tables as tables
 use Rattle.enc_dispatch.specs.declared.method_part.MethodPart.{MethodPart}
 use Rattle.enc_dispatch.specs.declared.own_method.OwnMethod.{OwnMethod}
 use Rattle.enc_dispatch.specs.declared.wanted.Wanted.{Wanted}
 use Rattle.enc_dispatch.specs.declared.wanted.Wanted.TheVariants.{Virtual, Public}
 use Rattle.enc_dispatch.specs.Buckets.{is_slot}
-use Rattle.enc_dispatch.specs.Index.{class_at, own_key, own_part}
+use Rattle.enc_dispatch.specs.Stored.{class_at, own_key, own_part}
 use Rattle.enc_dispatch.specs.Walked.{slot_at}
 use Rattle.enc_dispatch.specs.Walks.{method_at, is_virtual, is_public}
 
@@ -45,6 +46,10 @@ in_classes n c o = if nat_lt 0 c && nat_le c n then o else None
 abbrev pub own_in_class : Module → List MethodPart → Wanted → ℕ → ℕ → Option OwnMethod
 own_in_class m methods wanted slot class = own_among m methods wanted slot (kids_of m (class_at class) tables.method_def)
 
--- an index has the first wanted method of each class and slot
+-- an index has the first wanted method of each class and slot, and no other
+abbrev pub AreAllOwn : Module → List MethodPart → Wanted → Index OwnMethod → Type 0
+AreAllOwn m methods wanted own = (c s : ℕ) → value_at own (own_key c s) ≡ in_classes (row_count m tables.type_def) c (own_in_class m methods wanted s c)
+
+-- the same of the classes that are there
 abbrev pub AreOwn : Module → List MethodPart → Wanted → Index OwnMethod → Type 0
 AreOwn m methods wanted own = (c s : ℕ) → IsTrue (has_row m (class_at c)) → value_at own (own_key c s) ≡ own_in_class m methods wanted s c

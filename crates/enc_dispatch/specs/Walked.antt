@@ -11,7 +11,7 @@ use Rattle.enc_dispatch.specs.declared.method_part.MethodPart.{MethodPart}
 use Rattle.enc_dispatch.specs.declared.own_method.OwnMethod.{OwnMethod}
 use Rattle.enc_dispatch.specs.declared.impl_part.ImplPart.{ImplPart}
 use Rattle.enc_dispatch.specs.declared.climb.Climb.{Climb}
-use Rattle.enc_dispatch.specs.Index.{DispatchParts, own_key, impl_key, interface_key}
+use Rattle.enc_dispatch.specs.Stored.{DispatchParts, own_key, impl_key, interface_key}
 use Rattle.enc_dispatch.specs.Parts.{nth_part}
 use Rattle.enc_dispatch.specs.Path.{is_on_path}
 use Rattle.enc_dispatch.specs.Walks.{method_at}

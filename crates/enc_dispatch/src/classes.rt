@@ -2,7 +2,7 @@
 ghost use Rattle.std.specs.Prelude.{◌≡◌, ◌<◌, ◌^◌, IfOk, length};
 ghost use Rattle.enc_plain.specs.Sound.{row_count};
 ghost use Rattle.enc_schema.specs.Tables.{type_def};
-ghost use Rattle.enc_dispatch.specs.Index.{IsClassPart};
+ghost use Rattle.enc_dispatch.specs.Stored.{IsClassPart};
 ghost use Rattle.enc_dispatch.specs.Parts.{EachPart};
 
 use crate::class_part::ClassPart;

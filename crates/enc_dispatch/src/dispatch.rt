@@ -37,20 +37,20 @@ pub struct Dispatch {
 }
 
 impl Model for Dispatch {
-    ghost use Rattle.enc_dispatch.specs.Index.{DispatchParts};
+    ghost use Rattle.enc_dispatch.specs.Stored.{DispatchParts};
     ghost use Rattle.enc_index.specs.contracts.tree.Tree as tree;
     ghost use Rattle.enc_dispatch.specs.contracts.own_method.OwnMethod as own_method;
     ghost use Rattle.enc_dispatch.specs.contracts.impl_part.ImplPart as impl_part;
     ghost use Rattle.enc_base.specs.contracts.token.Token as token;
     ghost use Rattle.std.specs.Coded.{codes};
     ghost use denote.Struct.Field.{u32-field};
-    ghost use Rattle.std.specs.Prelude.{◌<◌, ◌^◌, length};
+    ghost use Rattle.std.specs.Prelude.{◌<◌, ◌^◌, length, vec_capacity};
 
     ghost Value = { DispatchParts };
 
     ghost coded = { Prim.hlevel (codes, (tree.the_row own_method.the_row).coded, (tree.the_row impl_part.the_row).coded, (tree.the_row token.the_row).coded, (tree.the_row u32-field.row).coded) };
 
-    ghost view = { λ d. record { classes = d.classes.items; methods = d.methods.items; own = d.own; met = d.met; impls = d.impls; interfaces = d.interfaces; heads = d.slots.heads; links = d.slots.next.items } };
+    ghost view = { λ d. record { classes = d.classes.items; methods = d.methods.items; own = d.own; met = d.met; impls = d.impls; interfaces = d.interfaces; heads = d.slots.heads; links = d.slots.next.items; room = record { classes = vec_capacity d.classes; methods = vec_capacity d.methods; links = vec_capacity d.slots.next } } };
 
     ghost invariant = { λ d. length d.classes.items < 2 ^ 24 };
 }

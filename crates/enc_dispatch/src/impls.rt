@@ -4,7 +4,7 @@ ghost use Rattle.enc_base.specs.Order.{or_else, first_below};
 ghost use Rattle.enc_index.specs.Index.{value_at};
 ghost use Rattle.enc_plain.specs.Sound.{row_count};
 ghost use Rattle.enc_schema.specs.Tables.{method_def, method_impl, type_def};
-ghost use Rattle.enc_dispatch.specs.Index.{impl_key, impl_for};
+ghost use Rattle.enc_dispatch.specs.Stored.{impl_key, impl_for};
 
 use crate::columns::{METHOD_IMPL_BODY, METHOD_IMPL_CLASS, METHOD_IMPL_DECLARATION};
 use crate::first::put_first;

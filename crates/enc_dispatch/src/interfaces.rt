@@ -5,7 +5,7 @@ ghost use Rattle.enc_base.specs.declared.token.Token.{Token as TheToken};
 ghost use Rattle.enc_index.specs.Index.{value_at};
 ghost use Rattle.enc_plain.specs.Sound.{row_count};
 ghost use Rattle.enc_schema.specs.Tables.{interface_impl};
-ghost use Rattle.enc_dispatch.specs.Index.{class_at, interface_key};
+ghost use Rattle.enc_dispatch.specs.Stored.{class_at, interface_key};
 ghost use Rattle.enc_dispatch.specs.Path.{says_interface};
 
 use crate::columns::{INTERFACE_IMPL_CLASS, INTERFACE_IMPL_INTERFACE};

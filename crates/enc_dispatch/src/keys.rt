@@ -1,6 +1,6 @@
 //! What the parts of the index stand by.
 ghost use Rattle.std.specs.Prelude.{◌≡◌};
-ghost use Rattle.enc_dispatch.specs.Index.{own_key, impl_key, interface_key};
+ghost use Rattle.enc_dispatch.specs.Stored.{own_key, impl_key, interface_key};
 
 use enc_base::Token;
 use enc_index::Key;

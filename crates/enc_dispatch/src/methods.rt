@@ -5,7 +5,7 @@ ghost use Rattle.enc_plain.specs.Module.{cells_of, owner_of};
 ghost use Rattle.enc_plain.specs.Sound.{row_count};
 ghost use Rattle.enc_schema.specs.Tables.{method_def};
 ghost use Rattle.enc_dispatch.specs.Buckets.{AreBuckets, IsSlotOf};
-ghost use Rattle.enc_dispatch.specs.Index.{IsMethodPart};
+ghost use Rattle.enc_dispatch.specs.Stored.{IsMethodPart};
 ghost use Rattle.enc_dispatch.specs.Parts.{EachPart};
 
 use crate::method_part::MethodPart;

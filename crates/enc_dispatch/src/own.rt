@@ -5,8 +5,8 @@ ghost use Rattle.enc_index.specs.Index.{value_at};
 ghost use Rattle.enc_plain.specs.Module.{kids_of};
 ghost use Rattle.enc_plain.specs.Sound.{row_count};
 ghost use Rattle.enc_schema.specs.Tables.{method_def, type_def};
-ghost use Rattle.enc_dispatch.specs.Index.{class_at, own_key};
-ghost use Rattle.enc_dispatch.specs.Own.{virtual_slot, wanted_slot, row_part, own_one, own_among, in_class, AreOwn};
+ghost use Rattle.enc_dispatch.specs.Stored.{class_at, own_key};
+ghost use Rattle.enc_dispatch.specs.Own.{virtual_slot, wanted_slot, row_part, own_one, own_among, in_class, AreAllOwn};
 ghost use Rattle.enc_dispatch.specs.Walks.{flags_of, method_at};
 
 use crate::first::put_first;
@@ -135,14 +135,14 @@ fn kids_of_nth<V: ModuleView>(alloc: Global, view: &V, n: u32) -> Result<Vec<u32
 
 /// The first wanted method of each class and slot. It takes memory for each, and for the methods of
 /// one class at a time.
-#[tactic(auto, using(crate::proofs::Owns::class_more, crate::proofs::Owns::class_all))]
+#[tactic(auto, using(crate::proofs::Owns::class_more))]
 pub(crate) fn own_of<V: ModuleView>(
     alloc: Global,
     view: &V,
     methods: &[MethodPart],
     wanted: Wanted,
 ) -> Result<Index<OwnMethod>, AllocError>
-    ensures { IfOk result (λ own. AreOwn (V.meaning view.now) methods.now wanted own) }
+    ensures { IfOk result (λ own. AreAllOwn (V.meaning view.now) methods.now wanted own) }
 {
     let mut own = Index::new();
     for n in 0..view.count(TYPE_DEF) {

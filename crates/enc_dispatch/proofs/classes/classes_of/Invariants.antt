@@ -1,5 +1,5 @@
 use Rattle.std.proofs.Common.{◌≡◌, length}
-use Rattle.enc_dispatch.specs.Index.{IsClassPart}
+use Rattle.enc_dispatch.specs.Stored.{IsClassPart}
 use Rattle.enc_dispatch.specs.Parts.{EachPart}
 use Rattle.enc_dispatch.proofs.classes.classes_of.Given as goal
 

@@ -1,7 +1,7 @@
 use Rattle.std.proofs.Common.{◌≡◌, ℕ}
 use Rattle.enc_base.specs.Order.{first_below}
 use Rattle.enc_index.specs.Index.{value_at}
-use Rattle.enc_dispatch.specs.Index.{impl_key, impl_for}
+use Rattle.enc_dispatch.specs.Stored.{impl_key, impl_for}
 use Rattle.enc_dispatch.proofs.impls.impls_of.Given as goal
 
 abbrev pub invariant-loop-n : goal.invariant-loop-n

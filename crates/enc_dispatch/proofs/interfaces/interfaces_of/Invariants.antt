@@ -2,7 +2,7 @@ use Rattle.std.proofs.Common.{◌≡◌, ℕ}
 use Rattle.enc_base.specs.Order.{first_below}
 use Rattle.enc_base.specs.declared.token.Token.{Token}
 use Rattle.enc_index.specs.Index.{value_at}
-use Rattle.enc_dispatch.specs.Index.{class_at, interface_key}
+use Rattle.enc_dispatch.specs.Stored.{class_at, interface_key}
 use Rattle.enc_dispatch.specs.Path.{says_interface}
 use Rattle.enc_dispatch.proofs.interfaces.interfaces_of.Given as goal
 

@@ -1,5 +1,5 @@
 use Rattle.std.proofs.Common.{◌≡◌, length}
-use Rattle.enc_dispatch.specs.Index.{IsMethodPart}
+use Rattle.enc_dispatch.specs.Stored.{IsMethodPart}
 use Rattle.enc_dispatch.specs.Parts.{EachPart}
 use Rattle.enc_dispatch.proofs.methods.methods_of.Given as goal
 

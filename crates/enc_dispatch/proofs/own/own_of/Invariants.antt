@@ -1,6 +1,6 @@
 use Rattle.std.proofs.Common.{◌≡◌, ℕ}
 use Rattle.enc_index.specs.Index.{value_at}
-use Rattle.enc_dispatch.specs.Index.{own_key}
+use Rattle.enc_dispatch.specs.Stored.{own_key}
 use Rattle.enc_dispatch.specs.Own.{in_classes, own_in_class}
 use Rattle.enc_dispatch.proofs.own.own_of.Given as goal
 

@@ -1,7 +1,7 @@
 use Rattle.std.proofs.Common.{◌≡◌, ℕ, take}
 use Rattle.enc_base.specs.Order.{or_else}
 use Rattle.enc_index.specs.Index.{value_at}
-use Rattle.enc_dispatch.specs.Index.{own_key}
+use Rattle.enc_dispatch.specs.Stored.{own_key}
 use Rattle.enc_dispatch.specs.Own.{own_among, in_class}
 use Rattle.enc_dispatch.proofs.own.put_kids.Given as goal
 
