@@ -1,10 +1,13 @@
 -- Scripts: what a run does, command by command.
-use Rattle.std.specs.Prelude.{ℕ, List, [], ◌∷◌, length, Option, Some, None, Result, Err, bytes_eq, codes, nat_le, nat_lt, if◌then◌else◌}
+use Rattle.std.specs.Prelude.{ℕ, Bool, ◌&&◌, ◌||◌, ◌==◌, List, [], ◌∷◌, length, Option, Some, None, Result, Err, bytes_eq, codes, nat_le, nat_lt, if◌then◌else◌}
+use Rattle.std.specs.List.{list_all}
 use Rattle.serde_json.specs.Data.{Data}
 use Rattle.serde_json.specs.Find.{get, as_str}
 use Rattle.enc_opcodes.specs.Instruction.{◌>>=◌}
+use Rattle.enc_watch.specs.declared.event.WatchKind.{WatchKind}
+use Rattle.enc_watch.specs.declared.event.WatchKind.TheVariants as watch
 use Rattle.enc_jobs.specs.declared.command.Command.{Command}
-use Rattle.enc_jobs.specs.declared.command.Command.TheVariants.{Spawn, Step, State}
+use Rattle.enc_jobs.specs.declared.command.Command.TheVariants.{Spawn, Step, Apply, Attach, Detach, State}
 use Rattle.enc_jobs.specs.declared.fault.JobFault.{JobFault}
 use Rattle.enc_jobs.specs.declared.fault.JobFault.TheVariants.{J1, J2, L3}
 use Rattle.enc_jobs.specs.Edits.{json_value}
@@ -34,6 +37,51 @@ step_said d = if has_only (codes "do" ∷ codes "task" ∷ codes "count" ∷ [])
   count ← get (codes "count") d >>= number_said most_steps
   step_of task count) else None
 
+-- an ASCII letter, a digit, or one of _ - . /
+abbrev pub is_name_byte : ℕ → Bool
+is_name_byte b =
+    (nat_le 0x61 b && nat_le b 0x7a) || (nat_le 0x41 b && nat_le b 0x5a) || (nat_le 0x30 b && nat_le b 0x39) ||
+    b == 0x5f || b == 0x2d || b == 0x2e || b == 0x2f
+
+-- 1 to 200 of these bytes
+unfoldable pub is_name : List ℕ → Bool
+is_name text = nat_le 1 (length text) && nat_le (length text) 200 && list_all is_name_byte text
+
+-- a name
+unfoldable pub name_said : Data → Option (List ℕ)
+name_said d = do
+  text ← as_str d
+  if is_name text then Some text else None
+
+-- a delta is applied
+unfoldable pub apply_said : Data → Option Command
+apply_said d = if has_only (codes "do" ∷ codes "delta" ∷ []) d then (do
+  delta ← get (codes "delta") d >>= name_said
+  Some (Apply delta)) else None
+
+-- a kind of watcher, by its name
+abbrev pub watcher_named : List ℕ → Option WatchKind
+watcher_named name =
+    if bytes_eq name (codes "trace") then Some watch.Trace
+    else if bytes_eq name (codes "cover") then Some watch.Cover
+    else if bytes_eq name (codes "failing") then Some watch.Failing
+    else None
+
+unfoldable pub watcher_said : Data → Option WatchKind
+watcher_said d = as_str d >>= watcher_named
+
+-- a watcher begins to hear
+unfoldable pub attach_said : Data → Option Command
+attach_said d = if has_only (codes "do" ∷ codes "watcher" ∷ []) d then (do
+  kind ← get (codes "watcher") d >>= watcher_said
+  Some (Attach kind)) else None
+
+-- the watcher with a number hears no more
+unfoldable pub detach_said : Data → Option Command
+detach_said d = if has_only (codes "do" ∷ codes "number" ∷ []) d then (do
+  n ← get (codes "number") d >>= word_said
+  Some (Detach n)) else None
+
 -- the state is shown
 unfoldable pub state_said : Data → Option Command
 state_said d = if has_only (codes "do" ∷ []) d then Some State else None
@@ -43,6 +91,9 @@ abbrev pub command_of_kind : Data → List ℕ → Option Command
 command_of_kind d kind =
     if bytes_eq kind (codes "spawn") then spawn_said d
     else if bytes_eq kind (codes "step") then step_said d
+    else if bytes_eq kind (codes "apply") then apply_said d
+    else if bytes_eq kind (codes "attach") then attach_said d
+    else if bytes_eq kind (codes "detach") then detach_said d
     else if bytes_eq kind (codes "state") then state_said d
     else None
 

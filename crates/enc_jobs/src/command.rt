@@ -1,15 +1,22 @@
 //! Commands of a script.
-use enc_base::Token;
+use enc_base::{Bytes, Token};
+use enc_watch::WatchKind;
 use std::alloc::{AllocError, AllocFailed, Global};
 use std::marker::Model;
 
 /// A command of a script.
-#[derive(Clone, Copy, Debug, PartialEq, Eq)]
+#[derive(Drop)]
 pub enum Command {
     /// A task begins with the method of this token.
     Spawn(Token),
     /// A task makes so many steps, 1 to 1,000,000: its number, and how many.
     Step(u32, u32),
+    /// A delta is applied: the bytes of its name, 1 to 200, each an ASCII letter, a digit or one of `_ - . /`.
+    Apply(Bytes),
+    /// A watcher of this kind begins to hear.
+    Attach(WatchKind),
+    /// The watcher with this number hears no more.
+    Detach(u32),
     /// The state of the machine is shown.
     State,
 }

@@ -3,12 +3,16 @@ ghost use Rattle.std.specs.Prelude.{◌≡◌, Some, map};
 ghost use Rattle.serde_json.specs.View.{view};
 ghost use Rattle.enc_jobs.specs.Lists.{read_in_turn};
 ghost use Rattle.enc_jobs.specs.Outcome.{ReadsAs, GivesList};
-ghost use Rattle.enc_jobs.specs.Scripts.{spawn_said, step_said, state_said, command_of_kind, command_said, commands_of_items, commands_of_value, script_said};
+ghost use Rattle.enc_jobs.specs.Scripts.{spawn_said, step_said, name_said, apply_said, watcher_named, watcher_said, attach_said, detach_said, state_said};
+ghost use Rattle.enc_jobs.specs.Scripts.{command_of_kind, command_said, commands_of_items, commands_of_value, script_said};
 
 use crate::command::{Command, Script};
 use crate::fault::{JobFault, Refused};
 use crate::list::{at_number, parsed};
-use crate::value::{at_key, elements, has_only, number, text, token, word};
+use crate::name::is_name;
+use crate::value::{at_key, bytes_of, elements, has_only, number, text, token, word};
+use enc_base::Bytes;
+use enc_watch::WatchKind;
 use serde_json::Value;
 use std::alloc::Global;
 
@@ -46,6 +50,79 @@ fn step(value: &Value) -> Result<Command, Refused>
     Ok(Command::Step(task, count as u32))
 }
 
+/// The bytes of a name.
+#[tactic(auto, unfolding(crate::specs::Scripts::name_said))]
+fn name(alloc: Global, value: &Value) -> Result<Bytes, Refused>
+    ensures { ReadsAs result (name_said (view value.now)) }
+{
+    let text = text(value)?;
+    if !is_name(text) {
+        return Err(Refused::Form);
+    }
+    Ok(bytes_of(alloc, text)?)
+}
+
+/// A delta is applied.
+#[tactic(auto, unfolding(crate::specs::Scripts::apply_said))]
+fn apply(alloc: Global, value: &Value) -> Result<Command, Refused>
+    ensures { ReadsAs result (apply_said (view value.now)) }
+{
+    if !has_only(value, &["do", "delta"]) {
+        return Err(Refused::Form);
+    }
+    let delta = name(alloc, at_key(value, "delta")?)?;
+    Ok(Command::Apply(delta))
+}
+
+/// The kind of watcher with this name.
+fn watcher_named(name: &str) -> Result<WatchKind, Refused>
+    ensures { ReadsAs result (watcher_named name.now) }
+{
+    if name == "trace" {
+        return Ok(WatchKind::Trace);
+    }
+    if name == "cover" {
+        return Ok(WatchKind::Cover);
+    }
+    if name == "failing" {
+        return Ok(WatchKind::Failing);
+    }
+    Err(Refused::Form)
+}
+
+/// A kind of watcher, by its name.
+#[tactic(auto, unfolding(crate::specs::Scripts::watcher_said))]
+fn watcher(value: &Value) -> Result<WatchKind, Refused>
+    ensures { ReadsAs result (watcher_said (view value.now)) }
+{
+    let name = text(value)?;
+    watcher_named(name)
+}
+
+/// A watcher begins to hear.
+#[tactic(auto, unfolding(crate::specs::Scripts::attach_said))]
+fn attach(value: &Value) -> Result<Command, Refused>
+    ensures { ReadsAs result (attach_said (view value.now)) }
+{
+    if !has_only(value, &["do", "watcher"]) {
+        return Err(Refused::Form);
+    }
+    let kind = watcher(at_key(value, "watcher")?)?;
+    Ok(Command::Attach(kind))
+}
+
+/// A watcher hears no more.
+#[tactic(auto, unfolding(crate::specs::Scripts::detach_said))]
+fn detach(value: &Value) -> Result<Command, Refused>
+    ensures { ReadsAs result (detach_said (view value.now)) }
+{
+    if !has_only(value, &["do", "number"]) {
+        return Err(Refused::Form);
+    }
+    let number = word(at_key(value, "number")?)?;
+    Ok(Command::Detach(number))
+}
+
 /// The state is shown.
 #[tactic(auto, unfolding(crate::specs::Scripts::state_said))]
 fn state(value: &Value) -> Result<Command, Refused>
@@ -58,7 +135,7 @@ fn state(value: &Value) -> Result<Command, Refused>
 }
 
 /// A command of the kind with this name.
-fn of_kind(value: &Value, kind: &str) -> Result<Command, Refused>
+fn of_kind(alloc: Global, value: &Value, kind: &str) -> Result<Command, Refused>
     ensures { ReadsAs result (command_of_kind (view value.now) kind.now) }
 {
     if kind == "spawn" {
@@ -66,6 +143,15 @@ fn of_kind(value: &Value, kind: &str) -> Result<Command, Refused>
     }
     if kind == "step" {
         return step(value);
+    }
+    if kind == "apply" {
+        return apply(alloc, value);
+    }
+    if kind == "attach" {
+        return attach(value);
+    }
+    if kind == "detach" {
+        return detach(value);
     }
     if kind == "state" {
         return state(value);
@@ -75,11 +161,11 @@ fn of_kind(value: &Value, kind: &str) -> Result<Command, Refused>
 
 /// A command.
 #[tactic(auto, unfolding(crate::specs::Scripts::command_said))]
-fn one_command(value: &Value) -> Result<Command, Refused>
+fn one_command(alloc: Global, value: &Value) -> Result<Command, Refused>
     ensures { ReadsAs result (command_said (view value.now)) }
 {
     let kind = text(at_key(value, "do")?)?;
-    of_kind(value, kind)
+    of_kind(alloc, value, kind)
 }
 
 /// Commands, the first with number 1.
@@ -90,7 +176,7 @@ fn commands(alloc: Global, items: &[Value]) -> Result<Script, JobFault>
     let mut script = Script::begin(alloc);
     let mut number: u32 = 1;
     for value in items {
-        let command = match one_command(value) {
+        let command = match one_command(alloc, value) {
             Ok(command) => command,
             Err(refused) => return Err(at_number(number, refused)),
         };

@@ -2,7 +2,7 @@
 use Rattle.std.specs.Prelude.{ℕ, zero, suc, ◌+◌, List, [], ◌∷◌, ◌++◌}
 use Rattle.enc_base.specs.declared.token.Token.{Token}
 use Rattle.enc_jobs.specs.declared.command.Command.{Command}
-use Rattle.enc_jobs.specs.declared.command.Command.TheVariants.{Spawn, Step, State}
+use Rattle.enc_jobs.specs.declared.command.Command.TheVariants.{Spawn, Step, Apply, Attach, Detach, State}
 use Rattle.enc_plain.specs.Debug.{PlainPdb}
 use Rattle.enc_plain.specs.Module.{Module}
 use Rattle.enc_vm.specs.Looks.{innermost_in}
@@ -69,10 +69,17 @@ step_told task s x absent = record { state = s; text = absent_task_line task }
 step_told task s x idle = record { state = s; text = idle_line task }
 step_told task s x (went how u line shown) = ran_told task x
 
+-- a command that prints no line, and after which the machine is as it was
+abbrev pub nothing_told : {C : Type 0} → MachineState C → Told C
+nothing_told s = record { state = s; text = [] }
+
 -- a command
 unfoldable pub command_told : {C : Type 0} → World C → Command → MachineState C → Told C
 command_told w (Spawn method) s = spawn_told w method s
 command_told w (Step task count) s = step_told task s (steps_of w task count s) (machine_turn w task s)
+command_told w (Apply name) s = nothing_told s
+command_told w (Attach kind) s = nothing_told s
+command_told w (Detach n) s = nothing_told s
 command_told w State s = record { state = s; text = state_text s }
 
 -- commands in order

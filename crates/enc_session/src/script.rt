@@ -43,19 +43,20 @@ fn push_command<V: ModuleView>(
     versions: &Versions,
     dispatch: &Dispatch,
     machine: &mut Machine,
-    command: Command,
+    command: &Command,
     out: &mut Vec<u8>,
 ) -> Result<(), AllocError>
     requires sound { IsSound (V.meaning view.now) }
     requires versions { AreBodiesOf (V.users view.now) (V.meaning view.now) versions.now.methods }
     requires stands { StandsForModule dispatch.now (V.meaning view.now) }
-    ensures { OfPlain (V.users view.now) (V.meaning view.now) versions.now.methods (λ w. OnOk result (CameTo (command_told w command (state_meant (V.users view.now) machine.old)) (state_meant (V.users view.now) machine.new) out.new.items out.old.items)) }
+    ensures { OfPlain (V.users view.now) (V.meaning view.now) versions.now.methods (λ w. OnOk result (CameTo (command_told w command.now (state_meant (V.users view.now) machine.old)) (state_meant (V.users view.now) machine.new) out.new.items out.old.items)) }
 {
     match command {
-        Command::Spawn(method) => push_spawn_told(alloc, view, versions, machine, method, out),
+        Command::Spawn(method) => push_spawn_told(alloc, view, versions, machine, *method, out),
         Command::Step(task, count) => push_steps_told(
-            alloc, view, versions, dispatch, machine, task, count, out,
+            alloc, view, versions, dispatch, machine, *task, *count, out,
         ),
+        Command::Apply(_) | Command::Attach(_) | Command::Detach(_) => Ok(()),
         Command::State => push_state(alloc, machine, out),
     }
 }
@@ -77,7 +78,7 @@ fn push_commands<V: ModuleView>(
     ensures { OfPlain (V.users view.now) (V.meaning view.now) versions.now.methods (λ w. OnOk result (CameTo (commands_told w commands.now (state_meant (V.users view.now) machine.old)) (state_meant (V.users view.now) machine.new) out.new.items out.old.items)) }
 {
     for command in commands {
-        push_command(alloc, view, versions, dispatch, machine, *command, out)?;
+        push_command(alloc, view, versions, dispatch, machine, command, out)?;
     }
     Ok(())
 }
