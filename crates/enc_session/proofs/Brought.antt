@@ -1,6 +1,6 @@
 -- What a list of new bodies brings a method, and the tokens that tests keep.
-use Rattle.std.proofs.Common.{◌≡◌, ℕ, zero, suc, ◌≤◌, Bool, true, false, List, [], ◌∷◌, map, Option, Some, None, refl, sym, ap, ◌∙◌, inl, inr, arith}
-use Rattle.std.specs.Prelude.{◌||◌, ◌&&◌, ◌==◌, max, cond, filter, slice_get, if◌then◌else◌}
+use Rattle.std.proofs.Common.{◌≡◌, ℕ, zero, suc, ◌≤◌, Bool, true, false, List, [], ◌∷◌, map, Option, Some, None, refl, inl, inr, arith}
+use Rattle.std.specs.Prelude.{◌||◌, max, cond, filter, slice_get, if◌then◌else◌}
 use Rattle.std.specs.List.{list_any}
 use Rattle.std.proofs.lemmas.Bool.{or_cases}
 use Rattle.std.proofs.lemmas.Bool.Decides.{nat_tests}
@@ -9,7 +9,7 @@ use Rattle.enc_base.specs.Token.{is_token}
 use Rattle.enc_base.specs.declared.token.Token.{Token}
 use Rattle.enc_plain.proofs.Applied.{same_is}
 use Rattle.enc_rows.specs.Source.{Source}
-use Rattle.enc_versions.specs.Commit.{NewVersion, brought, last_row}
+use Rattle.enc_versions.specs.Commit.{brought, last_row}
 use Rattle.enc_versions.specs.Version.{Version}
 use Rattle.enc_session.specs.Codes.{new_version}
 
@@ -55,7 +55,9 @@ kept_one p u (t ∷ ts) h = by_first (p t) refl h (λ behind. later (kept_one p 
   where
     later : (p u ≡ true) × (stands u ts ≡ true) → (p u ≡ true) × (stands u (t ∷ ts) ≡ true)
     later rest = (rest.0, or_right (is_token t u) (stands u ts) rest.1)
-    by_first : (b : Bool) → p t ≡ b → stands u (cond b (t ∷ filter p ts) (filter p ts)) ≡ true → (stands u (filter p ts) ≡ true → (p u ≡ true) × (stands u (t ∷ ts) ≡ true)) → (p u ≡ true) × (stands u (t ∷ ts) ≡ true)
+
+    by_first : (b : Bool) → p t ≡ b → stands u (cond b (t ∷ filter p ts) (filter p ts)) ≡ true
+        → (stands u (filter p ts) ≡ true → (p u ≡ true) × (stands u (t ∷ ts) ≡ true)) → (p u ≡ true) × (stands u (t ∷ ts) ≡ true)
     by_first true e h more = elim (or_cases (is_token t u) (stands u (filter p ts)) h) [
       | inl here ↦ let same : t ≡ u = same_is t u here in (rw same at e, rw here refl)
       | inr behind ↦ more behind
@@ -73,13 +75,16 @@ one_kept p u (t ∷ ts) (suc i) is h = by_first (p t) (one_kept p u ts i is h)
     by_first false e = e
 
 -- what methods are brought by their bodies of a delta
-brought_step : (d : Source) (pdb : Option Source) (t u : Token) (b rest : Bool) (o : Option Version) → is_token t u ≡ b → o ≡ (if rest then Some (new_version d pdb u).version else None) → or_else o (if b then Some (new_version d pdb t).version else None) ≡ (if b || rest then Some (new_version d pdb u).version else None)
+brought_step : (d : Source) (pdb : Option Source) (t u : Token) (b rest : Bool) (o : Option Version) → is_token t u ≡ b
+    → o ≡ (if rest then Some (new_version d pdb u).version else None)
+    → or_else o (if b then Some (new_version d pdb t).version else None) ≡ (if b || rest then Some (new_version d pdb u).version else None)
 brought_step d pdb t u true true o e h = rw h refl
 brought_step d pdb t u true false o e h = let same : t ≡ u = same_is t u e in rw (h, same) refl
 brought_step d pdb t u false true o e h = rw h refl
 brought_step d pdb t u false false o e h = rw h refl
 
-pub brought_is : (d : Source) (pdb : Option Source) (u : Token) (ts : List Token) → brought (map (new_version d pdb) ts) u ≡ (if stands u ts then Some (new_version d pdb u).version else None)
+pub brought_is : (d : Source) (pdb : Option Source) (u : Token) (ts : List Token)
+    → brought (map (new_version d pdb) ts) u ≡ (if stands u ts then Some (new_version d pdb u).version else None)
 unfolding brought
 brought_is d pdb u [] = refl
 brought_is d pdb u (t ∷ ts) = brought_step d pdb t u (is_token t u) (stands u ts) (brought (map (new_version d pdb) ts) u) refl (brought_is d pdb u ts)
@@ -88,8 +93,10 @@ brought_is d pdb u (t ∷ ts) = brought_step d pdb t u (is_token t u) (stands u 
 most : (a b n : ℕ) → a ≤ n → b ≤ n → max a b ≤ n
 most a b n low high = omega (arith, low, high)
 
-pub rows_within : (d : Source) (pdb : Option Source) (n : ℕ) (ts : List Token) → ((t : Token) → stands t ts ≡ true → t.row ≤ n) → last_row (map (new_version d pdb) ts) ≤ n
+pub rows_within : (d : Source) (pdb : Option Source) (n : ℕ) (ts : List Token) → ((t : Token) → stands t ts ≡ true → t.row ≤ n)
+    → last_row (map (new_version d pdb) ts) ≤ n
 unfolding last_row
 rows_within d pdb n [] each = omega arith
 rows_within d pdb n (t ∷ ts) each =
-    most t.row (last_row (map (new_version d pdb) ts)) n (each t (rw (same_token t) refl)) (rows_within d pdb n ts (λ u there. each u (or_right (is_token t u) (stands u ts) there)))
+    let later = rows_within d pdb n ts (λ u there. each u (or_right (is_token t u) (stands u ts) there)) in
+    most t.row (last_row (map (new_version d pdb) ts)) n (each t (rw (same_token t) refl)) later

@@ -4,7 +4,7 @@ mod Numbered
 mod Looked
 mod Turned
 mod Rest
-pub mod Brought
-pub mod ListedBodies
-pub mod NamedMethods
-pub mod NewBodies
+mod Brought
+mod ListedBodies
+mod NamedMethods
+mod NewBodies

@@ -1,6 +1,6 @@
 -- The methods that the PDB of an accepted delta names are methods that the delta lists.
-use Rattle.std.proofs.Common.{◌≡◌, ℕ, zero, suc, ◌+◌, ◌<◌, ◌≤◌, Bool, true, false, List, [], ◌∷◌, length, get_or, map, Option, Some, None, Result, Ok, Err, refl, ap, ◌∙◌, inl, inr, arith}
-use Rattle.std.specs.Prelude.{◌==◌, ◌&&◌, ◌||◌, nat_le, option_map, slice_get, position, if◌then◌else◌}
+use Rattle.std.proofs.Common.{◌≡◌, ℕ, zero, suc, ◌<◌, Bool, true, false, List, [], ◌∷◌, length, get_or, map, Option, Some, None, Result, Ok, Err, refl, ap, inl, inr, arith}
+use Rattle.std.specs.Prelude.{◌==◌, ◌||◌, nat_le, option_map, slice_get, position, if◌then◌else◌}
 use Rattle.std.proofs.lemmas.Bool.{cases_lt, and_parts, eqb-true}
 use Rattle.std.proofs.lemmas.Bool.Decides.{nat_tests}
 use Rattle.std.proofs.lemmas.List.Quantifiers.{position-Some}
@@ -37,7 +37,8 @@ same_accepted x a h = cc
 of_one : (d p : Source) → first_misplaced p (code_sizes d) ≡ None → (q : Source) → Some p ≡ Some q → first_misplaced q (code_sizes d) ≡ None
 of_one d p e q f = let same : p ≡ q = cc in rw (← same) e
 
-by_row : (c : Chain) (d p : Source) (o : Option Token) (a : Accepted) → first_meta c d ≡ None → first_misplaced p (code_sizes d) ≡ o → unless (option_map refused_row o) (accepted d (Some p)) ≡ Ok a → IsPlaced c a
+by_row : (c : Chain) (d p : Source) (o : Option Token) (a : Accepted) → first_meta c d ≡ None → first_misplaced p (code_sizes d) ≡ o
+    → unless (option_map refused_row o) (accepted d (Some p)) ≡ Ok a → IsPlaced c a
 unfolding gives
 by_row c d p None a rules e h = rw (← same_accepted (accepted d (Some p)) a h) (record { rules = rules; placed = λ q f. of_one d p e q f })
 by_row c d p (Some t) a rules e h = absurd cc
@@ -51,7 +52,8 @@ unfolding with_pdb gives
 by_pdb c d None a rules h = rw (← same_accepted (accepted d None) a h) (record { rules = rules; placed = λ q f. absurd cc })
 by_pdb c d (Some bytes) a rules h = by_read c d (pdb_delta_of bytes) a rules h
 
-by_rules : (c : Chain) (d : Source) (r : Option Refusal) (bytes : Option (List ℕ)) (a : Accepted) → first_meta c d ≡ r → unless_broken r d bytes ≡ Ok a → IsPlaced c a
+by_rules : (c : Chain) (d : Source) (r : Option Refusal) (bytes : Option (List ℕ)) (a : Accepted) → first_meta c d ≡ r → unless_broken r d bytes ≡ Ok a
+    → IsPlaced c a
 by_rules c d None bytes a e h = by_pdb c d bytes a e h
 by_rules c d (Some f) bytes a e h = absurd cc
 
@@ -83,20 +85,23 @@ none_mapped f None h = refl
 none_mapped f (Some x) h = absurd cc
 
 -- a method that isn't listed has no size among the delta's
-other_name : (m u t : Token) → u.table ≡ tables.method_def → t.row ≡ u.row → (m.table == tables.method_def) ≡ true → is_token m u ≡ false → names_method m t ≡ false
+other_name : (m u t : Token) → u.table ≡ tables.method_def → t.row ≡ u.row → (m.table == tables.method_def) ≡ true → is_token m u ≡ false
+    → names_method m t ≡ false
 other_name m u t is same table other = grind (arith, nat_tests, is, same, table, other)
 
 sizes_in : (Token → ℕ) → List Token → List (Token × ℕ)
 sizes_in f ts = map (λ (m : Token). (m, f m)) (of_table tables.method_def ts)
 
-unsized : (f : Token → ℕ) (u t : Token) (ts : List Token) → u.table ≡ tables.method_def → t.row ≡ u.row → stands u ts ≡ false → size_for (sizes_in f ts) t ≡ None
+unsized : (f : Token → ℕ) (u t : Token) (ts : List Token) → u.table ≡ tables.method_def → t.row ≡ u.row → stands u ts ≡ false
+    → size_for (sizes_in f ts) t ≡ None
 unfolding size_for sizes_in
 unsized f u t [] is same none = refl
 unsized f u t (m ∷ ts) is same none =
     let parts = neither (is_token m u) (stands u ts) none in
     by_table (m.table == tables.method_def) refl parts.0 (unsized f u t ts is same parts.1)
   where
-    by_table : (b : Bool) → (m.table == tables.method_def) ≡ b → is_token m u ≡ false → size_for (sizes_in f ts) t ≡ None → size_for (sizes_in f (m ∷ ts)) t ≡ None
+    by_table : (b : Bool) → (m.table == tables.method_def) ≡ b → is_token m u ≡ false → size_for (sizes_in f ts) t ≡ None
+        → size_for (sizes_in f (m ∷ ts)) t ≡ None
     by_table true e other more = rw (e, other_name m u t is same e other) more
     by_table false e other more = rw e more
 
@@ -106,7 +111,8 @@ stray true c t e h = absurd cc
 stray false true t e h = absurd cc
 stray false false t e h = absurd cc
 
-unnamed_by : (p d : Source) (u : Token) (o : Option ℕ) → u.table ≡ tables.method_def → first_misplaced p (code_sizes d) ≡ None → place_in (listed d) u ≡ None → position (names_method u) (named_tokens p) ≡ o → o ≡ None
+unnamed_by : (p d : Source) (u : Token) (o : Option ℕ) → u.table ≡ tables.method_def → first_misplaced p (code_sizes d) ≡ None → place_in (listed d) u ≡ None
+    → position (names_method u) (named_tokens p) ≡ o → o ≡ None
 unfolding first_misplaced misplaced_row is_misplaced code_sizes sizes_in
 unnamed_by p d u None is none out e = refl
 unnamed_by p d u (Some k) is none out e =
@@ -117,14 +123,17 @@ unnamed_by p d u (Some k) is none out e =
     let same : t.row ≡ u.row = eqb-true t.row u.row parts.1 in
     let size : size_for (code_sizes d) t ≡ None = unsized (λ (m : Token). code_size (new_code d m)) u t (listed d) is same (place_none (listed d) u out) in
     let all = none_mapped debug_token (least_below (misplaced_row p (code_sizes d)) (length (named_tokens p))) none in
-    let row : misplaced_row p (code_sizes d) k ≡ None = silent_at (misplaced_row p (code_sizes d)) (length (named_tokens p)) k all (slice_get_within (named_tokens p) k t there) in
+    let low = slice_get_within (named_tokens p) k t there in
+    let row : misplaced_row p (code_sizes d) k ≡ None = silent_at (misplaced_row p (code_sizes d)) (length (named_tokens p)) k all low in
     let one : misplaced_if (is_misplaced p (code_sizes d) k t) t ≡ None = rw there at row in
     absurd (stray _ (is_stray (size_for (code_sizes d) t) (points_of p (nth_row tables.method_debug_information k))) t (rw size refl) one)
 
 no_row : (p d : Source) (u : Token) → u.table ≡ tables.method_def → first_misplaced p (code_sizes d) ≡ None → place_in (listed d) u ≡ None → row_for p u ≡ None
 unfolding row_for
-no_row p d u is none out = ap (option_map (nth_row tables.method_debug_information)) (unnamed_by p d u (position (names_method u) (named_tokens p)) is none out refl)
+no_row p d u is none out =
+    ap (option_map (nth_row tables.method_debug_information)) (unnamed_by p d u (position (names_method u) (named_tokens p)) is none out refl)
 
-pub no_delta_row : (d : Source) (o : Option Source) (u : Token) → u.table ≡ tables.method_def → ((p : Source) → o ≡ Some p → first_misplaced p (code_sizes d) ≡ None) → place_in (listed d) u ≡ None → delta_row o u ≡ None
+pub no_delta_row : (d : Source) (o : Option Source) (u : Token) → u.table ≡ tables.method_def
+    → ((p : Source) → o ≡ Some p → first_misplaced p (code_sizes d) ≡ None) → place_in (listed d) u ≡ None → delta_row o u ≡ None
 no_delta_row d None u is placed out = refl
 no_delta_row d (Some p) u is placed out = ap (row_in_file p) (no_row p d u is (placed p refl) out)

@@ -1,5 +1,5 @@
 -- The bodies that a delta brings, with their sequence points.
-use Rattle.std.specs.Prelude.{◌≡◌, ℕ, false, List, [], map, Option, Result, Ok, unwrap_or}
+use Rattle.std.specs.Prelude.{◌≡◌, ℕ, false, List, [], map, Option, Ok, unwrap_or}
 use Rattle.enc_agg.specs.Extend.{extended}
 use Rattle.enc_base.specs.declared.token.Token.{Token}
 use Rattle.enc_checker.specs.Check.{new_code, new_bodies, accepted, judged}
@@ -20,7 +20,10 @@ no_code = record { max = 0; init = false; locals = record { table = 0; row = 0 }
 
 -- what a delta and its PDB bring a method: its body there, and the points of its row there, none where it has no row
 abbrev pub new_version : Source → Option Source → Token → NewVersion
-new_version d pdb method = record { method = method; version = record { code = unwrap_or (new_code d method) no_code; points = points_at (delta_row pdb method) } }
+new_version d pdb method = record {
+  method = method;
+  version = record { code = unwrap_or (new_code d method) no_code; points = points_at (delta_row pdb method) };
+}
 
 -- and all methods that have a new body
 unfoldable pub new_versions : Source → Option Source → List NewVersion
