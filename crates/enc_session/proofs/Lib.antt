@@ -4,3 +4,7 @@ mod Numbered
 mod Looked
 mod Turned
 mod Rest
+mod Brought
+mod ListedBodies
+mod NamedMethods
+mod NewBodies

@@ -3,3 +3,4 @@ pub mod States
 pub mod Run
 pub mod Seen
 pub mod StatesSeen
+pub mod Codes

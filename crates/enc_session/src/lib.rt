@@ -1,6 +1,7 @@
 //! Runs of scripts: tasks that begin and make steps, and the lines that tell of them.
 #![tactic(auto)]
 
+mod laws;
 mod lines;
 mod objects;
 mod script;
@@ -8,4 +9,5 @@ mod states;
 mod steps;
 mod values;
 
+pub use laws::codes_law;
 pub use script::run;
