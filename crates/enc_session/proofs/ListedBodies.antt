@@ -7,7 +7,7 @@ use Rattle.enc_base.proofs.First.{silent}
 use Rattle.enc_base.specs.declared.refusal.Place.{Place}
 use Rattle.enc_base.specs.declared.token.Token.{Token}
 use Rattle.enc_meta.specs.Regions.{Region}
-use Rattle.enc_opcodes.specs.Body.{Code, body_of}
+use Rattle.enc_opcodes.specs.Body.{Code, body_of, texts_are_there}
 use Rattle.enc_rows.specs.Layout.{rows_of}
 use Rattle.enc_rows.specs.Source.{Source, raw_in}
 use Rattle.enc_plain.specs.Bodies.{code_loaded, body_loaded, body_is_good}
@@ -21,7 +21,8 @@ use Rattle.enc_delta.proofs.Placing.{place_none}
 use Rattle.enc_agg.specs.Extend.{changes_of, extended}
 use Rattle.enc_agg.proofs.SoundBodies.{listed_good}
 use Rattle.enc_agg.proofs.Tokens.{PlaceRow, place_token}
-use Rattle.enc_agg.proofs.Viewing.{listed_cells, body_listed}
+use Rattle.enc_agg.proofs.Viewing.{listed_cells, body_listed, texts_listed}
+use Rattle.enc_agg.specs.Follows.{Follows}
 use Rattle.enc_checker.specs.Check.{new_code, own_methods, new_bodies}
 use Rattle.enc_session.proofs.Brought.{stands, both_ways, kept_one, one_kept}
 
@@ -69,6 +70,13 @@ unfolding body_loaded
 cell_new c d u k o fit place is code =
     let there : code_loaded d.loaded (raw_in d (record { table = u.table; row = k }) 0) ≡ o = rw place at code in
     body_listed c d u k (raw_in d (record { table = u.table; row = k }) 0) fit place is refl ∙ rw there refl
+
+-- and the user texts that it names are there
+pub texts_new : (c : Chain) (d : Source) (u : Token) (k : ℕ) (x : Code) → Follows c d → place_in (listed d) u ≡ Some k → u.table ≡ 0x06 → new_code d u ≡ Some x
+    → texts_are_there (users_after c d) x.code ≡ true
+texts_new c d u k x follows place is code =
+    let there : code_loaded d.loaded (raw_in d (record { table = u.table; row = k }) 0) ≡ Some x = rw place at code in
+    texts_listed c d u k (raw_in d (record { table = u.table; row = k }) 0) x follows place is refl there
 
 -- it is one of the module's
 row_here : (rows : List Row) (row : ℕ) (o : Option Row) (cells : List Cell) → row_at rows row ≡ o → option_map (λ (r : Row). r.cells) o ≡ Some cells

@@ -4,7 +4,7 @@ use Rattle.std.specs.Prelude.{IsTrue, unwrap_or, if◌then◌else◌}
 use Rattle.std.specs.List.{list_any}
 use Rattle.enc_base.specs.Token.{is_token}
 use Rattle.enc_base.specs.declared.token.Token.{Token}
-use Rattle.enc_opcodes.specs.Body.{Body, body_of}
+use Rattle.enc_opcodes.specs.Body.{Body, body_of, texts_are_there}
 use Rattle.enc_rows.specs.Source.{Source}
 use Rattle.enc_schema.specs.Tables.{method_def}
 use Rattle.enc_plain.specs.Cell.{body, bodies}
@@ -32,7 +32,7 @@ use Rattle.enc_versions.specs.StandFor.{lines_read, lines_known, IsVersionOf}
 use Rattle.enc_versions.specs.Version.{Version}
 use Rattle.enc_session.specs.Codes.{no_code, new_version, new_versions, meant_by, AcceptedBodiesAreNew}
 use Rattle.enc_session.proofs.Brought.{stands, both_ways, stands_turned, brought_is, rows_within}
-use Rattle.enc_session.proofs.ListedBodies.{IsNew, is_new, none_new, cell_new, row_listed, had_none, bare_cell}
+use Rattle.enc_session.proofs.ListedBodies.{IsNew, is_new, none_new, cell_new, row_listed, had_none, bare_cell, texts_new}
 use Rattle.enc_session.proofs.NamedMethods.{IsPlaced, is_placed, no_delta_row}
 
 -- what is known of a delta that is accepted
@@ -92,6 +92,12 @@ changed_cell : (c : Chain) (d : Source) (pdb : Option Source) (u : Token) → Le
 changed_cell c d pdb u lead new =
     let code = new.code.1 in
     rw code (cell_new c d u new.place.0 (Some new.code.0) lead.fit new.place.1 new.table code)
+
+changed_texts : (c : Chain) (d : Source) (pdb : Option Source) (u : Token) → Leads c d pdb → IsNew d u
+    → texts_are_there (users_after c d) (unwrap_or (new_code d u) no_code).code ≡ true
+changed_texts c d pdb u lead new =
+    let code = new.code.1 in
+    rw code (texts_new c d u new.place.0 new.code.0 lead.follows new.place.1 new.table code)
 
 is_changed : (c : Chain) (d : Source) (pdb : Option Source) (debug : PlainPdb) (u : Token) (v : Version) → Leads c d pdb
     → brought (new_versions d pdb) u ≡ Some v
