@@ -104,7 +104,7 @@ is_changed : (c : Chain) (d : Source) (pdb : Option Source) (debug : PlainPdb) (
     → IsVersionOf (users_after c d) (extended c d).plain (pdb_changed debug (record { pdb = pdb; changed = new_bodies d })) u (Some v)
 is_changed c d pdb debug u v lead h =
     let is = brought_some d pdb u v h in
-    rw (← is.1) (record { means = changed_cell c d pdb u lead (is_new d u is.0); lines = lines_new debug d pdb u is.0 })
+    rw (← is.1) (record { means = changed_cell c d pdb u lead (is_new d u is.0); texts = changed_texts c d pdb u lead (is_new d u is.0); lines = lines_new debug d pdb u is.0 })
 
 -- one that is listed without one has none, and had none
 listed_bare : (c : Chain) (d : Source) (pdb : Option Source) (u : Token) (k : ℕ) → Leads c d pdb → u.table ≡ method_def → place_in (listed d) u ≡ Some k
