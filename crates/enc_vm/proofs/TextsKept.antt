@@ -88,6 +88,7 @@ lift_option users (Some v) there = Some (v, there v refl)
 
 lifted_is : (users : ℕ → Option (List ℕ)) (o : Option Version) (there : (v : Version) → o ≡ Some v → version_texts users v ≡ true)
     → o ≡ option_map (known users) (lift_option users o there)
+unfolding lift_option
 lifted_is users None there = refl
 lifted_is users (Some v) there = refl
 

@@ -31,7 +31,6 @@ pub fn kept_place_laws()
 
 /// Where more user texts come and those before stay, frames mean the same: each goes on in its own body, with its own
 /// texts (ECMA-335 II.24.2.4).
-#[tactic(auto, using(crate::proofs::TextsKept::more_texts))]
 pub fn text_law()
     ensures { MoreTextsMeanTheSame }
 {}
