@@ -12,6 +12,8 @@ use Rattle.enc_delta.specs.Delta.{listed, place_in}
 use Rattle.enc_agg.specs.declared.added.Added.{Added}
 use Rattle.enc_agg.specs.declared.directory.Directory.{Directory}
 use Rattle.enc_agg.specs.declared.directory.Entries.{Entries}
+use Rattle.enc_agg.specs.declared.entries.Gained.{Gained}
+use Rattle.enc_agg.specs.declared.kept.Kept.{Kept}
 use Rattle.enc_agg.specs.Extend.{extended, chain_with}
 use Rattle.enc_agg.specs.Seen.{sources, found_in}
 
@@ -25,6 +27,22 @@ kids_key table owner place = record { table = table; row = owner.row; place = pl
 -- where what was found stands
 abbrev pub place_seen : List Added × ℕ → RowPlace
 place_seen f = record { generation = length f.0; row = f.1 }
+
+-- the values that entries give keys are those that an index has
+abbrev pub IsSame : {V : Type 0} → Kept V → Type 0
+IsSame k = (q : Key) → value_at k.own q ≡ latest k.entries.items q
+
+pub record AreSame (g : Gained) : Type 0 where
+  pub owners : IsSame g.owners
+  pub counts : IsSame g.counts
+  pub kids : IsSame g.kids
+
+-- a directory has what some entries bring, and nothing else
+pub record HasAlone (e : Entries) (x : Directory) : Type 0 where
+  pub places : (q : Key) → value_at x.places q ≡ latest e.places.items q
+  pub owners : (q : Key) → value_at x.owners q ≡ latest e.owners.items q
+  pub counts : (q : Key) → value_at x.counts q ≡ latest e.counts.items q
+  pub kids : (q : Key) → value_at x.kids q ≡ latest e.kids.items q
 
 -- nothing is kept
 pub record IsBare (x : Directory) : Type 0 where

@@ -14,10 +14,10 @@ use enc_plain::RowPlace;
 /// For each row that a delta lists its newest place; for each new child row its owner; for each row
 /// that gained children how many it has, and those that it gained by their places among all.
 pub struct Directory {
-    places: Index<RowPlace>,
-    owners: Index<Token>,
-    counts: Index<u32>,
-    kids: Index<u32>,
+    pub places: Index<RowPlace>,
+    pub owners: Index<Token>,
+    pub counts: Index<u32>,
+    pub kids: Index<u32>,
 }
 
 // Written by hand, so that whoever lets an aggregate go makes one call here.
@@ -93,8 +93,8 @@ impl Directory {
         self.kids.put_all(entries.kids);
     }
 
-    /// The newest place of a row that a delta lists.
-    fn place(&self, row: Token) -> Option<RowPlace>
+    /// The newest place of a row that one of the deltas lists.
+    pub fn place(&self, row: Token) -> Option<RowPlace>
         ensures { result ≡ value_at self.now.places (row_key row) }
     {
         self.places.get(row_key(row)).copied()
