@@ -251,11 +251,14 @@ held_there kids first count kid i held le low none =
     absurd cc
 
 -- the owner of a new child row is known
-pub owner_known : (b : Source) (added : List Added) (x : Directory) (u : Token) → IsWhole b added x → (n : ℕ) → n ≡ length (rows_in (module_in b) u.table) → n < u.row → IsTrue (has_row (chain_with b (sources added)).plain u) → IsTrue (is_child_table u.table) → (value_at x.owners (row_key u) ≡ owner_of (chain_with b (sources added)).plain u) × (value_at x.owners (row_key u) ≡ None → ⊥)
-unfolding chain_with chain_of_base has_row
-owner_known b added x u whole n many past row there =
-    let high : u.row ≤ length (rows_in (chain_with b (sources added)).plain u.table) = grind (arith, nat_tests) in
-    let is = whole.directory.owners.new u there (omega (arith, many, past)) high in
-    let sound = with_sound b added whole.deltas.sound whole.deltas.all in
-    let w = has_owner (chain_with b (sources added)).plain u sound.owned there (omega arith) high in
+pub new_owner : (before after : Chain) (owner : Token → Option Token) (u : Token) (n : ℕ) → AreOwned before after owner → HasOwners after.plain → n ≡ length (rows_in before.plain u.table) → n < u.row → IsTrue (has_row after.plain u) → IsTrue (is_child_table u.table) → (owner u ≡ owner_of after.plain u) × (owner u ≡ None → ⊥)
+unfolding has_row
+new_owner before after owner u n owned sound many past row there =
+    let high : u.row ≤ length (rows_in after.plain u.table) = grind (arith, nat_tests) in
+    let is = owned.new u there (omega (arith, many, past)) high in
+    let w = has_owner after.plain u sound.owned there (omega arith) high in
     (is, λ none. let e : Some w.owner ≡ None = sym (is ∙ w.is) ∙ none in cc)
+
+pub owner_known : (b : Source) (added : List Added) (x : Directory) (u : Token) → IsWhole b added x → (n : ℕ) → n ≡ length (rows_in (module_in b) u.table) → n < u.row → IsTrue (has_row (chain_with b (sources added)).plain u) → IsTrue (is_child_table u.table) → (value_at x.owners (row_key u) ≡ owner_of (chain_with b (sources added)).plain u) × (value_at x.owners (row_key u) ≡ None → ⊥)
+owner_known b added x u whole n many past row there =
+    new_owner (chain_with b []) (chain_with b (sources added)) (λ t. value_at x.owners (row_key t)) u n whole.directory.owners (with_sound b added whole.deltas.sound whole.deltas.all) (rw (base_plain b) many) past row there

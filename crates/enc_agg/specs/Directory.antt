@@ -37,13 +37,6 @@ pub record AreSame (g : Gained) : Type 0 where
   pub counts : IsSame g.counts
   pub kids : IsSame g.kids
 
--- a directory has what some entries bring, and nothing else
-pub record HasAlone (e : Entries) (x : Directory) : Type 0 where
-  pub places : (q : Key) → value_at x.places q ≡ latest e.places.items q
-  pub owners : (q : Key) → value_at x.owners q ≡ latest e.owners.items q
-  pub counts : (q : Key) → value_at x.counts q ≡ latest e.counts.items q
-  pub kids : (q : Key) → value_at x.kids q ≡ latest e.kids.items q
-
 -- nothing is kept
 pub record IsBare (x : Directory) : Type 0 where
   pub no_place : (q : Key) → value_at x.places q ≡ None
@@ -80,9 +73,15 @@ pub record IsDirectory (base : Source) (added : List Added) (x : Directory) : Ty
   pub owners : AreOwned (chain_with base []) (chain_with base (sources added)) (λ u. value_at x.owners (row_key u))
   pub kids : AreHeld (chain_with base []) (chain_with base (sources added)) (value_at x.counts) (value_at x.kids)
 
--- what a delta brings after a chain
-pub record AreBrought (c : Chain) (d : Source) (e : Entries) : Type 0 where
-  pub places : (u : Token)
-      → latest e.places.items (row_key u) ≡ option_map (λ (k : ℕ). record { generation = length c.ids + 1; row = k }) (place_in (listed d) u)
-  pub owners : AreOwned c (extended c d) (λ u. latest e.owners.items (row_key u))
-  pub kids : AreHeld c (extended c d) (latest e.counts.items) (latest e.kids.items)
+-- what a delta brings after a chain, by its keys
+pub record IsOfDelta (c : Chain) (d : Source) (place : Key → Option RowPlace) (owner : Key → Option Token) (count kid : Key → Option ℕ) : Type 0 where
+  pub places : (u : Token) → place (row_key u) ≡ option_map (λ (k : ℕ). record { generation = length c.ids + 1; row = k }) (place_in (listed d) u)
+  pub owners : AreOwned c (extended c d) (λ u. owner (row_key u))
+  pub kids : AreHeld c (extended c d) count kid
+
+-- entries bring it, and a directory of the delta alone has it
+abbrev pub AreBrought : Chain → Source → Entries → Type 0
+AreBrought c d e = IsOfDelta c d (latest e.places.items) (latest e.owners.items) (latest e.counts.items) (latest e.kids.items)
+
+abbrev pub IsOwn : Chain → Source → Directory → Type 0
+IsOwn c d x = IsOfDelta c d (value_at x.places) (value_at x.owners) (value_at x.counts) (value_at x.kids)

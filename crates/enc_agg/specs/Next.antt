@@ -4,12 +4,13 @@ use Rattle.enc_meta.specs.Joined.{joined_user, joined_blob}
 use Rattle.enc_opcodes.specs.Body.{Body}
 use Rattle.enc_plain.specs.Chain.{Chain}
 use Rattle.enc_plain.specs.Module.{Module}
-use Rattle.enc_plain.specs.Sound.{IsSound}
+use Rattle.enc_plain.specs.Sound.{HasOwners, IsSound}
 use Rattle.enc_rows.specs.Source.{Source}
 use Rattle.enc_agg.specs.declared.aggregate.Ready.{Ready}
 use Rattle.enc_agg.specs.Extend.{extended}
-use Rattle.enc_agg.specs.Seen.{History, chain_of_all, module_of_all, body_of_all}
-use Rattle.enc_agg.specs.Prepared.{IsPrepared}
+use Rattle.enc_agg.specs.Seen.{History, chain_of_all, module_of_all, body_of_all, IsAdded}
+use Rattle.enc_agg.specs.Directory.{IsOwn}
+use Rattle.enc_agg.specs.Prepared.{to_add}
 
 -- what there is, and the delta that follows it
 pub record Next : Type 0 where
@@ -40,7 +41,9 @@ blob_of_next x = joined_blob (chain_of_next x).heaps
 abbrev pub body_of_next : Next → ℕ → Option Body
 body_of_next x = body_of_all (history_of_next x)
 
--- the delta was made ready from a sound history
+-- the delta was made ready after this history, and a directory of it alone with it
 pub record MayBeNext (h : History) (r : Ready) : Type 0 where
-  pub sound : IsSound (module_of_all h)
-  pub ready : IsPrepared (chain_of_all h) r
+  pub owners : HasOwners (module_of_all h)
+  pub added : IsAdded (chain_of_all h) (to_add r)
+  pub own : IsOwn (chain_of_all h) r.delta r.own
+  pub sound : IsSound (extended (chain_of_all h) r.delta).plain

@@ -205,6 +205,7 @@ impl Aggregate {
 
     /// The plain module with a delta that was made ready from this state. It takes no memory, and the
     /// aggregate means this module once the delta is committed.
+    #[tactic(auto, unfolding(crate::specs::Prepared::IsPrepared))]
     pub fn after<'a>(&'a self, ready: &'a Ready) -> After<'a>
         requires { IsPrepared (chain_of_all self.now) ready.now }
         ensures before { result.before ≡ self.now }
@@ -212,7 +213,7 @@ impl Aggregate {
         ensures chain { chain_of_next result ≡ extended (chain_of_all self.now) ready.now.delta }
         ensures history { history_of_next result ≡ with_delta self.now ready.now.delta }
     {
-        self.sound();
+        self.has_owners();
         After {
             aggregate: self,
             ready,

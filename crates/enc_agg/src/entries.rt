@@ -13,7 +13,7 @@ ghost use Rattle.enc_delta.specs.Pairs.{attached_of};
 ghost use Rattle.enc_agg.specs.Extend.{extended};
 ghost use Rattle.enc_agg.specs.Follows.{Follows};
 ghost use Rattle.enc_agg.specs.Seen.{chain_of_all, module_of_all};
-ghost use Rattle.enc_agg.specs.Directory.{row_key, kids_key, AreOwned, AreHeld, AreBrought, IsSame, AreSame, HasAlone};
+ghost use Rattle.enc_agg.specs.Directory.{row_key, kids_key, AreOwned, AreHeld, AreBrought, IsSame, AreSame, IsOwn};
 
 use crate::aggregate::Aggregate;
 use crate::directory::{Directory, Entries, kids_key, row_key};
@@ -136,7 +136,7 @@ pub fn brought_by<L: Ledger>(
     requires follows { Follows (chain_of_all aggregate.now) delta.now }
     requires tokens { tokens.now ≡ listed delta.now }
     ensures entries { IfOk result (λ b. AreBrought (chain_of_all aggregate.now) delta.now b.entries) }
-    ensures own { IfOk result (λ b. HasAlone b.entries b.own) }
+    ensures own { IfOk result (λ b. IsOwn (chain_of_all aggregate.now) delta.now b.own) }
     ensures steps { steps.new ≤ steps.old + length tokens.now }
 {
     let places = places_of(alloc, delta, tokens, aggregate.generations(), steps)?;
