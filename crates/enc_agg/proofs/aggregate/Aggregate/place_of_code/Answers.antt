@@ -5,7 +5,7 @@ use Rattle.enc_agg.specs.Seen.{found_in, found_seen}
 use Rattle.enc_agg.proofs.Asked.{base_row, the_found}
 use Rattle.enc_agg.proofs.BodyPlaces.{base_place_body, base_place_stands, found_place_body, found_place_stands}
 use Rattle.enc_agg.proofs.Generations.{few_found}
-use Rattle.enc_agg.proofs.code.Aggregate.place_of_code.Goals as goal
+use Rattle.enc_agg.proofs.aggregate.Aggregate.place_of_code.Goals as goal
 
 pub rva-requires-clause-row : goal.rva-requires-clause-row
 rva-requires-clause-row c = base_row c.self.inside.image _ c.args.method c.self.invariant.deltas _ (rw c.deref.ensures.value at c.find.ensures) c.in_default.is (rw (← c.self.view_is) at c.requires.row)

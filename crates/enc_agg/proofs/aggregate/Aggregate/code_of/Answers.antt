@@ -1,5 +1,5 @@
 use Rattle.enc_agg.proofs.Asked.{base_row, base_body, the_found, body_found}
-use Rattle.enc_agg.proofs.code.Aggregate.code_of.Goals as goal
+use Rattle.enc_agg.proofs.aggregate.Aggregate.code_of.Goals as goal
 
 pub body-requires-clause-row : goal.body-requires-clause-row
 body-requires-clause-row c = base_row c.self.inside.image _ c.args.method c.self.invariant.deltas _ (rw c.deref.ensures.value at c.find.ensures) c.in_default.is (rw (← c.self.view_is) at c.requires.row)
