@@ -22,7 +22,7 @@ use Rattle.enc_delta.specs.Delta.{listed, place_in}
 use Rattle.enc_delta.specs.Rules.{users_after}
 use Rattle.enc_delta.proofs.OneHeapMore.{blob_stays}
 use Rattle.enc_agg.specs.declared.aggregate.Ready.{Ready}
-use Rattle.enc_agg.specs.Directory.{row_key, kids_key, AreOwned, AreHeld}
+use Rattle.enc_agg.specs.Directory.{row_key, kids_key}
 use Rattle.enc_agg.specs.Extend.{extended, chain_with}
 use Rattle.enc_agg.specs.Next.{MayBeNext, with_delta}
 use Rattle.enc_agg.specs.Seen.{History, chain_of_all, module_of_all, users_of_all, body_with, body_of_all, place_of_all, file_of, token_meant, rows_counted, StayThere}
@@ -40,6 +40,20 @@ use Rattle.enc_agg.proofs.Viewing.{text_listed, blob_listed, guid_listed, number
 -- the chain with the delta
 abbrev after : History → Ready → Chain
 after h r = extended (chain_of_all h) r.delta
+
+-- the heaps with the delta's
+pub heaps_next : (c : Chain) (d : Source) → (extended c d).heaps ≡ c.heaps ++ d.heaps ∷ []
+unfolding extended
+heaps_next c d = refl
+
+-- the place that is kept of a token is that in the delta
+pub place_there : (g : ℕ) (o : Option ℕ) (p : RowPlace) → Some p ≡ option_map (λ (k : ℕ). record { generation = g; row = k }) o → Some p.row ≡ o
+place_there g None p h = absurd cc
+place_there g (Some k) p h = ap (λ (x : Option RowPlace). option_map (λ (y : RowPlace). y.row) x) h
+
+pub place_none : (g : ℕ) (o : Option ℕ) → None ≡ option_map (λ (k : ℕ). record { generation = g; row = k }) o → None ≡ o
+place_none g None h = refl
+place_none g (Some k) h = absurd cc
 
 -- rows and cells of other tokens are those before
 pub old_row : (h : History) (r : Ready) (u : Token) (o : Option ℕ) → MayBeNext h r → o ≡ place_in (listed r.delta) u → o ≡ None → IsTrue (has_row (after h r).plain u) → IsTrue (has_row (module_of_all h) u)
@@ -149,10 +163,7 @@ pub old_owner : (h : History) (r : Ready) (u : Token) (n : ℕ) (o : Option Toke
 old_owner h r u n o next child low many high is =
     owner_kept (chain_of_all h) r.delta next.owners.tables next.added.follows.lands next.owners.runs next.owners.owned u child (omega (arith, low)) (omega (arith, many, high)) ∙ is
 
-pub next_owned : (h : History) (r : Ready) → MayBeNext h r → HasOwners (after h r).plain
-next_owned h r next = next.sound.owners
-
-pub next_kids : (h : History) (r : Ready) (u : Token) (t : ℕ) → MayBeNext h r → IsTrue (is_child_table t) → (more : List ℕ) × (kids_of (after h r).plain u t ≡ kids_of (module_of_all h) u t ++ more)
+next_kids : (h : History) (r : Ready) (u : Token) (t : ℕ) → MayBeNext h r → IsTrue (is_child_table t) → (more : List ℕ) × (kids_of (after h r).plain u t ≡ kids_of (module_of_all h) u t ++ more)
 next_kids h r u t next child = (_, kids_after (chain_of_all h) r.delta next.owners.tables next.added.follows.lands next.owners.runs u t child)
 
 pub old_kid : (h : History) (r : Ready) (u : Token) (t i x : ℕ) → MayBeNext h r → IsTrue (is_child_table t) → slice_get (kids_of (module_of_all h) u t) i ≡ Some x → slice_get (kids_of (after h r).plain u t) i ≡ Some x
@@ -161,5 +172,22 @@ old_kid h r u t i x next child is = let w = next_kids h r u t next child in rw w
 pub first_kids : (h : History) (r : Ready) (u : Token) (t : ℕ) (rows : List ℕ) → MayBeNext h r → IsTrue (is_child_table t) → rows ≡ kids_of (module_of_all h) u t → rows ≡ take (length rows) (kids_of (after h r).plain u t)
 first_kids h r u t rows next child is = let w = next_kids h r u t next child in rw (w.1, is) (sym (take_at (kids_of (module_of_all h) u t) w.0 (length (kids_of (module_of_all h) u t)) refl))
 
-next_held : (h : History) (r : Ready) → MayBeNext h r → AreHeld (chain_of_all h) (after h r) (value_at r.own.counts) (value_at r.own.kids)
-next_held h r next = next.own.kids
+pub own_owner : (h : History) (r : Ready) (u : Token) (n : ℕ) → MayBeNext h r → n ≡ length (rows_in (module_of_all h) u.table) → n < u.row → IsTrue (has_row (after h r).plain u) → IsTrue (is_child_table u.table) → (value_at r.own.owners (row_key u) ≡ owner_of (after h r).plain u) × (value_at r.own.owners (row_key u) ≡ None → ⊥)
+own_owner h r u n next many past row child = new_owner (chain_of_all h) (after h r) (λ t. value_at r.own.owners (row_key t)) u n next.own.owners next.sound.owners many past row child
+
+by_count : (o : Option ℕ) (first n many : ℕ) → unwrap_or o first ≡ many → o ≡ Some n → n ≡ many
+by_count o first n many h is = rw is at h
+
+by_first : (o : Option ℕ) (first many : ℕ) → unwrap_or o first ≡ many → o ≡ None → first ≡ many
+by_first o first many h is = rw is at h
+
+pub more_kids : (h : History) (r : Ready) (u : Token) (t n : ℕ) → MayBeNext h r → IsTrue (is_child_table t) → u.table ≡ owner_table t → value_at r.own.counts (kids_key t u 0) ≡ Some n → n ≡ length (kids_of (after h r).plain u t)
+more_kids h r u t n next child owners is = by_count _ _ n _ (next.own.kids u t child owners).many is
+
+pub no_more_kids : (h : History) (r : Ready) (u : Token) (t n : ℕ) → MayBeNext h r → IsTrue (is_child_table t) → u.table ≡ owner_table t → value_at r.own.counts (kids_key t u 0) ≡ None → n ≡ length (kids_of (module_of_all h) u t) → n ≡ length (kids_of (after h r).plain u t)
+no_more_kids h r u t n next child owners is many = many ∙ by_first _ _ _ (next.own.kids u t child owners).many is
+
+pub own_kid : (h : History) (r : Ready) (u : Token) (t i n : ℕ) → MayBeNext h r → IsTrue (is_child_table t) → u.table ≡ owner_table t → n ≡ length (kids_of (module_of_all h) u t) → n ≤ i → i < length (kids_of (after h r).plain u t) → (value_at r.own.kids (kids_key t u i) ≡ slice_get (kids_of (after h r).plain u t) i) × (value_at r.own.kids (kids_key t u i) ≡ None → ⊥)
+own_kid h r u t i n next child owners many le low =
+    let held = next.own.kids u t child owners in
+    (held.new i (omega (arith, many, le)) low, λ none. held_there _ _ _ _ i held (omega (arith, many, le)) low none)
