@@ -144,7 +144,10 @@ impl ModuleView for After<'_> {
     fn code(&self, method: Token) -> Option<CodeRef<'_>> {
         match self.place(method) {
             None => self.aggregate.code_of(method),
-            Some(place) => self.ready.delta.code(self.own(method, place, METHOD_DEF_RVA)),
+            Some(place) => self
+                .ready
+                .delta
+                .code(self.own(method, place, METHOD_DEF_RVA)),
         }
     }
 

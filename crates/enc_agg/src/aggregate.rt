@@ -18,8 +18,8 @@ ghost use Rattle.enc_agg.specs.Prepared.{IsPrepared};
 ghost use Rattle.enc_agg.specs.Next.{with_delta, history_of_next, chain_of_next};
 
 use crate::added::{Added, count_in, lengths_in};
-use crate::directory::{Directory, Entries, find};
 use crate::after::After;
+use crate::directory::{Directory, Entries, find};
 use crate::entries::{Brought, brought_by};
 use crate::heaps::{guid_place_in, heap_place_in};
 use crate::place::HeapPlace;
