@@ -2,7 +2,7 @@
 use Rattle.std.proofs.Common.{◌≡◌, ℕ, zero, suc, ◌+◌, ◌-◌, ◌<◌, ◌≤◌, List, [], ◌∷◌, ◌++◌, length, take, drop, reverse, Option, Some, None, refl, sym, ap, ◌∙◌, append_assoc, append-nil, inl, inr, arith}
 use Rattle.std.specs.Prelude.{IsTrue, option_map, unwrap_or, slice_get}
 use Rattle.std.proofs.lemmas.Bool.{cases_lt}
-use Rattle.std.proofs.lemmas.List.{reverse-append, length-map, length-reverse, take_at}
+use Rattle.std.proofs.lemmas.List.{reverse-append, length-map, length-reverse, take_at, take_all}
 use Rattle.enc_base.specs.declared.token.Token.{Token}
 use Rattle.enc_index.specs.declared.key.Key.{Key}
 use Rattle.enc_index.specs.Index.{value_at, latest, either}
@@ -22,7 +22,7 @@ use Rattle.enc_agg.specs.declared.directory.Entries.{Entries}
 use Rattle.enc_agg.specs.Extend.{extended, chain_with}
 use Rattle.enc_agg.specs.Follows.{Lands}
 use Rattle.enc_agg.specs.Seen.{sources, AllAdded, IsAdded, IsAggregate, found_or, found_in}
-use Rattle.enc_agg.specs.Directory.{row_key, kids_key, place_seen, HasPlaces, IsBare, IsHeld, AreOwned, AreHeld, IsDirectory, AreBrought}
+use Rattle.enc_agg.specs.Directory.{row_key, kids_key, place_seen, HasPlaces, IsBare, IsHeld, kept_one, kids_kept, with_kept, AreOwned, AreHeld, IsDirectory, AreBrought}
 use Rattle.std.proofs.lemmas.Bool.Decides.{nat_tests}
 use Rattle.enc_image.specs.Base.{cells_fault, module_in, chain_of_base}
 use Rattle.enc_agg.specs.declared.aggregate.Ready.{Ready}
@@ -249,6 +249,47 @@ held_there kids first count kid i held le low none =
     let w = get_some kids i low in
     let e : None ≡ Some w.0 = sym none ∙ held.new i le low ∙ w.1 in
     absurd cc
+
+-- the children that are kept follow those that are known elsewhere
+kept_front : (kids first : List ℕ) (kid : ℕ → Option ℕ) (n : ℕ) → ((i : ℕ) → length first ≤ i → i < length kids → kid i ≡ slice_get kids i) → first ≡ take (length first) kids → length first + n ≤ length kids → first ++ kids_kept kid (length first) n ≡ take (length first + n) kids
+unfolding kids_kept
+kept_front kids first kid zero new front few =
+    let e : length first ≡ length first + 0 = omega arith in
+    append-nil first ∙ front ∙ ap (λ m. take m kids) e
+kept_front kids first kid (suc n) new front few =
+    let k = length first + n in
+    let low : k < length kids = omega (arith, few) in
+    let w = get_some kids k low in
+    let next : kid k ≡ Some w.0 = new k (omega arith) low ∙ w.1 in
+    let e : k + 1 ≡ length first + suc n = omega arith in
+    ap (λ o. first ++ (kids_kept kid (length first) n ++ kept_one o)) next ∙ sym (append_assoc first (kids_kept kid (length first) n) (w.0 ∷ [])) ∙ ap (λ xs. xs ++ w.0 ∷ []) (kept_front kids first kid n new front (omega (arith, few))) ∙ sym (take_got kids k w.0 w.1) ∙ ap (λ m. take m kids) e
+
+pub kept_kids : (kids first : List ℕ) (count : Option ℕ) (kid : ℕ → Option ℕ) → IsHeld kids (length first) count kid → first ≡ take (length first) kids → with_kept first count kid ≡ kids
+kept_kids kids first count kid held front =
+    let all : length first + (length kids - length first) ≡ length kids = omega (arith, held.low) in
+    ap (λ m. first ++ kids_kept kid (length first) (m - length first)) held.many ∙ kept_front kids first kid (length kids - length first) held.new front (omega (arith, all)) ∙ ap (λ m. take m kids) all ∙ take_all (length kids) kids (omega arith)
+
+-- none is kept
+pub none_kept : (first : List ℕ) (kid : ℕ → Option ℕ) → first ≡ with_kept first None kid
+unfolding kids_kept
+none_kept first kid =
+    let e : length first - length first ≡ 0 = omega arith in
+    sym (append-nil first) ∙ ap (λ n. first ++ kids_kept kid (length first) n) (sym e)
+
+-- those from a place on are no more
+pub all_kept : (first rows : List ℕ) (o : Option ℕ) (kid : ℕ → Option ℕ) (i count : ℕ) → o ≡ Some count → rows ≡ first ++ kids_kept kid (length first) (i - length first) → i - length first ≤ count - length first → count ≤ i → rows ≡ with_kept first o kid
+all_kept first rows o kid i count is made high past =
+    let e : i - length first ≡ count - length first = omega (arith, high, past) in
+    made ∙ ap (λ n. first ++ kids_kept kid (length first) n) e ∙ ap (λ x. first ++ kids_kept kid (length first) (unwrap_or x (length first) - length first)) (sym is)
+
+-- with the next one
+pub one_kept : (first rows more : List ℕ) (o : Option ℕ) (kid : ℕ → Option ℕ) (i : ℕ) → length first ≤ i → o ≡ kid i → rows ≡ first ++ kids_kept kid (length first) (i - length first) → more ≡ rows ++ kept_one o → more ≡ first ++ kids_kept kid (length first) (i + 1 - length first)
+unfolding kids_kept
+one_kept first rows more o kid i low is made put =
+    let e : i + 1 - length first ≡ suc (i - length first) = omega (arith, low) in
+    let at : length first + (i - length first) ≡ i = omega (arith, low) in
+    let n = i - length first in
+    put ∙ ap (λ x. rows ++ kept_one x) (is ∙ ap kid (sym at)) ∙ ap (λ xs. xs ++ kept_one (kid (length first + n))) made ∙ append_assoc first (kids_kept kid (length first) n) (kept_one (kid (length first + n))) ∙ ap (λ m. first ++ kids_kept kid (length first) m) (sym e)
 
 -- the owner of a new child row is known
 pub new_owner : (before after : Chain) (owner : Token → Option Token) (u : Token) (n : ℕ) → AreOwned before after owner → HasOwners after.plain → n ≡ length (rows_in before.plain u.table) → n < u.row → IsTrue (has_row after.plain u) → IsTrue (is_child_table u.table) → (owner u ≡ owner_of after.plain u) × (owner u ≡ None → ⊥)

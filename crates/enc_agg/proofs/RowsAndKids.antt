@@ -25,11 +25,6 @@ pub kids_past : (m : Module) (u : Token) (t n : ℕ) → n ≡ length (rows_in m
 unfolding kids_of row_of
 kids_past m u t n e past = no_kids _ (row_at (rows_in m u.table) u.row) t (past_row (rows_in m u.table) u.row (omega arith))
 
--- one that isn't there has none
-pub no_row : (m : Module) (u : Token) (t : ℕ) → has_row m u ≡ false → 0 < u.row → kids_of m u t ≡ []
-unfolding has_row
-no_row m u t none low = kids_past m u t (length (rows_in m u.table)) refl (grind (arith, nat_tests))
-
 -- an owner that has a child is a row
 pub kids_row : (m : Module) (u : Token) (t i n : ℕ) → n ≡ length (rows_in m u.table) → 0 < u.row → i < length (kids_of m u t) → IsTrue (has_row m u)
 kids_row m u t i n e low h =

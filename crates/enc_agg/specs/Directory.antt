@@ -1,5 +1,5 @@
 -- For the contracts of private functions: what is kept of the deltas for look-ups.
-use Rattle.std.specs.Prelude.{◌≡◌, ℕ, ◌+◌, ◌<◌, ◌≤◌, List, [], length, Option, None, option_map, unwrap_or, slice_get, IsTrue}
+use Rattle.std.specs.Prelude.{◌≡◌, ℕ, zero, suc, ◌+◌, ◌-◌, ◌<◌, ◌≤◌, List, [], ◌∷◌, ◌++◌, length, Option, Some, None, option_map, unwrap_or, slice_get, IsTrue}
 use Rattle.enc_base.specs.declared.token.Token.{Token}
 use Rattle.enc_index.specs.declared.key.Key.{Key}
 use Rattle.enc_index.specs.Index.{value_at, latest}
@@ -54,6 +54,19 @@ pub record IsHeld (kids : List ℕ) (first : ℕ) (count : Option ℕ) (kid : �
   pub many : unwrap_or count first ≡ length kids
   pub old : (i : ℕ) → i < first → kid i ≡ None
   pub new : (i : ℕ) → first ≤ i → i < length kids → kid i ≡ slice_get kids i
+
+-- the children from a place on, as far as they are kept
+abbrev pub kept_one : Option ℕ → List ℕ
+kept_one None = []
+kept_one (Some row) = row ∷ []
+
+unfoldable pub kids_kept : (ℕ → Option ℕ) → ℕ → ℕ → List ℕ
+kids_kept kid at zero = []
+kids_kept kid at (suc n) = kids_kept kid at n ++ kept_one (kid (at + n))
+
+-- the children of a row of which the first are known elsewhere
+abbrev pub with_kept : List ℕ → Option ℕ → (ℕ → Option ℕ) → List ℕ
+with_kept first count kid = first ++ kids_kept kid (length first) (unwrap_or count (length first) - length first)
 
 -- child rows past those of an earlier chain have their owners
 pub record AreOwned (before after : Chain) (owner : Token → Option Token) : Type 0 where

@@ -9,7 +9,6 @@ ghost use Rattle.enc_agg.specs.Next.{chain_of_next, module_of_next, users_of_nex
 use crate::added::count_of;
 use crate::aggregate::{Aggregate, Ready};
 use crate::code::place_of_all;
-use crate::kids::all_kids;
 use crate::view::{row_found, token_meant};
 use enc_base::Token;
 use enc_delta::{entry_after, guid_after};
@@ -206,7 +205,8 @@ impl ModuleView for After<'_> {
     }
 
     fn kid_rows(&self, alloc: Global, owner: Token, table: u8) -> Result<Vec<u32>, AllocError> {
-        let first = self.aggregate.rows_of_kids(alloc, owner, table)?;
-        all_kids(self, first, owner, table)
+        let mut rows = self.aggregate.rows_of_kids(alloc, owner, table)?;
+        self.ready.own.push_kids(&mut rows, owner, table)?;
+        Ok(rows)
     }
 }

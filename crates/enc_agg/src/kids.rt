@@ -1,5 +1,5 @@
 //! The owners and the children in an aggregate.
-ghost use Rattle.std.specs.Prelude.{◌≡◌, ◌<◌, [], Some, IsTrue, IfOk, length, slice_get, take};
+ghost use Rattle.std.specs.Prelude.{◌≡◌, ◌<◌, [], Some, IsTrue, IfOk, length, slice_get};
 ghost use Rattle.enc_schema.specs.Children.{is_child_table, owner_table};
 ghost use Rattle.enc_plain.specs.Module.{has_row, owner_of, kids_of};
 ghost use Rattle.enc_plain.specs.Sound.{HasOwners};
@@ -9,7 +9,7 @@ ghost use Rattle.enc_agg.specs.Seen.{module_of_all};
 use crate::aggregate::Aggregate;
 use enc_base::Token;
 use enc_image::Image;
-use enc_plain::{ModuleView, is_row};
+use enc_plain::ModuleView;
 use std::alloc::{AllocError, Global};
 
 /// How many children in a child table a row has in the base; a new row has none.
@@ -42,26 +42,6 @@ fn kid_rows_of_image(
         return Ok(Vec::new(alloc));
     }
     image.kid_rows(alloc, owner, table)
-}
-
-/// The rows of a row's children in a child table, where the first ones are known.
-pub fn all_kids<V: ModuleView>(
-    view: &V,
-    first: Vec<u32>,
-    owner: Token,
-    table: u8,
-) -> Result<Vec<u32>, AllocError>
-    requires row { IsTrue (has_row (V.meaning view.now) owner) }
-    requires table { IsTrue (is_child_table table) }
-    requires owners { owner.table ≡ owner_table table }
-    requires first { first.items ≡ take (length first.items) (kids_of (V.meaning view.now) owner table) }
-    ensures { IfOk result (λ rows. rows.items ≡ kids_of (V.meaning view.now) owner table) }
-{
-    let mut rows = first;
-    for i in rows.len()..view.kids(owner, table) as usize {
-        rows.push(view.kid(owner, table, i as u32).row)?;
-    }
-    Ok(rows)
 }
 
 impl Aggregate {
@@ -130,10 +110,8 @@ impl Aggregate {
         requires owners { owner.table ≡ owner_table table }
         ensures { IfOk result (λ rows. rows.items ≡ kids_of (module_of_all self.now) owner table) }
     {
-        if !is_row(self, owner) {
-            return Ok(Vec::new(alloc));
-        }
-        let first = kid_rows_of_image(alloc, &self.image, owner, table)?;
-        all_kids(self, first, owner, table)
+        let mut rows = kid_rows_of_image(alloc, &self.image, owner, table)?;
+        self.directory.push_kids(&mut rows, owner, table)?;
+        Ok(rows)
     }
 }
