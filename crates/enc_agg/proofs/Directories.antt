@@ -7,7 +7,7 @@ use Rattle.enc_base.specs.declared.token.Token.{Token}
 use Rattle.enc_index.specs.declared.key.Key.{Key}
 use Rattle.enc_index.specs.Index.{value_at, latest, either}
 use Rattle.enc_rows.specs.Source.{Source}
-use Rattle.enc_schema.specs.Children.{is_child_table}
+use Rattle.enc_schema.specs.Children.{is_child_table, owner_table}
 use Rattle.enc_plain.specs.Chain.{Chain}
 use Rattle.enc_plain.specs.Module.{rows_in, has_row, owner_of, kids_of}
 use Rattle.enc_plain.specs.Apply.{gained}
@@ -268,6 +268,11 @@ pub kept_kids : (kids first : List ℕ) (count : Option ℕ) (kid : ℕ → Opti
 kept_kids kids first count kid held front =
     let all : length first + (length kids - length first) ≡ length kids = omega (arith, held.low) in
     ap (λ m. first ++ kids_kept kid (length first) (m - length first)) held.many ∙ kept_front kids first kid (length kids - length first) held.new front (omega (arith, all)) ∙ ap (λ m. take m kids) all ∙ take_all (length kids) kids (omega arith)
+
+pub base_kids : (b : Source) (added : List Added) (x : Directory) (u : Token) (t : ℕ) (first rows : List ℕ) → IsWhole b added x → IsTrue (is_child_table t) → u.table ≡ owner_table t → first ≡ kids_of (chain_with b []).plain u t → rows ≡ with_kept first (value_at x.counts (kids_key t u 0)) (λ i. value_at x.kids (kids_key t u i)) → rows ≡ kids_of (chain_with b (sources added)).plain u t
+base_kids b added x u t first rows whole child owners is made =
+    let many : length first ≡ length (kids_of (chain_with b []).plain u t) = ap (λ (xs : List ℕ). length xs) is in
+    made ∙ kept_kids (kids_of (chain_with b (sources added)).plain u t) first _ _ (rw is (whole.directory.kids u t child owners)) (kids_front b added u t (length first) first whole.deltas.sound whole.deltas.all child many is)
 
 -- none is kept
 pub none_kept : (first : List ℕ) (kid : ℕ → Option ℕ) → first ≡ with_kept first None kid

@@ -22,7 +22,7 @@ use Rattle.enc_delta.specs.Delta.{listed, place_in}
 use Rattle.enc_delta.specs.Rules.{users_after}
 use Rattle.enc_delta.proofs.OneHeapMore.{blob_stays}
 use Rattle.enc_agg.specs.declared.aggregate.Ready.{Ready}
-use Rattle.enc_agg.specs.Directory.{row_key, kids_key}
+use Rattle.enc_agg.specs.Directory.{row_key, kids_key, with_kept}
 use Rattle.enc_agg.specs.Extend.{extended, chain_with}
 use Rattle.enc_agg.specs.Next.{MayBeNext, with_delta}
 use Rattle.enc_agg.specs.Seen.{History, chain_of_all, module_of_all, users_of_all, body_with, body_of_all, place_of_all, file_of, token_meant, rows_counted, StayThere}
@@ -30,7 +30,7 @@ use Rattle.enc_agg.proofs.Asked.{read_as}
 use Rattle.enc_agg.proofs.BlobPlaces.{told_by, some_by, matched, base_cell_blob}
 use Rattle.enc_agg.proofs.BodyPlaces.{in_place, stands_in_place, own_stands, next_file, place_stays}
 use Rattle.enc_agg.proofs.Children.{kids_after, owner_kept, owned_after}
-use Rattle.enc_agg.proofs.Directories.{held_there, new_owner}
+use Rattle.enc_agg.proofs.Directories.{held_there, kept_kids, new_owner}
 use Rattle.enc_agg.proofs.Fitting.{has_tables}
 use Rattle.enc_agg.proofs.Histories.{after_few, counted_rows, extended_else, ids_count, users_stay}
 use Rattle.enc_agg.proofs.Paired.{changes_fit, row_kept, cell_kept}
@@ -169,8 +169,11 @@ next_kids h r u t next child = (_, kids_after (chain_of_all h) r.delta next.owne
 pub old_kid : (h : History) (r : Ready) (u : Token) (t i x : ℕ) → MayBeNext h r → IsTrue (is_child_table t) → slice_get (kids_of (module_of_all h) u t) i ≡ Some x → slice_get (kids_of (after h r).plain u t) i ≡ Some x
 old_kid h r u t i x next child is = let w = next_kids h r u t next child in rw w.1 (get_left (kids_of (module_of_all h) u t) w.0 i x is)
 
-pub first_kids : (h : History) (r : Ready) (u : Token) (t : ℕ) (rows : List ℕ) → MayBeNext h r → IsTrue (is_child_table t) → rows ≡ kids_of (module_of_all h) u t → rows ≡ take (length rows) (kids_of (after h r).plain u t)
+first_kids : (h : History) (r : Ready) (u : Token) (t : ℕ) (rows : List ℕ) → MayBeNext h r → IsTrue (is_child_table t) → rows ≡ kids_of (module_of_all h) u t → rows ≡ take (length rows) (kids_of (after h r).plain u t)
 first_kids h r u t rows next child is = let w = next_kids h r u t next child in rw (w.1, is) (sym (take_at (kids_of (module_of_all h) u t) w.0 (length (kids_of (module_of_all h) u t)) refl))
+
+pub all_kids : (h : History) (r : Ready) (u : Token) (t : ℕ) (first rows : List ℕ) → MayBeNext h r → IsTrue (is_child_table t) → u.table ≡ owner_table t → first ≡ kids_of (module_of_all h) u t → rows ≡ with_kept first (value_at r.own.counts (kids_key t u 0)) (λ i. value_at r.own.kids (kids_key t u i)) → rows ≡ kids_of (after h r).plain u t
+all_kids h r u t first rows next child owners is made = made ∙ kept_kids (kids_of (after h r).plain u t) first _ _ (rw is (next.own.kids u t child owners)) (first_kids h r u t first next child is)
 
 pub own_owner : (h : History) (r : Ready) (u : Token) (n : ℕ) → MayBeNext h r → n ≡ length (rows_in (module_of_all h) u.table) → n < u.row → IsTrue (has_row (after h r).plain u) → IsTrue (is_child_table u.table) → (value_at r.own.owners (row_key u) ≡ owner_of (after h r).plain u) × (value_at r.own.owners (row_key u) ≡ None → ⊥)
 own_owner h r u n next many past row child = new_owner (chain_of_all h) (after h r) (λ t. value_at r.own.owners (row_key t)) u n next.own.owners next.sound.owners many past row child
