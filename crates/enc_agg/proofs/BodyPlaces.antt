@@ -1,6 +1,6 @@
 -- The body at a place of all: a generation's file, and a place there.
-use Rattle.std.proofs.Common.{◌≡◌, ℕ, zero, suc, ◌+◌, ◌*◌, ◌/◌, ◌%◌, ◌^◌, ◌<◌, ◌≤◌, true, false, List, [], ◌∷◌, ◌++◌, length, reverse, Option, Some, None, refl, sym, ap, ◌∙◌, arith}
-use Rattle.std.specs.Prelude.{◌==◌, not, is_some, option_map, option_and_then, slice_get, IsTrue}
+use Rattle.std.proofs.Common.{◌≡◌, ℕ, zero, suc, Bool, ◌+◌, ◌*◌, ◌/◌, ◌%◌, ◌^◌, ◌<◌, ◌≤◌, true, false, List, [], ◌∷◌, ◌++◌, length, reverse, Option, Some, None, refl, sym, ap, ◌∙◌, arith}
+use Rattle.std.specs.Prelude.{◌==◌, if◌then◌else◌, not, is_some, option_map, option_and_then, slice_get, IsTrue}
 use Rattle.std.proofs.lemmas.Bool.Decides.{nat_tests}
 use Rattle.std.proofs.lemmas.Nat.{div-mul-add, mod-mul-add}
 use Rattle.std.proofs.lemmas.Option.{slice_get_within}
@@ -43,10 +43,13 @@ get_last (x ∷ xs) y zero is = absurd (omega (arith, is))
 get_last (x ∷ xs) y (suc n) is = get_last xs y n (omega (arith, is))
 
 -- the newest delta is that of the last generation, and the others those of theirs
+last_of : (d : Source) (older : List Source) → delta_at (d ∷ older) (suc (length older)) ≡ Some d
+last_of d older = rw (reverse-append (d ∷ []) older) (get_last (reverse older) d (length older) (sym (length-reverse older)))
+
 source_last : (d : Source) (older : List Source) → delta_at (d ∷ older) (length older + 1) ≡ Some d
 source_last d older =
     let e : length older + 1 ≡ suc (length older) = omega arith in
-    rw (e, reverse-append (d ∷ []) older) (get_last (reverse older) d (length older) (sym (length-reverse older)))
+    ap (delta_at (d ∷ older)) e ∙ last_of d older
 
 source_before : (d : Source) (older : List Source) (g : ℕ) → g ≤ length older → delta_at (d ∷ older) g ≡ delta_at older g
 source_before d older zero few = refl
@@ -60,7 +63,7 @@ many_sources older = length-map older (λ (a : Added). a.delta)
 delta_last : (a : Added) (older : List Added) → delta_at (sources (a ∷ older)) (length (a ∷ older)) ≡ Some a.delta
 delta_last a older =
     let e : length (a ∷ older) ≡ length (sources older) + 1 = omega (arith, many_sources older) in
-    rw e (source_last a.delta (sources older))
+    ap (delta_at (sources (a ∷ older))) e ∙ source_last a.delta (sources older)
 
 delta_before : (a : Added) (older : List Added) (g : ℕ) → g ≤ length older → delta_at (sources (a ∷ older)) g ≡ delta_at (sources older) g
 delta_before a older g few = source_before a.delta (sources older) g (omega (arith, few, many_sources older))
@@ -96,14 +99,29 @@ none_loaded : (texts : ℕ → Option (List ℕ)) (s : Source) → body_loaded s
 unfolding body_loaded code_loaded
 none_loaded texts s = refl
 
+is_zero : (n : ℕ) → (n == 0) ≡ true → n ≡ 0
+is_zero n e = grind (arith, nat_tests)
+
+place_with : (texts : ℕ → Option (List ℕ)) (h : History) (g n : ℕ) (s : Source) (b : Bool) → (n == 0) ≡ b → n < 2 ^ 32 → file_of h g ≡ Some s → body_with texts h (if b then 0 else g * 2 ^ 32 + n) ≡ body_loaded s.loaded texts n
+place_with texts h g n s true zero low is = none_at_zero texts h ∙ sym (ap (body_loaded s.loaded texts) (is_zero n zero) ∙ none_loaded texts s)
+place_with texts h g n s false more low is = in_file texts h g n s low is
+
 pub in_place : (texts : ℕ → Option (List ℕ)) (h : History) (g n : ℕ) (s : Source) → n < 2 ^ 32 → file_of h g ≡ Some s → body_with texts h (place_of_all g n) ≡ body_loaded s.loaded texts n
-in_place texts h g zero s low is = none_at_zero texts h ∙ sym (none_loaded texts s)
-in_place texts h g (suc n) s low is = in_file texts h g (suc n) s low is
+in_place texts h g n s low is = place_with texts h g n s (n == 0) refl low is
 
 -- a number that tells one place tells none exactly where the place is 0
+tells_with : (g n : ℕ) (b : Bool) → (n == 0) ≡ b → not b ≡ not ((if b then 0 else g * 2 ^ 32 + n) == 0)
+tells_with g n true zero = refl
+tells_with g n false more = sym (tells_some (g * 2 ^ 32 + n) (omega (arith, not_zero n more)))
+  where
+    not_zero : (n : ℕ) → (n == 0) ≡ false → 0 < n
+    not_zero n e = grind (arith, nat_tests)
+
+    tells_some : (n : ℕ) → 0 < n → not (n == 0) ≡ true
+    tells_some n low = grind (arith, nat_tests)
+
 tells_none : (g n : ℕ) → not (n == 0) ≡ not (place_of_all g n == 0)
-tells_none g zero = refl
-tells_none g (suc n) = grind (arith, nat_tests)
+tells_none g n = tells_with g n (n == 0) refl
 
 pub stands_in_place : (texts : ℕ → Option (List ℕ)) (h : History) (g n : ℕ) (s : Source) → n < 2 ^ 32 → file_of h g ≡ Some s → is_some (code_loaded s.loaded n) ≡ not (n == 0) → is_some (body_with texts h (place_of_all g n)) ≡ not (place_of_all g n == 0)
 stands_in_place texts h g n s low is some = ap is_some (in_place texts h g n s low is) ∙ loaded_stands s.loaded texts n ∙ some ∙ tells_none g n
@@ -149,14 +167,17 @@ file_stays : (h : History) (d : Source) (g : ℕ) (s : Source) → file_of h g �
 file_stays h d zero s is = is
 file_stays h d (suc n) s is = source_before d h.deltas (suc n) (omega (arith, slice_get_within (reverse h.deltas) n s is, length-reverse h.deltas)) ∙ is
 
+zero_by : (n : ℕ) (b : Bool) → (n == 0) ≡ b → not b ≡ false → n ≡ 0
+zero_by n true e h = is_zero n e
+zero_by n false e h = absurd cc
+
 -- so a number that tells a place, or is 0, tells the same with one delta more
 place_by : (texts : ℕ → Option (List ℕ)) (h : History) (d : Source) (n : ℕ) (o : Option Source) → file_of h (n / 2 ^ 32) ≡ o → is_some (body_with texts h n) ≡ not (n == 0) → body_with texts (with_delta h d) n ≡ body_with texts h n
 unfolding body_with
 place_by texts h d n (Some s) is some = ap (option_and_then (λ (x : Source). body_loaded x.loaded texts (n % 2 ^ 32))) (file_stays h d (n / 2 ^ 32) s is ∙ sym is)
 place_by texts h d n None is some =
     let told : is_some (body_with texts h n) ≡ false = ap (λ o. is_some (option_and_then (λ (x : Source). body_loaded x.loaded texts (n % 2 ^ 32)) o)) is in
-    let nothing : not (n == 0) ≡ false = sym some ∙ told in
-    let at_zero : n ≡ 0 = grind (arith, nat_tests) in
+    let at_zero : n ≡ 0 = zero_by n (n == 0) refl (sym some ∙ told) in
     ap (body_with texts (with_delta h d)) at_zero ∙ none_at_zero texts (with_delta h d) ∙ sym (none_at_zero texts h) ∙ ap (body_with texts h) (sym at_zero)
 
 pub place_stays : (texts : ℕ → Option (List ℕ)) (h : History) (d : Source) (n : ℕ) → is_some (body_with texts h n) ≡ not (n == 0) → body_with texts (with_delta h d) n ≡ body_with texts h n

@@ -260,10 +260,10 @@ pub chain_more : (b : Source) (added more : List Added) (a : Added) → more ≡
 unfolding chain_with
 chain_more b added more a e = rw (e, reverse-append added (a ∷ [])) refl
 
-pub history_more : (h : History) (added more : List Added) (a : Added) (room : ℕ) → h.deltas ≡ sources (reverse added) → more ≡ added ++ a ∷ [] → room + 1 ≡ h.room → record { base = h.base; deltas = sources (reverse more); room = room } ≡ with_delta h a.delta
-history_more h added more a room is e less =
-    let one : room ≡ h.room - 1 = omega (arith, less) in
-    rw (e, reverse-append added (a ∷ []), is, one) refl
+pub history_more : (b : Source) (added more : List Added) (a : Added) (was room : ℕ) → more ≡ added ++ a ∷ [] → room + 1 ≡ was → with_delta (record { base = b; deltas = sources (reverse added); room = was }) a.delta ≡ record { base = b; deltas = sources (reverse more); room = room }
+history_more b added more a was room e less =
+    let one : was - 1 ≡ room = omega (arith, less) in
+    rw (e, reverse-append added (a ∷ []), one) refl
 
 -- a user text of the base is one of all
 pub base_users : (b : Source) (added : List Added) (o : ℕ) (x : List ℕ) → users_of b o ≡ Some x → joined_user (chain_with b (sources added)).heaps o ≡ Some x

@@ -125,6 +125,32 @@ pub struct Brought {
     pub own: Directory,
 }
 
+/// Entries, and a directory of the same values.
+fn brought(
+    places: Kept<RowPlace>,
+    owners: Kept<Token>,
+    counts: Kept<u32>,
+    kids: Kept<u32>,
+) -> Brought
+    ensures entries { result.entries ≡ record { places = places.entries; owners = owners.entries; counts = counts.entries; kids = kids.entries } }
+    ensures own { result.own ≡ record { places = places.own; owners = owners.own; counts = counts.own; kids = kids.own } }
+{
+    Brought {
+        entries: Entries {
+            places: places.entries,
+            owners: owners.entries,
+            counts: counts.entries,
+            kids: kids.entries,
+        },
+        own: Directory {
+            places: places.own,
+            owners: owners.own,
+            counts: counts.own,
+            kids: kids.own,
+        },
+    }
+}
+
 /// What a delta brings that follows an aggregate. A step for each of its tokens.
 pub fn brought_by<L: Ledger>(
     alloc: Global,
@@ -143,18 +169,5 @@ pub fn brought_by<L: Ledger>(
     let log = log_of(delta, alloc)?;
     let pairs = attached_of(alloc, delta, &log)?;
     let gained = gained_by(alloc, aggregate, delta, &pairs)?;
-    Ok(Brought {
-        entries: Entries {
-            places: places.entries,
-            owners: gained.owners.entries,
-            counts: gained.counts.entries,
-            kids: gained.kids.entries,
-        },
-        own: Directory {
-            places: places.own,
-            owners: gained.owners.own,
-            counts: gained.counts.own,
-            kids: gained.kids.own,
-        },
-    })
+    Ok(brought(places, gained.owners, gained.counts, gained.kids))
 }

@@ -1,4 +1,4 @@
-use Rattle.std.proofs.Common.{refl, arith}
+use Rattle.std.proofs.Common.{sym, arith}
 use Rattle.enc_agg.specs.Prepared.{to_add}
 use Rattle.enc_agg.proofs.Histories.{user_kept, chain_more, history_more}
 use Rattle.enc_agg.proofs.Directories.{whole_more}
@@ -18,7 +18,7 @@ returns-clause-texts c = λ offset units is. user_kept c.self.inside.image c.sel
 pub returns-clause-history : goal.returns-clause-history
 returns-clause-history c =
     let room = rw (← c.self.view_is) at c.requires.room in
-    rw (← c.self.view_is) (history_more _ c.self.inside.added.items c.push_reserved.new.self.items (to_add c.args.ready) _ refl c.push_reserved.ensures.items (omega (arith, room, c.push_reserved.ensures.len, c.push_reserved.ensures.capacity)))
+    rw (← c.self.view_is) (sym (history_more c.self.inside.image c.self.inside.added.items c.push_reserved.new.self.items (to_add c.args.ready) _ _ c.push_reserved.ensures.items (omega (arith, room, c.push_reserved.ensures.len, c.push_reserved.ensures.capacity))))
 
 pub returns-clause-chain : goal.returns-clause-chain
 returns-clause-chain c = rw (← c.self.view_is) (chain_more c.self.inside.image c.self.inside.added.items c.push_reserved.new.self.items (to_add c.args.ready) c.push_reserved.ensures.items)
