@@ -126,7 +126,7 @@ pub struct Brought {
 }
 
 /// Entries, and a directory of the same values.
-fn brought(
+fn entries_with_own(
     places: Kept<RowPlace>,
     owners: Kept<Token>,
     counts: Kept<u32>,
@@ -169,5 +169,5 @@ pub fn brought_by<L: Ledger>(
     let log = log_of(delta, alloc)?;
     let pairs = attached_of(alloc, delta, &log)?;
     let gained = gained_by(alloc, aggregate, delta, &pairs)?;
-    Ok(brought(places, gained.owners, gained.counts, gained.kids))
+    Ok(entries_with_own(places, gained.owners, gained.counts, gained.kids))
 }

@@ -4,14 +4,14 @@ use Rattle.enc_agg.proofs.Gained.{owned_alone, held_alone}
 use Rattle.enc_agg.proofs.entries.brought_by.Goals as goal
 
 pub returns-clause-entries : goal.returns-clause-entries
-returns-clause-entries g c = rw c.brought.ensures.entries (record {
+returns-clause-entries g c = rw c.entries_with_own.ensures.entries (record {
   places = λ u. rw c.generations.ensures.count at (c.in_ok-places.ensures.places u);
   owners = c.in_ok-gained.ensures.owners;
   kids = c.in_ok-gained.ensures.kids;
 })
 
 pub returns-clause-own : goal.returns-clause-own
-returns-clause-own g c = rw c.brought.ensures.own (record {
+returns-clause-own g c = rw c.entries_with_own.ensures.own (record {
   places = λ u. c.in_ok-places.ensures.same (row_key u) ∙ rw c.generations.ensures.count at (c.in_ok-places.ensures.places u);
   owners = owned_alone _ _ _ _ (λ u. c.in_ok-gained.ensures.same.owners (row_key u)) c.in_ok-gained.ensures.owners;
   kids = held_alone _ _ _ _ _ _ c.in_ok-gained.ensures.same.counts c.in_ok-gained.ensures.same.kids c.in_ok-gained.ensures.kids;
