@@ -103,7 +103,7 @@ is_zero : (n : ℕ) → (n == 0) ≡ true → n ≡ 0
 is_zero n e = grind (arith, nat_tests)
 
 place_with : (texts : ℕ → Option (List ℕ)) (h : History) (g n : ℕ) (s : Source) (b : Bool) → (n == 0) ≡ b → n < 2 ^ 32 → file_of h g ≡ Some s → body_with texts h (if b then 0 else g * 2 ^ 32 + n) ≡ body_loaded s.loaded texts n
-place_with texts h g n s true zero low is = none_at_zero texts h ∙ sym (ap (body_loaded s.loaded texts) (is_zero n zero) ∙ none_loaded texts s)
+place_with texts h g n s true none low is = none_at_zero texts h ∙ sym (ap (body_loaded s.loaded texts) (is_zero n none) ∙ none_loaded texts s)
 place_with texts h g n s false more low is = in_file texts h g n s low is
 
 pub in_place : (texts : ℕ → Option (List ℕ)) (h : History) (g n : ℕ) (s : Source) → n < 2 ^ 32 → file_of h g ≡ Some s → body_with texts h (place_of_all g n) ≡ body_loaded s.loaded texts n
@@ -111,7 +111,7 @@ in_place texts h g n s low is = place_with texts h g n s (n == 0) refl low is
 
 -- a number that tells one place tells none exactly where the place is 0
 tells_with : (g n : ℕ) (b : Bool) → (n == 0) ≡ b → not b ≡ not ((if b then 0 else g * 2 ^ 32 + n) == 0)
-tells_with g n true zero = refl
+tells_with g n true none = refl
 tells_with g n false more = sym (tells_some (g * 2 ^ 32 + n) (omega (arith, not_zero n more)))
   where
     not_zero : (n : ℕ) → (n == 0) ≡ false → 0 < n

@@ -272,16 +272,19 @@ kept_kids kids first count kid held front =
 pub base_kids : (b : Source) (added : List Added) (x : Directory) (u : Token) (t : ℕ) (first rows : List ℕ) → IsWhole b added x → IsTrue (is_child_table t) → u.table ≡ owner_table t → first ≡ kids_of (chain_with b []).plain u t → rows ≡ with_kept first (value_at x.counts (kids_key t u 0)) (λ i. value_at x.kids (kids_key t u i)) → rows ≡ kids_of (chain_with b (sources added)).plain u t
 base_kids b added x u t first rows whole child owners is made =
     let many : length first ≡ length (kids_of (chain_with b []).plain u t) = ap (λ (xs : List ℕ). length xs) is in
-    made ∙ kept_kids (kids_of (chain_with b (sources added)).plain u t) first _ _ (rw is (whole.directory.kids u t child owners)) (kids_front b added u t (length first) first whole.deltas.sound whole.deltas.all child many is)
+    made ∙ kept_kids (kids_of (chain_with b (sources added)).plain u t) first (value_at x.counts (kids_key t u 0)) (λ i. value_at x.kids (kids_key t u i)) (rw is (whole.directory.kids u t child owners)) (kids_front b added u t (length first) first whole.deltas.sound whole.deltas.all child many is)
 
--- none is kept
-pub none_kept : (first : List ℕ) (kid : ℕ → Option ℕ) → first ≡ with_kept first None kid
+-- no more than the first
+pub none_more : (first : List ℕ) (kid : ℕ → Option ℕ) (i : ℕ) → i ≡ length first → first ≡ first ++ kids_kept kid (length first) (i - length first)
 unfolding kids_kept
-none_kept first kid =
-    let e : length first - length first ≡ 0 = omega arith in
+none_more first kid i is =
+    let e : i - length first ≡ 0 = omega (arith, is) in
     sym (append-nil first) ∙ ap (λ n. first ++ kids_kept kid (length first) n) (sym e)
 
--- those from a place on are no more
+pub none_kept : (first : List ℕ) (o : Option ℕ) (kid : ℕ → Option ℕ) → o ≡ None → first ≡ with_kept first o kid
+none_kept first o kid none = none_more first kid (length first) refl ∙ ap (λ x. first ++ kids_kept kid (length first) (unwrap_or x (length first) - length first)) (sym none)
+
+-- and all, where there are so many
 pub all_kept : (first rows : List ℕ) (o : Option ℕ) (kid : ℕ → Option ℕ) (i count : ℕ) → o ≡ Some count → rows ≡ first ++ kids_kept kid (length first) (i - length first) → i - length first ≤ count - length first → count ≤ i → rows ≡ with_kept first o kid
 all_kept first rows o kid i count is made high past =
     let e : i - length first ≡ count - length first = omega (arith, high, past) in

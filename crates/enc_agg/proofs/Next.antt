@@ -51,9 +51,9 @@ pub place_there : (g : ℕ) (o : Option ℕ) (p : RowPlace) → Some p ≡ optio
 place_there g None p h = absurd cc
 place_there g (Some k) p h = ap (λ (x : Option RowPlace). option_map (λ (y : RowPlace). y.row) x) h
 
-pub place_none : (g : ℕ) (o : Option ℕ) → None ≡ option_map (λ (k : ℕ). record { generation = g; row = k }) o → None ≡ o
-place_none g None h = refl
-place_none g (Some k) h = absurd cc
+pub place_none : (g : ℕ) (o : Option ℕ) (p : Option RowPlace) → p ≡ option_map (λ (k : ℕ). record { generation = g; row = k }) o → p ≡ None → None ≡ o
+place_none g None p h none = refl
+place_none g (Some k) p h none = absurd cc
 
 -- rows and cells of other tokens are those before
 pub old_row : (h : History) (r : Ready) (u : Token) (o : Option ℕ) → MayBeNext h r → o ≡ place_in (listed r.delta) u → o ≡ None → IsTrue (has_row (after h r).plain u) → IsTrue (has_row (module_of_all h) u)
@@ -173,7 +173,7 @@ first_kids : (h : History) (r : Ready) (u : Token) (t : ℕ) (rows : List ℕ) �
 first_kids h r u t rows next child is = let w = next_kids h r u t next child in rw (w.1, is) (sym (take_at (kids_of (module_of_all h) u t) w.0 (length (kids_of (module_of_all h) u t)) refl))
 
 pub all_kids : (h : History) (r : Ready) (u : Token) (t : ℕ) (first rows : List ℕ) → MayBeNext h r → IsTrue (is_child_table t) → u.table ≡ owner_table t → first ≡ kids_of (module_of_all h) u t → rows ≡ with_kept first (value_at r.own.counts (kids_key t u 0)) (λ i. value_at r.own.kids (kids_key t u i)) → rows ≡ kids_of (after h r).plain u t
-all_kids h r u t first rows next child owners is made = made ∙ kept_kids (kids_of (after h r).plain u t) first _ _ (rw is (next.own.kids u t child owners)) (first_kids h r u t first next child is)
+all_kids h r u t first rows next child owners is made = made ∙ kept_kids (kids_of (after h r).plain u t) first (value_at r.own.counts (kids_key t u 0)) (λ i. value_at r.own.kids (kids_key t u i)) (rw is (next.own.kids u t child owners)) (first_kids h r u t first next child is)
 
 pub own_owner : (h : History) (r : Ready) (u : Token) (n : ℕ) → MayBeNext h r → n ≡ length (rows_in (module_of_all h) u.table) → n < u.row → IsTrue (has_row (after h r).plain u) → IsTrue (is_child_table u.table) → (value_at r.own.owners (row_key u) ≡ owner_of (after h r).plain u) × (value_at r.own.owners (row_key u) ≡ None → ⊥)
 own_owner h r u n next many past row child = new_owner (chain_of_all h) (after h r) (λ t. value_at r.own.owners (row_key t)) u n next.own.owners next.sound.owners many past row child

@@ -167,12 +167,12 @@ number_listed c s u k i n _ fits place kind is =
     let w = column_with _ _ plain.kind in
     held_after c s u k i w.0 numbers (number n) fits place w.1 (ap is_some w.2) plain (rw is (number_for (reading_after c s) w.0 n w.2))
 
-index_listed : (c : Chain) (s : Source) (u : Token) (k i n table : ℕ) → Lands c s → Fits c.plain (changes_of c s) → place_in (listed s) u ≡ Some k → kind_in u.table i ≡ Some references → column_in u.table i ≡ Some (Index table) → raw_in s (record { table = u.table; row = k }) i ≡ n → cell_of (extended c s).plain u i ≡ Some (refer (index_token table n))
+pub index_listed : (c : Chain) (s : Source) (u : Token) (k i n table : ℕ) → Lands c s → Fits c.plain (changes_of c s) → place_in (listed s) u ≡ Some k → kind_in u.table i ≡ Some references → column_in u.table i ≡ Some (Index table) → raw_in s (record { table = u.table; row = k }) i ≡ n → cell_of (extended c s).plain u i ≡ Some (refer (index_token table n))
 unfolding cell_read reading_after
 index_listed c s u k i n table follows fits place kind column is =
     within_is (rows_with c (listed s)) (index_token table n) (λ t. cell_of (extended c s).plain u i ≡ Some (refer t)) (made_after c s is_index u k i (Index table) references refer _ (no_index c s follows) follows fits place column refl (plain_kind _ _ references refl kind) refl (rw is refl))
 
-coded_listed : (c : Chain) (s : Source) (u : Token) (k i n : ℕ) (kind : Coding) → Lands c s → Fits c.plain (changes_of c s) → place_in (listed s) u ≡ Some k → kind_in u.table i ≡ Some references → column_in u.table i ≡ Some (Coded kind) → raw_in s (record { table = u.table; row = k }) i ≡ n → MatchOption (decoded kind n) ⊥ (λ t. cell_of (extended c s).plain u i ≡ Some (refer t))
+pub coded_listed : (c : Chain) (s : Source) (u : Token) (k i n : ℕ) (kind : Coding) → Lands c s → Fits c.plain (changes_of c s) → place_in (listed s) u ≡ Some k → kind_in u.table i ≡ Some references → column_in u.table i ≡ Some (Coded kind) → raw_in s (record { table = u.table; row = k }) i ≡ n → MatchOption (decoded kind n) ⊥ (λ t. cell_of (extended c s).plain u i ≡ Some (refer t))
 unfolding cell_read reading_after
 coded_listed c s u k i n kind follows fits place kinds column is =
     coded_is (rows_with c (listed s)) (decoded kind n) (λ t. cell_of (extended c s).plain u i ≡ Some (refer t)) (made_after c s is_index u k i (Coded kind) references refer (option_and_then (within (rows_with c (listed s))) (decoded kind n)) (no_index c s follows) follows fits place column refl (plain_kind _ _ references refl kinds) refl (rw is refl))

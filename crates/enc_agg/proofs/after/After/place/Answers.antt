@@ -6,4 +6,4 @@ pub returns-in-Some : goal.returns-in-Some
 returns-in-Some c = rw (← c.self.view_is) (place_there _ _ _ (sym c.in-Some.is ∙ c.place.ensures ∙ c.self.invariant.own.places c.args.row))
 
 pub returns-in-None : goal.returns-in-None
-returns-in-None c = rw (← c.self.view_is) (place_none _ _ (sym c.in-None.is ∙ c.place.ensures ∙ c.self.invariant.own.places c.args.row))
+returns-in-None c = rw (← c.self.view_is) (place_none _ _ _ (c.place.ensures ∙ c.self.invariant.own.places c.args.row) c.in-None.is)

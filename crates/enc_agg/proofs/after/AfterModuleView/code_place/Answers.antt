@@ -13,10 +13,10 @@ returns-in_default-clause-some c = rw (← c.self.view_is) (old_place_stands c.s
 
 pub returns-clause-body : goal.returns-clause-body
 returns-clause-body c =
-    let low : c.own.result < 2 ^ 32 = omega (arith, c.own.type_inv) in
-    rw (← c.self.view_is, c.place_of_all.ensures) (own_code_place c.self.inside.aggregate.now c.self.inside.ready.now c.args.method _ c.own.result _ _ c.self.invariant (rw (← c.self.view_is) at c.place.ensures) c.in-Some.is c.requires.table (rw (← c.self.view_is) at c.own.ensures) low c.generations.ensures.count)
+    let low : c.own-own.result < 2 ^ 32 = omega (arith, c.own-own.type_inv) in
+    rw (← c.self.view_is, c.place_of_all.ensures) (own_code_place c.self.inside.aggregate.now c.self.inside.ready.now c.args.method _ c.own-own.result _ _ c.self.invariant (rw (← c.self.view_is) at c.place.ensures) c.in-Some.is c.requires.table (rw (← c.self.view_is) at c.own-own.ensures) low c.generations.ensures.count)
 
 pub returns-clause-some : goal.returns-clause-some
 returns-clause-some c =
-    let low : c.own.result < 2 ^ 32 = omega (arith, c.own.type_inv) in
-    rw (← c.self.view_is, c.place_of_all.ensures) (own_place_stands c.self.inside.aggregate.now c.self.inside.ready.now c.args.method _ c.own.result _ _ c.self.invariant (rw (← c.self.view_is) at c.place.ensures) c.in-Some.is c.requires.table (rw (← c.self.view_is) at c.own.ensures) low c.generations.ensures.count)
+    let low : c.own-own.result < 2 ^ 32 = omega (arith, c.own-own.type_inv) in
+    rw (← c.self.view_is, c.place_of_all.ensures) (own_place_stands c.self.inside.aggregate.now c.self.inside.ready.now c.args.method _ c.own-own.result _ _ c.self.invariant (rw (← c.self.view_is) at c.place.ensures) c.in-Some.is c.requires.table (rw (← c.self.view_is) at c.own-own.ensures) low c.generations.ensures.count)

@@ -23,4 +23,4 @@ unreachable-requires c =
 pub returns-clause-row : goal.returns-clause-row
 returns-clause-row c =
     let own = own_kid c.self.inside.aggregate.now c.self.inside.ready.now c.args.owner c.args.table c.args.i _ c.self.invariant c.requires.table c.requires.owners c.count_kids.ensures (omega (arith, c.if-i-count_kids.false)) (rw (← c.self.view_is) at c.requires.there) in
-    rw (← c.self.view_is, c.row_found-2.ensures) (sym own.0 ∙ sym c.kid.ensures ∙ c.in-Some.is)
+    rw (← c.self.view_is, c.row_found-in-Some.ensures) (sym own.0 ∙ sym c.kid.ensures ∙ c.in-Some.is)

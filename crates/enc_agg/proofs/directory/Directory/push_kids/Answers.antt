@@ -1,8 +1,14 @@
 use Rattle.std.proofs.Common.{ap, sym, ◌∙◌, arith}
 use Rattle.enc_index.specs.Index.{value_at}
 use Rattle.enc_agg.specs.Directory.{kids_key}
-use Rattle.enc_agg.proofs.Directories.{one_kept}
+use Rattle.enc_agg.proofs.Directories.{none_kept, none_more, one_kept}
 use Rattle.enc_agg.proofs.directory.Directory.push_kids.Goals as goal
+
+pub returns-in_default : goal.returns-in_default
+returns-in_default c = none_kept _ _ _ (sym c.count.ensures ∙ c.in_default.is)
+
+pub loop-i-init : goal.loop-i-init
+loop-i-init c = record { rows = none_more _ _ _ c.len-i.ensures; low = omega (arith, c.len-i.ensures); high = omega (arith, c.len-i.ensures) }
 
 pub loop-i-preserved : goal.loop-i-preserved
 loop-i-preserved c =
