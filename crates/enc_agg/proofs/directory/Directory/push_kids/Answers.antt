@@ -8,7 +8,7 @@ pub returns-in_default : goal.returns-in_default
 returns-in_default c = none_kept _ _ _ (sym c.count.ensures ∙ c.in_default.is)
 
 pub loop-i-init : goal.loop-i-init
-loop-i-init c = record { rows = none_more _ _ _ c.len-i.ensures; low = omega (arith, c.len-i.ensures); high = omega (arith, c.len-i.ensures) }
+loop-i-init c = record { rows = none_more _ _ c.len-i.result (omega (arith, c.len-i.ensures)); low = omega (arith, c.len-i.ensures); high = omega (arith, c.len-i.ensures) }
 
 pub loop-i-preserved : goal.loop-i-preserved
 loop-i-preserved c =
