@@ -27,7 +27,7 @@ use Rattle.enc_delta.specs.Pairs.{attached_of}
 use Rattle.enc_agg.specs.Follows.{Lands, Follows}
 use Rattle.enc_plain.specs.Sound.{HasTables, HasOwners}
 use Rattle.enc_agg.specs.Next.{with_delta}
-use Rattle.enc_agg.specs.Seen.{History, chain_of_all, sources, IsAdded, AllAdded, found_or, found_in, rows_counted, StayThere}
+use Rattle.enc_agg.specs.Seen.{sources, IsAdded, AllAdded, found_or, found_in, rows_counted, StayThere}
 use Rattle.enc_base.specs.Order.{or_else, first_below}
 use Rattle.enc_base.specs.declared.refusal.Place.TheVariants as place
 use Rattle.enc_base.specs.declared.refusal.Place.{Place}

@@ -1,12 +1,11 @@
 -- The module with a delta that was made ready: the delta's own rows, and else those before.
-use Rattle.std.proofs.Common.{◌≡◌, ℕ, zero, suc, ◌+◌, ◌*◌, ◌^◌, ◌<◌, ◌≤◌, true, List, [], ◌∷◌, ◌++◌, length, take, Option, Some, None, refl, sym, ap, subst, ◌∙◌, arith}
-use Rattle.std.specs.Prelude.{◌==◌, not, is_some, option_map, unwrap_or, slice_get, slice_index, nat_lt, nat_le, IsTrue, MatchOption}
-use Rattle.std.proofs.lemmas.Bool.Decides.{nat_tests}
+use Rattle.std.proofs.Common.{◌≡◌, ℕ, ◌+◌, ◌^◌, ◌<◌, ◌≤◌, true, List, [], ◌∷◌, ◌++◌, length, take, Option, Some, None, refl, sym, ap, subst, ◌∙◌, arith}
+use Rattle.std.specs.Prelude.{◌==◌, not, is_some, option_map, unwrap_or, slice_get, IsTrue, MatchOption}
 use Rattle.std.proofs.lemmas.List.{take_at}
 use Rattle.enc_base.specs.declared.token.Token.{Token}
 use Rattle.enc_index.specs.Index.{value_at}
 use Rattle.enc_meta.specs.Joined.{joined_text, joined_blob, joined_user, joined_guid}
-use Rattle.enc_opcodes.specs.Body.{Code, code_seen, body_of}
+use Rattle.enc_opcodes.specs.Body.{code_seen, body_of}
 use Rattle.enc_opcodes.specs.declared.code.CodeRef.{CodeRef}
 use Rattle.enc_rows.specs.Source.{Source, raw_in}
 use Rattle.enc_schema.specs.Children.{is_child_table, owner_table}
@@ -14,12 +13,9 @@ use Rattle.enc_schema.specs.Schema.{column_in}
 use Rattle.enc_plain.specs.Bodies.{code_loaded, body_loaded}
 use Rattle.enc_plain.specs.Cell.{Cell, number, text, blob, guid, refer, body, field, numbers, texts, blobs, guids, references, kind_in}
 use Rattle.enc_plain.specs.Chain.{Chain}
-use Rattle.enc_plain.specs.Module.{Module, rows_in, has_row, cell_of, owner_of, kids_of}
-use Rattle.enc_plain.specs.Sound.{HasOwners}
+use Rattle.enc_plain.specs.Module.{rows_in, has_row, cell_of, owner_of, kids_of}
 use Rattle.enc_plain.specs.declared.place.RowPlace.{RowPlace}
-use Rattle.enc_plain.proofs.Owned.{has_owner}
 use Rattle.enc_delta.specs.Delta.{listed, place_in}
-use Rattle.enc_delta.specs.Rules.{users_after}
 use Rattle.enc_delta.proofs.OneHeapMore.{blob_stays}
 use Rattle.enc_agg.specs.declared.aggregate.Ready.{Ready}
 use Rattle.enc_agg.specs.Directory.{row_key, kids_key, with_kept}
@@ -29,10 +25,10 @@ use Rattle.enc_agg.specs.Seen.{History, chain_of_all, module_of_all, users_of_al
 use Rattle.enc_agg.proofs.Asked.{read_as}
 use Rattle.enc_agg.proofs.BlobPlaces.{told_by, some_by, matched, base_cell_blob}
 use Rattle.enc_agg.proofs.BodyPlaces.{in_place, stands_in_place, own_stands, next_file, place_stays}
-use Rattle.enc_agg.proofs.Children.{kids_after, owner_kept, owned_after}
+use Rattle.enc_agg.proofs.Children.{kids_after, owner_kept}
 use Rattle.enc_agg.proofs.Directories.{held_there, kept_kids, new_owner}
 use Rattle.enc_agg.proofs.Fitting.{has_tables}
-use Rattle.enc_agg.proofs.Histories.{after_few, counted_rows, extended_else, ids_count, users_stay}
+use Rattle.enc_agg.proofs.Histories.{after_few, counted_rows, ids_count, users_stay}
 use Rattle.enc_agg.proofs.Paired.{changes_fit, row_kept, cell_kept}
 use Rattle.enc_agg.proofs.RowsAndKids.{get_left}
 use Rattle.enc_agg.proofs.Viewing.{text_listed, blob_listed, guid_listed, number_listed, refer_listed, body_listed, field_listed}

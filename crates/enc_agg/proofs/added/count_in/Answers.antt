@@ -1,4 +1,4 @@
-use Rattle.std.proofs.Common.{◌≡◌, ◌∙◌, arith}
+use Rattle.std.proofs.Common.{◌∙◌, arith}
 use Rattle.enc_image.specs.Base.{chain_of_base}
 use Rattle.enc_agg.specs.Extend.{chain_with}
 use Rattle.enc_agg.proofs.Histories.{counts_are, counted_rows, with_tables, rows_few}

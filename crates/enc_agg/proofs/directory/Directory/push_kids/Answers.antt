@@ -1,4 +1,4 @@
-use Rattle.std.proofs.Common.{ap, sym, ◌∙◌, arith}
+use Rattle.std.proofs.Common.{sym, ◌∙◌, arith}
 use Rattle.enc_index.specs.Index.{value_at}
 use Rattle.enc_agg.specs.Directory.{kids_key}
 use Rattle.enc_agg.proofs.Directories.{none_kept, none_more, one_kept}
