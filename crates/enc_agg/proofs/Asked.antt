@@ -72,10 +72,14 @@ number_found b added upto u k i n found kind is =
     let c = chain_with b (sources found.older) in
     cell_found b added upto u k i (number n) found (number_listed c found.last.delta u k i n found.is_added.follows.lands (changes_fit c found.last.delta found.sound found.is_added.follows.lands) found.place kind (raw_found b added upto u k i n found is))
 
-pub refer_found : (b : Source) (added upto : List Added) (u : Token) (k i n : ℕ) → IsFound b added u upto k → kind_in u.table i ≡ Some references → newest_number upto (record { table = u.table; row = k }) i ≡ n → MatchOption (token_meant (column_in u.table i) n) ⊥ (λ t. cell_of (chain_with b (sources added)).plain u i ≡ Some (refer t))
+pub refer_found : (b : Source) (added upto : List Added) (u : Token) (k i n : ℕ) → IsFound b added u upto k → kind_in u.table i ≡ Some references
+    → newest_number upto (record { table = u.table; row = k }) i ≡ n
+    → MatchOption (token_meant (column_in u.table i) n) ⊥ (λ t. cell_of (chain_with b (sources added)).plain u i ≡ Some (refer t))
 refer_found b added upto u k i n found kind is =
     let c = chain_with b (sources found.older) in
-    also (token_meant (column_in u.table i) n) _ _ (λ t h. cell_found b added upto u k i (refer t) found h) (refer_listed c found.last.delta u k i n found.is_added.follows.lands (changes_fit c found.last.delta found.sound found.is_added.follows.lands) found.place kind (raw_found b added upto u k i n found is))
+    also (token_meant (column_in u.table i) n) _ _ (λ t h. cell_found b added upto u k i (refer t) found h)
+    (refer_listed c found.last.delta u k i n found.is_added.follows.lands (changes_fit c found.last.delta found.sound found.is_added.follows.lands)
+    found.place kind (raw_found b added upto u k i n found is))
 
 -- an optional value of which a fact is known is there
 pub some_there : {A : Type 0} (o : Option A) (P : A → Type 0) → MatchOption o ⊥ P → is_some o ≡ true
@@ -95,7 +99,8 @@ told_more f g None there more = refl
 told_more f g (Some code) there more = ap Some (body_told_alike f g code (there code refl) more)
 
 -- the body by its parts
-pub read_as : (f : ℕ → Option (List ℕ)) (o : Option Code) (r : Option CodeRef) → option_map code_seen r ≡ o → option_map (body_of f) o ≡ option_map (λ c. body_of f (code_seen c)) r
+pub read_as : (f : ℕ → Option (List ℕ)) (o : Option Code) (r : Option CodeRef) → option_map code_seen r ≡ o
+    → option_map (body_of f) o ≡ option_map (λ c. body_of f (code_seen c)) r
 read_as f o r is = ap (option_map (body_of f)) (sym is) ∙ mapped (body_of f) code_seen r
 
 loaded_as : (d : Source) (n : ℕ) (f g : ℕ → Option (List ℕ)) → ((code : Code) → code_loaded d.loaded n ≡ Some code → texts_are_there f code.code ≡ true) → ((o : ℕ) (x : List ℕ) → f o ≡ Some x → g o ≡ Some x) → body_loaded d.loaded f n ≡ body_loaded d.loaded g n
@@ -103,17 +108,22 @@ unfolding body_loaded
 loaded_as d n f g there more = told_more f g (code_loaded d.loaded n) there more
 
 -- the body of a method that a delta lists is the one at its place in that delta's code, by the user texts of all or by more
-pub loaded_found : (b : Source) (added upto : List Added) (u : Token) (k n : ℕ) (said : ℕ → Option (List ℕ)) (found : IsFound b added u upto k) → StayThere (joined_user (chain_with b (sources added)).heaps) said → u.table ≡ 0x06 → newest_number upto (record { table = u.table; row = k }) 0 ≡ n → cell_of (chain_with b (sources added)).plain u 0 ≡ Some (body (body_loaded found.last.delta.loaded said n))
+pub loaded_found : (b : Source) (added upto : List Added) (u : Token) (k n : ℕ) (said : ℕ → Option (List ℕ)) (found : IsFound b added u upto k)
+    → StayThere (joined_user (chain_with b (sources added)).heaps) said → u.table ≡ 0x06 → newest_number upto (record { table = u.table; row = k }) 0 ≡ n
+    → cell_of (chain_with b (sources added)).plain u 0 ≡ Some (body (body_loaded found.last.delta.loaded said n))
 loaded_found b added upto u k n said found more is told =
     let c = chain_with b (sources found.older) in
     let d = found.last.delta in
     let raw = raw_found b added upto u k 0 n found told in
     let cell = cell_found b added upto u k 0 (body (body_loaded d.loaded (users_after c d) n)) found (body_listed c d u k n (changes_fit c d found.sound found.is_added.follows.lands) found.place is raw) in
-    let same : body_loaded d.loaded (users_after c d) n ≡ body_loaded d.loaded said n = loaded_as d n (users_after c d) said (λ code there. texts_listed c d u k n code found.is_added.follows found.place is raw there) (λ o x h. more o x (found.users o x h)) in
+    let same : body_loaded d.loaded (users_after c d) n ≡ body_loaded d.loaded said n = loaded_as d n (users_after c d) said
+    (λ code there. texts_listed c d u k n code found.is_added.follows found.place is raw there) (λ o x h. more o x (found.users o x h)) in
     cell ∙ ap (λ o. Some (body o)) same
 
 -- by its parts
-pub body_found : (b : Source) (added upto : List Added) (u : Token) (k n : ℕ) (r : Option CodeRef) (said : ℕ → Option (List ℕ)) → IsFound b added u upto k → StayThere (joined_user (chain_with b (sources added)).heaps) said → u.table ≡ 0x06 → newest_number upto (record { table = u.table; row = k }) 0 ≡ n → option_map code_seen r ≡ code_in upto n → cell_of (chain_with b (sources added)).plain u 0 ≡ Some (body (option_map (λ c. body_of said (code_seen c)) r))
+pub body_found : (b : Source) (added upto : List Added) (u : Token) (k n : ℕ) (r : Option CodeRef) (said : ℕ → Option (List ℕ)) → IsFound b added u upto k
+    → StayThere (joined_user (chain_with b (sources added)).heaps) said → u.table ≡ 0x06 → newest_number upto (record { table = u.table; row = k }) 0 ≡ n
+    → option_map code_seen r ≡ code_in upto n → cell_of (chain_with b (sources added)).plain u 0 ≡ Some (body (option_map (λ c. body_of said (code_seen c)) r))
 unfolding body_loaded
 body_found b added upto u k n r said found more is told code =
     let d = found.last.delta in
@@ -121,17 +131,25 @@ body_found b added upto u k n r said found more is told code =
     loaded_found b added upto u k n said found more is told ∙ ap (λ o. Some (body o)) (read_as said (code_loaded d.loaded n) r parts)
 
 -- that of one that no delta lists is the one at its place in the image
-pub base_loaded : (b : Source) (added : List Added) (u : Token) (n : ℕ) (said : ℕ → Option (List ℕ)) → IsAggregate b added → StayThere (joined_user (chain_with b (sources added)).heaps) said → (o : Option Found) → option_map found_seen o ≡ found_in added u → o ≡ None → IsTrue (has_row (module_in b) u) → u.table ≡ 0x06 → raw_in b u 0 ≡ n → cell_of (chain_with b (sources added)).plain u 0 ≡ Some (body (body_loaded b.loaded said n))
+pub base_loaded : (b : Source) (added : List Added) (u : Token) (n : ℕ) (said : ℕ → Option (List ℕ)) → IsAggregate b added
+    → StayThere (joined_user (chain_with b (sources added)).heaps) said → (o : Option Found) → option_map found_seen o ≡ found_in added u → o ≡ None
+    → IsTrue (has_row (module_in b) u) → u.table ≡ 0x06 → raw_in b u 0 ≡ n
+    → cell_of (chain_with b (sources added)).plain u 0 ≡ Some (body (body_loaded b.loaded said n))
 base_loaded b added u n said agg more o is none there table raw =
-    let same : body_loaded b.loaded (users_of b) n ≡ body_loaded b.loaded said n = loaded_as b n (users_of b) said (λ code here. image_texts b u code agg.sound there table (rw (← raw) at here)) (λ o x h. more o x (base_users b added o x h)) in
+    let same : body_loaded b.loaded (users_of b) n ≡ body_loaded b.loaded said n = loaded_as b n (users_of b) said
+    (λ code here. image_texts b u code agg.sound there table (rw (← raw) at here)) (λ o x h. more o x (base_users b added o x h)) in
     let cell : cell_of (module_in b) u 0 ≡ Some (body (body_loaded b.loaded (users_of b) n)) = rw raw at (body_cell b u there table) in
     base_cell b added u 0 (body (body_loaded b.loaded said n)) agg o is none (cell ∙ ap (λ o. Some (body o)) same)
 
 -- by its parts
-pub base_body : (b : Source) (added : List Added) (u : Token) (r : Option CodeRef) (said : ℕ → Option (List ℕ)) → IsAggregate b added → StayThere (joined_user (chain_with b (sources added)).heaps) said → (o : Option Found) → option_map found_seen o ≡ found_in added u → o ≡ None → IsTrue (has_row (module_in b) u) → u.table ≡ 0x06 → option_map code_seen r ≡ code_loaded b.loaded (raw_in b u 0) → cell_of (chain_with b (sources added)).plain u 0 ≡ Some (body (option_map (λ c. body_of said (code_seen c)) r))
+pub base_body : (b : Source) (added : List Added) (u : Token) (r : Option CodeRef) (said : ℕ → Option (List ℕ)) → IsAggregate b added
+    → StayThere (joined_user (chain_with b (sources added)).heaps) said → (o : Option Found) → option_map found_seen o ≡ found_in added u → o ≡ None
+    → IsTrue (has_row (module_in b) u) → u.table ≡ 0x06 → option_map code_seen r ≡ code_loaded b.loaded (raw_in b u 0)
+    → cell_of (chain_with b (sources added)).plain u 0 ≡ Some (body (option_map (λ c. body_of said (code_seen c)) r))
 unfolding body_loaded
 base_body b added u r said agg more o is none there table code =
-    base_loaded b added u (raw_in b u 0) said agg more o is none there table refl ∙ ap (λ o. Some (body o)) (read_as said (code_loaded b.loaded (raw_in b u 0)) r code)
+    base_loaded b added u (raw_in b u 0) said agg more o is none there table refl
+    ∙ ap (λ o. Some (body o)) (read_as said (code_loaded b.loaded (raw_in b u 0)) r code)
 
 -- a field that a delta lists has no initial bytes
 pub field_found : (b : Source) (added upto : List Added) (u : Token) (k : ℕ) → IsFound b added u upto k → u.table ≡ 0x1D → cell_of (chain_with b (sources added)).plain u 0 ≡ Some (field [])

@@ -86,7 +86,8 @@ later_file : (h : History) (g n : ℕ) → g ≡ suc n → file_of h g ≡ delta
 later_file h g n is = rw is refl
 
 -- the body at a place of a generation's file
-in_file : (texts : ℕ → Option (List ℕ)) (h : History) (g n : ℕ) (s : Source) → n < 2 ^ 32 → file_of h g ≡ Some s → body_with texts h (g * 2 ^ 32 + n) ≡ body_loaded s.loaded texts n
+in_file : (texts : ℕ → Option (List ℕ)) (h : History) (g n : ℕ) (s : Source) → n < 2 ^ 32 → file_of h g ≡ Some s
+    → body_with texts h (g * 2 ^ 32 + n) ≡ body_loaded s.loaded texts n
 unfolding body_with
 in_file texts h g n s low is = rw (div-mul-add g (2 ^ 32) n low, mod-mul-add g (2 ^ 32) n low, is) refl
 
@@ -102,11 +103,13 @@ none_loaded texts s = refl
 is_zero : (n : ℕ) → (n == 0) ≡ true → n ≡ 0
 is_zero n e = grind (arith, nat_tests)
 
-place_with : (texts : ℕ → Option (List ℕ)) (h : History) (g n : ℕ) (s : Source) (b : Bool) → (n == 0) ≡ b → n < 2 ^ 32 → file_of h g ≡ Some s → body_with texts h (if b then 0 else g * 2 ^ 32 + n) ≡ body_loaded s.loaded texts n
+place_with : (texts : ℕ → Option (List ℕ)) (h : History) (g n : ℕ) (s : Source) (b : Bool) → (n == 0) ≡ b → n < 2 ^ 32 → file_of h g ≡ Some s
+    → body_with texts h (if b then 0 else g * 2 ^ 32 + n) ≡ body_loaded s.loaded texts n
 place_with texts h g n s true none low is = none_at_zero texts h ∙ sym (ap (body_loaded s.loaded texts) (is_zero n none) ∙ none_loaded texts s)
 place_with texts h g n s false more low is = in_file texts h g n s low is
 
-pub in_place : (texts : ℕ → Option (List ℕ)) (h : History) (g n : ℕ) (s : Source) → n < 2 ^ 32 → file_of h g ≡ Some s → body_with texts h (place_of_all g n) ≡ body_loaded s.loaded texts n
+pub in_place : (texts : ℕ → Option (List ℕ)) (h : History) (g n : ℕ) (s : Source) → n < 2 ^ 32 → file_of h g ≡ Some s
+    → body_with texts h (place_of_all g n) ≡ body_loaded s.loaded texts n
 in_place texts h g n s low is = place_with texts h g n s (n == 0) refl low is
 
 -- a number that tells one place tells none exactly where the place is 0
@@ -123,23 +126,31 @@ tells_with g n false more = sym (tells_some (g * 2 ^ 32 + n) (omega (arith, not_
 tells_none : (g n : ℕ) → not (n == 0) ≡ not (place_of_all g n == 0)
 tells_none g n = tells_with g n (n == 0) refl
 
-pub stands_in_place : (texts : ℕ → Option (List ℕ)) (h : History) (g n : ℕ) (s : Source) → n < 2 ^ 32 → file_of h g ≡ Some s → is_some (code_loaded s.loaded n) ≡ not (n == 0) → is_some (body_with texts h (place_of_all g n)) ≡ not (place_of_all g n == 0)
+pub stands_in_place : (texts : ℕ → Option (List ℕ)) (h : History) (g n : ℕ) (s : Source) → n < 2 ^ 32 → file_of h g ≡ Some s
+    → is_some (code_loaded s.loaded n) ≡ not (n == 0) → is_some (body_with texts h (place_of_all g n)) ≡ not (place_of_all g n == 0)
 stands_in_place texts h g n s low is some = ap is_some (in_place texts h g n s low is) ∙ loaded_stands s.loaded texts n ∙ some ∙ tells_none g n
 
 -- a method that a delta lists has a body where its place there isn't 0
-pub own_stands : (c : Chain) (d : Source) (u : Token) (k n : ℕ) → Follows c d → place_in (listed d) u ≡ Some k → u.table ≡ 0x06 → raw_in d (record { table = u.table; row = k }) 0 ≡ n → is_some (code_loaded d.loaded n) ≡ not (n == 0)
+pub own_stands : (c : Chain) (d : Source) (u : Token) (k n : ℕ) → Follows c d → place_in (listed d) u ≡ Some k → u.table ≡ 0x06
+    → raw_in d (record { table = u.table; row = k }) 0 ≡ n → is_some (code_loaded d.loaded n) ≡ not (n == 0)
 own_stands c d u k n follows place table raw =
     let own : Token = record { table = u.table; row = k } in
     let good = listed_good c d u k (unbroken c d follows.rules).broken_body (place_row c d u k follows.lands place) table in
     rw raw at (parts_stand (rows_with c (listed d)) (users_after c d) d.loaded (raw_in d own 0) (raw_in d own 1) good)
 
 -- a method that no delta lists has the body at its place in the base
-pub base_place_body : (b : Source) (added : List Added) (room : ℕ) (u : Token) (n : ℕ) (texts : ℕ → Option (List ℕ)) → IsAggregate b added → StayThere (joined_user (chain_with b (sources added)).heaps) texts → (o : Option Found) → option_map found_seen o ≡ found_in added u → o ≡ None → IsTrue (has_row (module_in b) u) → u.table ≡ 0x06 → raw_in b u 0 ≡ n → n < 2 ^ 32 → cell_of (chain_with b (sources added)).plain u 0 ≡ Some (body (body_with texts (record { base = b; deltas = sources added; room = room }) (place_of_all 0 n)))
+pub base_place_body : (b : Source) (added : List Added) (room : ℕ) (u : Token) (n : ℕ) (texts : ℕ → Option (List ℕ)) → IsAggregate b added
+    → StayThere (joined_user (chain_with b (sources added)).heaps) texts → (o : Option Found) → option_map found_seen o ≡ found_in added u → o ≡ None
+    → IsTrue (has_row (module_in b) u) → u.table ≡ 0x06 → raw_in b u 0 ≡ n → n < 2 ^ 32
+    → cell_of (chain_with b (sources added)).plain u 0 ≡ Some
+    (body (body_with texts (record { base = b; deltas = sources added; room = room }) (place_of_all 0 n)))
 base_place_body b added room u n texts agg more o is none there table raw low =
     let h : History = record { base = b; deltas = sources added; room = room } in
     base_loaded b added u n texts agg more o is none there table raw ∙ ap (λ x. Some (body x)) (sym (in_place texts h 0 n b low refl))
 
-pub base_place_stands : (b : Source) (added : List Added) (room n : ℕ) (texts : ℕ → Option (List ℕ)) → n < 2 ^ 32 → is_some (code_loaded b.loaded n) ≡ not (n == 0) → is_some (body_with texts (record { base = b; deltas = sources added; room = room }) (place_of_all 0 n)) ≡ not (place_of_all 0 n == 0)
+pub base_place_stands : (b : Source) (added : List Added) (room n : ℕ) (texts : ℕ → Option (List ℕ)) → n < 2 ^ 32
+    → is_some (code_loaded b.loaded n) ≡ not (n == 0)
+    → is_some (body_with texts (record { base = b; deltas = sources added; room = room }) (place_of_all 0 n)) ≡ not (place_of_all 0 n == 0)
 base_place_stands b added room n texts low some = stands_in_place texts (record { base = b; deltas = sources added; room = room }) 0 n b low refl some
 
 -- a method that a delta lists has the one at its place in the newest such delta
@@ -148,15 +159,25 @@ found_file b added upto room u k found is =
     let many : length upto ≡ suc (length found.older) = ap (λ (xs : List Added). length xs) found.upto_is in
     later_file (record { base = b; deltas = sources added; room = room }) (length upto) (length found.older) many ∙ file_found added upto u k found.last found.older is found.upto_is
 
-pub found_place_body : (b : Source) (added upto : List Added) (room : ℕ) (u : Token) (k n : ℕ) (texts : ℕ → Option (List ℕ)) (found : IsFound b added u upto k) → StayThere (joined_user (chain_with b (sources added)).heaps) texts → found_in added u ≡ Some (upto, k) → u.table ≡ 0x06 → newest_number upto (record { table = u.table; row = k }) 0 ≡ n → n < 2 ^ 32 → cell_of (chain_with b (sources added)).plain u 0 ≡ Some (body (body_with texts (record { base = b; deltas = sources added; room = room }) (place_of_all (length upto) n)))
+pub found_place_body : (b : Source) (added upto : List Added) (room : ℕ) (u : Token) (k n : ℕ) (texts : ℕ
+    → Option (List ℕ)) (found : IsFound b added u upto k) → StayThere (joined_user (chain_with b (sources added)).heaps) texts
+    → found_in added u ≡ Some (upto, k) → u.table ≡ 0x06 → newest_number upto (record { table = u.table; row = k }) 0 ≡ n → n < 2 ^ 32
+    → cell_of (chain_with b (sources added)).plain u 0 ≡ Some
+    (body (body_with texts (record { base = b; deltas = sources added; room = room }) (place_of_all (length upto) n)))
 found_place_body b added upto room u k n texts found more is table told low =
     let h : History = record { base = b; deltas = sources added; room = room } in
-    loaded_found b added upto u k n texts found more table told ∙ ap (λ x. Some (body x)) (sym (in_place texts h (length upto) n found.last.delta low (found_file b added upto room u k found is)))
+    loaded_found b added upto u k n texts found more table told
+    ∙ ap (λ x. Some (body x)) (sym (in_place texts h (length upto) n found.last.delta low (found_file b added upto room u k found is)))
 
-pub found_place_stands : (b : Source) (added upto : List Added) (room : ℕ) (u : Token) (k n : ℕ) (texts : ℕ → Option (List ℕ)) (found : IsFound b added u upto k) → found_in added u ≡ Some (upto, k) → u.table ≡ 0x06 → newest_number upto (record { table = u.table; row = k }) 0 ≡ n → n < 2 ^ 32 → is_some (body_with texts (record { base = b; deltas = sources added; room = room }) (place_of_all (length upto) n)) ≡ not (place_of_all (length upto) n == 0)
+pub found_place_stands : (b : Source) (added upto : List Added) (room : ℕ) (u : Token) (k n : ℕ) (texts : ℕ
+    → Option (List ℕ)) (found : IsFound b added u upto k) → found_in added u ≡ Some (upto, k) → u.table ≡ 0x06
+    → newest_number upto (record { table = u.table; row = k }) 0 ≡ n → n < 2 ^ 32
+    → is_some (body_with texts (record { base = b; deltas = sources added; room = room }) (place_of_all (length upto) n)) ≡ not
+    (place_of_all (length upto) n == 0)
 found_place_stands b added upto room u k n texts found is table told low =
     let h : History = record { base = b; deltas = sources added; room = room } in
-    let some = own_stands (chain_with b (sources found.older)) found.last.delta u k n found.is_added.follows found.place table (raw_found b added upto u k 0 n found told) in
+    let some = own_stands (chain_with b (sources found.older)) found.last.delta u k n found.is_added.follows found.place table
+    (raw_found b added upto u k 0 n found told) in
     stands_in_place texts h (length upto) n found.last.delta low (found_file b added upto room u k found is) some
 
 -- with one delta more it is the file of the last generation, and the others are the same
@@ -172,13 +193,16 @@ zero_by n true e h = is_zero n e
 zero_by n false e h = absurd cc
 
 -- so a number that tells a place, or is 0, tells the same with one delta more
-place_by : (texts : ℕ → Option (List ℕ)) (h : History) (d : Source) (n : ℕ) (o : Option Source) → file_of h (n / 2 ^ 32) ≡ o → is_some (body_with texts h n) ≡ not (n == 0) → body_with texts (with_delta h d) n ≡ body_with texts h n
+place_by : (texts : ℕ → Option (List ℕ)) (h : History) (d : Source) (n : ℕ) (o : Option Source) → file_of h (n / 2 ^ 32) ≡ o
+    → is_some (body_with texts h n) ≡ not (n == 0) → body_with texts (with_delta h d) n ≡ body_with texts h n
 unfolding body_with
-place_by texts h d n (Some s) is some = ap (option_and_then (λ (x : Source). body_loaded x.loaded texts (n % 2 ^ 32))) (file_stays h d (n / 2 ^ 32) s is ∙ sym is)
+place_by texts h d n (Some s) is some = ap (option_and_then (λ (x : Source). body_loaded x.loaded texts (n % 2 ^ 32))) (file_stays h d (n / 2 ^ 32) s is
+    ∙ sym is)
 place_by texts h d n None is some =
     let told : is_some (body_with texts h n) ≡ false = ap (λ o. is_some (option_and_then (λ (x : Source). body_loaded x.loaded texts (n % 2 ^ 32)) o)) is in
     let at_zero : n ≡ 0 = zero_by n (n == 0) refl (sym some ∙ told) in
     ap (body_with texts (with_delta h d)) at_zero ∙ none_at_zero texts (with_delta h d) ∙ sym (none_at_zero texts h) ∙ ap (body_with texts h) (sym at_zero)
 
-pub place_stays : (texts : ℕ → Option (List ℕ)) (h : History) (d : Source) (n : ℕ) → is_some (body_with texts h n) ≡ not (n == 0) → body_with texts (with_delta h d) n ≡ body_with texts h n
+pub place_stays : (texts : ℕ → Option (List ℕ)) (h : History) (d : Source) (n : ℕ) → is_some (body_with texts h n) ≡ not (n == 0)
+    → body_with texts (with_delta h d) n ≡ body_with texts h n
 place_stays texts h d n some = place_by texts h d n (file_of h (n / 2 ^ 32)) refl some

@@ -344,13 +344,15 @@ pub not_placed : (tokens all : List Token) (k : ℕ) (d : Token) (o : Option ℕ
 not_placed tokens all k d o is low told none = is_placed tokens k d (get_or tokens k d) low refl (ap (λ xs. place_in xs (get_or tokens k d)) is ∙ sym told ∙ none)
 
 -- owners and children that are known by other means too
-pub owned_alone : (before after : Chain) (owner other : Token → Option Token) → ((u : Token) → other u ≡ owner u) → AreOwned before after owner → AreOwned before after other
+pub owned_alone : (before after : Chain) (owner other : Token → Option Token) → ((u : Token) → other u ≡ owner u) → AreOwned before after owner
+    → AreOwned before after other
 owned_alone before after owner other same owned = record {
   old = λ u there low. same u ∙ owned.old u there low;
   new = λ u there past high. same u ∙ owned.new u there past high;
 }
 
-pub held_alone : (before after : Chain) (count kid other_count other_kid : Key → Option ℕ) → ((q : Key) → other_count q ≡ count q) → ((q : Key) → other_kid q ≡ kid q) → AreHeld before after count kid → AreHeld before after other_count other_kid
+pub held_alone : (before after : Chain) (count kid other_count other_kid : Key → Option ℕ) → ((q : Key) → other_count q ≡ count q)
+    → ((q : Key) → other_kid q ≡ kid q) → AreHeld before after count kid → AreHeld before after other_count other_kid
 held_alone before after count kid other_count other_kid counts kids held u t there owners =
     let h = held u t there owners in
     record {

@@ -170,7 +170,8 @@ no_table m t tables high = sym (ap (λ (xs : List Row). length xs) (past_tables 
     past_tables xs t h = rw (slice_get_past xs t h) refl
 
 -- the rows of a table, by the numbers of those of the first 64
-pub counted_rows : (m : Module) (counts : List ℕ) (t : ℕ) → HasTables m → ((k : ℕ) → k < 64 → slice_index counts k ≡ length (rows_in m k)) → rows_counted counts t ≡ length (rows_in m t)
+pub counted_rows : (m : Module) (counts : List ℕ) (t : ℕ) → HasTables m → ((k : ℕ) → k < 64 → slice_index counts k ≡ length (rows_in m k))
+    → rows_counted counts t ≡ length (rows_in m t)
 counted_rows m counts t tables are =
     elim (cases_lt t 64) [
       | inl low ↦ let e : nat_lt t 64 ≡ true = grind (arith, nat_tests) in rw e (are t low)
@@ -256,11 +257,13 @@ unfolding chain_with extended
 user_kept b added more a e o units is = rw (e, reverse-append added (a ∷ [])) (user_stays (chain_with b (sources (reverse added))).heaps a.delta.heaps o units is)
 
 -- a history with one delta more
-pub chain_more : (b : Source) (added more : List Added) (a : Added) → more ≡ added ++ a ∷ [] → chain_with b (sources (reverse more)) ≡ extended (chain_with b (sources (reverse added))) a.delta
+pub chain_more : (b : Source) (added more : List Added) (a : Added) → more ≡ added ++ a ∷ []
+    → chain_with b (sources (reverse more)) ≡ extended (chain_with b (sources (reverse added))) a.delta
 unfolding chain_with
 chain_more b added more a e = rw (e, reverse-append added (a ∷ [])) refl
 
-pub history_more : (b : Source) (added more : List Added) (a : Added) (was room : ℕ) → more ≡ added ++ a ∷ [] → room + 1 ≡ was → with_delta (record { base = b; deltas = sources (reverse added); room = was }) a.delta ≡ record { base = b; deltas = sources (reverse more); room = room }
+pub history_more : (b : Source) (added more : List Added) (a : Added) (was room : ℕ) → more ≡ added ++ a ∷ [] → room + 1 ≡ was
+    → with_delta (record { base = b; deltas = sources (reverse added); room = was }) a.delta ≡ record { base = b; deltas = sources (reverse more); room = room }
 history_more b added more a was room e less =
     let one : was - 1 ≡ room = omega (arith, less) in
     rw (e, reverse-append added (a ∷ []), one) refl

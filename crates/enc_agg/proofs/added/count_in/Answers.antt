@@ -11,7 +11,8 @@ returns-in_default-clause-count c = rw c.in_default.ensures.parts c.count.ensure
 pub returns-clause-count : goal.returns-clause-count
 returns-clause-count c =
     let all = rw c.in-Some.ensures.parts at c.requires in
-    rw c.in-Some.ensures.parts (c.count_of.ensures ∙ counted_rows _ _ c.args.table (with_tables c.args.image.now _) (λ k low. counts_are c.args.image.now _ _ k all low))
+    rw c.in-Some.ensures.parts (c.count_of.ensures
+    ∙ counted_rows _ _ c.args.table (with_tables c.args.image.now _) (λ k low. counts_are c.args.image.now _ _ k all low))
 
 pub returns-clause-few : goal.returns-clause-few
 returns-clause-few c =

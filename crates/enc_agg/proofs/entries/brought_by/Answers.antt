@@ -15,6 +15,8 @@ returns-clause-entries g c = rw c.entries_with_own.ensures.entries (record {
 pub returns-clause-own : goal.returns-clause-own
 returns-clause-own g c = rw c.entries_with_own.ensures.own (record {
   places = λ u. c.in_ok-places.ensures.same (row_key u) ∙ rw c.generations.ensures.count at (c.in_ok-places.ensures.places u);
-  owners = owned_alone (chain_of_all c.args.aggregate.now) (extended (chain_of_all c.args.aggregate.now) c.args.delta.now) _ _ (λ u. c.in_ok-gained.ensures.same.owners (row_key u)) c.in_ok-gained.ensures.owners;
-  kids = held_alone (chain_of_all c.args.aggregate.now) (extended (chain_of_all c.args.aggregate.now) c.args.delta.now) _ _ _ _ c.in_ok-gained.ensures.same.counts c.in_ok-gained.ensures.same.kids c.in_ok-gained.ensures.kids;
+  owners = owned_alone (chain_of_all c.args.aggregate.now) (extended (chain_of_all c.args.aggregate.now) c.args.delta.now) _ _
+      (λ u. c.in_ok-gained.ensures.same.owners (row_key u)) c.in_ok-gained.ensures.owners;
+  kids = held_alone (chain_of_all c.args.aggregate.now) (extended (chain_of_all c.args.aggregate.now) c.args.delta.now) _ _ _ _
+      c.in_ok-gained.ensures.same.counts c.in_ok-gained.ensures.same.kids c.in_ok-gained.ensures.kids;
 })

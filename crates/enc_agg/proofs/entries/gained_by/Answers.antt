@@ -21,7 +21,9 @@ pub push-requires-clause-few : goal.push-requires-clause-few
 push-requires-clause-few c =
     let inv = c.loop-k.invariant in
     let so_far = rw (inv.same.counts (kids_key _ _ 0)) at c.count_so_far-others.ensures in
-    let few = others_known (chain_of_all c.args.aggregate.now) c.args.delta.now c.args.pairs.now c.loop-k.k _ c.count_so_far-others.result (latest c.loop-k.gained.counts.entries.items) (latest c.loop-k.gained.kids.entries.items) c.has_owners.ensures c.requires.follows c.requires.pairs c.loop-k-test.true inv.kids so_far in
+    let few = others_known (chain_of_all c.args.aggregate.now) c.args.delta.now c.args.pairs.now c.loop-k.k _ c.count_so_far-others.result
+    (latest c.loop-k.gained.counts.entries.items) (latest c.loop-k.gained.kids.entries.items) c.has_owners.ensures c.requires.follows c.requires.pairs
+    c.loop-k-test.true inv.kids so_far in
     omega (arith, few)
 
 pub loop-k-preserved : goal.loop-k-preserved
@@ -34,7 +36,11 @@ loop-k-preserved c =
     (record {
       same = put.same;
       owners = λ u. rw more (owner_snoc (take c.loop-k.k (map pair_seen c.args.pairs.now)) (pair_seen (get_or c.args.pairs.now c.loop-k.k _)) u _ _ (put.owners (row_key u)) (inv.owners u));
-      kids = λ u t there mine. rw more (held_step (chain_of_all c.args.aggregate.now) (take c.loop-k.k (map pair_seen c.args.pairs.now)) (pair_seen (get_or c.args.pairs.now c.loop-k.k _)) c.count_so_far-others.result (latest c.loop-k.gained.counts.entries.items) (latest c.loop-k.gained.kids.entries.items) (latest c.push.new.self.counts.entries.items) (latest c.push.new.self.kids.entries.items) own.table own.child so_far put.counts put.kids inv.kids u t there mine);
+      kids = λ u t there mine. rw more
+          (held_step (chain_of_all c.args.aggregate.now) (take c.loop-k.k (map pair_seen c.args.pairs.now))
+          (pair_seen (get_or c.args.pairs.now c.loop-k.k _)) c.count_so_far-others.result (latest c.loop-k.gained.counts.entries.items)
+          (latest c.loop-k.gained.kids.entries.items) (latest c.push.new.self.counts.entries.items) (latest c.push.new.self.kids.entries.items) own.table
+          own.child so_far put.counts put.kids inv.kids u t there mine);
     })
 
 pub returns-clause-owners : goal.returns-clause-owners
@@ -45,4 +51,6 @@ returns-clause-owners c =
 pub returns-clause-kids : goal.returns-clause-kids
 returns-clause-kids c =
     let whole : take c.loop-k.k (map pair_seen c.args.pairs.now) ≡ attached_of c.args.delta.now = take_all c.loop-k.k (map pair_seen c.args.pairs.now) (omega (arith, c.loop-k-test.false, length-map c.args.pairs.now pair_seen)) ∙ c.requires.pairs in
-    kids_known (chain_of_all c.args.aggregate.now) c.args.delta.now (latest c.loop-k.gained.counts.entries.items) (latest c.loop-k.gained.kids.entries.items) c.has_owners.ensures c.requires.follows.lands (λ u t there mine. rw (← whole) (c.loop-k.invariant.kids u t there mine))
+    kids_known (chain_of_all c.args.aggregate.now) c.args.delta.now (latest c.loop-k.gained.counts.entries.items)
+    (latest c.loop-k.gained.kids.entries.items) c.has_owners.ensures c.requires.follows.lands
+    (λ u t there mine. rw (← whole) (c.loop-k.invariant.kids u t there mine))

@@ -16,5 +16,8 @@ abbrev pub invariant-loop-k : goal.invariant-loop-k
 invariant-loop-k l = record {
   same : AreSame l.gained;
   owners : (u : TheToken) → latest l.gained.owners.entries.items (row_key u) ≡ last_owner (take l.k (map pair_seen l.pairs)) u;
-  kids : (u : TheToken) (t : ℕ) → IsTrue (is_child_table t) → u.table ≡ owner_table t → IsHeld (kids_of (module_of_all l.aggregate) u t ++ gained (take l.k (map pair_seen l.pairs)) u t) (length (kids_of (module_of_all l.aggregate) u t)) (latest l.gained.counts.entries.items (kids_key t u 0)) (λ i. latest l.gained.kids.entries.items (kids_key t u i));
+  kids : (u : TheToken) (t : ℕ) → IsTrue (is_child_table t) → u.table ≡ owner_table t
+      → IsHeld (kids_of (module_of_all l.aggregate) u t ++ gained (take l.k (map pair_seen l.pairs)) u t)
+      (length (kids_of (module_of_all l.aggregate) u t)) (latest l.gained.counts.entries.items (kids_key t u 0))
+      (λ i. latest l.gained.kids.entries.items (kids_key t u i));
 }

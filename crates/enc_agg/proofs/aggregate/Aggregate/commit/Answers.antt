@@ -18,7 +18,10 @@ returns-clause-texts c = λ offset units is. user_kept c.self.inside.image c.sel
 pub returns-clause-history : goal.returns-clause-history
 returns-clause-history c =
     let room = rw (← c.self.view_is) at c.requires.room in
-    rw (← c.self.view_is) (sym (history_more c.self.inside.image c.self.inside.added.items c.push_reserved.new.self.items (to_add c.args.ready) _ _ c.push_reserved.ensures.items (omega (arith, room, c.push_reserved.ensures.len, c.push_reserved.ensures.capacity))))
+    rw (← c.self.view_is)
+    (sym (history_more c.self.inside.image c.self.inside.added.items c.push_reserved.new.self.items (to_add c.args.ready) _ _
+    c.push_reserved.ensures.items (omega (arith, room, c.push_reserved.ensures.len, c.push_reserved.ensures.capacity))))
 
 pub returns-clause-chain : goal.returns-clause-chain
-returns-clause-chain c = rw (← c.self.view_is) (chain_more c.self.inside.image c.self.inside.added.items c.push_reserved.new.self.items (to_add c.args.ready) c.push_reserved.ensures.items)
+returns-clause-chain c = rw (← c.self.view_is)
+    (chain_more c.self.inside.image c.self.inside.added.items c.push_reserved.new.self.items (to_add c.args.ready) c.push_reserved.ensures.items)

@@ -15,7 +15,9 @@ returns-in_default-clause-body c =
     let found = rw c.deref.ensures.value at c.find.ensures in
     let there = base_row c.self.inside.image _ c.args.method c.self.invariant.deltas _ found c.in_default.is (rw (← c.self.view_is) at c.requires.row) in
     let low : c.rva.result < 2 ^ 32 = omega (arith, c.rva.type_inv) in
-    rw (← c.self.view_is, c.place_of_all.ensures) (λ texts more. base_place_body c.self.inside.image _ _ c.args.method c.rva.result texts c.self.invariant.deltas more _ found c.in_default.is there c.requires.table c.rva.ensures.raw low)
+    rw (← c.self.view_is, c.place_of_all.ensures)
+    (λ texts more. base_place_body c.self.inside.image _ _ c.args.method c.rva.result texts c.self.invariant.deltas more _ found c.in_default.is there
+    c.requires.table c.rva.ensures.raw low)
 
 pub returns-in_default-clause-some : goal.returns-in_default-clause-some
 returns-in_default-clause-some c =
@@ -33,7 +35,9 @@ returns-clause-body c =
     let found = the_found c.self.inside.image _ c.args.method c.self.invariant.deltas _ c.in-Some.found told c.in-Some.is in
     let is : found_in (reverse c.self.inside.added.items) c.args.method ≡ Some (reverse c.in-Some.found.upto.now, c.in-Some.found.row) = sym told ∙ ap (option_map found_seen) c.in-Some.is in
     let low : c.number-place.result < 2 ^ 32 = omega (arith, c.number-place.type_inv) in
-    rw (← c.self.view_is, c.place_of_all-2.ensures, ← length-reverse c.in-Some.found.upto.now) (λ texts more. found_place_body c.self.inside.image _ _ _ c.args.method _ c.number-place.result texts found more is c.requires.table (rw c.row_found.ensures at c.number-place.ensures) low)
+    rw (← c.self.view_is, c.place_of_all-2.ensures, ← length-reverse c.in-Some.found.upto.now)
+    (λ texts more. found_place_body c.self.inside.image _ _ _ c.args.method _ c.number-place.result texts found more is c.requires.table
+    (rw c.row_found.ensures at c.number-place.ensures) low)
 
 pub returns-clause-some : goal.returns-clause-some
 returns-clause-some c =
@@ -41,4 +45,6 @@ returns-clause-some c =
     let found = the_found c.self.inside.image _ c.args.method c.self.invariant.deltas _ c.in-Some.found told c.in-Some.is in
     let is : found_in (reverse c.self.inside.added.items) c.args.method ≡ Some (reverse c.in-Some.found.upto.now, c.in-Some.found.row) = sym told ∙ ap (option_map found_seen) c.in-Some.is in
     let low : c.number-place.result < 2 ^ 32 = omega (arith, c.number-place.type_inv) in
-    rw (← c.self.view_is, c.place_of_all-2.ensures, ← length-reverse c.in-Some.found.upto.now) (λ texts. found_place_stands c.self.inside.image _ _ _ c.args.method _ c.number-place.result texts found is c.requires.table (rw c.row_found.ensures at c.number-place.ensures) low)
+    rw (← c.self.view_is, c.place_of_all-2.ensures, ← length-reverse c.in-Some.found.upto.now)
+    (λ texts. found_place_stands c.self.inside.image _ _ _ c.args.method _ c.number-place.result texts found is c.requires.table
+    (rw c.row_found.ensures at c.number-place.ensures) low)

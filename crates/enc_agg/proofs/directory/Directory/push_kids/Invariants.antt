@@ -6,7 +6,8 @@ use Rattle.enc_agg.proofs.directory.Directory.push_kids.Given as goal
 -- the children so far
 abbrev pub invariant-loop-i : goal.invariant-loop-i
 invariant-loop-i l = record {
-  rows : l.rows.items ≡ l.fn.rows.items ++ kids_kept (λ i. value_at l.self.kids (kids_key l.table l.owner i)) (length l.fn.rows.items) (l.i - length l.fn.rows.items);
+  rows : l.rows.items ≡ l.fn.rows.items ++ kids_kept (λ i. value_at l.self.kids (kids_key l.table l.owner i)) (length l.fn.rows.items)
+      (l.i - length l.fn.rows.items);
   low : length l.fn.rows.items ≤ l.i;
   high : l.i - length l.fn.rows.items ≤ l.count - length l.fn.rows.items;
 }

@@ -15,4 +15,6 @@ token_meant-requires c =
 pub returns : goal.returns
 returns c =
     let found = the_found c.self.inside.image _ c.args.row c.self.invariant.deltas _ c.in-Some.found (rw c.deref.ensures.value at c.find.ensures) c.in-Some.is in
-    rw (← c.self.view_is) (known_there _ _ _ c.token_meant.ensures (refer_found c.self.inside.image _ _ c.args.row _ c.args.column _ found c.requires.kind (rw c.row_found.ensures at c.number-number.ensures)))
+    rw (← c.self.view_is)
+    (known_there _ _ _ c.token_meant.ensures
+    (refer_found c.self.inside.image _ _ c.args.row _ c.args.column _ found c.requires.kind (rw c.row_found.ensures at c.number-number.ensures)))
