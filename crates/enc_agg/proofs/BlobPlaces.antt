@@ -1,5 +1,5 @@
 -- The blob at an offset of all heaps.
-use Rattle.std.proofs.Common.{◌≡◌, ℕ, true, List, [], ◌∷◌, Option, Some, None, refl, sym, ap, ◌∙◌}
+use Rattle.std.proofs.Common.{◌≡◌, ℕ, true, List, [], ◌∷◌, Option, Some, None, refl, ap, ◌∙◌}
 use Rattle.std.specs.Prelude.{is_some, option_map, MatchOption}
 use Rattle.enc_base.specs.declared.token.Token.{Token}
 use Rattle.enc_meta.specs.Heaps.{blob_at}
@@ -34,11 +34,12 @@ unfolding found_in
 found_blobs b [] upto u k o x is there = absurd cc
 found_blobs b (a ∷ older) upto u k o x is there = found_step b a older upto k (place_in (listed a.delta) u) (found_in older u) o x (λ h. found_blobs b older upto u k o x h there) is there
 
-told_by : (o : Option (List ℕ)) (cell : Option Cell) (all : Option (List ℕ)) → ((x : List ℕ) → o ≡ Some x → all ≡ Some x) → is_some o ≡ true → cell ≡ option_map blob o → cell ≡ option_map blob all
+pub told_by : (o : Option (List ℕ)) (cell : Option Cell) (all : Option (List ℕ)) → ((x : List ℕ) → o ≡ Some x → all ≡ Some x) → is_some o ≡ true
+    → cell ≡ option_map blob o → cell ≡ option_map blob all
 told_by None cell all same some is = absurd cc
 told_by (Some x) cell all same some is = rw (same x refl) is
 
-some_by : (o all : Option (List ℕ)) → ((x : List ℕ) → o ≡ Some x → all ≡ Some x) → is_some o ≡ true → is_some all ≡ true
+pub some_by : (o all : Option (List ℕ)) → ((x : List ℕ) → o ≡ Some x → all ≡ Some x) → is_some o ≡ true → is_some all ≡ true
 some_by None all same some = absurd cc
 some_by (Some x) all same some = ap is_some (same x refl)
 
@@ -48,7 +49,8 @@ base_blob b added o cell some is = told_by (blob_at b.heaps.blobs o) cell _ (λ 
 pub base_some : (b : Source) (added : List Added) (o : ℕ) → is_some (blob_at b.heaps.blobs o) ≡ true → is_some (joined_blob (chain_with b (sources added)).heaps o) ≡ true
 base_some b added o some = some_by (blob_at b.heaps.blobs o) _ (λ x h. base_blobs b added o x h) some
 
-matched : (o : Option (List ℕ)) (cell : Option Cell) (all : Option (List ℕ)) → ((x : List ℕ) → o ≡ Some x → all ≡ Some x) → MatchOption o ⊥ (λ a. cell ≡ Some (blob a)) → (cell ≡ option_map blob all) × (is_some all ≡ true)
+pub matched : (o : Option (List ℕ)) (cell : Option Cell) (all : Option (List ℕ)) → ((x : List ℕ) → o ≡ Some x → all ≡ Some x)
+    → MatchOption o ⊥ (λ a. cell ≡ Some (blob a)) → (cell ≡ option_map blob all) × (is_some all ≡ true)
 matched None cell all same is = absurd is
 matched (Some x) cell all same is = (rw (same x refl) is, ap is_some (same x refl))
 

@@ -2,12 +2,12 @@
 use Rattle.std.proofs.Common.{◌≡◌, ℕ, zero, suc, ◌+◌, ◌-◌, ◌<◌, ◌≤◌, List, [], ◌∷◌, ◌++◌, length, take, drop, reverse, Option, Some, None, refl, sym, ap, ◌∙◌, append_assoc, append-nil, inl, inr, arith}
 use Rattle.std.specs.Prelude.{IsTrue, option_map, unwrap_or, slice_get}
 use Rattle.std.proofs.lemmas.Bool.{cases_lt}
-use Rattle.std.proofs.lemmas.List.{reverse-append, length-map, length-reverse, take_at}
+use Rattle.std.proofs.lemmas.List.{reverse-append, length-map, length-reverse, take_at, take_all}
 use Rattle.enc_base.specs.declared.token.Token.{Token}
 use Rattle.enc_index.specs.declared.key.Key.{Key}
 use Rattle.enc_index.specs.Index.{value_at, latest, either}
 use Rattle.enc_rows.specs.Source.{Source}
-use Rattle.enc_schema.specs.Children.{is_child_table}
+use Rattle.enc_schema.specs.Children.{is_child_table, owner_table}
 use Rattle.enc_plain.specs.Chain.{Chain}
 use Rattle.enc_plain.specs.Module.{rows_in, has_row, owner_of, kids_of}
 use Rattle.enc_plain.specs.Apply.{gained}
@@ -22,7 +22,7 @@ use Rattle.enc_agg.specs.declared.directory.Entries.{Entries}
 use Rattle.enc_agg.specs.Extend.{extended, chain_with}
 use Rattle.enc_agg.specs.Follows.{Lands}
 use Rattle.enc_agg.specs.Seen.{sources, AllAdded, IsAdded, IsAggregate, found_or, found_in}
-use Rattle.enc_agg.specs.Directory.{row_key, kids_key, place_seen, HasPlaces, IsBare, IsHeld, AreOwned, AreHeld, IsDirectory, AreBrought}
+use Rattle.enc_agg.specs.Directory.{row_key, kids_key, place_seen, HasPlaces, IsBare, IsHeld, kept_one, kids_kept, with_kept, AreOwned, AreHeld, IsDirectory, AreBrought}
 use Rattle.std.proofs.lemmas.Bool.Decides.{nat_tests}
 use Rattle.enc_image.specs.Base.{cells_fault, module_in, chain_of_base}
 use Rattle.enc_agg.specs.declared.aggregate.Ready.{Ready}
@@ -250,12 +250,82 @@ held_there kids first count kid i held le low none =
     let e : None ≡ Some w.0 = sym none ∙ held.new i le low ∙ w.1 in
     absurd cc
 
+-- the children that are kept follow those that are known elsewhere
+kept_front : (kids first : List ℕ) (kid : ℕ → Option ℕ) (n : ℕ) → ((i : ℕ) → length first ≤ i → i < length kids → kid i ≡ slice_get kids i)
+    → first ≡ take (length first) kids → length first + n ≤ length kids → first ++ kids_kept kid (length first) n ≡ take (length first + n) kids
+unfolding kids_kept
+kept_front kids first kid zero new front few =
+    let e : length first ≡ length first + 0 = omega arith in
+    append-nil first ∙ front ∙ ap (λ m. take m kids) e
+kept_front kids first kid (suc n) new front few =
+    let k = length first + n in
+    let low : k < length kids = omega (arith, few) in
+    let w = get_some kids k low in
+    let next : kid k ≡ Some w.0 = new k (omega arith) low ∙ w.1 in
+    let e : k + 1 ≡ length first + suc n = omega arith in
+    ap (λ o. first ++ (kids_kept kid (length first) n ++ kept_one o)) next ∙ sym (append_assoc first (kids_kept kid (length first) n) (w.0 ∷ []))
+    ∙ ap (λ xs. xs ++ w.0 ∷ []) (kept_front kids first kid n new front (omega (arith, few))) ∙ sym (take_got kids k w.0 w.1) ∙ ap (λ m. take m kids) e
+
+pub kept_kids : (kids first : List ℕ) (count : Option ℕ) (kid : ℕ → Option ℕ) → IsHeld kids (length first) count kid → first ≡ take (length first) kids
+    → with_kept first count kid ≡ kids
+kept_kids kids first count kid held front =
+    let all : length first + (length kids - length first) ≡ length kids = omega (arith, held.low) in
+    ap (λ m. first ++ kids_kept kid (length first) (m - length first)) held.many
+    ∙ kept_front kids first kid (length kids - length first) held.new front (omega (arith, all)) ∙ ap (λ m. take m kids) all
+    ∙ take_all (length kids) kids (omega arith)
+
+pub base_kids : (b : Source) (added : List Added) (x : Directory) (u : Token) (t : ℕ) (first rows : List ℕ) → IsWhole b added x → IsTrue (is_child_table t)
+    → u.table ≡ owner_table t → first ≡ kids_of (chain_with b []).plain u t
+    → rows ≡ with_kept first (value_at x.counts (kids_key t u 0)) (λ i. value_at x.kids (kids_key t u i))
+    → rows ≡ kids_of (chain_with b (sources added)).plain u t
+base_kids b added x u t first rows whole child owners is made =
+    let many : length first ≡ length (kids_of (chain_with b []).plain u t) = ap (λ (xs : List ℕ). length xs) is in
+    made ∙ kept_kids (kids_of (chain_with b (sources added)).plain u t) first (value_at x.counts (kids_key t u 0)) (λ i. value_at x.kids (kids_key t u i))
+    (rw is (whole.directory.kids u t child owners)) (kids_front b added u t (length first) first whole.deltas.sound whole.deltas.all child many is)
+
+-- no more than the first
+pub none_more : (first : List ℕ) (kid : ℕ → Option ℕ) (i : ℕ) → i ≡ length first → first ≡ first ++ kids_kept kid (length first) (i - length first)
+unfolding kids_kept
+none_more first kid i is =
+    let e : i - length first ≡ 0 = omega (arith, is) in
+    sym (append-nil first) ∙ ap (λ n. first ++ kids_kept kid (length first) n) (sym e)
+
+pub none_kept : (first : List ℕ) (o : Option ℕ) (kid : ℕ → Option ℕ) → o ≡ None → first ≡ with_kept first o kid
+none_kept first o kid none = none_more first kid (length first) refl
+    ∙ ap (λ x. first ++ kids_kept kid (length first) (unwrap_or x (length first) - length first)) (sym none)
+
+-- and all, where there are so many
+pub all_kept : (first rows : List ℕ) (o : Option ℕ) (kid : ℕ → Option ℕ) (i count : ℕ) → o ≡ Some count
+    → rows ≡ first ++ kids_kept kid (length first) (i - length first) → i - length first ≤ count - length first → count ≤ i → rows ≡ with_kept first o kid
+all_kept first rows o kid i count is made high past =
+    let e : i - length first ≡ count - length first = omega (arith, high, past) in
+    made ∙ ap (λ n. first ++ kids_kept kid (length first) n) e
+    ∙ ap (λ x. first ++ kids_kept kid (length first) (unwrap_or x (length first) - length first)) (sym is)
+
+-- with the next one
+pub one_kept : (first rows more : List ℕ) (o : Option ℕ) (kid : ℕ → Option ℕ) (i : ℕ) → length first ≤ i → o ≡ kid i
+    → rows ≡ first ++ kids_kept kid (length first) (i - length first) → more ≡ rows ++ kept_one o
+    → more ≡ first ++ kids_kept kid (length first) (i + 1 - length first)
+unfolding kids_kept
+one_kept first rows more o kid i low is made put =
+    let e : i + 1 - length first ≡ suc (i - length first) = omega (arith, low) in
+    let at : length first + (i - length first) ≡ i = omega (arith, low) in
+    let n = i - length first in
+    put ∙ ap (λ x. rows ++ kept_one x) (is ∙ ap kid (sym at)) ∙ ap (λ xs. xs ++ kept_one (kid (length first + n))) made
+    ∙ append_assoc first (kids_kept kid (length first) n) (kept_one (kid (length first + n))) ∙ ap (λ m. first ++ kids_kept kid (length first) m) (sym e)
+
 -- the owner of a new child row is known
-pub owner_known : (b : Source) (added : List Added) (x : Directory) (u : Token) → IsWhole b added x → (n : ℕ) → n ≡ length (rows_in (module_in b) u.table) → n < u.row → IsTrue (has_row (chain_with b (sources added)).plain u) → IsTrue (is_child_table u.table) → (value_at x.owners (row_key u) ≡ owner_of (chain_with b (sources added)).plain u) × (value_at x.owners (row_key u) ≡ None → ⊥)
-unfolding chain_with chain_of_base has_row
-owner_known b added x u whole n many past row there =
-    let high : u.row ≤ length (rows_in (chain_with b (sources added)).plain u.table) = grind (arith, nat_tests) in
-    let is = whole.directory.owners.new u there (omega (arith, many, past)) high in
-    let sound = with_sound b added whole.deltas.sound whole.deltas.all in
-    let w = has_owner (chain_with b (sources added)).plain u sound.owned there (omega arith) high in
+pub new_owner : (before after : Chain) (owner : Token → Option Token) (u : Token) (n : ℕ) → AreOwned before after owner → HasOwners after.plain
+    → n ≡ length (rows_in before.plain u.table) → n < u.row → IsTrue (has_row after.plain u) → IsTrue (is_child_table u.table)
+    → (owner u ≡ owner_of after.plain u) × (owner u ≡ None → ⊥)
+unfolding has_row
+new_owner before after owner u n owned sound many past row there =
+    let high : u.row ≤ length (rows_in after.plain u.table) = grind (arith, nat_tests) in
+    let is = owned.new u there (omega (arith, many, past)) high in
+    let w = has_owner after.plain u sound.owned there (omega arith) high in
     (is, λ none. let e : Some w.owner ≡ None = sym (is ∙ w.is) ∙ none in cc)
+
+pub owner_known : (b : Source) (added : List Added) (x : Directory) (u : Token) → IsWhole b added x → (n : ℕ) → n ≡ length (rows_in (module_in b) u.table) → n < u.row → IsTrue (has_row (chain_with b (sources added)).plain u) → IsTrue (is_child_table u.table) → (value_at x.owners (row_key u) ≡ owner_of (chain_with b (sources added)).plain u) × (value_at x.owners (row_key u) ≡ None → ⊥)
+owner_known b added x u whole n many past row there =
+    new_owner (chain_with b []) (chain_with b (sources added)) (λ t. value_at x.owners (row_key t)) u n whole.directory.owners
+    (with_sound b added whole.deltas.sound whole.deltas.all) (rw (base_plain b) many) past row there

@@ -343,6 +343,21 @@ others_known c s pairs k d others counts kid sound follows is low held so_far =
 pub not_placed : (tokens all : List Token) (k : ℕ) (d : Token) (o : Option ℕ) → tokens ≡ all → k < length tokens → o ≡ place_in all (get_or tokens k d) → o ≡ None → ⊥
 not_placed tokens all k d o is low told none = is_placed tokens k d (get_or tokens k d) low refl (ap (λ xs. place_in xs (get_or tokens k d)) is ∙ sym told ∙ none)
 
--- the same put in twice
-pub both_more : (e a b x y : Option ℕ) → x ≡ either e a → y ≡ either e b → a ≡ b → x ≡ y
-both_more e a b x y p q same = p ∙ ap (either e) same ∙ sym q
+-- owners and children that are known by other means too
+pub owned_alone : (before after : Chain) (owner other : Token → Option Token) → ((u : Token) → other u ≡ owner u) → AreOwned before after owner
+    → AreOwned before after other
+owned_alone before after owner other same owned = record {
+  old = λ u there low. same u ∙ owned.old u there low;
+  new = λ u there past high. same u ∙ owned.new u there past high;
+}
+
+pub held_alone : (before after : Chain) (count kid other_count other_kid : Key → Option ℕ) → ((q : Key) → other_count q ≡ count q)
+    → ((q : Key) → other_kid q ≡ kid q) → AreHeld before after count kid → AreHeld before after other_count other_kid
+held_alone before after count kid other_count other_kid counts kids held u t there owners =
+    let h = held u t there owners in
+    record {
+      low = h.low;
+      many = ap (λ o. unwrap_or o (length (kids_of before.plain u t))) (counts (kids_key t u 0)) ∙ h.many;
+      old = λ i low. kids (kids_key t u i) ∙ h.old i low;
+      new = λ i le low. kids (kids_key t u i) ∙ h.new i le low;
+    }

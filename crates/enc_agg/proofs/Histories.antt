@@ -1,5 +1,5 @@
 -- The deltas after a base, the newest first.
-use Rattle.std.proofs.Common.{◌≡◌, ℕ, suc, ◌+◌, ◌<◌, ◌≤◌, Bool, true, false, List, [], ◌∷◌, ◌++◌, length, map, reverse, Option, Some, None, refl, sym, ap, ◌∙◌, inl, inr, arith}
+use Rattle.std.proofs.Common.{◌≡◌, ℕ, suc, ◌+◌, ◌-◌, ◌<◌, ◌≤◌, Bool, true, false, List, [], ◌∷◌, ◌++◌, length, map, reverse, Option, Some, None, refl, sym, ap, ◌∙◌, inl, inr, arith}
 use Rattle.std.specs.Prelude.{IsTrue, unwrap_or, slice_get, slice_index, nat_lt}
 use Rattle.std.proofs.lemmas.Option.{slice_get_past}
 use Rattle.std.proofs.lemmas.List.{reverse-append, reverse-reverse, map-append, length-append, length-map, length-reverse}
@@ -26,7 +26,8 @@ use Rattle.enc_agg.specs.Extend.{changes_of, extended, chain_with}
 use Rattle.enc_delta.specs.Pairs.{attached_of}
 use Rattle.enc_agg.specs.Follows.{Lands, Follows}
 use Rattle.enc_plain.specs.Sound.{HasTables, HasOwners}
-use Rattle.enc_agg.specs.Seen.{sources, IsAdded, AllAdded, found_or, found_in}
+use Rattle.enc_agg.specs.Next.{with_delta}
+use Rattle.enc_agg.specs.Seen.{sources, IsAdded, AllAdded, found_or, found_in, rows_counted, StayThere}
 use Rattle.enc_base.specs.Order.{or_else, first_below}
 use Rattle.enc_base.specs.declared.refusal.Place.TheVariants as place
 use Rattle.enc_base.specs.declared.refusal.Place.{Place}
@@ -168,6 +169,15 @@ no_table m t tables high = sym (ap (λ (xs : List Row). length xs) (past_tables 
     past_tables : {X : Type 0} (xs : List (List X)) (t : ℕ) → length xs ≤ t → list_at xs t ≡ []
     past_tables xs t h = rw (slice_get_past xs t h) refl
 
+-- the rows of a table, by the numbers of those of the first 64
+pub counted_rows : (m : Module) (counts : List ℕ) (t : ℕ) → HasTables m → ((k : ℕ) → k < 64 → slice_index counts k ≡ length (rows_in m k))
+    → rows_counted counts t ≡ length (rows_in m t)
+counted_rows m counts t tables are =
+    elim (cases_lt t 64) [
+      | inl low ↦ let e : nat_lt t 64 ≡ true = grind (arith, nat_tests) in rw e (are t low)
+      | inr high ↦ let e : nat_lt t 64 ≡ false = grind (arith, nat_tests) in rw e (no_table m t tables (omega (arith, high)))
+    ]
+
 -- all tables are there, whatever the deltas
 pub with_tables : (b : Source) (ds : List Source) → HasTables (chain_with b ds).plain
 unfolding chain_with chain_of_base
@@ -238,9 +248,25 @@ last_limited b a older all =
     limited (chain_with b (sources older)) a.delta a.before last.before (heaps_unbroken (chain_with b (sources older)) a.delta last.follows.rules)
 
 -- a user text that is there stays with one delta more
+pub users_stay : (c : Chain) (d : Source) → StayThere (joined_user c.heaps) (joined_user (extended c d).heaps)
+unfolding extended
+users_stay c d = λ o units is. user_stays c.heaps d.heaps o units is
+
 pub user_kept : (b : Source) (added more : List Added) (a : Added) → more ≡ added ++ a ∷ [] → (o : ℕ) (units : List ℕ) → joined_user (chain_with b (sources (reverse added))).heaps o ≡ Some units → joined_user (chain_with b (sources (reverse more))).heaps o ≡ Some units
 unfolding chain_with extended
 user_kept b added more a e o units is = rw (e, reverse-append added (a ∷ [])) (user_stays (chain_with b (sources (reverse added))).heaps a.delta.heaps o units is)
+
+-- a history with one delta more
+pub chain_more : (b : Source) (added more : List Added) (a : Added) → more ≡ added ++ a ∷ []
+    → chain_with b (sources (reverse more)) ≡ extended (chain_with b (sources (reverse added))) a.delta
+unfolding chain_with
+chain_more b added more a e = rw (e, reverse-append added (a ∷ [])) refl
+
+pub history_more : (b : Source) (added more : List Added) (a : Added) (was room : ℕ) → more ≡ added ++ a ∷ [] → room + 1 ≡ was
+    → with_delta (record { base = b; deltas = sources (reverse added); room = was }) a.delta ≡ record { base = b; deltas = sources (reverse more); room = room }
+history_more b added more a was room e less =
+    let one : was - 1 ≡ room = omega (arith, less) in
+    rw (e, reverse-append added (a ∷ []), one) refl
 
 -- a user text of the base is one of all
 pub base_users : (b : Source) (added : List Added) (o : ℕ) (x : List ℕ) → users_of b o ≡ Some x → joined_user (chain_with b (sources added)).heaps o ≡ Some x
@@ -259,16 +285,20 @@ unfolding attach_all attach
 attached_else m [] = (refl, refl)
 attached_else m (a ∷ pairs) = attached_else (attach m a) pairs
 
+pub extended_else : (c : Chain) (d : Source) → ((extended c d).plain.resources ≡ c.plain.resources) × ((extended c d).plain.entry ≡ c.plain.entry)
+unfolding extended
+extended_else c d =
+    let put_else = applied_else c.plain (changes_of c d) in
+    let set_else = attached_else (apply c.plain (changes_of c d)) (attached_of d) in
+    (set_else.0 ∙ put_else.0, set_else.1 ∙ put_else.1)
+
 pub all_else : (b : Source) (added : List Added) → ((chain_with b (sources added)).plain.resources ≡ (module_in b).resources) × ((chain_with b (sources added)).plain.entry ≡ (module_in b).entry)
-unfolding chain_with extended chain_of_base
+unfolding chain_with chain_of_base
 all_else b [] = (refl, refl)
 all_else b (a ∷ older) =
-    let c = chain_with b (sources older) in
-    let m = apply c.plain (changes_of c a.delta) in
-    let put_else = applied_else c.plain (changes_of c a.delta) in
-    let set_else = attached_else m (attached_of a.delta) in
+    let last = extended_else (chain_with b (sources older)) a.delta in
     let before = all_else b older in
-    (set_else.0 ∙ put_else.0 ∙ before.0, set_else.1 ∙ put_else.1 ∙ before.1)
+    (last.0 ∙ before.0, last.1 ∙ before.1)
 
 limited_at : (n : ℕ) (p : Place) → broken (nat_lt 0xFFFFFF n) p ≡ None → n < 0x1000000
 limited_at n p h = by_test (nat_lt 0xFFFFFF n) refl h

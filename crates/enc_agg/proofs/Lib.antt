@@ -30,3 +30,4 @@ pub mod Directories
 pub mod Gained
 pub mod BodyPlaces
 pub mod BlobPlaces
+pub mod Next

@@ -1,5 +1,5 @@
 -- What the rows and cells of a chain with one delta more are.
-use Rattle.std.proofs.Common.{◌≡◌, ℕ, zero, suc, ◌+◌, ◌≤◌, ◌-◌, ◌<◌, Bool, true, false, List, [], ◌∷◌, length, Option, Some, None, refl, sym, ap, ◌∙◌, arith}
+use Rattle.std.proofs.Common.{◌≡◌, ℕ, zero, suc, ◌+◌, ◌≤◌, ◌-◌, ◌<◌, Bool, true, false, List, [], ◌∷◌, length, Option, Some, None, refl, sym, ap, subst, ◌∙◌, arith}
 use Rattle.std.specs.Prelude.{is_some, not, ◌&&◌, option_map, option_and_then, unwrap_or, slice_get, IsTrue, IsSome, MatchOption, nat_lt, nat_le}
 use Rattle.std.proofs.lemmas.Bool.Decides.{nat_tests}
 use Rattle.std.proofs.lemmas.Option.{slice_get_within}
@@ -9,7 +9,7 @@ use Rattle.enc_base.specs.Order.{first_below}
 use Rattle.enc_base.proofs.First.{silent}
 use Rattle.enc_meta.specs.Joined.{joined_text, joined_blob, joined_guid}
 use Rattle.enc_schema.specs.declared.column.Column.{Column}
-use Rattle.enc_schema.specs.declared.column.Column.TheVariants.{Num32, Text, Guid, Blob, Index, Coded}
+use Rattle.enc_schema.specs.declared.column.Column.TheVariants.{Num8, Num16, Num32, Text, Guid, Blob, Index, Coded, Run}
 use Rattle.enc_schema.specs.declared.column.Coding.{Coding}
 use Rattle.enc_schema.specs.Coding.{decoded}
 use Rattle.enc_schema.specs.Schema.{columns_in, column_in, is_offset}
@@ -36,6 +36,7 @@ use Rattle.enc_agg.specs.Extend.{changes_of, extended}
 use Rattle.enc_delta.specs.Rows.{cell_after, cells_after}
 use Rattle.enc_delta.specs.Pairs.{attached_of}
 use Rattle.enc_agg.specs.Follows.{Lands, Follows}
+use Rattle.enc_agg.specs.Seen.{token_meant}
 use Rattle.enc_delta.proofs.Unbroken.{unbroken, landed}
 use Rattle.enc_agg.proofs.Tokens.{cells_for_there, cells_for_none, PlaceRow, place_row}
 
@@ -175,6 +176,28 @@ pub coded_listed : (c : Chain) (s : Source) (u : Token) (k i n : ℕ) (kind : Co
 unfolding cell_read reading_after
 coded_listed c s u k i n kind follows fits place kinds column is =
     coded_is (rows_with c (listed s)) (decoded kind n) (λ t. cell_of (extended c s).plain u i ≡ Some (refer t)) (made_after c s is_index u k i (Coded kind) references refer (option_and_then (within (rows_with c (listed s))) (decoded kind n)) (no_index c s follows) follows fits place column refl (plain_kind _ _ references refl kinds) refl (rw is refl))
+
+refer_by : (c : Chain) (s : Source) (u : Token) (k i n : ℕ) (column : Column) → Lands c s → Fits c.plain (changes_of c s) → place_in (listed s) u ≡ Some k
+    → kind_in u.table i ≡ Some references → column_in u.table i ≡ Some column → kind_of column ≡ Some references
+    → raw_in s (record { table = u.table; row = k }) i ≡ n
+    → MatchOption (token_meant (Some column) n) ⊥ (λ t. cell_of (extended c s).plain u i ≡ Some (refer t))
+refer_by c s u k i n (Index table) follows fits place kind column of is = index_listed c s u k i n table follows fits place kind column is
+refer_by c s u k i n (Coded coding) follows fits place kind column of is = coded_listed c s u k i n coding follows fits place kind column is
+refer_by c s u k i n Num8 follows fits place kind column of is = absurd cc
+refer_by c s u k i n Num16 follows fits place kind column of is = absurd cc
+refer_by c s u k i n Num32 follows fits place kind column of is = absurd cc
+refer_by c s u k i n Text follows fits place kind column of is = absurd cc
+refer_by c s u k i n Guid follows fits place kind column of is = absurd cc
+refer_by c s u k i n Blob follows fits place kind column of is = absurd cc
+refer_by c s u k i n (Run table) follows fits place kind column of is = absurd cc
+
+pub refer_listed : (c : Chain) (s : Source) (u : Token) (k i n : ℕ) → Lands c s → Fits c.plain (changes_of c s) → place_in (listed s) u ≡ Some k
+    → kind_in u.table i ≡ Some references → raw_in s (record { table = u.table; row = k }) i ≡ n
+    → MatchOption (token_meant (column_in u.table i) n) ⊥ (λ t. cell_of (extended c s).plain u i ≡ Some (refer t))
+refer_listed c s u k i n follows fits place kind is =
+    let w = column_with _ _ (plain_kind _ _ references refl kind).kind in
+    subst (λ o. MatchOption (token_meant o n) ⊥ (λ t. cell_of (extended c s).plain u i ≡ Some (refer t))) (sym w.1)
+    (refer_by c s u k i n w.0 follows fits place kind w.1 w.2 is)
 
 -- the body of a method that a delta lists is the one at its place in the delta's code
 pub body_listed : (c : Chain) (s : Source) (u : Token) (k n : ℕ) → Fits c.plain (changes_of c s) → place_in (listed s) u ≡ Some k → u.table ≡ 0x06 → raw_in s (record { table = u.table; row = k }) 0 ≡ n → cell_of (extended c s).plain u 0 ≡ Some (body (body_loaded s.loaded (users_after c s) n))

@@ -1,5 +1,5 @@
 -- For the contracts of private functions: what is kept of the deltas for look-ups.
-use Rattle.std.specs.Prelude.{◌≡◌, ℕ, ◌+◌, ◌<◌, ◌≤◌, List, [], length, Option, None, option_map, unwrap_or, slice_get, IsTrue}
+use Rattle.std.specs.Prelude.{◌≡◌, ℕ, zero, suc, ◌+◌, ◌-◌, ◌<◌, ◌≤◌, List, [], ◌∷◌, ◌++◌, length, Option, Some, None, option_map, unwrap_or, slice_get, IsTrue}
 use Rattle.enc_base.specs.declared.token.Token.{Token}
 use Rattle.enc_index.specs.declared.key.Key.{Key}
 use Rattle.enc_index.specs.Index.{value_at, latest}
@@ -12,6 +12,8 @@ use Rattle.enc_delta.specs.Delta.{listed, place_in}
 use Rattle.enc_agg.specs.declared.added.Added.{Added}
 use Rattle.enc_agg.specs.declared.directory.Directory.{Directory}
 use Rattle.enc_agg.specs.declared.directory.Entries.{Entries}
+use Rattle.enc_agg.specs.declared.entries.Gained.{Gained}
+use Rattle.enc_agg.specs.declared.kept.Kept.{Kept}
 use Rattle.enc_agg.specs.Extend.{extended, chain_with}
 use Rattle.enc_agg.specs.Seen.{sources, found_in}
 
@@ -25,6 +27,15 @@ kids_key table owner place = record { table = table; row = owner.row; place = pl
 -- where what was found stands
 abbrev pub place_seen : List Added × ℕ → RowPlace
 place_seen f = record { generation = length f.0; row = f.1 }
+
+-- the values that entries give keys are those that an index has
+abbrev pub IsSame : {V : Type 0} → Kept V → Type 0
+IsSame k = (q : Key) → value_at k.own q ≡ latest k.entries.items q
+
+pub record AreSame (g : Gained) : Type 0 where
+  pub owners : IsSame g.owners
+  pub counts : IsSame g.counts
+  pub kids : IsSame g.kids
 
 -- nothing is kept
 pub record IsBare (x : Directory) : Type 0 where
@@ -44,6 +55,19 @@ pub record IsHeld (kids : List ℕ) (first : ℕ) (count : Option ℕ) (kid : �
   pub old : (i : ℕ) → i < first → kid i ≡ None
   pub new : (i : ℕ) → first ≤ i → i < length kids → kid i ≡ slice_get kids i
 
+-- the children from a place on, as far as they are kept
+abbrev pub kept_one : Option ℕ → List ℕ
+kept_one None = []
+kept_one (Some row) = row ∷ []
+
+unfoldable pub kids_kept : (ℕ → Option ℕ) → ℕ → ℕ → List ℕ
+kids_kept kid at zero = []
+kids_kept kid at (suc n) = kids_kept kid at n ++ kept_one (kid (at + n))
+
+-- the children of a row of which the first are known elsewhere
+abbrev pub with_kept : List ℕ → Option ℕ → (ℕ → Option ℕ) → List ℕ
+with_kept first count kid = first ++ kids_kept kid (length first) (unwrap_or count (length first) - length first)
+
 -- child rows past those of an earlier chain have their owners
 pub record AreOwned (before after : Chain) (owner : Token → Option Token) : Type 0 where
   pub old : (u : Token) → IsTrue (is_child_table u.table) → u.row ≤ length (rows_in before.plain u.table) → owner u ≡ None
@@ -62,9 +86,15 @@ pub record IsDirectory (base : Source) (added : List Added) (x : Directory) : Ty
   pub owners : AreOwned (chain_with base []) (chain_with base (sources added)) (λ u. value_at x.owners (row_key u))
   pub kids : AreHeld (chain_with base []) (chain_with base (sources added)) (value_at x.counts) (value_at x.kids)
 
--- what a delta brings after a chain
-pub record AreBrought (c : Chain) (d : Source) (e : Entries) : Type 0 where
-  pub places : (u : Token)
-      → latest e.places.items (row_key u) ≡ option_map (λ (k : ℕ). record { generation = length c.ids + 1; row = k }) (place_in (listed d) u)
-  pub owners : AreOwned c (extended c d) (λ u. latest e.owners.items (row_key u))
-  pub kids : AreHeld c (extended c d) (latest e.counts.items) (latest e.kids.items)
+-- what a delta brings after a chain, by its keys
+pub record IsOfDelta (c : Chain) (d : Source) (place : Key → Option RowPlace) (owner : Key → Option Token) (count kid : Key → Option ℕ) : Type 0 where
+  pub places : (u : Token) → place (row_key u) ≡ option_map (λ (k : ℕ). record { generation = length c.ids + 1; row = k }) (place_in (listed d) u)
+  pub owners : AreOwned c (extended c d) (λ u. owner (row_key u))
+  pub kids : AreHeld c (extended c d) count kid
+
+-- entries bring it, and a directory of the delta alone has it
+abbrev pub AreBrought : Chain → Source → Entries → Type 0
+AreBrought c d e = IsOfDelta c d (latest e.places.items) (latest e.owners.items) (latest e.counts.items) (latest e.kids.items)
+
+abbrev pub IsOwn : Chain → Source → Directory → Type 0
+IsOwn c d x = IsOfDelta c d (value_at x.places) (value_at x.owners) (value_at x.counts) (value_at x.kids)

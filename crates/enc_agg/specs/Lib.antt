@@ -6,3 +6,4 @@ pub mod Laws
 pub mod Starts
 pub mod Directory
 pub mod Prepared
+pub mod Next

@@ -8,7 +8,7 @@ use Rattle.enc_agg.specs.declared.aggregate.Ready.{Ready}
 use Rattle.enc_agg.specs.declared.directory.Directory.{Directory}
 use Rattle.enc_agg.specs.Extend.{extended, chain_with}
 use Rattle.enc_agg.specs.Seen.{sources, IsAdded, IsAggregate}
-use Rattle.enc_agg.specs.Directory.{IsDirectory, AreBrought}
+use Rattle.enc_agg.specs.Directory.{IsDirectory, AreBrought, IsOwn}
 
 -- the deltas follow the base, the directory is that of them, and their module is sound
 pub record IsWhole (base : Source) (added : List Added) (x : Directory) : Type 0 where
@@ -22,4 +22,9 @@ to_add r = record { delta = r.delta; before = r.before; id = r.id; counts = r.co
 
 -- it was prepared from this chain, and leaves it sound
 unfoldable pub IsPrepared : Chain → Ready → Type 0
-IsPrepared c r = record { added : IsAdded c (to_add r); entries : AreBrought c r.delta r.entries; sound : IsSound (extended c r.delta).plain }
+IsPrepared c r = record {
+  added : IsAdded c (to_add r);
+  entries : AreBrought c r.delta r.entries;
+  own : IsOwn c r.delta r.own;
+  sound : IsSound (extended c r.delta).plain;
+}

@@ -1,10 +1,14 @@
 -- What the parts of the program stand for.
-use Rattle.std.specs.Prelude.{◌≡◌, ℕ, zero, suc, ◌*◌, ◌/◌, ◌%◌, ◌^◌, ◌<◌, List, [], ◌∷◌, map, length, reverse, Option, Some, None, option_and_then, nat_lt, nat_le, slice_index, if◌then◌else◌}
+use Rattle.std.specs.Prelude.{◌≡◌, ℕ, zero, suc, ◌+◌, ◌*◌, ◌/◌, ◌%◌, ◌^◌, ◌<◌, ◌==◌, List, [], ◌∷◌, map, length, reverse, Option, Some, None, option_and_then, nat_lt, nat_le, slice_index, if◌then◌else◌}
 use Rattle.enc_base.specs.declared.token.Token.{Token}
 use Rattle.enc_meta.specs.Joined.{joined_user, joined_blob}
 use Rattle.enc_opcodes.specs.Body.{Code, Body}
 use Rattle.enc_plain.specs.Bodies.{code_loaded, body_loaded}
 use Rattle.enc_rows.specs.Source.{Source, raw_in}
+use Rattle.enc_schema.specs.declared.column.Column.{Column}
+use Rattle.enc_schema.specs.declared.column.Column.TheVariants.{Index, Coded}
+use Rattle.enc_schema.specs.Coding.{decoded}
+use Rattle.enc_plain.specs.Reading.{index_token}
 use Rattle.enc_plain.specs.Module.{Module, rows_in}
 use Rattle.enc_plain.specs.Chain.{Chain}
 use Rattle.enc_image.specs.Base.{cells_fault}
@@ -73,6 +77,16 @@ abbrev pub code_in : List Added → ℕ → Option Code
 code_in [] n = None
 code_in (a ∷ older) n = code_loaded a.delta.loaded n
 
+-- the token that a number stands for in a column of an index; None for a tag of no table, and in other columns
+abbrev pub token_meant : Option Column → ℕ → Option Token
+token_meant (Some (Index table)) n = Some (index_token table n)
+token_meant (Some (Coded kind)) n = decoded kind n
+token_meant _ n = None
+
+-- how many rows a table has, by the numbers of those of the first 64; others have none
+abbrev pub rows_counted : List ℕ → ℕ → ℕ
+rows_counted counts table = if nat_lt table 64 then slice_index counts table else 0
+
 -- the user texts of all
 abbrev pub users_of_all : History → ℕ → Option (List ℕ)
 users_of_all h = joined_user (chain_of_all h).heaps
@@ -86,13 +100,21 @@ abbrev pub file_of : History → ℕ → Option Source
 file_of h zero = Some h.base
 file_of h (suc n) = delta_at h.deltas (suc n)
 
--- the body at a place of a generation's file, with the user texts of all
-abbrev pub body_in_file : History → ℕ → ℕ → Option Body
-body_in_file h generation n = option_and_then (λ (s : Source). body_loaded s.loaded (users_of_all h) n) (file_of h generation)
+-- the number of a place among those of all files: the generation stands above 32 bits for the place in that generation's file, of which 0 is none
+abbrev pub place_of_all : ℕ → ℕ → ℕ
+place_of_all generation n = if n == 0 then 0 else generation * 2 ^ 32 + n
 
--- the body at a place of all, in whose number the generation stands above 32 bits for the place in that generation's file
-unfoldable pub body_of_all : History → ℕ → Option Body
-body_of_all h n = body_in_file h (n / 2 ^ 32) (n % 2 ^ 32)
+-- the body at a place of all, with these user texts
+unfoldable pub body_with : (ℕ → Option (List ℕ)) → History → ℕ → Option Body
+body_with texts h n = option_and_then (λ (s : Source). body_loaded s.loaded texts (n % 2 ^ 32)) (file_of h (n / 2 ^ 32))
+
+-- with those of all
+abbrev pub body_of_all : History → ℕ → Option Body
+body_of_all h = body_with (users_of_all h) h
+
+-- user texts that are there stay
+abbrev pub StayThere : (ℕ → Option (List ℕ)) → (ℕ → Option (List ℕ)) → Type 0
+StayThere texts more = (offset : ℕ) (units : List ℕ) → texts offset ≡ Some units → more offset ≡ Some units
 
 -- the place of an offset in a generation's own heap
 abbrev pub own_place : List ℕ → ℕ → ℕ → Option HeapPlace

@@ -4,7 +4,7 @@ ghost use Rattle.enc_opcodes.specs.Body.{code_seen};
 ghost use Rattle.enc_plain.specs.Module.{rows_in};
 ghost use Rattle.enc_meta.specs.Joined.{joined_lengths};
 ghost use Rattle.enc_agg.specs.Extend.{chain_with};
-ghost use Rattle.enc_agg.specs.Seen.{sources, AllAdded, newest_number, code_in};
+ghost use Rattle.enc_agg.specs.Seen.{sources, AllAdded, newest_number, code_in, rows_counted};
 
 use enc_base::{Counts, Token};
 use enc_delta::Delta;
@@ -100,6 +100,17 @@ pub fn id_in(added: &[Added], n: u32) -> [u8; 16]
     added[n as usize].id
 }
 
+/// The number of rows of a table, by those of all; no other table has any.
+pub fn count_of(counts: &Counts, table: u8) -> u32
+    ensures { result ≡ rows_counted counts.now.rows table }
+{
+    if table < 64 {
+        counts.rows[table as usize]
+    } else {
+        0
+    }
+}
+
 /// The number of rows of a table.
 pub fn count_in(image: &Image, added: &[Added], table: u8) -> u32
     requires { AllAdded image.now (reverse added.now) }
@@ -110,9 +121,5 @@ pub fn count_in(image: &Image, added: &[Added], table: u8) -> u32
     let Some((last, _)) = newest(added) else {
         return image.count(table);
     };
-    if table < 64 {
-        last.counts.rows[table as usize]
-    } else {
-        0
-    }
+    count_of(&last.counts, table)
 }

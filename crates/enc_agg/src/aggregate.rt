@@ -15,10 +15,12 @@ ghost use Rattle.enc_agg.specs.Follows.{Follows};
 ghost use Rattle.enc_agg.specs.Place.{place_of, place_in_heaps, delta_at};
 ghost use Rattle.enc_agg.specs.Seen.{chain_of_all, module_of_all, sources, AllAdded};
 ghost use Rattle.enc_agg.specs.Prepared.{IsPrepared};
+ghost use Rattle.enc_agg.specs.Next.{with_delta, history_of_next, chain_of_next};
 
 use crate::added::{Added, count_in, lengths_in};
+use crate::after::After;
 use crate::directory::{Directory, Entries, find};
-use crate::entries::entries_of;
+use crate::entries::{Brought, brought_by};
 use crate::heaps::{guid_place_in, heap_place_in};
 use crate::place::HeapPlace;
 use enc_base::{Counts, Steps, StreamName, Token};
@@ -56,11 +58,12 @@ impl Model for Aggregate {
 /// delta is the aggregate's own; callers know of it by `IsPrepared` alone.
 #[derive(Drop)]
 pub struct Ready {
-    delta: Delta,
-    before: HeapLengths,
+    pub(crate) delta: Delta,
+    pub(crate) before: HeapLengths,
     id: [u8; 16],
-    counts: Counts,
+    pub(crate) counts: Counts,
     entries: Entries,
+    pub(crate) own: Directory,
 }
 
 /// How many rows a table has after a delta with these inserts.
@@ -148,8 +151,8 @@ impl Aggregate {
             Ok(tokens) => tokens,
             Err(error) => return Err(error),
         };
-        let entries = match entries_of(self.alloc, self, &delta, &tokens, steps) {
-            Ok(entries) => entries,
+        let Brought { entries, own } = match brought_by(self.alloc, self, &delta, &tokens, steps) {
+            Ok(brought) => brought,
             Err(error) => return Err(error),
         };
         let more = inserts_of(self, &tokens);
@@ -166,6 +169,7 @@ impl Aggregate {
             id,
             counts,
             entries,
+            own,
         })
     }
 
@@ -178,6 +182,8 @@ impl Aggregate {
         ensures deltas { self.new.deltas ≡ ready.delta ∷ self.old.deltas }
         ensures room { self.new.room + 1 ≡ self.old.room }
         ensures texts { (offset : ℕ) (units : List ℕ) → joined_user (chain_of_all self.old).heaps offset ≡ Some units → joined_user (chain_of_all self.new).heaps offset ≡ Some units }
+        ensures history { self.new ≡ with_delta self.old ready.delta }
+        ensures chain { chain_of_all self.new ≡ extended (chain_of_all self.old) ready.delta }
     {
         let Ready {
             delta,
@@ -185,7 +191,9 @@ impl Aggregate {
             id,
             counts,
             entries,
+            own,
         } = ready;
+        drop(own);
         self.directory.add(entries);
         self.added.push_reserved(Added {
             delta,
@@ -193,6 +201,23 @@ impl Aggregate {
             id,
             counts,
         });
+    }
+
+    /// The plain module with a delta that was made ready from this state. It takes no memory, and the
+    /// aggregate means this module once the delta is committed.
+    #[tactic(auto, unfolding(crate::specs::Prepared::IsPrepared))]
+    pub fn after<'a>(&'a self, ready: &'a Ready) -> After<'a>
+        requires { IsPrepared (chain_of_all self.now) ready.now }
+        ensures before { result.before ≡ self.now }
+        ensures delta { result.delta ≡ ready.now.delta }
+        ensures chain { chain_of_next result ≡ extended (chain_of_all self.now) ready.now.delta }
+        ensures history { history_of_next result ≡ with_delta self.now ready.now.delta }
+    {
+        self.has_owners();
+        After {
+            aggregate: self,
+            ready,
+        }
     }
 
     /// Where a row stands: in the newest generation whose map has its token, else in the base. None

@@ -1,23 +1,24 @@
 //! What the deltas list and attach, kept once for all look-ups: where a row stands last, who owns a
 //! new child row, and which children a row gained.
-ghost use Rattle.std.specs.Prelude.{◌≡◌, ◌≤◌, length, option_map, reverse, take};
+ghost use Rattle.std.specs.Prelude.{◌≡◌, ◌≤◌, ◌++◌, IfOk, length, option_map, reverse, take};
 ghost use Rattle.enc_index.specs.declared.key.Key.{Key as TheKey};
 ghost use Rattle.enc_index.specs.Index.{value_at, latest, either};
 ghost use Rattle.enc_agg.specs.Seen.{found_in, found_seen};
-ghost use Rattle.enc_agg.specs.Directory.{row_key, kids_key, place_seen, HasPlaces, IsBare};
+ghost use Rattle.enc_agg.specs.Directory.{row_key, kids_key, place_seen, HasPlaces, IsBare, kept_one, with_kept};
 
 use crate::added::{Added, Found};
 use enc_base::Token;
 use enc_index::{Entry, Index, Key};
 use enc_plain::RowPlace;
+use std::alloc::AllocError;
 
 /// For each row that a delta lists its newest place; for each new child row its owner; for each row
 /// that gained children how many it has, and those that it gained by their places among all.
 pub struct Directory {
-    places: Index<RowPlace>,
-    owners: Index<Token>,
-    counts: Index<u32>,
-    kids: Index<u32>,
+    pub places: Index<RowPlace>,
+    pub owners: Index<Token>,
+    pub counts: Index<u32>,
+    pub kids: Index<u32>,
 }
 
 // Written by hand, so that whoever lets an aggregate go makes one call here.
@@ -43,6 +44,19 @@ pub struct Entries {
     pub owners: Vec<Entry<Token>>,
     pub counts: Vec<Entry<u32>>,
     pub kids: Vec<Entry<u32>>,
+}
+
+/// Appends a row that may be kept.
+fn push_kept(rows: &mut Vec<u32>, row: Option<u32>) -> Result<(), AllocError>
+    ensures { IfOk result (λ _. rows.new.items ≡ rows.old.items ++ kept_one row) }
+{
+    match row {
+        Some(row) => {
+            rows.push(row)?;
+            Ok(())
+        }
+        None => Ok(()),
+    }
 }
 
 /// The key of a row.
@@ -93,8 +107,8 @@ impl Directory {
         self.kids.put_all(entries.kids);
     }
 
-    /// The newest place of a row that a delta lists.
-    fn place(&self, row: Token) -> Option<RowPlace>
+    /// The newest place of a row that one of the deltas lists.
+    pub fn place(&self, row: Token) -> Option<RowPlace>
         ensures { result ≡ value_at self.now.places (row_key row) }
     {
         self.places.get(row_key(row)).copied()
@@ -119,6 +133,19 @@ impl Directory {
         ensures { result ≡ value_at self.now.kids (kids_key table owner place) }
     {
         self.kids.get(kids_key(table, owner, place)).copied()
+    }
+
+    /// Appends the children that a row gained to those that it had.
+    pub fn push_kids(&self, rows: &mut Vec<u32>, owner: Token, table: u8) -> Result<(), AllocError>
+        ensures { IfOk result (λ _. rows.new.items ≡ with_kept rows.old.items (value_at self.now.counts (kids_key table owner 0)) (λ i. value_at self.now.kids (kids_key table owner i))) }
+    {
+        let Some(count) = self.count(owner, table) else {
+            return Ok(());
+        };
+        for i in rows.len()..count as usize {
+            push_kept(rows, self.kid(owner, table, i as u32))?;
+        }
+        Ok(())
     }
 }
 

@@ -13,13 +13,14 @@ ghost use Rattle.enc_delta.specs.Pairs.{attached_of};
 ghost use Rattle.enc_agg.specs.Extend.{extended};
 ghost use Rattle.enc_agg.specs.Follows.{Follows};
 ghost use Rattle.enc_agg.specs.Seen.{chain_of_all, module_of_all};
-ghost use Rattle.enc_agg.specs.Directory.{row_key, kids_key, AreOwned, AreHeld, AreBrought};
+ghost use Rattle.enc_agg.specs.Directory.{row_key, kids_key, AreOwned, AreHeld, AreBrought, IsSame, AreSame, IsOwn};
 
 use crate::aggregate::Aggregate;
-use crate::directory::{Entries, kids_key, row_key};
+use crate::directory::{Directory, Entries, kids_key, row_key};
+use crate::kept::Kept;
 use enc_base::{Steps, Token};
 use enc_delta::{Delta, Pair, attached_of, log_of};
-use enc_index::{Entry, Index, push_entry};
+use enc_index::Index;
 use enc_plain::{ChainView, RowPlace};
 use std::alloc::{AllocError, Global};
 use std::sync::ledger::Ledger;
@@ -31,48 +32,47 @@ fn places_of<L: Ledger>(
     tokens: &[Token],
     generation: u32,
     steps: &mut Steps<L>,
-) -> Result<Vec<Entry<RowPlace>>, AllocError>
+) -> Result<Kept<RowPlace>, AllocError>
     requires tokens { tokens.now ≡ listed delta.now }
-    ensures places { IfOk result (λ l. (u : TheToken) → latest l.items (row_key u) ≡ option_map (λ (k : ℕ). record { generation = generation; row = k }) (place_in (listed delta.now) u)) }
+    ensures same { IfOk result IsSame }
+    ensures places { IfOk result (λ l. (u : TheToken) → latest l.entries.items (row_key u) ≡ option_map (λ (k : ℕ). record { generation = generation; row = k }) (place_in (listed delta.now) u)) }
     ensures steps { steps.new ≤ steps.old + length tokens.now }
 {
-    let mut places = Vec::new(alloc);
+    let mut places = Kept::new(alloc);
     for k in 0..tokens.len() {
         let token = tokens[k];
         let Some(row) = delta.place_of(token, steps) else {
             unreachable!()
         };
         let place = RowPlace { generation, row };
-        push_entry(&mut places, alloc, row_key(token), place)?;
+        places.push(alloc, row_key(token), place)?;
     }
     Ok(places)
 }
 
-/// What the Add entries of a delta bring, and how many children the rows have with those so far.
+/// What the Add entries of a delta bring.
 #[derive(Drop)]
-struct Gained {
-    so_far: Index<u32>,
-    owners: Vec<Entry<Token>>,
-    counts: Vec<Entry<u32>>,
-    kids: Vec<Entry<u32>>,
+pub struct Gained {
+    pub owners: Kept<Token>,
+    pub counts: Kept<u32>,
+    pub kids: Kept<u32>,
 }
 
 impl Gained {
     /// Adds a child, behind so many others.
     fn push(&mut self, alloc: Global, pair: Pair, others: u32) -> Result<(), AllocError>
-        requires { others + 1 < 2 ^ 32 }
-        ensures so_far { IfOk result (λ _. (q : TheKey) → value_at self.new.so_far q ≡ either (if is_key (kids_key pair.child.table pair.owner 0) q then Some (others + 1) else None) (value_at self.old.so_far q)) }
-        ensures owners { IfOk result (λ _. (q : TheKey) → latest self.new.owners.items q ≡ either (if is_key (row_key pair.child) q then Some pair.owner else None) (latest self.old.owners.items q)) }
-        ensures counts { IfOk result (λ _. (q : TheKey) → latest self.new.counts.items q ≡ either (if is_key (kids_key pair.child.table pair.owner 0) q then Some (others + 1) else None) (latest self.old.counts.items q)) }
-        ensures kids { IfOk result (λ _. (q : TheKey) → latest self.new.kids.items q ≡ either (if is_key (kids_key pair.child.table pair.owner others) q then Some pair.child.row else None) (latest self.old.kids.items q)) }
+        requires few { others + 1 < 2 ^ 32 }
+        requires same { AreSame self.old }
+        ensures same { IfOk result (λ _. AreSame self.new) }
+        ensures owners { IfOk result (λ _. (q : TheKey) → latest self.new.owners.entries.items q ≡ either (if is_key (row_key pair.child) q then Some pair.owner else None) (latest self.old.owners.entries.items q)) }
+        ensures counts { IfOk result (λ _. (q : TheKey) → latest self.new.counts.entries.items q ≡ either (if is_key (kids_key pair.child.table pair.owner 0) q then Some (others + 1) else None) (latest self.old.counts.entries.items q)) }
+        ensures kids { IfOk result (λ _. (q : TheKey) → latest self.new.kids.entries.items q ≡ either (if is_key (kids_key pair.child.table pair.owner others) q then Some pair.child.row else None) (latest self.old.kids.entries.items q)) }
     {
         let count = kids_key(pair.child.table, pair.owner, 0);
         let kid = kids_key(pair.child.table, pair.owner, others);
-        let entry = Entry::new(alloc, count, others + 1)?;
-        self.so_far.put(entry);
-        push_entry(&mut self.owners, alloc, row_key(pair.child), pair.owner)?;
-        push_entry(&mut self.counts, alloc, count, others + 1)?;
-        push_entry(&mut self.kids, alloc, kid, pair.child.row)?;
+        self.owners.push(alloc, row_key(pair.child), pair.owner)?;
+        self.counts.push(alloc, count, others + 1)?;
+        self.kids.push(alloc, kid, pair.child.row)?;
         Ok(())
     }
 }
@@ -99,46 +99,75 @@ fn gained_by(
 ) -> Result<Gained, AllocError>
     requires follows { Follows (chain_of_all aggregate.now) delta.now }
     requires pairs { map pair_seen pairs.now ≡ attached_of delta.now }
-    ensures owners { IfOk result (λ g. AreOwned (chain_of_all aggregate.now) (extended (chain_of_all aggregate.now) delta.now) (λ u. latest g.owners.items (row_key u))) }
-    ensures kids { IfOk result (λ g. AreHeld (chain_of_all aggregate.now) (extended (chain_of_all aggregate.now) delta.now) (latest g.counts.items) (latest g.kids.items)) }
+    ensures same { IfOk result AreSame }
+    ensures owners { IfOk result (λ g. AreOwned (chain_of_all aggregate.now) (extended (chain_of_all aggregate.now) delta.now) (λ u. latest g.owners.entries.items (row_key u))) }
+    ensures kids { IfOk result (λ g. AreHeld (chain_of_all aggregate.now) (extended (chain_of_all aggregate.now) delta.now) (latest g.counts.entries.items) (latest g.kids.entries.items)) }
 {
     let _ = delta;
     aggregate.has_owners();
     let mut gained = Gained {
-        so_far: Index::new(),
-        owners: Vec::new(alloc),
-        counts: Vec::new(alloc),
-        kids: Vec::new(alloc),
+        owners: Kept::new(alloc),
+        counts: Kept::new(alloc),
+        kids: Kept::new(alloc),
     };
     for k in 0..pairs.len() {
         let pair = pairs[k];
-        let others = count_so_far(aggregate, &gained.so_far, pair.owner, pair.child.table);
+        let others = count_so_far(aggregate, &gained.counts.own, pair.owner, pair.child.table);
         gained.push(alloc, pair, others)?;
     }
     Ok(gained)
 }
 
+/// What a delta brings to a directory, and a directory of it alone.
+#[derive(Drop)]
+pub struct Brought {
+    pub entries: Entries,
+    pub own: Directory,
+}
+
+/// Entries, and a directory of the same values.
+fn entries_with_own(
+    places: Kept<RowPlace>,
+    owners: Kept<Token>,
+    counts: Kept<u32>,
+    kids: Kept<u32>,
+) -> Brought
+    ensures entries { result.entries ≡ record { places = places.entries; owners = owners.entries; counts = counts.entries; kids = kids.entries } }
+    ensures own { result.own ≡ record { places = places.own; owners = owners.own; counts = counts.own; kids = kids.own } }
+{
+    Brought {
+        entries: Entries {
+            places: places.entries,
+            owners: owners.entries,
+            counts: counts.entries,
+            kids: kids.entries,
+        },
+        own: Directory {
+            places: places.own,
+            owners: owners.own,
+            counts: counts.own,
+            kids: kids.own,
+        },
+    }
+}
+
 /// What a delta brings that follows an aggregate. A step for each of its tokens.
-pub fn entries_of<L: Ledger>(
+pub fn brought_by<L: Ledger>(
     alloc: Global,
     aggregate: &Aggregate,
     delta: &Delta,
     tokens: &[Token],
     steps: &mut Steps<L>,
-) -> Result<Entries, AllocError>
+) -> Result<Brought, AllocError>
     requires follows { Follows (chain_of_all aggregate.now) delta.now }
     requires tokens { tokens.now ≡ listed delta.now }
-    ensures entries { IfOk result (AreBrought (chain_of_all aggregate.now) delta.now) }
+    ensures entries { IfOk result (λ b. AreBrought (chain_of_all aggregate.now) delta.now b.entries) }
+    ensures own { IfOk result (λ b. IsOwn (chain_of_all aggregate.now) delta.now b.own) }
     ensures steps { steps.new ≤ steps.old + length tokens.now }
 {
     let places = places_of(alloc, delta, tokens, aggregate.generations(), steps)?;
     let log = log_of(delta, alloc)?;
     let pairs = attached_of(alloc, delta, &log)?;
     let gained = gained_by(alloc, aggregate, delta, &pairs)?;
-    Ok(Entries {
-        places,
-        owners: gained.owners,
-        counts: gained.counts,
-        kids: gained.kids,
-    })
+    Ok(entries_with_own(places, gained.owners, gained.counts, gained.kids))
 }

@@ -97,7 +97,8 @@ impl Aggregate {
         }
     }
 
-    /// The rows of a row's children in a child table, in order of attachment.
+    /// The rows of a row's children in a child table, in order of attachment; a row that isn't there
+    /// has none.
     pub(crate) fn rows_of_kids(
         &self,
         alloc: Global,
@@ -110,9 +111,7 @@ impl Aggregate {
         ensures { IfOk result (λ rows. rows.items ≡ kids_of (module_of_all self.now) owner table) }
     {
         let mut rows = kid_rows_of_image(alloc, &self.image, owner, table)?;
-        for i in kids_of_image(&self.image, owner, table)..self.count_kids(owner, table) {
-            rows.push(self.kid_row(owner, table, i))?;
-        }
+        self.directory.push_kids(&mut rows, owner, table)?;
         Ok(rows)
     }
 }

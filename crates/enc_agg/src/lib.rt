@@ -2,15 +2,19 @@
 #![tactic(auto)]
 
 mod added;
+mod after;
 mod aggregate;
+mod code;
 mod directory;
 mod entries;
 mod heaps;
+mod kept;
 mod kids;
 mod laws;
 mod place;
 mod view;
 
+pub use after::After;
 pub use aggregate::{Aggregate, Ready};
 pub use enc_plain::RowPlace;
 pub use laws::{delta_keeps_sound_law, judged_rows_law};

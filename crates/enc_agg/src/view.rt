@@ -1,8 +1,9 @@
 //! An aggregate as a view of its plain module and of its chain.
-ghost use Rattle.std.specs.Prelude.{◌≡◌, ◌+◌, ◌*◌, ◌^◌, refl};
-ghost use Rattle.enc_agg.specs.Seen.{module_of_all, chain_of_all, users_of_all, body_of_all, blob_of_all};
+ghost use Rattle.std.specs.Prelude.{◌≡◌, Some, IsTrue, is_some, refl};
+ghost use Rattle.enc_schema.specs.Schema.{column_in};
+ghost use Rattle.enc_agg.specs.Seen.{module_of_all, chain_of_all, users_of_all, body_of_all, blob_of_all, token_meant};
 
-use crate::added::{Added, body_in, count_in, id_in, lengths_in, number};
+use crate::added::{Added, count_in, id_in, lengths_in, number};
 use crate::aggregate::Aggregate;
 use crate::directory::find;
 use crate::heaps::{entry_in, guid_in, has_text_in};
@@ -10,22 +11,29 @@ use enc_base::Token;
 use enc_meta::{Heap, HeapLengths};
 use enc_opcodes::CodeRef;
 use enc_plain::{ChainView, ModuleView, index_token};
-use enc_schema::columns::METHOD_DEF_RVA;
 use enc_schema::{Column, column_of, decode_coded};
 use std::alloc::{AllocError, Global};
 
 /// A row of a table.
-fn row_found(table: u8, row: u32) -> Token
+pub fn row_found(table: u8, row: u32) -> Token
     ensures { result ≡ record { table = table; row = row } }
 {
     Token { table, row }
 }
 
-/// A place in a generation's file, among those of all files.
-fn place_of_all(generation: u32, place: u32) -> u64
-    ensures { result ≡ generation * 2 ^ 32 + place }
+/// The token that a number stands for in a column of an index.
+pub fn token_meant(table: u8, column: u8, number: u32) -> Token
+    requires { IsTrue (is_some (token_meant (column_in table column) number)) }
+    ensures { token_meant (column_in table column) number ≡ Some result }
 {
-    u64::from(generation) * 0x1_0000_0000 + u64::from(place)
+    match column_of(table, column) {
+        Some(Column::Index(named)) => index_token(named, number),
+        Some(Column::Coded(kind)) => match decode_coded(kind, number) {
+            Some(token) => token,
+            None => unreachable!(),
+        },
+        _ => unreachable!(),
+    }
 }
 
 impl ModuleView for Aggregate {
@@ -93,41 +101,15 @@ impl ModuleView for Aggregate {
             return self.image.refer(row, column);
         };
         let number = number(found.upto, row_found(row.table, found.row), column);
-        match column_of(row.table, column) {
-            Some(Column::Index(table)) => index_token(table, number),
-            Some(Column::Coded(kind)) => match decode_coded(kind, number) {
-                Some(token) => token,
-                None => unreachable!(),
-            },
-            _ => unreachable!(),
-        }
+        token_meant(row.table, column, number)
     }
 
     fn code(&self, method: Token) -> Option<CodeRef<'_>> {
-        let Some(found) = find(&self.added, &self.directory, method) else {
-            return self.image.body(method);
-        };
-        let place = number(
-            found.upto,
-            row_found(method.table, found.row),
-            METHOD_DEF_RVA,
-        );
-        body_in(found.upto, place)
+        self.code_of(method)
     }
 
     fn code_place(&self, method: Token) -> u64 {
-        let Some(found) = find(&self.added, &self.directory, method) else {
-            return place_of_all(0, self.image.rva(method));
-        };
-        let place = number(
-            found.upto,
-            row_found(method.table, found.row),
-            METHOD_DEF_RVA,
-        );
-        if place == 0 {
-            return 0;
-        }
-        place_of_all(found.upto.len() as u32, place)
+        self.place_of_code(method)
     }
 
     fn field_bytes(&self, row: Token) -> &[u8] {

@@ -1,6 +1,6 @@
-use Rattle.std.proofs.Common.{arith}
+use Rattle.std.proofs.Common.{sym, arith}
 use Rattle.enc_agg.specs.Prepared.{to_add}
-use Rattle.enc_agg.proofs.Histories.{user_kept}
+use Rattle.enc_agg.proofs.Histories.{user_kept, chain_more, history_more}
 use Rattle.enc_agg.proofs.Directories.{whole_more}
 use Rattle.enc_agg.proofs.aggregate.Aggregate.commit.Goals as goal
 
@@ -14,3 +14,14 @@ returns-clause-room c =
 
 pub returns-clause-texts : goal.returns-clause-texts
 returns-clause-texts c = λ offset units is. user_kept c.self.inside.image c.self.inside.added.items c.push_reserved.new.self.items (to_add c.args.ready) c.push_reserved.ensures.items offset units (rw (← c.self.view_is) at is)
+
+pub returns-clause-history : goal.returns-clause-history
+returns-clause-history c =
+    let room = rw (← c.self.view_is) at c.requires.room in
+    rw (← c.self.view_is)
+    (sym (history_more c.self.inside.image c.self.inside.added.items c.push_reserved.new.self.items (to_add c.args.ready) _ _
+    c.push_reserved.ensures.items (omega (arith, room, c.push_reserved.ensures.len, c.push_reserved.ensures.capacity))))
+
+pub returns-clause-chain : goal.returns-clause-chain
+returns-clause-chain c = rw (← c.self.view_is)
+    (chain_more c.self.inside.image c.self.inside.added.items c.push_reserved.new.self.items (to_add c.args.ready) c.push_reserved.ensures.items)

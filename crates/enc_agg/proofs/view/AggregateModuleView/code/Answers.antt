@@ -1,21 +1,5 @@
-use Rattle.enc_agg.proofs.Asked.{base_row, base_body, base_texts, the_found, body_found, texts_found}
+use Rattle.enc_agg.specs.Seen.{users_of_all}
 use Rattle.enc_agg.proofs.view.AggregateModuleView.code.Goals as goal
 
-pub body-requires-clause-row : goal.body-requires-clause-row
-body-requires-clause-row c = base_row c.self.inside.image _ c.args.method c.self.invariant.deltas _ (rw c.deref.ensures.value at c.find.ensures) c.in_default.is (rw (← c.self.view_is) at c.requires.row)
-
-pub returns-in_default-clause-body : goal.returns-in_default-clause-body
-returns-in_default-clause-body c = rw (← c.self.view_is) (base_body c.self.inside.image _ c.args.method _ c.self.invariant.deltas _ (rw c.deref.ensures.value at c.find.ensures) c.in_default.is (base_row c.self.inside.image _ c.args.method c.self.invariant.deltas _ (rw c.deref.ensures.value at c.find.ensures) c.in_default.is (rw (← c.self.view_is) at c.requires.row)) c.requires.table c.body.ensures.code)
-
 pub returns-clause-body : goal.returns-clause-body
-returns-clause-body c =
-    let found = the_found c.self.inside.image _ c.args.method c.self.invariant.deltas _ c.in-Some.found (rw c.deref.ensures.value at c.find.ensures) c.in-Some.is in
-    rw (← c.self.view_is) (body_found c.self.inside.image _ _ c.args.method _ _ _ found c.requires.table (rw c.row_found.ensures at c.number-place.ensures) c.body_in.ensures.code)
-
-pub returns-in_default-clause-texts : goal.returns-in_default-clause-texts
-returns-in_default-clause-texts c = rw (← c.self.view_is) (base_texts c.self.inside.image _ c.args.method c.body.result c.self.invariant.deltas (base_row c.self.inside.image _ c.args.method c.self.invariant.deltas _ (rw c.deref.ensures.value at c.find.ensures) c.in_default.is (rw (← c.self.view_is) at c.requires.row)) c.requires.table c.body.ensures.code)
-
-pub returns-clause-texts : goal.returns-clause-texts
-returns-clause-texts c =
-    let found = the_found c.self.inside.image _ c.args.method c.self.invariant.deltas _ c.in-Some.found (rw c.deref.ensures.value at c.find.ensures) c.in-Some.is in
-    rw (← c.self.view_is) (texts_found c.self.inside.image _ _ c.args.method _ _ _ found c.requires.table (rw c.row_found.ensures at c.number-place.ensures) c.body_in.ensures.code)
+returns-clause-body c = c.code_of.ensures.body (users_of_all c.args.self.now) (λ o units is. is)

@@ -1,11 +1,11 @@
 use Rattle.std.proofs.Common.{◌≡◌, ◌<◌, ◌^◌, Some, reverse, sym, ap, ◌∙◌, arith}
-use Rattle.std.specs.Prelude.{is_some, option_map}
+use Rattle.std.specs.Prelude.{option_map}
 use Rattle.std.proofs.lemmas.List.{length-reverse}
 use Rattle.enc_agg.specs.Seen.{found_in, found_seen}
 use Rattle.enc_agg.proofs.Asked.{base_row, the_found}
-use Rattle.enc_agg.proofs.BodyPlaces.{none_at_zero, base_place_body, base_place_stands, found_place_body, found_place_stands, found_no_body}
+use Rattle.enc_agg.proofs.BodyPlaces.{base_place_body, base_place_stands, found_place_body, found_place_stands}
 use Rattle.enc_agg.proofs.Generations.{few_found}
-use Rattle.enc_agg.proofs.view.AggregateModuleView.code_place.Goals as goal
+use Rattle.enc_agg.proofs.aggregate.Aggregate.place_of_code.Goals as goal
 
 pub rva-requires-clause-row : goal.rva-requires-clause-row
 rva-requires-clause-row c = base_row c.self.inside.image _ c.args.method c.self.invariant.deltas _ (rw c.deref.ensures.value at c.find.ensures) c.in_default.is (rw (← c.self.view_is) at c.requires.row)
@@ -15,20 +15,14 @@ returns-in_default-clause-body c =
     let found = rw c.deref.ensures.value at c.find.ensures in
     let there = base_row c.self.inside.image _ c.args.method c.self.invariant.deltas _ found c.in_default.is (rw (← c.self.view_is) at c.requires.row) in
     let low : c.rva.result < 2 ^ 32 = omega (arith, c.rva.type_inv) in
-    rw (← c.self.view_is, c.place_of_all.ensures) (base_place_body c.self.inside.image _ _ c.args.method c.rva.result c.self.invariant.deltas _ found c.in_default.is there c.requires.table c.rva.ensures.raw low)
+    rw (← c.self.view_is, c.place_of_all.ensures)
+    (λ texts more. base_place_body c.self.inside.image _ _ c.args.method c.rva.result texts c.self.invariant.deltas more _ found c.in_default.is there
+    c.requires.table c.rva.ensures.raw low)
 
 pub returns-in_default-clause-some : goal.returns-in_default-clause-some
 returns-in_default-clause-some c =
     let low : c.rva.result < 2 ^ 32 = omega (arith, c.rva.type_inv) in
-    rw (← c.self.view_is, c.place_of_all.ensures) (base_place_stands c.self.inside.image _ _ c.rva.result low c.rva.ensures.some)
-
-pub returns-then-place-eq0-clause-body : goal.returns-then-place-eq0-clause-body
-returns-then-place-eq0-clause-body c =
-    let found = the_found c.self.inside.image _ c.args.method c.self.invariant.deltas _ c.in-Some.found (rw c.deref.ensures.value at c.find.ensures) c.in-Some.is in
-    rw (← c.self.view_is) (found_no_body c.self.inside.image _ _ _ c.args.method _ _ found c.requires.table (rw c.row_found.ensures at c.number-place.ensures) c.if-place-eq0.true)
-
-pub returns-then-place-eq0-clause-some : goal.returns-then-place-eq0-clause-some
-returns-then-place-eq0-clause-some c = ap is_some (none_at_zero c.args.self.now)
+    rw (← c.self.view_is, c.place_of_all.ensures) (λ texts. base_place_stands c.self.inside.image _ _ c.rva.result texts low c.rva.ensures.some)
 
 pub overflow_cast-found : goal.overflow_cast-found
 overflow_cast-found c =
@@ -41,7 +35,9 @@ returns-clause-body c =
     let found = the_found c.self.inside.image _ c.args.method c.self.invariant.deltas _ c.in-Some.found told c.in-Some.is in
     let is : found_in (reverse c.self.inside.added.items) c.args.method ≡ Some (reverse c.in-Some.found.upto.now, c.in-Some.found.row) = sym told ∙ ap (option_map found_seen) c.in-Some.is in
     let low : c.number-place.result < 2 ^ 32 = omega (arith, c.number-place.type_inv) in
-    rw (← c.self.view_is, c.place_of_all-2.ensures, ← length-reverse c.in-Some.found.upto.now) (found_place_body c.self.inside.image _ _ _ c.args.method _ c.number-place.result found is c.requires.table (rw c.row_found.ensures at c.number-place.ensures) low)
+    rw (← c.self.view_is, c.place_of_all-2.ensures, ← length-reverse c.in-Some.found.upto.now)
+    (λ texts more. found_place_body c.self.inside.image _ _ _ c.args.method _ c.number-place.result texts found more is c.requires.table
+    (rw c.row_found.ensures at c.number-place.ensures) low)
 
 pub returns-clause-some : goal.returns-clause-some
 returns-clause-some c =
@@ -49,5 +45,6 @@ returns-clause-some c =
     let found = the_found c.self.inside.image _ c.args.method c.self.invariant.deltas _ c.in-Some.found told c.in-Some.is in
     let is : found_in (reverse c.self.inside.added.items) c.args.method ≡ Some (reverse c.in-Some.found.upto.now, c.in-Some.found.row) = sym told ∙ ap (option_map found_seen) c.in-Some.is in
     let low : c.number-place.result < 2 ^ 32 = omega (arith, c.number-place.type_inv) in
-    let more : 0 < c.number-place.result = omega (arith, c.if-place-eq0.false) in
-    rw (← c.self.view_is, c.place_of_all-2.ensures, ← length-reverse c.in-Some.found.upto.now) (found_place_stands c.self.inside.image _ _ _ c.args.method _ c.number-place.result found is c.requires.table (rw c.row_found.ensures at c.number-place.ensures) low more)
+    rw (← c.self.view_is, c.place_of_all-2.ensures, ← length-reverse c.in-Some.found.upto.now)
+    (λ texts. found_place_stands c.self.inside.image _ _ _ c.args.method _ c.number-place.result texts found is c.requires.table
+    (rw c.row_found.ensures at c.number-place.ensures) low)

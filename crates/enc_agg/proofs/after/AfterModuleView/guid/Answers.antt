@@ -1,0 +1,25 @@
+use Rattle.enc_agg.proofs.Next.{old_row, old_cell, own_guid}
+use Rattle.enc_agg.proofs.after.AfterModuleView.guid.Goals as goal
+
+pub guid-requires-clause-row : goal.guid-requires-clause-row
+guid-requires-clause-row c = old_row c.self.inside.aggregate.now c.self.inside.ready.now c.args.row _ c.self.invariant
+    (rw (← c.self.view_is) at c.place.ensures) c.in_default.is (rw (← c.self.view_is) at c.requires.row)
+
+pub returns-in_default : goal.returns-in_default
+returns-in_default c = rw (← c.self.view_is)
+    (old_cell c.self.inside.aggregate.now c.self.inside.ready.now c.args.row c.args.column _ _ c.self.invariant (rw (← c.self.view_is) at c.place.ensures)
+    c.in_default.is c.guid.ensures)
+
+pub unreachable-requires : goal.unreachable-requires
+unreachable-requires c =
+    let cell = own_guid c.self.inside.aggregate.now c.self.inside.ready.now c.args.row _ c.args.column _ _ _ c.self.invariant
+    (rw (← c.self.view_is) at c.place.ensures) c.in-Some.is c.requires.kind (rw (← c.self.view_is) at c.own-entry.ensures)
+    (rw c.heaps.ensures at c.guid_after.ensures) in
+    rw c.in-None.is at cell
+
+pub returns : goal.returns
+returns c =
+    let cell = own_guid c.self.inside.aggregate.now c.self.inside.ready.now c.args.row _ c.args.column _ _ _ c.self.invariant
+    (rw (← c.self.view_is) at c.place.ensures) c.in-Some.is c.requires.kind (rw (← c.self.view_is) at c.own-entry.ensures)
+    (rw c.heaps.ensures at c.guid_after.ensures) in
+    rw (← c.self.view_is) (rw c.in-Some-guid_after.is at cell)

@@ -1,0 +1,22 @@
+use Rattle.enc_agg.proofs.Asked.{base_row, base_body, the_found, body_found}
+use Rattle.enc_agg.proofs.aggregate.Aggregate.code_of.Goals as goal
+
+pub body-requires-clause-row : goal.body-requires-clause-row
+body-requires-clause-row c = base_row c.self.inside.image _ c.args.method c.self.invariant.deltas _ (rw c.deref.ensures.value at c.find.ensures)
+    c.in_default.is (rw (← c.self.view_is) at c.requires.row)
+
+pub returns-in_default-clause-body : goal.returns-in_default-clause-body
+returns-in_default-clause-body c =
+    let found = rw c.deref.ensures.value at c.find.ensures in
+    let there = base_row c.self.inside.image _ c.args.method c.self.invariant.deltas _ found c.in_default.is (rw (← c.self.view_is) at c.requires.row) in
+    rw (← c.self.view_is)
+    (λ texts more. base_body c.self.inside.image _ c.args.method _ texts c.self.invariant.deltas more _ found c.in_default.is there c.requires.table
+    c.body.ensures.code)
+
+pub returns-clause-body : goal.returns-clause-body
+returns-clause-body c =
+    let found = the_found c.self.inside.image _ c.args.method c.self.invariant.deltas _ c.in-Some.found (rw c.deref.ensures.value at c.find.ensures)
+    c.in-Some.is in
+    rw (← c.self.view_is)
+    (λ texts more. body_found c.self.inside.image _ _ c.args.method _ _ _ texts found more c.requires.table
+    (rw c.row_found.ensures at c.number-place.ensures) c.body_in.ensures.code)
