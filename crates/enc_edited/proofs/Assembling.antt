@@ -93,7 +93,8 @@ arg_told h (arg.User units) tells kept =
 arg_told h (arg.Raw bytes) tells kept = refl
 
 -- and its user text is there
-arg_there : (h : Built) (a : ArgValue) → Tells h → list_all (is_kept h.users) (text_named (arg_meant a)) ≡ true → text_is_there (texts_of h) (arg_named (user_offset h) a) ≡ true
+arg_there : (h : Built) (a : ArgValue) → Tells h → list_all (is_kept h.users) (text_named (arg_meant a)) ≡ true
+    → text_is_there (texts_of h) (arg_named (user_offset h) a) ≡ true
 arg_there h arg.None tells kept = refl
 arg_there h (arg.Num n) tells kept = refl
 arg_there h (arg.Target t) tells kept = refl
@@ -133,12 +134,14 @@ code_told h at (i ∷ code) tells kept =
     let two = parts_kept (is_kept h.users) i code kept in
     rw (arg_told h i.arg tells two.0, code_told h (at + instruction_size (instr_meant i)) code tells two.1) refl
 
-code_there : (h : Built) (at : ℕ) (code : List InstrValue) → Tells h → list_all (is_kept h.users) (named_in code) ≡ true → list_all (names_text (texts_of h)) (placed_named (user_offset h) at code) ≡ true
+code_there : (h : Built) (at : ℕ) (code : List InstrValue) → Tells h → list_all (is_kept h.users) (named_in code) ≡ true
+    → list_all (names_text (texts_of h)) (placed_named (user_offset h) at code) ≡ true
 unfolding placed_named
 code_there h at [] tells kept = refl
 code_there h at (i ∷ code) tells kept =
     let two = parts_kept (is_kept h.users) i code kept in
-    both (text_is_there (texts_of h) (arg_named (user_offset h) i.arg)) _ (arg_there h i.arg tells two.0) (code_there h (at + instruction_size (instr_meant i)) code tells two.1)
+    both (text_is_there (texts_of h) (arg_named (user_offset h) i.arg)) _ (arg_there h i.arg tells two.0)
+    (code_there h (at + instruction_size (instr_meant i)) code tells two.1)
 
 -- what is known of a body that stands
 pub record Known (b : BodyValue) : Type 0 where
@@ -215,8 +218,8 @@ again read clauses h b good within none stands can =
     rw (r.2, r.0, code_told h 0 b.code (tells h good within none) (kept_named h b can.kept), clauses b.clauses k.clauses) refl
 
 -- and each user text that its code names is there
-pub texts_there : AssembledIsRead → (h : Built) (b : BodyValue) → IsGood h → AreWithinLimits h → h.starts ≡ no_starts → Stands b → CanBeEncoded h (body_stated b)
-    → texts_are_there (texts_of h) (code_bytes (user_offset h) 0 b.code) ≡ true
+pub texts_there : AssembledIsRead → (h : Built) (b : BodyValue) → IsGood h → AreWithinLimits h → h.starts ≡ no_starts → Stands b
+    → CanBeEncoded h (body_stated b) → texts_are_there (texts_of h) (code_bytes (user_offset h) 0 b.code) ≡ true
 unfolding texts_are_there
 texts_there read h b good within none stands can =
     let k = known b stands in

@@ -1,8 +1,6 @@
 -- The body of a method as it is held, and as its cell has it.
-use Rattle.std.proofs.Common.{◌≡◌, ℕ, zero, suc, ◌-◌, ◌<◌, ◌≤◌, Bool, true, List, [], ◌∷◌, length, map, Option, Some, None, refl, sym, ap, ◌∙◌, arith}
+use Rattle.std.proofs.Common.{◌≡◌, ℕ, zero, suc, ◌-◌, ◌<◌, ◌≤◌, true, List, [], ◌∷◌, length, map, Option, Some, None, refl, sym, ap, ◌∙◌, arith}
 use Rattle.std.specs.Prelude.{slice_get, option_map, option_and_then, not, ◌==◌, IfSome, IsTrue}
-use Rattle.std.specs.List.{list_all}
-use Rattle.std.proofs.lemmas.Bool.{and_parts}
 use Rattle.std.proofs.lemmas.Bool.Decides.{nat_tests}
 use Rattle.std.proofs.lemmas.List.{length-map}
 use Rattle.std.proofs.lemmas.Option.{slice_get-map, slice_get_within}
@@ -76,16 +74,9 @@ held_stands m users codes u c holds there is held =
     let same : body_of_row r.0 ≡ option_map (body_of (user_at users)) c = some_same _ _ (sym said ∙ ap (λ bs. slice_get bs (u.row - 1)) (sym holds.bodies) ∙ meant) in
     method_cell m u holds.sound there is ∙ ap (λ b. Some (body b)) (said_of_row m u r.0 is bounds.0 r.1 ∙ same)
 
--- and each user text that it names is there
-one_there : {A : Type 0} (q : A → Bool) (xs : List A) (n : ℕ) (x : A) → list_all q xs ≡ true → slice_get xs n ≡ Some x → q x ≡ true
-one_there q [] n x all there = absurd cc
-one_there q (y ∷ xs) zero x all there = let e : y ≡ x = some_same y x there in rw (← e) (and_parts (q y) (list_all q xs) all).0
-one_there q (y ∷ xs) (suc n) x all there = one_there q xs n x (and_parts (q y) (list_all q xs) all).1 there
-
-pub texts_held : (m : Module) (users : List ℕ) (codes : List (Option Code)) (n : ℕ) (c : Option Code) → HoldsCodes m users codes → slice_get codes n ≡ Some c → has_texts (user_at users) c ≡ true
-texts_held m users codes n c holds held = one_there (has_texts (user_at users)) codes n c holds.texts held
-
-pub texts_seen : (texts : ℕ → Option (List ℕ)) (o : Option CodeRef) (h : Option Code) → option_map code_seen o ≡ h → has_texts texts h ≡ true → IfSome o (λ c. IsTrue (texts_are_there texts c.code.now))
+-- and each user text that its code names is there
+pub texts_seen : (texts : ℕ → Option (List ℕ)) (o : Option CodeRef) (h : Option Code) → option_map code_seen o ≡ h → has_texts texts h ≡ true
+    → IfSome o (λ c. IsTrue (texts_are_there texts c.code.now))
 texts_seen texts None h is there = tt
 texts_seen texts (Some c) h is there = rw (← is) at there
 

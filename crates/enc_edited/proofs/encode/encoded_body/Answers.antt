@@ -37,5 +37,6 @@ returns-in-Ok-clause-means c =
 pub returns-in-Ok-clause-texts : goal.returns-in-Ok-clause-texts
 returns-in-Ok-clause-texts c =
     let code = rw c.as_slice.ensures at (c.deref.ensures.value ∙ c.in-Ok.ensures.bytes) in
-    let there = texts_there c.assembled_law.ensures c.args.heaps.now c.args.body.now c.laws.ensures.good c.laws.ensures.within c.requires.starts c.requires.stands c.requires.sound in
+    let there = texts_there c.assembled_law.ensures c.args.heaps.now c.args.body.now c.laws.ensures.good c.laws.ensures.within
+    c.requires.starts c.requires.stands c.requires.sound in
     IfOk-weaker c.written.result _ _ (λ h is. ap (has_texts (texts_of c.args.heaps.now)) is ∙ rw code there) c.written.ensures

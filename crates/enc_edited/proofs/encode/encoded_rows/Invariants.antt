@@ -6,4 +6,8 @@ use Rattle.enc_edited.specs.Encoded.{body_of_row, has_texts, texts_of}
 use Rattle.enc_edited.proofs.encode.encoded_rows.Given as goal
 
 abbrev pub invariant-loop-k : goal.invariant-loop-k
-invariant-loop-k l = record { means : map (option_map (body_of (texts_of l.fn.heaps))) l.codes.items ≡ map body_of_row (take l.k l.rows); texts : list_all (has_texts (texts_of l.fn.heaps)) l.codes.items ≡ true; same : l.heaps ≡ l.fn.heaps }
+invariant-loop-k l = record {
+  means : map (option_map (body_of (texts_of l.fn.heaps))) l.codes.items ≡ map body_of_row (take l.k l.rows);
+  texts : list_all (has_texts (texts_of l.fn.heaps)) l.codes.items ≡ true;
+  same : l.heaps ≡ l.fn.heaps;
+}
