@@ -1,6 +1,6 @@
 -- A body that can be assembled is read from its bytes as it was stated.
 use Rattle.std.proofs.Common.{◌≡◌, ℕ, ◌+◌, ◌*◌, ◌<◌, ◌^◌, Bool, true, false, List, [], ◌∷◌, ◌++◌, length, map, Some, refl, sym, ap, ◌∙◌, arith}
-use Rattle.std.specs.Prelude.{nat_lt, nat_le, not, ◌&&◌, ◌==◌}
+use Rattle.std.specs.Prelude.{nat_lt, nat_le, not, is_some, ◌&&◌, ◌==◌}
 use Rattle.std.specs.List.{list_all}
 use Rattle.std.proofs.lemmas.Bool.{and_parts}
 use Rattle.std.proofs.lemmas.Bool.Decides.{nat_tests}
@@ -19,13 +19,14 @@ use Rattle.enc_edits.specs.declared.body.InstrValue.{InstrValue}
 use Rattle.enc_il.specs.Written.{clause_fits, with_body, place_for, is_tiny, code_again, IsWritable, BodyIsRead, ClausesAreRead}
 use Rattle.enc_meta.specs.Built.{Built, AreWithinLimits, is_kept, unit_bytes, user_offset}
 use Rattle.enc_meta.specs.BuiltLaws.{IsGood}
-use Rattle.enc_opcodes.specs.Body.{Code, body_at, body_of, told, instruction_told, is_named, is_user, may_name, nil_or}
+use Rattle.enc_opcodes.specs.Body.{Code, body_at, body_of, told, instruction_told, text_is_there, texts_are_there, is_named, is_user, may_name, nil_or}
 use Rattle.enc_opcodes.specs.Sound.{instruction_size, argument_is_sound, instruction_is_sound, begins_at, are_whole, body_is_sound}
 use Rattle.enc_opcodes.specs.Body.{locals_are_good}
 use Rattle.enc_opcodes.specs.declared.op.Operand.{Operand}
 use Rattle.enc_opcodes.proofs.Sounds.{good_local, sound_locals}
 use Rattle.enc_rewriter.proofs.CodeCopied.{units_again}
 use Rattle.enc_rewriter.proofs.KeptValues.{user_told, user_low}
+use Rattle.enc_rewriter.specs.Copied.{names_text}
 use Rattle.enc_rewriter.specs.Values.{text_named, texts_named, no_starts}
 use Rattle.enc_rules.specs.Edited.{body_stated}
 use Rattle.enc_edited.specs.Encoded.{code_for, texts_of, IsSoundBody, CanBeEncoded}
@@ -91,6 +92,17 @@ arg_told h (arg.User units) tells kept =
     rw (there, units_again units) refl
 arg_told h (arg.Raw bytes) tells kept = refl
 
+-- and its user text is there
+arg_there : (h : Built) (a : ArgValue) → Tells h → list_all (is_kept h.users) (text_named (arg_meant a)) ≡ true
+    → text_is_there (texts_of h) (arg_named (user_offset h) a) ≡ true
+arg_there h arg.None tells kept = refl
+arg_there h (arg.Num n) tells kept = refl
+arg_there h (arg.Target t) tells kept = refl
+arg_there h (arg.Targets ts) tells kept = refl
+arg_there h (arg.Token t) tells kept = refl
+arg_there h (arg.User units) tells kept = ap is_some (tells.there (unit_bytes units) (first_kept (is_kept h.users (unit_bytes units)) kept))
+arg_there h (arg.Raw bytes) tells kept = refl
+
 -- the user texts of the first instruction and of the others
 parts_kept : (q : List ℕ → Bool) (i : InstrValue) (code : List InstrValue) → list_all q (named_in (i ∷ code)) ≡ true → (list_all q (named_by i) ≡ true) × (list_all q (named_in code) ≡ true)
 parts_kept q i code kept =
@@ -121,6 +133,15 @@ code_told h at [] tells kept = refl
 code_told h at (i ∷ code) tells kept =
     let two = parts_kept (is_kept h.users) i code kept in
     rw (arg_told h i.arg tells two.0, code_told h (at + instruction_size (instr_meant i)) code tells two.1) refl
+
+code_there : (h : Built) (at : ℕ) (code : List InstrValue) → Tells h → list_all (is_kept h.users) (named_in code) ≡ true
+    → list_all (names_text (texts_of h)) (placed_named (user_offset h) at code) ≡ true
+unfolding placed_named
+code_there h at [] tells kept = refl
+code_there h at (i ∷ code) tells kept =
+    let two = parts_kept (is_kept h.users) i code kept in
+    both (text_is_there (texts_of h) (arg_named (user_offset h) i.arg)) _ (arg_there h i.arg tells two.0)
+    (code_there h (at + instruction_size (instr_meant i)) code tells two.1)
 
 -- what is known of a body that stands
 pub record Known (b : BodyValue) : Type 0 where
@@ -195,6 +216,15 @@ again read clauses h b good within none stands can =
     let k = known b stands in
     let r = read (user_offset h) b.code k.fits k.reach (small h b good within none stands can) (omega (arith, k.room)) in
     rw (r.2, r.0, code_told h 0 b.code (tells h good within none) (kept_named h b can.kept), clauses b.clauses k.clauses) refl
+
+-- and each user text that its code names is there
+pub texts_there : AssembledIsRead → (h : Built) (b : BodyValue) → IsGood h → AreWithinLimits h → h.starts ≡ no_starts → Stands b
+    → CanBeEncoded h (body_stated b) → texts_are_there (texts_of h) (code_bytes (user_offset h) 0 b.code) ≡ true
+unfolding texts_are_there
+texts_there read h b good within none stands can =
+    let k = known b stands in
+    let r = read (user_offset h) b.code k.fits k.reach (small h b good within none stands can) (omega (arith, k.room)) in
+    ap (list_all (names_text (texts_of h))) r.0 ∙ code_there h 0 b.code (tells h good within none) (kept_named h b can.kept)
 
 -- a body that is written alone begins with its bytes
 place_none : (c : Code) (clauses : _) (b : Bool) → is_tiny c clauses ≡ b → place_for 0 c clauses ≡ 0

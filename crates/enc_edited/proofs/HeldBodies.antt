@@ -1,18 +1,19 @@
 -- The body of a method as it is held, and as its cell has it.
 use Rattle.std.proofs.Common.{◌≡◌, ℕ, zero, suc, ◌-◌, ◌<◌, ◌≤◌, true, List, [], ◌∷◌, length, map, Option, Some, None, refl, sym, ap, ◌∙◌, arith}
-use Rattle.std.specs.Prelude.{slice_get, option_map, option_and_then, not, ◌==◌}
+use Rattle.std.specs.Prelude.{slice_get, option_map, option_and_then, not, ◌==◌, IfSome, IsTrue}
 use Rattle.std.proofs.lemmas.Bool.Decides.{nat_tests}
 use Rattle.std.proofs.lemmas.List.{length-map}
 use Rattle.std.proofs.lemmas.Option.{slice_get-map, slice_get_within}
 use Rattle.enc_base.specs.declared.token.Token.{Token}
 use Rattle.enc_meta.specs.Heaps.{user_at}
-use Rattle.enc_opcodes.specs.Body.{Body, Code, body_of}
+use Rattle.enc_opcodes.specs.declared.code.CodeRef.{CodeRef}
+use Rattle.enc_opcodes.specs.Body.{Body, Code, body_of, code_seen, texts_are_there}
 use Rattle.enc_plain.specs.Cell.{Cell, number, text, blob, guid, refer, body, field, cell_kind, bodies}
 use Rattle.enc_plain.specs.Module.{Module, Row, rows_in, row_at, row_of, has_row, cell_of}
 use Rattle.enc_plain.specs.Sound.{row_count, IsSound}
 use Rattle.enc_plain.proofs.KindsOf.{row_bounds}
 use Rattle.enc_edited.specs.Plain.{body_in_cell, body_at_row}
-use Rattle.enc_edited.specs.Encoded.{body_of_row, bodies_meant, HoldsCodes}
+use Rattle.enc_edited.specs.Encoded.{body_of_row, bodies_meant, has_texts, HoldsCodes}
 
 -- a cell of a body is that body
 is_body : (o : Option Cell) → option_map cell_kind o ≡ Some bodies → o ≡ Some (body (body_in_cell o))
@@ -72,6 +73,12 @@ held_stands m users codes u c holds there is held =
     let said : slice_get (map body_of_row (rows_in m 6)) (u.row - 1) ≡ Some (body_of_row r.0) = slice_get-map body_of_row (rows_in m 6) (u.row - 1) ∙ ap (option_map body_of_row) r.1 in
     let same : body_of_row r.0 ≡ option_map (body_of (user_at users)) c = some_same _ _ (sym said ∙ ap (λ bs. slice_get bs (u.row - 1)) (sym holds.bodies) ∙ meant) in
     method_cell m u holds.sound there is ∙ ap (λ b. Some (body b)) (said_of_row m u r.0 is bounds.0 r.1 ∙ same)
+
+-- and each user text that its code names is there
+pub texts_seen : (texts : ℕ → Option (List ℕ)) (o : Option CodeRef) (h : Option Code) → option_map code_seen o ≡ h → has_texts texts h ≡ true
+    → IfSome o (λ c. IsTrue (texts_are_there texts c.code.now))
+texts_seen texts None h is there = tt
+texts_seen texts (Some c) h is there = rw (← is) at there
 
 -- the body of a row's number
 pub placed : (m : Module) (u : Token) (b : Option Body) → u.table ≡ 6 → cell_of m u 0 ≡ Some (body b) → body_at_row m u.row ≡ b

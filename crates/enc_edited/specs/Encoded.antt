@@ -1,10 +1,10 @@
 -- For the contracts of private functions: bodies as their bytes are read, beside the rows that have them.
-use Rattle.std.specs.Prelude.{◌≡◌, ℕ, ◌<◌, ◌^◌, true, List, [], map, flat_map, slice_get}
+use Rattle.std.specs.Prelude.{◌≡◌, ℕ, ◌<◌, ◌^◌, Bool, true, List, [], map, flat_map, slice_get}
 use Rattle.std.specs.Prelude.{Option, Some, None, option_map, option_and_then, is_some}
 use Rattle.std.specs.List.{list_all}
 use Rattle.enc_meta.specs.Built.{Built, is_kept, heaps_built}
 use Rattle.enc_meta.specs.Heaps.{user_at}
-use Rattle.enc_opcodes.specs.Body.{Body, Code, body_at, body_of}
+use Rattle.enc_opcodes.specs.Body.{Body, Code, body_at, body_of, texts_are_there}
 use Rattle.enc_opcodes.specs.Sound.{body_is_sound}
 use Rattle.enc_plain.specs.Module.{Module, Row, rows_in}
 use Rattle.enc_plain.specs.Sound.{IsSound}
@@ -30,10 +30,16 @@ body_of_row r = body_in_cell (slice_get r.cells 0)
 abbrev pub bodies_meant : List ℕ → List (Option Code) → List (Option Body)
 bodies_meant users codes = map (option_map (body_of (user_at users))) codes
 
--- the module is sound, and there is the body of each of its methods, in order
+-- each user text that the code names is there, where there is any code
+abbrev pub has_texts : (ℕ → Option (List ℕ)) → Option Code → Bool
+has_texts texts None = true
+has_texts texts (Some c) = texts_are_there texts c.code
+
+-- the module is sound, and there is the body of each of its methods, in order, with its user texts
 pub record HoldsCodes (m : Module) (users : List ℕ) (codes : List (Option Code)) : Type 0 where
   pub sound : IsSound m
   pub bodies : bodies_meant users codes ≡ map body_of_row (rows_in m method_def)
+  pub texts : list_all (has_texts (user_at users)) codes ≡ true
 
 -- the code that a body is written with
 abbrev pub code_for : BodyValue → List ℕ → Code

@@ -1,13 +1,15 @@
 //! The bodies of a module's methods, encoded with a `#US` of their own (ECMA-335 II.24.2.4, II.25.4).
-ghost use Rattle.std.specs.Prelude.{◌≡◌, ◌+◌, ◌*◌, ◌<◌, ◌^◌, ℕ, false, nat_lt, Some, length, map, option_map, slice_get, flat_map, IfOk, IfSome, OnOk};
+ghost use Rattle.std.specs.Prelude.{◌≡◌, ◌+◌, ◌*◌, ◌<◌, ◌^◌, ℕ, true, false, nat_lt, Some, length, map, option_map, slice_get, flat_map, IfOk, IfSome, OnOk};
+ghost use Rattle.std.specs.List.{list_all};
 ghost use Rattle.enc_edits.specs.Sizes.{arg_meant, placed};
 ghost use Rattle.enc_il.specs.Written.{code_again};
+ghost use Rattle.enc_meta.specs.Heaps.{user_at};
 ghost use Rattle.enc_opcodes.specs.Body.{body_of};
 ghost use Rattle.enc_plain.specs.Module.{Row as TheRow};
 ghost use Rattle.enc_rewriter.specs.Values.{with_all, text_named, texts_named, heap_size, no_starts, no_heaps, IsPast};
 ghost use Rattle.enc_rewriter.specs.declared.pass.Pass.TheVariants.{Users};
 ghost use Rattle.enc_rules.specs.Edited.{body_stated};
-ghost use Rattle.enc_edited.specs.Encoded.{body_of_row, bodies_meant, code_for, users_of_row, users_of_rows, IsSoundIf, CanBeEncoded, CanBeEncodedIf, texts_of};
+ghost use Rattle.enc_edited.specs.Encoded.{body_of_row, bodies_meant, code_for, users_of_row, users_of_rows, IsSoundIf, CanBeEncoded, CanBeEncodedIf, has_texts, texts_of};
 ghost use Rattle.enc_edited.specs.Plain.{body_in_cell};
 ghost use Rattle.enc_edited.specs.Standing.{Stands};
 
@@ -150,6 +152,7 @@ fn encoded_body(
     requires stands { Stands body.now }
     requires sound { CanBeEncoded heaps.old (body_stated body.now) }
     ensures means { IfOk result (λ h. option_map (body_of (texts_of heaps.old)) h ≡ Some (body_stated body.now)) }
+    ensures texts { IfOk result (λ h. has_texts (texts_of heaps.old) h ≡ true) }
     ensures same { heaps.new ≡ heaps.old }
 {
     heaps.laws();
@@ -170,6 +173,7 @@ fn encoded_row(
     requires starts { heaps.old.starts ≡ no_starts }
     requires sound { CanBeEncodedIf heaps.old (body_of_row row.now) }
     ensures means { IfOk result (λ h. option_map (body_of (texts_of heaps.old)) h ≡ body_of_row row.now) }
+    ensures texts { IfOk result (λ h. has_texts (texts_of heaps.old) h ≡ true) }
     ensures same { heaps.new ≡ heaps.old }
 {
     match row.body() {
@@ -187,6 +191,7 @@ fn encoded_rows(
     requires starts { heaps.old.starts ≡ no_starts }
     requires sound { (n : ℕ) (r : TheRow) → slice_get rows.now n ≡ Some r → CanBeEncodedIf heaps.old (body_of_row r) }
     ensures means { IfOk result (λ codes. map (option_map (body_of (texts_of heaps.old))) codes.items ≡ map body_of_row rows.now) }
+    ensures texts { IfOk result (λ codes. list_all (has_texts (texts_of heaps.old)) codes.items ≡ true) }
     ensures same { heaps.new ≡ heaps.old }
 {
     let mut codes = Vec::new(alloc);
@@ -217,7 +222,8 @@ fn gather(alloc: Global, rows: &[PlainRow]) -> Result<HeapBuilder, AllocError>
 pub(crate) fn encode(alloc: Global, rows: &[PlainRow]) -> Result<Encoded, AllocError>
     requires room { nat_lt (2 ^ 24) (heap_size Users (with_all Users no_heaps (users_of_rows rows.now))) ≡ false }
     requires sound { (n : ℕ) (r : TheRow) → slice_get rows.now n ≡ Some r → IsSoundIf (body_of_row r) }
-    ensures { IfOk result (λ e. bodies_meant e.users.items e.codes.items ≡ map body_of_row rows.now) }
+    ensures bodies { IfOk result (λ e. bodies_meant e.users.items e.codes.items ≡ map body_of_row rows.now) }
+    ensures texts { IfOk result (λ e. list_all (has_texts (user_at e.users.items)) e.codes.items ≡ true) }
 {
     let mut heaps = gather(alloc, rows)?;
     let codes = encoded_rows(alloc, rows, &mut heaps)?;

@@ -1,12 +1,12 @@
 //! A plain module in memory.
-ghost use Rattle.std.specs.Prelude.{◌-◌, ◌≡◌, ℕ, ◌<◌, ◌^◌, ◌==◌, false, ◌∷◌, [], length, replicate, position, option_copied, option_map, unwrap_or, slice_get, IsTrue, IsSome, IfSome, IfOk};
+ghost use Rattle.std.specs.Prelude.{◌-◌, ◌≡◌, ℕ, ◌<◌, ◌^◌, ◌==◌, true, false, ◌∷◌, [], length, replicate, position, option_copied, option_map, unwrap_or, slice_get, IsTrue, IsSome, IfSome, IfOk};
 ghost use Rattle.std.specs.List.{list_any};
 ghost use Rattle.enc_meta.specs.Heaps.{user_at};
-ghost use Rattle.enc_opcodes.specs.Body.{body_of, code_seen};
+ghost use Rattle.enc_opcodes.specs.Body.{body_of, code_seen, texts_are_there};
 ghost use Rattle.enc_plain.specs.Cell.{kind_in, cell_kind, body};
 ghost use Rattle.enc_plain.specs.Module.{rows_in, row_at, row_of, has_row, cells_of, cell_of, owner_of, kids_of, kids_at, has_kid};
 ghost use Rattle.enc_edited.specs.Plain.{cell_number, blob_in, body_at_row};
-ghost use Rattle.enc_edited.specs.Encoded.{with_tables};
+ghost use Rattle.enc_edited.specs.Encoded.{has_texts, with_tables};
 ghost use Rattle.enc_plain.specs.Sound.{IsSound};
 ghost use Rattle.enc_edited.specs.Begun.{module_row as row_of_module, begun};
 ghost use Rattle.enc_schema.specs.Tables.{table_count, method_def};
@@ -339,12 +339,25 @@ impl PlainModule {
     fn held_code(&self, method: Token) -> &HeldCode
         requires row { IsTrue (has_row self.now.plain method) }
         requires table { method.table ≡ method_def }
-        ensures { cell_of self.now.plain method 0 ≡ Some (body (option_map (body_of (user_at self.now.users)) result.now)) }
+        ensures cell { cell_of self.now.plain method 0 ≡ Some (body (option_map (body_of (user_at self.now.users)) result.now)) }
+        ensures texts { has_texts (user_at self.now.users) result.now ≡ true }
     {
         match code_at(&self.codes, method.row as usize - 1) {
             Some(code) => code,
             None => unreachable!(),
         }
+    }
+
+    /// The body of a method, None where it has none. Each user text that its code names is there.
+    fn method_code(&self, method: Token) -> Option<CodeRef<'_>>
+        requires row { IsTrue (has_row self.now.plain method) }
+        requires table { method.table ≡ method_def }
+        ensures cell { cell_of self.now.plain method 0 ≡ Some (body (option_map (λ c. body_of (user_at self.now.users) (code_seen c)) result)) }
+        ensures few { IfSome result (λ c. length c.code.now < 2 ^ 32) }
+        ensures texts { IfSome result (λ c. IsTrue (texts_are_there (user_at self.now.users) c.code.now)) }
+    {
+        let held = self.held_code(method);
+        held.code()
     }
 
     /// The cell in a column that has one.
@@ -459,8 +472,7 @@ impl ModuleView for PlainModule {
     }
 
     fn code(&self, method: Token) -> Option<CodeRef<'_>> {
-        let held = self.held_code(method);
-        held.code()
+        self.method_code(method)
     }
 
     fn code_place(&self, method: Token) -> u64 {

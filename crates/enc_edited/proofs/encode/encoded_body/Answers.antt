@@ -2,8 +2,8 @@ use Rattle.std.proofs.Common.{length, Some, ap, ◌∙◌, arith}
 use Rattle.std.specs.Prelude.{option_map}
 use Rattle.std.proofs.lemmas.Result.{IfOk-weaker}
 use Rattle.enc_opcodes.specs.Body.{body_of}
-use Rattle.enc_edited.specs.Encoded.{texts_of}
-use Rattle.enc_edited.proofs.Assembling.{known, small, kept, low_locals, code_length, again}
+use Rattle.enc_edited.specs.Encoded.{has_texts, texts_of}
+use Rattle.enc_edited.proofs.Assembling.{known, small, kept, low_locals, code_length, again, texts_there}
 use Rattle.enc_edited.proofs.encode.encoded_body.Goals as goal
 
 pub assemble-requires-clause-fits : goal.assemble-requires-clause-fits
@@ -33,3 +33,10 @@ returns-in-Ok-clause-means c =
     let code = rw c.as_slice.ensures at (c.deref.ensures.value ∙ c.in-Ok.ensures.bytes) in
     let read = again c.assembled_law.ensures c.written_clauses_law.ensures c.args.heaps.now c.args.body.now c.laws.ensures.good c.laws.ensures.within c.requires.starts c.requires.stands c.requires.sound in
     IfOk-weaker c.written.result _ _ (λ h is. ap (option_map (body_of (texts_of c.args.heaps.now))) is ∙ ap Some (rw code read)) c.written.ensures
+
+pub returns-in-Ok-clause-texts : goal.returns-in-Ok-clause-texts
+returns-in-Ok-clause-texts c =
+    let code = rw c.as_slice.ensures at (c.deref.ensures.value ∙ c.in-Ok.ensures.bytes) in
+    let there = texts_there c.assembled_law.ensures c.args.heaps.now c.args.body.now c.laws.ensures.good c.laws.ensures.within
+    c.requires.starts c.requires.stands c.requires.sound in
+    IfOk-weaker c.written.result _ _ (λ h is. ap (has_texts (texts_of c.args.heaps.now)) is ∙ rw code there) c.written.ensures

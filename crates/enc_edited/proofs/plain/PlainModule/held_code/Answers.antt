@@ -1,8 +1,10 @@
 use Rattle.std.proofs.Common.{◌-◌, ap, sym, ◌∙◌, subst}
 use Rattle.std.specs.Prelude.{option_copied, slice_get}
 use Rattle.enc_plain.proofs.KindsOf.{row_bounds}
-use Rattle.enc_edited.specs.Encoded.{HoldsCodes}
+use Rattle.enc_meta.specs.Heaps.{user_at}
+use Rattle.enc_edited.specs.Encoded.{has_texts, HoldsCodes}
 use Rattle.enc_edited.specs.Plain.{InMemory}
+use Rattle.enc_edited.proofs.Rest.{at_place}
 use Rattle.enc_edited.proofs.HeldBodies.{held_stands, some_held}
 use Rattle.enc_edited.proofs.plain.PlainModule.held_code.Goals as goal
 
@@ -15,8 +17,14 @@ unreachable-requires c =
     some_held c.args.self.now.plain c.args.self.now.users c.self.inside.codes.items c.args.method holds c.requires.row c.requires.table
     (ap (λ codes. slice_get codes (c.args.method.row - 1)) (sym c.deref.ensures.value) ∙ sym c.code_at.ensures ∙ ap option_copied c.in-None.is)
 
-pub returns : goal.returns
-returns c =
+pub returns-clause-cell : goal.returns-clause-cell
+returns-clause-cell c =
     let holds = subst (λ (m : InMemory). HoldsCodes m.plain m.users c.self.inside.codes.items) c.self.view_is c.self.invariant in
     held_stands c.args.self.now.plain c.args.self.now.users c.self.inside.codes.items c.args.method c.in-Some.code.now holds c.requires.row c.requires.table
+    (ap (λ codes. slice_get codes (c.args.method.row - 1)) (sym c.deref.ensures.value) ∙ sym c.code_at.ensures ∙ ap option_copied c.in-Some.is)
+
+pub returns-clause-texts : goal.returns-clause-texts
+returns-clause-texts c =
+    let holds = subst (λ (m : InMemory). HoldsCodes m.plain m.users c.self.inside.codes.items) c.self.view_is c.self.invariant in
+    at_place (has_texts (user_at c.args.self.now.users)) c.self.inside.codes.items (c.args.method.row - 1) c.in-Some.code.now holds.texts
     (ap (λ codes. slice_get codes (c.args.method.row - 1)) (sym c.deref.ensures.value) ∙ sym c.code_at.ensures ∙ ap option_copied c.in-Some.is)
