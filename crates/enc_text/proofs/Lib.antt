@@ -3,3 +3,4 @@ pub mod Joined
 pub mod BodyLists
 pub mod Pieces
 pub mod PointLines
+pub mod Digits
