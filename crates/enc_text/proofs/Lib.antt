@@ -4,3 +4,4 @@ pub mod BodyLists
 pub mod Pieces
 pub mod PointLines
 pub mod Digits
+pub mod Characters

@@ -13,4 +13,4 @@ pub use rows::row_text;
 pub use text::{
     push_decimal, push_guid, push_long, push_str, push_token, refused_line, stream_name,
 };
-pub use within::{push_decimal_within, push_label_within, push_str_within};
+pub use within::{push_decimal_within, push_label_within, push_str_within, push_units_within};
