@@ -1,4 +1,4 @@
-use Rattle.std.proofs.Common.{arith, length-take, length-drop}
+use Rattle.std.proofs.Common.{arith}
 use Rattle.enc_text.proofs.Characters.{pair_front, lone_front, one_alone, four_bytes}
 use Rattle.enc_text.proofs.within.first_char.Goals as goal
 
