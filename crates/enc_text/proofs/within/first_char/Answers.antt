@@ -12,4 +12,5 @@ pub returns-in-Some-clause-room : goal.returns-in-Some-clause-room
 returns-in-Some-clause-room c = grind (arith, four_bytes)
 
 pub returns-in-None-clause-text : goal.returns-in-None-clause-text
-returns-in-None-clause-text c = lone_front c.args.units.now c.lone_char-in-None.result c.in-len2-up.len_at_least c.in-None.ensures c.lone_char-in-None.ensures.char
+returns-in-None-clause-text c =
+    lone_front c.args.units.now c.lone_char-in-None.result c.in-len2-up.len_at_least c.in-None.ensures c.lone_char-in-None.ensures.char
