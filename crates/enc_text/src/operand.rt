@@ -17,7 +17,7 @@ use enc_plain::ModuleView;
 use std::alloc::{AllocError, Global};
 
 /// How many hexadecimal digits an offset is written with: four, or as many as it has.
-fn label_digits(offset: u32) -> usize
+pub fn label_digits(offset: u32) -> usize
     ensures digits { result ≡ label_digits offset }
     ensures few { result ≤ 8 }
 {

@@ -1,7 +1,9 @@
 //! Tokens, texts, blobs, GUIDs and refusals as printed bytes. Each call appends, and after want of
 //! memory what stands behind the old bytes is free: callers hand in a text of their own.
 ghost use Rattle.std.specs.Prelude.{◌≡◌, ◌≤◌, ◌++◌, ◌∷◌, [], length, OnOk, IfOk, flat_map, decimal, codes};
-ghost use Rattle.enc_text.specs.Text.{digits, token_text, escaped, quoted, bracketed, guid_text, refusal_code_text, stream_text, cell_place_text, place_text, refused_line};
+ghost use Rattle.std.specs.Int.{w32, to_be_bytes};
+ghost use Rattle.hex.specs.Hex.{encode_lower};
+ghost use Rattle.enc_text.specs.Text.{digits, token_text, stands_as_it_is, escaped, quoted, bracketed, guid_text, refusal_code_text, stream_text, cell_place_text, place_text, refused_line};
 
 use enc_base::{Code, Place, Refusal, StreamName, Token};
 use enc_schema::column_name;
@@ -15,16 +17,24 @@ pub fn push_str(out: &mut Vec<u8>, text: &str) -> Result<(), AllocError>
     out.extend_from_slice(text.as_bytes())
 }
 
+/// The eight lower case hexadecimal digits of a number.
+pub fn all_digits(number: u32) -> [u8; 8]
+    ensures { result ≡ encode_lower (to_be_bytes w32 number) }
+{
+    let mut all = [0; 8];
+    let Ok(()) = hex::encode_to_slice(number.to_be_bytes().as_slice(), &mut all) else {
+        unreachable!()
+    };
+    all
+}
+
 /// Appends the last digits of a number.
 #[tactic(auto, unfolding(crate::specs::Text::digits))]
 pub fn push_digits(out: &mut Vec<u8>, count: usize, number: u32) -> Result<(), AllocError>
     requires { count ≤ 8 }
     ensures { OnOk result (out.new.items ≡ out.old.items ++ digits count number) }
 {
-    let mut all = [0; 8];
-    let Ok(()) = hex::encode_to_slice(number.to_be_bytes().as_slice(), &mut all) else {
-        unreachable!()
-    };
+    let all = all_digits(number);
     out.extend_from_slice(&all[8 - count..])
 }
 
@@ -51,10 +61,17 @@ pub fn push_decimal(alloc: Global, out: &mut Vec<u8>, number: u32) -> Result<(),
     push_str(out, number.to_string(alloc)?.as_str())
 }
 
+/// Whether a byte of a text stands as it is.
+pub fn stands_as_it_is(b: u8) -> bool
+    ensures { result ≡ stands_as_it_is b }
+{
+    0x20 <= b && b <= 0x7e && b != b'"' && b != b'\\'
+}
+
 fn push_escaped(out: &mut Vec<u8>, b: u8) -> Result<(), AllocError>
     ensures { OnOk result (out.new.items ≡ out.old.items ++ escaped b) }
 {
-    if 0x20 <= b && b <= 0x7e && b != b'"' && b != b'\\' {
+    if stands_as_it_is(b) {
         out.push(b)?;
         return Ok(());
     }
