@@ -1,6 +1,6 @@
 -- A look-up of the program: where one of the deltas was found, and where none was.
 use Rattle.std.proofs.Common.{◌≡◌, ℕ, true, List, [], ◌∷◌, reverse, Option, Some, None, refl, sym, ap, subst, ◌∙◌}
-use Rattle.std.specs.Prelude.{IsTrue, MatchOption, is_some, option_map}
+use Rattle.std.specs.Prelude.{IsTrue, IfSome, MatchOption, is_some, option_map}
 use Rattle.enc_base.specs.declared.token.Token.{Token}
 use Rattle.enc_meta.specs.Joined.{joined_text, joined_blob, joined_user, joined_guid}
 use Rattle.enc_opcodes.specs.declared.code.CodeRef.{CodeRef}
@@ -14,6 +14,7 @@ use Rattle.enc_schema.specs.Schema.{column_in}
 use Rattle.enc_rows.specs.Source.{Source, raw_in}
 use Rattle.enc_plain.specs.Cell.{Cell, number, text, blob, guid, refer, body, field, numbers, texts, blobs, guids, references, kind_in}
 use Rattle.enc_plain.specs.Module.{has_row, cell_of}
+use Rattle.enc_plain.proofs.MoreTexts.{texts_more}
 use Rattle.enc_image.specs.Base.{users_of, module_in}
 use Rattle.enc_agg.specs.declared.added.Added.{Added}
 use Rattle.enc_agg.specs.declared.added.Found.{Found}
@@ -156,3 +157,24 @@ pub field_found : (b : Source) (added upto : List Added) (u : Token) (k : ℕ) �
 field_found b added upto u k found is =
     let c = chain_with b (sources found.older) in
     cell_found b added upto u k 0 (field []) found (field_listed c found.last.delta u k (changes_fit c found.last.delta found.sound found.is_added.follows.lands) found.place is)
+
+-- the user texts that bodies name are there: of one that a delta lists, and of one that none lists
+pub texts_found : (b : Source) (added upto : List Added) (u : Token) (k n : ℕ) (r : Option CodeRef) → IsFound b added u upto k → u.table ≡ 0x06
+    → newest_number upto (record { table = u.table; row = k }) 0 ≡ n → option_map code_seen r ≡ code_in upto n
+    → IfSome r (λ (c : CodeRef). IsTrue (texts_are_there (joined_user (chain_with b (sources added)).heaps) c.code.now))
+texts_found b added upto u k n None found is told code = _
+texts_found b added upto u k n (Some r) found is told code =
+    let c = chain_with b (sources found.older) in
+    let d = found.last.delta in
+    let raw = raw_found b added upto u k 0 n found told in
+    let parts : option_map code_seen (Some r) ≡ code_loaded d.loaded n = rw found.upto_is at code in
+    texts_more (users_after c d) (joined_user (chain_with b (sources added)).heaps) (code_seen r).code
+    (texts_listed c d u k n (code_seen r) found.is_added.follows found.place is raw (sym parts)) found.users
+
+pub base_texts : (b : Source) (added : List Added) (u : Token) (r : Option CodeRef) → IsAggregate b added → IsTrue (has_row (module_in b) u) → u.table ≡ 0x06
+    → option_map code_seen r ≡ code_loaded b.loaded (raw_in b u 0)
+    → IfSome r (λ (c : CodeRef). IsTrue (texts_are_there (joined_user (chain_with b (sources added)).heaps) c.code.now))
+base_texts b added u None agg there table code = _
+base_texts b added u (Some r) agg there table code =
+    texts_more (users_of b) (joined_user (chain_with b (sources added)).heaps) (code_seen r).code
+    (image_texts b u (code_seen r) agg.sound there table (sym code)) (base_users b added)

@@ -1,11 +1,11 @@
 -- The module with a delta that was made ready: the delta's own rows, and else those before.
 use Rattle.std.proofs.Common.{◌≡◌, ℕ, ◌+◌, ◌^◌, ◌<◌, ◌≤◌, true, List, [], ◌∷◌, ◌++◌, length, take, Option, Some, None, refl, sym, ap, subst, ◌∙◌, arith}
-use Rattle.std.specs.Prelude.{◌==◌, not, is_some, option_map, unwrap_or, slice_get, IsTrue, MatchOption}
+use Rattle.std.specs.Prelude.{◌==◌, not, is_some, option_map, unwrap_or, slice_get, IsTrue, IfSome, MatchOption}
 use Rattle.std.proofs.lemmas.List.{take_at}
 use Rattle.enc_base.specs.declared.token.Token.{Token}
 use Rattle.enc_index.specs.Index.{value_at}
 use Rattle.enc_meta.specs.Joined.{joined_text, joined_blob, joined_user, joined_guid}
-use Rattle.enc_opcodes.specs.Body.{code_seen, body_of}
+use Rattle.enc_opcodes.specs.Body.{code_seen, body_of, texts_are_there}
 use Rattle.enc_opcodes.specs.declared.code.CodeRef.{CodeRef}
 use Rattle.enc_rows.specs.Source.{Source, raw_in}
 use Rattle.enc_schema.specs.Children.{is_child_table, owner_table}
@@ -13,6 +13,7 @@ use Rattle.enc_schema.specs.Schema.{column_in}
 use Rattle.enc_plain.specs.Bodies.{code_loaded, body_loaded}
 use Rattle.enc_plain.specs.Cell.{Cell, number, text, blob, guid, refer, body, field, numbers, texts, blobs, guids, references, kind_in}
 use Rattle.enc_plain.specs.Chain.{Chain}
+use Rattle.enc_plain.proofs.MoreTexts.{texts_more}
 use Rattle.enc_plain.specs.Module.{rows_in, has_row, cell_of, owner_of, kids_of}
 use Rattle.enc_plain.specs.declared.place.RowPlace.{RowPlace}
 use Rattle.enc_delta.specs.Delta.{listed, place_in}
@@ -31,7 +32,7 @@ use Rattle.enc_agg.proofs.Fitting.{has_tables}
 use Rattle.enc_agg.proofs.Histories.{after_few, counted_rows, ids_count, users_stay}
 use Rattle.enc_agg.proofs.Paired.{changes_fit, row_kept, cell_kept}
 use Rattle.enc_agg.proofs.RowsAndKids.{get_left}
-use Rattle.enc_agg.proofs.Viewing.{text_listed, blob_listed, guid_listed, number_listed, refer_listed, body_listed, field_listed}
+use Rattle.enc_agg.proofs.Viewing.{text_listed, blob_listed, guid_listed, number_listed, refer_listed, body_listed, field_listed, texts_listed}
 
 -- the chain with the delta
 abbrev after : History → Ready → Chain
@@ -149,6 +150,21 @@ pub own_code : (h : History) (r : Ready) (u : Token) (k n : ℕ) (p : Option Cod
 unfolding body_loaded
 own_code h r u k n p o next is some table raw parts = own_loaded h r u k n o next is some table raw
     ∙ ap (λ x. Some (body x)) (read_as (joined_user (after h r).heaps) (code_loaded r.delta.loaded n) p parts)
+
+-- the user texts that they name are there
+pub old_texts : (h : History) (r : Ready) (p : Option CodeRef) → IfSome p (λ (c : CodeRef). IsTrue (texts_are_there (users_of_all h) c.code.now))
+    → IfSome p (λ (c : CodeRef). IsTrue (texts_are_there (joined_user (after h r).heaps) c.code.now))
+old_texts h r None there = _
+old_texts h r (Some c) there =
+    texts_more (users_of_all h) (joined_user (after h r).heaps) (code_seen c).code there (users_stay (chain_of_all h) r.delta)
+
+pub own_texts : (h : History) (r : Ready) (u : Token) (k n : ℕ) (p : Option CodeRef) (o : Option ℕ) → MayBeNext h r → o ≡ place_in (listed r.delta) u
+    → o ≡ Some k → u.table ≡ 0x06 → n ≡ raw_in r.delta (record { table = u.table; row = k }) 0 → option_map code_seen p ≡ code_loaded r.delta.loaded n
+    → IfSome p (λ (c : CodeRef). IsTrue (texts_are_there (joined_user (after h r).heaps) c.code.now))
+unfolding extended
+own_texts h r u k n None o next is some table raw parts = _
+own_texts h r u k n (Some c) o next is some table raw parts =
+    texts_listed (chain_of_all h) r.delta u k n (code_seen c) next.added.follows (sym is ∙ some) table (sym raw) (sym parts)
 
 -- and their places
 users_next : (h : History) (d : Source) → users_of_all (with_delta h d) ≡ joined_user (extended (chain_of_all h) d).heaps

@@ -1,6 +1,6 @@
 //! The bodies of an aggregate, by its own user texts or by more of them.
 ghost use Rattle.std.specs.Prelude.{◌≡◌, ℕ, ◌<◌, ◌^◌, ◌==◌, List, Option, Some, IsTrue, IfSome, is_some, length, not, option_map};
-ghost use Rattle.enc_opcodes.specs.Body.{body_of, code_seen};
+ghost use Rattle.enc_opcodes.specs.Body.{body_of, code_seen, texts_are_there};
 ghost use Rattle.enc_plain.specs.Cell.{body};
 ghost use Rattle.enc_plain.specs.Module.{has_row, cell_of};
 ghost use Rattle.enc_schema.specs.Tables.{method_def};
@@ -26,11 +26,12 @@ pub fn place_of_all(generation: u32, place: u32) -> u64
 
 impl Aggregate {
     /// The parts of a method's body, None where it has none. They mean its body by the user texts of
-    /// all, and by more of them.
+    /// all, and by more of them; each text that they name is there.
     pub(crate) fn code_of(&self, method: Token) -> Option<CodeRef<'_>>
         requires row { IsTrue (has_row (module_of_all self.now) method) }
         requires table { method.table ≡ method_def }
         ensures body { (texts : ℕ → Option (List ℕ)) → StayThere (users_of_all self.now) texts → cell_of (module_of_all self.now) method 0 ≡ Some (body (option_map (λ c. body_of texts (code_seen c)) result)) }
+        ensures texts { IfSome result (λ c. IsTrue (texts_are_there (users_of_all self.now) c.code.now)) }
         ensures few { IfSome result (λ c. length c.code.now < 2 ^ 32) }
     {
         let Some(found) = find(&self.added, &self.directory, method) else {

@@ -1,4 +1,4 @@
-use Rattle.enc_agg.proofs.Asked.{base_row, base_body, the_found, body_found}
+use Rattle.enc_agg.proofs.Asked.{base_row, base_body, base_texts, the_found, body_found, texts_found}
 use Rattle.enc_agg.proofs.aggregate.Aggregate.code_of.Goals as goal
 
 pub body-requires-clause-row : goal.body-requires-clause-row
@@ -19,4 +19,17 @@ returns-clause-body c =
     c.in-Some.is in
     rw (← c.self.view_is)
     (λ texts more. body_found c.self.inside.image _ _ c.args.method _ _ _ texts found more c.requires.table
+    (rw c.row_found.ensures at c.number-place.ensures) c.body_in.ensures.code)
+
+pub returns-in_default-clause-texts : goal.returns-in_default-clause-texts
+returns-in_default-clause-texts c =
+    let found = rw c.deref.ensures.value at c.find.ensures in
+    let there = base_row c.self.inside.image _ c.args.method c.self.invariant.deltas _ found c.in_default.is (rw (← c.self.view_is) at c.requires.row) in
+    rw (← c.self.view_is) (base_texts c.self.inside.image _ c.args.method c.body.result c.self.invariant.deltas there c.requires.table c.body.ensures.code)
+
+pub returns-clause-texts : goal.returns-clause-texts
+returns-clause-texts c =
+    let found = the_found c.self.inside.image _ c.args.method c.self.invariant.deltas _ c.in-Some.found (rw c.deref.ensures.value at c.find.ensures)
+    c.in-Some.is in
+    rw (← c.self.view_is) (texts_found c.self.inside.image _ _ c.args.method _ _ _ found c.requires.table
     (rw c.row_found.ensures at c.number-place.ensures) c.body_in.ensures.code)
