@@ -1,3 +1,4 @@
 pub mod Check
 pub mod Seen
 pub mod Within
+pub mod Followed

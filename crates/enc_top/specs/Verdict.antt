@@ -16,7 +16,8 @@ use Rattle.enc_image.specs.Base.{base_of, chain_of_base}
 use Rattle.enc_delta.specs.Delta.{delta_of}
 use Rattle.enc_ppdb.specs.Fault.{pdb_of}
 use Rattle.enc_ppdb.specs.PdbChain.{DebugDelta, pdb_with}
-use Rattle.enc_checker.specs.Check.{Accepted, judged, new_bodies}
+use Rattle.enc_checker.specs.Check.{Accepted, judged}
+pub use Rattle.enc_checker.specs.Followed.{Followed, followed_by, plain_of, debug_after, is_of_pdb}
 use Rattle.enc_agg.specs.Extend.{chain_with}
 use Rattle.enc_edits.specs.declared.edit.EditList.{EditList}
 use Rattle.enc_jobs.specs.declared.fault.JobFault.{JobFault}
@@ -141,11 +142,6 @@ abbrev pub in_file : {A : Type 0} → List ℕ → Result A Refusal → Result A
 in_file name (Ok a) = Ok a
 in_file name (Err e) = Err (refused_file name e)
 
--- F12 and E22 refuse a PDB
-abbrev pub is_of_pdb : Code → Bool
-is_of_pdb (F n) = n == 12
-is_of_pdb (E n) = n == 22
-
 -- the file of a delta that is refused: its PDB, or its metadata
 abbrev pub refused_name : List ℕ → List ℕ → Refusal → List ℕ
 refused_name name debug_name e = if is_of_pdb e.code then debug_name else name
@@ -153,22 +149,6 @@ refused_name name debug_name e = if is_of_pdb e.code then debug_name else name
 abbrev pub in_delta : {A : Type 0} → DeltaFiles → Result A Refusal → Result A Stop
 in_delta f (Ok a) = Ok a
 in_delta f (Err e) = Err (refused_file (refused_name f.name f.debug_name e) e)
-
--- a base with the deltas that follow it, the newest first; the base's PDB, where it has one, and what the deltas say of sequence points
-pub record Followed : Type 0 where
-  pub base : Source
-  pub deltas : List Source
-  pub debug : Option Source
-  pub debugs : List DebugDelta
-
--- with one more delta that was accepted
-abbrev pub followed_by : Followed → Accepted → Followed
-followed_by f a = record {
-  base = f.base;
-  deltas = a.delta ∷ f.deltas;
-  debug = f.debug;
-  debugs = record { pdb = a.pdb; changed = new_bodies a.delta } ∷ f.debugs;
-}
 
 -- the deltas judged in order, each after those before it
 unfoldable pub judge_deltas : Followed → List DeltaFiles → Result Followed Stop
@@ -198,13 +178,6 @@ accept files base deltas = do
   f ← load_base files base 0
   fs ← load_deltas files deltas (base_size f)
   judge_all base f fs
-
--- the module and the plain PDB after all deltas
-abbrev pub plain_of : Followed → Module
-plain_of f = (chain_with f.base f.deltas).plain
-
-abbrev pub debug_after : Followed → PlainPdb
-debug_after f = pdb_with f.debug f.debugs
 
 -- the limit that is passed, as it is told
 abbrev pub limit_told : Passed → Limit
