@@ -6,3 +6,4 @@ pub mod KindsLeft
 pub mod FirstKid
 pub mod Ended
 pub mod Absent
+pub mod OneByte

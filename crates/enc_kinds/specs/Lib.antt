@@ -6,3 +6,4 @@ pub mod Members
 pub mod Outside
 pub mod Filters
 pub mod Seen
+pub mod Alone

@@ -2,19 +2,45 @@
 ghost use Rattle.std.specs.Prelude.{◌≡◌, option_map};
 ghost use Rattle.enc_sigs.specs.Grammar.{many};
 ghost use Rattle.enc_sigs.specs.Reads.{left_after};
+ghost use Rattle.enc_kinds.specs.Alone.{stands_alone};
 ghost use Rattle.enc_kinds.specs.Fronts.{kind_front, parameter_front, parameter_kinds};
 
 use crate::element::kind_of_element;
 use enc_objects::Kind;
 use enc_sigs::{behind_sentinel, type_front};
 
-/// The kind of the type at the front, and what is behind the type (ECMA-335 II.23.2.12).
+/// The kind of the type at the front, whichever it is, and what is behind the type.
 #[tactic(auto, unfolding(crate::specs::Fronts::kind_front))]
-pub fn kind_front(bytes: &[u8]) -> Option<(Kind, &[u8])>
+fn any_front(bytes: &[u8]) -> Option<(Kind, &[u8])>
     ensures { option_map (λ x. (x.0, x.1.now)) result ≡ kind_front bytes.now }
 {
     let (element, rest) = type_front(bytes)?;
     Some((kind_of_element(element)?, rest))
+}
+
+/// Whether a type is its first byte alone: a truth value, a character, a number, a text, an object
+/// (ECMA-335 II.23.2.12).
+fn stands_alone(element: u8) -> bool
+    ensures { result ≡ stands_alone element }
+{
+    matches!(element, 0x02..=0x0b | 0x0e | 0x1c)
+}
+
+/// The kind of the type at the front, and what is behind the type (ECMA-335 II.23.2.12). Most types are one byte:
+/// these aren't read further.
+pub fn kind_front(bytes: &[u8]) -> Option<(Kind, &[u8])>
+    ensures { option_map (λ x. (x.0, x.1.now)) result ≡ kind_front bytes.now }
+{
+    let [element, rest @ ..] = bytes else {
+        return any_front(bytes);
+    };
+    if !stands_alone(*element) {
+        return any_front(bytes);
+    }
+    match kind_of_element(*element) {
+        None => any_front(bytes),
+        Some(kind) => Some((kind, rest)),
+    }
 }
 
 /// The same of a type that may stand behind a sentinel (ECMA-335 II.23.2.2).
