@@ -32,7 +32,7 @@ place_seen f = record { generation = length f.0; row = f.1 }
 abbrev pub IsSame : {V : Type 0} → Kept V → Type 0
 IsSame k = (q : Key) → value_at k.own q ≡ latest k.entries.items q
 
-pub record AreSame (g : Gained) : Type 0 where
+pub record AreAsOwn (g : Gained) : Type 0 where
   pub owners : IsSame g.owners
   pub counts : IsSame g.counts
   pub kids : IsSame g.kids

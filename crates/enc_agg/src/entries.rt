@@ -13,7 +13,7 @@ ghost use Rattle.enc_delta.specs.Pairs.{attached_of};
 ghost use Rattle.enc_agg.specs.Extend.{extended};
 ghost use Rattle.enc_agg.specs.Follows.{Follows};
 ghost use Rattle.enc_agg.specs.Seen.{chain_of_all, module_of_all};
-ghost use Rattle.enc_agg.specs.Directory.{row_key, kids_key, AreOwned, AreHeld, AreBrought, IsSame, AreSame, IsOwn};
+ghost use Rattle.enc_agg.specs.Directory.{row_key, kids_key, AreOwned, AreHeld, AreBrought, IsSame, AreAsOwn, IsOwn};
 
 use crate::aggregate::Aggregate;
 use crate::directory::{Directory, Entries, kids_key, row_key};
@@ -62,8 +62,8 @@ impl Gained {
     /// Adds a child, behind so many others.
     fn push(&mut self, alloc: Global, pair: Pair, others: u32) -> Result<(), AllocError>
         requires few { others + 1 < 2 ^ 32 }
-        requires same { AreSame self.old }
-        ensures same { IfOk result (λ _. AreSame self.new) }
+        requires same { AreAsOwn self.old }
+        ensures same { IfOk result (λ _. AreAsOwn self.new) }
         ensures owners { IfOk result (λ _. (q : TheKey) → latest self.new.owners.entries.items q ≡ either (if is_key (row_key pair.child) q then Some pair.owner else None) (latest self.old.owners.entries.items q)) }
         ensures counts { IfOk result (λ _. (q : TheKey) → latest self.new.counts.entries.items q ≡ either (if is_key (kids_key pair.child.table pair.owner 0) q then Some (others + 1) else None) (latest self.old.counts.entries.items q)) }
         ensures kids { IfOk result (λ _. (q : TheKey) → latest self.new.kids.entries.items q ≡ either (if is_key (kids_key pair.child.table pair.owner others) q then Some pair.child.row else None) (latest self.old.kids.entries.items q)) }
@@ -99,7 +99,7 @@ fn gained_by(
 ) -> Result<Gained, AllocError>
     requires follows { Follows (chain_of_all aggregate.now) delta.now }
     requires pairs { map pair_seen pairs.now ≡ attached_of delta.now }
-    ensures same { IfOk result AreSame }
+    ensures same { IfOk result AreAsOwn }
     ensures owners { IfOk result (λ g. AreOwned (chain_of_all aggregate.now) (extended (chain_of_all aggregate.now) delta.now) (λ u. latest g.owners.entries.items (row_key u))) }
     ensures kids { IfOk result (λ g. AreHeld (chain_of_all aggregate.now) (extended (chain_of_all aggregate.now) delta.now) (latest g.counts.entries.items) (latest g.kids.entries.items)) }
 {

@@ -14,7 +14,7 @@ use Rattle.enc_plain.proofs.Applied.{same_is}
 use Rattle.enc_plain.proofs.Owned.{count_cons, count_append, kid_owner, has_owner}
 use Rattle.enc_schema.specs.Children.{is_child_table, owner_table}
 use Rattle.enc_dispatch.specs.Changed.{is_listed, AreNew, IsChangedBy}
-use Rattle.enc_dispatch.specs.Keeps.{keeps_method, keeps_class, is_reference_table, is_read, keeps_row, keeps}
+use Rattle.enc_dispatch.specs.Keeps.{keeps_method, keeps_class, is_read_by_likeness, is_read, keeps_row, keeps}
 use Rattle.enc_dispatch.specs.Walks.{method_at}
 use Rattle.enc_dispatch.proofs.References.{RefsStay, number_by, bytes_by, token_by}
 
@@ -108,8 +108,8 @@ read_stays m n listed u changed all there read = by_listed (is_listed listed u) 
     by_listed true e =
         absurd (not_kept m n u (u.table == 0x06) (u.table == 0x02) (is_read u.table) refl refl refl (λ x. not_at u.table 0x06 is_read x read refl) (λ y. not_at u.table 0x02 is_read y read refl) read (row_keeps m n listed u all there e))
 
-reference_read : (t : ℕ) → is_reference_table t ≡ true → is_read t ≡ true
-reference_read t h = or_left (is_reference_table t || t == 0x19) (t == 0x09) (or_left (is_reference_table t) (t == 0x19) h)
+reference_read : (t : ℕ) → is_read_by_likeness t ≡ true → is_read t ≡ true
+reference_read t h = or_left (is_read_by_likeness t || t == 0x19) (t == 0x09) (or_left (is_read_by_likeness t) (t == 0x19) h)
 
 pub kept : (m n : Module) (listed : List Token) → IsChangedBy m n listed → list_all (keeps m n) listed ≡ true → IsKept m n
 kept m n listed changed all = record {

@@ -28,7 +28,7 @@ use Rattle.enc_sigs.specs.declared.kind.SigKind.TheVariants.{Method, TypeSpec}
 use Rattle.enc_sigs.specs.declared.mix.Mix.{Mix}
 use Rattle.enc_sigs.proofs.Named.{counted_names}
 use Rattle.enc_sigs.proofs.Wider.{sig_keeps}
-use Rattle.enc_dispatch.specs.Keeps.{is_reference_table}
+use Rattle.enc_dispatch.specs.Keeps.{is_read_by_likeness}
 use Rattle.enc_dispatch.proofs.Named.{AllKnown, IsTest, method_known, spec_known}
 use Rattle.enc_dispatch.proofs.OneShape.{AgreeOn, method_shape_same, spec_shape_same}
 
@@ -38,7 +38,7 @@ Known m t = (t ≡ nil) ⊎ (has_row m t ≡ true)
 
 -- rows of TypeRef, AssemblyRef, ModuleRef and TypeSpec stay as they are
 abbrev pub RefsStay : Module → Module → Type 0
-RefsStay m n = (u : Token) → has_row m u ≡ true → is_reference_table u.table ≡ true → cells_of n u ≡ cells_of m u
+RefsStay m n = (u : Token) → has_row m u ≡ true → is_read_by_likeness u.table ≡ true → cells_of n u ≡ cells_of m u
 
 -- what stands in equal rows
 pub number_by : (r s : Rows) (a : Token) (i : ℕ) → r a ≡ s a → number_at r a i ≡ number_at s a i
@@ -91,13 +91,13 @@ there_by : (m : Module) (t : ℕ) (a : Token) → Known m a → a.table ≡ t �
 there_by m t a (inl e) is other = let h : (nil.table == 0) ≡ false = subst (λ k. (k == 0) ≡ false) (sym is ∙ ap (λ (u : Token). u.table) e) other in absurd cc
 there_by m t a (inr h) is other = h
 
-stays : (m n : Module) (t : ℕ) (a : Token) → RefsStay m n → Known m a → a.table ≡ t → (t == 0) ≡ false → is_reference_table t ≡ true → cells_of n a ≡ cells_of m a
-stays m n t a stay known e other refs = stay a (there_by m t a known e other) (ap is_reference_table e ∙ refs)
+stays : (m n : Module) (t : ℕ) (a : Token) → RefsStay m n → Known m a → a.table ≡ t → (t == 0) ≡ false → is_read_by_likeness t ≡ true → cells_of n a ≡ cells_of m a
+stays m n t a stay known e other refs = stay a (there_by m t a known e other) (ap is_read_by_likeness e ∙ refs)
 
 eq_of : (a b : ℕ) → (a == b) ≡ true → a ≡ b
 eq_of a b h = grind (arith, nat_tests)
 
-rows_same : (m n : Module) (t : ℕ) (a b : Token) → RefsStay m n → Known m a → Known m b → (t == 0) ≡ false → is_reference_table t ≡ true → are_rows (cells_of n) t a b ≡ are_rows (cells_of m) t a b
+rows_same : (m n : Module) (t : ℕ) (a b : Token) → RefsStay m n → Known m a → Known m b → (t == 0) ≡ false → is_read_by_likeness t ≡ true → are_rows (cells_of n) t a b ≡ are_rows (cells_of m) t a b
 unfolding are_rows
 rows_same m n t a b stay ka kb other refs = by_tests (a.table == t) (b.table == t) refl refl
   where

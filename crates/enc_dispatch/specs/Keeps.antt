@@ -26,12 +26,12 @@ unfoldable pub keeps_class : Module → Module → Token → Bool
 keeps_class m n t = keeps_number m n t columns.type_def_flags && keeps_token m n t columns.type_def_extends
 
 -- TypeRef, AssemblyRef, ModuleRef and TypeSpec: what a signature may name, and what stands around it
-abbrev pub is_reference_table : ℕ → Bool
-is_reference_table t = t == tables.type_ref || t == tables.assembly_ref || t == tables.module_ref || t == tables.type_spec
+abbrev pub is_read_by_likeness : ℕ → Bool
+is_read_by_likeness t = t == tables.type_ref || t == tables.assembly_ref || t == tables.module_ref || t == tables.type_spec
 
 -- the other tables that are read
 abbrev pub is_read : ℕ → Bool
-is_read t = is_reference_table t || t == tables.method_impl || t == tables.interface_impl
+is_read t = is_read_by_likeness t || t == tables.method_impl || t == tables.interface_impl
 
 -- a row keeps what is read of it; of those tables it is taken to keep nothing
 unfoldable pub keeps_row : Module → Module → Token → Bool

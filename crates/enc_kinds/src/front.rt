@@ -2,7 +2,7 @@
 ghost use Rattle.std.specs.Prelude.{◌≡◌, option_map};
 ghost use Rattle.enc_sigs.specs.Grammar.{many};
 ghost use Rattle.enc_sigs.specs.Reads.{left_after};
-ghost use Rattle.enc_kinds.specs.Alone.{stands_alone};
+ghost use Rattle.enc_kinds.specs.Alone.{is_one_byte};
 ghost use Rattle.enc_kinds.specs.Fronts.{kind_front, parameter_front, parameter_kinds};
 
 use crate::element::kind_of_element;
@@ -20,8 +20,8 @@ fn any_front(bytes: &[u8]) -> Option<(Kind, &[u8])>
 
 /// Whether a type is its first byte alone: a truth value, a character, a number, a text, an object
 /// (ECMA-335 II.23.2.12).
-fn stands_alone(element: u8) -> bool
-    ensures { result ≡ stands_alone element }
+fn is_one_byte(element: u8) -> bool
+    ensures { result ≡ is_one_byte element }
 {
     matches!(element, 0x02..=0x0b | 0x0e | 0x1c)
 }
@@ -34,7 +34,7 @@ pub fn kind_front(bytes: &[u8]) -> Option<(Kind, &[u8])>
     let [element, rest @ ..] = bytes else {
         return any_front(bytes);
     };
-    if !stands_alone(*element) {
+    if !is_one_byte(*element) {
         return any_front(bytes);
     }
     match kind_of_element(*element) {

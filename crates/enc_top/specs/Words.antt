@@ -7,6 +7,7 @@ use Rattle.std.specs.declared.alloc.Global.{Global}
 use Rattle.hex.specs.Hex.{decode_sized}
 use Rattle.hex.specs.declared.error.FromHexError.{FromHexError}
 use Rattle.enc_base.specs.Token.{token_of}
+pub use Rattle.enc_jobs.specs.Scripts.{is_name_byte, is_name}
 use Rattle.enc_base.specs.declared.token.Token.{Token}
 
 -- a number, and the digits that say it
@@ -23,16 +24,6 @@ pub data Job : Type 0 where
   write : List ℕ → List ℕ → List ℕ → List (List ℕ) → Job
   run : List ℕ → List ℕ → Job
   gen : Numeral → Numeral → List ℕ → Job
-
--- an ASCII letter, a digit, or one of _ - . /
-abbrev pub is_name_byte : ℕ → Bool
-is_name_byte b =
-    (nat_le 0x61 b && nat_le b 0x7a) || (nat_le 0x41 b && nat_le b 0x5a) || (nat_le 0x30 b && nat_le b 0x39) ||
-    b == 0x5f || b == 0x2d || b == 0x2e || b == 0x2f
-
--- 1 to 200 of these bytes
-unfoldable pub is_name : List ℕ → Bool
-is_name word = nat_le 1 (length word) && nat_le (length word) 200 && list_all is_name_byte word
 
 abbrev pub token_with : Result (List ℕ) FromHexError → Option Token
 token_with (Ok bytes) = Some (token_of (from_be_bytes w32 bytes))
