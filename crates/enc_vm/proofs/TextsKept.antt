@@ -132,8 +132,8 @@ step_there : (users : ℕ → Option (List ℕ)) (m : Module) (methods : List (O
 step_there users m methods s t are there =
     let up = lift_task users t there in
     let same : step_task (version_world users m methods) s t ≡ option_map (stepped_with_codes (known users)) (step_task (known_world users m methods are) s up.0) =
-        ap (λ (x : Task Version). step_task (version_world users m methods) s x) (sym up.1)
-        ∙ step_same (known users) (known_world users m methods are) (version_world users m methods) s up.0 (worlds_agree users m methods are) in
+    ap (λ (x : Task Version). step_task (version_world users m methods) s x) (sym up.1)
+    ∙ step_same (known users) (known_world users m methods are) (version_world users m methods) s up.0 (worlds_agree users m methods are) in
     subst (StepThere users) (sym same) (step_by users (step_task (known_world users m methods are) s up.0))
 
 -- tasks by their numbers
@@ -207,8 +207,8 @@ spawn_there users m methods method s are there =
     let low : MachineState (Known users) = record { shared = s.shared; tasks = up.0 } in
     let is : state_by (known users) low ≡ s = ap (λ (ts : List (Task Version)). record { shared = s.shared; tasks = ts }) up.1 in
     let same : spawn_in (version_world users m methods) method s ≡ spawning_with_codes (known users) (spawn_in (known_world users m methods are) method low) =
-        ap (λ (x : MachineState Version). spawn_in (version_world users m methods) method x) (sym is)
-        ∙ spawn_same (known users) (known_world users m methods are) (version_world users m methods) method low (worlds_agree users m methods are) in
+    ap (λ (x : MachineState Version). spawn_in (version_world users m methods) method x) (sym is)
+    ∙ spawn_same (known users) (known_world users m methods are) (version_world users m methods) method low (worlds_agree users m methods are) in
     subst (SpawnThere users) (sym same) (spawn_by users (spawn_in (known_world users m methods are) method low))
 
 spawn_is : (users : ℕ → Option (List ℕ)) (result : Result SpawnEnd AllocError) (new old : MachineState Version) (said : Spawning Version)
