@@ -8,4 +8,4 @@ mod methods;
 
 pub use judging::{Checked, Files, check};
 pub use laws::within_law;
-pub use methods::new_bodies;
+pub use methods::{new_bodies, new_code};

@@ -12,7 +12,7 @@ use enc_schema::tables::METHOD_DEF;
 use std::alloc::{AllocError, Global};
 
 /// The body of a method in a delta; None where it has none there.
-fn new_code(delta: &Delta, method: Token) -> Option<CodeRef<'_>>
+pub fn new_code(delta: &Delta, method: Token) -> Option<CodeRef<'_>>
     ensures code { option_map code_seen result ≡ new_code delta.now method }
     ensures few { IfSome result (λ c. length c.code.now < 2 ^ 32) }
 {
