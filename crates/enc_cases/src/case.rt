@@ -3,6 +3,7 @@
 use crate::line::Line;
 use enc_outside::{MemSink, MemStore};
 use enc_top::run_tool;
+use enc_watch::{Cover, Failing, Trace, Watcher};
 use std::alloc::{AllocError, Global};
 
 /// The case that is being read.
@@ -13,7 +14,31 @@ pub struct Case {
     runs: u32,
     store: MemStore,
     words: Vec<String>,
+    watchers: Vec<Box<dyn Watcher>>,
     is_bad: bool,
+}
+
+/// The watcher that a word tells: `trace`, `cover` or `failing:N`. None where the word is another.
+fn watcher_of(alloc: Global, word: &str) -> Result<Option<Box<dyn Watcher>>, AllocError> {
+    match word {
+        "trace" => {
+            let trace: Box<dyn Watcher> = Box::new(alloc, Trace::begin(alloc))?;
+            return Ok(Some(trace));
+        }
+        "cover" => {
+            let cover: Box<dyn Watcher> = Box::new(alloc, Cover::begin(alloc))?;
+            return Ok(Some(cover));
+        }
+        _ => {}
+    }
+    let Some(limit) = word.strip_prefix("failing:") else {
+        return Ok(None);
+    };
+    let Ok(limit) = limit.parse::<u32>() else {
+        return Ok(None);
+    };
+    let failing: Box<dyn Watcher> = Box::new(alloc, Failing::begin(alloc, limit))?;
+    Ok(Some(failing))
 }
 
 /// The bytes with some of them replaced from an offset on, as far as they are there.
@@ -35,6 +60,7 @@ impl Case {
             runs: 0,
             store: MemStore::begin(alloc),
             words: Vec::new(alloc),
+            watchers: Vec::new(alloc),
             is_bad: false,
         }
     }
@@ -60,8 +86,10 @@ impl Case {
     /// Runs the top call; the line of its status, and what it printed.
     fn run(&mut self, text: &str) -> Result<Vec<u8>, AllocError> {
         let words = self.words_of(text)?;
+        let mut watchers = Vec::new(self.alloc);
+        std::mem::swap(&mut watchers, &mut self.watchers);
         let mut sink = MemSink::begin(self.alloc);
-        let status = run_tool(self.alloc, &words, &mut self.store, &mut sink);
+        let status = run_tool(self.alloc, &words, &mut self.store, &mut sink, watchers);
         self.runs = self.runs.wrapping_add(1);
         let mut printed = Vec::new(self.alloc);
         let head = format!(in self.alloc;
@@ -84,6 +112,7 @@ impl Case {
         self.runs = 0;
         self.store = MemStore::begin(self.alloc);
         self.words = Vec::new(self.alloc);
+        self.watchers = Vec::new(self.alloc);
         self.is_bad = false;
         Ok(())
     }
@@ -114,8 +143,22 @@ impl Case {
                 self.store.set_file(name, &bytes)?;
             }
             Line::Word(digits) => return self.keep_word(digits),
+            Line::Watchers(kinds) => return self.keep_watchers(kinds),
             _ => return Ok(false),
         }
+        Ok(true)
+    }
+
+    /// Keeps the watchers for the next run. False where a kind is none.
+    fn keep_watchers(&mut self, kinds: &str) -> Result<bool, AllocError> {
+        let mut watchers = Vec::new(self.alloc);
+        for kind in kinds.split(' ') {
+            match watcher_of(self.alloc, kind)? {
+                Some(watcher) => watchers.push(watcher)?,
+                None => return Ok(false),
+            }
+        }
+        self.watchers = watchers;
         Ok(true)
     }
 

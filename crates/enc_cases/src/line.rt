@@ -30,6 +30,8 @@ pub enum Line<'a> {
     Run(&'a str),
     /// A word in front of the next run's, by its bytes' digits.
     Word(&'a str),
+    /// The watchers that are handed to the next run: their kinds, separated by single spaces.
+    Watchers(&'a str),
     /// No line of a case file.
     Bad,
 }
@@ -78,6 +80,7 @@ impl<'a> Line<'a> {
             "poke" => poke(rest),
             "run" => Line::Run(rest),
             "word" => Line::Word(rest),
+            "watchers" => Line::Watchers(rest),
             _ => Line::Bad,
         }
     }

@@ -22,3 +22,4 @@ pub mod BaseActs
 pub mod ListActs
 pub mod Cases
 pub mod GeneratedPoints
+pub mod Scripted

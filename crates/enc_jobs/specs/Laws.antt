@@ -1,5 +1,5 @@
 -- What every list that is read has.
-use Rattle.std.specs.Prelude.{◌≡◌, ℕ, ◌≤◌, ◌==◌, List, Bool, true, Some, Ok, slice_get, take}
+use Rattle.std.specs.Prelude.{◌≡◌, ℕ, ◌≤◌, ◌==◌, List, Bool, true, Some, Ok, length, slice_get, take}
 use Rattle.std.specs.List.{list_all, list_any}
 use Rattle.serde_json.specs.Data.{Data}
 use Rattle.enc_edits.specs.declared.body.ArgValue.{ArgValue}
@@ -10,8 +10,11 @@ use Rattle.enc_edits.specs.Form.{list_fits}
 use Rattle.enc_pdb_delta.specs.Stated.{points_lie_within}
 use Rattle.enc_edited.specs.Applied.{MayApply}
 use Rattle.enc_jobs.specs.declared.code.Code.{Code}
+use Rattle.enc_jobs.specs.declared.command.Command.{Command}
+use Rattle.enc_jobs.specs.declared.command.Command.TheVariants.{Apply}
 use Rattle.enc_jobs.specs.Code.{offsets_of, code_said}
 use Rattle.enc_jobs.specs.Edits.{edits_said}
+use Rattle.enc_jobs.specs.Scripts.{most_commands, is_name, script_said}
 use Rattle.enc_jobs.specs.Generated.{generated_base, generated_lists, edited_by}
 
 -- a list that a text says is of the form
@@ -52,3 +55,15 @@ GeneratedLie = (start count j : ℕ) (l : EditList) → slice_get (generated_lis
 abbrev pub GeneratedMayApply : Type 0
 GeneratedMayApply = (start count j : ℕ) (l : EditList) → count ≤ 64 → slice_get (generated_lists start count) j ≡ Some l
     → MayApply (edited_by generated_base (take j (generated_lists start count))) l
+
+-- the name by which a command says a delta is one
+abbrev pub has_name : Command → Bool
+has_name (Apply name) = is_name name
+has_name _ = true
+
+-- a script that a text says isn't too long, and each name of a delta in it is one
+abbrev pub ScriptIsShort : Type 0
+ScriptIsShort = (text : List ℕ) (commands : List Command) → script_said text ≡ Ok commands → length commands ≤ most_commands
+
+abbrev pub ScriptNamesDeltas : Type 0
+ScriptNamesDeltas = (text : List ℕ) (commands : List Command) → script_said text ≡ Ok commands → list_all has_name commands ≡ true

@@ -1,5 +1,5 @@
 //! What every list that is read or drawn has, each as the contract of a function that does nothing.
-ghost use Rattle.enc_jobs.specs.Laws.{SaidFits, PointsLie, StandsAsRead, TargetsBegin, GeneratedFits, GeneratedLie, GeneratedMayApply};
+ghost use Rattle.enc_jobs.specs.Laws.{SaidFits, PointsLie, StandsAsRead, TargetsBegin, GeneratedFits, GeneratedLie, GeneratedMayApply, ScriptIsShort, ScriptNamesDeltas};
 
 use enc_opcodes::name_laws;
 
@@ -28,4 +28,11 @@ pub fn generated_laws()
     ensures fit { GeneratedFits }
     ensures points { GeneratedLie }
     ensures apply { GeneratedMayApply }
+{}
+
+/// A script that a text says has at most 100,000 commands, and the name of each delta in it has 1 to 200 bytes,
+/// each an ASCII letter, a digit or one of `_ - . /`.
+pub fn script_laws()
+    ensures short { ScriptIsShort }
+    ensures names { ScriptNamesDeltas }
 {}

@@ -1,5 +1,5 @@
 //! From the words behind a program's name to its status.
-ghost use Rattle.std.specs.Prelude.{◌≡◌, ◌≤◌, ◌⊎◌, None, Err, true, IfSome, IsSome};
+ghost use Rattle.std.specs.Prelude.{◌≡◌, ◌≤◌, ◌⊎◌, None, Err, true, IfSome, IsSome, map};
 ghost use Rattle.enc_outside.specs.Outside.{Rose, IsTold};
 ghost use Rattle.enc_top.specs.Words.{job_of, texts};
 ghost use Rattle.enc_top.specs.Verdict.{no_command, verdict_of};
@@ -7,7 +7,8 @@ ghost use Rattle.enc_top.specs.Answers.{answer_is_whole, status_of, Prints, Leav
 
 use enc_outside::{FileStore, OutSink, Sink, Store};
 use enc_top::run_tool;
-use std::alloc::Global;
+use enc_watch::{Cover, Trace, Watcher};
+use std::alloc::{AllocError, Global};
 use std::env;
 use std::process::ExitCode;
 
@@ -25,15 +26,16 @@ pub fn status_of<S: Store, K: Sink>(
     words: Option<Vec<String>>,
     store: &mut S,
     out: &mut K,
+    watchers: Vec<Box<dyn Watcher>>,
 ) -> u8
     ensures no_words { words ≡ None → result ≡ 3 }
     ensures no_store { words ≡ None → store.new ≡ store.old }
     ensures no_sink { words ≡ None → out.new ≡ out.old }
     ensures known { result ≤ 6 }
-    ensures verdict { IfSome words (λ w. IfSome (S.told store.old) (λ files. answer_is_whole result ≡ true → result ≡ status_of (verdict_of (texts w.items) files))) }
-    ensures prints { IfSome words (λ w. IfSome (S.told store.old) (λ files. Prints result (verdict_of (texts w.items) files) (K.told out.old) (K.told out.new))) }
-    ensures files { IfSome words (λ w. IfSome (S.told store.old) (λ files. Leaves result (verdict_of (texts w.items) files) (S.told store.old) (S.told store.new))) }
-    ensures complete { IfSome words (λ w. IfSome (S.told store.old) (λ files. ¬ Rose (S.faults store.old) (S.faults store.new) → ¬ Rose (K.faults out.old) (K.faults out.new) → (result ≡ status_of (verdict_of (texts w.items) files)) ⊎ (result ≡ 3))) }
+    ensures verdict { IfSome words (λ w. IfSome (S.told store.old) (λ files. answer_is_whole result ≡ true → result ≡ status_of (verdict_of (map (λ w. record { kind = kind_of w; limit = limit w; heard = heard w }) watchers.items) (texts w.items) files))) }
+    ensures prints { IfSome words (λ w. IfSome (S.told store.old) (λ files. Prints result (verdict_of (map (λ w. record { kind = kind_of w; limit = limit w; heard = heard w }) watchers.items) (texts w.items) files) (K.told out.old) (K.told out.new))) }
+    ensures files { IfSome words (λ w. IfSome (S.told store.old) (λ files. Leaves result (verdict_of (map (λ w. record { kind = kind_of w; limit = limit w; heard = heard w }) watchers.items) (texts w.items) files) (S.told store.old) (S.told store.new))) }
+    ensures complete { IfSome words (λ w. IfSome (S.told store.old) (λ files. ¬ Rose (S.faults store.old) (S.faults store.new) → ¬ Rose (K.faults out.old) (K.faults out.new) → (result ≡ status_of (verdict_of (map (λ w. record { kind = kind_of w; limit = limit w; heard = heard w }) watchers.items) (texts w.items) files)) ⊎ (result ≡ 3))) }
     ensures usage { IfSome words (λ w. job_of (texts w.items) ≡ None → Prints result (Err no_command) (K.told out.old) (K.told out.new)) }
     ensures no_job { IfSome words (λ w. job_of (texts w.items) ≡ None → answer_is_whole result ≡ true → result ≡ 2) }
     ensures words { IfSome words (λ w. result ≡ 2 → job_of (texts w.items) ≡ None) }
@@ -46,14 +48,28 @@ pub fn status_of<S: Store, K: Sink>(
 {
     match words {
         None => 3,
-        Some(words) => run_tool(alloc, &words, store, out),
+        Some(words) => run_tool(alloc, &words, store, out, watchers),
     }
 }
 
-/// Runs the words of this process over the files and the standard output of the system.
+/// The watchers that a script may attach: a trace and a cover.
+fn trace_and_cover(alloc: Global) -> Result<Vec<Box<dyn Watcher>>, AllocError> {
+    let trace: Box<dyn Watcher> = Box::new(alloc, Trace::begin(alloc))?;
+    let cover: Box<dyn Watcher> = Box::new(alloc, Cover::begin(alloc))?;
+    let mut watchers = Vec::new(alloc);
+    watchers.push(trace)?;
+    watchers.push(cover)?;
+    Ok(watchers)
+}
+
+/// Runs the words of this process over the files and the standard output of the system, with a trace
+/// and a cover. The status is 3 where there is no memory for these, and then nothing is printed.
 pub fn run_program(rt: HostRuntime) -> ExitCode {
     let words = words_of(&rt);
+    let Ok(watchers) = trace_and_cover(rt.alloc()) else {
+        return ExitCode::from(3);
+    };
     let mut store = FileStore::begin(rt);
     let mut out = OutSink::begin(rt);
-    ExitCode::from(status_of(rt.alloc(), words, &mut store, &mut out))
+    ExitCode::from(status_of(rt.alloc(), words, &mut store, &mut out, watchers))
 }

@@ -24,7 +24,7 @@ both_ways false h g = absurd cc
 same_token : (t : Token) → is_token t t ≡ true
 same_token t = grind (arith, nat_tests)
 
-or_right : (a b : Bool) → b ≡ true → (a || b) ≡ true
+pub or_right : (a b : Bool) → b ≡ true → (a || b) ≡ true
 or_right true b h = refl
 or_right false b h = h
 

@@ -1,10 +1,11 @@
-mod Commands
 mod Contents
 mod Numbered
 mod Looked
+mod Passing
+mod Begun
 mod Turned
-mod Rest
 mod Brought
 mod ListedBodies
 mod NamedMethods
 mod NewBodies
+mod Changed

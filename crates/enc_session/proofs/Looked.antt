@@ -8,11 +8,12 @@ use Rattle.enc_objects.specs.declared.trap.Trap.{Trap}
 use Rattle.enc_versions.specs.Version.{Version}
 use Rattle.enc_vm.specs.Looks.{frames_of, frame_from, frames_in, frame_in, innermost_of, innermost_in, object_on_its_way, flight_in, state_of, state_in}
 use Rattle.enc_vm.specs.Machine.{PlainCode, Frame, Task, going, ended, trapped, MachineState, frame_meant, task_meant, state_meant}
-use Rattle.enc_vm.specs.Step.{Ending, ran, done, stopped, task_at}
+use Rattle.enc_vm.specs.Step.{task_at}
 use Rattle.enc_vm.specs.declared.ends.TaskState.TheVariants as state
 use Rattle.enc_vm.specs.declared.handler.Flight.{Flight}
 use Rattle.enc_session.proofs.Numbered.{each_more}
-use Rattle.enc_session.specs.Lines.{task_line, ending_line}
+use Rattle.enc_session.specs.Lines.{task_line}
+use Rattle.enc_session.specs.Session.{method_in}
 use Rattle.enc_session.specs.States.{frame_line, going_text, standing_text, task_text, tasks_text, state_text}
 use Rattle.enc_session.specs.StatesSeen.{frame_line_at, standing_at, task_text_at}
 
@@ -51,34 +52,57 @@ unfolding state_text
 state_same users s = rw (tasks_same users 1 s.tasks) refl
 
 -- the task of a number
-task_at_meant : (users : ℕ → Option (List ℕ)) (s : MachineState Version) (task : ℕ) → task_at (state_meant users s) task ≡ option_map (task_meant users) (task_at s task)
+pub task_at_meant : (users : ℕ → Option (List ℕ)) (s : MachineState Version) (task : ℕ) → task_at (state_meant users s) task ≡ option_map (task_meant users) (task_at s task)
 task_at_meant users s zero = refl
 task_at_meant users s (suc i) = slice_get-map (task_meant users) s.tasks i
 
-innermost_by : (users : ℕ → Option (List ℕ)) (how : Ending) (task : ℕ) (o : Option (Task Version))
-    → ending_line task how (option_and_then innermost_of (option_map (task_meant users) o)) ≡ ending_line task how (option_and_then innermost_of o)
-innermost_by users ran task o = refl
-innermost_by users done task o = refl
-innermost_by users (stopped x) task None = refl
-innermost_by users (stopped x) task (Some (going t)) = refl
-innermost_by users (stopped x) task (Some ended) = refl
-innermost_by users (stopped x) task (Some (trapped y [])) = refl
-innermost_by users (stopped x) task (Some (trapped y (f ∷ fs))) = refl
+-- the innermost frame of a task means that of the plain machine
+innermost_by : (users : ℕ → Option (List ℕ)) (o : Option (Task Version))
+    → option_and_then innermost_of (option_map (task_meant users) o) ≡ option_map (frame_meant users) (option_and_then innermost_of o)
+innermost_by users None = refl
+innermost_by users (Some (going t)) = refl
+innermost_by users (Some ended) = refl
+innermost_by users (Some (trapped y [])) = refl
+innermost_by users (Some (trapped y (f ∷ fs))) = refl
 
--- how a step ended is told alike
-pub ending_same : (users : ℕ → Option (List ℕ)) (how : Ending) (task : ℕ) (s : MachineState Version)
-    → ending_line task how (innermost_in (state_meant users s) task) ≡ ending_line task how (innermost_in s task)
-ending_same users how task s =
-    ap (λ (o : Option (Task PlainCode)). ending_line task how (option_and_then innermost_of o)) (task_at_meant users s task) ∙ innermost_by users how task (task_at s task)
+pub innermost_meant : (users : ℕ → Option (List ℕ)) (s : MachineState Version) (task : ℕ)
+    → innermost_in (state_meant users s) task ≡ option_map (frame_meant users) (innermost_in s task)
+innermost_meant users s task = ap (option_and_then innermost_of) (task_at_meant users s task) ∙ innermost_by users (task_at s task)
+
+-- its method and its offset are the same
+method_by : (users : ℕ → Option (List ℕ)) (o : Option (Frame Version))
+    → option_map (λ (f : Frame PlainCode). f.method) (option_map (frame_meant users) o) ≡ option_map (λ (f : Frame Version). f.method) o
+method_by users None = refl
+method_by users (Some f) = refl
+
+offset_by : (users : ℕ → Option (List ℕ)) (o : Option (Frame Version))
+    → option_map (λ (f : Frame PlainCode). f.offset) (option_map (frame_meant users) o) ≡ option_map (λ (f : Frame Version). f.offset) o
+offset_by users None = refl
+offset_by users (Some f) = refl
+
+pub method_meant : (users : ℕ → Option (List ℕ)) (s : MachineState Version) (task : ℕ) → method_in (state_meant users s) task ≡ method_in s task
+method_meant users s task =
+    ap (option_map (λ (f : Frame PlainCode). f.method)) (innermost_meant users s task) ∙ method_by users (innermost_in s task)
+
+pub offset_meant : (users : ℕ → Option (List ℕ)) (s : MachineState Version) (task : ℕ)
+    → option_map (λ (f : Frame PlainCode). f.offset) (innermost_in (state_meant users s) task) ≡ option_map (λ (f : Frame Version). f.offset) (innermost_in s task)
+offset_meant users s task =
+    ap (option_map (λ (f : Frame PlainCode). f.offset)) (innermost_meant users s task) ∙ offset_by users (innermost_in s task)
+
+-- and so is the method of the i-th from the outermost
+pub method_at_meant : (users : ℕ → Option (List ℕ)) (s : MachineState Version) (task i : ℕ)
+    → frame_in (state_meant users s) task i ≡ option_map (frame_meant users) (frame_in s task i)
+    → option_map (λ (f : Frame PlainCode). f.method) (frame_in (state_meant users s) task i) ≡ option_map (λ (f : Frame Version). f.method) (frame_in s task i)
+method_at_meant users s task i same = ap (option_map (λ (f : Frame PlainCode). f.method)) same ∙ method_by users (frame_in s task i)
 
 -- the frames of a task by their numbers
-frame_by : (o : Option (Task Version)) (i : ℕ)
-    → option_and_then (λ (t : Task Version). frame_from t i) o ≡ slice_get (reverse (unwrap_or (option_map frames_of o) [])) i
+frame_by : {C : Type 0} (o : Option (Task C)) (i : ℕ)
+    → option_and_then (λ (t : Task _). frame_from t i) o ≡ slice_get (reverse (unwrap_or (option_map frames_of o) [])) i
 unfolding frame_from
 frame_by None i = refl
 frame_by (Some t) i = refl
 
-frame_is : (s : MachineState Version) (task i : ℕ) → frame_in s task i ≡ slice_get (reverse (frames_in s task)) i
+pub frame_is : {C : Type 0} (s : MachineState C) (task i : ℕ) → frame_in s task i ≡ slice_get (reverse (frames_in s task)) i
 frame_is s task i = frame_by (task_at s task) i
 
 -- one more of them
@@ -163,13 +187,3 @@ pub unwinding_standing : {C : Type 0} (s : MachineState C) (task id : ℕ) → s
     → standing_at s task ≡ task_line task (codes "unwinding #" ++ decimal id)
 unfolding standing_at
 unwinding_standing s task id h g = unwinding_by task id (task_at s task) h g
-
--- how it stands with a task of either machine
-state_by : (users : ℕ → Option (List ℕ)) (o : Option (Task Version)) → option_map state_of (option_map (task_meant users) o) ≡ option_map state_of o
-state_by users None = refl
-state_by users (Some (going t)) = refl
-state_by users (Some ended) = refl
-state_by users (Some (trapped x frames)) = refl
-
-pub stands_same : (users : ℕ → Option (List ℕ)) (s : MachineState Version) (task : ℕ) → state_in (state_meant users s) task ≡ state_in s task
-stands_same users s task = ap (λ (o : Option (Task PlainCode)). option_map state_of o) (task_at_meant users s task) ∙ state_by users (task_at s task)

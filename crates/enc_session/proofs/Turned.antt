@@ -1,155 +1,161 @@
--- What a turn of a task prints, and what comes of it.
-use Rattle.std.proofs.Common.{◌≡◌, ℕ, zero, suc, List, [], ◌++◌, Option, Some, None, option_map, Result, Ok, Err, refl, sym, ap, ◌∙◌, append_assoc, append-nil}
-use Rattle.std.specs.Prelude.{OnOk, codes}
+-- A step, and what comes of it.
+use Rattle.std.proofs.Common.{◌≡◌, ◌≤◌, ℕ, zero, suc, Bool, List, [], ◌++◌, length, Option, Some, None, option_map, Ok, refl, sym, ap, ◌∙◌, subst, append-nil}
+use Rattle.std.specs.Prelude.{IfSome, unwrap_or}
+use Rattle.enc_base.specs.declared.token.Token.{Token}
 use Rattle.enc_objects.specs.declared.trap.Trap.{Trap}
+use Rattle.enc_plain.specs.Debug.{PlainPdb}
+use Rattle.enc_plain.specs.Module.{Module}
+use Rattle.enc_plain.specs.Sound.{IsSound}
+use Rattle.enc_versions.specs.StandFor.{AreVersionsOf}
 use Rattle.enc_versions.specs.Version.{Version}
-use Rattle.enc_vm.specs.Looks.{innermost_in, state_of, state_in}
-use Rattle.enc_vm.specs.Machine.{World, PlainCode, Task, going, ended, trapped, MachineState, state_meant}
-use Rattle.enc_vm.specs.Step.{Ending, ran, done, stopped, step_task, task_at}
-use Rattle.enc_vm.specs.Turns.{MachineTurn, went, turn_by, machine_turn, shown_in, IsTurn, KeepsSeen}
+use Rattle.enc_vm.specs.Laws.{stepped_meant, StepsMean}
+use Rattle.enc_vm.specs.Machine.{World, PlainCode, Task, MachineState, Shared, plain_world, version_world, task_meant, state_meant}
+use Rattle.enc_vm.specs.Results.{Shown, nothing_shown}
+use Rattle.enc_vm.specs.Room.{WritesAtMost}
+use Rattle.enc_vm.specs.Step.{Ending, ran, done, stopped, Stepped, step_task, task_at, Spawning, begun, too_many, no_method, spawn_in}
+use Rattle.enc_vm.specs.Turns.{MachineTurn, absent, idle, went, turn_by, machine_turn, shown_in, IsTurn, IsSpawn, KeepsSeen}
+use Rattle.enc_vm.specs.declared.ends.SpawnEnd.{SpawnEnd}
+use Rattle.enc_vm.specs.declared.ends.SpawnEnd.TheVariants as spawned
 use Rattle.enc_vm.specs.declared.ends.StepEnd.{StepEnd}
 use Rattle.enc_vm.specs.declared.ends.StepEnd.TheVariants as end
-use Rattle.enc_vm.specs.declared.ends.TaskState.TheVariants as state
 use Rattle.enc_vm.specs.declared.seen.Seen.{Seen}
-use Rattle.enc_session.proofs.Looked.{ending_same, stands_same}
-use Rattle.enc_session.specs.Lines.{task_line, written_line, ending_line, absent_task_line, idle_line, ran_line}
-use Rattle.enc_session.specs.Run.{StepsMade, step_lines, step_told, ran_told}
-use Rattle.enc_session.specs.Seen.{ending_told, turn_end, turn_state, turn_text, IsStep, CameTo, AreSteps}
+use Rattle.enc_watch.specs.Audience.{Seat, AreTold}
+use Rattle.enc_watch.specs.declared.event.Event.{Event}
+use Rattle.enc_session.proofs.Looked.{task_at_meant}
+use Rattle.enc_session.proofs.Passing.{has_passed, nothing_has_passed}
+use Rattle.enc_session.specs.Seen.{ending_told}
+use Rattle.enc_session.specs.Session.{PlainSession, Passed, world_of, with_machine, passed_with, nothing_passed, method_in, line_events, step_events, step_lines, turn_passed, step_passed, begun_events, spawn_by, spawn_passed, turn_end, HasPassed}
 
--- where there was no step, nothing is printed
-silent_step : {C : Type 0} (task : ℕ) (how : StepEnd) (said : MachineTurn C) (seen : Seen) (new old : MachineState C) (before mid text : List ℕ)
-    → how ≡ turn_end said → turn_state said old ≡ old → turn_text task said ≡ [] → new ≡ old
-    → seen.wrote ≡ None → mid ≡ before ++ written_line task seen.wrote → text ≡ mid ++ [] → IsStep task said how new old text before
-silent_step task how said seen new old before mid text is stays says same none written closes = record {
-  how = is;
-  state = same ∙ sym stays;
-  text = closes ∙ append-nil mid ∙ written ∙ ap (λ (o : Option (List ℕ)). before ++ written_line task o) none ∙ ap (λ (t : List ℕ). before ++ t) (sym says);
-}
+-- a step of which nothing is shown tells nothing
+no_line : (task : ℕ) (method : Option Token) → line_events task method None ≡ []
+no_line task None = refl
+no_line task (Some m) = refl
 
--- where there was one, what it writes and how it ended
-loud_step : {C : Type 0} (task : ℕ) (how : StepEnd) (e : Ending) (line : Option ℕ) (said : MachineTurn C) (seen : Seen) (new old : MachineState C) (before mid text told : List ℕ)
-    → how ≡ turn_end (went e new line (shown_in seen)) → said ≡ went e new line (shown_in seen) → mid ≡ before ++ written_line task seen.wrote → text ≡ mid ++ told
-    → told ≡ ending_line task e (innermost_in new task) → IsStep task said how new old text before
+silent_events : (task : ℕ) (method : Option Token) (seen nothing : Seen) → seen ≡ nothing → nothing ≡ record { line = None; entered = None; left = None; wrote = None }
+    → step_events task method ran seen.line (shown_in seen) ≡ []
+unfolding step_events
+silent_events task method seen nothing kept none = rw (kept, none, no_line task method) refl
+
+silent_lines : {C : Type 0} (task : ℕ) (s : MachineState C) (seen nothing : Seen) → seen ≡ nothing → nothing ≡ record { line = None; entered = None; left = None; wrote = None }
+    → step_lines task ran s (shown_in seen) ≡ []
 unfolding step_lines
-loud_step task how e line said seen new old before mid text told is said_is written closes told_is = record {
-  how = is ∙ ap turn_end (sym said_is);
-  state = ap (λ (x : MachineTurn _). turn_state x old) (sym said_is);
-  text =
-      closes ∙ ap (λ (t : List ℕ). t ++ told) written ∙ append_assoc before (written_line task seen.wrote) told
-      ∙ ap (λ (t : List ℕ). before ++ (written_line task seen.wrote ++ t)) told_is
-      ∙ ap (λ (x : MachineTurn _). before ++ turn_text task x) (sym said_is);
-}
+silent_lines task s seen nothing kept none = rw (kept, none) refl
 
--- a step of the machine, what it writes, and how it ended
-pub step_is : (users : ℕ → Option (List ℕ)) (task : ℕ) (how : StepEnd) (seen nothing : Seen) (new old : MachineState Version) (said : MachineTurn PlainCode) (before mid text : List ℕ)
-    → IsTurn (Ok how) seen (state_meant users new) (state_meant users old) said → KeepsSeen (Ok how) seen nothing → nothing.wrote ≡ None
-    → mid ≡ before ++ written_line task seen.wrote → text ≡ mid ++ ending_line task (ending_told how) (innermost_in new task)
-    → IsStep task said how (state_meant users new) (state_meant users old) text before
-step_is users task end.Absent seen nothing new old said before mid text turn kept none written closes =
-    silent_step task end.Absent said seen (state_meant users new) (state_meant users old) before mid text
-    (ap turn_end (sym turn.0)) (ap (λ (x : MachineTurn _). turn_state x (state_meant users old)) turn.0) (ap (turn_text task) turn.0) turn.1
-    (ap (λ (x : Seen). x.wrote) kept ∙ none) written closes
-step_is users task end.Idle seen nothing new old said before mid text turn kept none written closes =
-    silent_step task end.Idle said seen (state_meant users new) (state_meant users old) before mid text
-    (ap turn_end (sym turn.0)) (ap (λ (x : MachineTurn _). turn_state x (state_meant users old)) turn.0) (ap (turn_text task) turn.0) turn.1
-    (ap (λ (x : Seen). x.wrote) kept ∙ none) written closes
-step_is users task end.Ran seen nothing new old said before mid text turn kept none written closes =
-    loud_step task end.Ran ran seen.line said seen (state_meant users new) (state_meant users old) before mid text (ending_line task ran (innermost_in new task))
-    refl turn written closes (sym (ending_same users ran task new))
-step_is users task end.Ended seen nothing new old said before mid text turn kept none written closes =
-    loud_step task end.Ended done seen.line said seen (state_meant users new) (state_meant users old) before mid text (ending_line task done (innermost_in new task))
-    refl turn written closes (sym (ending_same users done task new))
-step_is users task (end.Trapped trap) seen nothing new old said before mid text turn kept none written closes =
-    loud_step task (end.Trapped trap) (stopped trap) seen.line said seen (state_meant users new) (state_meant users old) before mid text
-    (ending_line task (stopped trap) (innermost_in new task)) refl turn written closes (sym (ending_same users (stopped trap) task new))
+nothing_is : (deaf : List Bool) (s : PlainSession) → nothing_passed deaf s ≡ passed_with [] [] deaf s
+unfolding passed_with told_events
+nothing_is deaf s = refl
 
--- what a command that makes steps says, by how it stands with the task
-absent_by : {C : Type 0} (w : World C) (i task : ℕ) (s : MachineState C) (x : StepsMade C) (o : Option (Task C)) → option_map state_of o ≡ None
-    → step_told task s x (turn_by i s (option_map (λ (t : Task _). step_task w s.shared t) o)) ≡ record { state = s; text = absent_task_line task }
-absent_by w i task s x None h = refl
-absent_by w i task s x (Some t) h = cc
+-- nothing was told
+silent : (task : ℕ) (said : MachineTurn PlainCode) (seen nothing : Seen) (new old : PlainSession) (now between before : List ℕ)
+    → machine_turn (world_of old.followed) task old.machine ≡ said → ((deaf : List Bool) → turn_passed task said deaf old ≡ nothing_passed deaf old)
+    → new.machine ≡ old.machine → new.followed ≡ old.followed → new.seated.given ≡ old.seated.given
+    → seen ≡ nothing → nothing ≡ record { line = None; entered = None; left = None; wrote = None }
+    → between ≡ before ++ step_lines task ran new.machine (shown_in seen)
+    → AreTold (step_events task (method_in old.machine task) ran seen.line (shown_in seen)) new.seated.seats old.seated.seats now between
+    → HasPassed (step_passed task) new old now before
+unfolding step_passed
+silent task said seen nothing new old now between before is says same followed given kept none printed told =
+    has_passed (step_passed task) [] [] old new old now between before
+    (λ deaf. ap (λ (x : MachineTurn PlainCode). turn_passed task x deaf old) is ∙ says deaf ∙ nothing_is deaf old)
+    followed same given (printed ∙ ap (λ (t : List ℕ). before ++ t) (silent_lines task new.machine seen nothing kept none))
+    (subst (λ (events : List Event). AreTold events new.seated.seats old.seated.seats now between) (silent_events task (method_in old.machine task) seen nothing kept none) told)
 
-pub absent_told : {C : Type 0} (w : World C) (task : ℕ) (s : MachineState C) (x : StepsMade C) → state_in s task ≡ None
-    → step_told task s x (machine_turn w task s) ≡ record { state = s; text = absent_task_line task }
+-- a step was made
+loud : (task : ℕ) (how : Ending) (seen : Seen) (new old : PlainSession) (now between before : List ℕ)
+    → machine_turn (world_of old.followed) task old.machine ≡ went how new.machine seen.line (shown_in seen)
+    → new.followed ≡ old.followed → new.seated.given ≡ old.seated.given
+    → between ≡ before ++ step_lines task how new.machine (shown_in seen)
+    → AreTold (step_events task (method_in old.machine task) how seen.line (shown_in seen)) new.seated.seats old.seated.seats now between
+    → HasPassed (step_passed task) new old now before
+unfolding step_passed
+loud task how seen new old now between before is followed given printed told =
+    has_passed (step_passed task) (step_events task (method_in old.machine task) how seen.line (shown_in seen)) (step_lines task how new.machine (shown_in seen))
+    (with_machine new.machine old) new old now between before
+    (λ deaf. ap (λ (x : MachineTurn PlainCode). turn_passed task x deaf old) is) followed refl given printed told
+
+pub step_has_passed : (task : ℕ) (how : StepEnd) (seen nothing : Seen) (new old : PlainSession) (now between before : List ℕ)
+    → IsTurn (Ok how) seen new.machine old.machine (machine_turn (world_of old.followed) task old.machine)
+    → KeepsSeen (Ok how) seen nothing → nothing ≡ record { line = None; entered = None; left = None; wrote = None }
+    → new.followed ≡ old.followed → new.seated.given ≡ old.seated.given
+    → between ≡ before ++ step_lines task (ending_told how) new.machine (shown_in seen)
+    → AreTold (step_events task (method_in old.machine task) (ending_told how) seen.line (shown_in seen)) new.seated.seats old.seated.seats now between
+    → HasPassed (step_passed task) new old now before
+step_has_passed task end.Absent seen nothing new old now between before turn kept none followed given printed told =
+    silent task absent seen nothing new old now between before turn.0 (λ deaf. refl) turn.1 followed given kept none printed told
+step_has_passed task end.Idle seen nothing new old now between before turn kept none followed given printed told =
+    silent task idle seen nothing new old now between before turn.0 (λ deaf. refl) turn.1 followed given kept none printed told
+step_has_passed task end.Ran seen nothing new old now between before turn kept none followed given printed told =
+    loud task ran seen new old now between before turn followed given printed told
+step_has_passed task end.Ended seen nothing new old now between before turn kept none followed given printed told =
+    loud task done seen new old now between before turn followed given printed told
+step_has_passed task (end.Trapped x) seen nothing new old now between before turn kept none followed given printed told =
+    loud task (stopped x) seen new old now between before turn followed given printed told
+
+-- what it is answered
+pub answered : {C : Type 0} (how : StepEnd) (seen : Seen) (new old : MachineState C) (said : MachineTurn C) → IsTurn (Ok how) seen new old said → how ≡ turn_end said
+answered end.Absent seen new old said turn = sym (ap turn_end turn.0)
+answered end.Idle seen new old said turn = sym (ap turn_end turn.0)
+answered end.Ran seen new old said turn = sym (ap turn_end turn)
+answered end.Ended seen new old said turn = sym (ap turn_end turn)
+answered (end.Trapped x) seen new old said turn = sym (ap turn_end turn)
+
+-- a step writes no more than there is room for
+wrote_within : {C : Type 0} (n : ℕ) (how : Ending) (new : MachineState C) (line : Option ℕ) (shown : Shown) → IfSome shown.wrote (λ (units : List ℕ). length units ≤ n)
+    → length (unwrap_or shown.wrote []) ≤ n
+wrote_within n how new line shown h = by shown.wrote h
+  where
+    by : (o : Option (List ℕ)) → IfSome o (λ (units : List ℕ). length units ≤ n) → length (unwrap_or o []) ≤ n
+    by None h = omega arith
+    by (Some units) h = h
+
+turn_within : {C : Type 0} (n : ℕ) (how : Ending) (new : MachineState C) (line : Option ℕ) (seen : Seen) (said : MachineTurn C) → WritesAtMost n said
+    → said ≡ went how new line (shown_in seen) → length (unwrap_or seen.wrote []) ≤ n
+turn_within n how new line seen said within is = wrote_within n how new line (shown_in seen) (subst (WritesAtMost n) is within)
+
+pub within_room : {C : Type 0} (n : ℕ) (how : StepEnd) (seen nothing : Seen) (new old : MachineState C) (said : MachineTurn C) → WritesAtMost n said
+    → IsTurn (Ok how) seen new old said → KeepsSeen (Ok how) seen nothing → nothing ≡ record { line = None; entered = None; left = None; wrote = None }
+    → length (unwrap_or seen.wrote []) ≤ n
+within_room n end.Absent seen nothing new old said within turn kept none = rw (kept, none) (omega arith)
+within_room n end.Idle seen nothing new old said within turn kept none = rw (kept, none) (omega arith)
+within_room n end.Ran seen nothing new old said within turn kept none = turn_within n ran new seen.line seen said within turn
+within_room n end.Ended seen nothing new old said within turn kept none = turn_within n done new seen.line seen said within turn
+within_room n (end.Trapped x) seen nothing new old said within turn kept none = turn_within n (stopped x) new seen.line seen said within turn
+
+-- the plain machine's step writes as much
+step_within : (users : ℕ → Option (List ℕ)) (n i : ℕ) (s : MachineState Version) (o : Option (Stepped Version)) → WritesAtMost n (turn_by i s (Some o))
+    → WritesAtMost n (turn_by i (state_meant users s) (Some (option_map (stepped_meant users) o)))
+step_within users n i s None h = tt
+step_within users n i s (Some x) h = h
+
+task_within : (users : ℕ → Option (List ℕ)) (m : Module) (debug : PlainPdb) (methods : List (Option Version)) (n i : ℕ) (s : MachineState Version) (o : Option (Task Version))
+    → StepsMean → IsSound m → AreVersionsOf users m debug methods
+    → WritesAtMost n (turn_by i s (option_map (λ (t : Task Version). step_task (version_world users m methods) s.shared t) o))
+    → WritesAtMost n (turn_by i (state_meant users s) (option_map (λ (t : Task PlainCode). step_task (plain_world m debug) s.shared t) (option_map (task_meant users) o)))
+task_within users m debug methods n i s None law sound are h = tt
+task_within users m debug methods n i s (Some t) law sound are h =
+    rw (law users m debug methods s.shared t sound are) (step_within users n i s (step_task (version_world users m methods) s.shared t) h)
+
+pub plain_within : (users : ℕ → Option (List ℕ)) (m : Module) (debug : PlainPdb) (methods : List (Option Version)) (n task : ℕ) (s : MachineState Version)
+    → StepsMean → IsSound m → AreVersionsOf users m debug methods
+    → WritesAtMost n (machine_turn (version_world users m methods) task s) → WritesAtMost n (machine_turn (plain_world m debug) task (state_meant users s))
 unfolding machine_turn
-absent_told w zero s x h = refl
-absent_told w (suc i) s x h = absent_by w i (suc i) s x (task_at s (suc i)) h
+plain_within users m debug methods n zero s law sound are h = tt
+plain_within users m debug methods n (suc i) s law sound are h =
+    rw (task_at_meant users s (suc i)) (task_within users m debug methods n i s (task_at s (suc i)) law sound are h)
 
-ended_by : {C : Type 0} (w : World C) (i task : ℕ) (s : MachineState C) (x : StepsMade C) (o : Option (Task C)) → option_map state_of o ≡ Some state.Ended
-    → step_told task s x (turn_by i s (option_map (λ (t : Task _). step_task w s.shared t) o)) ≡ record { state = s; text = idle_line task }
-unfolding step_task
-ended_by w i task s x None h = cc
-ended_by w i task s x (Some (going t)) h = cc
-ended_by w i task s x (Some ended) h = refl
-ended_by w i task s x (Some (trapped y frames)) h = cc
+-- a spawn
+pub spawn_has_passed : (method : Token) (n : ℕ) (new old : PlainSession) (now between before : List ℕ)
+    → spawn_in (world_of old.followed) method old.machine ≡ begun n new.machine → new.followed ≡ old.followed → new.seated.given ≡ old.seated.given
+    → between ≡ before → AreTold (begun_events method n new.machine) new.seated.seats old.seated.seats now between
+    → HasPassed (spawn_passed method) new old now before
+unfolding spawn_passed
+spawn_has_passed method n new old now between before is followed given same told =
+    has_passed (spawn_passed method) (begun_events method n new.machine) [] (with_machine new.machine old) new old now between before
+    (λ deaf. ap (λ (x : Spawning PlainCode). spawn_by method x deaf old) is) followed refl given (same ∙ sym (append-nil before)) told
 
-pub ended_told : {C : Type 0} (w : World C) (task : ℕ) (s : MachineState C) (x : StepsMade C) → state_in s task ≡ Some state.Ended
-    → step_told task s x (machine_turn w task s) ≡ record { state = s; text = idle_line task }
-unfolding machine_turn
-ended_told w zero s x h = cc
-ended_told w (suc i) s x h = ended_by w i (suc i) s x (task_at s (suc i)) h
-
-trapped_by : {C : Type 0} (w : World C) (i task : ℕ) (trap : Trap) (s : MachineState C) (x : StepsMade C) (o : Option (Task C)) → option_map state_of o ≡ Some (state.Trapped trap)
-    → step_told task s x (turn_by i s (option_map (λ (t : Task _). step_task w s.shared t) o)) ≡ record { state = s; text = idle_line task }
-unfolding step_task
-trapped_by w i task trap s x None h = cc
-trapped_by w i task trap s x (Some (going t)) h = cc
-trapped_by w i task trap s x (Some ended) h = cc
-trapped_by w i task trap s x (Some (trapped y frames)) h = refl
-
-pub trapped_told : {C : Type 0} (w : World C) (task : ℕ) (trap : Trap) (s : MachineState C) (x : StepsMade C) → state_in s task ≡ Some (state.Trapped trap)
-    → step_told task s x (machine_turn w task s) ≡ record { state = s; text = idle_line task }
-unfolding machine_turn
-trapped_told w zero trap s x h = cc
-trapped_told w (suc i) trap s x h = trapped_by w i (suc i) trap s x (task_at s (suc i)) h
-
-running_by : {C : Type 0} (w : World C) (i task : ℕ) (s : MachineState C) (x : StepsMade C) (o : Option (Task C)) → option_map state_of o ≡ Some state.Running
-    → step_told task s x (turn_by i s (option_map (λ (t : Task _). step_task w s.shared t) o)) ≡ ran_told task x
-unfolding step_task
-running_by w i task s x None h = cc
-running_by w i task s x (Some (going t)) h = refl
-running_by w i task s x (Some ended) h = cc
-running_by w i task s x (Some (trapped y frames)) h = cc
-
-pub running_told : {C : Type 0} (w : World C) (task : ℕ) (s : MachineState C) (x : StepsMade C) → state_in s task ≡ Some state.Running
-    → step_told task s x (machine_turn w task s) ≡ ran_told task x
-unfolding machine_turn
-running_told w zero s x h = cc
-running_told w (suc i) s x h = running_by w i (suc i) s x (task_at s (suc i)) h
-
--- and so what is appended
-pub told_absent : {A E : Type 0} (r : Result A E) (users : ℕ → Option (List ℕ)) (w : World PlainCode) (task : ℕ) (s : MachineState Version) (x : StepsMade PlainCode) (now before : List ℕ)
-    → state_in s task ≡ None → OnOk r (now ≡ before ++ task_line task (codes "absent"))
-    → OnOk r (CameTo (step_told task (state_meant users s) x (machine_turn w task (state_meant users s))) (state_meant users s) now before)
-unfolding absent_task_line
-told_absent (Ok a) users w task s x now before none told =
-    rw (absent_told w task (state_meant users s) x (stands_same users s task ∙ none)) (record { state = refl; text = told })
-told_absent (Err e) users w task s x now before none told = told
-
-pub told_ended : {A E : Type 0} (r : Result A E) (users : ℕ → Option (List ℕ)) (w : World PlainCode) (task : ℕ) (s : MachineState Version) (x : StepsMade PlainCode) (now before : List ℕ)
-    → state_in s task ≡ Some state.Ended → OnOk r (now ≡ before ++ task_line task (codes "idle"))
-    → OnOk r (CameTo (step_told task (state_meant users s) x (machine_turn w task (state_meant users s))) (state_meant users s) now before)
-unfolding idle_line
-told_ended (Ok a) users w task s x now before is told =
-    rw (ended_told w task (state_meant users s) x (stands_same users s task ∙ is)) (record { state = refl; text = told })
-told_ended (Err e) users w task s x now before is told = told
-
-pub told_trapped : {A E : Type 0} (r : Result A E) (users : ℕ → Option (List ℕ)) (w : World PlainCode) (task : ℕ) (trap : Trap) (s : MachineState Version) (x : StepsMade PlainCode) (now before : List ℕ)
-    → state_in s task ≡ Some (state.Trapped trap) → OnOk r (now ≡ before ++ task_line task (codes "idle"))
-    → OnOk r (CameTo (step_told task (state_meant users s) x (machine_turn w task (state_meant users s))) (state_meant users s) now before)
-unfolding idle_line
-told_trapped (Ok a) users w task trap s x now before is told =
-    rw (trapped_told w task trap (state_meant users s) x (stands_same users s task ∙ is)) (record { state = refl; text = told })
-told_trapped (Err e) users w task trap s x now before is told = told
-
-pub told_running : {A E : Type 0} (r : Result A E) (users : ℕ → Option (List ℕ)) (w : World PlainCode) (task made : ℕ) (s : MachineState Version) (new : MachineState PlainCode) (x : StepsMade PlainCode) (now mid before : List ℕ)
-    → state_in s task ≡ Some state.Running → AreSteps x made new mid before → OnOk r (now ≡ mid ++ ran_line task made)
-    → OnOk r (CameTo (step_told task (state_meant users s) x (machine_turn w task (state_meant users s))) new now before)
-told_running (Ok a) users w task made s new x now mid before is are told =
-    rw (running_told w task (state_meant users s) x (stands_same users s task ∙ is)) (record {
-      state = are.told.state;
-      text =
-          told ∙ ap (λ (t : List ℕ). t ++ ran_line task made) are.told.text ∙ append_assoc before x.told.text (ran_line task made)
-          ∙ ap (λ (k : ℕ). before ++ (x.told.text ++ ran_line task k)) are.count;
-    })
-told_running (Err e) users w task made s new x now mid before is are told = told
+pub no_spawn_passed : (method : Token) (said : Spawning PlainCode) (new old : PlainSession) (now before : List ℕ)
+    → spawn_in (world_of old.followed) method old.machine ≡ said → ((deaf : List Bool) → spawn_by method said deaf old ≡ nothing_passed deaf old)
+    → new ≡ old → now ≡ before → HasPassed (spawn_passed method) new old now before
+unfolding spawn_passed
+no_spawn_passed method said new old now before is says same kept =
+    nothing_has_passed (spawn_passed method) new old now before (λ deaf. ap (λ (x : Spawning PlainCode). spawn_by method x deaf old) is ∙ says deaf) same kept

@@ -1,9 +1,12 @@
 -- The bodies that a delta brings, with their sequence points.
-use Rattle.std.specs.Prelude.{◌≡◌, ℕ, false, List, [], map, Option, Ok, unwrap_or}
+use Rattle.std.specs.Prelude.{◌≡◌, ℕ, false, List, [], map, Option, None, Ok, unwrap_or}
 use Rattle.enc_agg.specs.Extend.{extended}
 use Rattle.enc_base.specs.declared.token.Token.{Token}
 use Rattle.enc_checker.specs.Check.{new_code, new_bodies, accepted, judged}
+use Rattle.enc_delta.specs.Delta.{listed}
+use Rattle.enc_delta.specs.Judged.{first_meta}
 use Rattle.enc_delta.specs.Seen.{WasRead}
+use Rattle.enc_dispatch.specs.Changed.{IsChangedBy}
 use Rattle.enc_meta.specs.Joined.{joined_user}
 use Rattle.enc_opcodes.specs.Body.{Code}
 use Rattle.enc_plain.specs.Chain.{Chain}
@@ -39,3 +42,7 @@ AcceptedBodiesAreNew =
     (c : Chain) (d : Source) (pdb : Option Source) (bytes : Option (List ℕ)) (debug : PlainPdb)
     → WasRead d → judged c (Ok d) bytes ≡ Ok (accepted d pdb) → IsSound c.plain
     → AreNewIn (new_versions d pdb) (meant_by c debug) (meant_by (extended c d) (pdb_changed debug (record { pdb = pdb; changed = new_bodies d })))
+
+-- and its module comes of the one before by the rows that the delta lists
+abbrev pub AcceptedRowsAreChanged : Type 0
+AcceptedRowsAreChanged = (c : Chain) (d : Source) → WasRead d → first_meta c d ≡ None → IsSound c.plain → IsChangedBy c.plain (extended c d).plain (listed d)

@@ -1,6 +1,7 @@
 pub mod Lines
-pub mod States
-pub mod Run
+pub mod Session
 pub mod Seen
+pub mod Core
+pub mod States
 pub mod StatesSeen
 pub mod Codes

@@ -1,12 +1,11 @@
--- The lines of a run, by what happens.
+-- The lines of a step, by what happens.
 use Rattle.std.specs.Prelude.{ℕ, List, [], ◌∷◌, ◌++◌, Option, Some, None, codes, decimal}
-use Rattle.enc_base.specs.declared.token.Token.{Token}
 use Rattle.enc_objects.specs.declared.trap.Trap.{Trap}
 use Rattle.enc_objects.specs.declared.trap.Trap.TheVariants as trap
-use Rattle.enc_text.specs.Text.{token_text, quoted}
+use Rattle.enc_text.specs.Text.{quoted}
 use Rattle.enc_text.specs.BodyText.{label, utf8_of}
 use Rattle.enc_vm.specs.Machine.{Frame}
-use Rattle.enc_vm.specs.Step.{Ending, ran, done, stopped, Spawning, begun, too_many, no_method}
+use Rattle.enc_vm.specs.Step.{Ending, ran, done, stopped}
 
 -- a line of a task: its number, and what is said of it
 unfoldable pub task_line : ℕ → List ℕ → List ℕ
@@ -29,15 +28,6 @@ trap_text trap.X12 = codes "X12"
 trap_text trap.X13 = codes "X13"
 trap_text trap.X14 = codes "X14"
 
--- the line of a spawn
-unfoldable pub refused_spawn : Token → List ℕ → List ℕ
-refused_spawn method why = codes "spawn refused " ++ token_text method ++ 0x20 ∷ why ++ 0x0a ∷ []
-
-abbrev pub spawn_line : {C : Type 0} → Token → Spawning C → List ℕ
-spawn_line method (begun n s) = task_line n (codes "spawned " ++ token_text method)
-spawn_line method too_many = refused_spawn method (codes "limit")
-spawn_line method no_method = refused_spawn method (codes "method")
-
 -- the line of what a step writes, none where it writes nothing
 abbrev pub written_line : ℕ → Option (List ℕ) → List ℕ
 written_line task None = []
@@ -53,13 +43,3 @@ ending_line task ran innermost = []
 ending_line task done innermost = task_line task (codes "ended")
 ending_line task (stopped x) None = []
 ending_line task (stopped x) (Some f) = trapped_line task x f.offset
-
--- the lines of a command that makes steps
-unfoldable pub ran_line : ℕ → ℕ → List ℕ
-ran_line task count = task_line task (codes "ran " ++ decimal count)
-
-unfoldable pub idle_line : ℕ → List ℕ
-idle_line task = task_line task (codes "idle")
-
-unfoldable pub absent_task_line : ℕ → List ℕ
-absent_task_line task = task_line task (codes "absent")

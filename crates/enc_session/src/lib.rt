@@ -1,13 +1,19 @@
-//! Runs of scripts: tasks that begin and make steps, and the lines that tell of them.
+//! Sessions: tasks that make steps over a base, deltas applied between them, and watchers that hear of all.
 #![tactic(auto)]
 
+mod applied;
+mod codes;
+mod core;
+mod events;
 mod laws;
 mod lines;
 mod objects;
-mod script;
+mod parts;
+mod session;
 mod states;
-mod steps;
 mod values;
 
-pub use laws::codes_law;
-pub use script::run;
+pub use applied::Applied;
+pub use laws::{changed_law, codes_law};
+pub use lines::{push_task, push_word};
+pub use session::Session;

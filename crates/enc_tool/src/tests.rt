@@ -99,7 +99,7 @@ fn answers_over(
     let alloc = rt.alloc();
     let mut sink = MemSink::begin(alloc);
     let words = texts(alloc, words)?;
-    let seen = run_tool(alloc, &words, store, &mut sink);
+    let seen = run_tool(alloc, &words, store, &mut sink, Vec::new(alloc));
     assert_eq!(rt; sink.bytes(), output.as_bytes());
     assert_eq!(rt; seen, status);
     Ok(())

@@ -11,7 +11,7 @@ use Rattle.enc_agg.specs.Place.{place_of}
 use Rattle.enc_ppdb.specs.PdbChain.{pdb_with}
 use Rattle.enc_ppdb.specs.Written.{MeansPdb}
 use Rattle.enc_rewriter.specs.Rewritten.{MeansModule}
-use Rattle.enc_session.specs.Run.{run_text}
+use Rattle.enc_script.specs.Run.{IsRunText}
 use Rattle.enc_writer.specs.declared.bytes.DeltaBytes.{DeltaBytes}
 use Rattle.enc_writer.specs.Stands.{StandsFor}
 use Rattle.enc_text.specs.Text.{refused_line}
@@ -45,7 +45,7 @@ IsOutput (lists f) output = output ≡ listed_as f
 IsOutput (counts f) output = output ≡ counted_as f
 IsOutput (applies out f) output = output ≡ saved_line (dll out ∷ pdb out ∷ [])
 IsOutput (writes out e) output = output ≡ saved_line (meta out ∷ il out ∷ pdb out ∷ [])
-IsOutput (runs f script) output = output ≡ run_text (plain_of f) (debug_after f) script
+IsOutput (runs handed f deltas script) output = IsRunText deltas handed f script output
 IsOutput (generates start count out) output = output ≡ case_line start.digits count.digits (edited_by generated_base (generated_lists start.value count.value))
 
 -- the files that say a module and its plain PDB: bytes that mean the one, and bytes that mean the other

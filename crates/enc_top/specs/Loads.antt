@@ -1,7 +1,8 @@
 -- For the contracts of private functions: what the loaded files stand for.
-use Rattle.std.specs.Prelude.{◌≡◌, ℕ, List, Option, option_map, Vec, Result, Ok, Err, string_bytes}
+use Rattle.std.specs.Prelude.{◌≡◌, ℕ, List, [], Option, option_map, Vec, Result, Ok, Err, string_bytes}
 use Rattle.std.specs.declared.alloc.Global.{Global}
 use Rattle.enc_top.specs.declared.judge.Judged.{Judged}
+use Rattle.enc_top.specs.declared.judge.JudgedBase.{JudgedBase}
 use Rattle.enc_top.specs.declared.commands.accept.Texted.{Texted}
 use Rattle.enc_top.specs.declared.load.BaseFile.{BaseFile}
 use Rattle.enc_top.specs.declared.load.DeltaFile.{DeltaFile}
@@ -32,6 +33,10 @@ file_seen f = record {
 -- an aggregate and a chain of PDBs are a base with the deltas that follow it
 abbrev pub followed : Judged → Followed
 followed j = record { base = j.agg.base; deltas = j.agg.deltas; debug = j.debug.base; debugs = j.debug.deltas }
+
+-- and so is a base alone
+abbrev pub base_followed : JudgedBase → Followed
+base_followed b = record { base = b.image; deltas = []; debug = b.pdb; debugs = [] }
 
 -- and so they are with a text
 abbrev pub texted : Texted → WithText

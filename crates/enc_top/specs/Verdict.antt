@@ -1,5 +1,6 @@
 -- What a command comes to over the files that are told: nothing here knows how the program works.
-use Rattle.std.specs.Prelude.{ℕ, ◌+◌, ◌==◌, Bool, List, [], ◌∷◌, ◌++◌, length, Option, Some, None, Result, Ok, Err, nat_lt, if◌then◌else◌, codes}
+use Rattle.std.specs.Prelude.{ℕ, ◌+◌, ◌==◌, Bool, List, [], ◌∷◌, ◌++◌, length, map, Option, Some, None, Result, Ok, Err, nat_lt, bytes_eq, if◌then◌else◌, codes}
+use Rattle.std.specs.List.{list_any}
 use Rattle.std.specs.FinMap.{get}
 use Rattle.enc_outside.specs.Outside.{Files}
 use Rattle.enc_base.specs.declared.token.Token.{Token}
@@ -24,6 +25,9 @@ use Rattle.enc_jobs.specs.declared.fault.JobFault.{JobFault}
 use Rattle.enc_jobs.specs.Edits.{edits_said}
 use Rattle.enc_jobs.specs.Scripts.{script_said}
 use Rattle.enc_jobs.specs.declared.command.Command.{Command}
+use Rattle.enc_jobs.specs.declared.command.Command.TheVariants.{Apply}
+use Rattle.enc_watch.specs.Audience.{Watching}
+use Rattle.enc_script.specs.Run.{NamedFiles}
 use Rattle.enc_rules.specs.First.{first_edit}
 use Rattle.enc_top.specs.declared.limits.Limit.{Limit}
 use Rattle.enc_top.specs.declared.limits.Limit.TheVariants as limit
@@ -172,6 +176,13 @@ judge_all base f fs = do
   p ← in_file (pdb base) (base_pdb b f.debug)
   judge_deltas (record { base = b; deltas = []; debug = p; debugs = [] }) fs
 
+-- a base alone
+unfoldable pub judge_base : List ℕ → BaseFiles → Result Followed Stop
+judge_base base f = do
+  b ← in_file (dll base) (base_of f.bytes)
+  p ← in_file (pdb base) (base_pdb b f.debug)
+  Ok (record { base = b; deltas = []; debug = p; debugs = [] })
+
 -- the files loaded, the base first, and then judged, the base first
 unfoldable pub accept : Files → List ℕ → List (List ℕ) → Result Followed Stop
 accept files base deltas = do
@@ -229,14 +240,14 @@ accept_text files base edits deltas = do
   g ← judge_all base f fs
   Ok (record { followed = g; text = text })
 
--- what an accepted command does with them: it shows a token's row, lists them, counts the deltas, saves the one module that has all edits, or the delta of an edit list; it runs a script over a base; or it saves a generated case
+-- what an accepted command does with them: it shows a token's row, lists them, counts the deltas, saves the one module that has all edits, or the delta of an edit list; it runs a script over a base, with the watchers that are handed in and the deltas that the script names; or it saves a generated case
 pub data Done : Type 0 where
   shows : Token → Followed → Done
   lists : Followed → Done
   counts : Followed → Done
   applies : List ℕ → Followed → Done
   writes : List ℕ → Edited → Done
-  runs : Followed → List Command → Done
+  runs : List Watching → Followed → List NamedFiles → List Command → Done
   generates : Numeral → Numeral → List ℕ → Done
 
 -- what a command comes to: what it does, or why it does nothing
@@ -291,28 +302,44 @@ write_on files base edits out deltas = do
   t ← accept_text files base edits deltas
   text_on edits out t
 
--- the text of a script read, and judged last
-abbrev pub script_on : List ℕ → WithText → Verdict
-script_on name t = do
-  cs ← list_in_file name (script_said t.text)
-  Ok (runs t.followed cs)
+-- the names of the deltas that a script applies, each once, in the order in which they come first, behind those that came before
+abbrev pub with_name : List (List ℕ) → List ℕ → List (List ℕ)
+with_name names name = if list_any (bytes_eq name) names then names else names ++ name ∷ []
 
--- `run BASE SCRIPT`
-abbrev pub run_on : Files → List ℕ → List ℕ → Verdict
-run_on files base script = do
-  t ← accept_text files base script []
-  script_on script t
+unfoldable pub names_in : List (List ℕ) → List Command → List (List ℕ)
+names_in names [] = names
+names_in names (Apply name ∷ commands) = names_in (with_name names name) commands
+names_in names (_ ∷ commands) = names_in names commands
 
-abbrev pub verdict_on : Files → Option Job → Verdict
-verdict_on files (Some (show base token deltas)) = show_on files base token deltas
-verdict_on files (Some (list base deltas)) = list_on files base deltas
-verdict_on files (Some (check base deltas)) = check_on files base deltas
-verdict_on files (Some (apply base out deltas)) = apply_on files base out deltas
-verdict_on files (Some (write base edits out deltas)) = write_on files base edits out deltas
-verdict_on files (Some (run base script)) = run_on files base script
-verdict_on files (Some (gen start count out)) = Ok (generates start count out)
-verdict_on files None = Err no_command
+-- a delta's files, as a run finds them
+abbrev pub named : DeltaFiles → NamedFiles
+named f = record { metadata_name = f.name; debug_name = f.debug_name; files = record { metadata = f.metadata; code = f.code; debug = f.debug } }
 
--- what the words come to over these files
-abbrev pub verdict_of : List (List ℕ) → Files → Verdict
-verdict_of words files = verdict_on files (job_of words)
+unfoldable pub load_named : Files → List Command → ℕ → Result (List NamedFiles) Stop
+load_named files commands before = do
+  fs ← load_deltas files (names_in [] commands) before
+  Ok (map named fs)
+
+-- `run BASE SCRIPT`: the base and the script are loaded and judged, and then each delta that the script names is loaded once
+unfoldable pub run_on : List Watching → Files → List ℕ → List ℕ → Verdict
+run_on handed files base script = do
+  f ← load_base files base 0
+  text ← load_one files script (base_size f)
+  g ← judge_base base f
+  commands ← list_in_file script (script_said text)
+  deltas ← load_named files commands (base_size f + length text)
+  Ok (runs handed g deltas commands)
+
+abbrev pub verdict_on : List Watching → Files → Option Job → Verdict
+verdict_on handed files (Some (show base token deltas)) = show_on files base token deltas
+verdict_on handed files (Some (list base deltas)) = list_on files base deltas
+verdict_on handed files (Some (check base deltas)) = check_on files base deltas
+verdict_on handed files (Some (apply base out deltas)) = apply_on files base out deltas
+verdict_on handed files (Some (write base edits out deltas)) = write_on files base edits out deltas
+verdict_on handed files (Some (run base script)) = run_on handed files base script
+verdict_on handed files (Some (gen start count out)) = Ok (generates start count out)
+verdict_on handed files None = Err no_command
+
+-- what the words come to over these files, with the watchers that are handed in
+abbrev pub verdict_of : List Watching → List (List ℕ) → Files → Verdict
+verdict_of handed words files = verdict_on handed files (job_of words)

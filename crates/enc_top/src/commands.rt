@@ -1,5 +1,5 @@
 //! From words to a plan: which command they are, and what it comes to.
-ghost use Rattle.std.specs.Prelude.{◌≡◌, ◌⊎◌, [], None, Err, IfSome, IsErrOf, IsSome};
+ghost use Rattle.std.specs.Prelude.{◌≡◌, ◌⊎◌, [], None, Err, IfSome, IsErrOf, IsSome, map};
 ghost use Rattle.enc_outside.specs.Outside.{HasCause};
 ghost use Rattle.enc_top.specs.Words.{job_of, texts};
 ghost use Rattle.enc_top.specs.Verdict.{no_command, verdict_of};
@@ -22,6 +22,7 @@ use crate::stop::Stop;
 use apply::apply;
 use check::check;
 use enc_outside::Store;
+use enc_watch::Watcher;
 use generate::generate;
 use list::list;
 use run::run;
@@ -29,11 +30,16 @@ use show::show;
 use std::alloc::Global;
 use write::write;
 
-/// The plan of the words over the store's files, or the stop at which they end.
-pub fn plan_of<S: Store>(alloc: Global, words: &[String], store: &mut S) -> Result<Plan, Stop>
+/// The plan of the words over the store's files, with the watchers that are handed in, or the stop at which they end.
+pub fn plan_of<S: Store, W: Watcher>(
+    alloc: Global,
+    words: &[String],
+    store: &mut S,
+    watchers: Vec<W>,
+) -> Result<Plan, Stop>
     ensures cause { HasCause Stop.Failed (S.faults store.old) (S.faults store.new) result }
     ensures stays { S.told store.new ≡ S.told store.old }
-    ensures plan { IfSome (S.told store.old) (λ files. IfPlan result (IsPlanOf (verdict_of (texts words.now) files))) }
+    ensures plan { IfSome (S.told store.old) (λ files. IfPlan result (IsPlanOf (verdict_of (map (λ w. record { kind = W.kind_of w; limit = W.limit w; heard = W.heard w }) watchers.items) (texts words.now) files))) }
     ensures usage { job_of (texts words.now) ≡ None → IfPlan result (IsPlanOf (Err no_command)) }
     ensures words { IfPlan result (λ plan. plan.outcome ≡ Outcome.Usage → job_of (texts words.now) ≡ None) }
     ensures asked { IsErrOf result Stop.Failed → IsSome (job_of (texts words.now)) }
@@ -59,7 +65,7 @@ pub fn plan_of<S: Store>(alloc: Global, words: &[String], store: &mut S) -> Resu
                 deltas,
             },
         ) => write(alloc, base, edits, out, deltas, store),
-        Some(Command::Run { base, script }) => run(alloc, base, script, store),
+        Some(Command::Run { base, script }) => run(alloc, base, script, store, watchers),
         Some(Command::Gen { start, count, out }) => generate(alloc, start, count, out),
     }
 }

@@ -10,9 +10,9 @@ ghost use Rattle.enc_delta.specs.Judged.{first_meta};
 ghost use Rattle.enc_agg.specs.Seen.{chain_of_all};
 ghost use Rattle.enc_checker.specs.Check.{accepted, judged};
 ghost use Rattle.enc_rows.specs.Source.{Source};
-ghost use Rattle.enc_top.specs.Verdict.{dll, pdb, in_file, in_delta, is_of_pdb, base_pdb, followed_by, judge_deltas as deltas_judged, judge_all as all_judged};
+ghost use Rattle.enc_top.specs.Verdict.{dll, pdb, in_file, in_delta, is_of_pdb, base_pdb, followed_by, judge_deltas as deltas_judged, judge_all as all_judged, judge_base as base_judged};
 ghost use Rattle.enc_top.specs.Stops.{Comes, StopsQuietly, OnPlan, IsQuiet, IsUnaccepted};
-ghost use Rattle.enc_top.specs.Loads.{bytes_seen, base_seen, file_seen, followed, KnowWithin, Adds};
+ghost use Rattle.enc_top.specs.Loads.{bytes_seen, base_followed, base_seen, file_seen, followed, KnowWithin, Adds};
 
 use crate::load::{BaseFile, DeltaFile, name_of};
 use crate::plans::unread;
@@ -202,4 +202,24 @@ pub fn judge_all(
     };
     judge_deltas(alloc, &mut held, files)?;
     Ok(held)
+}
+
+/// A base and its PDB, where it has one.
+#[derive(Drop)]
+pub struct JudgedBase {
+    pub image: Image,
+    pub pdb: Option<Pdb>,
+}
+
+/// A base alone, judged.
+#[tactic(auto, unfolding(crate::specs::Verdict::judge_base))]
+pub fn judge_first(alloc: Global, base: &str, file: BaseFile) -> Result<JudgedBase, Stop>
+    ensures step { Comes base_followed result (base_judged base.now (base_seen file)) }
+    ensures quiet { StopsQuietly result }
+    ensures no_fault { ¬ (IsErrOf result Stop.Failed) }
+{
+    let BaseFile { bytes, debug } = file;
+    let image = judge_base(alloc, base, bytes)?;
+    let pdb = judge_pdb(alloc, base, &image, debug)?;
+    Ok(JudgedBase { image, pdb })
 }

@@ -34,7 +34,10 @@ fn without_a_fault_the_status_is_not_3(rt: HostRuntime) -> Result<(), Fail> {
     for (words, loads, status, output) in RUNS {
         let words = texts(alloc, words)?;
         let (mut store, mut sink) = (files(alloc)?, MemSink::begin(alloc));
-        assert_eq!(rt; run_tool(alloc, &words, &mut store, &mut sink), status);
+        assert_eq!(rt;
+            run_tool(alloc, &words, &mut store, &mut sink, Vec::new(alloc)),
+            status
+        );
         assert_eq!(rt; sink.bytes(), output.as_bytes());
         assert_eq!(rt; store.calls(), loads);
     }
@@ -49,7 +52,10 @@ fn a_load_that_fails_prints_nothing(rt: HostRuntime) -> Result<(), Fail> {
         for call in 1..=loads {
             let (mut store, mut sink) = (files(alloc)?, MemSink::begin(alloc));
             store.fail_at(call)?;
-            assert_eq!(rt; run_tool(alloc, &words, &mut store, &mut sink), 4);
+            assert_eq!(rt;
+                run_tool(alloc, &words, &mut store, &mut sink, Vec::new(alloc)),
+                4
+            );
             assert_eq!(rt; sink.bytes(), b"".as_slice());
             assert_eq!(rt; sink.calls(), 0);
             assert_eq!(rt; store.calls(), call);
@@ -65,13 +71,28 @@ fn a_put_that_fails_leaves_a_first_part(rt: HostRuntime) -> Result<(), Fail> {
         let words = texts(alloc, words)?;
         let mut sound = MemSink::begin(alloc);
         assert_eq!(rt;
-            run_tool(alloc, &words, &mut files(alloc)?, &mut sound),
+            run_tool(
+                alloc,
+                &words,
+                &mut files(alloc)?,
+                &mut sound,
+                Vec::new(alloc)
+            ),
             status
         );
         for call in 1..=sound.calls() {
             let mut sink = MemSink::begin(alloc);
             sink.fail_at(call)?;
-            assert_eq!(rt; run_tool(alloc, &words, &mut files(alloc)?, &mut sink), 5);
+            assert_eq!(rt;
+                run_tool(
+                    alloc,
+                    &words,
+                    &mut files(alloc)?,
+                    &mut sink,
+                    Vec::new(alloc)
+                ),
+                5
+            );
             assert!(rt; output.as_bytes().starts_with(sink.bytes()));
             assert!(rt; sink.bytes().len() < output.len());
         }

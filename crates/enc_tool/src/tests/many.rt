@@ -111,7 +111,10 @@ fn many_tokens_are_listed(rt: HostRuntime) -> Result<(), Fail> {
     store.set_file("d.meta", &delta(alloc)?)?;
     store.set_file("d.il", &[0, 0, 0, 0])?;
     let words = texts(alloc, &["list", "m", "d"])?;
-    assert_eq!(rt; run_tool(alloc, &words, &mut store, &mut sink), 0);
+    assert_eq!(rt;
+        run_tool(alloc, &words, &mut store, &mut sink, Vec::new(alloc)),
+        0
+    );
     assert!(rt;
         sink.bytes()
             .ends_with(b"  01019a28 insert 1.5000 newest 1.5000\n")

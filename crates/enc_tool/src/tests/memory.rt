@@ -29,7 +29,7 @@ fn answers_or_runs_out(
         return;
     };
     let mut sink = MemSink::begin(alloc);
-    let seen = run_tool(alloc, &words, &mut store, &mut sink);
+    let seen = run_tool(alloc, &words, &mut store, &mut sink, Vec::new(alloc));
     if seen == 3 {
         assert_eq!(rt; sink.bytes(), b"".as_slice());
     } else {

@@ -1,0 +1,4 @@
+mod Events
+mod Commands
+mod Stepping
+mod Statuses

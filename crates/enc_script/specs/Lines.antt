@@ -1,0 +1,51 @@
+-- The lines of a script's commands.
+use Rattle.std.specs.Prelude.{ℕ, List, [], ◌∷◌, ◌++◌, codes, decimal}
+use Rattle.enc_base.specs.declared.token.Token.{Token}
+use Rattle.enc_text.specs.Text.{token_text}
+use Rattle.enc_vm.specs.Step.{Spawning, begun, too_many, no_method}
+use Rattle.enc_watch.specs.Audience.{watcher_line}
+use Rattle.enc_watch.specs.declared.event.WatchKind.{WatchKind}
+use Rattle.enc_watch.specs.declared.event.WatchKind.TheVariants as kind
+use Rattle.enc_session.specs.Lines.{task_line}
+
+-- a spawn
+unfoldable pub refused_spawn : Token → List ℕ → List ℕ
+refused_spawn method why = codes "spawn refused " ++ token_text method ++ 0x20 ∷ why ++ 0x0a ∷ []
+
+abbrev pub spawn_line : {C : Type 0} → Token → Spawning C → List ℕ
+spawn_line method (begun n s) = task_line n (codes "spawned " ++ token_text method)
+spawn_line method too_many = refused_spawn method (codes "limit")
+spawn_line method no_method = refused_spawn method (codes "method")
+
+-- steps: how many were made, and that there was no task, or one that makes no more
+unfoldable pub ran_line : ℕ → ℕ → List ℕ
+ran_line task count = task_line task (codes "ran " ++ decimal count)
+
+unfoldable pub idle_line : ℕ → List ℕ
+idle_line task = task_line task (codes "idle")
+
+unfoldable pub absent_task_line : ℕ → List ℕ
+absent_task_line task = task_line task (codes "absent")
+
+-- a delta that was applied
+unfoldable pub applied_line : List ℕ → ℕ → List ℕ
+applied_line name generation = codes "applied " ++ name ++ codes " generation " ++ decimal generation ++ 0x0a ∷ []
+
+-- a watcher that was attached, and that there is none of a kind
+abbrev pub kind_text : WatchKind → List ℕ
+kind_text kind.Trace = codes "trace"
+kind_text kind.Cover = codes "cover"
+kind_text kind.Failing = codes "failing"
+
+unfoldable pub attached_line : ℕ → WatchKind → List ℕ
+attached_line number k = watcher_line number (codes "attached " ++ kind_text k)
+
+unfoldable pub none_line : WatchKind → List ℕ
+none_line k = codes "watcher none " ++ kind_text k ++ 0x0a ∷ []
+
+-- one that was detached, and that none has a number
+unfoldable pub detached_line : ℕ → List ℕ
+detached_line number = watcher_line number (codes "detached")
+
+unfoldable pub absent_line : ℕ → List ℕ
+absent_line number = watcher_line number (codes "absent")
