@@ -9,3 +9,4 @@ mod ListedBodies
 mod NamedMethods
 mod NewBodies
 mod Changed
+mod Committed

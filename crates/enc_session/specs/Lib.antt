@@ -1,7 +1,7 @@
 pub mod Lines
 pub mod Session
 pub mod Seen
-pub mod Core
+pub mod Engine
 pub mod States
 pub mod StatesSeen
 pub mod Codes

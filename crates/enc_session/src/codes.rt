@@ -99,7 +99,10 @@ pub(crate) fn new_codes(
 {
     let methods = new_bodies(alloc, delta)?;
     let mut codes = CodeList::begin(alloc);
-    for method in methods.as_slice() {
+    for i in 0..methods.len() {
+        let Some(method) = methods.get(i) else {
+            unreachable!()
+        };
         codes.push(new_entry(alloc, delta, pdb, *method)?)?;
     }
     Ok(codes)

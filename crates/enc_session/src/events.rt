@@ -6,7 +6,7 @@ ghost use Rattle.enc_session.specs.Seen.{ending_told, entered_if};
 ghost use Rattle.enc_session.specs.Session.{applied_event, begun_events, ending_events, entered_events, left_events, line_events, step_events};
 
 use crate::applied::Applied;
-use crate::core::Core;
+use crate::engine::Engine;
 use enc_base::Token;
 use enc_vm::{Seen, StepEnd};
 use enc_watch::Event;
@@ -62,26 +62,26 @@ impl Events {
 }
 
 /// Adds that the i-th frame of a task was entered, where there is one.
-fn push_entered(core: &Core, task: u32, i: u32, events: &mut Events)
+fn push_entered(engine: &Engine, task: u32, i: u32, events: &mut Events)
     requires { length events.old < 4 }
-    ensures events { events.new ≡ events.old ++ entered_if task (frame_in core.now.machine task i) }
+    ensures events { events.new ≡ events.old ++ entered_if task (frame_in engine.now.machine task i) }
     ensures few { length events.new ≤ length events.old + 1 }
 {
-    match core.method_at(task, i) {
+    match engine.method_at(task, i) {
         None => {}
         Some(method) => events.push(Event::Entered { task, method }),
     }
 }
 
 /// That a task began, and entered each of its frames, from the outermost; at its begin it has at most two.
-pub(crate) fn begun_events(core: &Core, method: Token, task: u32) -> Events
-    requires { length (frames_in core.now.machine task) ≤ 2 }
-    ensures { result ≡ begun_events method task core.now.machine }
+pub(crate) fn begun_events(engine: &Engine, method: Token, task: u32) -> Events
+    requires { length (frames_in engine.now.machine task) ≤ 2 }
+    ensures { result ≡ begun_events method task engine.now.machine }
 {
     let mut events = Events::none();
     events.push(Event::Spawned { task, method });
-    push_entered(core, task, 0, &mut events);
-    push_entered(core, task, 1, &mut events);
+    push_entered(engine, task, 0, &mut events);
+    push_entered(engine, task, 1, &mut events);
     events
 }
 

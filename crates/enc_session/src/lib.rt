@@ -3,7 +3,7 @@
 
 mod applied;
 mod codes;
-mod core;
+mod engine;
 mod events;
 mod laws;
 mod lines;

@@ -11,7 +11,7 @@ ghost use Rattle.enc_dispatch.specs.Index.{StandsForModule};
 ghost use Rattle.enc_dispatch.specs.Ready.{IsPreparedFor};
 ghost use Rattle.enc_dispatch.specs.Stored.{with_room};
 ghost use Rattle.enc_versions.specs.Laws.{KeepsTexts};
-ghost use Rattle.enc_session.specs.Core.{AreParts, AreReady, MayFollow, SayTheSame, followed_in};
+ghost use Rattle.enc_session.specs.Engine.{AreParts, AreReady, MayFollow, SayTheSame, followed_in};
 
 use crate::codes::new_codes;
 use crate::laws::{changed_law, codes_law};

@@ -10,7 +10,7 @@ ghost use Rattle.enc_session.specs.Session.{HasPassed, applied_as, apply_passed,
 ghost use Rattle.enc_session.specs.States.{state_text};
 
 use crate::applied::Applied;
-use crate::core::Core;
+use crate::engine::Engine;
 use crate::events::{applied_event, begun_events, step_events};
 use crate::lines::{push_ended, push_trapped, push_written};
 use enc_base::Token;
@@ -33,7 +33,7 @@ const STEP_ROOM: usize = 66;
 /// gone, and the event stands all the same. Without memory the session, its watchers and `out` stay as they are.
 #[derive(Drop)]
 pub struct Session<W: Watcher> {
-    core: Core,
+    engine: Engine,
     audience: Audience<W>,
 }
 
@@ -42,14 +42,14 @@ impl<W: Watcher> Model for Session<W> {
 
     ghost Value = { PlainSession };
 
-    ghost view = { λ s. record { followed = s.core.followed; machine = s.core.machine; seated = s.audience } };
+    ghost view = { λ s. record { followed = s.engine.followed; machine = s.engine.machine; seated = s.audience } };
 }
 
 /// Appends the lines of a step: what it writes, and that the task ended or trapped.
 #[tactic(auto, unfolding(crate::specs::Session::step_lines))]
-fn push_step_lines(core: &Core, task: u32, seen: &Seen, end: StepEnd, out: &mut Vec<u8>)
+fn push_step_lines(engine: &Engine, task: u32, seen: &Seen, end: StepEnd, out: &mut Vec<u8>)
     requires { vec_len out.old + (12 * length (unwrap_or seen.now.wrote []) + 66) ≤ vec_capacity out.old }
-    ensures text { out.new.items ≡ out.old.items ++ step_lines task (ending_told end) core.now.machine (shown_in seen.now) }
+    ensures text { out.new.items ≡ out.old.items ++ step_lines task (ending_told end) engine.now.machine (shown_in seen.now) }
     ensures len { vec_len out.new ≤ vec_len out.old + (12 * length (unwrap_or seen.now.wrote []) + 66) }
     ensures capacity { vec_capacity out.old ≤ vec_capacity out.new }
 {
@@ -57,7 +57,7 @@ fn push_step_lines(core: &Core, task: u32, seen: &Seen, end: StepEnd, out: &mut 
     match end {
         StepEnd::Ran | StepEnd::Idle | StepEnd::Absent => {}
         StepEnd::Ended => push_ended(task, out),
-        StepEnd::Trapped(trap) => match core.offset(task) {
+        StepEnd::Trapped(trap) => match engine.offset(task) {
             None => {}
             Some(offset) => push_trapped(task, trap, offset, out),
         },
@@ -70,7 +70,7 @@ impl<W: Watcher> Session<W> {
         ensures { IfOk result (λ s. s ≡ record { followed = record { base = image; deltas = []; debug = pdb; debugs = [] }; machine = at_rest; seated = record { seats = []; given = 0 } }) }
     {
         Ok(Session {
-            core: Core::begin(alloc, image, pdb)?,
+            engine: Engine::begin(alloc, image, pdb)?,
             audience: Audience::begin(alloc),
         })
     }
@@ -126,9 +126,9 @@ impl<W: Watcher> Session<W> {
         ensures kept { OnErr result (out.new.items ≡ out.old.items) }
     {
         self.make_room(0, out)?;
-        let end = self.core.spawn(method)?;
+        let end = self.engine.spawn(method)?;
         if let SpawnEnd::Task(task) = end {
-            let events = begun_events(&self.core, method, task);
+            let events = begun_events(&self.engine, method, task);
             self.audience.tell(events.as_slice(), out);
         }
         Ok(end)
@@ -142,12 +142,12 @@ impl<W: Watcher> Session<W> {
         ensures err { OnErr result (self.new ≡ self.old) }
         ensures kept { OnErr result (out.new.items ≡ out.old.items) }
     {
-        let units = self.core.write_units(task);
+        let units = self.engine.write_units(task);
         self.make_room(12 * units as usize + STEP_ROOM, out)?;
-        let method = self.core.method(task);
+        let method = self.engine.method(task);
         let mut seen = Seen::nothing();
-        let end = self.core.step(task, &mut seen)?;
-        push_step_lines(&self.core, task, &seen, end, out);
+        let end = self.engine.step(task, &mut seen)?;
+        push_step_lines(&self.engine, task, &seen, end, out);
         let events = step_events(task, method, &seen, end);
         self.audience.tell(events.as_slice(), out);
         Ok(end)
@@ -164,7 +164,7 @@ impl<W: Watcher> Session<W> {
         ensures kept { OnErr result (out.new.items ≡ out.old.items) }
     {
         self.make_room(0, out)?;
-        let applied = self.core.apply(files)?;
+        let applied = self.engine.apply(files)?;
         self.audience.tell(&[applied_event(applied)], out);
         Ok(applied)
     }
@@ -173,7 +173,7 @@ impl<W: Watcher> Session<W> {
     pub fn status(&self, task: u32) -> Option<TaskState>
         ensures { result ≡ state_in self.now.machine task }
     {
-        self.core.status(task)
+        self.engine.status(task)
     }
 
     /// Appends the state of the machine.
@@ -181,7 +181,7 @@ impl<W: Watcher> Session<W> {
         ensures text { OnOk result (out.new.items ≡ out.old.items ++ state_text self.now.machine) }
         ensures err { OnErr result (out.new.items ≡ out.old.items) }
     {
-        self.core.push_state(out)
+        self.engine.push_state(out)
     }
 
     /// Appends the reports of all watchers, in order of number, each behind a line that says whose it is.

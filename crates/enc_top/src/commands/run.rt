@@ -83,7 +83,8 @@ fn add_named(alloc: Global, names: &mut Vec<String>, command: &Command) -> Resul
 {
     match command {
         Command::Apply(name) => add_name(alloc, names, name.as_slice()),
-        _ => Ok(()),
+        Command::Spawn(_) | Command::Step(_, _) | Command::State => Ok(()),
+        Command::Attach(_) | Command::Detach(_) => Ok(()),
     }
 }
 

@@ -22,7 +22,7 @@ use Rattle.enc_session.specs.declared.parts.Parts.{Parts}
 use Rattle.enc_session.specs.declared.parts.Prepared.{Prepared}
 
 -- a base with its deltas, and a machine over it
-pub record PlainCore : Type 0 where
+pub record PlainEngine : Type 0 where
   pub followed : Followed
   pub machine : MachineState PlainCode
 
@@ -36,7 +36,7 @@ pub record AreParts (p : Parts) : Type 0 where
   pub bodies : AreVersionsOf (users_of_all p.agg) (module_of_all p.agg) (pdb_with p.debug.base p.debug.deltas) p.versions.methods
 
 -- and each user text is there that the code of a frame names, so that each frame goes on in its own body
-pub record IsCore (p : Parts) (s : MachineState Version) : Type 0 where
+pub record IsEngine (p : Parts) (s : MachineState Version) : Type 0 where
   pub parts : AreParts p
   pub texts : IsTrue (machine_texts (users_of_all p.agg) s)
 

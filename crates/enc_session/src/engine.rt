@@ -8,7 +8,7 @@ ghost use Rattle.enc_vm.specs.Machine.{at_rest};
 ghost use Rattle.enc_vm.specs.Room.{WritesAtMost};
 ghost use Rattle.enc_vm.specs.Step.{spawn_in};
 ghost use Rattle.enc_vm.specs.Turns.{IsSpawn, IsTurn, KeepsSeen, machine_turn};
-ghost use Rattle.enc_session.specs.Core.{MayFollow};
+ghost use Rattle.enc_session.specs.Engine.{MayFollow};
 ghost use Rattle.enc_session.specs.Session.{applied_as, files_in, followed_after, judged_after, method_in, world_of};
 ghost use Rattle.enc_session.specs.States.{state_text};
 
@@ -26,29 +26,29 @@ use std::marker::Model;
 
 /// A base with the deltas that follow it, and a machine over it. Each frame keeps the body that it began with.
 #[derive(Drop)]
-pub(crate) struct Core {
+pub(crate) struct Engine {
     parts: Parts,
     machine: Machine,
     alloc: Global,
 }
 
-impl Model for Core {
-    ghost use Rattle.enc_session.specs.Core.{IsCore, PlainCore, followed_in, machine_in};
+impl Model for Engine {
+    ghost use Rattle.enc_session.specs.Engine.{IsEngine, PlainEngine, followed_in, machine_in};
 
-    ghost Value = { PlainCore };
+    ghost Value = { PlainEngine };
 
     ghost view = { λ c. record { followed = followed_in c.parts; machine = machine_in c.parts c.machine } };
 
-    ghost invariant = { λ c. IsCore c.parts c.machine };
+    ghost invariant = { λ c. IsEngine c.parts c.machine };
 }
 
-impl Core {
+impl Engine {
     /// A base and its PDB, where it has one, and a machine at rest.
-    pub(crate) fn begin(alloc: Global, image: Image, pdb: Option<Pdb>) -> Result<Core, AllocError>
+    pub(crate) fn begin(alloc: Global, image: Image, pdb: Option<Pdb>) -> Result<Engine, AllocError>
         ensures { IfOk result (λ c. c ≡ record { followed = record { base = image; deltas = []; debug = pdb; debugs = [] }; machine = at_rest }) }
     {
         let parts = Parts::begin(alloc, image, pdb)?;
-        Ok(Core {
+        Ok(Engine {
             parts,
             machine: Machine::begin(alloc),
             alloc,
