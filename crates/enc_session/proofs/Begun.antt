@@ -1,5 +1,6 @@
 -- The frames of a task that begins.
 use Rattle.std.proofs.Common.{◌≡◌, ◌≤◌, ℕ, zero, suc, ◌+◌, Bool, true, false, List, [], ◌∷◌, ◌++◌, map, reverse, length, Option, Some, None, option_map, slice_get, refl, sym, ap, ◌∙◌, arith}
+use Rattle.std.proofs.lemmas.List.{length-reverse}
 use Rattle.std.specs.Prelude.{nat_le, unwrap_or, if◌then◌else◌}
 use Rattle.enc_base.specs.declared.token.Token.{Token}
 use Rattle.enc_vm.specs.Looks.{frames_of, frames_in, frame_in}
@@ -66,7 +67,7 @@ entered_two n (f ∷ g ∷ []) few = refl
 entered_two n (f ∷ g ∷ h ∷ fs) few = absurd (omega arith)
 
 back_length : {A : Type 0} (xs : List A) → length (reverse xs) ≡ length xs
-back_length xs = grind (arith, length-reverse)
+back_length xs = length-reverse xs
 
 pub entered_frames : {C : Type 0} (s : MachineState C) (n : ℕ) → length (frames_in s n) ≤ 2
     → map (entered_event n) (reverse (frames_in s n)) ≡ entered_if n (frame_in s n 0) ++ entered_if n (frame_in s n 1)

@@ -50,7 +50,7 @@ all_of : (ts : List Token) → filter (λ (t : Token). true) ts ≡ ts
 all_of [] = refl
 all_of (t ∷ ts) = ap (λ (xs : List Token). t ∷ xs) (all_of ts)
 
-at_stands : (u : Token) (ts : List Token) (i : ℕ) → slice_get ts i ≡ Some u → stands u ts ≡ true
+pub at_stands : (u : Token) (ts : List Token) (i : ℕ) → slice_get ts i ≡ Some u → stands u ts ≡ true
 at_stands u ts i is = let h = one_kept (λ (t : Token). true) u ts i is refl in rw (all_of ts) at h
 
 out_of : (u : Token) (ts : List Token) (o : Option ℕ) → place_in ts u ≡ o → stands u ts ≡ false → o ≡ None
@@ -135,7 +135,7 @@ accepted_rows_are_changed c d was rules sound =
 -- the methods with new bodies are rows of MethodDef
 no_row : (rows : List Row) (row : ℕ) (cells : List Cell) → option_map (λ (r : Row). r.cells) (row_at rows row) ≡ Some cells → nat_lt 0 row ≡ true
 no_row rows zero cells h = absurd cc
-no_row rows (suc i) cells h = refl
+no_row rows (suc i) cells h = grind (arith, nat_tests)
 
 listed_row : (c : Chain) (d : Source) (u : Token) (n : ℕ) → Known c d → place_in (listed d) u ≡ Some n → nat_lt 0 u.row ≡ true
 unfolding row_of

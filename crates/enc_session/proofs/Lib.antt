@@ -9,4 +9,5 @@ mod ListedBodies
 mod NamedMethods
 mod NewBodies
 mod Changed
+mod Coded
 mod Committed

@@ -4,7 +4,7 @@ use Rattle.enc_watch.specs.Audience.{Heard, told_events, AreTold}
 use Rattle.enc_watch.specs.declared.event.Event.{Event}
 use Rattle.enc_session.specs.Session.{PlainSession, Passed, nothing_passed, heard_in, passed_with, HasPassed}
 
-passed_as : PlainSession → List ℕ → List Bool → Passed
+abbrev passed_as : PlainSession → List ℕ → List Bool → Passed
 passed_as s text deaf = record { session = s; text = text; deaf = deaf }
 
 -- the session behind it, by its parts

@@ -1,5 +1,5 @@
 -- A step, and what comes of it.
-use Rattle.std.proofs.Common.{◌≡◌, ◌≤◌, ℕ, zero, suc, Bool, List, [], ◌++◌, length, Option, Some, None, option_map, Ok, refl, sym, ap, ◌∙◌, subst, append-nil}
+use Rattle.std.proofs.Common.{◌≡◌, ◌≤◌, ℕ, zero, suc, Bool, List, [], ◌∷◌, ◌++◌, length, Option, Some, None, option_map, Ok, refl, sym, ap, ◌∙◌, subst, append-nil, arith}
 use Rattle.std.specs.Prelude.{IfSome, unwrap_or}
 use Rattle.enc_base.specs.declared.token.Token.{Token}
 use Rattle.enc_objects.specs.declared.trap.Trap.{Trap}
@@ -19,12 +19,14 @@ use Rattle.enc_vm.specs.declared.ends.SpawnEnd.TheVariants as spawned
 use Rattle.enc_vm.specs.declared.ends.StepEnd.{StepEnd}
 use Rattle.enc_vm.specs.declared.ends.StepEnd.TheVariants as end
 use Rattle.enc_vm.specs.declared.seen.Seen.{Seen}
-use Rattle.enc_watch.specs.Audience.{Seat, AreTold}
+use Rattle.enc_checker.specs.Followed.{Followed}
+use Rattle.enc_watch.specs.Audience.{Seat, Seated, told_events, AreTold}
 use Rattle.enc_watch.specs.declared.event.Event.{Event}
 use Rattle.enc_session.proofs.Looked.{task_at_meant}
 use Rattle.enc_session.proofs.Passing.{has_passed, nothing_has_passed}
 use Rattle.enc_session.specs.Seen.{ending_told}
-use Rattle.enc_session.specs.Session.{PlainSession, Passed, world_of, with_machine, passed_with, nothing_passed, method_in, line_events, step_events, step_lines, turn_passed, step_passed, begun_events, spawn_by, spawn_passed, turn_end, HasPassed}
+use Rattle.enc_session.specs.Session.{PlainSession, Passed, world_of, with_machine, passed_with, nothing_passed, method_in, line_events, step_events, step_lines, turn_passed, step_passed, begun_events, spawn_by, spawn_passed, turn_end, DeltaFiles, judged_after, followed_after, applied_as, applied_event, with_followed, apply_passed, HasPassed}
+use Rattle.enc_session.specs.declared.applied.Applied.{Applied}
 
 -- a step of which nothing is shown tells nothing
 no_line : (task : ℕ) (method : Option Token) → line_events task method None ≡ []
@@ -159,3 +161,34 @@ pub no_spawn_passed : (method : Token) (said : Spawning PlainCode) (new old : Pl
 unfolding spawn_passed
 no_spawn_passed method said new old now before is says same kept =
     nothing_has_passed (spawn_passed method) new old now before (λ deaf. ap (λ (x : Spawning PlainCode). spawn_by method x deaf old) is ∙ says deaf) same kept
+
+-- where there is no new task, nothing happened
+abbrev session_of : Followed → MachineState PlainCode → Seated → PlainSession
+session_of f m s = record { followed = f; machine = m; seated = s }
+
+session_same : (new old : PlainSession) → new.followed ≡ old.followed → new.machine ≡ old.machine → new.seated ≡ old.seated → new ≡ old
+session_same new old followed machine seated =
+    ap (λ (f : Followed). session_of f new.machine new.seated) followed
+    ∙ ap (λ (m : MachineState PlainCode). session_of old.followed m new.seated) machine ∙ ap (λ (s : Seated). session_of old.followed old.machine s) seated
+
+pub no_task_passed : (method : Token) (how : SpawnEnd) (new old : PlainSession) (now before : List ℕ) → ((n : ℕ) → how ≡ spawned.Task n → ⊥)
+    → IsSpawn (Ok how) new.machine old.machine (spawn_in (world_of old.followed) method old.machine)
+    → new.followed ≡ old.followed → new.seated ≡ old.seated → now ≡ before → HasPassed (spawn_passed method) new old now before
+no_task_passed method (spawned.Task n) new old now before not is followed seated kept = absurd (not n refl)
+no_task_passed method spawned.Limit new old now before not is followed seated kept =
+    no_spawn_passed method too_many new old now before is.0 (λ deaf. refl) (session_same new old followed is.1 seated) kept
+no_task_passed method spawned.Method new old now before not is followed seated kept =
+    no_spawn_passed method no_method new old now before is.0 (λ deaf. refl) (session_same new old followed is.1 seated) kept
+
+-- a delta
+pub apply_has_passed : (files : DeltaFiles) (new old : PlainSession) (a : Applied) (now between before : List ℕ)
+    → a ≡ applied_as (judged_after old.followed files) old.followed → new.followed ≡ followed_after (judged_after old.followed files) old.followed
+    → new.machine ≡ old.machine → new.seated.given ≡ old.seated.given → between ≡ before
+    → AreTold (applied_event a ∷ []) new.seated.seats old.seated.seats now between
+    → HasPassed (apply_passed files) new old now before
+unfolding apply_passed
+apply_has_passed files new old a now between before is followed machine given same told =
+    has_passed (apply_passed files) (applied_event (applied_as (judged_after old.followed files) old.followed) ∷ []) []
+    (with_followed (followed_after (judged_after old.followed files) old.followed) old) new old now between before (λ deaf. refl) followed machine given
+    (same ∙ sym (append-nil before))
+    (subst (λ (x : Applied). AreTold (applied_event x ∷ []) new.seated.seats old.seated.seats now between) is told)

@@ -1,5 +1,5 @@
 //! The bodies that a delta brings.
-ghost use Rattle.std.specs.Prelude.{◌≡◌, [], IfOk, IsTrue, is_some, map};
+ghost use Rattle.std.specs.Prelude.{◌≡◌, ◌<◌, ◌^◌, [], IfOk, IsTrue, is_some, length, map};
 ghost use Rattle.std.specs.List.{list_all};
 ghost use Rattle.enc_checker.specs.Check.{new_bodies, new_code};
 ghost use Rattle.enc_opcodes.specs.Body.{code_seen};
@@ -27,6 +27,7 @@ fn copied(alloc: Global, bytes: &[u8]) -> Result<Bytes, AllocError>
 }
 
 /// No points.
+#[tactic(auto, unfolding(enc_seqpoints::specs::Grammar::points_in))]
 fn no_points(alloc: Global) -> Result<Points, AllocError>
     ensures { IfOk result (λ p. p ≡ method_points 0 []) }
 {
@@ -57,7 +58,8 @@ fn entry_of(
     code: &CodeRef<'_>,
     points: Points,
 ) -> Result<CodeEntry, AllocError>
-    ensures { IfOk result (λ e. version_in e ≡ record { method = method; version = record { code = code_seen code.now; points = points } }) }
+    ensures version { IfOk result (λ e. version_in e ≡ record { method = method; version = record { code = code_seen code.now; points = points } }) }
+    ensures len { IfOk result (λ e. length e.code ≡ length code.now.code.now) }
 {
     Ok(CodeEntry {
         method,
@@ -78,7 +80,8 @@ fn new_entry(
     method: Token,
 ) -> Result<CodeEntry, AllocError>
     requires { IsTrue (is_some (new_code delta.now method)) }
-    ensures { IfOk result (λ e. version_in e ≡ new_version delta.now pdb.now method) }
+    ensures version { IfOk result (λ e. version_in e ≡ new_version delta.now pdb.now method) }
+    ensures few { IfOk result (λ e. length e.code < 2 ^ 32) }
 {
     let Some(code) = new_code(delta, method) else {
         unreachable!()

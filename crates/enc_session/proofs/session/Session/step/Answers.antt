@@ -1,0 +1,10 @@
+use Rattle.enc_session.proofs.Turned.{step_has_passed}
+use Rattle.enc_session.proofs.session.Session.step.Goals as goal
+
+pub returns-clause-passed : goal.returns-clause-passed
+returns-clause-passed g c =
+    rw (← c.self.view_is)
+    (step_has_passed c.args.task c.in_ok-end.end c.step.new.seen c.nothing-seen.result _ _ c.tell.new.out.items c.push_step_lines.new.out.items c.args.out.now.items
+    c.in_ok-end.ensures.turn c.in_ok-end.ensures.seen c.nothing-seen.ensures c.in_ok-end.ensures.followed c.tell.ensures.given
+    (rw c.make_room.ensures.same at c.push_step_lines.ensures.text)
+    (rw (c.as_slice.ensures, c.step_events-events.ensures, c.method-method.ensures) at c.tell.ensures.told))
