@@ -2,3 +2,4 @@ mod Events
 mod Commands
 mod Stepping
 mod Statuses
+mod Watching

@@ -1,5 +1,6 @@
 -- What a command that makes steps says, by how it stands with the task.
-use Rattle.std.proofs.Common.{◌≡◌, ℕ, zero, suc, Bool, List, [], ◌++◌, Option, Some, None, option_map, refl, sym, ap, ◌∙◌, append_assoc}
+use Rattle.std.proofs.Common.{◌≡◌, ◌≢◌, ℕ, zero, suc, Bool, List, [], ◌++◌, Option, Some, None, option_map, refl, sym, ap, ◌∙◌, append_assoc}
+use Rattle.std.specs.Prelude.{codes}
 use Rattle.enc_objects.specs.declared.trap.Trap.{Trap}
 use Rattle.enc_vm.specs.Looks.{state_of, state_in}
 use Rattle.enc_vm.specs.Machine.{World, Task, going, ended, trapped, MachineState}
@@ -9,7 +10,9 @@ use Rattle.enc_vm.specs.Turns.{MachineTurn, absent, idle, went, turn_by, machine
 use Rattle.enc_vm.specs.declared.ends.TaskState.{TaskState}
 use Rattle.enc_vm.specs.declared.ends.TaskState.TheVariants as state
 use Rattle.enc_session.specs.Session.{PlainSession, world_of}
-use Rattle.enc_script.specs.Lines.{ran_line}
+use Rattle.enc_session.specs.Lines.{task_line}
+use Rattle.enc_script.proofs.Events.{said}
+use Rattle.enc_script.specs.Lines.{ran_line, idle_line, absent_task_line}
 use Rattle.enc_script.specs.Ran.{HasRan, HaveStepped}
 use Rattle.enc_script.specs.Run.{PlainRun, Ran, StepsMade, steps_told, steps_ran, steps_of}
 
@@ -83,3 +86,23 @@ steps_said task count made new old now mid before running are left closes = reco
 
     run_is : (more : List Bool) → told_as (record { session = new.session; handed = old.handed }) more ≡ told_as new more
     run_is more = rw (← left) refl
+
+-- of a task that isn't there, and of one that makes no more, it is said
+pub absent_said : (task count : ℕ) (r : PlainRun) (now before : List ℕ) → state_in r.session.machine task ≡ None → now ≡ before ++ task_line task (codes "absent")
+    → HasRan (λ deaf x. steps_ran task (machine_turn (world_of x.session.followed) task x.session.machine) (steps_of task count deaf x.session) deaf x) r r now before
+unfolding absent_task_line
+absent_said task count r now before none printed =
+    said (λ deaf x. steps_ran task (machine_turn (world_of x.session.followed) task x.session.machine) (steps_of task count deaf x.session) deaf x)
+    (absent_task_line task) r r r now before
+    (λ deaf. ap (λ (t : MachineTurn _). steps_ran task t (steps_of task count deaf r.session) deaf r) (absent_turn (world_of r.session.followed) task r.session.machine none))
+    refl printed
+
+pub idle_said : (task count : ℕ) (x : TaskState) (r : PlainRun) (now before : List ℕ) → state_in r.session.machine task ≡ Some x → x ≢ state.Running
+    → now ≡ before ++ task_line task (codes "idle")
+    → HasRan (λ deaf y. steps_ran task (machine_turn (world_of y.session.followed) task y.session.machine) (steps_of task count deaf y.session) deaf y) r r now before
+unfolding idle_line
+idle_said task count x r now before is not printed =
+    said (λ deaf y. steps_ran task (machine_turn (world_of y.session.followed) task y.session.machine) (steps_of task count deaf y.session) deaf y)
+    (idle_line task) r r r now before
+    (λ deaf. ap (λ (t : MachineTurn _). steps_ran task t (steps_of task count deaf r.session) deaf r) (idle_turn (world_of r.session.followed) task r.session.machine x is not))
+    refl printed

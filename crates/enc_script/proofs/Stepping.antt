@@ -34,7 +34,7 @@ none_left task count made first s mid before rest over =
 one_less : (count made : ℕ) → made < count → count - made ≡ suc (count - (made + 1))
 one_less count made h = omega arith
 
-made_as : ℕ → PlainSession → List ℕ → List Bool → StepsMade
+abbrev made_as : ℕ → PlainSession → List ℕ → List Bool → StepsMade
 made_as count s text deaf = record { count = count; passed = record { session = s; text = text; deaf = deaf } }
 
 -- the task goes on

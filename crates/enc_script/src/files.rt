@@ -29,12 +29,10 @@ fn metadata_name(alloc: Global, name: &[u8]) -> Result<Vec<u8>, AllocError>
 fn first_of<'a>(deltas: &'a [NamedDelta], file: &[u8]) -> Option<&'a NamedDelta>
     ensures { option_map (λ d. named_in d.now) result ≡ first_named file.now (map named_in deltas.now) }
 {
-    let mut rest = deltas;
-    while let [delta, tail @ ..] = rest {
+    for delta in deltas {
         if delta.metadata_name.as_bytes() == file {
             return Some(delta);
         }
-        rest = tail;
     }
     None
 }

@@ -3,9 +3,9 @@
 
 mod files;
 mod lines;
-mod run;
 mod running;
 mod steps;
+mod whole;
 
 pub use files::NamedDelta;
-pub use run::run;
+pub use whole::run;

@@ -125,10 +125,10 @@ impl<W: Watcher> Running<W> {
         let Some(watcher) = self.handed.take(kind) else {
             return push_none(kind, out);
         };
-        match self.session.attach(watcher) {
-            Err(_) => Err(AllocError),
-            Ok(number) => push_attached(self.alloc, number, kind, out),
-        }
+        let Ok(number) = self.session.attach(watcher) else {
+            return Err(AllocError);
+        };
+        push_attached(self.alloc, number, kind, out)
     }
 
     /// Detaches the watcher with a number, and prints its report.

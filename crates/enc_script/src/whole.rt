@@ -21,10 +21,8 @@ fn run_commands<W: Watcher>(
     requires { running.old.session.seated.given + length script.now < 2 ^ 32 }
     ensures { OnOk result (HasRan (commands_ran (map named_in deltas.now) script.now) running.new running.old out.new.items out.old.items) }
 {
-    let mut rest = script;
-    while let [command, tail @ ..] = rest {
+    for command in script {
         running.command(deltas, command, out)?;
-        rest = tail;
     }
     Ok(())
 }
