@@ -10,3 +10,5 @@ pub mod Spaced
 pub mod Numerals
 pub mod Cases
 pub mod Written
+mod Named
+mod Running

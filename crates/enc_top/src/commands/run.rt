@@ -52,14 +52,13 @@ fn is_one_of(names: &[String], name: &[u8]) -> bool
 }
 
 /// A name as a text.
+#[tactic(auto, using(crate::proofs::Named::name_is_text))]
 fn text_of(alloc: Global, name: &[u8]) -> Result<String, AllocError>
     requires { IsTrue (is_name name.now) }
     ensures { IfOk result (λ text. string_bytes text ≡ name.now) }
 {
-    let mut copy = Vec::new(alloc);
-    copy.extend_from_slice(name)?;
-    match String::from_utf8(copy) {
-        Ok(text) => Ok(text),
+    match std::str::from_utf8(name) {
+        Ok(text) => String::from_str(alloc, text),
         Err(_) => unreachable!(),
     }
 }
@@ -77,14 +76,18 @@ fn add_name(alloc: Global, names: &mut Vec<String>, name: &[u8]) -> Result<(), A
 }
 
 /// Adds the name of the delta that a command applies.
+#[tactic(auto, unfolding(crate::specs::Verdict::names_in))]
 fn add_named(alloc: Global, names: &mut Vec<String>, command: &Command) -> Result<(), AllocError>
     requires { IsTrue (has_name command.now) }
     ensures { OnOk result (texts names.new.items ≡ names_in (texts names.old.items) (command.now ∷ [])) }
 {
     match command {
         Command::Apply(name) => add_name(alloc, names, name.as_slice()),
-        Command::Spawn(_) | Command::Step(_, _) | Command::State => Ok(()),
-        Command::Attach(_) | Command::Detach(_) => Ok(()),
+        Command::Spawn(_) => Ok(()),
+        Command::Step(_, _) => Ok(()),
+        Command::Attach(_) => Ok(()),
+        Command::Detach(_) => Ok(()),
+        Command::State => Ok(()),
     }
 }
 
@@ -94,10 +97,8 @@ fn delta_names(alloc: Global, script: &[Command]) -> Result<Vec<String>, AllocEr
     ensures { IfOk result (λ names. texts names.items ≡ names_in [] script.now) }
 {
     let mut names = Vec::new(alloc);
-    let mut rest = script;
-    while let [command, tail @ ..] = rest {
+    for command in script {
         add_named(alloc, &mut names, command)?;
-        rest = tail;
     }
     Ok(names)
 }
