@@ -14,31 +14,30 @@ pub struct Case {
     runs: u32,
     store: MemStore,
     words: Vec<String>,
-    watchers: Vec<Box<dyn Watcher>>,
+    watchers: Vec<Kind>,
     is_bad: bool,
 }
 
+/// A watcher that is handed to a run.
+#[derive(Clone, Copy, Debug)]
+enum Kind {
+    Trace,
+    Cover,
+    Failing(u32),
+}
+
 /// The watcher that a word tells: `trace`, `cover` or `failing:N`. None where the word is another.
-fn watcher_of(alloc: Global, word: &str) -> Result<Option<Box<dyn Watcher>>, AllocError> {
+fn kind_of(word: &str) -> Option<Kind> {
     match word {
-        "trace" => {
-            let trace: Box<dyn Watcher> = Box::new(alloc, Trace::begin(alloc))?;
-            return Ok(Some(trace));
-        }
-        "cover" => {
-            let cover: Box<dyn Watcher> = Box::new(alloc, Cover::begin(alloc))?;
-            return Ok(Some(cover));
-        }
+        "trace" => return Some(Kind::Trace),
+        "cover" => return Some(Kind::Cover),
         _ => {}
     }
-    let Some(limit) = word.strip_prefix("failing:") else {
-        return Ok(None);
-    };
-    let Ok(limit) = limit.parse::<u32>() else {
-        return Ok(None);
-    };
-    let failing: Box<dyn Watcher> = Box::new(alloc, Failing::begin(alloc, limit))?;
-    Ok(Some(failing))
+    let limit = word.strip_prefix("failing:")?;
+    match limit.parse::<u32>() {
+        Ok(limit) => Some(Kind::Failing(limit)),
+        Err(_) => None,
+    }
 }
 
 /// The bytes with some of them replaced from an offset on, as far as they are there.
@@ -83,13 +82,26 @@ impl Case {
         Ok(words)
     }
 
+    /// The status of the top call, with the watchers of these kinds.
+    fn status_of(&mut self, words: &[String], sink: &mut MemSink) -> Result<u8, AllocError> {
+        let mut watchers = Vec::new(self.alloc);
+        for kind in &self.watchers {
+            let watcher: Box<dyn Watcher> = match *kind {
+                Kind::Trace => Box::new(self.alloc, Trace::begin(self.alloc))?,
+                Kind::Cover => Box::new(self.alloc, Cover::begin(self.alloc))?,
+                Kind::Failing(limit) => Box::new(self.alloc, Failing::begin(self.alloc, limit))?,
+            };
+            watchers.push(watcher)?;
+        }
+        self.watchers = Vec::new(self.alloc);
+        Ok(run_tool(self.alloc, words, &mut self.store, sink, watchers))
+    }
+
     /// Runs the top call; the line of its status, and what it printed.
     fn run(&mut self, text: &str) -> Result<Vec<u8>, AllocError> {
         let words = self.words_of(text)?;
-        let mut watchers = Vec::new(self.alloc);
-        std::mem::swap(&mut watchers, &mut self.watchers);
         let mut sink = MemSink::begin(self.alloc);
-        let status = run_tool(self.alloc, &words, &mut self.store, &mut sink, watchers);
+        let status = self.status_of(&words, &mut sink)?;
         self.runs = self.runs.wrapping_add(1);
         let mut printed = Vec::new(self.alloc);
         let head = format!(in self.alloc;
@@ -153,8 +165,8 @@ impl Case {
     fn keep_watchers(&mut self, kinds: &str) -> Result<bool, AllocError> {
         let mut watchers = Vec::new(self.alloc);
         for kind in kinds.split(' ') {
-            match watcher_of(self.alloc, kind)? {
-                Some(watcher) => watchers.push(watcher)?,
+            match kind_of(kind) {
+                Some(kind) => watchers.push(kind)?,
                 None => return Ok(false),
             }
         }

@@ -52,24 +52,26 @@ pub fn status_of<S: Store, K: Sink>(
     }
 }
 
-/// The watchers that a script may attach: a trace and a cover.
-fn trace_and_cover(alloc: Global) -> Result<Vec<Box<dyn Watcher>>, AllocError> {
+/// The status of the words over the files and the standard output of the system, with a trace and a cover that a
+/// script may attach.
+fn status_here(rt: HostRuntime, words: Option<Vec<String>>) -> Result<u8, AllocError> {
+    let alloc = rt.alloc();
     let trace: Box<dyn Watcher> = Box::new(alloc, Trace::begin(alloc))?;
     let cover: Box<dyn Watcher> = Box::new(alloc, Cover::begin(alloc))?;
     let mut watchers = Vec::new(alloc);
     watchers.push(trace)?;
     watchers.push(cover)?;
-    Ok(watchers)
-}
-
-/// Runs the words of this process over the files and the standard output of the system, with a trace
-/// and a cover. The status is 3 where there is no memory for these, and then nothing is printed.
-pub fn run_program(rt: HostRuntime) -> ExitCode {
-    let words = words_of(&rt);
-    let Ok(watchers) = trace_and_cover(rt.alloc()) else {
-        return ExitCode::from(3);
-    };
     let mut store = FileStore::begin(rt);
     let mut out = OutSink::begin(rt);
-    ExitCode::from(status_of(rt.alloc(), words, &mut store, &mut out, watchers))
+    Ok(status_of(alloc, words, &mut store, &mut out, watchers))
+}
+
+/// Runs the words of this process over the files and the standard output of the system. The status is 3 where
+/// there is no memory for the words or the watchers, and then nothing is printed.
+pub fn run_program(rt: HostRuntime) -> ExitCode {
+    let words = words_of(&rt);
+    match status_here(rt, words) {
+        Ok(status) => ExitCode::from(status),
+        Err(_) => ExitCode::from(3),
+    }
 }
