@@ -119,7 +119,7 @@ was_detached number w t s handed now far mid before some session first second th
     (run_same t (with_seated (record { seats = without number s.seated.seats; given = s.seated.given }) s) handed handed session refl)
     (texts_are before (watcher_line number (codes "detached")) (watcher_line number (codes "report")) (report_of w.kind w.heard) now mid far first second third
     ∙ ap (λ (z : List ℕ). before ++ (watcher_line number (codes "detached") ++ z))
-      (report_is number x.seat w (taken_is number s.seated.seats x.seat x.is) x.watching))
+    (report_is number x.seat w (taken_is number s.seated.seats x.seat x.is) x.watching))
 
 -- a delta that isn't there says nothing
 pub nothing_applied : (name : List ℕ) (o : Option NamedFiles) (r : PlainRun) (text : List ℕ) → o ≡ None → HasRan (apply_ran name o) r r text text

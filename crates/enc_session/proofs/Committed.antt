@@ -74,12 +74,12 @@ pub parts_follow : (new old : Parts) (d : Source) (pdb : Option Source) (codes :
     → AreParts new
 parts_follow new old d pdb codes changed commits news parts follows sound chain keeps changed_is debug_base debug_deltas codes_is committed stands =
     let kept : KeepsTexts (users_of_all old.agg) (joined_user (extended (chain_of_all old.agg) d).heaps) =
-          subst (λ (c : Chain). KeepsTexts (users_of_all old.agg) (joined_user c.heaps)) chain keeps in
+    subst (λ (c : Chain). KeepsTexts (users_of_all old.agg) (joined_user c.heaps)) chain keeps in
     let fact : AreCommitted (new_versions d pdb) old.versions.methods new.versions.methods =
-          subst (λ (n : List NewVersion). AreCommitted n old.versions.methods new.versions.methods) codes_is committed in
+    subst (λ (n : List NewVersion). AreCommitted n old.versions.methods new.versions.methods) codes_is committed in
     let bodies = bodies_follow (chain_of_all old.agg) d pdb (pdb_with old.debug.base old.debug.deltas) old.versions.methods new.versions.methods commits news follows sound kept parts.bodies fact in
     let debug : pdb_with new.debug.base new.debug.deltas ≡ pdb_changed (pdb_with old.debug.base old.debug.deltas) (record { pdb = pdb; changed = new_bodies d }) =
-          rw (debug_base, debug_deltas, changed_is) (debug_more old.debug.base old.debug.deltas (record { pdb = pdb; changed = new_bodies d })) in
+    rw (debug_base, debug_deltas, changed_is) (debug_more old.debug.base old.debug.deltas (record { pdb = pdb; changed = new_bodies d })) in
     record {
       index = subst (λ (c : Chain). StandsForModule new.dispatch c.plain) (sym chain) stands;
       bodies = rw debug (subst (λ (c : Chain). AreVersionsOf (joined_user c.heaps) c.plain (pdb_changed (pdb_with old.debug.base old.debug.deltas) (record { pdb = pdb; changed = new_bodies d })) new.versions.methods) (sym chain) bodies);
@@ -100,9 +100,9 @@ pub changed_ready : (new old : History) (d e : Source) (ts : List Token) → Acc
 changed_ready new old d e ts law base deltas delta tokens read rules sound =
     let fact : IsChangedBy (module_of_all old) (extended (chain_of_all old) d).plain (listed d) = law (chain_of_all old) d read rules sound in
     let with_tokens : IsChangedBy (module_of_all old) (extended (chain_of_all old) d).plain ts =
-          subst (λ (xs : List Token). IsChangedBy (module_of_all old) (extended (chain_of_all old) d).plain xs) (sym tokens) fact in
+    subst (λ (xs : List Token). IsChangedBy (module_of_all old) (extended (chain_of_all old) d).plain xs) (sym tokens) fact in
     let with_delta : IsChangedBy (module_of_all old) (extended (chain_of_all old) e).plain ts =
-          subst (λ (x : Source). IsChangedBy (module_of_all old) (extended (chain_of_all old) x).plain ts) (sym delta) with_tokens in
+    subst (λ (x : Source). IsChangedBy (module_of_all old) (extended (chain_of_all old) x).plain ts) (sym delta) with_tokens in
     subst (λ (c : Chain). IsChangedBy c.plain (extended c e).plain ts) (sym (chain_same new old base deltas)) with_delta
 
 -- parts that say the same keep the invariant, and mean the same
@@ -110,7 +110,7 @@ pub same_engine : (new old : Parts) (s : MachineState Version) → SayTheSame ne
 same_engine new old s same is =
     let chain = chain_same new.agg old.agg same.base same.deltas in
     let bodies : AreVersionsOf (users_of_all old.agg) (module_of_all old.agg) (pdb_with new.debug.base new.debug.deltas) new.versions.methods =
-          rw (same.debug_base, same.debug_deltas, same.methods) is.parts.bodies in
+    rw (same.debug_base, same.debug_deltas, same.methods) is.parts.bodies in
     record {
       parts = record {
         index = subst (λ (c : Chain). StandsForModule new.dispatch c.plain) (sym chain) (same.index is.parts.index);
@@ -142,9 +142,9 @@ pub engine_follows : (new mid old : Parts) (s : MachineState Version) (d e : Sou
     → engine_of new s ≡ record { followed = followed_by (followed_in old) (accepted d pdb); machine = machine_in old s }
 engine_follows new mid old s d e pdb other same more delta debug machine =
     ap (λ (f : Followed). engine_with f (machine_in new s))
-      (more ∙ ap (λ (f : Followed). followed_by f (accepted e other)) (same_followed mid old same)
-      ∙ ap (λ (x : Source). followed_by (followed_in old) (accepted x other)) delta
-      ∙ ap (λ (x : Option Source). followed_by (followed_in old) (accepted d x)) debug)
+    (more ∙ ap (λ (f : Followed). followed_by f (accepted e other)) (same_followed mid old same)
+    ∙ ap (λ (x : Source). followed_by (followed_in old) (accepted x other)) delta
+    ∙ ap (λ (x : Option Source). followed_by (followed_in old) (accepted d x)) debug)
     ∙ ap (engine_with (followed_by (followed_in old) (accepted d pdb))) (machine ∙ same_machine mid old s same)
 
 pub on_err : {T E : Type 0} (r : Result T E) (P : Type 0) → P → OnErr r P

@@ -10,6 +10,7 @@ use std::test::Fail;
 mod faults;
 mod many;
 mod memory;
+mod runs;
 
 /// A bare module of 200 bytes: a row each of Module, TypeRef and AssemblyRef.
 const M_DLL: &str = concat!(
@@ -32,6 +33,9 @@ const D1_META: &str = concat!(
     "000007000000020000010000000002000001000000537472696e670000000000",
     "0000000000000000000000000102030405060708090a0b0c0d0e0f10",
 );
+
+/// The name of a script.
+const SCRIPT: &str = "s.json";
 
 /// The delta's code.
 const D1_IL: &str = "00000000";

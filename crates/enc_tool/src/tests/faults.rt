@@ -1,5 +1,5 @@
 //! A store and a sink that fail.
-use super::{D1_IL, D1_LIST, D1_META, M_DLL, OBJECT_LINE, STRING_LINE, changed, texts};
+use super::{D1_IL, D1_LIST, D1_META, M_DLL, OBJECT_LINE, SCRIPT, STRING_LINE, changed, texts};
 use enc_outside::{MemSink, MemStore};
 use enc_top::run_tool;
 use std::alloc::Global;
@@ -7,7 +7,7 @@ use std::test::Fail;
 
 /// Words over the example base and delta, with the number of their loads, their status and what
 /// they print.
-const RUNS: [(&[&str], u64, u8, &str); 4] = [
+const RUNS: [(&[&str], u64, u8, &str); 5] = [
     (&["show", "m", "01000001"], 2, 0, OBJECT_LINE),
     (&["show", "m", "01000002", "d1"], 5, 0, STRING_LINE),
     (&["list", "m", "d1"], 5, 0, D1_LIST),
@@ -17,14 +17,25 @@ const RUNS: [(&[&str], u64, u8, &str); 4] = [
         1,
         "refused d1.meta E2 00000001\n",
     ),
+    (&["run", "m", SCRIPT], 6, 0, TWICE_OUTPUT),
 ];
 
-/// The example base and delta.
+/// A script that applies a delta twice; it is loaded once.
+const TWICE: &str = r#"[{"do":"apply","delta":"d1"},{"do":"apply","delta":"d1"},{"do":"state"}]"#;
+
+const TWICE_OUTPUT: &str = concat!(
+    "applied d1 generation 1\n",
+    "refused d1.meta E2 00000001\n",
+    "state\nend\n",
+);
+
+/// The example base and delta, and a script.
 fn files(alloc: Global) -> Result<MemStore, Fail> {
     let mut store = MemStore::begin(alloc);
     for (name, bytes) in [("m.dll", M_DLL), ("d1.meta", D1_META), ("d1.il", D1_IL)] {
         store.set_file(name, changed(alloc, bytes, &[])?.as_slice())?;
     }
+    store.set_file(SCRIPT, TWICE.as_bytes())?;
     Ok(store)
 }
 

@@ -7,11 +7,12 @@ use Rattle.enc_script.proofs.whole.run_commands.Goals as goal
 
 pub loop-command-preserved : goal.loop-command-preserved
 loop-command-preserved g c =
-    let i : _ = c.loop-command.command-index in
-    (one_less (map named_in c.args.deltas.now) c.args.script.now _ (drop (i + 1) c.args.script.now) (drop i c.args.script.now) c.args.running.now
-    c.loop-command.running c.command.new.self c.command.new.out.items c.loop-command.out.items c.args.out.now.items
-    (front c.args.script.now i c.command-item.result c.loop-command-test.true c.command-item.is) c.loop-command.invariant.0 c.in_ok-command.ensures.ran,
-    omega (arith, c.in_ok-command.ensures.given, c.loop-command.invariant.1))
+    let i : _ = c.loop-command.command-index in (
+      one_less (map named_in c.args.deltas.now) c.args.script.now _ (drop (i + 1) c.args.script.now) (drop i c.args.script.now) c.args.running.now
+          c.loop-command.running c.command.new.self c.command.new.out.items c.loop-command.out.items c.args.out.now.items
+          (front c.args.script.now i c.command-item.result c.loop-command-test.true c.command-item.is) c.loop-command.invariant.0 c.in_ok-command.ensures.ran,
+      omega (arith, c.in_ok-command.ensures.given, c.loop-command.invariant.1),
+    )
 
 pub returns : goal.returns
 returns g c =

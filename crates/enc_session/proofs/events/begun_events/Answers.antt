@@ -14,5 +14,5 @@ returns c =
     let began : Event = event.Spawned c.args.task c.args.method in
     c.push_entered-2.ensures.events
     ∙ ap (λ (es : List Event). es ++ second)
-      (c.push_entered.ensures.events ∙ ap (λ (es : List Event). es ++ first) (c.push.ensures ∙ ap (λ (es : List Event). es ++ began ∷ []) c.none-events.ensures))
+    (c.push_entered.ensures.events ∙ ap (λ (es : List Event). es ++ first) (c.push.ensures ∙ ap (λ (es : List Event). es ++ began ∷ []) c.none-events.ensures))
     ∙ ap (λ (es : List Event). began ∷ es) (sym (entered_frames m c.args.task c.requires))
