@@ -4,7 +4,7 @@ use Rattle.enc_checker.specs.Followed.{Followed}
 use Rattle.enc_jobs.specs.declared.command.Command.{Command}
 use Rattle.enc_watch.specs.Audience.{Watching, reports}
 use Rattle.enc_script.specs.Ran.{HasRan}
-use Rattle.enc_script.specs.Run.{NamedFiles, PlainRun, Ran, behind, command_ran, commands_ran, begun_with, with_reports, run_text, IsRunText, RunWasAppended}
+use Rattle.enc_script.specs.Run.{NamedFiles, PlainRun, Ran, behind, command_ran, commands_ran, begun_with, with_reports, run_text, RunWasAppended}
 
 -- whatever comes of the commands that are left, comes with those before of all
 abbrev pub IsRestOf : List NamedFiles → List Command → List Command → PlainRun → PlainRun → List ℕ → List ℕ → Type 0

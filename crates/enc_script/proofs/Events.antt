@@ -1,9 +1,8 @@
 -- A command that makes one event, with its own line first.
-use Rattle.std.proofs.Common.{◌≡◌, ℕ, Bool, List, [], ◌++◌, Option, Some, None, Result, Ok, Err, refl, sym, ap, ◌∙◌, append_assoc, append-nil}
+use Rattle.std.proofs.Common.{◌≡◌, ℕ, Bool, List, [], ◌++◌, Ok, refl, sym, ap, ◌∙◌, append_assoc}
 use Rattle.enc_base.specs.declared.token.Token.{Token}
-use Rattle.std.specs.declared.alloc.AllocError.{AllocError}
 use Rattle.enc_vm.specs.Machine.{PlainCode, MachineState}
-use Rattle.enc_vm.specs.Step.{Spawning, begun, too_many, no_method}
+use Rattle.enc_vm.specs.Step.{Spawning}
 use Rattle.enc_vm.specs.Turns.{IsSpawn}
 use Rattle.enc_vm.specs.declared.ends.SpawnEnd.{SpawnEnd}
 use Rattle.enc_vm.specs.declared.ends.SpawnEnd.TheVariants as spawned

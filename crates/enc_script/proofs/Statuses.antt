@@ -1,7 +1,6 @@
 -- What a command that makes steps says, by how it stands with the task.
-use Rattle.std.proofs.Common.{◌≡◌, ◌≢◌, ℕ, zero, suc, Bool, List, [], ◌++◌, Option, Some, None, option_map, refl, sym, ap, ◌∙◌, append_assoc}
+use Rattle.std.proofs.Common.{◌≡◌, ◌≢◌, ℕ, zero, suc, Bool, List, ◌++◌, Option, Some, None, option_map, refl, ap, ◌∙◌, append_assoc}
 use Rattle.std.specs.Prelude.{codes}
-use Rattle.enc_objects.specs.declared.trap.Trap.{Trap}
 use Rattle.enc_vm.specs.Looks.{state_of, state_in}
 use Rattle.enc_vm.specs.Machine.{World, Task, going, ended, trapped, MachineState}
 use Rattle.enc_vm.specs.Step.{Ending, step_task, task_at}
@@ -9,7 +8,7 @@ use Rattle.enc_vm.specs.Results.{Shown}
 use Rattle.enc_vm.specs.Turns.{MachineTurn, absent, idle, went, turn_by, machine_turn}
 use Rattle.enc_vm.specs.declared.ends.TaskState.{TaskState}
 use Rattle.enc_vm.specs.declared.ends.TaskState.TheVariants as state
-use Rattle.enc_session.specs.Session.{PlainSession, world_of}
+use Rattle.enc_session.specs.Session.{world_of}
 use Rattle.enc_session.specs.Lines.{task_line}
 use Rattle.enc_script.proofs.Events.{said}
 use Rattle.enc_script.specs.Lines.{ran_line, idle_line, absent_task_line}

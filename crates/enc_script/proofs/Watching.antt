@@ -3,7 +3,7 @@ use Rattle.std.proofs.Common.{◌≡◌, ℕ, ◌+◌, Bool, true, false, List, 
 use Rattle.std.specs.Prelude.{OnOk, codes, if◌then◌else◌}
 use Rattle.std.proofs.lemmas.Bool.{eqb-true}
 use Rattle.enc_jobs.specs.declared.command.Command.TheVariants.{State}
-use Rattle.enc_watch.specs.Audience.{Watching, Seat, Seated, attached, first_taken, others, sits_at, seat_at, without, first_of_kind, without_kind, watcher_line, seat_report}
+use Rattle.enc_watch.specs.Audience.{Watching, Seat, attached, first_taken, others, sits_at, seat_at, without, first_of_kind, without_kind, watcher_line, seat_report}
 use Rattle.enc_watch.specs.Watched.{report_of}
 use Rattle.enc_watch.specs.declared.event.WatchKind.{WatchKind}
 use Rattle.enc_session.specs.Session.{PlainSession, with_seated}

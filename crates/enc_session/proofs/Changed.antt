@@ -1,7 +1,7 @@
 -- An accepted delta changes a module by the rows that it lists.
-use Rattle.std.proofs.Common.{◌≡◌, ◌<◌, ◌≤◌, ℕ, zero, suc, ◌-◌, Bool, true, false, List, [], ◌∷◌, ◌++◌, map, length, Option, Some, None, option_map, slice_get, refl, sym, ap, ◌∙◌, append-nil, arith}
-use Rattle.std.specs.Prelude.{◌&&◌, ◌==◌, cond, filter, nat_lt, nat_le, is_some, IsTrue, if◌then◌else◌}
-use Rattle.std.specs.List.{list_any, list_all}
+use Rattle.std.proofs.Common.{◌≡◌, ◌<◌, ◌≤◌, ℕ, zero, suc, ◌-◌, Bool, true, false, List, [], ◌∷◌, ◌++◌, map, length, Option, Some, None, option_map, slice_get, refl, ap, arith}
+use Rattle.std.specs.Prelude.{◌&&◌, ◌==◌, cond, filter, nat_lt, nat_le, IsTrue}
+use Rattle.std.specs.List.{list_all}
 use Rattle.std.proofs.lemmas.Bool.{eqb-true}
 use Rattle.std.proofs.lemmas.Bool.Decides.{nat_tests}
 use Rattle.enc_base.specs.Token.{is_token}
@@ -10,7 +10,7 @@ use Rattle.enc_plain.specs.Apply.{Attached, gained}
 use Rattle.enc_plain.specs.Cell.{Cell}
 use Rattle.enc_plain.specs.Chain.{Chain, rows_before}
 use Rattle.enc_plain.specs.Fits.{Fits}
-use Rattle.enc_plain.specs.Module.{Row, rows_in, row_at, row_of, has_row, cells_of, kids_of}
+use Rattle.enc_plain.specs.Module.{Row, rows_in, row_at, row_of, has_row, kids_of}
 use Rattle.enc_plain.specs.Sound.{IsSound}
 use Rattle.enc_rows.specs.Source.{Source}
 use Rattle.enc_schema.specs.Children.{is_child_table}
@@ -20,9 +20,9 @@ use Rattle.enc_delta.specs.Pairs.{attached_of}
 use Rattle.enc_delta.specs.Rules.{rows_with}
 use Rattle.enc_delta.specs.Seen.{WasRead}
 use Rattle.enc_delta.proofs.Placing.{place_there}
-use Rattle.enc_dispatch.specs.Changed.{is_listed, AreNew, IsChangedBy}
+use Rattle.enc_dispatch.specs.Changed.{AreNew}
 use Rattle.enc_agg.specs.Extend.{changes_of, extended}
-use Rattle.enc_agg.specs.Follows.{Follows, Lands}
+use Rattle.enc_agg.specs.Follows.{Follows}
 use Rattle.enc_agg.proofs.Children.{pairs_owned, kids_after, rows_grow}
 use Rattle.enc_agg.proofs.Fitting.{fits, count_is}
 use Rattle.enc_agg.proofs.Pairs.{OwnedBy, AllOwned}

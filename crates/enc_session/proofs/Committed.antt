@@ -1,5 +1,5 @@
 -- The parts of a session with an accepted delta.
-use Rattle.std.proofs.Common.{◌≡◌, ℕ, ◌+◌, List, ◌∷◌, length, Option, Some, None, Result, Ok, Err, refl, sym, ap, ◌∙◌, subst, arith}
+use Rattle.std.proofs.Common.{◌≡◌, ℕ, ◌+◌, List, ◌∷◌, length, Option, None, Result, Ok, Err, refl, sym, ap, ◌∙◌, subst, arith}
 use Rattle.std.specs.Prelude.{IsTrue, OnErr}
 use Rattle.enc_agg.proofs.Histories.{heaps_count}
 use Rattle.enc_agg.specs.Extend.{extended, chain_with}

@@ -1,6 +1,6 @@
 -- What comes of an event: text, and what the watchers made of it.
 use Rattle.std.proofs.Common.{◌≡◌, ℕ, Bool, List, [], ◌++◌, refl, sym, ap, ◌∙◌, append_assoc, append-nil}
-use Rattle.enc_watch.specs.Audience.{Heard, told_events, AreTold}
+use Rattle.enc_watch.specs.Audience.{AreTold}
 use Rattle.enc_watch.specs.declared.event.Event.{Event}
 use Rattle.enc_session.specs.Session.{PlainSession, Passed, nothing_passed, heard_in, passed_with, HasPassed}
 

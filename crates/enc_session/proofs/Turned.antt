@@ -2,15 +2,14 @@
 use Rattle.std.proofs.Common.{◌≡◌, ◌≤◌, ℕ, zero, suc, Bool, List, [], ◌∷◌, ◌++◌, length, Option, Some, None, option_map, Ok, refl, sym, ap, ◌∙◌, subst, append-nil, arith}
 use Rattle.std.specs.Prelude.{IfSome, unwrap_or}
 use Rattle.enc_base.specs.declared.token.Token.{Token}
-use Rattle.enc_objects.specs.declared.trap.Trap.{Trap}
 use Rattle.enc_plain.specs.Debug.{PlainPdb}
 use Rattle.enc_plain.specs.Module.{Module}
 use Rattle.enc_plain.specs.Sound.{IsSound}
 use Rattle.enc_versions.specs.StandFor.{AreVersionsOf}
 use Rattle.enc_versions.specs.Version.{Version}
 use Rattle.enc_vm.specs.Laws.{stepped_meant, StepsMean}
-use Rattle.enc_vm.specs.Machine.{World, PlainCode, Task, MachineState, Shared, plain_world, version_world, task_meant, state_meant}
-use Rattle.enc_vm.specs.Results.{Shown, nothing_shown}
+use Rattle.enc_vm.specs.Machine.{PlainCode, Task, MachineState, plain_world, version_world, task_meant, state_meant}
+use Rattle.enc_vm.specs.Results.{Shown}
 use Rattle.enc_vm.specs.Room.{WritesAtMost}
 use Rattle.enc_vm.specs.Step.{Ending, ran, done, stopped, Stepped, step_task, task_at, Spawning, begun, too_many, no_method, spawn_in}
 use Rattle.enc_vm.specs.Turns.{MachineTurn, absent, idle, went, turn_by, machine_turn, shown_in, IsTurn, IsSpawn, KeepsSeen}
@@ -20,12 +19,12 @@ use Rattle.enc_vm.specs.declared.ends.StepEnd.{StepEnd}
 use Rattle.enc_vm.specs.declared.ends.StepEnd.TheVariants as end
 use Rattle.enc_vm.specs.declared.seen.Seen.{Seen}
 use Rattle.enc_checker.specs.Followed.{Followed}
-use Rattle.enc_watch.specs.Audience.{Seat, Seated, told_events, AreTold}
+use Rattle.enc_watch.specs.Audience.{Seated, told_events, AreTold}
 use Rattle.enc_watch.specs.declared.event.Event.{Event}
 use Rattle.enc_session.proofs.Looked.{task_at_meant}
 use Rattle.enc_session.proofs.Passing.{has_passed, nothing_has_passed}
 use Rattle.enc_session.specs.Seen.{ending_told}
-use Rattle.enc_session.specs.Session.{PlainSession, Passed, world_of, with_machine, passed_with, nothing_passed, method_in, line_events, step_events, step_lines, turn_passed, step_passed, begun_events, spawn_by, spawn_passed, turn_end, DeltaFiles, judged_after, followed_after, applied_as, applied_event, with_followed, apply_passed, HasPassed}
+use Rattle.enc_session.specs.Session.{PlainSession, world_of, with_machine, passed_with, nothing_passed, method_in, line_events, step_events, step_lines, turn_passed, step_passed, begun_events, spawn_by, spawn_passed, turn_end, DeltaFiles, judged_after, followed_after, applied_as, applied_event, with_followed, apply_passed, HasPassed}
 use Rattle.enc_session.specs.declared.applied.Applied.{Applied}
 
 -- a step of which nothing is shown tells nothing

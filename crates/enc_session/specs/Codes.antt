@@ -45,4 +45,6 @@ AcceptedBodiesAreNew =
 
 -- and its module comes of the one before by the rows that the delta lists
 abbrev pub AcceptedRowsAreChanged : Type 0
-AcceptedRowsAreChanged = (c : Chain) (d : Source) → WasRead d → first_meta c d ≡ None → IsSound c.plain → IsChangedBy c.plain (extended c d).plain (listed d)
+AcceptedRowsAreChanged =
+    (c : Chain) (d : Source) → WasRead d → first_meta c d ≡ None → IsSound c.plain
+    → IsChangedBy c.plain (extended c d).plain (listed d)

@@ -2,7 +2,7 @@
 use Rattle.std.specs.Prelude.{◌≡◌, ◌<◌, ◌≤◌, ℕ, List, Option, None, Ok, IsTrue}
 use Rattle.enc_agg.specs.Extend.{extended}
 use Rattle.enc_agg.specs.Prepared.{IsPrepared}
-use Rattle.enc_agg.specs.Seen.{History, chain_of_all, module_of_all, users_of_all}
+use Rattle.enc_agg.specs.Seen.{chain_of_all, module_of_all, users_of_all}
 use Rattle.enc_checker.specs.Check.{new_bodies, accepted, judged}
 use Rattle.enc_checker.specs.Followed.{Followed}
 use Rattle.enc_delta.specs.Judged.{first_meta}
@@ -10,7 +10,7 @@ use Rattle.enc_delta.specs.Seen.{WasRead}
 use Rattle.enc_dispatch.specs.Index.{StandsForModule}
 use Rattle.enc_dispatch.specs.Ready.{IsPreparedFor}
 use Rattle.enc_plain.specs.Chain.{Chain}
-use Rattle.enc_ppdb.specs.PdbChain.{PdbHistory, pdb_with}
+use Rattle.enc_ppdb.specs.PdbChain.{pdb_with}
 use Rattle.enc_rows.specs.Source.{Source}
 use Rattle.enc_versions.specs.Commit.{last_row}
 use Rattle.enc_versions.specs.StandFor.{AreVersionsOf}

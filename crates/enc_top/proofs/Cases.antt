@@ -9,11 +9,10 @@ use Rattle.enc_plain.specs.Debug.{PlainPdb, debug_of}
 use Rattle.enc_plain.specs.Module.{Module}
 use Rattle.enc_plain.specs.Sound.{row_count}
 use Rattle.enc_plain.specs.SoundDebug.{KnowsWithin}
-use Rattle.enc_image.specs.Base.{base_of, chain_of_base, module_in}
+use Rattle.enc_image.specs.Base.{chain_of_base}
 use Rattle.enc_delta.specs.Delta.{delta_of}
 use Rattle.enc_agg.specs.Extend.{chain_with, extended}
 use Rattle.enc_agg.specs.Seen.{chain_of_all}
-use Rattle.enc_ppdb.specs.Fault.{pdb_of}
 use Rattle.enc_ppdb.specs.PdbChain.{DebugDelta, points_at, debug_at, pdb_begun, pdb_with}
 use Rattle.enc_ppdb.specs.Written.{MeansPdb}
 use Rattle.enc_checker.specs.Check.{Accepted, accepted, judged}
@@ -23,14 +22,13 @@ use Rattle.enc_rules.specs.Edited.{edited}
 use Rattle.enc_writer.specs.declared.bytes.DeltaBytes.{DeltaBytes}
 use Rattle.enc_writer.specs.Stands.{StandsFor}
 use Rattle.enc_jobs.specs.Generated.{generated_base, edited_by, turns_from, state_after, methods_added, lists_from, generated_lists}
-use Rattle.enc_top.specs.Verdict.{Stop, ◌>>=◌, dll, meta, pdb, DeltaFiles, BaseFiles, Followed, followed_by, in_delta, judge_deltas, base_pdb, judge_all, plain_of, debug_after}
-use Rattle.enc_top.specs.Generating.{no_points, delta_name, module_saves, delta_saves, Begins, StandInTurn}
-use Rattle.enc_top.specs.Series.{IsSeries, StandAt, NothingSaid}
-use Rattle.enc_top.specs.Stops.{OnPlan, StopsWith, Comes}
-use Rattle.enc_top.specs.Loads.{followed, KnowWithin, Adds}
+use Rattle.enc_top.specs.Verdict.{Stop, meta, pdb, DeltaFiles, BaseFiles, Followed, followed_by, in_delta, judge_deltas, base_pdb, judge_all, plain_of}
+use Rattle.enc_top.specs.Generating.{no_points, delta_name, module_saves, delta_saves, StandInTurn}
+use Rattle.enc_top.specs.Series.{IsSeries}
+use Rattle.enc_top.specs.Stops.{OnPlan, StopsWith}
+use Rattle.enc_top.specs.Loads.{followed, KnowWithin}
 use Rattle.enc_top.specs.Plans.{saves_of}
 use Rattle.enc_top.specs.declared.commands.generate.Series.{Series}
-use Rattle.enc_top.specs.declared.judge.Judged.{Judged}
 use Rattle.enc_top.specs.declared.plan.Plan.{Plan}
 use Rattle.enc_top.specs.declared.plan.Save.{Save}
 use Rattle.enc_top.specs.declared.stop.Stop.{Stop as Halt}

@@ -1,5 +1,5 @@
 -- A run: what is loaded and judged, up to where it stops.
-use Rattle.std.proofs.Common.{◌≡◌, ℕ, ◌+◌, List, length, Option, Some, None, Result, Ok, Err, refl}
+use Rattle.std.proofs.Common.{◌≡◌, ℕ, ◌+◌, List, length, Option, Some, None, Result, Ok, Err}
 use Rattle.std.specs.Prelude.{IfSome}
 use Rattle.enc_jobs.specs.Scripts.{script_said}
 use Rattle.enc_jobs.specs.declared.command.Command.{Command}

@@ -11,7 +11,7 @@ use Rattle.enc_writer.specs.Stands.{StandsFor}
 use Rattle.enc_top.specs.Lines.{saved_line}
 use Rattle.enc_top.specs.Plans.{saves_of, IsPlanOf}
 use Rattle.enc_top.specs.Stops.{OnPlan, StopsWith, IsUnlisted}
-use Rattle.enc_top.specs.Verdict.{Stop, ◌>>=◌, meta, il, pdb, Edited, no_list, broken_list, list_in_file, unless_list_broken, writes, Verdict, edits_on}
+use Rattle.enc_top.specs.Verdict.{◌>>=◌, meta, il, pdb, Edited, no_list, broken_list, list_in_file, unless_list_broken, writes, Verdict, edits_on}
 use Rattle.enc_top.specs.declared.plan.Plan.{Plan}
 use Rattle.enc_top.specs.declared.plan.Outcome.TheVariants.{Accepted}
 use Rattle.enc_top.specs.declared.stop.Stop.{Stop as Halt}

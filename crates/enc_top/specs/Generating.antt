@@ -1,9 +1,8 @@
 -- What `gen` saves and prints: the generated base, a delta for each generated list, and the module after all lists.
-use Rattle.std.specs.Prelude.{◌≡◌, ℕ, ◌+◌, ◌-◌, ◌*◌, ◌%◌, ◌^◌, ◌==◌, List, [], ◌∷◌, ◌++◌, length, sum_by, Option, Some, None, Ok, codes, decimal, slice_get, if◌then◌else◌}
+use Rattle.std.specs.Prelude.{◌≡◌, ℕ, ◌+◌, ◌%◌, ◌^◌, ◌==◌, List, [], ◌∷◌, ◌++◌, sum_by, Option, Some, Ok, codes, decimal, slice_get, if◌then◌else◌}
 use Rattle.std.specs.Int.{w64, cast_unsigned}
 use Rattle.enc_schema.specs.Tables as tables
 use Rattle.enc_opcodes.specs.Instruction.{Argument, number, Instruction}
-use Rattle.enc_opcodes.specs.Body.{Body}
 use Rattle.enc_plain.specs.Cell.{Cell, body}
 use Rattle.enc_plain.specs.Debug.{PlainPdb, unknown}
 use Rattle.enc_plain.specs.Module.{Module, Row, rows_in}

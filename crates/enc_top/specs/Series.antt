@@ -1,5 +1,5 @@
 -- For the contracts of private functions: the files of a generated case as far as they are made.
-use Rattle.std.specs.Prelude.{◌≡◌, ℕ, true, List, [], ◌++◌, Some, Result, Ok, Err, slice_get}
+use Rattle.std.specs.Prelude.{◌≡◌, ℕ, true, List, ◌++◌, Some, Result, Ok, Err, slice_get}
 use Rattle.std.specs.List.{list_all}
 use Rattle.enc_schema.specs.Tables as tables
 use Rattle.enc_plain.specs.Sound.{row_count}

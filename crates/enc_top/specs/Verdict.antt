@@ -1,23 +1,19 @@
 -- What a command comes to over the files that are told: nothing here knows how the program works.
-use Rattle.std.specs.Prelude.{ℕ, ◌+◌, ◌==◌, Bool, List, [], ◌∷◌, ◌++◌, length, map, Option, Some, None, Result, Ok, Err, nat_lt, bytes_eq, if◌then◌else◌, codes}
+use Rattle.std.specs.Prelude.{ℕ, ◌+◌, List, [], ◌∷◌, ◌++◌, length, map, Option, Some, None, Result, Ok, Err, nat_lt, bytes_eq, if◌then◌else◌, codes}
 use Rattle.std.specs.List.{list_any}
 use Rattle.std.specs.FinMap.{get}
 use Rattle.enc_outside.specs.Outside.{Files}
 use Rattle.enc_base.specs.declared.token.Token.{Token}
 use Rattle.enc_base.specs.declared.refusal.Refusal.{Refusal}
-use Rattle.enc_base.specs.declared.refusal.Code.{Code}
-use Rattle.enc_base.specs.declared.refusal.Code.TheVariants.{F, E}
 use Rattle.enc_rows.specs.Source.{Source}
 use Rattle.enc_schema.specs.Tables as tables
 use Rattle.enc_base.specs.declared.refusal.StreamName.TheVariants as stream
-use Rattle.enc_plain.specs.Debug.{PlainPdb}
-use Rattle.enc_plain.specs.Module.{Module, rows_in}
+use Rattle.enc_plain.specs.Module.{rows_in}
 use Rattle.enc_rewriter.specs.Limits.{Passed, too_large, too_heavy, rewrite_limit}
 use Rattle.enc_image.specs.Base.{base_of, chain_of_base}
 use Rattle.enc_delta.specs.Delta.{delta_of}
 use Rattle.enc_ppdb.specs.Fault.{pdb_of}
-use Rattle.enc_ppdb.specs.PdbChain.{DebugDelta, pdb_with}
-use Rattle.enc_checker.specs.Check.{Accepted, judged}
+use Rattle.enc_checker.specs.Check.{judged}
 pub use Rattle.enc_checker.specs.Followed.{Followed, followed_by, plain_of, debug_after, is_of_pdb}
 use Rattle.enc_agg.specs.Extend.{chain_with}
 use Rattle.enc_edits.specs.declared.edit.EditList.{EditList}

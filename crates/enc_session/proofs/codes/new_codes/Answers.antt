@@ -1,4 +1,4 @@
-use Rattle.std.proofs.Common.{◌≡◌, List, Some, sym, ap, ◌∙◌, arith}
+use Rattle.std.proofs.Common.{List, sym, ap, ◌∙◌}
 use Rattle.std.specs.Prelude.{slice_get, option_copied}
 use Rattle.enc_base.specs.declared.token.Token.{Token}
 use Rattle.enc_session.proofs.Coded.{entry_code, entry_is, codes_more}

@@ -1,10 +1,9 @@
 use Rattle.std.proofs.Common.{◌≡◌, refl, ◌+◌, length, map, sym, subst, arith, Ok, Err}
 use Rattle.std.specs.Prelude.{IfSome}
-use Rattle.enc_outside.specs.Outside.{Files}
 use Rattle.enc_top.specs.Words.{texts}
 use Rattle.enc_top.specs.Verdict.{base_size, load_one, load_base, load_deltas, judge_all, accept_text}
 use Rattle.enc_top.specs.Stops.{Comes, OnPlan, StopsWith}
-use Rattle.enc_top.specs.Loads.{base_seen, file_seen, followed, texted}
+use Rattle.enc_top.specs.Loads.{base_seen, file_seen, texted}
 use Rattle.enc_top.proofs.Loading.{if_both, from_nothing, halts_then, text_stops, deltas_stop, text_judged}
 use Rattle.enc_top.proofs.commands.accept.accept_text.Goals as goal
 

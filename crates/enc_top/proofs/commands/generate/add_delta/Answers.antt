@@ -1,4 +1,4 @@
-use Rattle.std.proofs.Common.{◌≡◌, ℕ, List, ◌++◌, ap, ◌∙◌}
+use Rattle.std.proofs.Common.{ℕ, List, ◌++◌, ap, ◌∙◌}
 use Rattle.enc_agg.specs.Seen.{chain_of_all}
 use Rattle.enc_top.specs.Generating.{delta_saves}
 use Rattle.enc_top.specs.Loads.{file_seen}

@@ -1,5 +1,4 @@
 use Rattle.std.proofs.Common.{◌≡◌, ◌+◌, ◌∙◌, ap, length, map, arith, Ok, Err}
-use Rattle.enc_jobs.specs.Scripts.{script_said}
 use Rattle.enc_script.specs.Run.{named_in}
 use Rattle.enc_top.proofs.Loading.{if_both, from_nothing}
 use Rattle.enc_top.proofs.Running.{if_gone, if_three, stops_at_script, stops_at_deltas, run_is}
