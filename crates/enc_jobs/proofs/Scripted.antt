@@ -14,13 +14,13 @@ use Rattle.enc_jobs.specs.declared.fault.JobFault.{JobFault}
 use Rattle.enc_jobs.specs.declared.fault.JobFault.TheVariants.{L3}
 use Rattle.enc_jobs.specs.Edits.{json_value}
 use Rattle.enc_jobs.specs.Json.{elements_of, has_only, word_said, number_said, token_said}
-use Rattle.enc_jobs.specs.Laws.{has_name, ScriptIsShort, ScriptNamesDeltas}
+use Rattle.enc_jobs.specs.Laws.{names_a_delta, ScriptIsShort, ScriptNamesDeltas}
 use Rattle.enc_jobs.specs.Lists.{next_number, with_numbered, read_in_turn}
 use Rattle.enc_jobs.specs.Scripts.{most_commands, most_steps, spawn_said, step_of, step_said, is_name, name_said, apply_said, watcher_said, attach_said, detach_said, state_said, command_of_kind, command_said, commands_of_items, commands_of_value, script_said}
 
 -- what holds of a command that is there
 abbrev Names : Option Command → Type 0
-Names o = (c : Command) → o ≡ Some c → has_name c ≡ true
+Names o = (c : Command) → o ≡ Some c → names_a_delta c ≡ true
 
 none_names : Names None
 none_names c h = absurd cc
@@ -38,7 +38,7 @@ or_names : (b : Bool) (o p : Option Command) → Names o → Names p → Names (
 or_names true o p h g = h
 or_names false o p h g = g
 
-some_names : (a : Command) → has_name a ≡ true → Names (Some a)
+some_names : (a : Command) → names_a_delta a ≡ true → Names (Some a)
 some_names a all c h = let same : a ≡ c = cc in rw (← same) all
 
 spawn_names : (d : Data) → Names (spawn_said d)
@@ -129,13 +129,13 @@ in_turn test reader each n (x ∷ xs) ys h =
 -- a script is short, and names its deltas
 record IsScript (commands : List Command) : Type 0 where
   short : length commands ≤ most_commands
-  names : list_all has_name commands ≡ true
+  names : list_all names_a_delta commands ≡ true
 
 by_length : (b : Bool) (items : List Data) (commands : List Command) → nat_lt most_commands (length items) ≡ b
     → (if b then Err L3 else read_in_turn command_said 1 items) ≡ Ok commands → IsScript commands
 by_length true items commands e h = absurd cc
 by_length false items commands e h =
-    let read = in_turn has_name command_said (λ d c is. command_names d c is) 1 items commands h in
+    let read = in_turn names_a_delta command_said (λ d c is. command_names d c is) 1 items commands h in
     let few : length items ≤ most_commands = grind (arith, nat_tests, e) in
     record { short = rw read.many few; names = read.all }
 

@@ -57,13 +57,13 @@ GeneratedMayApply = (start count j : ℕ) (l : EditList) → count ≤ 64 → sl
     → MayApply (edited_by generated_base (take j (generated_lists start count))) l
 
 -- the name by which a command says a delta is one
-abbrev pub has_name : Command → Bool
-has_name (Apply name) = is_name name
-has_name _ = true
+abbrev pub names_a_delta : Command → Bool
+names_a_delta (Apply name) = is_name name
+names_a_delta _ = true
 
 -- a script that a text says isn't too long, and each name of a delta in it is one
 abbrev pub ScriptIsShort : Type 0
 ScriptIsShort = (text : List ℕ) (commands : List Command) → script_said text ≡ Ok commands → length commands ≤ most_commands
 
 abbrev pub ScriptNamesDeltas : Type 0
-ScriptNamesDeltas = (text : List ℕ) (commands : List Command) → script_said text ≡ Ok commands → list_all has_name commands ≡ true
+ScriptNamesDeltas = (text : List ℕ) (commands : List Command) → script_said text ≡ Ok commands → list_all names_a_delta commands ≡ true

@@ -4,7 +4,7 @@ use Rattle.enc_checker.specs.Followed.{Followed}
 use Rattle.enc_jobs.specs.declared.command.Command.{Command}
 use Rattle.enc_watch.specs.Audience.{Watching, reports}
 use Rattle.enc_script.specs.Ran.{HasRan}
-use Rattle.enc_script.specs.Run.{NamedFiles, PlainRun, Ran, behind, command_ran, commands_ran, begun_with, with_reports, run_text, RunWasAppended}
+use Rattle.enc_script.specs.Run.{NamedFiles, PlainRun, Ran, ran_behind, command_ran, commands_ran, begun_with, with_reports, run_text, RunWasAppended}
 
 -- whatever comes of the commands that are left, comes with those before of all
 abbrev pub IsRestOf : List NamedFiles → List Command → List Command → PlainRun → PlainRun → List ℕ → List ℕ → Type 0
@@ -28,12 +28,12 @@ first_then deltas c cs new r old now mid before one rest = record {
   appended = rest.appended ∙ ap (λ (t : List ℕ). t ++ rest.text) one.appended ∙ append_assoc before one.text rest.text;
   ran = λ more.
       ap (λ (deaf : List Bool). whole deaf) (append_assoc one.deaf rest.deaf more)
-      ∙ ap (λ (x : Ran). behind x.text (commands_ran deltas cs x.deaf x.run)) (one.ran (rest.deaf ++ more))
-      ∙ ap (behind one.text) (rest.ran more);
+      ∙ ap (λ (x : Ran). ran_behind x.text (commands_ran deltas cs x.deaf x.run)) (one.ran (rest.deaf ++ more))
+      ∙ ap (ran_behind one.text) (rest.ran more);
 }
   where
     whole : List Bool → Ran
-    whole deaf = behind (command_ran deltas c deaf old).text (commands_ran deltas cs (command_ran deltas c deaf old).deaf (command_ran deltas c deaf old).run)
+    whole deaf = ran_behind (command_ran deltas c deaf old).text (commands_ran deltas cs (command_ran deltas c deaf old).deaf (command_ran deltas c deaf old).run)
 
 pub one_less : (deltas : List NamedFiles) (all : List Command) (c : Command) (cs rest : List Command) (first r next : PlainRun) (now mid before : List ℕ)
     → rest ≡ c ∷ cs → IsRestOf deltas all rest first r mid before → HasRan (command_ran deltas c) next r now mid

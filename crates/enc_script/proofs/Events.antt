@@ -7,7 +7,7 @@ use Rattle.enc_vm.specs.Turns.{IsSpawn}
 use Rattle.enc_vm.specs.declared.ends.SpawnEnd.{SpawnEnd}
 use Rattle.enc_vm.specs.declared.ends.SpawnEnd.TheVariants as spawned
 use Rattle.enc_watch.specs.Audience.{Watching}
-use Rattle.enc_session.specs.Session.{PlainSession, Passed, HasPassed}
+use Rattle.enc_session.specs.Session.{PlainSession, Happened, HasPassed}
 use Rattle.enc_script.specs.Lines.{spawn_line}
 use Rattle.enc_script.specs.Ran.{spawn_end_line, HasRan}
 use Rattle.enc_script.specs.Run.{PlainRun, Ran, ran_with, says}
@@ -17,7 +17,7 @@ run_is : (r : PlainRun) (s : PlainSession) (handed : List Watching) → r.sessio
 run_is r s handed session left = rw (← session, ← left) refl
 
 -- the line, and what the event printed, which stands in another text
-pub event_ran : (event : List Bool → PlainSession → Passed) (command : List Bool → PlainRun → Ran) (line : List ℕ) (new old : PlainRun) (gone mid now before : List ℕ)
+pub event_ran : (event : List Bool → PlainSession → Happened) (command : List Bool → PlainRun → Ran) (line : List ℕ) (new old : PlainRun) (gone mid now before : List ℕ)
     → ((deaf : List Bool) → command deaf old ≡ ran_with line old.handed (event deaf old.session))
     → HasPassed event new.session old.session gone [] → new.handed ≡ old.handed
     → mid ≡ before ++ line → now ≡ mid ++ gone

@@ -6,7 +6,7 @@ use Rattle.enc_vm.specs.Step.{ran, done, stopped}
 use Rattle.enc_vm.specs.Turns.{MachineTurn, absent, idle, went, machine_turn}
 use Rattle.enc_vm.specs.declared.ends.StepEnd.{StepEnd}
 use Rattle.enc_vm.specs.declared.ends.StepEnd.TheVariants as end
-use Rattle.enc_session.specs.Session.{PlainSession, Passed, world_of, step_passed, turn_end, HasPassed}
+use Rattle.enc_session.specs.Session.{PlainSession, Happened, world_of, step_passed, turn_end, HasPassed}
 use Rattle.enc_script.specs.Ran.{HaveStepped}
 use Rattle.enc_script.specs.Run.{StepsMade, steps_behind, steps_by, steps_of}
 
@@ -38,7 +38,7 @@ abbrev made_as : ℕ → PlainSession → List ℕ → List Bool → StepsMade
 made_as count s text deaf = record { count = count; passed = record { session = s; text = text; deaf = deaf } }
 
 -- the task goes on
-ran_by : (said : MachineTurn PlainCode) (p : Passed) (more : StepsMade) → end.Ran ≡ turn_end said → steps_by said p more ≡ steps_behind p more
+ran_by : (said : MachineTurn PlainCode) (p : Happened) (more : StepsMade) → end.Ran ≡ turn_end said → steps_by said p more ≡ steps_behind p more
 ran_by absent p more h = absurd cc
 ran_by idle p more h = absurd cc
 ran_by (went ran v line shown) p more h = refl
@@ -56,7 +56,7 @@ one_more task n made s u new now between mid how one rest = record {
   stepped = λ more.
       ap whole (append_assoc one.deaf rest.deaf more)
       ∙ ran_by (machine_turn (world_of s.followed) task s.machine) (step_passed task (one.deaf ++ (rest.deaf ++ more)) s) _ how
-      ∙ ap (λ (p : Passed). steps_behind p (steps_of task n p.deaf p.session)) (one.passed (rest.deaf ++ more))
+      ∙ ap (λ (p : Happened). steps_behind p (steps_of task n p.deaf p.session)) (one.passed (rest.deaf ++ more))
       ∙ ap (steps_behind (record { session = u; text = one.text; deaf = rest.deaf ++ more })) (rest.stepped more);
 }
   where
@@ -65,7 +65,7 @@ one_more task n made s u new now between mid how one rest = record {
         steps_by (machine_turn (world_of s.followed) task s.machine) (step_passed task deaf s) (steps_of task n (step_passed task deaf s).deaf (step_passed task deaf s).session)
 
 -- the task ended
-ended_by : (said : MachineTurn PlainCode) (p : Passed) (more : StepsMade) → end.Ended ≡ turn_end said → steps_by said p more ≡ record { count = 1; passed = p }
+ended_by : (said : MachineTurn PlainCode) (p : Happened) (more : StepsMade) → end.Ended ≡ turn_end said → steps_by said p more ≡ record { count = 1; passed = p }
 ended_by absent p more h = absurd cc
 ended_by idle p more h = absurd cc
 ended_by (went ran v line shown) p more h = absurd cc
@@ -73,7 +73,7 @@ ended_by (went done v line shown) p more h = refl
 ended_by (went (stopped x) v line shown) p more h = absurd cc
 
 -- it trapped, or there was no step
-halted_by : (said : MachineTurn PlainCode) (p : Passed) (more : StepsMade) (how : StepEnd) → how ≡ turn_end said
+halted_by : (said : MachineTurn PlainCode) (p : Happened) (more : StepsMade) (how : StepEnd) → how ≡ turn_end said
     → ((trap : Trap) × (how ≡ end.Trapped trap)) ⊎ ((how ≡ end.Idle) ⊎ (how ≡ end.Absent)) → steps_by said p more ≡ record { count = 0; passed = p }
 halted_by absent p more how h is = refl
 halted_by idle p more how h is = refl
@@ -86,7 +86,7 @@ halted_by (went done v line shown) p more how h (inr (inr is)) = absurd cc
 halted_by (went (stopped x) v line shown) p more how h is = refl
 
 last_one : (task n count : ℕ) (s u : PlainSession) (now mid : List ℕ) → HasPassed (step_passed task) u s now mid
-    → ((p : Passed) (more : StepsMade) → steps_by (machine_turn (world_of s.followed) task s.machine) p more ≡ record { count = count; passed = p })
+    → ((p : Happened) (more : StepsMade) → steps_by (machine_turn (world_of s.followed) task s.machine) p more ≡ record { count = count; passed = p })
     → HaveStepped (steps_of task (suc n)) count u s now mid
 unfolding steps_of
 last_one task n count s u now mid one by = record {
@@ -95,7 +95,7 @@ last_one task n count s u now mid one by = record {
   appended = one.appended;
   stepped = λ more.
       by (step_passed task (one.deaf ++ more) s) _
-      ∙ ap (λ (p : Passed). made_as count p.session p.text p.deaf) (one.passed more);
+      ∙ ap (λ (p : Happened). made_as count p.session p.text p.deaf) (one.passed more);
 }
 
 -- one step more, and the task goes on

@@ -9,7 +9,7 @@ use Rattle.enc_watch.specs.declared.event.WatchKind.{WatchKind}
 use Rattle.enc_session.specs.Session.{PlainSession, with_seated}
 use Rattle.enc_session.specs.States.{state_text}
 use Rattle.enc_script.proofs.Events.{said}
-use Rattle.enc_script.specs.Lines.{none_line, attached_line, absent_line, detached_line}
+use Rattle.enc_script.specs.Lines.{none_line, attached_line, number_absent_line, detached_line}
 use Rattle.enc_script.specs.Ran.{HasRan}
 use Rattle.enc_script.specs.Run.{NamedFiles, PlainRun, apply_ran, attach_ran, detach_ran, command_ran}
 
@@ -79,10 +79,10 @@ pub none_detached : (number : ℕ) (t s : PlainSession) (handed : List Watching)
     → t ≡ with_seated (record { seats = without number s.seated.seats; given = s.seated.given }) s
     → now ≡ before ++ watcher_line number (codes "absent")
     → HasRan (λ deaf r. detach_ran number (seat_at number r.session.seated.seats) deaf r) (run_of t handed) (run_of s handed) now before
-unfolding absent_line
+unfolding number_absent_line
 none_detached number t s handed now before none session printed =
     let no_seat = seat_none (seat_at number s.seated.seats) none in
-    said (λ deaf r. detach_ran number (seat_at number r.session.seated.seats) deaf r) (absent_line number) (run_of s handed) (run_of t handed) (run_of s handed) now before
+    said (λ deaf r. detach_ran number (seat_at number r.session.seated.seats) deaf r) (number_absent_line number) (run_of s handed) (run_of t handed) (run_of s handed) now before
     (λ deaf. ap (λ (o : Option Seat). detach_ran number o deaf (run_of s handed)) no_seat)
     (run_same t s handed handed (session ∙ none_left number s no_seat) refl) printed
 

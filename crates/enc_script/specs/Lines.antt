@@ -32,20 +32,20 @@ unfoldable pub applied_line : List ℕ → ℕ → List ℕ
 applied_line name generation = codes "applied " ++ name ++ codes " generation " ++ decimal generation ++ 0x0a ∷ []
 
 -- a watcher that was attached, and that there is none of a kind
-abbrev pub kind_text : WatchKind → List ℕ
-kind_text kind.Trace = codes "trace"
-kind_text kind.Cover = codes "cover"
-kind_text kind.Failing = codes "failing"
+abbrev pub watch_kind_text : WatchKind → List ℕ
+watch_kind_text kind.Trace = codes "trace"
+watch_kind_text kind.Cover = codes "cover"
+watch_kind_text kind.Failing = codes "failing"
 
 unfoldable pub attached_line : ℕ → WatchKind → List ℕ
-attached_line number k = watcher_line number (codes "attached " ++ kind_text k)
+attached_line number k = watcher_line number (codes "attached " ++ watch_kind_text k)
 
 unfoldable pub none_line : WatchKind → List ℕ
-none_line k = codes "watcher none " ++ kind_text k ++ 0x0a ∷ []
+none_line k = codes "watcher none " ++ watch_kind_text k ++ 0x0a ∷ []
 
 -- one that was detached, and that none has a number
 unfoldable pub detached_line : ℕ → List ℕ
 detached_line number = watcher_line number (codes "detached")
 
-unfoldable pub absent_line : ℕ → List ℕ
-absent_line number = watcher_line number (codes "absent")
+unfoldable pub number_absent_line : ℕ → List ℕ
+number_absent_line number = watcher_line number (codes "absent")

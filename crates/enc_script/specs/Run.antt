@@ -11,29 +11,29 @@ use Rattle.enc_vm.specs.Step.{ran, done, stopped, spawn_in}
 use Rattle.enc_vm.specs.Turns.{MachineTurn, absent, idle, went, machine_turn}
 use Rattle.enc_watch.specs.Audience.{Watching, Seat, attached, first_of_kind, without_kind, seat_at, without, seat_report, reports}
 use Rattle.enc_watch.specs.declared.event.WatchKind.{WatchKind}
-use Rattle.enc_session.specs.Session.{PlainSession, Passed, DeltaFiles, files_in, with_seated, world_of, judged_after, applied_as, step_passed, spawn_passed, apply_passed}
+use Rattle.enc_session.specs.Session.{PlainSession, Happened, DeltaContents, files_in, with_seated, world_of, judged_after, applied_as, step_passed, spawn_passed, apply_passed}
 use Rattle.enc_session.specs.States.{state_text}
 use Rattle.enc_session.specs.declared.applied.Applied.{Applied}
 use Rattle.enc_session.specs.declared.applied.Applied.TheVariants.{Generation, Refused}
 use Rattle.enc_script.specs.declared.files.NamedDelta.{NamedDelta}
-use Rattle.enc_script.specs.Lines.{spawn_line, ran_line, idle_line, absent_task_line, applied_line, attached_line, none_line, detached_line, absent_line}
+use Rattle.enc_script.specs.Lines.{spawn_line, ran_line, idle_line, absent_task_line, applied_line, attached_line, none_line, detached_line, number_absent_line}
 
 -- the files of a delta, and the names of its metadata's and its PDB's
 pub record NamedFiles : Type 0 where
   pub metadata_name : List ℕ
   pub debug_name : List ℕ
-  pub files : DeltaFiles
+  pub files : DeltaContents
 
-abbrev pub named_in : NamedDelta → NamedFiles
-named_in d = record { metadata_name = string_bytes d.metadata_name; debug_name = string_bytes d.debug_name; files = files_in d.files }
+abbrev pub named_delta : NamedDelta → NamedFiles
+named_delta d = record { metadata_name = string_bytes d.metadata_name; debug_name = string_bytes d.debug_name; files = files_in d.files }
 
 -- the first whose metadata's file has a name, and so those of a delta's name
-unfoldable pub first_named : List ℕ → List NamedFiles → Option NamedFiles
-first_named file [] = None
-first_named file (d ∷ rest) = if bytes_eq d.metadata_name file then Some d else first_named file rest
+unfoldable pub first_with_file : List ℕ → List NamedFiles → Option NamedFiles
+first_with_file file [] = None
+first_with_file file (d ∷ rest) = if bytes_eq d.metadata_name file then Some d else first_with_file file rest
 
 abbrev pub files_of : List ℕ → List NamedFiles → Option NamedFiles
-files_of name deltas = first_named (name ++ codes ".meta") deltas
+files_of name deltas = first_with_file (name ++ codes ".meta") deltas
 
 -- a run on its way: the session, and the watchers that were handed in and not yet attached
 pub record PlainRun : Type 0 where
@@ -47,7 +47,7 @@ pub record Ran : Type 0 where
   pub deaf : List Bool
 
 -- by what an event comes to, with the command's own line first
-abbrev pub ran_with : List ℕ → List Watching → Passed → Ran
+abbrev pub ran_with : List ℕ → List Watching → Happened → Ran
 ran_with line handed p = record { run = record { session = p.session; handed = handed }; text = line ++ p.text; deaf = p.deaf }
 
 -- a command that only says something
@@ -62,16 +62,16 @@ spawn_ran method deaf r =
 -- steps of a task: how many were made, and what they came to; a step that trapped isn't counted
 pub record StepsMade : Type 0 where
   pub count : ℕ
-  pub passed : Passed
+  pub passed : Happened
 
 abbrev pub no_steps : List Bool → PlainSession → StepsMade
 no_steps deaf s = record { count = 0; passed = record { session = s; text = []; deaf = deaf } }
 
-abbrev pub steps_behind : Passed → StepsMade → StepsMade
+abbrev pub steps_behind : Happened → StepsMade → StepsMade
 steps_behind p x = record { count = x.count + 1; passed = record { session = x.passed.session; text = p.text ++ x.passed.text; deaf = x.passed.deaf } }
 
 -- by the turn and what it came to, and by the steps behind it where the task goes on
-abbrev pub steps_by : MachineTurn PlainCode → Passed → StepsMade → StepsMade
+abbrev pub steps_by : MachineTurn PlainCode → Happened → StepsMade → StepsMade
 steps_by absent p more = record { count = 0; passed = p }
 steps_by idle p more = record { count = 0; passed = p }
 steps_by (went ran u line shown) p more = steps_behind p more
@@ -120,7 +120,7 @@ attach_ran k (Some w) deaf r =
 
 -- a detach, with the report
 abbrev pub detach_ran : ℕ → Option Seat → List Bool → PlainRun → Ran
-detach_ran number None deaf r = says (absent_line number) deaf r
+detach_ran number None deaf r = says (number_absent_line number) deaf r
 detach_ran number (Some s) deaf r =
     says (detached_line number ++ seat_report s) deaf
     (record {
@@ -139,13 +139,13 @@ command_ran deltas (Detach number) deaf r = detach_ran number (seat_at number r.
 command_ran deltas State deaf r = says (state_text r.session.machine) deaf r
 
 -- commands in order
-abbrev pub behind : List ℕ → Ran → Ran
-behind text x = record { run = x.run; text = text ++ x.text; deaf = x.deaf }
+abbrev pub ran_behind : List ℕ → Ran → Ran
+ran_behind text x = record { run = x.run; text = text ++ x.text; deaf = x.deaf }
 
 unfoldable pub commands_ran : List NamedFiles → List Command → List Bool → PlainRun → Ran
 commands_ran deltas [] deaf r = says [] deaf r
 commands_ran deltas (c ∷ cs) deaf r =
-    behind (command_ran deltas c deaf r).text (commands_ran deltas cs (command_ran deltas c deaf r).deaf (command_ran deltas c deaf r).run)
+    ran_behind (command_ran deltas c deaf r).text (commands_ran deltas cs (command_ran deltas c deaf r).deaf (command_ran deltas c deaf r).run)
 
 -- a run at its begin
 abbrev pub begun_with : Followed → List Watching → PlainRun

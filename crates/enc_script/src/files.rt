@@ -1,7 +1,7 @@
 //! The deltas that a script names.
 ghost use Rattle.std.specs.Prelude.{◌≡◌, ◌++◌, IfOk, codes, map, option_map};
 ghost use Rattle.enc_session.specs.Session.{files_in};
-ghost use Rattle.enc_script.specs.Run.{files_of, first_named, named_in};
+ghost use Rattle.enc_script.specs.Run.{files_of, first_with_file, named_delta};
 
 use enc_checker::Files;
 use std::alloc::{AllocError, Global};
@@ -25,9 +25,9 @@ fn metadata_name(alloc: Global, name: &[u8]) -> Result<Vec<u8>, AllocError>
 }
 
 /// The first delta whose metadata's file has this name.
-#[tactic(auto, unfolding(crate::specs::Run::first_named))]
+#[tactic(auto, unfolding(crate::specs::Run::first_with_file))]
 fn first_of<'a>(deltas: &'a [NamedDelta], file: &[u8]) -> Option<&'a NamedDelta>
-    ensures { option_map (λ d. named_in d.now) result ≡ first_named file.now (map named_in deltas.now) }
+    ensures { option_map (λ d. named_delta d.now) result ≡ first_with_file file.now (map named_delta deltas.now) }
 {
     for delta in deltas {
         if delta.metadata_name.as_bytes() == file {
@@ -43,7 +43,7 @@ pub(crate) fn files_of<'a>(
     deltas: &'a [NamedDelta],
     name: &[u8],
 ) -> Result<Option<&'a NamedDelta>, AllocError>
-    ensures { IfOk result (λ d. option_map (λ x. named_in x.now) d ≡ files_of name.now (map named_in deltas.now)) }
+    ensures { IfOk result (λ d. option_map (λ x. named_delta x.now) d ≡ files_of name.now (map named_delta deltas.now)) }
 {
     let file = metadata_name(alloc, name)?;
     Ok(first_of(deltas, &file))

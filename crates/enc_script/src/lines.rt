@@ -4,9 +4,9 @@ ghost use Rattle.enc_text.specs.Text.{refused_line, token_text};
 ghost use Rattle.enc_watch.specs.Audience.{line_front, watcher_line};
 ghost use Rattle.enc_checker.specs.Followed.{is_of_pdb};
 ghost use Rattle.enc_session.specs.Lines.{task_line};
-ghost use Rattle.enc_script.specs.Lines.{absent_line, applied_line, attached_line, detached_line, kind_text, none_line, ran_line, refused_spawn};
+ghost use Rattle.enc_script.specs.Lines.{number_absent_line, applied_line, attached_line, detached_line, watch_kind_text, none_line, ran_line, refused_spawn};
 ghost use Rattle.enc_script.specs.Ran.{spawn_end_line};
-ghost use Rattle.enc_script.specs.Run.{named_in, refused_file};
+ghost use Rattle.enc_script.specs.Run.{named_delta, refused_file};
 
 use crate::files::NamedDelta;
 use enc_base::{Code, Refusal, Token};
@@ -110,7 +110,7 @@ pub(crate) fn push_refusal(
     refusal: Refusal,
     out: &mut Vec<u8>,
 ) -> Result<(), AllocError>
-    ensures { OnOk result (out.new.items ≡ out.old.items ++ refused_line (refused_file (named_in delta.now) refusal) refusal) }
+    ensures { OnOk result (out.new.items ≡ out.old.items ++ refused_line (refused_file (named_delta delta.now) refusal) refusal) }
 {
     let line = if is_of_pdb(refusal.code) {
         refused_line(alloc, delta.debug_name.as_str(), refusal)?
@@ -146,7 +146,7 @@ pub(crate) fn push_said(
 
 /// The name of a kind.
 fn kind_name(kind: WatchKind) -> &'static str
-    ensures { result.now ≡ kind_text kind }
+    ensures { result.now ≡ watch_kind_text kind }
 {
     match kind {
         WatchKind::Trace => "trace",

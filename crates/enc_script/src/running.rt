@@ -1,7 +1,7 @@
 //! A run on its way, command by command.
 ghost use Rattle.std.specs.Prelude.{◌≡◌, ◌≤◌, ◌<◌, ◌+◌, ◌^◌, ◌++◌, [], Some, IfOk, OnOk, map};
 ghost use Rattle.enc_script.specs.Ran.{HasRan};
-ghost use Rattle.enc_script.specs.Run.{apply_ran, attach_ran, begun_with, command_ran, detach_ran, files_of, named_in, spawn_ran, steps_of, steps_ran};
+ghost use Rattle.enc_script.specs.Run.{apply_ran, attach_ran, begun_with, command_ran, detach_ran, files_of, named_delta, spawn_ran, steps_of, steps_ran};
 ghost use Rattle.enc_session.specs.Session.{world_of};
 ghost use Rattle.enc_vm.specs.Turns.{machine_turn};
 ghost use Rattle.enc_watch.specs.Audience.{first_of_kind, reports, seat_at};
@@ -88,7 +88,7 @@ impl<W: Watcher> Running<W> {
         delta: &NamedDelta,
         out: &mut Vec<u8>,
     ) -> Result<(), AllocError>
-        ensures ran { OnOk result (HasRan (apply_ran name.now (Some (named_in delta.now))) self.new self.old out.new.items out.old.items) }
+        ensures ran { OnOk result (HasRan (apply_ran name.now (Some (named_delta delta.now))) self.new self.old out.new.items out.old.items) }
         ensures given { OnOk result (self.new.session.seated.given ≡ self.old.session.seated.given) }
     {
         let mut gone = Vec::new(self.alloc);
@@ -107,7 +107,7 @@ impl<W: Watcher> Running<W> {
         name: &[u8],
         out: &mut Vec<u8>,
     ) -> Result<(), AllocError>
-        ensures ran { OnOk result (HasRan (apply_ran name.now (files_of name.now (map named_in deltas.now))) self.new self.old out.new.items out.old.items) }
+        ensures ran { OnOk result (HasRan (apply_ran name.now (files_of name.now (map named_delta deltas.now))) self.new self.old out.new.items out.old.items) }
         ensures given { OnOk result (self.new.session.seated.given ≡ self.old.session.seated.given) }
     {
         match files_of(self.alloc, deltas, name)? {
@@ -153,7 +153,7 @@ impl<W: Watcher> Running<W> {
         out: &mut Vec<u8>,
     ) -> Result<(), AllocError>
         requires { self.old.session.seated.given + 1 < 2 ^ 32 }
-        ensures ran { OnOk result (HasRan (command_ran (map named_in deltas.now) command.now) self.new self.old out.new.items out.old.items) }
+        ensures ran { OnOk result (HasRan (command_ran (map named_delta deltas.now) command.now) self.new self.old out.new.items out.old.items) }
         ensures given { OnOk result (self.new.session.seated.given ≤ self.old.session.seated.given + 1) }
     {
         match command {

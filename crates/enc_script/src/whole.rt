@@ -1,7 +1,7 @@
 //! A run of a script.
 ghost use Rattle.std.specs.Prelude.{◌≡◌, ◌≤◌, ◌<◌, ◌+◌, ◌^◌, [], OnOk, length, map};
 ghost use Rattle.enc_script.specs.Ran.{HasRan};
-ghost use Rattle.enc_script.specs.Run.{RunWasAppended, commands_ran, named_in};
+ghost use Rattle.enc_script.specs.Run.{RunWasAppended, commands_ran, named_delta};
 
 use crate::files::NamedDelta;
 use crate::running::Running;
@@ -19,7 +19,7 @@ fn run_commands<W: Watcher>(
     out: &mut Vec<u8>,
 ) -> Result<(), AllocError>
     requires { running.old.session.seated.given + length script.now < 2 ^ 32 }
-    ensures { OnOk result (HasRan (commands_ran (map named_in deltas.now) script.now) running.new running.old out.new.items out.old.items) }
+    ensures { OnOk result (HasRan (commands_ran (map named_delta deltas.now) script.now) running.new running.old out.new.items out.old.items) }
 {
     for command in script {
         running.command(deltas, command, out)?;
@@ -41,7 +41,7 @@ pub fn run<W: Watcher>(
     out: &mut Vec<u8>,
 ) -> Result<(), AllocError>
     requires { length script.now < 2 ^ 32 }
-    ensures { OnOk result (RunWasAppended (map named_in deltas.now) (map (λ w. record { kind = W.kind_of w; limit = W.limit w; heard = W.heard w }) watchers.items) (record { base = image; deltas = []; debug = pdb; debugs = [] }) script.now out.new.items out.old.items) }
+    ensures { OnOk result (RunWasAppended (map named_delta deltas.now) (map (λ w. record { kind = W.kind_of w; limit = W.limit w; heard = W.heard w }) watchers.items) (record { base = image; deltas = []; debug = pdb; debugs = [] }) script.now out.new.items out.old.items) }
 {
     let mut running = Running::begin(alloc, image, pdb, watchers)?;
     run_commands(&mut running, deltas, script, out)?;

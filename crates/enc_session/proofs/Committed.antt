@@ -27,7 +27,7 @@ use Rattle.enc_versions.specs.Version.{Version}
 use Rattle.enc_vm.specs.Machine.{PlainCode, MachineState, state_meant}
 use Rattle.enc_vm.specs.Texts.{machine_texts}
 use Rattle.enc_session.specs.Codes.{new_versions, meant_by, AcceptedBodiesAreNew, AcceptedRowsAreChanged}
-use Rattle.enc_session.specs.Engine.{PlainEngine, AreParts, IsEngine, MayFollow, SayTheSame, followed_in, machine_in}
+use Rattle.enc_session.specs.Engine.{PlainEngine, AreParts, IsEngine, IsAcceptedAfter, SayTheSame, followed_in, machine_in}
 use Rattle.enc_session.specs.declared.parts.Parts.{Parts}
 
 -- an index stands for a module whatever its room
@@ -58,7 +58,7 @@ debug_more base deltas d = refl
 
 -- the newest bodies stand for the module and the PDB with the delta
 bodies_follow : (c : Chain) (d : Source) (pdb : Option Source) (debug : PlainPdb) (before after : List (Option Version))
-    → CommitStands → AcceptedBodiesAreNew → MayFollow c d pdb → IsSound c.plain → KeepsTexts (joined_user c.heaps) (joined_user (extended c d).heaps)
+    → CommitStands → AcceptedBodiesAreNew → IsAcceptedAfter c d pdb → IsSound c.plain → KeepsTexts (joined_user c.heaps) (joined_user (extended c d).heaps)
     → AreVersionsOf (joined_user c.heaps) c.plain debug before → AreCommitted (new_versions d pdb) before after
     → AreVersionsOf (joined_user (extended c d).heaps) (extended c d).plain (pdb_changed debug (record { pdb = pdb; changed = new_bodies d })) after
 bodies_follow c d pdb debug before after commits news follows sound keeps are committed =
@@ -66,7 +66,7 @@ bodies_follow c d pdb debug before after commits news follows sound keeps are co
     (news c d pdb follows.files debug follows.read follows.judged_ok sound) keeps committed
 
 pub parts_follow : (new old : Parts) (d : Source) (pdb : Option Source) (codes : List NewVersion) (changed : List _)
-    → CommitStands → AcceptedBodiesAreNew → AreParts old → MayFollow (chain_of_all old.agg) d pdb → IsSound (module_of_all old.agg)
+    → CommitStands → AcceptedBodiesAreNew → AreParts old → IsAcceptedAfter (chain_of_all old.agg) d pdb → IsSound (module_of_all old.agg)
     → chain_of_all new.agg ≡ extended (chain_of_all old.agg) d → KeepsTexts (users_of_all old.agg) (users_of_all new.agg)
     → changed ≡ new_bodies d → new.debug.base ≡ old.debug.base → new.debug.deltas ≡ record { pdb = pdb; changed = changed } ∷ old.debug.deltas
     → codes ≡ new_versions d pdb → AreCommitted codes old.versions.methods new.versions.methods

@@ -13,7 +13,7 @@ use Rattle.enc_vm.specs.declared.ends.TaskState.TheVariants as state
 use Rattle.enc_vm.specs.declared.handler.Flight.{Flight}
 use Rattle.enc_session.proofs.Numbered.{each_more}
 use Rattle.enc_session.specs.Lines.{task_line}
-use Rattle.enc_session.specs.Session.{method_in}
+use Rattle.enc_session.specs.Session.{innermost_method}
 use Rattle.enc_session.specs.States.{frame_line, going_text, standing_text, task_text, tasks_text, state_text}
 use Rattle.enc_session.specs.StatesSeen.{frame_line_at, standing_at, task_text_at}
 
@@ -80,7 +80,7 @@ offset_by : (users : ℕ → Option (List ℕ)) (o : Option (Frame Version))
 offset_by users None = refl
 offset_by users (Some f) = refl
 
-pub method_meant : (users : ℕ → Option (List ℕ)) (s : MachineState Version) (task : ℕ) → method_in (state_meant users s) task ≡ method_in s task
+pub method_meant : (users : ℕ → Option (List ℕ)) (s : MachineState Version) (task : ℕ) → innermost_method (state_meant users s) task ≡ innermost_method s task
 method_meant users s task =
     ap (option_map (λ (f : Frame PlainCode). f.method)) (innermost_meant users s task) ∙ method_by users (innermost_in s task)
 

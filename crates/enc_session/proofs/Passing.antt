@@ -2,9 +2,9 @@
 use Rattle.std.proofs.Common.{◌≡◌, ℕ, Bool, List, [], ◌++◌, refl, sym, ap, ◌∙◌, append_assoc, append-nil}
 use Rattle.enc_watch.specs.Audience.{AreTold}
 use Rattle.enc_watch.specs.declared.event.Event.{Event}
-use Rattle.enc_session.specs.Session.{PlainSession, Passed, nothing_passed, heard_in, passed_with, HasPassed}
+use Rattle.enc_session.specs.Session.{PlainSession, Happened, nothing_passed, heard_in, passed_with, HasPassed}
 
-abbrev passed_as : PlainSession → List ℕ → List Bool → Passed
+abbrev passed_as : PlainSession → List ℕ → List Bool → Happened
 passed_as s text deaf = record { session = s; text = text; deaf = deaf }
 
 -- the session behind it, by its parts
@@ -17,7 +17,7 @@ session_is : (mid new : PlainSession) (text : List ℕ) (deaf : List Bool) → n
 session_is mid new text deaf followed machine given = rw (← followed, ← machine, ← given) refl
 
 -- events were told behind some text
-pub has_passed : (event : List Bool → PlainSession → Passed) (events : List Event) (text : List ℕ) (mid new old : PlainSession) (now between before : List ℕ)
+pub has_passed : (event : List Bool → PlainSession → Happened) (events : List Event) (text : List ℕ) (mid new old : PlainSession) (now between before : List ℕ)
     → ((deaf : List Bool) → event deaf old ≡ passed_with events text deaf mid)
     → new.followed ≡ mid.followed → new.machine ≡ mid.machine → new.seated.given ≡ mid.seated.given
     → between ≡ before ++ text → AreTold events new.seated.seats mid.seated.seats now between
@@ -32,7 +32,7 @@ has_passed event events text mid new old now between before is followed machine 
 }
 
 -- nothing happened
-pub nothing_has_passed : (event : List Bool → PlainSession → Passed) (new old : PlainSession) (now before : List ℕ)
+pub nothing_has_passed : (event : List Bool → PlainSession → Happened) (new old : PlainSession) (now before : List ℕ)
     → ((deaf : List Bool) → event deaf old ≡ nothing_passed deaf old) → new ≡ old → now ≡ before → HasPassed event new old now before
 nothing_has_passed event new old now before is same kept = record {
   deaf = [];

@@ -24,7 +24,7 @@ use Rattle.enc_watch.specs.declared.event.Event.{Event}
 use Rattle.enc_session.proofs.Looked.{task_at_meant}
 use Rattle.enc_session.proofs.Passing.{has_passed, nothing_has_passed}
 use Rattle.enc_session.specs.Seen.{ending_told}
-use Rattle.enc_session.specs.Session.{PlainSession, world_of, with_machine, passed_with, nothing_passed, method_in, line_events, step_events, step_lines, turn_passed, step_passed, begun_events, spawn_by, spawn_passed, turn_end, DeltaFiles, judged_after, followed_after, applied_as, applied_event, with_followed, apply_passed, HasPassed}
+use Rattle.enc_session.specs.Session.{PlainSession, world_of, with_machine, passed_with, nothing_passed, innermost_method, line_events, step_events, step_lines, turn_passed, step_passed, begun_events, spawn_by, spawn_passed, turn_end, DeltaContents, judged_after, followed_after, applied_as, applied_event, with_followed, apply_passed, HasPassed}
 use Rattle.enc_session.specs.declared.applied.Applied.{Applied}
 
 -- a step of which nothing is shown tells nothing
@@ -52,25 +52,25 @@ silent : (task : ℕ) (said : MachineTurn PlainCode) (seen nothing : Seen) (new 
     → new.machine ≡ old.machine → new.followed ≡ old.followed → new.seated.given ≡ old.seated.given
     → seen ≡ nothing → nothing ≡ record { line = None; entered = None; left = None; wrote = None }
     → between ≡ before ++ step_lines task ran new.machine (shown_in seen)
-    → AreTold (step_events task (method_in old.machine task) ran seen.line (shown_in seen)) new.seated.seats old.seated.seats now between
+    → AreTold (step_events task (innermost_method old.machine task) ran seen.line (shown_in seen)) new.seated.seats old.seated.seats now between
     → HasPassed (step_passed task) new old now before
 unfolding step_passed
 silent task said seen nothing new old now between before is says same followed given kept none printed told =
     has_passed (step_passed task) [] [] old new old now between before
     (λ deaf. ap (λ (x : MachineTurn PlainCode). turn_passed task x deaf old) is ∙ says deaf ∙ nothing_is deaf old)
     followed same given (printed ∙ ap (λ (t : List ℕ). before ++ t) (silent_lines task new.machine seen nothing kept none))
-    (subst (λ (events : List Event). AreTold events new.seated.seats old.seated.seats now between) (silent_events task (method_in old.machine task) seen nothing kept none) told)
+    (subst (λ (events : List Event). AreTold events new.seated.seats old.seated.seats now between) (silent_events task (innermost_method old.machine task) seen nothing kept none) told)
 
 -- a step was made
 loud : (task : ℕ) (how : Ending) (seen : Seen) (new old : PlainSession) (now between before : List ℕ)
     → machine_turn (world_of old.followed) task old.machine ≡ went how new.machine seen.line (shown_in seen)
     → new.followed ≡ old.followed → new.seated.given ≡ old.seated.given
     → between ≡ before ++ step_lines task how new.machine (shown_in seen)
-    → AreTold (step_events task (method_in old.machine task) how seen.line (shown_in seen)) new.seated.seats old.seated.seats now between
+    → AreTold (step_events task (innermost_method old.machine task) how seen.line (shown_in seen)) new.seated.seats old.seated.seats now between
     → HasPassed (step_passed task) new old now before
 unfolding step_passed
 loud task how seen new old now between before is followed given printed told =
-    has_passed (step_passed task) (step_events task (method_in old.machine task) how seen.line (shown_in seen)) (step_lines task how new.machine (shown_in seen))
+    has_passed (step_passed task) (step_events task (innermost_method old.machine task) how seen.line (shown_in seen)) (step_lines task how new.machine (shown_in seen))
     (with_machine new.machine old) new old now between before
     (λ deaf. ap (λ (x : MachineTurn PlainCode). turn_passed task x deaf old) is) followed refl given printed told
 
@@ -79,7 +79,7 @@ pub step_has_passed : (task : ℕ) (how : StepEnd) (seen nothing : Seen) (new ol
     → KeepsSeen (Ok how) seen nothing → nothing ≡ record { line = None; entered = None; left = None; wrote = None }
     → new.followed ≡ old.followed → new.seated.given ≡ old.seated.given
     → between ≡ before ++ step_lines task (ending_told how) new.machine (shown_in seen)
-    → AreTold (step_events task (method_in old.machine task) (ending_told how) seen.line (shown_in seen)) new.seated.seats old.seated.seats now between
+    → AreTold (step_events task (innermost_method old.machine task) (ending_told how) seen.line (shown_in seen)) new.seated.seats old.seated.seats now between
     → HasPassed (step_passed task) new old now before
 step_has_passed task end.Absent seen nothing new old now between before turn kept none followed given printed told =
     silent task absent seen nothing new old now between before turn.0 (λ deaf. refl) turn.1 followed given kept none printed told
@@ -180,7 +180,7 @@ no_task_passed method spawned.Method new old now before not is followed seated k
     no_spawn_passed method no_method new old now before is.0 (λ deaf. refl) (session_same new old followed is.1 seated) kept
 
 -- a delta
-pub apply_has_passed : (files : DeltaFiles) (new old : PlainSession) (a : Applied) (now between before : List ℕ)
+pub apply_has_passed : (files : DeltaContents) (new old : PlainSession) (a : Applied) (now between before : List ℕ)
     → a ≡ applied_as (judged_after old.followed files) old.followed → new.followed ≡ followed_after (judged_after old.followed files) old.followed
     → new.machine ≡ old.machine → new.seated.given ≡ old.seated.given → between ≡ before
     → AreTold (applied_event a ∷ []) new.seated.seats old.seated.seats now between

@@ -45,14 +45,14 @@ abbrev pub machine_in : Parts → MachineState Version → MachineState PlainCod
 machine_in p s = state_meant (users_of_all p.agg) s
 
 -- a delta and its PDB break no rule after a chain
-pub record MayFollow (c : Chain) (d : Source) (pdb : Option Source) : Type 0 where
+pub record IsAcceptedAfter (c : Chain) (d : Source) (pdb : Option Source) : Type 0 where
   pub read : WasRead d
   pub rules : first_meta c d ≡ None
   pub files : Option (List ℕ)
   pub judged_ok : judged c (Ok d) files ≡ Ok (accepted d pdb)
 
 -- all memory is taken for a delta and its PDB
-pub record AreReady (p : Parts) (d : Source) (pdb : Option Source) (x : Prepared) : Type 0 where
+pub record IsDeltaReady (p : Parts) (d : Source) (pdb : Option Source) (x : Prepared) : Type 0 where
   pub delta : x.ready.delta ≡ d
   pub debug : x.pdb ≡ pdb
   pub changed : x.changed ≡ new_bodies d

@@ -32,17 +32,17 @@ abbrev pub world_of : Followed → World PlainCode
 world_of f = plain_world (plain_of f) (debug_after f)
 
 -- what comes of an event: the session behind it, what it prints, and which of the hearings behind it find no memory
-pub record Passed : Type 0 where
+pub record Happened : Type 0 where
   pub session : PlainSession
   pub text : List ℕ
   pub deaf : List Bool
 
 -- nothing happened
-abbrev pub nothing_passed : List Bool → PlainSession → Passed
+abbrev pub nothing_passed : List Bool → PlainSession → Happened
 nothing_passed deaf s = record { session = s; text = []; deaf = deaf }
 
 -- what the watchers made of events, behind some text
-abbrev pub heard_in : PlainSession → List ℕ → Heard → Passed
+abbrev pub heard_in : PlainSession → List ℕ → Heard → Happened
 heard_in s text h = record {
   session = record { followed = s.followed; machine = s.machine; seated = record { seats = h.seats; given = s.seated.given } };
   text = text ++ h.text;
@@ -50,7 +50,7 @@ heard_in s text h = record {
 }
 
 -- events are told to the watchers, behind some text
-unfoldable pub passed_with : List Event → List ℕ → List Bool → PlainSession → Passed
+unfoldable pub passed_with : List Event → List ℕ → List Bool → PlainSession → Happened
 passed_with events text deaf s = heard_in s text (told_events events deaf s.seated.seats)
 
 abbrev pub with_machine : MachineState PlainCode → PlainSession → PlainSession
@@ -69,12 +69,12 @@ entered_event n f = event.Entered n f.method
 abbrev pub begun_events : {C : Type 0} → Token → ℕ → MachineState C → List Event
 begun_events method n u = event.Spawned n method ∷ map (entered_event n) (reverse (frames_in u n))
 
-abbrev pub spawn_by : Token → Spawning PlainCode → List Bool → PlainSession → Passed
+abbrev pub spawn_by : Token → Spawning PlainCode → List Bool → PlainSession → Happened
 spawn_by method (begun n u) deaf s = passed_with (begun_events method n u) [] deaf (with_machine u s)
 spawn_by method too_many deaf s = nothing_passed deaf s
 spawn_by method no_method deaf s = nothing_passed deaf s
 
-unfoldable pub spawn_passed : Token → List Bool → PlainSession → Passed
+unfoldable pub spawn_passed : Token → List Bool → PlainSession → Happened
 spawn_passed method deaf s = spawn_by method (spawn_in (world_of s.followed) method s.machine) deaf s
 
 -- what a step prints: what it writes, and that the task ended or trapped
@@ -82,8 +82,8 @@ unfoldable pub step_lines : {C : Type 0} → ℕ → Ending → MachineState C �
 step_lines task how u shown = written_line task shown.wrote ++ ending_line task how (innermost_in u task)
 
 -- the method of a task's innermost frame
-abbrev pub method_in : {C : Type 0} → MachineState C → ℕ → Option Token
-method_in s task = option_map (λ (f : Frame _). f.method) (innermost_in s task)
+abbrev pub innermost_method : {C : Type 0} → MachineState C → ℕ → Option Token
+innermost_method s task = option_map (λ (f : Frame _). f.method) (innermost_in s task)
 
 -- the events of a step, in order: the line that the innermost frame came to, by its own points, a frame entered or left, and how the step ended
 abbrev pub line_events : ℕ → Option Token → Option ℕ → List Event
@@ -108,13 +108,13 @@ step_events task method how line shown =
     line_events task method line ++ entered_events task shown.entered ++ left_events task shown.left ++ ending_events task how
 
 -- a step
-abbrev pub turn_passed : ℕ → MachineTurn PlainCode → List Bool → PlainSession → Passed
+abbrev pub turn_passed : ℕ → MachineTurn PlainCode → List Bool → PlainSession → Happened
 turn_passed task absent deaf s = nothing_passed deaf s
 turn_passed task idle deaf s = nothing_passed deaf s
 turn_passed task (went how u line shown) deaf s =
-    passed_with (step_events task (method_in s.machine task) how line shown) (step_lines task how u shown) deaf (with_machine u s)
+    passed_with (step_events task (innermost_method s.machine task) how line shown) (step_lines task how u shown) deaf (with_machine u s)
 
-unfoldable pub step_passed : ℕ → List Bool → PlainSession → Passed
+unfoldable pub step_passed : ℕ → List Bool → PlainSession → Happened
 step_passed task deaf s = turn_passed task (machine_turn (world_of s.followed) task s.machine) deaf s
 
 -- what a turn comes to, as it is answered
@@ -126,16 +126,16 @@ turn_end (went done u line shown) = end.Ended
 turn_end (went (stopped x) u line shown) = end.Trapped x
 
 -- the files of a delta
-pub record DeltaFiles : Type 0 where
+pub record DeltaContents : Type 0 where
   pub metadata : List ℕ
   pub code : List ℕ
   pub debug : Option (List ℕ)
 
-abbrev pub files_in : Files → DeltaFiles
+abbrev pub files_in : Files → DeltaContents
 files_in f = record { metadata = f.meta.items; code = f.il.items; debug = option_map (λ b. b.items) f.pdb }
 
 -- what they come to after the deltas before them
-abbrev pub judged_after : Followed → DeltaFiles → Result Accepted Refusal
+abbrev pub judged_after : Followed → DeltaContents → Result Accepted Refusal
 judged_after f files = judged (chain_with f.base f.deltas) (delta_of files.metadata files.code) files.debug
 
 -- a delta: it is applied and makes the next generation, or it is refused and changes nothing
@@ -151,15 +151,15 @@ abbrev pub applied_event : Applied → Event
 applied_event (Generation g) = event.Applied g
 applied_event (Refused e) = event.Refused e.code
 
-abbrev pub apply_by : Result Accepted Refusal → List Bool → PlainSession → Passed
+abbrev pub apply_by : Result Accepted Refusal → List Bool → PlainSession → Happened
 apply_by said deaf s =
     passed_with (applied_event (applied_as said s.followed) ∷ []) [] deaf (with_followed (followed_after said s.followed) s)
 
-unfoldable pub apply_passed : DeltaFiles → List Bool → PlainSession → Passed
+unfoldable pub apply_passed : DeltaContents → List Bool → PlainSession → Happened
 apply_passed files deaf s = apply_by (judged_after s.followed files) deaf s
 
 -- it passed, and what it prints was appended: of each hearing it is free only whether it found memory
-pub record HasPassed (event : List Bool → PlainSession → Passed) (new old : PlainSession) (now before : List ℕ) : Type 0 where
+pub record HasPassed (event : List Bool → PlainSession → Happened) (new old : PlainSession) (now before : List ℕ) : Type 0 where
   pub deaf : List Bool
   pub text : List ℕ
   pub appended : now ≡ before ++ text

@@ -8,8 +8,8 @@ ghost use Rattle.enc_vm.specs.Machine.{at_rest};
 ghost use Rattle.enc_vm.specs.Room.{WritesAtMost};
 ghost use Rattle.enc_vm.specs.Step.{spawn_in};
 ghost use Rattle.enc_vm.specs.Turns.{IsSpawn, IsTurn, KeepsSeen, machine_turn};
-ghost use Rattle.enc_session.specs.Engine.{MayFollow};
-ghost use Rattle.enc_session.specs.Session.{applied_as, files_in, followed_after, judged_after, method_in, world_of};
+ghost use Rattle.enc_session.specs.Engine.{IsAcceptedAfter};
+ghost use Rattle.enc_session.specs.Session.{applied_as, files_in, followed_after, judged_after, innermost_method, world_of};
 ghost use Rattle.enc_session.specs.States.{state_text};
 
 use crate::applied::Applied;
@@ -100,7 +100,7 @@ impl Engine {
 
     /// The method of a task's innermost frame, None where it has none.
     pub(crate) fn method(&self, task: u32) -> Option<Token>
-        ensures { result ≡ method_in self.now.machine task }
+        ensures { result ≡ innermost_method self.now.machine task }
     {
         match self.machine.innermost(task) {
             None => None,
@@ -141,7 +141,7 @@ impl Engine {
 
     /// Adds a delta that breaks no rule.
     fn follow(&mut self, checked: Checked) -> Result<(), AllocError>
-        requires { MayFollow (chain_with self.old.followed.base self.old.followed.deltas) checked.delta checked.pdb }
+        requires { IsAcceptedAfter (chain_with self.old.followed.base self.old.followed.deltas) checked.delta checked.pdb }
         ensures ok { OnOk result (self.new ≡ record { followed = followed_by self.old.followed (accepted checked.delta checked.pdb); machine = self.old.machine }) }
         ensures err { OnErr result (self.new ≡ self.old) }
     {

@@ -11,7 +11,7 @@ ghost use Rattle.enc_dispatch.specs.Index.{StandsForModule};
 ghost use Rattle.enc_dispatch.specs.Ready.{IsPreparedFor};
 ghost use Rattle.enc_dispatch.specs.Stored.{with_room};
 ghost use Rattle.enc_versions.specs.Laws.{KeepsTexts};
-ghost use Rattle.enc_session.specs.Engine.{AreParts, AreReady, MayFollow, SayTheSame, followed_in};
+ghost use Rattle.enc_session.specs.Engine.{AreParts, IsDeltaReady, IsAcceptedAfter, SayTheSame, followed_in};
 
 use crate::codes::new_codes;
 use crate::laws::{changed_law, codes_law};
@@ -109,9 +109,9 @@ impl Parts {
         checked: Checked,
     ) -> Result<Prepared, AllocError>
         requires parts { AreParts self.old }
-        requires follows { MayFollow (chain_of_all self.old.agg) checked.delta checked.pdb }
+        requires follows { IsAcceptedAfter (chain_of_all self.old.agg) checked.delta checked.pdb }
         ensures same { SayTheSame self.new self.old }
-        ensures ready { IfOk result (AreReady self.new checked.delta checked.pdb) }
+        ensures ready { IfOk result (IsDeltaReady self.new checked.delta checked.pdb) }
     {
         changed_law();
         self.agg.sound();
@@ -135,8 +135,8 @@ impl Parts {
     /// Adds a delta for which all memory is taken. It takes no more and can't fail.
     pub(crate) fn commit(&mut self, prepared: Prepared)
         requires parts { AreParts self.old }
-        requires follows { MayFollow (chain_of_all self.old.agg) prepared.ready.delta prepared.pdb }
-        requires ready { AreReady self.old prepared.ready.delta prepared.pdb prepared }
+        requires follows { IsAcceptedAfter (chain_of_all self.old.agg) prepared.ready.delta prepared.pdb }
+        requires ready { IsDeltaReady self.old prepared.ready.delta prepared.pdb prepared }
         ensures followed { followed_in self.new ≡ followed_by (followed_in self.old) (accepted prepared.ready.delta prepared.pdb) }
         ensures parts { AreParts self.new }
         ensures texts { KeepsTexts (users_of_all self.old.agg) (users_of_all self.new.agg) }

@@ -10,7 +10,7 @@ use Rattle.enc_jobs.specs.Scripts.{is_name_byte, is_name}
 use Rattle.enc_jobs.specs.declared.command.Command.{Command}
 use Rattle.enc_jobs.specs.declared.command.Command.TheVariants.{Spawn, Step, Apply, Attach, Detach, State}
 use Rattle.enc_script.specs.Run.{NamedFiles}
-use Rattle.enc_top.specs.Verdict.{DeltaFiles, named, names_in}
+use Rattle.enc_top.specs.Verdict.{DeltaFiles, as_named, deltas_named}
 
 both : (a b : Bool) → (a && b) ≡ true → (a ≡ true) × (b ≡ true)
 both true b h = (refl, h)
@@ -31,9 +31,9 @@ name_is_text name h =
     IsUtf8-from_ascii name (ascii_all name (both (nat_le 1 (length name) && nat_le (length name) 200) (list_all is_name_byte name) h).1)
 
 -- one command more
-pub one_named : (names more : List (List ℕ)) (c : Command) (rest left : List Command) → left ≡ c ∷ rest → more ≡ names_in names (c ∷ [])
-    → names_in more rest ≡ names_in names left
-unfolding names_in
+pub one_named : (names more : List (List ℕ)) (c : Command) (rest left : List Command) → left ≡ c ∷ rest → more ≡ deltas_named names (c ∷ [])
+    → deltas_named more rest ≡ deltas_named names left
+unfolding deltas_named
 one_named names more (Apply name) rest left is named = rw (is, named) refl
 one_named names more (Spawn method) rest left is named = rw (is, named) refl
 one_named names more (Step task count) rest left is named = rw (is, named) refl
@@ -41,10 +41,10 @@ one_named names more (Attach kind) rest left is named = rw (is, named) refl
 one_named names more (Detach number) rest left is named = rw (is, named) refl
 one_named names more State rest left is named = rw (is, named) refl
 
-pub none_named : (names : List (List ℕ)) (left : List Command) → left ≡ [] → names_in names left ≡ names
-unfolding names_in
+pub none_named : (names : List (List ℕ)) (left : List Command) → left ≡ [] → deltas_named names left ≡ names
+unfolding deltas_named
 none_named names left is = rw is refl
 
 -- all files
-pub all_done : (deltas : List NamedFiles) (rest files : List DeltaFiles) → length rest ≡ 0 → deltas ++ map named rest ≡ map named files → deltas ≡ map named files
+pub all_done : (deltas : List NamedFiles) (rest files : List DeltaFiles) → length rest ≡ 0 → deltas ++ map as_named rest ≡ map as_named files → deltas ≡ map as_named files
 all_done deltas rest files none so_far = let is : rest ≡ [] = nil_from_length rest none in sym (append-nil deltas) ∙ (rw is at so_far)

@@ -302,19 +302,19 @@ write_on files base edits out deltas = do
 abbrev pub with_name : List (List ℕ) → List ℕ → List (List ℕ)
 with_name names name = if list_any (bytes_eq name) names then names else names ++ name ∷ []
 
-unfoldable pub names_in : List (List ℕ) → List Command → List (List ℕ)
-names_in names [] = names
-names_in names (Apply name ∷ commands) = names_in (with_name names name) commands
-names_in names (_ ∷ commands) = names_in names commands
+unfoldable pub deltas_named : List (List ℕ) → List Command → List (List ℕ)
+deltas_named names [] = names
+deltas_named names (Apply name ∷ commands) = deltas_named (with_name names name) commands
+deltas_named names (_ ∷ commands) = deltas_named names commands
 
 -- a delta's files, as a run finds them
-abbrev pub named : DeltaFiles → NamedFiles
-named f = record { metadata_name = f.name; debug_name = f.debug_name; files = record { metadata = f.metadata; code = f.code; debug = f.debug } }
+abbrev pub as_named : DeltaFiles → NamedFiles
+as_named f = record { metadata_name = f.name; debug_name = f.debug_name; files = record { metadata = f.metadata; code = f.code; debug = f.debug } }
 
 unfoldable pub load_named : Files → List Command → ℕ → Result (List NamedFiles) Stop
 load_named files commands before = do
-  fs ← load_deltas files (names_in [] commands) before
-  Ok (map named fs)
+  fs ← load_deltas files (deltas_named [] commands) before
+  Ok (map as_named fs)
 
 -- `run BASE SCRIPT`: the base and the script are loaded and judged, and then each delta that the script names is loaded once
 unfoldable pub run_on : List Watching → Files → List ℕ → List ℕ → Verdict

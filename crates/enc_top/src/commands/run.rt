@@ -2,12 +2,12 @@
 ghost use Rattle.std.specs.Prelude.{◌≡◌, ◌≢◌, ◌⊎◌, ◌<◌, ◌^◌, ◌∷◌, [], List, Ok, true, IfOk, OnOk, IfSome, IsErrOf, IsTrue, bytes_eq, length, map, string_bytes};
 ghost use Rattle.std.specs.List.{list_all, list_any};
 ghost use Rattle.enc_outside.specs.Outside.{HasCause};
-ghost use Rattle.enc_jobs.specs.Laws.{has_name};
+ghost use Rattle.enc_jobs.specs.Laws.{names_a_delta};
 ghost use Rattle.enc_jobs.specs.Scripts.{is_name, script_said};
 ghost use Rattle.enc_jobs.specs.declared.command.Command.{Command as OneCommand};
-ghost use Rattle.enc_script.specs.Run.{named_in};
+ghost use Rattle.enc_script.specs.Run.{named_delta};
 ghost use Rattle.enc_top.specs.Words.{texts};
-ghost use Rattle.enc_top.specs.Verdict.{list_in_file, load_named as named_from, named, names_in, run_on, runs, with_name};
+ghost use Rattle.enc_top.specs.Verdict.{list_in_file, load_named as named_from, as_named, deltas_named, run_on, runs, with_name};
 ghost use Rattle.enc_top.specs.Plans.{IsPlanOf};
 ghost use Rattle.enc_top.specs.Loads.{base_followed, file_seen};
 ghost use Rattle.enc_top.specs.Stops.{Comes, IfPlan, StopsQuietly};
@@ -28,7 +28,7 @@ use std::alloc::{AllocError, Global};
 fn read_commands(alloc: Global, name: &str, text: &[u8]) -> Result<Script, Stop>
     ensures step { Comes (λ (l : List OneCommand). l) result (list_in_file name.now (script_said text.now)) }
     ensures few { IfOk result (λ (l : List OneCommand). length l < 2 ^ 32) }
-    ensures names { IfOk result (λ (l : List OneCommand). list_all has_name l ≡ true) }
+    ensures names { IfOk result (λ (l : List OneCommand). list_all names_a_delta l ≡ true) }
     ensures quiet { StopsQuietly result }
     ensures no_fault { ¬ (IsErrOf result Stop.Failed) }
 {
@@ -76,10 +76,10 @@ fn add_name(alloc: Global, names: &mut Vec<String>, name: &[u8]) -> Result<(), A
 }
 
 /// Adds the name of the delta that a command applies.
-#[tactic(auto, unfolding(crate::specs::Verdict::names_in))]
+#[tactic(auto, unfolding(crate::specs::Verdict::deltas_named))]
 fn add_named(alloc: Global, names: &mut Vec<String>, command: &Command) -> Result<(), AllocError>
-    requires { IsTrue (has_name command.now) }
-    ensures { OnOk result (texts names.new.items ≡ names_in (texts names.old.items) (command.now ∷ [])) }
+    requires { IsTrue (names_a_delta command.now) }
+    ensures { OnOk result (texts names.new.items ≡ deltas_named (texts names.old.items) (command.now ∷ [])) }
 {
     match command {
         Command::Apply(name) => add_name(alloc, names, name.as_slice()),
@@ -93,8 +93,8 @@ fn add_named(alloc: Global, names: &mut Vec<String>, command: &Command) -> Resul
 
 /// The names of the deltas that a script applies, each once, in the order in which they come first.
 fn delta_names(alloc: Global, script: &[Command]) -> Result<Vec<String>, AllocError>
-    requires { list_all has_name script.now ≡ true }
-    ensures { IfOk result (λ names. texts names.items ≡ names_in [] script.now) }
+    requires { list_all names_a_delta script.now ≡ true }
+    ensures { IfOk result (λ names. texts names.items ≡ deltas_named [] script.now) }
 {
     let mut names = Vec::new(alloc);
     for command in script {
@@ -105,7 +105,7 @@ fn delta_names(alloc: Global, script: &[Command]) -> Result<Vec<String>, AllocEr
 
 /// A delta's files, as a run finds them.
 fn named_of(file: DeltaFile) -> NamedDelta
-    ensures { named_in result ≡ named (file_seen file) }
+    ensures { named_delta result ≡ as_named (file_seen file) }
 {
     NamedDelta {
         metadata_name: file.name,
@@ -120,7 +120,7 @@ fn named_of(file: DeltaFile) -> NamedDelta
 
 /// The files of all deltas, as a run finds them.
 fn all_named(alloc: Global, files: Vec<DeltaFile>) -> Result<Vec<NamedDelta>, AllocError>
-    ensures { IfOk result (λ deltas. map named_in deltas.items ≡ map named (map file_seen files.items)) }
+    ensures { IfOk result (λ deltas. map named_delta deltas.items ≡ map as_named (map file_seen files.items)) }
 {
     let mut deltas = Vec::new(alloc);
     for file in files {
@@ -137,10 +137,10 @@ fn load_named<S: Store>(
     loaded: &mut Loaded,
     store: &mut S,
 ) -> Result<Vec<NamedDelta>, Stop>
-    requires { list_all has_name script.now ≡ true }
+    requires { list_all names_a_delta script.now ≡ true }
     ensures cause { HasCause Stop.Failed (S.faults store.old) (S.faults store.new) result }
     ensures stays { S.told store.new ≡ S.told store.old }
-    ensures step { IfSome (S.told store.old) (λ files. Comes (λ ds. map named_in ds.items) result (named_from files script.now loaded.old)) }
+    ensures step { IfSome (S.told store.old) (λ files. Comes (λ ds. map named_delta ds.items) result (named_from files script.now loaded.old)) }
     ensures quiet { StopsQuietly result }
 {
     let names = delta_names(alloc, script.as_slice())?;
@@ -157,7 +157,7 @@ fn ran<W: Watcher>(
     script: &Script,
 ) -> Result<Plan, AllocError>
     requires { length script.now < 2 ^ 32 }
-    ensures plan { IfOk result (λ plan. IsPlanOf (Ok (runs (map (λ w. record { kind = W.kind_of w; limit = W.limit w; heard = W.heard w }) watchers.items) (base_followed base) (map named_in deltas.now) script.now)) plan) }
+    ensures plan { IfOk result (λ plan. IsPlanOf (Ok (runs (map (λ w. record { kind = W.kind_of w; limit = W.limit w; heard = W.heard w }) watchers.items) (base_followed base) (map named_delta deltas.now) script.now)) plan) }
 {
     let mut text = Vec::new(alloc);
     let JudgedBase { image, pdb } = base;

@@ -1,5 +1,5 @@
 use Rattle.std.proofs.Common.{◌≡◌, ◌+◌, ◌∙◌, ap, length, map, arith, Ok, Err}
-use Rattle.enc_script.specs.Run.{named_in}
+use Rattle.enc_script.specs.Run.{named_delta}
 use Rattle.enc_top.proofs.Loading.{if_both, from_nothing}
 use Rattle.enc_top.proofs.Running.{if_gone, if_three, stops_at_script, stops_at_deltas, run_is}
 use Rattle.enc_top.specs.Loads.{base_seen, base_followed}
@@ -43,9 +43,9 @@ returns-clause-plan g c =
     let told : g.S.Store.told c.load.new.store ≡ g.S.Store.told c.args.store.now = c.load.ensures.stays ∙ c.load_base.ensures.stays in
     if_three (g.S.Store.told c.args.store.now) (λ files. load_base files c.args.base.now 0 ≡ Ok f)
     (λ files. load_one files c.args.script.now (base_size f) ≡ Ok c.in_ok-text.text.items)
-    (λ files. load_named files c.in_ok-commands.commands (base_size f + length c.in_ok-text.text.items) ≡ Ok (map named_in c.in_ok-deltas.deltas.items)) _
+    (λ files. load_named files c.in_ok-commands.commands (base_size f + length c.in_ok-text.text.items) ≡ Ok (map named_delta c.in_ok-deltas.deltas.items)) _
     (rw c.nothing-loaded.ensures at c.in_ok-file.ensures.step) (rw (many, c.load_base.ensures.stays) at c.in_ok-text.ensures.step)
     (rw (all, told) at c.in_ok-deltas.ensures.step)
     (λ files one two three. run_is _ files c.args.base.now c.args.script.now f c.in_ok-text.text.items (base_followed c.in_ok-judged.judged)
-    c.in_ok-commands.commands (map named_in c.in_ok-deltas.deltas.items) one two c.in_ok-judged.ensures.step
+    c.in_ok-commands.commands (map named_delta c.in_ok-deltas.deltas.items) one two c.in_ok-judged.ensures.step
     (rw c.deref.ensures.value at c.in_ok-commands.ensures.step) three _ (rw c.deref-2.ensures.value at c.in_ok-ran.ensures.plan))
