@@ -1,5 +1,6 @@
 -- Likeness of methods' signatures is an equivalence.
 use Rattle.std.proofs.Common.{◌≡◌, ℕ, zero, suc, Bool, true, false, List, Option, Some, None, refl, sym, subst, inl, inr, arith}
+use Rattle.std.specs.Cmp.{both_ways}
 use Rattle.std.specs.Prelude.{◌&&◌, ◌||◌, ◌==◌, bytes_eq}
 use Rattle.std.proofs.lemmas.Bool.{and_parts, and_from, or_cases, or_left, or_right}
 use Rattle.std.proofs.lemmas.Bool.Decides.{nat_tests}
@@ -35,6 +36,10 @@ both_partial r s p q = record {
       let f = and_parts (r b c) (s b c) k in
       and_from (r a c) (s a c) (p.on a b c e.0 f.0) (q.on a b c e.1 f.1);
 }
+
+-- things are related as those are that they are related to
+pub related_as : {A : Type 0} (r : A → A → Bool) → IsPartial r → (a b c d : A) → r a c ≡ true → r b d ≡ true → r c d ≡ r a b
+related_as r p a b c d ac bd = both_ways (r c d) (r a b) (λ h. p.on a d b (p.on a c d ac h) (p.back b d bd)) (λ h. p.on c b d (p.on c a b (p.back a c ac) h) bd)
 
 -- a relation of what things have
 pub of_partial : {A B : Type 0} (f : A → B) (r : B → B → Bool) → IsPartial r → IsPartial (λ a b. r (f a) (f b))
@@ -310,3 +315,7 @@ tokens_equivalence rows = joined (refs_alike rows 100) (type_specs_alike rows) 0
 pub methods_equivalence : (rows : Rows) → IsEquivalence (signatures_alike rows 0x06)
 unfolding signatures_alike kind_in_table
 methods_equivalence rows = blobs (tokens_alike rows) kind.Method (tokens_equivalence rows).part
+
+-- equal ones are alike
+pub equal_alike : (rows : Rows) (a b : List ℕ) → a ≡ b → signatures_alike rows 0x06 a b ≡ true
+equal_alike rows a b e = subst (λ c. signatures_alike rows 0x06 a c ≡ true) e ((methods_equivalence rows).itself a)

@@ -9,7 +9,7 @@ use Rattle.enc_index.specs.declared.key.Key.{Key}
 use Rattle.enc_index.specs.Key.{is_key}
 use Rattle.enc_index.specs.Index.{value_at, either}
 use Rattle.enc_plain.specs.Rows.{Rows}
-use Rattle.enc_dispatch.specs.Buckets.{slot_key, is_slot, is_first_of, newest_first, alike_first, alike_from, bucket_key, AreBuckets}
+use Rattle.enc_dispatch.specs.Buckets.{slot_key, is_slot, is_first_of, newest_first, alike_first, alike_from, bucket_key, stored_head, head_over, AreBuckets}
 use Rattle.enc_dispatch.specs.Parts.{EachPart}
 use Rattle.enc_dispatch.specs.Slots.{shares_slot, slot_in}
 use Rattle.enc_dispatch.specs.Walks.{method_at}
@@ -98,7 +98,7 @@ next_less rows key row None at low is e = rw is low
 next_less rows key row (Some r) at low is e = let w = newest_met rows key (row - 1) (Some r) e r refl in rw is (omega (arith, w.1, low))
 
 -- what stands behind a method in its bucket
-pub behind_is : (rows : Rows) (heads : Index ℕ) (next : List (Option ℕ)) (key row : ℕ) (o : Option ℕ) → AreBuckets rows heads next → 0 < row → slot_key rows (method_at row) ≡ key → slice_get next (row - 1) ≡ Some o → o ≡ newest_first rows key (row - 1)
+pub behind_is : (rows : Rows) (heads : ℕ → Option ℕ) (next : List (Option ℕ)) (key row : ℕ) (o : Option ℕ) → AreBuckets rows heads next → 0 < row → slot_key rows (method_at row) ≡ key → slice_get next (row - 1) ≡ Some o → o ≡ newest_first rows key (row - 1)
 behind_is rows heads next key row o are low is e =
     let more : row - 1 + 1 ≡ row = omega arith in
     are.next (row - 1) o e ∙ ap (λ k. newest_first rows k (row - 1)) (ap (λ r. slot_key rows (method_at r)) more ∙ is)
@@ -180,16 +180,16 @@ newest_more rows key n = let more : n + 1 ≡ suc n = omega arith in ap (newest_
 pub one_longer : {A : Type 0} (xs : List A) (x : A) (n : ℕ) → length xs ≡ n → length (xs ++ x ∷ []) ≡ n + 1
 one_longer xs x n e = length-append xs (x ∷ []) ∙ ap (λ k. k + 1) e
 
-next_more : (rows : Rows) (heads : Index ℕ) (next : List (Option ℕ)) (key n : ℕ) → AreBuckets rows heads next → length next ≡ n → key ≡ slot_key rows (nth n) → EachPart (λ (k : ℕ) (o : Option ℕ). o ≡ newest_first rows (slot_key rows (nth k)) k) (next ++ value_at heads (bucket_key key) ∷ [])
+next_more : (rows : Rows) (heads : ℕ → Option ℕ) (next : List (Option ℕ)) (key n : ℕ) → AreBuckets rows heads next → length next ≡ n → key ≡ slot_key rows (nth n) → EachPart (λ (k : ℕ) (o : Option ℕ). o ≡ newest_first rows (slot_key rows (nth k)) k) (next ++ heads key ∷ [])
 next_more rows heads next key n are size ek =
-    each_more (λ (k : ℕ) (o : Option ℕ). o ≡ newest_first rows (slot_key rows (nth k)) k) next (value_at heads (bucket_key key)) n are.next size
+    each_more (λ (k : ℕ) (o : Option ℕ). o ≡ newest_first rows (slot_key rows (nth k)) k) next (heads key) n are.next size
     (are.heads key ∙ ap (newest_first rows key) size ∙ ap (λ k. newest_first rows k n) ek)
 
-pub buckets_more : (rows : Rows) (heads : Index ℕ) (next : List (Option ℕ)) (key n r : ℕ) → AreBuckets rows heads next → length next ≡ n → key ≡ slot_key rows (nth n) → slot_in rows (nth n) ≡ Some r → r ≤ n → AreBuckets rows heads (next ++ value_at heads (bucket_key key) ∷ [])
+pub buckets_more : (rows : Rows) (heads : ℕ → Option ℕ) (next : List (Option ℕ)) (key n r : ℕ) → AreBuckets rows heads next → length next ≡ n → key ≡ slot_key rows (nth n) → slot_in rows (nth n) ≡ Some r → r ≤ n → AreBuckets rows heads (next ++ heads key ∷ [])
 buckets_more rows heads next key n r are size ek slot low = record {
   heads = λ k.
       are.heads k ∙ ap (newest_first rows k) size
-      ∙ sym (ap (newest_first rows k) (one_longer next (value_at heads (bucket_key key)) n size) ∙ newest_kept rows k n (not_first rows k n r slot low));
+      ∙ sym (ap (newest_first rows k) (one_longer next (heads key) n size) ∙ newest_kept rows k n (not_first rows k n r slot low));
   next = next_more rows heads next key n are size ek;
 }
 
@@ -214,24 +214,41 @@ first_told rows key n k ek slot =
     let same : (n + 1 == n + 1) ≡ true = eq-eqb (n + 1) (n + 1) refl in
     rw (slot, same) (ap (λ j. j == k) (sym ek))
 
-pub buckets_first : (rows : Rows) (heads new : Index ℕ) (next : List (Option ℕ)) (key n : ℕ) → AreBuckets rows heads next → length next ≡ n → key ≡ slot_key rows (nth n) → slot_in rows (nth n) ≡ Some (n + 1)
-    → ((q : Key) → value_at new q ≡ either (if is_key (bucket_key key) q then Some (n + 1) else None) (value_at heads q)) → AreBuckets rows new (next ++ value_at heads (bucket_key key) ∷ [])
+-- a first method more
+pub head_put : (below old new : Index ℕ) (key row k : ℕ) → ((q : Key) → value_at new q ≡ either (if is_key (bucket_key key) q then Some row else None) (value_at old q)) → head_over below new k ≡ either (if key == k then Some row else None) (head_over below old k)
+head_put below old new key row k put =
+    ap (λ o. either o (stored_head below k)) (put (bucket_key k) ∙ ap (λ b. either (if b then Some row else None) (stored_head old k)) (buckets_apart key k))
+    ∙ by_test (key == k) (stored_head old k)
+  where
+    by_test : (b : Bool) (o : Option ℕ) → either (either (if b then Some row else None) o) (stored_head below k) ≡ either (if b then Some row else None) (either o (stored_head below k))
+    by_test true o = refl
+    by_test false o = refl
+
+pub buckets_first : (rows : Rows) (heads new : ℕ → Option ℕ) (next : List (Option ℕ)) (key n : ℕ) → AreBuckets rows heads next → length next ≡ n → key ≡ slot_key rows (nth n) → slot_in rows (nth n) ≡ Some (n + 1)
+    → ((k : ℕ) → new k ≡ either (if key == k then Some (n + 1) else None) (heads k)) → AreBuckets rows new (next ++ heads key ∷ [])
 buckets_first rows heads new next key n are size ek slot put = record {
   heads = λ k.
-      put (bucket_key k)
-      ∙ ap (λ b. either (if b then Some (n + 1) else None) (value_at heads (bucket_key k))) (buckets_apart key k)
+      put k
       ∙ by_key k (key == k) refl
-      ∙ sym (ap (newest_first rows k) (one_longer next (value_at heads (bucket_key key)) n size) ∙ newest_more rows k n);
+      ∙ sym (ap (newest_first rows k) (one_longer next (heads key) n size) ∙ newest_more rows k n);
   next = next_more rows heads next key n are size ek;
 }
   where
-    by_key : (k : ℕ) (b : Bool) → (key == k) ≡ b → either (if b then Some (n + 1) else None) (value_at heads (bucket_key k)) ≡ (if is_first_of rows k n then Some (n + 1) else newest_first rows k n)
+    by_key : (k : ℕ) (b : Bool) → (key == k) ≡ b → either (if b then Some (n + 1) else None) (heads k) ≡ (if is_first_of rows k n then Some (n + 1) else newest_first rows k n)
     by_key k true e = rw (first_told rows key n k ek slot ∙ e) refl
     by_key k false e = rw (first_told rows key n k ek slot ∙ e) (are.heads k ∙ ap (newest_first rows k) size)
+
+-- entries that say what the heads say
+pub entries_more : (key row : ℕ) (q : Key) (entries heads : Option ℕ) → entries ≡ heads → either (if is_key (bucket_key key) q then Some row else None) entries ≡ either (if is_key (bucket_key key) q then Some row else None) heads
+entries_more key row q entries heads e = ap (either (if is_key (bucket_key key) q then Some row else None)) e
 
 newest_nothing : (rows : Rows) (key : ℕ) → newest_first rows key 0 ≡ None
 unfolding newest_first
 newest_nothing rows key = refl
 
-pub buckets_none : (rows : Rows) (heads : Index ℕ) → ((q : Key) → value_at heads q ≡ None) → AreBuckets rows heads []
-buckets_none rows heads none = record { heads = λ key. none (bucket_key key) ∙ sym (newest_nothing rows key); next = each_none _ }
+pub buckets_none : (rows : Rows) (heads : ℕ → Option ℕ) → ((key : ℕ) → heads key ≡ None) → AreBuckets rows heads []
+buckets_none rows heads none = record { heads = λ key. none key ∙ sym (newest_nothing rows key); next = each_none _ }
+
+-- heads that say the same
+pub heads_same : (rows : Rows) (heads new : ℕ → Option ℕ) (next : List (Option ℕ)) → ((key : ℕ) → new key ≡ heads key) → AreBuckets rows heads next → AreBuckets rows new next
+heads_same rows heads new next same are = record { heads = λ key. same key ∙ are.heads key; next = are.next }

@@ -1,28 +1,30 @@
 -- What the index reads of the rows that were there stays, where each listed row keeps it.
-use Rattle.std.proofs.Common.{◌≡◌, ℕ, zero, suc, ◌+◌, ◌<◌, ◌≤◌, Bool, true, false, List, [], ◌∷◌, ◌++◌, Option, Some, None, slice_get, IsTrue, refl, sym, ap, subst, ◌∙◌, inl, inr, ◌⊎◌, arith}
-use Rattle.std.specs.Prelude.{◌&&◌, ◌||◌, ◌==◌, not, bytes_eq, nat_le, cond, count_by, flat_map, length, if◌then◌else◌}
+use Rattle.std.proofs.Common.{◌≡◌, ℕ, zero, suc, ◌+◌, ◌≤◌, Bool, true, false, List, [], ◌∷◌, ◌++◌, Option, Some, None, slice_get, refl, sym, ap, subst, ◌∙◌, inl, inr, ◌⊎◌, arith}
+use Rattle.std.specs.Prelude.{◌&&◌, ◌||◌, ◌==◌, bytes_eq, nat_le, cond, count_by, flat_map, length, if◌then◌else◌}
 use Rattle.std.specs.List.{list_any, list_all}
 use Rattle.std.proofs.lemmas.Bool.{and_parts, or_cases, or_left, or_right, eqb-true}
 use Rattle.std.proofs.lemmas.Bool.Decides.{nat_tests}
 use Rattle.std.proofs.lemmas.Slice.Eq.{bytes_eq-Decides}
-use Rattle.enc_base.specs.Token.{is_token, nth_row}
+use Rattle.enc_base.specs.Token.{is_token}
 use Rattle.enc_base.specs.declared.token.Token.{Token}
+use Rattle.enc_plain.specs.Alike.{signatures_alike}
 use Rattle.enc_plain.specs.Module.{Module, Row, rows_in, row_at, row_of, has_row, cells_of, kids_at, kids_with, kids_of, owner_of}
 use Rattle.enc_plain.specs.Rows.{number_at, bytes_at, token_at}
-use Rattle.enc_plain.specs.Sound.{row_count, all_kids, IsOwned, IsSound}
+use Rattle.enc_plain.specs.Sound.{row_count, all_kids, IsSound}
 use Rattle.enc_plain.proofs.Applied.{same_is}
 use Rattle.enc_plain.proofs.Owned.{count_cons, count_append, kid_owner, has_owner}
 use Rattle.enc_schema.specs.Children.{is_child_table, owner_table}
-use Rattle.enc_dispatch.specs.Changed.{is_listed, AreNew, IsChangedBy}
-use Rattle.enc_dispatch.specs.Keeps.{keeps_method, keeps_class, is_read_by_likeness, is_read, keeps_row, keeps}
+use Rattle.enc_dispatch.specs.Changed.{is_listed, IsChangedBy}
+use Rattle.enc_dispatch.specs.Keeps.{most_compared, keeps_signature, keeps_method, keeps_class, is_read_by_likeness, is_read, keeps_row, keeps}
 use Rattle.enc_dispatch.specs.Walks.{method_at}
+use Rattle.enc_dispatch.proofs.Equivalence.{equal_alike}
 use Rattle.enc_dispatch.proofs.References.{RefsStay, number_by, bytes_by, token_by}
 
 -- what is read of a method and of a class
 pub record MethodStays (m n : Module) (u : Token) : Type 0 where
   pub flags : number_at (cells_of n) u 2 ≡ number_at (cells_of m) u 2
   pub name : bytes_at (cells_of n) u 3 ≡ bytes_at (cells_of m) u 3
-  pub signature : bytes_at (cells_of n) u 4 ≡ bytes_at (cells_of m) u 4
+  pub signature : signatures_alike (cells_of n) 0x06 (bytes_at (cells_of m) u 4) (bytes_at (cells_of n) u 4) ≡ true
 
 pub record ClassStays (m n : Module) (u : Token) : Type 0 where
   pub flags : number_at (cells_of n) u 0 ≡ number_at (cells_of m) u 0
@@ -59,15 +61,25 @@ back a b h = sym (eqb-true a b h)
 bytes_back : (a b : List ℕ) → bytes_eq a b ≡ true → b ≡ a
 bytes_back a b h = sym ((bytes_eq-Decides a b).0 h)
 
+signature_told : (m n : Module) (u : Token) → keeps_signature m n u ≡ true → signatures_alike (cells_of n) 0x06 (bytes_at (cells_of m) u 4) (bytes_at (cells_of n) u 4) ≡ true
+unfolding keeps_signature
+signature_told m n u h =
+    let alike = signatures_alike (cells_of n) 0x06 (bytes_at (cells_of m) u 4) (bytes_at (cells_of n) u 4) in
+    let short = nat_le (length (bytes_at (cells_of m) u 4)) most_compared in
+    elim (or_cases (bytes_eq (bytes_at (cells_of m) u 4) (bytes_at (cells_of n) u 4)) (short && alike) h) [
+      | inl same ↦ equal_alike (cells_of n) (bytes_at (cells_of m) u 4) (bytes_at (cells_of n) u 4) ((bytes_eq-Decides (bytes_at (cells_of m) u 4) (bytes_at (cells_of n) u 4)).0 same)
+      | inr other ↦ (and_parts short alike other).1
+    ]
+
 method_told : (m n : Module) (u : Token) → keeps_method m n u ≡ true → MethodStays m n u
 unfolding keeps_method
 method_told m n u h =
-    let a = and_parts (number_at (cells_of m) u 2 == number_at (cells_of n) u 2 && bytes_eq (bytes_at (cells_of m) u 3) (bytes_at (cells_of n) u 3)) (bytes_eq (bytes_at (cells_of m) u 4) (bytes_at (cells_of n) u 4)) h in
+    let a = and_parts (number_at (cells_of m) u 2 == number_at (cells_of n) u 2 && bytes_eq (bytes_at (cells_of m) u 3) (bytes_at (cells_of n) u 3)) (keeps_signature m n u) h in
     let b = and_parts (number_at (cells_of m) u 2 == number_at (cells_of n) u 2) (bytes_eq (bytes_at (cells_of m) u 3) (bytes_at (cells_of n) u 3)) a.0 in
     record {
       flags = back (number_at (cells_of m) u 2) (number_at (cells_of n) u 2) b.0;
       name = bytes_back (bytes_at (cells_of m) u 3) (bytes_at (cells_of n) u 3) b.1;
-      signature = bytes_back (bytes_at (cells_of m) u 4) (bytes_at (cells_of n) u 4) a.1;
+      signature = signature_told m n u a.1;
     }
 
 class_told : (m n : Module) (u : Token) → keeps_class m n u ≡ true → ClassStays m n u
@@ -129,7 +141,11 @@ kept m n listed changed all = record {
     method_by u there e true is = method_told m n u (method_row m n u e (row_keeps m n listed u all there is))
     method_by u there e false is =
         let same = changed.same u there is in
-        record { flags = number_by (cells_of n) (cells_of m) u 2 same; name = bytes_by (cells_of n) (cells_of m) u 3 same; signature = bytes_by (cells_of n) (cells_of m) u 4 same }
+        record {
+          flags = number_by (cells_of n) (cells_of m) u 2 same;
+          name = bytes_by (cells_of n) (cells_of m) u 3 same;
+          signature = equal_alike (cells_of n) (bytes_at (cells_of m) u 4) (bytes_at (cells_of n) u 4) (sym (bytes_by (cells_of n) (cells_of m) u 4 same));
+        }
 
 -- children are rows
 counted_some : (p : ℕ → Bool) (xs : List ℕ) → list_any p xs ≡ true → 1 ≤ count_by p xs
@@ -203,7 +219,7 @@ any_left p (x ∷ xs) ys h = elim (or_cases (p x) (list_any p xs) h) [
 method_child : is_child_table 0x06 ≡ true
 method_child = refl
 
-row_bounds : (m : Module) (k : ℕ) → has_row m (method_at k) ≡ true → (1 ≤ k) × (k ≤ length (rows_in m 0x06))
+pub row_bounds : (m : Module) (k : ℕ) → has_row m (method_at k) ≡ true → (1 ≤ k) × (k ≤ length (rows_in m 0x06))
 unfolding has_row
 row_bounds m k h = (grind (arith, nat_tests), grind (arith, nat_tests))
 

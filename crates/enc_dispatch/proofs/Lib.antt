@@ -15,4 +15,7 @@ pub mod OneShape
 pub mod References
 pub mod Kept
 pub mod Stays
-pub mod Unchanged
+pub mod Later
+pub mod UpTo
+pub mod Grown
+pub mod OwnerClasses

@@ -1,6 +1,6 @@
 -- A signature has one shape by two functions that give the tokens that it names the same keys.
 use Rattle.std.proofs.Common.{◌≡◌, ℕ, zero, suc, Bool, true, false, List, [], ◌∷◌, Option, Some, None, refl, ap, subst, sym, ◌∙◌}
-use Rattle.std.specs.Prelude.{◌||◌, ◌&&◌, ◌==◌, drop, option_map, option_and_then, if◌then◌else◌}
+use Rattle.std.specs.Prelude.{◌||◌, ◌==◌, drop, option_map, option_and_then, if◌then◌else◌}
 use Rattle.enc_base.specs.Readers.{Reader, giving, both, number_in}
 use Rattle.enc_base.specs.Token.{nil}
 use Rattle.enc_base.specs.declared.token.Token.{Token}
@@ -8,12 +8,11 @@ use Rattle.enc_sigs.specs.declared.form.Form.{Form}
 use Rattle.enc_sigs.specs.declared.form.Form.TheVariants as form
 use Rattle.enc_sigs.specs.declared.form.Numeral.{Numeral}
 use Rattle.enc_sigs.specs.declared.form.Numeral.TheVariants.{Size, Bound}
-use Rattle.enc_sigs.specs.declared.kind.SigKind.{SigKind}
 use Rattle.enc_sigs.specs.declared.kind.SigKind.TheVariants.{Method, TypeSpec}
 use Rattle.enc_sigs.specs.declared.mix.Mix.{Mix}
 use Rattle.enc_sigs.specs.Mix.{mix_of, mixed, mixed_both}
 use Rattle.enc_sigs.specs.Tree.{Tree, SigTree}
-use Rattle.enc_sigs.specs.Grammar.{upon, many, list_in, byte_in, token_in, token_named, is_coded, tree, form_of, wrapped_in, named_in, modified_in, numbered_in, numeral_in, numerals_in, array_in, instance_in, begins, more_in, marked_in, params, calling_in, parts_in, method_in, pointer_in, formed_in, elem_in, type_in, front_in, all_of, sig_in}
+use Rattle.enc_sigs.specs.Grammar.{upon, many, list_in, byte_in, token_in, token_named, is_coded, tree, form_of, wrapped_in, named_in, modified_in, numbered_in, numeral_in, numerals_in, array_in, instance_in, begins, more_in, marked_in, params, calling_in, parts_in, method_in, pointer_in, formed_in, elem_in, type_in, front_in, sig_in}
 use Rattle.enc_sigs.specs.Shape.{Shaping, in_turn, number_shape, upon_shape, token_shape, many_shape, counted_shape, numerals_shape, array_shape, modified_shape, instance_shape, marked_shape, params_shape, parts_shape, calling_shape, method_shape, formed_shape, elem_shape, type_shape, front_shape, mixed_of, sig_shape}
 use Rattle.enc_dispatch.proofs.Named.{whole_read}
 

@@ -1,14 +1,14 @@
 -- Where a module's references stay as they are, the likeness and the keys of what its rows name stay too.
-use Rattle.std.proofs.Common.{◌≡◌, ℕ, zero, suc, ◌/◌, ◌%◌, ◌≤◌, Bool, true, false, List, Option, Some, None, refl, sym, ap, subst, ◌∙◌, inl, inr, ◌⊎◌, arith}
+use Rattle.std.proofs.Common.{◌≡◌, ℕ, zero, suc, ◌/◌, ◌%◌, Bool, true, false, List, Option, Some, None, refl, sym, ap, subst, ◌∙◌, inl, inr, ◌⊎◌, arith}
 use Rattle.std.specs.Prelude.{◌&&◌, ◌||◌, ◌==◌, is_some, bytes_eq, nat_lt, nat_le, slice_get, option_and_then, if◌then◌else◌}
 use Rattle.std.proofs.lemmas.Bool.{and_parts, or_cases}
 use Rattle.std.proofs.lemmas.Bool.Decides.{nat_tests}
 use Rattle.enc_base.specs.Token.{nil, is_token}
 use Rattle.enc_base.specs.declared.token.Token.{Token}
-use Rattle.enc_plain.specs.Alike.{are_rows, same_bytes, same_number, type_refs_alike, assembly_refs_alike, module_refs_alike, refs_alike, type_specs_alike, tokens_alike, signatures_alike}
+use Rattle.enc_plain.specs.Alike.{are_rows, type_refs_alike, assembly_refs_alike, module_refs_alike, refs_alike, type_specs_alike, tokens_alike, signatures_alike}
 use Rattle.enc_plain.specs.Cell.{Cell, number, text, blob, guid, refer, body, field}
 use Rattle.enc_plain.specs.Keys.{token_key, names_key, type_ref_key, scoped_key, assembly_ref_key, module_ref_key, ref_key, spec_shape, spec_key, key_of, signature_key}
-use Rattle.enc_plain.specs.Module.{Module, rows_in, has_row, cells_of, cell_of}
+use Rattle.enc_plain.specs.Module.{Module, has_row, cells_of, cell_of}
 use Rattle.enc_plain.specs.Rows.{Rows, number_of_cell, bytes_of_cell, token_of_cell, number_at, bytes_at, token_at}
 use Rattle.enc_plain.specs.Signatures.{kind_in_table, signature_column, is_signature}
 use Rattle.enc_plain.specs.Sound.{row_count, can_name, is_reference, cell_is_sound, IsSound}
@@ -18,9 +18,9 @@ use Rattle.enc_schema.specs.declared.column.Column.{Column}
 use Rattle.enc_schema.specs.declared.column.Column.TheVariants.{Coded}
 use Rattle.enc_schema.specs.declared.column.Coding.TheVariants.{ResolutionScope}
 use Rattle.enc_schema.specs.Schema.{columns_in, column_in}
-use Rattle.enc_sigs.specs.Agree.{tokens_agree, forests_agree, sig_trees_agree, if_both, sigs_agree}
+use Rattle.enc_sigs.specs.Agree.{forests_agree, sig_trees_agree, if_both, sigs_agree}
 use Rattle.enc_sigs.specs.Grammar.{table_of, token_named, is_coded, is_counted, sig_in}
-use Rattle.enc_sigs.specs.Mix.{mixed_both, finished}
+use Rattle.enc_sigs.specs.Mix.{finished}
 use Rattle.enc_sigs.specs.Shape.{sig_shape}
 use Rattle.enc_sigs.specs.Tree.{Forest, none, more, SigTree, forest_of}
 use Rattle.enc_sigs.specs.declared.kind.SigKind.{SigKind}

@@ -42,7 +42,7 @@ shares_on rows a b c h k =
     let w = names_are rows b c k in
     they_share rows a c (v.0 ∙ w.0) ((methods_equivalence rows).part.on (bytes_at rows a 4) (bytes_at rows b 4) (bytes_at rows c 4) v.1 w.1)
 
-one_kind : (a b : List ℕ) → kind_in_table 0x06 a ≡ kind_in_table 0x06 b
+pub one_kind : (a b : List ℕ) → kind_in_table 0x06 a ≡ kind_in_table 0x06 b
 unfolding kind_in_table
 one_kind a b = refl
 

@@ -1,22 +1,19 @@
 -- What the index says of the rows that were there, it says of them in a module that keeps what is read of them.
-use Rattle.std.proofs.Common.{◌≡◌, ℕ, zero, suc, ◌+◌, ◌<◌, ◌≤◌, Bool, true, false, List, [], ◌∷◌, length, filter, Option, Some, None, option_map, slice_get, IsTrue, refl, sym, ap, subst, ◌∙◌, arith}
-use Rattle.std.specs.Prelude.{◌&&◌, ◌==◌, bytes_eq, nat_lt, nat_le, if◌then◌else◌}
+use Rattle.std.proofs.Common.{◌≡◌, ℕ, zero, suc, ◌+◌, ◌<◌, ◌≤◌, Bool, true, false, List, [], ◌∷◌, length, filter, Option, Some, None, option_map, slice_get, refl, sym, ap, ◌∙◌, arith}
+use Rattle.std.specs.Prelude.{◌&&◌, nat_lt, nat_le, if◌then◌else◌}
 use Rattle.std.proofs.lemmas.Bool.Decides.{nat_tests}
 use Rattle.enc_base.specs.Numbers.{has_flag}
-use Rattle.enc_base.specs.Order.{or_else, first_below}
-use Rattle.enc_base.specs.Token.{nth_row, is_token}
+use Rattle.enc_base.specs.Order.{first_below}
+use Rattle.enc_base.specs.Token.{nth_row}
 use Rattle.enc_base.specs.declared.token.Token.{Token}
 use Rattle.enc_base.proofs.First.{first_none, first_suc}
-use Rattle.enc_index.specs.declared.index.Index.{Index}
 use Rattle.enc_plain.specs.Alike.{signatures_alike}
-use Rattle.enc_plain.specs.Keys.{signature_key}
-use Rattle.enc_plain.specs.Module.{Module, rows_in, has_row, cells_of, owner_of}
-use Rattle.enc_plain.specs.Rows.{Rows, number_at, bytes_at, token_at}
+use Rattle.enc_plain.specs.Module.{Module, has_row, cells_of}
+use Rattle.enc_plain.specs.Rows.{number_at, bytes_at}
 use Rattle.enc_plain.specs.Sound.{row_count, IsSound}
+use Rattle.enc_plain.proofs.OneKey.{signatures_one}
 use Rattle.enc_schema.specs.Tables as tables
-use Rattle.enc_sigs.specs.Mix.{mix_of, mixed, mixed_ends, finished}
 use Rattle.enc_dispatch.specs.declared.class_part.ClassPart.{ClassPart}
-use Rattle.enc_dispatch.specs.declared.impl_part.ImplPart.{ImplPart}
 use Rattle.enc_dispatch.specs.declared.method_part.MethodPart.{MethodPart}
 use Rattle.enc_dispatch.specs.declared.own_method.OwnMethod.{OwnMethod}
 use Rattle.enc_dispatch.specs.declared.wanted.Wanted.{Wanted}
@@ -27,13 +24,13 @@ use Rattle.enc_dispatch.specs.Own.{virtual_slot, wanted_slot, row_part, own_amon
 use Rattle.enc_dispatch.specs.Parts.{EachPart}
 use Rattle.enc_dispatch.specs.Path.{class_base, says_interface}
 use Rattle.enc_dispatch.specs.Slots.{shares_slot, shares_at, slot_in}
-use Rattle.enc_dispatch.specs.Stored.{class_at, impl_for, own_part, IsClassPart, IsMethodPart}
-use Rattle.enc_dispatch.specs.Target.{is_interface}
+use Rattle.enc_dispatch.specs.Stored.{impl_for, IsClassPart, IsMethodPart}
 use Rattle.enc_dispatch.specs.Walked.{slot_at}
-use Rattle.enc_dispatch.specs.Walks.{impl_class, impl_body, impl_declaration, method_at, flags_of, is_virtual, is_public, is_new_slot}
-use Rattle.enc_dispatch.proofs.Kept.{IsKept, MethodStays, AllThere, owner_kept}
+use Rattle.enc_dispatch.specs.Walks.{method_at, is_virtual}
+use Rattle.enc_dispatch.proofs.Equivalence.{methods_equivalence, related_as}
+use Rattle.enc_dispatch.proofs.Kept.{IsKept, AllThere, owner_kept}
 use Rattle.enc_dispatch.proofs.References.{method_sound, signatures_same, signature_key_same, token_by}
-use Rattle.enc_dispatch.proofs.Sharing.{nth}
+use Rattle.enc_dispatch.proofs.Sharing.{nth, one_kind}
 
 -- the n-th row is there below the count
 some_row : (k n : ℕ) → k < n → (nat_lt 0 (k + 1) && nat_le (k + 1) n) ≡ true
@@ -61,13 +58,16 @@ shares_same m n a b sound kept ta tb ea eb =
     let sa = kept.methods a ta ea in
     let sb = kept.methods b tb eb in
     let alike = signatures_same m n (bytes_at (cells_of m) a 4) (bytes_at (cells_of m) b 4) sound kept.refs (method_sound m a sound ta ea) (method_sound m b sound tb eb) in
-    rw (sa.name, sb.name, sa.signature, sb.signature, alike) refl
+    let anew = related_as (signatures_alike (cells_of n) 0x06) (methods_equivalence (cells_of n)).part (bytes_at (cells_of m) a 4) (bytes_at (cells_of m) b 4) (bytes_at (cells_of n) a 4) (bytes_at (cells_of n) b 4) sa.signature sb.signature in
+    rw (sa.name, sb.name, anew, alike) refl
 
 key_same : (m n : Module) (a : Token) → IsSound m → IsKept m n → has_row m a ≡ true → a.table ≡ 0x06 → slot_key (cells_of n) a ≡ slot_key (cells_of m) a
 unfolding slot_key
 key_same m n a sound kept there e =
     let s = kept.methods a there e in
-    rw (s.name, s.signature, signature_key_same m n (bytes_at (cells_of m) a 4) sound kept.refs (method_sound m a sound there e)) refl
+    let anew = signatures_one (cells_of n) 0x06 (bytes_at (cells_of m) a 4) (bytes_at (cells_of n) a 4) refl (one_kind (bytes_at (cells_of m) a 4) (bytes_at (cells_of n) a 4)) s.signature in
+    let key = sym anew ∙ signature_key_same m n (bytes_at (cells_of m) a 4) sound kept.refs (method_sound m a sound there e) in
+    rw (s.name, key) refl
 
 abbrev count : Module → ℕ
 count m = row_count m tables.method_def
@@ -91,7 +91,7 @@ unfolding newest_first
 newest_same m n key zero sound kept low = refl
 newest_same m n key (suc k) sound kept low = rw (first_of_same m n key k sound kept (omega (arith, low)), newest_same m n key k sound kept (omega (arith, low))) refl
 
-pub buckets_same : (m n : Module) (heads : Index ℕ) (links : List (Option ℕ)) → IsSound m → IsKept m n → length links ≡ count m → AreBuckets (cells_of m) heads links → AreBuckets (cells_of n) heads links
+pub buckets_same : (m n : Module) (heads : ℕ → Option ℕ) (links : List (Option ℕ)) → IsSound m → IsKept m n → length links ≡ count m → AreBuckets (cells_of m) heads links → AreBuckets (cells_of n) heads links
 buckets_same m n heads links sound kept size are = record {
   heads = λ key. are.heads key ∙ sym (newest_same m n key (length links) sound kept (omega (arith, size)));
   next = λ k o e.

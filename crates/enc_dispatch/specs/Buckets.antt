@@ -4,7 +4,7 @@ use Rattle.enc_base.specs.Token.{nth_row}
 use Rattle.enc_base.specs.declared.token.Token.{Token}
 use Rattle.enc_index.specs.declared.index.Index.{Index}
 use Rattle.enc_index.specs.declared.key.Key.{Key}
-use Rattle.enc_index.specs.Index.{value_at}
+use Rattle.enc_index.specs.Index.{value_at, either}
 use Rattle.enc_plain.specs.Keys.{signature_key}
 use Rattle.enc_plain.specs.Rows.{Rows, bytes_at}
 use Rattle.enc_schema.specs.Columns as columns
@@ -48,9 +48,16 @@ alike_from rows key method (Some row) = if shares_slot rows (method_at row) meth
 abbrev pub bucket_key : ℕ → Key
 bucket_key key = record { table = tables.method_def; row = key % 2 ^ 32; place = key / 2 ^ 32 }
 
+-- the newest first method of a key, as an index has it, and as one has it that comes before another
+abbrev pub stored_head : Index ℕ → ℕ → Option ℕ
+stored_head index key = value_at index (bucket_key key)
+
+abbrev pub head_over : Index ℕ → Index ℕ → ℕ → Option ℕ
+head_over below above key = either (stored_head above key) (stored_head below key)
+
 -- the newest first method of each key, and behind each method the one that was so before it
-pub record AreBuckets (rows : Rows) (index : Index ℕ) (links : List (Option ℕ)) : Type 0 where
-  pub heads : (key : ℕ) → value_at index (bucket_key key) ≡ newest_first rows key (length links)
+pub record AreBuckets (rows : Rows) (head : ℕ → Option ℕ) (links : List (Option ℕ)) : Type 0 where
+  pub heads : (key : ℕ) → head key ≡ newest_first rows key (length links)
   pub next : EachPart (λ (n : ℕ) (o : Option ℕ). o ≡ newest_first rows (slot_key rows (nth_row tables.method_def n)) n) links
 
 -- the slot of the n-th method, n from 0

@@ -12,9 +12,11 @@ is_listed listed u = list_any (λ (t : Token). is_token t u) listed
 
 -- rows behind the last of a table, each of them listed
 abbrev pub AreNew : Module → List Token → ℕ → List ℕ → Type 0
-AreNew m listed table rows = (i row : ℕ) → slice_get rows i ≡ Some row → (row_count m table < row) × IsTrue (is_listed listed (record { table = table; row = row }))
+AreNew m listed table rows =
+    (i row : ℕ) → slice_get rows i ≡ Some row → (row_count m table < row) × IsTrue (is_listed listed (record { table = table; row = row }))
 
--- no table gets fewer rows; a row that isn't listed says what it said, and a new one is listed; each row keeps its children in order, and new ones stand behind them
+-- no table gets fewer rows; a row that isn't listed says what it said, and a new one is listed; each row keeps its children in order,
+-- and new ones stand behind them
 pub record IsChangedBy (m n : Module) (listed : List Token) : Type 0 where
   pub counts : (table : ℕ) → row_count m table ≤ row_count n table
   pub same : (u : Token) → IsTrue (has_row m u) → is_listed listed u ≡ false → cells_of n u ≡ cells_of m u

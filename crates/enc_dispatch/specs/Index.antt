@@ -9,7 +9,7 @@ use Rattle.enc_schema.specs.Tables as tables
 use Rattle.enc_dispatch.specs.declared.method_part.MethodPart.{MethodPart}
 use Rattle.enc_dispatch.specs.declared.impl_part.ImplPart.{ImplPart}
 use Rattle.enc_dispatch.specs.declared.wanted.Wanted.TheVariants.{Virtual, Public}
-use Rattle.enc_dispatch.specs.Buckets.{AreBuckets}
+use Rattle.enc_dispatch.specs.Buckets.{stored_head, AreBuckets}
 use Rattle.enc_dispatch.specs.Own.{AreAllOwn}
 use Rattle.enc_dispatch.specs.Parts.{nth_part, EachPart}
 use Rattle.enc_dispatch.specs.Path.{says_interface}
@@ -34,4 +34,4 @@ pub record StandsForModule (d : DispatchParts) (m : Module) : Type 0 where
   pub interfaces : (class : ℕ) (interface : Token)
       → value_at d.interfaces (interface_key class interface) ≡ first_below (says_interface m (class_at class) interface) (row_count m tables.interface_impl)
   pub links : length d.links ≡ row_count m tables.method_def
-  pub buckets : AreBuckets (cells_of m) d.heads d.links
+  pub buckets : AreBuckets (cells_of m) (stored_head d.heads) d.links

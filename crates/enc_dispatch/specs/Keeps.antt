@@ -1,10 +1,10 @@
 -- For the contracts of private functions: whether rows that a delta lists keep what the index reads of them.
-use Rattle.std.specs.Prelude.{ℕ, Bool, not, ◌&&◌, ◌||◌, ◌==◌, bytes_eq, if◌then◌else◌}
+use Rattle.std.specs.Prelude.{ℕ, Bool, not, ◌&&◌, ◌||◌, ◌==◌, List, length, nat_le, bytes_eq, if◌then◌else◌}
 use Rattle.enc_base.specs.Token.{is_token}
 use Rattle.enc_base.specs.declared.token.Token.{Token}
+use Rattle.enc_plain.specs.Alike.{signatures_alike}
 use Rattle.enc_plain.specs.Module.{Module, has_row, cells_of}
 use Rattle.enc_plain.specs.Rows.{number_at, bytes_at, token_at}
-use Rattle.enc_plain.specs.Sound.{row_count}
 use Rattle.enc_schema.specs.Columns as columns
 use Rattle.enc_schema.specs.Tables as tables
 
@@ -18,9 +18,23 @@ keeps_bytes m n t i = bytes_eq (bytes_at (cells_of m) t i) (bytes_at (cells_of n
 abbrev pub keeps_token : Module → Module → Token → ℕ → Bool
 keeps_token m n t i = is_token (token_at (cells_of m) t i) (token_at (cells_of n) t i)
 
+-- a method's signature
+abbrev pub signature_of : Module → Token → List ℕ
+signature_of m t = bytes_at (cells_of m) t columns.method_def_signature
+
+-- the most bytes of a signature that is compared by what it names
+abbrev pub most_compared : ℕ
+most_compared = 0x400
+
+-- a method has the same signature, or in place of a short one another that is alike in the new module
+unfoldable pub keeps_signature : Module → Module → Token → Bool
+keeps_signature m n t =
+    bytes_eq (signature_of m t) (signature_of n t)
+    || (nat_le (length (signature_of m t)) most_compared && signatures_alike (cells_of n) tables.method_def (signature_of m t) (signature_of n t))
+
 -- of a method its flags, name and signature are read, of a class its flags and what it extends
 unfoldable pub keeps_method : Module → Module → Token → Bool
-keeps_method m n t = keeps_number m n t columns.method_def_flags && keeps_bytes m n t columns.method_def_name && keeps_bytes m n t columns.method_def_signature
+keeps_method m n t = keeps_number m n t columns.method_def_flags && keeps_bytes m n t columns.method_def_name && keeps_signature m n t
 
 unfoldable pub keeps_class : Module → Module → Token → Bool
 keeps_class m n t = keeps_number m n t columns.type_def_flags && keeps_token m n t columns.type_def_extends
@@ -43,11 +57,3 @@ keeps_row m n t =
 -- the token is of a new row, or of one that keeps what is read of it
 unfoldable pub keeps : Module → Module → Token → Bool
 keeps m n t = not (has_row m t) || keeps_row m n t
-
--- no class, method or row of InterfaceImpl or MethodImpl is new
-unfoldable pub adds_none : Module → Module → Bool
-adds_none m n =
-    row_count m tables.type_def == row_count n tables.type_def
-    && row_count m tables.method_def == row_count n tables.method_def
-    && row_count m tables.interface_impl == row_count n tables.interface_impl
-    && row_count m tables.method_impl == row_count n tables.method_impl

@@ -9,6 +9,8 @@ pub mod Stored
 pub mod Walked
 pub mod Own
 pub mod Index
+pub mod Entries
+pub mod Growth
 pub mod Changed
 pub mod Keeps
 pub mod Ready

@@ -1,9 +1,8 @@
 -- For the contracts of private functions: a class's own virtual methods, by slot.
-use Rattle.std.specs.Prelude.{◌≡◌, IsTrue, ℕ, Option, Some, None, List, option_map, filter, slice_get, nat_lt, nat_le, ◌&&◌, ◌==◌, if◌then◌else◌}
+use Rattle.std.specs.Prelude.{◌≡◌, ℕ, Option, Some, None, List, option_map, filter, slice_get, ◌==◌, if◌then◌else◌}
 use Rattle.enc_index.specs.declared.index.Index.{Index}
 use Rattle.enc_index.specs.Index.{value_at}
-use Rattle.enc_plain.specs.Module.{Module, has_row, kids_of}
-use Rattle.enc_plain.specs.Sound.{row_count}
+use Rattle.enc_plain.specs.Module.{Module, kids_of}
 use Rattle.enc_schema.specs.Tables as tables
 use Rattle.enc_dispatch.specs.declared.method_part.MethodPart.{MethodPart}
 use Rattle.enc_dispatch.specs.declared.own_method.OwnMethod.{OwnMethod}
@@ -38,18 +37,10 @@ own_among m methods wanted slot rows = option_map (row_part m) (slice_get (filte
 abbrev pub in_class : ℕ → ℕ → Option OwnMethod → Option OwnMethod
 in_class class c o = if class == c then o else None
 
--- what is of the first so many classes
-abbrev pub in_classes : ℕ → ℕ → Option OwnMethod → Option OwnMethod
-in_classes n c o = if nat_lt 0 c && nat_le c n then o else None
-
 -- the first method of a slot that a class has
 abbrev pub own_in_class : Module → List MethodPart → Wanted → ℕ → ℕ → Option OwnMethod
 own_in_class m methods wanted slot class = own_among m methods wanted slot (kids_of m (class_at class) tables.method_def)
 
 -- an index has the first wanted method of each class and slot, and no other
 abbrev pub AreAllOwn : Module → List MethodPart → Wanted → Index OwnMethod → Type 0
-AreAllOwn m methods wanted own = (c s : ℕ) → value_at own (own_key c s) ≡ in_classes (row_count m tables.type_def) c (own_in_class m methods wanted s c)
-
--- the same of the classes that are there
-abbrev pub AreOwn : Module → List MethodPart → Wanted → Index OwnMethod → Type 0
-AreOwn m methods wanted own = (c s : ℕ) → IsTrue (has_row m (class_at c)) → value_at own (own_key c s) ≡ own_in_class m methods wanted s c
+AreAllOwn m methods wanted own = (c s : ℕ) → value_at own (own_key c s) ≡ own_in_class m methods wanted s c

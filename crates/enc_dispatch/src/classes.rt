@@ -1,9 +1,9 @@
 //! What the index keeps of each class.
-ghost use Rattle.std.specs.Prelude.{◌≡◌, ◌<◌, ◌^◌, IfOk, length};
+ghost use Rattle.std.specs.Prelude.{◌≡◌, ◌+◌, ◌<◌, ◌≤◌, ◌^◌, IfOk, length};
 ghost use Rattle.enc_plain.specs.Sound.{row_count};
 ghost use Rattle.enc_schema.specs.Tables.{type_def};
+ghost use Rattle.enc_dispatch.specs.Growth.{EachLater};
 ghost use Rattle.enc_dispatch.specs.Stored.{IsClassPart};
-ghost use Rattle.enc_dispatch.specs.Parts.{EachPart};
 
 use crate::class_part::ClassPart;
 use enc_base::Token;
@@ -29,19 +29,21 @@ fn class_of<V: ModuleView>(view: &V, n: u32) -> ClassPart
     }
 }
 
-/// The parts of all classes. It takes memory for each.
+/// The parts of all classes behind the first so many. It takes memory for each.
 #[tactic(auto, using(crate::proofs::Each::each_none, crate::proofs::Each::each_more))]
 pub(crate) fn classes_of<V: ModuleView>(
     alloc: Global,
     view: &V,
+    read: u32,
 ) -> Result<Vec<ClassPart>, AllocError>
-    ensures count { IfOk result (λ c. length c.items ≡ row_count (V.meaning view.now) type_def) }
-    ensures few { IfOk result (λ c. length c.items < 2 ^ 24) }
-    ensures classes { IfOk result (λ c. EachPart (IsClassPart (V.meaning view.now)) c.items) }
+    requires { read ≤ row_count (V.meaning view.now) type_def }
+    ensures count { IfOk result (λ c. read + length c.items ≡ row_count (V.meaning view.now) type_def) }
+    ensures few { IfOk result (λ _. row_count (V.meaning view.now) type_def < 2 ^ 24) }
+    ensures classes { IfOk result (λ c. EachLater (IsClassPart (V.meaning view.now)) read c.items) }
 {
     let mut classes = Vec::new(alloc);
-    for n in 0..view.count(TYPE_DEF) {
-        classes.push(class_of(view, n))?;
+    for k in 0..view.count(TYPE_DEF) - read {
+        classes.push(class_of(view, read + k))?;
     }
     Ok(classes)
 }

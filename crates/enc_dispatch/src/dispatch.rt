@@ -2,21 +2,17 @@
 ghost use Rattle.std.specs.Prelude.{◌≡◌, IfOk, IsTrue};
 ghost use Rattle.enc_plain.specs.Module.{Module, has_row};
 ghost use Rattle.enc_plain.specs.Sound.{IsSound};
+ghost use Rattle.enc_dispatch.specs.Growth.{IsEmpty};
 ghost use Rattle.enc_dispatch.specs.Index.{StandsForModule};
 ghost use Rattle.enc_dispatch.specs.Path.{extends, implements};
 ghost use Rattle.enc_dispatch.specs.Target.{target_of};
 
 use crate::class_part::ClassPart;
-use crate::classes::classes_of;
 use crate::impl_part::ImplPart;
-use crate::impls::impls_of;
-use crate::interfaces::interfaces_of;
 use crate::method_part::MethodPart;
-use crate::methods::methods_of;
-use crate::own::own_of;
 use crate::own_method::OwnMethod;
+use crate::rows_read::RowsRead;
 use crate::slots::Slots;
-use crate::wanted::Wanted;
 use enc_base::Token;
 use enc_index::Index;
 use enc_plain::ModuleView;
@@ -56,28 +52,38 @@ impl Model for Dispatch {
 }
 
 impl Dispatch {
+    /// The index of a module with no rows. It takes no memory.
+    fn empty(alloc: Global) -> Dispatch
+        ensures { IsEmpty result }
+    {
+        Dispatch {
+            classes: Vec::new(alloc),
+            methods: Vec::new(alloc),
+            own: Index::new(),
+            met: Index::new(),
+            impls: Index::new(),
+            interfaces: Index::new(),
+            slots: Slots::new(alloc),
+        }
+    }
+
     /// The index of a module. It keeps memory for each class, method, row of MethodImpl and row of
     /// InterfaceImpl, and takes some more meanwhile for what is known of the methods' signatures.
     pub fn begin<V: ModuleView>(alloc: Global, view: &V) -> Result<Dispatch, AllocError>
         requires { IsSound (V.meaning view.now) }
         ensures { IfOk result (λ d. StandsForModule d (V.meaning view.now)) }
     {
-        let classes = classes_of(alloc, view)?;
-        let mut slots = Slots::new(alloc);
-        let methods = methods_of(alloc, view, &mut slots)?;
-        let own = own_of(alloc, view, &methods, Wanted::Virtual)?;
-        let met = own_of(alloc, view, &methods, Wanted::Public)?;
-        let impls = impls_of(alloc, view)?;
-        let interfaces = interfaces_of(alloc, view)?;
-        Ok(Dispatch {
-            classes,
-            methods,
-            own,
-            met,
-            impls,
-            interfaces,
-            slots,
-        })
+        let mut index = Dispatch::empty(alloc);
+        let nothing = RowsRead {
+            classes: 0,
+            methods: 0,
+            impls: 0,
+            interfaces: 0,
+        };
+        let growth = index.growth(alloc, view, nothing)?;
+        index.make_room(&growth)?;
+        index.grow(growth);
+        Ok(index)
     }
 
     /// The method that a virtual call of a method reaches on an object of a class, None where there

@@ -1,27 +1,39 @@
-//! What is put into an index where nothing stands yet.
+//! Values that wait to be put into an index, where the index has none.
 ghost use Rattle.std.specs.Prelude.{◌≡◌, Some, None, IfOk, if◌then◌else◌};
 ghost use Rattle.enc_base.specs.Order.{or_else};
+ghost use Rattle.enc_dispatch.specs.Entries.{earliest, where_none};
 ghost use Rattle.enc_index.specs.declared.key.Key.{Key as TheKey};
 ghost use Rattle.enc_index.specs.Key.{is_key};
-ghost use Rattle.enc_index.specs.Index.{value_at};
+ghost use Rattle.enc_index.specs.Index.{value_at, either};
 
 use enc_index::{Entry, Index, Key};
 use std::alloc::{AllocError, Global};
 
-/// Puts a value in, unless its key has one.
-#[tactic(auto, using(crate::proofs::Put::put_kept, crate::proofs::Put::put_new))]
-pub(crate) fn put_first<P: Drop>(
-    index: &mut Index<P>,
+/// Appends a value, unless an index has one of its key.
+#[tactic(auto, using(crate::proofs::Put::push_kept, crate::proofs::Put::push_new))]
+pub(crate) fn push_first<P: Drop>(
+    entries: &mut Vec<Entry<P>>,
     alloc: Global,
+    index: &Index<P>,
     key: Key,
     value: P,
 ) -> Result<(), AllocError>
-    ensures { IfOk result (λ _. (q : TheKey) → value_at index.new q ≡ or_else (value_at index.old q) (if is_key key q then Some value else None)) }
+    ensures { IfOk result (λ _. (q : TheKey) → earliest entries.new.items q ≡ or_else (earliest entries.old.items q) (where_none (value_at index.now q) (if is_key key q then Some value else None))) }
 {
     if index.get(key).is_some() {
         return Ok(());
     }
     let entry = Entry::new(alloc, key, value)?;
-    index.put(entry);
+    entries.push(entry)?;
     Ok(())
+}
+
+/// Puts values in, from the last to the first, so that the first of each key counts.
+pub(crate) fn put_from_behind<P: Drop>(index: &mut Index<P>, entries: Vec<Entry<P>>)
+    ensures { (q : TheKey) → value_at index.new q ≡ either (earliest entries.items q) (value_at index.old q) }
+{
+    let mut rest = entries;
+    while let Some(entry) = rest.pop() {
+        index.put(entry);
+    }
 }

@@ -1,17 +1,19 @@
 //! The rows of MethodImpl, by class and declaration (ECMA-335 II.22.27).
-ghost use Rattle.std.specs.Prelude.{◌≡◌, ◌<◌, ◌^◌, ◌&&◌, ◌==◌, ℕ, IfOk};
-ghost use Rattle.enc_base.specs.Order.{or_else, first_below};
+ghost use Rattle.std.specs.Prelude.{◌≡◌, ◌<◌, ◌^◌, ◌≤◌, ◌-◌, ◌&&◌, ◌==◌, ℕ, IfOk};
+ghost use Rattle.enc_base.specs.Order.{or_else};
 ghost use Rattle.enc_index.specs.Index.{value_at};
 ghost use Rattle.enc_plain.specs.Sound.{row_count};
 ghost use Rattle.enc_schema.specs.Tables.{method_def, method_impl, type_def};
+ghost use Rattle.enc_dispatch.specs.Entries.{earliest, where_none};
+ghost use Rattle.enc_dispatch.specs.Growth.{later_answer};
 ghost use Rattle.enc_dispatch.specs.Stored.{impl_key, impl_for};
 
 use crate::columns::{METHOD_IMPL_BODY, METHOD_IMPL_CLASS, METHOD_IMPL_DECLARATION};
-use crate::first::put_first;
+use crate::first::push_first;
 use crate::impl_part::ImplPart;
 use crate::keys::impl_key;
 use enc_base::Token;
-use enc_index::Index;
+use enc_index::{Entry, Index};
 use enc_plain::{CellView, ModuleView, Viewed};
 use enc_schema::tables::{METHOD_DEF, METHOD_IMPL, TYPE_DEF};
 use std::alloc::{AllocError, Global};
@@ -23,17 +25,18 @@ fn is_given(class: Token, body: Token, declaration: Token) -> bool
     class.table == TYPE_DEF && body.table == METHOD_DEF && declaration.table == METHOD_DEF
 }
 
-/// Puts the n-th row of MethodImpl in, from 0, where it gives a class a MethodDef for another, and
-/// none before it does so.
+/// Appends the n-th row of MethodImpl, from 0, where it gives a class a MethodDef for another, and the
+/// index has none that does so.
 #[tactic(auto, unfolding(enc_schema::specs::Schema::columns_in))]
-fn put_impl<V: ModuleView>(
+fn push_impl<V: ModuleView>(
     alloc: Global,
     view: &V,
     n: u32,
-    impls: &mut Index<ImplPart>,
+    index: &Index<ImplPart>,
+    impls: &mut Vec<Entry<ImplPart>>,
 ) -> Result<(), AllocError>
     requires { n < 2 ^ 24 }
-    ensures { IfOk result (λ _. (class declaration : ℕ) → value_at impls.new (impl_key class declaration) ≡ or_else (value_at impls.old (impl_key class declaration)) (impl_for (V.meaning view.now) class declaration n)) }
+    ensures { IfOk result (λ _. (class declaration : ℕ) → earliest impls.new.items (impl_key class declaration) ≡ or_else (earliest impls.old.items (impl_key class declaration)) (where_none (value_at index.now (impl_key class declaration)) (impl_for (V.meaning view.now) class declaration n))) }
 {
     let rows = Viewed { view };
     let row = Token {
@@ -50,21 +53,30 @@ fn put_impl<V: ModuleView>(
         number: n,
         body: body.row,
     };
-    put_first(impls, alloc, impl_key(class.row, declaration.row), part)
+    push_first(
+        impls,
+        alloc,
+        index,
+        impl_key(class.row, declaration.row),
+        part,
+    )
 }
 
-/// All rows of MethodImpl that give a class a MethodDef for another. It takes memory for each class
-/// and declaration.
-#[tactic(auto, using(crate::proofs::Put::first_one_more))]
+/// The rows of MethodImpl behind the first so many that give a class a MethodDef for another, where the
+/// index has none. It takes memory for each.
+#[tactic(auto, using(crate::proofs::Put::later_one_more))]
 pub(crate) fn impls_of<V: ModuleView>(
     alloc: Global,
     view: &V,
-) -> Result<Index<ImplPart>, AllocError>
-    ensures { IfOk result (λ impls. (class declaration : ℕ) → value_at impls (impl_key class declaration) ≡ first_below (impl_for (V.meaning view.now) class declaration) (row_count (V.meaning view.now) method_impl)) }
+    read: u32,
+    index: &Index<ImplPart>,
+) -> Result<Vec<Entry<ImplPart>>, AllocError>
+    requires { read ≤ row_count (V.meaning view.now) method_impl }
+    ensures { IfOk result (λ impls. (class declaration : ℕ) → earliest impls.items (impl_key class declaration) ≡ where_none (value_at index.now (impl_key class declaration)) (later_answer (impl_for (V.meaning view.now) class declaration) read (row_count (V.meaning view.now) method_impl - read))) }
 {
-    let mut impls = Index::new();
-    for n in 0..view.count(METHOD_IMPL) {
-        put_impl(alloc, view, n, &mut impls)?;
+    let mut impls = Vec::new(alloc);
+    for k in 0..view.count(METHOD_IMPL) - read {
+        push_impl(alloc, view, read + k, index, &mut impls)?;
     }
     Ok(impls)
 }

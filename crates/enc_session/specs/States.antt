@@ -40,7 +40,8 @@ bracketed_values name vs = name ++ codes "(" ++ values_text vs ++ codes ")"
 -- the line of a frame
 unfoldable pub frame_line : {C : Type 0} → Frame C → List ℕ
 frame_line f =
-    codes "  frame " ++ token_text f.method ++ 0x20 ∷ label f.offset ++ 0x20 ∷ bracketed_values (codes "args") f.args ++ 0x20 ∷ bracketed_values (codes "locals") f.locals
+    codes "  frame " ++ token_text f.method ++ 0x20 ∷ label f.offset
+    ++ 0x20 ∷ bracketed_values (codes "args") f.args ++ 0x20 ∷ bracketed_values (codes "locals") f.locals
     ++ 0x20 ∷ bracketed_values (codes "stack") (reverse f.stack) ++ 0x0a ∷ []
 
 -- how it stands with a task: an object may be on its way to a handler

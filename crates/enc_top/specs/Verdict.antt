@@ -29,7 +29,8 @@ use Rattle.enc_top.specs.declared.limits.Limit.{Limit}
 use Rattle.enc_top.specs.declared.limits.Limit.TheVariants as limit
 use Rattle.enc_top.specs.Words.{Numeral, Job, show, list, check, apply, write, run, gen, job_of}
 
--- why a command does nothing: the words are none; a file that must be there is absent; a file is refused, by a rule or by its length, or as an edit list or a script: it isn't one, or one of its edits breaks a rule
+-- why a command does nothing: the words are none; a file that must be there is absent; a file is refused, by a rule or by its length,
+-- or as an edit list or a script: it isn't one, or one of its edits breaks a rule
 pub data Stop : Type 0 where
   no_command : Stop
   absent_file : List ℕ → Stop
@@ -236,7 +237,9 @@ accept_text files base edits deltas = do
   g ← judge_all base f fs
   Ok (record { followed = g; text = text })
 
--- what an accepted command does with them: it shows a token's row, lists them, counts the deltas, saves the one module that has all edits, or the delta of an edit list; it runs a script over a base, with the watchers that are handed in and the deltas that the script names; or it saves a generated case
+-- what an accepted command does with them: it shows a token's row, lists them, counts the deltas, saves the one module that has all
+-- edits, or the delta of an edit list; it runs a script over a base, with the watchers that are handed in and the deltas that the script
+-- names; or it saves a generated case
 pub data Done : Type 0 where
   shows : Token → Followed → Done
   lists : Followed → Done

@@ -50,7 +50,8 @@ abbrev pub is_after : Option ℕ → ℕ → Bool
 is_after None k = true
 is_after (Some last) k = nat_lt last k
 
--- a clause runs on the way out: by leave, each finally that doesn't protect where it goes; by a thrown object, each finally and fault, up to the clause that takes it
+-- a clause runs on the way out: by leave, each finally that doesn't protect where it goes; by a thrown object, each finally and fault,
+-- up to the clause that takes it
 abbrev pub runs_on : Stop → ℕ → Handler → Bool
 runs_on (Leave goal) k clause = is_finally clause.kind && not (protects clause goal)
 runs_on (Before last) k clause = runs_always clause.kind && nat_lt k last

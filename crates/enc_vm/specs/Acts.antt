@@ -63,7 +63,8 @@ bare_act code =
     else if code == 0xDC then Some act.EndFinally
     else element_act code
 
--- those with a number: of an argument, of a local variable, or the number that is loaded, as four bytes or eight hold it (III.3.37 to III.3.43, III.3.61 to III.3.63)
+-- those with a number: of an argument, of a local variable, or the number that is loaded, as four bytes or eight hold it
+-- (III.3.37 to III.3.43, III.3.61 to III.3.63)
 unfoldable pub numbered_act : ℕ → ℤ → Option Act
 numbered_act code n =
     if code == 0x0E || code == 0xFE09 then Some (act.Frame (frame.LoadArg (modulo 32 n)))

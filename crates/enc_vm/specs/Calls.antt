@@ -119,7 +119,8 @@ chosen false m s args method = Ok method
 unfoldable pub call_with : {C : Type 0} → World C → Bool → Bool → ℕ → Token → CallShape → Thread C → Shared → Result (Made C) Trap
 call_with w asks virtual next method shape t s =
     arguments (length (argument_kinds shape)) t.top.stack >>= λ taken. fit_all (argument_kinds shape) taken >>= λ args. ask_object asks args >>= λ _.
-    chosen virtual w.plain s.store args method >>= λ target. enter w t (moved_on next (drop (length (argument_kinds shape)) t.top.stack) t.top) target args >>= λ u.
+    chosen virtual w.plain s.store args method >>= λ target.
+    enter w t (moved_on next (drop (length (argument_kinds shape)) t.top.stack) t.top) target args >>= λ u.
     Ok (entering s target u)
 
 -- call, callvirt of a method of the module

@@ -1,8 +1,10 @@
 use Rattle.std.proofs.Common.{◌≡◌, ℕ}
-use Rattle.enc_base.specs.Order.{first_below}
 use Rattle.enc_index.specs.Index.{value_at}
+use Rattle.enc_dispatch.specs.Entries.{earliest, where_none}
+use Rattle.enc_dispatch.specs.Growth.{later_answer}
 use Rattle.enc_dispatch.specs.Stored.{impl_key, impl_for}
 use Rattle.enc_dispatch.proofs.impls.impls_of.Given as goal
 
-abbrev pub invariant-loop-n : goal.invariant-loop-n
-invariant-loop-n g l = (class declaration : ℕ) → value_at l.impls (impl_key class declaration) ≡ first_below (impl_for (g.V.ModuleView.meaning l.view) class declaration) l.n
+abbrev pub invariant-loop-k : goal.invariant-loop-k
+invariant-loop-k g l =
+    (class declaration : ℕ) → earliest l.impls.items (impl_key class declaration) ≡ where_none (value_at l.index (impl_key class declaration)) (later_answer (impl_for (g.V.ModuleView.meaning l.view) class declaration) l.read l.k)

@@ -1,7 +1,12 @@
-use Rattle.std.proofs.Common.{sym, ◌∙◌}
-use Rattle.enc_base.proofs.First.{first_none}
-use Rattle.enc_dispatch.specs.Stored.{interface_key}
+use Rattle.std.proofs.Common.{ap, ◌∙◌}
+use Rattle.enc_index.specs.Index.{value_at}
+use Rattle.enc_dispatch.specs.Entries.{earliest}
+use Rattle.enc_dispatch.specs.Path.{says_interface}
+use Rattle.enc_dispatch.specs.Stored.{class_at, interface_key}
+use Rattle.enc_dispatch.proofs.Put.{later_none}
 use Rattle.enc_dispatch.proofs.interfaces.interfaces_of.Goals as goal
 
-pub loop-n-init : goal.loop-n-init
-loop-n-init g c = λ class i. c.new-interfaces.ensures (interface_key class i) ∙ sym (first_none _)
+pub loop-k-init : goal.loop-k-init
+loop-k-init g c = λ class i.
+    ap (λ items. earliest items (interface_key class i)) c.new-interfaces.ensures.items
+    ∙ later_none (says_interface (g.V.ModuleView.meaning c.args.view.now) (class_at class) i) c.args.read (value_at c.args.index.now (interface_key class i))

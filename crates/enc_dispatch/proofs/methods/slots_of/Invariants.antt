@@ -1,13 +1,16 @@
-use Rattle.std.proofs.Common.{◌≡◌, length}
-use Rattle.enc_dispatch.specs.Buckets.{IsSlotOf, AreBuckets}
-use Rattle.enc_dispatch.specs.Parts.{EachPart}
+use Rattle.std.proofs.Common.{◌≡◌, ◌++◌, length}
+use Rattle.enc_index.specs.declared.key.Key.{Key}
+use Rattle.enc_index.specs.Index.{value_at, latest}
+use Rattle.enc_dispatch.specs.Buckets.{IsSlotOf, head_over, AreBuckets}
+use Rattle.enc_dispatch.specs.Growth.{EachLater}
 use Rattle.enc_dispatch.proofs.methods.slots_of.Given as goal
 
-abbrev pub invariant-loop-n : goal.invariant-loop-n
-invariant-loop-n g l = record {
-  parts : EachPart (IsSlotOf (g.R.CellView.rows l.rows)) l.all.items;
-  count : length l.all.items ≡ l.n;
+abbrev pub invariant-loop-k : goal.invariant-loop-k
+invariant-loop-k g l = record {
+  parts : EachLater (IsSlotOf (g.R.CellView.rows l.rows)) l.read l.all.items;
+  count : length l.all.items ≡ l.k;
   names : l.names ≡ l.rows;
-  buckets : AreBuckets (g.R.CellView.rows l.rows) l.slots.heads l.slots.next.items;
-  size : length l.slots.next.items ≡ l.n;
+  buckets : AreBuckets (g.R.CellView.rows l.rows) (head_over l.below.heads l.slots.heads) (l.below.next.items ++ l.slots.next.items);
+  entries : (q : Key) → latest l.slots.entries.items q ≡ value_at l.slots.heads q;
+  size : length l.slots.next.items ≡ l.k;
 }

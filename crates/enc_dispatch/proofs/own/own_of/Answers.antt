@@ -1,16 +1,18 @@
-use Rattle.std.proofs.Common.{◌≡◌, ◌∙◌, ap, length, arith}
-use Rattle.enc_plain.specs.Module.{rows_in}
-use Rattle.enc_schema.specs.Tables.{type_def}
+use Rattle.std.proofs.Common.{ap, ◌∙◌, ◌++◌, take_all, length, ◌≤◌, arith}
+use Rattle.enc_index.specs.Index.{value_at}
+use Rattle.enc_dispatch.specs.Entries.{where_none}
+use Rattle.enc_dispatch.specs.Growth.{later_kids}
+use Rattle.enc_dispatch.specs.Own.{own_among}
 use Rattle.enc_dispatch.specs.Stored.{own_key}
-use Rattle.enc_dispatch.specs.Own.{in_classes, own_in_class}
-use Rattle.enc_dispatch.proofs.Owns.{class_start}
+use Rattle.enc_dispatch.proofs.Owns.{in_listed, listed_all}
 use Rattle.enc_dispatch.proofs.own.own_of.Goals as goal
 
-pub loop-n-init : goal.loop-n-init
-loop-n-init g c = λ k s. c.new-own.ensures (own_key k s) ∙ class_start k (own_in_class (g.V.ModuleView.meaning c.args.view.now) c.args.methods.now c.args.wanted s k)
-
 pub returns : goal.returns
-returns g c = λ k s.
+returns g c = λ class s.
     let m = g.V.ModuleView.meaning c.args.view.now in
-    let size : c.loop-n.n ≡ length (rows_in m type_def) = omega (arith, c.loop-n-test.false, c.loop-n.auto.n-end, c.count-n-end.ensures.count) in
-    c.loop-n.invariant k s ∙ ap (λ n. in_classes n k (own_in_class m c.args.methods.now c.args.wanted s k)) size
+    let methods = c.args.methods.now.first.now ++ c.args.methods.now.more.now in
+    let there = value_at c.args.index.now (own_key class s) in
+    let low : length c.args.owners.now ≤ c.loop-i.i = omega (arith, c.loop-i-test.false) in
+    c.loop-i.invariant class s
+    ∙ ap (λ xs. where_none there (in_listed xs class (own_among m methods c.args.wanted s (later_kids m c.args.read class)))) (take_all c.loop-i.i c.args.owners.now low)
+    ∙ ap (where_none there) (listed_all m methods c.args.wanted c.args.read class s c.args.owners.now c.requires)

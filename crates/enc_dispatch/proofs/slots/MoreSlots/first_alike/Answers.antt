@@ -1,16 +1,17 @@
-use Rattle.std.proofs.Common.{ap, refl, sym, ◌∙◌, length}
-use Rattle.enc_dispatch.specs.Buckets.{alike_from}
+use Rattle.std.proofs.Common.{ap, refl, sym, ◌∙◌, ◌++◌, length}
+use Rattle.enc_dispatch.specs.Buckets.{alike_from, head_over}
 use Rattle.enc_dispatch.specs.Slots.{shares_slot}
 use Rattle.enc_dispatch.specs.Walks.{method_at}
 use Rattle.enc_dispatch.proofs.Found.{alike_steps, alike_here, alike_next, alike_end, newest_met, next_met, next_less, behind_is}
-use Rattle.enc_dispatch.proofs.slots.Slots.first_alike.Goals as goal
+use Rattle.enc_dispatch.proofs.slots.MoreSlots.first_alike.Goals as goal
 
 pub loop-at-init : goal.loop-at-init
 loop-at-init g c =
     let rows = g.R.CellView.rows c.args.names.now in
+    let size = length (c.args.below.now.next.items ++ c.args.self.now.next.items) in
     let head = c.head-at.ensures ∙ c.requires.buckets.heads c.args.key in (
-      ap (alike_from rows c.args.key c.args.method) head ∙ alike_steps rows c.args.key c.args.method (length c.args.self.now.next.items),
-      newest_met rows c.args.key (length c.args.self.now.next.items) c.head-at.result head,
+      ap (alike_from rows c.args.key c.args.method) head ∙ alike_steps rows c.args.key c.args.method size,
+      newest_met rows c.args.key size c.head-at.result head,
       refl,
     )
 
@@ -23,12 +24,12 @@ returns-then-share_slot-clause-first g c =
 pub loop-at-preserved : goal.loop-at-preserved
 loop-at-preserved g c =
     let rows = g.R.CellView.rows c.args.names.now in
-    let size = length c.args.self.now.next.items in
+    let next_all = c.args.below.now.next.items ++ c.args.self.now.next.items in
     let other = ap (λ n. shares_slot (g.R.CellView.rows n) (method_at c.in-Some.row) c.args.method) (sym c.loop-at.invariant.2) ∙ sym c.share_slot.ensures.share ∙ c.if-share_slot.false in
     let met = c.loop-at.invariant.1 c.in-Some.row c.in-Some.is in
-    let next = behind_is rows c.args.self.now.heads c.args.self.now.next.items c.args.key c.in-Some.row c.before-at.result c.requires.buckets met.0 met.2 c.before-at.ensures in (
+    let next = behind_is rows (head_over c.args.below.now.heads c.args.self.now.heads) next_all c.args.key c.in-Some.row c.before-at.result c.requires.buckets met.0 met.2 c.before-at.ensures in (
       alike_next rows c.args.key c.args.method c.in-Some.row c.before-at.result _ other next (ap (alike_from rows c.args.key c.args.method) (sym c.in-Some.is) ∙ c.loop-at.invariant.0),
-      next_met rows c.args.key size c.in-Some.row c.before-at.result met.1 next,
+      next_met rows c.args.key (length next_all) c.in-Some.row c.before-at.result met.1 next,
       c.share_slot.ensures.kept ∙ c.loop-at.invariant.2,
     )
 
@@ -45,4 +46,4 @@ pub loop-at-smaller : goal.loop-at-smaller
 loop-at-smaller g c =
     let met = c.loop-at.invariant.1 c.in-Some.row c.in-Some.is in
     next_less (g.R.CellView.rows c.args.names.now) c.args.key c.in-Some.row c.before-at.result c.loop-at.at met.0 c.in-Some.is
-    (behind_is (g.R.CellView.rows c.args.names.now) c.args.self.now.heads c.args.self.now.next.items c.args.key c.in-Some.row c.before-at.result c.requires.buckets met.0 met.2 c.before-at.ensures)
+    (behind_is (g.R.CellView.rows c.args.names.now) (head_over c.args.below.now.heads c.args.self.now.heads) (c.args.below.now.next.items ++ c.args.self.now.next.items) c.args.key c.in-Some.row c.before-at.result c.requires.buckets met.0 met.2 c.before-at.ensures)
