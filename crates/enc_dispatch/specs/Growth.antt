@@ -1,12 +1,13 @@
 -- For the contracts of private functions: how an index grows with its module, when rows are added.
-use Rattle.std.specs.Prelude.{◌⊎◌, [], ◌≡◌, ◌≤◌, ◌+◌, ◌-◌, ◌<◌, ◌^◌, ◌++◌, ◌&&◌, ℕ, ◌==◌, Bool, List, Option, None, IsTrue, length, filter, nat_le, nat_lt}
+use Rattle.std.specs.Prelude.{◌⊎◌, [], ◌≡◌, ◌≤◌, ◌+◌, ◌-◌, ◌<◌, ◌^◌, ◌++◌, ◌&&◌, ℕ, ◌==◌, Bool, List, Option, Some, None, IsTrue, length, filter, nat_le, nat_lt}
 use Rattle.std.specs.List.{list_any}
 use Rattle.enc_base.specs.Order.{or_else, first_below}
+use Rattle.enc_base.specs.Token.{nth_row}
 use Rattle.enc_base.specs.declared.token.Token.{Token}
 use Rattle.enc_index.specs.declared.index.Index.{Index}
 use Rattle.enc_index.specs.declared.key.Key.{Key}
 use Rattle.enc_index.specs.Index.{value_at, either, latest}
-use Rattle.enc_plain.specs.Module.{Module, has_row, cells_of, kids_of}
+use Rattle.enc_plain.specs.Module.{Module, has_row, cells_of, kids_of, owner_of}
 use Rattle.enc_plain.specs.Sound.{row_count}
 use Rattle.enc_schema.specs.Tables as tables
 use Rattle.enc_dispatch.specs.declared.growth.Growth.{Growth}
@@ -30,6 +31,10 @@ later_kids m read class = filter (λ (row : ℕ). nat_lt read row) (kids_of m (c
 pub record AreOwners (m : Module) (read : ℕ) (classes : List ℕ) : Type 0 where
   pub there : (class : ℕ) → IsTrue (list_any (λ (c : ℕ). c == class) classes) → IsTrue (has_row m (class_at class))
   pub all : (class : ℕ) → IsTrue (list_any (λ (c : ℕ). c == class) classes) ⊎ (later_kids m read class ≡ [])
+
+-- a class is the n-th method's, n from 0, by its row
+abbrev pub IsClassOfMethod : Module → ℕ → ℕ → Type 0
+IsClassOfMethod m n class = owner_of m (nth_row tables.method_def n) ≡ Some (class_at class)
 
 -- each part is as its place behind the first so many says
 abbrev pub EachLater : {A : Type 0} → (ℕ → A → Type 0) → ℕ → List A → Type 0

@@ -12,7 +12,7 @@ use crate::impls::impls_of;
 use crate::interfaces::interfaces_of;
 use crate::methods::methods_of;
 use crate::own::{MethodParts, own_of};
-use crate::owners::owners_of;
+use crate::owners::{in_order, owners_of};
 use crate::rows_read::RowsRead;
 use crate::slots::MoreSlots;
 use crate::wanted::Wanted;
@@ -50,8 +50,9 @@ impl Dispatch {
     {
         let classes = classes_of(alloc, view, read.classes)?;
         let mut slots = MoreSlots::new(alloc);
-        let methods = methods_of(alloc, view, &self.slots, read.methods, &mut slots)?;
         let owners = owners_of(alloc, view, read.methods)?;
+        let methods = methods_of(alloc, view, &self.slots, read.methods, &owners, &mut slots)?;
+        let owners = in_order(alloc, view, read.methods, &owners)?;
         let parts = MethodParts {
             first: &self.methods,
             more: &methods,

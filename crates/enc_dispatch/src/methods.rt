@@ -7,7 +7,7 @@ ghost use Rattle.enc_plain.specs.Module.{cells_of, owner_of};
 ghost use Rattle.enc_plain.specs.Sound.{row_count};
 ghost use Rattle.enc_schema.specs.Tables.{method_def};
 ghost use Rattle.enc_dispatch.specs.Buckets.{AreBuckets, IsSlotOf, head_over};
-ghost use Rattle.enc_dispatch.specs.Growth.{EachLater};
+ghost use Rattle.enc_dispatch.specs.Growth.{EachLater, IsClassOfMethod};
 ghost use Rattle.enc_dispatch.specs.Stored.{IsMethodPart};
 
 use crate::method_part::MethodPart;
@@ -15,7 +15,7 @@ use crate::names::MethodNames;
 use crate::slots::{MoreSlots, Slots};
 use enc_base::Token;
 use enc_plain::{CellView, ModuleView, Viewed};
-use enc_schema::tables::METHOD_DEF;
+use enc_schema::tables::{METHOD_DEF, TYPE_DEF};
 use std::alloc::{AllocError, Global};
 
 /// The slots of the methods behind the first so many, which are put behind one another. It takes memory
@@ -61,13 +61,13 @@ pub(crate) fn owner_of_nth<V: ModuleView>(view: &V, n: u32) -> Token
     })
 }
 
-/// The slot at a place.
-fn slot_at(slots: &[u32], n: u32) -> u32
-    requires { n < length slots.now }
-    ensures { slice_get slots.now n ≡ Some result }
+/// The number at a place.
+fn number_at(numbers: &[u32], n: u32) -> u32
+    requires { n < length numbers.now }
+    ensures { slice_get numbers.now n ≡ Some result }
 {
-    match slots.get(n as usize) {
-        Some(slot) => *slot,
+    match numbers.get(n as usize) {
+        Some(number) => *number,
         None => unreachable!(),
     }
 }
@@ -80,9 +80,12 @@ pub(crate) fn methods_of<V: ModuleView>(
     view: &V,
     below: &Slots,
     read: u32,
+    owners: &[u32],
     slots: &mut MoreSlots,
 ) -> Result<Vec<MethodPart>, AllocError>
     requires read { read ≤ row_count (V.meaning view.now) method_def }
+    requires owners { EachLater (IsClassOfMethod (V.meaning view.now)) read owners.now }
+    requires owned { read + length owners.now ≡ row_count (V.meaning view.now) method_def }
     requires below { length below.now.next.items ≡ read }
     requires none { slots.old.next.items ≡ [] }
     requires buckets { AreBuckets (cells_of (V.meaning view.now)) (head_over below.now.heads slots.old.heads) below.now.next.items }
@@ -99,8 +102,11 @@ pub(crate) fn methods_of<V: ModuleView>(
     let mut methods = Vec::new(alloc);
     for k in 0..count {
         let part = MethodPart {
-            owner: owner_of_nth(view, read + k),
-            slot: slot_at(&numbers, k),
+            owner: Token {
+                table: TYPE_DEF,
+                row: number_at(owners, k),
+            },
+            slot: number_at(&numbers, k),
         };
         methods.push(part)?;
     }

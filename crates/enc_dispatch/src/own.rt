@@ -163,7 +163,7 @@ fn those_behind(alloc: Global, rows: &[u32], read: u32) -> Result<Vec<u32>, Allo
 /// The rows of a class's methods behind the first so many, in order of attachment. It takes memory
 /// for each method of the class.
 #[tactic(auto, unfolding(enc_plain::specs::Module::has_row))]
-fn later_kids<V: ModuleView>(
+pub(crate) fn later_kids<V: ModuleView>(
     alloc: Global,
     view: &V,
     class: u32,

@@ -21,7 +21,7 @@ pub returns : goal.returns
 returns g c =
     let m = g.V.ModuleView.meaning c.args.view.now in
     let d = c.self.inside in
-    let methods = ap (λ xs. xs ++ c.deref-2.result.now) c.deref.ensures.value ∙ ap (λ xs. d.methods.items ++ xs) c.deref-2.ensures.value in
+    let methods = ap (λ xs. xs ++ c.deref-4.result.now) c.deref-3.ensures.value ∙ ap (λ xs. d.methods.items ++ xs) c.deref-4.ensures.value in
     rw (← c.self.view_is)
     (record {
       counts = c.requires.read;
