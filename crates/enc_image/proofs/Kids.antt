@@ -59,10 +59,11 @@ owner_in_rows s owner child row owners =
 pub child_low : (s : Source) (child : Token) → IsTrue (has_row (module_in s) child) → 0 < child.row
 child_low s child row = let stands = row_stands s child row in stands.low
 
-owner_part : (child : ℕ) → is_child_table child ≡ true → is_part (owner_table child) ≡ true
+-- an owners' table is a part of the module
+pub owner_part : (child : ℕ) → is_child_table child ≡ true → is_part (owner_table child) ≡ true
 owner_part child there = by_child (λ k. is_part (owner_table k) ≡ true) refl refl refl refl refl child there
 
-owner_low : (child : ℕ) → is_child_table child ≡ true → owner_table child < 0x2D
+pub owner_low : (child : ℕ) → is_child_table child ≡ true → owner_table child < 0x2D
 owner_low child there = by_child (λ k. owner_table k < 0x2D) (omega arith) (omega arith) (omega arith) (omega arith) (omega arith) child there
 
 -- the rows of an owners' table

@@ -1,12 +1,13 @@
 -- The children of the module in a base: each row has its runs, and each child row has just one owner.
 use Rattle.std.proofs.Common.{◌≡◌, ℕ, zero, suc, ◌+◌, ◌-◌, ◌<◌, ◌≤◌, Bool, true, false, List, [], ◌∷◌, length, map, Option, Some, None, refl, sym, ap, ◌∙◌, inl, inr, cond, arith}
-use Rattle.std.specs.Prelude.{◌==◌, ◌&&◌, if◌then◌else◌, count_by, flat_map, slice_get, nat_le, nat_lt}
-use Rattle.std.specs.List.{range_with_len}
+use Rattle.std.specs.Prelude.{IsTrue, ◌==◌, ◌&&◌, if◌then◌else◌, count_by, flat_map, slice_get, nat_le, nat_lt}
+use Rattle.std.specs.List.{list_any, range_with_len}
 use Rattle.std.proofs.lemmas.Bool.{cases_lt}
 use Rattle.std.proofs.lemmas.Bool.Decides.{nat_tests}
 use Rattle.std.proofs.lemmas.List.{length-map}
 use Rattle.std.proofs.lemmas.List.Sums.{sum_by-append, sum_by-cons}
 use Rattle.enc_base.specs.Token.{nth_row}
+use Rattle.enc_base.specs.declared.token.Token.{Token}
 use Rattle.enc_base.proofs.First.{first_none, first_more, silent}
 use Rattle.enc_base.specs.Order.{first_below}
 use Rattle.enc_schema.specs.declared.column.Column.TheVariants.{Index}
@@ -20,13 +21,14 @@ use Rattle.enc_rows.specs.Runs.{raw_number, goes_by_ptr, run_rows, by_ptr, named
 use Rattle.enc_rows.specs.Owners.{run_bound}
 use Rattle.enc_rows.proofs.Silent.{ptr_column_is, good_runs}
 use Rattle.enc_rows.proofs.Owned.{AreGood, bound_some, bound_limit, all_children_are}
-use Rattle.enc_plain.specs.Module.{Row, rows_in, kids_at}
+use Rattle.enc_plain.specs.Module.{Row, rows_in, has_row, kids_at, kids_of, owner_of}
 use Rattle.enc_plain.specs.Fits.{HasRuns}
 use Rattle.enc_image.specs.Base.{rows_from, cells_fault, row_in, module_in}
 use Rattle.enc_plain.specs.Sound.{is_part, all_kids, IsOwned}
+use Rattle.enc_plain.proofs.Owned.{kid_owner}
 use Rattle.enc_image.proofs.Good.{good_index, named_once, no_index_fault}
 use Rattle.enc_image.proofs.Rows.{rows_there, rows_past, count_there}
-use Rattle.enc_image.proofs.Kids.{row_kids, owner_rows}
+use Rattle.enc_image.proofs.Kids.{kids_from, kids_are, row_kids, owner_low, owner_part, owner_rows}
 
 count_cons : (p : ℕ → Bool) (x : ℕ) (xs : List ℕ) → count_by p (x ∷ xs) ≡ cond (p x) 1 0 + count_by p xs
 count_cons p x xs = sum_by-cons (λ (k : ℕ). cond (p k) 1 0) x xs
@@ -148,3 +150,19 @@ once_in s sound t row there =
 -- in a base that isn't refused each child row has just one owner
 pub begun_owned : (s : Source) → cells_fault s ≡ None → IsOwned (module_in s)
 begun_owned s sound = record { once = once_in s sound }
+
+-- a row of an owners' table is a row of the module
+owner_stands : (s : Source) (child n : ℕ) → is_child_table child ≡ true → n < rows_of s.layout (owner_table child) → IsTrue (has_row (module_in s) (nth_row (owner_table child) n))
+unfolding has_row
+owner_stands s child n there row =
+    let many : length (rows_in (module_in s) (owner_table child)) ≡ rows_of s.layout (owner_table child) = count_there s (owner_table child) (owner_low child there) (owner_part child there) in
+    let low : nat_lt 0 (n + 1) ≡ true = grind (arith, nat_tests) in
+    let high : nat_le (n + 1) (rows_of s.layout (owner_table child)) ≡ true = grind (arith, nat_tests) in
+    rw (many, low, high) refl
+
+-- whichever owner's run names a child is its owner
+pub any_owner : (s : Source) (child : Token) (n : ℕ) → cells_fault s ≡ None → is_child_table child.table ≡ true → n < rows_of s.layout (owner_table child.table) → list_any (λ (k : ℕ). k == child.row) (kids_from s child.table n) ≡ true → owner_of (module_in s) child ≡ Some (nth_row (owner_table child.table) n)
+any_owner s child n sound there row here =
+    let first : n + 1 - 1 ≡ n = omega arith in
+    let are : kids_of (module_in s) (nth_row (owner_table child.table) n) child.table ≡ kids_from s child.table n = kids_are s (nth_row (owner_table child.table) n) child.table (owner_stands s child.table n there row) there refl ∙ ap (kids_from s child.table) first in
+    kid_owner (module_in s) (nth_row (owner_table child.table) n) child (begun_owned s sound) there (ap (list_any (λ (k : ℕ). k == child.row)) are ∙ here)

@@ -9,6 +9,7 @@ mod image;
 mod judge;
 mod laws;
 mod open;
+mod owner;
 mod signatures;
 mod view;
 

@@ -207,18 +207,14 @@ impl ModuleView for Image {
     }
 
     fn owner(&self, child: Token) -> Token {
-        let table = owner_table(child.table);
-        for n in 0..self.tables.count(table) {
-            if self.tables.owns(
-                metadata(&self.bytes, &self.container),
-                child.table,
-                n,
-                child.row,
-            ) {
-                return Token { table, row: n + 1 };
-            }
+        let bytes = metadata(&self.bytes, &self.container);
+        if let Some(n) = self.likely_owner(child)
+            && self.tables.owns(bytes, child.table, n, child.row)
+        {
+            let table = owner_table(child.table);
+            return Token { table, row: n + 1 };
         }
-        unreachable!()
+        self.first_owner(child)
     }
 
     fn kids(&self, owner: Token, table: u8) -> u32 {
