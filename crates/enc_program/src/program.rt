@@ -1,9 +1,7 @@
 //! From the words behind a program's name to its status.
-ghost use Rattle.std.specs.Prelude.{◌≡◌, ◌≤◌, ◌⊎◌, None, Err, true, IfSome, IsSome, map};
-ghost use Rattle.enc_outside.specs.Outside.{Rose, IsTold};
-ghost use Rattle.enc_top.specs.Words.{job_of, texts};
-ghost use Rattle.enc_top.specs.Verdict.{no_command, verdict_of};
-ghost use Rattle.enc_top.specs.Answers.{answer_is_whole, status_of, Prints, Leaves};
+ghost use Rattle.std.specs.Prelude.{◌≡◌, None, IfSome, map};
+ghost use Rattle.enc_top.specs.Words.{texts};
+ghost use Rattle.enc_top.specs.Served.{course, IsServed};
 
 use enc_outside::{FileStore, OutSink, Sink, Store};
 use enc_top::run_tool;
@@ -31,20 +29,7 @@ pub fn status_of<S: Store, K: Sink>(
     ensures no_words { words ≡ None → result ≡ 3 }
     ensures no_store { words ≡ None → store.new ≡ store.old }
     ensures no_sink { words ≡ None → out.new ≡ out.old }
-    ensures known { result ≤ 6 }
-    ensures verdict { IfSome words (λ w. IfSome (S.told store.old) (λ files. answer_is_whole result ≡ true → result ≡ status_of (verdict_of (map (λ w. record { kind = kind_of w; limit = limit w; heard = heard w }) watchers.items) (texts w.items) files))) }
-    ensures prints { IfSome words (λ w. IfSome (S.told store.old) (λ files. Prints result (verdict_of (map (λ w. record { kind = kind_of w; limit = limit w; heard = heard w }) watchers.items) (texts w.items) files) (K.told out.old) (K.told out.new))) }
-    ensures files { IfSome words (λ w. IfSome (S.told store.old) (λ files. Leaves result (verdict_of (map (λ w. record { kind = kind_of w; limit = limit w; heard = heard w }) watchers.items) (texts w.items) files) (S.told store.old) (S.told store.new))) }
-    ensures complete { IfSome words (λ w. IfSome (S.told store.old) (λ files. ¬ Rose (S.faults store.old) (S.faults store.new) → ¬ Rose (K.faults out.old) (K.faults out.new) → (result ≡ status_of (verdict_of (map (λ w. record { kind = kind_of w; limit = limit w; heard = heard w }) watchers.items) (texts w.items) files)) ⊎ (result ≡ 3))) }
-    ensures usage { IfSome words (λ w. job_of (texts w.items) ≡ None → Prints result (Err no_command) (K.told out.old) (K.told out.new)) }
-    ensures no_job { IfSome words (λ w. job_of (texts w.items) ≡ None → answer_is_whole result ≡ true → result ≡ 2) }
-    ensures words { IfSome words (λ w. result ≡ 2 → job_of (texts w.items) ≡ None) }
-    ensures unchanged { IfSome words (λ w. answer_is_whole result ≡ true → (result ≡ 0) ⊎ (S.told store.new ≡ S.told store.old)) }
-    ensures memory { result ≡ 3 → K.told out.new ≡ K.told out.old }
-    ensures nothing { result ≡ 4 → K.told out.new ≡ K.told out.old }
-    ensures asked { IfSome words (λ w. result ≡ 4 → IsSome (job_of (texts w.items))) }
-    ensures store_fault { IsTold (result ≡ 4) (S.faults store.old) (S.faults store.new) }
-    ensures sink_fault { IsTold (result ≡ 5) (K.faults out.old) (K.faults out.new) }
+    ensures served { IfSome words (λ w. IsServed (texts w.items) (map (λ w. record { kind = kind_of w; limit = limit w; heard = heard w }) watchers.items) result (course (S.told store.old) (S.told store.new) (S.faults store.old) (S.faults store.new)) (course (K.told out.old) (K.told out.new) (K.faults out.old) (K.faults out.new))) }
 {
     match words {
         None => 3,

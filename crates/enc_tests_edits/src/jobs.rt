@@ -83,13 +83,6 @@ fn list_of(rt: &impl Abort, alloc: Global, text: &str) -> EditList {
     }
 }
 
-fn expect_refused(rt: &impl Abort, alloc: Global, text: &str, expected: JobFault) {
-    match read_edits(alloc, text.as_bytes()) {
-        Ok(_) => assert!(rt; false, "{text}"),
-        Err(fault) => assert_eq!(rt; fault, expected, "{text}"),
-    }
-}
-
 #[test]
 fn a_body_is_replaced(rt: HostRuntime) -> Result<(), Fail> {
     let list = list_of(&rt, rt.alloc(), WORKED);
@@ -270,59 +263,5 @@ fn rows_are_added(rt: HostRuntime) -> Result<(), Fail> {
     assert_eq!(rt; *owner, Token { table: 0, row: 0 });
     assert!(rt; matches!(cells.get(0), Some(CellValue::Refer(t)) if t.table == 6 && t.row == 1));
     assert!(rt; matches!(cells.get(1), Some(CellValue::Guid(g)) if *g == ID));
-    Ok(())
-}
-
-/// A list of one edit.
-fn with_edit(alloc: Global, edit: &str) -> Result<String, AllocError> {
-    let mut text = String::new(alloc);
-    text.push_str(r#"{"encId":"04030201-0605-0807-090a-0b0c0d0e0f10","edits":["#)?;
-    text.push_str(edit)?;
-    text.push_str("]}")?;
-    Ok(text)
-}
-
-#[test]
-fn what_is_no_list(rt: HostRuntime) -> Result<(), Fail> {
-    let alloc = rt.alloc();
-    expect_refused(&rt, alloc, "{", JobFault::J1);
-    expect_refused(&rt, alloc, "[]", JobFault::J2(0));
-    expect_refused(&rt, alloc, r#"{"encId":"04","edits":[]}"#, JobFault::J2(0));
-    expect_refused(
-        &rt,
-        alloc,
-        r#"{"encId":"04030201-0605-0807-090a-0b0c0d0e0f10","edits":[1],"documents":[1]}"#,
-        JobFault::J2(0),
-    );
-    expect_refused(
-        &rt,
-        alloc,
-        r#"{"encId":"04030201-0605-0807-090a-0b0c0d0e0f10","edits":[
-{"do":"body","method":"06000001","code":{"max":8,"code":[["ret"]]}},
-{"do":"body","method":"06000001","code":{"max":8,"code":[["ret"]]},"note":1}]}"#,
-        JobFault::J2(2),
-    );
-    Ok(())
-}
-
-#[test]
-fn what_is_no_edit(rt: HostRuntime) -> Result<(), Fail> {
-    let alloc = rt.alloc();
-    for edit in [
-        r#"{"do":"add","table":"TypeRef","cells":["00000000","A\u0000",""]}"#,
-        r#"{"do":"add","table":"TypeRef","cells":["00000000","A",""],"owner":"02000001"}"#,
-        r#"{"do":"add","table":"Field","cells":[0,"f","06"]}"#,
-        r#"{"do":"add","table":"Field","cells":[65536,"f","06"],"owner":"02000001"}"#,
-        r#"{"do":"add","table":"MethodDef","owner":"02000002","cells":[0,6,"M","0001"],"points":[{"at":0,"hidden":true}]}"#,
-        r#"{"do":"body","method":"6000001","code":{"max":8,"code":[["ret"]]}}"#,
-        r#"{"do":"body","method":"06000001","code":{"max":8,"code":[["ldc.i4.s",128]]}}"#,
-        r#"{"do":"body","method":"06000001","code":{"max":8,"code":[["ldc.i4",5.0]]}}"#,
-        r#"{"do":"body","method":"06000001","code":{"max":8,"code":[["br",1]]}}"#,
-        r#"{"do":"body","method":"06000001","code":{"max":8,"code":[["ret"]],"clauses":[{"kind":"finally","try":[0,2],"handler":[0,1]}]}}"#,
-        r#"{"do":"body","method":"06000001","code":{"max":8,"code":[["ret"]]},"points":[{"at":0,"hidden":false}]}"#,
-    ] {
-        let text = with_edit(alloc, edit)?;
-        expect_refused(&rt, alloc, text.as_str(), JobFault::J2(1));
-    }
     Ok(())
 }

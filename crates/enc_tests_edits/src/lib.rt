@@ -6,8 +6,6 @@ mod delta;
 #[cfg(test)]
 mod edits;
 #[cfg(test)]
-mod generated;
-#[cfg(test)]
 mod jobs;
 #[cfg(test)]
 mod plain;

@@ -9,6 +9,7 @@ pub mod Plans
 pub mod Stops
 pub mod Loads
 pub mod Answers
+pub mod Served
 pub mod Example
 pub mod Generating
 pub mod Series

@@ -20,5 +20,5 @@ mod stop;
 pub use enc_plain::RowPlace;
 pub use enc_text::row_text;
 pub use generations::listing;
-pub use laws::{example_delta_row, example_listing, example_row};
+pub use laws::{example_delta_row, example_listing, example_row, served_law};
 pub use run::run_tool;

@@ -5,6 +5,7 @@ ghost use Rattle.enc_top.specs.Words.{job_of, texts};
 ghost use Rattle.enc_top.specs.Verdict.{no_command, verdict_of};
 ghost use Rattle.enc_top.specs.Done.{outcome_of};
 ghost use Rattle.enc_top.specs.Ending.{IfWhole};
+ghost use Rattle.enc_top.specs.Served.{course, IsServed};
 ghost use Rattle.enc_top.specs.Answers.{answer_is_whole, status_of, Prints, PrintsFor, Leaves, LeavesAt};
 ghost use Rattle.enc_top.specs.declared.plan.Outcome.{Outcome};
 
@@ -71,6 +72,20 @@ fn run_with<S: Store, K: Sink, W: Watcher>(
     serve(alloc, words, store, out, watchers).number()
 }
 
+/// Runs a command, with watchers of any one type, and says so in one word.
+#[tactic(auto, unfolding(crate::specs::Served::IsServed))]
+fn serve_with<S: Store, K: Sink, W: Watcher>(
+    alloc: Global,
+    words: &[String],
+    store: &mut S,
+    out: &mut K,
+    watchers: Vec<W>,
+) -> u8
+    ensures { IsServed (texts words.now) (map (λ w. record { kind = W.kind_of w; limit = W.limit w; heard = W.heard w }) watchers.items) result (course (S.told store.old) (S.told store.new) (S.faults store.old) (S.faults store.new)) (course (K.told out.old) (K.told out.new) (K.faults out.old) (K.faults out.new)) }
+{
+    run_with(alloc, words, store, out, watchers)
+}
+
 /// Runs a command. `words` are those behind the program's name. The status is 0 where all is
 /// accepted, 1 where a file is refused, 2 where the words are no command, 3 where memory ran out, 4
 /// where the store failed, 5 where the sink failed, and 6 where a file that must be there is absent.
@@ -83,20 +98,7 @@ pub fn run_tool<S: Store, K: Sink>(
     out: &mut K,
     watchers: Vec<Box<dyn Watcher>>,
 ) -> u8
-    ensures known { result ≤ 6 }
-    ensures verdict { IfSome (S.told store.old) (λ files. answer_is_whole result ≡ true → result ≡ status_of (verdict_of (map (λ w. record { kind = kind_of w; limit = limit w; heard = heard w }) watchers.items) (texts words.now) files)) }
-    ensures prints { IfSome (S.told store.old) (λ files. Prints result (verdict_of (map (λ w. record { kind = kind_of w; limit = limit w; heard = heard w }) watchers.items) (texts words.now) files) (K.told out.old) (K.told out.new)) }
-    ensures files { IfSome (S.told store.old) (λ files. Leaves result (verdict_of (map (λ w. record { kind = kind_of w; limit = limit w; heard = heard w }) watchers.items) (texts words.now) files) (S.told store.old) (S.told store.new)) }
-    ensures complete { IfSome (S.told store.old) (λ files. ¬ Rose (S.faults store.old) (S.faults store.new) → ¬ Rose (K.faults out.old) (K.faults out.new) → (result ≡ status_of (verdict_of (map (λ w. record { kind = kind_of w; limit = limit w; heard = heard w }) watchers.items) (texts words.now) files)) ⊎ (result ≡ 3)) }
-    ensures usage { job_of (texts words.now) ≡ None → Prints result (Err no_command) (K.told out.old) (K.told out.new) }
-    ensures no_job { job_of (texts words.now) ≡ None → answer_is_whole result ≡ true → result ≡ 2 }
-    ensures words { result ≡ 2 → job_of (texts words.now) ≡ None }
-    ensures unchanged { answer_is_whole result ≡ true → (result ≡ 0) ⊎ (S.told store.new ≡ S.told store.old) }
-    ensures memory { result ≡ 3 → K.told out.new ≡ K.told out.old }
-    ensures nothing { result ≡ 4 → K.told out.new ≡ K.told out.old }
-    ensures asked { result ≡ 4 → IsSome (job_of (texts words.now)) }
-    ensures store_fault { IsTold (result ≡ 4) (S.faults store.old) (S.faults store.new) }
-    ensures sink_fault { IsTold (result ≡ 5) (K.faults out.old) (K.faults out.new) }
+    ensures { IsServed (texts words.now) (map (λ w. record { kind = kind_of w; limit = limit w; heard = heard w }) watchers.items) result (course (S.told store.old) (S.told store.new) (S.faults store.old) (S.faults store.new)) (course (K.told out.old) (K.told out.new) (K.faults out.old) (K.faults out.new)) }
 {
-    run_with(alloc, words, store, out, watchers)
+    serve_with(alloc, words, store, out, watchers)
 }

@@ -1,0 +1,39 @@
+# Installs the release of dist/: the program enc, the C library with its header and pkg-config file, the manual page.
+#   make install [PREFIX=/usr/local] [DESTDIR=..]    make uninstall    make deb
+PREFIX = /usr/local
+VERSION := $(shell cat VERSION)
+INSTALL = install
+to = $(DESTDIR)$(PREFIX)
+deb = out/enc_$(VERSION)_amd64.deb
+
+.PHONY: all install uninstall deb clean
+all:
+	@echo "nothing has to be built: dist/ holds the release. make install, make uninstall, make deb"
+
+out/enc.pc: release/enc.pc.in VERSION
+	mkdir -p out
+	sed -e 's|@PREFIX@|$(PREFIX)|' -e 's|@VERSION@|$(VERSION)|' release/enc.pc.in >$@
+
+out/enc.1.gz: release/enc.1.in VERSION
+	mkdir -p out
+	sed -e 's|@VERSION@|$(VERSION)|' release/enc.1.in | gzip -9n >$@
+
+install: out/enc.pc out/enc.1.gz
+	$(INSTALL) -D -m 755 dist/enc $(to)/bin/enc
+	$(INSTALL) -D -m 644 dist/libenc.so $(to)/lib/libenc.so
+	$(INSTALL) -D -m 644 dist/libenc.a $(to)/lib/libenc.a
+	$(INSTALL) -D -m 644 dist/enc.h $(to)/include/enc.h
+	$(INSTALL) -D -m 644 out/enc.pc $(to)/lib/pkgconfig/enc.pc
+	$(INSTALL) -D -m 644 out/enc.1.gz $(to)/share/man/man1/enc.1.gz
+
+uninstall:
+	rm -f $(to)/bin/enc $(to)/lib/libenc.so $(to)/lib/libenc.a $(to)/include/enc.h
+	rm -f $(to)/lib/pkgconfig/enc.pc $(to)/share/man/man1/enc.1.gz
+
+deb: $(deb)
+$(deb): dist/SOURCES release/deb release/enc.1.in release/enc.pc.in VERSION LICENSE
+	rm -f out/enc.pc
+	release/deb $(VERSION) $@
+
+clean:
+	rm -f out/enc.pc out/enc.1.gz out/*.deb
