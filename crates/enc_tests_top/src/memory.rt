@@ -1,5 +1,5 @@
 //! Each allocation of a call made to fail: tried with `rt try --test --fail-alloc N`.
-use super::{D1_IL, D1_LIST, D1_META, M_DLL, OBJECT_LINE, STRING_LINE, texts};
+use crate::common::{D1_IL, D1_LIST, D1_META, M_DLL, OBJECT_LINE, STRING_LINE, texts};
 use enc_outside::{MemSink, MemStore};
 use enc_top::run_tool;
 use std::alloc::Global;

@@ -1,5 +1,5 @@
 //! Many rows and many tokens with ample memory: nothing runs out.
-use super::{answers, texts};
+use crate::common::{answers, texts};
 use enc_outside::{MemSink, MemStore};
 use enc_top::run_tool;
 use std::alloc::Global;

@@ -1,5 +1,4 @@
-//! What the top call answers where the outside fails or memory runs out. Whatever else it answers, the stored
-//! run of `enc_cases` tells.
+//! The example base and delta, and a call of the top call over files in memory.
 
 use enc_outside::{MemSink, MemStore};
 use enc_top::run_tool;
@@ -7,13 +6,8 @@ use std::alloc::{AllocError, Global};
 use std::process::Abort;
 use std::test::Fail;
 
-mod faults;
-mod many;
-mod memory;
-mod runs;
-
 /// A bare module of 200 bytes: a row each of Module, TypeRef and AssemblyRef.
-const M_DLL: &str = concat!(
+pub(crate) const M_DLL: &str = concat!(
     "42534a4201000100000000000c00000076342e302e3330333139000000000300",
     "5000000048000000237e0000980000002000000023537472696e677300000000",
     "b800000010000000234755494400000000000000020000010300000008000000",
@@ -24,7 +18,7 @@ const M_DLL: &str = concat!(
 );
 
 /// A delta of 220 bytes behind it, which adds a TypeRef: a row each of Module, TypeRef, EncLog and EncMap.
-const D1_META: &str = concat!(
+pub(crate) const D1_META: &str = concat!(
     "42534a4201000100000000000c00000076342e302e3330333139000000000400",
     "6000000054000000232d0000b40000000800000023537472696e677300000000",
     "bc000000200000002347554944000000dc00000000000000234a544400000000",
@@ -35,26 +29,26 @@ const D1_META: &str = concat!(
 );
 
 /// The name of a script.
-const SCRIPT: &str = "s.json";
+pub(crate) const SCRIPT: &str = "s.json";
 
 /// The delta's code.
-const D1_IL: &str = "00000000";
+pub(crate) const D1_IL: &str = "00000000";
 
 /// The printed TypeRef of the base, and the one that the delta adds.
-const OBJECT_LINE: &str =
+pub(crate) const OBJECT_LINE: &str =
     "01000001 TypeRef ResolutionScope=23000001 TypeName=\"Object\" TypeNamespace=\"System\" @0.1\n";
 
-const STRING_LINE: &str =
+pub(crate) const STRING_LINE: &str =
     "01000002 TypeRef ResolutionScope=23000001 TypeName=\"String\" TypeNamespace=\"System\" @1.1\n";
 
 /// The listing of the base and the delta.
-const D1_LIST: &str = concat!(
+pub(crate) const D1_LIST: &str = concat!(
     "generation 0 rows 3 strings 30 users 0 blobs 0 guids 1\n",
     "generation 1 04030201-0605-0807-090a-0b0c0d0e0f10 rows 1 strings 8 users 0 blobs 0 guids 2\n",
     "  01000002 insert 1.1 newest 1.1\n",
 );
 
-fn texts(alloc: Global, words: &[&str]) -> Result<Vec<String>, AllocError> {
+pub(crate) fn texts(alloc: Global, words: &[&str]) -> Result<Vec<String>, AllocError> {
     let mut all = Vec::new(alloc);
     for word in words {
         all.push(String::from_str(alloc, word)?)?;
@@ -64,7 +58,7 @@ fn texts(alloc: Global, words: &[&str]) -> Result<Vec<String>, AllocError> {
 
 /// Bytes in hexadecimal with some of them replaced, each from its place on. What lies past the end
 /// is put behind it.
-fn changed(alloc: Global, bytes: &str, changes: &[(usize, &str)]) -> Result<Vec<u8>, Fail> {
+pub(crate) fn changed(alloc: Global, bytes: &str, changes: &[(usize, &str)]) -> Result<Vec<u8>, Fail> {
     let mut all = hex::decode(alloc, bytes)?;
     for (at, text) in changes {
         for (i, b) in hex::decode(alloc, text)?.iter().enumerate() {
@@ -78,7 +72,7 @@ fn changed(alloc: Global, bytes: &str, changes: &[(usize, &str)]) -> Result<Vec<
 }
 
 /// The words over these files print the text and have the status.
-fn answers(
+pub(crate) fn answers(
     rt: &(impl Abort + AllocGlobal),
     files: &[(&str, &[u8])],
     words: &[&str],
@@ -93,7 +87,7 @@ fn answers(
 }
 
 /// The words over this store print the text and have the status.
-fn answers_over(
+pub(crate) fn answers_over(
     rt: &(impl Abort + AllocGlobal),
     store: &mut MemStore,
     words: &[&str],

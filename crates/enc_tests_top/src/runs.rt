@@ -2,7 +2,7 @@
 ghost use Rattle.std.specs.Prelude.{None};
 ghost use Rattle.enc_watch.specs.declared.event.WatchKind.TheVariants as kind;
 
-use super::{D1_IL, D1_META, M_DLL, SCRIPT, changed, texts};
+use crate::common::{D1_IL, D1_META, M_DLL, SCRIPT, changed, texts};
 use enc_outside::{MemSink, MemStore};
 use enc_top::run_tool;
 use enc_watch::{Event, HearError, Trace, WatchKind, Watcher};
