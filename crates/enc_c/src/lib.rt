@@ -19,6 +19,3 @@ mod refusal;
 mod status;
 
 pub use laws::{numbers_law, points_law};
-
-#[cfg(test)]
-mod tests;

@@ -1,0 +1,70 @@
+"""release/calls.py LIBENC.so: calls of the C library as C makes them, over the example base and delta: what each answers. `./test`
+runs it. The last line is how many were asked; the status is 1 where one answered something else, which is told."""
+import ctypes
+import os
+import sys
+
+EXAMPLES = os.path.join(os.path.dirname(os.path.abspath(__file__)), "..", "examples")
+u8, u32, size_t = ctypes.c_uint8, ctypes.c_uint32, ctypes.c_size_t
+STRING = 0x01000002
+
+
+class Refusal(ctypes.Structure):
+    _fields_ = [(n, u8) for n in ("letter", "rule", "place", "stream", "table", "column")] + [("row", u32), ("entry", u32)]
+
+
+class Place(ctypes.Structure):
+    _fields_ = [("generation", u32), ("position", u32)]
+
+
+def read(name):
+    with open(os.path.join(EXAMPLES, name), "rb") as file:
+        return file.read()
+
+
+def main(library):
+    enc = ctypes.CDLL(library)
+    handle, refusal, count, size = ctypes.c_void_p(), Refusal(), u32(), size_t()
+    at, why = ctypes.byref(handle), ctypes.byref(refusal)
+    base, delta, il = read("m.dll"), read("d1.meta"), read("d1.il")
+    asked, wrong = 0, 0
+
+    def is_so(what, got, wanted):
+        nonlocal asked, wrong
+        asked += 1
+        if got != wanted:
+            wrong += 1
+            print(f"{what}: {got}, not {wanted}")
+
+    opened = lambda b: enc.enc_open(at, b, size_t(len(b)), b"", size_t(0), why)
+    applied = lambda m, i: enc.enc_apply(at, m, size_t(len(m)), i, size_t(len(i)), b"", size_t(0), why)
+    is_so("the count of a closed handle", enc.enc_count(at, u8(1), ctypes.byref(count)), 7)
+    is_so("a delta as a base", opened(delta), 1)
+    is_so("the base", opened(base), 0)
+    is_so("the base once more", opened(base), 8)
+    is_so("the base as a delta", applied(base, bytes(4)), 1)
+    is_so("generations before the delta", (enc.enc_generations(at, ctypes.byref(count)), count.value), (0, 1))
+    is_so("the delta", applied(delta, il), 0)
+    is_so("the delta once more", (applied(delta, il), chr(refusal.letter), refusal.rule), (1, "E", 2))
+    is_so("generations behind it", (enc.enc_generations(at, ctypes.byref(count)), count.value), (0, 2))
+    is_so("rows of TypeRef", (enc.enc_count(at, u8(1), ctypes.byref(count)), count.value), (0, 2))
+    place, number = Place(), u32()
+    is_so("the place of the new row", (enc.enc_locate(at, u32(STRING), ctypes.byref(place)), place.generation, place.position), (0, 1, 1))
+    is_so("its scope", (enc.enc_token(at, u32(STRING), u8(0), ctypes.byref(number)), number.value), (0, 0x23000001))
+    is_so("a text asked for as a token", enc.enc_token(at, u32(STRING), u8(1), ctypes.byref(number)), 11)
+    is_so("a row that isn't there", enc.enc_token(at, u32(STRING + 1), u8(0), ctypes.byref(number)), 10)
+    short, name, row = ctypes.create_string_buffer(5), ctypes.create_string_buffer(6), ctypes.create_string_buffer(88)
+    is_so("a short buffer", (enc.enc_text(at, u32(STRING), u8(1), short, size_t(5), ctypes.byref(size)), size.value, short.raw), (9, 6, bytes(5)))
+    is_so("its name", (enc.enc_text(at, u32(STRING), u8(1), name, size_t(6), ctypes.byref(size)), name.raw), (0, b"String"))
+    is_so("its row as it is printed", (enc.enc_row(at, u32(STRING), row, size_t(88), ctypes.byref(size)), size.value, row.raw[:16]), (0, 88, b"01000002 TypeRef"))
+    is_so("closing", enc.enc_close(at), 0)
+    is_so("closing once more", (enc.enc_close(at), handle.value), (7, None))
+    refusal, words = Refusal(letter=ord("E"), rule=16, place=10, table=6, row=1), ctypes.create_string_buffer(17)
+    is_so("the words of a refusal", (enc.enc_words(ctypes.byref(refusal), words, size_t(17), ctypes.byref(size)), words.raw), (0, b"E16 06000001.RVA\n"))
+    is_so("the words of none", enc.enc_words(ctypes.byref(Refusal()), words, size_t(17), ctypes.byref(size)), 11)
+    print(f"{asked} calls asked, {wrong} of them answered something else")
+    return 1 if wrong else 0
+
+
+if __name__ == "__main__":
+    sys.exit(main(*sys.argv[1:]))
