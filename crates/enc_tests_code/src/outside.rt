@@ -7,6 +7,7 @@ use enc_outside::{
     SureStore,
 };
 use std::fmt::Display;
+use std::process::Abort;
 use std::test::Fail;
 use std::{fs, io, process};
 
@@ -21,21 +22,37 @@ fn keep<S: Store, O: Sink>(store: &mut S, sink: &mut O, name: &str) -> Result<bo
     Ok(loaded.is_some_and(|bytes| bytes.as_slice() == b"short".as_slice()))
 }
 
-#[test]
-fn memory_fails_at_given_calls(rt: HostRuntime) -> Result<(), Fail> {
-    let (mut store, mut sink) = (MemStore::begin(rt.alloc()), MemSink::begin(rt.alloc()));
+/// Keeps a file and a piece; the next two calls of the store are to fail then, and the next of the sink.
+fn prepare(store: &mut MemStore, sink: &mut MemSink) -> Result<bool, Fail> {
     store.set_file("old", b"1234")?;
-    assert!(rt; keep(&mut store, &mut sink, "new")?);
+    let kept = keep(store, sink, "new")?;
     store.fail_at(3)?;
     store.fail_at(4)?;
     sink.fail_at(2)?;
+    Ok(kept)
+}
+
+/// These calls fail.
+fn expect_failures(rt: &impl Abort, store: &mut MemStore, sink: &mut MemSink) {
     assert_eq!(rt; store.load("new"), Err(LoadError::Failed));
     assert_eq!(rt; store.save("old", b"abcde"), Err(SaveError::Failed));
     assert_eq!(rt; sink.put(b"abcde"), Err(PutError::Failed));
+}
+
+/// They left halves, and were counted.
+fn expect_halves(rt: &impl Abort, store: &MemStore, sink: &MemSink) {
     assert_eq!(rt; store.file("old"), Some(b"ab".as_slice()));
     assert_eq!(rt; store.file("none"), None);
     assert_eq!(rt; sink.bytes(), b"keptab".as_slice());
     assert_eq!(rt; (store.calls(), sink.calls()), (4, 2));
+}
+
+#[test]
+fn memory_fails_at_given_calls(rt: HostRuntime) -> Result<(), Fail> {
+    let (mut store, mut sink) = (MemStore::begin(rt.alloc()), MemSink::begin(rt.alloc()));
+    assert!(rt; prepare(&mut store, &mut sink)?);
+    expect_failures(&rt, &mut store, &mut sink);
+    expect_halves(&rt, &store, &sink);
     assert!(rt; keep(&mut store, &mut sink, "old")?);
     Ok(())
 }
@@ -63,6 +80,12 @@ fn files_of_the_system(rt: HostRuntime) -> Result<(), Fail> {
     assert!(rt; kept?);
     removed?;
     assert_eq!(rt; store.faults(), 0);
+    Ok(())
+}
+
+#[test]
+fn files_that_fail(rt: HostRuntime) {
+    let mut store = FileStore::begin(rt);
     assert_eq!(rt; store.load("/tmp"), Err(LoadError::Failed));
     assert_eq!(rt;
         store.save("/proc/enc_outside", b"bytes"),
@@ -70,7 +93,6 @@ fn files_of_the_system(rt: HostRuntime) -> Result<(), Fail> {
     );
     assert_eq!(rt; store.save("/dev/full", b"bytes"), Err(SaveError::Failed));
     assert_eq!(rt; store.faults(), 3);
-    Ok(())
 }
 
 /// An output that takes nothing.

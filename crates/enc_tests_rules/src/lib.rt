@@ -1,9 +1,11 @@
-//! What the crates of edit lists' rules, of newest bodies, of targets and of the search for clauses answer,
-//! asked by their public calls: values from outside.
+//! What the crates of edit lists' rules, of newest bodies and of watchers answer, and where bodies stand, asked by
+//! their public calls: values from outside.
 #![tactic(auto)]
 
 #[cfg(test)]
-mod dispatch;
+mod places;
+#[cfg(test)]
+mod profiler;
 #[cfg(test)]
 mod rules;
 #[cfg(test)]

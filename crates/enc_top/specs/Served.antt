@@ -17,19 +17,19 @@ abbrev pub course : {T : Type 0} → Option T → Option T → ℕ → ℕ → C
 course old new faults_before faults_after = record { old = old; new = new; faults_before = faults_before; faults_after = faults_after }
 
 -- what a call with these words and watchers does: its status, what became of the files, and what was printed
-pub record Serves (words : List (List ℕ)) (watchers : List Watching) (status : ℕ) (store : Course Files) (sink : Course (List ℕ)) : Type 0 where
+pub record Serves (texts : List (List ℕ)) (watchers : List Watching) (status : ℕ) (store : Course Files) (sink : Course (List ℕ)) : Type 0 where
   pub known : status ≤ 6
-  pub verdict : IfSome store.old (λ files. answer_is_whole status ≡ true → status ≡ status_of (verdict_of watchers words files))
-  pub prints : IfSome store.old (λ files. Prints status (verdict_of watchers words files) sink.old sink.new)
-  pub files : IfSome store.old (λ files. Leaves status (verdict_of watchers words files) store.old store.new)
-  pub complete : IfSome store.old (λ files. ¬ Rose store.faults_before store.faults_after → ¬ Rose sink.faults_before sink.faults_after → (status ≡ status_of (verdict_of watchers words files)) ⊎ (status ≡ 3))
-  pub usage : job_of words ≡ None → Prints status (Err no_command) sink.old sink.new
-  pub no_job : job_of words ≡ None → answer_is_whole status ≡ true → status ≡ 2
-  pub words : status ≡ 2 → job_of words ≡ None
+  pub verdict : IfSome store.old (λ files. answer_is_whole status ≡ true → status ≡ status_of (verdict_of watchers texts files))
+  pub prints : IfSome store.old (λ files. Prints status (verdict_of watchers texts files) sink.old sink.new)
+  pub files : IfSome store.old (λ files. Leaves status (verdict_of watchers texts files) store.old store.new)
+  pub complete : IfSome store.old (λ files. ¬ Rose store.faults_before store.faults_after → ¬ Rose sink.faults_before sink.faults_after → (status ≡ status_of (verdict_of watchers texts files)) ⊎ (status ≡ 3))
+  pub usage : job_of texts ≡ None → Prints status (Err no_command) sink.old sink.new
+  pub no_job : job_of texts ≡ None → answer_is_whole status ≡ true → status ≡ 2
+  pub words : status ≡ 2 → job_of texts ≡ None
   pub unchanged : answer_is_whole status ≡ true → (status ≡ 0) ⊎ (store.new ≡ store.old)
   pub memory : status ≡ 3 → sink.new ≡ sink.old
   pub nothing : status ≡ 4 → sink.new ≡ sink.old
-  pub asked : status ≡ 4 → IsSome (job_of words)
+  pub asked : status ≡ 4 → IsSome (job_of texts)
   pub store_fault : IsTold (status ≡ 4) store.faults_before store.faults_after
   pub sink_fault : IsTold (status ≡ 5) sink.faults_before sink.faults_after
 
