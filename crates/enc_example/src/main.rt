@@ -99,6 +99,3 @@ fn main(rt: HostRuntime) -> io::Result<()> {
     }
     tell(rt, &module, 1)
 }
-
-#[cfg(test)]
-mod tests;

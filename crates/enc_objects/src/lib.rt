@@ -17,8 +17,6 @@ mod shape;
 mod shifts;
 mod stored;
 mod table;
-#[cfg(test)]
-mod tests;
 mod trap;
 mod value;
 

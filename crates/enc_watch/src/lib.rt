@@ -11,8 +11,6 @@ mod hits;
 mod laws;
 mod lines;
 mod method_line;
-#[cfg(test)]
-mod tests;
 mod trace;
 mod watcher;
 
