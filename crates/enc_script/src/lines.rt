@@ -6,11 +6,11 @@ ghost use Rattle.enc_checker.specs.Followed.{is_of_pdb};
 ghost use Rattle.enc_session.specs.Lines.{task_line};
 ghost use Rattle.enc_script.specs.Lines.{number_absent_line, applied_line, attached_line, detached_line, watch_kind_text, none_line, ran_line, refused_spawn};
 ghost use Rattle.enc_script.specs.Ran.{spawn_end_line};
-ghost use Rattle.enc_script.specs.Run.{named_delta, refused_file};
+ghost use Rattle.enc_script.specs.Run.{apply_line, named_delta, refused_file};
 
 use crate::files::NamedDelta;
 use enc_base::{Code, Refusal, Token};
-use enc_session::push_task;
+use enc_session::{Applied, push_task};
 use enc_text::{push_decimal, push_str, push_token, refused_line};
 use enc_vm::SpawnEnd;
 use enc_watch::WatchKind;
@@ -78,7 +78,7 @@ pub(crate) fn push_ran(
 
 /// Appends the line of a delta that made a generation.
 #[tactic(auto, unfolding(crate::specs::Lines::applied_line))]
-pub(crate) fn push_applied(
+fn push_applied(
     alloc: Global,
     name: &[u8],
     generation: u32,
@@ -104,7 +104,7 @@ fn is_of_pdb(code: Code) -> bool
 }
 
 /// Appends the line of a delta that is refused, with the file that is.
-pub(crate) fn push_refusal(
+fn push_refusal(
     alloc: Global,
     delta: &NamedDelta,
     refusal: Refusal,
@@ -118,6 +118,22 @@ pub(crate) fn push_refusal(
         refused_line(alloc, delta.metadata_name.as_str(), refusal)?
     };
     out.extend_from_slice(&line)
+}
+
+/// Appends the line of a delta, by what it came to.
+pub(crate) fn push_outcome(
+    alloc: Global,
+    name: &[u8],
+    delta: &NamedDelta,
+    applied: Applied,
+    out: &mut Vec<u8>,
+) -> Result<(), AllocError>
+    ensures { OnOk result (out.new.items ≡ out.old.items ++ apply_line name.now (named_delta delta.now) applied) }
+{
+    match applied {
+        Applied::Generation(generation) => push_applied(alloc, name, generation, out),
+        Applied::Refused(refusal) => push_refusal(alloc, delta, refusal, out),
+    }
 }
 
 /// Appends how each line of a watcher begins.

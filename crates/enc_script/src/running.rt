@@ -7,15 +7,13 @@ ghost use Rattle.enc_vm.specs.Turns.{machine_turn};
 ghost use Rattle.enc_watch.specs.Audience.{first_of_kind, reports, seat_at};
 
 use crate::files::{NamedDelta, copied_files, files_of};
-use crate::lines::{
-    push_applied, push_attached, push_none, push_ran, push_refusal, push_said, push_spawn,
-};
+use crate::lines::{push_attached, push_none, push_outcome, push_ran, push_said, push_spawn};
 use crate::steps::make_steps;
 use enc_base::Token;
 use enc_image::Image;
 use enc_jobs::Command;
 use enc_ppdb::Pdb;
-use enc_session::{Applied, Session, push_word};
+use enc_session::{Session, push_word};
 use enc_vm::TaskState;
 use enc_watch::{Handed, WatchKind, Watcher};
 use std::alloc::{AllocError, Global};
@@ -93,10 +91,8 @@ impl<W: Watcher> Running<W> {
     {
         let mut gone = Vec::new(self.alloc);
         let files = copied_files(self.alloc, &delta.files)?;
-        match self.session.apply(files, &mut gone)? {
-            Applied::Generation(generation) => push_applied(self.alloc, name, generation, out)?,
-            Applied::Refused(refusal) => push_refusal(self.alloc, delta, refusal, out)?,
-        }
+        let applied = self.session.apply(files, &mut gone)?;
+        push_outcome(self.alloc, name, delta, applied, out)?;
         out.extend_from_slice(&gone)
     }
 
