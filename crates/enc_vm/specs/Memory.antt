@@ -127,9 +127,9 @@ store_element k next s f =
 unfoldable pub is_cast_type : Module → Token → Bool
 is_cast_type m t = is_class m t || is_of_system m (codes "Object") t || is_of_system m (codes "String") t
 
--- an object of this shape is of the type
+-- an object of this shape is of the type: rows of InterfaceImpl and the path of Extends speak of a TypeDef alone (I.8.7.1)
 unfoldable pub is_instance_of : Module → Token → Shape → Bool
-is_instance_of m t (shape.Object class) = is_of_system m (codes "Object") t || extends m class t || implements m class t
+is_instance_of m t (shape.Object class) = is_of_system m (codes "Object") t || is_class m t && (extends m class t || implements m class t)
 is_instance_of m t (shape.Text n) = is_of_system m (codes "Object") t || is_of_system m (codes "String") t
 is_instance_of m t (shape.Array k n) = is_of_system m (codes "Object") t
 
