@@ -1,5 +1,5 @@
 -- Instructions on objects: texts, fields, arrays, casts (ECMA-335 III.4).
-use Rattle.std.specs.Prelude.{ℕ, drop, ℤ, pos, Bool, true, false, not, ◌||◌, List, ◌∷◌, length, Option, Some, None, Result, Ok, Err, codes, nat_lt, int_lt, ◌==◌, if◌then◌else◌, unsigned_abs}
+use Rattle.std.specs.Prelude.{ℕ, drop, ℤ, pos, Bool, true, false, not, ◌&&◌, ◌||◌, List, ◌∷◌, length, Option, Some, None, Result, Ok, Err, codes, nat_lt, int_lt, ◌==◌, if◌then◌else◌, unsigned_abs}
 use Rattle.std.specs.Int.{w32, cast_signed}
 use Rattle.enc_base.specs.declared.token.Token.{Token}
 use Rattle.enc_dispatch.specs.Path.{is_class, extends, implements}
