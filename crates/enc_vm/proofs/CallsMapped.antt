@@ -14,7 +14,7 @@ use Rattle.enc_plain.specs.Module.{cells_of}
 use Rattle.enc_plain.specs.ValueType.{is_value_type}
 use Rattle.enc_vm.proofs.FramesMapped.{pushed_same}
 use Rattle.enc_vm.proofs.Mapped.{frame_by, thread_by, made_with_codes, result_by, before, after, along, via, trap_by, either}
-use Rattle.enc_vm.specs.Calls.{most_frames, new_frame, enter, with_touched, is_touched, touch_first, touch, touch_if, declaring, arguments, named_method, call_touches, ask_object, chosen, call_with, call, call_virtual, construct, new_object, value_given, handed, left_to, return_from}
+use Rattle.enc_vm.specs.Calls.{most_frames, new_frame, enter, with_touched, is_touched, touch_first, touch, touch_if, declaring, arguments, named_method, named_virtually, call_touches, ask_object, chosen, call_with, call, call_virtual, construct, new_object, value_given, handed, left_to, return_from}
 use Rattle.enc_vm.specs.Machine.{World, Frame, Thread, Shared}
 use Rattle.enc_vm.specs.Memory.{new_in}
 use Rattle.enc_vm.specs.Results.{or_trap, ask, Made}
@@ -89,7 +89,7 @@ pub call_virtual_same : {C D : Type 0} (h : C → D) (u : World D) (now : Token 
     → call_virtual (after h u now) next method s (thread_by h t) ≡ result_by (made_with_codes h) (call_virtual (before h u now) next method s t)
 unfolding call_virtual
 call_virtual_same h u now next method s t =
-    along (made_with_codes h) (named_method u.plain method) _ _ (λ (shape : CallShape).
+    along (made_with_codes h) (named_virtually u.plain method) _ _ (λ (shape : CallShape).
     touch_if_same h u now (call_touches u.plain method) s t (declaring u.plain method)
     (call_with (before h u now) shape.this (shape.this && is_virtual u.plain method) next method shape t)
     (call_with (after h u now) shape.this (shape.this && is_virtual u.plain method) next method shape (thread_by h t))

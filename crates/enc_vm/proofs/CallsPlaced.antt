@@ -13,7 +13,7 @@ use Rattle.enc_plain.specs.Module.{cells_of}
 use Rattle.enc_plain.specs.ValueType.{is_value_type}
 use Rattle.enc_vm.proofs.FramesPlaced.{pushed_placed}
 use Rattle.enc_vm.proofs.Placed.{AfterOk, AfterSome, through, after_that, or_trapped, either_way, here, zero_place}
-use Rattle.enc_vm.specs.Calls.{most_frames, new_frame, enter, with_touched, is_touched, touch_first, touch, touch_if, declaring, arguments, named_method, call_touches, ask_object, chosen, call_with, call, call_virtual, construct, new_object, value_given, handed, left_to, return_from}
+use Rattle.enc_vm.specs.Calls.{most_frames, new_frame, enter, with_touched, is_touched, touch_first, touch, touch_if, declaring, arguments, named_method, named_virtually, call_touches, ask_object, chosen, call_with, call, call_virtual, construct, new_object, value_given, handed, left_to, return_from}
 use Rattle.enc_vm.specs.Machine.{World, Frame, Thread, Shared}
 use Rattle.enc_vm.specs.Memory.{new_in}
 use Rattle.enc_vm.specs.Placed.{is_place_in, IsSoundCode, IsFramePlaced, AreFramesPlaced, IsThreadPlaced}
@@ -88,7 +88,7 @@ pub call_virtual_placed : {C : Type 0} (w : World C) (next : ℕ) (method : Toke
     → AreSoundNow w → IsThreadPlaced w t → is_place_in (w.body t.top.code) next ≡ true → AfterOk (IsMadePlaced w) (call_virtual w next method s t)
 unfolding call_virtual
 call_virtual_placed w next method s t sound p n =
-    through (IsMadePlaced w) (named_method w.plain method) _ (λ (shape : CallShape).
+    through (IsMadePlaced w) (named_virtually w.plain method) _ (λ (shape : CallShape).
     touch_if_placed w (call_touches w.plain method) s t (declaring w.plain method)
     (call_with w shape.this (shape.this && is_virtual w.plain method) next method shape t) sound p
     (λ x. call_with_placed w shape.this (shape.this && is_virtual w.plain method) next method shape t x sound p n))

@@ -14,7 +14,7 @@ use Rattle.enc_objects.specs.declared.value.Value.TheVariants.{Obj}
 use Rattle.enc_plain.specs.Module.{cells_of}
 use Rattle.enc_plain.specs.ValueType.{is_value_type}
 use Rattle.enc_vm.proofs.Placed.{AfterOk, through, either_way}
-use Rattle.enc_vm.specs.Calls.{most_frames, enter, with_touched, is_touched, touch_first, touch, touch_if, declaring, arguments, named_method, call_touches, ask_object, chosen, call_with, call, call_virtual, construct, new_object, value_given, handed, left_to, return_from}
+use Rattle.enc_vm.specs.Calls.{most_frames, enter, with_touched, is_touched, touch_first, touch, touch_if, declaring, arguments, named_method, named_virtually, call_touches, ask_object, chosen, call_with, call, call_virtual, construct, new_object, value_given, handed, left_to, return_from}
 use Rattle.enc_vm.specs.Machine.{World, Frame, Thread, Shared}
 use Rattle.enc_vm.specs.Memory.{new_in, named_field, Stored}
 use Rattle.enc_vm.specs.Results.{or_trap, ask, Shown, Made}
@@ -85,7 +85,7 @@ pub call_virtual_within : {C : Type 0} (n : ℕ) (w : World C) (next : ℕ) (met
     → AfterOk (IsWithin n) (call_virtual w next method s t)
 unfolding call_virtual
 call_virtual_within n w next method s t =
-    through (IsWithin n) (named_method w.plain method) _ (λ (shape : CallShape).
+    through (IsWithin n) (named_virtually w.plain method) _ (λ (shape : CallShape).
     touch_if_within n (call_touches w.plain method) w s t (declaring w.plain method)
     (call_with w shape.this (shape.this && is_virtual w.plain method) next method shape t)
     (λ x. call_with_within n w shape.this (shape.this && is_virtual w.plain method) next method shape t x))

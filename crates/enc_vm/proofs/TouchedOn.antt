@@ -14,7 +14,7 @@ use Rattle.enc_plain.specs.Module.{Module}
 use Rattle.enc_versions.specs.Version.{Version}
 use Rattle.enc_dispatch.specs.Walks.{is_virtual}
 use Rattle.enc_kinds.specs.Elements.{CallShape}
-use Rattle.enc_vm.specs.Calls.{with_type, touch, touch_first, touch_if, named_method, call_touches, declaring, call_with, call, call_virtual}
+use Rattle.enc_vm.specs.Calls.{with_type, touch, touch_first, touch_if, named_method, named_virtually, call_touches, declaring, call_with, call, call_virtual}
 use Rattle.enc_vm.specs.CallsSeen.{Makes, shared_by}
 use Rattle.enc_vm.specs.Machine.{World, Thread, Shared, version_world}
 use Rattle.enc_vm.specs.Results.{◌>>=◌, or_trap, Made}
@@ -74,7 +74,7 @@ call_is users m methods next method s t = refl
 -- callvirt
 pub call_virtual_is : (users : ℕ → Option (List ℕ)) (m : Module) (methods : List (Option Version)) (next : ℕ) (method : Token) (s : Shared) (t : Thread Version)
     → call_virtual (version_world users m methods) next method s t
-    ≡ (named_method m method >>= λ (shape : CallShape). touch_if (call_touches m method) (version_world users m methods) s t (declaring m method)
+    ≡ (named_virtually m method >>= λ (shape : CallShape). touch_if (call_touches m method) (version_world users m methods) s t (declaring m method)
     (call_with (version_world users m methods) shape.this (shape.this && is_virtual m method) next method shape t))
 unfolding call_virtual version_world
 call_virtual_is users m methods next method s t = refl

@@ -86,6 +86,10 @@ arguments n stack = if nat_le n (length stack) then Ok (reverse (take n stack)) 
 unfoldable pub named_method : Module → Token → Result CallShape Trap
 named_method m t = if t.table == tables.method_def then or_trap X2 (call_shape m t) else Err X2
 
+-- the method that a callvirt names: where it is virtual (flag 40) an object is there to walk from (III.4.2)
+unfoldable pub named_virtually : Module → Token → Result CallShape Trap
+named_virtually m t = named_method m t >>= λ (shape : CallShape). ask X2 (shape.this || not (is_virtual m t)) >>= λ _. Ok shape
+
 -- a call of a static method or of a constructor touches
 abbrev pub call_touches : Module → Token → Bool
 call_touches m method = is_static_method m method || is_constructor m method
@@ -131,7 +135,7 @@ call w next method s t =
 
 unfoldable pub call_virtual : {C : Type 0} → World C → ℕ → Token → Shared → Thread C → Result (Made C) Trap
 call_virtual w next method s t =
-    named_method w.plain method >>= λ (shape : CallShape).
+    named_virtually w.plain method >>= λ (shape : CallShape).
     touch_if (call_touches w.plain method) w s t (declaring w.plain method)
     (call_with w shape.this (shape.this && is_virtual w.plain method) next method shape t)
 

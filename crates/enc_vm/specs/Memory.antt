@@ -1,5 +1,5 @@
 -- Instructions on objects: texts, fields, arrays, casts (ECMA-335 III.4).
-use Rattle.std.specs.Prelude.{ℕ, drop, ℤ, pos, Bool, true, false, not, ◌||◌, List, ◌∷◌, length, Option, Some, None, Result, Ok, Err, codes, nat_lt, int_lt, ◌==◌, if◌then◌else◌, unsigned_abs}
+use Rattle.std.specs.Prelude.{ℕ, drop, ℤ, pos, Bool, true, false, not, ◌&&◌, ◌||◌, List, ◌∷◌, length, Option, Some, None, Result, Ok, Err, codes, nat_lt, int_lt, ◌==◌, if◌then◌else◌, unsigned_abs}
 use Rattle.std.specs.Int.{w32, cast_signed}
 use Rattle.enc_base.specs.declared.token.Token.{Token}
 use Rattle.enc_dispatch.specs.Path.{is_class, extends, implements}
@@ -127,9 +127,9 @@ store_element k next s f =
 unfoldable pub is_cast_type : Module → Token → Bool
 is_cast_type m t = is_class m t || is_of_system m (codes "Object") t || is_of_system m (codes "String") t
 
--- an object of this shape is of the type
+-- an object of this shape is of the type: rows of InterfaceImpl and the path of Extends speak of a TypeDef alone (I.8.7.1)
 unfoldable pub is_instance_of : Module → Token → Shape → Bool
-is_instance_of m t (shape.Object class) = is_of_system m (codes "Object") t || extends m class t || implements m class t
+is_instance_of m t (shape.Object class) = is_of_system m (codes "Object") t || is_class m t && (extends m class t || implements m class t)
 is_instance_of m t (shape.Text n) = is_of_system m (codes "Object") t || is_of_system m (codes "String") t
 is_instance_of m t (shape.Array k n) = is_of_system m (codes "Object") t
 

@@ -1,5 +1,5 @@
 //! Calls of methods of the module (ECMA-335 III.3.19, III.4.2).
-ghost use Rattle.std.specs.Prelude.{◌≡◌, List, length, option_and_then, IsTrue, ◌&&◌, if◌then◌else◌};
+ghost use Rattle.std.specs.Prelude.{◌≡◌, List, length, option_and_then, IfOk, IsTrue, ◌&&◌, if◌then◌else◌};
 ghost use Rattle.enc_base.specs.declared.token.Token.{Token as TheToken};
 ghost use Rattle.enc_dispatch.specs.Index.{StandsForModule};
 ghost use Rattle.enc_dispatch.specs.Target.{target_of, is_interface};
@@ -8,7 +8,7 @@ ghost use Rattle.enc_objects.specs.declared.trap.Trap.TheVariants.{X9, X10};
 ghost use Rattle.enc_plain.specs.Module.{has_row};
 ghost use Rattle.enc_schema.specs.Tables.{method_def};
 ghost use Rattle.enc_vm.specs.ArgumentsSeen.{GivesItems, fitting};
-ghost use Rattle.enc_vm.specs.Calls.{object_of, ask_object, class_of_object, reached_on, chosen, call_with, declaring, touch_if, call_touches, call, call_virtual};
+ghost use Rattle.enc_vm.specs.Calls.{object_of, ask_object, class_of_object, reached_on, chosen, call_with, declaring, touch_if, call_touches, named_virtually, call, call_virtual};
 ghost use Rattle.enc_vm.specs.CallsSeen.{AreBodiesOf, Makes, called_on, shared_by};
 ghost use Rattle.enc_vm.specs.Machine.{version_world};
 ghost use Rattle.enc_vm.specs.Straight.{argument_kinds};
@@ -337,6 +337,24 @@ impl Thread {
     }
 }
 
+/// How the method that a `callvirt` names is called. X2 also where it is virtual and its signature has no `this`
+/// (ECMA-335 III.4.2).
+#[tactic(auto, unfolding(crate::specs::Calls::named_virtually))]
+fn named_virtually<V: ModuleView>(view: &V, token: Token) -> Result<MethodShape<'_>, Trap>
+    ensures shape { result ≡ named_virtually (V.meaning view.now) token }
+    ensures table { IfOk result (λ _. token.table ≡ method_def) }
+    ensures row { IfOk result (λ _. IsTrue (has_row (V.meaning view.now) token)) }
+{
+    let shape = match named_method(view, token) {
+        Ok(shape) => shape,
+        Err(trap) => return Err(trap),
+    };
+    if shape.has_this() || !is_virtual(view, token) {
+        return Ok(shape);
+    }
+    Err(Trap::X2)
+}
+
 /// Whether the object tells which method a virtual call reaches: where the method has one, and is virtual.
 fn is_by_object<V: ModuleView>(view: &V, shape: &MethodShape<'_>, method: Token) -> bool
     requires { method.table ≡ method_def }
@@ -390,7 +408,7 @@ impl Thread {
         requires stands { StandsForModule dispatch.now (V.meaning view.now) }
         ensures { Makes result (shared_by objects.now touched.new) (shared_by objects.now touched.old) self.new self.old (call_virtual (version_world (V.users view.now) (V.meaning view.now) versions.now.methods) next method (shared_by objects.now touched.old) self.old) }
     {
-        let shape = named_method(view, method)?;
+        let shape = named_virtually(view, method)?;
         let by_object = is_by_object(view, &shape, method);
         let manner = Manner {
             asks: shape.has_this(),

@@ -58,7 +58,7 @@ fn is_instance_of<V: ModuleView>(view: &V, dispatch: &Dispatch, shape: Shape, to
         return true;
     }
     match shape {
-        Shape::Object(class) => is_of_class(view, dispatch, class, token),
+        Shape::Object(class) => is_class(view, token) && is_of_class(view, dispatch, class, token),
         Shape::Text(_) => is_of_system(view, b"String", token),
         Shape::Array(_, _) => false,
     }

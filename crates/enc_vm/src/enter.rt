@@ -74,8 +74,7 @@ fn first_locals<V: ModuleView>(
     }
 }
 
-/// A frame at its method's first instruction, with these arguments; its stack has room for as many values
-/// as the body names.
+/// A frame at its method's first instruction, with these arguments and an empty stack.
 pub(crate) fn new_frame<V: ModuleView>(
     alloc: Global,
     view: &V,
@@ -87,14 +86,13 @@ pub(crate) fn new_frame<V: ModuleView>(
     ensures { IfOk result (λ f. f ≡ frame_at (V.meaning view.now) method code.value args.items) }
 {
     let locals = first_locals(alloc, view, code.as_ref().body().locals)?;
-    let stack = Stack::begin(alloc, code.as_ref().body().max)?;
     Ok(Frame {
         method,
         code,
         offset: 0,
         args: Cells::of(args),
         locals: Cells::of(locals),
-        stack,
+        stack: Stack::begin(alloc),
         running: RunningHandlers::begin(alloc),
     })
 }

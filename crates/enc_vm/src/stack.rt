@@ -1,5 +1,5 @@
 //! The evaluation stack of a frame.
-ghost use Rattle.std.specs.Prelude.{◌≡◌, ◌∷◌, ◌<◌, ◌≤◌, [], drop, length, slice_get, reverse, take, IfOk, OnOk, OnErr};
+ghost use Rattle.std.specs.Prelude.{◌≡◌, ◌∷◌, ◌<◌, ◌≤◌, [], drop, length, slice_get, reverse, take, OnOk, OnErr};
 ghost use Rattle.enc_vm.specs.ArgumentsSeen.{taken_seen};
 ghost use Rattle.enc_vm.specs.Calls.{arguments};
 ghost use Rattle.enc_vm.specs.Values.{upper, upper_two, upper_three};
@@ -24,13 +24,14 @@ impl Model for Stack {
 }
 
 impl Stack {
-    /// No values, and room for so many.
-    pub(crate) fn begin(alloc: Global, room: u16) -> Result<Stack, AllocError>
-        ensures { IfOk result (λ s. s ≡ []) }
+    /// No values. It takes no memory: a body may name room for 65,535 values and use one, so the stack grows as it
+    /// is used.
+    pub(crate) fn begin(alloc: Global) -> Stack
+        ensures { result ≡ [] }
     {
-        let mut items = Vec::new(alloc);
-        items.reserve(room as usize)?;
-        Ok(Stack { items })
+        Stack {
+            items: Vec::new(alloc),
+        }
     }
 
     /// How many values there are.
