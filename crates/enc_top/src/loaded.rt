@@ -16,8 +16,11 @@ use enc_schema::tables::METHOD_DEF;
 fn loaded(instr: &Instr<'_>, end: u32) -> u64
     ensures { result ≡ loaded_by (instr_seen (instr.now, end)).0 }
 {
+    if instr.op.byte != 0x20 {
+        return 0;
+    }
     match instr.arg {
-        Arg::Num(n) if instr.op.byte == 0x20 => n.cast_unsigned(),
+        Arg::Num(n) => n.cast_unsigned(),
         _ => 0,
     }
 }
