@@ -3,7 +3,7 @@ use Rattle.std.proofs.Common.{◌≡◌, ℕ, zero, suc, ◌+◌, ◌<◌, ◌�
 use Rattle.std.specs.Prelude.{IsTrue, ◌==◌, ◌&&◌, ◌||◌, if◌then◌else◌, position, count_by, option_map, unwrap_or, slice_get}
 use Rattle.std.specs.List.{list_any, position_from}
 use Rattle.std.proofs.lemmas.Iterator.Adapters.{position_from-zero}
-use Rattle.std.proofs.lemmas.Bool.{cases_lt, cases_eq}
+use Rattle.std.proofs.lemmas.Bool.{cases_lt, cases_eq, and_parts}
 use Rattle.std.proofs.lemmas.Bool.Decides.{nat_tests}
 use Rattle.std.proofs.lemmas.List.{length-append, length-map, take_all, take_more, take-append-drop, get_or-map}
 use Rattle.std.proofs.lemmas.Option.{slice_get-map, slice_get-get_or}
@@ -46,17 +46,12 @@ and_true false = refl
 pub same_row : (t u : Token) → is_key (row_key t) (row_key u) ≡ is_token t u
 same_row t u = and_true (t.table == u.table && t.row == u.row)
 
-both_true : (a b : Bool) → (a && b) ≡ true → (a ≡ true) × (b ≡ true)
-both_true true true h = (refl, refl)
-both_true true false h = absurd cc
-both_true false b h = absurd cc
-
 equal : (a b : ℕ) → (a == b) ≡ true → a ≡ b
 equal a b h = grind (arith, nat_tests)
 
 token_is : (t u : Token) → is_token t u ≡ true → t ≡ u
 token_is t u h =
-    let parts = both_true (t.table == u.table) (t.row == u.row) h in
+    let parts = and_parts (t.table == u.table) (t.row == u.row) h in
     rw (equal t.table u.table parts.0, equal t.row u.row parts.1) refl
 
 -- the places of the tokens so far
@@ -197,7 +192,7 @@ held_step c pairs a others count kid now_count now_kid own child so_far counts k
           let gains : kids_of c.plain u t ++ gained pairs u t ≡ kids_of c.plain u t ++ gained (pairs ++ a ∷ []) u t = ap (λ xs. kids_of c.plain u t ++ xs) (sym (gained_snoc pairs a u t ∙ rw differs (append-nil (gained pairs u t)))) in
           held_as _ _ _ _ _ (λ i. kid (kids_key t u i)) (λ i. now_kid (kids_key t u i)) gains (sym (counts (kids_key t u 0) ∙ rw (other_key a u t 0 0 own mine differs) refl)) (λ i. kids (kids_key t u i) ∙ rw (other_key a u t others i own mine differs) refl) (held u t there mine)
       | inl same ↦
-          let parts = both_true (is_token a.owner u) (a.child.table == t) same in
+          let parts = and_parts (is_token a.owner u) (a.child.table == t) same in
           let e : a.owner ≡ u = token_is a.owner u parts.0 in
           let f : a.child.table ≡ t = equal a.child.table t parts.1 in
           held_here u t e f (held u t there mine)

@@ -5,20 +5,17 @@ use Rattle.std.specs.List.{list_all}
 use Rattle.std.specs.Int.{w8, w16, w32, from_le_bytes}
 use Rattle.std.proofs.lemmas.List.{get_or-drop}
 use Rattle.std.proofs.lemmas.Bool.Decides.{nat_tests}
+use Rattle.std.proofs.lemmas.Bool.{and_parts}
 use Rattle.enc_base.specs.Numbers.{little_endian_at, in_two, in_four, compressed, AreBytes}
 
 -- each place has a byte; behind the end stands 0
 pub record EachIsByte (bytes : List ℕ) : Type 0 where
   pub at : (i : ℕ) → get_or bytes i 0 < 256
 
-both_true : (a b : Bool) → (a && b) ≡ true → (a ≡ true) × (b ≡ true)
-both_true true b h = (refl, h)
-both_true false b h = absurd cc
-
 byte_at : (bytes : List ℕ) (i : ℕ) → list_all (λ b. nat_lt b 0x100) bytes ≡ true → get_or bytes i 0 < 256
 byte_at [] i h = omega arith
-byte_at (b ∷ rest) zero h = let e = (both_true (nat_lt b 0x100) _ h).0 in grind (arith, nat_tests)
-byte_at (b ∷ rest) (suc i) h = byte_at rest i (both_true (nat_lt b 0x100) _ h).1
+byte_at (b ∷ rest) zero h = let e = (and_parts (nat_lt b 0x100) _ h).0 in grind (arith, nat_tests)
+byte_at (b ∷ rest) (suc i) h = byte_at rest i (and_parts (nat_lt b 0x100) _ h).1
 
 pub bytes_each : (bytes : List ℕ) → AreBytes bytes → EachIsByte bytes
 bytes_each bytes h = record { at = λ i. byte_at bytes i h }

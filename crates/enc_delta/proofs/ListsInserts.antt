@@ -1,7 +1,7 @@
 -- Counting inserts while the tokens are gone over.
 use Rattle.std.proofs.Common.{◌≡◌, ℕ, zero, suc, ◌+◌, ◌<◌, ◌≢◌, Bool, true, false, List, [], ◌∷◌, length, Some, None, refl, sym, ◌∙◌, inl, inr, arith, set, get_or, take}
 use Rattle.std.specs.Prelude.{◌==◌, ◌&&◌, not, slice_index, slice_get, replicate}
-use Rattle.std.proofs.lemmas.Bool.{cases_eq}
+use Rattle.std.proofs.lemmas.Bool.{cases_eq, and_from}
 use Rattle.std.proofs.lemmas.Bool.Decides.{nat_tests}
 use Rattle.std.proofs.lemmas.List.{get_or-set_same, get_or-set_other, length-set}
 use Rattle.std.proofs.lemmas.List.Sums.{count_by_more_yes, count_by_more_no}
@@ -32,10 +32,6 @@ pub inserts_none : (c : Chain) (table : ℕ) → inserts c [] table ≡ 0
 unfolding inserts
 inserts_none c table = refl
 
-both : (a b : Bool) → a ≡ true → b ≡ true → (a && b) ≡ true
-both true b h k = k
-both false b h k = absurd cc
-
 pub left_no : (a b : Bool) → a ≡ false → (a && b) ≡ false
 left_no true b h = absurd cc
 left_no false b h = refl
@@ -54,7 +50,7 @@ pub inserts_yes : (c : Chain) (tokens : List Token) (k : ℕ) → k < length tok
 unfolding inserts
 inserts_yes c tokens k h is =
     let t = get_or tokens k no_token in
-    count_by_more_yes (λ (u : Token). u.table == t.table && is_insert c u) tokens k no_token h (both (t.table == t.table) (is_insert c t) (same_table t.table t.table refl) is)
+    count_by_more_yes (λ (u : Token). u.table == t.table && is_insert c u) tokens k no_token h (and_from (t.table == t.table) (is_insert c t) (same_table t.table t.table refl) is)
 
 pub inserts_other : (c : Chain) (tokens : List Token) (k table : ℕ) → k < length tokens → (get_or tokens k no_token).table ≢ table → inserts c (take (k + 1) tokens) table ≡ inserts c (take k tokens) table
 unfolding inserts

@@ -1,7 +1,7 @@
 -- The Add entries of a log, as far as it was gone over.
 use Rattle.std.proofs.Common.{◌≡◌, ℕ, zero, suc, ◌+◌, ◌<◌, ◌≤◌, ◌≢◌, Bool, true, false, List, [], ◌∷◌, length, Option, Some, None, refl, sym, ◌∙◌, inl, inr, arith, set, get_or, take}
 use Rattle.std.specs.Prelude.{nat_lt, nat_le, ◌==◌, ◌&&◌, ◌||◌, not, slice_index, drop, find}
-use Rattle.std.proofs.lemmas.Bool.{cases_eq}
+use Rattle.std.proofs.lemmas.Bool.{cases_eq, and_from}
 use Rattle.std.proofs.lemmas.Bool.Decides.{nat_tests}
 use Rattle.std.proofs.lemmas.List.{get_or-set_same, get_or-set_other, length-set, length-take-le}
 use Rattle.std.proofs.lemmas.List.Sums.{count_by_more_yes, count_by_more_no, count_by-le-length}
@@ -80,15 +80,10 @@ broken_bad p true false true false h g i = refl
 broken_bad p true false false e h g i = absurd cc
 broken_bad p false b d e h g i = absurd cc
 
--- how the Add entries of a code count on
-both : (a b : Bool) → a ≡ true → b ≡ true → (a && b) ≡ true
-both true b h k = k
-both false b h k = absurd cc
-
 adds_yes : (log : List Entry) (k : ℕ) → k < length log → counts (get_or log k no_entry) ≡ true → adds (take (k + 1) log) (get_or log k no_entry).code ≡ adds (take k log) (get_or log k no_entry).code + 1
 adds_yes log k h is =
     let code = (get_or log k no_entry).code in
-    count_by_more_yes (λ (e : Entry). counts e && e.code == code) log k no_entry h (both (counts (get_or log k no_entry)) (code == code) is (grind (arith, nat_tests)))
+    count_by_more_yes (λ (e : Entry). counts e && e.code == code) log k no_entry h (and_from (counts (get_or log k no_entry)) (code == code) is (grind (arith, nat_tests)))
 
 adds_skip : (log : List Entry) (k code : ℕ) → k < length log → counts (get_or log k no_entry) ≡ false → adds (take (k + 1) log) code ≡ adds (take k log) code
 adds_skip log k code h is = count_by_more_no (λ (e : Entry). counts e && e.code == code) log k no_entry h (left_no (counts (get_or log k no_entry)) ((get_or log k no_entry).code == code) is)
@@ -184,7 +179,7 @@ unfolding log_fault_of
 bad_pair c tokens log pairs k n s h is low high at pair =
     let e = get_or log k no_entry in
     let same : n ≡ adds (take k log) e.code = at ∙ s.counted e.code low high in
-    let yes : is_add e.code ≡ true = both (nat_le 1 e.code) (nat_le e.code 5) (grind (arith, nat_tests)) (grind (arith, nat_tests)) in
+    let yes : is_add e.code ≡ true = and_from (nat_le 1 e.code) (nat_le e.code 5) (grind (arith, nat_tests)) (grind (arith, nat_tests)) in
     found_at c tokens log pairs k s h (broken_bad (place.Log (k + 1)) (counts e) (nat_lt 5 e.code) (is_add e.code) (has_parent c tokens e && follows c (take k log) e.code (find counts (drop (k + 1) log))) is yes (sym (pair_is c tokens (take k log) (drop (k + 1) log) n e low high same) ∙ pair))
 
 pub logged_all : (c : Chain) (tokens : List Token) (log : List Entry) (pairs : List ℕ) (k : ℕ) → Logged c tokens log pairs k → k ≡ length log → None ≡ log_fault c tokens log

@@ -3,6 +3,7 @@ use Rattle.std.proofs.Common.{◌≡◌, ℕ, ◌<◌, Bool, true, false, List, 
 use Rattle.std.specs.Prelude.{◌==◌, ◌&&◌, ◌||◌, filter}
 use Rattle.std.specs.List.{list_any}
 use Rattle.std.proofs.lemmas.List.Folds.{list_any-append, list_any_at}
+use Rattle.std.proofs.lemmas.Bool.{and_from}
 use Rattle.enc_plain.specs.Module.{Module}
 use Rattle.enc_delta.specs.declared.pairs.Pair.{Pair}
 use Rattle.enc_delta.specs.declared.shared.Keyed.{Keyed}
@@ -11,7 +12,7 @@ use Rattle.enc_delta.specs.Members.{pair_seen, is_member_table, is_twin_beside, 
 use Rattle.enc_delta.proofs.ListsChildren.{two, equal_is}
 use Rattle.enc_delta.proofs.MembersBeside.{no_pair, any_filter}
 use Rattle.enc_delta.proofs.TwinsTold.{absorbed}
-use Rattle.enc_delta.proofs.NearTwins.{both_true, counts_of, names_one, gathered, any_named, in_all, twin_is}
+use Rattle.enc_delta.proofs.NearTwins.{counts_of, names_one, gathered, any_named, in_all, twin_is}
 
 -- the members that count, by their names' keys
 abbrev pub by_name : Asked → Bool → List Pair → List Keyed
@@ -19,7 +20,7 @@ by_name q new pairs = map (keyed_by_name q new) (filter (λ (k : Pair). q.counts
 
 -- a twin of a member whose key is there is a namesake
 twin_kept : (q : Asked) (entries : List Keyed) (a k : Pair) → AreInMemberTables q → has_key entries (name_key q a) ≡ true → is_twin_beside q a k ≡ true → is_namesake q entries k ≡ true
-twin_kept q entries a k tables has twin = both_true (is_member_table k.child.table) (has_key entries (name_key q k)) (tables k.child (counts_of q a k twin)) (rw (names_one q a k twin) has)
+twin_kept q entries a k tables has twin = and_from (is_member_table k.child.table) (has_key entries (name_key q k)) (tables k.child (counts_of q a k twin)) (rw (names_one q a k twin) has)
 
 -- so dropping the others drops none of its twins
 kept_twins : (q : Asked) (entries : List Keyed) (old : List Pair) (a : Pair) → AreInMemberTables q → has_key entries (name_key q a) ≡ true → list_any (is_twin_beside q a) (filter (is_namesake q entries) old) ≡ list_any (is_twin_beside q a) old
@@ -29,7 +30,7 @@ kept_twins q entries old a tables has = any_filter (is_namesake q entries) (is_t
 new_key : (q : Asked) (pairs : List Pair) (entries : List Keyed) (i : ℕ) → AreSame (by_name q true pairs) entries → i < length pairs → q.counts (get_or pairs i no_pair).child ≡ true → has_key entries (name_key q (get_or pairs i no_pair)) ≡ true
 new_key q pairs entries i same l counts =
     let n = name_key q (get_or pairs i no_pair) in
-    same (λ (e : Keyed). e.key == n) ∙ any_named q true (λ (e : Keyed). e.key == n) pairs ∙ list_any_at (λ (k : Pair). q.counts k.child && (name_key q k == n)) pairs i no_pair l (both_true _ _ counts (equal_is n n refl))
+    same (λ (e : Keyed). e.key == n) ∙ any_named q true (λ (e : Keyed). e.key == n) pairs ∙ list_any_at (λ (k : Pair). q.counts k.child && (name_key q k == n)) pairs i no_pair l (and_from _ _ counts (equal_is n n refl))
 
 -- a new member has a twin among all old members where it has one among those that are kept
 kept_same : (q : Asked) (pairs old : List Pair) (entries : List Keyed) (i : ℕ) → AreInMemberTables q → AreSame (by_name q true pairs) entries → i < length pairs → in_all q (pairs ++ filter (is_namesake q entries) old) (get_or pairs i no_pair) ≡ in_all q (pairs ++ old) (get_or pairs i no_pair)

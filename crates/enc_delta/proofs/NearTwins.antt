@@ -3,7 +3,7 @@ use Rattle.std.proofs.Common.{◌≡◌, ℕ, zero, suc, ◌+◌, ◌-◌, ◌<�
 use Rattle.std.specs.Prelude.{◌==◌, ◌&&◌, ◌||◌, not, filter, nat_lt, if◌then◌else◌}
 use Rattle.std.specs.List.{list_any}
 use Rattle.std.specs.List.Sorted.{IsNonDecreasingBy}
-use Rattle.std.proofs.lemmas.Bool.{cases_eq, cases_lt}
+use Rattle.std.proofs.lemmas.Bool.{cases_eq, cases_lt, and_from}
 use Rattle.std.proofs.lemmas.Bool.Decides.{nat_tests}
 use Rattle.std.proofs.lemmas.List.{map-append, append-nil}
 use Rattle.std.proofs.lemmas.List.Elements.{filter_more}
@@ -48,9 +48,6 @@ none_at f xs i d h l = elim (two (f (get_or xs i d))) [ inl is ↦ let e : false
 
 no_true : {A : Type 0} (b : Bool) → b ≡ true → b ≡ false → A
 no_true b h e = let f : false ≡ true = sym e ∙ h in absurd cc
-
-pub both_true : (a b : Bool) → a ≡ true → b ≡ true → (a && b) ≡ true
-both_true a b e f = rw (e, f) refl
 
 three_of : (a b c : Bool) → not (a && b && c) ≡ false → (a ≡ true) × (b ≡ true) × (c ≡ true)
 three_of true true true h = (refl, refl, refl)
@@ -205,7 +202,7 @@ stage q keys entries g are sorted = iff_is _ _ forth back
         let e = keyed_at entries w.0 in
         let v = told_where q keys entries (is_twin_of q (keyed_by_signature q keys e)) n (both_right (g e.is_new e.pair) (has_twin_among q (near_told q keys entries n) (keyed_by_signature q keys e)) w.3) in
         let twin = list_any_at (is_twin_of q e) entries v.0 no_keyed v.1 v.3 in
-        list_any_at (twinned q g entries) entries w.0 no_keyed w.1 (both_true _ _ (both_left (g e.is_new e.pair) (has_twin_among q (near_told q keys entries n) (keyed_by_signature q keys e)) w.3) twin)
+        list_any_at (twinned q g entries) entries w.0 no_keyed w.1 (and_from _ _ (both_left (g e.is_new e.pair) (has_twin_among q (near_told q keys entries n) (keyed_by_signature q keys e)) w.3) twin)
 
     back : list_any (twinned q g entries) entries ≡ true → list_any (twinned q g (near_told q keys entries n)) (near_told q keys entries n) ≡ true
     back h =
@@ -214,7 +211,7 @@ stage q keys entries g are sorted = iff_is _ _ forth back
         let v = where_one (is_twin_of q e) entries no_keyed (both_right (g e.is_new e.pair) (has_twin_among q entries e) w.2) in
         let near = near_both q entries w.0 v.0 are sorted w.1 v.1 v.2 in
         let twin = told_at q keys entries (is_twin_of q (keyed_by_signature q keys e)) n v.0 v.1 near.1 v.2 in
-        told_at q keys entries (twinned q g (near_told q keys entries n)) n w.0 w.1 near.0 (both_true _ _ (both_left (g e.is_new e.pair) (has_twin_among q entries e) w.2) twin)
+        told_at q keys entries (twinned q g (near_told q keys entries n)) n w.0 w.1 near.0 (and_from _ _ (both_left (g e.is_new e.pair) (has_twin_among q entries e) w.2) twin)
 
 reordered : (q : Asked) (before after : List Keyed) (g : Bool → Pair → Bool) → AreSame before after → list_any (twinned q g after) after ≡ list_any (twinned q g before) before
 reordered q before after g same = same (twinned q g after) ∙ any_same (twinned q g after) (twinned q g before) before (λ e. ap (λ b. g e.is_new e.pair && b) (same (is_twin_of q e)))

@@ -2,7 +2,7 @@
 use Rattle.std.proofs.Common.{◌≡◌, ℕ, ◌+◌, ◌*◌, ◌<◌, ◌^◌, Bool, true, false, List, [], ◌∷◌, ◌++◌, length, map, Some, refl, sym, ap, ◌∙◌, arith}
 use Rattle.std.specs.Prelude.{nat_lt, nat_le, not, is_some, ◌&&◌, ◌==◌}
 use Rattle.std.specs.List.{list_all}
-use Rattle.std.proofs.lemmas.Bool.{and_parts}
+use Rattle.std.proofs.lemmas.Bool.{and_parts, and_from}
 use Rattle.std.proofs.lemmas.Bool.Decides.{nat_tests}
 use Rattle.std.proofs.lemmas.List.{append-nil}
 use Rattle.std.proofs.lemmas.List.Folds.{list_all-append}
@@ -32,7 +32,6 @@ use Rattle.enc_rules.specs.Edited.{body_stated}
 use Rattle.enc_edited.specs.Encoded.{code_for, texts_of, IsSoundBody, CanBeEncoded}
 use Rattle.enc_edited.specs.Standing.{argument_is_held, code_is_held, body_assembles, Stands}
 use Rattle.enc_edited.proofs.Gathering.{named_by, named_in, named_placed}
-use Rattle.enc_edited.proofs.StatedCells.{both}
 
 -- a user text that the heaps have is named by three bytes, and read there
 record Tells (h : Built) : Type 0 where
@@ -66,7 +65,7 @@ arg_small h count begins o (arg.Num n) tells few held sound kept = refl
 arg_small h count begins o (arg.Target t) tells few held sound kept = held
 arg_small h count begins o (arg.Targets ts) tells few held sound kept = held
 arg_small h count begins o (arg.Token t) tells few held sound kept =
-    both (nat_lt t.table 0x100) (nat_lt t.row 0x1000000) held (low_token count t few (and_parts (not (is_user o)) (is_named count t) sound).1)
+    and_from (nat_lt t.table 0x100) (nat_lt t.row 0x1000000) held (low_token count t few (and_parts (not (is_user o)) (is_named count t) sound).1)
 arg_small h count begins o (arg.User units) tells few held sound kept =
     low_offset (user_offset h (unit_bytes units)) (tells.low (unit_bytes units) (first_kept (is_kept h.users (unit_bytes units)) kept))
 arg_small h count begins o (arg.Raw bytes) tells few held sound kept = refl
@@ -117,7 +116,7 @@ code_small h count begins at (i ∷ code) tells few held sound kept =
     let two = parts_kept (is_kept h.users) i code kept in
     let own = and_parts (argument_is_held i.arg) (code_is_held code) held in
     let good = and_parts (argument_is_sound count begins i.op.operand (arg_meant i.arg)) (list_all (instruction_is_sound count begins) (placed (at + instruction_size (instr_meant i)) code)) sound in
-    both (arg_is_small (user_offset h) i.arg) (are_small (user_offset h) code)
+    and_from (arg_is_small (user_offset h) i.arg) (are_small (user_offset h) code)
     (arg_small h count begins i.op.operand i.arg tells few own.0 good.0 two.0)
     (code_small h count begins (at + instruction_size (instr_meant i)) code tells few own.1 good.1 two.1)
 
@@ -125,7 +124,7 @@ code_kept : (h : Built) (code : List InstrValue) → list_all (is_kept h.users) 
 code_kept h [] kept = refl
 code_kept h (i ∷ code) kept =
     let two = parts_kept (is_kept h.users) i code kept in
-    both (text_is_kept h i.arg) _ (arg_kept h i.arg two.0) (code_kept h code two.1)
+    and_from (text_is_kept h i.arg) _ (arg_kept h i.arg two.0) (code_kept h code two.1)
 
 code_told : (h : Built) (at : ℕ) (code : List InstrValue) → Tells h → list_all (is_kept h.users) (named_in code) ≡ true → map (instruction_told (texts_of h)) (placed_named (user_offset h) at code) ≡ placed at code
 unfolding placed placed_named
@@ -140,7 +139,7 @@ unfolding placed_named
 code_there h at [] tells kept = refl
 code_there h at (i ∷ code) tells kept =
     let two = parts_kept (is_kept h.users) i code kept in
-    both (text_is_there (texts_of h) (arg_named (user_offset h) i.arg)) _ (arg_there h i.arg tells two.0)
+    and_from (text_is_there (texts_of h) (arg_named (user_offset h) i.arg)) _ (arg_there h i.arg tells two.0)
     (code_there h (at + instruction_size (instr_meant i)) code tells two.1)
 
 -- what is known of a body that stands

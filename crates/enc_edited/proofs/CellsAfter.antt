@@ -2,7 +2,7 @@
 use Rattle.std.proofs.Common.{◌≡◌, ℕ, zero, suc, ◌<◌, ◌≤◌, Bool, true, false, List, [], ◌∷◌, take, drop, Option, Some, None, refl, sym, ap, ◌∙◌, inl, inr, arith}
 use Rattle.std.specs.Prelude.{◌==◌, ◌&&◌, ◌||◌, not, nat_le, is_some, slice_get, option_map, option_and_then, if◌then◌else◌}
 use Rattle.std.specs.List.{list_all}
-use Rattle.std.proofs.lemmas.Bool.{false≢true, or_cases, and_parts}
+use Rattle.std.proofs.lemmas.Bool.{false≢true, or_cases, and_parts, and_from}
 use Rattle.std.proofs.lemmas.Bool.Decides.{nat_tests}
 use Rattle.enc_base.specs.Token.{nil, is_token}
 use Rattle.enc_base.specs.declared.token.Token.{Token}
@@ -67,15 +67,12 @@ either : (a b : Bool) → (a ≡ false → b ≡ true) → (a || b) ≡ true
 either true b h = refl
 either false b h = h refl
 
-true_both : (a b : Bool) → a ≡ true → b ≡ true → (a && b) ≡ true
-true_both a b e f = rw (e, f) refl
-
 named_row : (m : Module) (count : ℕ → ℕ) (column : Column) (t : Token) → row_count m t.table ≡ count t.table → (t.row == 0) ≡ false → (can_name column t.table && nat_le t.row (count t.table)) ≡ true → (can_name column t.table && has_row m t) ≡ true
 named_row m count column t same some h =
     let a = and_parts (can_name column t.table) (nat_le t.row (count t.table)) h in
     let low : 0 < t.row = grind (arith, nat_tests, some) in
     let high : t.row ≤ count t.table = grind (arith, nat_tests, a) in
-    true_both (can_name column t.table) (has_row m t) a.0 (row_there m t low (omega (arith, high, same)))
+    and_from (can_name column t.table) (has_row m t) a.0 (row_there m t low (omega (arith, high, same)))
 
 reference_by : (m : Module) (count : ℕ → ℕ) (column : Column) (t : Token) (b : Bool) → ((k : ℕ) → row_count m k ≡ count k) → (t.row == 0) ≡ b → (b || can_name column t.table && nat_le t.row (count t.table)) ≡ true → is_reference m column (if b then nil else t) ≡ true
 unfolding is_reference
@@ -109,7 +106,7 @@ unfolding is_reference
 old_reference c l column t has none h =
     elim (or_cases (is_token t nil) (can_name column t.table && has_row c.plain t) h) [
       | inl empty ↦ rw empty refl
-      | inr some ↦ let a = and_parts (can_name column t.table) (has_row c.plain t) some in either (is_token t nil) _ (λ other. true_both (can_name column t.table) (has_row (edited c.plain l.edits) t) a.0 (row_stays c l t has none a.1))
+      | inr some ↦ let a = and_parts (can_name column t.table) (has_row c.plain t) some in either (is_token t nil) _ (λ other. and_from (can_name column t.table) (has_row (edited c.plain l.edits) t) a.0 (row_stays c l t has none a.1))
     ]
 
 field_by : (table i : ℕ) (b f : Bool) (o : Option Column) → is_field table i ≡ f → (if b then Some bodies else if f then Some fields else option_and_then kind_of o) ≡ Some fields → table ≡ 0x1D

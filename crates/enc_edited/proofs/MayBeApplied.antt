@@ -2,7 +2,7 @@
 use Rattle.std.proofs.Common.{◌≡◌, ℕ, ◌+◌, ◌*◌, ◌<◌, ◌^◌, Bool, true, false, List, length, take, Some, None, refl, sym, ap, ◌∙◌, arith}
 use Rattle.std.specs.Prelude.{slice_get, sum_by, nat_lt, nat_le, not, ◌&&◌, ◌||◌, ◌==◌}
 use Rattle.std.specs.List.{list_all}
-use Rattle.std.proofs.lemmas.Bool.{and_parts}
+use Rattle.std.proofs.lemmas.Bool.{and_parts, and_from}
 use Rattle.std.proofs.lemmas.Bool.Decides.{nat_tests}
 use Rattle.std.proofs.lemmas.List.Sums.{sum_by_push}
 use Rattle.enc_base.proofs.First.{silent}
@@ -28,7 +28,6 @@ use Rattle.enc_edited.specs.Standing.{body_assembles, edit_assembles}
 use Rattle.enc_edited.proofs.KeptSound.{sound_after}
 use Rattle.enc_edited.proofs.NoneBroken.{unbroken, nothing_breaks}
 use Rattle.enc_edited.proofs.Rest.{each_of, at_place}
-use Rattle.enc_edited.proofs.StatedCells.{both}
 use Rattle.enc_edited.proofs.Unbroken.{BreakNothing}
 
 pub breaks_nothing : (m : Module) (l : EditList) → MayApply m l → BreakNothing (alone m) l
@@ -76,7 +75,7 @@ given_assembles : (c : Chain) (l : EditList) (k : ℕ) (e : Edit) (b : BodyValue
 unfolding body_assembles
 given_assembles c l k e b rule there gives fits =
     let two = rule_of c l k e b rule there gives in
-    both _ _ (both (body_fits b) (branches_reach 0 b.code) fits (reach_of (count_after c l.edits) b two.0)) (rw gives at (own_room l.edits k e there two.1))
+    and_from _ _ (and_from (body_fits b) (branches_reach 0 b.code) fits (reach_of (count_after c l.edits) b two.0)) (rw gives at (own_room l.edits k e there two.1))
 
 fits_given : (table : ℕ) (b : BodyValue) (points : _) (a : Bool) → (a && code_fits table (Some b) points) ≡ true → body_fits b ≡ true
 fits_given table b points a h = (and_parts (table == 6) (body_fits b) (and_parts a (code_fits table (Some b) points) h).1).1

@@ -2,8 +2,7 @@
 use Rattle.std.proofs.Common.{◌≡◌, ℕ, zero, suc, ◌+◌, ◌≤◌, Bool, true, List, [], ◌∷◌, length, drop, Some, refl, arith}
 use Rattle.std.specs.Prelude.{slice_get}
 use Rattle.std.specs.List.{list_all}
-use Rattle.std.proofs.lemmas.Bool.{and_parts}
-use Rattle.enc_edited.proofs.StatedCells.{both}
+use Rattle.std.proofs.lemmas.Bool.{and_parts, and_from}
 
 rest_is : {A : Type 0} (xs : List A) (k : ℕ) (x : A) → slice_get xs k ≡ Some x → drop k xs ≡ x ∷ drop (suc k) xs
 rest_is [] k x h = absurd cc
@@ -23,7 +22,7 @@ none_left (x ∷ xs) (suc k) h = none_left xs k (omega arith)
 -- what holds of all, and of the item at each place
 pub each_of : {A : Type 0} (p : A → Bool) (xs : List A) → ((k : ℕ) (x : A) → slice_get xs k ≡ Some x → p x ≡ true) → list_all p xs ≡ true
 each_of p [] each = refl
-each_of p (x ∷ xs) each = both (p x) (list_all p xs) (each 0 x refl) (each_of p xs (λ k y there. each (suc k) y there))
+each_of p (x ∷ xs) each = and_from (p x) (list_all p xs) (each 0 x refl) (each_of p xs (λ k y there. each (suc k) y there))
 
 pub at_place : {A : Type 0} (p : A → Bool) (xs : List A) (k : ℕ) (x : A) → list_all p xs ≡ true → slice_get xs k ≡ Some x → p x ≡ true
 at_place p [] k x all there = absurd cc

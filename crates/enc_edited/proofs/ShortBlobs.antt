@@ -1,7 +1,7 @@
 -- Blobs that are put into a heap within its limit can be spelled.
 use Rattle.std.proofs.Common.{◌≡◌, ℕ, ◌<◌, ◌≤◌, ◌^◌, Bool, true, false, ◌||◌, ◌&&◌, List, [], ◌∷◌, length, flat_map, sum_by, nat_lt, bytes_eq, refl, ap, arith}
 use Rattle.std.specs.List.{list_all}
-use Rattle.std.proofs.lemmas.Bool.{false≢true}
+use Rattle.std.proofs.lemmas.Bool.{false≢true, and_from, and_parts}
 use Rattle.std.proofs.lemmas.Bool.Decides.{nat_tests}
 use Rattle.std.proofs.lemmas.List.{length-append}
 use Rattle.std.proofs.lemmas.List.Sums.{sum_by-cons, sum_by_push}
@@ -63,9 +63,6 @@ not_past true full to h = refl
 not_past false true to h = absurd cc
 not_past false false to h = absurd (false≢true (to refl))
 
-both : (a b : Bool) → a ≡ true → b ≡ true → (a && b) ≡ true
-both a b h i = rw (h, i) refl
-
 abbrev is_short : List ℕ → Bool
 is_short v = nat_lt (length v) (2 ^ 29)
 
@@ -73,13 +70,9 @@ short_blobs : (h : Built) (values : List (List ℕ)) → passes_limits (with_blo
 unfolding with_blobs
 short_blobs h [] room = refl
 short_blobs h (v ∷ values) room =
-    both (is_short v) (list_all is_short values)
+    and_from (is_short v) (list_all is_short values)
     (not_past (is_short v) (passes_limits (with_blobs (with_blob h v) values)) (λ long. passes_blobs (with_blob h v) values (long_passes h v long)) room)
     (short_blobs (with_blob h v) values room)
-
-parts : (a b : Bool) → (a && b) ≡ true → (a ≡ true) × (b ≡ true)
-parts true b h = (refl, h)
-parts false b h = absurd cc
 
 -- those of cells are short where all are
 short_cells : (cells : List CellValue) → list_all is_short (flat_map blobs_in_cell cells) ≡ true → list_all blob_is_short cells ≡ true
@@ -87,8 +80,8 @@ short_cells [] all = refl
 short_cells (cell.Num n ∷ cells) all = short_cells cells all
 short_cells (cell.Text bytes ∷ cells) all = short_cells cells all
 short_cells (cell.Blob bytes ∷ cells) all =
-    let two = parts (is_short bytes) (list_all is_short (flat_map blobs_in_cell cells)) all in
-    both (is_short bytes) (list_all blob_is_short cells) two.0 (short_cells cells two.1)
+    let two = and_parts (is_short bytes) (list_all is_short (flat_map blobs_in_cell cells)) all in
+    and_from (is_short bytes) (list_all blob_is_short cells) two.0 (short_cells cells two.1)
 short_cells (cell.Guid bytes ∷ cells) all = short_cells cells all
 short_cells (cell.Refer t ∷ cells) all = short_cells cells all
 
@@ -114,4 +107,4 @@ unfolding with_edits
 short_edits rows h [] room = refl
 short_edits rows h (e ∷ edits) room =
     let here = none_before (passes_limits (heaps_after_edit rows h e)) (passes_limits (with_edits rows (heaps_after_edit rows h e) edits)) (passes_more rows (heaps_after_edit rows h e) edits) room in
-    both (blobs_are_short e) (list_all blobs_are_short edits) (short_edit rows h e here) (short_edits rows (heaps_after_edit rows h e) edits room)
+    and_from (blobs_are_short e) (list_all blobs_are_short edits) (short_edit rows h e here) (short_edits rows (heaps_after_edit rows h e) edits room)

@@ -3,21 +3,19 @@ use Rattle.std.proofs.Common.{◌≡◌, ℕ, suc, ◌<◌, ◌^◌, Bool, true,
 use Rattle.std.specs.Prelude.{nat_lt, ◌&&◌, ◌==◌}
 use Rattle.std.specs.List.{list_all}
 use Rattle.std.proofs.lemmas.Bool.Decides.{nat_tests}
+use Rattle.std.proofs.lemmas.Bool.{and_from}
 use Rattle.enc_edits.specs.declared.body.BodyValue.{BodyValue}
 use Rattle.enc_edits.specs.declared.edit.CellValue.{CellValue}
 use Rattle.enc_rules.specs.Edited.{cell_stated, cells_stated}
 use Rattle.enc_edited.specs.Standing.{is_any_offset}
 use Rattle.enc_edited.specs.Stated.{front_stated}
 
-pub both : (a b : Bool) → a ≡ true → b ≡ true → (a && b) ≡ true
-both a b e f = rw (e, f) refl
-
 pub below : (b n : ℕ) → b < n → nat_lt b n ≡ true
 below b n few = grind (arith, nat_tests)
 
 pub all_offsets : (xs : List ℕ) → ((i : ℕ) → get_or xs i 0 < 2 ^ 32) → list_all is_any_offset xs ≡ true
 all_offsets [] each = refl
-all_offsets (x ∷ xs) each = both (is_any_offset x) _ (below x (2 ^ 32) (each 0)) (all_offsets xs (λ i. each (suc i)))
+all_offsets (x ∷ xs) each = and_from (is_any_offset x) _ (below x (2 ^ 32) (each 0)) (all_offsets xs (λ i. each (suc i)))
 
 by_table : (table : ℕ) (values : List CellValue) (code : Option BodyValue) (a b : Bool) → (table == 6) ≡ a → (table == 0x1D) ≡ b → front_stated table code ++ map cell_stated values ≡ cells_stated table values code
 unfolding cells_stated

@@ -3,6 +3,7 @@ use Rattle.std.proofs.Common.{◌≡◌, ℕ, ◌+◌, List, [], ◌∷◌, Some
 use Rattle.std.specs.Prelude.{option_map, nat_le, nat_lt, ◌==◌}
 use Rattle.std.specs.List.{list_any}
 use Rattle.std.proofs.lemmas.Bool.Decides.{nat_tests}
+use Rattle.std.proofs.lemmas.Bool.{and_from}
 use Rattle.serde_json.specs.Data.{Data}
 use Rattle.serde_json.specs.Find.{as_str, as_number, as_u64}
 use Rattle.enc_schema.specs.declared.column.Column.{Column}
@@ -12,7 +13,7 @@ use Rattle.enc_edits.specs.declared.edit.CellValue.TheVariants as cell
 use Rattle.enc_edits.specs.Form.{cell_fits, cells_fit}
 use Rattle.enc_jobs.specs.Json.{number_said, hex_said, token_said, guid_said}
 use Rattle.enc_jobs.specs.Cell.{text_cell_said, cell_said, cells_said}
-use Rattle.enc_jobs.proofs.Inverse.{map_some, then_some, if_some, unless_some, both_true, first_some}
+use Rattle.enc_jobs.proofs.Inverse.{map_some, then_some, if_some, unless_some, first_some}
 
 -- a number is within its bound
 pub number_within : (most : ℕ) (d : Data) (n : ℕ) → number_said most d ≡ Some n → nat_lt n (most + 1) ≡ true
@@ -53,4 +54,4 @@ cells_have [] (d ∷ ds) vs h = absurd (cc)
 cells_have (c ∷ columns) [] vs h = absurd (cc)
 cells_have (c ∷ columns) (d ∷ ds) vs h =
     let w = first_some (cell_said c d) (cells_said columns ds) vs h in
-    rw (← w.4) (both_true (cell_fits c w.0) (cells_fit columns w.1) (cell_has c d w.0 w.2) (cells_have columns ds w.1 w.3))
+    rw (← w.4) (and_from (cell_fits c w.0) (cells_fit columns w.1) (cell_has c d w.0 w.2) (cells_have columns ds w.1 w.3))

@@ -2,7 +2,7 @@
 use Rattle.std.proofs.Common.{◌≡◌, ℕ, ℤ, List, [], ◌∷◌, inl, inr, length, Option, Some, None, true, false, refl, sym, ◌∙◌}
 use Rattle.std.specs.Prelude.{option_map, option_and_then, slice_get, bytes_eq, codes, ◌==◌}
 use Rattle.std.specs.List.{list_all}
-use Rattle.std.proofs.lemmas.Bool.{and_parts}
+use Rattle.std.proofs.lemmas.Bool.{and_parts, and_from}
 use Rattle.serde_json.specs.Data.{Data}
 use Rattle.serde_json.specs.Find.{get, as_str, as_bool, as_number, as_i64}
 use Rattle.enc_opcodes.specs.declared.op.Operand.{Operand}
@@ -25,7 +25,7 @@ use Rattle.enc_jobs.specs.Code.{offsets_of, arg_placed, instr_placed, code_said}
 use Rattle.enc_jobs.specs.Clause.{range_said, start_said, clause_with, catch_said, filter_said, plain_said, clause_of_kind, clause_said, clauses_said}
 use Rattle.enc_jobs.specs.Points.{points_said}
 use Rattle.enc_jobs.specs.Body.{body_said, method_said}
-use Rattle.enc_jobs.proofs.Inverse.{map_some, then_some, if_some, either_some, both_true, every_keeps, every_has}
+use Rattle.enc_jobs.proofs.Inverse.{map_some, then_some, if_some, either_some, every_keeps, every_has}
 
 -- a whole number lies between its bounds
 whole_has : (below above : ℕ) (d : Data) (a : ArgValue) → whole_said below above d ≡ Some a → (n : ℤ) × (lies_in n below above ≡ true) × (arg.Num n ≡ a)
@@ -92,7 +92,7 @@ named_has known (name ∷ rest) i h =
     let op = then_some (op_named t.0) _ i t.2 in
     let a = then_some (argument_said op.0.operand rest) _ i op.2 in
     let e : record { op = op.0; arg = a.0 } ≡ i = cc in
-    rw (← e) (both_true (is_op op.0) (arg_fits op.0.operand a.0) ((known t.0 op.0 op.1).0) (argument_has op.0.operand rest a.0 a.1))
+    rw (← e) (and_from (is_op op.0) (arg_fits op.0.operand a.0) ((known t.0 op.0 op.1).0) (argument_has op.0.operand rest a.0 a.1))
 
 instr_has : NamedAreFound → (d : Data) (i : InstrValue) → instr_said d ≡ Some i → instr_fits i ≡ true
 unfolding instr_said
@@ -147,7 +147,7 @@ unfolding instr_placed
 instr_keeps starts i j fits h =
     let w = map_some _ (arg_placed starts i.arg) j h in
     let p = and_parts (is_op i.op) (arg_fits i.op.operand i.arg) fits in
-    rw (← w.2) (both_true (is_op i.op) (arg_fits i.op.operand w.0) p.0 (arg_keeps i.op.operand starts i.arg w.0 p.1 w.1))
+    rw (← w.2) (and_from (is_op i.op) (arg_fits i.op.operand w.0) p.0 (arg_keeps i.op.operand starts i.arg w.0 p.1 w.1))
 
 code_has : NamedAreFound → (d : Data) (c : Code) → code_said d ≡ Some c → list_all instr_fits c.instrs ≡ true
 unfolding code_said
@@ -229,7 +229,7 @@ body_has known d p h =
     let there = then_some (get (codes "code") d) code_said code.0 code.1 in
     let e = clauses.2 in
     let q : record { body = record { max = max.0; init = init.0; locals = locals.0; code = code.0.instrs; clauses = clauses.0 }; starts = code.0.offsets.starts } ≡ p = cc in
-    rw (← q) (both_true (list_all instr_fits code.0.instrs) (list_all clause_is_stated clauses.0) (code_has known there.0 code.0 there.2) (clauses_have_if code.0.offsets (get (codes "clauses") d) clauses.0 clauses.1))
+    rw (← q) (and_from (list_all instr_fits code.0.instrs) (list_all clause_is_stated clauses.0) (code_has known there.0 code.0 there.2) (clauses_have_if code.0.offsets (get (codes "clauses") d) clauses.0 clauses.1))
 
 pub method_has : NamedAreFound → (code : Data) (points : Option Data) (m : Method) → method_said code points ≡ Some m → body_fits m.body ≡ true
 unfolding method_said

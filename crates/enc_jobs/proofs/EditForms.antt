@@ -4,7 +4,7 @@ use Rattle.std.specs.Prelude.{◌%◌, nat_lt, option_map, MatchOption, IfOk, ok
 use Rattle.std.specs.List.{list_all}
 use Rattle.std.specs.Ordering.{nat_cmp, match_ordering}
 use Rattle.std.specs.Cmp.Lexicographic.{slice_cmp}
-use Rattle.std.proofs.lemmas.Bool.{and_parts, false≢true}
+use Rattle.std.proofs.lemmas.Bool.{and_parts, false≢true, and_from}
 use Rattle.std.proofs.lemmas.Map.Lookups.{exact_bytes}
 use Rattle.serde_json.specs.Data.{Data, null, boolean, number, string, array, object, Members, no_members, member}
 use Rattle.serde_json.specs.Find.{get, get_member, as_str}
@@ -36,7 +36,7 @@ use Rattle.enc_jobs.specs.Cell.{cells_said}
 use Rattle.enc_jobs.specs.Lists.{next_number, with_numbered, read_in_turn}
 use Rattle.enc_jobs.specs.Edits.{has_this_name, table_named, add_keys, owner_said, add_to_said, add_said, replace_said, edit_of_kind, edit_said, head_said, with_head, with_items, list_said, json_value, list_of_value, edits_said}
 use Rattle.enc_jobs.specs.Laws.{SaidFits}
-use Rattle.enc_jobs.proofs.Inverse.{map_some, then_some, if_some, either_some, both_true}
+use Rattle.enc_jobs.proofs.Inverse.{map_some, then_some, if_some, either_some}
 use Rattle.enc_jobs.proofs.CellForms.{cells_have}
 use Rattle.enc_jobs.proofs.CodeForms.{method_has}
 
@@ -102,7 +102,7 @@ code_has known table None points m only h =
     rw (← w.2) (rw e refl)
 code_has known table (Some code) points m only h =
     let w = map_some _ (method_said code points) m h in
-    rw (← w.2) (both_true (table == method_def) (body_fits w.0.body) (only code refl) (method_has known code points w.0 w.1))
+    rw (← w.2) (and_from (table == method_def) (body_fits w.0.body) (only code refl) (method_has known code points w.0 w.1))
 
 -- the row of a token is below 2^24
 small_row : (o : Option ℕ) (t : Token) → option_map token_of o ≡ Some t → nat_lt t.row 0x1000000 ≡ true
@@ -194,7 +194,7 @@ edit_has known d e h =
 -- what each edit that is read has, all edits of a list have
 edit_by : (q : Edit → Bool) (n : ℕ) (o : Option Edit) (r : Result (List Edit) JobFault) (es : List Edit) → ((e : Edit) → o ≡ Some e → q e ≡ true) → ((rest : List Edit) → r ≡ Ok rest → list_all q rest ≡ true) → with_numbered n o r ≡ Ok es → list_all q es ≡ true
 edit_by q n None r es first later h = absurd (cc)
-edit_by q n (Some e) (Ok rest) es first later h = let is : e ∷ rest ≡ es = cc in rw (← is) (both_true (q e) (list_all q rest) (first e refl) (later rest refl))
+edit_by q n (Some e) (Ok rest) es first later h = let is : e ∷ rest ≡ es = cc in rw (← is) (and_from (q e) (list_all q rest) (first e refl) (later rest refl))
 edit_by q n (Some e) (Err fault) es first later h = absurd (cc)
 
 edits_have : (q : Edit → Bool) → ((d : Data) (e : Edit) → edit_said d ≡ Some e → q e ≡ true) → (n : ℕ) (ds : List Data) (es : List Edit) → read_in_turn edit_said n ds ≡ Ok es → list_all q es ≡ true

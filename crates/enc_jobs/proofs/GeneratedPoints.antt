@@ -2,7 +2,7 @@
 use Rattle.std.proofs.Common.{◌≡◌, ℕ, zero, suc, ◌+◌, List, [], ◌∷◌, ◌++◌, length, Option, Some, Bool, true, false, refl, arith}
 use Rattle.std.specs.Prelude.{slice_get, if◌then◌else◌}
 use Rattle.std.specs.List.{list_all, list_any}
-use Rattle.std.proofs.lemmas.Bool.{and_parts}
+use Rattle.std.proofs.lemmas.Bool.{and_parts, and_from}
 use Rattle.enc_schema.specs.Tables.{method_def}
 use Rattle.enc_edits.specs.declared.edit.Edit.{Edit}
 use Rattle.enc_edits.specs.declared.edit.Edit.TheVariants.{Add, Body as Replace}
@@ -10,7 +10,6 @@ use Rattle.enc_edits.specs.declared.edit.EditList.{EditList}
 use Rattle.enc_pdb_delta.specs.Stated.{points_lie_within}
 use Rattle.enc_jobs.specs.Generated.{Turn, adds, replaces, named_row, body_loading, is_of_row, edit_of_turn, edits_of_turns, list_of_turns, turns_from, methods_added, state_after, lists_from}
 use Rattle.enc_jobs.specs.Laws.{GeneratedLie}
-use Rattle.enc_jobs.proofs.Inverse.{both_true}
 
 replaced_lie : (row n : ℕ) (b : Bool) → list_all points_lie_within (if b then [] else Replace (named_row method_def row) (body_loading n) [] ∷ []) ≡ true
 replaced_lie row n true = refl
@@ -24,7 +23,7 @@ both_lie : (xs ys : List Edit) → list_all points_lie_within xs ≡ true → li
 both_lie [] ys one two = two
 both_lie (x ∷ xs) ys one two =
     let a = and_parts (points_lie_within x) (list_all points_lie_within xs) one in
-    both_true (points_lie_within x) (list_all points_lie_within (xs ++ ys)) (a.0) (both_lie xs ys (a.1) two)
+    and_from (points_lie_within x) (list_all points_lie_within (xs ++ ys)) (a.0) (both_lie xs ys (a.1) two)
 
 turns_lie : (list : ℕ) (before turns : List Turn) → list_all points_lie_within (edits_of_turns list before turns) ≡ true
 unfolding edits_of_turns

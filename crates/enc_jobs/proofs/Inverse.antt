@@ -2,7 +2,7 @@
 use Rattle.std.proofs.Common.{◌≡◌, List, [], ◌∷◌, Option, Some, None, inl, inr, ◌⊎◌, Bool, true, false, ◌&&◌, refl}
 use Rattle.std.specs.Prelude.{option_map, option_and_then, if◌then◌else◌}
 use Rattle.std.specs.List.{list_all}
-use Rattle.std.proofs.lemmas.Bool.{and_parts}
+use Rattle.std.proofs.lemmas.Bool.{and_parts, and_from}
 use Rattle.enc_jobs.specs.Lists.{with_first, every}
 
 -- what was mapped
@@ -24,9 +24,6 @@ pub unless_some : {A : Type 0} (b : Bool) (o : Option A) (y : A) → (if b then 
 unless_some true o y h = absurd (cc)
 unless_some false o y h = (refl, h)
 
-pub both_true : (a b : Bool) → a ≡ true → b ≡ true → (a && b) ≡ true
-both_true a b p q = rw (p, q) refl
-
 -- one of two
 pub either_some : {A : Type 0} (b : Bool) (o p : Option A) (y : A) → (if b then o else p) ≡ Some y → (o ≡ Some y) ⊎ (p ≡ Some y)
 either_some true o p y h = inl h
@@ -45,7 +42,7 @@ every_keeps {B} r p q each [] ys all h = let e : [] ≡ ys = cc in rw (← e) re
 every_keeps r p q each (x ∷ xs) ys all h =
     let w = first_some (r x) (every r xs) ys h in
     let a = and_parts (p x) (list_all p xs) all in
-    rw (← w.4) (both_true (q w.0) (list_all q w.1) (each x w.0 a.0 w.2) (every_keeps r p q each xs w.1 a.1 w.3))
+    rw (← w.4) (and_from (q w.0) (list_all q w.1) (each x w.0 a.0 w.2) (every_keeps r p q each xs w.1 a.1 w.3))
 
 all_true : {A : Type 0} (xs : List A) → list_all (λ x. true) xs ≡ true
 all_true [] = refl

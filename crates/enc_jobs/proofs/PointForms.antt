@@ -3,6 +3,7 @@ use Rattle.std.proofs.Common.{◌≡◌, ℕ, zero, suc, ◌+◌, ◌<◌, ◌�
 use Rattle.std.specs.Prelude.{nat_le, nat_lt, option_and_then, IfOk, if◌then◌else◌, slice_get, bytes_eq, codes, is_some}
 use Rattle.std.specs.List.{list_all}
 use Rattle.std.proofs.lemmas.Bool.Decides.{nat_tests}
+use Rattle.std.proofs.lemmas.Bool.{and_from}
 use Rattle.serde_json.specs.Data.{Data}
 use Rattle.serde_json.specs.Find.{get, as_str, as_bool}
 use Rattle.enc_seqpoints.specs.declared.point.Point.{Point}
@@ -29,7 +30,7 @@ use Rattle.enc_jobs.specs.Body.{body_said, method_said, method_said_if}
 use Rattle.enc_jobs.specs.Cell.{cells_said}
 use Rattle.enc_jobs.specs.Edits.{table_named, add_keys, owner_said, add_to_said, add_said, replace_said, edit_of_kind, edit_said, edits_said}
 use Rattle.enc_jobs.specs.Laws.{PointsLie}
-use Rattle.enc_jobs.proofs.Inverse.{map_some, then_some, if_some, either_some, both_true}
+use Rattle.enc_jobs.proofs.Inverse.{map_some, then_some, if_some, either_some}
 use Rattle.enc_jobs.proofs.Places.{places, places_front, places_none, size_front}
 use Rattle.enc_jobs.proofs.Standing.{stands}
 use Rattle.enc_jobs.proofs.EditForms.{no_points_if, said_have}
@@ -129,7 +130,7 @@ points_low starts b low document [] ps h = let e : [] ≡ ps = cc in rw (← e) 
 points_low starts b low document (d ∷ ds) ps h =
     let p = then_some (point_said starts document d) _ ps h in
     let r = map_some (λ (qs : List Point). p.0 ∷ qs) (points_from starts p.0.document ds) ps p.2 in
-    rw (← r.2) (both_true (stands_within (Some b) p.0) (list_all (stands_within (Some b)) r.0) (point_low starts (length_of_code b.code) low document d p.0 p.1) (points_low starts b low p.0.document ds r.0 r.1))
+    rw (← r.2) (and_from (stands_within (Some b) p.0) (list_all (stands_within (Some b)) r.0) (point_low starts (length_of_code b.code) low document d p.0 p.1) (points_low starts b low p.0.document ds r.0 r.1))
 
 said_low : (starts : List ℕ) (b : BodyValue) → AreBelow starts (length_of_code b.code) → (o : Option Data) (ps : List Point) → points_said starts o ≡ Some ps → list_all (stands_within (Some b)) ps ≡ true
 unfolding points_said

@@ -3,7 +3,7 @@ use Rattle.std.proofs.Common.{◌≡◌, ℕ, ◌<◌, ◌≤◌, Bool, true, fa
 use Rattle.std.specs.Prelude.{nat_le, not, ◌==◌, ◌&&◌, ◌||◌, if◌then◌else◌}
 use Rattle.std.specs.List.{list_all, list_any}
 use Rattle.std.proofs.lemmas.Bool.Decides.{nat_tests}
-use Rattle.std.proofs.lemmas.Bool.{and_parts}
+use Rattle.std.proofs.lemmas.Bool.{and_parts, and_from}
 use Rattle.enc_base.specs.Token.{token_of}
 use Rattle.enc_base.specs.declared.token.Token.{Token}
 use Rattle.enc_base.proofs.SmallNumbers.{EachIsByte}
@@ -20,9 +20,6 @@ use Rattle.enc_opcodes.proofs.Whole.{chain_whole}
 pub record Grow (f g : ℕ → ℕ) : Type 0 where
   pub each : (t : ℕ) → may_name t ≡ true → f t ≤ g t
 
-true_both : (a b : Bool) → a ≡ true → b ≡ true → (a && b) ≡ true
-true_both a b e f = rw (e, f) refl
-
 either_kept : (a b c : Bool) → (a || b) ≡ true → (b ≡ true → c ≡ true) → (a || c) ≡ true
 either_kept true b c h keeps = refl
 either_kept false b c h keeps = keeps h
@@ -36,26 +33,26 @@ unfolding is_named
 named_kept f g t grow h =
     let a = and_parts (may_name t.table && nat_le 1 t.row) (nat_le t.row (f t.table)) h in
     let b = and_parts (may_name t.table) (nat_le 1 t.row) a.0 in
-    true_both _ _ a.0 (more_rows (f t.table) t.row (g t.table) (grow.each t.table b.0) a.1)
+    and_from _ _ a.0 (more_rows (f t.table) t.row (g t.table) (grow.each t.table b.0) a.1)
 
 pub locals_kept : (f g : ℕ → ℕ) (t : Token) → Grow f g → locals_are_good f t ≡ true → locals_are_good g t ≡ true
 unfolding locals_are_good
 locals_kept f g t grow h = either_kept (t.row == 0) _ _ h (λ e.
     let a = and_parts (t.table == 0x11) (nat_le t.row (f 0x11)) e in
-    true_both _ _ a.0 (more_rows (f 0x11) t.row (g 0x11) (grow.each 0x11 refl) a.1))
+    and_from _ _ a.0 (more_rows (f 0x11) t.row (g 0x11) (grow.each 0x11 refl) a.1))
 
 -- what holds of each of a list holds of each still
 each_kept : {A B : Type 0} (h : A → B) (p : A → Bool) (q : B → Bool) (xs : List A) → ((x : A) → p x ≡ true → q (h x) ≡ true) → list_all p xs ≡ true → list_all q (map h xs) ≡ true
 each_kept h p q [] keeps all = refl
 each_kept h p q (x ∷ xs) keeps all =
     let a = and_parts (p x) (list_all p xs) all in
-    true_both (q (h x)) _ (keeps x a.0) (each_kept h p q xs keeps a.1)
+    and_from (q (h x)) _ (keeps x a.0) (each_kept h p q xs keeps a.1)
 
 targets_kept : (p q : ℕ → Bool) (ts : List ℕ) → ((t : ℕ) → p t ≡ true → q t ≡ true) → list_all p ts ≡ true → list_all q ts ≡ true
 targets_kept p q [] keeps all = refl
 targets_kept p q (t ∷ ts) keeps all =
     let a = and_parts (p t) (list_all p ts) all in
-    true_both (q t) _ (keeps t a.0) (targets_kept p q ts keeps a.1)
+    and_from (q t) _ (keeps t a.0) (targets_kept p q ts keeps a.1)
 
 -- a good argument is sound when its user text is told
 arg_sound : (texts : ℕ → Option (List ℕ)) (f g : ℕ → ℕ) (p q : ℕ → Bool) (o : Operand) (a : Argument ℕ) → Grow f g → ((t : ℕ) → p t ≡ true → q t ≡ true) → arg_is_good f p o a ≡ true → argument_is_sound g q o (told texts a) ≡ true
@@ -65,7 +62,7 @@ arg_sound texts f g p q o (target t) grow keeps h = keeps t h
 arg_sound texts f g p q o (targets ts) grow keeps h = targets_kept p q ts keeps h
 arg_sound texts f g p q o (token t) grow keeps h =
     let a = and_parts (not (is_user o)) (is_named f t) h in
-    true_both _ _ a.0 (named_kept f g t grow a.1)
+    and_from _ _ a.0 (named_kept f g t grow a.1)
 arg_sound texts f g p q o (text offset) grow keeps h = refl
 arg_sound texts f g p q o (raw bytes) grow keeps h = refl
 
@@ -86,7 +83,7 @@ range_kept : (p q : ℕ → Bool) (size : ℕ) (r : ℕ × ℕ) → ((t : ℕ) �
 range_kept p q size r keeps h =
     let a = and_parts (p r.0 && nat_le r.0 r.1) (p r.1 || r.1 == size) h in
     let b = and_parts (p r.0) (nat_le r.0 r.1) a.0 in
-    true_both _ _ (true_both _ _ (keeps r.0 b.0) b.1) (first_kept (p r.1) (q r.1) (r.1 == size) (keeps r.1) a.1)
+    and_from _ _ (and_from _ _ (keeps r.0 b.0) b.1) (first_kept (p r.1) (q r.1) (r.1 == size) (keeps r.1) a.1)
   where
     first_kept : (a b c : Bool) → (a ≡ true → b ≡ true) → (a || c) ≡ true → (b || c) ≡ true
     first_kept true b c keeps h = rw (keeps refl) refl
@@ -110,7 +107,7 @@ unfolding clause_is_good handler_is_sound
 clause_sound f g p q size c grow keeps h =
     let a = and_parts (range_is_good p size c.tries && range_is_good p size c.handler) (extra_is_good f p c.kind c.extra) h in
     let b = and_parts (range_is_good p size c.tries) (range_is_good p size c.handler) a.0 in
-    true_both _ _ (true_both _ _ (range_kept p q size c.tries keeps b.0) (range_kept p q size c.handler keeps b.1)) (kind_sound f g p q c.kind c.extra (c.kind == 0) (c.kind == 1) (c.kind == 2) (c.kind == 4) grow keeps refl refl a.1)
+    and_from _ _ (and_from _ _ (range_kept p q size c.tries keeps b.0) (range_kept p q size c.handler keeps b.1)) (kind_sound f g p q c.kind c.extra (c.kind == 0) (c.kind == 1) (c.kind == 2) (c.kind == 4) grow keeps refl refl a.1)
 
 eq_of : (a b : ℕ) → (a == b) ≡ true → a ≡ b
 eq_of a b h = grind (arith, nat_tests)
@@ -127,7 +124,7 @@ good_is_sound texts f g c bytes grow h =
     let whole = chain_whole texts c.code (length c.code) 0 all bytes (instructions_are_chain c.code (eq_of (end_of c.code 0) (length c.code) a.0)) in
     let instructions = each_kept (instruction_told texts) (instruction_is_good f (is_instruction_start all)) (instruction_is_sound g (begins_at (map (instruction_told texts) all))) all (λ x e. one_sound texts f g (is_instruction_start all) (begins_at (map (instruction_told texts) all)) x grow begins e) a.1 in
     let handlers = each_kept handler_meant (clause_is_good f (is_instruction_start all) (length c.code)) (handler_is_sound g (begins_at (map (instruction_told texts) all)) (length c.code)) (clauses_of c.sections) (λ x e. clause_sound f g (is_instruction_start all) (begins_at (map (instruction_told texts) all)) (length c.code) x grow begins e) b.1 in
-    true_both _ _ (true_both _ _ (true_both _ _ whole instructions) handlers) (locals_kept f g c.locals grow d.1)
+    and_from _ _ (and_from _ _ (and_from _ _ whole instructions) handlers) (locals_kept f g c.locals grow d.1)
 
 -- the same of a sound body whose tables grow
 argument_kept : (f g : ℕ → ℕ) (p : ℕ → Bool) (o : Operand) (a : Argument (List ℕ)) → Grow f g → argument_is_sound f p o a ≡ true → argument_is_sound g p o a ≡ true
@@ -137,7 +134,7 @@ argument_kept f g p o (target t) grow h = h
 argument_kept f g p o (targets ts) grow h = h
 argument_kept f g p o (token t) grow h =
     let a = and_parts (not (is_user o)) (is_named f t) h in
-    true_both _ _ a.0 (named_kept f g t grow a.1)
+    and_from _ _ a.0 (named_kept f g t grow a.1)
 argument_kept f g p o (text units) grow h = refl
 argument_kept f g p o (raw bytes) grow h = refl
 
@@ -145,7 +142,7 @@ all_kept : {A : Type 0} (p q : A → Bool) (xs : List A) → ((x : A) → p x �
 all_kept p q [] keeps all = refl
 all_kept p q (x ∷ xs) keeps all =
     let a = and_parts (p x) (list_all p xs) all in
-    true_both (q x) _ (keeps x a.0) (all_kept p q xs keeps a.1)
+    and_from (q x) _ (keeps x a.0) (all_kept p q xs keeps a.1)
 
 instruction_kept : (f g : ℕ → ℕ) (p : ℕ → Bool) (x : ℕ × Instruction (List ℕ)) → Grow f g → instruction_is_sound f p x ≡ true → instruction_is_sound g p x ≡ true
 unfolding instruction_is_sound
@@ -161,7 +158,7 @@ handler_kept : (f g : ℕ → ℕ) (p : ℕ → Bool) (size : ℕ) (x : Handler)
 unfolding handler_is_sound
 handler_kept f g p size x grow h =
     let a = and_parts (range_is_good p size x.tries && range_is_good p size x.handler) (handler_kind_is_sound f p x.kind) h in
-    true_both _ _ a.0 (kind_kept f g p x.kind grow a.1)
+    and_from _ _ a.0 (kind_kept f g p x.kind grow a.1)
 
 pub sound_kept : (f g : ℕ → ℕ) (b : Body) → Grow f g → body_is_sound f b ≡ true → body_is_sound g b ≡ true
 unfolding body_is_sound
@@ -171,7 +168,7 @@ sound_kept f g b grow h =
     let a = and_parts (are_whole b.size 0 b.code) (list_all (instruction_is_sound f (begins_at b.code)) b.code) c.0 in
     let instructions = all_kept (instruction_is_sound f (begins_at b.code)) (instruction_is_sound g (begins_at b.code)) b.code (λ x e. instruction_kept f g (begins_at b.code) x grow e) a.1 in
     let handlers = all_kept (handler_is_sound f (begins_at b.code) b.size) (handler_is_sound g (begins_at b.code) b.size) b.handlers (λ x e. handler_kept f g (begins_at b.code) b.size x grow e) c.1 in
-    true_both _ _ (true_both _ _ (true_both _ _ a.0 instructions) handlers) (locals_kept f g b.locals grow d.1)
+    and_from _ _ (and_from _ _ (and_from _ _ a.0 instructions) handlers) (locals_kept f g b.locals grow d.1)
 
 -- the local signature of good code is nil or a row
 pub good_locals_of : (f : ℕ → ℕ) (c : Code) → is_good f c ≡ true → locals_are_good f c.locals ≡ true

@@ -3,6 +3,7 @@ use Rattle.std.proofs.Common.{◌≡◌, ℕ, zero, suc, ◌+◌, ◌-◌, ◌*�
 use Rattle.std.specs.Prelude.{option_and_then, nat_le, ◌==◌, ◌&&◌, if◌then◌else◌}
 use Rattle.std.specs.Int.{w8, w16, w32, w64}
 use Rattle.std.proofs.lemmas.Bool.Decides.{nat_tests}
+use Rattle.std.proofs.lemmas.Bool.{and_from}
 use Rattle.enc_base.specs.Numbers.{little_endian_at}
 use Rattle.enc_base.proofs.SmallNumbers.{EachIsByte, number8_few}
 use Rattle.enc_opcodes.specs.declared.op.Op.{Op}
@@ -194,13 +195,10 @@ size_kept texts x = ap (λ n. code_size x.1.op.byte + n) (size_told texts x.1.op
 eq_same : (a b : ℕ) → a ≡ b → (a == b) ≡ true
 eq_same a b h = grind (arith, nat_tests)
 
-both_true : (a b : Bool) → a ≡ true → b ≡ true → (a && b) ≡ true
-both_true a b e f = rw (e, f) refl
-
 -- the instructions of whole code stand one behind the other
 pub chain_whole : (texts : ℕ → Option (List ℕ)) (code : List ℕ) (size at : ℕ) (xs : List (ℕ × Instruction ℕ)) → EachIsByte code → IsChain (instr_in code) size at xs → are_whole size at (map (instruction_told texts) xs) ≡ true
 unfolding IsChain are_whole
 chain_whole texts code size at [] all is = eq_same at size is
 chain_whole texts code size at (x ∷ xs) all is =
     let n : is.0 ≡ at + instruction_size (instruction_told texts x).1 = rw (size_kept texts x) (instr_takes code at is.0 x.1 all is.2) in
-    both_true (x.0 == at) _ (eq_same x.0 at is.1) (rw (← n) (chain_whole texts code size is.0 xs all is.3))
+    and_from (x.0 == at) _ (eq_same x.0 at is.1) (rw (← n) (chain_whole texts code size is.0 xs all is.3))

@@ -2,7 +2,7 @@
 use Rattle.std.proofs.Common.{◌≡◌, ℕ, zero, suc, ◌-◌, ◌<◌, ◌≤◌, Bool, true, false, List, [], ◌∷◌, ◌++◌, length, map, Some, refl, sym, ap, subst, ◌∙◌, inl, inr, arith, append_assoc}
 use Rattle.std.specs.Prelude.{◌≢◌, slice_get, ◌==◌, ◌&&◌, if◌then◌else◌, option_map, filter}
 use Rattle.std.proofs.lemmas.Bool.Decides.{nat_tests}
-use Rattle.std.proofs.lemmas.Bool.{cases_eq}
+use Rattle.std.proofs.lemmas.Bool.{cases_eq, and_from}
 use Rattle.std.proofs.lemmas.List.{append-nil}
 use Rattle.std.proofs.lemmas.Option.{slice_get_within}
 use Rattle.enc_base.specs.declared.token.Token.{Token}
@@ -228,10 +228,6 @@ owner_is_not a b h = λ e. absurd (grind (arith, nat_tests))
 equals : (a b : ℕ) → a ≡ b → (a == b) ≡ true
 equals a b h = grind (arith, nat_tests)
 
-both_hold : (a b : Bool) → a ≡ true → b ≡ true → (a && b) ≡ true
-both_hold true b ha hb = hb
-both_hold false b ha hb = absurd cc
-
 second : (a b : Bool) → (a && b) ≡ true → b ≡ true
 second true b h = h
 second false b h = absurd cc
@@ -241,7 +237,7 @@ attach_owner : (m : Module) (a : Attached) (table : ℕ) (r : Row) → Attaches 
 unfolding kids_of
 attach_owner m a table r h runs there e true s =
     let is : a.child.table ≡ table = owner_is a.child.table table s in
-    rw (← is, attach_is m a h, e) (owned_more (is_child_table a.child.table && a.owner.table == owner_table a.child.table) (kids_at r a.child.table) (kids_at (with_child a.child r) a.child.table) (a.child.row ∷ []) (both_hold (is_child_table a.child.table) (a.owner.table == owner_table a.child.table) h.child (equals a.owner.table (owner_table a.child.table) h.table)) (kids_same r a.child (place_there m a r h runs e)))
+    rw (← is, attach_is m a h, e) (owned_more (is_child_table a.child.table && a.owner.table == owner_table a.child.table) (kids_at r a.child.table) (kids_at (with_child a.child r) a.child.table) (a.child.row ∷ []) (and_from (is_child_table a.child.table) (a.owner.table == owner_table a.child.table) h.child (equals a.owner.table (owner_table a.child.table) h.table)) (kids_same r a.child (place_there m a r h runs e)))
 attach_owner m a table r h runs there e false s =
     rw (attach_is m a h, e) (owned_kids (is_child_table table && a.owner.table == owner_table table) (kids_at r table) (kids_at (with_child a.child r) table) (λ o. kids_other r a.child table (place_differs table a.child.table there h.child (sym (owner_is a.owner.table (owner_table table) (second (is_child_table table) (a.owner.table == owner_table table) o)) ∙ h.table) (owner_is_not a.child.table table s))))
 

@@ -4,7 +4,7 @@ use Rattle.std.specs.Prelude.{◌&&◌, ◌||◌, ◌==◌, not, option_map, opt
 use Rattle.std.specs.List.{list_all, list_any}
 use Rattle.std.specs.Option.{option_map_or}
 use Rattle.std.proofs.lemmas.Bool.Decides.{nat_tests}
-use Rattle.std.proofs.lemmas.Bool.{and_parts}
+use Rattle.std.proofs.lemmas.Bool.{and_parts, and_from}
 use Rattle.enc_base.specs.Token.{nil, is_token}
 use Rattle.enc_base.specs.declared.token.Token.{Token}
 use Rattle.enc_schema.specs.declared.column.Column.{Column}
@@ -45,9 +45,6 @@ all_name : numbered part_names 0 schema ≡ true
 unfolding numbered part_names tables_of
 all_name = refl
 
-true_both : (a b : Bool) → a ≡ true → b ≡ true → (a && b) ≡ true
-true_both a b e f = rw (e, f) refl
-
 all_at : (p : Column → Bool) (xs : List Column) (i : ℕ) (c : Column) → list_all p xs ≡ true → slice_get xs i ≡ Some c → p c ≡ true
 all_at p [] i c h e = absurd cc
 all_at p (x ∷ xs) zero c h e = let is : x ≡ c = cc in rw (← is) (and_parts (p x) (list_all p xs) h).0
@@ -69,7 +66,7 @@ numbered_at n (suc k) (x ∷ xs) c i h e p =
     numbered_at (suc n) k xs c i (and_parts (part_names n x) (numbered part_names (suc n) xs) h).1 e (rw z at p)
 
 part_low : (t : ℕ) → is_part t ≡ true → t < 0x2D → in_module t ≡ true
-part_low t part low = let e : nat_lt t 0x2D ≡ true = grind (arith, nat_tests) in true_both (is_part t) (nat_lt t 0x2D) part e
+part_low t part low = let e : nat_lt t 0x2D ≡ true = grind (arith, nat_tests) in and_from (is_part t) (nat_lt t 0x2D) part e
 
 column_names : (t i : ℕ) (c : Column) → is_part t ≡ true → t < 0x2D → column_in t i ≡ Some c → names_parts c ≡ true
 unfolding columns_in

@@ -6,6 +6,7 @@ use Rattle.std.specs.Cmp.Lexicographic.{slice_cmp}
 use Rattle.std.specs.Ordering.{nat_cmp}
 use Rattle.std.proofs.lemmas.Bool.Decides.{nat_tests}
 use Rattle.std.proofs.lemmas.List.Sums.{sum_by-cons}
+use Rattle.std.proofs.lemmas.Bool.{and_from}
 use Rattle.enc_base.specs.Numbers.{is_empty}
 use Rattle.enc_meta.specs.Built.{Built, is_kept, is_among, blob_bytes, blob_offset, place_among, offset_in, joined_end}
 use Rattle.enc_plain.specs.Debug.{Document}
@@ -77,9 +78,6 @@ unknown_by w k d false is grown none = and_left (keeps_values w.heaps d) (is_som
 pub unknown_row : (w : Writer) (k : Built) (d : Document) → Grown w.heaps k → row_known w (document_key k d) ≡ None → is_unknown w d ≡ true
 unknown_row w k d grown none = unknown_by w k d (keeps_values w.heaps d) refl grown none
 
-both_true : (a b : Bool) → a ≡ true → b ≡ true → (a && b) ≡ true
-both_true a b p q = rw (p, q) refl
-
 values_by : (w : Writer) (d : Document) (b : Bool) (size : ℕ) → keeps_values w.heaps d ≡ b → (not b && nat_lt most_pdb_weight size) ≡ true → is_unknown w d ≡ true
 unfolding is_unknown
 values_by w d true size is h = absurd cc
@@ -91,13 +89,13 @@ pub values_refused : (w : Writer) (d : Document) (name : List ℕ) → name ≡ 
 unfolding passes_with
 values_refused w d name same size is =
     let long : length name ≡ length d.name = ap length same in
-    both_true (is_unknown w d) (nat_lt most_pdb_weight (w.weight + document_weight d)) (values_by w d (keeps_values w.heaps d) (heaps_size w.heaps + (40 + length name + length d.hash)) refl is)
+    and_from (is_unknown w d) (nat_lt most_pdb_weight (w.weight + document_weight d)) (values_by w d (keeps_values w.heaps d) (heaps_size w.heaps + (40 + length name + length d.hash)) refl is)
     (passes_past w.heaps (keeps_values w.heaps d) (40 + length name + length d.hash) (w.weight + document_weight d) (omega (arith, size, long)) is)
 
 pub weight_refused : (w : Writer) (k : Built) (d : Document) (name hash size : ℕ) → name ≡ length d.name → hash ≡ length d.hash → Grown w.heaps k → row_known w (document_key k d) ≡ None → size ≤ w.weight + (96 + name + hash)
     → nat_lt most_pdb_weight size ≡ true → (is_unknown w d && nat_lt most_pdb_weight (w.weight + document_weight d)) ≡ true
 weight_refused w k d name hash size n h grown none le is =
-    both_true (is_unknown w d) (nat_lt most_pdb_weight (w.weight + document_weight d)) (unknown_row w k d grown none) (lt_more most_pdb_weight size (w.weight + document_weight d) (omega (arith, n, h, le)) is)
+    and_from (is_unknown w d) (nat_lt most_pdb_weight (w.weight + document_weight d)) (unknown_row w k d grown none) (lt_more most_pdb_weight size (w.weight + document_weight d) (omega (arith, n, h, le)) is)
 
 -- a row that is known
 pub found_given : (w : Writer) (k : Built) (d : Document) (row : ℕ) → Grown w.heaps k → keeps_values k d ≡ true → (keeps_values w.heaps d ≡ true → k ≡ w.heaps) → Some row ≡ row_known w (document_key k d)
@@ -113,7 +111,7 @@ found_given w k d row grown kept same known = record {
 name_kept : (k l : Built) (d : Document) (n : ℕ) → Grown k l → keeps_values k d ≡ true → n ≡ blob_offset k d.name → is_kept l.blobs (name_blob n) ≡ true → keeps_document l d ≡ true
 unfolding keeps_document
 name_kept k l d n grown kept is there =
-    both_true (keeps_values l d) (is_kept l.blobs (name_blob (blob_offset l d.name))) (values_stay k l d grown kept).0
+    and_from (keeps_values l d) (is_kept l.blobs (name_blob (blob_offset l d.name))) (values_stay k l d grown kept).0
     (ap (λ x. is_kept l.blobs (name_blob x)) ((grown.blobs d.name (parts_kept k d kept).name).1 ∙ sym is) ∙ there)
 
 cells_given : (k l : Built) (d : Document) (numbers : List ℕ) → Grown k l → keeps_values k d ≡ true → numbers ≡ document_key k d

@@ -15,7 +15,7 @@ use Rattle.enc_il.proofs.Numbers.{word_between}
 use Rattle.enc_il.specs.Seen.{arg_seen}
 use Rattle.enc_opcodes.specs.declared.code.Arg.{Arg}
 use Rattle.enc_opcodes.specs.declared.code.Arg.TheVariants as arg
-use Rattle.std.proofs.lemmas.Bool.{and_parts}
+use Rattle.std.proofs.lemmas.Bool.{and_parts, and_from}
 use Rattle.std.proofs.lemmas.List.Folds.{list_all-append}
 use Rattle.enc_rewriter.specs.Values.{units_told, text_named}
 use Rattle.enc_rewriter.proofs.UserTexts.{left, left_more}
@@ -31,10 +31,6 @@ unfolding units_of
 units_again [] = refl
 units_again (u ∷ us) = rw (unit_is u, units_again us) refl
 
--- one more instruction that says the same
-both : (a b : Bool) → a ≡ true → b ≡ true → (a && b) ≡ true
-both a b e f = rw (e, f) refl
-
 pub one_more : (old new : ℕ → Option (List ℕ)) (code says : List ℕ) (at n : ℕ) (i j : Instruction ℕ) → instr_in code at ≡ Some (i, n) → instr_in says at ≡ Some (j, n)
     → instruction_told new (at, j) ≡ instruction_told old (at, i) → names_text new (at, j) ≡ true → SaysSame old new code says n → SaysSame old new code says at
 one_more old new code says at n i j is there same named rest = record {
@@ -43,7 +39,7 @@ one_more old new code says at n i j is there same named rest = record {
       ∙ ap (λ xs. instruction_told old (at, i) ∷ xs) rest.told
       ∙ ap (map (instruction_told old)) (sym (rest_more code at n i is));
   ends = rest_end_more says at n j there ∙ rest.ends ∙ sym (rest_end_more code at n i is);
-  there = ap (list_all (names_text new)) (rest_more says at n j there) ∙ both _ _ named rest.there;
+  there = ap (list_all (names_text new)) (rest_more says at n j there) ∙ and_from _ _ named rest.there;
 }
 
 -- an argument that names no user text says the same

@@ -2,7 +2,7 @@
 use Rattle.std.proofs.Common.{◌≡◌, ℕ, zero, suc, ◌+◌, ◌-◌, ◌<◌, ◌≤◌, Bool, true, false, List, [], ◌∷◌, ◌++◌, length, refl, sym, ◌∙◌, arith, subst, inl, inr}
 use Rattle.std.specs.Prelude.{◌&&◌, ◌||◌, ◌==◌, flat_map, bytes_eq, if◌then◌else◌}
 use Rattle.std.specs.List.{list_all, list_any, range_with_len}
-use Rattle.std.proofs.lemmas.Bool.{cases_eq}
+use Rattle.std.proofs.lemmas.Bool.{cases_eq, and_from}
 use Rattle.std.proofs.lemmas.Bool.Decides.{nat_tests}
 use Rattle.std.proofs.lemmas.List.Folds.{list_all-append}
 use Rattle.enc_base.specs.Numbers.{is_empty}
@@ -103,18 +103,14 @@ unfolding with_all
 stays p q h v [] e = e
 stays p q h v (w ∷ ws) e = stays p q (with_one q h w) v ws (stays_one p q h v w e)
 
-both_hold : (a b : Bool) → a ≡ true → b ≡ true → (a && b) ≡ true
-both_hold true b e f = f
-both_hold false b e f = absurd cc
-
 pub all_kept : (p : Pass) (h : Built) (vs : List (List ℕ)) → list_all (is_kept_by p (with_all p h vs)) vs ≡ true
 unfolding with_all
 all_kept p h [] = refl
-all_kept p h (v ∷ vs) = both_hold _ _ (stays p p (with_one p h v) v vs (one_kept p h v)) (all_kept p (with_one p h v) vs)
+all_kept p h (v ∷ vs) = and_from _ _ (stays p p (with_one p h v) v vs (one_kept p h v)) (all_kept p (with_one p h v) vs)
 
 pub all_stay : (p q : Pass) (h : Built) (vs ws : List (List ℕ)) → list_all (is_kept_by p h) vs ≡ true → list_all (is_kept_by p (with_all q h ws)) vs ≡ true
 all_stay p q h [] ws e = refl
-all_stay p q h (v ∷ vs) ws e = both_hold _ _ (stays p q h v ws (both_left (is_kept_by p h v) _ e)) (all_stay p q h vs ws (both_right (is_kept_by p h v) _ e))
+all_stay p q h (v ∷ vs) ws e = and_from _ _ (stays p q h v ws (both_left (is_kept_by p h v) _ e)) (all_stay p q h vs ws (both_right (is_kept_by p h v) _ e))
 
 starts_one : (p : Pass) (h : Built) (v : List ℕ) → (with_one p h v).starts ≡ h.starts
 starts_one pass.Texts h v = refl

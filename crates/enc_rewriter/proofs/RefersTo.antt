@@ -3,6 +3,7 @@ use Rattle.std.proofs.Common.{◌≡◌, ℕ, zero, suc, ◌+◌, ◌*◌, ◌<�
 use Rattle.std.specs.Prelude.{◌^◌, ◌&&◌, ◌||◌, ◌==◌, ◌≢◌, nat_le, option_map, option_and_then, if◌then◌else◌}
 use Rattle.std.specs.List.{list_any}
 use Rattle.std.proofs.lemmas.Bool.Decides.{nat_tests}
+use Rattle.std.proofs.lemmas.Bool.{and_parts}
 use Rattle.enc_base.specs.Token.{nil, is_token}
 use Rattle.enc_base.specs.declared.token.Token.{Token}
 use Rattle.enc_meta.specs.Heaps.{Counted}
@@ -73,10 +74,6 @@ index_there m table t e there =
     let is : index_token table t.row ≡ t = token_by table t.row row.0 ∙ ap (λ k. record { table = k; row = t.row }) e in
     ap (λ u. option_map refer (within (row_count m) u)) is ∙ ap (option_map refer) (within_there (row_count m) t row.1)
 
-both : (a b : Bool) → (a && b) ≡ true → (a ≡ true) × (b ≡ true)
-both true b e = (refl, e)
-both false b e = absurd cc
-
 equal : (a b : ℕ) → (a == b) ≡ true → a ≡ b
 equal a b e = grind (arith, nat_tests)
 
@@ -86,7 +83,7 @@ nil_within m = ap (option_map refer) (within_there (row_count m) nil (omega arit
 index_by : (m : Module) (table : ℕ) (t : Token) (nothing : Bool) → is_token t nil ≡ nothing → (nothing || (table == t.table && has_row m t)) ≡ true
     → option_map refer (within (row_count m) (index_token table t.row)) ≡ Some (refer t)
 index_by m table t true is there = let e = same_token t nil is in rw e (nil_within m)
-index_by m table t false is there = let p = both (table == t.table) (has_row m t) there in index_there m table t (equal table t.table p.0) p.1
+index_by m table t false is there = let p = and_parts (table == t.table) (has_row m t) there in index_there m table t (equal table t.table p.0) p.1
 
 pub index_says : (m : Module) (h : Counted) (table : ℕ) (t : Token) → is_reference m (Index table) t ≡ true → cell_read (reading_by m h) (Index table) t.row ≡ Some (refer t)
 unfolding is_reference cell_read
@@ -97,7 +94,7 @@ low_row m t few there = let row = is_row m t there in omega (arith, row.1, few t
 
 low_by : (m : Module) (c : Column) (t : Token) (nothing : Bool) → ((k : ℕ) → row_count m k < 2 ^ 24) → is_token t nil ≡ nothing → (nothing || (can_name c t.table && has_row m t)) ≡ true → t.row < 2 ^ 24
 low_by m c t true few is there = let e = same_token t nil is in rw e (omega arith)
-low_by m c t false few is there = low_row m t few (both (can_name c t.table) (has_row m t) there).1
+low_by m c t false few is there = low_row m t few (and_parts (can_name c t.table) (has_row m t) there).1
 
 -- a reference's row is of three bytes
 by_reference : (m : Module) (k : Coding) (t : Token) → IsSound m → is_reference m (Coded k) t ≡ true → t.row < 2 ^ 24
@@ -121,7 +118,7 @@ coded_by m k t x true is there e =
     let n = same_token t nil is in
     ap (λ o. option_map refer (option_and_then (within (row_count m)) o)) e ∙ rw n (nil_within m)
 coded_by m k t x false is there e =
-    let row = (both (can_name (Coded k) t.table) (has_row m t) there).1 in
+    let row = (and_parts (can_name (Coded k) t.table) (has_row m t) there).1 in
     let r = is_row m t row in
     ap (λ o. option_map refer (option_and_then (within (row_count m)) o)) e
     ∙ ap (λ u. option_map refer (within (row_count m) u)) (named_row t r.0)
@@ -175,7 +172,7 @@ there_by : (m : Module) (k : Coding) (t : Token) (nothing : Bool) → is_token t
     → ((v : ℕ) → decoded k v ≢ Some (named t)) → ⊥
 there_by m k t true is there none = let n = same_token t nil is in none 0 (decoded_zero k ∙ ap (λ u. Some (named u)) (sym n))
 there_by m k t false is there none =
-    let p = both (can_name (Coded k) t.table) (has_row m t) there in
+    let p = and_parts (can_name (Coded k) t.table) (has_row m t) there in
     let row = is_row m t p.1 in
     let code = some_code k t row.0 p.0 in
     none code.0 (code.1 ∙ ap Some (sym (named_row t row.0)))

@@ -3,6 +3,7 @@ use Rattle.std.proofs.Common.{◌≡◌, ℕ, ◌+◌, ◌*◌, ◌<◌, Bool, t
 use Rattle.std.specs.Prelude.{◌^◌, ◌&&◌, ◌||◌, not, min, sum_by, nat_le, nat_lt}
 use Rattle.std.specs.List.{list_all}
 use Rattle.std.proofs.lemmas.Bool.Decides.{nat_tests}
+use Rattle.std.proofs.lemmas.Bool.{and_from}
 use Rattle.enc_base.specs.declared.token.Token.{Token}
 use Rattle.enc_schema.specs.Schema.{columns_in}
 use Rattle.enc_opcodes.specs.Body.{handler_meant, locals_are_good, nil_or}
@@ -28,14 +29,11 @@ pub flags_kind : (t : ℕ) → t ≡ 0x06 → kind_in t 1 ≡ Some numbers
 unfolding columns_in
 flags_kind t e = rw e refl
 
-both : (a b : Bool) → a ≡ true → b ≡ true → (a && b) ≡ true
-both a b h i = rw (h, i) refl
-
 -- instructions that stand one behind the other are whole
 stand_whole : (size at : ℕ) (code : List InstrValue) → size ≡ at + length_of_code code → are_whole size at (placed at code) ≡ true
 unfolding are_whole length_of_code placed
 stand_whole size at [] e = eq-eqb at size (omega arith)
-stand_whole size at (i ∷ rest) e = both _ _ (eq-eqb at at refl) (stand_whole size (at + instruction_size (instr_meant i)) rest (omega arith))
+stand_whole size at (i ∷ rest) e = and_from _ _ (eq-eqb at at refl) (stand_whole size (at + instruction_size (instr_meant i)) rest (omega arith))
 
 -- each is judged without its place
 sound_anywhere : (count : ℕ → ℕ) (begins : ℕ → Bool) (at : ℕ) (code : List InstrValue) → list_all (instruction_is_sound count begins) (placed at code) ≡ list_all (value_is_sound count begins) code

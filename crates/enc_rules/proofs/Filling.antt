@@ -3,6 +3,7 @@ use Rattle.std.proofs.Common.{◌≡◌, ℕ, zero, suc, ◌+◌, ◌<◌, ◌�
 use Rattle.std.specs.Prelude.{◌^◌, ◌||◌, ◌&&◌, ◌⊎◌, not, nat_lt, max, ◌*◌, flat_map, Err}
 use Rattle.std.proofs.lemmas.Bool.Decides.{nat_tests}
 use Rattle.std.proofs.lemmas.List.Sums.{sum_by_push}
+use Rattle.std.proofs.lemmas.Bool.{and_from}
 use Rattle.enc_meta.specs.Built.{Built, AreWithinLimits, is_kept, with_value, joined_end, text_bytes, user_bytes, blob_bytes, with_text, with_user, with_blob, passes, text_passes, user_passes, blob_passes, none_from}
 use Rattle.enc_meta.specs.declared.heaps.HeapLengths.{HeapLengths}
 use Rattle.enc_base.specs.declared.refusal.StreamName.{StreamName}
@@ -174,15 +175,11 @@ pub blobs_none : (h : Built) → with_blobs h [] ≡ h
 unfolding with_blobs
 blobs_none h = refl
 
--- some texts without zeros, and others behind them
-both : (a b : Bool) → a ≡ true → b ≡ true → (a && b) ≡ true
-both a b h i = rw (h, i) refl
-
 whole_parts : (xs ys : List (List ℕ)) → have_no_zero (xs ++ ys) ≡ true → (have_no_zero xs ≡ true) × (have_no_zero ys ≡ true)
 whole_parts [] ys h = (refl, h)
 whole_parts (x ∷ xs) ys h =
     let w = whole_parts xs ys (both_right (has_no_zero x) (have_no_zero (xs ++ ys)) h) in
-    (both (has_no_zero x) (have_no_zero xs) (both_left (has_no_zero x) (have_no_zero (xs ++ ys)) h) w.0, w.1)
+    (and_from (has_no_zero x) (have_no_zero xs) (both_left (has_no_zero x) (have_no_zero (xs ++ ys)) h) w.0, w.1)
 
 pub whole_front : {X : Type 0} (f : X → List (List ℕ)) (rest : List X) (x : X) → 1 ≤ length rest → x ≡ get_or rest 0 x → have_no_zero (flat_map f rest) ≡ true → (have_no_zero (f x) ≡ true) × (have_no_zero (flat_map f (take (length rest - 1) (drop 1 rest))) ≡ true)
 whole_front {X} f rest x low there h =

@@ -5,6 +5,7 @@ use Rattle.std.specs.List.{list_any, list_all}
 use Rattle.std.proofs.lemmas.Bool.Decides.{nat_tests}
 use Rattle.std.proofs.lemmas.List.Elements.{filter-append}
 use Rattle.std.proofs.lemmas.List.Folds.{list_all-append}
+use Rattle.std.proofs.lemmas.Bool.{and_parts}
 use Rattle.enc_base.specs.declared.token.Token.{Token}
 use Rattle.enc_schema.specs.Children.{is_child_table}
 use Rattle.enc_rows.specs.Sums.{below}
@@ -93,11 +94,6 @@ pub edits_short : (c : Chain) (l : EditList) → there_are_too_many c l ≡ fals
 edits_short c l few =
     let here = not_less 0xFFFFFE (length l.edits + length (filter has_owner l.edits)) (too_many c l few).1 in
     omega (arith, here)
-
--- no edit of the form adds rows to a table that isn't one
-and_parts : (a b : Bool) → (a && b) ≡ true → (a ≡ true) × (b ≡ true)
-and_parts true b h = (refl, h)
-and_parts false b h = absurd cc
 
 four_parts : (a b c d : Bool) → (a && b && c && d) ≡ true → (a ≡ true) × (b ≡ true)
 four_parts true true c d h = (refl, refl)

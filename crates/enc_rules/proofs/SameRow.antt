@@ -7,6 +7,7 @@ use Rattle.std.specs.BTreeMap.{is_at}
 use Rattle.std.specs.BTreeSet.{BTreeSet, contains, Updates, IsEmpty}
 use Rattle.std.proofs.lemmas.Bool.Decides.{nat_tests}
 use Rattle.std.proofs.lemmas.List.Folds.{list_any-append}
+use Rattle.std.proofs.lemmas.Bool.{and_parts}
 use Rattle.enc_base.specs.Token.{is_token}
 use Rattle.enc_base.specs.declared.token.Token.{Token}
 use Rattle.enc_plain.specs.Chain.{Chain}
@@ -32,10 +33,6 @@ same_number a b h = grind (arith, nat_tests, h)
 itself : (a b : ℕ) → a ≡ b → is_at (nat_cmp a) b ≡ true
 itself a b e = grind (arith, nat_tests, e)
 
-both_equal : (a b : Bool) → (a && b) ≡ true → (a ≡ true) × (b ≡ true)
-both_equal true b h = (refl, h)
-both_equal false b h = absurd cc
-
 equal : (a b : ℕ) → (a == b) ≡ true → a ≡ b
 equal a b h = grind (arith, nat_tests, h)
 
@@ -52,7 +49,7 @@ keys_by r t true false h k low few =
     let is : is_token r t ≡ true = rw (equal_test r.table t.table table, equal_test r.row t.row row) refl in
     sym is ∙ k
 keys_by r t false true h k low few =
-    let parts = both_equal (r.table == t.table) (r.row == t.row) k in
+    let parts = and_parts (r.table == t.table) (r.row == t.row) k in
     let table = equal r.table t.table parts.0 in
     let row = equal r.row t.row parts.1 in
     let key : key_of_row r ≡ key_of_row t = omega (arith, table, row) in

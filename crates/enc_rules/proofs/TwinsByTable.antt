@@ -4,6 +4,7 @@ use Rattle.std.specs.Prelude.{◌⊎◌, ◌==◌, ◌&&◌, ◌||◌, filter, s
 use Rattle.std.specs.List.{list_any, list_all}
 use Rattle.std.proofs.lemmas.Bool.Decides.{nat_tests}
 use Rattle.std.proofs.lemmas.List.{append-nil}
+use Rattle.std.proofs.lemmas.Bool.{and_from}
 use Rattle.enc_base.specs.Token.{is_token}
 use Rattle.enc_base.specs.declared.token.Token.{Token}
 use Rattle.enc_base.specs.declared.refusal.Place.{Place}
@@ -43,16 +44,13 @@ seen_in_table t (p ∷ ps) = elim (two (p.child.table == t)) [
   | inr a ↦ rw a (seen_in_table t ps)
 ]
 
-both : (a b : Bool) → a ≡ true → b ≡ true → (a && b) ≡ true
-both a b h i = rw (h, i) refl
-
 pub fit_in_table : (t : ℕ) (pairs : List Pair) → ArePairs pairs → ArePairs (filter (λ (p : Pair). p.child.table == t) pairs)
 fit_in_table t [] h = h
 fit_in_table t (p ∷ ps) h =
     let front = both_left (nat_lt p.owner.row 0x1000000 && nat_lt p.child.row 0x1000000) (list_all (λ (k : Pair). nat_lt k.owner.row 0x1000000 && nat_lt k.child.row 0x1000000) ps) h in
     let rest = both_right (nat_lt p.owner.row 0x1000000 && nat_lt p.child.row 0x1000000) (list_all (λ (k : Pair). nat_lt k.owner.row 0x1000000 && nat_lt k.child.row 0x1000000) ps) h in
     elim (two (p.child.table == t)) [
-      | inl a ↦ rw a (both _ _ front (fit_in_table t ps rest))
+      | inl a ↦ rw a (and_from _ _ front (fit_in_table t ps rest))
       | inr a ↦ rw a (fit_in_table t ps rest)
     ]
 
@@ -250,7 +248,7 @@ adds_here m edits k x w = added w.0 w.2
       | inl a ↦
           let row = row_count m table + rows_added (take k edits) table + 1 in
           let same : record { owner = owner; child = record { table = table; row = row } } ≡ x = cc (rw a at h) in
-          rw (← same) (both (table == table) (row == row) (eq-eqb table table refl) (eq-eqb row row refl))
+          rw (← same) (and_from (table == table) (row == row) (eq-eqb table table refl) (eq-eqb row row refl))
       | inr a ↦ absurd (cc (rw a at h))
     ]
     added (Replace method code points) h = absurd (cc)
@@ -274,7 +272,7 @@ found t c l x least =
     let twin = sym (twin_in (asked c l) c.plain pairs t x p.2) ∙ least.passes in
     let low = low_there l.edits w.0 w.1.0 w.1.1 in
     let mine = such_unique (adds_child x.child c l) (length l.edits) (Some w.0) (low, at_is (adds_row x.child) c l w.0 w.1.0 w.1.1 ∙ adds_here c.plain l.edits w.0 x w.1, λ j before. false_unless _ (other w.0 w.1 j before)) in
-    let theirs = such_unique (has_twin_in t c l) (length l.edits) (Some w.0) (low, twin_at t c l w.0 x w.1 (both _ _ p.2 twin), λ j before. false_unless _ (sooner_twin w.0 w.1 p.2 j before)) in
+    let theirs = such_unique (has_twin_in t c l) (length l.edits) (Some w.0) (low, twin_at t c l w.0 x w.1 (and_from _ _ p.2 twin), λ j before. false_unless _ (sooner_twin w.0 w.1 p.2 j before)) in
     sym mine ∙ theirs
   where
     other : (k : ℕ) (w : AddsAt c.plain [] l.edits k x) (j : ℕ) → j < k → adds_child x.child c l j ≡ true → ⊥
@@ -374,12 +372,12 @@ up_to_any : (c : Chain) (l : EditList) (k : ℕ) → member_has_twin c l k ≡ t
 up_to_any c l k h =
     let v = member_there c l k h in
     elim (member_tables c l (attached_in c.plain l.edits) v.0 v.2) [
-      | inl a ↦ any_left _ _ (any_left _ _ (twin_at 0x04 c l k v.0 v.1 (both _ _ a v.2)))
+      | inl a ↦ any_left _ _ (any_left _ _ (twin_at 0x04 c l k v.0 v.1 (and_from _ _ a v.2)))
       | inr w ↦ elim w [
-        | inl a ↦ any_left _ _ (any_right (has_twin_in 0x04 c l k) _ (twin_at 0x06 c l k v.0 v.1 (both _ _ a v.2)))
+        | inl a ↦ any_left _ _ (any_right (has_twin_in 0x04 c l k) _ (twin_at 0x06 c l k v.0 v.1 (and_from _ _ a v.2)))
         | inr w ↦ elim w [
-          | inl a ↦ any_right (has_twin_in 0x04 c l k || has_twin_in 0x06 c l k) _ (any_right (has_twin_in 0x17 c l k) _ (twin_at 0x14 c l k v.0 v.1 (both _ _ a v.2)))
-          | inr a ↦ any_right (has_twin_in 0x04 c l k || has_twin_in 0x06 c l k) _ (any_left _ _ (twin_at 0x17 c l k v.0 v.1 (both _ _ a v.2)))
+          | inl a ↦ any_right (has_twin_in 0x04 c l k || has_twin_in 0x06 c l k) _ (any_right (has_twin_in 0x17 c l k) _ (twin_at 0x14 c l k v.0 v.1 (and_from _ _ a v.2)))
+          | inr a ↦ any_right (has_twin_in 0x04 c l k || has_twin_in 0x06 c l k) _ (any_left _ _ (twin_at 0x17 c l k v.0 v.1 (and_from _ _ a v.2)))
         ]
       ]
     ]

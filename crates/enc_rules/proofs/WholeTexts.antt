@@ -2,6 +2,7 @@
 use Rattle.std.proofs.Common.{◌≡◌, ℕ, zero, suc, ◌-◌, Bool, true, false, List, [], ◌∷◌, ◌++◌, map, length, get_or, ◌<◌, Option, Some, None, refl, ◌∙◌, inl, inr}
 use Rattle.std.specs.Prelude.{◌&&◌, ◌⊎◌, flat_map, slice_get, option_map, nat_lt}
 use Rattle.std.specs.List.{list_all}
+use Rattle.std.proofs.lemmas.Bool.{and_from}
 use Rattle.enc_base.specs.Order.{or_else}
 use Rattle.enc_base.specs.declared.token.Token.{Token}
 use Rattle.enc_schema.specs.declared.column.Column.{Column}
@@ -34,16 +35,13 @@ two : (b : Bool) → (b ≡ true) ⊎ (b ≡ false)
 two true = inl refl
 two false = inr refl
 
-both : (a b : Bool) → a ≡ true → b ≡ true → (a && b) ≡ true
-both a b h i = rw (h, i) refl
-
 -- a cell that fits its column
 one_whole : (c : Column) (v : CellValue) → cell_fits c v ≡ true → have_no_zero (texts_in_cell v) ≡ true
 one_whole c (cell.Num n) h = refl
 one_whole c (cell.Blob b) h = refl
 one_whole c (cell.Guid g) h = refl
 one_whole c (cell.Refer t) h = refl
-one_whole Text (cell.Text t) h = both _ _ h refl
+one_whole Text (cell.Text t) h = and_from _ _ h refl
 one_whole Num8 (cell.Text t) h = absurd (cc)
 one_whole Num16 (cell.Text t) h = absurd (cc)
 one_whole Num32 (cell.Text t) h = absurd (cc)
@@ -55,7 +53,7 @@ one_whole (Run n) (cell.Text t) h = absurd (cc)
 
 joined : (xs ys : List (List ℕ)) → have_no_zero xs ≡ true → have_no_zero ys ≡ true → have_no_zero (xs ++ ys) ≡ true
 joined [] ys h i = i
-joined (x ∷ xs) ys h i = both _ _ (both_left (has_no_zero x) (have_no_zero xs) h) (joined xs ys (both_right (has_no_zero x) (have_no_zero xs) h) i)
+joined (x ∷ xs) ys h i = and_from _ _ (both_left (has_no_zero x) (have_no_zero xs) h) (joined xs ys (both_right (has_no_zero x) (have_no_zero xs) h) i)
 
 fits_whole : (columns : List Column) (cells : List CellValue) → cells_fit columns cells ≡ true → have_no_zero (flat_map texts_in_cell cells) ≡ true
 unfolding cells_fit

@@ -4,6 +4,7 @@ use Rattle.std.specs.Prelude.{◌&&◌, is_some, slice_get, nat_lt}
 use Rattle.std.specs.List.{list_all}
 use Rattle.std.proofs.lemmas.Bool.Decides.{nat_tests}
 use Rattle.std.proofs.lemmas.List.{map-append}
+use Rattle.std.proofs.lemmas.Bool.{and_from}
 use Rattle.enc_base.specs.declared.token.Token.{Token}
 use Rattle.enc_checker.specs.Check.{new_code, new_bodies}
 use Rattle.enc_opcodes.specs.Body.{Code}
@@ -36,11 +37,6 @@ all_at p (t ∷ ts) (suc i) u all at = all_at p ts i u (rest (p t) (list_all p t
     rest true b h = h
     rest false b h = absurd cc
 
-both : (a b : Bool) → a ≡ true → b ≡ true → (a && b) ≡ true
-both true true h g = refl
-both true false h g = absurd cc
-both false b h g = absurd cc
-
 few_bytes : (n : ℕ) → n < 2 ^ 32 → nat_lt n (2 ^ 32) ≡ true
 few_bytes n h = grind (arith, nat_tests, h)
 
@@ -49,7 +45,7 @@ pub entry_is : (d : Source) (pdb : Option Source) (i : ℕ) (u : Token) (e : Cod
     → slice_get (new_bodies d) i ≡ Some u → version_in e ≡ new_version d pdb u → length e.code < 2 ^ 32 → is_entry e ≡ true
 entry_is d pdb i u e all at is few =
     let same : e.method ≡ u = ap (λ (n : NewVersion). n.method) is in
-    both (is_method_token e.method) (nat_lt (length e.code) (2 ^ 32)) (rw same (all_at is_method_token (new_bodies d) i u all at)) (few_bytes (length e.code) few)
+    and_from (is_method_token e.method) (nat_lt (length e.code) (2 ^ 32)) (rw same (all_at is_method_token (new_bodies d) i u all at)) (few_bytes (length e.code) few)
 
 -- one entry more
 take_next : (ts : List Token) (i : ℕ) (u : Token) → slice_get ts i ≡ Some u → take (i + 1) ts ≡ take i ts ++ u ∷ []

@@ -1,6 +1,6 @@
 -- No type that is read stands deeper in others than the depth with which it is read.
 use Rattle.std.proofs.Common.{◌≡◌, ℕ, zero, suc, Bool, true, false, List, [], ◌∷◌, drop, Option, Some, None, refl, ap, subst, ◌∙◌}
-use Rattle.std.proofs.lemmas.Bool.{eqb-true}
+use Rattle.std.proofs.lemmas.Bool.{eqb-true, and_from}
 use Rattle.std.specs.Prelude.{◌&&◌, ◌||◌, ◌==◌, option_and_then, if◌then◌else◌}
 use Rattle.enc_base.specs.Token.{nil}
 use Rattle.enc_base.specs.declared.token.Token.{Token}
@@ -31,12 +31,9 @@ none_fit : (d : ℕ) → all_fit d []
 unfolding fits_depth
 none_fit d = refl
 
-both_true : (s t : Bool) → s ≡ true → t ≡ true → (s && t) ≡ true
-both_true s t e f = rw (e, f) refl
-
 more_fit : (d : ℕ) (x : Tree) (xs : List Tree) → one_fits d x → all_fit d xs → all_fit d (x ∷ xs)
 unfolding fits_depth
-more_fit d x xs e f = both_true (if x.element == 0 || x.element == 0x41 then fits_depth x.kids d else fits_below d (fits_depth x.kids)) (fits_depth (forest_of xs) d) e f
+more_fit d x xs e f = and_from (if x.element == 0 || x.element == 0x41 then fits_depth x.kids d else fits_below d (fits_depth x.kids)) (fits_depth (forest_of xs) d) e f
 
 first_known : {A B : Type 0} (K : A → Type 0) (L : B → Type 0) (M : A × B → Type 0) (r : Reader A) (s : Reader B) → ((x : A) (y : B) → K x → L y → M (x, y)) → Known K r → Known L s → Known M (both r s)
 first_known K L M r s same first second bytes p e = both_known M s (r bytes) p (λ x rest q f g. same x q.0 (first bytes (x, rest) f) (second rest q g)) e

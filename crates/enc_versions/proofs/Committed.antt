@@ -3,7 +3,7 @@ use Rattle.std.proofs.Common.{◌≡◌, ℕ, zero, suc, ◌-◌, ◌<◌, ◌�
 use Rattle.std.specs.Prelude.{◌^◌, length, get_or, set, map, ◌&&◌, nat_lt, ◌==◌, ◌≢◌, if◌then◌else◌}
 use Rattle.std.specs.List.{list_all}
 use Rattle.std.proofs.lemmas.Bool.Decides.{nat_tests}
-use Rattle.std.proofs.lemmas.Bool.{eqb-true, false≢true}
+use Rattle.std.proofs.lemmas.Bool.{eqb-true, false≢true, and_parts, and_from}
 use Rattle.std.proofs.lemmas.List.{get_or-set_other}
 use Rattle.std.proofs.lemmas.Grind.{get_or-set_at}
 use Rattle.enc_base.specs.Order.{or_else}
@@ -75,12 +75,9 @@ newest_put methods new method is low =
     let m = is_of new.method.table new.method.row is in
     rw (same_table new.method.table method.table (method.table == method_def) m.0 refl) (put_by methods new.version new.method.row method.row (method.table == method_def) m.1 low)
 
-both_true : (a b : Bool) → (a && b) ≡ true → (a ≡ true) × (b ≡ true)
-both_true a b e = grind (arith, nat_tests, e)
-
 -- one more of those that are put
 pub methods_step : (new : NewVersion) (rest all : List NewVersion) → all ≡ new ∷ rest → list_all (λ (v : NewVersion). is_method_token v.method) all ≡ true → (is_method_token new.method ≡ true) × (list_all (λ (v : NewVersion). is_method_token v.method) rest ≡ true)
-methods_step new rest all is each = both_true (is_method_token new.method) (list_all (λ (v : NewVersion). is_method_token v.method) rest) (rw is at each)
+methods_step new rest all is each = and_parts (is_method_token new.method) (list_all (λ (v : NewVersion). is_method_token v.method) rest) (rw is at each)
 
 pub rows_step : (new : NewVersion) (rest all : List NewVersion) (count : ℕ) → all ≡ new ∷ rest → last_row all ≤ count → (new.method.row ≤ count) × (last_row rest ≤ count)
 unfolding last_row
@@ -101,16 +98,12 @@ pub newest_end : (rest : List NewVersion) (method : Token) (now said : Option Ve
 unfolding brought
 newest_end rest method now said is e = rw is at e
 
--- entries are of methods
-both_are : (a b : Bool) → a ≡ true → b ≡ true → (a && b) ≡ true
-both_are a b e f = rw (e, f) refl
-
 all_methods : (entries : List CodeEntry) → list_all is_entry entries ≡ true → list_all (λ (v : NewVersion). is_method_token v.method) (map version_in entries) ≡ true
 all_methods [] is = refl
 all_methods (e ∷ rest) is =
-    let here = both_true (is_entry e) (list_all is_entry rest) is in
-    let method = both_true (is_method_token e.method) (nat_lt (length e.code) (2 ^ 32)) here.0 in
-    both_are (is_method_token e.method) (list_all (λ (v : NewVersion). is_method_token v.method) (map version_in rest)) method.0 (all_methods rest here.1)
+    let here = and_parts (is_entry e) (list_all is_entry rest) is in
+    let method = and_parts (is_method_token e.method) (nat_lt (length e.code) (2 ^ 32)) here.0 in
+    and_from (is_method_token e.method) (list_all (λ (v : NewVersion). is_method_token v.method) (map version_in rest)) method.0 (all_methods rest here.1)
 
 pub ready_methods : (entries : List CodeEntry) (ready rest : List NewVersion) → list_all is_entry entries ≡ true → rest ≡ [] → ready ++ rest ≡ map version_in entries → list_all (λ (v : NewVersion). is_method_token v.method) ready ≡ true
 ready_methods entries ready rest is none e =
@@ -121,7 +114,7 @@ pub none_mapped : (entries : List CodeEntry) → entries ≡ [] → map version_
 none_mapped entries none = rw none refl
 
 pub entry_more : (entries : List CodeEntry) (e : CodeEntry) → list_all is_entry entries ≡ true → is_entry e ≡ true → list_all is_entry (entries ++ e ∷ []) ≡ true
-entry_more [] e each new = both_are (is_entry e) true new refl
+entry_more [] e each new = and_from (is_entry e) true new refl
 entry_more (x ∷ rest) e each new =
-    let here = both_true (is_entry x) (list_all is_entry rest) each in
-    both_are (is_entry x) (list_all is_entry (rest ++ e ∷ [])) here.0 (entry_more rest e here.1 new)
+    let here = and_parts (is_entry x) (list_all is_entry rest) each in
+    and_from (is_entry x) (list_all is_entry (rest ++ e ∷ [])) here.0 (entry_more rest e here.1 new)

@@ -1,7 +1,7 @@
 -- Instructions go on to places: what each is for goes to its targets alone, and the one behind it begins at a place.
 use Rattle.std.proofs.Common.{◌≡◌, ℕ, ℤ, Bool, true, ◌||◌, List, [], ◌∷◌, Option, Some, None, refl, nat_le, nat_lt, ◌==◌, option_map, arith}
 use Rattle.std.specs.List.{list_all}
-use Rattle.std.proofs.lemmas.Bool.{and_parts}
+use Rattle.std.proofs.lemmas.Bool.{and_parts, and_from}
 use Rattle.std.proofs.lemmas.Bool.Decides.{nat_tests}
 use Rattle.enc_base.specs.declared.token.Token.{Token}
 use Rattle.enc_objects.specs.declared.kind.Kind.{Kind}
@@ -9,7 +9,7 @@ use Rattle.enc_opcodes.specs.Body.{Body}
 use Rattle.enc_opcodes.specs.Instruction.{Argument, nothing, number, target, targets, token, text, raw, Instruction}
 use Rattle.enc_opcodes.specs.Sound.{begins_at, argument_is_sound, instruction_is_sound}
 use Rattle.enc_opcodes.specs.declared.op.Operand.{Operand}
-use Rattle.enc_vm.proofs.Placed.{AfterSome, either_way, both_true, or_left, or_right, begins_place, end_place, parts_of}
+use Rattle.enc_vm.proofs.Placed.{AfterSome, either_way, or_left, or_right, begins_place, end_place, parts_of}
 use Rattle.enc_vm.specs.Acts.{is_from, loaded_kind, stored_kind, bare_act, numbered_act, test_at, branch_act, token_act}
 use Rattle.enc_vm.specs.Placed.{is_place_in, IsSoundCode}
 use Rattle.enc_vm.specs.Step.{begin_of, instruction_among}
@@ -108,7 +108,7 @@ all_places : (b : Body) (ts : List ℕ) → list_all (begins_at b.code) ts ≡ t
 all_places b [] h = refl
 all_places b (t ∷ ts) h =
     let a = and_parts (begins_at b.code t) (list_all (begins_at b.code) ts) h in
-    both_true (is_place_in b t) (list_all (is_place_in b) ts) (begins_place b t a.0) (all_places b ts a.1)
+    and_from (is_place_in b t) (list_all (is_place_in b) ts) (begins_place b t a.0) (all_places b ts a.1)
 
 argument_placed : (b : Body) (count : ℕ → ℕ) (o : Operand) (a : Argument (List ℕ)) → argument_is_sound count (begins_at b.code) o a ≡ true → IsArgumentPlaced b a
 argument_placed b count o nothing h = tt
@@ -131,7 +131,7 @@ begin_each : (p : ℕ → Bool) (xs : List (ℕ × Instruction (List ℕ))) → 
     → list_all (λ (x : ℕ × Instruction (List ℕ)). p x.0) xs ≡ true
 begin_each p [] keeps = refl
 begin_each p (x ∷ rest) keeps =
-    both_true (p x.0) (list_all (λ (y : ℕ × Instruction (List ℕ)). p y.0) rest)
+    and_from (p x.0) (list_all (λ (y : ℕ × Instruction (List ℕ)). p y.0) rest)
     (keeps x.0 (or_left (x.0 == x.0) (begins_at rest x.0) (is_itself x.0)))
     (begin_each p rest (λ t h. keeps t (or_right (x.0 == t) (begins_at rest t) h)))
 

@@ -3,7 +3,7 @@ use Rattle.std.proofs.Common.{◌≡◌, ℕ, zero, suc, ◌+◌, ◌-◌, Bool,
 use Rattle.std.specs.Prelude.{option_map, nat_lt, ◌==◌, ◌&&◌, ◌||◌, if◌then◌else◌}
 use Rattle.std.specs.List.{list_all, list_any}
 use Rattle.std.proofs.lemmas.Bool.Decides.{nat_tests}
-use Rattle.std.proofs.lemmas.Bool.{and_parts}
+use Rattle.std.proofs.lemmas.Bool.{and_parts, and_from}
 use borrow.Author.Tests.{eqb-true}
 use Rattle.enc_base.specs.Numbers.{AreBytes}
 use Rattle.enc_base.proofs.SmallNumbers.{EachIsByte, bytes_each}
@@ -190,12 +190,9 @@ performs_at users m methods s q t u v x i n r is seen bytes some placed done =
     (ap (λ (c : Version). instr_in c.code.code t.top.offset) (sym is) ∙ sym seen ∙ ap (option_map instr_seen) some)))
     done
 
-both_hold : (a b : Bool) → a ≡ true → b ≡ true → (a && b) ≡ true
-both_hold a b e f = rw (e, f) refl
-
 one_byte : (b : ℕ) → b < 256 → nat_lt b 0x100 ≡ true
 one_byte b few = grind (arith, nat_tests)
 
 pub all_bytes : (bytes : List ℕ) → ((i : ℕ) → get_or bytes i 0 < 256) → list_all (λ b. nat_lt b 0x100) bytes ≡ true
 all_bytes [] each = refl
-all_bytes (b ∷ rest) each = both_hold (nat_lt b 0x100) _ (one_byte b (each 0)) (all_bytes rest (λ i. each (suc i)))
+all_bytes (b ∷ rest) each = and_from (nat_lt b 0x100) _ (one_byte b (each 0)) (all_bytes rest (λ i. each (suc i)))

@@ -1,12 +1,12 @@
 -- Handlers begin at places and go on to places.
 use Rattle.std.proofs.Common.{◌≡◌, ℕ, true, List, [], ◌∷◌, Option, Some, None, refl}
-use Rattle.std.proofs.lemmas.Bool.{and_parts}
+use Rattle.std.proofs.lemmas.Bool.{and_parts, and_from}
 use Rattle.enc_objects.specs.Objects.{Store, shape_in}
 use Rattle.enc_objects.specs.declared.trap.Trap.TheVariants.{X2, X14}
 use Rattle.enc_opcodes.specs.Body.{Body}
 use Rattle.enc_unwind.specs.Search.{is_in_range, next_among}
 use Rattle.enc_unwind.specs.declared.stop.Stop.TheVariants as stop
-use Rattle.enc_vm.proofs.Placed.{AfterOk, AfterSome, through, after_that, or_trapped, either_way, both_true, handler_place, fewer_hold}
+use Rattle.enc_vm.proofs.Placed.{AfterOk, AfterSome, through, after_that, or_trapped, either_way, handler_place, fewer_hold}
 use Rattle.enc_vm.specs.Handlers.{handler_range, pruned, gone_to, start, left_by, leave_to, thrown_of, taker, throw_object, ending_handler, resumed_by, end_finally, is_taking, way_out, Flown, object_taken, left_on, flown, fly}
 use Rattle.enc_vm.specs.Machine.{World, Frame, Thread}
 use Rattle.enc_vm.specs.Memory.{not_null}
@@ -35,7 +35,7 @@ unfolding start gone_to
 start_placed w clause origin why f p leads = record {
   sound = p.sound;
   at = handler_place (w.body f.code) p.sound clause;
-  leaves = both_true (leads_to_place (w.body f.code) why)
+  leaves = and_from (leads_to_place (w.body f.code) why)
       (lead_to_places (w.body f.code) (pruned ((w.body f.code).handlers) ((handler_range ((w.body f.code).handlers) clause).0) f.running))
       leads (pruned_lead (w.body f.code) ((handler_range ((w.body f.code).handlers) clause).0) f.running p.leaves);
 }

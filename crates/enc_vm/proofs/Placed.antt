@@ -1,7 +1,7 @@
 -- Frames stay placed: what follows a result, places in a sound body, and where its handlers begin.
 use Rattle.std.proofs.Common.{◌≡◌, ℕ, zero, suc, Bool, true, false, ◌&&◌, ◌||◌, List, [], ◌∷◌, Option, Some, None, Result, Ok, Err, refl, arith, filter, slice_get, ◌==◌, if◌then◌else◌}
 use Rattle.std.specs.List.{list_all, list_any}
-use Rattle.std.proofs.lemmas.Bool.{and_parts}
+use Rattle.std.proofs.lemmas.Bool.{and_parts, and_from}
 use Rattle.std.proofs.lemmas.Bool.Decides.{nat_tests}
 use Rattle.enc_objects.specs.declared.trap.Trap.{Trap}
 use Rattle.enc_objects.specs.declared.value.Value.{Value}
@@ -39,9 +39,6 @@ or_trapped P x None holds = tt
 pub either_way : {A : Type 0} (P : A → Type 0) (b : Bool) (x y : A) → P x → P y → P (if b then x else y)
 either_way P true x y hx hy = hx
 either_way P false x y hx hy = hy
-
-pub both_true : (a b : Bool) → a ≡ true → b ≡ true → (a && b) ≡ true
-both_true a b e f = rw (e, f) refl
 
 pub or_left : (a b : Bool) → a ≡ true → (a || b) ≡ true
 or_left a b e = rw e refl
@@ -110,7 +107,7 @@ pub fewer_hold : {A : Type 0} (p q : A → Bool) (xs : List A) → list_all p xs
 fewer_hold p q [] all = refl
 fewer_hold p q (x ∷ xs) all =
     either_way (λ (l : List _). list_all p l ≡ true) (q x) (x ∷ filter q xs) (filter q xs)
-    (both_true (p x) (list_all p (filter q xs)) (and_parts (p x) (list_all p xs) all).0 (fewer_hold p q xs (and_parts (p x) (list_all p xs) all).1))
+    (and_from (p x) (list_all p (filter q xs)) (and_parts (p x) (list_all p xs) all).0 (fewer_hold p q xs (and_parts (p x) (list_all p xs) all).1))
     (fewer_hold p q xs (and_parts (p x) (list_all p xs) all).1)
 
 -- a frame at another place of its body

@@ -2,7 +2,7 @@
 use Rattle.std.proofs.Common.{◌≡◌, ℕ, ◌+◌, ◌*◌, ◌/◌, ◌%◌, ◌<◌, ◌≤◌, Bool, true, false, List, [], ◌∷◌, length, map, Option, Some, refl, ap, ◌∙◌, arith}
 use Rattle.std.specs.Prelude.{◌^◌, ◌&&◌, ◌||◌, ◌==◌, not, nat_lt, nat_le, unwrap_or, is_some, if◌then◌else◌}
 use Rattle.std.specs.List.{list_all, list_any}
-use Rattle.std.proofs.lemmas.Bool.{and_parts}
+use Rattle.std.proofs.lemmas.Bool.{and_parts, and_from}
 use Rattle.std.proofs.lemmas.Bool.Decides.{nat_tests}
 use Rattle.enc_base.specs.Token.{nil}
 use Rattle.enc_base.specs.Units.{units_of}
@@ -30,9 +30,6 @@ size_given h b code bytes is are fits = ap (λ (xs : List ℕ). length xs) (are 
 
 pub many_given : (b : BodyValue) (clauses : List Clause) → clauses ≡ b.clauses → length clauses ≡ length b.clauses
 many_given b clauses is = ap (λ (xs : List Clause). length xs) is
-
-both : (a b : Bool) → a ≡ true → b ≡ true → (a && b) ≡ true
-both a b e f = rw (e, f) refl
 
 -- units are those that their bytes spell
 unit_is : (u : ℕ) → u % 0x100 + 256 * (u / 0x100) ≡ u
@@ -82,7 +79,7 @@ unfolding placed_named
 all_there h users at [] read kept = refl
 all_there h users at (i ∷ code) read kept =
     let a = and_parts (text_is_kept h i.arg) (list_all (λ (j : InstrValue). text_is_kept h j.arg) code) kept in
-    both _ _ (arg_there h users i.arg read a.0) (all_there h users (at + instruction_size (instr_meant i)) code read a.1)
+    and_from _ _ (arg_there h users i.arg read a.0) (all_there h users (at + instruction_size (instr_meant i)) code read a.1)
 
 -- instructions begin before the end of the code
 begin_low : (at : ℕ) (code : List InstrValue) (t : ℕ) → begins_at (placed at code) t ≡ true → t ≤ at + length_of_code code
@@ -129,13 +126,13 @@ token_small count t few h =
     let b = and_parts (may_name t.table) (nat_le 1 t.row) a.0 in
     let table : t.table < 0x100 = any_low tables_named t.table refl b.0 in
     let row : t.row < 0x1000000 = lesser t.row (count t.table) a.1 (few t.table) in
-    both _ _ (below t.table 0x100 table) (below t.row 0x1000000 row)
+    and_from _ _ (below t.table 0x100 table) (below t.row 0x1000000 row)
 
 targets_low : (begins : ℕ → Bool) (ts : List ℕ) → ((t : ℕ) → begins t ≡ true → t < 2 ^ 32) → list_all begins ts ≡ true → list_all (λ t. nat_lt t (2 ^ 32)) ts ≡ true
 targets_low begins [] low h = refl
 targets_low begins (t ∷ ts) low h =
     let a = and_parts (begins t) (list_all begins ts) h in
-    both _ _ (below t (2 ^ 32) (low t a.0)) (targets_low begins ts low a.1)
+    and_from _ _ (below t (2 ^ 32) (low t a.0)) (targets_low begins ts low a.1)
 
 -- texts that are kept have their offsets below 2^24
 abbrev pub AreLow : Built → Type 0
@@ -159,7 +156,7 @@ all_small h count begins at (i ∷ code) few offsets low kept sound =
     let next : ℕ = at + instruction_size (instr_meant i) in
     let a = and_parts (text_is_kept h i.arg) (list_all (λ (j : InstrValue). text_is_kept h j.arg) code) kept in
     let b = and_parts (argument_is_sound count begins i.op.operand (arg_meant i.arg)) (list_all (instruction_is_sound count begins) (placed next code)) sound in
-    both _ _ (arg_small h count begins i.op.operand i.arg few offsets low a.0 b.0) (all_small h count begins next code few offsets low a.1 b.1)
+    and_from _ _ (arg_small h count begins i.op.operand i.arg few offsets low a.0 b.0) (all_small h count begins next code few offsets low a.1 b.1)
 
 pub body_small : (h : Built) (count : ℕ → ℕ) (b : BodyValue) → AreFew count → AreLow h → list_all (λ (i : InstrValue). text_is_kept h i.arg) b.code ≡ true → length_of_code b.code < 2 ^ 32
     → body_is_sound count (body_stated b) ≡ true → are_small (user_offset h) b.code ≡ true

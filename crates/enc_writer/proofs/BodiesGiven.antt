@@ -2,7 +2,7 @@
 use Rattle.std.proofs.Common.{◌≡◌, ℕ, ◌+◌, ◌*◌, ◌<◌, ◌≤◌, Bool, true, false, List, [], ◌∷◌, ◌++◌, length, map, take, Option, Some, None, option_map, refl, sym, ap, subst, ◌∙◌, arith, Result, Ok, Err}
 use Rattle.std.specs.Prelude.{◌^◌, ◌&&◌, ◌||◌, ◌==◌, not, nat_lt, nat_le, sum_by, option_and_then, slice_get, OnOk, IfOk}
 use Rattle.std.specs.List.{list_all}
-use Rattle.std.proofs.lemmas.Bool.{and_parts}
+use Rattle.std.proofs.lemmas.Bool.{and_parts, and_from}
 use Rattle.std.proofs.lemmas.Bool.Decides.{nat_tests}
 use Rattle.std.proofs.lemmas.List.{length-append}
 use Rattle.std.proofs.lemmas.List.Sums.{sum_by-append, sum_by-cons}
@@ -37,7 +37,7 @@ use Rattle.enc_written.proofs.TokensUnbroken.{nothing_breaks, counts_fit}
 use Rattle.enc_writer.specs.BodiesWriting.{CanBeWritten, HasWidths, HasRoom, parts_of, place_given, with_given, users_written, StandsFirm, StandsOf}
 use Rattle.enc_writer.proofs.BodiesAssembled.{AreRead, all_told, all_there, body_small, locals_low}
 use Rattle.enc_writer.proofs.HeapsPast.{chain_past}
-use Rattle.enc_writer.proofs.BodiesKept.{both, body_kept, user_low}
+use Rattle.enc_writer.proofs.BodiesKept.{body_kept, user_low}
 use Rattle.enc_writer.proofs.BodiesSound.{sound_is_good}
 use Rattle.enc_writer.proofs.BodiesStanding.{place_behind, code_stands, with_grows}
 
@@ -171,7 +171,7 @@ stands assembled c l k b il behind may good is widths some =
       some = omega (arith, some, place_behind (length il) parts b.clauses);
       meant = ap (λ (o : Option Code). option_map (body_of users) o) there ∙ ap (λ (x : Body). Some x) (meant assembled c l k b may good is widths);
       good = ap (code_is_good (count_after c l.edits) users) there
-          ∙ both _ _ (good_code assembled c l k b may good is widths) (texts_there assembled c l k b may good is);
+          ∙ and_from _ _ (good_code assembled c l k b may good is widths) (texts_there assembled c l k b may good is);
     }
 
 -- the body of the edit at a place

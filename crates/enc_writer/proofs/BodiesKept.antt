@@ -2,7 +2,7 @@
 use Rattle.std.proofs.Common.{◌≡◌, ℕ, ◌+◌, ◌<◌, ◌≤◌, Bool, true, false, List, [], ◌∷◌, ◌++◌, length, Option, Some, refl, sym, ap, ◌∙◌, arith}
 use Rattle.std.specs.Prelude.{◌^◌, ◌&&◌, ◌||◌, nat_lt, flat_map, sum_by, bytes_eq, slice_get, if◌then◌else◌}
 use Rattle.std.specs.List.{list_all}
-use Rattle.std.proofs.lemmas.Bool.{and_parts}
+use Rattle.std.proofs.lemmas.Bool.{and_parts, and_from}
 use Rattle.std.proofs.lemmas.Bool.Decides.{nat_tests}
 use Rattle.std.proofs.lemmas.List.{length-append}
 use Rattle.std.proofs.lemmas.List.Folds.{list_all-append}
@@ -23,9 +23,6 @@ use Rattle.enc_rules.specs.Rules.{users_of_edit, users_in_argument, users_in_bod
 use Rattle.enc_written.specs.Holds.{MayFollow, heaps_written}
 use Rattle.enc_written.proofs.TokensUnbroken.{heaps_have_room}
 use Rattle.enc_writer.proofs.ValuesKept.{user_brought, is_itself, among_front, among_behind}
-
-pub both : (a b : Bool) → a ≡ true → b ≡ true → (a && b) ≡ true
-both a b e f = rw (e, f) refl
 
 -- a value that is kept wherever it is among some is kept for each of these
 all_of : (p : List ℕ → Bool) (xs : List (List ℕ)) → ((v : List ℕ) → is_among xs v ≡ true → p v ≡ true) → list_all p xs ≡ true
@@ -50,7 +47,7 @@ code_kept h [] kept = refl
 code_kept h (i ∷ code) kept =
     let behind = flat_map (λ (j : InstrValue). users_in_argument j.arg) code in
     let a = and_parts (list_all (is_kept h.users) (users_in_argument i.arg)) (list_all (is_kept h.users) behind) (sym (list_all-append (is_kept h.users) (users_in_argument i.arg) behind) ∙ kept) in
-    both _ _ (argument_kept h i.arg a.0) (code_kept h code a.1)
+    and_from _ _ (argument_kept h i.arg a.0) (code_kept h code a.1)
 
 pub body_kept : (c : Chain) (l : EditList) (k : ℕ) (e : Edit) (b : BodyValue) → slice_get l.edits k ≡ Some e → body_given e ≡ Some b → list_all (λ (i : InstrValue). text_is_kept (heaps_written c l) i.arg) b.code ≡ true
 body_kept c l k e b there given =

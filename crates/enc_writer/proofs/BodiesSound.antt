@@ -3,7 +3,7 @@ use Rattle.std.proofs.Common.{◌≡◌, ℕ, Bool, true, false, List, [], ◌�
 use Rattle.std.specs.Prelude.{nat_le, ◌==◌, ◌&&◌, ◌||◌, if◌then◌else◌}
 use Rattle.std.specs.List.{list_all, list_any}
 use Rattle.std.proofs.lemmas.Bool.Decides.{nat_tests}
-use Rattle.std.proofs.lemmas.Bool.{and_parts}
+use Rattle.std.proofs.lemmas.Bool.{and_parts, and_from}
 use Rattle.enc_base.specs.Token.{token_of}
 use Rattle.enc_edits.specs.Form.{clause_is_stated}
 use Rattle.enc_opcodes.specs.declared.op.Operand.{Operand}
@@ -13,21 +13,18 @@ use Rattle.enc_opcodes.specs.Instruction.{Argument, nothing, number, target, tar
 use Rattle.enc_opcodes.specs.Body.{Code, catching, filtering, finishing, faulting, kind_meant, told, instruction_told, handler_meant, body_of, is_named, is_instruction_start, arg_is_good, instruction_is_good, range_is_good, clause_is_good, locals_are_good, is_good}
 use Rattle.enc_opcodes.specs.Sound.{begins_at, argument_is_sound, instruction_is_sound, handler_kind_is_sound, handler_is_sound, are_whole, body_is_sound}
 
-both : (a b : Bool) → a ≡ true → b ≡ true → (a && b) ≡ true
-both a b e f = rw (e, f) refl
-
 -- what holds of each that is told holds of each
 each_back : {A B : Type 0} (h : A → B) (p : A → Bool) (q : B → Bool) (xs : List A) → ((x : A) → q (h x) ≡ true → p x ≡ true) → list_all q (map h xs) ≡ true → list_all p xs ≡ true
 each_back h p q [] back all = refl
 each_back h p q (x ∷ xs) back all =
     let a = and_parts (q (h x)) (list_all q (map h xs)) all in
-    both (p x) _ (back x a.0) (each_back h p q xs back a.1)
+    and_from (p x) _ (back x a.0) (each_back h p q xs back a.1)
 
 targets_back : (p q : ℕ → Bool) (ts : List ℕ) → ((t : ℕ) → q t ≡ true → p t ≡ true) → list_all q ts ≡ true → list_all p ts ≡ true
 targets_back p q [] back all = refl
 targets_back p q (t ∷ ts) back all =
     let a = and_parts (q t) (list_all q ts) all in
-    both (p t) _ (back t a.0) (targets_back p q ts back a.1)
+    and_from (p t) _ (back t a.0) (targets_back p q ts back a.1)
 
 -- an argument that is sound when it is told is good
 arg_good : (texts : ℕ → Option (List ℕ)) (count : ℕ → ℕ) (p q : ℕ → Bool) (o : Operand) (a : Argument ℕ) → ((t : ℕ) → q t ≡ true → p t ≡ true) → argument_is_sound count q o (told texts a) ≡ true → arg_is_good count p o a ≡ true
@@ -61,7 +58,7 @@ range_back : (p q : ℕ → Bool) (size : ℕ) (r : ℕ × ℕ) → ((t : ℕ) �
 range_back p q size r back h =
     let a = and_parts (q r.0 && nat_le r.0 r.1) (q r.1 || r.1 == size) h in
     let b = and_parts (q r.0) (nat_le r.0 r.1) a.0 in
-    both _ _ (both _ _ (back r.0 b.0) b.1) (first_back (q r.1) (p r.1) (r.1 == size) (back r.1) a.1)
+    and_from _ _ (and_from _ _ (back r.0 b.0) b.1) (first_back (q r.1) (p r.1) (r.1 == size) (back r.1) a.1)
 
 -- a sound clause of one of the kinds is good
 apart : (k m n : ℕ) → (m == n) ≡ false → (k == m) ≡ true → (k == n) ≡ false
@@ -86,7 +83,7 @@ unfolding clause_is_good handler_is_sound
 clause_good count p q size c back known h =
     let a = and_parts (range_is_good q size c.tries && range_is_good q size c.handler) (handler_kind_is_sound count q (kind_meant c.kind c.extra)) h in
     let b = and_parts (range_is_good q size c.tries) (range_is_good q size c.handler) a.0 in
-    both _ _ (both _ _ (range_back p q size c.tries back b.0) (range_back p q size c.handler back b.1)) (kind_good count p q c.kind c.extra (c.kind == 0) (c.kind == 1) (c.kind == 2) (c.kind == 4) back refl refl refl refl known a.1)
+    and_from _ _ (and_from _ _ (range_back p q size c.tries back b.0) (range_back p q size c.handler back b.1)) (kind_good count p q c.kind c.extra (c.kind == 0) (c.kind == 1) (c.kind == 2) (c.kind == 4) back refl refl refl refl known a.1)
 
 clauses_good : (count : ℕ → ℕ) (p q : ℕ → Bool) (size : ℕ) (cs : List Clause) → ((t : ℕ) → q t ≡ true → p t ≡ true) → list_all clause_is_stated cs ≡ true → list_all (handler_is_sound count q size) (map handler_meant cs) ≡ true
     → list_all (clause_is_good count p size) cs ≡ true
@@ -94,7 +91,7 @@ clauses_good count p q size [] back known h = refl
 clauses_good count p q size (c ∷ cs) back known h =
     let a = and_parts (clause_is_stated c) (list_all clause_is_stated cs) known in
     let b = and_parts (handler_is_sound count q size (handler_meant c)) (list_all (handler_is_sound count q size) (map handler_meant cs)) h in
-    both _ _ (clause_good count p q size c back a.0 b.0) (clauses_good count p q size cs back a.1 b.1)
+    and_from _ _ (clause_good count p q size c back a.0 b.0) (clauses_good count p q size cs back a.1 b.1)
 
 eq_same : (a b : ℕ) → a ≡ b → (a == b) ≡ true
 eq_same a b h = grind (arith, nat_tests)
@@ -112,4 +109,4 @@ sound_is_good texts count c whole known h =
     let begins : (t : ℕ) → begins_at all t ≡ true → is_instruction_start xs t ≡ true = begins_back texts xs in
     let instructions = each_back (instruction_told texts) (instruction_is_good count (is_instruction_start xs)) (instruction_is_sound count (begins_at all)) xs (λ x e. one_good texts count (is_instruction_start xs) (begins_at all) x begins e) a.1 in
     let clauses = clauses_good count (is_instruction_start xs) (begins_at all) (length c.code) (clauses_of c.sections) begins known b.1 in
-    both _ _ (both _ _ (both _ _ (eq_same (end_of c.code 0) (length c.code) whole) instructions) clauses) d.1
+    and_from _ _ (and_from _ _ (and_from _ _ (eq_same (end_of c.code 0) (length c.code) whole) instructions) clauses) d.1

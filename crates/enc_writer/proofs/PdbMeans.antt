@@ -2,7 +2,7 @@
 use Rattle.std.proofs.Common.{◌≡◌, ℕ, Bool, true, false, List, Option, Some, None, refl, sym, ap, subst, ◌∙◌}
 use Rattle.std.specs.Prelude.{◌&&◌, is_some, slice_get}
 use Rattle.std.specs.List.{list_any}
-use Rattle.std.proofs.lemmas.Bool.{and_parts}
+use Rattle.std.proofs.lemmas.Bool.{and_parts, and_from}
 use Rattle.enc_base.specs.Token.{is_token}
 use Rattle.enc_base.specs.declared.token.Token.{Token}
 use Rattle.enc_plain.specs.Chain.{Chain}
@@ -34,9 +34,6 @@ one_test true b there back = sym (there refl)
 one_test false false there back = refl
 one_test false true there back = back refl
 
-both_hold : (a b : Bool) → a ≡ true → b ≡ true → (a && b) ≡ true
-both_hold a b x y = rw (x, y) refl
-
 some_edit : (o : Option Edit) → is_some o ≡ true → (e : Edit) × (o ≡ Some e)
 some_edit None some = absurd cc
 some_edit (Some e) some = (e, refl)
@@ -57,7 +54,7 @@ new_by_edit c l s method e may says g =
     let table = gives_method c l g.place e method may g.here row g.gives in
     let own = has_method c l s g.place method may says row table in
     let there = code_as_given c l s g.place e method may says g.here row table ∙ g.gives in
-    some_by_one (has_code s method) (own_methods s) own.0 method own.1 (both_hold (is_some (new_code s method)) (is_token method method) there (self method))
+    some_by_one (has_code s method) (own_methods s) own.0 method own.1 (and_from (is_some (new_code s method)) (is_token method method) there (self method))
 
 -- and nowhere else
 given_by_code : (c : Chain) (l : EditList) (s : Source) (u : Token) → MayFollow c l → SaysDelta c l s → IsEdit c.plain l.edits u → u.table ≡ 6 → is_some (new_code s u) ≡ true → is_some (edit_giving (rows_edited c.plain l.edits) l.edits u) ≡ true
