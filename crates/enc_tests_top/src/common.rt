@@ -58,7 +58,11 @@ pub(crate) fn texts(alloc: Global, words: &[&str]) -> Result<Vec<String>, AllocE
 
 /// Bytes in hexadecimal with some of them replaced, each from its place on. What lies past the end
 /// is put behind it.
-pub(crate) fn changed(alloc: Global, bytes: &str, changes: &[(usize, &str)]) -> Result<Vec<u8>, Fail> {
+pub(crate) fn changed(
+    alloc: Global,
+    bytes: &str,
+    changes: &[(usize, &str)],
+) -> Result<Vec<u8>, Fail> {
     let mut all = hex::decode(alloc, bytes)?;
     for (at, text) in changes {
         for (i, b) in hex::decode(alloc, text)?.iter().enumerate() {

@@ -1,5 +1,7 @@
 //! A store and a sink that fail.
-use crate::common::{D1_IL, D1_LIST, D1_META, M_DLL, OBJECT_LINE, SCRIPT, STRING_LINE, changed, texts};
+use crate::common::{
+    D1_IL, D1_LIST, D1_META, M_DLL, OBJECT_LINE, SCRIPT, STRING_LINE, changed, texts,
+};
 use enc_outside::{MemSink, MemStore};
 use enc_top::run_tool;
 use std::alloc::Global;

@@ -1,7 +1,6 @@
 //! The constants that name tables and columns in `enc_schema`, each by its name.
 
-use enc_lines::{Args, Fault};
-use enc_lines::told;
+use enc_lines::{Args, Fault, told};
 use enc_schema::{columns, tables};
 use std::alloc::Global;
 
