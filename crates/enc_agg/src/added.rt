@@ -55,6 +55,7 @@ pub fn number(added: &[Added], row: Token, column: u8) -> u32
 pub fn body_in(added: &[Added], place: u32) -> Option<CodeRef<'_>>
     ensures code { option_map code_seen result ≡ code_in (reverse added.now) place }
     ensures few { IfSome result (λ c. length c.code.now < 2 ^ 32) }
+    ensures short { IfSome result (λ c. length c.sections.now < 2 ^ 32) }
 {
     match newest(added) {
         Some((last, _)) => last.delta.code(place),

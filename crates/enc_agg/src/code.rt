@@ -33,6 +33,7 @@ impl Aggregate {
         ensures body { (texts : ℕ → Option (List ℕ)) → StayThere (users_of_all self.now) texts → cell_of (module_of_all self.now) method 0 ≡ Some (body (option_map (λ c. body_of texts (code_seen c)) result)) }
         ensures texts { IfSome result (λ c. IsTrue (texts_are_there (users_of_all self.now) c.code.now)) }
         ensures few { IfSome result (λ c. length c.code.now < 2 ^ 32) }
+        ensures short { IfSome result (λ c. length c.sections.now < 2 ^ 32) }
     {
         let Some(found) = find(&self.added, &self.directory, method) else {
             return self.image.body(method);

@@ -24,6 +24,7 @@ fn rest_from(il: &[u8], offset: u32) -> Option<&[u8]>
 pub fn body_from(il: &[u8], offset: u32) -> Option<CodeRef<'_>>
     ensures code { option_map code_seen result ≡ code_there (loaded_code il.now) offset }
     ensures few { IfSome result (λ c. length c.code.now < 2 ^ 32) }
+    ensures short { IfSome result (λ c. length c.sections.now < 2 ^ 32) }
 {
     let Some(bytes) = rest_from(il, offset) else {
         return None;
@@ -39,6 +40,7 @@ pub fn body_from(il: &[u8], offset: u32) -> Option<CodeRef<'_>>
 pub fn code_at(il: &[u8], place: u32) -> Option<CodeRef<'_>>
     ensures code { option_map code_seen result ≡ code_loaded (loaded_code il.now) place }
     ensures few { IfSome result (λ c. length c.code.now < 2 ^ 32) }
+    ensures short { IfSome result (λ c. length c.sections.now < 2 ^ 32) }
 {
     if place == 0 {
         return None;

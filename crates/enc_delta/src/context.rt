@@ -97,6 +97,7 @@ impl<C: ChainView> Context<'_, C> {
     pub fn own_code(&self, place: u32) -> Option<CodeRef<'_>>
         ensures code { option_map code_seen result ≡ code_loaded self.now.delta.loaded place }
         ensures few { IfSome result (λ c. length c.code.now < 2 ^ 32) }
+        ensures short { IfSome result (λ c. length c.sections.now < 2 ^ 32) }
     {
         self.delta.code(place)
     }

@@ -135,6 +135,7 @@ impl Delta {
     pub fn body(&self, offset: u32) -> Option<CodeRef<'_>>
         ensures code { option_map code_seen result ≡ code_there self.now.loaded offset }
         ensures few { IfSome result (λ c. length c.code.now < 2 ^ 32) }
+        ensures short { IfSome result (λ c. length c.sections.now < 2 ^ 32) }
     {
         body_from(&self.il, offset)
     }
@@ -143,6 +144,7 @@ impl Delta {
     pub fn code(&self, place: u32) -> Option<CodeRef<'_>>
         ensures code { option_map code_seen result ≡ code_loaded self.now.loaded place }
         ensures few { IfSome result (λ c. length c.code.now < 2 ^ 32) }
+        ensures short { IfSome result (λ c. length c.sections.now < 2 ^ 32) }
     {
         code_at(&self.il, place)
     }

@@ -127,6 +127,7 @@ impl HeldCode {
     fn code(&self) -> Option<CodeRef<'_>>
         ensures code { option_map code_seen result ≡ self.now }
         ensures few { IfSome result (λ c. length c.code.now < 2 ^ 32) }
+        ensures short { IfSome result (λ c. length c.sections.now < 2 ^ 32) }
     {
         let Some(bytes) = &self.bytes else {
             return None;
@@ -354,6 +355,7 @@ impl PlainModule {
         requires table { method.table ≡ method_def }
         ensures cell { cell_of self.now.plain method 0 ≡ Some (body (option_map (λ c. body_of (user_at self.now.users) (code_seen c)) result)) }
         ensures few { IfSome result (λ c. length c.code.now < 2 ^ 32) }
+        ensures short { IfSome result (λ c. length c.sections.now < 2 ^ 32) }
         ensures texts { IfSome result (λ c. IsTrue (texts_are_there (user_at self.now.users) c.code.now)) }
     {
         let held = self.held_code(method);

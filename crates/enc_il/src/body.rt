@@ -1,7 +1,7 @@
 //! The parts of a method's body (ECMA-335 II.25.4).
 ghost use Rattle.std.specs.Prelude.{◌≡◌, ◌+◌, ◌*◌, ◌<◌, ◌≤◌, ◌^◌, length, option_map, IfOk, IfSome};
 ghost use Rattle.enc_base.specs.Numbers.{padded as padded_to};
-ghost use Rattle.enc_opcodes.specs.Body.{code_seen, nil_or, sections_behind as behind, tiny_at, fat_at, body_at};
+ghost use Rattle.enc_opcodes.specs.Body.{code_seen, nil_or, sections_behind as behind, if_short, tiny_at, fat_at, body_at};
 ghost use Rattle.enc_il.specs.Seen.{body_seen};
 
 use crate::bytes::{range_at, rest_at};
@@ -39,6 +39,7 @@ fn tiny_at(bytes: &[u8], at: usize, size: usize) -> Option<CodeRef<'_>>
     requires { at < length bytes.now }
     ensures body { option_map code_seen result ≡ tiny_at bytes.now at size }
     ensures few { IfSome result (λ c. length c.code.now ≤ size) }
+    ensures short { IfSome result (λ c. length c.sections.now < 2 ^ 32) }
 {
     let code = range_at(bytes, at + 1, size)?;
     Some(CodeRef {
@@ -50,12 +51,24 @@ fn tiny_at(bytes: &[u8], at: usize, size: usize) -> Option<CodeRef<'_>>
     })
 }
 
+/// Sections of fewer than 2^32 bytes; longer ones are none.
+fn if_short(sections: &[u8]) -> Option<&[u8]>
+    ensures short { option_map (λ x. x.now) result ≡ if_short sections.now }
+    ensures few { IfSome result (λ x. length x.now < 2 ^ 32) }
+{
+    if sections.len() < 0x1_0000_0000 {
+        return Some(sections);
+    }
+    None
+}
+
 /// The data sections at the place behind the code, where a flag says that there are any.
 fn sections_behind(bytes: &[u8], at: usize, more: bool) -> Option<&[u8]>
-    ensures { option_map (λ x. x.now) result ≡ behind bytes.now at more }
+    ensures sections { option_map (λ x. x.now) result ≡ behind bytes.now at more }
+    ensures few { IfSome result (λ x. length x.now < 2 ^ 32) }
 {
     if more {
-        sections_front(rest_at(bytes, at))
+        if_short(sections_front(rest_at(bytes, at))?)
     } else {
         Some(&[])
     }
@@ -66,6 +79,7 @@ fn sections_behind(bytes: &[u8], at: usize, more: bool) -> Option<&[u8]>
 fn fat_at(bytes: &[u8], at: usize) -> Option<CodeRef<'_>>
     ensures body { option_map code_seen result ≡ fat_at bytes.now at }
     ensures few { IfSome result (λ c. length c.code.now < 2 ^ 32) }
+    ensures short { IfSome result (λ c. length c.sections.now < 2 ^ 32) }
 {
     let flags = u16_at(bytes, at)?;
     let max = u16_at(bytes, at + 2)?;
@@ -91,6 +105,7 @@ fn fat_at(bytes: &[u8], at: usize) -> Option<CodeRef<'_>>
 fn body_in(bytes: &[u8], at: usize, place: u32) -> Option<CodeRef<'_>>
     ensures body { option_map code_seen result ≡ body_at bytes.now at place }
     ensures few { IfSome result (λ c. length c.code.now < 2 ^ 32) }
+    ensures short { IfSome result (λ c. length c.sections.now < 2 ^ 32) }
 {
     let first = u8_at(bytes, at)?;
     if first % 4 == 2 {
@@ -104,10 +119,11 @@ fn body_in(bytes: &[u8], at: usize, place: u32) -> Option<CodeRef<'_>>
 
 /// The body whose header stands at a place of the bytes, which is this place of the image or of the
 /// delta's code (its RVA or its offset): a fat header begins at a multiple of four of the latter
-/// (ECMA-335 II.25.4).
+/// (ECMA-335 II.25.4). Sections of 2^32 bytes or more are none.
 pub fn read_body(bytes: &[u8], at: usize, place: u32) -> Result<CodeRef<'_>, BodyFault>
     ensures body { body_seen result ≡ body_at bytes.now at place }
     ensures few { IfOk result (λ c. length c.code.now < 2 ^ 32) }
+    ensures short { IfOk result (λ c. length c.sections.now < 2 ^ 32) }
 {
     match body_in(bytes, at, place) {
         Some(code) => Ok(code),

@@ -12,6 +12,7 @@ use enc_pe::LoadedFile;
 pub fn code_at<'a>(loaded: &LoadedFile<'a>, rva: u32) -> Option<CodeRef<'a>>
     ensures code { option_map code_seen result ≡ code_loaded loaded.now rva }
     ensures few { IfSome result (λ c. length c.code.now < 2 ^ 32) }
+    ensures short { IfSome result (λ c. length c.sections.now < 2 ^ 32) }
 {
     if rva == 0 {
         return None;

@@ -79,6 +79,7 @@ impl Image {
         requires table { method.table ≡ method_def }
         ensures code { option_map code_seen result ≡ code_loaded self.now.loaded (raw_in self.now method 0) }
         ensures few { IfSome result (λ c. length c.code.now < 2 ^ 32) }
+        ensures short { IfSome result (λ c. length c.sections.now < 2 ^ 32) }
         ensures sound { cells_fault self.now ≡ None }
     {
         code_at(&self.loaded(), self.number(method, METHOD_DEF_RVA))

@@ -1,5 +1,5 @@
 -- A method's body: where its parts stand, what it means, and when it is good (ECMA-335 II.25.4, III.1.7).
-use Rattle.std.specs.Prelude.{ℕ, ◌+◌, ◌-◌, ◌/◌, ◌%◌, Bool, true, false, not, ◌&&◌, ◌||◌, List, [], ◌∷◌, length, map, take, drop, Option, Some, None, option_map, unwrap_or, is_some, nat_le, ◌==◌, if◌then◌else◌}
+use Rattle.std.specs.Prelude.{ℕ, ◌+◌, ◌-◌, ◌/◌, ◌%◌, ◌^◌, Bool, true, false, not, ◌&&◌, ◌||◌, List, [], ◌∷◌, length, map, take, drop, Option, Some, None, option_map, option_and_then, unwrap_or, is_some, nat_le, nat_lt, ◌==◌, if◌then◌else◌}
 use Rattle.std.specs.List.{list_any, list_all}
 use Rattle.std.specs.Int.{w8, w16, w32}
 use Rattle.enc_base.specs.Numbers.{little_endian_at, padded, has_flag}
@@ -38,9 +38,13 @@ tiny_at bytes at size =
 unfoldable pub sections_at : List ℕ → Option (List ℕ)
 sections_at bytes = option_map (λ (x : List Section × List ℕ). take (length bytes - length x.1) bytes) (sections_in (length bytes) bytes)
 
+-- sections of fewer than 2^32 bytes, as code has by its size of four bytes; longer ones are none
+abbrev pub if_short : List ℕ → Option (List ℕ)
+if_short sections = if nat_lt (length sections) (2 ^ 32) then Some sections else None
+
 -- the sections behind the code, where a flag says that there are any
 abbrev pub sections_behind : List ℕ → ℕ → Bool → Option (List ℕ)
-sections_behind bytes at more = if more then sections_at (drop at bytes) else Some []
+sections_behind bytes at more = if more then option_and_then if_short (sections_at (drop at bytes)) else Some []
 
 -- a fat header of twelve bytes: flags and in their top four bits its size in fours, the most values on the stack, the code's size, the local signature
 unfoldable pub fat_at : List ℕ → ℕ → Option Code

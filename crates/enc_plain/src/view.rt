@@ -74,7 +74,8 @@ pub trait ModuleView {
         requires table { method.table ≡ method_def }
         ensures body { cell_of (meaning self.now) method 0 ≡ Some (body (option_map (λ c. body_of (users self.now) (code_seen c)) result)) }
         ensures texts { IfSome result (λ c. IsTrue (texts_are_there (users self.now) c.code.now)) }
-        ensures few { IfSome result (λ c. length c.code.now < 2 ^ 32) };
+        ensures few { IfSome result (λ c. length c.code.now < 2 ^ 32) }
+        ensures short { IfSome result (λ c. length c.sections.now < 2 ^ 32) };
 
     /// The place of a method's body, 0 where it has none: methods with one place have one body. What
     /// else the number tells is the view's own matter.
