@@ -12,6 +12,7 @@ use Rattle.enc_ppdb.specs.Fault.{pdb_delta_of, named_tokens}
 use Rattle.enc_ppdb.specs.Misplaced.{is_behind}
 use Rattle.enc_ppdb.specs.PdbChain.{debug_at}
 use Rattle.enc_ppdb.specs.Points.{names_method}
+use Rattle.enc_ppdb.specs.Written.{IsNilOverSeveral, document_told}
 use Rattle.enc_pdb_delta.specs.Stated.{debug_stated, edit_giving}
 
 abbrev pub gives_points : Option Edit → Bool
@@ -22,7 +23,8 @@ gives_points (Some e) = has_points e
 abbrev pub method_named : Token → Token
 method_named t = record { table = tables.method_def; row = t.row }
 
--- the bytes are a PDB of a delta that isn't refused: it names exactly the methods whose edits have points, by rising rows, and says of each what its edit does
+-- the bytes are a PDB of a delta that isn't refused: it names exactly the methods whose edits have points, by rising rows, and says of each what its edit does; a method whose points have
+-- several documents has Document nil
 pub record SaysEdits (l : EditList) (methods : List Token) (bytes : List ℕ) : Type 0 where
   pub source : Source
   pub read : pdb_delta_of bytes ≡ Ok source
@@ -30,3 +32,5 @@ pub record SaysEdits (l : EditList) (methods : List Token) (bytes : List ℕ) : 
   pub named : (method : Token) → list_any (names_method method) (named_tokens source) ≡ gives_points (edit_giving methods l.edits method)
   pub says : (k : ℕ) (t : Token) (e : Edit) → slice_get (named_tokens source) k ≡ Some t → edit_giving methods l.edits (method_named t) ≡ Some e
       → debug_at (Some (source, nth_row tables.method_debug_information k)) ≡ debug_stated l.documents e
+  pub several : (k : ℕ) (t : Token) (e : Edit) → slice_get (named_tokens source) k ≡ Some t → edit_giving methods l.edits (method_named t) ≡ Some e
+      → IsNilOverSeveral (debug_stated l.documents e).points (document_told source k)

@@ -17,7 +17,7 @@ use Rattle.enc_seqpoints.specs.declared.point.Point.{Point}
 use Rattle.enc_seqpoints.specs.Grammar.{method_points, points_in}
 use Rattle.enc_ppdb.specs.Method.{one_document}
 use Rattle.enc_ppdb.specs.declared.writer.Writer.{Writer}
-use Rattle.enc_ppdb.specs.Written.{is_same, with_points, nth_method, documents_of, row_among, points_numbered, document_weight, method_weight, most_pdb_weight, pdb_starts}
+use Rattle.enc_ppdb.specs.Written.{is_same, with_points, nth_method, documents_of, row_among, points_numbered, document_weight, method_weight, most_pdb_weight, pdb_starts, IsNilOverSeveral}
 
 -- the numbers of a document's values in heaps: its name's bytes, its algorithm, its hash and its language
 unfoldable pub document_key : Built → Document → List ℕ
@@ -123,6 +123,7 @@ pub record MethodHeld (h : Built) (documents : List Document) (d : MethodDebug) 
   pub kept : is_kept h.blobs blob ≡ true
   pub reads : points_in first blob ≡ Some (method_points d.locals (points_numbered documents d.points))
   pub low : first ≤ length documents
+  pub several : IsNilOverSeveral d.points first
   pub among : have_rows documents d.points ≡ true
 
 -- what is written of the first n methods, whose points have these documents, and what is known of documents, with room for so many bytes more

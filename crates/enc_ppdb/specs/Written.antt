@@ -1,5 +1,5 @@
 -- A Portable PDB that is written: its documents, each once, and for each method its points (Portable PDB v1.0).
-use Rattle.std.specs.Prelude.{◌≡◌, ℕ, zero, suc, ◌+◌, ◌*◌, ◌^◌, ◌==◌, Bool, true, false, ◌&&◌, List, [], ◌∷◌, ◌++◌, length, map, replicate, sum_by, position, bytes_eq, Option, Some, None, option_map, unwrap_or, Result, Ok, Err, nat_lt, if◌then◌else◌, slice_get, slice_index}
+use Rattle.std.specs.Prelude.{◌≡◌, ℕ, zero, suc, ◌+◌, ◌*◌, ◌^◌, ◌<◌, ◌==◌, Bool, true, false, ◌&&◌, List, [], ◌∷◌, ◌++◌, length, map, replicate, sum_by, position, bytes_eq, Option, Some, None, option_map, unwrap_or, Result, Ok, Err, nat_lt, if◌then◌else◌, slice_get, slice_index}
 use Rattle.std.specs.List.{list_any}
 use Rattle.std.specs.Int.{w32, to_le_bytes}
 use Rattle.enc_base.specs.Token.{nth_row}
@@ -13,9 +13,10 @@ use Rattle.enc_meta.specs.declared.heaps.HeapLengths.{HeapLengths}
 use Rattle.enc_plain.specs.Debug.{Document, PlainPoint, MethodDebug, PlainPdb}
 use Rattle.enc_plain.specs.DocumentName.{document_name_in}
 use Rattle.enc_plain.specs.SoundDebug.{numbered}
-use Rattle.enc_rows.specs.Source.{Source}
+use Rattle.enc_rows.specs.Source.{Source, raw_in}
 use Rattle.enc_rows.specs.Sums.{sum_below}
 use Rattle.enc_rows.specs.Written.{rows_at, count_at}
+use Rattle.enc_schema.specs.Columns as columns
 use Rattle.enc_schema.specs.Tables as tables
 use Rattle.enc_seqpoints.specs.declared.point.Point.{Point}
 use Rattle.enc_seqpoints.specs.Grammar.{method_points, points_in}
@@ -95,11 +96,17 @@ pub record DocumentSays (h : Counted) (d : Document) (cells : List ℕ) : Type 0
   pub hash : blob_at h.blobs (slice_index cells 2) ≡ Some d.hash
   pub language : guid_at h.guids (slice_index cells 3) ≡ Some d.language
 
+-- where two of the points have different documents, the row of their method names none (MethodDebugInformation Table)
+abbrev pub IsNilOverSeveral : List PlainPoint → ℕ → Type 0
+IsNilOverSeveral points document = (i j : ℕ) (p q : PlainPoint) → slice_get points i ≡ Some p → slice_get points j ≡ Some q
+    → (p.document ≡ q.document → ⊥) → document ≡ 0
+
 -- a row of MethodDebugInformation says a method's local signature row and its points, by documents of these rows
 pub record MethodSays (h : Counted) (documents : List Document) (d : MethodDebug) (cells : List ℕ) : Type 0 where
   pub count : length cells ≡ 2
   pub points : (blob : List ℕ) × (blob_at h.blobs (slice_index cells 1) ≡ Some blob)
       × (points_in (slice_index cells 0) blob ≡ Some (method_points d.locals (points_numbered documents d.points)))
+  pub several : IsNilOverSeveral d.points (slice_index cells 0)
 
 -- the rows say the documents and the methods, and there are no others
 pub record HoldPdb (p : PlainPdb) (count : ℕ) (h : Built) (rows : List (List (List ℕ))) : Type 0 where
@@ -116,8 +123,14 @@ pub record HoldPdb (p : PlainPdb) (count : ℕ) (h : Built) (rows : List (List (
 unfoldable pub pdb_stream : ℕ → List ℕ
 pdb_stream entry = replicate 20 0 ++ to_le_bytes w32 entry ++ replicate 8 0
 
--- the bytes are those of a PDB of so many methods that isn't refused, and what is known by it is the plain PDB
+-- the Document of the n-th row of MethodDebugInformation, n from 0
+abbrev pub document_told : Source → ℕ → ℕ
+document_told s n = raw_in s (nth_row tables.method_debug_information n) columns.method_debug_information_document
+
+-- the bytes are those of a PDB of so many methods that isn't refused, and what is known by it is the plain PDB; a method whose points have several documents
+-- has Document nil
 pub record MeansPdb (p : PlainPdb) (methods : ℕ) (bytes : List ℕ) : Type 0 where
   pub source : Source
   pub read : pdb_of bytes methods ≡ Ok source
   pub means : (method : Token) → pdb_begun (Some source) method ≡ p method
+  pub several : (n : ℕ) → n < methods → IsNilOverSeveral (nth_method p n).points (document_told source n)
