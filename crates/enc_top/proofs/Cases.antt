@@ -20,7 +20,7 @@ use Rattle.enc_rewriter.specs.Rewritten.{MeansModule}
 use Rattle.enc_edits.specs.declared.edit.EditList.{EditList}
 use Rattle.enc_rules.specs.Edited.{edited}
 use Rattle.enc_writer.specs.declared.bytes.DeltaBytes.{DeltaBytes}
-use Rattle.enc_writer.specs.Stands.{StandsFor}
+use Rattle.enc_writer.specs.Stands.{StandsFor, IsWrittenFor}
 use Rattle.enc_jobs.specs.Generated.{generated_base, edited_by, turns_from, state_after, methods_added, lists_from, generated_lists}
 use Rattle.enc_top.specs.Verdict.{Stop, meta, pdb, DeltaFiles, BaseFiles, Followed, followed_by, in_delta, judge_deltas, base_pdb, judge_all, plain_of}
 use Rattle.enc_top.specs.Generating.{no_points, delta_name, module_saves, delta_saves, StandInTurn}
@@ -124,11 +124,11 @@ plain_more : (g : Followed) (l : EditList) (d : DeltaBytes) (a : Accepted) → S
     → plain_of (followed_by g a) ≡ edited (plain_of g) l.edits
 unfolding chain_with
 plain_more g l d a stand is =
-    let e = came _ a (accepted (stand.source) (Some (stand.points.source))) is (stand.stands) in
+    let e = came _ a (accepted (stand.source) (Some (stand.symbols))) is (stand.stands) in
     ap (λ (x : Accepted). (extended (chain_with g.base g.deltas) x.delta).plain) (sym e) ∙ stand.means
 
 pub series_more : (out : List ℕ) (lists : List EditList) (k : ℕ) (old new : Series) (l : EditList) (d : DeltaBytes) (a : Accepted) → IsSeries out (take k lists) old → slice_get lists k ≡ Some l
-    → StandsFor (chain_of_all old.held.agg) l d → judged (chain_of_all old.held.agg) (delta_of d.meta d.il) (Some d.pdb) ≡ Ok a → followed new.held ≡ followed_by (followed old.held) a
+    → IsWrittenFor (chain_of_all old.held.agg) l d → judged (chain_of_all old.held.agg) (delta_of d.meta d.il) (Some d.pdb) ≡ Ok a → followed new.held ≡ followed_by (followed old.held) a
     → saves_of new.saves.items ≡ saves_of old.saves.items ++ delta_saves (delta_name out (k + 1)) d → KnowWithin new.held → IsSeries out (take (k + 1) lists) new
 series_more out lists k old new l d a so there stand is after saved within =
     let many : 1 + length (take k lists) ≡ k + 1 = let n = taken_many lists k l there in omega (arith, n) in
@@ -141,8 +141,8 @@ series_more out lists k old new l d a so there stand is after saved within =
       base_is = so.base_is;
       base_debug = so.base_debug;
       begins = so.begins;
-      stand = rw (after, ← many) (stand_more out 1 (so.begun) (take k lists) l (so.deltas) (followed old.held) d a (so.stand) stand is);
-      plain_is = ap plain_of after ∙ plain_more (followed old.held) l d a stand is ∙ ap (λ m. edited m l.edits) (so.plain_is) ∙ sym (edited_more generated_base (take k lists) l);
+      stand = rw (after, ← many) (stand_more out 1 (so.begun) (take k lists) l (so.deltas) (followed old.held) d a (so.stand) stand.stands is);
+      plain_is = ap plain_of after ∙ plain_more (followed old.held) l d a stand.stands is ∙ ap (λ m. edited m l.edits) (so.plain_is) ∙ sym (edited_more generated_base (take k lists) l);
       within = within;
     })
 
@@ -158,7 +158,12 @@ nothing_within base deltas methods none bare within = rw (none, bare) within
 pub nothing_meant : (base : Option Source) (deltas : List DebugDelta) (m n : Module) (symbols : List ℕ) → base ≡ None → deltas ≡ [] → m ≡ n → MeansPdb (pdb_with base deltas) (row_count m 6) symbols → MeansPdb no_points (row_count n 6) symbols
 nothing_meant base deltas m n symbols none bare same means =
     let there = rw (none, bare, same) at means in
-    record { source = there.source; read = there.read; means = λ method. there.means method ∙ none_known method }
+    record {
+      source = there.source;
+      read = there.read;
+      means = λ method. there.means method ∙ none_known method;
+      several = λ n low i j p q at. absurd cc;
+    }
 
 -- saves behind none
 pub first_saves : (saves new : List Save) (more : List (List ℕ × List ℕ)) → saves ≡ [] → saves_of new ≡ saves_of saves ++ more → saves_of new ≡ more
@@ -175,9 +180,9 @@ judged_of f name d c a is h =
     subst (λ (x : DeltaFiles). judged c (delta_of x.metadata x.code) x.debug ≡ Ok a) is (in_delta_is f (judged c (delta_of f.metadata f.code) f.debug) a h)
 
 -- what stands for a list is accepted, so that nothing is said
-pub accepted_of : (f : DeltaFiles) (name : List ℕ) (d : DeltaBytes) (c : Chain) (l : EditList) → f ≡ record { name = meta name; debug_name = pdb name; metadata = d.meta; code = d.il; debug = Some d.pdb } → StandsFor c l d
+pub accepted_of : (f : DeltaFiles) (name : List ℕ) (d : DeltaBytes) (c : Chain) (l : EditList) → f ≡ record { name = meta name; debug_name = pdb name; metadata = d.meta; code = d.il; debug = Some d.pdb } → IsWrittenFor c l d
     → (a : Accepted) × (in_delta f (judged c (delta_of f.metadata f.code) f.debug) ≡ Ok a)
-accepted_of f name d c l is stand = (accepted (stand.source) (Some (stand.points.source)), rw (is, stand.stands) refl)
+accepted_of f name d c l is written = let stand = written.stands in (accepted (stand.source) (Some (stand.symbols)), rw (is, stand.stands) refl)
 
 -- as many lists as are asked for
 lists_many : (list count methods x : ℕ) → length (lists_from list count methods x) ≡ count

@@ -7,7 +7,7 @@ use Rattle.enc_jobs.specs.declared.fault.JobFault.TheVariants as job
 use Rattle.enc_jobs.specs.Outcome.{GivesList}
 use Rattle.enc_rules.specs.First.{first_edit}
 use Rattle.enc_writer.specs.declared.bytes.DeltaBytes.{DeltaBytes}
-use Rattle.enc_writer.specs.Stands.{StandsFor}
+use Rattle.enc_writer.specs.Stands.{IsWrittenFor}
 use Rattle.enc_top.specs.Lines.{saved_line}
 use Rattle.enc_top.specs.Plans.{saves_of, IsPlanOf}
 use Rattle.enc_top.specs.Stops.{OnPlan, StopsWith, IsUnlisted}
@@ -20,10 +20,10 @@ use Rattle.enc_top.specs.declared.stop.Stop.{Stop as Halt}
 edits_by : (name out : List ℕ) (e : Edited) (o : Option (ℕ × ℕ)) → first_edit (chain_with e.followed.base e.followed.deltas) e.list ≡ o → edits_on name out e ≡ (unless_list_broken name e o >>= λ (f : Edited). Ok (writes out f))
 edits_by name out e o is = ap (λ (x : Option (ℕ × ℕ)). unless_list_broken name e x >>= λ (f : Edited). Ok (writes out f)) is
 
-pub plan_of_files : (name out : List ℕ) (e : Edited) (plan : Plan) (d : DeltaBytes) → StandsFor (chain_with e.followed.base e.followed.deltas) e.list d
+pub plan_of_files : (name out : List ℕ) (e : Edited) (plan : Plan) (d : DeltaBytes) → IsWrittenFor (chain_with e.followed.base e.followed.deltas) e.list d
     → plan.outcome ≡ Accepted → plan.output.items ≡ saved_line (meta out ∷ il out ∷ pdb out ∷ []) → saves_of plan.saves.items ≡ (meta out, d.meta) ∷ (il out, d.il) ∷ (pdb out, d.pdb) ∷ [] → IsPlanOf (edits_on name out e) plan
 plan_of_files name out e plan d stand done line saved =
-    subst (λ (v : Verdict). IsPlanOf v plan) (sym (edits_by name out e None (stand.rules))) (record { outcome = done; output = line; saves = record { files = d; saved = saved; stand = stand } })
+    subst (λ (v : Verdict). IsPlanOf v plan) (sym (edits_by name out e None (stand.rules))) (record { outcome = done; output = line; saves = record { files = d; saved = saved; stand = stand.stands } })
 
 pub plan_of_broken : (name out : List ℕ) (e : Edited) (rule edit : ℕ) (h : Halt) → first_edit (chain_with e.followed.base e.followed.deltas) e.list ≡ Some (rule, edit) → OnPlan h (IsPlanOf (Err (broken_list name rule edit)))
     → OnPlan h (IsPlanOf (edits_on name out e))

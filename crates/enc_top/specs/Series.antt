@@ -10,7 +10,7 @@ use Rattle.enc_pdb_delta.specs.Stated.{points_lie_within}
 use Rattle.enc_edits.specs.declared.edit.EditList.{EditList}
 use Rattle.enc_agg.specs.Seen.{chain_of_all}
 use Rattle.enc_writer.specs.declared.bytes.DeltaBytes.{DeltaBytes}
-use Rattle.enc_writer.specs.Stands.{StandsFor}
+use Rattle.enc_writer.specs.Stands.{IsWrittenFor}
 use Rattle.enc_jobs.specs.Generated.{generated_base, edited_by}
 use Rattle.enc_top.specs.declared.commands.generate.Series.{Series}
 use Rattle.enc_top.specs.declared.stop.Stop.{Stop as Halt}
@@ -38,9 +38,9 @@ pub record IsSeries (out : List ℕ) (lists : List EditList) (s : Series) : Type
 abbrev pub AreWritable : List EditList → Type 0
 AreWritable lists = (k : ℕ) (l : EditList) → slice_get lists k ≡ Some l → (list_fits l ≡ true) × (list_all points_lie_within l.edits ≡ true)
 
--- files stand for the list at a place, behind what was made
+-- files are written for the list at a place, behind what was made
 abbrev pub StandAt : List EditList → ℕ → Series → DeltaBytes → Type 0
-StandAt lists k s d = (l : EditList) × (slice_get lists k ≡ Some l) × StandsFor (chain_of_all s.held.agg) l d
+StandAt lists k s d = (l : EditList) × (slice_get lists k ≡ Some l) × IsWrittenFor (chain_of_all s.held.agg) l d
 
 -- nothing is said of a refusal: what ends it is want of memory
 abbrev pub NothingSaid : {A : Type 0} → Result A Halt → Type 0

@@ -8,7 +8,7 @@ use Rattle.enc_pdb_delta.specs.Stated.{points_lie_within}
 use Rattle.enc_pdb_delta.specs.Written.{SaysEdits}
 use Rattle.enc_written.specs.Holds.{MayFollow}
 use Rattle.enc_writer.specs.declared.bytes.DeltaBytes.{DeltaBytes}
-use Rattle.enc_writer.specs.Stands.{StandsFor}
+use Rattle.enc_writer.specs.Stands.{IsWrittenFor}
 use Rattle.enc_writer.specs.Writing.{IsMetadata}
 
 -- the metadata holds what the list states by the code, and the PDB says its points
@@ -16,6 +16,6 @@ pub record HoldFiles (c : Chain) (l : EditList) (d : DeltaBytes) : Type 0 where
   pub meta : IsMetadata c l d.il d.meta
   pub points : SaysEdits l (rows_edited c.plain l.edits) d.pdb
 
--- such files stand for the list, where each point stands in the code of its body
+-- such files are written for the list, where each point stands in the code of its body
 abbrev pub FilesStand : Type 0
-FilesStand = (c : Chain) (l : EditList) (d : DeltaBytes) → MayFollow c l → list_all points_lie_within l.edits ≡ true → HoldFiles c l d → StandsFor c l d
+FilesStand = (c : Chain) (l : EditList) (d : DeltaBytes) → MayFollow c l → list_all points_lie_within l.edits ≡ true → HoldFiles c l d → IsWrittenFor c l d

@@ -1,16 +1,21 @@
 -- Files that stand for an edit list after a chain.
-use Rattle.std.specs.Prelude.{◌≡◌, ℕ, length, Some, None, Result, Ok, Err}
+use Rattle.std.specs.Prelude.{◌≡◌, ℕ, List, [], ◌∷◌, ◌++◌, length, Some, None, Result, Ok, Err, slice_get}
+use Rattle.std.specs.List.{list_any}
+use Rattle.enc_base.specs.Token.{is_token, nth_row}
 use Rattle.enc_base.specs.declared.token.Token.{Token}
 use Rattle.enc_plain.specs.Chain.{Chain, mvid_of, id_of}
 use Rattle.enc_plain.specs.Debug.{PlainPdb}
 use Rattle.enc_meta.specs.Joined.{joined_guid}
 use Rattle.enc_rows.specs.Source.{Source}
-use Rattle.enc_delta.specs.Delta.{delta_of}
+use Rattle.enc_schema.specs.Tables as tables
+use Rattle.enc_delta.specs.Delta.{delta_of, listed}
 use Rattle.enc_agg.specs.Extend.{extended}
 use Rattle.enc_edits.specs.declared.edit.EditList.{EditList}
 use Rattle.enc_rules.specs.Edited.{rows_edited, edited}
 use Rattle.enc_rules.specs.First.{first_edit}
-use Rattle.enc_ppdb.specs.PdbChain.{pdb_changed}
+use Rattle.enc_ppdb.specs.Fault.{named_tokens}
+use Rattle.enc_ppdb.specs.PdbChain.{debug_at, pdb_changed}
+use Rattle.enc_ppdb.specs.Written.{IsNilOverSeveral, document_told}
 use Rattle.enc_pdb_delta.specs.Stated.{pdb_edited}
 use Rattle.enc_pdb_delta.specs.Written.{SaysEdits}
 use Rattle.enc_checker.specs.Check.{accepted, judged}
@@ -20,21 +25,32 @@ use Rattle.enc_writer.specs.declared.bytes.DeltaBytes.{DeltaBytes}
 use Rattle.enc_writer.specs.declared.fault.EditFault.{EditFault}
 use Rattle.enc_writer.specs.declared.fault.EditFault.TheVariants.{Memory, Broken}
 
--- the files of a delta that say what a list states and are accepted after the chain, which then has the module and the plain PDB with all edits made directly
+-- the files of a delta stand for an edit list after a chain: they are accepted; the chain with them has the module and the plain PDB with all edits made
+-- directly; their EncId is the list's; their EncMap lists, besides the Module, exactly the rows that edits are about (those added, and the methods whose bodies
+-- are replaced); a method whose points have several documents has Document nil
 pub record StandsFor (c : Chain) (l : EditList) (d : DeltaBytes) : Type 0 where
-  pub rules : first_edit c l ≡ None
   pub source : Source
-  pub read : delta_of d.meta d.il ≡ Ok source
-  pub says : SaysDelta c l source
-  pub points : SaysEdits l (rows_edited c.plain l.edits) d.pdb
-  pub stands : judged c (delta_of d.meta d.il) (Some d.pdb) ≡ Ok (accepted source (Some points.source))
+  pub symbols : Source
+  pub stands : judged c (delta_of d.meta d.il) (Some d.pdb) ≡ Ok (accepted source (Some symbols))
   pub means : (extended c source).plain ≡ edited c.plain l.edits
   pub debug : (before : PlainPdb) (method : Token)
-      → pdb_changed before (debug_of_accepted (accepted source (Some points.source))) method ≡ pdb_edited before (rows_edited c.plain l.edits) l method
+      → pdb_changed before (debug_of_accepted (accepted source (Some symbols))) method ≡ pdb_edited before (rows_edited c.plain l.edits) l method
+  pub enc_id : (extended c source).ids ≡ c.ids ++ l.enc_id ∷ []
+  pub lists : (u : Token) → list_any (λ t. is_token t u) (listed source) ≡ list_any (λ t. is_token t u) (rows_edited c.plain l.edits)
+  pub several : (k : ℕ) (t : Token) → slice_get (named_tokens symbols) k ≡ Some t
+      → IsNilOverSeveral (debug_at (Some (symbols, nth_row tables.method_debug_information k))).points (document_told symbols k)
+
+-- files that are written for a list: they stand for it, their metadata says what it states and their PDB its points
+pub record IsWrittenFor (c : Chain) (l : EditList) (d : DeltaBytes) : Type 0 where
+  pub rules : first_edit c l ≡ None
+  pub stands : StandsFor c l d
+  pub read : delta_of d.meta d.il ≡ Ok stands.source
+  pub says : SaysDelta c l stands.source
+  pub points : SaysEdits l (rows_edited c.plain l.edits) d.pdb
 
 -- the files, or the first rule that the list breaks, with its edit; want of memory tells nothing
 abbrev pub WritesEdits : Chain → EditList → Result DeltaBytes EditFault → Type 0
-WritesEdits c l (Ok d) = StandsFor c l d
+WritesEdits c l (Ok d) = IsWrittenFor c l d
 WritesEdits c l (Err (Broken rule edit)) = first_edit c l ≡ Some (rule, edit)
 WritesEdits c l (Err Memory) = Unit {0}
 

@@ -6,7 +6,7 @@ ghost use Rattle.enc_edits.specs.Form.{list_fits};
 ghost use Rattle.enc_pdb_delta.specs.Stated.{points_lie_within};
 ghost use Rattle.enc_rules.specs.First.{first_edit};
 ghost use Rattle.enc_written.specs.Holds.{MayFollow};
-ghost use Rattle.enc_writer.specs.Stands.{NamesGuids, StandsFor, WritesEdits};
+ghost use Rattle.enc_writer.specs.Stands.{NamesGuids, IsWrittenFor, WritesEdits};
 ghost use Rattle.enc_writer.specs.Files.{HoldFiles, FilesStand};
 
 use crate::bodies::bodies_of;
@@ -58,7 +58,7 @@ fn written(alloc: Global, agg: &Aggregate, list: &EditList) -> Result<DeltaBytes
     requires form { IsTrue (list_fits list.now) }
     requires points { IsTrue (list_all points_lie_within list.now.edits) }
     requires rules { first_edit (chain_of_all agg.now) list.now ≡ None }
-    ensures { IfOk result (λ d. StandsFor (chain_of_all agg.now) list.now d) }
+    ensures { IfOk result (λ d. IsWrittenFor (chain_of_all agg.now) list.now d) }
 {
     agg.sound();
     let added = Added::of(alloc, &list.edits)?;

@@ -20,7 +20,8 @@ use Rattle.enc_written.proofs.TokensUnbroken.{other_rules}
 pub heaps_are : (c : Chain) (l : EditList) (s : Source) → SaysDelta c l s → heaps_after c s ≡ heaps_joined c.heaps (heaps_written c l)
 heaps_are c l s says = ap (λ (h : Counted). c.heaps ++ h ∷ []) says.heaps
 
-guid_is : (c : Chain) (l : EditList) (s : Source) (i : ℕ) (g : List ℕ) → SaysDelta c l s → joined_guid (heaps_joined c.heaps (heaps_written c l)) (raw_in s module_token i) ≡ Some g → own_guid c s i ≡ g
+-- a GUID of the Module row by its column
+pub guid_is : (c : Chain) (l : EditList) (s : Source) (i : ℕ) (g : List ℕ) → SaysDelta c l s → joined_guid (heaps_joined c.heaps (heaps_written c l)) (raw_in s module_token i) ≡ Some g → own_guid c s i ≡ g
 unfolding own_guid
 guid_is c l s i g says there = ap (λ (o : Option (List ℕ)). unwrap_or o nil_guid) (ap (λ (h : List Counted). joined_guid h (raw_in s module_token i)) (heaps_are c l s says) ∙ there)
 
