@@ -12,7 +12,7 @@ use Rattle.enc_plain.specs.Chain.{Chain}
 use Rattle.enc_plain.proofs.Columns.{runs_last, all_last, each}
 use Rattle.enc_seqpoints.specs.declared.point.Point.{Point}
 use Rattle.enc_edits.specs.declared.body.BodyValue.{BodyValue}
-use Rattle.enc_edits.specs.declared.edit.CellValue.{CellValue}
+use Rattle.enc_edits.specs.declared.edit.Cell.{Cell as CellValue}
 use Rattle.enc_edits.specs.declared.edit.Edit.{Edit}
 use Rattle.enc_edits.specs.declared.edit.Edit.TheVariants.{Add}
 use Rattle.enc_edits.specs.declared.edit.EditList.{EditList}

@@ -12,7 +12,7 @@ use Rattle.enc_plain.specs.Rows.{cell_at}
 use Rattle.enc_plain.specs.Sound.{HasTables}
 use Rattle.enc_plain.proofs.KindsOf.{row_there}
 use Rattle.enc_edits.specs.declared.body.BodyValue.{BodyValue}
-use Rattle.enc_edits.specs.declared.edit.CellValue.{CellValue}
+use Rattle.enc_edits.specs.declared.edit.Cell.{Cell as CellValue}
 use Rattle.enc_edits.specs.declared.edit.Edit.{Edit}
 use Rattle.enc_edits.specs.declared.edit.Edit.TheVariants.{Add, Body as Replace}
 use Rattle.enc_edits.specs.declared.edit.EditList.{EditList}

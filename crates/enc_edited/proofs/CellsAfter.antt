@@ -16,8 +16,8 @@ use Rattle.enc_plain.specs.Sound.{row_count, can_name, is_reference, cell_is_sou
 use Rattle.enc_plain.proofs.Columns.{both_left, both_right}
 use Rattle.enc_plain.proofs.KindsOf.{kind_of_cell, row_table, row_there}
 use Rattle.enc_edits.specs.declared.body.BodyValue.{BodyValue}
-use Rattle.enc_edits.specs.declared.edit.CellValue.{CellValue}
-use Rattle.enc_edits.specs.declared.edit.CellValue.TheVariants as cell
+use Rattle.enc_edits.specs.declared.edit.Cell.{Cell as CellValue}
+use Rattle.enc_edits.specs.declared.edit.Cell.TheVariants as cell
 use Rattle.enc_edits.specs.declared.edit.EditList.{EditList}
 use Rattle.enc_edits.specs.Form.{cell_fits, list_fits}
 use Rattle.enc_rules.specs.Edited.{cell_stated, body_stated, edited}

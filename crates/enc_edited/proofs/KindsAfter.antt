@@ -16,7 +16,7 @@ use Rattle.enc_plain.specs.Sound.{HasTables, HasKinds}
 use Rattle.enc_plain.proofs.CellsOf.{has_cells}
 use Rattle.enc_plain.proofs.Columns.{column_with, in_cells}
 use Rattle.enc_plain.proofs.KindsOf.{row_there}
-use Rattle.enc_edits.specs.declared.edit.CellValue.{CellValue}
+use Rattle.enc_edits.specs.declared.edit.Cell.{Cell as CellValue}
 use Rattle.enc_edits.specs.declared.edit.Edit.{Edit}
 use Rattle.enc_edits.specs.declared.edit.Edit.TheVariants.{Add, Body as Replace}
 use Rattle.enc_edits.specs.declared.edit.EditList.{EditList}

@@ -9,8 +9,8 @@ use Rattle.enc_base.specs.Numbers.{spelled}
 use Rattle.enc_meta.specs.Built.{Built, is_among, is_kept, with_value, joined_end, text_bytes, user_bytes, blob_bytes, with_blob}
 use Rattle.enc_meta.proofs.Standing.{same_bytes}
 use Rattle.enc_plain.specs.Rows.{Rows}
-use Rattle.enc_edits.specs.declared.edit.CellValue.{CellValue}
-use Rattle.enc_edits.specs.declared.edit.CellValue.TheVariants as cell
+use Rattle.enc_edits.specs.declared.edit.Cell.{Cell as CellValue}
+use Rattle.enc_edits.specs.declared.edit.Cell.TheVariants as cell
 use Rattle.enc_edits.specs.declared.edit.Edit.{Edit}
 use Rattle.enc_edits.specs.declared.edit.Edit.TheVariants.{Add, Body as Replace}
 use Rattle.enc_rules.specs.Rules.{passes_limits, blobs_in_cell, with_blobs, heaps_after_edit, with_edits}

@@ -6,8 +6,8 @@ use Rattle.enc_schema.specs.declared.column.Column.{Column}
 use Rattle.enc_schema.specs.declared.column.Column.TheVariants.{Num8, Num16, Num32, Text, Guid, Blob, Index, Coded, Run}
 use Rattle.enc_plain.specs.Cell.{kind_of, cell_kind}
 use Rattle.enc_plain.proofs.Columns.{runs_last, none_last, both_left, both_right}
-use Rattle.enc_edits.specs.declared.edit.CellValue.{CellValue}
-use Rattle.enc_edits.specs.declared.edit.CellValue.TheVariants as cell
+use Rattle.enc_edits.specs.declared.edit.Cell.{Cell as CellValue}
+use Rattle.enc_edits.specs.declared.edit.Cell.TheVariants as cell
 use Rattle.enc_edits.specs.Form.{is_stated, begins_with_rva, cell_fits, cells_fit}
 use Rattle.enc_rules.specs.Edited.{cell_stated}
 use Rattle.enc_rules.specs.Rules.{value_breaks, cells_break}

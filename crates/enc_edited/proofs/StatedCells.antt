@@ -5,7 +5,7 @@ use Rattle.std.specs.List.{list_all}
 use Rattle.std.proofs.lemmas.Bool.Decides.{nat_tests}
 use Rattle.std.proofs.lemmas.Bool.{and_from}
 use Rattle.enc_edits.specs.declared.body.BodyValue.{BodyValue}
-use Rattle.enc_edits.specs.declared.edit.CellValue.{CellValue}
+use Rattle.enc_edits.specs.declared.edit.Cell.{Cell as CellValue}
 use Rattle.enc_rules.specs.Edited.{cell_stated, cells_stated}
 use Rattle.enc_edited.specs.Standing.{is_any_offset}
 use Rattle.enc_edited.specs.Stated.{front_stated}

@@ -4,8 +4,8 @@ use Rattle.std.specs.List.{list_all}
 use Rattle.enc_base.specs.Order.{first_below}
 use Rattle.enc_plain.specs.Chain.{Chain}
 use Rattle.enc_plain.specs.Module.{Module}
-use Rattle.enc_edits.specs.declared.edit.CellValue.{CellValue}
-use Rattle.enc_edits.specs.declared.edit.CellValue.TheVariants as cell
+use Rattle.enc_edits.specs.declared.edit.Cell.{Cell as CellValue}
+use Rattle.enc_edits.specs.declared.edit.Cell.TheVariants as cell
 use Rattle.enc_edits.specs.declared.edit.Edit.{Edit}
 use Rattle.enc_edits.specs.declared.edit.Edit.TheVariants.{Add, Body as Replace}
 use Rattle.enc_edits.specs.declared.edit.EditList.{EditList}

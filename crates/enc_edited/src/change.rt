@@ -11,7 +11,7 @@ ghost use Rattle.enc_edited.specs.Stated.{front_stated};
 use crate::copy::{blob_cell, cell_with, field_cell, method_cell, push_cells, text_cell};
 use crate::plain::{Held, Kids, PlainCell, PlainModule, PlainRow, PlainTable};
 use enc_base::Token;
-use enc_edits::{BodyValue, CellValue, Edit};
+use enc_edits::{BodyValue, Cell, Edit};
 use enc_schema::tables::{FIELD_RVA, METHOD_DEF};
 use enc_schema::{run_index, runs_of};
 use std::alloc::{AllocError, Global};
@@ -27,26 +27,26 @@ fn nil_or(token: Token) -> Token
 }
 
 /// The cell that a value states.
-fn cell_stated(alloc: Global, value: &CellValue) -> Result<Held, AllocError>
+fn cell_stated(alloc: Global, value: &Cell) -> Result<Held, AllocError>
     ensures { IfOk result (λ h. h ≡ cell_stated value.now) }
 {
     match value {
-        CellValue::Num(number) => Ok(Held {
+        Cell::Num(number) => Ok(Held {
             cell: PlainCell::Number(*number),
         }),
-        CellValue::Text(bytes) => text_cell(alloc, bytes.as_slice()),
-        CellValue::Blob(bytes) => blob_cell(alloc, bytes.as_slice()),
-        CellValue::Guid(guid) => Ok(Held {
+        Cell::Text(bytes) => text_cell(alloc, bytes.as_slice()),
+        Cell::Blob(bytes) => blob_cell(alloc, bytes.as_slice()),
+        Cell::Guid(guid) => Ok(Held {
             cell: PlainCell::Guid(*guid),
         }),
-        CellValue::Refer(token) => Ok(Held {
+        Cell::Refer(token) => Ok(Held {
             cell: PlainCell::Refer(nil_or(*token)),
         }),
     }
 }
 
 /// Appends the cells that values state.
-fn push_stated(alloc: Global, values: &[CellValue], out: &mut Vec<Held>) -> Result<(), AllocError>
+fn push_stated(alloc: Global, values: &[Cell], out: &mut Vec<Held>) -> Result<(), AllocError>
     ensures { OnOk result (out.new.items ≡ out.old.items ++ map cell_stated values.now) }
 {
     for k in 0..values.len() {
@@ -82,7 +82,7 @@ fn push_front(
 fn cells_stated(
     alloc: Global,
     table: u8,
-    values: &[CellValue],
+    values: &[Cell],
     code: &Option<BodyValue>,
 ) -> Result<Vec<Held>, AllocError>
     requires { assembles_if code.now ≡ true }

@@ -9,7 +9,7 @@ use Rattle.enc_edits.specs.Added.{adds_to, adding, rows_added, places_from, AreP
 use Rattle.enc_base.specs.declared.token.Token.{Token}
 use Rattle.enc_seqpoints.specs.declared.point.Point.{Point}
 use Rattle.enc_edits.specs.declared.body.BodyValue.{BodyValue}
-use Rattle.enc_edits.specs.declared.edit.CellValue.{CellValue}
+use Rattle.enc_edits.specs.declared.edit.Cell.{Cell as CellValue}
 use Rattle.enc_edits.specs.declared.edit.Edit.{Edit}
 use Rattle.enc_edits.specs.declared.edit.Edit.TheVariants.{Add, Body}
 

@@ -6,7 +6,7 @@ use enc_seqpoints::Point;
 
 /// What stands in a column of an added row.
 #[derive(Drop)]
-pub enum CellValue {
+pub enum Cell {
     Num(u32),
     /// Bytes without a zero.
     Text(Bytes),
@@ -16,7 +16,7 @@ pub enum CellValue {
 }
 
 /// The cells of an added row, in the order of its table's columns, without runs and RVA.
-pub type Cells = ListOf<CellValue>;
+pub type Cells = ListOf<Cell>;
 
 /// The sequence points of a method.
 pub type PointList = ListOf<Point>;

@@ -9,6 +9,6 @@ mod size;
 
 pub use added::Added;
 pub use body::{ArgValue, BodyValue, ClauseList, InstrList, InstrValue, TargetList};
-pub use edit::{CellValue, Cells, DocumentValue, Documents, Edit, EditList, Edits, PointList};
+pub use edit::{Cell, Cells, DocumentValue, Documents, Edit, EditList, Edits, PointList};
 pub use list::ListOf;
 pub use size::instruction_size;

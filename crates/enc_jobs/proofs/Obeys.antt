@@ -22,7 +22,7 @@ use Rattle.enc_plain.specs.Signatures.{signature_column, kind_in_table, is_signa
 use Rattle.enc_delta.specs.Changes.{is_out_of_layout, has_no_slot, is_member, asked_of}
 use Rattle.enc_delta.specs.Rules.{is_insert}
 use Rattle.enc_delta.specs.Twins.{is_twin, members, has_twin}
-use Rattle.enc_edits.specs.declared.edit.CellValue.{CellValue}
+use Rattle.enc_edits.specs.declared.edit.Cell.{Cell as CellValue}
 use Rattle.enc_edits.specs.declared.edit.Edit.{Edit}
 use Rattle.enc_edits.specs.declared.edit.EditList.{EditList}
 use Rattle.enc_edits.specs.Added.{rows_added}

@@ -6,7 +6,7 @@ use Rattle.std.specs.Prelude.{slice_get, filter}
 use Rattle.serde_json.specs.Data.{Data}
 use Rattle.enc_schema.specs.declared.column.Column.{Column}
 use Rattle.enc_edits.specs.Form.{is_stated}
-use Rattle.enc_edits.specs.declared.edit.CellValue.{CellValue}
+use Rattle.enc_edits.specs.declared.edit.Cell.{Cell as CellValue}
 use Rattle.enc_jobs.specs.declared.fault.Refused.{Refused}
 use Rattle.enc_jobs.specs.declared.fault.Refused.TheVariants.{Memory, Form}
 use Rattle.enc_jobs.specs.Outcome.{ReadsAs}

@@ -3,7 +3,7 @@ ghost use Rattle.std.specs.Prelude.{◌≡◌, ◌<◌, ◌==◌, length, map, f
 ghost use Rattle.std.specs.List.{list_any};
 ghost use Rattle.serde_json.specs.View.{view};
 ghost use Rattle.enc_schema.specs.Schema.{columns_in};
-ghost use Rattle.enc_edits.specs.declared.edit.CellValue.TheVariants.{Num};
+ghost use Rattle.enc_edits.specs.declared.edit.Cell.TheVariants.{Num};
 ghost use Rattle.enc_edits.specs.Form.{is_stated, begins_with_rva, stated_columns};
 ghost use Rattle.enc_jobs.specs.Outcome.{ReadsAs};
 ghost use Rattle.enc_jobs.specs.Cell.{text_cell_said, cell_said, cells_said};
@@ -11,7 +11,7 @@ ghost use Rattle.enc_jobs.specs.Json.{number_said};
 
 use crate::fault::Refused;
 use crate::value::{blob, bytes_of, guid, number, text, token};
-use enc_edits::{CellValue, Cells};
+use enc_edits::{Cell, Cells};
 use enc_schema::tables::{FIELD_RVA, METHOD_DEF};
 use enc_schema::{Column, columns_of};
 use serde_json::Value;
@@ -26,27 +26,27 @@ fn has_zero(text: &str) -> bool
 
 /// A text without a zero character.
 #[tactic(auto, unfolding(crate::specs::Cell::text_cell_said))]
-fn text_cell(alloc: Global, value: &Value) -> Result<CellValue, Refused>
+fn text_cell(alloc: Global, value: &Value) -> Result<Cell, Refused>
     ensures { ReadsAs result (text_cell_said (view value.now)) }
 {
     let text = text(value)?;
     if has_zero(text) {
         return Err(Refused::Form);
     }
-    Ok(CellValue::Text(bytes_of(alloc, text)?))
+    Ok(Cell::Text(bytes_of(alloc, text)?))
 }
 
 /// A cell of a number up to a bound below 2^32.
-fn number_cell(most: u32, value: &Value) -> Result<CellValue, Refused>
+fn number_cell(most: u32, value: &Value) -> Result<Cell, Refused>
     ensures { ReadsAs result (option_map Num (number_said most (view value.now))) }
 {
     let number = number(u64::from(most), value)?;
-    Ok(CellValue::Num(number as u32))
+    Ok(Cell::Num(number as u32))
 }
 
 /// What stands in a column of an added row.
 #[tactic(auto, unfolding(crate::specs::Cell::cell_said))]
-fn cell(alloc: Global, column: Column, value: &Value) -> Result<CellValue, Refused>
+fn cell_read(alloc: Global, column: Column, value: &Value) -> Result<Cell, Refused>
     ensures { ReadsAs result (cell_said column (view value.now)) }
 {
     match column {
@@ -54,9 +54,9 @@ fn cell(alloc: Global, column: Column, value: &Value) -> Result<CellValue, Refus
         Column::Num16 => number_cell(0xFFFF, value),
         Column::Num32 => number_cell(0xFFFF_FFFF, value),
         Column::Text => text_cell(alloc, value),
-        Column::Guid => Ok(CellValue::Guid(guid(value)?)),
-        Column::Blob => Ok(CellValue::Blob(blob(alloc, value)?)),
-        Column::Index(_) | Column::Coded(_) => Ok(CellValue::Refer(token(value)?)),
+        Column::Guid => Ok(Cell::Guid(guid(value)?)),
+        Column::Blob => Ok(Cell::Blob(blob(alloc, value)?)),
+        Column::Index(_) | Column::Coded(_) => Ok(Cell::Refer(token(value)?)),
         Column::Run(_) => Err(Refused::Form),
     }
 }
@@ -90,7 +90,7 @@ fn cells_in(alloc: Global, columns: &[Column], items: &[Value]) -> Result<Cells,
         let Some(value) = items.get(cells.len()) else {
             return Err(Refused::Form);
         };
-        cells.push(cell(alloc, column, value)?)?;
+        cells.push(cell_read(alloc, column, value)?)?;
     }
     if cells.len() < items.len() {
         return Err(Refused::Form);

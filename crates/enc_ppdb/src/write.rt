@@ -1,6 +1,7 @@
 //! The bytes of a Portable PDB that is written (Portable PDB v1.0).
-ghost use Rattle.std.specs.Prelude.{◌≡◌, ◌^◌, ◌<◌, IfOk};
+ghost use Rattle.std.specs.Prelude.{◌≡◌, ◌^◌, ◌<◌, ◌≤◌, length, Some, IfOk};
 ghost use Rattle.enc_plain.specs.SoundDebug.{IsSoundPdb, KnowsWithin};
+ghost use Rattle.enc_ppdb.specs.Pdb.{entry_told};
 ghost use Rattle.enc_ppdb.specs.Written.{pdb_stream as stream_of, pdb_weight, TellsPdb, MeansPdb};
 
 use crate::laws::pdb_means_law;
@@ -25,7 +26,8 @@ fn pdb_stream(alloc: Global, entry: u32) -> Result<Vec<u8>, AllocError>
 
 /// The bytes of a Portable PDB of so many methods, of the parts that `pdb_parts` gives, with an id of
 /// zeros; the entry point is a token's number, 0 for none. They read back as the same points and
-/// documents of each method. `TooLarge(Pdb)` exactly where the weight passes 2^29, as there.
+/// documents of each method, and are no longer than the weight. `TooLarge(Pdb)` exactly where the weight
+/// passes 2^29, as there.
 pub fn write_pdb<P: PointSource>(
     alloc: Global,
     source: &P,
@@ -36,6 +38,8 @@ pub fn write_pdb<P: PointSource>(
     requires few { methods < 2 ^ 24 }
     requires within { KnowsWithin (P.debug source.now) methods }
     ensures means { IfOk result (λ v. MeansPdb (P.debug source.now) methods v.items) }
+    ensures entry { IfOk result (λ v. entry_told v.items ≡ Some entry) }
+    ensures light { IfOk result (λ v. length v.items ≤ pdb_weight (P.debug source.now) methods) }
     ensures tells { TellsPdb result (pdb_weight (P.debug source.now) methods) }
 {
     let parts = match pdb_parts(alloc, source, methods) {

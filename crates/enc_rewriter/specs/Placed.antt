@@ -1,5 +1,5 @@
 -- Bodies and initial bytes of fields in the code of an image that is written, and where they stand in it (ECMA-335 II.22.18, II.22.26, II.25.4).
-use Rattle.std.specs.Prelude.{◌≡◌, ℕ, ◌<◌, ◌^◌, true, List, [], ◌∷◌, ◌++◌, length, Option, Some, slice_index}
+use Rattle.std.specs.Prelude.{◌≡◌, ℕ, ◌%◌, ◌<◌, ◌^◌, true, List, [], ◌∷◌, ◌++◌, length, Option, Some, slice_index}
 use Rattle.enc_base.specs.Token.{nth_row}
 use Rattle.enc_meta.specs.Regions.{Region, range_loaded}
 use Rattle.enc_pe.specs.Written.{code_rva}
@@ -28,10 +28,11 @@ pub record IsBodyPlaced (m : Module) (users : ℕ → Option (List ℕ)) (code :
       → body_is_good (row_count m) users (loaded_with code behind) rva
       (number_at (cells_of m) (nth_row tables.method_def n) columns.method_def_impl_flags) ≡ true
 
--- these bytes stand at the RVA, where it is one; without one there are none
+-- these bytes stand at the RVA, a multiple of eight, where it is one; without one there are none
 pub record IsFieldPlaced (code there : List ℕ) (rva : ℕ) : Type 0 where
   pub none : rva ≡ 0 → there ≡ []
   pub some : 0 < rva → 0 < length there
+  pub aligned : rva % 8 ≡ 0
   pub range : (behind : List ℕ) → 0 < rva → range_loaded (loaded_with code behind) rva (length there) ≡ Some there
 
 -- each method and each row of FieldRVA has an RVA, of four bytes, by which its body or its bytes are read

@@ -1,5 +1,5 @@
 -- The image of a module that is written from scratch, and that it means the module.
-use Rattle.std.specs.Prelude.{◌≡◌, ℕ, ◌<◌, ◌≤◌, ◌^◌, List, Ok}
+use Rattle.std.specs.Prelude.{◌≡◌, ℕ, ◌%◌, ◌<◌, ◌≤◌, ◌^◌, List, Ok}
 use Rattle.enc_emit.specs.Written.{root_built, built_size}
 use Rattle.enc_image.specs.Base.{base_of, module_in}
 use Rattle.enc_meta.specs.Built.{Built, heaps_built}
@@ -7,9 +7,12 @@ use Rattle.enc_meta.specs.BuiltLaws.{IsGood}
 use Rattle.enc_meta.specs.Heaps.{user_at}
 use Rattle.enc_pe.specs.Written.{image_written, image_size, most_bytes}
 use Rattle.enc_plain.specs.Module.{Module}
-use Rattle.enc_plain.specs.Sound.{IsSound}
-use Rattle.enc_rows.specs.Source.{Source}
+use Rattle.enc_plain.specs.Sound.{IsSound, row_count}
+use Rattle.enc_rows.specs.Source.{Source, raw_in}
 use Rattle.enc_rows.specs.Written.{AreRows}
+use Rattle.enc_base.specs.Token.{nth_row}
+use Rattle.enc_schema.specs.Columns as columns
+use Rattle.enc_schema.specs.Tables as tables
 use Rattle.enc_rewriter.specs.Values.{no_starts}
 use Rattle.enc_rewriter.specs.Numbers.{HoldRows, needs_jtd}
 use Rattle.enc_rewriter.specs.Placed.{Placed, IsPlaced}
@@ -36,11 +39,12 @@ pub record FitsImage (m : Module) (h : Built) (p : Placed) (rows : List (List (L
   pub image : image_size (root_of_parts m h rows) p.code m.resources ≤ most_bytes
   pub entry : m.entry < 2 ^ 32
 
--- the bytes are those of a base that isn't refused and whose plain module is this one
+-- the bytes are those of a base that isn't refused and whose plain module is this one; the initial bytes of its fields stand at multiples of eight
 pub record MeansModule (m : Module) (bytes : List ℕ) : Type 0 where
   pub source : Source
   pub read : base_of bytes ≡ Ok source
   pub means : module_in source ≡ m
+  pub aligned : (n : ℕ) → n < row_count m tables.field_rva → raw_in source (nth_row tables.field_rva n) columns.field_rva_rva % 8 ≡ 0
 
 -- an image whose parts hold a sound module means it
 abbrev pub ImagesMean : Type 0

@@ -1,18 +1,20 @@
 //! A module written from scratch.
-ghost use Rattle.std.specs.Prelude.{◌≡◌, ◌<◌, ◌^◌, IfOk};
+ghost use Rattle.std.specs.Prelude.{◌≡◌, ◌<◌, ◌≤◌, ◌^◌, length, Some, IfOk};
 ghost use Rattle.enc_plain.specs.Sound.{IsSound};
 ghost use Rattle.enc_plain.specs.Sound.{row_count};
 ghost use Rattle.enc_plain.specs.SoundDebug.{IsSoundPdb, KnowsWithin};
-ghost use Rattle.enc_ppdb.specs.Written.{MeansPdb};
+ghost use Rattle.enc_ppdb.specs.Pdb.{entry_told};
+ghost use Rattle.enc_ppdb.specs.Written.{MeansPdb, pdb_weight};
 ghost use Rattle.enc_rewriter.specs.Limits.{pdb_limit, rewrite_limit, TellsLimit};
 ghost use Rattle.enc_schema.specs.Tables.{method_def};
 ghost use Rattle.enc_rewriter.specs.Numbers.{needs_jtd};
-ghost use Rattle.enc_rewriter.specs.Values.{KeepValues};
+ghost use Rattle.enc_rewriter.specs.Values.{KeepValues, heaps_for};
 ghost use Rattle.enc_rewriter.specs.Weight.{module_weight, most_weight};
 ghost use Rattle.enc_rewriter.specs.Rewritten.{image_of_parts, FitsImage, HoldModule, MeansModule};
 
 use crate::fault::RewriteFault;
 use crate::parts::{ModuleParts, parts_with, values_within};
+use enc_base::Bytes;
 use enc_emit::RootBuilder;
 use enc_meta::HeapBuilder;
 use enc_pe::{PeFault, write_pe};
@@ -63,7 +65,8 @@ fn image_of<V: ModuleView>(
     requires sound { IsSound (V.meaning view.now) }
     requires kept { KeepValues (V.meaning view.now) heaps }
     requires light { module_weight (V.meaning view.now) heaps < most_weight }
-    ensures { IfOk result (λ v. MeansModule (V.meaning view.now) v.items) }
+    ensures means { IfOk result (λ v. MeansModule (V.meaning view.now) v.items) }
+    ensures light { IfOk result (λ v. length v.items ≤ module_weight (V.meaning view.now) heaps) }
 {
     word_law(view.entry());
     let parts = parts_with(alloc, view, heaps)?;
@@ -74,12 +77,11 @@ fn image_of<V: ModuleView>(
 /// What is written of a module and its plain PDB.
 #[derive(Drop)]
 pub struct Rewritten {
-    pub image: Vec<u8>,
-    pub pdb: Vec<u8>,
+    pub image: Bytes,
+    pub pdb: Bytes,
 }
 
 /// The PDB of a module's methods, whose entry point is the module's.
-
 fn pdb_of<V: ModuleView, P: PointSource>(
     alloc: Global,
     view: &V,
@@ -89,6 +91,8 @@ fn pdb_of<V: ModuleView, P: PointSource>(
     requires debug { IsSoundPdb (P.debug points.now) }
     requires within { KnowsWithin (P.debug points.now) (row_count (V.meaning view.now) method_def) }
     ensures means { IfOk result (λ v. MeansPdb (P.debug points.now) (row_count (V.meaning view.now) method_def) v.items) }
+    ensures entry { IfOk result (λ v. entry_told v.items ≡ Some (V.meaning view.now).entry) }
+    ensures light { IfOk result (λ v. length v.items ≤ pdb_weight (P.debug points.now) (row_count (V.meaning view.now) method_def)) }
     ensures tells { TellsLimit result (pdb_limit (V.meaning view.now) (P.debug points.now)) }
 {
     match write_pdb(alloc, points, view.count(METHOD_DEF), view.entry()) {
@@ -99,7 +103,8 @@ fn pdb_of<V: ModuleView, P: PointSource>(
 
 /// A module and its plain PDB written from scratch: an image (PE32, one section) that isn't refused as
 /// a base and whose module is the view's, with every token as it was; and a Portable PDB that isn't
-/// refused for it and whose plain PDB is that of the points.
+/// refused for it and whose plain PDB is that of the points. The initial bytes of fields stand at multiples
+/// of eight, `#Pdb` names the module's entry point, and neither file is longer than its weight.
 ///
 /// `TooLarge` exactly where a heap of distinct values passes its limit, with the first such heap of
 /// `#Strings`, `#US`, `#Blob` and `#GUID`; else `Image` exactly where the weight of the module passes
@@ -119,8 +124,11 @@ pub fn rewrite<V: ModuleView, P: PointSource>(
     requires sound { IsSound (V.meaning view.now) }
     requires debug { IsSoundPdb (P.debug points.now) }
     requires within { KnowsWithin (P.debug points.now) (row_count (V.meaning view.now) method_def) }
-    ensures image { IfOk result (λ r. MeansModule (V.meaning view.now) r.image.items) }
-    ensures pdb { IfOk result (λ r. MeansPdb (P.debug points.now) (row_count (V.meaning view.now) method_def) r.pdb.items) }
+    ensures image { IfOk result (λ r. MeansModule (V.meaning view.now) r.image) }
+    ensures pdb { IfOk result (λ r. MeansPdb (P.debug points.now) (row_count (V.meaning view.now) method_def) r.pdb) }
+    ensures entry { IfOk result (λ r. entry_told r.pdb ≡ Some (V.meaning view.now).entry) }
+    ensures image_light { IfOk result (λ r. length r.image ≤ module_weight (V.meaning view.now) (heaps_for (V.meaning view.now))) }
+    ensures pdb_light { IfOk result (λ r. length r.pdb ≤ pdb_weight (P.debug points.now) (row_count (V.meaning view.now) method_def)) }
     ensures tells { TellsLimit result (rewrite_limit (V.meaning view.now) (P.debug points.now)) }
 {
     let values = match values_within(alloc, view) {
@@ -133,5 +141,8 @@ pub fn rewrite<V: ModuleView, P: PointSource>(
     };
     let heaps = values.copy()?;
     let image = image_of(alloc, view, heaps)?;
-    Ok(Rewritten { image, pdb })
+    Ok(Rewritten {
+        image: Bytes::from_vec(image),
+        pdb: Bytes::from_vec(pdb),
+    })
 }

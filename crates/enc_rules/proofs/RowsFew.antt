@@ -19,7 +19,7 @@ use Rattle.enc_delta.specs.declared.pairs.Pair.{Pair}
 use Rattle.enc_delta.specs.Members.{ArePairs, pair_seen}
 use Rattle.enc_seqpoints.specs.declared.point.Point.{Point}
 use Rattle.enc_edits.specs.declared.body.BodyValue.{BodyValue}
-use Rattle.enc_edits.specs.declared.edit.CellValue.{CellValue}
+use Rattle.enc_edits.specs.declared.edit.Cell.{Cell as CellValue}
 use Rattle.enc_edits.specs.declared.edit.Edit.{Edit}
 use Rattle.enc_edits.specs.declared.edit.Edit.TheVariants.{Add, Body as Replace}
 use Rattle.enc_edits.specs.declared.edit.EditList.{EditList}

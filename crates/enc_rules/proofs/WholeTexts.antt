@@ -19,8 +19,8 @@ use Rattle.enc_plain.proofs.Columns.{both_left, both_right}
 use Rattle.enc_edits.specs.Added.{adds_to, adding}
 use Rattle.enc_edits.specs.Form.{cell_fits, cells_fit, stated_columns, edit_fits, list_fits, is_known_table, owner_fits, code_fits}
 use Rattle.enc_edits.specs.declared.body.BodyValue.{BodyValue}
-use Rattle.enc_edits.specs.declared.edit.CellValue.{CellValue}
-use Rattle.enc_edits.specs.declared.edit.CellValue.TheVariants as cell
+use Rattle.enc_edits.specs.declared.edit.Cell.{Cell as CellValue}
+use Rattle.enc_edits.specs.declared.edit.Cell.TheVariants as cell
 use Rattle.enc_edits.specs.declared.edit.Edit.{Edit}
 use Rattle.enc_edits.specs.declared.edit.Edit.TheVariants.{Add, Body as Replace}
 use Rattle.enc_edits.specs.declared.edit.EditList.{EditList}

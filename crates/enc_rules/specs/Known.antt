@@ -7,8 +7,8 @@ use Rattle.enc_opcodes.specs.Body.{nil_or}
 use Rattle.enc_plain.specs.Rows.{Rows, bytes_at}
 use Rattle.enc_plain.specs.Chain.{Chain}
 use Rattle.enc_delta.specs.Members.{ArePairs, pair_seen}
-use Rattle.enc_edits.specs.declared.edit.CellValue.{CellValue}
-use Rattle.enc_edits.specs.declared.edit.CellValue.TheVariants as cell
+use Rattle.enc_edits.specs.declared.edit.Cell.{Cell as CellValue}
+use Rattle.enc_edits.specs.declared.edit.Cell.TheVariants as cell
 use Rattle.enc_edits.specs.declared.edit.Edit.{Edit}
 use Rattle.enc_edits.specs.declared.edit.Edit.TheVariants.{Add, Body as Replace}
 use Rattle.enc_edits.specs.declared.edit.EditList.{EditList}

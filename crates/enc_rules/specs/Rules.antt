@@ -26,8 +26,8 @@ use Rattle.enc_edits.specs.declared.body.ArgValue.{ArgValue}
 use Rattle.enc_edits.specs.declared.body.ArgValue.TheVariants as arg
 use Rattle.enc_edits.specs.declared.body.BodyValue.{BodyValue}
 use Rattle.enc_edits.specs.declared.body.InstrValue.{InstrValue}
-use Rattle.enc_edits.specs.declared.edit.CellValue.{CellValue}
-use Rattle.enc_edits.specs.declared.edit.CellValue.TheVariants as cell
+use Rattle.enc_edits.specs.declared.edit.Cell.{Cell as CellValue}
+use Rattle.enc_edits.specs.declared.edit.Cell.TheVariants as cell
 use Rattle.enc_edits.specs.declared.edit.DocumentValue.{DocumentValue}
 use Rattle.enc_edits.specs.declared.edit.Edit.{Edit}
 use Rattle.enc_edits.specs.declared.edit.Edit.TheVariants.{Add, Body as Replace}

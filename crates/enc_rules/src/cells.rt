@@ -9,7 +9,7 @@ ghost use Rattle.enc_rules.specs.Rules.{names_row, value_breaks, cells_break, to
 
 use crate::context::Context;
 use enc_base::Token;
-use enc_edits::{CellValue, Edit};
+use enc_edits::{Cell, Edit};
 use enc_plain::ChainView;
 use enc_schema::tables::{FIELD_RVA, METHOD_DEF};
 use enc_schema::{Column, columns_of, encode_coded};
@@ -49,11 +49,11 @@ fn names_row<C: ChainView>(context: &Context<'_, C>, column: Column, token: Toke
 }
 
 /// The value names no row.
-fn value_breaks<C: ChainView>(context: &Context<'_, C>, column: Column, value: &CellValue) -> bool
+fn value_breaks<C: ChainView>(context: &Context<'_, C>, column: Column, value: &Cell) -> bool
     ensures { result ≡ value_breaks (listed_counts context.now) column value.now }
 {
     match value {
-        CellValue::Refer(token) => !names_row(context, column, *token),
+        Cell::Refer(token) => !names_row(context, column, *token),
         _ => false,
     }
 }
@@ -67,7 +67,7 @@ fn column_at(columns: &[Column], i: usize) -> Column
 }
 
 /// The value at an index.
-fn value_at(cells: &[CellValue], i: usize) -> Option<&CellValue>
+fn value_at(cells: &[Cell], i: usize) -> Option<&Cell>
     ensures { option_map (λ v. v.now) result ≡ slice_get cells.now i }
 {
     cells.get(i)
@@ -78,7 +78,7 @@ fn value_at(cells: &[CellValue], i: usize) -> Option<&CellValue>
 fn cells_break<C: ChainView>(
     context: &Context<'_, C>,
     columns: &[Column],
-    cells: &[CellValue],
+    cells: &[Cell],
 ) -> bool
     ensures { result ≡ cells_break (listed_counts context.now) (filter is_stated columns.now) cells.now }
 {

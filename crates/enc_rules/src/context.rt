@@ -11,7 +11,7 @@ ghost use Rattle.enc_rules.specs.Known.{stated_of, stated_in, number_of_value, b
 
 use enc_base::{Counts, Token};
 use enc_delta::Pair;
-use enc_edits::{Added, CellValue, Edit, EditList};
+use enc_edits::{Added, Cell, Edit, EditList};
 use enc_plain::{CellView, ChainView, Viewed};
 use enc_schema::tables::{FIELD_RVA, METHOD_DEF};
 use std::marker::Model;
@@ -50,7 +50,7 @@ impl<'a, C: ChainView> Model for Context<'a, C> {
 }
 
 /// The value that an added row states for a column: the RVA in front is none.
-fn stated_in(table: u8, cells: &[CellValue], column: u8) -> Option<&CellValue>
+fn stated_in(table: u8, cells: &[Cell], column: u8) -> Option<&Cell>
     ensures { option_map (λ v. v.now) result ≡ stated_in table cells.now column }
 {
     if table != METHOD_DEF && table != FIELD_RVA {
@@ -63,7 +63,7 @@ fn stated_in(table: u8, cells: &[CellValue], column: u8) -> Option<&CellValue>
 }
 
 /// The value that an edit states for a column of the row that it adds.
-fn stated_of(edit: &Edit, column: u8) -> Option<&CellValue>
+fn stated_of(edit: &Edit, column: u8) -> Option<&Cell>
     ensures { option_map (λ v. v.now) result ≡ stated_of edit.now column }
 {
     match edit {
@@ -73,32 +73,32 @@ fn stated_of(edit: &Edit, column: u8) -> Option<&CellValue>
 }
 
 /// The number of a value, 0 where it is none.
-fn number_of(value: Option<&CellValue>) -> u32
+fn number_of(value: Option<&Cell>) -> u32
     ensures { result ≡ number_of_value (option_map (λ v. v.now) value.entry) }
 {
     match value {
-        Some(CellValue::Num(n)) => *n,
+        Some(Cell::Num(n)) => *n,
         _ => 0,
     }
 }
 
 /// The bytes of a text or of a blob, none where it is neither.
-fn bytes_of(value: Option<&CellValue>) -> &[u8]
+fn bytes_of(value: Option<&Cell>) -> &[u8]
     ensures { result.now ≡ bytes_of_value (option_map (λ v. v.now) value.entry) }
 {
     match value {
-        Some(CellValue::Text(bytes)) => bytes.as_slice(),
-        Some(CellValue::Blob(bytes)) => bytes.as_slice(),
+        Some(Cell::Text(bytes)) => bytes.as_slice(),
+        Some(Cell::Blob(bytes)) => bytes.as_slice(),
         _ => &[],
     }
 }
 
 /// The token of a value, nil where it is none or names row 0.
-fn token_of(value: Option<&CellValue>) -> Token
+fn token_of(value: Option<&Cell>) -> Token
     ensures { result ≡ token_of_value (option_map (λ v. v.now) value.entry) }
 {
     match value {
-        Some(CellValue::Refer(token)) => {
+        Some(Cell::Refer(token)) => {
             if token.row == 0 {
                 return Token { table: 0, row: 0 };
             }

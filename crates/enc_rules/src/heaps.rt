@@ -11,7 +11,7 @@ ghost use Rattle.enc_edits.specs.declared.body.InstrValue.{InstrValue as TheInst
 
 use crate::context::Context;
 use crate::signatures::body_given;
-use enc_edits::{ArgValue, CellValue, Edit, InstrValue};
+use enc_edits::{ArgValue, Cell, Edit, InstrValue};
 use enc_meta::{BuildFault, HeapBuilder};
 use enc_plain::{CellView, ChainView};
 use enc_schema::columns::{METHOD_DEF_NAME, METHOD_DEF_SIGNATURE};
@@ -51,18 +51,18 @@ fn add_user(heaps: &mut HeapBuilder, units: &[u16]) -> Result<(), BuildFault>
 
 /// Adds the text of a cell, where it is one.
 #[tactic(auto, unfolding(crate::specs::Rules::with_texts))]
-fn add_cell_text(heaps: &mut HeapBuilder, cell: &CellValue) -> Result<(), BuildFault>
+fn add_cell_text(heaps: &mut HeapBuilder, cell: &Cell) -> Result<(), BuildFault>
     requires { IsTrue (have_no_zero (texts_in_cell cell.now)) }
     ensures { Fills result heaps.new (with_texts heaps.old (texts_in_cell cell.now)) }
 {
     match cell {
-        CellValue::Text(text) => add_text(heaps, text.as_slice()),
+        Cell::Text(text) => add_text(heaps, text.as_slice()),
         _ => Ok(()),
     }
 }
 
 /// Adds the texts of cells.
-fn add_cell_texts(heaps: &mut HeapBuilder, cells: &[CellValue]) -> Result<(), BuildFault>
+fn add_cell_texts(heaps: &mut HeapBuilder, cells: &[Cell]) -> Result<(), BuildFault>
     requires { IsTrue (have_no_zero (flat_map texts_in_cell cells.now)) }
     ensures { Fills result heaps.new (with_texts heaps.old (flat_map texts_in_cell cells.now)) }
 {
@@ -79,17 +79,17 @@ fn add_cell_texts(heaps: &mut HeapBuilder, cells: &[CellValue]) -> Result<(), Bu
 
 /// Adds the blob of a cell, where it is one.
 #[tactic(auto, unfolding(crate::specs::Rules::with_blobs))]
-fn add_cell_blob(heaps: &mut HeapBuilder, cell: &CellValue) -> Result<(), BuildFault>
+fn add_cell_blob(heaps: &mut HeapBuilder, cell: &Cell) -> Result<(), BuildFault>
     ensures { Fills result heaps.new (with_blobs heaps.old (blobs_in_cell cell.now)) }
 {
     match cell {
-        CellValue::Blob(blob) => add_blob(heaps, blob.as_slice()),
+        Cell::Blob(blob) => add_blob(heaps, blob.as_slice()),
         _ => Ok(()),
     }
 }
 
 /// Adds the blobs of cells.
-fn add_cell_blobs(heaps: &mut HeapBuilder, cells: &[CellValue]) -> Result<(), BuildFault>
+fn add_cell_blobs(heaps: &mut HeapBuilder, cells: &[Cell]) -> Result<(), BuildFault>
     ensures { Fills result heaps.new (with_blobs heaps.old (flat_map blobs_in_cell cells.now)) }
 {
     let mut rest = cells;

@@ -60,7 +60,7 @@ fn finds_added_rows_by_their_tables(rt: HostRuntime) -> Result<(), Fail> {
 fn holds_a_body(rt: HostRuntime) -> Result<(), Fail> {
     let alloc = rt.alloc();
     let mut cells = Cells::begin(alloc);
-    cells.push(CellValue::Blob(Bytes::begin(alloc)))?;
+    cells.push(Cell::Blob(Bytes::begin(alloc)))?;
     let body = BodyValue {
         max: 8,
         init: false,

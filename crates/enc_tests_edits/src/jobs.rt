@@ -1,5 +1,5 @@
 use enc_base::Token;
-use enc_edits::{ArgValue, BodyValue, CellValue, Edit, EditList, InstrList, PointList};
+use enc_edits::{ArgValue, BodyValue, Cell, Edit, EditList, InstrList, PointList};
 use enc_jobs::*;
 use enc_opcodes::Clause;
 use enc_seqpoints::Point;
@@ -241,12 +241,12 @@ fn rows_are_added(rt: HostRuntime) -> Result<(), Fail> {
     assert!(rt; code.is_none());
     assert_eq!(rt; points.len(), 0);
     assert_eq!(rt; cells.len(), 4);
-    assert!(rt; matches!(cells.get(1), Some(CellValue::Num(6))));
+    assert!(rt; matches!(cells.get(1), Some(Cell::Num(6))));
     assert!(rt;
-        matches!(cells.get(2), Some(CellValue::Text(t)) if t.as_slice() == b"M".as_slice())
+        matches!(cells.get(2), Some(Cell::Text(t)) if t.as_slice() == b"M".as_slice())
     );
     assert!(rt;
-        matches!(cells.get(3), Some(CellValue::Blob(b)) if b.as_slice() == [0, 1].as_slice())
+        matches!(cells.get(3), Some(Cell::Blob(b)) if b.as_slice() == [0, 1].as_slice())
     );
     let Some(
         Edit::Add {
@@ -261,7 +261,7 @@ fn rows_are_added(rt: HostRuntime) -> Result<(), Fail> {
     };
     assert_eq!(rt; *table, 0x37);
     assert_eq!(rt; *owner, Token { table: 0, row: 0 });
-    assert!(rt; matches!(cells.get(0), Some(CellValue::Refer(t)) if t.table == 6 && t.row == 1));
-    assert!(rt; matches!(cells.get(1), Some(CellValue::Guid(g)) if *g == ID));
+    assert!(rt; matches!(cells.get(0), Some(Cell::Refer(t)) if t.table == 6 && t.row == 1));
+    assert!(rt; matches!(cells.get(1), Some(Cell::Guid(g)) if *g == ID));
     Ok(())
 }

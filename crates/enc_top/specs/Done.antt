@@ -1,5 +1,5 @@
 -- What a command may print and save: its answer, or why it does nothing.
-use Rattle.std.specs.Prelude.{◌≡◌, ℕ, List, [], ◌∷◌, length, Ok, Err, if◌then◌else◌}
+use Rattle.std.specs.Prelude.{◌≡◌, ℕ, List, [], ◌∷◌, length, Some, Ok, Err, if◌then◌else◌}
 use Rattle.enc_base.specs.declared.token.Token.{Token}
 use Rattle.enc_plain.specs.declared.place.RowPlace.{RowPlace}
 use Rattle.enc_plain.specs.Module.{Module, has_row}
@@ -8,6 +8,7 @@ use Rattle.enc_plain.specs.Sound.{row_count}
 use Rattle.enc_schema.specs.Tables as tables
 use Rattle.enc_agg.specs.Extend.{chain_with}
 use Rattle.enc_agg.specs.Place.{place_of}
+use Rattle.enc_ppdb.specs.Pdb.{entry_told}
 use Rattle.enc_ppdb.specs.PdbChain.{pdb_with}
 use Rattle.enc_ppdb.specs.Written.{MeansPdb}
 use Rattle.enc_rewriter.specs.Rewritten.{MeansModule}
@@ -48,13 +49,14 @@ IsOutput (writes out e) output = output ≡ saved_line (meta out ∷ il out ∷ 
 IsOutput (runs handed f deltas script) output = IsRunText deltas handed f script output
 IsOutput (generates start count out) output = output ≡ case_line start.digits count.digits (edited_by generated_base (generated_lists start.value count.value))
 
--- the files that say a module and its plain PDB: bytes that mean the one, and bytes that mean the other
+-- the files that say a module and its plain PDB: bytes that mean the one, and bytes that mean the other and tell the module's entry point
 pub record AreFilesOf (out : List ℕ) (m : Module) (debug : PlainPdb) (saves : List (List ℕ × List ℕ)) : Type 0 where
   pub image : List ℕ
   pub symbols : List ℕ
   pub saved : saves ≡ (dll out, image) ∷ (pdb out, symbols) ∷ []
   pub module_is : MeansModule m image
   pub debug_is : MeansPdb debug (row_count m tables.method_def) symbols
+  pub entry_is : entry_told symbols ≡ Some m.entry
 
 -- the files of a delta that stand for an edit list after a base with its deltas: they are accepted, and make the edits
 pub record AreFilesOfList (out : List ℕ) (e : Edited) (saves : List (List ℕ × List ℕ)) : Type 0 where

@@ -1,5 +1,5 @@
 //! Bodies that a delta brings.
-ghost use Rattle.std.specs.Prelude.{◌≡◌, ◌++◌, ◌∷◌, [], IsTrue, IfOk, OnErr};
+ghost use Rattle.std.specs.Prelude.{◌≡◌, ◌++◌, ◌∷◌, [], length, option_map, slice_get, IsTrue, IfOk, OnErr};
 ghost use Rattle.std.specs.List.{list_all};
 ghost use Rattle.enc_versions.specs.Commit.{is_entry};
 
@@ -66,6 +66,20 @@ impl CodeList {
     {
         self.items.push(entry)?;
         Ok(())
+    }
+
+    /// The number of bodies.
+    pub fn len(&self) -> usize
+        ensures { result ≡ length self.now }
+    {
+        self.items.len()
+    }
+
+    /// The body at a place, from 0; None past the last.
+    pub fn get(&self, i: usize) -> Option<&CodeEntry>
+        ensures { option_map (λ e. e.now) result ≡ slice_get self.now i }
+    {
+        self.items.get(i)
     }
 
     /// The bodies as a `Vec`.

@@ -7,7 +7,7 @@ ghost use Rattle.enc_jobs.specs.Generated.{load_of, return as returning, body_lo
 
 use enc_base::{Bytes, Token};
 use enc_edits::{
-    ArgValue, BodyValue, CellValue, Cells, ClauseList, Edit, InstrList, InstrValue, PointList,
+    ArgValue, BodyValue, Cell, Cells, ClauseList, Edit, InstrList, InstrValue, PointList,
 };
 use enc_opcodes::{Op, Operand};
 use enc_schema::tables::{ASSEMBLY_REF, METHOD_DEF, TYPE_DEF, TYPE_REF};
@@ -103,10 +103,10 @@ pub fn method(alloc: Global, name: Bytes, number: u32) -> Result<Edit, AllocErro
     ensures { IfOk result (λ e. e ≡ adds_method name number) }
 {
     let mut cells = Cells::begin(alloc);
-    cells.push(CellValue::Num(0))?;
-    cells.push(CellValue::Num(0x16))?;
-    cells.push(CellValue::Text(name))?;
-    cells.push(CellValue::Blob(signature(alloc)?))?;
+    cells.push(Cell::Num(0))?;
+    cells.push(Cell::Num(0x16))?;
+    cells.push(Cell::Text(name))?;
+    cells.push(Cell::Blob(signature(alloc)?))?;
     let code = body_loading(alloc, number)?;
     Ok(Edit::Add {
         table: METHOD_DEF,
@@ -134,15 +134,15 @@ pub fn mscorlib(alloc: Global) -> Result<Edit, AllocError>
     ensures { IfOk result (λ e. e ≡ adds_mscorlib) }
 {
     let mut cells = Cells::begin(alloc);
-    cells.push(CellValue::Num(4))?;
-    cells.push(CellValue::Num(0))?;
-    cells.push(CellValue::Num(0))?;
-    cells.push(CellValue::Num(0))?;
-    cells.push(CellValue::Num(0))?;
-    cells.push(CellValue::Blob(Bytes::begin(alloc)))?;
-    cells.push(CellValue::Text(text(alloc, b"mscorlib")?))?;
-    cells.push(CellValue::Text(Bytes::begin(alloc)))?;
-    cells.push(CellValue::Blob(Bytes::begin(alloc)))?;
+    cells.push(Cell::Num(4))?;
+    cells.push(Cell::Num(0))?;
+    cells.push(Cell::Num(0))?;
+    cells.push(Cell::Num(0))?;
+    cells.push(Cell::Num(0))?;
+    cells.push(Cell::Blob(Bytes::begin(alloc)))?;
+    cells.push(Cell::Text(text(alloc, b"mscorlib")?))?;
+    cells.push(Cell::Text(Bytes::begin(alloc)))?;
+    cells.push(Cell::Blob(Bytes::begin(alloc)))?;
     Ok(plain_row(alloc, ASSEMBLY_REF, cells))
 }
 
@@ -151,9 +151,9 @@ pub fn object(alloc: Global) -> Result<Edit, AllocError>
     ensures { IfOk result (λ e. e ≡ adds_object) }
 {
     let mut cells = Cells::begin(alloc);
-    cells.push(CellValue::Refer(named_row(ASSEMBLY_REF, 1)))?;
-    cells.push(CellValue::Text(text(alloc, b"Object")?))?;
-    cells.push(CellValue::Text(text(alloc, b"System")?))?;
+    cells.push(Cell::Refer(named_row(ASSEMBLY_REF, 1)))?;
+    cells.push(Cell::Text(text(alloc, b"Object")?))?;
+    cells.push(Cell::Text(text(alloc, b"System")?))?;
     Ok(plain_row(alloc, TYPE_REF, cells))
 }
 
@@ -162,10 +162,10 @@ fn type_of(alloc: Global, flags: u32, name: &[u8], parent: Token) -> Result<Edit
     ensures { IfOk result (λ e. e ≡ adds_type flags name.now parent) }
 {
     let mut cells = Cells::begin(alloc);
-    cells.push(CellValue::Num(flags))?;
-    cells.push(CellValue::Text(text(alloc, name)?))?;
-    cells.push(CellValue::Text(Bytes::begin(alloc)))?;
-    cells.push(CellValue::Refer(parent))?;
+    cells.push(Cell::Num(flags))?;
+    cells.push(Cell::Text(text(alloc, name)?))?;
+    cells.push(Cell::Text(Bytes::begin(alloc)))?;
+    cells.push(Cell::Refer(parent))?;
     Ok(plain_row(alloc, TYPE_DEF, cells))
 }
 

@@ -60,7 +60,7 @@ fn unwritten(alloc: Global, out: &str, fault: RewriteFault) -> Stop
 fn saving(alloc: Global, out: &str, written: Rewritten) -> Result<Plan, AllocError>
     ensures outcome { IfOk result (λ plan. plan.outcome ≡ Outcome.Accepted) }
     ensures output { IfOk result (λ plan. plan.output.items ≡ line_of_saved (dll out.now ∷ pdb out.now ∷ [])) }
-    ensures saves { IfOk result (λ plan. saves_of plan.saves.items ≡ (dll out.now, written.image.items) ∷ (pdb out.now, written.pdb.items) ∷ []) }
+    ensures saves { IfOk result (λ plan. saves_of plan.saves.items ≡ (dll out.now, written.image) ∷ (pdb out.now, written.pdb) ∷ []) }
 {
     let dll = name_of(alloc, out, ".dll")?;
     let pdb = name_of(alloc, out, ".pdb")?;
@@ -68,11 +68,11 @@ fn saving(alloc: Global, out: &str, written: Rewritten) -> Result<Plan, AllocErr
     let mut saves = Vec::new(alloc);
     saves.push(Save {
         name: dll,
-        bytes: written.image,
+        bytes: written.image.into_vec(),
     })?;
     saves.push(Save {
         name: pdb,
-        bytes: written.pdb,
+        bytes: written.pdb.into_vec(),
     })?;
     Ok(Plan {
         outcome: Outcome::Accepted,

@@ -41,15 +41,15 @@ fn push_module(
     written: Rewritten,
     saves: &mut Vec<Save>,
 ) -> Result<(), AllocError>
-    ensures { OnOk result (saves_of saves.new.items ≡ saves_of saves.old.items ++ module_saves name.now written.image.items written.pdb.items) }
+    ensures { OnOk result (saves_of saves.new.items ≡ saves_of saves.old.items ++ module_saves name.now written.image written.pdb) }
 {
     saves.push(Save {
         name: name_of(alloc, name, ".dll")?,
-        bytes: written.image,
+        bytes: written.image.into_vec(),
     })?;
     saves.push(Save {
         name: name_of(alloc, name, ".pdb")?,
-        bytes: written.pdb,
+        bytes: written.pdb.into_vec(),
     })?;
     Ok(())
 }
@@ -80,10 +80,10 @@ fn push_delta(
 
 /// The files of a module and its PDB, as they are loaded.
 fn base_file(alloc: Global, written: &Rewritten) -> Result<BaseFile, AllocError>
-    ensures { IfOk result (λ f. base_seen f ≡ record { bytes = written.now.image.items; debug = Some written.now.pdb.items }) }
+    ensures { IfOk result (λ f. base_seen f ≡ record { bytes = written.now.image; debug = Some written.now.pdb }) }
 {
-    let bytes = Vec::from_slice(alloc, &written.image)?;
-    let debug = Some(Vec::from_slice(alloc, &written.pdb)?);
+    let bytes = Vec::from_slice(alloc, written.image.as_slice())?;
+    let debug = Some(Vec::from_slice(alloc, written.pdb.as_slice())?);
     Ok(BaseFile { bytes, debug })
 }
 
@@ -102,8 +102,8 @@ fn delta_file(alloc: Global, name: &str, files: &DeltaBytes) -> Result<DeltaFile
 
 /// The base that was written, with nothing behind it yet.
 fn begun(alloc: Global, out: &str, written: Rewritten) -> Result<Series, Stop>
-    requires base { MeansModule generated_base written.image.items }
-    requires debug { MeansPdb no_points (row_count generated_base method_def) written.pdb.items }
+    requires base { MeansModule generated_base written.image }
+    requires debug { MeansPdb no_points (row_count generated_base method_def) written.pdb }
     ensures series { IfOk result (λ s. IsSeries out.now [] s) }
     ensures said { NothingSaid result }
     ensures no_fault { ¬ (IsErrOf result Stop.Failed) }
@@ -214,8 +214,8 @@ fn ended(
     written: Rewritten,
 ) -> Result<Plan, AllocError>
     requires series { IsSeries out.now (generated_lists start.value count.value) series }
-    requires last { MeansModule (plain_of (followed series.held)) written.image.items }
-    requires debug { MeansPdb (debug_after (followed series.held)) (row_count (plain_of (followed series.held)) method_def) written.pdb.items }
+    requires last { MeansModule (plain_of (followed series.held)) written.image }
+    requires debug { MeansPdb (debug_after (followed series.held)) (row_count (plain_of (followed series.held)) method_def) written.pdb }
     ensures plan { IfOk result (IsPlanOf (Ok (generates (numeral_seen start.entry) (numeral_seen count.entry) out.now))) }
     ensures told { IfOk result (λ plan. plan.outcome ≡ Outcome.Accepted) }
 {

@@ -12,15 +12,15 @@ pub returns-in_default : goal.returns-in_default
 returns-in_default c =
     cells_short view c.args.columns.now c.args.items.now c.loop-i.i c.column_at-column.result c.loop-i.cells c.column_at-column.ensures (sym c.is_stated.ensures ∙ c.if-not-is_stated.false) (omega (arith, c.in_default.ensures)) c.loop-i.invariant
 
-pub returns-in_err-cell : goal.returns-in_err-cell
-returns-in_err-cell c =
+pub returns-in_err-cell_read : goal.returns-in_err-cell_read
+returns-in_err-cell_read c =
     let within : length c.loop-i.cells < length c.args.items.now = omega (arith, c.len.ensures, c.in-Some.ensures.lookup.3.0) in
     let there = rw c.len.ensures at c.in-Some.ensures.lookup.1 in
-    grind (arith, cells_refused view c.args.columns.now c.args.items.now c.loop-i.i c.column_at-column.result c.in-Some.value.now c.loop-i.cells c.in_err-cell.field-0.0 c.column_at-column.ensures (sym c.is_stated.ensures ∙ c.if-not-is_stated.false) within there c.in_err-cell.ensures c.loop-i.invariant)
+    grind (arith, cells_refused view c.args.columns.now c.args.items.now c.loop-i.i c.column_at-column.result c.in-Some.value.now c.loop-i.cells c.in_err-cell_read.field-0.0 c.column_at-column.ensures (sym c.is_stated.ensures ∙ c.if-not-is_stated.false) within there c.in_err-cell_read.ensures c.loop-i.invariant)
 
 pub loop-i-preserved : goal.loop-i-preserved
 loop-i-preserved c =
     let within : length c.loop-i.cells < length c.args.items.now = omega (arith, c.len.ensures, c.in-Some.ensures.lookup.3.0) in
     let there = rw c.len.ensures at c.in-Some.ensures.lookup.1 in
-    let more = cells_more view c.args.columns.now c.args.items.now c.loop-i.i c.column_at-column.result c.in-Some.value.now c.in_ok-cell.field-0 c.loop-i.cells c.column_at-column.ensures (sym c.is_stated.ensures ∙ c.if-not-is_stated.false) within there c.in_ok-cell.ensures in
+    let more = cells_more view c.args.columns.now c.args.items.now c.loop-i.i c.column_at-column.result c.in-Some.value.now c.in_ok-cell_read.field-0 c.loop-i.cells c.column_at-column.ensures (sym c.is_stated.ensures ∙ c.if-not-is_stated.false) within there c.in_ok-cell_read.ensures in
     rw c.in_ok-push.ensures.ok (sym more ∙ c.loop-i.invariant)
