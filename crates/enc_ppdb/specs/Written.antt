@@ -1,5 +1,5 @@
 -- A Portable PDB that is written: its documents, each once, and for each method its points (Portable PDB v1.0).
-use Rattle.std.specs.Prelude.{◌≡◌, ℕ, zero, suc, ◌+◌, ◌*◌, ◌^◌, ◌<◌, ◌==◌, Bool, true, false, ◌&&◌, List, [], ◌∷◌, ◌++◌, length, map, replicate, sum_by, position, bytes_eq, Option, Some, None, option_map, unwrap_or, Result, Ok, Err, nat_lt, if◌then◌else◌, slice_get, slice_index}
+use Rattle.std.specs.Prelude.{◌≡◌, ℕ, zero, suc, ◌+◌, ◌*◌, ◌^◌, ◌<◌, ◌≤◌, ◌==◌, Bool, true, false, ◌&&◌, List, [], ◌∷◌, ◌++◌, length, map, replicate, sum_by, position, bytes_eq, Option, Some, None, option_map, unwrap_or, Result, Ok, Err, nat_lt, if◌then◌else◌, slice_get, slice_index}
 use Rattle.std.specs.List.{list_any}
 use Rattle.std.specs.Int.{w32, to_le_bytes}
 use Rattle.enc_base.specs.Token.{nth_row}
@@ -21,6 +21,7 @@ use Rattle.enc_schema.specs.Tables as tables
 use Rattle.enc_seqpoints.specs.declared.point.Point.{Point}
 use Rattle.enc_seqpoints.specs.Grammar.{method_points, points_in}
 use Rattle.enc_ppdb.specs.Fault.{pdb_of}
+use Rattle.enc_ppdb.specs.Pdb.{entry_told}
 use Rattle.enc_ppdb.specs.PdbChain.{pdb_begun}
 
 -- two documents have one value
@@ -134,3 +135,9 @@ pub record MeansPdb (p : PlainPdb) (methods : ℕ) (bytes : List ℕ) : Type 0 w
   pub read : pdb_of bytes methods ≡ Ok source
   pub means : (method : Token) → pdb_begun (Some source) method ≡ p method
   pub several : (n : ℕ) → n < methods → IsNilOverSeveral (nth_method p n).points (document_told source n)
+
+-- what is written of a plain PDB: it means it, tells this entry point, and is no longer than its weight
+pub record WritesPdb (p : PlainPdb) (methods entry : ℕ) (bytes : List ℕ) : Type 0 where
+  pub means : MeansPdb p methods bytes
+  pub entry_is : entry_told bytes ≡ Some entry
+  pub light : length bytes ≤ pdb_weight p methods

@@ -1,8 +1,7 @@
 //! The bytes of a Portable PDB that is written (Portable PDB v1.0).
-ghost use Rattle.std.specs.Prelude.{◌≡◌, ◌^◌, ◌<◌, ◌≤◌, length, Some, IfOk};
+ghost use Rattle.std.specs.Prelude.{◌≡◌, ◌^◌, ◌<◌, IfOk};
 ghost use Rattle.enc_plain.specs.SoundDebug.{IsSoundPdb, KnowsWithin};
-ghost use Rattle.enc_ppdb.specs.Pdb.{entry_told};
-ghost use Rattle.enc_ppdb.specs.Written.{pdb_stream as stream_of, pdb_weight, TellsPdb, MeansPdb};
+ghost use Rattle.enc_ppdb.specs.Written.{pdb_stream as stream_of, pdb_weight, TellsPdb, WritesPdb};
 
 use crate::laws::pdb_means_law;
 use crate::parts::pdb_parts;
@@ -37,9 +36,7 @@ pub fn write_pdb<P: PointSource>(
     requires sound { IsSoundPdb (P.debug source.now) }
     requires few { methods < 2 ^ 24 }
     requires within { KnowsWithin (P.debug source.now) methods }
-    ensures means { IfOk result (λ v. MeansPdb (P.debug source.now) methods v.items) }
-    ensures entry { IfOk result (λ v. entry_told v.items ≡ Some entry) }
-    ensures light { IfOk result (λ v. length v.items ≤ pdb_weight (P.debug source.now) methods) }
+    ensures written { IfOk result (λ v. WritesPdb (P.debug source.now) methods entry v.items) }
     ensures tells { TellsPdb result (pdb_weight (P.debug source.now) methods) }
 {
     let parts = match pdb_parts(alloc, source, methods) {

@@ -1,11 +1,12 @@
 -- The image of a module that is written from scratch, and that it means the module.
-use Rattle.std.specs.Prelude.{◌≡◌, ℕ, ◌%◌, ◌<◌, ◌≤◌, ◌^◌, List, Ok}
+use Rattle.std.specs.Prelude.{◌≡◌, ℕ, ◌%◌, ◌<◌, ◌≤◌, ◌^◌, List, length, Ok}
 use Rattle.enc_emit.specs.Written.{root_built, built_size}
 use Rattle.enc_image.specs.Base.{base_of, module_in}
 use Rattle.enc_meta.specs.Built.{Built, heaps_built}
 use Rattle.enc_meta.specs.BuiltLaws.{IsGood}
 use Rattle.enc_meta.specs.Heaps.{user_at}
 use Rattle.enc_pe.specs.Written.{image_written, image_size, most_bytes}
+use Rattle.enc_plain.specs.Debug.{PlainPdb}
 use Rattle.enc_plain.specs.Module.{Module}
 use Rattle.enc_plain.specs.Sound.{IsSound, row_count}
 use Rattle.enc_rows.specs.Source.{Source, raw_in}
@@ -13,8 +14,10 @@ use Rattle.enc_rows.specs.Written.{AreRows}
 use Rattle.enc_base.specs.Token.{nth_row}
 use Rattle.enc_schema.specs.Columns as columns
 use Rattle.enc_schema.specs.Tables as tables
-use Rattle.enc_rewriter.specs.Values.{no_starts}
+use Rattle.enc_rewriter.specs.Values.{no_starts, heaps_for}
 use Rattle.enc_rewriter.specs.Numbers.{HoldRows, needs_jtd}
+use Rattle.enc_ppdb.specs.Written.{WritesPdb}
+use Rattle.enc_rewriter.specs.Weight.{module_weight}
 use Rattle.enc_rewriter.specs.Placed.{Placed, IsPlaced}
 
 -- the parts of an image hold a module: its heaps are good and stand behind no others, bodies and fields are placed, and the rows say the module's
@@ -45,6 +48,13 @@ pub record MeansModule (m : Module) (bytes : List ℕ) : Type 0 where
   pub read : base_of bytes ≡ Ok source
   pub means : module_in source ≡ m
   pub aligned : (n : ℕ) → n < row_count m tables.field_rva → raw_in source (nth_row tables.field_rva n) columns.field_rva_rva % 8 ≡ 0
+
+-- what is written of a module and a plain PDB: an image that means the module and is no longer than its weight, and a PDB that means the plain PDB and tells
+-- the module's entry point
+pub record RewritesTo (m : Module) (p : PlainPdb) (image pdb : List ℕ) : Type 0 where
+  pub image_is : MeansModule m image
+  pub light : length image ≤ module_weight m (heaps_for m)
+  pub pdb_is : WritesPdb p (row_count m tables.method_def) m.entry pdb
 
 -- an image whose parts hold a sound module means it
 abbrev pub ImagesMean : Type 0

@@ -1,16 +1,15 @@
 //! A module written from scratch.
-ghost use Rattle.std.specs.Prelude.{◌≡◌, ◌<◌, ◌≤◌, ◌^◌, length, Some, IfOk};
+ghost use Rattle.std.specs.Prelude.{◌≡◌, ◌<◌, ◌≤◌, ◌^◌, length, IfOk};
 ghost use Rattle.enc_plain.specs.Sound.{IsSound};
 ghost use Rattle.enc_plain.specs.Sound.{row_count};
 ghost use Rattle.enc_plain.specs.SoundDebug.{IsSoundPdb, KnowsWithin};
-ghost use Rattle.enc_ppdb.specs.Pdb.{entry_told};
-ghost use Rattle.enc_ppdb.specs.Written.{MeansPdb, pdb_weight};
+ghost use Rattle.enc_ppdb.specs.Written.{WritesPdb};
 ghost use Rattle.enc_rewriter.specs.Limits.{pdb_limit, rewrite_limit, TellsLimit};
 ghost use Rattle.enc_schema.specs.Tables.{method_def};
 ghost use Rattle.enc_rewriter.specs.Numbers.{needs_jtd};
-ghost use Rattle.enc_rewriter.specs.Values.{KeepValues, heaps_for};
+ghost use Rattle.enc_rewriter.specs.Values.{KeepValues};
 ghost use Rattle.enc_rewriter.specs.Weight.{module_weight, most_weight};
-ghost use Rattle.enc_rewriter.specs.Rewritten.{image_of_parts, FitsImage, HoldModule, MeansModule};
+ghost use Rattle.enc_rewriter.specs.Rewritten.{image_of_parts, FitsImage, HoldModule, MeansModule, RewritesTo};
 
 use crate::fault::RewriteFault;
 use crate::parts::{ModuleParts, parts_with, values_within};
@@ -90,9 +89,7 @@ fn pdb_of<V: ModuleView, P: PointSource>(
     requires sound { IsSound (V.meaning view.now) }
     requires debug { IsSoundPdb (P.debug points.now) }
     requires within { KnowsWithin (P.debug points.now) (row_count (V.meaning view.now) method_def) }
-    ensures means { IfOk result (λ v. MeansPdb (P.debug points.now) (row_count (V.meaning view.now) method_def) v.items) }
-    ensures entry { IfOk result (λ v. entry_told v.items ≡ Some (V.meaning view.now).entry) }
-    ensures light { IfOk result (λ v. length v.items ≤ pdb_weight (P.debug points.now) (row_count (V.meaning view.now) method_def)) }
+    ensures written { IfOk result (λ v. WritesPdb (P.debug points.now) (row_count (V.meaning view.now) method_def) (V.meaning view.now).entry v.items) }
     ensures tells { TellsLimit result (pdb_limit (V.meaning view.now) (P.debug points.now)) }
 {
     match write_pdb(alloc, points, view.count(METHOD_DEF), view.entry()) {
@@ -124,11 +121,7 @@ pub fn rewrite<V: ModuleView, P: PointSource>(
     requires sound { IsSound (V.meaning view.now) }
     requires debug { IsSoundPdb (P.debug points.now) }
     requires within { KnowsWithin (P.debug points.now) (row_count (V.meaning view.now) method_def) }
-    ensures image { IfOk result (λ r. MeansModule (V.meaning view.now) r.image) }
-    ensures pdb { IfOk result (λ r. MeansPdb (P.debug points.now) (row_count (V.meaning view.now) method_def) r.pdb) }
-    ensures entry { IfOk result (λ r. entry_told r.pdb ≡ Some (V.meaning view.now).entry) }
-    ensures image_light { IfOk result (λ r. length r.image ≤ module_weight (V.meaning view.now) (heaps_for (V.meaning view.now))) }
-    ensures pdb_light { IfOk result (λ r. length r.pdb ≤ pdb_weight (P.debug points.now) (row_count (V.meaning view.now) method_def)) }
+    ensures written { IfOk result (λ r. RewritesTo (V.meaning view.now) (P.debug points.now) r.image r.pdb) }
     ensures tells { TellsLimit result (rewrite_limit (V.meaning view.now) (P.debug points.now)) }
 {
     let values = match values_within(alloc, view) {

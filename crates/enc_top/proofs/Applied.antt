@@ -1,9 +1,7 @@
 -- The plan of what is written of accepted files, and of what isn't.
 use Rattle.std.proofs.Common.{◌≡◌, ℕ, List, [], ◌∷◌, Option, Some, None, Ok, Err, sym, ap, subst}
-use Rattle.enc_plain.specs.Sound.{row_count}
-use Rattle.enc_ppdb.specs.Written.{MeansPdb}
 use Rattle.enc_rewriter.specs.Limits.{Passed, too_large, too_heavy, rewrite_limit, IsFault}
-use Rattle.enc_rewriter.specs.Rewritten.{MeansModule}
+use Rattle.enc_rewriter.specs.Rewritten.{RewritesTo}
 use Rattle.enc_rewriter.specs.declared.fault.RewriteFault.{RewriteFault}
 use Rattle.enc_rewriter.specs.declared.fault.RewriteFault.TheVariants.{Memory, TooLarge, Image}
 use Rattle.enc_top.specs.Lines.{saved_line}
@@ -20,13 +18,13 @@ write_by : (out : List ℕ) (f : Followed) (o : Option Passed) → rewrite_limit
 unfolding can_be_written
 write_by out f o is = ap (λ (x : Option Passed). unless_past out f x >>= λ (g : Followed). Ok (applies out g)) is
 
-pub plan_written : (out : List ℕ) (f : Followed) (plan : Plan) (image symbols : List ℕ) → rewrite_limit (plain_of f) (debug_after f) ≡ None → MeansModule (plain_of f) image → MeansPdb (debug_after f) (row_count (plain_of f) 0x06) symbols
+pub plan_written : (out : List ℕ) (f : Followed) (plan : Plan) (image symbols : List ℕ) → rewrite_limit (plain_of f) (debug_after f) ≡ None → RewritesTo (plain_of f) (debug_after f) image symbols
     → plan.outcome ≡ Accepted → plan.output.items ≡ saved_line (dll out ∷ pdb out ∷ []) → saves_of plan.saves.items ≡ (dll out, image) ∷ (pdb out, symbols) ∷ [] → IsPlanOf (rewrite_on out f) plan
-plan_written out f plan image symbols none module_is debug_is done line saved =
+plan_written out f plan image symbols none written done line saved =
     subst (λ (v : Verdict). IsPlanOf v plan) (sym (write_by out f None none)) (record {
       outcome = done;
       output = line;
-      saves = record { image = image; symbols = symbols; saved = saved; module_is = module_is; debug_is = debug_is };
+      saves = record { image = image; symbols = symbols; saved = saved; module_is = written.image_is; debug_is = written.pdb_is.means; entry_is = written.pdb_is.entry_is };
     })
 
 past : (out : List ℕ) (f : Followed) (p : Passed) (h : Halt) → rewrite_limit (plain_of f) (debug_after f) ≡ Some p → OnPlan h (IsPlanOf (Err (past_limit (file_past out (limit_told p)) (limit_told p))))
