@@ -231,7 +231,7 @@ unfolding place_for padded
 place_none c clauses true is = rw is refl
 place_none c clauses false is = rw is refl
 
-pub written_read : BodyIsRead → (c : Code) (clauses : _) (out : List ℕ) → IsWritable c → out ≡ with_body [] c clauses → body_at out 0 0 ≡ Some (code_again c clauses)
+pub written_read : BodyIsRead → (c : Code) (clauses : _) (out : List ℕ) → IsWritable c clauses → out ≡ with_body [] c clauses → body_at out 0 0 ≡ Some (code_again c clauses)
 written_read read c clauses out can is =
     let first = place_none c clauses (is_tiny c clauses) refl in
     let whole : with_body [] c clauses ++ [] ≡ out = append-nil (with_body [] c clauses) ∙ sym is in

@@ -34,7 +34,8 @@ few_for (suc n) cs some within = by_test (nat_le (length cs) most_clauses) refl 
         let e : length (sections_written cs) ≡ length (data_section_written true front) + length (sections_written behind) = ap length (written_more cs many) ∙ length-append (data_section_written true front) (sections_written behind) in
         omega (arith, e, length_section true front, next many, length-take most_clauses cs, length-drop most_clauses cs, most_some)
 
-sections_few : (cs : List Clause) → length (sections_written cs) ≤ 28 * length cs
+-- sections take 28 bytes for each clause at most
+pub sections_few : (cs : List Clause) → length (sections_written cs) ≤ 28 * length cs
 unfolding sections_written
 sections_few [] = omega arith
 sections_few (c ∷ cs) = few_for (suc (length cs)) (c ∷ cs) (omega arith) (omega arith)

@@ -1,18 +1,19 @@
 -- Bodies that were written are read back.
 use Rattle.std.proofs.Common.{◌≡◌, ℕ, suc, ◌+◌, ◌-◌, ◌*◌, ◌/◌, ◌%◌, ◌^◌, ◌<◌, ◌≤◌, Bool, true, false, not, List, [], ◌∷◌, ◌++◌, length, drop, Some, replicate, refl, sym, ap, ◌∙◌, arith}
-use Rattle.std.specs.Prelude.{◌==◌, if◌then◌else◌}
+use Rattle.std.specs.Prelude.{◌==◌, option_and_then, if◌then◌else◌}
 use Rattle.std.specs.Int.{w8, w16, w32, to_le_bytes}
 use Rattle.std.proofs.lemmas.Bool.Decides.{nat_tests}
 use Rattle.std.proofs.lemmas.List.{append_assoc, append-nil, length-append, length-replicate, drop_at}
-use Rattle.std.proofs.lemmas.Bool.{and_parts}
+use Rattle.std.proofs.lemmas.Bool.{and_parts, lt-ltb}
 use Rattle.enc_base.specs.Numbers.{little_endian_at, padded, has_flag}
 use Rattle.enc_base.specs.Token.{number_of, token_of, nil}
 use Rattle.enc_base.specs.declared.token.Token.{Token}
 use Rattle.enc_opcodes.specs.declared.code.Clause.{Clause}
 use Rattle.enc_opcodes.specs.Instruction.{range_at}
-use Rattle.enc_opcodes.specs.Body.{Code, nil_or, sections_at, sections_behind, fat_at, body_at}
+use Rattle.enc_opcodes.specs.Body.{Code, nil_or, sections_at, if_short, sections_behind, fat_at, body_at}
 use Rattle.enc_il.specs.Written.{sections_written, is_tiny, flags_written, padding_after, code_written, fat_written, tiny_written, body_written, place_for, with_body, IsWritable, code_again, BodyIsRead}
 use Rattle.enc_il.proofs.Numbers.{byte_between, half_between, word_between, range_between}
+use Rattle.enc_il.proofs.BodiesShort.{sections_few}
 use Rattle.enc_il.proofs.ClausesWritten.{sections_again}
 
 -- a token that names a row, or nil, by its number
@@ -97,18 +98,24 @@ code_length c =
     omega (arith, l, r, padded_more (length c.code))
 
 -- the sections behind the code
-sections_there : (front rest : List ℕ) (c : Code) (cs : List Clause) (at : ℕ) → length front ≡ at → sections_behind (front ++ (code_written c cs ++ rest)) (at + padded (length c.code)) (some cs) ≡ Some (sections_written cs)
+short_so : (xs : List ℕ) → length xs < 2 ^ 32 → if_short xs ≡ Some xs
+short_so xs few = rw (lt-ltb (length xs) (2 ^ 32) few) refl
+
+sections_there : (front rest : List ℕ) (c : Code) (cs : List Clause) (at : ℕ) → length front ≡ at → length (sections_written cs) < 2 ^ 32 → sections_behind (front ++ (code_written c cs ++ rest)) (at + padded (length c.code)) (some cs) ≡ Some (sections_written cs)
 unfolding sections_written
-sections_there front rest c [] at long = refl
-sections_there front rest c (x ∷ cs) at long =
+sections_there front rest c [] at long few = refl
+sections_there front rest c (x ∷ cs) at long few =
     let padding = padding_after (length c.code) in
     let sections = sections_written (x ∷ cs) in
     let before = front ++ (c.code ++ padding) in
     let e : front ++ (((c.code ++ padding) ++ sections) ++ rest) ≡ before ++ (sections ++ rest) = simp append_assoc in
     let l : length before ≡ at + padded (length c.code) = omega (arith, length-append front (c.code ++ padding), code_length c, long) in
-    ap (λ bytes. sections_at (drop (at + padded (length c.code)) bytes)) e
-    ∙ ap sections_at (drop_at before (sections ++ rest) (at + padded (length c.code)) l)
-    ∙ sections_again (x ∷ cs) rest (omega arith)
+    ap (option_and_then if_short) (
+      ap (λ bytes. sections_at (drop (at + padded (length c.code)) bytes)) e
+      ∙ ap sections_at (drop_at before (sections ++ rest) (at + padded (length c.code)) l)
+      ∙ sections_again (x ∷ cs) rest (omega arith)
+    )
+    ∙ short_so sections few
 
 -- the parts of a fat body, each between those in front of it and those behind it
 at_0 : (o a b c d e r : List ℕ) → o ++ ((a ++ b ++ c ++ d ++ e) ++ r) ≡ o ++ (a ++ (b ++ c ++ d ++ e ++ r))
@@ -138,7 +145,7 @@ code_there front rest c cs at long =
     let e : front ++ (code_written c cs ++ rest) ≡ front ++ (c.code ++ (first.0 ++ rest)) = ap (λ bytes. front ++ bytes) (ap (λ bytes. bytes ++ rest) first.1 ∙ append_assoc c.code first.0 rest) in
     ap (λ bytes. range_at bytes at (length c.code)) e ∙ range_between front c.code (first.0 ++ rest) at (length c.code) long refl
 
-fat_again : (before rest : List ℕ) (c : Code) (cs : List Clause) (at : ℕ) → length before ≡ at → IsWritable c → fat_at (before ++ (fat_written c cs ++ rest)) at ≡ Some (code_again c cs)
+fat_again : (before rest : List ℕ) (c : Code) (cs : List Clause) (at : ℕ) → length before ≡ at → IsWritable c cs → fat_at (before ++ (fat_written c cs ++ rest)) at ≡ Some (code_again c cs)
 unfolding fat_written
 fat_again before rest c cs at long fits =
     let flags = flags_written c.init cs in
@@ -161,7 +168,7 @@ fat_again before rest c cs at long fits =
     let l : length (before ++ a ++ b ++ d ++ e) ≡ at + 12 = omega (arith, l1, l2, l3, l4, long) in
     let h4 = ap (λ bytes. range_at bytes (at + 12) (length c.code)) (at_4 before a b d e f rest) ∙ code_there (before ++ a ++ b ++ d ++ e) rest c cs (at + 12) l in
     let more : has_flag 8 flags ≡ some cs = ap (λ n. has_flag 8 n) is ∙ flags_say_more c.init (some cs) in
-    let h5 = ap (λ bytes. sections_behind bytes (at + 12 + padded (length c.code)) (has_flag 8 flags)) (at_4 before a b d e f rest) ∙ ap (λ t. sections_behind ((before ++ a ++ b ++ d ++ e) ++ (f ++ rest)) (at + 12 + padded (length c.code)) t) more ∙ sections_there (before ++ a ++ b ++ d ++ e) rest c cs (at + 12) l in
+    let h5 = ap (λ bytes. sections_behind bytes (at + 12 + padded (length c.code)) (has_flag 8 flags)) (at_4 before a b d e f rest) ∙ ap (λ t. sections_behind ((before ++ a ++ b ++ d ++ e) ++ (f ++ rest)) (at + 12 + padded (length c.code)) t) more ∙ sections_there (before ++ a ++ b ++ d ++ e) rest c cs (at + 12) l (omega (arith, sections_few cs, fits.sections)) in
     let h6 : flags / 0x1000 == 3 ≡ true = ap (λ n. n / 0x1000 == 3) is ∙ flags_are_fat c.init (some cs) in
     let init : has_flag 0x10 flags ≡ c.init = ap (λ n. has_flag 0x10 n) is ∙ flags_say_init c.init (some cs) in
     fat_from (before ++ (fat_written c cs ++ rest)) at flags c.max (length c.code) locals c.code (sections_written cs) h0 h1 h2 h3 h4 h5 h6
@@ -230,7 +237,7 @@ first_there before rest c cs at long =
     let f = code_written c cs in
     ap (λ bytes. little_endian_at w8 bytes at) (at_0 before a b d e f rest) ∙ byte_between before ((flags / 256 % 256) ∷ (b ++ d ++ e ++ f ++ rest)) (flags % 256) at long
 
-big_again : (before rest : List ℕ) (c : Code) (cs : List Clause) (at place : ℕ) → length before ≡ at → place % 4 ≡ 0 → IsWritable c → body_at (before ++ (fat_written c cs ++ rest)) at place ≡ Some (code_again c cs)
+big_again : (before rest : List ℕ) (c : Code) (cs : List Clause) (at place : ℕ) → length before ≡ at → place % 4 ≡ 0 → IsWritable c cs → body_at (before ++ (fat_written c cs ++ rest)) at place ≡ Some (code_again c cs)
 big_again before rest c cs at place long four fits =
     let first : flags_written c.init cs % 256 % 4 ≡ 3 = ap (λ n. n % 256 % 4) (flags_are c.init cs) ∙ fat_first c.init (some cs) in
     body_from (before ++ (fat_written c cs ++ rest)) at place (flags_written c.init cs % 256) (first_there before rest c cs at long) first four
@@ -241,7 +248,7 @@ not_tiny : (c : Code) (x : Clause) (rest : List Clause) → is_tiny c (x ∷ res
 unfolding is_tiny
 not_tiny c x rest = refl
 
-body_again : (before rest : List ℕ) (c : Code) (cs : List Clause) (at place : ℕ) → length before ≡ at → (is_tiny c cs ≡ false → place % 4 ≡ 0) → IsWritable c → body_at (before ++ (body_written c cs ++ rest)) at place ≡ Some (code_again c cs)
+body_again : (before rest : List ℕ) (c : Code) (cs : List Clause) (at place : ℕ) → length before ≡ at → (is_tiny c cs ≡ false → place % 4 ≡ 0) → IsWritable c cs → body_at (before ++ (body_written c cs ++ rest)) at place ≡ Some (code_again c cs)
 unfolding body_written
 body_again before rest c cs at place long four fits = by_test (is_tiny c cs) refl
   where

@@ -83,12 +83,13 @@ place_for n c clauses = if is_tiny c clauses then n else padded n
 unfoldable pub with_body : List ℕ → Code → List Clause → List ℕ
 with_body bytes c clauses = bytes ++ replicate (place_for (length bytes) c clauses - length bytes) 0 ++ body_written c clauses
 
--- a body that is written: its numbers fit their bytes
-pub record IsWritable (c : Code) : Type 0 where
+-- a body that is written: its numbers fit their bytes, and so does the length of its sections
+pub record IsWritable (c : Code) (clauses : List Clause) : Type 0 where
   pub max : c.max < 2 ^ 16
   pub table : c.locals.table < 0x100
   pub row : c.locals.row < 2 ^ 24
   pub size : length c.code < 2 ^ 32
+  pub sections : 28 * length clauses < 2 ^ 32
 
 -- a clause whose numbers fit four bytes
 abbrev pub clause_fits : Clause → Bool
@@ -101,7 +102,7 @@ code_again c clauses = record { max = c.max; init = c.init; locals = nil_or c.lo
 
 -- a written body is read back, whatever stands before and behind it, at any place of an image that keeps the multiples of four
 abbrev pub BodyIsRead : Type 0
-BodyIsRead = (bytes rest : List ℕ) (c : Code) (clauses : List Clause) (first : ℕ) → IsWritable c → first % 4 ≡ 0
+BodyIsRead = (bytes rest : List ℕ) (c : Code) (clauses : List Clause) (first : ℕ) → IsWritable c clauses → first % 4 ≡ 0
     → body_at (with_body bytes c clauses ++ rest) (place_for (length bytes) c clauses) (first + place_for (length bytes) c clauses)
     ≡ Some (code_again c clauses)
 

@@ -133,7 +133,7 @@ with_alone : (c : Code) (cs : List Clause) → with_body [] c cs ≡ body_writte
 unfolding with_body
 with_alone c cs = rw (alone c cs) refl
 
-read_first : (c : Code) (cs : List Clause) (behind : List ℕ) (first : ℕ) → IsWritable c → first % 4 ≡ 0 → body_at (body_written c cs ++ behind) 0 first ≡ Some (code_again c cs)
+read_first : (c : Code) (cs : List Clause) (behind : List ℕ) (first : ℕ) → IsWritable c cs → first % 4 ≡ 0 → body_at (body_written c cs ++ behind) 0 first ≡ Some (code_again c cs)
 read_first c cs behind first fits four =
     let e = bodies_are_read [] behind c cs first fits four in
     let more : first ≡ first + 0 = omega arith in
@@ -150,7 +150,7 @@ fat_place : (n : ℕ) (c : Code) (cs : List Clause) → is_tiny c cs ≡ false �
 unfolding place_for
 fat_place n c cs is = rw is refl
 
-read_by : (c : Code) (cs : List Clause) (behind : List ℕ) (n : ℕ) (t : Bool) → is_tiny c cs ≡ t → IsWritable c → body_at (body_written c cs ++ behind) 0 (8192 + place_for n c cs) ≡ Some (code_again c cs)
+read_by : (c : Code) (cs : List Clause) (behind : List ℕ) (n : ℕ) (t : Bool) → is_tiny c cs ≡ t → IsWritable c cs → body_at (body_written c cs ++ behind) 0 (8192 + place_for n c cs) ≡ Some (code_again c cs)
 read_by c cs behind n true is fits =
     ap (λ xs. body_at (xs ++ behind) 0 (8192 + place_for n c cs)) (tiny_is c cs is)
     ∙ tiny_at_any (length c.code * 4 + 2) (c.code ++ behind) (8192 + place_for n c cs) 8192 (tiny_first (length c.code))
@@ -160,7 +160,7 @@ read_by c cs behind n false is fits =
     ap (λ p. body_at (body_written c cs ++ behind) 0 (8192 + p)) (fat_place n c cs is)
     ∙ read_first c cs behind (8192 + padded n) fits (padded_fours n)
 
-code_stands : (before behind : List ℕ) (c : Code) (cs : List Clause) → IsWritable c → code_loaded (loaded_with (with_body before c cs) behind) (8192 + place_for (length before) c cs) ≡ Some (code_again c cs)
+code_stands : (before behind : List ℕ) (c : Code) (cs : List Clause) → IsWritable c cs → code_loaded (loaded_with (with_body before c cs) behind) (8192 + place_for (length before) c cs) ≡ Some (code_again c cs)
 code_stands before behind c cs fits =
     let n = place_for (length before) c cs in
     let regions = loaded_with (with_body before c cs) behind in
@@ -170,7 +170,7 @@ code_stands before behind c cs fits =
     ∙ ap (λ bytes. body_at bytes 0 (8192 + n)) (body_dropped before behind c cs)
     ∙ read_by c cs behind (length before) (is_tiny c cs) refl fits
 
-pub written_stands : (count : ℕ → ℕ) (users : ℕ → Option (List ℕ)) (before : List ℕ) (c : Code) (cs : List Clause) (b : Body) → IsWritable c → body_of users (code_again c cs) ≡ b → is_good count (code_again c cs) ≡ true
+pub written_stands : (count : ℕ → ℕ) (users : ℕ → Option (List ℕ)) (before : List ℕ) (c : Code) (cs : List Clause) (b : Body) → IsWritable c cs → body_of users (code_again c cs) ≡ b → is_good count (code_again c cs) ≡ true
     → texts_are_there users c.code ≡ true → StandsAt count users (with_body before c cs) (8192 + place_for (length before) c cs) b
 unfolding body_loaded
 written_stands count users before c cs b fits is good there = record {
@@ -204,7 +204,7 @@ same_there old new code says same = same.there
 
 -- so it stands where it was written
 pub said_stands : (old new : ℕ → Option (List ℕ)) (count : ℕ → ℕ) (c : Code) (before says : List ℕ) (cs : List Clause) → SaysSame old new c.code says 0 → length says ≡ length c.code → nil_or c.locals ≡ c.locals
-    → list_all clause_fits cs ≡ true → cs ≡ map known_as (clauses_of c.sections) → EachIsByte says → body_is_sound count (body_of old c) ≡ true → IsWritable (said_as c says)
+    → list_all clause_fits cs ≡ true → cs ≡ map known_as (clauses_of c.sections) → EachIsByte says → body_is_sound count (body_of old c) ≡ true → IsWritable (said_as c says) cs
     → StandsAt count new (with_body before (said_as c says) cs) (8192 + place_for (length before) (said_as c says) cs) (body_of old c)
 said_stands old new count c before says cs same size nil fit are bytes sound fits =
     written_stands count new before (said_as c says) cs (body_of old c) fits (same_body old new c says cs same size nil fit are) (same_good old new count c says cs same size nil fit are bytes sound) (same_there old new c.code says same)

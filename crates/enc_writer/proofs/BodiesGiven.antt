@@ -153,11 +153,11 @@ texts_there assembled c l k b may good is =
     let read = assembled (user_offset h) b.code is.fits is.reach (can c l k b may is).small (omega (arith, is.room)) in
     ap (list_all (λ (x : ℕ × Instruction ℕ). text_is_there (users_written c l) x.1.arg)) read.0 ∙ all_there h (users_written c l) 0 b.code (users_read c l good) is.kept
 
-writable : AssembledIsRead → (c : Chain) (l : EditList) (k : ℕ) (b : BodyValue) → MayFollow c l → IsGiven c l k b → HasWidths b → IsWritable (parts_of (heaps_written c l) b)
+writable : AssembledIsRead → (c : Chain) (l : EditList) (k : ℕ) (b : BodyValue) → MayFollow c l → IsGiven c l k b → HasWidths b → IsWritable (parts_of (heaps_written c l) b) b.clauses
 writable assembled c l k b may is widths =
     let w = can c l k b may is in
     let read = assembled (user_offset (heaps_written c l)) b.code is.fits is.reach w.small (omega (arith, is.room)) in
-    record { max = widths.max; table = widths.table; row = w.row; size = omega (arith, read.2, is.room) }
+    record { max = widths.max; table = widths.table; row = w.row; size = omega (arith, read.2, is.room); sections = omega (arith, is.room) }
 
 -- and stands where it was written to, whatever comes behind
 pub stands : AssembledIsRead → (c : Chain) (l : EditList) (k : ℕ) (b : BodyValue) (il behind : List ℕ) → MayFollow c l → IsGood (heaps_written c l) → IsGiven c l k b → HasWidths b → 0 < length il

@@ -103,7 +103,7 @@ with_alone : (c : Code) (cs : List Clause) → with_body [] c cs ≡ body_writte
 unfolding with_body
 with_alone c cs = rw (alone c cs) refl
 
-read_first : (c : Code) (cs : List Clause) (behind : List ℕ) (first : ℕ) → IsWritable c → first % 4 ≡ 0 → body_at (body_written c cs ++ behind) 0 first ≡ Some (code_again c cs)
+read_first : (c : Code) (cs : List Clause) (behind : List ℕ) (first : ℕ) → IsWritable c cs → first % 4 ≡ 0 → body_at (body_written c cs ++ behind) 0 first ≡ Some (code_again c cs)
 read_first c cs behind first fits four =
     let e = bodies_are_read [] behind c cs first fits four in
     let more : first ≡ first + 0 = omega arith in
@@ -120,7 +120,7 @@ fat_place : (n : ℕ) (c : Code) (cs : List Clause) → is_tiny c cs ≡ false �
 unfolding place_for padded
 fat_place n c cs is = rw is (omega arith)
 
-read_by : (c : Code) (cs : List Clause) (behind : List ℕ) (n : ℕ) (t : Bool) → is_tiny c cs ≡ t → IsWritable c → body_at (body_written c cs ++ behind) 0 (place_for n c cs) ≡ Some (code_again c cs)
+read_by : (c : Code) (cs : List Clause) (behind : List ℕ) (n : ℕ) (t : Bool) → is_tiny c cs ≡ t → IsWritable c cs → body_at (body_written c cs ++ behind) 0 (place_for n c cs) ≡ Some (code_again c cs)
 read_by c cs behind n true is fits =
     ap (λ xs. body_at (xs ++ behind) 0 (place_for n c cs)) (tiny_is c cs is)
     ∙ tiny_at_any (length c.code * 4 + 2) (c.code ++ behind) (place_for n c cs) 0 (tiny_first (length c.code))
@@ -129,7 +129,7 @@ read_by c cs behind n true is fits =
 read_by c cs behind n false is fits = read_first c cs behind (place_for n c cs) fits (fat_place n c cs is)
 
 -- whatever stands behind it
-pub code_stands : (before behind : List ℕ) (c : Code) (cs : List Clause) → IsWritable c → 0 < length before → code_loaded (loaded_code (with_body before c cs ++ behind)) (place_for (length before) c cs) ≡ Some (code_again c cs)
+pub code_stands : (before behind : List ℕ) (c : Code) (cs : List Clause) → IsWritable c cs → 0 < length before → code_loaded (loaded_code (with_body before c cs ++ behind)) (place_for (length before) c cs) ≡ Some (code_again c cs)
 code_stands before behind c cs fits some =
     let n = place_for (length before) c cs in
     let il = with_body before c cs ++ behind in

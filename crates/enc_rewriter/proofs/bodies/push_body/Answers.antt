@@ -39,7 +39,8 @@ returns-in-Ok-write_body-clause-stands g c =
     let is : says ≡ c.in-Ok.code.items = c.deref-bytes.ensures.value in
     let are : cs ≡ c.in-Ok-clauses_of_body.clauses.items = c.deref.ensures.value in
     let same : SaysSame old new own.code says 0 = subst (λ xs. SaysSame old new own.code xs 0) (sym is) c.in-Ok.ensures.says in
-    let fits : IsWritable (said_as own says) = record { max = omega (arith, c.type_inv.body.0); table = omega (arith, c.type_inv.body.1); row = c.requires.rows; size = omega (arith, ap (λ (xs : List ℕ). length xs) is, c.in-Ok.ensures.size, c.requires.few) } in
+    let many = ap (λ (xs : List Clause). length xs) (are ∙ c.in-Ok-clauses_of_body.ensures.all) ∙ length-map (clauses_of own.sections) known_as in
+    let fits : IsWritable (said_as own says) cs = record { max = omega (arith, c.type_inv.body.0); table = omega (arith, c.type_inv.body.1); row = c.requires.rows; size = omega (arith, ap (λ (xs : List ℕ). length xs) is, c.in-Ok.ensures.size, c.requires.few); sections = omega (arith, many, c.requires.room) } in
     let stands = said_stands old new count own before says cs same (ap (λ (xs : List ℕ). length xs) is ∙ c.in-Ok.ensures.size) c.requires.nil
     (ap (list_all clause_fits) are ∙ c.in-Ok-clauses_of_body.ensures.fit) (are ∙ c.in-Ok-clauses_of_body.ensures.all) (bytes_each says c.bytes_law-2.ensures) c.requires.sound fits in
     let written : c.write_body.new.out.items ≡ with_body before (said_as own says) cs = c.in-Ok-write_body.ensures.written in
