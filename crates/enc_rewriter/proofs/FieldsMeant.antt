@@ -1,5 +1,5 @@
 -- The initial bytes of fields that are read of an image that was written are the module's.
-use Rattle.std.proofs.Common.{◌≡◌, ℕ, zero, suc, ◌-◌, ◌<◌, ◌≤◌, Bool, true, false, List, [], length, Option, Some, None, refl, sym, ap, subst, ◌∙◌, arith}
+use Rattle.std.proofs.Common.{◌≡◌, ℕ, zero, suc, ◌-◌, ◌%◌, ◌<◌, ◌≤◌, Bool, true, false, List, [], length, Option, Some, None, refl, sym, ap, subst, ◌∙◌, arith}
 use Rattle.std.specs.Prelude.{◌&&◌, ◌||◌, ◌==◌, option_map, option_and_then, unwrap_or, nat_lt, nat_le, slice_index, if◌then◌else◌}
 use Rattle.std.proofs.lemmas.Bool.Decides.{nat_tests}
 use Rattle.enc_base.specs.Order.{first_below}
@@ -169,3 +169,11 @@ pub field_loaded : (m : Module) (h : Built) (p : Placed) (rows : List (List (Lis
 field_loaded m h p rows s u r row table some =
     let w = field_there m u r.sound row table in
     (w.0, bytes_read m h p rows s u w.0 r row table w.1 some)
+
+-- and they stand at a multiple of eight
+pub field_aligned : (m : Module) (h : Built) (p : Placed) (rows : List (List (List ℕ))) (s : Source) (n : ℕ) → IsRead m h p rows s → n < row_count m 0x1D → raw_in s (nth_row 0x1D n) 0 % 8 ≡ 0
+field_aligned m h p rows s n r low =
+    let u = nth_row 0x1D n in
+    let row = row_there m 0x1D n low in
+    let w = field_there m u r.sound row refl in
+    (field_stands m h p rows s u w.0 r row refl w.1).aligned

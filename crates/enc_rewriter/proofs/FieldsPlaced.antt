@@ -37,10 +37,11 @@ taken front bytes behind n size =
     ∙ ap (take (length bytes)) (drop-append_seam front (bytes ++ behind))
     ∙ take-append_seam bytes behind
 
-pub written_placed : (front bytes : List ℕ) (n : ℕ) → length front ≡ n → 0 < length bytes → IsFieldPlaced (front ++ bytes) bytes (8192 + n)
-written_placed front bytes n size some = record {
+pub written_placed : (front bytes : List ℕ) (n : ℕ) → length front ≡ n → n % 8 ≡ 0 → 0 < length bytes → IsFieldPlaced (front ++ bytes) bytes (8192 + n)
+written_placed front bytes n size eight some = record {
   none = λ e. absurd (omega (arith, e));
   some = λ e. some;
+  aligned = omega (arith, eight);
   range = λ behind e.
       range_there n (length bytes) ((front ++ bytes) ++ behind) (omega (arith, size, length-append (front ++ bytes) behind, length-append front bytes))
       ∙ ap (λ x. Some x) (taken front bytes behind n size);
@@ -54,6 +55,7 @@ pub none_written : (code bytes : List ℕ) → length bytes ≡ 0 → IsFieldPla
 none_written code bytes e = record {
   none = λ z. empty bytes e;
   some = λ z. absurd (omega (arith, z));
+  aligned = refl;
   range = λ behind z. absurd (omega (arith, z));
 }
 
@@ -62,6 +64,7 @@ field_still : (code more there : List ℕ) (rva : ℕ) → IsFieldPlaced code th
 field_still code more there rva is = record {
   none = is.none;
   some = is.some;
+  aligned = is.aligned;
   range = λ behind e. ap (λ r. range_loaded r rva (length there)) (more_loaded code more behind) ∙ is.range (more ++ behind) e;
 }
 

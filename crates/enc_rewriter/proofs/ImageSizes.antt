@@ -14,12 +14,13 @@ use Rattle.enc_meta.specs.declared.heaps.HeapLengths.{HeapLengths}
 use Rattle.enc_rewriter.specs.Values.{no_starts}
 use Rattle.enc_meta.specs.Heaps.{Counted}
 use Rattle.enc_pe.specs.Written.{rounded, section_size, image_size}
+use Rattle.enc_pe.proofs.ImagesRead.{length_written}
 use Rattle.enc_plain.specs.Module.{Module}
 use Rattle.enc_plain.specs.Sound.{IsSound}
 use Rattle.enc_rows.specs.Written.{stream_of, heap_bits}
 use Rattle.enc_rewriter.specs.Numbers.{needs_jtd}
 use Rattle.enc_rewriter.specs.Placed.{Placed}
-use Rattle.enc_rewriter.specs.Rewritten.{HoldModule, FitsImage, root_of_parts}
+use Rattle.enc_rewriter.specs.Rewritten.{HoldModule, FitsImage, root_of_parts, image_of_parts}
 use Rattle.enc_rewriter.specs.Weight.{rows_weight, heaps_weight, bodies_weight, fields_weight, module_weight, most_weight}
 use Rattle.enc_rewriter.proofs.RowSizes.{stream_light}
 
@@ -197,6 +198,17 @@ heaps_are h none good =
 -- bodies and fields weigh no more than the module
 pub parts_light : (m : Module) (h : Built) → module_weight m h < most_weight → bodies_weight m + fields_weight m < 2 ^ 31
 parts_light m h light = omega (arith, weight_is m h, light)
+
+-- the image is no longer than the module's weight
+pub image_light : (m : Module) (h : Built) (p : Placed) (rows : List (List (List ℕ))) → IsSound m → HoldModule m h p rows → length p.code ≤ bodies_weight m + fields_weight m + 4096
+    → length (image_of_parts m h p rows) ≤ module_weight m h
+unfolding root_built image_of_parts
+image_light m h p rows sound held code =
+    let stream = stream_of rows (needs_jtd m) (heap_bits rows) in
+    let s = stream_light m (heaps_built h) p rows (needs_jtd m) (heap_bits rows) sound held.numbers held.said in
+    let root : length (root_of_parts m h rows) ≤ length stream + heaps_length (heaps_built h) + 146 = root_length (needs_jtd m) (needs_jtd m || has_ptr_rows rows) stream (heaps_built h) in
+    let heaps = heaps_are h held.begins held.good in
+    omega (arith, s, root, heaps, image_few (root_of_parts m h rows) p.code m.resources, weight_is m h, code, length_written (root_of_parts m h rows) p.code m.resources m.entry)
 
 pub image_fits : (m : Module) (h : Built) (p : Placed) (rows : List (List (List ℕ))) → IsSound m → HoldModule m h p rows → module_weight m h < most_weight
     → length p.code ≤ bodies_weight m + fields_weight m + 4096 → m.entry < 2 ^ 32 → FitsImage m h p rows

@@ -13,6 +13,7 @@ use Rattle.enc_rows.specs.Written.{IndicesFit}
 use Rattle.enc_rewriter.specs.Numbers.{needs_jtd}
 use Rattle.enc_rewriter.specs.Placed.{Placed}
 use Rattle.enc_rewriter.specs.Rewritten.{HoldModule, FitsImage, image_of_parts, MeansModule}
+use Rattle.enc_rewriter.proofs.FieldsMeant.{field_aligned}
 use Rattle.enc_rewriter.proofs.ModuleMeant.{KidsAreRead, module_meant}
 use Rattle.enc_rewriter.proofs.NumbersMeant.{IsRead}
 use Rattle.enc_rewriter.proofs.ReadAs.{IsReadAs}
@@ -49,4 +50,5 @@ image_meant m h p rows sound held fits are =
       source = w.0;
       read = base_is (image_of_parts m h p rows) w.0 w.1 (unrefused m h p rows w.0 r (are.good w.0 w.2));
       means = module_meant m h p rows w.0 r (are.kids w.0 w.2);
+      aligned = λ n low. field_aligned m h p rows w.0 n r low;
     }
