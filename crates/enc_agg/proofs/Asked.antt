@@ -4,7 +4,7 @@ use Rattle.std.specs.Prelude.{IsTrue, IfSome, MatchOption, is_some, option_map}
 use Rattle.enc_base.specs.declared.token.Token.{Token}
 use Rattle.enc_meta.specs.Joined.{joined_text, joined_blob, joined_user, joined_guid}
 use Rattle.enc_opcodes.specs.declared.code.CodeRef.{CodeRef}
-use Rattle.enc_opcodes.specs.Body.{Code, code_seen, body_of, texts_are_there}
+use Rattle.enc_opcodes.specs.Body.{Code, code_seen, body_of, texts_are_there, KeepsTexts}
 use Rattle.enc_opcodes.proofs.Bodies.{body_told_alike}
 use Rattle.enc_plain.specs.Bodies.{code_loaded, body_loaded}
 use Rattle.enc_delta.specs.Rules.{users_after}
@@ -19,7 +19,7 @@ use Rattle.enc_image.specs.Base.{users_of, module_in}
 use Rattle.enc_agg.specs.declared.added.Added.{Added}
 use Rattle.enc_agg.specs.declared.added.Found.{Found}
 use Rattle.enc_agg.specs.Extend.{extended, chain_with}
-use Rattle.enc_agg.specs.Seen.{sources, IsAggregate, found_in, found_seen, newest_number, code_in, token_meant, StayThere}
+use Rattle.enc_agg.specs.Seen.{sources, IsAggregate, found_in, found_seen, newest_number, code_in, token_meant}
 use Rattle.enc_agg.proofs.Histories.{IsFound, is_found, unfound_row, unfound_cell, base_users}
 use Rattle.enc_agg.proofs.Paired.{changes_fit}
 use Rattle.enc_agg.proofs.Viewing.{text_listed, blob_listed, guid_listed, number_listed, refer_listed, body_listed, field_listed, texts_listed}
@@ -110,7 +110,7 @@ loaded_as d n f g there more = told_more f g (code_loaded d.loaded n) there more
 
 -- the body of a method that a delta lists is the one at its place in that delta's code, by the user texts of all or by more
 pub loaded_found : (b : Source) (added upto : List Added) (u : Token) (k n : ℕ) (said : ℕ → Option (List ℕ)) (found : IsFound b added u upto k)
-    → StayThere (joined_user (chain_with b (sources added)).heaps) said → u.table ≡ 0x06 → newest_number upto (record { table = u.table; row = k }) 0 ≡ n
+    → KeepsTexts (joined_user (chain_with b (sources added)).heaps) said → u.table ≡ 0x06 → newest_number upto (record { table = u.table; row = k }) 0 ≡ n
     → cell_of (chain_with b (sources added)).plain u 0 ≡ Some (body (body_loaded found.last.delta.loaded said n))
 loaded_found b added upto u k n said found more is told =
     let c = chain_with b (sources found.older) in
@@ -123,7 +123,7 @@ loaded_found b added upto u k n said found more is told =
 
 -- by its parts
 pub body_found : (b : Source) (added upto : List Added) (u : Token) (k n : ℕ) (r : Option CodeRef) (said : ℕ → Option (List ℕ)) → IsFound b added u upto k
-    → StayThere (joined_user (chain_with b (sources added)).heaps) said → u.table ≡ 0x06 → newest_number upto (record { table = u.table; row = k }) 0 ≡ n
+    → KeepsTexts (joined_user (chain_with b (sources added)).heaps) said → u.table ≡ 0x06 → newest_number upto (record { table = u.table; row = k }) 0 ≡ n
     → option_map code_seen r ≡ code_in upto n → cell_of (chain_with b (sources added)).plain u 0 ≡ Some (body (option_map (λ c. body_of said (code_seen c)) r))
 unfolding body_loaded
 body_found b added upto u k n r said found more is told code =
@@ -133,7 +133,7 @@ body_found b added upto u k n r said found more is told code =
 
 -- that of one that no delta lists is the one at its place in the image
 pub base_loaded : (b : Source) (added : List Added) (u : Token) (n : ℕ) (said : ℕ → Option (List ℕ)) → IsAggregate b added
-    → StayThere (joined_user (chain_with b (sources added)).heaps) said → (o : Option Found) → option_map found_seen o ≡ found_in added u → o ≡ None
+    → KeepsTexts (joined_user (chain_with b (sources added)).heaps) said → (o : Option Found) → option_map found_seen o ≡ found_in added u → o ≡ None
     → IsTrue (has_row (module_in b) u) → u.table ≡ 0x06 → raw_in b u 0 ≡ n
     → cell_of (chain_with b (sources added)).plain u 0 ≡ Some (body (body_loaded b.loaded said n))
 base_loaded b added u n said agg more o is none there table raw =
@@ -144,7 +144,7 @@ base_loaded b added u n said agg more o is none there table raw =
 
 -- by its parts
 pub base_body : (b : Source) (added : List Added) (u : Token) (r : Option CodeRef) (said : ℕ → Option (List ℕ)) → IsAggregate b added
-    → StayThere (joined_user (chain_with b (sources added)).heaps) said → (o : Option Found) → option_map found_seen o ≡ found_in added u → o ≡ None
+    → KeepsTexts (joined_user (chain_with b (sources added)).heaps) said → (o : Option Found) → option_map found_seen o ≡ found_in added u → o ≡ None
     → IsTrue (has_row (module_in b) u) → u.table ≡ 0x06 → option_map code_seen r ≡ code_loaded b.loaded (raw_in b u 0)
     → cell_of (chain_with b (sources added)).plain u 0 ≡ Some (body (option_map (λ c. body_of said (code_seen c)) r))
 unfolding body_loaded

@@ -23,7 +23,8 @@ use Rattle.enc_agg.specs.Extend.{chain_with}
 use Rattle.enc_agg.specs.Place.{delta_at}
 use Rattle.enc_agg.specs.Follows.{Follows}
 use Rattle.enc_agg.specs.Next.{with_delta}
-use Rattle.enc_agg.specs.Seen.{History, sources, IsAggregate, found_or, found_in, found_seen, newest_number, file_of, body_with, place_of_all, StayThere}
+use Rattle.enc_agg.specs.Seen.{History, sources, IsAggregate, found_or, found_in, found_seen, newest_number, file_of, body_with, place_of_all}
+use Rattle.enc_opcodes.specs.Body.{KeepsTexts}
 use Rattle.enc_agg.proofs.Asked.{loaded_found, base_loaded, raw_found}
 use Rattle.enc_agg.proofs.Generations.{fewer_found}
 use Rattle.enc_agg.proofs.Histories.{IsFound, some_first}
@@ -140,7 +141,7 @@ own_stands c d u k n follows place table raw =
 
 -- a method that no delta lists has the body at its place in the base
 pub base_place_body : (b : Source) (added : List Added) (room : ℕ) (u : Token) (n : ℕ) (texts : ℕ → Option (List ℕ)) → IsAggregate b added
-    → StayThere (joined_user (chain_with b (sources added)).heaps) texts → (o : Option Found) → option_map found_seen o ≡ found_in added u → o ≡ None
+    → KeepsTexts (joined_user (chain_with b (sources added)).heaps) texts → (o : Option Found) → option_map found_seen o ≡ found_in added u → o ≡ None
     → IsTrue (has_row (module_in b) u) → u.table ≡ 0x06 → raw_in b u 0 ≡ n → n < 2 ^ 32
     → cell_of (chain_with b (sources added)).plain u 0 ≡ Some
     (body (body_with texts (record { base = b; deltas = sources added; room = room }) (place_of_all 0 n)))
@@ -160,7 +161,7 @@ found_file b added upto room u k found is =
     later_file (record { base = b; deltas = sources added; room = room }) (length upto) (length found.older) many ∙ file_found added upto u k found.last found.older is found.upto_is
 
 pub found_place_body : (b : Source) (added upto : List Added) (room : ℕ) (u : Token) (k n : ℕ) (texts : ℕ
-    → Option (List ℕ)) (found : IsFound b added u upto k) → StayThere (joined_user (chain_with b (sources added)).heaps) texts
+    → Option (List ℕ)) (found : IsFound b added u upto k) → KeepsTexts (joined_user (chain_with b (sources added)).heaps) texts
     → found_in added u ≡ Some (upto, k) → u.table ≡ 0x06 → newest_number upto (record { table = u.table; row = k }) 0 ≡ n → n < 2 ^ 32
     → cell_of (chain_with b (sources added)).plain u 0 ≡ Some
     (body (body_with texts (record { base = b; deltas = sources added; room = room }) (place_of_all (length upto) n)))

@@ -27,7 +27,8 @@ use Rattle.enc_delta.specs.Pairs.{attached_of}
 use Rattle.enc_agg.specs.Follows.{Lands, Follows}
 use Rattle.enc_plain.specs.Sound.{HasTables, HasOwners}
 use Rattle.enc_agg.specs.Next.{with_delta}
-use Rattle.enc_agg.specs.Seen.{sources, IsAdded, AllAdded, found_or, found_in, rows_counted, StayThere}
+use Rattle.enc_agg.specs.Seen.{sources, IsAdded, AllAdded, found_or, found_in, rows_counted}
+use Rattle.enc_opcodes.specs.Body.{KeepsTexts}
 use Rattle.enc_base.specs.Order.{or_else, first_below}
 use Rattle.enc_base.specs.declared.refusal.Place.TheVariants as place
 use Rattle.enc_base.specs.declared.refusal.Place.{Place}
@@ -248,7 +249,7 @@ last_limited b a older all =
     limited (chain_with b (sources older)) a.delta a.before last.before (heaps_unbroken (chain_with b (sources older)) a.delta last.follows.rules)
 
 -- a user text that is there stays with one delta more
-pub users_stay : (c : Chain) (d : Source) → StayThere (joined_user c.heaps) (joined_user (extended c d).heaps)
+pub users_stay : (c : Chain) (d : Source) → KeepsTexts (joined_user c.heaps) (joined_user (extended c d).heaps)
 unfolding extended
 users_stay c d = λ o units is. user_stays c.heaps d.heaps o units is
 

@@ -5,7 +5,7 @@ use Rattle.std.proofs.lemmas.List.{take_at}
 use Rattle.enc_base.specs.declared.token.Token.{Token}
 use Rattle.enc_index.specs.Index.{value_at}
 use Rattle.enc_meta.specs.Joined.{joined_text, joined_blob, joined_user, joined_guid}
-use Rattle.enc_opcodes.specs.Body.{code_seen, body_of, texts_are_there}
+use Rattle.enc_opcodes.specs.Body.{code_seen, body_of, texts_are_there, KeepsTexts}
 use Rattle.enc_opcodes.specs.declared.code.CodeRef.{CodeRef}
 use Rattle.enc_rows.specs.Source.{Source, raw_in}
 use Rattle.enc_schema.specs.Children.{is_child_table, owner_table}
@@ -22,7 +22,7 @@ use Rattle.enc_agg.specs.declared.aggregate.Ready.{Ready}
 use Rattle.enc_agg.specs.Directory.{row_key, kids_key, with_kept}
 use Rattle.enc_agg.specs.Extend.{extended, chain_with}
 use Rattle.enc_agg.specs.Next.{MayBeNext, with_delta}
-use Rattle.enc_agg.specs.Seen.{History, chain_of_all, module_of_all, users_of_all, body_with, body_of_all, place_of_all, file_of, token_meant, rows_counted, StayThere}
+use Rattle.enc_agg.specs.Seen.{History, chain_of_all, module_of_all, users_of_all, body_with, body_of_all, place_of_all, file_of, token_meant, rows_counted}
 use Rattle.enc_agg.proofs.Asked.{read_as}
 use Rattle.enc_agg.proofs.BlobPlaces.{told_by, some_by, matched, base_cell_blob}
 use Rattle.enc_agg.proofs.BodyPlaces.{in_place, stands_in_place, own_stands, next_file, place_stays}
@@ -132,7 +132,7 @@ own_place h r u k i n o next is some kind raw = matched (joined_blob (after h r)
 
 -- bodies
 pub old_code : (h : History) (r : Ready) (u : Token) (p : Option CodeRef) (o : Option ℕ) → MayBeNext h r → o ≡ place_in (listed r.delta) u → o ≡ None
-    → ((texts : ℕ → Option (List ℕ)) → StayThere (users_of_all h) texts
+    → ((texts : ℕ → Option (List ℕ)) → KeepsTexts (users_of_all h) texts
     → cell_of (module_of_all h) u 0 ≡ Some (body (option_map (λ c. body_of texts (code_seen c)) p)))
     → cell_of (after h r).plain u 0 ≡ Some (body (option_map (λ c. body_of (joined_user (after h r).heaps) (code_seen c)) p))
 old_code h r u p o next is none told = old_cell h r u 0 _ o next is none (told (joined_user (after h r).heaps) (users_stay (chain_of_all h) r.delta))
@@ -172,7 +172,7 @@ unfolding chain_with
 users_next h d = refl
 
 pub old_code_place : (h : History) (r : Ready) (u : Token) (n : ℕ) (o : Option ℕ) → MayBeNext h r → o ≡ place_in (listed r.delta) u → o ≡ None
-    → ((texts : ℕ → Option (List ℕ)) → StayThere (users_of_all h) texts → cell_of (module_of_all h) u 0 ≡ Some (body (body_with texts h n)))
+    → ((texts : ℕ → Option (List ℕ)) → KeepsTexts (users_of_all h) texts → cell_of (module_of_all h) u 0 ≡ Some (body (body_with texts h n)))
     → ((texts : ℕ → Option (List ℕ)) → is_some (body_with texts h n) ≡ not (n == 0))
     → cell_of (after h r).plain u 0 ≡ Some (body (body_of_all (with_delta h r.delta) n))
 old_code_place h r u n o next is none told some =

@@ -112,10 +112,6 @@ body_with texts h n = option_and_then (λ (s : Source). body_loaded s.loaded tex
 abbrev pub body_of_all : History → ℕ → Option Body
 body_of_all h = body_with (users_of_all h) h
 
--- user texts that are there stay
-abbrev pub StayThere : (ℕ → Option (List ℕ)) → (ℕ → Option (List ℕ)) → Type 0
-StayThere texts more = (offset : ℕ) (units : List ℕ) → texts offset ≡ Some units → more offset ≡ Some units
-
 -- the place of an offset in a generation's own heap
 abbrev pub own_place : List ℕ → ℕ → ℕ → Option HeapPlace
 own_place heap generation offset = if nat_lt offset (length heap) then Some (record { generation = generation; offset = offset }) else None

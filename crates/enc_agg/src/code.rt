@@ -1,10 +1,10 @@
 //! The bodies of an aggregate, by its own user texts or by more of them.
 ghost use Rattle.std.specs.Prelude.{◌≡◌, ℕ, ◌<◌, ◌^◌, ◌==◌, List, Option, Some, IsTrue, IfSome, is_some, length, not, option_map};
-ghost use Rattle.enc_opcodes.specs.Body.{body_of, code_seen, texts_are_there};
+ghost use Rattle.enc_opcodes.specs.Body.{body_of, code_seen, texts_are_there, KeepsTexts};
 ghost use Rattle.enc_plain.specs.Cell.{body};
 ghost use Rattle.enc_plain.specs.Module.{has_row, cell_of};
 ghost use Rattle.enc_schema.specs.Tables.{method_def};
-ghost use Rattle.enc_agg.specs.Seen.{module_of_all, users_of_all, body_with, place_of_all, StayThere};
+ghost use Rattle.enc_agg.specs.Seen.{module_of_all, users_of_all, body_with, place_of_all};
 
 use crate::added::{body_in, number};
 use crate::aggregate::Aggregate;
@@ -30,7 +30,7 @@ impl Aggregate {
     pub(crate) fn code_of(&self, method: Token) -> Option<CodeRef<'_>>
         requires row { IsTrue (has_row (module_of_all self.now) method) }
         requires table { method.table ≡ method_def }
-        ensures body { (texts : ℕ → Option (List ℕ)) → StayThere (users_of_all self.now) texts → cell_of (module_of_all self.now) method 0 ≡ Some (body (option_map (λ c. body_of texts (code_seen c)) result)) }
+        ensures body { (texts : ℕ → Option (List ℕ)) → KeepsTexts (users_of_all self.now) texts → cell_of (module_of_all self.now) method 0 ≡ Some (body (option_map (λ c. body_of texts (code_seen c)) result)) }
         ensures texts { IfSome result (λ c. IsTrue (texts_are_there (users_of_all self.now) c.code.now)) }
         ensures few { IfSome result (λ c. length c.code.now < 2 ^ 32) }
         ensures short { IfSome result (λ c. length c.sections.now < 2 ^ 32) }
@@ -50,7 +50,7 @@ impl Aggregate {
     pub(crate) fn place_of_code(&self, method: Token) -> u64
         requires row { IsTrue (has_row (module_of_all self.now) method) }
         requires table { method.table ≡ method_def }
-        ensures body { (texts : ℕ → Option (List ℕ)) → StayThere (users_of_all self.now) texts → cell_of (module_of_all self.now) method 0 ≡ Some (body (body_with texts self.now result)) }
+        ensures body { (texts : ℕ → Option (List ℕ)) → KeepsTexts (users_of_all self.now) texts → cell_of (module_of_all self.now) method 0 ≡ Some (body (body_with texts self.now result)) }
         ensures some { (texts : ℕ → Option (List ℕ)) → is_some (body_with texts self.now result) ≡ not (result == 0) }
     {
         let Some(found) = find(&self.added, &self.directory, method) else {

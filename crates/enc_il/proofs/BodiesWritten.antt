@@ -111,9 +111,9 @@ sections_there front rest c (x ∷ cs) at long few =
     let e : front ++ (((c.code ++ padding) ++ sections) ++ rest) ≡ before ++ (sections ++ rest) = simp append_assoc in
     let l : length before ≡ at + padded (length c.code) = omega (arith, length-append front (c.code ++ padding), code_length c, long) in
     ap (option_and_then if_short) (
-      ap (λ bytes. sections_at (drop (at + padded (length c.code)) bytes)) e
-      ∙ ap sections_at (drop_at before (sections ++ rest) (at + padded (length c.code)) l)
-      ∙ sections_again (x ∷ cs) rest (omega arith)
+    ap (λ bytes. sections_at (drop (at + padded (length c.code)) bytes)) e
+    ∙ ap sections_at (drop_at before (sections ++ rest) (at + padded (length c.code)) l)
+    ∙ sections_again (x ∷ cs) rest (omega arith)
     )
     ∙ short_so sections few
 

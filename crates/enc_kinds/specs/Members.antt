@@ -27,12 +27,9 @@ local_kinds m locals =
     else if locals.table == tables.stand_alone_sig then local_kinds_in (bytes_at (cells_of m) locals columns.stand_alone_sig_signature)
     else None
 
--- the method, or the field, is static (II.23.1.10, II.23.1.5)
+-- the method is static (II.23.1.10)
 abbrev pub is_static_method : Module → Token → Bool
 is_static_method m method = has_flag 0x10 (number_at (cells_of m) method columns.method_def_flags)
-
-abbrev pub is_static_field : Module → Token → Bool
-is_static_field m field = has_flag 0x10 (number_at (cells_of m) field columns.field_flags)
 
 abbrev pub is_named_as : Module → List ℕ → Token → Bool
 is_named_as m name method = bytes_eq (bytes_at (cells_of m) method columns.method_def_name) name

@@ -34,10 +34,3 @@ type_kind m t =
     if t.table == tables.type_ref then reference_kind m t
     else if t.table == tables.type_def then (if is_value_type (cells_of m) t then None else Some kind.Ref)
     else None
-
--- a TypeRef of the namespace System with this name (II.22.38)
-unfoldable pub is_of_system : Module → List ℕ → Token → Bool
-is_of_system m name t =
-    t.table == tables.type_ref
-    && bytes_eq (bytes_at (cells_of m) t columns.type_ref_type_namespace) (codes "System")
-    && bytes_eq (bytes_at (cells_of m) t columns.type_ref_type_name) name

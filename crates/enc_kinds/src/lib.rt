@@ -16,11 +16,11 @@ mod types;
 pub use element::kind_of_element;
 pub use kinds::Kinds;
 pub use members::{
-    field_kind, is_called_with_nothing, is_constructor, is_static_field, is_static_method,
-    local_kinds, method_shape, type_constructor,
+    field_kind, is_called_with_nothing, is_constructor, is_static_method, local_kinds,
+    method_shape, type_constructor,
 };
 pub use members_outside::outside_of;
 pub use outside::Outside;
 pub use runs::runs_body;
 pub use shape::MethodShape;
-pub use types::{is_of_system, type_kind};
+pub use types::type_kind;

@@ -6,7 +6,7 @@ ghost use Rattle.enc_schema.specs.Tables.{field, method_def, type_def};
 ghost use Rattle.enc_plain.specs.Cell.{blobs, kind_in};
 ghost use Rattle.enc_plain.specs.Module.{cells_of, has_row};
 ghost use Rattle.enc_plain.specs.Rows.{bytes_at};
-ghost use Rattle.enc_kinds.specs.Members.{call_shape, field_kind, local_kinds, is_static_method, is_static_field, is_named_as, is_constructor, is_type_constructor, type_constructor};
+ghost use Rattle.enc_kinds.specs.Members.{call_shape, field_kind, local_kinds, is_static_method, is_named_as, is_constructor, is_type_constructor, type_constructor};
 
 use crate::kinds::Kinds;
 use crate::shape::MethodShape;
@@ -15,7 +15,7 @@ use enc_base::Token;
 use enc_objects::Kind;
 use enc_plain::{CellView, ModuleView, Viewed, is_row};
 use enc_schema::columns::{
-    FIELD_FLAGS, FIELD_SIGNATURE, METHOD_DEF_FLAGS, METHOD_DEF_NAME, METHOD_DEF_SIGNATURE,
+    FIELD_SIGNATURE, METHOD_DEF_FLAGS, METHOD_DEF_NAME, METHOD_DEF_SIGNATURE,
     STAND_ALONE_SIG_SIGNATURE,
 };
 use enc_schema::tables::{METHOD_DEF, STAND_ALONE_SIG};
@@ -83,16 +83,6 @@ pub fn is_static_method<V: ModuleView>(view: &V, method: Token) -> bool
 {
     let rows = Viewed { view };
     rows.number(method, METHOD_DEF_FLAGS) / 0x10 % 2 == 1
-}
-
-/// Whether a field is static (ECMA-335 II.23.1.5).
-#[tactic(auto, using(enc_plain::proofs::ColumnKinds::field_flags))]
-pub fn is_static_field<V: ModuleView>(view: &V, member: Token) -> bool
-    requires { member.table ≡ field }
-    ensures { result ≡ is_static_field (V.meaning view.now) member }
-{
-    let rows = Viewed { view };
-    rows.number(member, FIELD_FLAGS) / 0x10 % 2 == 1
 }
 
 /// Whether a method has this name.

@@ -8,9 +8,8 @@ use crate::outside::Outside::{
     self, AreEqual, ConcatThree, ConcatTwo, NewException, NewObject, TextLength, TextUnit,
     WriteLine, WriteLineNumber, WriteLineText, WriteText,
 };
-use crate::types::is_of_system;
 use enc_base::Token;
-use enc_plain::{CellView, ModuleView, Viewed};
+use enc_plain::{CellView, ModuleView, Viewed, is_of_system};
 use enc_schema::columns::{MEMBER_REF_CLASS, MEMBER_REF_NAME, MEMBER_REF_SIGNATURE};
 use enc_schema::tables::MEMBER_REF;
 

@@ -2,7 +2,7 @@
 ghost use Rattle.std.specs.Prelude.{◌≡◌, List, map};
 ghost use Rattle.enc_schema.specs.Tables.{type_def, type_ref};
 ghost use Rattle.enc_plain.specs.Module.{cells_of};
-ghost use Rattle.enc_kinds.specs.Types.{found, reference_kind, type_kind, is_of_system};
+ghost use Rattle.enc_kinds.specs.Types.{found, reference_kind, type_kind};
 ghost use Rattle.enc_kinds.specs.Seen.{system_kind_seen};
 
 use enc_base::Token;
@@ -72,18 +72,4 @@ pub fn type_kind<V: ModuleView>(view: &V, token: Token) -> Option<Kind>
         }
         _ => None,
     }
-}
-
-/// Whether the token is a TypeRef of the namespace System with this name, whatever its scope (ECMA-335
-/// II.22.38).
-#[tactic(auto, using(enc_plain::proofs::ColumnKinds::reference_name, enc_plain::proofs::ColumnKinds::reference_space), unfolding(crate::specs::Types::is_of_system))]
-pub fn is_of_system<V: ModuleView>(view: &V, name: &[u8], token: Token) -> bool
-    ensures { result ≡ is_of_system (V.meaning view.now) name.now token }
-{
-    if token.table != TYPE_REF {
-        return false;
-    }
-    let rows = Viewed { view };
-    rows.text(token, TYPE_REF_TYPE_NAMESPACE) == b"System".as_slice()
-        && rows.text(token, TYPE_REF_TYPE_NAME) == name
 }

@@ -11,11 +11,7 @@ use Rattle.enc_opcodes.specs.declared.op.Operand.{Operand}
 use Rattle.enc_opcodes.specs.declared.code.Clause.{Clause}
 use Rattle.enc_opcodes.specs.Instruction.{Argument, nothing, number, target, targets, token, text, raw, Instruction, instructions_of}
 use Rattle.enc_opcodes.specs.Clause.{clauses_of}
-use Rattle.enc_opcodes.specs.Body.{Code, told, instruction_told, body_of, may_name, is_named, is_instruction_start, arg_is_good, instruction_is_good, clause_is_good, locals_are_good, is_good, text_is_there, texts_are_there}
-
--- texts that agree where a text is there tell the same
-abbrev pub KeepsTexts : (ℕ → Option (List ℕ)) → (ℕ → Option (List ℕ)) → Type 0
-KeepsTexts f g = (o : ℕ) (x : List ℕ) → f o ≡ Some x → g o ≡ Some x
+use Rattle.enc_opcodes.specs.Body.{KeepsTexts, Code, told, instruction_told, body_of, may_name, is_named, is_instruction_start, arg_is_good, instruction_is_good, clause_is_good, locals_are_good, is_good, text_is_there, texts_are_there}
 
 told_by : (f g : ℕ → Option (List ℕ)) (offset : ℕ) (o : Option (List ℕ)) → f offset ≡ o → is_some o ≡ true → KeepsTexts f g → unwrap_or (f offset) [] ≡ unwrap_or (g offset) []
 told_by f g offset None is there keeps = absurd (cc)

@@ -1,5 +1,5 @@
 -- A method's body: where its parts stand, what it means, and when it is good (ECMA-335 II.25.4, III.1.7).
-use Rattle.std.specs.Prelude.{ℕ, ◌+◌, ◌-◌, ◌/◌, ◌%◌, ◌^◌, Bool, true, false, not, ◌&&◌, ◌||◌, List, [], ◌∷◌, length, map, take, drop, Option, Some, None, option_map, option_and_then, unwrap_or, is_some, nat_le, nat_lt, ◌==◌, if◌then◌else◌}
+use Rattle.std.specs.Prelude.{◌≡◌, ℕ, ◌+◌, ◌-◌, ◌/◌, ◌%◌, ◌^◌, Bool, true, false, not, ◌&&◌, ◌||◌, List, [], ◌∷◌, length, map, take, drop, Option, Some, None, option_map, option_and_then, unwrap_or, is_some, nat_le, nat_lt, ◌==◌, if◌then◌else◌}
 use Rattle.std.specs.List.{list_any, list_all}
 use Rattle.std.specs.Int.{w8, w16, w32}
 use Rattle.enc_base.specs.Numbers.{little_endian_at, padded, has_flag}
@@ -168,6 +168,10 @@ is_good count c =
 abbrev pub text_is_there : (ℕ → Option (List ℕ)) → Argument ℕ → Bool
 text_is_there texts (text offset) = is_some (texts offset)
 text_is_there texts _ = true
+
+-- texts that are there stay there
+abbrev pub KeepsTexts : (ℕ → Option (List ℕ)) → (ℕ → Option (List ℕ)) → Type 0
+KeepsTexts texts more = (offset : ℕ) (units : List ℕ) → texts offset ≡ Some units → more offset ≡ Some units
 
 -- each user text that the code names is there
 unfoldable pub texts_are_there : (ℕ → Option (List ℕ)) → List ℕ → Bool

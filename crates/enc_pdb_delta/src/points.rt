@@ -1,6 +1,6 @@
 //! The points of the edits that have some, as a source of points for rows that have no gaps.
 ghost use Rattle.std.specs.Prelude.{◌≡◌, true, [], option_map, IfOk, Some};
-ghost use Rattle.enc_seqpoints.specs.Grammar.{method_points, points_in};
+ghost use Rattle.enc_seqpoints.specs.Grammar.{points_in};
 ghost use Rattle.enc_pdb_delta.specs.Listed.{said_by, said_at, can_be_said, can_be_spelled_at, edit_of_row, numbered_document, points_said_of, pdb_listed, listed_known};
 
 use crate::documents::StatedDocuments;
@@ -32,17 +32,6 @@ impl<'a> Model for ListPoints<'a> {
     ghost view = { λ s. record { documents = s.documents; methods = said_at s.edits.now s.placed.now } };
 
     ghost invariant = { λ s. can_be_spelled_at s.edits.now s.placed.now ≡ true };
-}
-
-/// The points of a method of which nothing is known: those of an empty blob.
-#[tactic(auto, unfolding(enc_seqpoints::specs::Grammar::points_in))]
-fn no_points(alloc: Global) -> Result<Points, AllocError>
-    ensures { IfOk result (λ points. points ≡ method_points 0 []) }
-{
-    match read_points(alloc, &[], 0) {
-        Ok(points) => Ok(points),
-        Err(_) => Err(AllocError),
-    }
 }
 
 /// The blob of the points of an edit.
@@ -92,11 +81,11 @@ fn points_of(
     ensures { IfOk result (λ points. points ≡ points_said_of (said_at edits.now placed.now) method) }
 {
     if method.table != METHOD_DEF {
-        return no_points(alloc);
+        return Ok(Points::none(alloc));
     }
     match edit_of(edits, placed, method.row) {
         Some(edit) => said(alloc, edit),
-        None => no_points(alloc),
+        None => Ok(Points::none(alloc)),
     }
 }
 

@@ -20,4 +20,5 @@ pub mod DebugSeen
 pub mod Keys
 pub mod SoundDebug
 pub mod Places
+pub mod System
 pub mod ValueType

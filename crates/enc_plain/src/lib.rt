@@ -16,6 +16,8 @@ mod places;
 mod points;
 mod ref_keys;
 mod signature;
+mod system;
+mod units;
 mod value_type;
 mod view;
 
@@ -30,5 +32,7 @@ pub use place::RowPlace;
 pub use points::PointSource;
 pub use ref_keys::RefKeys;
 pub use signature::{is_signature, kind_in_table, signature_column};
+pub use system::is_of_system;
+pub use units::units_of;
 pub use value_type::is_value_type;
 pub use view::{ModuleView, index_token, is_row};

@@ -1,7 +1,6 @@
 //! The row by which a file knows a method, and what it says there.
 ghost use Rattle.std.specs.Prelude.{◌≡◌, [], None, IfOk, option_map};
 ghost use Rattle.enc_plain.specs.DebugSeen.{document_seen};
-ghost use Rattle.enc_seqpoints.specs.Grammar.{method_points};
 ghost use Rattle.enc_ppdb.specs.Fault.{documents_fault};
 ghost use Rattle.enc_ppdb.specs.PdbChain.{document_at, points_at, documents_at};
 
@@ -10,7 +9,7 @@ use crate::file::File;
 use enc_base::Token;
 use enc_plain::DocumentRef;
 use enc_schema::tables::DOCUMENT;
-use enc_seqpoints::{Points, read_points};
+use enc_seqpoints::Points;
 use std::alloc::{AllocError, Global};
 use std::marker::Model;
 
@@ -32,17 +31,6 @@ impl<'a> Model for Known<'a> {
     ghost view = { λ k. (k.file.now, k.row) };
 
     ghost invariant = { λ k. documents_fault k.file.now ≡ None };
-}
-
-/// The points of a method that no file knows: those of an empty blob.
-#[tactic(auto, unfolding(enc_seqpoints::specs::Grammar::points_in))]
-fn no_points(alloc: Global) -> Result<Points, AllocError>
-    ensures { IfOk result (λ points. points ≡ method_points 0 []) }
-{
-    match read_points(alloc, &[], 0) {
-        Ok(points) => Ok(points),
-        Err(_) => Err(AllocError),
-    }
 }
 
 /// The document with a number in a file whose documents are good, None where the file has no such
@@ -88,11 +76,11 @@ pub(crate) fn points_at(alloc: Global, known: Option<Known<'_>>) -> Result<Point
     ensures { IfOk result (λ points. points ≡ points_at known.entry) }
 {
     let Some(known) = known else {
-        return no_points(alloc);
+        return Ok(Points::none(alloc));
     };
     match points_of(alloc, known.file, known.row)? {
         Some(points) => Ok(points),
-        None => no_points(alloc),
+        None => Ok(Points::none(alloc)),
     }
 }
 

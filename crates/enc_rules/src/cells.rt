@@ -75,11 +75,7 @@ fn value_at(cells: &[Cell], i: usize) -> Option<&Cell>
 
 /// One of the cells for these columns but runs names no row.
 #[tactic(auto, using(crate::proofs::TokensNamed::names_start, crate::proofs::TokensNamed::names_skip, crate::proofs::TokensNamed::names_done))]
-fn cells_break<C: ChainView>(
-    context: &Context<'_, C>,
-    columns: &[Column],
-    cells: &[Cell],
-) -> bool
+fn cells_break<C: ChainView>(context: &Context<'_, C>, columns: &[Column], cells: &[Cell]) -> bool
     ensures { result ≡ cells_break (listed_counts context.now) (filter is_stated columns.now) cells.now }
 {
     let mut stated: usize = 0;

@@ -1,7 +1,9 @@
 //! The points of a method that were read.
-ghost use Rattle.std.specs.Prelude.{◌≡◌, ◌<◌, length, slice_get, Some};
+ghost use Rattle.std.specs.Prelude.{◌≡◌, ◌<◌, [], length, slice_get, Some};
+ghost use Rattle.enc_seqpoints.specs.Grammar.{method_points};
 
 use crate::point::Point;
+use std::alloc::Global;
 use std::marker::Model;
 
 /// The sequence points of a method, in the order of their offsets, and its local signature row.
@@ -20,6 +22,16 @@ impl Model for Points {
 }
 
 impl Points {
+    /// No points, and no local signature: what is known where nothing is told. It takes no memory.
+    pub fn none(alloc: Global) -> Points
+        ensures { result ≡ method_points 0 [] }
+    {
+        Points {
+            locals: 0,
+            items: Vec::new(alloc),
+        }
+    }
+
     /// The row of the method's local signature in StandAloneSig, 0 where it has none.
     pub fn locals(&self) -> u32
         ensures { result ≡ self.now.locals }

@@ -21,7 +21,8 @@ use Rattle.enc_plain.specs.Sound.{IsSound}
 use Rattle.enc_ppdb.specs.PdbChain.{DebugDelta, pdb_with, pdb_changed}
 use Rattle.enc_rows.specs.Source.{Source}
 use Rattle.enc_versions.specs.Commit.{NewVersion, AreCommitted}
-use Rattle.enc_versions.specs.Laws.{CommitStands, KeepsTexts}
+use Rattle.enc_versions.specs.Laws.{CommitStands}
+use Rattle.enc_opcodes.specs.Body.{KeepsTexts}
 use Rattle.enc_versions.specs.StandFor.{AreVersionsOf}
 use Rattle.enc_versions.specs.Version.{Version}
 use Rattle.enc_vm.specs.Machine.{PlainCode, MachineState, state_meant}

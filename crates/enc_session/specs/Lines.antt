@@ -1,32 +1,15 @@
 -- The lines of a step, by what happens.
 use Rattle.std.specs.Prelude.{ℕ, List, [], ◌∷◌, ◌++◌, Option, Some, None, codes, decimal}
 use Rattle.enc_objects.specs.declared.trap.Trap.{Trap}
-use Rattle.enc_objects.specs.declared.trap.Trap.TheVariants as trap
 use Rattle.enc_text.specs.Text.{quoted}
 use Rattle.enc_text.specs.BodyText.{label, utf8_of}
+use Rattle.enc_watch.specs.Watched.{trap_code_text}
 use Rattle.enc_vm.specs.Machine.{Frame}
 use Rattle.enc_vm.specs.Step.{Ending, ran, done, stopped}
 
 -- a line of a task: its number, and what is said of it
 unfoldable pub task_line : ℕ → List ℕ → List ℕ
 task_line task said = codes "task " ++ decimal task ++ 0x20 ∷ said ++ 0x0a ∷ []
-
--- why a trap is one
-abbrev pub trap_text : Trap → List ℕ
-trap_text trap.X1 = codes "X1"
-trap_text trap.X2 = codes "X2"
-trap_text trap.X3 = codes "X3"
-trap_text trap.X4 = codes "X4"
-trap_text trap.X5 = codes "X5"
-trap_text trap.X6 = codes "X6"
-trap_text trap.X7 = codes "X7"
-trap_text trap.X8 = codes "X8"
-trap_text trap.X9 = codes "X9"
-trap_text trap.X10 = codes "X10"
-trap_text trap.X11 = codes "X11"
-trap_text trap.X12 = codes "X12"
-trap_text trap.X13 = codes "X13"
-trap_text trap.X14 = codes "X14"
 
 -- the line of what a step writes, none where it writes nothing
 abbrev pub written_line : ℕ → Option (List ℕ) → List ℕ
@@ -35,7 +18,7 @@ written_line task (Some units) = task_line task (codes "writes " ++ quoted (utf8
 
 -- the line of a trap, with the offset of the instruction that trapped
 unfoldable pub trapped_line : ℕ → Trap → ℕ → List ℕ
-trapped_line task x offset = task_line task (codes "trapped " ++ trap_text x ++ 0x20 ∷ label offset)
+trapped_line task x offset = task_line task (codes "trapped " ++ trap_code_text x ++ 0x20 ∷ label offset)
 
 -- the line of how a step ended, none where the task goes on; a trap is told with where the innermost frame stands
 abbrev pub ending_line : {C : Type 0} → ℕ → Ending → Option (Frame C) → List ℕ

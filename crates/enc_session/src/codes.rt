@@ -4,7 +4,6 @@ ghost use Rattle.std.specs.List.{list_all};
 ghost use Rattle.enc_checker.specs.Check.{new_bodies, new_code};
 ghost use Rattle.enc_opcodes.specs.Body.{code_seen};
 ghost use Rattle.enc_ppdb.specs.PdbChain.{delta_row, points_at};
-ghost use Rattle.enc_seqpoints.specs.Grammar.{method_points};
 ghost use Rattle.enc_versions.specs.Commit.{is_method_token, version_in};
 ghost use Rattle.enc_session.specs.Codes.{new_version, new_versions};
 
@@ -13,7 +12,7 @@ use enc_checker::{new_bodies, new_code};
 use enc_delta::Delta;
 use enc_opcodes::CodeRef;
 use enc_ppdb::PdbDelta;
-use enc_seqpoints::{Points, read_points};
+use enc_seqpoints::Points;
 use enc_versions::{CodeEntry, CodeList};
 use std::alloc::{AllocError, Global};
 
@@ -26,28 +25,17 @@ fn copied(alloc: Global, bytes: &[u8]) -> Result<Bytes, AllocError>
     Ok(Bytes::from_vec(copy))
 }
 
-/// No points.
-#[tactic(auto, unfolding(enc_seqpoints::specs::Grammar::points_in))]
-fn no_points(alloc: Global) -> Result<Points, AllocError>
-    ensures { IfOk result (λ p. p ≡ method_points 0 []) }
-{
-    match read_points(alloc, &[], 0) {
-        Ok(points) => Ok(points),
-        Err(_) => Err(AllocError),
-    }
-}
-
 /// The points that a delta brings a method, none where its PDB has no row for it.
 #[tactic(auto, unfolding(enc_ppdb::specs::PdbChain::points_at, enc_ppdb::specs::Points::delta_points))]
 fn points_of(alloc: Global, pdb: &Option<PdbDelta>, method: Token) -> Result<Points, AllocError>
     ensures { IfOk result (λ p. p ≡ points_at (delta_row pdb.now method)) }
 {
     let Some(pdb) = pdb else {
-        return no_points(alloc);
+        return Ok(Points::none(alloc));
     };
     match pdb.points(alloc, method)? {
         Some(points) => Ok(points),
-        None => no_points(alloc),
+        None => Ok(Points::none(alloc)),
     }
 }
 

@@ -1,6 +1,6 @@
 //! The lines of a task.
 ghost use Rattle.std.specs.Prelude.{◌≡◌, ◌≤◌, ◌+◌, ◌*◌, ◌++◌, ◌∷◌, [], codes, decimal, length, unwrap_or, OnOk, vec_len, vec_capacity};
-ghost use Rattle.enc_session.specs.Lines.{task_line, trap_text, trapped_line, written_line};
+ghost use Rattle.enc_session.specs.Lines.{task_line, trapped_line, written_line};
 ghost use Rattle.enc_text.specs.BodyText.{utf8_of};
 ghost use Rattle.enc_text.specs.Text.{quoted};
 
@@ -10,6 +10,7 @@ use enc_text::{
     push_units_within,
 };
 use enc_vm::Seen;
+use enc_watch::trap_code;
 use std::alloc::{AllocError, Global};
 
 /// Appends how each line of a task begins.
@@ -86,29 +87,6 @@ pub(crate) fn push_written(task: u32, seen: &Seen, out: &mut Vec<u8>)
     }
 }
 
-/// Why a trap is one.
-fn trap_name(trap: Trap) -> &'static str
-    ensures name { result.now ≡ trap_text trap }
-    ensures few { length result.now ≤ 3 }
-{
-    match trap {
-        Trap::X1 => "X1",
-        Trap::X2 => "X2",
-        Trap::X3 => "X3",
-        Trap::X4 => "X4",
-        Trap::X5 => "X5",
-        Trap::X6 => "X6",
-        Trap::X7 => "X7",
-        Trap::X8 => "X8",
-        Trap::X9 => "X9",
-        Trap::X10 => "X10",
-        Trap::X11 => "X11",
-        Trap::X12 => "X12",
-        Trap::X13 => "X13",
-        Trap::X14 => "X14",
-    }
-}
-
 /// Appends the line of a trap, with the offset of the instruction that trapped, within room that is there.
 #[tactic(auto, unfolding(crate::specs::Lines::task_line, crate::specs::Lines::trapped_line))]
 pub(crate) fn push_trapped(task: u32, trap: Trap, offset: u32, out: &mut Vec<u8>)
@@ -119,7 +97,7 @@ pub(crate) fn push_trapped(task: u32, trap: Trap, offset: u32, out: &mut Vec<u8>
 {
     push_task_within(task, out);
     push_str_within(out, "trapped ");
-    push_str_within(out, trap_name(trap));
+    push_str_within(out, trap_code(trap));
     push_str_within(out, " ");
     push_label_within(offset, out);
     push_str_within(out, "\n")

@@ -10,7 +10,7 @@ ghost use Rattle.enc_dispatch.specs.Changed.{IsChangedBy};
 ghost use Rattle.enc_dispatch.specs.Index.{StandsForModule};
 ghost use Rattle.enc_dispatch.specs.Ready.{IsPreparedFor};
 ghost use Rattle.enc_dispatch.specs.Stored.{with_room};
-ghost use Rattle.enc_versions.specs.Laws.{KeepsTexts};
+ghost use Rattle.enc_opcodes.specs.Body.{KeepsTexts};
 ghost use Rattle.enc_session.specs.Engine.{AreParts, IsDeltaReady, IsAcceptedAfter, SayTheSame, followed_in};
 
 use crate::codes::new_codes;

@@ -13,7 +13,7 @@ ghost use Rattle.enc_text.specs.BodyText.{label_digits, label, more_labels, labe
 use crate::text::{push_digits, push_quoted, push_str, push_token};
 use enc_base::Token;
 use enc_opcodes::Arg;
-use enc_plain::ModuleView;
+use enc_plain::{ModuleView, units_of};
 use std::alloc::{AllocError, Global};
 
 /// How many hexadecimal digits an offset is written with: four, or as many as it has.
@@ -93,20 +93,6 @@ fn push_targets(end: u32, distances: &[u8], out: &mut Vec<u8>) -> Result<(), All
         }
         _ => Ok(()),
     }
-}
-
-/// The UTF-16 units that bytes spell, low byte first.
-#[tactic(auto, unfolding(enc_base::specs::Units::units_of))]
-fn units_of(alloc: Global, bytes: &[u8]) -> Result<Vec<u16>, AllocError>
-    ensures { IfOk result (λ units. units.items ≡ units_of bytes.now) }
-{
-    let mut units = Vec::with_capacity(alloc, bytes.len() / 2)?;
-    let mut rest = bytes;
-    while let [low, high, tail @ ..] = rest {
-        units.push(u16::from_le_bytes([*low, *high]))?;
-        rest = tail;
-    }
-    Ok(units)
 }
 
 /// Appends a text in UTF-8 between `"` signs, by its UTF-16 units; a surrogate without its partner is U+FFFD.

@@ -2,10 +2,11 @@
 ghost use Rattle.std.specs.Prelude.{◌≡◌, ◌≤◌, true, length, option_map, map, IfSome};
 ghost use Rattle.std.specs.Str.Parse.{digits_value};
 ghost use Rattle.std.specs.List.{list_all};
-ghost use Rattle.enc_top.specs.Words.{is_name_byte, is_name, are_names, token_of_word, show_of, list_of, check_of, apply_of, write_of, run_of, is_digit, numeral_of, gen_of, job_of, texts};
+ghost use Rattle.enc_top.specs.Words.{is_name, are_names, token_of_word, show_of, list_of, check_of, apply_of, write_of, run_of, is_digit, numeral_of, gen_of, job_of, texts};
 ghost use Rattle.enc_top.specs.Commands.{numeral_seen, job_seen, HasFewLists, IsValue};
 
 use enc_base::Token;
+use enc_jobs::is_name;
 
 /// A number, and the digits that say it.
 #[derive(Clone, Copy, Debug)]
@@ -57,30 +58,6 @@ pub enum Command<'a> {
         count: Number<'a>,
         out: &'a str,
     },
-}
-
-fn is_name_byte(b: u8) -> bool
-    ensures { result ≡ is_name_byte b }
-{
-    b.is_ascii_alphanumeric() || matches!(b, b'_' | b'-' | b'.' | b'/')
-}
-
-fn are_name_bytes(bytes: &[u8]) -> bool
-    ensures { result ≡ list_all is_name_byte bytes.now }
-{
-    for b in bytes {
-        if !is_name_byte(*b) {
-            return false;
-        }
-    }
-    true
-}
-
-#[tactic(auto, unfolding(crate::specs::Words::is_name))]
-fn is_name(word: &str) -> bool
-    ensures { result ≡ is_name word.now }
-{
-    1 <= word.len() && word.len() <= 200 && are_name_bytes(word.as_bytes())
 }
 
 #[tactic(auto, unfolding(crate::specs::Words::token_of_word))]

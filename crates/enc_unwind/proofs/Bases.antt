@@ -11,7 +11,8 @@ use Rattle.enc_plain.specs.Alike.{refs_alike, tokens_alike}
 use Rattle.enc_plain.specs.Module.{cells_of}
 use Rattle.enc_plain.specs.Rows.{Rows}
 use Rattle.enc_unwind.specs.Laws.{BasesCatch}
-use Rattle.enc_unwind.specs.Thrown.{is_system, behind_path, type_refs, types_of, is_caught_by}
+use Rattle.enc_unwind.specs.Thrown.{behind_path, type_refs, types_of, is_caught_by}
+use Rattle.enc_plain.specs.System.{is_of_system}
 
 same_refs : (rows : Rows) (depth : ℕ) (a b : Token) → is_token a b ≡ true → refs_alike rows depth a b ≡ true
 unfolding refs_alike
@@ -36,5 +37,5 @@ bases_catch m class base extended =
     let caught : Token → Bool = λ t. tokens_alike (cells_of m) t base in
     let behind = type_refs (behind_path m class (path_of m class)) in
     let found : list_any caught (path_of m class) ≡ true = among_found (λ (t : Token). is_token t base) caught (path_of m class) (λ t. same_alike (cells_of m) t base) extended in
-    ap (λ b. is_system m (codes "Object") base || b) (list_any-append caught (path_of m class) behind ∙ ap (λ b. b || list_any caught behind) found)
-    ∙ or-true (is_system m (codes "Object") base)
+    ap (λ b. is_of_system m (codes "Object") base || b) (list_any-append caught (path_of m class) behind ∙ ap (λ b. b || list_any caught behind) found)
+    ∙ or-true (is_of_system m (codes "Object") base)

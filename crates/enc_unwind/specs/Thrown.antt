@@ -4,19 +4,12 @@ use Rattle.std.specs.List.{list_any}
 use Rattle.enc_base.specs.declared.token.Token.{Token}
 use Rattle.enc_plain.specs.Alike.{tokens_alike}
 use Rattle.enc_plain.specs.Module.{Module, cells_of}
-use Rattle.enc_plain.specs.Rows.{bytes_at}
+use Rattle.enc_plain.specs.System.{is_of_system}
 use Rattle.enc_schema.specs.Columns as columns
 use Rattle.enc_schema.specs.Tables as tables
 use Rattle.enc_dispatch.specs.Path.{path_of, class_base}
 use Rattle.enc_unwind.specs.declared.thrown.Thrown.{Thrown}
 use Rattle.enc_unwind.specs.declared.thrown.Thrown.TheVariants.{Class, Text, Array}
-
--- a TypeRef of the namespace System with this name (II.22.38)
-unfoldable pub is_system : Module → List ℕ → Token → Bool
-is_system m name t =
-    t.table == tables.type_ref
-    && bytes_eq (bytes_at (cells_of m) t columns.type_ref_type_namespace) (codes "System")
-    && bytes_eq (bytes_at (cells_of m) t columns.type_ref_type_name) name
 
 -- what stands behind a path: what its last class extends; the token itself, where it begins none
 abbrev pub behind_path : Module → Token → List Token → Token
@@ -34,9 +27,9 @@ types_of m class = path_of m class ++ type_refs (behind_path m class (path_of m 
 -- the object is of a type by what it is: of a class that is alike one of its own, or a text
 abbrev pub is_of_type : Module → Thrown → Token → Bool
 is_of_type m (Class class) caught = list_any (λ (t : Token). tokens_alike (cells_of m) t caught) (types_of m class)
-is_of_type m Text caught = is_system m (codes "String") caught
+is_of_type m Text caught = is_of_system m (codes "String") caught
 is_of_type m Array caught = false
 
 -- a catch clause of this class takes the object: System.Object takes each
 unfoldable pub is_caught_by : Module → Thrown → Token → Bool
-is_caught_by m thrown caught = is_system m (codes "Object") caught || is_of_type m thrown caught
+is_caught_by m thrown caught = is_of_system m (codes "Object") caught || is_of_type m thrown caught

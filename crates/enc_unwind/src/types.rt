@@ -6,24 +6,13 @@ ghost use Rattle.enc_dispatch.specs.Path.{is_class, class_base};
 ghost use Rattle.enc_plain.specs.Alike.{tokens_alike};
 ghost use Rattle.enc_plain.specs.Module.{cells_of};
 ghost use Rattle.enc_schema.specs.Tables.{type_def, type_ref};
-ghost use Rattle.enc_unwind.specs.Thrown.{is_system, type_refs, types_of, is_of_type, is_caught_by};
+ghost use Rattle.enc_unwind.specs.Thrown.{type_refs, types_of, is_of_type, is_caught_by};
 
 use crate::thrown::Thrown;
 use enc_base::Token;
-use enc_plain::{CellView, ModuleView, Viewed, alike, is_row};
-use enc_schema::columns::{TYPE_DEF_EXTENDS, TYPE_REF_TYPE_NAME, TYPE_REF_TYPE_NAMESPACE};
+use enc_plain::{CellView, ModuleView, Viewed, alike, is_of_system, is_row};
+use enc_schema::columns::TYPE_DEF_EXTENDS;
 use enc_schema::tables::{TYPE_DEF, TYPE_REF};
-
-/// Whether a TypeRef is of the namespace System and has this name (ECMA-335 II.22.38).
-#[tactic(auto, unfolding(crate::specs::Thrown::is_system, enc_schema::specs::Schema::columns_in))]
-fn is_system<V: ModuleView>(view: &V, name: &[u8], token: Token) -> bool
-    ensures { result ≡ is_system (V.meaning view.now) name.now token }
-{
-    let rows = Viewed { view };
-    token.table == TYPE_REF
-        && rows.text(token, TYPE_REF_TYPE_NAMESPACE) == b"System".as_slice()
-        && rows.text(token, TYPE_REF_TYPE_NAME) == name
-}
 
 /// Whether the token names a row of TypeDef.
 fn is_class<V: ModuleView>(view: &V, token: Token) -> bool
@@ -73,7 +62,7 @@ fn is_of_type<V: ModuleView>(view: &V, thrown: Thrown, caught: Token) -> bool
 {
     match thrown {
         Thrown::Class(class) => is_of_class(view, class, caught),
-        Thrown::Text => is_system(view, b"String", caught),
+        Thrown::Text => is_of_system(view, b"String", caught),
         Thrown::Array => false,
     }
 }
@@ -84,5 +73,5 @@ fn is_of_type<V: ModuleView>(view: &V, thrown: Thrown, caught: Token) -> bool
 pub(crate) fn is_caught_by<V: ModuleView>(view: &V, thrown: Thrown, caught: Token) -> bool
     ensures { result ≡ is_caught_by (V.meaning view.now) thrown caught }
 {
-    is_system(view, b"Object", caught) || is_of_type(view, thrown, caught)
+    is_of_system(view, b"Object", caught) || is_of_type(view, thrown, caught)
 }

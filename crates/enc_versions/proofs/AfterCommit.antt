@@ -5,14 +5,14 @@ use Rattle.std.proofs.lemmas.Bool.Decides.{nat_tests}
 use Rattle.std.proofs.Math.ListN.{get_or-eq_default}
 use Rattle.enc_base.specs.Order.{or_else}
 use Rattle.enc_base.specs.declared.token.Token.{Token}
-use Rattle.enc_opcodes.specs.Body.{Body, body_of}
+use Rattle.enc_opcodes.specs.Body.{Body, body_of, KeepsTexts}
 use Rattle.enc_opcodes.proofs.Bodies.{body_told_alike}
 use Rattle.enc_plain.specs.Cell.{body}
 use Rattle.enc_plain.specs.Module.{Module, rows_in, has_row, cell_of}
 use Rattle.enc_plain.proofs.MoreTexts.{texts_more}
 use Rattle.enc_schema.specs.Tables.{method_def}
 use Rattle.enc_versions.specs.Commit.{NewVersion, brought}
-use Rattle.enc_versions.specs.Laws.{Meant, AreNewIn, KeepsTexts, CommitStands}
+use Rattle.enc_versions.specs.Laws.{Meant, AreNewIn, CommitStands}
 use Rattle.enc_versions.specs.StandFor.{IsVersionOf, AreVersionsOf, lines_known}
 use Rattle.enc_versions.specs.Version.{Version, version_at, newest_of}
 

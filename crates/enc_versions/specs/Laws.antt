@@ -1,7 +1,7 @@
 -- The law of committed bodies, as a fact of all modules.
 use Rattle.std.specs.Prelude.{◌≡◌, ℕ, ◌≤◌, false, List, length, Option, Some, None, IsTrue}
 use Rattle.enc_base.specs.declared.token.Token.{Token}
-use Rattle.enc_opcodes.specs.Body.{Body}
+use Rattle.enc_opcodes.specs.Body.{Body, KeepsTexts}
 use Rattle.enc_plain.specs.Cell.{body}
 use Rattle.enc_plain.specs.Debug.{PlainPdb}
 use Rattle.enc_plain.specs.Module.{Module, rows_in, has_row, cell_of}
@@ -31,10 +31,6 @@ pub record AreNewIn (new : List NewVersion) (m n : Meant) : Type 0 where
       → n.pdb method ≡ m.pdb method
   pub added : (method : Token) → IsMethodOf n method → has_row m.plain method ≡ false → brought new method ≡ None
       → cell_of n.plain method 0 ≡ Some (body None)
-
--- each text that is there is there still, and the same
-abbrev pub KeepsTexts : (ℕ → Option (List ℕ)) → (ℕ → Option (List ℕ)) → Type 0
-KeepsTexts users others = (offset : ℕ) (bytes : List ℕ) → users offset ≡ Some bytes → others offset ≡ Some bytes
 
 -- newest bodies that stand for a module, after such new ones were committed, stand for the next
 abbrev pub CommitStands : Type 0

@@ -4,7 +4,7 @@ use Rattle.std.specs.Prelude.{◌&&◌, ◌||◌, ◌==◌, bytes_eq, codes}
 use Rattle.std.specs.List.{list_any}
 use Rattle.enc_base.specs.declared.token.Token.{Token}
 use Rattle.enc_dispatch.specs.Path.{extends, implements, has_interface, is_on_path}
-use Rattle.enc_kinds.specs.Types.{is_of_system}
+use Rattle.enc_plain.specs.System.{is_of_system}
 use Rattle.enc_plain.proofs.CellsOf.{bytes_absent}
 use Rattle.enc_plain.specs.Module.{Module, has_row, cells_of}
 use Rattle.enc_plain.specs.Rows.{bytes_at}

@@ -1,8 +1,7 @@
 -- The user texts that the codes of frames name are there; so frames mean the same when more texts come.
 use Rattle.std.specs.Prelude.{◌≡◌, ℕ, Bool, true, ◌&&◌, List, Option, IsTrue}
 use Rattle.std.specs.List.{list_all}
-use Rattle.enc_opcodes.specs.Body.{texts_are_there}
-use Rattle.enc_versions.specs.Laws.{KeepsTexts}
+use Rattle.enc_opcodes.specs.Body.{texts_are_there, KeepsTexts}
 use Rattle.enc_versions.specs.Version.{Version}
 use Rattle.enc_vm.specs.Machine.{Frame, Task, going, ended, trapped, MachineState, state_meant}
 

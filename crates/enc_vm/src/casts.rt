@@ -12,9 +12,8 @@ use crate::stop::Stop;
 use crate::values::reference;
 use enc_base::Token;
 use enc_dispatch::Dispatch;
-use enc_kinds::is_of_system;
 use enc_objects::{Objects, Shape, Trap, Value};
-use enc_plain::{ModuleView, is_row};
+use enc_plain::{ModuleView, is_of_system, is_row};
 use enc_schema::tables::TYPE_DEF;
 
 /// Whether a token names a row of TypeDef.

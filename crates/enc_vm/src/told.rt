@@ -2,22 +2,8 @@
 ghost use Rattle.std.specs.Prelude.{◌≡◌, [], unwrap_or, IfOk};
 ghost use Rattle.enc_base.specs.Units.{units_of};
 
-use enc_plain::ModuleView;
+use enc_plain::{ModuleView, units_of};
 use std::alloc::{AllocError, Global};
-
-/// The UTF-16 units that bytes spell, low byte first.
-#[tactic(auto, unfolding(enc_base::specs::Units::units_of))]
-fn units_of(alloc: Global, bytes: &[u8]) -> Result<Vec<u16>, AllocError>
-    ensures { IfOk result (λ units. units.items ≡ units_of bytes.now) }
-{
-    let mut units = Vec::with_capacity(alloc, bytes.len() / 2)?;
-    let mut rest = bytes;
-    while let [low, high, tail @ ..] = rest {
-        units.push(u16::from_le_bytes([*low, *high]))?;
-        rest = tail;
-    }
-    Ok(units)
-}
 
 /// The UTF-16 units of the user text at an offset, none where none stands there.
 #[tactic(auto, unfolding(enc_base::specs::Units::units_of))]

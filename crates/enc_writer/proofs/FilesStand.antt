@@ -51,6 +51,7 @@ lists_so c l s may says u = by (list_any (λ t. is_token t u) (rows_edited c.pla
   where
     none : BreakNothing c l
     none = nothing_breaks c l may
+
     by : (about any : Bool) → list_any (λ t. is_token t u) (rows_edited c.plain l.edits) ≡ about → list_any (λ t. is_token t u) (map_written c l.edits) ≡ any
         → list_any (λ t. is_token t u) (listed s) ≡ list_any (λ t. is_token t u) (rows_edited c.plain l.edits)
     by true any e f = ap (λ ts. list_any (λ t. is_token t u) ts) (listed_is c l s may says) ∙ map_lists c l u none e ∙ sym e
