@@ -33,8 +33,9 @@ enum {
     ENC_CLOSED = 7,  /* the handle is closed */
     ENC_OPEN = 8,    /* the handle is open already */
     ENC_SHORT = 9,   /* the buffer is too short: nothing is copied, and `size` has what is needed */
-    ENC_ABSENT = 10, /* there is no such row, entry, body or document */
-    ENC_UNLIKE = 11, /* the column, the table, the heap or the numbers aren't of the kind that is asked for */
+    ENC_ABSENT = 10, /* there is no such row, entry, body or document; a stream that is no heap has no entry */
+    ENC_UNLIKE = 11, /* the column, the table or the row isn't of the kind that is asked for, or the numbers name no
+                      * stream or no refusal */
     ENC_LATER = 12   /* there is no such generation */
 };
 
@@ -55,7 +56,8 @@ enum {
     ENC_AT_LOG = 12      /* entry */
 };
 
-/* Streams. Those up to ENC_GUIDS are heaps that `enc_locate_heap` takes. */
+/* Streams. Those up to ENC_GUIDS are heaps. For the others `enc_locate_heap` answers ENC_ABSENT, and for a
+ * number past ENC_JTD ENC_UNLIKE. */
 enum {
     ENC_STRINGS = 0,
     ENC_USERS = 1,
@@ -155,7 +157,7 @@ uint32_t enc_code(enc_handle *handle, uint32_t method, uint8_t *buffer, size_t l
 uint32_t enc_points(enc_handle *handle, uint32_t method, enc_point *buffer, size_t length, size_t *size);
 uint32_t enc_document(enc_handle *handle, uint32_t method, uint32_t number, uint8_t *buffer, size_t length, size_t *size);
 
-/* The words of a refusal as the program prints them, with the end of the line: `E16 06000001.RVA\n`. */
+/* The words of a refusal as the program prints them, with the end of the line: `E16 06000001\n`. */
 uint32_t enc_words(const enc_refusal *refusal, uint8_t *buffer, size_t length, size_t *size);
 
 #ifdef __cplusplus
