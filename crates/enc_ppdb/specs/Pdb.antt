@@ -31,12 +31,12 @@ outer_of bytes None = Some (replicate 64 0)
 outer_of bytes (Some span) = option_and_then (outer_in (part bytes span)) (little_endian_at w64 (part bytes span) 24)
 
 -- the entry point that `#Pdb` tells: a number of four bytes behind its id of twenty (#Pdb Stream)
-abbrev pub entry_in : List ℕ → Option Span → Option ℕ
-entry_in bytes None = None
-entry_in bytes (Some span) = little_endian_at w32 (part bytes span) 20
+abbrev pub entry_named_in : List ℕ → Option Span → Option ℕ
+entry_named_in bytes None = None
+entry_named_in bytes (Some span) = little_endian_at w32 (part bytes span) 20
 
 unfoldable pub entry_told : List ℕ → Option ℕ
-entry_told bytes = option_and_then (λ (root : Root). entry_in bytes root.pdb) (result_ok (root_of bytes))
+entry_told bytes = option_and_then (λ (root : Root). entry_named_in bytes root.pdb) (result_ok (root_of bytes))
 
 -- the parts of a PDB with this root and this layout: it loads nothing
 abbrev pub pdb_source : List ℕ → Root → Layout → Source
