@@ -25,7 +25,7 @@ use Rattle.enc_ppdb.specs.Fault.{is_document, are_there, all_there, is_method, u
 use Rattle.enc_ppdb.specs.Misplaced.{debug_token}
 use Rattle.enc_ppdb.specs.Pdb.{pdb_source_of, name_of_document, points_of}
 use Rattle.enc_ppdb.specs.PdbChain.{document_of, document_at, points_at, documents_at, debug_at}
-use Rattle.enc_ppdb.specs.Written.{documents_of, nth_method, row_among, points_numbered, DocumentSays}
+use Rattle.enc_ppdb.specs.Written.{documents_of, nth_method, row_among, points_numbered, DocumentSays, IsNilOverSeveral, document_told}
 use Rattle.enc_ppdb.proofs.PdbGood.{IsDocumentOf}
 use Rattle.enc_ppdb.proofs.PdbRead.{IsPdbReadAs}
 use Rattle.enc_ppdb.proofs.PdbRows.{has_row, have_rows, documents_there, StandsAs, stands, row_is}
@@ -198,6 +198,15 @@ module _ (p : PlainPdb) (placed : List MethodEdit) (h : Built) (rows : List (Lis
       let first = is.numbers table n 0 cells (slice_index cells 0) row (cell_here cells 0 (omega (arith, says.count))) in
       let second = is.numbers table n 1 cells (slice_index cells 1) row (cell_here cells 1 (omega (arith, says.count))) in
       rw (is.heaps, first, second, says.points.1) (says.points.2)
+
+  -- and its document
+  pub document_here : (n : ℕ) → n < length placed → IsNilOverSeveral (nth_method p n).points (document_told s n)
+  document_here n lt i j q r at to apart =
+      let table = tables.method_debug_information in
+      let row = row_here rows table n (omega (arith, held.methods, lt)) in
+      let cells = get_or (rows_at rows table) n [] in
+      let says = held.method n cells row in
+      is.numbers table n 0 cells (slice_index cells 0) row (cell_here cells 0 (omega (arith, says.count))) ∙ says.several i j q r at to apart
 
   pub methods_good : IsSoundPdb p → methods_fault s ≡ None
   unfolding methods_fault method_fault is_method

@@ -1,5 +1,5 @@
 -- The PDB of a delta that was written says its edit list.
-use Rattle.std.proofs.Common.{◌≡◌, ℕ, zero, suc, ◌<◌, Bool, true, false, List, [], ◌∷◌, length, map, take, Option, Some, None, Ok, refl, sym, ap, ◌∙◌, arith}
+use Rattle.std.proofs.Common.{◌≡◌, ℕ, zero, suc, ◌<◌, Bool, true, false, List, [], ◌∷◌, length, map, take, Option, Some, None, Ok, refl, sym, ap, subst, ◌∙◌, arith}
 use Rattle.std.specs.Prelude.{◌^◌, ◌==◌, nat_le, option_map, slice_get}
 use Rattle.std.specs.List.{list_any, list_all}
 use Rattle.std.specs.List.Sorted.{IsStrictlyIncreasing}
@@ -13,7 +13,7 @@ use Rattle.enc_meta.specs.Built.{Built}
 use Rattle.enc_meta.specs.BuiltLaws.{IsGood}
 use Rattle.enc_meta.proofs.BuiltMeanings.{all_texts_count}
 use Rattle.enc_plain.proofs.Applied.{same_is}
-use Rattle.enc_plain.specs.Debug.{Document, PlainPoint, PlainPdb, plain_point, debug_of}
+use Rattle.enc_plain.specs.Debug.{Document, PlainPoint, MethodDebug, PlainPdb, plain_point, debug_of}
 use Rattle.enc_rows.specs.Layout.{is_pdb_table}
 use Rattle.enc_rows.specs.Source.{Source}
 use Rattle.enc_rows.specs.Written.{count_at, AreRows, IndicesFit}
@@ -29,7 +29,7 @@ use Rattle.enc_rules.specs.Rules.{has_points}
 use Rattle.enc_ppdb.specs.Fault.{pdb_delta_of}
 use Rattle.enc_ppdb.specs.Misplaced.{debug_token, is_behind}
 use Rattle.enc_ppdb.specs.Points.{names_method}
-use Rattle.enc_ppdb.specs.Written.{pdb_stream, nth_method}
+use Rattle.enc_ppdb.specs.Written.{pdb_stream, nth_method, IsNilOverSeveral, document_told}
 use Rattle.enc_ppdb.proofs.PdbRead.{IsPdbReadAs, pdb_is_read}
 use Rattle.enc_pdb_delta.specs.declared.edits.MethodEdit.{MethodEdit}
 use Rattle.enc_pdb_delta.specs.Holding.{HoldPdbDelta}
@@ -42,7 +42,7 @@ use Rattle.enc_pdb_delta.proofs.Givings.{gives_at}
 use Rattle.enc_pdb_delta.proofs.RowsRise.{gives_by_points}
 use Rattle.enc_pdb_delta.proofs.PlacedEdits.{has_place, is_placed}
 use Rattle.enc_pdb_delta.proofs.Weighed.{nth_placed}
-use Rattle.enc_pdb_delta.proofs.DeltaRead.{token_for, method_back, tokens_are, not_refused}
+use Rattle.enc_pdb_delta.proofs.DeltaRead.{token_for, document_here, method_back, tokens_are, not_refused}
 
 -- a token stands where its method does
 token_at : (placed : List MethodEdit) (k : ℕ) (m : MethodEdit) → slice_get placed k ≡ Some m → slice_get (map token_for placed) k ≡ Some (token_for m)
@@ -216,6 +216,9 @@ source_says l methods placed h rows s bytes form are by listed is held read =
       says = λ k t e at given.
           let r = row_says l methods placed k t e form are by (sym (ap (λ (ts : List Token). slice_get ts k) tokens) ∙ at) given in
           method_back p placed h rows s is held k listed.sound r.0 ∙ r.1;
+      several = λ k t e at given.
+          let r = row_says l methods placed k t e form are by (sym (ap (λ (ts : List Token). slice_get ts k) tokens) ∙ at) given in
+          subst (λ (d : MethodDebug). IsNilOverSeveral d.points (document_told s k)) r.1 (document_here p placed h rows s is held k r.0);
     }
 
 pub delta_says : (l : EditList) (methods : List Token) (placed : List MethodEdit) (h : Built) (rows : List (List (List ℕ))) → list_fits l ≡ true → AreMethods methods l.edits → AreByRows methods l.edits placed → IsPdbListed l placed

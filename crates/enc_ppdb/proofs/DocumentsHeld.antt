@@ -88,6 +88,7 @@ method_more h k documents e d cells grown held =
       kept = blob.0;
       reads = held.reads ∙ ap (λ x. Some (method_points d.locals x)) (sym stays.1);
       low = rw (length-append documents (e ∷ [])) (omega (arith, held.low));
+      several = held.several;
       among = stays.0;
     }
 

@@ -21,6 +21,7 @@ pub mod DocumentsUpto
 pub mod RowsGiven
 pub mod RowsOfPoints
 pub mod MethodBlobs
+pub mod Several
 pub mod MethodsHeld
 pub mod PdbHeld
 pub mod PdbFits

@@ -28,6 +28,7 @@ use Rattle.enc_ppdb.proofs.DocumentKeys.{all_stay}
 use Rattle.enc_ppdb.proofs.DocumentsHeld.{points_stay, with_known, with_new}
 use Rattle.enc_ppdb.proofs.DocumentsUpto.{take_more, take_ended, upto_more, upto_none, upto_all, documents_more, weight_step, weight_within}
 use Rattle.enc_ppdb.proofs.Positions.{position_within, position_any}
+use Rattle.enc_ppdb.proofs.Several.{several_nil}
 
 -- points keep their rows when a document comes
 document_stays : (documents : List Document) (d : Document) (points : List PlainPoint) (b : Bool) → list_any (is_same d) documents ≡ b → have_rows documents points ≡ true
@@ -185,6 +186,7 @@ method_grown h k documents d cells grown held =
       kept = blob.0;
       reads = held.reads;
       low = held.low;
+      several = held.several;
       among = held.among;
     }
 
@@ -241,6 +243,7 @@ method_written p placed n k locals rows old new so listed whole own given light 
     let is : rows ≡ points_numbered documents points = listed.points ∙ ap (λ xs. points_numbered documents xs) all in
     let many : length rows ≡ length points = ap length is ∙ length-map points (λ (q : PlainPoint). numbered (row_among documents q.document) q) in
     let stays = all_stay old.heaps new.heaps documents given.grown so.held.kept in
+    let among : have_rows documents points ≡ true = ap (λ xs. have_rows documents xs) (sym all) ∙ listed.among in
     let one = (given.first ∷ blob_offset new.heaps given.blob ∷ []) in
     let now : MethodHeld new.heaps documents (nth_method p n) one = record {
       blob = given.blob;
@@ -249,7 +252,8 @@ method_written p placed n k locals rows old new so listed whole own given light 
       kept = given.kept;
       reads = given.reads ∙ ap (λ x. Some (method_points x rows)) own ∙ ap (λ xs. Some (method_points (nth_method p n).locals xs)) is;
       low = rw given.document (one_low documents points rows is);
-      among = ap (λ xs. have_rows documents xs) (sym all) ∙ listed.among;
+      several = several_nil documents points rows given.first among is given.document;
+      among = among;
     } in
     subst (λ ds. IsWritten p (n + 1) (n + 1) 0 placed ds new) (upto_all p n k whole) (record {
       held = record {

@@ -23,7 +23,7 @@ use Rattle.enc_seqpoints.specs.Grammar.{method_points}
 use Rattle.enc_ppdb.specs.Fault.{is_document, are_there, all_there, is_method, unless_good, document_fault, method_fault, documents_fault, methods_fault}
 use Rattle.enc_ppdb.specs.Pdb.{name_of_document, points_of}
 use Rattle.enc_ppdb.specs.PdbChain.{document_of, document_at}
-use Rattle.enc_ppdb.specs.Written.{documents_of, nth_method, row_among, points_numbered, DocumentSays, HoldPdb}
+use Rattle.enc_ppdb.specs.Written.{documents_of, nth_method, row_among, points_numbered, DocumentSays, HoldPdb, IsNilOverSeveral, document_told}
 use Rattle.enc_ppdb.proofs.PdbRead.{IsPdbReadAs}
 use Rattle.enc_ppdb.proofs.PdbRows.{has_row, have_rows, documents_there, StandsAs, stands, row_is}
 
@@ -147,6 +147,15 @@ points_here p methods h rows s n is held lt =
     let first = is.numbers table n 0 cells (slice_index cells 0) row (cell_here cells 0 (omega (arith, says.count))) in
     let second = is.numbers table n 1 cells (slice_index cells 1) row (cell_here cells 1 (omega (arith, says.count))) in
     rw (is.heaps, first, second, says.points.1) (says.points.2)
+
+-- and its document
+pub document_here : (p : PlainPdb) (methods : ℕ) (h : Built) (rows : List (List (List ℕ))) (s : Source) (n : ℕ) → IsPdbReadAs h rows s → HoldPdb p methods h rows → n < methods → IsNilOverSeveral (nth_method p n).points (document_told s n)
+document_here p methods h rows s n is held lt i j q r at to apart =
+    let table = tables.method_debug_information in
+    let row = row_here rows table n (omega (arith, held.methods, lt)) in
+    let cells = get_or (rows_at rows table) n [] in
+    let says = held.method n cells row in
+    is.numbers table n 0 cells (slice_index cells 0) row (cell_here cells 0 (omega (arith, says.count))) ∙ says.several i j q r at to apart
 
 pub methods_counted : (p : PlainPdb) (methods : ℕ) (h : Built) (rows : List (List (List ℕ))) (s : Source) → IsPdbReadAs h rows s → HoldPdb p methods h rows → rows_of s.layout tables.method_debug_information ≡ methods
 methods_counted p methods h rows s is held = is.counts tables.method_debug_information (omega arith) ∙ held.methods

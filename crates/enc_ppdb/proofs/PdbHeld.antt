@@ -75,6 +75,7 @@ method_says h documents d cells good none held =
     subst (λ c. MethodSays (heaps_built h) documents d c) (sym held.cells) (record {
       count = refl;
       points = (held.blob, blob_told h held.blob good none held.kept, held.reads);
+      several = held.several;
     })
 
 mapped_at : {X Y : Type 0} (f : X → Y) (xs : List X) (i : ℕ) (x : X) (y : Y) → slice_get xs i ≡ Some x → slice_get (map f xs) i ≡ Some y → f x ≡ y

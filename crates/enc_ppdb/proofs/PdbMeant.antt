@@ -21,7 +21,7 @@ use Rattle.enc_ppdb.specs.Pdb.{pdb_source_of, points_of}
 use Rattle.enc_ppdb.specs.PdbChain.{document_at, row_of_method, points_at, documents_at, debug_at, pdb_begun}
 use Rattle.enc_ppdb.specs.PdbsMean.{PdbsMean}
 use Rattle.enc_ppdb.specs.Written.{documents_of, nth_method, row_among, points_numbered, HoldPdb}
-use Rattle.enc_ppdb.proofs.PdbGood.{documents_good, methods_good, document_back, points_here, methods_counted}
+use Rattle.enc_ppdb.proofs.PdbGood.{documents_good, methods_good, document_back, points_here, document_here, methods_counted}
 use Rattle.enc_ppdb.proofs.PdbRead.{IsPdbReadAs, pdb_is_read}
 use Rattle.enc_ppdb.proofs.PdbRows.{has_row, have_rows, documents_there}
 
@@ -123,4 +123,5 @@ pdbs_mean p methods entry h rows sound within good are indices held small =
       source = r.0;
       read = no_refusal p methods h rows r.0 _ sound r.2 held r.1;
       means = λ method. begun_is p methods h rows r.0 method sound within r.2 held;
+      several = λ n lt. document_here p methods h rows r.0 n r.2 held lt;
     }
