@@ -97,7 +97,7 @@ drop_tail [] (suc i) y ys e = absurd cc
 drop_tail (x ∷ xs) zero y ys e = (cc, cc)
 drop_tail (x ∷ xs) (suc i) y ys e = drop_tail xs i y ys e
 
-drop_there : {A : Type 0} (xs : List A) (i : ℕ) → i < length xs → drop i xs ≡ [] → ⊥
+pub drop_there : {A : Type 0} (xs : List A) (i : ℕ) → i < length xs → drop i xs ≡ [] → ⊥
 drop_there [] i low e = absurd (omega arith)
 drop_there (x ∷ xs) zero low e = absurd cc
 drop_there (x ∷ xs) (suc i) low e = drop_there xs i (omega arith) e

@@ -1,6 +1,9 @@
 pub mod Equivalence
 pub mod Climbs
 pub mod Turns
+pub mod PathSteps
+pub mod WalkSteps
+pub mod Declaring
 pub mod Meant
 pub mod Reached
 pub mod Each

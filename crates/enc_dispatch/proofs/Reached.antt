@@ -65,7 +65,7 @@ walk_is d m declared p (c ∷ rest) current stands part are =
     ap (go_on (method_at current) (walk_down m (method_at declared) rest)) (turn_is d m c declared current p stands are.0 part)
     ∙ go_on_is current (walk_down m (method_at declared) rest) (walk_down_in d p.slot declared rest) (turn_in d p.slot declared current c) (λ n. walk_is d m declared p rest n stands part are.1)
 
-before_is : (base : Token) (path : List Token) → before_class base path ≡ option_map (λ (n : ℕ). take n path) (place_on base path)
+pub before_is : (base : Token) (path : List Token) → before_class base path ≡ option_map (λ (n : ℕ). take n path) (place_on base path)
 unfolding before_class place_on
 before_is base [] = refl
 before_is base (c ∷ path) = by_test (is_token c base) (before_class base path) (place_on base path) (before_is base path)
@@ -213,7 +213,7 @@ interface_target_is d m class interface declared p stands part =
     ∙ given_target d m class (first_given_in d p.slot declared (from_interface_in d interface (path_in d class))) stands (λ g e. first_row d m declared p (from_interface_in d interface (path_in d class)) g stands part are e)
 
 -- the type that declares a method
-owner_class : (m : Module) (row : ℕ) (o : Token) → owner_of m (method_at row) ≡ Some o → o.table ≡ 0x02
+pub owner_class : (m : Module) (row : ℕ) (o : Token) → owner_of m (method_at row) ≡ Some o → o.table ≡ 0x02
 unfolding owner_of
 owner_class m row o e = by_place (position (has_kid (method_at row)) (rows_in m 0x02)) e
   where

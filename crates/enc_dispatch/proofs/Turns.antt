@@ -10,7 +10,7 @@ take_one_more [] i x e = absurd cc
 take_one_more (y ∷ xs) zero x e = let f : y ≡ x = cc in rw f refl
 take_one_more (y ∷ xs) (suc i) x e = ap (λ ys. y ∷ ys) (take_one_more xs i x e)
 
-reversed : (xs : List Token) (i : ℕ) (x : Token) → slice_get xs i ≡ Some x → reverse (take (suc i) xs) ≡ x ∷ reverse (take i xs)
+pub reversed : (xs : List Token) (i : ℕ) (x : Token) → slice_get xs i ≡ Some x → reverse (take (suc i) xs) ≡ x ∷ reverse (take i xs)
 reversed xs i x e = ap reverse (take_one_more xs i x e) ∙ reverse-append (take i xs) (x ∷ [])
 
 -- the walk down, at its end and a class further

@@ -8,6 +8,7 @@ pub mod Buckets
 pub mod Stored
 pub mod Walked
 pub mod Own
+pub mod Asked
 pub mod Index
 pub mod Entries
 pub mod Growth

@@ -7,6 +7,9 @@ mod climb;
 mod columns;
 mod dispatch;
 mod first;
+mod free_path;
+mod free_target;
+mod free_walk;
 mod grow;
 mod growth;
 mod impl_part;
@@ -30,5 +33,6 @@ mod walk;
 mod wanted;
 
 pub use dispatch::Dispatch;
+pub use free_target::target;
 pub use laws::{path_law, slot_law};
 pub use new_dispatch::NewDispatch;

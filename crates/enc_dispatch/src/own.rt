@@ -52,7 +52,7 @@ fn slot_of(methods: &MethodParts<'_>, row: u32) -> Option<u32>
 
 /// The flags of a method (ECMA-335 II.23.1.10).
 #[tactic(auto, unfolding(enc_schema::specs::Schema::columns_in))]
-fn flags_of<V: ModuleView>(view: &V, row: u32) -> u32
+pub(crate) fn flags_of<V: ModuleView>(view: &V, row: u32) -> u32
     ensures { result ≡ flags_of (V.meaning view.now) (method_at row) }
 {
     let rows = Viewed { view };
