@@ -74,10 +74,10 @@ BaseIsLittle = module_weight generated_base (heaps_for generated_base) ≤ 2 ^ 2
 
 -- joined heaps behind so many lists of a case are little
 pub record AreLittle (lists : ℕ) (h : HeapLengths) : Type 0 where
-  pub strings : h.strings ≤ 2 ^ 20 + 2 ^ 10 * lists
-  pub users : h.users ≤ 2 ^ 20 + 2 ^ 10 * lists
-  pub blobs : h.blobs ≤ 2 ^ 20 + 2 ^ 10 * lists
-  pub guids : h.guids ≤ 2 ^ 20 + 2 ^ 10 * lists
+  pub strings : h.strings ≤ 2 ^ 20 + 2 ^ 13 * lists
+  pub users : h.users ≤ 2 ^ 20 + 2 ^ 13 * lists
+  pub blobs : h.blobs ≤ 2 ^ 20 + 2 ^ 13 * lists
+  pub guids : h.guids ≤ 2 ^ 20 + 2 ^ 13 * lists
 
 -- a chain of the generated base and deltas of these lists: its module is the base with the lists made directly, its EncIds are theirs, and its heaps are little
 pub record IsDrawnChain (lists : List EditList) (c : Chain) : Type 0 where
