@@ -22,4 +22,13 @@ pub mod BaseActs
 pub mod ListActs
 pub mod Cases
 pub mod GeneratedPoints
+pub mod Sums
+pub mod Light
+pub mod Weighed
+pub mod LittleCases
+pub mod Brought
+pub mod JoinedMore
+pub mod RulesAlike
+pub mod CasesLight
+pub mod CasesObey
 pub mod Scripted

@@ -1,5 +1,5 @@
 //! What every list that is read or drawn has, each as the contract of a function that does nothing.
-ghost use Rattle.enc_jobs.specs.Laws.{SaidFits, PointsLie, StandsAsRead, TargetsBegin, GeneratedFits, GeneratedLie, GeneratedMayApply, ScriptIsShort, ScriptNamesDeltas};
+ghost use Rattle.enc_jobs.specs.Laws.{SaidFits, PointsLie, StandsAsRead, TargetsBegin, GeneratedFits, GeneratedLie, GeneratedMayApply, BaseIsLittle, GeneratedObeys, GeneratedStaysLittle, GeneratedIsLight, ScriptIsShort, ScriptNamesDeltas};
 
 use enc_opcodes::name_laws;
 
@@ -28,6 +28,15 @@ pub fn generated_laws()
     ensures fit { GeneratedFits }
     ensures points { GeneratedLie }
     ensures apply { GeneratedMayApply }
+{}
+
+/// A case is little: the base, whatever is drawn; and no list of it breaks a rule behind those before it, no heap of its
+/// deltas comes near a limit, and the module with the first of its lists can be written.
+pub fn case_laws()
+    ensures base { BaseIsLittle }
+    ensures obeys { GeneratedObeys }
+    ensures little { GeneratedStaysLittle }
+    ensures light { GeneratedIsLight }
 {}
 
 /// A script that a text says has at most 100,000 commands, and the name of each delta in it has 1 to 200 bytes,

@@ -20,7 +20,7 @@ mod value;
 pub use command::{Command, Script};
 pub use fault::JobFault;
 pub use generate::{Case, EditLists, make_case};
-pub use laws::{form_law, generated_laws, points_law, script_laws, target_laws};
+pub use laws::{case_laws, form_law, generated_laws, points_law, script_laws, target_laws};
 pub use list::read_edits;
 pub use name::is_name;
 pub use script::read_script;
