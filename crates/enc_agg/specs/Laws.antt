@@ -15,7 +15,8 @@ use Rattle.enc_delta.specs.Pairs.{attached_of}
 use Rattle.enc_delta.specs.Twins.{members}
 use Rattle.enc_agg.specs.Follows.{Lands}
 
--- where a delta's lists, tables, indices and offsets break no rule, the rows by which its updates, members and signatures are judged are those of the plain module that is edited by it
+-- where a delta's lists, tables, indices and offsets break no rule, the rows by which its updates, members and signatures are judged are those of the plain
+-- module that is edited by it
 abbrev pub RowsAreTheModules : Type 0
 RowsAreTheModules = (c : Chain) (s : Source) (t : Token) → HasTables c.plain → Lands c s → rows_after c s t ≡ cells_of (extended c s).plain t
 

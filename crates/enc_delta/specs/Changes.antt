@@ -33,7 +33,8 @@ may_differ table i = table == tables.param && (i == columns.param_flags || i == 
 abbrev pub is_signature_column : ℕ → ℕ → Bool
 is_signature_column table i = unwrap_or (signature_column table) 0xFF == i
 
--- a cell says what it said: numbers, texts and blobs are equal, tokens and signatures alike. A body may change (II.22.26); no update has a GUID or the bytes of a field
+-- a cell says what it said: numbers, texts and blobs are equal, tokens and signatures alike. A body may change (II.22.26); no update has a GUID or the bytes
+-- of a field
 abbrev pub cell_is_kept : Rows → Rows → Token → ℕ → Option Kind → Bool
 cell_is_kept old new t i (Some numbers) = number_at old t i == number_at new t i
 cell_is_kept old new t i (Some texts) = bytes_eq (bytes_at old t i) (bytes_at new t i)
@@ -79,7 +80,8 @@ breaks_layout c s a = is_out_of_layout c (rows_after c s) a
 unfoldable pub field_out_of_layout : Chain → Source → Option Place
 field_out_of_layout c s = least_child (breaks_layout c s) s
 
--- a virtual method (flag 40, II.23.1.10) comes to an interface (flag 20, II.23.1.15) that was there, or one that is abstract too (flag 400) to any type that was there
+-- a virtual method (flag 40, II.23.1.10) comes to an interface (flag 20, II.23.1.15) that was there, or one that is abstract too (flag 400) to any type that
+-- was there
 unfoldable pub has_no_slot : Chain → Rows → Attached → Bool
 has_no_slot c rows a =
     a.child.table == tables.method_def && a.owner.table == tables.type_def && not (is_insert c a.owner)
@@ -98,7 +100,8 @@ method_without_slot c s = least_child (breaks_slots c s) s
 abbrev pub name_column : ℕ → ℕ
 name_column table = if table == tables.method_def then columns.method_def_name else columns.field_name
 
--- fields and methods of which the low three bits of the flags are 0 are known to the compiler alone (II.23.1.5, II.23.1.10) and don't count; properties and events do
+-- fields and methods of which the low three bits of the flags are 0 are known to the compiler alone (II.23.1.5, II.23.1.10) and don't count; properties and
+-- events do
 unfoldable pub is_member : Rows → Token → Bool
 is_member rows t =
     t.table == tables.field && not (number_at rows t columns.field_flags % 8 == 0)

@@ -105,7 +105,8 @@ abbrev pub is_known_table : ℕ → Bool
 is_known_table table = nat_lt 0 (length (columns_in table))
 
 unfoldable pub edit_fits : Edit → Bool
-edit_fits (Add table owner cells code points) = is_known_table table && owner_fits table owner && cells_fit (stated_columns table) cells && code_fits table code points
+edit_fits (Add table owner cells code points) = is_known_table table && owner_fits table owner && cells_fit (stated_columns table) cells
+    && code_fits table code points
 edit_fits (Body method code points) = body_fits code
 
 -- the list is of the form

@@ -93,7 +93,8 @@ GeneratedObeys = (start count j : ℕ) (l : EditList) (c : Chain) → count ≤ 
 -- its delta's heaps, behind those of such a chain, are little
 abbrev pub GeneratedStaysLittle : Type 0
 GeneratedStaysLittle = (start count j : ℕ) (l : EditList) (c : Chain) → count ≤ 64 → slice_get (generated_lists start count) j ≡ Some l
-    → IsDrawnChain (take j (generated_lists start count)) c → AreLittle (j + 1) (joined_lengths (heaps_joined c.heaps (with_guid (heaps_with c l.edits l.edits) l.enc_id)))
+    → IsDrawnChain (take j (generated_lists start count)) c
+    → AreLittle (j + 1) (joined_lengths (heaps_joined c.heaps (with_guid (heaps_with c l.edits l.edits) l.enc_id)))
 
 -- the base with the first lists of a case, and a PDB in which nothing is known, pass no limit
 abbrev pub GeneratedIsLight : Type 0

@@ -23,8 +23,8 @@ gives_points (Some e) = has_points e
 abbrev pub method_named : Token → Token
 method_named t = record { table = tables.method_def; row = t.row }
 
--- the bytes are a PDB of a delta that isn't refused: it names exactly the methods whose edits have points, by rising rows, and says of each what its edit does; a method whose points have
--- several documents has Document nil
+-- the bytes are a PDB of a delta that isn't refused: it names exactly the methods whose edits have points, by rising rows, and says of each what its edit
+-- does; a method whose points have several documents has Document nil
 pub record SaysEdits (l : EditList) (methods : List Token) (bytes : List ℕ) : Type 0 where
   pub source : Source
   pub read : pdb_delta_of bytes ≡ Ok source

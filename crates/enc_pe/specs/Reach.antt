@@ -15,7 +15,8 @@ corner_at corners k = slice_index_or corners k (record { start = 0; end = 0 })
 
 -- beginnings and ends rise
 abbrev pub IsStair : List Corner → Type 0
-IsStair corners = (i j : ℕ) → i ≤ j → j < length corners → ((corner_at corners i).start ≤ (corner_at corners j).start) × ((corner_at corners i).end ≤ (corner_at corners j).end)
+IsStair corners = (i j : ℕ) → i ≤ j → j < length corners → ((corner_at corners i).start ≤ (corner_at corners j).start)
+    × ((corner_at corners i).end ≤ (corner_at corners j).end)
 
 -- each corner begins at an RVA or before
 abbrev pub BeginBy : List Corner → ℕ → Type 0
@@ -35,4 +36,5 @@ corner_of s = record { start = s.rva; end = s.rva + min s.raw.len (2 ^ 62) }
 
 -- the corners cover a range of RVAs where one of the sections holds it
 abbrev pub ReachOf : List Section → List Corner → Type 0
-ReachOf sections corners = (first many : ℕ) → first < 2 ^ 32 → many < 2 ^ 32 → list_any (covers first (first + many)) corners ≡ list_any (holds first many) sections
+ReachOf sections corners = (first many : ℕ) → first < 2 ^ 32 → many < 2 ^ 32
+    → list_any (covers first (first + many)) corners ≡ list_any (holds first many) sections

@@ -15,4 +15,5 @@ span_in sections first many = option_map (λ (s : Section). record { start = s.r
 
 -- where the bytes from an RVA on stand: up to the end of the first section that holds the byte there
 abbrev pub span_behind : List Section → ℕ → Option Span
-span_behind sections first = option_map (λ (s : Section). record { start = s.raw.start + (first - s.rva); len = s.raw.len - (first - s.rva) }) (find (holds first 1) sections)
+span_behind sections first =
+    option_map (λ (s : Section). record { start = s.raw.start + (first - s.rva); len = s.raw.len - (first - s.rva) }) (find (holds first 1) sections)

@@ -7,7 +7,8 @@ use Rattle.enc_schema.specs.declared.column.Column.TheVariants.{Num8, Num16, Num
 use Rattle.enc_schema.specs.Schema.{columns_in, column_in}
 use Rattle.enc_schema.specs.Tables as tables
 
--- a number; the bytes of a text, of a blob, of a GUID; a token, where nil names nothing; the body of a method, or that it has none; the initial bytes of a field (ECMA-335 II.22)
+-- a number; the bytes of a text, of a blob, of a GUID; a token, where nil names nothing; the body of a method, or that it has none; the initial bytes of a
+-- field (ECMA-335 II.22)
 pub data Cell : Type 0 where
   number : ℕ → Cell
   text : List ℕ → Cell

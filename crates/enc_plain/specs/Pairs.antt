@@ -12,4 +12,5 @@ is_alike_pair rows table named n = alike_in_table rows table (record { table = n
 
 -- each pair is alike
 abbrev pub AreAlikePairs : Rows → Pairs → Type 0
-AreAlikePairs rows known = AllPass (is_alike_pair rows known.table tables.type_ref) known.numbers × AllPass (is_alike_pair rows known.table tables.type_spec) known.specs
+AreAlikePairs rows known = AllPass (is_alike_pair rows known.table tables.type_ref) known.numbers
+    × AllPass (is_alike_pair rows known.table tables.type_spec) known.specs

@@ -133,7 +133,8 @@ pub record IsPdbHeld (p : PlainPdb) (n room : ℕ) (placed : ℕ → Option Docu
   pub rows : rows_at w.tables tables.document ≡ map (document_cells w.heaps) documents
   pub kept : list_all (keeps_document w.heaps) documents ≡ true
   pub by_value : (key : List ℕ) → row_known w key ≡ option_map suc (position (bytes_eq key) (map (document_key w.heaps) documents))
-  pub places : (place row : ℕ) → get nat_cmp w.places place ≡ Some row → (row_among documents (placed place) ≡ row) × (has_among documents (placed place) ≡ true)
+  pub places : (place row : ℕ) → get nat_cmp w.places place ≡ Some row
+      → (row_among documents (placed place) ≡ row) × (has_among documents (placed place) ≡ true)
   pub count : count_at w.tables tables.method_debug_information ≡ n
   pub method : (k : ℕ) (cells : List ℕ) → slice_get (rows_at w.tables tables.method_debug_information) k ≡ Some cells
       → MethodHeld w.heaps documents (nth_method p k) cells

@@ -1,4 +1,5 @@
--- Shapes of signatures: mixes that signatures have in common which are equal but for tokens of equal keys. They tell which signatures are worth comparing; that shapes are equal says nothing.
+-- Shapes of signatures: mixes that signatures have in common which are equal but for tokens of equal keys. They tell which signatures are worth comparing;
+-- that shapes are equal says nothing.
 use Rattle.std.specs.Prelude.{◌≡◌, ℕ, zero, suc, Bool, true, ◌||◌, ◌==◌, List, [], ◌∷◌, drop, Option, Some, None, option_map, option_and_then, if◌then◌else◌}
 use Rattle.enc_base.specs.declared.token.Token.{Token}
 use Rattle.enc_sigs.specs.declared.kind.SigKind.{SigKind}

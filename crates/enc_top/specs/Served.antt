@@ -22,7 +22,9 @@ pub record Serves (texts : List (List ℕ)) (watchers : List Watching) (status :
   pub verdict : IfSome store.old (λ files. answer_is_whole status ≡ true → status ≡ status_of (verdict_of watchers texts files))
   pub prints : IfSome store.old (λ files. Prints status (verdict_of watchers texts files) sink.old sink.new)
   pub files : IfSome store.old (λ files. Leaves status (verdict_of watchers texts files) store.old store.new)
-  pub complete : IfSome store.old (λ files. ¬ Rose store.faults_before store.faults_after → ¬ Rose sink.faults_before sink.faults_after → (status ≡ status_of (verdict_of watchers texts files)) ⊎ (status ≡ 3))
+  pub complete : IfSome store.old
+      (λ files. ¬ Rose store.faults_before store.faults_after → ¬ Rose sink.faults_before sink.faults_after
+      → (status ≡ status_of (verdict_of watchers texts files)) ⊎ (status ≡ 3))
   pub usage : job_of texts ≡ None → Prints status (Err no_command) sink.old sink.new
   pub no_job : job_of texts ≡ None → answer_is_whole status ≡ true → status ≡ 2
   pub words : status ≡ 2 → job_of texts ≡ None
@@ -39,4 +41,5 @@ IsServed words watchers status store sink = Serves words watchers status store s
 
 -- and what it says
 abbrev pub ServedCallsServe : Type 0
-ServedCallsServe = (words : List (List ℕ)) (watchers : List Watching) (status : ℕ) (store : Course Files) (sink : Course (List ℕ)) → IsServed words watchers status store sink → Serves words watchers status store sink
+ServedCallsServe = (words : List (List ℕ)) (watchers : List Watching) (status : ℕ) (store : Course Files) (sink : Course (List ℕ))
+    → IsServed words watchers status store sink → Serves words watchers status store sink

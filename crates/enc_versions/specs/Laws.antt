@@ -20,7 +20,8 @@ pub record Meant : Type 0 where
 abbrev pub IsMethodOf : Meant → Token → Type 0
 IsMethodOf m method = (method.table ≡ method_def) × IsTrue (has_row m.plain method)
 
--- new bodies are those of a change: each that is brought is its method's; other methods keep body and points where they were there, and have no body where they are new
+-- new bodies are those of a change: each that is brought is its method's; other methods keep body and points where they were there, and have no body where
+-- they are new
 pub record AreNewIn (new : List NewVersion) (m n : Meant) : Type 0 where
   pub rows : length (rows_in m.plain method_def) ≤ length (rows_in n.plain method_def)
   pub within : last_row new ≤ length (rows_in n.plain method_def)

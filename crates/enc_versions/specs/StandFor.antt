@@ -23,7 +23,8 @@ lines_read m = record { locals = m.locals; points = map (λ (p : Point). (p.offs
 abbrev pub lines_known : MethodDebug → MethodLines
 lines_known m = record { locals = m.locals; points = map (λ (p : PlainPoint). (p.offset, p.lines)) m.points }
 
--- a version stands for a method: it is there where the method has a body, means that body with these user texts, each of which is there, and has the points of the PDB
+-- a version stands for a method: it is there where the method has a body, means that body with these user texts, each of which is there, and has the points
+-- of the PDB
 pub record IsVersionOf (users : ℕ → Option (List ℕ)) (m : Module) (pdb : PlainPdb) (method : Token) (version : Option Version) : Type 0 where
   pub means : cell_of m method 0 ≡ Some (body (option_map (λ (v : Version). body_of users v.code) version))
   pub texts : IfSome version (λ (v : Version). IsTrue (texts_are_there users v.code.code))

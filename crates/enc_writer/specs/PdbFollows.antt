@@ -20,10 +20,13 @@ PointsCanBeWritten = (c : Chain) (l : EditList) → MayFollow c l → (points_st
 
 -- none of its rows is out of place by the code of the delta
 abbrev pub PdbsFollow : Type 0
-PdbsFollow = (c : Chain) (l : EditList) (s : Source) (bytes : List ℕ) → MayFollow c l → SaysDelta c l s → (points : SaysEdits l (rows_edited c.plain l.edits) bytes)
+PdbsFollow = (c : Chain) (l : EditList) (s : Source) (bytes : List ℕ) → MayFollow c l → SaysDelta c l s
+    → (points : SaysEdits l (rows_edited c.plain l.edits) bytes)
     → list_all points_lie_within l.edits ≡ true → first_misplaced points.source (code_sizes s) ≡ None
 
 -- with it a plain PDB is the one with all edits made directly
 abbrev pub PdbsOfListsMean : Type 0
-PdbsOfListsMean = (c : Chain) (l : EditList) (s : Source) (bytes : List ℕ) → MayFollow c l → SaysDelta c l s → (points : SaysEdits l (rows_edited c.plain l.edits) bytes)
-    → (before : PlainPdb) (method : Token) → pdb_changed before (record { pdb = Some points.source; changed = new_bodies s }) method ≡ pdb_edited before (rows_edited c.plain l.edits) l method
+PdbsOfListsMean = (c : Chain) (l : EditList) (s : Source) (bytes : List ℕ) → MayFollow c l → SaysDelta c l s
+    → (points : SaysEdits l (rows_edited c.plain l.edits) bytes)
+    → (before : PlainPdb) (method : Token) → pdb_changed before (record { pdb = Some points.source; changed = new_bodies s }) method
+    ≡ pdb_edited before (rows_edited c.plain l.edits) l method
