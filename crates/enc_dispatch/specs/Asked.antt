@@ -13,6 +13,6 @@ abbrev pub left_of : Module → Climb → List Token
 left_of m c = climb m c.left c.class
 
 -- the test that a wanted method passes in the place of a declared one
-abbrev pub test_of : Module → Wanted → Token → Token → Bool
-test_of m Virtual declared = takes_slot m declared
-test_of m Public declared = meets m declared
+abbrev pub is_wanted : Module → Wanted → Token → Token → Bool
+is_wanted m Virtual declared = takes_slot m declared
+is_wanted m Public declared = meets m declared

@@ -1,7 +1,7 @@
 //! The walks over a path, asked of a view.
 ghost use Rattle.std.specs.Prelude.{◌≡◌, ◌<◌, ◌≤◌, ◌^◌, length, reverse, take, IfSome};
 ghost use Rattle.enc_schema.specs.Tables.{method_def, type_def};
-ghost use Rattle.enc_dispatch.specs.Asked.{left_of, test_of};
+ghost use Rattle.enc_dispatch.specs.Asked.{left_of, is_wanted};
 ghost use Rattle.enc_dispatch.specs.Path.{path_of};
 ghost use Rattle.enc_dispatch.specs.Target.{turn, walk_down, class_target, given_by, first_given, interface_target, is_interface, target_by};
 ghost use Rattle.enc_dispatch.specs.Walks.{impl_at, impl_of, same_slot, takes_slot, meets, first_method};
@@ -101,7 +101,7 @@ fn meets<V: ModuleView>(view: &V, declared: Token, method: Token) -> bool
 fn is_wanted<V: ModuleView>(view: &V, wanted: Wanted, declared: Token, method: Token) -> bool
     requires declared { declared.table ≡ method_def }
     requires method { method.table ≡ method_def }
-    ensures { result ≡ test_of (V.meaning view.now) wanted declared method }
+    ensures { result ≡ is_wanted (V.meaning view.now) wanted declared method }
 {
     match wanted {
         Wanted::Virtual => takes_slot(view, declared, method),
@@ -117,7 +117,7 @@ fn first_method<V: ModuleView>(
     class: Token,
 ) -> Option<Token>
     requires { declared.table ≡ method_def }
-    ensures first { result ≡ first_method (V.meaning view.now) (test_of (V.meaning view.now) wanted declared) class }
+    ensures first { result ≡ first_method (V.meaning view.now) (is_wanted (V.meaning view.now) wanted declared) class }
     ensures table { IfSome result (λ method. method.table ≡ method_def) }
 {
     if !is_class(view, class) {
