@@ -188,7 +188,9 @@ added_there p n room placed documents d old new row is held grown kept added pla
     record {
       held = record {
         starts = grown.starts ∙ held.starts;
-        size = omega (arith, added.size, held.size, added.weight);
+        texts = grown.texts ∙ held.texts;
+        users = grown.users ∙ held.users;
+        size = omega (arith, added.size, held.size, added.weight, length-append documents (d ∷ []));
         rows = rows;
         kept = all_more new.heaps documents d stays.0 added.kept;
         by_value = λ key.

@@ -137,6 +137,8 @@ guid_size h g = omega (arith, entry_by h.guids g (is_guid_kept h.guids g))
 pub blob_grown : (h : Built) (v : List ℕ) → Grown h (with_blob h v)
 blob_grown h v = record {
   starts = refl;
+  texts = refl;
+  users = refl;
   blobs = λ w kept. (kept_still h.blobs w v kept, offset_stays blob_bytes h.starts.blobs h.blobs w v kept);
   guids = λ g kept. (kept, refl);
 }
@@ -154,6 +156,8 @@ blob_same h v kept = rw (with_kept h.blobs v kept) refl
 pub guid_grown : (h : Built) (g : List ℕ) → Grown h (with_guid h g)
 guid_grown h g = record {
   starts = refl;
+  texts = refl;
+  users = refl;
   blobs = λ w kept. (kept, refl);
   guids = λ w kept. (guid_still h.guids w g kept, number_stays h.starts.guids h.guids w g kept);
 }
@@ -169,12 +173,14 @@ guid_same h g kept = rw (with_kept_entry h.guids g kept) refl
 
 -- heaps that stay
 pub not_grown : (h : Built) → Grown h h
-not_grown h = record { starts = refl; blobs = λ v kept. (kept, refl); guids = λ g kept. (kept, refl) }
+not_grown h = record { starts = refl; texts = refl; users = refl; blobs = λ v kept. (kept, refl); guids = λ g kept. (kept, refl) }
 
 -- heaps that grow twice
 pub grown_twice : (h k l : Built) → Grown h k → Grown k l → Grown h l
 grown_twice h k l a b = record {
   starts = b.starts ∙ a.starts;
+  texts = b.texts ∙ a.texts;
+  users = b.users ∙ a.users;
   blobs = λ v kept. ((b.blobs v (a.blobs v kept).0).0, (b.blobs v (a.blobs v kept).0).1 ∙ (a.blobs v kept).1);
   guids = λ g kept. ((b.guids g (a.guids g kept).0).0, (b.guids g (a.guids g kept).0).1 ∙ (a.guids g kept).1);
 }

@@ -24,6 +24,7 @@ pub mod MethodBlobs
 pub mod Several
 pub mod MethodsHeld
 pub mod PdbHeld
+pub mod RootSizes
 pub mod PdbFits
 pub mod ReadSound
 pub mod SoundFiles

@@ -102,6 +102,8 @@ method_begun p placed n points weight w so is light many =
     subst (λ ds. IsWritten p n (n + 1) (method_weight (nth_method p n)) placed ds new) (upto_none p n) (record {
       held = record {
         starts = so.held.starts;
+        texts = so.held.texts;
+        users = so.held.users;
         size = omega (arith, so.held.size, is, many);
         rows = so.held.rows;
         kept = so.held.kept;
@@ -258,6 +260,8 @@ method_written p placed n k locals rows old new so listed whole own given light 
     subst (λ ds. IsWritten p (n + 1) (n + 1) 0 placed ds new) (upto_all p n k whole) (record {
       held = record {
         starts = given.grown.starts ∙ so.held.starts;
+        texts = given.grown.texts ∙ so.held.texts;
+        users = given.grown.users ∙ so.held.users;
         size = omega (arith, given.size, so.held.size, many, given.weight);
         rows = given.rows 0x30 ∙ so.held.rows ∙ sym stays.1;
         kept = stays.0;
@@ -286,12 +290,14 @@ row_past p placed n k rows w so listed whole past =
     point_past p n k (lt_more most_pdb_weight (heaps_size w.heaps + (12 + 28 * length rows)) (pdb_weight_of p (n + 1) documents) (omega (arith, so.held.size, many, so.weight)) past)
 
 -- nothing is written
-pub none_written : (p : PlainPdb) (placed : ℕ → Option Document) (w : Writer) → heaps_size w.heaps ≡ 1 → w.heaps.starts ≡ pdb_starts → w.tables ≡ [] → IsEmpty w.by_value → IsEmpty w.places → w.weight ≡ 65536
+pub none_written : (p : PlainPdb) (placed : ℕ → Option Document) (w : Writer) → heaps_size w.heaps ≡ 1 → w.heaps.starts ≡ pdb_starts → w.heaps.texts ≡ [] → w.heaps.users ≡ [] → w.tables ≡ [] → IsEmpty w.by_value → IsEmpty w.places → w.weight ≡ 65536
     → IsWritten p 0 0 0 placed (documents_of p 0) w
 unfolding row_known documents_of pdb_weight_of sum_below
-none_written p placed w size starts tables by_value places weight = record {
+none_written p placed w size starts texts users tables by_value places weight = record {
   held = record {
     starts = starts;
+    texts = texts;
+    users = users;
     size = omega (arith, size, weight);
     rows = ap (λ t. rows_at t 0x30) tables;
     kept = refl;

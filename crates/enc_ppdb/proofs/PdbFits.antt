@@ -4,16 +4,14 @@ use Rattle.std.specs.Prelude.{◌^◌, ◌==◌, ◌/◌, ◌%◌, nat_lt, sum_b
 use Rattle.std.specs.List.{list_all}
 use Rattle.std.specs.Int.{w32, to_le_bytes}
 use Rattle.std.proofs.Math.Nat.{mul-le-mul}
-use Rattle.std.proofs.lemmas.Bool.{and_parts}
 use Rattle.std.proofs.lemmas.Bool.Decides.{nat_tests}
 use Rattle.std.proofs.lemmas.List.{length-map}
-use Rattle.std.proofs.lemmas.List.Concat.{length-flat_map}
 use Rattle.std.proofs.lemmas.List.Sums.{sum_by-cons}
-use Rattle.enc_base.specs.Numbers.{padded}
-use Rattle.enc_emit.specs.Written.{pdb_root_size, pdb_built_size}
-use Rattle.enc_meta.specs.Built.{Built, AreWithinLimits, heaps_built, heap_bytes, guid_bytes, joined_end, text_bytes, user_bytes, blob_bytes}
+use Rattle.enc_emit.specs.Written.{has_ptr_rows, pdb_root_size, pdb_built_size, pdb_root_built}
+use Rattle.enc_meta.specs.Built.{Built, AreWithinLimits, heaps_built, guid_bytes, joined_end, joined_size, text_bytes, user_bytes, blob_bytes}
 use Rattle.enc_meta.specs.BuiltLaws.{IsGood}
 use Rattle.enc_meta.specs.Heaps.{Counted}
+use Rattle.enc_meta.specs.declared.heaps.HeapLengths.{HeapLengths}
 use Rattle.enc_plain.specs.Debug.{Document, PlainPdb}
 use Rattle.enc_rows.specs.Sums.{below, sum_below}
 use Rattle.enc_rows.specs.Written.{rows_at, count_at, counts_of, valid_of, shape_of, table_written, count_written, more_data, header_written, stream_of, heap_bits, fits, index_fits, row_indices_fit, AreRows, IndicesFit}
@@ -25,8 +23,9 @@ use Rattle.enc_schema.specs.Schema.{columns_in}
 use Rattle.enc_schema.specs.Widths.{Shape, narrow, index_width, width_of, space_of}
 use Rattle.enc_schema.specs.declared.column.Column.TheVariants.{Guid, Blob, Index}
 use Rattle.enc_ppdb.specs.declared.writer.Writer.{Writer}
-use Rattle.enc_ppdb.specs.Written.{documents_of, document_weight, pdb_starts, pdb_stream, HoldPdb}
-use Rattle.enc_ppdb.specs.Holding.{document_cells, pdb_weight_of, IsWritten}
+use Rattle.enc_ppdb.specs.Written.{documents_of, document_weight, pdb_weight, pdb_starts, pdb_stream, HoldPdb}
+use Rattle.enc_ppdb.specs.Holding.{document_cells, heaps_size, pdb_weight_of, IsWritten}
+use Rattle.enc_ppdb.proofs.RootSizes.{padded_few, pdb_root_length, heap_is, guids_are, heaps_are}
 
 all_from : {X : Type 0} (test : X → Bool) (xs : List X) → ((k : ℕ) (x : X) → slice_get xs k ≡ Some x → test x ≡ true) → list_all test xs ≡ true
 all_from test [] each = refl
@@ -97,6 +96,20 @@ indices_fit p placed n w so = record { each = λ table. table_fits p placed n ta
 
 pub documents_low : (p : PlainPdb) (placed : ℕ → Option Document) (n : ℕ) (w : Writer) → IsWritten p n n 0 placed (documents_of p n) w → count_at w.tables 0x30 < 2 ^ 23
 documents_low p placed n w so = omega (arith, (count_few p placed n w so).1)
+
+-- the heaps and the rows are within the weight
+joined_few : (h : Built) → h.starts ≡ pdb_starts → h.texts ≡ [] → h.users ≡ [] → joined_size h ≡ heaps_size h + 2
+unfolding joined_size heaps_size joined_end
+joined_few h none texts users =
+    let s : h.starts.strings ≡ 0 = ap (λ (x : HeapLengths). x.strings) none in
+    let u : h.starts.users ≡ 0 = ap (λ (x : HeapLengths). x.users) none in
+    let a : sum_by (λ (v : List ℕ). length (text_bytes v)) h.texts ≡ 0 = ap (sum_by (λ (v : List ℕ). length (text_bytes v))) texts in
+    let b : sum_by (λ (v : List ℕ). length (user_bytes v)) h.users ≡ 0 = ap (sum_by (λ (v : List ℕ). length (user_bytes v))) users in
+    omega (arith, s, u, a, b)
+
+pub size_within : (p : PlainPdb) (placed : ℕ → Option Document) (n : ℕ) (w : Writer) → IsWritten p n n 0 placed (documents_of p n) w → joined_size w.heaps + 16 * count_at w.tables 0x30 + 8 * n + 65000 ≤ pdb_weight p n
+unfolding pdb_weight pdb_weight_of
+size_within p placed n w so = omega (arith, joined_few w.heaps so.held.starts so.held.texts so.held.users, so.held.size, so.weight, (count_few p placed n w so).0)
 
 -- the bytes of the tables
 abbrev table_size : List (List (List ℕ)) → Shape → ℕ → ℕ
@@ -199,24 +212,6 @@ stream_few p n h rows flags are held =
     (length (stream_of rows false flags)) (stream_total rows false flags) (counts_length rows) (more_few flags) (tables_length p n h rows (shape_of rows false flags) are held)
 
 -- the bytes of the heaps
-heap_length : (encode : List ℕ → List ℕ) (values : List (List ℕ)) → length (heap_bytes encode values) ≡ joined_end encode 0 values
-unfolding heap_bytes joined_end
-heap_length encode values =
-    let e : length (0 ∷ flat_map encode values) ≡ length (flat_map encode values) + 1 = omega arith in
-    e ∙ omega (arith, length-flat_map encode values)
-
-guids_by : (guids : List (List ℕ)) → list_all (λ (v : List ℕ). length v == 16) guids ≡ true → length (flat_map (λ (g : List ℕ). g) guids) ≡ 16 * length guids
-guids_by [] all = refl
-guids_by (g ∷ guids) all =
-    let parts = and_parts (length g == 16) (list_all (λ (v : List ℕ). length v == 16) guids) all in
-    let one : length g ≡ 16 = grind (arith, nat_tests, parts.0) in
-    let many : length (g ∷ guids) ≡ length guids + 1 = omega arith in
-    rw (many, length-append g (flat_map (λ (v : List ℕ). v) guids)) (omega (arith, one, guids_by guids parts.1))
-
-guids_length : (guids : List (List ℕ)) → list_all (λ (v : List ℕ). length v == 16) guids ≡ true → length (guid_bytes 0 guids) ≡ 16 * length guids
-unfolding guid_bytes
-guids_length guids all = guids_by guids all
-
 record HeapsFew (h : Built) : Type 0 where
   strings : length (heaps_built h).strings ≤ 2 ^ 29
   users : length (heaps_built h).users ≤ 2 ^ 24
@@ -235,15 +230,11 @@ heaps_few h none good within =
     let blobs = ap (λ n. joined_end blob_bytes n h.blobs) c in
     let guids = ap (λ n. length (guid_bytes n h.guids)) d in
     record {
-      strings = omega (arith, heap_length text_bytes h.texts, texts, within.texts, a);
-      users = omega (arith, heap_length user_bytes h.users, users, within.users, b);
-      blobs = omega (arith, heap_length blob_bytes h.blobs, blobs, within.blobs, c);
-      guids = omega (arith, guids, guids_length h.guids good.guids, within.guids, d);
+      strings = omega (arith, heap_is text_bytes h.texts, texts, within.texts, a);
+      users = omega (arith, heap_is user_bytes h.users, users, within.users, b);
+      blobs = omega (arith, heap_is blob_bytes h.blobs, blobs, within.blobs, c);
+      guids = omega (arith, guids, guids_are h.guids good.guids, within.guids, d);
     }
-
-padded_few : (n : ℕ) → (n ≤ padded n) × (padded n ≤ n + 3)
-unfolding padded
-padded_few n = (omega arith, omega arith)
 
 size_few : (pdb stream : List ℕ) (h : Counted) → pdb_root_size pdb stream h ≤ length pdb + length stream + length h.strings + length h.users + length h.blobs + length h.guids + 160
 size_few pdb stream h =
@@ -256,6 +247,14 @@ root_fits p n h rows pdb held good within are documents methods long =
     let stream = stream_of rows false (heap_bits rows) in
     let few = heaps_few h held.starts good within in
     omega (arith, size_few pdb stream (heaps_built h), stream_few p n h rows (heap_bits rows) are held, few.strings, few.users, few.blobs, few.guids, held.methods, documents, methods, long)
+
+-- and is within the weight
+pub root_light : (p : PlainPdb) (n : ℕ) (h : Built) (rows : List (List (List ℕ))) (pdb : List ℕ) → HoldPdb p n h rows → IsGood h → AreRows rows → length pdb ≡ 32
+    → joined_size h + 16 * count_at rows 0x30 + 8 * n + 65000 ≤ pdb_weight p n → length (pdb_root_built (record { heaps = h; rows = rows }) pdb) ≤ pdb_weight p n
+unfolding pdb_root_built
+root_light p n h rows pdb held good are long size =
+    let stream = stream_of rows false (heap_bits rows) in
+    omega (arith, pdb_root_length pdb (has_ptr_rows rows) stream (heaps_built h), stream_few p n h rows (heap_bits rows) are held, heaps_are h held.starts good, held.methods, long, size)
 
 pub stream_length : (entry : ℕ) → length (pdb_stream entry) ≡ 32
 unfolding pdb_stream

@@ -1,15 +1,17 @@
 -- A PDB that was written is read as its parts.
 use Rattle.std.proofs.Common.{◌≡◌, ℕ, zero, suc, ◌+◌, ◌^◌, ◌<◌, ◌≤◌, Bool, true, false, List, Option, Some, Result, Ok, refl, ap, ◌∙◌, arith}
 use Rattle.std.specs.Prelude.{◌||◌, not, IsTrue, unwrap_or, option_map, option_and_then, nat_lt, slice_get, replicate}
-use Rattle.std.specs.Int.{w64}
+use Rattle.std.specs.Int.{w32, w64}
 use Rattle.std.specs.List.{list_all}
 use Rattle.std.specs.Result.{result_ok}
 use Rattle.enc_base.specs.Numbers.{little_endian_at}
 use Rattle.enc_base.specs.Token.{nth_row}
 use Rattle.enc_base.specs.declared.refusal.Refusal.{Refusal}
-use Rattle.enc_emit.specs.Written.{pdb_root_written, pdb_root_size, HoldsStreams}
+use Rattle.enc_emit.specs.Written.{has_ptr_rows, pdb_root_built, pdb_built_size, pdb_root_written, pdb_root_size, HoldsStreams}
 use Rattle.enc_emit.proofs.Read.{pdb_root_is_read}
 use Rattle.enc_meta.specs.Built.{Built, heaps_built}
+use Rattle.enc_meta.specs.BuiltLaws.{IsGood}
+use Rattle.enc_meta.proofs.BuiltMeanings.{all_texts_count}
 use Rattle.enc_meta.specs.Heaps.{counted_strings, part}
 use Rattle.enc_meta.specs.Root.{root_of}
 use Rattle.enc_meta.specs.declared.root.Root.{Root}
@@ -24,7 +26,8 @@ use Rattle.enc_rows.proofs.Bits.{valid_tells}
 use Rattle.enc_rows.proofs.CellsRead.{number_read}
 use Rattle.enc_rows.proofs.HeapBits.{heap_bits_fit}
 use Rattle.enc_rows.proofs.Layouts.{count_is, stream_read}
-use Rattle.enc_ppdb.specs.Pdb.{outer_count, outer_in, outer_of, pdb_source, pdb_layout, pdb_source_of}
+use Rattle.enc_rows.proofs.Stands.{four_there}
+use Rattle.enc_ppdb.specs.Pdb.{outer_count, outer_in, outer_of, entry_named_in, entry_told, pdb_source, pdb_layout, pdb_source_of}
 use Rattle.enc_ppdb.specs.Written.{pdb_stream}
 
 -- `#Pdb` names no table of another module
@@ -39,6 +42,22 @@ outer_there entry = refl
 outer_is : (bytes : List ℕ) (pdb : Option Span) (span : Span) (entry : ℕ) → pdb ≡ Some span → part bytes span ≡ pdb_stream entry → outer_of bytes pdb ≡ Some (replicate 64 0)
 unfolding outer_of
 outer_is bytes pdb span entry e there = rw (e, there, bits_there entry) (outer_there entry)
+
+-- the entry point
+entry_there : (entry : ℕ) → entry < 2 ^ 32 → little_endian_at w32 (pdb_stream entry) 20 ≡ Some entry
+unfolding pdb_stream
+entry_there entry fits = four_there entry (pdb_stream entry) 20 fits (record { before = replicate 20 0; after = replicate 8 0; split = refl; place = refl })
+
+pub entry_is_told : (h : Built) (rows : List (List (List ℕ))) (entry : ℕ) → IsGood h → entry < 2 ^ 32 → pdb_built_size (record { heaps = h; rows = rows }) (pdb_stream entry) < 2 ^ 32
+    → entry_told (pdb_root_built (record { heaps = h; rows = rows }) (pdb_stream entry)) ≡ Some entry
+unfolding entry_told pdb_root_built
+entry_is_told h rows entry good fits small =
+    let bytes = pdb_root_written (pdb_stream entry) (has_ptr_rows rows) (stream_of rows false (heap_bits rows)) (heaps_built h) in
+    let r = pdb_root_is_read (pdb_stream entry) (has_ptr_rows rows) (stream_of rows false (heap_bits rows)) (heaps_built h) small (all_texts_count h good) in
+    ap (λ (x : Result Root Refusal). option_and_then (λ (root : Root). entry_named_in bytes root.pdb) (result_ok x)) r.1
+    ∙ ap (entry_named_in bytes) r.3.1
+    ∙ ap (λ (x : List ℕ). little_endian_at w32 x 20) r.3.2
+    ∙ entry_there entry fits
 
 -- the form allows its tables
 expected_here : (rows : List (List (List ℕ))) (t : ℕ) → t < 64 → (is_pdb_table t ≡ false → count_at rows t ≡ 0) → is_expected (valid_of rows) t ≡ true

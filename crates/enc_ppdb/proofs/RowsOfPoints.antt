@@ -142,6 +142,8 @@ place_added : (p : PlainPdb) (n room : ℕ) (placed : ℕ → Option Document) (
 unfolding row_known
 place_added p n room placed documents w places k row held updates given among = record {
   starts = held.starts;
+  texts = held.texts;
+  users = held.users;
   size = held.size;
   rows = held.rows;
   kept = held.kept;

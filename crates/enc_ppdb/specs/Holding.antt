@@ -44,9 +44,11 @@ keeps_document h d = keeps_values h d && is_kept h.blobs (name_blob (blob_offset
 unfoldable pub heaps_size : Built → ℕ
 heaps_size h = joined_end blob_bytes h.starts.blobs h.blobs + 16 * (h.starts.guids + length h.guids)
 
--- later heaps: what was kept is kept, with its number
+-- later heaps: what was kept is kept, with its number, and texts and user texts are the same
 pub record Grown (h k : Built) : Type 0 where
   pub starts : k.starts ≡ h.starts
+  pub texts : k.texts ≡ h.texts
+  pub users : k.users ≡ h.users
   pub blobs : (v : List ℕ) → is_kept h.blobs v ≡ true → (is_kept k.blobs v ≡ true) × (blob_offset k v ≡ blob_offset h v)
   pub guids : (g : List ℕ) → is_guid_kept h.guids g ≡ true → (is_guid_kept k.guids g ≡ true) × (guid_number k g ≡ guid_number h g)
 
@@ -80,7 +82,7 @@ pub record RowAdded (d : Document) (old new : Writer) (row : ℕ) : Type 0 where
   pub known : Updates (slice_cmp nat_cmp) old.by_value new.by_value (document_key new.heaps d) (Some row)
   pub number : row ≡ count_at new.tables tables.document
   pub weight : new.weight ≡ old.weight + document_weight d
-  pub size : heaps_size new.heaps ≤ heaps_size old.heaps + document_weight d
+  pub size : heaps_size new.heaps + 16 ≤ heaps_size old.heaps + document_weight d
 
 -- or has one already
 pub record RowFound (d : Document) (old new : Writer) : Type 0 where
@@ -126,10 +128,13 @@ pub record MethodHeld (h : Built) (documents : List Document) (d : MethodDebug) 
   pub several : IsNilOverSeveral d.points first
   pub among : have_rows documents d.points ≡ true
 
--- what is written of the first n methods, whose points have these documents, and what is known of documents, with room for so many bytes more
+-- what is written of the first n methods, whose points have these documents, and what is known of documents: with its rows, a root and room for so many
+-- bytes more it is within the weight
 pub record IsPdbHeld (p : PlainPdb) (n room : ℕ) (placed : ℕ → Option Document) (documents : List Document) (w : Writer) : Type 0 where
   pub starts : w.heaps.starts ≡ pdb_starts
-  pub size : heaps_size w.heaps + room ≤ w.weight
+  pub texts : w.heaps.texts ≡ []
+  pub users : w.heaps.users ≡ []
+  pub size : heaps_size w.heaps + 16 * length documents + 8 * n + room + 65002 ≤ w.weight
   pub rows : rows_at w.tables tables.document ≡ map (document_cells w.heaps) documents
   pub kept : list_all (keeps_document w.heaps) documents ≡ true
   pub by_value : (key : List ℕ) → row_known w key ≡ option_map suc (position (bytes_eq key) (map (document_key w.heaps) documents))

@@ -2,6 +2,7 @@
 //! method (Portable PDB v1.0).
 ghost use Rattle.std.specs.Prelude.{◌≡◌, ℕ, ◌+◌, ◌-◌, ◌*◌, ◌^◌, ◌<◌, ◌≤◌, ◌==◌, true, false, length, Some, Ok, is_ok, nat_lt, slice_get, IfOk, OnOk};
 ghost use Rattle.enc_base.specs.Token.{nth_row as row_from};
+ghost use Rattle.enc_meta.specs.Built.{joined_size};
 ghost use Rattle.enc_plain.specs.SoundDebug.{IsSoundPdb};
 ghost use Rattle.enc_rows.specs.Written.{count_at, IndicesFit};
 ghost use Rattle.enc_schema.specs.Tables.{document as document_table, method_def, method_debug_information};
@@ -275,7 +276,9 @@ fn written<P: PointSource>(alloc: Global, source: &P, methods: u32) -> Result<Wr
 /// The parts of a PDB that hold what is known of so many methods: the documents of their points, each
 /// value once, in the order of first use, and for each method its points, of which a Document is told
 /// where they have one alone. `TooLarge(Pdb)` exactly where the weight passes 2^29: 65,536, 64 for
-/// each method, 32 for each point, and for each document 96, its name and its hash.
+/// each method, 32 for each point, and for each document 96, its name and its hash. Within the weight
+/// are the heaps, 16 bytes for each row of Document, 8 for each of MethodDebugInformation, and 65,000
+/// more.
 pub fn pdb_parts<P: PointSource>(
     alloc: Global,
     source: &P,
@@ -286,6 +289,7 @@ pub fn pdb_parts<P: PointSource>(
     ensures held { IfOk result (λ r. HoldPdb (P.debug source.now) methods r.heaps r.tables) }
     ensures fit { IfOk result (λ r. IndicesFit r.tables false) }
     ensures documents { IfOk result (λ r. count_at r.tables document_table < 2 ^ 23) }
+    ensures size { IfOk result (λ r. joined_size r.heaps + 16 * count_at r.tables document_table + 8 * methods + 65000 ≤ pdb_weight (P.debug source.now) methods) }
     ensures tells { TellsPdb result (pdb_weight (P.debug source.now) methods) }
 {
     let writer = match written(alloc, source, methods) {

@@ -173,6 +173,8 @@ impl Writer {
     pub(crate) fn begin(alloc: Global) -> Result<Writer, AllocError>
         ensures heaps { IfOk result (λ w. heaps_size w.heaps ≡ 1) }
         ensures starts { IfOk result (λ w. w.heaps.starts ≡ pdb_starts) }
+        ensures texts { IfOk result (λ w. w.heaps.texts ≡ []) }
+        ensures users { IfOk result (λ w. w.heaps.users ≡ []) }
         ensures tables { IfOk result (λ w. w.tables ≡ []) }
         ensures by_value { IfOk result (λ w. IsEmpty w.by_value) }
         ensures places { IfOk result (λ w. IsEmpty w.places) }

@@ -9,8 +9,8 @@ use Rattle.enc_ppdb.proofs.parts.written.Goals as goal
 
 pub loop-n-init : goal.loop-n-init
 loop-n-init g c =
-    none_written (g.P.PointSource.debug c.args.source.now) (g.P.PointSource.placed c.args.source.now) c.in_ok-writer.writer c.in_ok-writer.ensures.heaps c.in_ok-writer.ensures.starts c.in_ok-writer.ensures.tables
-    c.in_ok-writer.ensures.by_value c.in_ok-writer.ensures.places c.in_ok-writer.ensures.weight
+    none_written (g.P.PointSource.debug c.args.source.now) (g.P.PointSource.placed c.args.source.now) c.in_ok-writer.writer c.in_ok-writer.ensures.heaps c.in_ok-writer.ensures.starts c.in_ok-writer.ensures.texts c.in_ok-writer.ensures.users
+    c.in_ok-writer.ensures.tables c.in_ok-writer.ensures.by_value c.in_ok-writer.ensures.places c.in_ok-writer.ensures.weight
 
 pub returns-in-Err-clause-refused : goal.returns-in-Err-clause-refused
 returns-in-Err-clause-refused g c =
