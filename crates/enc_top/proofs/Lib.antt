@@ -6,6 +6,7 @@ pub mod Listed
 pub mod KnownMethods
 pub mod Applied
 pub mod Sums
+mod BaseHeaps
 pub mod Spaced
 pub mod Numerals
 pub mod Cases
