@@ -10,3 +10,4 @@ pub mod Named
 pub mod Examples
 pub mod PointsSized
 pub mod PointsSpelled
+mod Rising

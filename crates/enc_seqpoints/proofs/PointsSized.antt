@@ -1,8 +1,8 @@
 -- How many bytes the blob of a method's points has at most.
-use Rattle.std.proofs.Common.{◌≡◌, ℕ, zero, suc, ◌+◌, ◌-◌, ◌*◌, ◌≤◌, ◌<◌, Bool, true, false, ◌||◌, ◌&&◌, List, [], ◌∷◌, ◌++◌, length, Option, Some, None, refl, sym, ap, ◌∙◌, arith, Result, Ok, Err}
+use Rattle.std.proofs.Common.{◌≡◌, ℕ, ◌+◌, ◌-◌, ◌*◌, ◌≤◌, Bool, true, false, List, [], ◌∷◌, ◌++◌, length, Option, Some, None, refl, arith, Result, Ok, Err}
 use Rattle.std.specs.Prelude.{◌==◌, nat_lt, if◌then◌else◌}
 use Rattle.std.proofs.lemmas.List.{length-append}
-use Rattle.enc_base.specs.Numbers.{spelled, spelled_signed, one_byte, two_bytes, four_bytes, is_within, rotated}
+use Rattle.enc_base.specs.Numbers.{spelled, one_byte, two_bytes, four_bytes, is_within, rotated}
 use Rattle.enc_seqpoints.specs.declared.base.Base.{Base}
 use Rattle.enc_seqpoints.specs.declared.base.Record.TheVariants.{Sequence}
 use Rattle.enc_seqpoints.specs.declared.point.Point.{Point}

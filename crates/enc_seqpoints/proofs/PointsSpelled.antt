@@ -1,6 +1,6 @@
 -- Points that can be spelled with one row can be spelled with any rows, in so many bytes.
-use Rattle.std.proofs.Common.{◌≡◌, ℕ, zero, suc, ◌+◌, ◌-◌, ◌*◌, ◌≤◌, ◌<◌, Bool, true, false, ◌||◌, ◌&&◌, not, List, [], ◌∷◌, ◌++◌, length, map, Option, Some, None, refl, sym, ap, ◌∙◌, arith, Result, Ok, Err}
-use Rattle.std.specs.Prelude.{◌==◌, is_some, is_ok, nat_lt, if◌then◌else◌}
+use Rattle.std.proofs.Common.{◌≡◌, ℕ, Bool, true, false, ◌||◌, ◌&&◌, List, [], ◌∷◌, map, Option, refl, sym, ap, ◌∙◌, arith, Result, Ok, Err}
+use Rattle.std.specs.Prelude.{◌==◌, is_ok, if◌then◌else◌}
 use Rattle.std.specs.List.{list_all}
 use Rattle.std.proofs.lemmas.Bool.{and_parts}
 use Rattle.std.proofs.lemmas.Bool.Decides.{nat_tests}
@@ -8,7 +8,7 @@ use Rattle.enc_seqpoints.specs.declared.base.Base.{Base}
 use Rattle.enc_seqpoints.specs.declared.base.Record.TheVariants.{Sequence}
 use Rattle.enc_seqpoints.specs.declared.point.Point.{Point}
 use Rattle.enc_seqpoints.specs.Grammar.{is_row, after, opened, start_after}
-use Rattle.enc_seqpoints.specs.Spelling.{spelled_number, spelled_difference, between, document_holds, is_later, are_writable, is_writable, document_bytes, offset_bytes, columns_bytes, start_bytes, lines_bytes, point_bytes, preceded, records_of, said_first, first_document, header_bytes, blob_of}
+use Rattle.enc_seqpoints.specs.Spelling.{document_holds, is_later, are_writable, is_writable, point_bytes, preceded, records_of, first_document, header_bytes, blob_of}
 
 -- points with rows of their own
 abbrev pub pointed : {X : Type 0} → (X → ℕ) → (X → Option (ℕ × ℕ × ℕ × ℕ)) → (X → ℕ) → X → Point

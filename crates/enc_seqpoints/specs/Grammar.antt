@@ -1,5 +1,5 @@
 -- The grammar of a sequence points blob (Portable PDB v1.0, Sequence Points Blob).
-use Rattle.std.specs.Prelude.{ℕ, zero, suc, ◌+◌, ◌-◌, Bool, not, ◌&&◌, List, [], ◌∷◌, length, Option, Some, None, option_map, option_and_then, is_some, nat_lt, ◌==◌, if◌then◌else◌}
+use Rattle.std.specs.Prelude.{◌≡◌, ◌<◌, slice_get, ℕ, zero, suc, ◌+◌, ◌-◌, Bool, not, ◌&&◌, List, [], ◌∷◌, length, Option, Some, None, option_map, option_and_then, is_some, nat_lt, ◌==◌, if◌then◌else◌}
 use Rattle.enc_base.specs.Readers.{Reader, giving, both, number_in, signed_in}
 use Rattle.enc_seqpoints.specs.declared.point.Point.{Point}
 use Rattle.enc_seqpoints.specs.declared.base.Base.{Base}
@@ -127,6 +127,10 @@ document_in document bytes = if document == 0 then document_row_in bytes else So
 -- the local signature row, and the document of the first point (LocalSignature, InitialDocument)
 unfoldable pub header_in : ℕ → Reader (ℕ × ℕ)
 header_in document = both number_in (document_in document)
+
+-- the offsets of points rise: each is past all before it
+abbrev pub AreRising : List Point → Type 0
+AreRising points = (i j : ℕ) (p q : Point) → i < j → slice_get points i ≡ Some p → slice_get points j ≡ Some q → p.offset < q.offset
 
 -- the local signature row of a method and its sequence points
 pub record MethodPoints : Type 0 where

@@ -1,6 +1,7 @@
 //! The points of a method that were read.
-ghost use Rattle.std.specs.Prelude.{◌≡◌, ◌<◌, [], length, slice_get, Some};
-ghost use Rattle.enc_seqpoints.specs.Grammar.{method_points};
+ghost use Rattle.std.specs.Prelude.{◌≡◌, ◌<◌, ◌==◌, [], length, slice_get, Some, find};
+ghost use Rattle.enc_seqpoints.specs.declared.point.Point.{Point as ThePoint};
+ghost use Rattle.enc_seqpoints.specs.Grammar.{AreRising, method_points};
 
 use crate::point::Point;
 use std::alloc::Global;
@@ -14,11 +15,13 @@ pub struct Points {
 }
 
 impl Model for Points {
-    ghost use Rattle.enc_seqpoints.specs.Grammar.{MethodPoints};
+    ghost use Rattle.enc_seqpoints.specs.Grammar.{AreRising, MethodPoints};
 
     ghost Value = { MethodPoints };
 
     ghost view = { λ p. record { locals = p.locals; points = p.items.items } };
+
+    ghost invariant = { λ p. AreRising p.items.items };
 }
 
 impl Points {
@@ -52,5 +55,22 @@ impl Points {
         ensures { slice_get self.now.points i ≡ Some result }
     {
         self.items[i]
+    }
+
+    /// The point at an offset, None where none stands there. Its time is logarithmic in the number of points.
+    pub fn at(&self, offset: u32) -> Option<Point>
+        ensures { result ≡ find (λ (p : ThePoint). p.offset == offset) self.now.points }
+    {
+        match self.items.binary_search_by_key(&offset, |p| p.offset) {
+            Ok(i) => Some(self.items[i]),
+            Err(_) => None,
+        }
+    }
+
+    /// The offsets of the points rise.
+    pub fn rising(&self)
+        ensures { AreRising self.now.points }
+    {
+        let _ = &self.items;
     }
 }
