@@ -11,3 +11,6 @@ returns-in-Err-pdb_of-clause-tells g c =
 pub returns-clause-tells : goal.returns-clause-tells
 returns-clause-tells g c =
     neither_told (g.V.ModuleView.meaning c.args.view.now) (g.P.PointSource.debug c.args.points.now) c.in-Ok.ensures.tells c.in-Ok-pdb_of.ensures.tells
+
+pub returns-clause-written : goal.returns-clause-written
+returns-clause-written g c = ?
