@@ -1,10 +1,10 @@
 -- Fields whose initial bytes are placed, one behind the other.
 use Rattle.std.proofs.Common.{◌≡◌, ℕ, ◌+◌, ◌-◌, ◌<◌, ◌≤◌, true, List, [], ◌∷◌, ◌++◌, length, take, drop, Some, refl, sym, ap, subst, ◌∙◌, arith, inl, inr}
-use Rattle.std.specs.Prelude.{nat_le, slice_index}
+use Rattle.std.specs.Prelude.{◌%◌, nat_le, replicate, slice_index}
 use Rattle.std.proofs.Math.Seq.{drop-append_seam, take-append_seam}
 use Rattle.std.proofs.lemmas.Bool.{cases_lt}
 use Rattle.std.proofs.lemmas.Bool.Decides.{nat_tests}
-use Rattle.std.proofs.lemmas.List.{append_assoc, length-append, get_or_append_left, get_or_push}
+use Rattle.std.proofs.lemmas.List.{append_assoc, length-append, length-replicate, get_or_append_left, get_or_push}
 use Rattle.enc_base.specs.Token.{nth_row}
 use Rattle.enc_meta.specs.Regions.{region_holds, range_loaded}
 use Rattle.enc_plain.specs.Cell.{field}
@@ -36,6 +36,15 @@ taken front bytes behind n size =
     ∙ ap (λ k. take (length bytes) (drop k (front ++ (bytes ++ behind)))) (sym size)
     ∙ ap (take (length bytes)) (drop-append_seam front (bytes ++ behind))
     ∙ take-append_seam bytes behind
+
+-- behind zeros up to a multiple of eight
+eight_by : (n m : ℕ) → m ≡ n + (8 - n % 8) % 8 → m % 8 ≡ 0
+eight_by n m is = omega (arith, is)
+
+pub eight_place : (old out : List ℕ) → out ≡ old ++ replicate ((8 - length old % 8) % 8) 0 → length out % 8 ≡ 0
+eight_place old out is =
+    let zeros = (8 - length old % 8) % 8 in
+    eight_by (length old) (length out) (ap (λ (xs : List ℕ). length xs) is ∙ length-append old (replicate zeros 0) ∙ ap (λ (n : ℕ). length old + n) (length-replicate {A = ℕ} zeros 0))
 
 pub written_placed : (front bytes : List ℕ) (n : ℕ) → length front ≡ n → n % 8 ≡ 0 → 0 < length bytes → IsFieldPlaced (front ++ bytes) bytes (8192 + n)
 written_placed front bytes n size eight some = record {

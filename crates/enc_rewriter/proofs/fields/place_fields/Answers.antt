@@ -29,3 +29,10 @@ returns-clause-size g c =
     let count : c.count-n-end.result ≡ row_count m 0x1D = c.count-n-end.ensures.count in
     let all : c.loop-n.n ≡ row_count m 0x1D = omega (arith, count, c.loop-n-test.false, c.loop-n.auto.n-end) in
     omega (arith, fields_weigh m c.loop-n.n all, c.loop-n.invariant.2)
+
+pub returns-clause-placed : goal.returns-clause-placed
+returns-clause-placed g c =
+    let m = g.V.ModuleView.meaning c.args.view.now in
+    let count : c.count-n-end.result ≡ row_count m 0x1D = c.count-n-end.ensures.count in
+    let all : c.loop-n.n ≡ row_count m 0x1D = omega (arith, count, c.loop-n-test.false, c.loop-n.auto.n-end) in
+    subst (λ k. AreFieldsPlaced m c.loop-n.out.items c.loop-n.fields.items k) all c.loop-n.invariant.1
