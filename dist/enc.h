@@ -1,0 +1,167 @@
+/* The toolkit for .NET Edit and Continue deltas as a C library. What each call answers is proved
+ * against the plain module after all deltas: see docs/library.md, and crates/enc_c for the contracts.
+ *
+ * Trusted of the caller:
+ * - a handle is NULL at first, and from then on only what the library wrote; it isn't copied and used twice;
+ * - pointers are valid and aligned for what they point to, lengths are right, and what a call writes
+ *   (handle, buffer, size, structs) lies apart from all else that the call is given; where a length is 0
+ *   its pointer may be NULL;
+ * - one call at a time on a handle, also of those that only look: a handle is closed while a call runs;
+ * - a handle stays on the thread that opened it;
+ * - malloc, realloc and free are those of one allocator;
+ * - no call from a signal handler, or from the forked child of a process with threads.
+ */
+#ifndef ENC_H
+#define ENC_H
+
+#include <stddef.h>
+#include <stdint.h>
+
+#ifdef __cplusplus
+extern "C" {
+#endif
+
+/* A module: closed where it is NULL, and else a base with the deltas that follow it. */
+typedef void *enc_handle;
+
+/* What a call comes to. 0, 1 and 3 are those of the program `enc`. Where it isn't ENC_DONE or
+ * ENC_SHORT, nothing is written but the refusal at ENC_REFUSED. */
+enum {
+    ENC_DONE = 0,    /* all is done */
+    ENC_REFUSED = 1, /* the files break a rule, which `refusal` names with its place */
+    ENC_MEMORY = 3,  /* there is no memory */
+    ENC_CLOSED = 7,  /* the handle is closed */
+    ENC_OPEN = 8,    /* the handle is open already */
+    ENC_SHORT = 9,   /* the buffer is too short: nothing is copied, and `size` has what is needed */
+    ENC_ABSENT = 10, /* there is no such row, entry, body or document; a stream that is no heap has no entry */
+    ENC_UNLIKE = 11, /* the column, the table or the row isn't of the kind that is asked for, or the numbers name no
+                      * stream or no refusal */
+    ENC_LATER = 12   /* there is no such generation */
+};
+
+/* The kinds of places of a refusal. */
+enum {
+    ENC_AT_ROOT = 0,
+    ENC_AT_STREAM = 1,   /* stream */
+    ENC_AT_HEADERS = 2,
+    ENC_AT_CLI = 3,
+    ENC_AT_METADATA = 4,
+    ENC_AT_RESOURCES = 5,
+    ENC_AT_DEBUG = 6,
+    ENC_AT_TABLES = 7,
+    ENC_AT_PDB = 8,
+    ENC_AT_ROW = 9,      /* table, row */
+    ENC_AT_CELL = 10,    /* table, row, column */
+    ENC_AT_OWNER = 11,   /* table, row: of the child */
+    ENC_AT_LOG = 12      /* entry */
+};
+
+/* Streams. Those up to ENC_GUIDS are heaps. For the others `enc_locate_heap` answers ENC_ABSENT, and for a
+ * number past ENC_JTD ENC_UNLIKE. */
+enum {
+    ENC_STRINGS = 0,
+    ENC_USERS = 1,
+    ENC_BLOBS = 2,
+    ENC_GUIDS = 3,
+    ENC_COMPRESSED = 4,   /* #~ */
+    ENC_UNCOMPRESSED = 5, /* #- */
+    ENC_PDB = 6,
+    ENC_JTD = 7
+};
+
+/* The first rule that files break, and where. What the place doesn't have is 0. */
+typedef struct {
+    uint8_t letter; /* 'F' or 'E' */
+    uint8_t rule;
+    uint8_t place;
+    uint8_t stream;
+    uint8_t table;
+    uint8_t column; /* from 0 in the order of ECMA-335 II.22 */
+    uint32_t row;   /* from 1 */
+    uint32_t entry; /* of EncLog, from 1 */
+} enc_refusal;
+
+/* Where a row or an entry of a heap stands: its generation, 0 for the base, and its position there:
+ * from 1 of a row and of an entry of #GUID, and else the offset. */
+typedef struct {
+    uint32_t generation;
+    uint32_t position;
+} enc_place;
+
+/* What stands before the code of a body. */
+typedef struct {
+    uint32_t stack;  /* the most values on it */
+    uint32_t locals; /* the row of StandAloneSig, 0 where there are no locals */
+    uint32_t init;   /* 1 where locals begin as zeros, and else 0 */
+} enc_code_head;
+
+/* A sequence point; a hidden one has lines and columns 0. `document` is a number for `enc_document`. */
+typedef struct {
+    uint32_t offset;
+    uint32_t document;
+    uint32_t hidden;
+    uint32_t start_line;
+    uint32_t start_column;
+    uint32_t end_line;
+    uint32_t end_column;
+} enc_point;
+
+/* Judges a base, with its Portable PDB where that has bytes, and opens a closed handle. */
+uint32_t enc_open(enc_handle *handle, const uint8_t *bytes, size_t length, const uint8_t *pdb, size_t pdb_length, enc_refusal *refusal);
+
+/* Judges a delta after those before it, with its PDB where that has bytes, and adds it. Where it isn't
+ * added, the handle stays as it was. */
+uint32_t enc_apply(enc_handle *handle, const uint8_t *metadata, size_t metadata_length, const uint8_t *il, size_t il_length,
+                   const uint8_t *pdb, size_t pdb_length, enc_refusal *refusal);
+
+/* Closes a handle and frees what it held; ENC_CLOSED where it was closed before. */
+uint32_t enc_close(enc_handle *handle);
+
+/* Tokens are numbers as in IL: the table in the top byte, the row in the three below. */
+
+/* How many generations there are, the base among them; how many rows a table has. */
+uint32_t enc_generations(enc_handle *handle, uint32_t *count);
+uint32_t enc_count(enc_handle *handle, uint8_t table, uint32_t *count);
+
+/* Where the newest place of a row is, and where an offset of a joined heap stands. */
+uint32_t enc_locate(enc_handle *handle, uint32_t token, enc_place *place);
+uint32_t enc_locate_heap(enc_handle *handle, uint32_t heap, uint32_t offset, enc_place *place);
+
+/* The number, and the token, in a column; nil is 0. */
+uint32_t enc_number(enc_handle *handle, uint32_t token, uint8_t column, uint32_t *number);
+uint32_t enc_token(enc_handle *handle, uint32_t token, uint8_t column, uint32_t *found);
+
+/* The owner of a row of Field, MethodDef, Param, Event or Property. */
+uint32_t enc_owner(enc_handle *handle, uint32_t token, uint32_t *owner);
+
+/* The calls below copy into a buffer of `length` items and tell how many there are in `size`. */
+
+/* The rows of a row's children in a child table. */
+uint32_t enc_kids(enc_handle *handle, uint32_t token, uint8_t table, uint32_t *buffer, size_t length, size_t *size);
+
+/* The EncId of a generation, sixteen zeros for the base. */
+uint32_t enc_id(enc_handle *handle, uint32_t generation, uint8_t *buffer, size_t length, size_t *size);
+
+/* The bytes of a text, a blob or a GUID in a column. */
+uint32_t enc_text(enc_handle *handle, uint32_t token, uint8_t column, uint8_t *buffer, size_t length, size_t *size);
+uint32_t enc_blob(enc_handle *handle, uint32_t token, uint8_t column, uint8_t *buffer, size_t length, size_t *size);
+uint32_t enc_guid(enc_handle *handle, uint32_t token, uint8_t column, uint8_t *buffer, size_t length, size_t *size);
+
+/* The row as `enc show` prints it. */
+uint32_t enc_row(enc_handle *handle, uint32_t token, uint8_t *buffer, size_t length, size_t *size);
+
+/* The code of a method's newest body, without its header, and what that says. */
+uint32_t enc_code(enc_handle *handle, uint32_t method, uint8_t *buffer, size_t length, size_t *size, enc_code_head *head);
+
+/* The sequence points of a method, and the name of a document that one of them has. */
+uint32_t enc_points(enc_handle *handle, uint32_t method, enc_point *buffer, size_t length, size_t *size);
+uint32_t enc_document(enc_handle *handle, uint32_t method, uint32_t number, uint8_t *buffer, size_t length, size_t *size);
+
+/* The words of a refusal as the program prints them, with the end of the line: `E16 06000001\n`. */
+uint32_t enc_words(const enc_refusal *refusal, uint8_t *buffer, size_t length, size_t *size);
+
+#ifdef __cplusplus
+}
+#endif
+
+#endif
