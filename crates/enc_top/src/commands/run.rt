@@ -1,4 +1,4 @@
-//! The command `run`: what a script prints over a base, with the deltas that it names and the watchers that are handed in.
+//! The command `run`: what a script prints over a base, with the deltas that it names and the watchers it is given.
 ghost use Rattle.std.specs.Prelude.{◌≡◌, ◌≢◌, ◌⊎◌, ◌<◌, ◌^◌, [], List, Ok, true, IfOk, IfSome, IsErrOf, length, map};
 ghost use Rattle.std.specs.List.{list_all};
 ghost use Rattle.enc_outside.specs.Outside.{HasCause};
