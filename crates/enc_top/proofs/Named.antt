@@ -1,17 +1,20 @@
 -- The deltas that a script names.
-use Rattle.std.proofs.Common.{◌≡◌, ◌<◌, ℕ, zero, suc, Bool, true, false, List, [], ◌∷◌, ◌++◌, map, length, refl, sym, ◌∙◌, append-nil, arith}
-use Rattle.std.specs.Prelude.{◌&&◌, nat_le}
-use Rattle.std.specs.List.{list_all}
+use Rattle.std.proofs.Common.{◌≡◌, ◌<◌, ℕ, zero, suc, Bool, true, false, List, [], ◌∷◌, ◌++◌, map, length, refl, sym, ap, ◌∙◌, append-nil, arith, Bor}
+use Rattle.std.specs.Prelude.{◌&&◌, nat_le, bytes_eq, if◌then◌else◌}
+use Rattle.std.specs.List.{list_all, list_any}
 use Rattle.std.specs.Str.{IsAscii, IsUtf8}
 use Rattle.std.proofs.lemmas.Bool.Decides.{nat_tests}
-use Rattle.std.proofs.lemmas.List.{nil_from_length}
+use Rattle.std.proofs.lemmas.List.{nil_from_length, map-append}
+use Rattle.std.proofs.lemmas.List.Folds.{list_all-append}
 use Rattle.std.proofs.lemmas.Str.{IsUtf8-from_ascii}
 use Rattle.std.proofs.lemmas.Bool.{and_parts}
+use Rattle.enc_jobs.specs.Laws.{names_a_delta}
 use Rattle.enc_jobs.specs.Scripts.{is_name_byte, is_name}
 use Rattle.enc_jobs.specs.declared.command.Command.{Command}
 use Rattle.enc_jobs.specs.declared.command.Command.TheVariants.{Spawn, Step, Apply, Attach, Detach, State}
+use Rattle.enc_rewriter.specs.Distinct.{borrowed}
 use Rattle.enc_script.specs.Run.{NamedFiles}
-use Rattle.enc_top.specs.Verdict.{DeltaFiles, as_named, deltas_named}
+use Rattle.enc_top.specs.Verdict.{DeltaFiles, as_named, deltas_named, with_name}
 
 -- the bytes of a name are ASCII
 ascii_byte : (b : ℕ) → is_name_byte b ≡ true → b < 128
@@ -45,3 +48,34 @@ none_named names left is = rw is refl
 -- all files
 pub all_done : (deltas : List NamedFiles) (rest files : List DeltaFiles) → length rest ≡ 0 → deltas ++ map as_named rest ≡ map as_named files → deltas ≡ map as_named files
 all_done deltas rest files none so_far = let is : rest ≡ [] = nil_from_length rest none in sym (append-nil deltas) ∙ (rw is at so_far)
+
+-- a name among borrowed ones
+added_by : (keys : List (Bor (List ℕ))) (name : Bor (List ℕ)) (b : Bool) → borrowed (if b then keys else keys ++ name ∷ []) ≡ (if b then borrowed keys else borrowed keys ++ name.now ∷ [])
+added_by keys name true = refl
+added_by keys name false = map-append _ keys (name ∷ [])
+
+among : (keys : List (Bor (List ℕ))) (name : List ℕ) → list_any (λ (k : Bor (List ℕ)). bytes_eq name k.now) keys ≡ list_any (bytes_eq name) (borrowed keys)
+among [] name = refl
+among (k ∷ keys) name = rw (among keys name) refl
+
+pub name_added : (keys new : List (Bor (List ℕ))) (name : Bor (List ℕ))
+    → new ≡ (if list_any (λ (k : Bor (List ℕ)). bytes_eq name.now k.now) keys then keys else keys ++ name ∷ []) → borrowed new ≡ with_name (borrowed keys) name.now
+name_added keys new name added =
+    ap borrowed added ∙ added_by keys name (list_any (λ (k : Bor (List ℕ)). bytes_eq name.now k.now) keys) ∙ rw (among keys name.now) refl
+
+-- the names are names
+with_good : (names : List (List ℕ)) (name : List ℕ) (b : Bool) → list_all is_name names ≡ true → is_name name ≡ true → list_all is_name (if b then names else names ++ name ∷ []) ≡ true
+with_good names name true good is = good
+with_good names name false good is = list_all-append is_name names (name ∷ []) ∙ rw (good, is) refl
+
+pub all_good : (names : List (List ℕ)) (script : List Command) → list_all is_name names ≡ true → list_all names_a_delta script ≡ true → list_all is_name (deltas_named names script) ≡ true
+unfolding deltas_named
+all_good names [] good all = good
+all_good names (Apply name ∷ rest) good all =
+    let parts = and_parts (is_name name) (list_all names_a_delta rest) all in
+    all_good (with_name names name) rest (with_good names name (list_any (bytes_eq name) names) good parts.0) parts.1
+all_good names (Spawn method ∷ rest) good all = all_good names rest good all
+all_good names (Step task count ∷ rest) good all = all_good names rest good all
+all_good names (Attach kind ∷ rest) good all = all_good names rest good all
+all_good names (Detach number ∷ rest) good all = all_good names rest good all
+all_good names (State ∷ rest) good all = all_good names rest good all

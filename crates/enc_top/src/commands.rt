@@ -11,6 +11,7 @@ mod apply;
 mod check;
 mod generate;
 mod list;
+mod named;
 mod run;
 mod show;
 mod write;

@@ -1,24 +1,24 @@
-//! The command `run`: what a script prints over a base, with the deltas that it names and the watchers that are handed in.
-ghost use Rattle.std.specs.Prelude.{◌≡◌, ◌≢◌, ◌⊎◌, ◌<◌, ◌^◌, ◌∷◌, [], List, Ok, true, IfOk, OnOk, IfSome, IsErrOf, IsTrue, bytes_eq, length, map, string_bytes};
-ghost use Rattle.std.specs.List.{list_all, list_any};
+//! The command `run`: what a script prints over a base, with the deltas that it names and the watchers it is given.
+ghost use Rattle.std.specs.Prelude.{◌≡◌, ◌≢◌, ◌⊎◌, ◌<◌, ◌^◌, [], List, Ok, true, IfOk, IfSome, IsErrOf, length, map};
+ghost use Rattle.std.specs.List.{list_all};
 ghost use Rattle.enc_outside.specs.Outside.{HasCause};
 ghost use Rattle.enc_jobs.specs.Laws.{names_a_delta};
-ghost use Rattle.enc_jobs.specs.Scripts.{is_name, script_said};
+ghost use Rattle.enc_jobs.specs.Scripts.{script_said};
 ghost use Rattle.enc_jobs.specs.declared.command.Command.{Command as OneCommand};
 ghost use Rattle.enc_script.specs.Run.{named_delta};
-ghost use Rattle.enc_top.specs.Words.{texts};
-ghost use Rattle.enc_top.specs.Verdict.{list_in_file, load_named as named_from, as_named, deltas_named, run_on, runs, with_name};
+ghost use Rattle.enc_top.specs.Verdict.{list_in_file, load_named as named_from, as_named, run_on, runs};
 ghost use Rattle.enc_top.specs.Plans.{IsPlanOf};
 ghost use Rattle.enc_top.specs.Loads.{base_followed, file_seen};
 ghost use Rattle.enc_top.specs.Stops.{Comes, IfPlan, StopsQuietly};
 
+use super::named::delta_names;
 use crate::judge::{JudgedBase, judge_first};
 use crate::load::{DeltaFile, Loaded, load_base, load_deltas};
 use crate::plan::{Outcome, Plan};
 use crate::plans::{saving_nothing, unlisted};
 use crate::stop::Stop;
 use enc_checker::Files;
-use enc_jobs::{Command, Script, read_script, script_laws};
+use enc_jobs::{Script, read_script, script_laws};
 use enc_outside::Store;
 use enc_script::{NamedDelta, run as run_script};
 use enc_watch::Watcher;
@@ -37,70 +37,6 @@ fn read_commands(alloc: Global, name: &str, text: &[u8]) -> Result<Script, Stop>
         Ok(script) => Ok(script),
         Err(fault) => Err(unlisted(alloc, name, fault)),
     }
-}
-
-/// Whether a name is one of these.
-fn is_one_of(names: &[String], name: &[u8]) -> bool
-    ensures { result ≡ list_any (bytes_eq name.now) (texts names.now) }
-{
-    for other in names {
-        if name == other.as_bytes() {
-            return true;
-        }
-    }
-    false
-}
-
-/// A name as a text.
-#[tactic(auto, using(crate::proofs::Named::name_is_text))]
-fn text_of(alloc: Global, name: &[u8]) -> Result<String, AllocError>
-    requires { IsTrue (is_name name.now) }
-    ensures { IfOk result (λ text. string_bytes text ≡ name.now) }
-{
-    match std::str::from_utf8(name) {
-        Ok(text) => String::from_str(alloc, text),
-        Err(_) => unreachable!(),
-    }
-}
-
-/// Adds a name, where it isn't there yet.
-fn add_name(alloc: Global, names: &mut Vec<String>, name: &[u8]) -> Result<(), AllocError>
-    requires { IsTrue (is_name name.now) }
-    ensures { OnOk result (texts names.new.items ≡ with_name (texts names.old.items) name.now) }
-{
-    if is_one_of(names, name) {
-        return Ok(());
-    }
-    names.push(text_of(alloc, name)?)?;
-    Ok(())
-}
-
-/// Adds the name of the delta that a command applies.
-#[tactic(auto, unfolding(crate::specs::Verdict::deltas_named))]
-fn add_named(alloc: Global, names: &mut Vec<String>, command: &Command) -> Result<(), AllocError>
-    requires { IsTrue (names_a_delta command.now) }
-    ensures { OnOk result (texts names.new.items ≡ deltas_named (texts names.old.items) (command.now ∷ [])) }
-{
-    match command {
-        Command::Apply(name) => add_name(alloc, names, name.as_slice()),
-        Command::Spawn(_) => Ok(()),
-        Command::Step(_, _) => Ok(()),
-        Command::Attach(_) => Ok(()),
-        Command::Detach(_) => Ok(()),
-        Command::State => Ok(()),
-    }
-}
-
-/// The names of the deltas that a script applies, each once, in the order in which they come first.
-fn delta_names(alloc: Global, script: &[Command]) -> Result<Vec<String>, AllocError>
-    requires { list_all names_a_delta script.now ≡ true }
-    ensures { IfOk result (λ names. texts names.items ≡ deltas_named [] script.now) }
-{
-    let mut names = Vec::new(alloc);
-    for command in script {
-        add_named(alloc, &mut names, command)?;
-    }
-    Ok(names)
 }
 
 /// A delta's files, as a run finds them.
