@@ -33,17 +33,6 @@ call_with_is users m methods asks virtual next method shape t s =
     sym (in_turn (arguments (length (argument_kinds shape)) t.top.stack) (λ taken. fit_all (argument_kinds shape) taken)
     (λ args. called_on (version_world users m methods) m asks virtual next (length (argument_kinds shape)) method args t s))
 
-by_both : {A : Type 0} (b : Bool) (x : List A) → (if b && false then x else []) ≡ []
-by_both true x = refl
-by_both false x = refl
-
-pub no_climb : (m : Module) (n : ℕ) (class : Token) → has_row m class ≡ false → climb m n class ≡ []
-unfolding climb
-no_climb m zero class h = refl
-no_climb m (suc n) class h =
-    ap (λ (b : Bool). if class.table == tables.type_def && b then class ∷ climb m n (class_base m class) else []) h
-    ∙ by_both (class.table == tables.type_def) (class ∷ climb m n (class_base m class))
-
 no_class_target : (m : Module) (class declaring declared : Token) → has_row m class ≡ false → class_target m class declaring declared ≡ None
 unfolding class_target before_class
 no_class_target m class declaring declared h =

@@ -31,23 +31,6 @@ use Rattle.enc_vm.specs.Values.{fit_all, pushed}
 pub drop_more : {A : Type 0} (n : ℕ) (x : A) (xs : List A) → drop (n + 1) (x ∷ xs) ≡ drop n xs
 drop_more n x xs = let on : n + 1 ≡ suc n = omega arith in ap (λ (k : ℕ). drop k (x ∷ xs)) on
 
--- the last of a list, seen from its end, is the first
-pub swapped : {A : Type 0} (items : List A) (n : ℕ) (y d : A) → 0 < n → n ≡ length items → reverse (slice_set items (n - 1) y) ≡ with_nearest y (reverse items)
-swapped items n y d some e = last_set items n y some e ∙ ap (with_nearest y) (sym (nearest items n d some e))
-
-pub taken_out : {A : Type 0} (items : List A) (n : ℕ) (y d : A) → 0 < n → n ≡ length items → get_or items (n - 1) d ≡ nearest_or y (reverse items)
-taken_out items n y d some e = ap (nearest_or y) (sym (nearest items n d some e))
-
-empty : {A : Type 0} (items : List A) → length items ≡ 0 → items ≡ []
-empty [] e = refl
-empty (x ∷ rest) e = absurd (omega (arith, e))
-
-pub none_below : {A : Type 0} (items : List A) (y : A) → length items ≡ 0 → reverse items ≡ with_nearest y (reverse items)
-none_below items y e = ap reverse (empty items e) ∙ ap (λ (l : List _). with_nearest y (reverse l)) (sym (empty items e))
-
-pub none_first : {A : Type 0} (items : List A) (y : A) → length items ≡ 0 → y ≡ nearest_or y (reverse items)
-none_first items y e = ap (λ (l : List _). nearest_or y (reverse l)) (sym (empty items e))
-
 by_count : {A B : Type 0} (b : Bool) (n k : ℕ) (x : A) (f : A → Result B Trap) (l : B) → nat_le n k ≡ b → ((if b then Ok x else Err X3) >>= f) ≡ Ok l → n ≤ k
 by_count true n k x f l is e = grind (arith, nat_tests, is)
 by_count false n k x f l is e = absurd cc

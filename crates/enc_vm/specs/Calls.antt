@@ -78,14 +78,6 @@ touch_if needed w s t type go = if needed then touch w s t type go else go s
 abbrev pub declaring : Module → Token → Token
 declaring m member = unwrap_or (owner_of m member) nil
 
--- so many arguments from the top of a stack, in the order in which they were put there
-unfoldable pub arguments : ℕ → List Value → Result (List Value) Trap
-arguments n stack = if nat_le n (length stack) then Ok (reverse (take n stack)) else Err X3
-
--- the method that an instruction names
-unfoldable pub named_method : Module → Token → Result CallShape Trap
-named_method m t = if t.table == tables.method_def then or_trap X2 (call_shape m t) else Err X2
-
 -- the method that a callvirt names: where it is virtual (flag 40) an object is there to walk from (III.4.2)
 unfoldable pub named_virtually : Module → Token → Result CallShape Trap
 named_virtually m t = named_method m t >>= λ (shape : CallShape). ask X2 (shape.this || not (is_virtual m t)) >>= λ _. Ok shape
@@ -152,11 +144,6 @@ new_object w next method s t =
     named_method w.plain method >>= λ (shape : CallShape).
     ask X2 (shape.this && not (is_value_type (cells_of w.plain) (declaring w.plain method))) >>= λ _.
     touch w s t (declaring w.plain method) (construct w next method shape t)
-
--- what a method gives: nothing, or the value on the top, which isn't cut
-abbrev pub value_given : Option Kind → List Value → Result (Option Value) Trap
-value_given None stack = Ok None
-value_given (Some k) stack = upper stack >>= λ p. or_trap X4 (stored_as k p) >>= λ _. Ok (Some p)
 
 abbrev pub handed : {C : Type 0} → World C → Option Value → Frame C → Result (Frame C) Trap
 handed w None f = Ok f

@@ -26,28 +26,6 @@ use Rattle.enc_vm.specs.declared.stop.Stop.TheVariants as stop
 abbrev pub AreBodiesOf : (ℕ → Option (List ℕ)) → Module → List (Option Version) → Type 0
 AreBodiesOf users m methods = (debug : PlainPdb) × AreVersionsOf users m debug methods
 
--- a frame that holds a version, at its method's first instruction
-abbrev pub frame_at : Module → Token → Version → List Value → Frame Version
-frame_at m method v args = record {
-  method = method;
-  code = v;
-  offset = 0;
-  args = args;
-  locals = map default_of (unwrap_or (local_kinds m v.code.locals) []);
-  stack = [];
-  running = [];
-}
-
--- a value that was given goes on a frame's stack
-abbrev pub handed_in : Option Value → Frame Version → Result (Frame Version) Trap
-handed_in None f = Ok f
-handed_in (Some v) f = pushed f.code.code.max v f
-
--- and on that of the first of some frames
-abbrev pub handed_first : Option Value → List (Frame Version) → Result (List (Frame Version)) Trap
-handed_first value [] = Ok []
-handed_first value (f ∷ below) = handed_in value f >>= λ g. Ok (g ∷ below)
-
 -- a frame is left
 abbrev pub left_with : Shared → Token → Option Value → List (Frame Version) → Result (Made Version) Trap
 left_with s method value [] = Ok (record { shared = s; thread = None; shown = record nothing_shown { left = Some method } })
@@ -72,10 +50,6 @@ abbrev pub Makes : Result FrameChange Stop → Shared → Shared → Thread Vers
 Makes (Ok change) s r t u said = said ≡ Ok (made_by change s t)
 Makes (Err (stop.Trap trap)) s r t u said = (said ≡ Err trap) × (s ≡ r) × (t ≡ u)
 Makes (Err stop.Memory) s r t u said = (s ≡ r) × (t ≡ u)
-
--- what all tasks share, by its parts
-abbrev pub shared_by : Store → List Token → Shared
-shared_by store touched = record { store = store; touched = touched }
 
 -- a call with these arguments, which are so many values on the stack
 abbrev pub called_on : World Version → Module → Bool → Bool → ℕ → ℕ → Token → List Value → Thread Version → Shared

@@ -20,20 +20,6 @@ use Rattle.enc_vm.specs.Results.{◌>>=◌, or_trap, ask, Made}
 use Rattle.enc_vm.specs.Straight.{moved_on}
 use Rattle.enc_vm.specs.Values.{pushed}
 
--- another first of a list
-abbrev pub with_nearest : {A : Type 0} → A → List A → List A
-with_nearest y [] = []
-with_nearest y (x ∷ rest) = y ∷ rest
-
--- the first of a list, and else this
-abbrev pub nearest_or : {A : Type 0} → A → List A → A
-nearest_or y [] = y
-nearest_or y (x ∷ rest) = x
-
--- a frame with another first argument
-abbrev pub with_object_first : Value → Frame Version → Frame Version
-with_object_first v f = record f { args = slice_set f.args 0 v }
-
 -- a frame stands ready below the innermost one, and null on that one's stack
 abbrev pub made_ready : Frame Version → Thread Version → Thread Version
 made_ready f t = record t { top = record t.top { stack = Null ∷ t.top.stack }; below = f ∷ t.below }

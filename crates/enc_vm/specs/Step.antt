@@ -64,34 +64,6 @@ on_static w s t field go = named_field w.plain field >>= λ k. touch w s t (decl
 abbrev pub is_own_method : Token → Bool
 is_own_method t = t.table == tables.method_def
 
--- what an instruction does to its frame alone; next is where the one behind it begins
-unfoldable pub frame_act : {C : Type 0} → World C → ℕ → FrameAct → Frame C → Framed C
-frame_act w next frame.Nothing f = Ok (moved_on next f.stack f)
-frame_act w next (frame.LoadArg n) f = load_argument ((w.body f.code).stack) next n f
-frame_act w next (frame.StoreArg n) f = store_argument (argument_kind w.plain f n) next n f
-frame_act w next (frame.LoadLocal n) f = load_local ((w.body f.code).stack) next n f
-frame_act w next (frame.StoreLocal n) f = store_local (local_kind w.plain ((w.body f.code).locals) f n) next n f
-frame_act w next (frame.Constant v) f = load ((w.body f.code).stack) next v f
-frame_act w next frame.Duplicate f = duplicate ((w.body f.code).stack) next f
-frame_act w next frame.Discard f = discard next f
-frame_act w next (frame.Branch goal) f = Ok (moved_on goal f.stack f)
-frame_act w next (frame.BranchIf wanted goal) f = branch_if wanted goal next f
-frame_act w next (frame.BranchBy test goal) f = branch_by test goal next f
-frame_act w next (frame.Leave goal) f = Ok (leave_to ((w.body f.code).handlers) goal f)
-
--- what one does to objects and its frame
-unfoldable pub object_act : {C : Type 0} → World C → ℕ → ObjectAct → Store → Frame C → Stored C
-object_act w next (object.LoadField field) s f = named_field w.plain field >>= λ k. load_field_of k next field s f
-object_act w next (object.StoreField field) s f = named_field w.plain field >>= λ k. store_field_of k next field s f
-object_act w next (object.NewArray type) s f = or_trap X2 (type_kind w.plain type) >>= λ k. new_array_of_kind k next s f
-object_act w next object.Length s f = array_length next s f
-object_act w next (object.LoadElement k) s f = load_element k next s f
-object_act w next (object.LoadElementOf type) s f = or_trap X2 (type_kind w.plain type) >>= λ k. load_element k next s f
-object_act w next (object.StoreElement k) s f = store_element k next s f
-object_act w next (object.StoreElementOf type) s f = or_trap X2 (type_kind w.plain type) >>= λ k. store_element k next s f
-object_act w next (object.Cast type) s f = cast_to w.plain next type s f
-object_act w next (object.IsInstance type) s f = instance_or_null w.plain next type s f
-
 -- what each instruction does
 unfoldable pub act_on : {C : Type 0} → World C → ℕ → Act → Shared → Thread C → Result (Made C) Trap
 act_on w next (act.Frame a) s t = framed s t (frame_act w next a t.top)
@@ -129,12 +101,6 @@ perform w next op (raw bytes) s t = Err X2
 -- a step that runs the instruction at the frame's offset
 unfoldable pub advance : {C : Type 0} → World C → Shared → Thread C → Result (Made C) Trap
 advance w s t = or_trap X1 (instruction_of w t.top) >>= λ x. perform w x.1 x.0.op x.0.arg s t
-
--- the line of a frame's offset: that of its first point there that isn't hidden
-unfoldable pub line_among : ℕ → List (ℕ × Option (ℕ × ℕ × ℕ × ℕ)) → Option ℕ
-line_among offset [] = None
-line_among offset ((at, None) ∷ rest) = line_among offset rest
-line_among offset ((at, Some lines) ∷ rest) = if at == offset then Some lines.0 else line_among offset rest
 
 abbrev pub line_of : {C : Type 0} → World C → Frame C → Option ℕ
 line_of w f = line_among f.offset (w.points f.code)

@@ -58,8 +58,8 @@ impl Thread {
         requires placed { IsFramePlaced (version_world (V.users view.now) (V.meaning view.now) versions.now.methods) self.old.top }
         ensures { Performs result (shared_by objects.new touched.new) (shared_by objects.old touched.old) self.new self.old (advance (version_world (V.users view.now) (V.meaning view.now) versions.now.methods) (shared_by objects.old touched.old) self.old) }
     {
-        let code = self.top.code.clone()?;
-        match instruction_in(code.as_ref(), self.top.offset) {
+        let code = self.top.code().clone()?;
+        match instruction_in(code.as_ref(), self.top.offset()) {
             None => Err(Stop::Trap(Trap::X1)),
             Some((instr, next)) => {
                 self.perform(

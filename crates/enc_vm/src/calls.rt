@@ -233,7 +233,7 @@ impl Thread {
         ensures { (touched : List TheToken) → Makes result (shared_by objects.now touched) (shared_by objects.now touched) self.new self.old (call_with (version_world (V.users view.now) (V.meaning view.now) versions.now.methods) manner.asks manner.by_object next method shape.now self.old (shared_by objects.now touched)) }
     {
         let n = called_count(shape);
-        match called_args(alloc, &self.top.stack, shape) {
+        match called_args(alloc, self.top.stack(), shape) {
             Err(stop) => Err(stop),
             Ok(args) => self.call_on(
                 alloc, view, versions, dispatch, objects, manner, next, n, method, args,
@@ -255,7 +255,7 @@ impl Thread {
         requires versions { AreBodiesOf (V.users view.now) (V.meaning view.now) versions.now.methods }
         ensures { (s : Shared) → Makes result s s self.new self.old (constructed_in (version_world (V.users view.now) (V.meaning view.now) versions.now.methods) constructor self.old s) }
     {
-        let next = self.top.offset;
+        let next = self.top.offset();
         match self.enter(alloc, view, versions, constructor, Vec::new(alloc), next, 0) {
             Err(stop) => Err(stop),
             Ok(()) => Ok(FrameChange::Entered(constructor)),

@@ -33,72 +33,6 @@ use enc_versions::Versions;
 use std::alloc::{AllocError, Global};
 use std::mem;
 
-impl Callers {
-    /// A frame more, which is the nearest. Without memory nothing changes.
-    fn hold(&mut self, frame: Frame) -> Result<(), AllocError>
-        requires { length self.old < 1023 }
-        ensures ok { OnOk result (self.new ≡ frame ∷ self.old) }
-        ensures err { OnErr result (self.new ≡ self.old) }
-    {
-        self.items.push(frame)?;
-        Ok(())
-    }
-
-    /// The innermost frame and the nearest below it change places, where there is one below.
-    fn swap_nearest(&mut self, top: &mut Frame)
-        ensures below { self.new ≡ with_nearest top.old self.old }
-        ensures top { top.new ≡ nearest_or top.old self.old }
-    {
-        let n = self.items.len();
-        if n == 0 {
-            return;
-        }
-        mem::swap(top, &mut self.items[n - 1]);
-    }
-}
-
-impl Frame {
-    /// Whether its stack can hold one value more in the place of so many.
-    fn can_take(&self, n: usize) -> bool
-        requires { n ≤ length self.now.stack }
-        ensures { result ≡ nat_lt (length (drop n self.now.stack)) self.now.code.code.max }
-    {
-        self.stack.len() - n < self.max() as usize
-    }
-
-    /// Null more on its stack. Without memory nothing changes.
-    fn push_null(&mut self) -> Result<(), AllocError>
-        ensures ok { OnOk result (self.new ≡ record self.old { stack = Null ∷ self.old.stack }) }
-        ensures err { OnErr result (self.new ≡ self.old) }
-    {
-        self.stack.push(Value::Null)
-    }
-
-    /// The value on the top of its stack goes.
-    fn pop(&mut self)
-        ensures { self.new ≡ record self.old { stack = drop 1 self.old.stack } }
-    {
-        self.stack.remove(1);
-    }
-
-    /// It goes on at an offset, with a value in the place of so many upper ones.
-    fn put(&mut self, next: u32, n: usize, value: Value)
-        requires some { 0 < n }
-        requires there { n ≤ length self.old.stack }
-        ensures { self.new ≡ moved_on next (value ∷ drop n self.old.stack) self.old }
-    {
-        self.stack.replace(n, value);
-        self.offset = next;
-    }
-
-    /// Its first argument becomes another.
-    fn set_object(&mut self, value: Value)
-        ensures { self.new ≡ with_object_first value self.old }
-    {
-        self.args.set(0, value);
-    }
-}
-
 impl Thread {
     /// A frame stands ready below the innermost one, and null on that one's stack. Without memory nothing
     /// changes.
@@ -269,7 +203,7 @@ impl Thread {
     {
         let n = shape.takes().len();
         let class = declaring(view, method);
-        match constructor_args(alloc, &self.top.stack, shape) {
+        match constructor_args(alloc, self.top.stack(), shape) {
             Err(stop) => Err(stop),
             Ok(args) => self.construct_on(
                 alloc, view, versions, objects, next, n, class, method, args,

@@ -14,7 +14,7 @@ ghost use Rattle.enc_vm.specs.Results.{Made};
 ghost use Rattle.enc_vm.specs.Step.{act_on};
 ghost use Rattle.enc_vm.specs.declared.act.Act.TheVariants as TheAct;
 
-use crate::console::{self, Written};
+use crate::console::{Written, call_outside, new_outside};
 use crate::effect::Effect;
 use crate::returns::FrameChange;
 use crate::stop::Stop;
@@ -52,7 +52,7 @@ impl Thread {
     ) -> Result<Effect, Stop>
         ensures { (methods : List (Option Version)) (touched : List TheToken) → Performs result (shared_by objects.new touched) (shared_by objects.old touched) self.new self.old (call_outside (version_world (V.users view.now) (V.meaning view.now) methods) asked next member (shared_by objects.old touched) self.old) }
     {
-        let written = console::call_outside(
+        let written = call_outside(
             alloc,
             view,
             objects,
@@ -74,7 +74,7 @@ impl Thread {
     ) -> Result<Effect, Stop>
         ensures { (methods : List (Option Version)) (touched : List TheToken) → Performs result (shared_by objects.new touched) (shared_by objects.old touched) self.new self.old (new_outside (version_world (V.users view.now) (V.meaning view.now) methods) next member (shared_by objects.old touched) self.old) }
     {
-        let written = console::new_outside(view, objects, &mut self.top, next, member);
+        let written = new_outside(view, objects, &mut self.top, next, member);
         effect_of(written)
     }
 

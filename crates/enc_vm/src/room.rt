@@ -66,7 +66,7 @@ impl Task {
         match self.state {
             TaskState::Ended => 0,
             TaskState::Trapped(_) => 0,
-            TaskState::Running => top_room(objects, &self.thread.top.stack),
+            TaskState::Running => top_room(objects, self.thread.top.stack()),
         }
     }
 }

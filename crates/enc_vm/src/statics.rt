@@ -14,7 +14,7 @@ ghost use Rattle.enc_vm.specs.declared.act.Act.TheVariants.{LoadStatic, StoreSta
 
 use crate::declaring::{FirstTouch, first_touch};
 use crate::frame::Frame;
-use crate::heap;
+use crate::heap::{load_static, store_static};
 use crate::places::named_field;
 use crate::returns::FrameChange;
 use crate::stop::Stop;
@@ -59,8 +59,8 @@ fn access_in(
     ensures { Does result (objects.new, frame.new) (objects.old, frame.old) (accessed how kind next field objects.old frame.old) }
 {
     match how {
-        StaticAccess::Load => heap::load_static(objects, frame, kind, next, field),
-        StaticAccess::Store => heap::store_static(objects, frame, kind, next, field),
+        StaticAccess::Load => load_static(objects, frame, kind, next, field),
+        StaticAccess::Store => store_static(objects, frame, kind, next, field),
     }
 }
 

@@ -36,6 +36,10 @@ argument_kind m f n = if nat_lt n (length f.args) then option_and_then (λ (s : 
 unfoldable pub local_kind : {C : Type 0} → Module → Token → Frame C → ℕ → Option Kind
 local_kind m locals f n = if nat_lt n (length f.locals) then option_and_then (λ (ks : List Kind). slice_get ks n) (local_kinds m locals) else None
 
+-- the method that an instruction names
+unfoldable pub named_method : Module → Token → Result CallShape Trap
+named_method m t = if t.table == tables.method_def then or_trap X2 (call_shape m t) else Err X2
+
 -- a value goes on the stack, and the frame on behind the instruction (III.3.38, III.3.40, III.3.43, III.3.45)
 unfoldable pub load : {C : Type 0} → ℕ → ℕ → Value → Frame C → Framed C
 load max next v f = pushed max v (moved_on next f.stack f)

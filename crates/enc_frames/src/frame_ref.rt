@@ -72,3 +72,12 @@ impl<'a> FrameRef<'a> {
         frame.stack.as_slice()
     }
 }
+
+impl Frame {
+    /// The frame, as it is shown.
+    pub fn shown(&self) -> FrameRef<'_>
+        ensures { result ≡ self.now }
+    {
+        FrameRef { frame: self }
+    }
+}

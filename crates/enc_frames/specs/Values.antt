@@ -100,3 +100,12 @@ tested test.GeUn a b = fails 0xFE05 a b
 tested test.GtUn a b = of_integers (compare_says 0xFE03) a b
 tested test.LeUn a b = of_integers (fails 0xFE03) a b
 tested test.LtUn a b = compare_says 0xFE05 a b
+
+-- so many arguments from the top of a stack, in the order in which they were put there
+unfoldable pub arguments : ℕ → List Value → Result (List Value) Trap
+arguments n stack = if nat_le n (length stack) then Ok (reverse (take n stack)) else Err X3
+
+-- what a method gives: nothing, or the value on the top, which isn't cut
+abbrev pub value_given : Option Kind → List Value → Result (Option Value) Trap
+value_given None stack = Ok None
+value_given (Some k) stack = upper stack >>= λ p. or_trap X4 (stored_as k p) >>= λ _. Ok (Some p)

@@ -75,3 +75,63 @@ impl Callers {
         self.items.pop()
     }
 }
+
+impl Callers {
+    /// A frame becomes the innermost one, and what was it the nearest below, which goes on at an offset with
+    /// so many values fewer on its stack. Without memory nothing changes.
+    fn enter_call(
+        &mut self,
+        top: &mut Frame,
+        frame: Frame,
+        next: u32,
+        n: usize,
+    ) -> Result<(), AllocError>
+        requires { length self.old < 1023 }
+        ensures top { OnOk result (top.new ≡ frame) }
+        ensures below { OnOk result (self.new ≡ moved_on next (drop n top.old.stack) top.old ∷ self.old) }
+        ensures same_top { OnErr result (top.new ≡ top.old) }
+        ensures same_below { OnErr result (self.new ≡ self.old) }
+    {
+        self.items.push(frame)?;
+        let last = self.items.len() - 1;
+        top.move_on(next, n);
+        mem::swap(top, &mut self.items[last]);
+        Ok(())
+    }
+
+    /// A frame more, which is the nearest. Without memory nothing changes.
+    fn hold(&mut self, frame: Frame) -> Result<(), AllocError>
+        requires { length self.old < 1023 }
+        ensures ok { OnOk result (self.new ≡ frame ∷ self.old) }
+        ensures err { OnErr result (self.new ≡ self.old) }
+    {
+        self.items.push(frame)?;
+        Ok(())
+    }
+
+    /// The innermost frame and the nearest below it change places, where there is one below.
+    fn swap_nearest(&mut self, top: &mut Frame)
+        ensures below { self.new ≡ with_nearest top.old self.old }
+        ensures top { top.new ≡ nearest_or top.old self.old }
+    {
+        let n = self.items.len();
+        if n == 0 {
+            return;
+        }
+        mem::swap(top, &mut self.items[n - 1]);
+    }
+}
+
+impl Callers {
+    /// A value that was given goes on the nearest frame's stack, if any.
+    #[tactic(auto, using(crate::proofs::Handed::none_there))]
+    fn hand(&mut self, value: Option<Value>) -> Result<(), Stop>
+        ensures { Does result self.new self.old (handed_first value self.old) }
+    {
+        let n = self.items.len();
+        if n == 0 {
+            return Ok(());
+        }
+        self.items[n - 1].take_given(value)
+    }
+}

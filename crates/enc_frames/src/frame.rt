@@ -55,6 +55,35 @@ impl Frame {
         self.code.as_ref().body()
     }
 
+    /// Its method.
+    pub fn method(&self) -> Token
+        ensures method { result ≡ self.now.method }
+        ensures table { result.table ≡ method_def }
+    {
+        self.method
+    }
+
+    /// The offset of its next instruction.
+    pub fn offset(&self) -> u32
+        ensures { result ≡ self.now.offset }
+    {
+        self.offset
+    }
+
+    /// The code that it began with and keeps.
+    pub fn code(&self) -> &Rc<Code>
+        ensures { result.now.value ≡ self.now.code }
+    {
+        &self.code
+    }
+
+    /// Its stack.
+    pub fn stack(&self) -> &Stack
+        ensures { result.now ≡ self.now.stack }
+    {
+        &self.stack
+    }
+
     /// How many values its stack may hold.
     pub(crate) fn max(&self) -> u16
         ensures { result ≡ self.now.code.code.max }

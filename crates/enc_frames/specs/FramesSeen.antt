@@ -1,0 +1,42 @@
+-- For the contracts of private functions: frames at their first instruction, and the nearest of some frames.
+USES
+
+-- a frame that holds a version, at its method's first instruction
+abbrev pub frame_at : Module → Token → Version → List Value → Frame Version
+frame_at m method v args = record {
+  method = method;
+  code = v;
+  offset = 0;
+  args = args;
+  locals = map default_of (unwrap_or (local_kinds m v.code.locals) []);
+  stack = [];
+  running = [];
+}
+
+-- a value that was given goes on a frame's stack
+abbrev pub handed_in : Option Value → Frame Version → Result (Frame Version) Trap
+handed_in None f = Ok f
+handed_in (Some v) f = pushed f.code.code.max v f
+
+-- and on that of the first of some frames
+abbrev pub handed_first : Option Value → List (Frame Version) → Result (List (Frame Version)) Trap
+handed_first value [] = Ok []
+handed_first value (f ∷ below) = handed_in value f >>= λ g. Ok (g ∷ below)
+
+-- another first of a list
+abbrev pub with_nearest : {A : Type 0} → A → List A → List A
+with_nearest y [] = []
+with_nearest y (x ∷ rest) = y ∷ rest
+
+-- the first of a list, and else this
+abbrev pub nearest_or : {A : Type 0} → A → List A → A
+nearest_or y [] = y
+nearest_or y (x ∷ rest) = x
+
+-- a frame with another first argument
+abbrev pub with_object_first : Value → Frame Version → Frame Version
+with_object_first v f = record f { args = slice_set f.args 0 v }
+
+-- what all tasks share, by its parts
+abbrev pub shared_by : Store → List Token → Shared
+shared_by store touched = record { store = store; touched = touched }
