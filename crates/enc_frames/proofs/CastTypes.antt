@@ -11,8 +11,8 @@ use Rattle.enc_plain.specs.Rows.{bytes_at}
 use Rattle.enc_plain.specs.Sound.{row_count}
 use Rattle.enc_schema.specs.Columns as columns
 use Rattle.enc_schema.specs.Tables as tables
-use Rattle.enc_vm.proofs.Called.{no_climb}
-use Rattle.enc_vm.specs.Memory.{is_cast_type}
+use Rattle.enc_frames.proofs.Climbs.{no_climb}
+use Rattle.enc_frames.specs.Memory.{is_cast_type}
 
 between : (a b : Bool) → (a && false && b) ≡ false
 between true b = refl

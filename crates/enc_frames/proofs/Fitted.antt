@@ -7,10 +7,10 @@ use Rattle.enc_objects.specs.declared.kind.Kind.{Kind}
 use Rattle.enc_objects.specs.declared.trap.Trap.{Trap}
 use Rattle.enc_objects.specs.declared.trap.Trap.TheVariants.{X3}
 use Rattle.enc_objects.specs.declared.value.Value.{Value}
-use Rattle.enc_vm.proofs.Reversed.{upper_whole}
-use Rattle.enc_vm.specs.Calls.{arguments}
-use Rattle.enc_vm.specs.Results.{◌>>=◌}
-use Rattle.enc_vm.specs.Values.{fit, fit_all}
+use Rattle.enc_frames.proofs.Reversed.{upper_whole}
+use Rattle.enc_frames.specs.Values.{arguments}
+use Rattle.enc_frames.specs.Results.{◌>>=◌}
+use Rattle.enc_frames.specs.Values.{fit, fit_all}
 
 -- what was fitted, and what comes of those behind
 abbrev pub with_fitted : List Value → Result (List Value) Trap → Result (List Value) Trap

@@ -5,7 +5,7 @@ use Rattle.std.proofs.Math.Seq.{drop-cons}
 use Rattle.std.proofs.lemmas.List.{drop_all}
 use Rattle.std.proofs.lemmas.Option.{slice_get_within, get_or_from_slice_get}
 use Rattle.enc_seqpoints.specs.declared.point.Point.{Point}
-use Rattle.enc_vm.specs.Step.{line_among}
+use Rattle.enc_frames.specs.Lines.{line_among}
 
 -- a point as a definition sees it
 abbrev pub point_seen : Point → ℕ × Option (ℕ × ℕ × ℕ × ℕ)

@@ -1,5 +1,17 @@
 -- The nearest of the frames below: a value is handed to it, or it changes places with the innermost.
-USES
+use Rattle.std.proofs.Common.{◌≡◌, ℕ, ◌-◌, ◌<◌, List, [], ◌∷◌, length, take, reverse, Option, Result, Ok, Err, refl, sym, ap, ◌∙◌, arith}
+use Rattle.std.specs.Prelude.{slice_set, get_or}
+use Rattle.std.proofs.lemmas.List.{take_all}
+use Rattle.enc_objects.specs.declared.trap.Trap.{Trap}
+use Rattle.enc_objects.specs.declared.value.Value.{Value}
+use Rattle.enc_versions.specs.Version.{Version}
+use Rattle.enc_frames.proofs.Reversed.{front_more, last_set}
+use Rattle.enc_frames.specs.FramesSeen.{handed_in, handed_first, with_nearest, nearest_or}
+use Rattle.enc_frames.specs.Does.{Does}
+use Rattle.enc_frames.specs.Machine.{Frame}
+use Rattle.enc_frames.specs.Results.{◌>>=◌}
+use Rattle.enc_frames.specs.declared.stop.Stop.{Stop}
+use Rattle.enc_frames.specs.declared.stop.Stop.TheVariants as stop
 
 pub nearest : {A : Type 0} (xs : List A) (n : ℕ) (d : A) → 0 < n → n ≡ length xs → reverse xs ≡ get_or xs (n - 1) d ∷ reverse (take (n - 1) xs)
 nearest xs n d some e = ap reverse (sym (take_all n xs (omega (arith, e)))) ∙ front_more xs n d some (omega (arith, e))

@@ -3,7 +3,7 @@ use Rattle.std.proofs.Common.{◌≡◌, ℤ, pos, negsuc, false, refl, arith}
 use Rattle.std.specs.Prelude.{nat_lt}
 use Rattle.std.specs.Fmt.{signed_decimal}
 use Rattle.std.proofs.lemmas.Bool.Decides.{nat_tests}
-use Rattle.enc_vm.specs.Console.{digits_of_number}
+use Rattle.enc_frames.specs.Console.{digits_of_number}
 
 -- they are as a number is written
 pub digits_are : (n : ℤ) → signed_decimal n ≡ digits_of_number n

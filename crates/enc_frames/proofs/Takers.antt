@@ -5,9 +5,9 @@ use Rattle.std.proofs.lemmas.List.{length-reverse, length-take-le}
 use Rattle.enc_base.specs.Order.{or_else}
 use Rattle.enc_unwind.specs.Search.{catch_among}
 use Rattle.enc_unwind.specs.declared.thrown.Thrown.{Thrown}
-use Rattle.enc_vm.proofs.Reversed.{front_more}
-use Rattle.enc_vm.specs.Handlers.{caught_by, ends_search, outer_taker}
-use Rattle.enc_vm.specs.Machine.{World, Frame}
+use Rattle.enc_frames.proofs.Reversed.{front_more}
+use Rattle.enc_frames.specs.Handlers.{caught_by, ends_search, outer_taker}
+use Rattle.enc_frames.specs.Machine.{World, Frame}
 
 -- a frame decides before those below it
 abbrev pub decided : {C : Type 0} → World C → Thrown → Frame C → ℕ → List (Frame C) → Option (ℕ × ℕ)

@@ -6,12 +6,12 @@ use Rattle.enc_objects.specs.declared.kind.Kind.{Kind}
 use Rattle.enc_objects.specs.declared.kind.Kind.TheVariants as kind
 use Rattle.enc_objects.specs.declared.value.Value.TheVariants.{I4, I8, Null}
 use Rattle.enc_objects.specs.Values.{modulo}
-use Rattle.enc_vm.specs.declared.act.Act.{Act}
-use Rattle.enc_vm.specs.declared.act.Act.TheVariants as act
-use Rattle.enc_vm.specs.declared.act.FrameAct.TheVariants as frame
-use Rattle.enc_vm.specs.declared.act.ObjectAct.TheVariants as object
-use Rattle.enc_vm.specs.declared.act.Test.{Test}
-use Rattle.enc_vm.specs.declared.act.Test.TheVariants as test
+use Rattle.enc_frames.specs.declared.act.Act.{Act}
+use Rattle.enc_frames.specs.declared.act.Act.TheVariants as act
+use Rattle.enc_frames.specs.declared.act.FrameAct.TheVariants as frame
+use Rattle.enc_frames.specs.declared.act.ObjectAct.TheVariants as object
+use Rattle.enc_frames.specs.declared.act.Test.{Test}
+use Rattle.enc_frames.specs.declared.act.Test.TheVariants as test
 
 -- a code lies in a run of codes
 abbrev pub is_from : ℕ → ℕ → ℕ → Bool

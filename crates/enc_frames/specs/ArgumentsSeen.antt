@@ -1,15 +1,15 @@
--- For the contracts of private functions: the arguments of a call, as they are taken and fitted.
+-- The arguments of a call, as they are taken and fitted.
 use Rattle.std.specs.Prelude.{◌≡◌, List, length, Result, Ok, Err, Vec}
 use Rattle.std.specs.Borrow.{Bor}
 use Rattle.std.specs.declared.alloc.Global.{Global}
 use Rattle.enc_objects.specs.declared.kind.Kind.{Kind}
 use Rattle.enc_objects.specs.declared.trap.Trap.{Trap}
 use Rattle.enc_objects.specs.declared.value.Value.{Value}
-use Rattle.enc_vm.specs.Calls.{arguments}
-use Rattle.enc_vm.specs.Results.{◌>>=◌}
-use Rattle.enc_vm.specs.Values.{fit_all}
-use Rattle.enc_vm.specs.declared.stop.Stop.{Stop}
-use Rattle.enc_vm.specs.declared.stop.Stop.TheVariants as stop
+use Rattle.enc_frames.specs.Values.{arguments}
+use Rattle.enc_frames.specs.Results.{◌>>=◌}
+use Rattle.enc_frames.specs.Values.{fit_all}
+use Rattle.enc_frames.specs.declared.stop.Stop.{Stop}
+use Rattle.enc_frames.specs.declared.stop.Stop.TheVariants as stop
 
 -- values from the top of a stack, as places of these kinds hold them
 abbrev pub fitting : List Kind → List Value → Result (List Value) Trap

@@ -1,4 +1,4 @@
--- For the contracts of private functions: the first of some frames, and the others.
+-- The first of some frames, and the others.
 use Rattle.std.specs.Prelude.{List, [], ◌∷◌, Option, Some, None}
 
 abbrev pub first_if_any : {A : Type 0} → List A → Option A

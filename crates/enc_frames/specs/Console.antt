@@ -15,11 +15,11 @@ use Rattle.enc_objects.specs.declared.value.Value.TheVariants.{I4, Null, Obj}
 use Rattle.enc_plain.specs.Rows.{token_at}
 use Rattle.enc_plain.specs.Module.{cells_of}
 use Rattle.enc_schema.specs.Columns as columns
-use Rattle.enc_vm.specs.Machine.{World, Thread, Shared}
-use Rattle.enc_vm.specs.Memory.{new_in}
-use Rattle.enc_vm.specs.Results.{◌>>=◌, or_trap, ask, Shown, nothing_shown, Made, made_with}
-use Rattle.enc_vm.specs.Straight.{moved_on, load}
-use Rattle.enc_vm.specs.Values.{upper, upper_two, upper_three, reference, word_of_value}
+use Rattle.enc_frames.specs.Machine.{World, Thread, Shared}
+use Rattle.enc_frames.specs.Memory.{new_in}
+use Rattle.enc_frames.specs.Results.{◌>>=◌, or_trap, ask, Shown, nothing_shown, Made, made_with}
+use Rattle.enc_frames.specs.Straight.{moved_on, load}
+use Rattle.enc_frames.specs.Values.{upper, upper_two, upper_three, reference, word_of_value}
 
 -- a text by its units, None within of null; none where another object stands there
 abbrev pub text_in : Store → Value → Option (Option (List ℕ))

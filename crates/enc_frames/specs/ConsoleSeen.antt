@@ -1,4 +1,4 @@
--- For the contracts of private functions: members outside, by the objects, the innermost frame and what is written.
+-- Members outside, by the objects, the innermost frame and what is written.
 use Rattle.std.specs.Prelude.{◌≡◌, ℕ, List, [], Option, None, Result, Ok, Err}
 use Rattle.std.specs.Borrow.{Bor}
 use Rattle.std.specs.Option.{option_copied}
@@ -7,13 +7,13 @@ use Rattle.enc_objects.specs.Objects.{Store}
 use Rattle.enc_objects.specs.declared.trap.Trap.{Trap}
 use Rattle.enc_objects.specs.declared.object.Content.TheVariants.{Instance}
 use Rattle.enc_objects.specs.declared.value.Value.TheVariants.{Obj}
-use Rattle.enc_vm.specs.CallsSeen.{shared_by}
-use Rattle.enc_vm.specs.Machine.{Frame, Thread, Shared}
-use Rattle.enc_vm.specs.Memory.{new_in}
-use Rattle.enc_vm.specs.Results.{◌>>=◌, nothing_shown, Made, made_with}
-use Rattle.enc_vm.specs.Straight.{load}
-use Rattle.enc_vm.specs.declared.stop.Stop.{Stop}
-use Rattle.enc_vm.specs.declared.stop.Stop.TheVariants as stop
+use Rattle.enc_frames.specs.FramesSeen.{shared_by}
+use Rattle.enc_frames.specs.Machine.{Frame, Thread, Shared}
+use Rattle.enc_frames.specs.Memory.{new_in}
+use Rattle.enc_frames.specs.Results.{◌>>=◌, nothing_shown, Made, made_with}
+use Rattle.enc_frames.specs.Straight.{load}
+use Rattle.enc_frames.specs.declared.stop.Stop.{Stop}
+use Rattle.enc_frames.specs.declared.stop.Stop.TheVariants as stop
 
 -- the text that a value is of, where it stands
 abbrev pub text_seen : Result (Option (Bor (List ℕ))) Trap → Result (Option (List ℕ)) Trap

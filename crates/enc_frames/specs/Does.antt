@@ -1,11 +1,11 @@
--- For the contracts of private functions: what an instruction does to what it changes in place.
+-- What an instruction does to what it changes in place.
 use Rattle.std.specs.Prelude.{◌≡◌, Result, Ok, Err}
 use Rattle.enc_objects.specs.declared.objects.MakeFault.{MakeFault}
 use Rattle.enc_objects.specs.declared.objects.MakeFault.TheVariants.{Memory, Full}
 use Rattle.enc_objects.specs.declared.trap.Trap.{Trap}
 use Rattle.enc_objects.specs.declared.trap.Trap.TheVariants.{X12}
-use Rattle.enc_vm.specs.declared.stop.Stop.{Stop}
-use Rattle.enc_vm.specs.declared.stop.Stop.TheVariants as stop
+use Rattle.enc_frames.specs.declared.stop.Stop.{Stop}
+use Rattle.enc_frames.specs.declared.stop.Stop.TheVariants as stop
 
 -- it does what is defined, or traps where that does, and then changes nothing; without memory it changes nothing
 abbrev pub Does : {U A : Type 0} → Result U Stop → A → A → Result A Trap → Type 0

@@ -1,5 +1,17 @@
 -- What instructions do to one frame, and to objects beside it (ECMA-335 III.3, III.4).
-USES
+use Rattle.std.specs.Prelude.{ℕ, Ok}
+use Rattle.enc_kinds.specs.Types.{type_kind}
+use Rattle.enc_objects.specs.Objects.{Store}
+use Rattle.enc_objects.specs.declared.trap.Trap.TheVariants.{X2}
+use Rattle.enc_frames.specs.Handlers.{leave_to}
+use Rattle.enc_frames.specs.Machine.{World, Frame}
+use Rattle.enc_frames.specs.Memory.{load_field_of, store_field_of, named_field, new_array_of_kind, array_length, load_element, store_element, cast_to, instance_or_null, Stored}
+use Rattle.enc_frames.specs.Results.{◌>>=◌, or_trap}
+use Rattle.enc_frames.specs.Straight.{Framed, moved_on, load, load_argument, load_local, store_argument, store_local, argument_kind, local_kind, duplicate, discard, branch_if, branch_by}
+use Rattle.enc_frames.specs.declared.act.FrameAct.{FrameAct}
+use Rattle.enc_frames.specs.declared.act.ObjectAct.{ObjectAct}
+use Rattle.enc_frames.specs.declared.act.FrameAct.TheVariants as frame
+use Rattle.enc_frames.specs.declared.act.ObjectAct.TheVariants as object
 
 -- what an instruction does to its frame alone; next is where the one behind it begins
 unfoldable pub frame_act : {C : Type 0} → World C → ℕ → FrameAct → Frame C → Framed C

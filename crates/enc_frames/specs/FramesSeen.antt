@@ -1,5 +1,16 @@
--- For the contracts of private functions: frames at their first instruction, and the nearest of some frames.
-USES
+-- Frames at their first instruction, the nearest of some frames, and what all tasks share by its parts.
+use Rattle.std.specs.Prelude.{List, [], ◌∷◌, map, Option, Some, None, unwrap_or, Result, Ok, slice_set}
+use Rattle.enc_base.specs.declared.token.Token.{Token}
+use Rattle.enc_kinds.specs.Members.{local_kinds}
+use Rattle.enc_objects.specs.Objects.{Store}
+use Rattle.enc_objects.specs.Values.{default_of}
+use Rattle.enc_objects.specs.declared.trap.Trap.{Trap}
+use Rattle.enc_objects.specs.declared.value.Value.{Value}
+use Rattle.enc_plain.specs.Module.{Module}
+use Rattle.enc_versions.specs.Version.{Version}
+use Rattle.enc_frames.specs.Machine.{Frame, Shared}
+use Rattle.enc_frames.specs.Results.{◌>>=◌}
+use Rattle.enc_frames.specs.Values.{pushed}
 
 -- a frame that holds a version, at its method's first instruction
 abbrev pub frame_at : Module → Token → Version → List Value → Frame Version

@@ -16,14 +16,14 @@ use Rattle.enc_unwind.specs.declared.stop.Stop.{Stop}
 use Rattle.enc_unwind.specs.declared.stop.Stop.TheVariants as stop
 use Rattle.enc_unwind.specs.declared.thrown.Thrown.{Thrown}
 use Rattle.enc_unwind.specs.declared.thrown.Thrown.TheVariants as thrown
-use Rattle.enc_vm.specs.Machine.{World, Frame, Thread}
-use Rattle.enc_vm.specs.Memory.{not_null}
-use Rattle.enc_vm.specs.Results.{◌>>=◌, or_trap}
-use Rattle.enc_vm.specs.Values.{upper, reference}
-use Rattle.enc_vm.specs.declared.handler.Flight.{Flight}
-use Rattle.enc_vm.specs.declared.handler.Reason.{Reason}
-use Rattle.enc_vm.specs.declared.handler.Reason.TheVariants as reason
-use Rattle.enc_vm.specs.declared.handler.Running.{Running}
+use Rattle.enc_frames.specs.Machine.{World, Frame, Thread}
+use Rattle.enc_frames.specs.Memory.{not_null}
+use Rattle.enc_frames.specs.Results.{◌>>=◌, or_trap}
+use Rattle.enc_frames.specs.Values.{upper, reference}
+use Rattle.enc_frames.specs.declared.handler.Flight.{Flight}
+use Rattle.enc_frames.specs.declared.handler.Reason.{Reason}
+use Rattle.enc_frames.specs.declared.handler.Reason.TheVariants as reason
+use Rattle.enc_frames.specs.declared.handler.Running.{Running}
 
 -- a range from which nothing is protected, for a clause that isn't there
 abbrev pub no_range : ℕ × ℕ

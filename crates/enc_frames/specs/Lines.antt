@@ -1,5 +1,5 @@
 -- The line at which a frame stands (Portable PDB, sequence points).
-USES
+use Rattle.std.specs.Prelude.{ℕ, List, [], ◌∷◌, Option, Some, None, ◌==◌, if◌then◌else◌}
 
 -- the line of a frame's offset: that of its first point there that isn't hidden
 unfoldable pub line_among : ℕ → List (ℕ × Option (ℕ × ℕ × ℕ × ℕ)) → Option ℕ

@@ -10,8 +10,8 @@ use Rattle.enc_plain.specs.Module.{Module}
 use Rattle.enc_versions.specs.Version.{Version, newest_of}
 use Rattle.enc_versions.specs.StandFor.{lines_read, lines_known}
 use Rattle.enc_kinds.specs.Members.{run_body}
-use Rattle.enc_vm.specs.declared.handler.Running.{Running}
-use Rattle.enc_vm.specs.declared.handler.Flight.{Flight}
+use Rattle.enc_frames.specs.declared.handler.Running.{Running}
+use Rattle.enc_frames.specs.declared.handler.Flight.{Flight}
 
 -- a body and its points: the offset of each, and its lines and columns, None where it is hidden
 pub record PlainCode : Type 0 where

@@ -18,11 +18,11 @@ use Rattle.enc_objects.specs.declared.value.Value.{Value}
 use Rattle.enc_objects.specs.declared.value.Value.TheVariants.{I4, Null, Obj}
 use Rattle.enc_plain.specs.Module.{Module}
 use Rattle.enc_schema.specs.Tables as tables
-use Rattle.enc_vm.specs.declared.heap.ArrayOf.{ArrayOf}
-use Rattle.enc_vm.specs.Machine.{Frame}
-use Rattle.enc_vm.specs.Results.{◌>>=◌, or_trap, ask}
-use Rattle.enc_vm.specs.Straight.{moved_on, load}
-use Rattle.enc_vm.specs.Values.{fit, upper, upper_two, upper_three, reference, word_of_value}
+use Rattle.enc_frames.specs.declared.heap.ArrayOf.{ArrayOf}
+use Rattle.enc_frames.specs.Machine.{Frame}
+use Rattle.enc_frames.specs.Results.{◌>>=◌, or_trap, ask}
+use Rattle.enc_frames.specs.Straight.{moved_on, load}
+use Rattle.enc_frames.specs.Values.{fit, upper, upper_two, upper_three, reference, word_of_value}
 
 -- what an instruction makes of the store and the frame
 abbrev pub Stored : Type 0 → Type 0

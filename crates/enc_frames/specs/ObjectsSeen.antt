@@ -5,8 +5,8 @@ use Rattle.enc_objects.specs.declared.kind.Kind.{Kind}
 use Rattle.enc_objects.specs.declared.trap.Trap.TheVariants.{X2}
 use Rattle.enc_plain.specs.Module.{Module}
 use Rattle.enc_versions.specs.Version.{Version}
-use Rattle.enc_vm.specs.Memory.{Stored, named_field}
-use Rattle.enc_vm.specs.Results.{◌>>=◌, or_trap}
+use Rattle.enc_frames.specs.Memory.{Stored, named_field}
+use Rattle.enc_frames.specs.Results.{◌>>=◌, or_trap}
 
 abbrev pub by_field : Module → Token → (Kind → Stored Version) → Stored Version
 by_field m field go = named_field m field >>= go

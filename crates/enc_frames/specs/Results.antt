@@ -2,7 +2,7 @@
 use Rattle.std.specs.Prelude.{ℕ, Bool, List, Option, Some, None, Result, Ok, Err, if◌then◌else◌}
 use Rattle.enc_base.specs.declared.token.Token.{Token}
 use Rattle.enc_objects.specs.declared.trap.Trap.{Trap}
-use Rattle.enc_vm.specs.Machine.{Frame, Thread, Shared}
+use Rattle.enc_frames.specs.Machine.{Frame, Thread, Shared}
 
 -- one thing, and then another with what it gave; a trap stops both
 infixl 10 ◌>>=◌

@@ -1,5 +1,5 @@
 -- Instructions on a frame's own values: arguments, local variables, constants, the stack, branches, arithmetic (ECMA-335 III.3).
-use Rattle.std.specs.Prelude.{ℕ, drop, Bool, not, List, ◌∷◌, length, Option, None, option_and_then, unwrap_or, slice_get, slice_set, Result, Ok, nat_lt, if◌then◌else◌}
+use Rattle.std.specs.Prelude.{ℕ, drop, Bool, not, List, ◌∷◌, length, Option, None, option_and_then, unwrap_or, slice_get, slice_set, Result, Ok, Err, nat_lt, ◌==◌, if◌then◌else◌}
 use Rattle.enc_base.specs.declared.token.Token.{Token}
 use Rattle.enc_kinds.specs.Elements.{CallShape}
 use Rattle.enc_kinds.specs.Members.{call_shape, local_kinds}
@@ -12,10 +12,11 @@ use Rattle.enc_objects.specs.declared.trap.Trap.TheVariants.{X2}
 use Rattle.enc_objects.specs.declared.value.Value.{Value}
 use Rattle.enc_opcodes.specs.declared.op.Op.{Op}
 use Rattle.enc_plain.specs.Module.{Module}
-use Rattle.enc_vm.specs.Machine.{Frame}
-use Rattle.enc_vm.specs.Results.{◌>>=◌, or_trap}
-use Rattle.enc_vm.specs.Values.{fit, upper, upper_two, pushed, word_of_value, is_set, tested}
-use Rattle.enc_vm.specs.declared.act.Test.{Test}
+use Rattle.enc_schema.specs.Tables as tables
+use Rattle.enc_frames.specs.Machine.{Frame}
+use Rattle.enc_frames.specs.Results.{◌>>=◌, or_trap}
+use Rattle.enc_frames.specs.Values.{fit, upper, upper_two, pushed, word_of_value, is_set, tested}
+use Rattle.enc_frames.specs.declared.act.Test.{Test}
 
 -- what an instruction makes of the frame, by itself
 abbrev pub Framed : Type 0 → Type 0

@@ -1,5 +1,5 @@
 -- Values as they are stored, loaded and compared (ECMA-335 III.1.1, III.1.6).
-use Rattle.std.specs.Prelude.{ℕ, ℤ, pos, Bool, true, false, not, List, [], ◌∷◌, length, Option, Some, None, Result, Ok, Err, nat_lt, if◌then◌else◌}
+use Rattle.std.specs.Prelude.{ℕ, ℤ, pos, Bool, true, false, not, List, [], ◌∷◌, length, reverse, take, Option, Some, None, Result, Ok, Err, nat_le, nat_lt, if◌then◌else◌}
 use Rattle.std.specs.Ordering.{int_eq}
 use Rattle.enc_objects.specs.declared.kind.Kind.{Kind}
 use Rattle.enc_objects.specs.Instructions.{on_two}
@@ -10,10 +10,10 @@ use Rattle.enc_objects.specs.declared.trap.Trap.TheVariants.{X3, X4, X13}
 use Rattle.enc_objects.specs.declared.value.Value.{Value}
 use Rattle.enc_objects.specs.declared.value.Value.TheVariants.{I4, I8, Null, Obj}
 use Rattle.enc_objects.specs.Places.{stored_as}
-use Rattle.enc_vm.specs.Machine.{Frame}
-use Rattle.enc_vm.specs.Results.{◌>>=◌, or_trap}
-use Rattle.enc_vm.specs.declared.act.Test.{Test}
-use Rattle.enc_vm.specs.declared.act.Test.TheVariants as test
+use Rattle.enc_frames.specs.Machine.{Frame}
+use Rattle.enc_frames.specs.Results.{◌>>=◌, or_trap}
+use Rattle.enc_frames.specs.declared.act.Test.{Test}
+use Rattle.enc_frames.specs.declared.act.Test.TheVariants as test
 
 -- a value as a place of a kind holds it; a trap where it is of a wrong kind
 abbrev pub fit : Kind → Value → Result Value Trap

@@ -4,7 +4,7 @@ use enc_objects::{Kind, Value};
 
 /// A comparison by which a branch goes (ECMA-335 III.3.5 to III.3.15).
 #[derive(Clone, Copy, Debug, PartialEq, Eq)]
-pub(crate) enum Test {
+pub enum Test {
     Eq,
     Ge,
     Gt,
@@ -19,7 +19,7 @@ pub(crate) enum Test {
 
 /// What an instruction does to its frame alone, apart from those on one or two values and from `switch`.
 #[derive(Clone, Copy, Debug, PartialEq, Eq)]
-pub(crate) enum FrameAct {
+pub enum FrameAct {
     /// `nop`, `break`.
     Nothing,
     /// `ldarg` of an argument, from 0.
@@ -48,7 +48,7 @@ pub(crate) enum FrameAct {
 
 /// What an instruction does to objects and its frame, apart from `ldstr`.
 #[derive(Clone, Copy, Debug, PartialEq, Eq)]
-pub(crate) enum ObjectAct {
+pub enum ObjectAct {
     /// `ldfld`.
     LoadField(Token),
     /// `stfld`.
@@ -71,7 +71,7 @@ pub(crate) enum ObjectAct {
 
 /// What an instruction of the interpreter is for.
 #[derive(Clone, Copy, Debug, PartialEq, Eq)]
-pub(crate) enum Act {
+pub enum Act {
     /// It changes its frame alone.
     Frame(FrameAct),
     /// It changes its frame and objects.

@@ -1,10 +1,9 @@
 //! The arguments of a call (ECMA-335 III.3.19).
-ghost use Rattle.std.specs.Prelude.{◌≡◌, ◌++◌, ◌∷◌, [], ◌<◌, length, map, Result, Ok, Err, IfOk};
-ghost use Rattle.enc_kinds.specs.Elements.{CallShape};
+ghost use Rattle.std.specs.Prelude.{◌≡◌, ◌++◌, ◌∷◌, [], ◌<◌, map, Result, Ok, Err, IfOk};
 ghost use Rattle.enc_objects.specs.Values.{default_of};
-ghost use Rattle.enc_vm.specs.ArgumentsSeen.{GivesItems, fitting};
-ghost use Rattle.enc_vm.specs.Straight.{argument_kinds};
-ghost use Rattle.enc_vm.specs.Values.{fit_all};
+ghost use Rattle.enc_frames.specs.ArgumentsSeen.{GivesItems, fitting};
+ghost use Rattle.enc_frames.specs.Straight.{argument_kinds};
+ghost use Rattle.enc_frames.specs.Values.{fit_all};
 
 use crate::stack::Stack;
 use crate::stop::Stop;
@@ -26,7 +25,7 @@ fn add_kinds(kinds: &mut Vec<Kind>, more: &Kinds<'_>) -> Result<(), AllocError>
 }
 
 /// The kinds of what a method is called with: the object first, where it has one.
-pub(crate) fn called_kinds(alloc: Global, shape: &MethodShape<'_>) -> Result<Vec<Kind>, AllocError>
+pub fn called_kinds(alloc: Global, shape: &MethodShape<'_>) -> Result<Vec<Kind>, AllocError>
     ensures { IfOk result (λ l. l.items ≡ argument_kinds shape.now) }
 {
     let mut kinds = Vec::new(alloc);
@@ -38,7 +37,7 @@ pub(crate) fn called_kinds(alloc: Global, shape: &MethodShape<'_>) -> Result<Vec
 }
 
 /// The kinds of what it takes beside the object.
-pub(crate) fn taken_kinds(alloc: Global, shape: &MethodShape<'_>) -> Result<Vec<Kind>, AllocError>
+pub fn taken_kinds(alloc: Global, shape: &MethodShape<'_>) -> Result<Vec<Kind>, AllocError>
     ensures { IfOk result (λ l. l.items ≡ shape.now.takes) }
 {
     let mut kinds = Vec::new(alloc);
@@ -77,7 +76,7 @@ fn fit_all(alloc: Global, kinds: &[Kind], values: &[Value]) -> Result<Vec<Value>
 
 /// As many values from the top of a stack as there are kinds, in the order in which they were put there, each
 /// as a place of its kind holds it. X3 where there are fewer, X4 at the first of a wrong kind.
-pub(crate) fn fitting(alloc: Global, stack: &Stack, kinds: &[Kind]) -> Result<Vec<Value>, Stop>
+pub fn fitting(alloc: Global, stack: &Stack, kinds: &[Kind]) -> Result<Vec<Value>, Stop>
     ensures { GivesItems result (fitting kinds.now stack.now) }
 {
     match stack.taken(kinds.len()) {

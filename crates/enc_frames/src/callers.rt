@@ -1,25 +1,27 @@
 //! The frames below the innermost.
-ghost use Rattle.std.specs.Prelude.{◌≡◌, ◌∷◌, [], ◌<◌, length, reverse, OnOk, OnErr, Option, Some, None};
-ghost use Rattle.enc_vm.specs.Does.{Does};
-ghost use Rattle.enc_vm.specs.Callers.{without_first, first_if_any};
+ghost use Rattle.std.specs.Prelude.{◌≡◌, ◌∷◌, [], ◌<◌, drop, length, reverse, OnOk, OnErr};
+ghost use Rattle.enc_frames.specs.Callers.{without_first, first_if_any};
+ghost use Rattle.enc_frames.specs.Does.{Does};
+ghost use Rattle.enc_frames.specs.FramesSeen.{handed_first, nearest_or, with_nearest};
+ghost use Rattle.enc_frames.specs.Straight.{moved_on};
 
 use crate::frame::Frame;
 use crate::stop::Stop;
-use enc_objects::{Trap, Value};
+use enc_objects::Value;
 use std::alloc::{AllocError, Global};
 use std::marker::Model;
 use std::mem;
 
 /// The frames below the innermost one, fewer than 1,024; their list begins with the nearest.
 #[derive(Drop)]
-pub(crate) struct Callers {
+pub struct Callers {
     pub(crate) items: Vec<Frame>,
 }
 
 impl Model for Callers {
     ghost use Rattle.std.specs.Prelude.{◌<◌, List, length, reverse};
     ghost use Rattle.enc_versions.specs.Version.{Version};
-    ghost use Rattle.enc_vm.specs.Machine.{Frame as TheFrame};
+    ghost use Rattle.enc_frames.specs.Machine.{Frame as TheFrame};
 
     ghost Value = { List (TheFrame Version) };
 
@@ -30,7 +32,7 @@ impl Model for Callers {
 
 impl Callers {
     /// None. It takes no memory.
-    pub(crate) fn begin(alloc: Global) -> Callers
+    pub fn begin(alloc: Global) -> Callers
         ensures { result ≡ [] }
     {
         Callers {
@@ -39,7 +41,7 @@ impl Callers {
     }
 
     /// How many there are.
-    pub(crate) fn len(&self) -> usize
+    pub fn len(&self) -> usize
         ensures len { result ≡ length self.now }
         ensures few { result < 1024 }
     {
@@ -47,14 +49,14 @@ impl Callers {
     }
 
     /// All, the outermost first.
-    pub(crate) fn as_slice(&self) -> &[Frame]
+    pub fn as_slice(&self) -> &[Frame]
         ensures { reverse result.now ≡ self.now }
     {
         self.items.as_slice()
     }
 
     /// A frame becomes the innermost one, and what was it the nearest below. Without memory nothing changes.
-    pub(crate) fn enter(&mut self, top: &mut Frame, frame: Frame) -> Result<(), AllocError>
+    pub fn enter(&mut self, top: &mut Frame, frame: Frame) -> Result<(), AllocError>
         requires { length self.old < 1023 }
         ensures top { OnOk result (top.new ≡ frame) }
         ensures below { OnOk result (self.new ≡ top.old ∷ self.old) }
@@ -68,7 +70,7 @@ impl Callers {
     }
 
     /// The nearest frame becomes the innermost one, None where there is none.
-    pub(crate) fn leave(&mut self) -> Option<Frame>
+    pub fn leave(&mut self) -> Option<Frame>
         ensures frame { result ≡ first_if_any self.old }
         ensures rest { self.new ≡ without_first self.old }
     {
@@ -79,7 +81,7 @@ impl Callers {
 impl Callers {
     /// A frame becomes the innermost one, and what was it the nearest below, which goes on at an offset with
     /// so many values fewer on its stack. Without memory nothing changes.
-    fn enter_call(
+    pub fn enter_call(
         &mut self,
         top: &mut Frame,
         frame: Frame,
@@ -100,7 +102,7 @@ impl Callers {
     }
 
     /// A frame more, which is the nearest. Without memory nothing changes.
-    fn hold(&mut self, frame: Frame) -> Result<(), AllocError>
+    pub fn hold(&mut self, frame: Frame) -> Result<(), AllocError>
         requires { length self.old < 1023 }
         ensures ok { OnOk result (self.new ≡ frame ∷ self.old) }
         ensures err { OnErr result (self.new ≡ self.old) }
@@ -110,7 +112,7 @@ impl Callers {
     }
 
     /// The innermost frame and the nearest below it change places, where there is one below.
-    fn swap_nearest(&mut self, top: &mut Frame)
+    pub fn swap_nearest(&mut self, top: &mut Frame)
         ensures below { self.new ≡ with_nearest top.old self.old }
         ensures top { top.new ≡ nearest_or top.old self.old }
     {
@@ -124,8 +126,8 @@ impl Callers {
 
 impl Callers {
     /// A value that was given goes on the nearest frame's stack, if any.
-    #[tactic(auto, using(crate::proofs::Handed::none_there))]
-    fn hand(&mut self, value: Option<Value>) -> Result<(), Stop>
+    #[tactic(auto, using(crate::proofs::Nearest::none_there))]
+    pub fn hand(&mut self, value: Option<Value>) -> Result<(), Stop>
         ensures { Does result self.new self.old (handed_first value self.old) }
     {
         let n = self.items.len();

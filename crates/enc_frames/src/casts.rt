@@ -4,8 +4,8 @@ ghost use Rattle.enc_dispatch.specs.Index.{StandsForModule};
 ghost use Rattle.enc_dispatch.specs.Path.{is_class, extends, implements};
 ghost use Rattle.enc_objects.specs.declared.value.Value.TheVariants.{Null};
 ghost use Rattle.enc_plain.specs.Module.{has_row};
-ghost use Rattle.enc_vm.specs.Does.{Does};
-ghost use Rattle.enc_vm.specs.Memory.{is_cast_type, is_instance_of, shape_is_of, is_null_or_of, cast_to, instance_or_null};
+ghost use Rattle.enc_frames.specs.Does.{Does};
+ghost use Rattle.enc_frames.specs.Memory.{is_cast_type, is_instance_of, shape_is_of, is_null_or_of, cast_to, instance_or_null};
 
 use crate::frame::Frame;
 use crate::stop::Stop;

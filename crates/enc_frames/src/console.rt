@@ -6,10 +6,10 @@ ghost use Rattle.enc_plain.specs.Module.{cells_of};
 ghost use Rattle.enc_plain.specs.Rows.{token_at};
 ghost use Rattle.enc_schema.specs.Columns.{member_ref_class};
 ghost use Rattle.enc_schema.specs.Tables.{member_ref};
-ghost use Rattle.enc_vm.specs.CallsSeen.{shared_by};
-ghost use Rattle.enc_vm.specs.Console.{run_constructor, run_outside, call_outside, is_outside_constructor, new_outside};
-ghost use Rattle.enc_vm.specs.ConsoleSeen.{frame_alone, object_loaded, MakesWriting};
-ghost use Rattle.enc_vm.specs.Machine.{version_world};
+ghost use Rattle.enc_frames.specs.FramesSeen.{shared_by};
+ghost use Rattle.enc_frames.specs.Console.{run_constructor, run_outside, call_outside, is_outside_constructor, new_outside};
+ghost use Rattle.enc_frames.specs.ConsoleSeen.{frame_alone, object_loaded, MakesWriting};
+ghost use Rattle.enc_frames.specs.Machine.{version_world};
 
 use crate::frame::Frame;
 use crate::stop::Stop;
@@ -20,12 +20,12 @@ use crate::values::{reference, word};
 use enc_base::{Token, Units};
 use enc_kinds::{Outside, outside_of};
 use enc_objects::{Objects, Trap, Value};
-use enc_plain::{CellView, ModuleView, Viewed};
+use enc_plain::{ModuleView, Viewed};
 use enc_schema::columns::MEMBER_REF_CLASS;
 use std::alloc::Global;
 
 /// What a step writes, in UTF-16 units, or why it changes nothing.
-pub(crate) type Written = Result<Option<Units>, Stop>;
+pub type Written = Result<Option<Units>, Stop>;
 
 impl Frame {
     /// A constructor outside, which does nothing with its object. X5 where that may not be null and is.
@@ -201,7 +201,7 @@ impl Frame {
 /// `call`, `callvirt` of a member outside (ECMA-335 III.3.19, III.4.2); asked says that the object may not be
 /// null.
 #[tactic(auto, unfolding(crate::specs::Console::call_outside, crate::specs::Machine::version_world))]
-pub(crate) fn call_outside<V: ModuleView>(
+pub fn call_outside<V: ModuleView>(
     alloc: Global,
     view: &V,
     objects: &mut Objects,
@@ -262,7 +262,7 @@ fn load_object(objects: &mut Objects, frame: &mut Frame, next: u32, class: Token
 
 /// `newobj` of a constructor outside: an object of the type that it is of (ECMA-335 III.4.21).
 #[tactic(auto, unfolding(crate::specs::Console::new_outside, crate::specs::Machine::version_world, enc_opcodes::specs::Body::body_of))]
-pub(crate) fn new_outside<V: ModuleView>(
+pub fn new_outside<V: ModuleView>(
     view: &V,
     objects: &mut Objects,
     frame: &mut Frame,

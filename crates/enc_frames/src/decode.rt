@@ -1,7 +1,7 @@
 //! What each instruction is for, by its code and its argument (ECMA-335 III.1.2.1).
 ghost use Rattle.std.specs.Prelude.{◌≡◌};
 ghost use Rattle.enc_objects.specs.Values.{modulo};
-ghost use Rattle.enc_vm.specs.Acts.{loaded_kind, stored_kind, element_act, bare_act, numbered_act, test_at, branch_act, token_act};
+ghost use Rattle.enc_frames.specs.Acts.{loaded_kind, stored_kind, element_act, bare_act, numbered_act, test_at, branch_act, token_act};
 
 use crate::act::{Act, FrameAct, ObjectAct, Test};
 use enc_base::Token;
@@ -58,7 +58,7 @@ fn element_act(code: u16) -> Option<Act>
 
 /// Those that stand alone.
 #[tactic(auto, unfolding(crate::specs::Acts::bare_act))]
-pub(crate) fn bare_act(code: u16) -> Option<Act>
+pub fn bare_act(code: u16) -> Option<Act>
     ensures { result ≡ bare_act code }
 {
     match code {
@@ -87,7 +87,7 @@ fn low_word(n: i64) -> u32
 
 /// Those with a number.
 #[tactic(auto, unfolding(crate::specs::Acts::numbered_act))]
-pub(crate) fn numbered_act(code: u16, n: i64) -> Option<Act>
+pub fn numbered_act(code: u16, n: i64) -> Option<Act>
     ensures { result ≡ numbered_act code n }
 {
     let low = low_word(n);
@@ -124,7 +124,7 @@ fn test_at(code: u16) -> Option<Test>
 
 /// Those that go to an offset.
 #[tactic(auto, unfolding(crate::specs::Acts::branch_act))]
-pub(crate) fn branch_act(code: u16, goal: u32) -> Option<Act>
+pub fn branch_act(code: u16, goal: u32) -> Option<Act>
     ensures { result ≡ branch_act code goal }
 {
     match code {
@@ -141,7 +141,7 @@ pub(crate) fn branch_act(code: u16, goal: u32) -> Option<Act>
 
 /// Those that name a member or a type.
 #[tactic(auto, unfolding(crate::specs::Acts::token_act))]
-pub(crate) fn token_act(code: u16, token: Token) -> Option<Act>
+pub fn token_act(code: u16, token: Token) -> Option<Act>
     ensures { result ≡ token_act code token }
 {
     match code {

@@ -14,7 +14,7 @@ use std::rc::Rc;
 /// A call that is under way (ECMA-335 I.12.3.2): its method, the code that it began with and keeps, the
 /// offset of its next instruction, its arguments, local variables and stack, and the handlers that it runs.
 #[derive(Drop)]
-pub(crate) struct Frame {
+pub struct Frame {
     pub(crate) method: Token,
     pub(crate) code: Rc<Code>,
     pub(crate) offset: u32,
@@ -28,7 +28,7 @@ impl Model for Frame {
     ghost use Rattle.std.specs.Prelude.{◌≡◌};
     ghost use Rattle.enc_schema.specs.Tables.{method_def};
     ghost use Rattle.enc_versions.specs.Version.{Version};
-    ghost use Rattle.enc_vm.specs.Machine.{Frame as TheFrame};
+    ghost use Rattle.enc_frames.specs.Machine.{Frame as TheFrame};
 
     ghost Value = { TheFrame Version };
 
@@ -47,7 +47,7 @@ impl Model for Frame {
 
 impl Frame {
     /// Its body.
-    pub(crate) fn body(&self) -> CodeRef<'_>
+    pub fn body(&self) -> CodeRef<'_>
         ensures body { code_seen result ≡ self.now.code.code }
         ensures few { length self.now.code.code.code < 2 ^ 32 }
         ensures short { length self.now.code.code.sections < 2 ^ 32 }

@@ -1,10 +1,10 @@
 //! What instructions do to their frame alone (ECMA-335 III.3).
-ghost use Rattle.std.specs.Prelude.{◌≡◌, ℕ, List, Option, Ok};
+ghost use Rattle.std.specs.Prelude.{ℕ, List, Option, Ok};
 ghost use Rattle.enc_versions.specs.Version.{Version};
-ghost use Rattle.enc_vm.specs.Does.{Does};
-ghost use Rattle.enc_vm.specs.Machine.{version_world};
-ghost use Rattle.enc_vm.specs.Step.{frame_act};
-ghost use Rattle.enc_vm.specs.Straight.{moved_on};
+ghost use Rattle.enc_frames.specs.Does.{Does};
+ghost use Rattle.enc_frames.specs.Machine.{version_world};
+ghost use Rattle.enc_frames.specs.FrameActs.{frame_act};
+ghost use Rattle.enc_frames.specs.Straight.{moved_on};
 
 use crate::act::FrameAct;
 use crate::frame::Frame;
@@ -22,8 +22,8 @@ impl Frame {
     }
 
     /// What an instruction does to its frame alone; behind it the frame goes on at an offset.
-    #[tactic(auto, unfolding(crate::specs::Step::frame_act, crate::specs::Machine::version_world, enc_opcodes::specs::Body::body_of))]
-    pub(crate) fn act<V: ModuleView>(
+    #[tactic(auto, unfolding(crate::specs::FrameActs::frame_act, crate::specs::Machine::version_world, enc_opcodes::specs::Body::body_of))]
+    pub fn act<V: ModuleView>(
         &mut self,
         alloc: Global,
         view: &V,

@@ -16,7 +16,7 @@ pub struct FrameRef<'a> {
 
 impl<'a> Model for FrameRef<'a> {
     ghost use Rattle.enc_versions.specs.Version.{Version};
-    ghost use Rattle.enc_vm.specs.Machine.{Frame as TheFrame};
+    ghost use Rattle.enc_frames.specs.Machine.{Frame as TheFrame};
 
     ghost Value = { TheFrame Version };
 

@@ -34,7 +34,7 @@ fn first_locals<V: ModuleView>(
 }
 
 /// A frame at its method's first instruction, with these arguments and an empty stack.
-pub(crate) fn new_frame<V: ModuleView>(
+pub fn new_frame<V: ModuleView>(
     alloc: Global,
     view: &V,
     method: Token,

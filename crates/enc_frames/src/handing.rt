@@ -34,7 +34,7 @@ impl Frame {
     }
 
     /// Whether its stack can hold one value more in the place of so many.
-    fn can_take(&self, n: usize) -> bool
+    pub fn can_take(&self, n: usize) -> bool
         requires { n ≤ length self.now.stack }
         ensures { result ≡ nat_lt (length (drop n self.now.stack)) self.now.code.code.max }
     {
@@ -42,7 +42,7 @@ impl Frame {
     }
 
     /// Null more on its stack. Without memory nothing changes.
-    fn push_null(&mut self) -> Result<(), AllocError>
+    pub fn push_null(&mut self) -> Result<(), AllocError>
         ensures ok { OnOk result (self.new ≡ record self.old { stack = Null ∷ self.old.stack }) }
         ensures err { OnErr result (self.new ≡ self.old) }
     {
@@ -50,14 +50,14 @@ impl Frame {
     }
 
     /// The value on the top of its stack goes.
-    fn pop(&mut self)
+    pub fn pop(&mut self)
         ensures { self.new ≡ record self.old { stack = drop 1 self.old.stack } }
     {
         self.stack.remove(1);
     }
 
     /// It goes on at an offset, with a value in the place of so many upper ones.
-    fn put(&mut self, next: u32, n: usize, value: Value)
+    pub fn put(&mut self, next: u32, n: usize, value: Value)
         requires some { 0 < n }
         requires there { n ≤ length self.old.stack }
         ensures { self.new ≡ moved_on next (value ∷ drop n self.old.stack) self.old }
@@ -67,7 +67,7 @@ impl Frame {
     }
 
     /// Its first argument becomes another.
-    fn set_object(&mut self, value: Value)
+    pub fn set_object(&mut self, value: Value)
         ensures { self.new ≡ with_object_first value self.old }
     {
         self.args.set(0, value);

@@ -2,7 +2,7 @@
 
 /// An object that was thrown and is on its way to the clause that takes it.
 #[derive(Clone, Copy, Debug, PartialEq, Eq)]
-pub(crate) struct Flight {
+pub struct Flight {
     /// The number of the object.
     pub object: u32,
     /// The frame whose clause takes it, counted from the outermost, which is 0.
@@ -17,7 +17,7 @@ pub(crate) struct Flight {
 
 /// Why a handler runs.
 #[derive(Clone, Copy, Debug, PartialEq, Eq)]
-pub(crate) enum Reason {
+pub enum Reason {
     /// Protected code was left by `leave` to an offset.
     Leave(u32),
     /// An object is on its way.
@@ -26,7 +26,7 @@ pub(crate) enum Reason {
 
 /// A handler that runs in a frame.
 #[derive(Clone, Copy, Debug, PartialEq, Eq)]
-pub(crate) struct Running {
+pub struct Running {
     /// The number of the clause, from 0.
     pub clause: u32,
     /// The offset that was left, or from which the object came.

@@ -1,11 +1,10 @@
 //! Handlers that begin and end in a frame (ECMA-335 I.12.4.2, III.3.35, III.3.46).
-ghost use Rattle.std.specs.Prelude.{◌≡◌, ◌∷◌, ◌++◌, [], ◌<◌, ◌^◌, length, filter, option_map, IfOk};
-ghost use Rattle.enc_opcodes.specs.Body.{handler_meant};
+ghost use Rattle.std.specs.Prelude.{◌≡◌, ◌∷◌, [], ◌<◌, IfOk};
 ghost use Rattle.enc_unwind.specs.Search.{is_in_range, handlers_of};
-ghost use Rattle.enc_vm.specs.Callers.{first_if_any, without_first};
-ghost use Rattle.enc_vm.specs.Does.{Does};
-ghost use Rattle.enc_vm.specs.Handlers.{handler_range, pruned, gone_to, start, left_by, leave_to};
-ghost use Rattle.enc_vm.specs.HandlersSeen.{own_clauses};
+ghost use Rattle.enc_frames.specs.Callers.{first_if_any, without_first};
+ghost use Rattle.enc_frames.specs.Does.{Does};
+ghost use Rattle.enc_frames.specs.Handlers.{handler_range, pruned, gone_to, start, left_by};
+ghost use Rattle.enc_frames.specs.HandlersSeen.{own_clauses};
 ghost use Rattle.std.specs.Prelude.{Ok};
 
 use crate::frame::Frame;
@@ -13,7 +12,6 @@ use crate::handler::{Reason, Running};
 use crate::stop::Stop;
 use enc_il::clause;
 use enc_opcodes::CodeRef;
-use enc_unwind::{Stop as WayOut, next_handler};
 use std::alloc::{AllocError, Global};
 use std::marker::Model;
 
@@ -43,7 +41,7 @@ pub(crate) struct RunningHandlers {
 
 impl Model for RunningHandlers {
     ghost use Rattle.std.specs.Prelude.{List, reverse};
-    ghost use Rattle.enc_vm.specs.declared.handler.Running.{Running as TheRunning};
+    ghost use Rattle.enc_frames.specs.declared.handler.Running.{Running as TheRunning};
 
     ghost Value = { List TheRunning };
 
@@ -148,7 +146,7 @@ impl Frame {
 
     /// The handler of a clause begins.
     #[tactic(auto, unfolding(crate::specs::Handlers::start, crate::specs::Handlers::gone_to))]
-    pub(crate) fn start(&mut self, alloc: Global, handler: Running) -> Result<(), Stop>
+    pub fn start(&mut self, alloc: Global, handler: Running) -> Result<(), Stop>
         ensures { Does result self.new self.old (Ok (start (own_clauses self.old) handler.clause handler.origin handler.reason self.old)) }
     {
         let code = self.body();

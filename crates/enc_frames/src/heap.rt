@@ -1,9 +1,9 @@
 //! Instructions on objects (ECMA-335 III.4).
-ghost use Rattle.std.specs.Prelude.{◌≡◌, ◌<◌, length};
+ghost use Rattle.std.specs.Prelude.{◌≡◌, ◌<◌};
 ghost use Rattle.enc_objects.specs.declared.trap.Trap.TheVariants.{X4};
-ghost use Rattle.enc_vm.specs.Does.{Does};
-ghost use Rattle.enc_vm.specs.Results.{or_trap};
-ghost use Rattle.enc_vm.specs.Memory.{load_text, load_field_of, store_field_of, load_static, store_static, new_array_of_kind, array_in_value, array_of, array_length, index_in, load_element, store_element, has_width, element_width, element_kind};
+ghost use Rattle.enc_frames.specs.Does.{Does};
+ghost use Rattle.enc_frames.specs.Results.{or_trap};
+ghost use Rattle.enc_frames.specs.Memory.{load_text, load_field_of, store_field_of, load_static, store_static, new_array_of_kind, array_in_value, array_of, array_length, index_in, load_element, store_element, element_width, element_kind};
 
 use crate::frame::Frame;
 use crate::stop::Stop;
@@ -13,7 +13,7 @@ use enc_objects::{Kind, MakeFault, Objects, Shape, Trap, Value};
 
 impl From<MakeFault> for Stop {
     ghost use Rattle.std.specs.Prelude.{◌≡◌};
-    ghost use Rattle.enc_vm.specs.Does.{stop_by};
+    ghost use Rattle.enc_frames.specs.Does.{stop_by};
 
     ghost from_gives = { λ f e. e ≡ stop_by f };
 
@@ -27,7 +27,7 @@ impl From<MakeFault> for Stop {
 
 /// `ldstr` (ECMA-335 III.4.16).
 #[tactic(auto, unfolding(crate::specs::Memory::load_text, crate::specs::Straight::load))]
-pub(crate) fn load_text(
+pub fn load_text(
     objects: &mut Objects,
     frame: &mut Frame,
     next: u32,
@@ -101,7 +101,7 @@ pub(crate) fn store_field(
 
 /// `ldsfld` of a field of a kind (ECMA-335 III.4.14).
 #[tactic(auto, unfolding(crate::specs::Memory::load_static))]
-pub(crate) fn load_static(
+pub fn load_static(
     objects: &Objects,
     frame: &mut Frame,
     kind: Kind,
@@ -116,7 +116,7 @@ pub(crate) fn load_static(
 
 /// `stsfld` of a field of a kind (ECMA-335 III.4.30).
 #[tactic(auto, unfolding(crate::specs::Memory::store_static))]
-pub(crate) fn store_static(
+pub fn store_static(
     objects: &mut Objects,
     frame: &mut Frame,
     kind: Kind,

@@ -19,7 +19,7 @@ use std::mem;
 impl Frame {
     /// `leave` to an offset (ECMA-335 III.3.46).
     #[tactic(auto, unfolding(crate::specs::Handlers::leave_to))]
-    pub(crate) fn leave(&mut self, alloc: Global, goal: u32) -> Result<(), Stop>
+    pub fn leave(&mut self, alloc: Global, goal: u32) -> Result<(), Stop>
         ensures { Does result self.new self.old (Ok (leave_to (own_clauses self.old) goal self.old)) }
     {
         let next = next_handler(&self.body(), None, self.offset, WayOut::Leave(goal));
@@ -30,7 +30,7 @@ impl Frame {
 impl Frame {
     /// The handler of a clause begins with a thrown object.
     #[tactic(auto, unfolding(crate::specs::Handlers::gone_to))]
-    fn take(&mut self, alloc: Global, clause: u32, object: u32) -> Result<(), Stop>
+    pub fn take(&mut self, alloc: Global, clause: u32, object: u32) -> Result<(), Stop>
         ensures { Does result self.new self.old (Ok (taken_in (own_clauses self.old) clause object self.old)) }
     {
         let code = self.body();

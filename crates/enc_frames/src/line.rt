@@ -1,13 +1,13 @@
 //! The line at which a step begins.
 ghost use Rattle.std.specs.Prelude.{◌≡◌, ◌∷◌, []};
 ghost use Rattle.enc_versions.specs.StandFor.{lines_read};
-ghost use Rattle.enc_vm.specs.Step.{line_among};
+ghost use Rattle.enc_frames.specs.Lines.{line_among};
 
 use crate::frame::Frame;
 use enc_seqpoints::{Point, Points};
 
 /// The start line of a point, None where it is hidden or stands at another offset.
-#[tactic(auto, unfolding(crate::specs::Step::line_among))]
+#[tactic(auto, unfolding(crate::specs::Lines::line_among))]
 fn line_at(point: Point, offset: u32) -> Option<u32>
     ensures { result ≡ line_among offset ((point.offset, point.lines) ∷ []) }
 {
@@ -37,7 +37,7 @@ fn line_in(points: &Points, offset: u32) -> Option<u32>
 impl Frame {
     /// The start line of the sequence point at which it stands, None where it stands at none or at a hidden
     /// one.
-    pub(crate) fn line(&self) -> Option<u32>
+    pub fn line(&self) -> Option<u32>
         ensures { result ≡ line_among self.now.offset (lines_read self.now.code.points).points }
     {
         line_in(self.code.as_ref().points(), self.offset)

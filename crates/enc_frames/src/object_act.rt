@@ -4,12 +4,12 @@ ghost use Rattle.enc_dispatch.specs.Index.{StandsForModule};
 ghost use Rattle.enc_kinds.specs.Types.{type_kind};
 ghost use Rattle.enc_objects.specs.declared.trap.Trap.TheVariants.{X2};
 ghost use Rattle.enc_versions.specs.Version.{Version};
-ghost use Rattle.enc_vm.specs.Does.{Does};
-ghost use Rattle.enc_vm.specs.Machine.{version_world};
-ghost use Rattle.enc_vm.specs.Results.{or_trap};
-ghost use Rattle.enc_vm.specs.Memory.{load_field_of, store_field_of, new_array_of_kind, load_element as load_of, store_element as store_of};
-ghost use Rattle.enc_vm.specs.ObjectsSeen.{by_field, by_type};
-ghost use Rattle.enc_vm.specs.Step.{object_act};
+ghost use Rattle.enc_frames.specs.Does.{Does};
+ghost use Rattle.enc_frames.specs.Machine.{version_world};
+ghost use Rattle.enc_frames.specs.Results.{or_trap};
+ghost use Rattle.enc_frames.specs.Memory.{load_field_of, store_field_of, new_array_of_kind, load_element as load_of, store_element as store_of};
+ghost use Rattle.enc_frames.specs.ObjectsSeen.{by_field, by_type};
+ghost use Rattle.enc_frames.specs.FrameActs.{object_act};
 
 use crate::act::ObjectAct;
 use crate::casts::{cast_to, instance_or_null};
@@ -114,8 +114,8 @@ fn store_element_of<V: ModuleView>(
 }
 
 /// What an instruction does to objects and its frame; behind it the frame goes on at an offset.
-#[tactic(auto, unfolding(crate::specs::Step::object_act, crate::specs::Machine::version_world))]
-pub(crate) fn act_on_objects<V: ModuleView>(
+#[tactic(auto, unfolding(crate::specs::FrameActs::object_act, crate::specs::Machine::version_world))]
+pub fn act_on_objects<V: ModuleView>(
     view: &V,
     dispatch: &Dispatch,
     objects: &mut Objects,

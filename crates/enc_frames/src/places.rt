@@ -1,11 +1,10 @@
 //! The kinds of a frame's arguments and local variables, and of what instructions name.
-ghost use Rattle.std.specs.Prelude.{◌≡◌, ◌<◌, length, slice_get, map, reverse, take, IsTrue, IfOk, Result, Ok, Err};
-ghost use Rattle.enc_kinds.specs.Elements.{CallShape};
+ghost use Rattle.std.specs.Prelude.{◌≡◌, ◌<◌, slice_get, IsTrue, IfOk, Result, Ok, Err};
 ghost use Rattle.enc_plain.specs.Module.{has_row};
-ghost use Rattle.enc_schema.specs.Tables.{field, method_def, type_def};
-ghost use Rattle.enc_vm.specs.Calls.{named_method};
-ghost use Rattle.enc_vm.specs.Memory.{named_field};
-ghost use Rattle.enc_vm.specs.Straight.{argument_kinds, argument_kind, local_kind};
+ghost use Rattle.enc_schema.specs.Tables.{field, method_def};
+ghost use Rattle.enc_frames.specs.Straight.{named_method};
+ghost use Rattle.enc_frames.specs.Memory.{named_field};
+ghost use Rattle.enc_frames.specs.Straight.{argument_kinds, argument_kind, local_kind};
 
 use crate::frame::Frame;
 use enc_base::Token;
@@ -55,7 +54,7 @@ impl Frame {
 
 /// The kind of a field that an instruction names.
 #[tactic(auto, unfolding(crate::specs::Memory::named_field))]
-pub(crate) fn named_field<V: ModuleView>(view: &V, token: Token) -> Result<Kind, Trap>
+pub fn named_field<V: ModuleView>(view: &V, token: Token) -> Result<Kind, Trap>
     ensures kind { result ≡ named_field (V.meaning view.now) token }
     ensures table { IfOk result (λ _. token.table ≡ field) }
     ensures row { IfOk result (λ _. IsTrue (has_row (V.meaning view.now) token)) }
@@ -70,8 +69,8 @@ pub(crate) fn named_field<V: ModuleView>(view: &V, token: Token) -> Result<Kind,
 }
 
 /// How a method that an instruction names is called. X2 where there is no such row.
-#[tactic(auto, unfolding(crate::specs::Calls::named_method))]
-pub(crate) fn named_method<V: ModuleView>(view: &V, token: Token) -> Result<MethodShape<'_>, Trap>
+#[tactic(auto, unfolding(crate::specs::Straight::named_method))]
+pub fn named_method<V: ModuleView>(view: &V, token: Token) -> Result<MethodShape<'_>, Trap>
     ensures shape { result ≡ named_method (V.meaning view.now) token }
     ensures table { IfOk result (λ _. token.table ≡ method_def) }
     ensures row { IfOk result (λ _. IsTrue (has_row (V.meaning view.now) token)) }

@@ -1,8 +1,8 @@
 //! The evaluation stack of a frame.
-ghost use Rattle.std.specs.Prelude.{◌≡◌, ◌∷◌, ◌<◌, ◌≤◌, [], drop, length, slice_get, reverse, take, OnOk, OnErr};
-ghost use Rattle.enc_vm.specs.ArgumentsSeen.{taken_seen};
-ghost use Rattle.enc_vm.specs.Calls.{arguments};
-ghost use Rattle.enc_vm.specs.Values.{upper, upper_two, upper_three};
+ghost use Rattle.std.specs.Prelude.{◌≡◌, ◌∷◌, ◌<◌, ◌≤◌, [], drop, length, slice_get, reverse, OnOk, OnErr};
+ghost use Rattle.enc_frames.specs.ArgumentsSeen.{taken_seen};
+ghost use Rattle.enc_frames.specs.Values.{arguments};
+ghost use Rattle.enc_frames.specs.Values.{upper, upper_two, upper_three};
 
 use enc_objects::{Trap, Value};
 use std::alloc::{AllocError, Global};
@@ -10,7 +10,7 @@ use std::marker::Model;
 
 /// The values on a frame's evaluation stack; its list has the top first.
 #[derive(Drop)]
-pub(crate) struct Stack {
+pub struct Stack {
     items: Vec<Value>,
 }
 
@@ -60,7 +60,7 @@ impl Stack {
     }
 
     /// The value on the top.
-    pub(crate) fn upper(&self) -> Result<Value, Trap>
+    pub fn upper(&self) -> Result<Value, Trap>
         ensures { result ≡ upper self.now }
     {
         match self.below_top(0) {
@@ -99,7 +99,7 @@ impl Stack {
     }
 
     /// So many values from the top, in the order in which they were put there. X3 where there are fewer.
-    #[tactic(auto, unfolding(crate::specs::Calls::arguments))]
+    #[tactic(auto, unfolding(crate::specs::Values::arguments))]
     pub(crate) fn taken(&self, n: usize) -> Result<&[Value], Trap>
         ensures { taken_seen result ≡ arguments n self.now }
     {

@@ -1,13 +1,13 @@
 //! Why an instruction changes nothing.
 ghost use Rattle.std.specs.Prelude.{◌≡◌};
-ghost use Rattle.enc_vm.specs.declared.stop.Stop.{Stop};
+ghost use Rattle.enc_frames.specs.declared.stop.Stop.{Stop};
 
 use enc_objects::Trap;
 use std::alloc::AllocError;
 
 /// Why an instruction changes nothing.
 #[derive(Clone, Copy, Debug, PartialEq, Eq)]
-pub(crate) enum Stop {
+pub enum Stop {
     /// There is no memory for what it makes.
     Memory,
     /// The task stops in front of it.

@@ -1,12 +1,12 @@
 //! Instructions on a frame's own values (ECMA-335 III.3).
-ghost use Rattle.std.specs.Prelude.{◌≡◌, ◌<◌, ◌≤◌, length};
-ghost use Rattle.enc_vm.specs.Does.{Does};
-ghost use Rattle.enc_vm.specs.Straight.{load, load_argument, load_local, store_argument, store_local, duplicate, discard, branch_if, branch_by, switch_to, on_upper_two, on_top};
+ghost use Rattle.std.specs.Prelude.{◌<◌};
+ghost use Rattle.enc_frames.specs.Does.{Does};
+ghost use Rattle.enc_frames.specs.Straight.{load, load_argument, load_local, store_argument, store_local, duplicate, discard, branch_if, branch_by, on_upper_two, on_top};
 
 use crate::act::Test;
 use crate::frame::Frame;
 use crate::stop::Stop;
-use crate::values::{fit, is_set, tested, word};
+use crate::values::{fit, is_set, tested};
 use enc_objects::{Kind, Trap, Value, binary, convert};
 use enc_opcodes::Op;
 
@@ -107,7 +107,7 @@ impl Frame {
 
     /// An instruction on two values.
     #[tactic(auto, unfolding(crate::specs::Straight::on_upper_two))]
-    pub(crate) fn on_upper_two(&mut self, op: Op, next: u32) -> Result<(), Stop>
+    pub fn on_upper_two(&mut self, op: Op, next: u32) -> Result<(), Stop>
         ensures { Does result self.new self.old (on_upper_two op next self.old) }
     {
         let (a, b) = self.stack.upper_two()?;
@@ -119,7 +119,7 @@ impl Frame {
 
     /// An instruction on one value.
     #[tactic(auto, unfolding(crate::specs::Straight::on_top))]
-    pub(crate) fn on_top(&mut self, op: Op, next: u32) -> Result<(), Stop>
+    pub fn on_top(&mut self, op: Op, next: u32) -> Result<(), Stop>
         ensures { Does result self.new self.old (on_top op next self.old) }
     {
         let a = self.stack.upper()?;

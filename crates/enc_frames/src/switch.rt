@@ -2,8 +2,8 @@
 ghost use Rattle.std.specs.Prelude.{◌≡◌, slice_get, unwrap_or};
 ghost use Rattle.enc_objects.specs.Values.{modulo};
 ghost use Rattle.enc_opcodes.specs.Instruction.{all_reached};
-ghost use Rattle.enc_vm.specs.Does.{Does};
-ghost use Rattle.enc_vm.specs.Straight.{switch_to};
+ghost use Rattle.enc_frames.specs.Does.{Does};
+ghost use Rattle.enc_frames.specs.Straight.{switch_to};
 
 use crate::frame::Frame;
 use crate::stop::Stop;
@@ -39,7 +39,7 @@ fn goal_of(distances: &[u8], end: u32, next: u32, n: u32) -> u32
 impl Frame {
     /// `switch`, by the distances of its targets from its end, of four bytes each.
     #[tactic(auto, unfolding(crate::specs::Straight::switch_to))]
-    pub(crate) fn switch_to(&mut self, distances: &[u8], end: u32, next: u32) -> Result<(), Stop>
+    pub fn switch_to(&mut self, distances: &[u8], end: u32, next: u32) -> Result<(), Stop>
         ensures { Does result self.new self.old (switch_to (all_reached end distances.now) next self.old) }
     {
         let value = self.stack.upper()?;

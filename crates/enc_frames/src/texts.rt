@@ -1,9 +1,9 @@
 //! Texts, and the units that members outside write (ECMA-335 II.24.2.4).
-ghost use Rattle.std.specs.Prelude.{◌≡◌, ◌++◌, ◌∷◌, ◌%◌, ◌^◌, [], length, IfOk};
+ghost use Rattle.std.specs.Prelude.{◌≡◌, ◌++◌, ◌%◌, ◌^◌, [], length, IfOk};
 ghost use Rattle.std.specs.Option.{option_copied};
 ghost use Rattle.enc_objects.specs.Values.{truth};
-ghost use Rattle.enc_vm.specs.Console.{text, or_empty, digits_of_number, texts_equal, unit_at, line_end};
-ghost use Rattle.enc_vm.specs.ConsoleSeen.{text_seen};
+ghost use Rattle.enc_frames.specs.Console.{text, or_empty, digits_of_number, texts_equal, unit_at, line_end};
+ghost use Rattle.enc_frames.specs.ConsoleSeen.{text_seen};
 
 use enc_base::Units;
 use enc_objects::{Objects, Trap, Value};

@@ -7,7 +7,7 @@ use std::alloc::{AllocError, Global};
 
 /// The UTF-16 units of the user text at an offset, none where none stands there.
 #[tactic(auto, unfolding(enc_base::specs::Units::units_of))]
-pub(crate) fn units_told<V: ModuleView>(
+pub fn units_told<V: ModuleView>(
     alloc: Global,
     view: &V,
     offset: u32,

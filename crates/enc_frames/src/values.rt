@@ -1,6 +1,6 @@
 //! Values as they are stored, asked and compared (ECMA-335 III.1.5, III.1.6).
-ghost use Rattle.std.specs.Prelude.{◌≡◌, ◌∷◌, [], reverse, map, length, take, drop, Result, Ok, Err};
-ghost use Rattle.enc_vm.specs.Values.{fit, fit_all, is_set, word_of_value, reference, is_integer_value, comparison, compare_says, fails, of_integers, tested};
+ghost use Rattle.std.specs.Prelude.{◌≡◌, Result, Ok, Err};
+ghost use Rattle.enc_frames.specs.Values.{fit, is_set, word_of_value, reference, is_integer_value, comparison, compare_says, fails, tested};
 
 use crate::act::Test;
 use enc_objects::{Kind, Trap, Value, binary};
@@ -39,7 +39,7 @@ pub(crate) fn word(value: Value) -> Result<i32, Trap>
 }
 
 /// The number of the object that a reference is of, None within of null.
-pub(crate) fn reference(value: Value) -> Result<Option<u32>, Trap>
+pub fn reference(value: Value) -> Result<Option<u32>, Trap>
     ensures { result ≡ reference value }
 {
     match value {

@@ -1,7 +1,5 @@
 -- Values that are handed to the nearest frame.
-use Rattle.std.proofs.Common.{◌≡◌, ℕ, ◌-◌, ◌<◌, List, [], ◌∷◌, length, take, reverse, Option, Some, None, Result, Ok, Err, refl, sym, ap, ◌∙◌, arith}
-use Rattle.std.specs.Prelude.{slice_set, get_or}
-use Rattle.std.proofs.lemmas.List.{take_all}
+use Rattle.std.proofs.Common.{◌≡◌, ℕ, List, [], ◌∷◌, Option, Some, None, Result, Ok, Err, refl, ap, ◌∙◌}
 use Rattle.enc_base.specs.declared.token.Token.{Token}
 use Rattle.enc_kinds.specs.Elements.{CallShape}
 use Rattle.enc_kinds.specs.Members.{call_shape}
@@ -11,14 +9,12 @@ use Rattle.enc_objects.specs.declared.value.Value.{Value}
 use Rattle.enc_opcodes.specs.Body.{body_of}
 use Rattle.enc_plain.specs.Module.{Module}
 use Rattle.enc_versions.specs.Version.{Version}
-use Rattle.enc_vm.proofs.Reversed.{front_more, last_set}
-use Rattle.enc_vm.specs.Calls.{left_to, value_given, return_from}
-use Rattle.enc_vm.specs.CallsSeen.{handed_in, handed_first, left_with, returned}
-use Rattle.enc_vm.specs.Does.{Does}
-use Rattle.enc_vm.specs.Machine.{Frame, Thread, Shared, version_world}
-use Rattle.enc_vm.specs.Results.{◌>>=◌, or_trap}
-use Rattle.enc_vm.specs.declared.stop.Stop.{Stop}
-use Rattle.enc_vm.specs.declared.stop.Stop.TheVariants as stop
+use Rattle.enc_vm.specs.Calls.{left_to, return_from}
+use Rattle.enc_frames.specs.Values.{value_given}
+use Rattle.enc_vm.specs.CallsSeen.{left_with, returned}
+use Rattle.enc_frames.specs.Machine.{Frame, Thread, Shared, version_world}
+use Rattle.enc_frames.specs.Results.{◌>>=◌, or_trap}
+use Rattle.enc_frames.proofs.Nearest.{nearest}
 
 -- leaving a frame in the program's own world
 pub left_is : (users : ℕ → Option (List ℕ)) (m : Module) (methods : List (Option Version)) (s : Shared) (method : Token) (value : Option Value) (below : List (Frame Version))

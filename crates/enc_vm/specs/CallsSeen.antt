@@ -1,10 +1,8 @@
 -- For the contracts of private functions: frames that are entered and left.
-use Rattle.std.specs.Prelude.{◌≡◌, ℕ, List, [], ◌∷◌, map, drop, Bool, Option, Some, None, unwrap_or, Result, Ok, Err}
+use Rattle.std.specs.Prelude.{◌≡◌, ℕ, List, [], ◌∷◌, drop, Bool, Option, Some, None, Result, Ok, Err}
 use Rattle.enc_base.specs.declared.token.Token.{Token}
 use Rattle.enc_kinds.specs.Elements.{CallShape}
-use Rattle.enc_kinds.specs.Members.{local_kinds, call_shape}
-use Rattle.enc_objects.specs.Objects.{Store}
-use Rattle.enc_objects.specs.Values.{default_of}
+use Rattle.enc_kinds.specs.Members.{call_shape}
 use Rattle.enc_objects.specs.declared.trap.Trap.{Trap}
 use Rattle.enc_objects.specs.declared.trap.Trap.TheVariants.{X2}
 use Rattle.enc_objects.specs.declared.value.Value.{Value}
@@ -12,15 +10,16 @@ use Rattle.enc_plain.specs.Debug.{PlainPdb}
 use Rattle.enc_plain.specs.Module.{Module}
 use Rattle.enc_versions.specs.StandFor.{AreVersionsOf}
 use Rattle.enc_versions.specs.Version.{Version}
-use Rattle.enc_vm.specs.Calls.{entering, value_given, enter, ask_object, chosen}
-use Rattle.enc_vm.specs.Machine.{World, Frame, Thread, Shared}
-use Rattle.enc_vm.specs.Results.{◌>>=◌, or_trap, Made, nothing_shown}
-use Rattle.enc_vm.specs.Straight.{moved_on}
-use Rattle.enc_vm.specs.Values.{pushed}
+use Rattle.enc_vm.specs.Calls.{entering, enter, ask_object, chosen}
+use Rattle.enc_frames.specs.Values.{value_given}
+use Rattle.enc_frames.specs.Machine.{World, Frame, Thread, Shared}
+use Rattle.enc_frames.specs.Results.{◌>>=◌, or_trap, Made, nothing_shown}
+use Rattle.enc_frames.specs.Straight.{moved_on}
 use Rattle.enc_vm.specs.declared.returns.FrameChange.{FrameChange}
 use Rattle.enc_vm.specs.declared.returns.FrameChange.TheVariants.{Stays, Entered, Left, LeftLast}
-use Rattle.enc_vm.specs.declared.stop.Stop.{Stop}
-use Rattle.enc_vm.specs.declared.stop.Stop.TheVariants as stop
+use Rattle.enc_frames.specs.declared.stop.Stop.{Stop}
+use Rattle.enc_frames.specs.declared.stop.Stop.TheVariants as stop
+use Rattle.enc_frames.specs.FramesSeen.{handed_in}
 
 -- newest bodies stand for a module and some PDB
 abbrev pub AreBodiesOf : (ℕ → Option (List ℕ)) → Module → List (Option Version) → Type 0

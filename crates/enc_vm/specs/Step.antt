@@ -3,9 +3,7 @@ use Rattle.std.specs.Prelude.{ℕ, zero, suc, ◌+◌, Bool, true, false, ◌&&�
 use Rattle.enc_base.specs.declared.token.Token.{Token}
 use Rattle.enc_kinds.specs.Elements.{takes_nothing}
 use Rattle.enc_kinds.specs.Members.{is_static_method, type_constructor, run_body}
-use Rattle.enc_kinds.specs.Types.{type_kind}
 use Rattle.enc_objects.specs.Instructions.{binary_in, unary_in}
-use Rattle.enc_objects.specs.Objects.{Store}
 use Rattle.enc_objects.specs.declared.kind.Kind.{Kind}
 use Rattle.enc_objects.specs.declared.trap.Trap.{Trap}
 use Rattle.enc_objects.specs.declared.trap.Trap.TheVariants.{X1, X2}
@@ -15,21 +13,19 @@ use Rattle.enc_plain.specs.Module.{Module, has_row, cells_of}
 use Rattle.enc_plain.specs.Rows.{bytes_at}
 use Rattle.enc_schema.specs.Columns as columns
 use Rattle.enc_schema.specs.Tables as tables
-use Rattle.enc_vm.specs.Acts.{bare_act, numbered_act, branch_act, token_act}
+use Rattle.enc_frames.specs.Acts.{bare_act, numbered_act, branch_act, token_act}
 use Rattle.enc_vm.specs.Calls.{touch, declaring, call, call_virtual, new_object, return_from, new_frame, with_touched, is_touched}
-use Rattle.enc_vm.specs.Console.{call_outside, new_outside}
-use Rattle.enc_vm.specs.Handlers.{leave_to, throw_object, end_finally, Flown, fly}
-use Rattle.enc_vm.specs.Machine.{World, Frame, Thread, Task, going, ended, trapped, Shared, MachineState}
-use Rattle.enc_vm.specs.Memory.{load_text, load_field_of, store_field_of, named_field, load_static, store_static, new_array_of_kind, array_length, load_element, store_element, cast_to, instance_or_null, Stored}
-use Rattle.enc_vm.specs.Results.{◌>>=◌, or_trap, Shown, nothing_shown, Made, made}
-use Rattle.enc_vm.specs.Straight.{Framed, moved_on, load, load_argument, load_local, store_argument, store_local, argument_kind, local_kind, duplicate, discard, branch_if, branch_by, switch_to, on_upper_two, on_top}
-use Rattle.enc_vm.specs.declared.handler.Flight.{Flight}
-use Rattle.enc_vm.specs.declared.act.Act.{Act}
-use Rattle.enc_vm.specs.declared.act.Act.TheVariants as act
-use Rattle.enc_vm.specs.declared.act.FrameAct.{FrameAct}
-use Rattle.enc_vm.specs.declared.act.FrameAct.TheVariants as frame
-use Rattle.enc_vm.specs.declared.act.ObjectAct.{ObjectAct}
-use Rattle.enc_vm.specs.declared.act.ObjectAct.TheVariants as object
+use Rattle.enc_frames.specs.Console.{call_outside, new_outside}
+use Rattle.enc_frames.specs.Handlers.{throw_object, end_finally, Flown, fly}
+use Rattle.enc_frames.specs.Machine.{World, Frame, Thread, Task, going, ended, trapped, Shared, MachineState}
+use Rattle.enc_frames.specs.Memory.{load_text, named_field, load_static, store_static, Stored}
+use Rattle.enc_frames.specs.Results.{◌>>=◌, or_trap, Shown, nothing_shown, Made, made}
+use Rattle.enc_frames.specs.Straight.{Framed, switch_to, on_upper_two, on_top}
+use Rattle.enc_frames.specs.declared.handler.Flight.{Flight}
+use Rattle.enc_frames.specs.declared.act.Act.{Act}
+use Rattle.enc_frames.specs.declared.act.Act.TheVariants as act
+use Rattle.enc_frames.specs.FrameActs.{frame_act, object_act}
+use Rattle.enc_frames.specs.Lines.{line_among}
 
 -- where the instruction behind a place of the list begins: at the code's end, where there is none
 abbrev pub begin_of : ℕ → List (ℕ × Instruction (List ℕ)) → ℕ

@@ -1,37 +1,31 @@
 //! New objects, whose constructors are entered (ECMA-335 III.4.21).
-ghost use Rattle.std.specs.Prelude.{◌≡◌, ◌∷◌, ◌<◌, ◌≤◌, drop, length, nat_lt, List, not, ◌&&◌, IsTrue, IfOk, OnOk, OnErr};
+ghost use Rattle.std.specs.Prelude.{◌≡◌, ◌∷◌, ◌<◌, ◌≤◌, length, List, not, ◌&&◌, IsTrue, IfOk, OnOk, OnErr};
 ghost use Rattle.enc_base.specs.declared.token.Token.{Token as TheToken};
 ghost use Rattle.enc_objects.specs.declared.value.Value.TheVariants.{Null};
 ghost use Rattle.enc_plain.specs.Module.{has_row, cells_of};
 ghost use Rattle.enc_plain.specs.ValueType.{is_value_type};
 ghost use Rattle.enc_schema.specs.Tables.{method_def};
-ghost use Rattle.enc_vm.specs.ArgumentsSeen.{GivesItems};
+ghost use Rattle.enc_frames.specs.ArgumentsSeen.{GivesItems};
 ghost use Rattle.enc_vm.specs.Calls.{construct, declaring, new_object, touch};
-ghost use Rattle.enc_vm.specs.CallsSeen.{AreBodiesOf, Makes, shared_by};
-ghost use Rattle.enc_vm.specs.ConstructSeen.{with_nearest, nearest_or, with_object_first, made_ready, let_go, held_begun, object_entered, with_null, frame_made, constructed_on};
-ghost use Rattle.enc_vm.specs.Does.{Does, GivesOrStops};
-ghost use Rattle.enc_vm.specs.Machine.{version_world};
-ghost use Rattle.enc_vm.specs.Straight.{moved_on};
+ghost use Rattle.enc_vm.specs.CallsSeen.{AreBodiesOf, Makes};
+ghost use Rattle.enc_frames.specs.FramesSeen.{shared_by};
+ghost use Rattle.enc_vm.specs.ConstructSeen.{made_ready, let_go, held_begun, object_entered, with_null, frame_made, constructed_on};
+ghost use Rattle.enc_frames.specs.Does.{Does, GivesOrStops};
+ghost use Rattle.enc_frames.specs.Machine.{version_world};
 ghost use Rattle.enc_vm.specs.TouchSeen.{first_on};
 
-use crate::arguments::{fitting, taken_kinds};
-use crate::callers::Callers;
 use crate::declaring::{FirstTouch, declaring, first_touch};
-use crate::enter::{MOST_FRAMES, code_now, new_frame};
-use crate::frame::Frame;
-use crate::places::named_method;
+use crate::enter::{MOST_FRAMES, code_now};
 use crate::returns::FrameChange;
-use crate::stack::Stack;
-use crate::stop::Stop;
 use crate::thread::Thread;
 use crate::touched::Touched;
 use enc_base::Token;
+use enc_frames::{Frame, Stack, Stop, fitting, named_method, new_frame, taken_kinds};
 use enc_kinds::MethodShape;
 use enc_objects::{Objects, Trap, Value};
 use enc_plain::{ModuleView, Viewed, is_value_type};
 use enc_versions::Versions;
 use std::alloc::{AllocError, Global};
-use std::mem;
 
 impl Thread {
     /// A frame stands ready below the innermost one, and null on that one's stack. Without memory nothing

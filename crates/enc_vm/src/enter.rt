@@ -1,30 +1,21 @@
 //! Frames at their method's first instruction (ECMA-335 I.12.3.2).
-ghost use Rattle.std.specs.Prelude.{◌≡◌, ◌∷◌, ◌<◌, [], drop, length, map, option_map, unwrap_or, IsTrue, IfOk, IfSome, OnOk, OnErr};
-ghost use Rattle.enc_kinds.specs.Members.{local_kinds};
-ghost use Rattle.enc_objects.specs.Values.{default_of};
+ghost use Rattle.std.specs.Prelude.{◌≡◌, ◌<◌, drop, option_map, IfSome};
 ghost use Rattle.enc_schema.specs.Tables.{method_def};
 ghost use Rattle.enc_vm.specs.Calls.{enter};
-ghost use Rattle.enc_vm.specs.CallsSeen.{AreBodiesOf, frame_at};
-ghost use Rattle.enc_vm.specs.Does.{Does};
-ghost use Rattle.enc_vm.specs.Machine.{version_world};
-ghost use Rattle.enc_vm.specs.Straight.{moved_on};
+ghost use Rattle.enc_vm.specs.CallsSeen.{AreBodiesOf};
+ghost use Rattle.enc_frames.specs.Does.{Does};
+ghost use Rattle.enc_frames.specs.Machine.{version_world};
+ghost use Rattle.enc_frames.specs.Straight.{moved_on};
 
-use crate::arguments::defaults;
-use crate::callers::Callers;
-use crate::cells::Cells;
-use crate::frame::Frame;
-use crate::handlers::RunningHandlers;
-use crate::stack::Stack;
-use crate::stop::Stop;
 use crate::thread::Thread;
 use enc_base::Token;
-use enc_kinds::{local_kinds, method_shape, runs_body};
+use enc_frames::{Stop, new_frame};
+use enc_kinds::{method_shape, runs_body};
 use enc_objects::{Trap, Value};
 use enc_plain::{ModuleView, is_row};
 use enc_schema::tables::METHOD_DEF;
 use enc_versions::{Code, Versions};
-use std::alloc::{AllocError, Global};
-use std::mem;
+use std::alloc::Global;
 use std::rc::Rc;
 
 /// As many frames as a task can have.

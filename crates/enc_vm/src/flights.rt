@@ -1,23 +1,19 @@
 //! Thrown objects on their way, and what runs on the way (ECMA-335 I.12.4.2).
-ghost use Rattle.std.specs.Prelude.{◌≡◌, ◌∷◌, [], ◌<◌, ◌^◌, length, Option, Some, None, option_map};
-ghost use Rattle.enc_vm.specs.Callers.{without_first};
-ghost use Rattle.enc_vm.specs.Does.{Does};
+ghost use Rattle.std.specs.Prelude.{◌≡◌, ◌<◌, Some, None};
+ghost use Rattle.enc_frames.specs.Callers.{without_first};
+ghost use Rattle.enc_frames.specs.Does.{Does};
 ghost use Rattle.enc_vm.specs.FlightsSeen.{FliesTo, Flies};
-ghost use Rattle.enc_vm.specs.declared.handler.Reason.TheVariants as TheReason;
-ghost use Rattle.enc_vm.specs.Handlers.{ending_handler, end_finally, resumed_by, is_taking, way_out, fly, flown, handled, taken_in, object_taken, left_on, leave_to};
-ghost use Rattle.enc_vm.specs.HandlersSeen.{own_clauses};
+ghost use Rattle.enc_frames.specs.declared.handler.Reason.TheVariants as TheReason;
+ghost use Rattle.enc_frames.specs.Handlers.{end_finally, resumed_by, is_taking, way_out, fly, flown, handled, object_taken, left_on};
+ghost use Rattle.enc_frames.specs.HandlersSeen.{own_clauses};
 ghost use Rattle.std.specs.Prelude.{Ok};
 
-use crate::frame::Frame;
-use crate::handler::{Flight, Reason, Running};
-use crate::handlers::{handler_range, is_within};
-use crate::stop::Stop;
 use crate::thread::Thread;
 use enc_base::Token;
-use enc_objects::{Trap, Value};
+use enc_frames::{Flight, Reason, Running, Stop};
+use enc_objects::Trap;
 use enc_unwind::{Stop as WayOut, next_handler};
 use std::alloc::Global;
-use std::mem;
 
 impl Thread {
     /// Whether the innermost frame takes the object of a flight.
@@ -47,7 +43,7 @@ impl Thread {
     }
 
     /// `endfinally` (ECMA-335 III.3.35).
-    #[tactic(auto, unfolding(crate::specs::Handlers::end_finally))]
+    #[tactic(auto, unfolding(enc_frames::specs::Handlers::end_finally))]
     pub(crate) fn end_finally(&mut self, alloc: Global) -> Result<(), Stop>
         ensures { Does result self.new self.old (end_finally (own_clauses self.old.top) self.old) }
     {
@@ -128,7 +124,7 @@ impl Thread {
 impl Thread {
     /// A step of a task whose object is on its way: the handler of the next clause begins, or the object is
     /// taken, or the innermost frame is left. Without memory nothing changes.
-    #[tactic(auto, unfolding(crate::specs::Handlers::fly))]
+    #[tactic(auto, unfolding(enc_frames::specs::Handlers::fly))]
     pub(crate) fn fly(&mut self, alloc: Global, flight: Flight) -> Result<FlightEnd, Stop>
         ensures { Flies result self.new self.old (fly (own_clauses self.old.top) self.old flight) }
     {

@@ -5,11 +5,11 @@ ghost use Rattle.enc_vm.specs.Looks.{FlightsLookAlike, FramesLookAlike, StatesLo
 ghost use Rattle.enc_vm.specs.Step.{task_at};
 
 use crate::ends::TaskState;
-use crate::frame_ref::FrameRef;
 use crate::machine::Machine;
 use crate::task::Task;
 use crate::thread::Thread;
 use enc_base::Token;
+use enc_frames::FrameRef;
 use enc_objects::Objects;
 
 impl Thread {

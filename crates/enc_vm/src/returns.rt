@@ -1,20 +1,15 @@
 //! Returns from methods (ECMA-335 III.3.57).
-ghost use Rattle.std.specs.Prelude.{◌≡◌, ℕ, List, Option};
+ghost use Rattle.std.specs.Prelude.{ℕ, List, Option};
 ghost use Rattle.enc_versions.specs.Version.{Version};
-ghost use Rattle.enc_vm.specs.Calls.{value_given, return_from as returned_from};
-ghost use Rattle.enc_vm.specs.CallsSeen.{handed_in, handed_first, Makes, left_with};
-ghost use Rattle.enc_vm.specs.Does.{Does};
-ghost use Rattle.enc_vm.specs.Machine.{Shared, version_world};
+ghost use Rattle.enc_vm.specs.Calls.{return_from as returned_from};
+ghost use Rattle.enc_vm.specs.CallsSeen.{Makes, left_with};
+ghost use Rattle.enc_frames.specs.Machine.{Shared, version_world};
 
-use crate::callers::Callers;
-use crate::frame::Frame;
-use crate::stack::Stack;
-use crate::stop::Stop;
 use crate::thread::Thread;
-use crate::values::fit;
 use enc_base::Token;
+use enc_frames::Stop;
 use enc_kinds::method_shape;
-use enc_objects::{Kind, Trap, Value};
+use enc_objects::{Trap, Value};
 use enc_plain::ModuleView;
 
 /// What an instruction made of a task's frames.

@@ -1,15 +1,13 @@
 //! Thrown objects (ECMA-335 III.4.31).
 ghost use Rattle.std.specs.Prelude.{◌≡◌, ℕ, List, Option};
 ghost use Rattle.enc_versions.specs.Version.{Version};
-ghost use Rattle.enc_vm.specs.Does.{Does};
-ghost use Rattle.enc_vm.specs.Handlers.{taker, thrown_of, throw_object};
-ghost use Rattle.enc_vm.specs.Machine.{version_world};
+ghost use Rattle.enc_frames.specs.Does.{Does};
+ghost use Rattle.enc_frames.specs.Handlers.{taker, thrown_of, throw_object};
+ghost use Rattle.enc_frames.specs.Machine.{version_world};
 ghost use Rattle.enc_vm.specs.ThrowSeen.{thrown_object};
 
-use crate::handler::Flight;
-use crate::stop::Stop;
 use crate::thread::Thread;
-use crate::values::reference;
+use enc_frames::{Flight, Stop, reference};
 use enc_objects::{Objects, Shape, Trap};
 use enc_plain::ModuleView;
 use enc_unwind::Thrown;

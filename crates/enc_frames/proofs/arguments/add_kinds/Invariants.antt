@@ -1,6 +1,6 @@
 use Rattle.std.proofs.Common.{◌≡◌, ◌++◌, length}
 use Rattle.enc_kinds.specs.Fronts.{all_kinds}
-use Rattle.enc_vm.proofs.arguments.add_kinds.Given as goal
+use Rattle.enc_frames.proofs.arguments.add_kinds.Given as goal
 
 -- what was added and what is left are all
 abbrev pub invariant-loop-next : goal.invariant-loop-next

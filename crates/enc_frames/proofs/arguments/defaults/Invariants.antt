@@ -1,7 +1,7 @@
 use Rattle.std.proofs.Common.{◌≡◌, ◌++◌, length, map}
 use Rattle.enc_kinds.specs.Fronts.{all_kinds}
 use Rattle.enc_objects.specs.Values.{default_of}
-use Rattle.enc_vm.proofs.arguments.defaults.Given as goal
+use Rattle.enc_frames.proofs.arguments.defaults.Given as goal
 
 -- the defaults so far and those of what is left are all
 abbrev pub invariant-loop-next : goal.invariant-loop-next

@@ -1,7 +1,7 @@
 use Rattle.std.proofs.Common.{◌≡◌, length}
-use Rattle.enc_vm.proofs.Fitted.{with_fitted}
-use Rattle.enc_vm.specs.Values.{fit_all}
-use Rattle.enc_vm.proofs.arguments.fit_all.Given as goal
+use Rattle.enc_frames.proofs.Fitted.{with_fitted}
+use Rattle.enc_frames.specs.Values.{fit_all}
+use Rattle.enc_frames.proofs.arguments.fit_all.Given as goal
 
 -- what was fitted and what comes of those behind are all
 abbrev pub invariant-loop-left : goal.invariant-loop-left

@@ -1,7 +1,7 @@
 use Rattle.std.proofs.Common.{◌≡◌, take}
 use Rattle.enc_unwind.specs.Search.{handlers_of}
-use Rattle.enc_vm.specs.Handlers.{pruned}
-use Rattle.enc_vm.proofs.handlers.kept.Given as goal
+use Rattle.enc_frames.specs.Handlers.{pruned}
+use Rattle.enc_frames.proofs.handlers.kept.Given as goal
 
 -- what was kept of the handlers so far
 abbrev pub invariant-loop-k : goal.invariant-loop-k

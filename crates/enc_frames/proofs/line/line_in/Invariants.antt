@@ -1,7 +1,7 @@
 use Rattle.std.proofs.Common.{◌≡◌, map, drop}
-use Rattle.enc_vm.proofs.Lines.{point_seen}
-use Rattle.enc_vm.specs.Step.{line_among}
-use Rattle.enc_vm.proofs.line.line_in.Given as goal
+use Rattle.enc_frames.proofs.Lines.{point_seen}
+use Rattle.enc_frames.specs.Lines.{line_among}
+use Rattle.enc_frames.proofs.line.line_in.Given as goal
 
 -- the points that are left decide
 abbrev pub invariant-loop-i : goal.invariant-loop-i

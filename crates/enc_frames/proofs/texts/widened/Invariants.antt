@@ -1,5 +1,5 @@
 use Rattle.std.proofs.Common.{◌≡◌, ◌++◌, length}
-use Rattle.enc_vm.proofs.texts.widened.Given as goal
+use Rattle.enc_frames.proofs.texts.widened.Given as goal
 
 -- the units so far, and the bytes that are left
 abbrev pub invariant-loop-rest : goal.invariant-loop-rest

@@ -1,6 +1,6 @@
 use Rattle.std.proofs.Common.{rules, ◌∷◌, ◌-◌, ◌∙◌, ap, reverse, List}
-use Rattle.enc_vm.proofs.Reversed.{changed_last}
-use Rattle.enc_vm.proofs.callers.Callers.enter.Goals as goal
+use Rattle.enc_frames.proofs.Reversed.{changed_last}
+use Rattle.enc_frames.proofs.callers.Callers.enter.Goals as goal
 
 -- src/callers.rt:47:5
 pub returns-clause-below : goal.returns-clause-below

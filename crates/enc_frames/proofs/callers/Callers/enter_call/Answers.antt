@@ -1,8 +1,8 @@
 use Rattle.std.proofs.Common.{rules, ◌∷◌, ◌-◌, ◌∙◌, ap, reverse, List}
 use Rattle.std.specs.Prelude.{drop}
-use Rattle.enc_vm.specs.Straight.{moved_on}
-use Rattle.enc_vm.proofs.Reversed.{changed_last}
-use Rattle.enc_vm.proofs.callers.Callers.enter_call.Goals as goal
+use Rattle.enc_frames.specs.Straight.{moved_on}
+use Rattle.enc_frames.proofs.Reversed.{changed_last}
+use Rattle.enc_frames.proofs.callers.Callers.enter_call.Goals as goal
 
 -- src/enter.rt
 pub returns-clause-below : goal.returns-clause-below

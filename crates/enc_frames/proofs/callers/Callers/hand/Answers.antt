@@ -1,10 +1,10 @@
 use Rattle.std.proofs.Common.{rules, ◌-◌, reverse, List, slice_set, subst}
 use Rattle.enc_versions.specs.Version.{Version}
-use Rattle.enc_vm.proofs.Handed.{first_does}
-use Rattle.enc_vm.specs.CallsSeen.{handed_first}
-use Rattle.enc_vm.specs.Does.{Does}
-use Rattle.enc_vm.specs.Machine.{Frame}
-use Rattle.enc_vm.proofs.callers.Callers.hand.Goals as goal
+use Rattle.enc_frames.proofs.Nearest.{first_does}
+use Rattle.enc_frames.specs.FramesSeen.{handed_first}
+use Rattle.enc_frames.specs.Does.{Does}
+use Rattle.enc_frames.specs.Machine.{Frame}
+use Rattle.enc_frames.proofs.callers.Callers.hand.Goals as goal
 
 pub returns : goal.returns
 returns c =

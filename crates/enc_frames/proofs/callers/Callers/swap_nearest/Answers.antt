@@ -1,9 +1,9 @@
 use Rattle.std.proofs.Common.{rules, ◌∙◌, ap, arith, reverse, List}
-use Rattle.enc_vm.proofs.Constructed.{swapped}
-use Rattle.enc_vm.specs.ConstructSeen.{with_nearest}
-use Rattle.enc_vm.specs.Machine.{Frame}
+use Rattle.enc_frames.proofs.Nearest.{swapped}
+use Rattle.enc_frames.specs.FramesSeen.{with_nearest}
+use Rattle.enc_frames.specs.Machine.{Frame}
 use Rattle.enc_versions.specs.Version.{Version}
-use Rattle.enc_vm.proofs.callers.Callers.swap_nearest.Goals as goal
+use Rattle.enc_frames.proofs.callers.Callers.swap_nearest.Goals as goal
 
 pub returns-clause-below : goal.returns-clause-below
 returns-clause-below c =

@@ -1,12 +1,12 @@
 use Rattle.std.proofs.Common.{◌∙◌, ◌-◌, ℕ, sym, ap, arith, reverse, take}
 use Rattle.enc_opcodes.specs.Body.{body_of}
 use Rattle.enc_unwind.specs.Search.{catch_among}
-use Rattle.enc_vm.proofs.Takers.{outer_step, taken_there, ended_there, goes_on, none_left}
-use Rattle.enc_vm.specs.Handlers.{outer_taker}
-use Rattle.enc_vm.specs.HandlersSeen.{own_clauses}
-use Rattle.enc_vm.specs.Machine.{Frame, version_world}
+use Rattle.enc_frames.proofs.Takers.{outer_step, taken_there, ended_there, goes_on, none_left}
+use Rattle.enc_frames.specs.Handlers.{outer_taker}
+use Rattle.enc_frames.specs.HandlersSeen.{own_clauses}
+use Rattle.enc_frames.specs.Machine.{Frame, version_world}
 use Rattle.enc_versions.specs.Version.{Version}
-use Rattle.enc_vm.proofs.callers.Callers.taker.Goals as goal
+use Rattle.enc_frames.proofs.callers.Callers.taker.Goals as goal
 
 -- src/catching.rt:46:17
 pub returns-in-Some : goal.returns-in-Some

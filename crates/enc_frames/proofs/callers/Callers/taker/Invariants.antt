@@ -1,9 +1,9 @@
 use Rattle.std.proofs.Common.{◌≡◌, ℕ, ◌≤◌, List, length, take, reverse}
 use Rattle.std.specs.Prelude.{Option}
 use Rattle.enc_versions.specs.Version.{Version}
-use Rattle.enc_vm.specs.Handlers.{outer_taker}
-use Rattle.enc_vm.specs.Machine.{version_world}
-use Rattle.enc_vm.proofs.callers.Callers.taker.Given as goal
+use Rattle.enc_frames.specs.Handlers.{outer_taker}
+use Rattle.enc_frames.specs.Machine.{version_world}
+use Rattle.enc_frames.proofs.callers.Callers.taker.Given as goal
 
 -- what is left decides, since no frame before took the object or ended the search
 abbrev pub invariant-loop-left : goal.invariant-loop-left

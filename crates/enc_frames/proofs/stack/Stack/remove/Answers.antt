@@ -1,6 +1,6 @@
 use Rattle.std.proofs.Common.{rules}
-use Rattle.enc_vm.proofs.Reversed.{front_seen}
-use Rattle.enc_vm.proofs.stack.Stack.remove.Goals as goal
+use Rattle.enc_frames.proofs.Reversed.{front_seen}
+use Rattle.enc_frames.proofs.stack.Stack.remove.Goals as goal
 
 -- src/stack.rt:101:5
 pub returns-else-n-len : goal.returns-else-n-len

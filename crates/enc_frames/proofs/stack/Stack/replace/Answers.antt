@@ -1,7 +1,7 @@
 use Rattle.std.proofs.Common.{rules, ◌∷◌, ◌∙◌, ap, arith, drop, length, reverse, List}
 use Rattle.std.proofs.lemmas.List.{length-reverse}
-use Rattle.enc_vm.proofs.Reversed.{replaced}
-use Rattle.enc_vm.proofs.stack.Stack.replace.Goals as goal
+use Rattle.enc_frames.proofs.Reversed.{replaced}
+use Rattle.enc_frames.proofs.stack.Stack.replace.Goals as goal
 
 -- src/stack.rt:113:5
 pub returns : goal.returns

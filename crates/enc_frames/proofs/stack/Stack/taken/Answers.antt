@@ -1,7 +1,7 @@
 use Rattle.std.proofs.Common.{rules, ◌∙◌, ap, arith, reverse}
-use Rattle.enc_vm.proofs.Fitted.{taken_is}
-use Rattle.enc_vm.specs.Calls.{arguments}
-use Rattle.enc_vm.proofs.stack.Stack.taken.Goals as goal
+use Rattle.enc_frames.proofs.Fitted.{taken_is}
+use Rattle.enc_frames.specs.Values.{arguments}
+use Rattle.enc_frames.proofs.stack.Stack.taken.Goals as goal
 
 -- src/stack.rt:94:5
 pub returns : goal.returns
