@@ -1,7 +1,7 @@
 -- A command that makes one event, with its own line first.
 use Rattle.std.proofs.Common.{◌≡◌, ℕ, Bool, List, [], ◌++◌, Ok, refl, sym, ap, ◌∙◌, append_assoc}
 use Rattle.enc_base.specs.declared.token.Token.{Token}
-use Rattle.enc_vm.specs.Machine.{PlainCode, MachineState}
+use Rattle.enc_frames.specs.Machine.{PlainCode, MachineState}
 use Rattle.enc_vm.specs.Step.{Spawning}
 use Rattle.enc_vm.specs.Turns.{IsSpawn}
 use Rattle.enc_vm.specs.declared.ends.SpawnEnd.{SpawnEnd}

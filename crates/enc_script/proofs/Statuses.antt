@@ -2,9 +2,9 @@
 use Rattle.std.proofs.Common.{◌≡◌, ◌≢◌, ℕ, zero, suc, Bool, List, ◌++◌, Option, Some, None, option_map, refl, ap, ◌∙◌, append_assoc}
 use Rattle.std.specs.Prelude.{codes}
 use Rattle.enc_vm.specs.Looks.{state_of, state_in}
-use Rattle.enc_vm.specs.Machine.{World, Task, going, ended, trapped, MachineState}
+use Rattle.enc_frames.specs.Machine.{World, Task, going, ended, trapped, MachineState}
 use Rattle.enc_vm.specs.Step.{Ending, step_task, task_at}
-use Rattle.enc_vm.specs.Results.{Shown}
+use Rattle.enc_frames.specs.Results.{Shown}
 use Rattle.enc_vm.specs.Turns.{MachineTurn, absent, idle, went, turn_by, machine_turn}
 use Rattle.enc_vm.specs.declared.ends.TaskState.{TaskState}
 use Rattle.enc_vm.specs.declared.ends.TaskState.TheVariants as state

@@ -1,7 +1,7 @@
 -- Steps of a task, one behind the other.
 use Rattle.std.proofs.Common.{◌≡◌, ℕ, suc, ◌+◌, ◌-◌, ◌<◌, ◌≤◌, ◌⊎◌, inl, inr, Bool, List, [], ◌++◌, refl, sym, ap, ◌∙◌, append_assoc, append-nil, arith}
 use Rattle.enc_objects.specs.declared.trap.Trap.{Trap}
-use Rattle.enc_vm.specs.Machine.{PlainCode}
+use Rattle.enc_frames.specs.Machine.{PlainCode}
 use Rattle.enc_vm.specs.Step.{ran, done, stopped}
 use Rattle.enc_vm.specs.Turns.{MachineTurn, absent, idle, went, machine_turn}
 use Rattle.enc_vm.specs.declared.ends.StepEnd.{StepEnd}

@@ -6,7 +6,7 @@ use Rattle.enc_checker.specs.Followed.{Followed, is_of_pdb}
 use Rattle.enc_jobs.specs.declared.command.Command.{Command}
 use Rattle.enc_jobs.specs.declared.command.Command.TheVariants.{Spawn, Step, Apply, Attach, Detach, State}
 use Rattle.enc_text.specs.Text.{refused_line}
-use Rattle.enc_vm.specs.Machine.{PlainCode, at_rest}
+use Rattle.enc_frames.specs.Machine.{PlainCode, at_rest}
 use Rattle.enc_vm.specs.Step.{ran, done, stopped, spawn_in}
 use Rattle.enc_vm.specs.Turns.{MachineTurn, absent, idle, went, machine_turn}
 use Rattle.enc_watch.specs.Audience.{Watching, Seat, attached, first_of_kind, without_kind, seat_at, without, seat_report, reports}

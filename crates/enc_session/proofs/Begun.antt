@@ -4,7 +4,7 @@ use Rattle.std.proofs.lemmas.List.{length-reverse}
 use Rattle.std.specs.Prelude.{nat_le, unwrap_or, if◌then◌else◌}
 use Rattle.enc_base.specs.declared.token.Token.{Token}
 use Rattle.enc_vm.specs.Looks.{frames_of, frames_in, frame_in}
-use Rattle.enc_vm.specs.Machine.{World, Frame, Task, going, MachineState}
+use Rattle.enc_frames.specs.Machine.{World, Frame, Task, going, MachineState}
 use Rattle.enc_vm.specs.Step.{most_tasks, task_at, first_thread, frame_now, with_task, may_spawn, begun, too_many, no_method, spawned_with, spawn_in}
 use Rattle.enc_session.proofs.Looked.{frame_is}
 use Rattle.enc_session.specs.Seen.{entered_if}

@@ -25,7 +25,7 @@ use Rattle.enc_versions.specs.Laws.{CommitStands}
 use Rattle.enc_opcodes.specs.Body.{KeepsTexts}
 use Rattle.enc_versions.specs.StandFor.{AreVersionsOf}
 use Rattle.enc_versions.specs.Version.{Version}
-use Rattle.enc_vm.specs.Machine.{PlainCode, MachineState, state_meant}
+use Rattle.enc_frames.specs.Machine.{PlainCode, MachineState, state_meant}
 use Rattle.enc_vm.specs.Texts.{machine_texts}
 use Rattle.enc_session.specs.Codes.{new_versions, meant_by, AcceptedBodiesAreNew, AcceptedRowsAreChanged}
 use Rattle.enc_session.specs.Engine.{PlainEngine, AreParts, IsEngine, IsAcceptedAfter, SayTheSame, followed_in, machine_in}

@@ -7,10 +7,10 @@ use Rattle.std.proofs.lemmas.Option.{slice_get-map}
 use Rattle.enc_objects.specs.declared.trap.Trap.{Trap}
 use Rattle.enc_versions.specs.Version.{Version}
 use Rattle.enc_vm.specs.Looks.{frames_of, frame_from, frames_in, frame_in, innermost_of, innermost_in, object_on_its_way, flight_in, state_of, state_in}
-use Rattle.enc_vm.specs.Machine.{PlainCode, Frame, Task, going, ended, trapped, MachineState, frame_meant, task_meant, state_meant}
+use Rattle.enc_frames.specs.Machine.{PlainCode, Frame, Task, going, ended, trapped, MachineState, frame_meant, task_meant, state_meant}
 use Rattle.enc_vm.specs.Step.{task_at}
 use Rattle.enc_vm.specs.declared.ends.TaskState.TheVariants as state
-use Rattle.enc_vm.specs.declared.handler.Flight.{Flight}
+use Rattle.enc_frames.specs.declared.handler.Flight.{Flight}
 use Rattle.enc_session.proofs.Numbered.{each_more}
 use Rattle.enc_session.specs.Lines.{task_line}
 use Rattle.enc_session.specs.Session.{innermost_method}

@@ -5,7 +5,7 @@ use Rattle.enc_objects.specs.Objects.{Store, object_at, has_object}
 use Rattle.enc_objects.specs.declared.object.Object.{Object}
 use Rattle.enc_session.specs.States.{object_line, objects_text, task_text, tasks_text}
 use Rattle.enc_session.specs.StatesSeen.{object_line_at, task_text_at}
-use Rattle.enc_vm.specs.Machine.{Task, MachineState}
+use Rattle.enc_frames.specs.Machine.{Task, MachineState}
 use Rattle.enc_vm.specs.Step.{task_at}
 
 -- without numbers

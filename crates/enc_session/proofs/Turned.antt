@@ -8,8 +8,8 @@ use Rattle.enc_plain.specs.Sound.{IsSound}
 use Rattle.enc_versions.specs.StandFor.{AreVersionsOf}
 use Rattle.enc_versions.specs.Version.{Version}
 use Rattle.enc_vm.specs.Laws.{stepped_meant, StepsMean}
-use Rattle.enc_vm.specs.Machine.{PlainCode, Task, MachineState, plain_world, version_world, task_meant, state_meant}
-use Rattle.enc_vm.specs.Results.{Shown}
+use Rattle.enc_frames.specs.Machine.{PlainCode, Task, MachineState, plain_world, version_world, task_meant, state_meant}
+use Rattle.enc_frames.specs.Results.{Shown}
 use Rattle.enc_vm.specs.Room.{WritesAtMost}
 use Rattle.enc_vm.specs.Step.{Ending, ran, done, stopped, Stepped, step_task, task_at, Spawning, begun, too_many, no_method, spawn_in}
 use Rattle.enc_vm.specs.Turns.{MachineTurn, absent, idle, went, turn_by, machine_turn, shown_in, IsTurn, IsSpawn, KeepsSeen}

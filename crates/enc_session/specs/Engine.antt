@@ -15,7 +15,7 @@ use Rattle.enc_rows.specs.Source.{Source}
 use Rattle.enc_versions.specs.Commit.{last_row}
 use Rattle.enc_versions.specs.StandFor.{AreVersionsOf}
 use Rattle.enc_versions.specs.Version.{Version}
-use Rattle.enc_vm.specs.Machine.{PlainCode, MachineState, state_meant}
+use Rattle.enc_frames.specs.Machine.{PlainCode, MachineState, state_meant}
 use Rattle.enc_vm.specs.Texts.{machine_texts}
 use Rattle.enc_session.specs.Codes.{new_versions}
 use Rattle.enc_session.specs.declared.parts.Parts.{Parts}

@@ -4,7 +4,7 @@ use Rattle.enc_objects.specs.declared.trap.Trap.{Trap}
 use Rattle.enc_text.specs.Text.{quoted}
 use Rattle.enc_text.specs.BodyText.{label, utf8_of}
 use Rattle.enc_watch.specs.Watched.{trap_code_text}
-use Rattle.enc_vm.specs.Machine.{Frame}
+use Rattle.enc_frames.specs.Machine.{Frame}
 use Rattle.enc_vm.specs.Step.{Ending, ran, done, stopped}
 
 -- a line of a task: its number, and what is said of it

@@ -1,6 +1,6 @@
 -- For the contracts of private functions: how a step ended, and which frames were entered.
 use Rattle.std.specs.Prelude.{ℕ, List, [], ◌∷◌, Option, Some, None}
-use Rattle.enc_vm.specs.Machine.{Frame}
+use Rattle.enc_frames.specs.Machine.{Frame}
 use Rattle.enc_vm.specs.Step.{Ending, ran, done, stopped}
 use Rattle.enc_vm.specs.declared.ends.StepEnd.{StepEnd}
 use Rattle.enc_vm.specs.declared.ends.StepEnd.TheVariants as end

@@ -8,8 +8,8 @@ use Rattle.enc_checker.specs.declared.judging.Files.{Files}
 use Rattle.enc_checker.specs.Followed.{Followed, followed_by, plain_of, debug_after}
 use Rattle.enc_delta.specs.Delta.{delta_of}
 use Rattle.enc_vm.specs.Looks.{frames_in, innermost_in}
-use Rattle.enc_vm.specs.Machine.{World, PlainCode, Frame, MachineState, plain_world}
-use Rattle.enc_vm.specs.Results.{Shown}
+use Rattle.enc_frames.specs.Machine.{World, PlainCode, Frame, MachineState, plain_world}
+use Rattle.enc_frames.specs.Results.{Shown}
 use Rattle.enc_vm.specs.Step.{Ending, ran, done, stopped, Spawning, begun, too_many, no_method, spawn_in}
 use Rattle.enc_vm.specs.Turns.{MachineTurn, absent, idle, went, machine_turn}
 use Rattle.enc_vm.specs.declared.ends.StepEnd.{StepEnd}

@@ -12,9 +12,9 @@ use Rattle.enc_objects.specs.declared.value.Value.{Value}
 use Rattle.enc_objects.specs.declared.value.Value.TheVariants.{I4, I8, Null, Obj}
 use Rattle.enc_text.specs.Text.{token_text, quoted}
 use Rattle.enc_text.specs.BodyText.{label, utf8_of}
-use Rattle.enc_vm.specs.Machine.{Frame, Task, going, ended, trapped, MachineState}
+use Rattle.enc_frames.specs.Machine.{Frame, Task, going, ended, trapped, MachineState}
 use Rattle.enc_vm.specs.Looks.{frames_of}
-use Rattle.enc_vm.specs.declared.handler.Flight.{Flight}
+use Rattle.enc_frames.specs.declared.handler.Flight.{Flight}
 use Rattle.enc_session.specs.Lines.{task_line}
 
 -- a value: 5, 5L, null, #3

@@ -3,7 +3,7 @@ use Rattle.std.specs.Prelude.{ℕ, List, [], option_map, unwrap_or}
 use Rattle.enc_objects.specs.Objects.{Store, object_at}
 use Rattle.enc_objects.specs.declared.object.Object.{Object}
 use Rattle.enc_vm.specs.Looks.{frame_in}
-use Rattle.enc_vm.specs.Machine.{Task, MachineState}
+use Rattle.enc_frames.specs.Machine.{Task, MachineState}
 use Rattle.enc_vm.specs.Step.{task_at}
 use Rattle.enc_session.specs.Lines.{task_line}
 use Rattle.enc_session.specs.States.{content_text, frame_line, object_line, standing_text, task_text}

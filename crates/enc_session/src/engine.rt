@@ -4,7 +4,7 @@ ghost use Rattle.enc_agg.specs.Extend.{chain_with};
 ghost use Rattle.enc_checker.specs.Followed.{followed_by};
 ghost use Rattle.enc_checker.specs.Check.{accepted};
 ghost use Rattle.enc_vm.specs.Looks.{frame_in, innermost_in, state_in};
-ghost use Rattle.enc_vm.specs.Machine.{at_rest};
+ghost use Rattle.enc_frames.specs.Machine.{at_rest};
 ghost use Rattle.enc_vm.specs.Room.{WritesAtMost};
 ghost use Rattle.enc_vm.specs.Step.{spawn_in};
 ghost use Rattle.enc_vm.specs.Turns.{IsSpawn, IsTurn, KeepsSeen, machine_turn};

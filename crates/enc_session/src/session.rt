@@ -1,7 +1,7 @@
 //! A session: tasks over a base, deltas between their steps, and the watchers that hear of all.
 ghost use Rattle.std.specs.Prelude.{◌≡◌, ◌+◌, ◌*◌, ◌<◌, ◌≤◌, ◌^◌, ◌++◌, [], IfOk, IfErr, OnOk, OnErr, length, option_map, unwrap_or, vec_len, vec_capacity};
 ghost use Rattle.enc_vm.specs.Looks.{state_in};
-ghost use Rattle.enc_vm.specs.Machine.{at_rest};
+ghost use Rattle.enc_frames.specs.Machine.{at_rest};
 ghost use Rattle.enc_vm.specs.Step.{spawn_in};
 ghost use Rattle.enc_vm.specs.Turns.{IsSpawn, machine_turn, shown_in};
 ghost use Rattle.enc_watch.specs.Audience.{Seat, attached, fault_room, reports, seat_at, without};

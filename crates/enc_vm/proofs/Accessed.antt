@@ -11,12 +11,12 @@ use Rattle.enc_opcodes.specs.Body.{body_of}
 use Rattle.enc_plain.specs.Module.{Module}
 use Rattle.enc_schema.specs.Tables as tables
 use Rattle.enc_versions.specs.Version.{Version}
-use Rattle.enc_vm.specs.Machine.{Thread, Shared, version_world}
-use Rattle.enc_vm.specs.Memory.{named_field}
-use Rattle.enc_vm.specs.Results.{or_trap}
+use Rattle.enc_frames.specs.Machine.{Thread, Shared, version_world}
+use Rattle.enc_frames.specs.Memory.{named_field}
+use Rattle.enc_frames.specs.Results.{or_trap}
 use Rattle.enc_vm.specs.StaticsSeen.{accessed_by}
 use Rattle.enc_vm.specs.Step.{act_on}
-use Rattle.enc_vm.specs.declared.act.Act.TheVariants as act
+use Rattle.enc_frames.specs.declared.act.Act.TheVariants as act
 use Rattle.enc_vm.specs.declared.statics.StaticAccess.TheVariants.{Load, Store}
 
 -- ldsfld

@@ -10,15 +10,15 @@ use Rattle.enc_opcodes.specs.Instruction.{Argument, nothing, number, target, tar
 use Rattle.enc_opcodes.specs.Sound.{begins_at, argument_is_sound, instruction_is_sound}
 use Rattle.enc_opcodes.specs.declared.op.Operand.{Operand}
 use Rattle.enc_vm.proofs.Placed.{AfterSome, either_way, or_left, or_right, begins_place, end_place, parts_of}
-use Rattle.enc_vm.specs.Acts.{is_from, loaded_kind, stored_kind, bare_act, numbered_act, test_at, branch_act, token_act}
+use Rattle.enc_frames.specs.Acts.{is_from, loaded_kind, stored_kind, bare_act, numbered_act, test_at, branch_act, token_act}
 use Rattle.enc_vm.specs.Placed.{is_place_in, IsSoundCode}
 use Rattle.enc_vm.specs.Step.{begin_of, instruction_among}
-use Rattle.enc_vm.specs.declared.act.Act.{Act}
-use Rattle.enc_vm.specs.declared.act.Act.TheVariants as act
-use Rattle.enc_vm.specs.declared.act.FrameAct.{FrameAct}
-use Rattle.enc_vm.specs.declared.act.FrameAct.TheVariants as frame
-use Rattle.enc_vm.specs.declared.act.ObjectAct.TheVariants as object
-use Rattle.enc_vm.specs.declared.act.Test.{Test}
+use Rattle.enc_frames.specs.declared.act.Act.{Act}
+use Rattle.enc_frames.specs.declared.act.Act.TheVariants as act
+use Rattle.enc_frames.specs.declared.act.FrameAct.{FrameAct}
+use Rattle.enc_frames.specs.declared.act.FrameAct.TheVariants as frame
+use Rattle.enc_frames.specs.declared.act.ObjectAct.TheVariants as object
+use Rattle.enc_frames.specs.declared.act.Test.{Test}
 
 -- where an instruction goes is a place
 abbrev pub IsFrameActPlaced : Body → FrameAct → Type 0

@@ -16,16 +16,16 @@ use Rattle.enc_plain.specs.Module.{Module, cells_of}
 use Rattle.enc_plain.specs.Rows.{token_at}
 use Rattle.enc_schema.specs.Columns as columns
 use Rattle.enc_versions.specs.Version.{Version}
-use Rattle.enc_vm.specs.CallsSeen.{shared_by}
-use Rattle.enc_vm.specs.Console.{text, or_empty, put_text, unit_at, run_constructor, run_outside, call_outside, is_outside_constructor, new_outside}
-use Rattle.enc_vm.specs.ConsoleSeen.{frame_alone, MakesWriting}
-use Rattle.enc_vm.specs.Machine.{version_world, Frame, Thread}
-use Rattle.enc_vm.specs.Memory.{new_in}
-use Rattle.enc_vm.specs.Results.{◌>>=◌, or_trap, ask, Made, with_top}
-use Rattle.enc_vm.specs.Straight.{load}
-use Rattle.enc_vm.specs.Values.{upper, upper_two, upper_three, reference, word_of_value}
-use Rattle.enc_vm.specs.declared.stop.Stop.{Stop}
-use Rattle.enc_vm.specs.declared.stop.Stop.TheVariants as stop
+use Rattle.enc_frames.specs.FramesSeen.{shared_by}
+use Rattle.enc_frames.specs.Console.{text, or_empty, put_text, unit_at, run_constructor, run_outside, call_outside, is_outside_constructor, new_outside}
+use Rattle.enc_frames.specs.ConsoleSeen.{frame_alone, MakesWriting}
+use Rattle.enc_frames.specs.Machine.{version_world, Frame, Thread}
+use Rattle.enc_frames.specs.Memory.{new_in}
+use Rattle.enc_frames.specs.Results.{◌>>=◌, or_trap, ask, Made, with_top}
+use Rattle.enc_frames.specs.Straight.{load}
+use Rattle.enc_frames.specs.Values.{upper, upper_two, upper_three, reference, word_of_value}
+use Rattle.enc_frames.specs.declared.stop.Stop.{Stop}
+use Rattle.enc_frames.specs.declared.stop.Stop.TheVariants as stop
 
 -- what was made of the frame alone, in a task
 abbrev placed : {C : Type 0} → List Token → Thread C → Made C → Made C

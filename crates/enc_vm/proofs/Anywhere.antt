@@ -10,11 +10,11 @@ use Rattle.enc_opcodes.specs.declared.op.Operand.TheVariants as operand
 use Rattle.enc_plain.specs.Module.{Module}
 use Rattle.enc_versions.specs.Version.{Version}
 use Rattle.enc_vm.specs.Anywhere.{ArePlacedAnywhere}
-use Rattle.enc_vm.specs.Machine.{Frame, Task, going, ended, trapped, version_world}
+use Rattle.enc_frames.specs.Machine.{Frame, Task, going, ended, trapped, version_world}
 use Rattle.enc_vm.specs.Placed.{is_place_in, leads_to_place, lead_to_places, IsFramePlaced, AreFramesPlaced, IsTaskPlaced, AreTasksPlaced}
-use Rattle.enc_vm.specs.declared.handler.Reason.{Reason}
-use Rattle.enc_vm.specs.declared.handler.Reason.TheVariants as reason
-use Rattle.enc_vm.specs.declared.handler.Running.{Running}
+use Rattle.enc_frames.specs.declared.handler.Reason.{Reason}
+use Rattle.enc_frames.specs.declared.handler.Reason.TheVariants as reason
+use Rattle.enc_frames.specs.declared.handler.Running.{Running}
 
 count_same : (u v : ℕ → Option (List ℕ)) (a : Argument ℕ) → target_count (told u a) ≡ target_count (told v a)
 count_same u v nothing = refl

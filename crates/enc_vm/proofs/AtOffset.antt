@@ -19,13 +19,13 @@ use Rattle.enc_opcodes.specs.declared.code.Instr.{Instr}
 use Rattle.enc_opcodes.specs.Sound.{begins_at, instruction_size, are_whole, body_is_sound}
 use Rattle.enc_plain.specs.Module.{Module}
 use Rattle.enc_versions.specs.Version.{Version}
-use Rattle.enc_vm.specs.Machine.{Thread, Shared, version_world}
+use Rattle.enc_frames.specs.Machine.{Thread, Shared, version_world}
 use Rattle.enc_vm.specs.Placed.{is_place_in, IsSoundCode, IsFramePlaced}
 use Rattle.enc_vm.specs.EffectsSeen.{Performs}
-use Rattle.enc_vm.specs.Results.{◌>>=◌, or_trap, Made}
+use Rattle.enc_frames.specs.Results.{◌>>=◌, or_trap, Made}
 use Rattle.enc_vm.specs.Step.{begin_of, instruction_among, advance, perform}
 use Rattle.enc_vm.specs.declared.effect.Effect.{Effect}
-use Rattle.enc_vm.specs.declared.stop.Stop.{Stop}
+use Rattle.enc_frames.specs.declared.stop.Stop.{Stop}
 
 -- an instruction with its user text
 abbrev pub told_one : (ℕ → Option (List ℕ)) → Instruction ℕ × ℕ → Instruction (List ℕ) × ℕ

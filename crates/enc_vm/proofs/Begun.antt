@@ -6,8 +6,8 @@ use Rattle.enc_base.specs.declared.token.Token.{Token}
 use Rattle.enc_plain.specs.Module.{Module}
 use Rattle.enc_versions.specs.Version.{Version}
 use Rattle.enc_vm.specs.Calls.{declaring, with_type}
-use Rattle.enc_vm.specs.CallsSeen.{shared_by}
-use Rattle.enc_vm.specs.Machine.{Frame, Thread, going, MachineState, version_world}
+use Rattle.enc_frames.specs.FramesSeen.{shared_by}
+use Rattle.enc_frames.specs.Machine.{Frame, Thread, going, MachineState, version_world}
 use Rattle.enc_vm.specs.Step.{begun, too_many, no_method, may_spawn, frame_now, constructor_frame, first_thread, spawned_with, most_tasks, spawn_in, with_task}
 
 spawn_by : (users : ℕ → Option (List ℕ)) (m : Module) (methods : List (Option Version)) (method : Token) (s : MachineState Version) (full may : Bool) (o : Option (Frame Version))

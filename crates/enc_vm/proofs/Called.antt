@@ -1,8 +1,8 @@
 -- Calls, by their arguments.
-use Rattle.std.proofs.Common.{◌≡◌, ℕ, zero, suc, Bool, true, false, List, [], ◌∷◌, length, Option, Some, None, Result, Ok, Err, refl, sym, ap, ◌∙◌}
-use Rattle.std.specs.Prelude.{◌&&◌, ◌==◌, option_map, option_and_then, reverse, if◌then◌else◌}
+use Rattle.std.proofs.Common.{◌≡◌, ℕ, Bool, true, false, List, length, Option, Some, None, Result, Ok, Err, refl, sym, ap}
+use Rattle.std.specs.Prelude.{◌==◌, option_map, option_and_then, reverse, if◌then◌else◌}
 use Rattle.enc_base.specs.declared.token.Token.{Token}
-use Rattle.enc_dispatch.specs.Path.{class_base, climb, before_class}
+use Rattle.enc_dispatch.specs.Path.{before_class}
 use Rattle.enc_dispatch.specs.Target.{walk_down, class_target, from_interface, first_given, interface_target, is_interface, target_by, target_of}
 use Rattle.enc_kinds.specs.Elements.{CallShape}
 use Rattle.enc_objects.specs.declared.trap.Trap.{Trap}
@@ -10,13 +10,15 @@ use Rattle.enc_plain.specs.Module.{Module, has_row, owner_of}
 use Rattle.enc_plain.specs.Sound.{row_count}
 use Rattle.enc_schema.specs.Tables as tables
 use Rattle.enc_versions.specs.Version.{Version}
-use Rattle.enc_vm.specs.ArgumentsSeen.{fitting}
-use Rattle.enc_vm.specs.Calls.{arguments, call_with}
+use Rattle.enc_frames.specs.ArgumentsSeen.{fitting}
+use Rattle.enc_frames.specs.Values.{arguments}
+use Rattle.enc_vm.specs.Calls.{call_with}
 use Rattle.enc_vm.specs.CallsSeen.{called_on}
-use Rattle.enc_vm.specs.Machine.{Thread, Shared, version_world}
-use Rattle.enc_vm.specs.Results.{◌>>=◌}
-use Rattle.enc_vm.specs.Straight.{argument_kinds}
-use Rattle.enc_vm.specs.Values.{fit_all}
+use Rattle.enc_frames.specs.Machine.{Thread, Shared, version_world}
+use Rattle.enc_frames.specs.Results.{◌>>=◌}
+use Rattle.enc_frames.specs.Straight.{argument_kinds}
+use Rattle.enc_frames.specs.Values.{fit_all}
+use Rattle.enc_frames.proofs.Climbs.{no_climb}
 
 pub in_turn : {A B D : Type 0} (r : Result A Trap) (f : A → Result B Trap) (g : B → Result D Trap) → ((r >>= f) >>= g) ≡ (r >>= λ x. (f x >>= g))
 in_turn (Ok x) f g = refl
@@ -32,17 +34,6 @@ unfolding call_with version_world
 call_with_is users m methods asks virtual next method shape t s =
     sym (in_turn (arguments (length (argument_kinds shape)) t.top.stack) (λ taken. fit_all (argument_kinds shape) taken)
     (λ args. called_on (version_world users m methods) m asks virtual next (length (argument_kinds shape)) method args t s))
-
-by_both : {A : Type 0} (b : Bool) (x : List A) → (if b && false then x else []) ≡ []
-by_both true x = refl
-by_both false x = refl
-
-pub no_climb : (m : Module) (n : ℕ) (class : Token) → has_row m class ≡ false → climb m n class ≡ []
-unfolding climb
-no_climb m zero class h = refl
-no_climb m (suc n) class h =
-    ap (λ (b : Bool). if class.table == tables.type_def && b then class ∷ climb m n (class_base m class) else []) h
-    ∙ by_both (class.table == tables.type_def) (class ∷ climb m n (class_base m class))
 
 no_class_target : (m : Module) (class declaring declared : Token) → has_row m class ≡ false → class_target m class declaring declared ≡ None
 unfolding class_target before_class

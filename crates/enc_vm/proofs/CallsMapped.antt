@@ -14,12 +14,14 @@ use Rattle.enc_plain.specs.Module.{cells_of}
 use Rattle.enc_plain.specs.ValueType.{is_value_type}
 use Rattle.enc_vm.proofs.FramesMapped.{pushed_same}
 use Rattle.enc_vm.proofs.Mapped.{frame_by, thread_by, made_with_codes, result_by, before, after, along, via, trap_by, either}
-use Rattle.enc_vm.specs.Calls.{most_frames, new_frame, enter, with_touched, is_touched, touch_first, touch, touch_if, declaring, arguments, named_method, named_virtually, call_touches, ask_object, chosen, call_with, call, call_virtual, construct, new_object, value_given, handed, left_to, return_from}
-use Rattle.enc_vm.specs.Machine.{World, Frame, Thread, Shared}
-use Rattle.enc_vm.specs.Memory.{new_in}
-use Rattle.enc_vm.specs.Results.{or_trap, ask, Made}
-use Rattle.enc_vm.specs.Straight.{moved_on, argument_kinds}
-use Rattle.enc_vm.specs.Values.{fit_all, pushed}
+use Rattle.enc_vm.specs.Calls.{most_frames, new_frame, enter, with_touched, is_touched, touch_first, touch, touch_if, declaring, named_virtually, call_touches, ask_object, chosen, call_with, call, call_virtual, construct, new_object, handed, left_to, return_from}
+use Rattle.enc_frames.specs.Values.{arguments, value_given}
+use Rattle.enc_frames.specs.Straight.{named_method}
+use Rattle.enc_frames.specs.Machine.{World, Frame, Thread, Shared}
+use Rattle.enc_frames.specs.Memory.{new_in}
+use Rattle.enc_frames.specs.Results.{or_trap, ask, Made}
+use Rattle.enc_frames.specs.Straight.{moved_on, argument_kinds}
+use Rattle.enc_frames.specs.Values.{fit_all, pushed}
 
 -- a frame at its method's first instruction
 pub new_frame_same : {C D : Type 0} (h : C → D) (u : World D) (now : Token → Option C) (method : Token) (code : C) (args : List Value)

@@ -13,13 +13,15 @@ use Rattle.enc_plain.specs.Module.{cells_of}
 use Rattle.enc_plain.specs.ValueType.{is_value_type}
 use Rattle.enc_vm.proofs.FramesPlaced.{pushed_placed}
 use Rattle.enc_vm.proofs.Placed.{AfterOk, AfterSome, through, after_that, or_trapped, either_way, here, zero_place}
-use Rattle.enc_vm.specs.Calls.{most_frames, new_frame, enter, with_touched, is_touched, touch_first, touch, touch_if, declaring, arguments, named_method, named_virtually, call_touches, ask_object, chosen, call_with, call, call_virtual, construct, new_object, value_given, handed, left_to, return_from}
-use Rattle.enc_vm.specs.Machine.{World, Frame, Thread, Shared}
-use Rattle.enc_vm.specs.Memory.{new_in}
+use Rattle.enc_vm.specs.Calls.{most_frames, new_frame, enter, with_touched, is_touched, touch_first, touch, touch_if, declaring, named_virtually, call_touches, ask_object, chosen, call_with, call, call_virtual, construct, new_object, handed, left_to, return_from}
+use Rattle.enc_frames.specs.Values.{arguments, value_given}
+use Rattle.enc_frames.specs.Straight.{named_method}
+use Rattle.enc_frames.specs.Machine.{World, Frame, Thread, Shared}
+use Rattle.enc_frames.specs.Memory.{new_in}
 use Rattle.enc_vm.specs.Placed.{is_place_in, IsSoundCode, IsFramePlaced, AreFramesPlaced, IsThreadPlaced}
-use Rattle.enc_vm.specs.Results.{or_trap, ask, Made}
-use Rattle.enc_vm.specs.Straight.{moved_on, argument_kinds}
-use Rattle.enc_vm.specs.Values.{fit_all, pushed}
+use Rattle.enc_frames.specs.Results.{or_trap, ask, Made}
+use Rattle.enc_frames.specs.Straight.{moved_on, argument_kinds}
+use Rattle.enc_frames.specs.Values.{fit_all, pushed}
 
 -- the frames that a step makes are placed
 abbrev pub IsMadePlaced : {C : Type 0} → World C → Made C → Type 0

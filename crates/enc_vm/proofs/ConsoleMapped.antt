@@ -13,12 +13,12 @@ use Rattle.enc_plain.specs.Rows.{token_at}
 use Rattle.enc_schema.specs.Columns as columns
 use Rattle.enc_vm.proofs.FramesMapped.{load_same}
 use Rattle.enc_vm.proofs.Mapped.{frame_by, thread_by, made_with_codes, result_by, before, after, along, via}
-use Rattle.enc_vm.specs.Console.{text, or_empty, put_text, unit_at, run_constructor, run_outside, call_outside, is_outside_constructor, new_outside}
-use Rattle.enc_vm.specs.Machine.{World, Thread, Shared}
-use Rattle.enc_vm.specs.Memory.{new_in}
-use Rattle.enc_vm.specs.Results.{or_trap, ask}
-use Rattle.enc_vm.specs.Straight.{load}
-use Rattle.enc_vm.specs.Values.{upper, upper_two, upper_three, reference, word_of_value}
+use Rattle.enc_frames.specs.Console.{text, or_empty, put_text, unit_at, run_constructor, run_outside, call_outside, is_outside_constructor, new_outside}
+use Rattle.enc_frames.specs.Machine.{World, Thread, Shared}
+use Rattle.enc_frames.specs.Memory.{new_in}
+use Rattle.enc_frames.specs.Results.{or_trap, ask}
+use Rattle.enc_frames.specs.Straight.{load}
+use Rattle.enc_frames.specs.Values.{upper, upper_two, upper_three, reference, word_of_value}
 use Rattle.std.specs.Prelude.{drop, ◌++◌}
 
 put_text_same : {C D : Type 0} (h : C → D) (next : ℕ) (units : List ℕ) (rest : List Value) (s : Shared) (t : Thread C)

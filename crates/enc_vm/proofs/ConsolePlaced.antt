@@ -14,13 +14,13 @@ use Rattle.enc_schema.specs.Columns as columns
 use Rattle.enc_vm.proofs.CallsPlaced.{IsMadePlaced}
 use Rattle.enc_vm.proofs.FramesPlaced.{load_placed}
 use Rattle.enc_vm.proofs.Placed.{AfterOk, through, after_that, here}
-use Rattle.enc_vm.specs.Console.{text, or_empty, put_text, unit_at, run_constructor, run_outside, call_outside, is_outside_constructor, new_outside}
-use Rattle.enc_vm.specs.Machine.{World, Thread, Shared}
-use Rattle.enc_vm.specs.Memory.{new_in}
+use Rattle.enc_frames.specs.Console.{text, or_empty, put_text, unit_at, run_constructor, run_outside, call_outside, is_outside_constructor, new_outside}
+use Rattle.enc_frames.specs.Machine.{World, Thread, Shared}
+use Rattle.enc_frames.specs.Memory.{new_in}
 use Rattle.enc_vm.specs.Placed.{is_place_in, IsFramePlaced, IsThreadPlaced}
-use Rattle.enc_vm.specs.Results.{or_trap, ask}
-use Rattle.enc_vm.specs.Straight.{load}
-use Rattle.enc_vm.specs.Values.{upper, upper_two, upper_three, reference, word_of_value}
+use Rattle.enc_frames.specs.Results.{or_trap, ask}
+use Rattle.enc_frames.specs.Straight.{load}
+use Rattle.enc_frames.specs.Values.{upper, upper_two, upper_three, reference, word_of_value}
 
 -- the frames with the innermost at the next instruction
 with_next : {C : Type 0} (w : World C) (t : Thread C) (next : ℕ) (stack : List Value) → IsThreadPlaced w t → is_place_in (w.body t.top.code) next ≡ true

@@ -1,6 +1,6 @@
 -- Frames of constructors that stand ready below the innermost frame.
-use Rattle.std.proofs.Common.{◌≡◌, ℕ, suc, ◌+◌, ◌-◌, ◌<◌, ◌≤◌, Bool, true, false, List, [], ◌∷◌, length, take, drop, reverse, Option, Some, None, Result, Ok, Err, refl, sym, ap, ◌∙◌, arith}
-use Rattle.std.specs.Prelude.{slice_set, get_or, nat_le, nat_lt, not, ◌&&◌, if◌then◌else◌}
+use Rattle.std.proofs.Common.{◌≡◌, ℕ, suc, ◌+◌, ◌≤◌, Bool, true, false, List, ◌∷◌, length, take, drop, reverse, Option, Some, None, Result, Ok, Err, refl, sym, ap, ◌∙◌, arith}
+use Rattle.std.specs.Prelude.{nat_le, nat_lt, not, ◌&&◌, if◌then◌else◌}
 use Rattle.std.proofs.lemmas.Bool.Decides.{nat_tests}
 use Rattle.enc_base.specs.declared.token.Token.{Token}
 use Rattle.enc_kinds.specs.Elements.{CallShape}
@@ -16,37 +16,21 @@ use Rattle.enc_plain.specs.Module.{Module, cells_of}
 use Rattle.enc_plain.specs.ValueType.{is_value_type}
 use Rattle.enc_versions.specs.Version.{Version}
 use Rattle.enc_vm.proofs.Called.{in_turn}
-use Rattle.enc_vm.proofs.Handed.{nearest}
-use Rattle.enc_vm.proofs.Reversed.{last_set}
-use Rattle.enc_vm.specs.ArgumentsSeen.{fitting}
-use Rattle.enc_vm.specs.Calls.{arguments, construct, declaring, entering, most_frames, named_method, new_frame, new_object, touch}
-use Rattle.enc_vm.specs.CallsSeen.{frame_at}
-use Rattle.enc_vm.specs.ConstructSeen.{with_nearest, nearest_or, with_object_first, object_entered, with_null, entered_by, constructed_on}
-use Rattle.enc_vm.specs.Machine.{World, Frame, Thread, Shared, version_world}
-use Rattle.enc_vm.specs.Memory.{new_in}
-use Rattle.enc_vm.specs.Results.{◌>>=◌, or_trap, ask, Made}
-use Rattle.enc_vm.specs.Straight.{moved_on}
-use Rattle.enc_vm.specs.Values.{fit_all, pushed}
+use Rattle.enc_frames.specs.ArgumentsSeen.{fitting}
+use Rattle.enc_frames.specs.Values.{arguments}
+use Rattle.enc_vm.specs.Calls.{construct, declaring, entering, most_frames, new_frame, new_object, touch}
+use Rattle.enc_frames.specs.Straight.{named_method}
+use Rattle.enc_frames.specs.FramesSeen.{frame_at}
+use Rattle.enc_frames.specs.FramesSeen.{with_object_first}
+use Rattle.enc_vm.specs.ConstructSeen.{object_entered, with_null, entered_by, constructed_on}
+use Rattle.enc_frames.specs.Machine.{World, Frame, Thread, Shared, version_world}
+use Rattle.enc_frames.specs.Memory.{new_in}
+use Rattle.enc_frames.specs.Results.{◌>>=◌, or_trap, ask, Made}
+use Rattle.enc_frames.specs.Straight.{moved_on}
+use Rattle.enc_frames.specs.Values.{fit_all, pushed}
 
 pub drop_more : {A : Type 0} (n : ℕ) (x : A) (xs : List A) → drop (n + 1) (x ∷ xs) ≡ drop n xs
 drop_more n x xs = let on : n + 1 ≡ suc n = omega arith in ap (λ (k : ℕ). drop k (x ∷ xs)) on
-
--- the last of a list, seen from its end, is the first
-pub swapped : {A : Type 0} (items : List A) (n : ℕ) (y d : A) → 0 < n → n ≡ length items → reverse (slice_set items (n - 1) y) ≡ with_nearest y (reverse items)
-swapped items n y d some e = last_set items n y some e ∙ ap (with_nearest y) (sym (nearest items n d some e))
-
-pub taken_out : {A : Type 0} (items : List A) (n : ℕ) (y d : A) → 0 < n → n ≡ length items → get_or items (n - 1) d ≡ nearest_or y (reverse items)
-taken_out items n y d some e = ap (nearest_or y) (sym (nearest items n d some e))
-
-empty : {A : Type 0} (items : List A) → length items ≡ 0 → items ≡ []
-empty [] e = refl
-empty (x ∷ rest) e = absurd (omega (arith, e))
-
-pub none_below : {A : Type 0} (items : List A) (y : A) → length items ≡ 0 → reverse items ≡ with_nearest y (reverse items)
-none_below items y e = ap reverse (empty items e) ∙ ap (λ (l : List _). with_nearest y (reverse l)) (sym (empty items e))
-
-pub none_first : {A : Type 0} (items : List A) (y : A) → length items ≡ 0 → y ≡ nearest_or y (reverse items)
-none_first items y e = ap (λ (l : List _). nearest_or y (reverse l)) (sym (empty items e))
 
 by_count : {A B : Type 0} (b : Bool) (n k : ℕ) (x : A) (f : A → Result B Trap) (l : B) → nat_le n k ≡ b → ((if b then Ok x else Err X3) >>= f) ≡ Ok l → n ≤ k
 by_count true n k x f l is e = grind (arith, nat_tests, is)

@@ -14,9 +14,10 @@ use Rattle.enc_plain.specs.Module.{Module, Row, has_row, row_of, cell_of}
 use Rattle.enc_schema.specs.Tables.{method_def}
 use Rattle.enc_versions.specs.Version.{Version, newest_of, version_at}
 use Rattle.enc_vm.specs.Calls.{new_frame, enter, most_frames}
-use Rattle.enc_vm.specs.CallsSeen.{AreBodiesOf, frame_at}
-use Rattle.enc_vm.specs.Machine.{World, Frame, Thread, version_world}
-use Rattle.enc_vm.specs.Results.{◌>>=◌, or_trap, ask}
+use Rattle.enc_vm.specs.CallsSeen.{AreBodiesOf}
+use Rattle.enc_frames.specs.FramesSeen.{frame_at}
+use Rattle.enc_frames.specs.Machine.{World, Frame, Thread, version_world}
+use Rattle.enc_frames.specs.Results.{◌>>=◌, or_trap, ask}
 
 -- a frame at its method's first instruction
 pub frame_is : (users : ℕ → Option (List ℕ)) (m : Module) (methods : List (Option Version)) (method : Token) (v : Version) (args : List Value)

@@ -3,8 +3,8 @@ use Rattle.std.proofs.Common.{◌≡◌, None, sym, ap, ◌∙◌}
 use Rattle.enc_versions.specs.Version.{Version}
 use Rattle.enc_vm.specs.EffectsSeen.{effect_made, effect_of_flight}
 use Rattle.enc_vm.specs.FlightsSeen.{FliesTo}
-use Rattle.enc_vm.specs.Handlers.{Flown}
-use Rattle.enc_vm.specs.Machine.{Thread, Shared}
+use Rattle.enc_frames.specs.Handlers.{Flown}
+use Rattle.enc_frames.specs.Machine.{Thread, Shared}
 use Rattle.enc_vm.specs.Step.{Stepped, flight_made, stepped}
 use Rattle.enc_vm.specs.declared.effect.Effect.{Effect}
 use Rattle.enc_vm.specs.declared.flights.FlightEnd.{FlightEnd}

@@ -7,11 +7,11 @@ use Rattle.enc_objects.specs.declared.trap.Trap.TheVariants.{X2}
 use Rattle.enc_objects.specs.declared.value.Value.{Value}
 use Rattle.enc_opcodes.specs.declared.op.Op.{Op}
 use Rattle.enc_vm.proofs.Mapped.{frame_by, result_by, along, either}
-use Rattle.enc_vm.specs.Machine.{Frame}
-use Rattle.enc_vm.specs.Results.{or_trap}
-use Rattle.enc_vm.specs.Straight.{moved_on, load, load_argument, load_local, store_argument, store_local, duplicate, discard, branch_if, branch_by, switch_to, on_upper_two, on_top}
-use Rattle.enc_vm.specs.Values.{fit, upper, upper_two, pushed, word_of_value, tested}
-use Rattle.enc_vm.specs.declared.act.Test.{Test}
+use Rattle.enc_frames.specs.Machine.{Frame}
+use Rattle.enc_frames.specs.Results.{or_trap}
+use Rattle.enc_frames.specs.Straight.{moved_on, load, load_argument, load_local, store_argument, store_local, duplicate, discard, branch_if, branch_by, switch_to, on_upper_two, on_top}
+use Rattle.enc_frames.specs.Values.{fit, upper, upper_two, pushed, word_of_value, tested}
+use Rattle.enc_frames.specs.declared.act.Test.{Test}
 
 pub pushed_same : {C D : Type 0} (h : C → D) (max : ℕ) (v : Value) (f : Frame C) → pushed max v (frame_by h f) ≡ result_by (frame_by h) (pushed max v f)
 pushed_same h max v f = either (result_by (frame_by h)) (nat_lt (length f.stack) max) _ _ _ _ refl refl

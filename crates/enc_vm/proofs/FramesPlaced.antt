@@ -10,12 +10,12 @@ use Rattle.enc_objects.specs.declared.value.Value.{Value}
 use Rattle.enc_opcodes.specs.Body.{Body}
 use Rattle.enc_opcodes.specs.declared.op.Op.{Op}
 use Rattle.enc_vm.proofs.Placed.{AfterOk, through, either_way, here}
-use Rattle.enc_vm.specs.Machine.{World, Frame}
+use Rattle.enc_frames.specs.Machine.{World, Frame}
 use Rattle.enc_vm.specs.Placed.{is_place_in, IsFramePlaced}
-use Rattle.enc_vm.specs.Results.{or_trap}
-use Rattle.enc_vm.specs.Straight.{moved_on, load, load_argument, load_local, store_argument, store_local, duplicate, discard, branch_if, branch_by, switch_to, on_upper_two, on_top}
-use Rattle.enc_vm.specs.Values.{fit, upper, upper_two, pushed, word_of_value, is_set, tested}
-use Rattle.enc_vm.specs.declared.act.Test.{Test}
+use Rattle.enc_frames.specs.Results.{or_trap}
+use Rattle.enc_frames.specs.Straight.{moved_on, load, load_argument, load_local, store_argument, store_local, duplicate, discard, branch_if, branch_by, switch_to, on_upper_two, on_top}
+use Rattle.enc_frames.specs.Values.{fit, upper, upper_two, pushed, word_of_value, is_set, tested}
+use Rattle.enc_frames.specs.declared.act.Test.{Test}
 
 pub pushed_placed : {C : Type 0} (w : World C) (max : ℕ) (v : Value) (f : Frame C) → IsFramePlaced w f → AfterOk (IsFramePlaced w) (pushed max v f)
 pushed_placed w max v f p = either_way (AfterOk (IsFramePlaced w)) (nat_lt (length f.stack) max) _ _ (here w f _ _ _ _ _ p p.at) tt

@@ -1,7 +1,5 @@
 -- Values that are handed to the nearest frame.
-use Rattle.std.proofs.Common.{◌≡◌, ℕ, ◌-◌, ◌<◌, List, [], ◌∷◌, length, take, reverse, Option, Some, None, Result, Ok, Err, refl, sym, ap, ◌∙◌, arith}
-use Rattle.std.specs.Prelude.{slice_set, get_or}
-use Rattle.std.proofs.lemmas.List.{take_all}
+use Rattle.std.proofs.Common.{◌≡◌, ℕ, List, [], ◌∷◌, Option, Some, None, Result, Ok, Err, refl, ap, ◌∙◌}
 use Rattle.enc_base.specs.declared.token.Token.{Token}
 use Rattle.enc_kinds.specs.Elements.{CallShape}
 use Rattle.enc_kinds.specs.Members.{call_shape}
@@ -11,14 +9,12 @@ use Rattle.enc_objects.specs.declared.value.Value.{Value}
 use Rattle.enc_opcodes.specs.Body.{body_of}
 use Rattle.enc_plain.specs.Module.{Module}
 use Rattle.enc_versions.specs.Version.{Version}
-use Rattle.enc_vm.proofs.Reversed.{front_more, last_set}
-use Rattle.enc_vm.specs.Calls.{left_to, value_given, return_from}
-use Rattle.enc_vm.specs.CallsSeen.{handed_in, handed_first, left_with, returned}
-use Rattle.enc_vm.specs.Does.{Does}
-use Rattle.enc_vm.specs.Machine.{Frame, Thread, Shared, version_world}
-use Rattle.enc_vm.specs.Results.{◌>>=◌, or_trap}
-use Rattle.enc_vm.specs.declared.stop.Stop.{Stop}
-use Rattle.enc_vm.specs.declared.stop.Stop.TheVariants as stop
+use Rattle.enc_vm.specs.Calls.{left_to, return_from}
+use Rattle.enc_frames.specs.Values.{value_given}
+use Rattle.enc_vm.specs.CallsSeen.{left_with, returned}
+use Rattle.enc_frames.specs.Machine.{Frame, Thread, Shared, version_world}
+use Rattle.enc_frames.specs.Results.{◌>>=◌, or_trap}
+use Rattle.enc_frames.proofs.Nearest.{nearest}
 
 -- leaving a frame in the program's own world
 pub left_is : (users : ℕ → Option (List ℕ)) (m : Module) (methods : List (Option Version)) (s : Shared) (method : Token) (value : Option Value) (below : List (Frame Version))
@@ -51,44 +47,3 @@ return_is users m methods s t =
     ap (λ (p : Module). or_trap X2 (call_shape p t.top.method) >>= λ (shape : CallShape).
     value_given shape.gives t.top.stack >>= λ value. left_to (version_world users m methods) s t.top.method value t.below) (world_is users m methods)
     ∙ shape_left users m methods s t (or_trap X2 (call_shape m t.top.method))
-
-pub nearest : {A : Type 0} (xs : List A) (n : ℕ) (d : A) → 0 < n → n ≡ length xs → reverse xs ≡ get_or xs (n - 1) d ∷ reverse (take (n - 1) xs)
-nearest xs n d some e = ap reverse (sym (take_all n xs (omega (arith, e)))) ∙ front_more xs n d some (omega (arith, e))
-
--- none is there
-pub none_there : (value : Option Value) (items : List (Frame Version)) → length items ≡ 0 → handed_first value (reverse items) ≡ Ok (reverse items)
-none_there value [] e = refl
-none_there value (f ∷ rest) e = absurd (omega (arith, e))
-
--- the nearest takes the value
-pub first_set : (value : Option Value) (items : List (Frame Version)) (n : ℕ) (f g d : Frame Version) → 0 < n → n ≡ length items → f ≡ get_or items (n - 1) d
-    → handed_in value f ≡ Ok g → handed_first value (reverse items) ≡ Ok (reverse (slice_set items (n - 1) g))
-first_set value items n f g d some e at h =
-    ap (handed_first value) (nearest items n d some e)
-    ∙ ap (λ (x : Frame Version). handed_in value x >>= λ y. Ok (y ∷ reverse (take (n - 1) items))) (sym at)
-    ∙ ap (λ (r : Result (Frame Version) Trap). r >>= λ y. Ok (y ∷ reverse (take (n - 1) items))) h
-    ∙ ap (λ (l : List (Frame Version)). Ok l) (sym (last_set items n g some e))
-
--- or can't
-pub first_trap : (value : Option Value) (items : List (Frame Version)) (n : ℕ) (f d : Frame Version) (t : Trap) → 0 < n → n ≡ length items → f ≡ get_or items (n - 1) d
-    → handed_in value f ≡ Err t → handed_first value (reverse items) ≡ Err t
-first_trap value items n f d t some e at h =
-    ap (handed_first value) (nearest items n d some e)
-    ∙ ap (λ (x : Frame Version). handed_in value x >>= λ y. Ok (y ∷ reverse (take (n - 1) items))) (sym at)
-    ∙ ap (λ (r : Result (Frame Version) Trap). r >>= λ y. Ok (y ∷ reverse (take (n - 1) items))) h
-
--- and then all stays
-pub first_kept : (items : List (Frame Version)) (n : ℕ) (f g d : Frame Version) → 0 < n → n ≡ length items → f ≡ get_or items (n - 1) d → g ≡ f
-    → reverse (slice_set items (n - 1) g) ≡ reverse items
-first_kept items n f g d some e at same =
-    last_set items n g some e
-    ∙ ap (λ (x : Frame Version). x ∷ reverse (take (n - 1) items)) (same ∙ at)
-    ∙ sym (nearest items n d some e)
-
--- what comes of it
-pub first_does : {U : Type 0} (result : Result U Stop) (value : Option Value) (items : List (Frame Version)) (n : ℕ) (f g d : Frame Version)
-    → 0 < n → n ≡ length items → f ≡ get_or items (n - 1) d → Does result g f (handed_in value f)
-    → Does result (reverse (slice_set items (n - 1) g)) (reverse items) (handed_first value (reverse items))
-first_does (Ok u) value items n f g d some e at h = first_set value items n f g d some e at h
-first_does (Err (stop.Trap trap)) value items n f g d some e at h = (first_trap value items n f d trap some e at h.0, first_kept items n f g d some e at h.1)
-first_does (Err stop.Memory) value items n f g d some e at h = first_kept items n f g d some e at h

@@ -10,15 +10,15 @@ use Rattle.enc_unwind.specs.Search.{next_among}
 use Rattle.enc_unwind.specs.declared.stop.Stop.TheVariants as stop
 use Rattle.enc_unwind.specs.declared.thrown.Thrown.{Thrown}
 use Rattle.enc_vm.proofs.Mapped.{frame_by, thread_by, flown_with_codes, result_by, before, after, along, either}
-use Rattle.enc_vm.specs.Handlers.{gone_to, start, left_by, leave_to, thrown_of, ends_search, caught_by, outer_taker, taker, throw_object, ending_handler, resumed_by, end_finally, is_taking, way_out, handled, object_taken, left_on, flown, fly}
-use Rattle.enc_vm.specs.Machine.{World, Frame, Thread}
-use Rattle.enc_vm.specs.Memory.{not_null}
-use Rattle.enc_vm.specs.Results.{or_trap}
-use Rattle.enc_vm.specs.Values.{upper, reference}
-use Rattle.enc_vm.specs.declared.handler.Flight.{Flight}
-use Rattle.enc_vm.specs.declared.handler.Reason.{Reason}
-use Rattle.enc_vm.specs.declared.handler.Reason.TheVariants as reason
-use Rattle.enc_vm.specs.declared.handler.Running.{Running}
+use Rattle.enc_frames.specs.Handlers.{gone_to, start, left_by, leave_to, thrown_of, ends_search, caught_by, outer_taker, taker, throw_object, ending_handler, resumed_by, end_finally, is_taking, way_out, handled, object_taken, left_on, flown, fly}
+use Rattle.enc_frames.specs.Machine.{World, Frame, Thread}
+use Rattle.enc_frames.specs.Memory.{not_null}
+use Rattle.enc_frames.specs.Results.{or_trap}
+use Rattle.enc_frames.specs.Values.{upper, reference}
+use Rattle.enc_frames.specs.declared.handler.Flight.{Flight}
+use Rattle.enc_frames.specs.declared.handler.Reason.{Reason}
+use Rattle.enc_frames.specs.declared.handler.Reason.TheVariants as reason
+use Rattle.enc_frames.specs.declared.handler.Running.{Running}
 
 start_same : {C D : Type 0} (h : C → D) (clauses : List Handler) (clause origin : ℕ) (why : Reason) (f : Frame C)
     → start clauses clause origin why (frame_by h f) ≡ frame_by h (start clauses clause origin why f)

@@ -7,16 +7,16 @@ use Rattle.enc_opcodes.specs.Body.{Body}
 use Rattle.enc_unwind.specs.Search.{is_in_range, next_among}
 use Rattle.enc_unwind.specs.declared.stop.Stop.TheVariants as stop
 use Rattle.enc_vm.proofs.Placed.{AfterOk, AfterSome, through, after_that, or_trapped, either_way, handler_place, fewer_hold}
-use Rattle.enc_vm.specs.Handlers.{handler_range, pruned, gone_to, start, left_by, leave_to, thrown_of, taker, throw_object, ending_handler, resumed_by, end_finally, is_taking, way_out, Flown, object_taken, left_on, flown, fly}
-use Rattle.enc_vm.specs.Machine.{World, Frame, Thread}
-use Rattle.enc_vm.specs.Memory.{not_null}
+use Rattle.enc_frames.specs.Handlers.{handler_range, pruned, gone_to, start, left_by, leave_to, thrown_of, taker, throw_object, ending_handler, resumed_by, end_finally, is_taking, way_out, Flown, object_taken, left_on, flown, fly}
+use Rattle.enc_frames.specs.Machine.{World, Frame, Thread}
+use Rattle.enc_frames.specs.Memory.{not_null}
 use Rattle.enc_vm.specs.Placed.{is_place_in, leads_to_place, lead_to_places, IsFramePlaced, AreFramesPlaced, IsThreadPlaced}
-use Rattle.enc_vm.specs.Results.{or_trap}
-use Rattle.enc_vm.specs.Values.{upper, reference}
-use Rattle.enc_vm.specs.declared.handler.Flight.{Flight}
-use Rattle.enc_vm.specs.declared.handler.Reason.{Reason}
-use Rattle.enc_vm.specs.declared.handler.Reason.TheVariants as reason
-use Rattle.enc_vm.specs.declared.handler.Running.{Running}
+use Rattle.enc_frames.specs.Results.{or_trap}
+use Rattle.enc_frames.specs.Values.{upper, reference}
+use Rattle.enc_frames.specs.declared.handler.Flight.{Flight}
+use Rattle.enc_frames.specs.declared.handler.Reason.{Reason}
+use Rattle.enc_frames.specs.declared.handler.Reason.TheVariants as reason
+use Rattle.enc_frames.specs.declared.handler.Running.{Running}
 
 -- fewer handlers run
 pruned_lead : (b : Body) (offset : ℕ) (running : List Running) → lead_to_places b running ≡ true → lead_to_places b (pruned b.handlers offset running) ≡ true

@@ -1,6 +1,3 @@
-pub mod Reversed
-pub mod Takers
-pub mod Fitted
 pub mod Entered
 pub mod Handed
 pub mod Marked
@@ -8,8 +5,6 @@ pub mod Declared
 pub mod Called
 pub mod TouchedOn
 pub mod AtOffset
-pub mod CastTypes
-pub mod Lines
 pub mod FlightTurns
 pub mod Spawned
 pub mod Anywhere
@@ -34,8 +29,6 @@ pub mod SoundNow
 pub mod StaysPlaced
 pub mod PlacesKept
 pub mod Thrown
-pub mod Reached
-pub mod Signs
 pub mod Alone
 pub mod Constructed
 pub mod Accessed

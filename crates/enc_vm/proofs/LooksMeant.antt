@@ -4,7 +4,7 @@ use Rattle.std.proofs.lemmas.List.{reverse-append}
 use Rattle.enc_versions.specs.Version.{Version}
 use Rattle.enc_vm.proofs.StepsMeant.{nth_by, tasks_mean}
 use Rattle.enc_vm.specs.Looks.{frames_of, frame_from, FramesLookAlike}
-use Rattle.enc_vm.specs.Machine.{PlainCode, Frame, Task, going, ended, trapped, frame_meant, task_meant}
+use Rattle.enc_frames.specs.Machine.{PlainCode, Frame, Task, going, ended, trapped, frame_meant, task_meant}
 use Rattle.enc_vm.specs.Step.{task_at}
 
 map_ends : {A B : Type 0} (g : A → B) (xs : List A) (x : A) → map g (xs ++ x ∷ []) ≡ map g xs ++ g x ∷ []

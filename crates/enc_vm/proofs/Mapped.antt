@@ -4,9 +4,9 @@ use Rattle.std.specs.Prelude.{option_map, if◌then◌else◌}
 use Rattle.enc_base.specs.declared.token.Token.{Token}
 use Rattle.enc_objects.specs.Objects.{Store}
 use Rattle.enc_objects.specs.declared.trap.Trap.{Trap}
-use Rattle.enc_vm.specs.Handlers.{Flown}
-use Rattle.enc_vm.specs.Machine.{World, Frame, Thread, Task, going, ended, trapped, MachineState}
-use Rattle.enc_vm.specs.Results.{◌>>=◌, or_trap, Made}
+use Rattle.enc_frames.specs.Handlers.{Flown}
+use Rattle.enc_frames.specs.Machine.{World, Frame, Thread, Task, going, ended, trapped, MachineState}
+use Rattle.enc_frames.specs.Results.{◌>>=◌, or_trap, Made}
 use Rattle.enc_vm.specs.Step.{Stepped, Spawning, begun, too_many, no_method}
 
 -- a result with another value

@@ -17,7 +17,7 @@ use Rattle.enc_schema.specs.declared.column.Column.{Column}
 use Rattle.enc_schema.specs.declared.column.Column.TheVariants.{Num8, Num16, Num32, Text, Guid, Blob, Index, Coded, Run}
 use Rattle.enc_versions.specs.StandFor.{MethodLines, lines_read, lines_known, AreVersionsOf}
 use Rattle.enc_versions.specs.Version.{Version, newest_of}
-use Rattle.enc_vm.specs.Machine.{code_now, code_meant}
+use Rattle.enc_frames.specs.Machine.{code_now, code_meant}
 
 -- where no body is run, there is no code in either machine
 none_now : (users : ℕ → Option (List ℕ)) (m : Module) (debug : PlainPdb) (methods : List (Option Version)) (method : Token) (o : Option Body)

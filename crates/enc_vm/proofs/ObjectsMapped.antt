@@ -9,11 +9,11 @@ use Rattle.enc_objects.specs.declared.value.Value.TheVariants.{Obj}
 use Rattle.enc_plain.specs.Module.{Module}
 use Rattle.enc_vm.proofs.FramesMapped.{load_same}
 use Rattle.enc_vm.proofs.Mapped.{frame_by, pair_by, result_by, along, via}
-use Rattle.enc_vm.specs.Machine.{Frame}
-use Rattle.enc_vm.specs.Memory.{new_in, load_text, not_null, load_field_of, store_field_of, load_static, store_static, new_array_of_kind, array_in_value, array_length, array_of, index_in, load_element, element_kind, store_element, is_cast_type, is_null_or_of, cast_to, instance_or_null}
-use Rattle.enc_vm.specs.Results.{or_trap, ask}
-use Rattle.enc_vm.specs.Straight.{load}
-use Rattle.enc_vm.specs.Values.{fit, upper, upper_two, upper_three, reference, word_of_value}
+use Rattle.enc_frames.specs.Machine.{Frame}
+use Rattle.enc_frames.specs.Memory.{new_in, load_text, not_null, load_field_of, store_field_of, load_static, store_static, new_array_of_kind, array_in_value, array_length, array_of, index_in, load_element, element_kind, store_element, is_cast_type, is_null_or_of, cast_to, instance_or_null}
+use Rattle.enc_frames.specs.Results.{or_trap, ask}
+use Rattle.enc_frames.specs.Straight.{load}
+use Rattle.enc_frames.specs.Values.{fit, upper, upper_two, upper_three, reference, word_of_value}
 
 pub load_text_same : {C D : Type 0} (h : C → D) (max next : ℕ) (units : List ℕ) (s : Store) (f : Frame C)
     → load_text max next units s (frame_by h f) ≡ result_by (pair_by h) (load_text max next units s f)

@@ -9,12 +9,12 @@ use Rattle.enc_objects.specs.declared.value.Value.TheVariants.{Obj}
 use Rattle.enc_plain.specs.Module.{Module}
 use Rattle.enc_vm.proofs.FramesPlaced.{load_placed}
 use Rattle.enc_vm.proofs.Placed.{AfterOk, through, after_that, here}
-use Rattle.enc_vm.specs.Machine.{World, Frame}
-use Rattle.enc_vm.specs.Memory.{new_in, load_text, not_null, load_field_of, store_field_of, load_static, store_static, new_array_of_kind, array_in_value, array_length, array_of, index_in, load_element, element_kind, store_element, is_cast_type, is_null_or_of, cast_to, instance_or_null}
+use Rattle.enc_frames.specs.Machine.{World, Frame}
+use Rattle.enc_frames.specs.Memory.{new_in, load_text, not_null, load_field_of, store_field_of, load_static, store_static, new_array_of_kind, array_in_value, array_length, array_of, index_in, load_element, element_kind, store_element, is_cast_type, is_null_or_of, cast_to, instance_or_null}
 use Rattle.enc_vm.specs.Placed.{is_place_in, IsFramePlaced}
-use Rattle.enc_vm.specs.Results.{or_trap, ask}
-use Rattle.enc_vm.specs.Straight.{load}
-use Rattle.enc_vm.specs.Values.{fit, upper, upper_two, upper_three, reference, word_of_value}
+use Rattle.enc_frames.specs.Results.{or_trap, ask}
+use Rattle.enc_frames.specs.Straight.{load}
+use Rattle.enc_frames.specs.Values.{fit, upper, upper_two, upper_three, reference, word_of_value}
 
 -- the frame beside a store is placed
 abbrev pub IsPairPlaced : {C : Type 0} → World C → Store × Frame C → Type 0

@@ -9,10 +9,10 @@ use Rattle.enc_base.specs.declared.token.Token.{Token}
 use Rattle.enc_opcodes.specs.Body.{Body, Handler, range_is_good, locals_are_good}
 use Rattle.enc_opcodes.specs.Instruction.{Instruction}
 use Rattle.enc_opcodes.specs.Sound.{begins_at, are_whole, instruction_is_sound, handler_kind_is_sound, handler_is_sound, body_is_sound}
-use Rattle.enc_vm.specs.Handlers.{handler_range, handler_range_of}
-use Rattle.enc_vm.specs.Machine.{World, Frame}
+use Rattle.enc_frames.specs.Handlers.{handler_range, handler_range_of}
+use Rattle.enc_frames.specs.Machine.{World, Frame}
 use Rattle.enc_vm.specs.Placed.{is_place_in, IsSoundCode, IsFramePlaced}
-use Rattle.enc_vm.specs.Results.{◌>>=◌, or_trap}
+use Rattle.enc_frames.specs.Results.{◌>>=◌, or_trap}
 
 -- what holds of what a result gives, and of what is there
 abbrev pub AfterOk : {A : Type 0} → (A → Type 0) → Result A Trap → Type 0

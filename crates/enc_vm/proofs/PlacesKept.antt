@@ -4,7 +4,7 @@ use Rattle.enc_plain.specs.Debug.{PlainPdb}
 use Rattle.enc_plain.specs.Module.{Module}
 use Rattle.enc_versions.specs.Version.{Version}
 use Rattle.enc_vm.specs.Laws.{PlainPlacesAreKept, PlacesAreMeant}
-use Rattle.enc_vm.specs.Machine.{PlainCode, Frame, going, ended, trapped, frame_meant, plain_world, version_world}
+use Rattle.enc_frames.specs.Machine.{PlainCode, Frame, going, ended, trapped, frame_meant, plain_world, version_world}
 use Rattle.enc_vm.specs.Placed.{IsFramePlaced, AreFramesPlaced}
 
 frame_kept : (m n : Module) (debug other : PlainPdb) (f : Frame PlainCode) → IsFramePlaced (plain_world m debug) f → IsFramePlaced (plain_world n other) f

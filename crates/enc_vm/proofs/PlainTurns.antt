@@ -10,7 +10,7 @@ use Rattle.enc_versions.specs.StandFor.{AreVersionsOf}
 use Rattle.enc_versions.specs.Version.{Version}
 use Rattle.enc_vm.proofs.StepsMeant.{steps_mean, spawns_mean, tasks_mean, states_mean}
 use Rattle.enc_vm.specs.Laws.{stepped_meant, spawning_meant}
-use Rattle.enc_vm.specs.Machine.{PlainCode, Task, MachineState, task_meant, state_meant, plain_world, version_world}
+use Rattle.enc_frames.specs.Machine.{PlainCode, Task, MachineState, task_meant, state_meant, plain_world, version_world}
 use Rattle.enc_vm.specs.Step.{Stepped, Spawning, step_task, task_at, spawn_in}
 use Rattle.enc_vm.specs.Turns.{MachineTurn, absent, idle, went, turn_by, machine_turn, IsTurn, IsSpawn, IsPlainTurn, IsPlainSpawn}
 use Rattle.enc_vm.specs.declared.ends.StepEnd.{StepEnd}

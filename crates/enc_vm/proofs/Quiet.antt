@@ -14,13 +14,15 @@ use Rattle.enc_objects.specs.declared.value.Value.TheVariants.{Obj}
 use Rattle.enc_plain.specs.Module.{cells_of}
 use Rattle.enc_plain.specs.ValueType.{is_value_type}
 use Rattle.enc_vm.proofs.Placed.{AfterOk, through, either_way}
-use Rattle.enc_vm.specs.Calls.{most_frames, enter, with_touched, is_touched, touch_first, touch, touch_if, declaring, arguments, named_method, named_virtually, call_touches, ask_object, chosen, call_with, call, call_virtual, construct, new_object, value_given, handed, left_to, return_from}
-use Rattle.enc_vm.specs.Machine.{World, Frame, Thread, Shared}
-use Rattle.enc_vm.specs.Memory.{new_in, named_field, Stored}
-use Rattle.enc_vm.specs.Results.{or_trap, ask, Shown, Made}
+use Rattle.enc_vm.specs.Calls.{most_frames, enter, with_touched, is_touched, touch_first, touch, touch_if, declaring, named_virtually, call_touches, ask_object, chosen, call_with, call, call_virtual, construct, new_object, handed, left_to, return_from}
+use Rattle.enc_frames.specs.Values.{arguments, value_given}
+use Rattle.enc_frames.specs.Straight.{named_method}
+use Rattle.enc_frames.specs.Machine.{World, Frame, Thread, Shared}
+use Rattle.enc_frames.specs.Memory.{new_in, named_field, Stored}
+use Rattle.enc_frames.specs.Results.{or_trap, ask, Shown, Made}
 use Rattle.enc_vm.specs.Step.{framed, stored, threaded, on_static}
-use Rattle.enc_vm.specs.Straight.{Framed, moved_on, argument_kinds}
-use Rattle.enc_vm.specs.Values.{fit_all, pushed}
+use Rattle.enc_frames.specs.Straight.{Framed, moved_on, argument_kinds}
+use Rattle.enc_frames.specs.Values.{fit_all, pushed}
 
 -- so many units are written at most
 abbrev pub ShowsWithin : ℕ → Shown → Type 0

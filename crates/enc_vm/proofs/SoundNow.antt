@@ -20,7 +20,7 @@ use Rattle.enc_vm.proofs.CallsPlaced.{AreSoundNow}
 use Rattle.enc_vm.proofs.NowMeant.{no_cell_of, no_row_cell}
 use Rattle.enc_vm.proofs.Placed.{AfterSome, either_way}
 use Rattle.enc_vm.proofs.StepsMeant.{worlds_agree}
-use Rattle.enc_vm.specs.Machine.{PlainCode, code_meant, plain_world, version_world}
+use Rattle.enc_frames.specs.Machine.{PlainCode, code_meant, plain_world, version_world}
 use Rattle.enc_vm.specs.Placed.{IsSoundCode}
 
 -- the body of a sound method

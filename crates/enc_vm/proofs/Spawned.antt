@@ -14,8 +14,9 @@ use Rattle.enc_schema.specs.Tables.{method_def}
 use Rattle.enc_versions.specs.Version.{Version, newest_of}
 use Rattle.enc_vm.proofs.Entered.{frame_is, no_row_now, no_row_run}
 use Rattle.enc_vm.specs.Calls.{new_frame}
-use Rattle.enc_vm.specs.CallsSeen.{AreBodiesOf, frame_at, shared_by}
-use Rattle.enc_vm.specs.Machine.{Frame, version_world}
+use Rattle.enc_vm.specs.CallsSeen.{AreBodiesOf}
+use Rattle.enc_frames.specs.FramesSeen.{frame_at, shared_by}
+use Rattle.enc_frames.specs.Machine.{Frame, version_world}
 use Rattle.enc_vm.specs.Step.{constructor_frame, frame_now}
 
 by_shape : (b : Bool) (o : Option Body) (v : Option Version) → (is_some o ≡ true → is_some v ≡ true)

@@ -7,7 +7,7 @@ use Rattle.enc_vm.proofs.SoundNow.{plain_now, version_now}
 use Rattle.enc_vm.proofs.StepsPlaced.{IsStepPlaced, task_placed, new_task_placed, frame_now_placed}
 use Rattle.enc_vm.specs.Calls.{declaring}
 use Rattle.enc_vm.specs.Laws.{IsSpawnPlaced, StepsStayPlaced, SpawnsArePlaced, PlainStepsStayPlaced, PlainSpawnsArePlaced}
-use Rattle.enc_vm.specs.Machine.{World, Frame, Task, going, MachineState, plain_world, version_world}
+use Rattle.enc_frames.specs.Machine.{World, Frame, Task, going, MachineState, plain_world, version_world}
 use Rattle.enc_vm.specs.Placed.{IsFramePlaced, IsTaskPlaced, AreTasksPlaced}
 use Rattle.enc_vm.specs.Step.{Stepped, task_at, state_with, most_tasks, may_spawn, first_thread, frame_now, constructor_frame, spawned_with, spawn_in, step_task}
 

@@ -3,8 +3,8 @@ use Rattle.std.proofs.Common.{rules, ◌≡◌, ℕ, List, Option, Some, None, R
 use Rattle.enc_objects.specs.declared.trap.Trap.{Trap}
 use Rattle.enc_versions.specs.Version.{Version}
 use Rattle.enc_vm.specs.EffectsSeen.{effect_made, step_end_of, stepped_as, task_by, Performs, Steps}
-use Rattle.enc_vm.specs.Machine.{World, Frame, Thread, Shared, Task, going, ended, trapped}
-use Rattle.enc_vm.specs.Results.{Made}
+use Rattle.enc_frames.specs.Machine.{World, Frame, Thread, Shared, Task, going, ended, trapped}
+use Rattle.enc_frames.specs.Results.{Made}
 use Rattle.enc_vm.specs.Step.{Stepped, step_task, stepped, stepped_by, stepped_with, trapped_in}
 use Rattle.enc_vm.specs.Turns.{KeepsSeen}
 use Rattle.enc_vm.specs.declared.effect.Effect.{Effect}
@@ -12,8 +12,8 @@ use Rattle.enc_vm.specs.declared.ends.StepEnd.{StepEnd}
 use Rattle.enc_vm.specs.declared.ends.TaskState.{TaskState}
 use Rattle.enc_vm.specs.declared.ends.TaskState.TheVariants as state
 use Rattle.enc_vm.specs.declared.seen.Seen.{Seen}
-use Rattle.enc_vm.specs.declared.stop.Stop.{Stop}
-use Rattle.enc_vm.specs.declared.stop.Stop.TheVariants as stop
+use Rattle.enc_frames.specs.declared.stop.Stop.{Stop}
+use Rattle.enc_frames.specs.declared.stop.Stop.TheVariants as stop
 
 -- it made something
 pub made_turn : (line l : Option ℕ) (s r : Shared) (t u : Thread Version) (said : Result (Made Version) Trap) (effect : Effect) (x : Stepped Version)

@@ -17,21 +17,22 @@ use Rattle.enc_vm.proofs.FramesMapped.{load_same, load_argument_same, load_local
 use Rattle.enc_vm.proofs.HandlersMapped.{leave_same, throw_same, end_finally_same, fly_same}
 use Rattle.enc_vm.proofs.Mapped.{frame_by, thread_by, task_by, state_by, pair_by, made_with_codes, stepped_with_codes, spawning_with_codes, result_by, before, after, along, via, either, Agree, is_before, is_after}
 use Rattle.enc_vm.proofs.ObjectsMapped.{load_text_same, load_field_same, store_field_same, load_static_same, store_static_same, new_array_same, array_length_same, load_element_same, store_element_same, cast_same, instance_same}
-use Rattle.enc_vm.specs.Acts.{bare_act, numbered_act, branch_act, token_act}
+use Rattle.enc_frames.specs.Acts.{bare_act, numbered_act, branch_act, token_act}
 use Rattle.enc_vm.specs.Calls.{declaring, is_touched, with_touched, new_frame}
-use Rattle.enc_vm.specs.Machine.{World, Frame, Thread, Task, going, ended, trapped, Shared, MachineState}
-use Rattle.enc_vm.specs.Memory.{named_field, load_static, store_static}
-use Rattle.enc_vm.specs.Results.{or_trap, Shown, Made}
-use Rattle.enc_vm.specs.Step.{instruction_of, framed, stored, threaded, on_static, is_own_method, frame_act, object_act, act_on, act_or_trap, bare_on, perform, advance, line_of, stepped, stepped_by, flight_made, stepped_with, step_task, may_spawn, begun, too_many, no_method, most_tasks, first_thread, frame_now, constructor_frame, spawned_with, spawn_in}
-use Rattle.enc_vm.specs.Straight.{Framed, argument_kind, local_kind}
-use Rattle.enc_vm.specs.Memory.{Stored}
-use Rattle.enc_vm.specs.declared.act.Act.{Act}
-use Rattle.enc_vm.specs.declared.act.Act.TheVariants as act
-use Rattle.enc_vm.specs.declared.act.FrameAct.{FrameAct}
-use Rattle.enc_vm.specs.declared.act.FrameAct.TheVariants as frame
-use Rattle.enc_vm.specs.declared.act.ObjectAct.{ObjectAct}
-use Rattle.enc_vm.specs.declared.act.ObjectAct.TheVariants as object
-use Rattle.enc_vm.specs.declared.handler.Flight.{Flight}
+use Rattle.enc_frames.specs.Machine.{World, Frame, Thread, Task, going, ended, trapped, Shared, MachineState}
+use Rattle.enc_frames.specs.Memory.{named_field, load_static, store_static}
+use Rattle.enc_frames.specs.Results.{or_trap, Shown, Made}
+use Rattle.enc_vm.specs.Step.{instruction_of, framed, stored, threaded, on_static, is_own_method, act_on, act_or_trap, bare_on, perform, advance, line_of, stepped, stepped_by, flight_made, stepped_with, step_task, may_spawn, begun, too_many, no_method, most_tasks, first_thread, frame_now, constructor_frame, spawned_with, spawn_in}
+use Rattle.enc_frames.specs.FrameActs.{frame_act, object_act}
+use Rattle.enc_frames.specs.Straight.{Framed, argument_kind, local_kind}
+use Rattle.enc_frames.specs.Memory.{Stored}
+use Rattle.enc_frames.specs.declared.act.Act.{Act}
+use Rattle.enc_frames.specs.declared.act.Act.TheVariants as act
+use Rattle.enc_frames.specs.declared.act.FrameAct.{FrameAct}
+use Rattle.enc_frames.specs.declared.act.FrameAct.TheVariants as frame
+use Rattle.enc_frames.specs.declared.act.ObjectAct.{ObjectAct}
+use Rattle.enc_frames.specs.declared.act.ObjectAct.TheVariants as object
+use Rattle.enc_frames.specs.declared.handler.Flight.{Flight}
 
 -- from a frame, from the store and a frame, and from frames to what the step makes
 framed_same : {C D : Type 0} (h : C → D) (s : Shared) (t : Thread C) (q : Framed D) (r : Framed C)

@@ -9,7 +9,7 @@ use Rattle.enc_vm.proofs.Mapped.{task_by, state_by, stepped_with_codes, spawning
 use Rattle.enc_vm.proofs.NowMeant.{now_meant}
 use Rattle.enc_vm.proofs.StepsMapped.{step_same, spawn_same}
 use Rattle.enc_vm.specs.Laws.{stepped_meant, spawning_meant, StepsMean, SpawnsMean, TasksMean, StatesMean}
-use Rattle.enc_vm.specs.Machine.{PlainCode, Task, going, ended, trapped, MachineState, code_meant, task_meant, state_meant, plain_world, version_world}
+use Rattle.enc_frames.specs.Machine.{PlainCode, Task, going, ended, trapped, MachineState, code_meant, task_meant, state_meant, plain_world, version_world}
 use Rattle.enc_vm.specs.Step.{Stepped, Spawning, begun, too_many, no_method, step_task, spawn_in}
 
 -- the worlds agree

@@ -17,22 +17,23 @@ use Rattle.enc_vm.proofs.FramesPlaced.{load_placed, load_argument_placed, load_l
 use Rattle.enc_vm.proofs.HandlersPlaced.{leave_placed, throw_placed, end_finally_placed, IsFlownPlaced, fly_placed}
 use Rattle.enc_vm.proofs.ObjectsPlaced.{IsPairPlaced, load_text_placed, load_field_placed, store_field_placed, load_static_placed, store_static_placed, new_array_placed, array_length_placed, load_element_placed, store_element_placed, cast_placed, instance_placed}
 use Rattle.enc_vm.proofs.Placed.{AfterOk, AfterSome, through, after_that, or_trapped, either_way, here}
-use Rattle.enc_vm.specs.Acts.{bare_act, numbered_act, branch_act, token_act}
+use Rattle.enc_frames.specs.Acts.{bare_act, numbered_act, branch_act, token_act}
 use Rattle.enc_vm.specs.Calls.{declaring, is_touched, new_frame}
-use Rattle.enc_vm.specs.Handlers.{Flown, fly}
-use Rattle.enc_vm.specs.Machine.{World, Frame, Thread, Task, going, ended, trapped, Shared}
-use Rattle.enc_vm.specs.Memory.{named_field, load_static, store_static, Stored}
+use Rattle.enc_frames.specs.Handlers.{Flown, fly}
+use Rattle.enc_frames.specs.Machine.{World, Frame, Thread, Task, going, ended, trapped, Shared}
+use Rattle.enc_frames.specs.Memory.{named_field, load_static, store_static, Stored}
 use Rattle.enc_vm.specs.Placed.{is_place_in, IsSoundCode, IsFramePlaced, IsThreadPlaced, IsTaskPlaced}
-use Rattle.enc_vm.specs.Results.{or_trap, Made, Shown, nothing_shown}
-use Rattle.enc_vm.specs.Step.{instruction_of, framed, stored, threaded, on_static, is_own_method, frame_act, object_act, act_on, act_or_trap, perform, advance, line_of, Stepped, stepped, stepped_by, flight_made, stepped_with, step_task, first_thread, frame_now, constructor_frame}
-use Rattle.enc_vm.specs.Straight.{Framed, argument_kind, local_kind}
-use Rattle.enc_vm.specs.declared.act.Act.{Act}
-use Rattle.enc_vm.specs.declared.act.Act.TheVariants as act
-use Rattle.enc_vm.specs.declared.act.FrameAct.{FrameAct}
-use Rattle.enc_vm.specs.declared.act.FrameAct.TheVariants as frame
-use Rattle.enc_vm.specs.declared.act.ObjectAct.{ObjectAct}
-use Rattle.enc_vm.specs.declared.act.ObjectAct.TheVariants as object
-use Rattle.enc_vm.specs.declared.handler.Flight.{Flight}
+use Rattle.enc_frames.specs.Results.{or_trap, Made, Shown, nothing_shown}
+use Rattle.enc_vm.specs.Step.{instruction_of, framed, stored, threaded, on_static, is_own_method, act_on, act_or_trap, perform, advance, line_of, Stepped, stepped, stepped_by, flight_made, stepped_with, step_task, first_thread, frame_now, constructor_frame}
+use Rattle.enc_frames.specs.FrameActs.{frame_act, object_act}
+use Rattle.enc_frames.specs.Straight.{Framed, argument_kind, local_kind}
+use Rattle.enc_frames.specs.declared.act.Act.{Act}
+use Rattle.enc_frames.specs.declared.act.Act.TheVariants as act
+use Rattle.enc_frames.specs.declared.act.FrameAct.{FrameAct}
+use Rattle.enc_frames.specs.declared.act.FrameAct.TheVariants as frame
+use Rattle.enc_frames.specs.declared.act.ObjectAct.{ObjectAct}
+use Rattle.enc_frames.specs.declared.act.ObjectAct.TheVariants as object
+use Rattle.enc_frames.specs.declared.handler.Flight.{Flight}
 
 -- from a frame, from the store and a frame, and from frames to what the step makes
 framed_placed : {C : Type 0} (w : World C) (s : Shared) (t : Thread C) (r : Framed C) → IsThreadPlaced w t → AfterOk (IsFramePlaced w) r → AfterOk (IsMadePlaced w) (framed s t r)

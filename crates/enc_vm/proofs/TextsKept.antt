@@ -1,6 +1,6 @@
 -- A step and a spawn leave the user texts there that the codes of frames name.
-use Rattle.std.proofs.Common.{◌≡◌, ℕ, zero, suc, ◌&&◌, Bool, true, false, List, [], ◌∷◌, map, slice_get, slice_set, Option, Some, None, Result, Ok, Err, refl, sym, ap, ◌∙◌, subst, option_map}
-use Rattle.std.specs.Prelude.{IsTrue, is_some, ◌==◌, if◌then◌else◌}
+use Rattle.std.proofs.Common.{◌≡◌, ℕ, zero, suc, Bool, true, false, List, [], ◌∷◌, map, slice_get, slice_set, Option, Some, None, Result, Ok, Err, refl, sym, ap, ◌∙◌, subst, option_map}
+use Rattle.std.specs.Prelude.{IsTrue, is_some, if◌then◌else◌}
 use Rattle.std.specs.List.{list_all}
 use Rattle.std.specs.declared.alloc.AllocError.{AllocError}
 use Rattle.std.proofs.lemmas.Bool.{and_parts}
@@ -10,14 +10,13 @@ use Rattle.enc_plain.proofs.MoreTexts.{texts_more}
 use Rattle.enc_plain.specs.Module.{Module}
 use Rattle.enc_kinds.specs.Members.{run_body}
 use Rattle.enc_opcodes.specs.Body.{KeepsTexts}
-use Rattle.enc_versions.specs.StandFor.{AreVersionsOf}
 use Rattle.enc_versions.specs.Version.{Version, newest_of}
 use Rattle.enc_versions.proofs.Known.{newest_texts}
 use Rattle.enc_vm.proofs.Mapped.{frame_by, thread_by, task_by, state_by, stepped_with_codes, spawning_with_codes, Agree}
 use Rattle.enc_vm.proofs.StepsMapped.{step_same, spawn_same}
 use Rattle.enc_vm.specs.CallsSeen.{AreBodiesOf}
-use Rattle.enc_vm.specs.Machine.{World, Frame, Thread, Task, going, ended, trapped, Shared, MachineState, code_meant, frame_meant, task_meant, state_meant, version_world}
-use Rattle.enc_vm.specs.Step.{Stepped, Spawning, begun, too_many, no_method, step_task, task_at, state_with, spawn_in}
+use Rattle.enc_frames.specs.Machine.{World, Frame, Thread, Task, going, ended, trapped, Shared, MachineState, code_meant, frame_meant, task_meant, version_world}
+use Rattle.enc_vm.specs.Step.{Stepped, Spawning, begun, too_many, no_method, step_task, spawn_in}
 use Rattle.enc_vm.specs.Texts.{version_texts, frame_texts, task_texts, machine_texts, MoreTextsMeanTheSame}
 use Rattle.enc_vm.specs.Turns.{MachineTurn, absent, idle, went, turn_by, machine_turn, IsTurn, IsSpawn}
 use Rattle.enc_vm.specs.declared.ends.StepEnd.{StepEnd}

@@ -12,14 +12,14 @@ use Rattle.enc_unwind.specs.Search.{catch_among}
 use Rattle.enc_unwind.specs.declared.thrown.Thrown.{Thrown}
 use Rattle.enc_versions.specs.Version.{Version}
 use Rattle.enc_vm.proofs.Called.{in_turn}
-use Rattle.enc_vm.specs.Handlers.{ends_search, outer_taker, taker, thrown_of, flight_to, throw_object}
+use Rattle.enc_frames.specs.Handlers.{ends_search, outer_taker, taker, thrown_of, flight_to, throw_object}
 use Rattle.enc_vm.proofs.Called.{in_turn}
-use Rattle.enc_vm.specs.HandlersSeen.{own_clauses}
-use Rattle.enc_vm.specs.Machine.{World, Frame, Thread, version_world}
-use Rattle.enc_vm.specs.Memory.{not_null}
-use Rattle.enc_vm.specs.Results.{◌>>=◌, or_trap}
+use Rattle.enc_frames.specs.HandlersSeen.{own_clauses}
+use Rattle.enc_frames.specs.Machine.{World, Frame, Thread, version_world}
+use Rattle.enc_frames.specs.Memory.{not_null}
+use Rattle.enc_frames.specs.Results.{◌>>=◌, or_trap}
 use Rattle.enc_vm.specs.ThrowSeen.{thrown_object}
-use Rattle.enc_vm.specs.Values.{upper, reference}
+use Rattle.enc_frames.specs.Values.{upper, reference}
 
 -- the innermost frame decides before those below it
 pub taker_is : (users : ℕ → Option (List ℕ)) (m : Module) (methods : List (Option Version)) (thrown : Thrown) (f : Frame Version) (below : List (Frame Version))

@@ -14,13 +14,15 @@ use Rattle.enc_plain.specs.Module.{Module}
 use Rattle.enc_versions.specs.Version.{Version}
 use Rattle.enc_dispatch.specs.Walks.{is_virtual}
 use Rattle.enc_kinds.specs.Elements.{CallShape}
-use Rattle.enc_vm.specs.Calls.{with_type, touch, touch_first, touch_if, named_method, named_virtually, call_touches, declaring, call_with, call, call_virtual}
-use Rattle.enc_vm.specs.CallsSeen.{Makes, shared_by}
-use Rattle.enc_vm.specs.Machine.{World, Thread, Shared, version_world}
-use Rattle.enc_vm.specs.Results.{◌>>=◌, or_trap, Made}
+use Rattle.enc_vm.specs.Calls.{with_type, touch, touch_first, touch_if, named_virtually, call_touches, declaring, call_with, call, call_virtual}
+use Rattle.enc_frames.specs.Straight.{named_method}
+use Rattle.enc_vm.specs.CallsSeen.{Makes}
+use Rattle.enc_frames.specs.FramesSeen.{shared_by}
+use Rattle.enc_frames.specs.Machine.{World, Thread, Shared, version_world}
+use Rattle.enc_frames.specs.Results.{◌>>=◌, or_trap, Made}
 use Rattle.enc_vm.specs.TouchSeen.{first_touch, touched_on}
 use Rattle.enc_vm.specs.declared.returns.FrameChange.{FrameChange}
-use Rattle.enc_vm.specs.declared.stop.Stop.{Stop}
+use Rattle.enc_frames.specs.declared.stop.Stop.{Stop}
 
 by_first : (w : World Version) (t : Thread Version) (type : Token) (go : Shared → Result (Made Version) Trap) (store : Store) (touched : List Token) (b : Bool) (o : Option Token)
     → (if b then go (shared_by store touched) else touch_first w (shared_by store touched) t type go o)

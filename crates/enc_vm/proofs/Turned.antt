@@ -4,7 +4,7 @@ use Rattle.std.specs.Prelude.{option_map, slice_get, slice_set}
 use Rattle.std.specs.declared.alloc.AllocError.{AllocError}
 use Rattle.enc_versions.specs.Version.{Version}
 use Rattle.enc_vm.specs.EffectsSeen.{ended_as, Steps}
-use Rattle.enc_vm.specs.Machine.{Task, Shared, MachineState, World}
+use Rattle.enc_frames.specs.Machine.{Task, Shared, MachineState, World}
 use Rattle.enc_vm.specs.Step.{Ending, ran, done, stopped, Stepped, step_task}
 use Rattle.enc_vm.specs.Turns.{absent, went, turn_by, machine_turn, shown_in, IsTurn}
 use Rattle.enc_vm.specs.declared.ends.StepEnd.{StepEnd}

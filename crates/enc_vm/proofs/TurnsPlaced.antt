@@ -11,7 +11,7 @@ use Rattle.enc_vm.specs.Anywhere.{ArePlacedAnywhere}
 use Rattle.enc_vm.specs.CallsSeen.{AreBodiesOf}
 use Rattle.enc_vm.specs.EffectsSeen.{ended_as, Steps}
 use Rattle.enc_vm.specs.Laws.{IsSpawnPlaced}
-use Rattle.enc_vm.specs.Machine.{Task, Shared, MachineState, World, version_world}
+use Rattle.enc_frames.specs.Machine.{Task, Shared, MachineState, World, version_world}
 use Rattle.enc_vm.specs.Placed.{IsTaskPlaced, AreTasksPlaced}
 use Rattle.enc_vm.specs.Step.{Ending, ran, done, stopped, Stepped, step_task, spawn_in, begun}
 use Rattle.enc_vm.specs.declared.ends.StepEnd.{StepEnd}

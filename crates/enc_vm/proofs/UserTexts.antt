@@ -9,12 +9,12 @@ use Rattle.enc_opcodes.specs.declared.code.Arg.TheVariants as arg
 use Rattle.enc_opcodes.specs.declared.op.Op.{Op}
 use Rattle.enc_plain.specs.Module.{Module}
 use Rattle.enc_versions.specs.Version.{Version}
-use Rattle.enc_vm.specs.Handlers.{fly}
-use Rattle.enc_vm.specs.HandlersSeen.{own_clauses}
-use Rattle.enc_vm.specs.Machine.{Thread, Shared, version_world}
-use Rattle.enc_vm.specs.Memory.{load_text}
+use Rattle.enc_frames.specs.Handlers.{fly}
+use Rattle.enc_frames.specs.HandlersSeen.{own_clauses}
+use Rattle.enc_frames.specs.Machine.{Thread, Shared, version_world}
+use Rattle.enc_frames.specs.Memory.{load_text}
 use Rattle.enc_vm.specs.Step.{flight_made, perform, stepped, stepped_with, stored}
-use Rattle.enc_vm.specs.declared.handler.Flight.{Flight}
+use Rattle.enc_frames.specs.declared.handler.Flight.{Flight}
 
 text_by : (users : ℕ → Option (List ℕ)) (m : Module) (methods : List (Option Version)) (next offset : ℕ) (op : Op) (s : Shared) (t : Thread Version)
     → perform (version_world users m methods) next op (told users (arg_seen next (arg.User offset))) s t

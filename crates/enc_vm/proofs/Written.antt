@@ -19,20 +19,20 @@ use Rattle.enc_plain.specs.Rows.{token_at}
 use Rattle.enc_schema.specs.Columns as columns
 use Rattle.enc_vm.proofs.Placed.{AfterOk, through, after_that, either_way}
 use Rattle.enc_vm.proofs.Quiet.{ShowsWithin, IsWithin, framed_within, stored_within, threaded_within, static_within, call_within, call_virtual_within, new_object_within, return_within}
-use Rattle.enc_vm.specs.Acts.{bare_act, numbered_act, branch_act, token_act}
-use Rattle.enc_vm.specs.Console.{text, or_empty, line_end, digits_of_number, put_text, unit_at, run_constructor, run_outside, call_outside, is_outside_constructor, new_outside}
-use Rattle.enc_vm.specs.Machine.{World, Thread, Task, going, ended, trapped, Shared, MachineState}
-use Rattle.enc_vm.specs.Memory.{new_in, load_static, store_static}
-use Rattle.enc_vm.specs.Results.{or_trap, ask, Made}
+use Rattle.enc_frames.specs.Acts.{bare_act, numbered_act, branch_act, token_act}
+use Rattle.enc_frames.specs.Console.{text, or_empty, line_end, digits_of_number, put_text, unit_at, run_constructor, run_outside, call_outside, is_outside_constructor, new_outside}
+use Rattle.enc_frames.specs.Machine.{World, Thread, Task, going, ended, trapped, Shared, MachineState}
+use Rattle.enc_frames.specs.Memory.{new_in, load_static, store_static}
+use Rattle.enc_frames.specs.Results.{or_trap, ask, Made}
 use Rattle.enc_vm.specs.Room.{WritesAtMost}
 use Rattle.enc_vm.specs.RoomSeen.{IsRoomForValue, IsRoomForTop, IsRoomForTask}
 use Rattle.enc_vm.specs.Step.{instruction_of, stored, is_own_method, act_on, act_or_trap, perform, advance, line_of, Stepped, stepped_by, stepped_with, step_task, task_at}
-use Rattle.enc_vm.specs.Straight.{load}
+use Rattle.enc_frames.specs.Straight.{load}
 use Rattle.enc_vm.specs.Turns.{turn_by, machine_turn}
-use Rattle.enc_vm.specs.Values.{upper, upper_two, upper_three, reference, word_of_value}
-use Rattle.enc_vm.specs.declared.act.Act.{Act}
-use Rattle.enc_vm.specs.declared.act.Act.TheVariants as act
-use Rattle.enc_vm.specs.declared.handler.Flight.{Flight}
+use Rattle.enc_frames.specs.Values.{upper, upper_two, upper_three, reference, word_of_value}
+use Rattle.enc_frames.specs.declared.act.Act.{Act}
+use Rattle.enc_frames.specs.declared.act.Act.TheVariants as act
+use Rattle.enc_frames.specs.declared.handler.Flight.{Flight}
 
 -- there is room for a line end
 value_ends : (s : Store) (n : ℕ) (v : Value) → IsRoomForValue s n v → 1 ≤ n

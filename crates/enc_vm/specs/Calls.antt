@@ -1,5 +1,5 @@
 -- Calls, returns, new objects and first touches of types (ECMA-335 III.3.19, III.3.57, III.4.2, III.4.21, II.10.5.3).
-use Rattle.std.specs.Prelude.{ℕ, ◌+◌, Bool, true, false, not, ◌&&◌, ◌||◌, List, [], ◌∷◌, length, map, reverse, take, drop, Option, Some, None, unwrap_or, option_and_then, Result, Ok, Err, nat_lt, nat_le, ◌==◌, if◌then◌else◌}
+use Rattle.std.specs.Prelude.{ℕ, ◌+◌, Bool, true, false, not, ◌&&◌, ◌||◌, List, [], ◌∷◌, length, map, drop, Option, Some, None, unwrap_or, option_and_then, Result, Ok, Err, nat_lt, if◌then◌else◌}
 use Rattle.std.specs.List.{list_any}
 use Rattle.enc_base.specs.Token.{is_token, nil, number_of}
 use Rattle.enc_base.specs.declared.token.Token.{Token}
@@ -10,22 +10,19 @@ use Rattle.enc_kinds.specs.Elements.{CallShape}
 use Rattle.enc_kinds.specs.Members.{call_shape, local_kinds, is_static_method, is_constructor, type_constructor}
 use Rattle.enc_objects.specs.Objects.{Store, shape_in}
 use Rattle.enc_objects.specs.Values.{default_of}
-use Rattle.enc_objects.specs.declared.kind.Kind.{Kind}
 use Rattle.enc_objects.specs.declared.object.Content.TheVariants.{Instance}
 use Rattle.enc_objects.specs.declared.shape.Shape.{Shape as ObjectShape}
 use Rattle.enc_objects.specs.declared.shape.Shape.TheVariants as shape
 use Rattle.enc_objects.specs.declared.trap.Trap.{Trap}
-use Rattle.enc_objects.specs.declared.trap.Trap.TheVariants.{X2, X3, X4, X9, X10, X11}
+use Rattle.enc_objects.specs.declared.trap.Trap.TheVariants.{X2, X3, X9, X10, X11}
 use Rattle.enc_objects.specs.declared.value.Value.{Value}
 use Rattle.enc_objects.specs.declared.value.Value.TheVariants.{Obj}
 use Rattle.enc_plain.specs.Module.{Module, cells_of, owner_of}
-use Rattle.enc_schema.specs.Tables as tables
-use Rattle.enc_vm.specs.Machine.{World, Frame, Thread, Shared}
-use Rattle.enc_vm.specs.Memory.{new_in, not_null}
-use Rattle.enc_vm.specs.Results.{◌>>=◌, or_trap, ask, nothing_shown, Made}
-use Rattle.enc_vm.specs.Straight.{moved_on, argument_kinds}
-use Rattle.enc_objects.specs.Places.{stored_as}
-use Rattle.enc_vm.specs.Values.{fit_all, upper, pushed, reference}
+use Rattle.enc_frames.specs.Machine.{World, Frame, Thread, Shared}
+use Rattle.enc_frames.specs.Memory.{new_in, not_null}
+use Rattle.enc_frames.specs.Results.{◌>>=◌, or_trap, ask, nothing_shown, Made}
+use Rattle.enc_frames.specs.Straight.{moved_on, argument_kinds, named_method}
+use Rattle.enc_frames.specs.Values.{fit_all, pushed, reference, arguments, value_given}
 
 -- as many frames as a task can have
 abbrev pub most_frames : ℕ
@@ -77,14 +74,6 @@ touch_if needed w s t type go = if needed then touch w s t type go else go s
 -- the type that a member is of
 abbrev pub declaring : Module → Token → Token
 declaring m member = unwrap_or (owner_of m member) nil
-
--- so many arguments from the top of a stack, in the order in which they were put there
-unfoldable pub arguments : ℕ → List Value → Result (List Value) Trap
-arguments n stack = if nat_le n (length stack) then Ok (reverse (take n stack)) else Err X3
-
--- the method that an instruction names
-unfoldable pub named_method : Module → Token → Result CallShape Trap
-named_method m t = if t.table == tables.method_def then or_trap X2 (call_shape m t) else Err X2
 
 -- the method that a callvirt names: where it is virtual (flag 40) an object is there to walk from (III.4.2)
 unfoldable pub named_virtually : Module → Token → Result CallShape Trap
@@ -152,11 +141,6 @@ new_object w next method s t =
     named_method w.plain method >>= λ (shape : CallShape).
     ask X2 (shape.this && not (is_value_type (cells_of w.plain) (declaring w.plain method))) >>= λ _.
     touch w s t (declaring w.plain method) (construct w next method shape t)
-
--- what a method gives: nothing, or the value on the top, which isn't cut
-abbrev pub value_given : Option Kind → List Value → Result (Option Value) Trap
-value_given None stack = Ok None
-value_given (Some k) stack = upper stack >>= λ p. or_trap X4 (stored_as k p) >>= λ _. Ok (Some p)
 
 abbrev pub handed : {C : Type 0} → World C → Option Value → Frame C → Result (Frame C) Trap
 handed w None f = Ok f

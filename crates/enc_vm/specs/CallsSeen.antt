@@ -1,10 +1,8 @@
 -- For the contracts of private functions: frames that are entered and left.
-use Rattle.std.specs.Prelude.{◌≡◌, ℕ, List, [], ◌∷◌, map, drop, Bool, Option, Some, None, unwrap_or, Result, Ok, Err}
+use Rattle.std.specs.Prelude.{◌≡◌, ℕ, List, [], ◌∷◌, drop, Bool, Option, Some, None, Result, Ok, Err}
 use Rattle.enc_base.specs.declared.token.Token.{Token}
 use Rattle.enc_kinds.specs.Elements.{CallShape}
-use Rattle.enc_kinds.specs.Members.{local_kinds, call_shape}
-use Rattle.enc_objects.specs.Objects.{Store}
-use Rattle.enc_objects.specs.Values.{default_of}
+use Rattle.enc_kinds.specs.Members.{call_shape}
 use Rattle.enc_objects.specs.declared.trap.Trap.{Trap}
 use Rattle.enc_objects.specs.declared.trap.Trap.TheVariants.{X2}
 use Rattle.enc_objects.specs.declared.value.Value.{Value}
@@ -12,41 +10,20 @@ use Rattle.enc_plain.specs.Debug.{PlainPdb}
 use Rattle.enc_plain.specs.Module.{Module}
 use Rattle.enc_versions.specs.StandFor.{AreVersionsOf}
 use Rattle.enc_versions.specs.Version.{Version}
-use Rattle.enc_vm.specs.Calls.{entering, value_given, enter, ask_object, chosen}
-use Rattle.enc_vm.specs.Machine.{World, Frame, Thread, Shared}
-use Rattle.enc_vm.specs.Results.{◌>>=◌, or_trap, Made, nothing_shown}
-use Rattle.enc_vm.specs.Straight.{moved_on}
-use Rattle.enc_vm.specs.Values.{pushed}
+use Rattle.enc_vm.specs.Calls.{entering, enter, ask_object, chosen}
+use Rattle.enc_frames.specs.Values.{value_given}
+use Rattle.enc_frames.specs.Machine.{World, Frame, Thread, Shared}
+use Rattle.enc_frames.specs.Results.{◌>>=◌, or_trap, Made, nothing_shown}
+use Rattle.enc_frames.specs.Straight.{moved_on}
 use Rattle.enc_vm.specs.declared.returns.FrameChange.{FrameChange}
 use Rattle.enc_vm.specs.declared.returns.FrameChange.TheVariants.{Stays, Entered, Left, LeftLast}
-use Rattle.enc_vm.specs.declared.stop.Stop.{Stop}
-use Rattle.enc_vm.specs.declared.stop.Stop.TheVariants as stop
+use Rattle.enc_frames.specs.declared.stop.Stop.{Stop}
+use Rattle.enc_frames.specs.declared.stop.Stop.TheVariants as stop
+use Rattle.enc_frames.specs.FramesSeen.{handed_in}
 
 -- newest bodies stand for a module and some PDB
 abbrev pub AreBodiesOf : (ℕ → Option (List ℕ)) → Module → List (Option Version) → Type 0
 AreBodiesOf users m methods = (debug : PlainPdb) × AreVersionsOf users m debug methods
-
--- a frame that holds a version, at its method's first instruction
-abbrev pub frame_at : Module → Token → Version → List Value → Frame Version
-frame_at m method v args = record {
-  method = method;
-  code = v;
-  offset = 0;
-  args = args;
-  locals = map default_of (unwrap_or (local_kinds m v.code.locals) []);
-  stack = [];
-  running = [];
-}
-
--- a value that was given goes on a frame's stack
-abbrev pub handed_in : Option Value → Frame Version → Result (Frame Version) Trap
-handed_in None f = Ok f
-handed_in (Some v) f = pushed f.code.code.max v f
-
--- and on that of the first of some frames
-abbrev pub handed_first : Option Value → List (Frame Version) → Result (List (Frame Version)) Trap
-handed_first value [] = Ok []
-handed_first value (f ∷ below) = handed_in value f >>= λ g. Ok (g ∷ below)
 
 -- a frame is left
 abbrev pub left_with : Shared → Token → Option Value → List (Frame Version) → Result (Made Version) Trap
@@ -72,10 +49,6 @@ abbrev pub Makes : Result FrameChange Stop → Shared → Shared → Thread Vers
 Makes (Ok change) s r t u said = said ≡ Ok (made_by change s t)
 Makes (Err (stop.Trap trap)) s r t u said = (said ≡ Err trap) × (s ≡ r) × (t ≡ u)
 Makes (Err stop.Memory) s r t u said = (s ≡ r) × (t ≡ u)
-
--- what all tasks share, by its parts
-abbrev pub shared_by : Store → List Token → Shared
-shared_by store touched = record { store = store; touched = touched }
 
 -- a call with these arguments, which are so many values on the stack
 abbrev pub called_on : World Version → Module → Bool → Bool → ℕ → ℕ → Token → List Value → Thread Version → Shared

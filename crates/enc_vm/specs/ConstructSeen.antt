@@ -1,5 +1,5 @@
 -- For the contracts of private functions: frames of constructors that stand ready below the innermost frame.
-use Rattle.std.specs.Prelude.{ℕ, ◌+◌, List, [], ◌∷◌, length, drop, slice_set, None, Result, Ok, nat_lt}
+use Rattle.std.specs.Prelude.{ℕ, ◌+◌, List, ◌∷◌, length, drop, None, Result, Ok, nat_lt}
 use Rattle.enc_base.specs.declared.token.Token.{Token}
 use Rattle.enc_objects.specs.Objects.{Store}
 use Rattle.enc_objects.specs.declared.object.Content.TheVariants.{Instance}
@@ -9,30 +9,16 @@ use Rattle.enc_objects.specs.declared.trap.Trap.TheVariants.{X10, X11}
 use Rattle.enc_objects.specs.declared.value.Value.{Value}
 use Rattle.enc_objects.specs.declared.value.Value.TheVariants.{Null, Obj}
 use Rattle.enc_versions.specs.Version.{Version}
-use Rattle.enc_vm.specs.ArgumentsSeen.{fitting}
+use Rattle.enc_frames.specs.ArgumentsSeen.{fitting}
 use Rattle.enc_vm.specs.Calls.{most_frames, entering}
-use Rattle.enc_vm.specs.Callers.{without_first}
-use Rattle.enc_vm.specs.CallsSeen.{frame_at}
+use Rattle.enc_frames.specs.Callers.{without_first}
+use Rattle.enc_frames.specs.FramesSeen.{frame_at, with_nearest, nearest_or, with_object_first}
 use Rattle.enc_plain.specs.Module.{Module}
-use Rattle.enc_vm.specs.Machine.{World, Frame, Thread, Shared}
-use Rattle.enc_vm.specs.Memory.{new_in}
-use Rattle.enc_vm.specs.Results.{◌>>=◌, or_trap, ask, Made}
-use Rattle.enc_vm.specs.Straight.{moved_on}
-use Rattle.enc_vm.specs.Values.{pushed}
-
--- another first of a list
-abbrev pub with_nearest : {A : Type 0} → A → List A → List A
-with_nearest y [] = []
-with_nearest y (x ∷ rest) = y ∷ rest
-
--- the first of a list, and else this
-abbrev pub nearest_or : {A : Type 0} → A → List A → A
-nearest_or y [] = y
-nearest_or y (x ∷ rest) = x
-
--- a frame with another first argument
-abbrev pub with_object_first : Value → Frame Version → Frame Version
-with_object_first v f = record f { args = slice_set f.args 0 v }
+use Rattle.enc_frames.specs.Machine.{World, Frame, Thread, Shared}
+use Rattle.enc_frames.specs.Memory.{new_in}
+use Rattle.enc_frames.specs.Results.{◌>>=◌, or_trap, ask, Made}
+use Rattle.enc_frames.specs.Straight.{moved_on}
+use Rattle.enc_frames.specs.Values.{pushed}
 
 -- a frame stands ready below the innermost one, and null on that one's stack
 abbrev pub made_ready : Frame Version → Thread Version → Thread Version

@@ -4,9 +4,9 @@ use Rattle.std.specs.declared.alloc.AllocError.{AllocError}
 use Rattle.enc_objects.specs.declared.trap.Trap.{Trap}
 use Rattle.enc_versions.specs.Version.{Version}
 use Rattle.enc_vm.specs.CallsSeen.{made_by}
-use Rattle.enc_vm.specs.Console.{writing}
-use Rattle.enc_vm.specs.Machine.{Thread, Shared, Task, going, ended, trapped}
-use Rattle.enc_vm.specs.Results.{Made}
+use Rattle.enc_frames.specs.Console.{writing}
+use Rattle.enc_frames.specs.Machine.{Thread, Shared, Task, going, ended, trapped}
+use Rattle.enc_frames.specs.Results.{Made}
 use Rattle.enc_vm.specs.Step.{Ending, ran, done, stopped, Stepped}
 use Rattle.enc_vm.specs.Turns.{shown_in}
 use Rattle.enc_vm.specs.declared.effect.Effect.{Effect}
@@ -20,8 +20,8 @@ use Rattle.enc_vm.specs.declared.ends.StepEnd.{StepEnd}
 use Rattle.enc_vm.specs.declared.ends.StepEnd.TheVariants as end
 use Rattle.enc_vm.specs.declared.seen.Seen.{Seen}
 use Rattle.enc_vm.specs.declared.task.Outcome.{Outcome}
-use Rattle.enc_vm.specs.declared.stop.Stop.{Stop}
-use Rattle.enc_vm.specs.declared.stop.Stop.TheVariants as stop
+use Rattle.enc_frames.specs.declared.stop.Stop.{Stop}
+use Rattle.enc_frames.specs.declared.stop.Stop.TheVariants as stop
 
 abbrev pub effect_made : Effect → Shared → Thread Version → Made Version
 effect_made (Frames change) s t = made_by change s t

@@ -1,9 +1,9 @@
 -- For the contracts of private functions: what a flight's step makes of frames that are changed in place.
 use Rattle.std.specs.Prelude.{◌≡◌, Some, None, Result, Ok, Err}
 use Rattle.enc_versions.specs.Version.{Version}
-use Rattle.enc_vm.specs.Handlers.{Flown}
-use Rattle.enc_vm.specs.Machine.{Thread}
-use Rattle.enc_vm.specs.declared.stop.Stop.{Stop}
+use Rattle.enc_frames.specs.Handlers.{Flown}
+use Rattle.enc_frames.specs.Machine.{Thread}
+use Rattle.enc_frames.specs.declared.stop.Stop.{Stop}
 use Rattle.enc_vm.specs.declared.flights.FlightEnd.{FlightEnd}
 use Rattle.enc_vm.specs.declared.flights.FlightEnd.TheVariants.{Stays, Left, LeftLast}
 

@@ -6,7 +6,7 @@ use Rattle.enc_plain.specs.Module.{Module}
 use Rattle.enc_plain.specs.Sound.{IsSound}
 use Rattle.enc_versions.specs.StandFor.{AreVersionsOf}
 use Rattle.enc_versions.specs.Version.{Version}
-use Rattle.enc_vm.specs.Machine.{World, PlainCode, Task, Shared, MachineState, plain_world, version_world, task_meant, state_meant}
+use Rattle.enc_frames.specs.Machine.{World, PlainCode, Task, Shared, MachineState, plain_world, version_world, task_meant, state_meant}
 use Rattle.enc_vm.specs.Placed.{IsTaskPlaced, AreTasksPlaced}
 use Rattle.enc_vm.specs.Step.{Stepped, Spawning, begun, too_many, no_method, step_task, task_at, state_with, spawn_in}
 

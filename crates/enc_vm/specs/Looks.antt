@@ -1,12 +1,12 @@
 -- What a machine shows of itself: its tasks, their frames, the object that is on its way (ECMA-335 I.12.3).
 use Rattle.std.specs.Prelude.{◌≡◌, ℕ, List, [], ◌∷◌, reverse, slice_get, Option, None, option_map, option_and_then, unwrap_or}
 use Rattle.enc_versions.specs.Version.{Version}
-use Rattle.enc_vm.specs.Callers.{first_if_any}
-use Rattle.enc_vm.specs.Machine.{Frame, Task, going, ended, trapped, MachineState, frame_meant, state_meant}
+use Rattle.enc_frames.specs.Callers.{first_if_any}
+use Rattle.enc_frames.specs.Machine.{Frame, Task, going, ended, trapped, MachineState, frame_meant, state_meant}
 use Rattle.enc_vm.specs.Step.{task_at}
 use Rattle.enc_vm.specs.declared.ends.TaskState.{TaskState}
 use Rattle.enc_vm.specs.declared.ends.TaskState.TheVariants as state
-use Rattle.enc_vm.specs.declared.handler.Flight.{Flight}
+use Rattle.enc_frames.specs.declared.handler.Flight.{Flight}
 
 -- the frames of a task, the innermost first
 abbrev pub frames_of : {C : Type 0} → Task C → List (Frame C)

@@ -3,10 +3,10 @@ use Rattle.std.specs.Prelude.{◌≡◌, ℕ, Bool, true, ◌||◌, List, [], �
 use Rattle.std.specs.List.{list_all}
 use Rattle.enc_opcodes.specs.Body.{Body}
 use Rattle.enc_opcodes.specs.Sound.{begins_at, body_is_sound}
-use Rattle.enc_vm.specs.Machine.{World, Frame, Thread, Task, going, ended, trapped}
-use Rattle.enc_vm.specs.declared.handler.Reason.{Reason}
-use Rattle.enc_vm.specs.declared.handler.Reason.TheVariants as reason
-use Rattle.enc_vm.specs.declared.handler.Running.{Running}
+use Rattle.enc_frames.specs.Machine.{World, Frame, Thread, Task, going, ended, trapped}
+use Rattle.enc_frames.specs.declared.handler.Reason.{Reason}
+use Rattle.enc_frames.specs.declared.handler.Reason.TheVariants as reason
+use Rattle.enc_frames.specs.declared.handler.Running.{Running}
 
 -- an instruction begins at the offset, or the code ends there
 abbrev pub is_place_in : Body → ℕ → Bool

@@ -4,9 +4,9 @@ use Rattle.enc_objects.specs.Objects.{Store, units_held}
 use Rattle.enc_objects.specs.declared.trap.Trap.{Trap}
 use Rattle.enc_objects.specs.declared.value.Value.{Value}
 use Rattle.enc_objects.specs.declared.value.Value.TheVariants.{I4, I8, Null, Obj}
-use Rattle.enc_vm.specs.Console.{digits_of_number, or_empty}
-use Rattle.enc_vm.specs.Machine.{Task, going, ended, trapped}
-use Rattle.enc_vm.specs.Values.{upper}
+use Rattle.enc_frames.specs.Console.{digits_of_number, or_empty}
+use Rattle.enc_frames.specs.Machine.{Task, going, ended, trapped}
+use Rattle.enc_frames.specs.Values.{upper}
 
 -- room for a line end, and for the text or the digits of a value before it
 abbrev pub IsRoomForValue : Store → ℕ → Value → Type 0

@@ -7,9 +7,9 @@ use Rattle.enc_objects.specs.declared.trap.Trap.{Trap}
 use Rattle.enc_plain.specs.Module.{Module}
 use Rattle.enc_versions.specs.Version.{Version}
 use Rattle.enc_vm.specs.Calls.{declaring, touch}
-use Rattle.enc_vm.specs.Machine.{World, Frame, Thread, Shared}
-use Rattle.enc_vm.specs.Memory.{Stored, load_static, store_static, named_field}
-use Rattle.enc_vm.specs.Results.{◌>>=◌, Made}
+use Rattle.enc_frames.specs.Machine.{World, Frame, Thread, Shared}
+use Rattle.enc_frames.specs.Memory.{Stored, load_static, store_static, named_field}
+use Rattle.enc_frames.specs.Results.{◌>>=◌, Made}
 use Rattle.enc_vm.specs.Step.{stored}
 use Rattle.enc_vm.specs.declared.statics.StaticAccess.{StaticAccess}
 use Rattle.enc_vm.specs.declared.statics.StaticAccess.TheVariants.{Load, Store}

@@ -3,9 +3,7 @@ use Rattle.std.specs.Prelude.{ℕ, zero, suc, ◌+◌, Bool, true, false, ◌&&�
 use Rattle.enc_base.specs.declared.token.Token.{Token}
 use Rattle.enc_kinds.specs.Elements.{takes_nothing}
 use Rattle.enc_kinds.specs.Members.{is_static_method, type_constructor, run_body}
-use Rattle.enc_kinds.specs.Types.{type_kind}
 use Rattle.enc_objects.specs.Instructions.{binary_in, unary_in}
-use Rattle.enc_objects.specs.Objects.{Store}
 use Rattle.enc_objects.specs.declared.kind.Kind.{Kind}
 use Rattle.enc_objects.specs.declared.trap.Trap.{Trap}
 use Rattle.enc_objects.specs.declared.trap.Trap.TheVariants.{X1, X2}
@@ -15,21 +13,19 @@ use Rattle.enc_plain.specs.Module.{Module, has_row, cells_of}
 use Rattle.enc_plain.specs.Rows.{bytes_at}
 use Rattle.enc_schema.specs.Columns as columns
 use Rattle.enc_schema.specs.Tables as tables
-use Rattle.enc_vm.specs.Acts.{bare_act, numbered_act, branch_act, token_act}
+use Rattle.enc_frames.specs.Acts.{bare_act, numbered_act, branch_act, token_act}
 use Rattle.enc_vm.specs.Calls.{touch, declaring, call, call_virtual, new_object, return_from, new_frame, with_touched, is_touched}
-use Rattle.enc_vm.specs.Console.{call_outside, new_outside}
-use Rattle.enc_vm.specs.Handlers.{leave_to, throw_object, end_finally, Flown, fly}
-use Rattle.enc_vm.specs.Machine.{World, Frame, Thread, Task, going, ended, trapped, Shared, MachineState}
-use Rattle.enc_vm.specs.Memory.{load_text, load_field_of, store_field_of, named_field, load_static, store_static, new_array_of_kind, array_length, load_element, store_element, cast_to, instance_or_null, Stored}
-use Rattle.enc_vm.specs.Results.{◌>>=◌, or_trap, Shown, nothing_shown, Made, made}
-use Rattle.enc_vm.specs.Straight.{Framed, moved_on, load, load_argument, load_local, store_argument, store_local, argument_kind, local_kind, duplicate, discard, branch_if, branch_by, switch_to, on_upper_two, on_top}
-use Rattle.enc_vm.specs.declared.handler.Flight.{Flight}
-use Rattle.enc_vm.specs.declared.act.Act.{Act}
-use Rattle.enc_vm.specs.declared.act.Act.TheVariants as act
-use Rattle.enc_vm.specs.declared.act.FrameAct.{FrameAct}
-use Rattle.enc_vm.specs.declared.act.FrameAct.TheVariants as frame
-use Rattle.enc_vm.specs.declared.act.ObjectAct.{ObjectAct}
-use Rattle.enc_vm.specs.declared.act.ObjectAct.TheVariants as object
+use Rattle.enc_frames.specs.Console.{call_outside, new_outside}
+use Rattle.enc_frames.specs.Handlers.{throw_object, end_finally, Flown, fly}
+use Rattle.enc_frames.specs.Machine.{World, Frame, Thread, Task, going, ended, trapped, Shared, MachineState}
+use Rattle.enc_frames.specs.Memory.{load_text, named_field, load_static, store_static, Stored}
+use Rattle.enc_frames.specs.Results.{◌>>=◌, or_trap, Shown, nothing_shown, Made, made}
+use Rattle.enc_frames.specs.Straight.{Framed, switch_to, on_upper_two, on_top}
+use Rattle.enc_frames.specs.declared.handler.Flight.{Flight}
+use Rattle.enc_frames.specs.declared.act.Act.{Act}
+use Rattle.enc_frames.specs.declared.act.Act.TheVariants as act
+use Rattle.enc_frames.specs.FrameActs.{frame_act, object_act}
+use Rattle.enc_frames.specs.Lines.{line_among}
 
 -- where the instruction behind a place of the list begins: at the code's end, where there is none
 abbrev pub begin_of : ℕ → List (ℕ × Instruction (List ℕ)) → ℕ
@@ -63,34 +59,6 @@ on_static w s t field go = named_field w.plain field >>= λ k. touch w s t (decl
 -- a call goes to a method of the module or to a member outside
 abbrev pub is_own_method : Token → Bool
 is_own_method t = t.table == tables.method_def
-
--- what an instruction does to its frame alone; next is where the one behind it begins
-unfoldable pub frame_act : {C : Type 0} → World C → ℕ → FrameAct → Frame C → Framed C
-frame_act w next frame.Nothing f = Ok (moved_on next f.stack f)
-frame_act w next (frame.LoadArg n) f = load_argument ((w.body f.code).stack) next n f
-frame_act w next (frame.StoreArg n) f = store_argument (argument_kind w.plain f n) next n f
-frame_act w next (frame.LoadLocal n) f = load_local ((w.body f.code).stack) next n f
-frame_act w next (frame.StoreLocal n) f = store_local (local_kind w.plain ((w.body f.code).locals) f n) next n f
-frame_act w next (frame.Constant v) f = load ((w.body f.code).stack) next v f
-frame_act w next frame.Duplicate f = duplicate ((w.body f.code).stack) next f
-frame_act w next frame.Discard f = discard next f
-frame_act w next (frame.Branch goal) f = Ok (moved_on goal f.stack f)
-frame_act w next (frame.BranchIf wanted goal) f = branch_if wanted goal next f
-frame_act w next (frame.BranchBy test goal) f = branch_by test goal next f
-frame_act w next (frame.Leave goal) f = Ok (leave_to ((w.body f.code).handlers) goal f)
-
--- what one does to objects and its frame
-unfoldable pub object_act : {C : Type 0} → World C → ℕ → ObjectAct → Store → Frame C → Stored C
-object_act w next (object.LoadField field) s f = named_field w.plain field >>= λ k. load_field_of k next field s f
-object_act w next (object.StoreField field) s f = named_field w.plain field >>= λ k. store_field_of k next field s f
-object_act w next (object.NewArray type) s f = or_trap X2 (type_kind w.plain type) >>= λ k. new_array_of_kind k next s f
-object_act w next object.Length s f = array_length next s f
-object_act w next (object.LoadElement k) s f = load_element k next s f
-object_act w next (object.LoadElementOf type) s f = or_trap X2 (type_kind w.plain type) >>= λ k. load_element k next s f
-object_act w next (object.StoreElement k) s f = store_element k next s f
-object_act w next (object.StoreElementOf type) s f = or_trap X2 (type_kind w.plain type) >>= λ k. store_element k next s f
-object_act w next (object.Cast type) s f = cast_to w.plain next type s f
-object_act w next (object.IsInstance type) s f = instance_or_null w.plain next type s f
 
 -- what each instruction does
 unfoldable pub act_on : {C : Type 0} → World C → ℕ → Act → Shared → Thread C → Result (Made C) Trap
@@ -129,12 +97,6 @@ perform w next op (raw bytes) s t = Err X2
 -- a step that runs the instruction at the frame's offset
 unfoldable pub advance : {C : Type 0} → World C → Shared → Thread C → Result (Made C) Trap
 advance w s t = or_trap X1 (instruction_of w t.top) >>= λ x. perform w x.1 x.0.op x.0.arg s t
-
--- the line of a frame's offset: that of its first point there that isn't hidden
-unfoldable pub line_among : ℕ → List (ℕ × Option (ℕ × ℕ × ℕ × ℕ)) → Option ℕ
-line_among offset [] = None
-line_among offset ((at, None) ∷ rest) = line_among offset rest
-line_among offset ((at, Some lines) ∷ rest) = if at == offset then Some lines.0 else line_among offset rest
 
 abbrev pub line_of : {C : Type 0} → World C → Frame C → Option ℕ
 line_of w f = line_among f.offset (w.points f.code)

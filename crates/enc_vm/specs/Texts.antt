@@ -3,7 +3,7 @@ use Rattle.std.specs.Prelude.{◌≡◌, ℕ, Bool, true, ◌&&◌, List, Option
 use Rattle.std.specs.List.{list_all}
 use Rattle.enc_opcodes.specs.Body.{texts_are_there, KeepsTexts}
 use Rattle.enc_versions.specs.Version.{Version}
-use Rattle.enc_vm.specs.Machine.{Frame, Task, going, ended, trapped, MachineState, state_meant}
+use Rattle.enc_frames.specs.Machine.{Frame, Task, going, ended, trapped, MachineState, state_meant}
 
 -- each user text that a version's code names is there, and so for frames, tasks and machines
 abbrev pub version_texts : (ℕ → Option (List ℕ)) → Version → Bool

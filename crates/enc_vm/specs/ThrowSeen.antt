@@ -2,9 +2,9 @@
 use Rattle.std.specs.Prelude.{ℕ, List, Result}
 use Rattle.enc_objects.specs.declared.trap.Trap.{Trap}
 use Rattle.enc_objects.specs.declared.value.Value.{Value}
-use Rattle.enc_vm.specs.Memory.{not_null}
-use Rattle.enc_vm.specs.Results.{◌>>=◌}
-use Rattle.enc_vm.specs.Values.{upper, reference}
+use Rattle.enc_frames.specs.Memory.{not_null}
+use Rattle.enc_frames.specs.Results.{◌>>=◌}
+use Rattle.enc_frames.specs.Values.{upper, reference}
 
 -- the object on the top of a stack
 abbrev pub thrown_object : List Value → Result ℕ Trap

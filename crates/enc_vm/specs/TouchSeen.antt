@@ -9,9 +9,9 @@ use Rattle.enc_objects.specs.Objects.{Store}
 use Rattle.enc_objects.specs.declared.trap.Trap.{Trap}
 use Rattle.enc_versions.specs.Version.{Version}
 use Rattle.enc_vm.specs.Calls.{with_type, enter, entering}
-use Rattle.enc_vm.specs.CallsSeen.{shared_by}
-use Rattle.enc_vm.specs.Machine.{World, Thread, Shared}
-use Rattle.enc_vm.specs.Results.{◌>>=◌, Made}
+use Rattle.enc_frames.specs.FramesSeen.{shared_by}
+use Rattle.enc_frames.specs.Machine.{World, Thread, Shared}
+use Rattle.enc_frames.specs.Results.{◌>>=◌, Made}
 use Rattle.enc_vm.specs.declared.declaring.FirstTouch.{FirstTouch}
 
 -- the touch of a type, none where it isn't its first

@@ -6,8 +6,8 @@ use Rattle.enc_plain.specs.Debug.{PlainPdb}
 use Rattle.enc_plain.specs.Module.{Module}
 use Rattle.enc_versions.specs.StandFor.{AreVersionsOf}
 use Rattle.enc_versions.specs.Version.{Version}
-use Rattle.enc_vm.specs.Machine.{World, MachineState, Task, plain_world, state_meant}
-use Rattle.enc_vm.specs.Results.{Shown}
+use Rattle.enc_frames.specs.Machine.{World, MachineState, Task, plain_world, state_meant}
+use Rattle.enc_frames.specs.Results.{Shown}
 use Rattle.enc_vm.specs.Step.{Ending, ran, done, stopped, Stepped, step_task, task_at, state_with, Spawning, begun, too_many, no_method, spawn_in}
 use Rattle.enc_vm.specs.declared.seen.Seen.{Seen}
 use Rattle.enc_vm.specs.declared.ends.StepEnd.{StepEnd}

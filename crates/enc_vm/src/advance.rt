@@ -4,17 +4,18 @@ ghost use Rattle.enc_base.specs.Numbers.{AreBytes};
 ghost use Rattle.enc_dispatch.specs.Index.{StandsForModule};
 ghost use Rattle.enc_il.specs.Seen.{instr_seen};
 ghost use Rattle.enc_opcodes.specs.Instruction.{instr_in};
-ghost use Rattle.enc_vm.specs.CallsSeen.{AreBodiesOf, shared_by};
+ghost use Rattle.enc_vm.specs.CallsSeen.{AreBodiesOf};
+ghost use Rattle.enc_frames.specs.FramesSeen.{shared_by};
 ghost use Rattle.enc_vm.specs.EffectsSeen.{Performs};
-ghost use Rattle.enc_vm.specs.Machine.{version_world};
+ghost use Rattle.enc_frames.specs.Machine.{version_world};
 ghost use Rattle.enc_vm.specs.Placed.{IsFramePlaced};
 ghost use Rattle.enc_vm.specs.Step.{advance};
 
 use crate::effect::Effect;
-use crate::stop::Stop;
 use crate::thread::Thread;
 use crate::touched::Touched;
 use enc_dispatch::Dispatch;
+use enc_frames::Stop;
 use enc_il::instr_at;
 use enc_objects::{Objects, Trap};
 use enc_opcodes::Instr;
@@ -58,8 +59,8 @@ impl Thread {
         requires placed { IsFramePlaced (version_world (V.users view.now) (V.meaning view.now) versions.now.methods) self.old.top }
         ensures { Performs result (shared_by objects.new touched.new) (shared_by objects.old touched.old) self.new self.old (advance (version_world (V.users view.now) (V.meaning view.now) versions.now.methods) (shared_by objects.old touched.old) self.old) }
     {
-        let code = self.top.code.clone()?;
-        match instruction_in(code.as_ref(), self.top.offset) {
+        let code = self.top.code().clone()?;
+        match instruction_in(code.as_ref(), self.top.offset()) {
             None => Err(Stop::Trap(Trap::X1)),
             Some((instr, next)) => {
                 self.perform(

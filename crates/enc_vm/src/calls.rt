@@ -7,27 +7,24 @@ ghost use Rattle.enc_dispatch.specs.Walks.{is_virtual};
 ghost use Rattle.enc_objects.specs.declared.trap.Trap.TheVariants.{X9, X10};
 ghost use Rattle.enc_plain.specs.Module.{has_row};
 ghost use Rattle.enc_schema.specs.Tables.{method_def};
-ghost use Rattle.enc_vm.specs.ArgumentsSeen.{GivesItems, fitting};
+ghost use Rattle.enc_frames.specs.ArgumentsSeen.{GivesItems, fitting};
 ghost use Rattle.enc_vm.specs.Calls.{object_of, ask_object, class_of_object, reached_on, chosen, call_with, declaring, touch_if, call_touches, named_virtually, call, call_virtual};
-ghost use Rattle.enc_vm.specs.CallsSeen.{AreBodiesOf, Makes, called_on, shared_by};
-ghost use Rattle.enc_vm.specs.Machine.{version_world};
-ghost use Rattle.enc_vm.specs.Straight.{argument_kinds};
+ghost use Rattle.enc_vm.specs.CallsSeen.{AreBodiesOf, Makes, called_on};
+ghost use Rattle.enc_frames.specs.FramesSeen.{shared_by};
+ghost use Rattle.enc_frames.specs.Machine.{version_world};
+ghost use Rattle.enc_frames.specs.Straight.{argument_kinds};
 ghost use Rattle.enc_vm.specs.TouchSeen.{constructed_in, first_on};
-ghost use Rattle.enc_vm.specs.Machine.{Shared};
+ghost use Rattle.enc_frames.specs.Machine.{Shared};
 
-use crate::arguments::{called_kinds, fitting};
 use crate::declaring::{
     FirstTouch, call_touches, declaring, first_touch, is_interface, is_virtual,
 };
-use crate::places::named_method;
 use crate::returns::FrameChange;
-use crate::stack::Stack;
-use crate::stop::Stop;
 use crate::thread::Thread;
 use crate::touched::Touched;
-use crate::values::reference;
 use enc_base::Token;
 use enc_dispatch::Dispatch;
+use enc_frames::{Stack, Stop, called_kinds, fitting, named_method, reference};
 use enc_kinds::MethodShape;
 use enc_objects::{Objects, Shape, Trap, Value};
 use enc_plain::{ModuleView, is_row};
@@ -233,7 +230,7 @@ impl Thread {
         ensures { (touched : List TheToken) → Makes result (shared_by objects.now touched) (shared_by objects.now touched) self.new self.old (call_with (version_world (V.users view.now) (V.meaning view.now) versions.now.methods) manner.asks manner.by_object next method shape.now self.old (shared_by objects.now touched)) }
     {
         let n = called_count(shape);
-        match called_args(alloc, &self.top.stack, shape) {
+        match called_args(alloc, self.top.stack(), shape) {
             Err(stop) => Err(stop),
             Ok(args) => self.call_on(
                 alloc, view, versions, dispatch, objects, manner, next, n, method, args,
@@ -255,7 +252,7 @@ impl Thread {
         requires versions { AreBodiesOf (V.users view.now) (V.meaning view.now) versions.now.methods }
         ensures { (s : Shared) → Makes result s s self.new self.old (constructed_in (version_world (V.users view.now) (V.meaning view.now) versions.now.methods) constructor self.old s) }
     {
-        let next = self.top.offset;
+        let next = self.top.offset();
         match self.enter(alloc, view, versions, constructor, Vec::new(alloc), next, 0) {
             Err(stop) => Err(stop),
             Ok(()) => Ok(FrameChange::Entered(constructor)),

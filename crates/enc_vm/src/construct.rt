@@ -1,103 +1,31 @@
 //! New objects, whose constructors are entered (ECMA-335 III.4.21).
-ghost use Rattle.std.specs.Prelude.{◌≡◌, ◌∷◌, ◌<◌, ◌≤◌, drop, length, nat_lt, List, not, ◌&&◌, IsTrue, IfOk, OnOk, OnErr};
+ghost use Rattle.std.specs.Prelude.{◌≡◌, ◌∷◌, ◌<◌, ◌≤◌, length, List, not, ◌&&◌, IsTrue, IfOk, OnOk, OnErr};
 ghost use Rattle.enc_base.specs.declared.token.Token.{Token as TheToken};
 ghost use Rattle.enc_objects.specs.declared.value.Value.TheVariants.{Null};
 ghost use Rattle.enc_plain.specs.Module.{has_row, cells_of};
 ghost use Rattle.enc_plain.specs.ValueType.{is_value_type};
 ghost use Rattle.enc_schema.specs.Tables.{method_def};
-ghost use Rattle.enc_vm.specs.ArgumentsSeen.{GivesItems};
+ghost use Rattle.enc_frames.specs.ArgumentsSeen.{GivesItems};
 ghost use Rattle.enc_vm.specs.Calls.{construct, declaring, new_object, touch};
-ghost use Rattle.enc_vm.specs.CallsSeen.{AreBodiesOf, Makes, shared_by};
-ghost use Rattle.enc_vm.specs.ConstructSeen.{with_nearest, nearest_or, with_object_first, made_ready, let_go, held_begun, object_entered, with_null, frame_made, constructed_on};
-ghost use Rattle.enc_vm.specs.Does.{Does, GivesOrStops};
-ghost use Rattle.enc_vm.specs.Machine.{version_world};
-ghost use Rattle.enc_vm.specs.Straight.{moved_on};
+ghost use Rattle.enc_vm.specs.CallsSeen.{AreBodiesOf, Makes};
+ghost use Rattle.enc_frames.specs.FramesSeen.{shared_by};
+ghost use Rattle.enc_vm.specs.ConstructSeen.{made_ready, let_go, held_begun, object_entered, with_null, frame_made, constructed_on};
+ghost use Rattle.enc_frames.specs.Does.{Does, GivesOrStops};
+ghost use Rattle.enc_frames.specs.Machine.{version_world};
 ghost use Rattle.enc_vm.specs.TouchSeen.{first_on};
 
-use crate::arguments::{fitting, taken_kinds};
-use crate::callers::Callers;
 use crate::declaring::{FirstTouch, declaring, first_touch};
-use crate::enter::{MOST_FRAMES, code_now, new_frame};
-use crate::frame::Frame;
-use crate::places::named_method;
+use crate::enter::{MOST_FRAMES, code_now};
 use crate::returns::FrameChange;
-use crate::stack::Stack;
-use crate::stop::Stop;
 use crate::thread::Thread;
 use crate::touched::Touched;
 use enc_base::Token;
+use enc_frames::{Frame, Stack, Stop, fitting, named_method, new_frame, taken_kinds};
 use enc_kinds::MethodShape;
 use enc_objects::{Objects, Trap, Value};
 use enc_plain::{ModuleView, Viewed, is_value_type};
 use enc_versions::Versions;
 use std::alloc::{AllocError, Global};
-use std::mem;
-
-impl Callers {
-    /// A frame more, which is the nearest. Without memory nothing changes.
-    fn hold(&mut self, frame: Frame) -> Result<(), AllocError>
-        requires { length self.old < 1023 }
-        ensures ok { OnOk result (self.new ≡ frame ∷ self.old) }
-        ensures err { OnErr result (self.new ≡ self.old) }
-    {
-        self.items.push(frame)?;
-        Ok(())
-    }
-
-    /// The innermost frame and the nearest below it change places, where there is one below.
-    fn swap_nearest(&mut self, top: &mut Frame)
-        ensures below { self.new ≡ with_nearest top.old self.old }
-        ensures top { top.new ≡ nearest_or top.old self.old }
-    {
-        let n = self.items.len();
-        if n == 0 {
-            return;
-        }
-        mem::swap(top, &mut self.items[n - 1]);
-    }
-}
-
-impl Frame {
-    /// Whether its stack can hold one value more in the place of so many.
-    fn can_take(&self, n: usize) -> bool
-        requires { n ≤ length self.now.stack }
-        ensures { result ≡ nat_lt (length (drop n self.now.stack)) self.now.code.code.max }
-    {
-        self.stack.len() - n < self.max() as usize
-    }
-
-    /// Null more on its stack. Without memory nothing changes.
-    fn push_null(&mut self) -> Result<(), AllocError>
-        ensures ok { OnOk result (self.new ≡ record self.old { stack = Null ∷ self.old.stack }) }
-        ensures err { OnErr result (self.new ≡ self.old) }
-    {
-        self.stack.push(Value::Null)
-    }
-
-    /// The value on the top of its stack goes.
-    fn pop(&mut self)
-        ensures { self.new ≡ record self.old { stack = drop 1 self.old.stack } }
-    {
-        self.stack.remove(1);
-    }
-
-    /// It goes on at an offset, with a value in the place of so many upper ones.
-    fn put(&mut self, next: u32, n: usize, value: Value)
-        requires some { 0 < n }
-        requires there { n ≤ length self.old.stack }
-        ensures { self.new ≡ moved_on next (value ∷ drop n self.old.stack) self.old }
-    {
-        self.stack.replace(n, value);
-        self.offset = next;
-    }
-
-    /// Its first argument becomes another.
-    fn set_object(&mut self, value: Value)
-        ensures { self.new ≡ with_object_first value self.old }
-    {
-        self.args.set(0, value);
-    }
-}
 
 impl Thread {
     /// A frame stands ready below the innermost one, and null on that one's stack. Without memory nothing
@@ -269,7 +197,7 @@ impl Thread {
     {
         let n = shape.takes().len();
         let class = declaring(view, method);
-        match constructor_args(alloc, &self.top.stack, shape) {
+        match constructor_args(alloc, self.top.stack(), shape) {
             Err(stop) => Err(stop),
             Ok(args) => self.construct_on(
                 alloc, view, versions, objects, next, n, class, method, args,

@@ -1,23 +1,22 @@
 //! What instructions make of a task, by what they change.
-ghost use Rattle.std.specs.Prelude.{◌≡◌, ℕ, List, Option};
+ghost use Rattle.std.specs.Prelude.{ℕ, List, Option};
 ghost use Rattle.enc_base.specs.declared.token.Token.{Token as TheToken};
 ghost use Rattle.enc_dispatch.specs.Index.{StandsForModule};
 ghost use Rattle.enc_versions.specs.Version.{Version};
 ghost use Rattle.enc_vm.specs.Calls.{return_from};
-ghost use Rattle.enc_vm.specs.CallsSeen.{shared_by};
+ghost use Rattle.enc_frames.specs.FramesSeen.{shared_by};
 ghost use Rattle.enc_vm.specs.EffectsSeen.{Performs};
-ghost use Rattle.enc_vm.specs.Handlers.{end_finally, throw_object};
-ghost use Rattle.enc_vm.specs.Machine.{Shared, version_world};
-ghost use Rattle.enc_vm.specs.Step.{frame_act, object_act, framed, stored, threaded};
-ghost use Rattle.enc_vm.specs.Straight.{on_upper_two, on_top};
+ghost use Rattle.enc_frames.specs.Handlers.{end_finally, throw_object};
+ghost use Rattle.enc_frames.specs.Machine.{Shared, version_world};
+ghost use Rattle.enc_frames.specs.FrameActs.{frame_act, object_act};
+ghost use Rattle.enc_vm.specs.Step.{framed, stored, threaded};
+ghost use Rattle.enc_frames.specs.Straight.{on_upper_two, on_top};
 
-use crate::act::{FrameAct, ObjectAct};
 use crate::effect::Effect;
-use crate::object_act::act_on_objects;
 use crate::returns::FrameChange;
-use crate::stop::Stop;
 use crate::thread::Thread;
 use enc_dispatch::Dispatch;
+use enc_frames::{FrameAct, ObjectAct, Stop, act_on_objects};
 use enc_objects::Objects;
 use enc_opcodes::Op;
 use enc_plain::ModuleView;
@@ -83,7 +82,7 @@ impl Thread {
     }
 
     /// `endfinally`.
-    #[tactic(auto, unfolding(crate::specs::Machine::version_world, enc_opcodes::specs::Body::body_of))]
+    #[tactic(auto, unfolding(enc_frames::specs::Machine::version_world, enc_opcodes::specs::Body::body_of))]
     pub(crate) fn end_handler<V: ModuleView>(
         &mut self,
         alloc: Global,

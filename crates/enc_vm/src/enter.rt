@@ -1,30 +1,21 @@
 //! Frames at their method's first instruction (ECMA-335 I.12.3.2).
-ghost use Rattle.std.specs.Prelude.{◌≡◌, ◌∷◌, ◌<◌, [], drop, length, map, option_map, unwrap_or, IsTrue, IfOk, IfSome, OnOk, OnErr};
-ghost use Rattle.enc_kinds.specs.Members.{local_kinds};
-ghost use Rattle.enc_objects.specs.Values.{default_of};
+ghost use Rattle.std.specs.Prelude.{◌≡◌, ◌<◌, drop, option_map, IfSome};
 ghost use Rattle.enc_schema.specs.Tables.{method_def};
 ghost use Rattle.enc_vm.specs.Calls.{enter};
-ghost use Rattle.enc_vm.specs.CallsSeen.{AreBodiesOf, frame_at};
-ghost use Rattle.enc_vm.specs.Does.{Does};
-ghost use Rattle.enc_vm.specs.Machine.{version_world};
-ghost use Rattle.enc_vm.specs.Straight.{moved_on};
+ghost use Rattle.enc_vm.specs.CallsSeen.{AreBodiesOf};
+ghost use Rattle.enc_frames.specs.Does.{Does};
+ghost use Rattle.enc_frames.specs.Machine.{version_world};
+ghost use Rattle.enc_frames.specs.Straight.{moved_on};
 
-use crate::arguments::defaults;
-use crate::callers::Callers;
-use crate::cells::Cells;
-use crate::frame::Frame;
-use crate::handlers::RunningHandlers;
-use crate::stack::Stack;
-use crate::stop::Stop;
 use crate::thread::Thread;
 use enc_base::Token;
-use enc_kinds::{local_kinds, method_shape, runs_body};
+use enc_frames::{Stop, new_frame};
+use enc_kinds::{method_shape, runs_body};
 use enc_objects::{Trap, Value};
 use enc_plain::{ModuleView, is_row};
 use enc_schema::tables::METHOD_DEF;
 use enc_versions::{Code, Versions};
-use std::alloc::{AllocError, Global};
-use std::mem;
+use std::alloc::Global;
 use std::rc::Rc;
 
 /// As many frames as a task can have.
@@ -57,78 +48,6 @@ pub(crate) fn code_now<'a, V: ModuleView>(
         return None;
     }
     Some(code)
-}
-
-/// The defaults of the local variables of a signature, none where one of them has no kind (ECMA-335
-/// II.23.2.6).
-fn first_locals<V: ModuleView>(
-    alloc: Global,
-    view: &V,
-    locals: Token,
-) -> Result<Vec<Value>, AllocError>
-    ensures { IfOk result (λ l. l.items ≡ map default_of (unwrap_or (local_kinds (V.meaning view.now) locals) [])) }
-{
-    match local_kinds(view, locals) {
-        None => Ok(Vec::new(alloc)),
-        Some(kinds) => defaults(alloc, &kinds),
-    }
-}
-
-/// A frame at its method's first instruction, with these arguments and an empty stack.
-pub(crate) fn new_frame<V: ModuleView>(
-    alloc: Global,
-    view: &V,
-    method: Token,
-    code: Rc<Code>,
-    args: Vec<Value>,
-) -> Result<Frame, AllocError>
-    requires { method.table ≡ method_def }
-    ensures { IfOk result (λ f. f ≡ frame_at (V.meaning view.now) method code.value args.items) }
-{
-    let locals = first_locals(alloc, view, code.as_ref().body().locals)?;
-    Ok(Frame {
-        method,
-        code,
-        offset: 0,
-        args: Cells::of(args),
-        locals: Cells::of(locals),
-        stack: Stack::begin(alloc),
-        running: RunningHandlers::begin(alloc),
-    })
-}
-
-impl Frame {
-    /// It goes on at an offset, with so many values fewer on its stack.
-    pub(crate) fn move_on(&mut self, next: u32, n: usize)
-        ensures { self.new ≡ moved_on next (drop n self.old.stack) self.old }
-    {
-        self.stack.remove(n);
-        self.offset = next;
-    }
-}
-
-impl Callers {
-    /// A frame becomes the innermost one, and what was it the nearest below, which goes on at an offset with
-    /// so many values fewer on its stack. Without memory nothing changes.
-    fn enter_call(
-        &mut self,
-        top: &mut Frame,
-        frame: Frame,
-        next: u32,
-        n: usize,
-    ) -> Result<(), AllocError>
-        requires { length self.old < 1023 }
-        ensures top { OnOk result (top.new ≡ frame) }
-        ensures below { OnOk result (self.new ≡ moved_on next (drop n top.old.stack) top.old ∷ self.old) }
-        ensures same_top { OnErr result (top.new ≡ top.old) }
-        ensures same_below { OnErr result (self.new ≡ self.old) }
-    {
-        self.items.push(frame)?;
-        let last = self.items.len() - 1;
-        top.move_on(next, n);
-        mem::swap(top, &mut self.items[last]);
-        Ok(())
-    }
 }
 
 impl Thread {

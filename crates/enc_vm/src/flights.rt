@@ -1,50 +1,19 @@
 //! Thrown objects on their way, and what runs on the way (ECMA-335 I.12.4.2).
-ghost use Rattle.std.specs.Prelude.{◌≡◌, ◌∷◌, [], ◌<◌, ◌^◌, length, Option, Some, None, option_map};
-ghost use Rattle.enc_vm.specs.Callers.{without_first};
-ghost use Rattle.enc_vm.specs.Does.{Does};
+ghost use Rattle.std.specs.Prelude.{◌≡◌, ◌<◌, Some, None};
+ghost use Rattle.enc_frames.specs.Callers.{without_first};
+ghost use Rattle.enc_frames.specs.Does.{Does};
 ghost use Rattle.enc_vm.specs.FlightsSeen.{FliesTo, Flies};
-ghost use Rattle.enc_vm.specs.declared.handler.Reason.TheVariants as TheReason;
-ghost use Rattle.enc_vm.specs.Handlers.{ending_handler, end_finally, resumed_by, is_taking, way_out, fly, flown, handled, taken_in, object_taken, left_on, leave_to};
-ghost use Rattle.enc_vm.specs.HandlersSeen.{own_clauses};
+ghost use Rattle.enc_frames.specs.declared.handler.Reason.TheVariants as TheReason;
+ghost use Rattle.enc_frames.specs.Handlers.{end_finally, resumed_by, is_taking, way_out, fly, flown, handled, object_taken, left_on};
+ghost use Rattle.enc_frames.specs.HandlersSeen.{own_clauses};
 ghost use Rattle.std.specs.Prelude.{Ok};
 
-use crate::frame::Frame;
-use crate::handler::{Flight, Reason, Running};
-use crate::handlers::{handler_range, is_within};
-use crate::stop::Stop;
 use crate::thread::Thread;
 use enc_base::Token;
-use enc_objects::{Trap, Value};
+use enc_frames::{Flight, Reason, Running, Stop};
+use enc_objects::Trap;
 use enc_unwind::{Stop as WayOut, next_handler};
 use std::alloc::Global;
-use std::mem;
-
-impl Frame {
-    /// `leave` to an offset (ECMA-335 III.3.46).
-    #[tactic(auto, unfolding(crate::specs::Handlers::leave_to))]
-    pub(crate) fn leave(&mut self, alloc: Global, goal: u32) -> Result<(), Stop>
-        ensures { Does result self.new self.old (Ok (leave_to (own_clauses self.old) goal self.old)) }
-    {
-        let next = next_handler(&self.body(), None, self.offset, WayOut::Leave(goal));
-        self.leave_by(alloc, self.offset, goal, next)
-    }
-}
-
-impl Frame {
-    /// The handler of a clause begins with a thrown object.
-    #[tactic(auto, unfolding(crate::specs::Handlers::gone_to))]
-    fn take(&mut self, alloc: Global, clause: u32, object: u32) -> Result<(), Stop>
-        ensures { Does result self.new self.old (Ok (taken_in (own_clauses self.old) clause object self.old)) }
-    {
-        let code = self.body();
-        let begin = handler_range(&code, clause).0;
-        let running = self.running.kept(alloc, &code, begin)?;
-        self.stack.be_single(Value::Obj(object))?;
-        self.running = running;
-        self.offset = begin;
-        Ok(())
-    }
-}
 
 impl Thread {
     /// Whether the innermost frame takes the object of a flight.
@@ -66,51 +35,25 @@ impl Thread {
 }
 
 impl Thread {
-    /// The handler that ends where the innermost frame stands, None where none does.
-    fn ending(&self) -> Option<Running>
-        ensures { option_map (λ r. (r, without_first self.now.top.running)) result ≡ ending_handler (own_clauses self.now.top) self.now.top.offset self.now.top.running }
-    {
-        let handler = self.top.running.last()?;
-        let range = handler_range(&self.top.body(), handler.clause);
-        if !is_within(range, self.top.offset) {
-            return None;
-        }
-        Some(handler)
-    }
-
-    /// The way out by `leave` goes on behind a handler, which ends.
+    /// The way out by `leave` goes on behind a handler of the innermost frame, which ends.
     fn resume(&mut self, alloc: Global, handler: Running, goal: u32) -> Result<(), Stop>
         ensures { Does result self.new self.old (Ok (resumed_by (own_clauses self.old.top) self.old handler (TheReason.Leave goal) (record self.old.top { running = without_first self.old.top.running }))) }
     {
-        let next = next_handler(
-            &self.top.body(),
-            Some(handler.clause),
-            handler.origin,
-            WayOut::Leave(goal),
-        );
-        let rest = self.top.running.before_last(alloc)?;
-        let running = mem::replace(&mut self.top.running, rest);
-        match self.top.leave_by(alloc, handler.origin, goal, next) {
-            Ok(()) => Ok(()),
-            Err(stop) => {
-                self.top.running = running;
-                Err(stop)
-            }
-        }
+        self.top.resume(alloc, handler, goal)
     }
 
     /// `endfinally` (ECMA-335 III.3.35).
-    #[tactic(auto, unfolding(crate::specs::Handlers::end_finally))]
+    #[tactic(auto, unfolding(enc_frames::specs::Handlers::end_finally))]
     pub(crate) fn end_finally(&mut self, alloc: Global) -> Result<(), Stop>
         ensures { Does result self.new self.old (end_finally (own_clauses self.old.top) self.old) }
     {
-        let Some(handler) = self.ending() else {
+        let Some(handler) = self.top.ending() else {
             return Err(Stop::Trap(Trap::X2));
         };
         match handler.reason {
             Reason::Leave(goal) => self.resume(alloc, handler, goal),
             Reason::Flight(flight) => {
-                self.top.running.end_last();
+                self.top.end_handler();
                 self.flight = Some(flight);
                 Ok(())
             }
@@ -163,11 +106,11 @@ impl Thread {
     fn leave_on(&mut self, flight: Flight) -> FlightEnd
         ensures { FliesTo result self.new self.old (left_on self.old flight self.old.below) }
     {
-        let method = self.top.method;
+        let method = self.top.method();
         let Some(frame) = self.below.leave() else {
             return FlightEnd::LeftLast(method);
         };
-        let origin = frame.offset.saturating_sub(1);
+        let origin = frame.offset().saturating_sub(1);
         self.top = frame;
         self.flight = Some(Flight {
             origin,
@@ -181,7 +124,7 @@ impl Thread {
 impl Thread {
     /// A step of a task whose object is on its way: the handler of the next clause begins, or the object is
     /// taken, or the innermost frame is left. Without memory nothing changes.
-    #[tactic(auto, unfolding(crate::specs::Handlers::fly))]
+    #[tactic(auto, unfolding(enc_frames::specs::Handlers::fly))]
     pub(crate) fn fly(&mut self, alloc: Global, flight: Flight) -> Result<FlightEnd, Stop>
         ensures { Flies result self.new self.old (fly (own_clauses self.old.top) self.old flight) }
     {

@@ -1,56 +1,32 @@
 //! The interpreter: tasks, their frames, and every step of each (ECMA-335 I.12.3, III).
 #![tactic(auto)]
 
-mod act;
 mod advance;
-mod arguments;
-mod callers;
 mod calls;
-mod casts;
-mod catching;
-mod cells;
-mod console;
 mod construct;
 mod declaring;
-mod decode;
 mod effect;
 mod effects;
 mod ends;
 mod enter;
 mod flights;
-mod frame;
-mod frame_act;
-mod frame_ref;
-mod handler;
-mod handlers;
-mod heap;
 mod laws;
-mod line;
 mod look;
 mod machine;
 mod members;
-mod object_act;
 mod perform;
-mod places;
 mod returns;
 mod room;
 mod seen;
 mod spawn;
-mod stack;
 mod statics;
-mod stop;
-mod straight;
-mod switch;
 mod task;
-mod texts;
 mod thread;
 mod throwing;
-mod told;
 mod touched;
-mod values;
 
+pub use enc_frames::FrameRef;
 pub use ends::{SpawnEnd, StepEnd, TaskState};
-pub use frame_ref::FrameRef;
 pub use laws::{kept_place_laws, meaning_laws, place_laws, text_law};
 pub use look::look_laws;
 pub use machine::Machine;

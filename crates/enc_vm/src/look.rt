@@ -5,11 +5,11 @@ ghost use Rattle.enc_vm.specs.Looks.{FlightsLookAlike, FramesLookAlike, StatesLo
 ghost use Rattle.enc_vm.specs.Step.{task_at};
 
 use crate::ends::TaskState;
-use crate::frame_ref::FrameRef;
 use crate::machine::Machine;
 use crate::task::Task;
 use crate::thread::Thread;
 use enc_base::Token;
+use enc_frames::FrameRef;
 use enc_objects::Objects;
 
 impl Thread {
@@ -19,8 +19,8 @@ impl Thread {
     {
         let below = self.below.as_slice();
         match below.get(i as usize) {
-            Some(frame) => Some(FrameRef { frame }),
-            None if i as usize == below.len() => Some(FrameRef { frame: &self.top }),
+            Some(frame) => Some(frame.shown()),
+            None if i as usize == below.len() => Some(self.top.shown()),
             None => None,
         }
     }
@@ -44,9 +44,7 @@ impl Task {
     {
         match self.state {
             TaskState::Ended => None,
-            TaskState::Running | TaskState::Trapped(_) => Some(FrameRef {
-                frame: &self.thread.top,
-            }),
+            TaskState::Running | TaskState::Trapped(_) => Some(self.thread.top.shown()),
         }
     }
 

@@ -1,9 +1,9 @@
 //! The machine: tasks and the objects that they share (ECMA-335 I.12.3).
-ghost use Rattle.std.specs.Prelude.{◌≡◌, ℕ, List, Option, length, slice_get, IfSome, Some, is_some, IsTrue};
+ghost use Rattle.std.specs.Prelude.{◌≡◌, ℕ, List, Option, length, Some, IsTrue};
 ghost use Rattle.enc_dispatch.specs.Index.{StandsForModule};
 ghost use Rattle.enc_plain.specs.Sound.{IsSound};
 ghost use Rattle.enc_vm.specs.CallsSeen.{AreBodiesOf};
-ghost use Rattle.enc_vm.specs.Machine.{at_rest, version_world};
+ghost use Rattle.enc_frames.specs.Machine.{at_rest, version_world};
 ghost use Rattle.enc_vm.specs.Step.{spawn_in};
 ghost use Rattle.enc_vm.specs.Texts.{machine_texts};
 ghost use Rattle.enc_vm.specs.Turns.{IsPlainSpawn, IsPlainTurn, IsSpawn, IsTurn, KeepsSeen, machine_turn};
@@ -39,7 +39,7 @@ impl Model for Machine {
     ghost use Rattle.std.specs.Prelude.{◌≤◌, length};
     ghost use Rattle.enc_versions.specs.Version.{Version};
     ghost use Rattle.enc_vm.specs.Anywhere.{ArePlacedAnywhere};
-    ghost use Rattle.enc_vm.specs.Machine.{MachineState};
+    ghost use Rattle.enc_frames.specs.Machine.{MachineState};
 
     ghost Value = { MachineState Version };
 

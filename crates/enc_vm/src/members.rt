@@ -1,27 +1,27 @@
 //! Instructions that name a method or a static field: of the module, or outside (ECMA-335 III.3.19, III.4).
-ghost use Rattle.std.specs.Prelude.{◌≡◌, List, Option, Result, if◌then◌else◌};
+ghost use Rattle.std.specs.Prelude.{List, Option, Result};
 ghost use Rattle.enc_base.specs.declared.token.Token.{Token as TheToken};
 ghost use Rattle.enc_dispatch.specs.Index.{StandsForModule};
 ghost use Rattle.enc_versions.specs.Version.{Version};
-ghost use Rattle.enc_vm.specs.CallsSeen.{AreBodiesOf, shared_by};
-ghost use Rattle.enc_vm.specs.Console.{call_outside, new_outside};
+ghost use Rattle.enc_vm.specs.CallsSeen.{AreBodiesOf};
+ghost use Rattle.enc_frames.specs.FramesSeen.{shared_by};
+ghost use Rattle.enc_frames.specs.Console.{call_outside, new_outside};
 ghost use Rattle.enc_vm.specs.EffectsSeen.{Performs};
 ghost use Rattle.enc_objects.specs.Objects.{Store};
 ghost use Rattle.enc_objects.specs.declared.trap.Trap.{Trap};
-ghost use Rattle.enc_vm.specs.ConsoleSeen.{MakesWriting};
-ghost use Rattle.enc_vm.specs.Machine.{Frame as TheFrame, Thread as TheThread, version_world};
-ghost use Rattle.enc_vm.specs.Results.{Made};
+ghost use Rattle.enc_frames.specs.ConsoleSeen.{MakesWriting};
+ghost use Rattle.enc_frames.specs.Machine.{Frame as TheFrame, Thread as TheThread, version_world};
+ghost use Rattle.enc_frames.specs.Results.{Made};
 ghost use Rattle.enc_vm.specs.Step.{act_on};
-ghost use Rattle.enc_vm.specs.declared.act.Act.TheVariants as TheAct;
+ghost use Rattle.enc_frames.specs.declared.act.Act.TheVariants as TheAct;
 
-use crate::console::{self, Written};
 use crate::effect::Effect;
 use crate::returns::FrameChange;
-use crate::stop::Stop;
 use crate::thread::Thread;
 use crate::touched::Touched;
 use enc_base::Token;
 use enc_dispatch::Dispatch;
+use enc_frames::{Stop, Written, call_outside, new_outside};
 use enc_objects::Objects;
 use enc_plain::ModuleView;
 use enc_schema::tables::METHOD_DEF;
@@ -52,15 +52,7 @@ impl Thread {
     ) -> Result<Effect, Stop>
         ensures { (methods : List (Option Version)) (touched : List TheToken) → Performs result (shared_by objects.new touched) (shared_by objects.old touched) self.new self.old (call_outside (version_world (V.users view.now) (V.meaning view.now) methods) asked next member (shared_by objects.old touched) self.old) }
     {
-        let written = console::call_outside(
-            alloc,
-            view,
-            objects,
-            &mut self.top,
-            asked,
-            next,
-            member,
-        );
+        let written = call_outside(alloc, view, objects, &mut self.top, asked, next, member);
         effect_of(written)
     }
 
@@ -74,7 +66,7 @@ impl Thread {
     ) -> Result<Effect, Stop>
         ensures { (methods : List (Option Version)) (touched : List TheToken) → Performs result (shared_by objects.new touched) (shared_by objects.old touched) self.new self.old (new_outside (version_world (V.users view.now) (V.meaning view.now) methods) next member (shared_by objects.old touched) self.old) }
     {
-        let written = console::new_outside(view, objects, &mut self.top, next, member);
+        let written = new_outside(view, objects, &mut self.top, next, member);
         effect_of(written)
     }
 

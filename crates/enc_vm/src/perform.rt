@@ -1,5 +1,5 @@
 //! Instructions, by their codes and arguments (ECMA-335 III.1.2).
-ghost use Rattle.std.specs.Prelude.{◌≡◌, [], ℕ, List, Option, unwrap_or, if◌then◌else◌};
+ghost use Rattle.std.specs.Prelude.{[], List, Option, unwrap_or};
 ghost use Rattle.enc_base.specs.Units.{units_of};
 ghost use Rattle.enc_base.specs.declared.token.Token.{Token as TheToken};
 ghost use Rattle.enc_dispatch.specs.Index.{StandsForModule};
@@ -7,23 +7,20 @@ ghost use Rattle.enc_il.specs.Seen.{arg_seen};
 ghost use Rattle.enc_opcodes.specs.Body.{told};
 ghost use Rattle.enc_opcodes.specs.Instruction.{all_reached};
 ghost use Rattle.enc_versions.specs.Version.{Version};
-ghost use Rattle.enc_vm.specs.CallsSeen.{AreBodiesOf, shared_by};
+ghost use Rattle.enc_vm.specs.CallsSeen.{AreBodiesOf};
+ghost use Rattle.enc_frames.specs.FramesSeen.{shared_by};
 ghost use Rattle.enc_vm.specs.EffectsSeen.{Performs};
-ghost use Rattle.enc_vm.specs.Machine.{Shared, version_world};
-ghost use Rattle.enc_vm.specs.Memory.{load_text};
+ghost use Rattle.enc_frames.specs.Machine.{Shared, version_world};
+ghost use Rattle.enc_frames.specs.Memory.{load_text};
 ghost use Rattle.enc_vm.specs.Step.{framed, stored, act_on, act_or_trap, bare_on, perform};
-ghost use Rattle.enc_vm.specs.Straight.{switch_to};
+ghost use Rattle.enc_frames.specs.Straight.{switch_to};
 
-use crate::act::Act;
-use crate::decode::{bare_act, branch_act, numbered_act, token_act};
 use crate::effect::Effect;
-use crate::heap::load_text;
 use crate::returns::FrameChange;
-use crate::stop::Stop;
 use crate::thread::Thread;
-use crate::told::units_told;
 use crate::touched::Touched;
 use enc_dispatch::Dispatch;
+use enc_frames::{Act, Stop, bare_act, branch_act, load_text, numbered_act, token_act, units_told};
 use enc_objects::{Objects, Trap, is_binary, is_unary};
 use enc_opcodes::{Arg, Instr, Op};
 use enc_plain::ModuleView;

@@ -1,20 +1,15 @@
 //! Returns from methods (ECMA-335 III.3.57).
-ghost use Rattle.std.specs.Prelude.{◌≡◌, ℕ, List, Option};
+ghost use Rattle.std.specs.Prelude.{ℕ, List, Option};
 ghost use Rattle.enc_versions.specs.Version.{Version};
-ghost use Rattle.enc_vm.specs.Calls.{value_given, return_from as returned_from};
-ghost use Rattle.enc_vm.specs.CallsSeen.{handed_in, handed_first, Makes, left_with};
-ghost use Rattle.enc_vm.specs.Does.{Does};
-ghost use Rattle.enc_vm.specs.Machine.{Shared, version_world};
+ghost use Rattle.enc_vm.specs.Calls.{return_from as returned_from};
+ghost use Rattle.enc_vm.specs.CallsSeen.{Makes, left_with};
+ghost use Rattle.enc_frames.specs.Machine.{Shared, version_world};
 
-use crate::callers::Callers;
-use crate::frame::Frame;
-use crate::stack::Stack;
-use crate::stop::Stop;
 use crate::thread::Thread;
-use crate::values::fit;
 use enc_base::Token;
+use enc_frames::Stop;
 use enc_kinds::method_shape;
-use enc_objects::{Kind, Trap, Value};
+use enc_objects::{Trap, Value};
 use enc_plain::ModuleView;
 
 /// What an instruction made of a task's frames.
@@ -30,54 +25,12 @@ pub(crate) enum FrameChange {
     LeftLast(Token),
 }
 
-/// What a method gives: nothing, or the value on the top as it is. X4 where that is of a wrong kind.
-fn given(kind: Option<Kind>, stack: &Stack) -> Result<Option<Value>, Trap>
-    ensures { result ≡ value_given kind stack.now }
-{
-    let Some(kind) = kind else {
-        return Ok(None);
-    };
-    let value = stack.upper()?;
-    let _ = fit(kind, value)?;
-    Ok(Some(value))
-}
-
-impl Frame {
-    /// A value that was given goes on its stack, if any. X13 where the stack may not hold more.
-    fn take_given(&mut self, value: Option<Value>) -> Result<(), Stop>
-        ensures { Does result self.new self.old (handed_in value self.old) }
-    {
-        let Some(value) = value else {
-            return Ok(());
-        };
-        if self.stack.len() >= self.max() as usize {
-            return Err(Stop::Trap(Trap::X13));
-        }
-        self.stack.push(value)?;
-        Ok(())
-    }
-}
-
-impl Callers {
-    /// A value that was given goes on the nearest frame's stack, if any.
-    #[tactic(auto, using(crate::proofs::Handed::none_there))]
-    fn hand(&mut self, value: Option<Value>) -> Result<(), Stop>
-        ensures { Does result self.new self.old (handed_first value self.old) }
-    {
-        let n = self.items.len();
-        if n == 0 {
-            return Ok(());
-        }
-        self.items[n - 1].take_given(value)
-    }
-}
-
 impl Thread {
     /// The innermost frame is left, and its value goes to the nearest below; the task ends with its last one.
     fn leave(&mut self, value: Option<Value>) -> Result<FrameChange, Stop>
         ensures { (s : Shared) → Makes result s s self.new self.old (left_with s self.old.top.method value self.old.below) }
     {
-        let method = self.top.method;
+        let method = self.top.method();
         self.below.hand(value)?;
         let Some(frame) = self.below.leave() else {
             return Ok(FrameChange::LeftLast(method));
@@ -92,10 +45,10 @@ impl Thread {
     pub(crate) fn leave_method<V: ModuleView>(&mut self, view: &V) -> Result<FrameChange, Stop>
         ensures { (users : ℕ → Option (List ℕ)) (methods : List (Option Version)) (s : Shared) → Makes result s s self.new self.old (returned_from (version_world users (V.meaning view.now) methods) s self.old) }
     {
-        let Some(shape) = method_shape(view, self.top.method) else {
+        let Some(shape) = method_shape(view, self.top.method()) else {
             return Err(Stop::Trap(Trap::X2));
         };
-        match given(shape.gives(), &self.top.stack) {
+        match self.top.given(shape.gives()) {
             Err(trap) => Err(Stop::Trap(trap)),
             Ok(value) => self.leave(value),
         }

@@ -2,18 +2,18 @@
 ghost use Rattle.std.specs.Prelude.{◌+◌, ◌≤◌, ℕ, length, List, Option, IfSome};
 ghost use Rattle.enc_objects.specs.Objects.{units_held};
 ghost use Rattle.enc_versions.specs.Version.{Version};
-ghost use Rattle.enc_vm.specs.Console.{digits_of_number, or_empty};
-ghost use Rattle.enc_vm.specs.Machine.{version_world};
+ghost use Rattle.enc_frames.specs.Console.{digits_of_number, or_empty};
+ghost use Rattle.enc_frames.specs.Machine.{version_world};
 ghost use Rattle.enc_vm.specs.Room.{WritesAtMost};
 ghost use Rattle.enc_vm.specs.RoomSeen.{IsRoomForTask, IsRoomForTop, IsRoomForValue};
 ghost use Rattle.enc_vm.specs.Step.{task_at};
 ghost use Rattle.enc_vm.specs.Turns.{machine_turn};
-ghost use Rattle.enc_vm.specs.Values.{upper};
+ghost use Rattle.enc_frames.specs.Values.{upper};
 
 use crate::ends::TaskState;
 use crate::machine::Machine;
-use crate::stack::Stack;
 use crate::task::Task;
+use enc_frames::Stack;
 use enc_objects::{Objects, Value};
 use enc_plain::ModuleView;
 
@@ -66,7 +66,7 @@ impl Task {
         match self.state {
             TaskState::Ended => 0,
             TaskState::Trapped(_) => 0,
-            TaskState::Running => top_room(objects, &self.thread.top.stack),
+            TaskState::Running => top_room(objects, self.thread.top.stack()),
         }
     }
 }

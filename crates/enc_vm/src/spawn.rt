@@ -1,20 +1,20 @@
 //! New tasks (ECMA-335 I.12.3.2).
-ghost use Rattle.std.specs.Prelude.{◌≡◌, [], is_some, IfOk, IsTrue};
+ghost use Rattle.std.specs.Prelude.{◌≡◌, is_some, IfOk, IsTrue};
 ghost use Rattle.enc_kinds.specs.Members.{run_body, type_constructor};
 ghost use Rattle.enc_objects.specs.Objects.{Store};
 ghost use Rattle.enc_plain.specs.Module.{has_row};
 ghost use Rattle.enc_schema.specs.Tables.{method_def, type_def};
-ghost use Rattle.enc_vm.specs.CallsSeen.{AreBodiesOf, shared_by};
-ghost use Rattle.enc_vm.specs.Machine.{version_world};
+ghost use Rattle.enc_vm.specs.CallsSeen.{AreBodiesOf};
+ghost use Rattle.enc_frames.specs.FramesSeen.{shared_by};
+ghost use Rattle.enc_frames.specs.Machine.{version_world};
 ghost use Rattle.enc_vm.specs.Step.{constructor_frame, constructor_runs, first_thread, frame_now, may_spawn};
 
-use crate::callers::Callers;
 use crate::declaring::declaring;
-use crate::enter::{code_now, new_frame};
-use crate::frame::Frame;
+use crate::enter::code_now;
 use crate::thread::Thread;
 use crate::touched::Touched;
 use enc_base::Token;
+use enc_frames::{Callers, Frame, new_frame};
 use enc_kinds::{is_called_with_nothing, is_static_method, type_constructor};
 use enc_plain::{ModuleView, is_row};
 use enc_schema::tables::METHOD_DEF;

@@ -4,23 +4,21 @@ ghost use Rattle.enc_base.specs.declared.token.Token.{Token as TheToken};
 ghost use Rattle.enc_plain.specs.Module.{has_row};
 ghost use Rattle.enc_schema.specs.Tables.{field as fields, type_def};
 ghost use Rattle.enc_vm.specs.Calls.{declaring, touch};
-ghost use Rattle.enc_vm.specs.CallsSeen.{AreBodiesOf, Makes, shared_by};
-ghost use Rattle.enc_vm.specs.Does.{Does};
-ghost use Rattle.enc_vm.specs.Machine.{version_world};
+ghost use Rattle.enc_vm.specs.CallsSeen.{AreBodiesOf, Makes};
+ghost use Rattle.enc_frames.specs.FramesSeen.{shared_by};
+ghost use Rattle.enc_frames.specs.Does.{Does};
+ghost use Rattle.enc_frames.specs.Machine.{version_world};
 ghost use Rattle.enc_vm.specs.StaticsSeen.{accessed, accessed_on, accessed_by};
 ghost use Rattle.enc_vm.specs.Step.{act_on};
 ghost use Rattle.enc_vm.specs.TouchSeen.{first_on};
-ghost use Rattle.enc_vm.specs.declared.act.Act.TheVariants.{LoadStatic, StoreStatic};
+ghost use Rattle.enc_frames.specs.declared.act.Act.TheVariants.{LoadStatic, StoreStatic};
 
 use crate::declaring::{FirstTouch, first_touch};
-use crate::frame::Frame;
-use crate::heap;
-use crate::places::named_field;
 use crate::returns::FrameChange;
-use crate::stop::Stop;
 use crate::thread::Thread;
 use crate::touched::Touched;
 use enc_base::Token;
+use enc_frames::{Frame, Stop, load_static, named_field, store_static};
 use enc_objects::{Kind, Objects};
 use enc_plain::ModuleView;
 use enc_versions::Versions;
@@ -59,8 +57,8 @@ fn access_in(
     ensures { Does result (objects.new, frame.new) (objects.old, frame.old) (accessed how kind next field objects.old frame.old) }
 {
     match how {
-        StaticAccess::Load => heap::load_static(objects, frame, kind, next, field),
-        StaticAccess::Store => heap::store_static(objects, frame, kind, next, field),
+        StaticAccess::Load => load_static(objects, frame, kind, next, field),
+        StaticAccess::Store => store_static(objects, frame, kind, next, field),
     }
 }
 

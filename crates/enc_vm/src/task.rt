@@ -3,11 +3,12 @@ ghost use Rattle.std.specs.Prelude.{◌≡◌, ℕ, List, Option, None};
 ghost use Rattle.enc_dispatch.specs.Index.{StandsForModule};
 ghost use Rattle.enc_plain.specs.Module.{Module};
 ghost use Rattle.enc_versions.specs.Version.{Version};
-ghost use Rattle.enc_vm.specs.CallsSeen.{AreBodiesOf, shared_by};
+ghost use Rattle.enc_vm.specs.CallsSeen.{AreBodiesOf};
+ghost use Rattle.enc_frames.specs.FramesSeen.{shared_by};
 ghost use Rattle.enc_vm.specs.EffectsSeen.{effect_made, effect_of_flight, step_end_of, stepped_as, Steps, Turns};
-ghost use Rattle.enc_vm.specs.Handlers.{fly};
-ghost use Rattle.enc_vm.specs.HandlersSeen.{own_clauses};
-ghost use Rattle.enc_vm.specs.Machine.{Shared, Thread as TheThread, version_world};
+ghost use Rattle.enc_frames.specs.Handlers.{fly};
+ghost use Rattle.enc_frames.specs.HandlersSeen.{own_clauses};
+ghost use Rattle.enc_frames.specs.Machine.{Shared, Thread as TheThread, version_world};
 ghost use Rattle.enc_vm.specs.Placed.{IsFramePlaced, IsTaskPlaced};
 ghost use Rattle.enc_vm.specs.Step.{advance, flight_made, line_of, step_task, stepped, stepped_by, stepped_with, trapped_in};
 ghost use Rattle.enc_vm.specs.Turns.{KeepsSeen};
@@ -15,13 +16,12 @@ ghost use Rattle.enc_vm.specs.Turns.{KeepsSeen};
 use crate::effect::Effect;
 use crate::ends::{StepEnd, TaskState};
 use crate::flights::FlightEnd;
-use crate::handler::Flight;
 use crate::returns::FrameChange;
 use crate::seen::Seen;
-use crate::stop::Stop;
 use crate::thread::Thread;
 use crate::touched::Touched;
 use enc_dispatch::Dispatch;
+use enc_frames::{Flight, Stop};
 use enc_objects::{Objects, Trap};
 use enc_plain::ModuleView;
 use enc_versions::Versions;
@@ -38,7 +38,7 @@ pub(crate) struct Task {
 impl Model for Task {
     ghost use Rattle.enc_versions.specs.Version.{Version as TheVersion};
     ghost use Rattle.enc_vm.specs.EffectsSeen.{task_by as seen_by};
-    ghost use Rattle.enc_vm.specs.Machine.{Task as TheTask};
+    ghost use Rattle.enc_frames.specs.Machine.{Task as TheTask};
 
     ghost Value = { TheTask TheVersion };
 
@@ -133,7 +133,7 @@ fn step_end_of(state: TaskState) -> StepEnd
 
 impl Thread {
     /// The start line of the sequence point at which the innermost frame stands.
-    #[tactic(auto, unfolding(crate::specs::Machine::version_world))]
+    #[tactic(auto, unfolding(enc_frames::specs::Machine::version_world))]
     fn line(&self) -> Option<u32>
         ensures { (users : ℕ → Option (List ℕ)) (m : Module) (methods : List (Option Version)) → result ≡ line_of (version_world users m methods) self.now.top }
     {

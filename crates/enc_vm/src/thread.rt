@@ -1,7 +1,5 @@
 //! The frames of a task that goes on.
-use crate::callers::Callers;
-use crate::frame::Frame;
-use crate::handler::Flight;
+use enc_frames::{Callers, Flight, Frame};
 use std::marker::Model;
 
 /// The frames of a task that goes on, and the object that is on its way to a handler, if any.
@@ -14,7 +12,7 @@ pub(crate) struct Thread {
 
 impl Model for Thread {
     ghost use Rattle.enc_versions.specs.Version.{Version};
-    ghost use Rattle.enc_vm.specs.Machine.{Thread as TheThread};
+    ghost use Rattle.enc_frames.specs.Machine.{Thread as TheThread};
 
     ghost Value = { TheThread Version };
 

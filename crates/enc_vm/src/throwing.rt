@@ -1,15 +1,13 @@
 //! Thrown objects (ECMA-335 III.4.31).
 ghost use Rattle.std.specs.Prelude.{◌≡◌, ℕ, List, Option};
 ghost use Rattle.enc_versions.specs.Version.{Version};
-ghost use Rattle.enc_vm.specs.Does.{Does};
-ghost use Rattle.enc_vm.specs.Handlers.{taker, thrown_of, throw_object};
-ghost use Rattle.enc_vm.specs.Machine.{version_world};
+ghost use Rattle.enc_frames.specs.Does.{Does};
+ghost use Rattle.enc_frames.specs.Handlers.{taker, thrown_of, throw_object};
+ghost use Rattle.enc_frames.specs.Machine.{version_world};
 ghost use Rattle.enc_vm.specs.ThrowSeen.{thrown_object};
 
-use crate::handler::Flight;
-use crate::stop::Stop;
 use crate::thread::Thread;
-use crate::values::reference;
+use enc_frames::{Flight, Stop, reference};
 use enc_objects::{Objects, Shape, Trap};
 use enc_plain::ModuleView;
 use enc_unwind::Thrown;
@@ -32,7 +30,7 @@ impl Thread {
     fn taker<V: ModuleView>(&self, view: &V, thrown: Thrown) -> Option<(usize, u32)>
         ensures { (users : ℕ → Option (List ℕ)) (methods : List (Option Version)) → result ≡ taker (version_world users (V.meaning view.now) methods) thrown self.now.top self.now.below }
     {
-        if let Some(clause) = self.top.catching(view, thrown, self.top.offset) {
+        if let Some(clause) = self.top.catching(view, thrown, self.top.offset()) {
             return Some((self.below.len(), clause));
         }
         if self.top.ends_search(view) {
@@ -46,7 +44,7 @@ impl Thread {
     fn thrown(&self) -> Result<u32, Trap>
         ensures { result ≡ thrown_object self.now.top.stack }
     {
-        let value = self.top.stack.upper()?;
+        let value = self.top.stack().upper()?;
         match reference(value)? {
             None => Err(Trap::X5),
             Some(id) => Ok(id),
@@ -67,7 +65,7 @@ impl Thread {
         let Some((frame, clause)) = self.taker(view, thrown) else {
             return Err(Stop::Trap(Trap::X14));
         };
-        let origin = self.top.offset;
+        let origin = self.top.offset();
         self.flight = Some(Flight {
             object,
             frame,

@@ -1,6 +1,6 @@
 use Rattle.std.proofs.Common.{ℕ, ◌+◌, ◌≤◌, List, length, subst, arith}
 use Rattle.std.proofs.lemmas.Fmt.{length_signed_le}
-use Rattle.enc_vm.proofs.Signs.{digits_are}
+use Rattle.enc_frames.proofs.Signs.{digits_are}
 use Rattle.enc_vm.proofs.room.number_room.Goals as goal
 
 pub returns : goal.returns

@@ -1,7 +1,7 @@
 use Rattle.std.proofs.Common.{Some, option_map, sym, ap, ◌∙◌}
 use Rattle.enc_agg.specs.Seen.{users_of_all}
 use Rattle.enc_versions.specs.Version.{Version}
-use Rattle.enc_vm.specs.Machine.{Frame}
+use Rattle.enc_frames.specs.Machine.{Frame}
 use Rattle.enc_session.proofs.Looked.{method_at_meant}
 use Rattle.enc_session.proofs.engine.Engine.method_at.Goals as goal
 

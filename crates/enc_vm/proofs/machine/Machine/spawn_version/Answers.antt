@@ -3,8 +3,8 @@ use Rattle.enc_versions.specs.Version.{Version}
 use Rattle.enc_vm.proofs.Begun.{limit, no_spawn, no_frame, task_begun}
 use Rattle.enc_vm.proofs.TurnsPlaced.{spawn_keeps}
 use Rattle.enc_vm.specs.Anywhere.{ArePlacedAnywhere}
-use Rattle.enc_vm.specs.CallsSeen.{shared_by}
-use Rattle.enc_vm.specs.Machine.{MachineState, World, Task, going, version_world}
+use Rattle.enc_frames.specs.FramesSeen.{shared_by}
+use Rattle.enc_frames.specs.Machine.{MachineState, World, Task, going, version_world}
 use Rattle.enc_vm.specs.Step.{spawn_in, begun}
 use Rattle.enc_vm.proofs.machine.Machine.spawn_version.Goals as goal
 

@@ -4,8 +4,8 @@ use Rattle.std.proofs.lemmas.Option.{slice_get-get_or, slice_get_past}
 use Rattle.enc_versions.specs.Version.{Version}
 use Rattle.enc_vm.proofs.Turned.{none_at, none_behind, turned}
 use Rattle.enc_vm.proofs.TurnsPlaced.{nth_placed, step_placed, tasks_placed}
-use Rattle.enc_vm.specs.CallsSeen.{shared_by}
-use Rattle.enc_vm.specs.Machine.{MachineState, World, version_world}
+use Rattle.enc_frames.specs.FramesSeen.{shared_by}
+use Rattle.enc_frames.specs.Machine.{MachineState, World, version_world}
 use Rattle.enc_vm.specs.Turns.{IsTurn, machine_turn}
 use Rattle.enc_vm.proofs.machine.Machine.step_version.Goals as goal
 

@@ -1,5 +1,5 @@
 use Rattle.enc_vm.proofs.Written.{turn_within}
-use Rattle.enc_vm.specs.Machine.{version_world}
+use Rattle.enc_frames.specs.Machine.{version_world}
 use Rattle.enc_vm.proofs.machine.Machine.write_units.Goals as goal
 
 pub returns : goal.returns

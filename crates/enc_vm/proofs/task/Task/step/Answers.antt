@@ -1,8 +1,8 @@
 use Rattle.std.proofs.Common.{rules, refl, sym, ap, ◌∙◌}
 use Rattle.enc_vm.proofs.StepTurns.{ended_turn, going_turn, halted_turn}
-use Rattle.enc_vm.specs.CallsSeen.{shared_by}
+use Rattle.enc_frames.specs.FramesSeen.{shared_by}
 use Rattle.enc_vm.specs.EffectsSeen.{task_by}
-use Rattle.enc_vm.specs.Machine.{version_world}
+use Rattle.enc_frames.specs.Machine.{version_world}
 use Rattle.enc_vm.specs.declared.ends.TaskState.{TaskState}
 use Rattle.enc_vm.proofs.task.Task.step.Goals as goal
 

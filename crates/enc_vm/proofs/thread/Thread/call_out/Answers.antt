@@ -1,10 +1,10 @@
 use Rattle.std.proofs.Common.{subst}
 use Rattle.enc_versions.specs.Version.{Version}
 use Rattle.enc_vm.proofs.Alone.{call_outside_in}
-use Rattle.enc_vm.specs.CallsSeen.{shared_by}
-use Rattle.enc_vm.specs.Console.{call_outside}
+use Rattle.enc_frames.specs.FramesSeen.{shared_by}
+use Rattle.enc_frames.specs.Console.{call_outside}
 use Rattle.enc_vm.specs.EffectsSeen.{Performs}
-use Rattle.enc_vm.specs.Machine.{Thread, version_world}
+use Rattle.enc_frames.specs.Machine.{Thread, version_world}
 use Rattle.enc_vm.proofs.thread.Thread.call_out.Goals as goal
 
 pub returns : goal.returns

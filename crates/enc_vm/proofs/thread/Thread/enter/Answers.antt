@@ -3,8 +3,8 @@ use Rattle.std.specs.Prelude.{drop}
 use Rattle.enc_versions.specs.Version.{Version}
 use Rattle.enc_vm.proofs.Entered.{entered}
 use Rattle.enc_vm.specs.Calls.{enter}
-use Rattle.enc_vm.specs.Machine.{Thread, version_world}
-use Rattle.enc_vm.specs.Straight.{moved_on}
+use Rattle.enc_frames.specs.Machine.{Thread, version_world}
+use Rattle.enc_frames.specs.Straight.{moved_on}
 use Rattle.enc_vm.proofs.thread.Thread.enter.Goals as goal
 
 -- src/enter.rt

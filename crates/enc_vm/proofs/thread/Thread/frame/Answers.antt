@@ -2,7 +2,7 @@ use Rattle.std.proofs.Common.{rules, Some, length, ◌∙◌, ap, refl, sym}
 use Rattle.std.proofs.lemmas.Option.{slice_get_past, slice_get_read}
 use Rattle.enc_versions.specs.Version.{Version}
 use Rattle.enc_vm.proofs.FramesSeen.{below_at, top_at, none_at_end}
-use Rattle.enc_vm.specs.Machine.{Thread}
+use Rattle.enc_frames.specs.Machine.{Thread}
 use Rattle.enc_vm.proofs.thread.Thread.frame.Goals as goal
 
 pub returns-in-Some : goal.returns-in-Some

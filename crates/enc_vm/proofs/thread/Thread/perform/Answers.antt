@@ -2,9 +2,9 @@ use Rattle.std.proofs.Common.{rules, Result, sym, subst}
 use Rattle.enc_objects.specs.declared.trap.Trap.{Trap}
 use Rattle.enc_versions.specs.Version.{Version}
 use Rattle.enc_vm.proofs.UserTexts.{user_text}
-use Rattle.enc_vm.specs.CallsSeen.{shared_by}
+use Rattle.enc_frames.specs.FramesSeen.{shared_by}
 use Rattle.enc_vm.specs.EffectsSeen.{Performs}
-use Rattle.enc_vm.specs.Results.{Made}
+use Rattle.enc_frames.specs.Results.{Made}
 use Rattle.enc_vm.proofs.thread.Thread.perform.Goals as goal
 
 pub returns-in-User : goal.returns-in-User

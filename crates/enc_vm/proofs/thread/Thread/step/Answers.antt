@@ -1,7 +1,7 @@
 use Rattle.std.proofs.Common.{rules, sym, subst}
 use Rattle.enc_versions.specs.Version.{Version}
 use Rattle.enc_vm.proofs.UserTexts.{flight_step}
-use Rattle.enc_vm.specs.CallsSeen.{shared_by}
+use Rattle.enc_frames.specs.FramesSeen.{shared_by}
 use Rattle.enc_vm.specs.EffectsSeen.{Turns}
 use Rattle.enc_vm.specs.Step.{Stepped}
 use Rattle.enc_vm.proofs.thread.Thread.step.Goals as goal

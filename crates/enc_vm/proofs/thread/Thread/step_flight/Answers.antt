@@ -1,6 +1,6 @@
 use Rattle.enc_vm.proofs.FlightTurns.{flight_turn}
-use Rattle.enc_vm.specs.Handlers.{fly}
-use Rattle.enc_vm.specs.HandlersSeen.{own_clauses}
+use Rattle.enc_frames.specs.Handlers.{fly}
+use Rattle.enc_frames.specs.HandlersSeen.{own_clauses}
 use Rattle.enc_vm.proofs.thread.Thread.step_flight.Goals as goal
 
 pub returns-in-Ok : goal.returns-in-Ok

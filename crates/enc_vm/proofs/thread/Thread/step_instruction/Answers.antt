@@ -1,6 +1,6 @@
 use Rattle.std.proofs.Common.{rules}
 use Rattle.enc_vm.proofs.StepTurns.{made_turn, trap_made, trapped_turn}
-use Rattle.enc_vm.specs.CallsSeen.{shared_by}
+use Rattle.enc_frames.specs.FramesSeen.{shared_by}
 use Rattle.enc_vm.proofs.thread.Thread.step_instruction.Goals as goal
 
 pub returns-in-Ok : goal.returns-in-Ok

@@ -2,7 +2,7 @@ use Rattle.std.proofs.Common.{◌∙◌, sym, ap, Some, None}
 use Rattle.enc_base.specs.declared.token.Token.{Token}
 use Rattle.enc_vm.proofs.TouchedOn.{touches, makes_as}
 use Rattle.enc_vm.specs.Calls.{call_with, call_touches, declaring}
-use Rattle.enc_vm.specs.Machine.{version_world}
+use Rattle.enc_frames.specs.Machine.{version_world}
 use Rattle.enc_vm.specs.TouchSeen.{first_touch}
 use Rattle.enc_vm.proofs.thread.Thread.touch_and_call.Goals as goal
 

@@ -1,0 +1,9 @@
+pub mod Reversed
+pub mod Takers
+pub mod Fitted
+pub mod CastTypes
+pub mod Lines
+pub mod Reached
+pub mod Signs
+pub mod Climbs
+pub mod Nearest

@@ -1,0 +1,17 @@
+pub mod Machine
+pub mod Results
+pub mod Acts
+pub mod Values
+pub mod Straight
+pub mod Memory
+pub mod Handlers
+pub mod Console
+pub mod Does
+pub mod ArgumentsSeen
+pub mod Callers
+pub mod HandlersSeen
+pub mod ObjectsSeen
+pub mod ConsoleSeen
+pub mod FrameActs
+pub mod FramesSeen
+pub mod Lines

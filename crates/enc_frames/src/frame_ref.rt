@@ -1,0 +1,83 @@
+//! Frames as they are shown.
+ghost use Rattle.std.specs.Prelude.{◌≡◌, reverse};
+
+use crate::frame::Frame;
+use enc_base::Token;
+use enc_objects::Value;
+use enc_versions::Code;
+use std::marker::Model;
+use std::rc::Rc;
+
+/// A frame of a task: a call that is under way (ECMA-335 I.12.3.2).
+#[derive(Drop)]
+pub struct FrameRef<'a> {
+    pub(crate) frame: &'a Frame,
+}
+
+impl<'a> Model for FrameRef<'a> {
+    ghost use Rattle.enc_versions.specs.Version.{Version};
+    ghost use Rattle.enc_frames.specs.Machine.{Frame as TheFrame};
+
+    ghost Value = { TheFrame Version };
+
+    ghost view = { λ f. f.frame.now };
+}
+
+impl<'a> FrameRef<'a> {
+    /// Its method.
+    pub fn method(&self) -> Token
+        ensures { result ≡ self.now.method }
+    {
+        let frame = self.frame;
+        frame.method
+    }
+
+    /// The offset of its next instruction.
+    pub fn offset(&self) -> u32
+        ensures { result ≡ self.now.offset }
+    {
+        let frame = self.frame;
+        frame.offset
+    }
+
+    /// The code that it began with and keeps.
+    pub fn code(&self) -> &'a Rc<Code>
+        ensures { result.now.value ≡ self.now.code }
+    {
+        let frame = self.frame;
+        &frame.code
+    }
+
+    /// Its arguments.
+    pub fn args(&self) -> &'a [Value]
+        ensures { result.now ≡ self.now.args }
+    {
+        let frame = self.frame;
+        frame.args.as_slice()
+    }
+
+    /// Its local variables.
+    pub fn locals(&self) -> &'a [Value]
+        ensures { result.now ≡ self.now.locals }
+    {
+        let frame = self.frame;
+        frame.locals.as_slice()
+    }
+
+    /// Its stack, from the bottom up.
+    pub fn stack(&self) -> &'a [Value]
+        ensures { reverse result.now ≡ self.now.stack }
+    {
+        let frame = self.frame;
+        frame.stack.as_slice()
+    }
+}
+
+impl Frame {
+    /// The frame, as it is shown.
+    pub fn shown(&self) -> FrameRef<'_>
+        ensures { result ≡ self.now }
+    {
+        FrameRef { frame: self }
+    }
+}
