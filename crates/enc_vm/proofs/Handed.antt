@@ -14,7 +14,6 @@ use Rattle.enc_frames.specs.Values.{value_given}
 use Rattle.enc_vm.specs.CallsSeen.{left_with, returned}
 use Rattle.enc_frames.specs.Machine.{Frame, Thread, Shared, version_world}
 use Rattle.enc_frames.specs.Results.{◌>>=◌, or_trap}
-use Rattle.enc_frames.proofs.Nearest.{nearest}
 
 -- leaving a frame in the program's own world
 pub left_is : (users : ℕ → Option (List ℕ)) (m : Module) (methods : List (Option Version)) (s : Shared) (method : Token) (value : Option Value) (below : List (Frame Version))

@@ -1,6 +1,6 @@
 -- Room for what the instruction at a frame's offset writes, by what its bytes say.
-use Rattle.std.proofs.Common.{◌≡◌, ℕ, Bool, true, List, Option, Some, None, refl, sym, ap, ◌∙◌, subst}
-use Rattle.std.specs.Prelude.{option_map}
+use Rattle.std.proofs.Common.{◌≡◌, ℕ, suc, List, Option, Some, None, refl, sym, ap, ◌∙◌, subst}
+use Rattle.std.specs.Prelude.{option_map, slice_get, IfSome}
 use Rattle.enc_base.specs.Numbers.{AreBytes}
 use Rattle.enc_il.specs.Seen.{instr_seen}
 use Rattle.enc_objects.specs.Objects.{Store}
@@ -11,13 +11,11 @@ use Rattle.enc_opcodes.specs.declared.code.Instr.{Instr}
 use Rattle.enc_opcodes.specs.declared.op.Op.{Op}
 use Rattle.enc_plain.specs.Module.{Module}
 use Rattle.enc_versions.specs.Version.{Version}
-use Rattle.enc_frames.specs.Machine.{Frame, version_world}
-use Rattle.enc_frames.specs.Values.{upper}
-use Rattle.enc_frames.specs.declared.act.Act.{Act}
+use Rattle.enc_frames.specs.Machine.{World, Frame, Task, MachineState, version_world}
 use Rattle.enc_vm.proofs.AtOffset.{instruction_is, told_one}
 use Rattle.enc_vm.specs.Placed.{IsFramePlaced}
-use Rattle.enc_vm.specs.RoomSeen.{act_of, may_write, IsRoomForTop, IsRoomAt}
-use Rattle.enc_vm.specs.Step.{instruction_of}
+use Rattle.enc_vm.specs.RoomSeen.{act_of, may_write, IsRoomAt, IsRoomForTask}
+use Rattle.enc_vm.specs.Step.{instruction_of, task_at}
 
 -- user texts change nothing of what an instruction is for
 told_act : (users : ℕ → Option (List ℕ)) (op : Op) (a : Argument ℕ) → act_of op (told users a) ≡ act_of op a
@@ -43,3 +41,21 @@ room_at users m methods s room f v x is seen bytes placed there =
     let same : option_map instr_seen x ≡ instr_in f.code.code.code f.offset = seen ∙ ap (λ (c : Version). instr_in c.code.code f.offset) is in
     subst (IsRoomAt s room f.stack) (sym (instruction_is users m methods f (subst (λ (c : Version). AreBytes c.code.code) is bytes) placed))
     (told_room users s room f.stack (instr_in f.code.code.code f.offset) (subst (IsRoomAt s room f.stack) same there))
+
+-- by a frame, its code, its offset and its stack as they were read
+pub room_seen : (users : ℕ → Option (List ℕ)) (m : Module) (methods : List (Option Version)) (s : Store) (room : ℕ) (f g : Frame Version) (v : Version)
+    (offset : ℕ) (stack : List Value) (x o : Option (Instr × ℕ)) → f ≡ g → v ≡ f.code → offset ≡ f.offset → stack ≡ f.stack
+    → option_map instr_seen x ≡ instr_in v.code.code offset → AreBytes v.code.code → IsFramePlaced (version_world users m methods) g → x ≡ o
+    → IsRoomAt s room stack (option_map instr_seen o) → IsRoomAt s room g.stack (instruction_of (version_world users m methods) g)
+room_seen users m methods s room f g v offset stack x o is code at values seen bytes placed same there =
+    room_at users m methods s room g v x (code ∙ ap (λ (h : Frame Version). h.code) is)
+    (seen ∙ ap (λ (k : ℕ). instr_in v.code.code k) (at ∙ ap (λ (h : Frame Version). h.offset) is)) bytes placed
+    (subst (λ (l : List Value). IsRoomAt s room l (option_map instr_seen x)) (values ∙ ap (λ (h : Frame Version). h.stack) is)
+    (subst (λ (y : Option (Instr × ℕ)). IsRoomAt s room stack (option_map instr_seen y)) (sym same) there))
+
+-- of the task with a number
+pub room_there : {C : Type 0} (w : World C) (s : MachineState C) (task i room : ℕ) (t : Task C) → task ≡ suc i → slice_get s.tasks i ≡ Some t
+    → IsRoomForTask w s.shared.store room t → IfSome (task_at s task) (IsRoomForTask w s.shared.store room)
+room_there w s task i room t is at there =
+    subst (λ (k : ℕ). IfSome (task_at s k) (IsRoomForTask w s.shared.store room)) (sym is)
+    (subst (λ (o : Option (Task _)). IfSome o (IsRoomForTask w s.shared.store room)) (sym at) there)
