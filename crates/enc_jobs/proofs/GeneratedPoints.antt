@@ -1,15 +1,15 @@
 -- The lists of a case have no points.
-use Rattle.std.proofs.Common.{◌≡◌, ℕ, zero, suc, ◌+◌, List, [], ◌∷◌, ◌++◌, length, Option, Some, Bool, true, false, refl, ap, arith}
+use Rattle.std.proofs.Common.{◌≡◌, ℕ, zero, suc, ◌+◌, List, [], ◌∷◌, ◌++◌, length, Some, Bool, true, false, refl, ap}
 use Rattle.std.specs.Prelude.{◌&&◌, not, map, nat_lt, slice_get, if◌then◌else◌}
 use Rattle.std.specs.List.{list_all, list_any}
 use Rattle.std.proofs.lemmas.Bool.{and_parts, and_from}
 use Rattle.enc_base.specs.Token.{is_token}
 use Rattle.enc_base.specs.declared.token.Token.{Token}
 use Rattle.enc_schema.specs.Tables.{method_def}
-use Rattle.enc_plain.specs.Debug.{MethodDebug, PlainPdb, unknown, plain_point}
+use Rattle.enc_plain.specs.Debug.{MethodDebug, unknown, plain_point}
 use Rattle.enc_edits.specs.declared.edit.DocumentValue.{DocumentValue}
 use Rattle.enc_edits.specs.declared.edit.Edit.{Edit}
-use Rattle.enc_edits.specs.declared.edit.Edit.TheVariants.{Add, Body as Replace}
+use Rattle.enc_edits.specs.declared.edit.Edit.TheVariants.{Body as Replace}
 use Rattle.enc_edits.specs.declared.edit.EditList.{EditList}
 use Rattle.enc_rules.specs.Listed.{body_given, points_given}
 use Rattle.enc_rules.specs.Rules.{gives_body, has_points}
@@ -80,11 +80,14 @@ tell_nothing : (documents : List DocumentValue) (methods : List Token) (edits : 
 unfolding edit_giving
 tell_nothing documents [] edits method before silent is = is
 tell_nothing documents (t ∷ methods) [] method before silent is = is
-tell_nothing documents (t ∷ methods) (e ∷ edits) method before silent is = by (gives_body e && is_token t method)
+tell_nothing documents (t ∷ methods) (e ∷ edits) method before silent is =
+    let each = and_parts (is_silent e) (list_all is_silent edits) silent in
+    by (gives_body e && is_token t method) (each.0) (tell_nothing documents methods edits method before (each.1) is)
   where
-    by : (b : Bool) → debug_or_kept documents (if b then Some e else edit_giving methods edits method) before ≡ unknown
-    by true = states_nothing documents e (and_parts (is_silent e) (list_all is_silent edits) silent).0
-    by false = tell_nothing documents methods edits method before (and_parts (is_silent e) (list_all is_silent edits) silent).1 is
+    by : (b : Bool) → is_silent e ≡ true → debug_or_kept documents (edit_giving methods edits method) before ≡ unknown
+        → debug_or_kept documents (if b then Some e else edit_giving methods edits method) before ≡ unknown
+    by true one rest = states_nothing documents e one
+    by false one rest = rest
 
 pub generated_tells_nothing : GeneratedTellsNothing
 unfolding pdb_edited

@@ -100,8 +100,10 @@ drawn_fits lists k l d law there = law d.start d.count k l d.few (at_place lists
 pub drawn_lies : (lists : List EditList) (k : ℕ) (l : EditList) → AreDrawn lists → GeneratedLie → slice_get lists k ≡ Some l → list_all points_lie_within l.edits ≡ true
 drawn_lies lists k l d law there = law d.start d.count k l (at_place lists k l d there)
 
-pub drawn_obeys : (lists : List EditList) (k : ℕ) (l : EditList) (c : Chain) → AreDrawn lists → GeneratedObeys → slice_get lists k ≡ Some l → IsDrawnChain (take k lists) c → first_edit c l ≡ None
-drawn_obeys lists k l c d law there drawn = law d.start d.count k l c d.few (at_place lists k l d there) (before_it lists k c d drawn)
+pub drawn_obeys : (lists : List EditList) (k : ℕ) (l : EditList) (c : Chain) (broken : ℕ × ℕ) → AreDrawn lists → GeneratedObeys → slice_get lists k ≡ Some l → IsDrawnChain (take k lists) c → first_edit c l ≡ Some broken → ⊥
+drawn_obeys lists k l c broken d law there drawn is =
+    let none : first_edit c l ≡ None = law d.start d.count k l c d.few (at_place lists k l d there) (before_it lists k c d drawn) in
+    cc
 
 -- one list more: its edits are made, its EncId is behind the others, and its heaps stay little
 heaps_little : (lists : List EditList) (k : ℕ) (l : EditList) (c : Chain) (s : Source) → AreDrawn lists → GeneratedStaysLittle → slice_get lists k ≡ Some l → IsDrawnChain (take k lists) c → s.heaps ≡ heaps_built (heaps_written c l) → AreLittle (k + 1) (joined_lengths (extended c s).heaps)
