@@ -1,9 +1,8 @@
--- The line at an offset, of points that are gone over from the front.
-use Rattle.std.proofs.Common.{◌≡◌, ℕ, suc, ◌+◌, ◌≤◌, Bool, true, false, List, [], ◌∷◌, length, map, drop, Option, Some, None, refl, sym, ap, ◌∙◌, arith}
-use Rattle.std.specs.Prelude.{slice_get, ◌==◌, if◌then◌else◌}
-use Rattle.std.proofs.Math.Seq.{drop-cons}
-use Rattle.std.proofs.lemmas.List.{drop_all}
-use Rattle.std.proofs.lemmas.Option.{slice_get_within, get_or_from_slice_get}
+-- The line at an offset, of points whose offsets rise: the point that is found there tells it.
+use Rattle.std.proofs.Common.{◌≡◌, ℕ, suc, ◌<◌, Bool, true, false, List, [], ◌∷◌, map, Option, Some, None, refl, sym, ap, ◌∙◌, subst, arith}
+use Rattle.std.specs.Prelude.{slice_get, find, option_map, ◌==◌, if◌then◌else◌}
+use Rattle.std.proofs.lemmas.Bool.Decides.{nat_tests}
+use Rattle.enc_seqpoints.specs.Grammar.{AreRising}
 use Rattle.enc_seqpoints.specs.declared.point.Point.{Point}
 use Rattle.enc_frames.specs.Lines.{line_among}
 
@@ -11,50 +10,68 @@ use Rattle.enc_frames.specs.Lines.{line_among}
 abbrev pub point_seen : Point → ℕ × Option (ℕ × ℕ × ℕ × ℕ)
 point_seen p = (p.offset, p.lines)
 
-first_by : (offset : ℕ) (p : Point) (rest : List (ℕ × Option (ℕ × ℕ × ℕ × ℕ))) (o : Option (ℕ × ℕ × ℕ × ℕ)) (b : Bool)
-    → (p.offset == offset) ≡ b
-    → line_among offset ((p.offset, o) ∷ []) ≡ None → line_among offset ((p.offset, o) ∷ rest) ≡ line_among offset rest
+-- what a point that is found tells
+abbrev pub line_found : Option Point → Option ℕ
+line_found None = None
+line_found (Some p) = option_map (λ (l : ℕ × ℕ × ℕ × ℕ). l.0) p.lines
+
+-- all points stand past an offset
+abbrev AreAllPast : ℕ → List Point → Type 0
+AreAllPast offset ps = (i : ℕ) (q : Point) → slice_get ps i ≡ Some q → offset < q.offset
+
+rest_rising : (p : Point) (ps : List Point) → AreRising (p ∷ ps) → AreRising ps
+rest_rising p ps rise i j a b h at behind = rise (suc i) (suc j) a b (omega (arith, h)) at behind
+
+rest_past : (p : Point) (ps : List Point) → AreRising (p ∷ ps) → AreAllPast p.offset ps
+rest_past p ps rise j q at = rise 0 (suc j) p q (omega arith) refl at
+
+is_past : (offset : ℕ) (p : Point) → offset < p.offset → (p.offset == offset) ≡ false
+is_past offset p h = grind (arith, nat_tests, h)
+
+passed : (offset : ℕ) (p : Point) (o : Option (ℕ × ℕ × ℕ × ℕ)) (rest : List (ℕ × Option (ℕ × ℕ × ℕ × ℕ)))
+    → (p.offset == offset) ≡ false → line_among offset ((p.offset, o) ∷ rest) ≡ line_among offset rest
 unfolding line_among
-first_by offset p rest None b e h = refl
-first_by offset p rest (Some lines) true e h = absurd (none_there (ap (λ (t : Bool). if t then Some lines.0 else None) (sym e) ∙ h))
-  where
-    none_there : Some lines.0 ≡ None → ⊥
-    none_there x = cc
-first_by offset p rest (Some lines) false e h = ap (λ (t : Bool). if t then Some lines.0 else line_among offset rest) e
+passed offset p None rest e = refl
+passed offset p (Some lines) rest e = ap (λ (t : Bool). if t then Some lines.0 else line_among offset rest) e
 
-found_by : (offset n : ℕ) (p : Point) (rest : List (ℕ × Option (ℕ × ℕ × ℕ × ℕ))) (o : Option (ℕ × ℕ × ℕ × ℕ)) (b : Bool)
-    → (p.offset == offset) ≡ b
-    → line_among offset ((p.offset, o) ∷ []) ≡ Some n → line_among offset ((p.offset, o) ∷ rest) ≡ Some n
+none_past : (offset : ℕ) (ps : List Point) → AreAllPast offset ps → line_among offset (map point_seen ps) ≡ None
 unfolding line_among
-found_by offset n p rest None b e h = absurd cc
-found_by offset n p rest (Some lines) true e h =
-    ap (λ (t : Bool). if t then Some lines.0 else line_among offset rest) e ∙ ap (λ (t : Bool). if t then Some lines.0 else None) (sym e) ∙ h
-found_by offset n p rest (Some lines) false e h = absurd (some_there (ap (λ (t : Bool). if t then Some lines.0 else None) (sym e) ∙ h))
-  where
-    some_there : None ≡ Some n → ⊥
-    some_there x = cc
+none_past offset [] past = refl
+none_past offset (p ∷ ps) past =
+    passed offset p p.lines (map point_seen ps) (is_past offset p (past 0 p refl)) ∙ none_past offset ps (λ i q at. past (suc i) q at)
 
-next_is : (ps : List Point) (i : ℕ) (p : Point) → slice_get ps i ≡ Some p → drop i ps ≡ p ∷ drop (i + 1) ps
-next_is ps i p h =
-    let on : suc i ≡ i + 1 = omega arith in
-    drop-cons ps i p (slice_get_within ps i p h)
-    ∙ ap (λ (q : Point). q ∷ drop (suc i) ps) (get_or_from_slice_get ps i p p h) ∙ ap (λ (k : ℕ). p ∷ drop k ps) on
+same_offset : (p : Point) (offset : ℕ) → (p.offset == offset) ≡ true → p.offset ≡ offset
+same_offset p offset e = grind (arith, nat_tests, e)
 
--- a point that tells no line
-pub line_behind : (offset : ℕ) (ps : List Point) (i : ℕ) (p : Point) → slice_get ps i ≡ Some p → line_among offset (point_seen p ∷ []) ≡ None
-    → line_among offset (map point_seen (drop i ps)) ≡ line_among offset (map point_seen (drop (i + 1) ps))
-line_behind offset ps i p h none =
-    ap (λ (l : List Point). line_among offset (map point_seen l)) (next_is ps i p h)
-    ∙ first_by offset p (map point_seen (drop (i + 1) ps)) p.lines (p.offset == offset) refl none
-
--- and one that tells it
-pub line_there : (offset n : ℕ) (ps : List Point) (i : ℕ) (p : Point) → slice_get ps i ≡ Some p → line_among offset (point_seen p ∷ []) ≡ Some n
-    → line_among offset (map point_seen (drop i ps)) ≡ Some n
-line_there offset n ps i p h some =
-    ap (λ (l : List Point). line_among offset (map point_seen l)) (next_is ps i p h)
-    ∙ found_by offset n p (map point_seen (drop (i + 1) ps)) p.lines (p.offset == offset) refl some
-
--- no point is left
-pub no_line : (offset : ℕ) (ps : List Point) (i : ℕ) → length ps ≤ i → line_among offset (map point_seen (drop i ps)) ≡ None
+there : (offset : ℕ) (p : Point) (ps : List Point) (o : Option (ℕ × ℕ × ℕ × ℕ)) → p.lines ≡ o → (p.offset == offset) ≡ true → AreAllPast p.offset ps
+    → line_among offset ((p.offset, o) ∷ map point_seen ps) ≡ line_found (Some p)
 unfolding line_among
-no_line offset ps i h = ap (λ (l : List Point). line_among offset (map point_seen l)) (drop_all i ps h)
+there offset p ps None is e past =
+    none_past offset ps (subst (λ (n : ℕ). AreAllPast n ps) (same_offset p offset e) past)
+    ∙ sym (ap (option_map (λ (l : ℕ × ℕ × ℕ × ℕ). l.0)) is)
+there offset p ps (Some lines) is e past =
+    ap (λ (t : Bool). if t then Some lines.0 else line_among offset (map point_seen ps)) e
+    ∙ sym (ap (option_map (λ (l : ℕ × ℕ × ℕ × ℕ). l.0)) is)
+
+by_test : (offset : ℕ) (p : Point) (ps : List Point) (b : Bool) → (p.offset == offset) ≡ b → AreAllPast p.offset ps
+    → line_among offset (map point_seen ps) ≡ line_found (find (λ (q : Point). q.offset == offset) ps)
+    → line_among offset (point_seen p ∷ map point_seen ps) ≡ line_found (if b then Some p else find (λ (q : Point). q.offset == offset) ps)
+by_test offset p ps true e past next = there offset p ps p.lines refl e past
+by_test offset p ps false e past next = passed offset p p.lines (map point_seen ps) e ∙ next
+
+-- the line at an offset
+pub line_is : (offset : ℕ) (ps : List Point) → AreRising ps → line_among offset (map point_seen ps) ≡ line_found (find (λ (p : Point). p.offset == offset) ps)
+unfolding line_among
+line_is offset [] rise = refl
+line_is offset (p ∷ ps) rise =
+    by_test offset p ps (p.offset == offset) refl (rest_past p ps rise) (line_is offset ps (rest_rising p ps rise))
+
+-- where none is found, where a hidden one is, and where another is
+pub none_found : (offset : ℕ) (ps : List Point) → AreRising ps → None ≡ find (λ (p : Point). p.offset == offset) ps → line_among offset (map point_seen ps) ≡ None
+none_found offset ps rise is = line_is offset ps rise ∙ ap line_found (sym is)
+
+pub point_found : (offset : ℕ) (ps : List Point) (p : Point) (o : Option (ℕ × ℕ × ℕ × ℕ)) → AreRising ps
+    → Some p ≡ find (λ (q : Point). q.offset == offset) ps → p.lines ≡ o
+    → line_among offset (map point_seen ps) ≡ option_map (λ (l : ℕ × ℕ × ℕ × ℕ). l.0) o
+point_found offset ps p o rise is lines =
+    line_is offset ps rise ∙ ap line_found (sym is) ∙ ap (option_map (λ (l : ℕ × ℕ × ℕ × ℕ). l.0)) lines

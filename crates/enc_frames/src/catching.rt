@@ -8,7 +8,7 @@ ghost use Rattle.enc_frames.specs.Machine.{version_world};
 
 use crate::callers::Callers;
 use crate::frame::Frame;
-use enc_plain::{ModuleView, Viewed};
+use enc_plain::{CellView, ModuleView, Viewed};
 use enc_schema::columns::METHOD_DEF_NAME;
 use enc_unwind::{Thrown, catch_in};
 

@@ -20,7 +20,7 @@ use crate::values::{reference, word};
 use enc_base::{Token, Units};
 use enc_kinds::{Outside, outside_of};
 use enc_objects::{Objects, Trap, Value};
-use enc_plain::{ModuleView, Viewed};
+use enc_plain::{CellView, ModuleView, Viewed};
 use enc_schema::columns::MEMBER_REF_CLASS;
 use std::alloc::Global;
 

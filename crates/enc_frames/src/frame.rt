@@ -1,6 +1,7 @@
 //! Calls that are under way.
 ghost use Rattle.std.specs.Prelude.{◌≡◌, ◌<◌, ◌^◌, length};
 ghost use Rattle.enc_opcodes.specs.Body.{code_seen};
+ghost use Rattle.enc_schema.specs.Tables.{method_def};
 
 use crate::cells::Cells;
 use crate::handlers::RunningHandlers;

@@ -76,7 +76,7 @@ impl Frame {
 
 impl Frame {
     /// A value that was given goes on its stack, if any. X13 where the stack may not hold more.
-    fn take_given(&mut self, value: Option<Value>) -> Result<(), Stop>
+    pub(crate) fn take_given(&mut self, value: Option<Value>) -> Result<(), Stop>
         ensures { Does result self.new self.old (handed_in value self.old) }
     {
         let Some(value) = value else {

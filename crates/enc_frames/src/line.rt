@@ -1,37 +1,24 @@
 //! The line at which a step begins.
-ghost use Rattle.std.specs.Prelude.{◌≡◌, ◌∷◌, []};
+ghost use Rattle.std.specs.Prelude.{◌≡◌};
 ghost use Rattle.enc_versions.specs.StandFor.{lines_read};
 ghost use Rattle.enc_frames.specs.Lines.{line_among};
 
 use crate::frame::Frame;
-use enc_seqpoints::{Point, Points};
+use enc_seqpoints::Points;
 
-/// The start line of a point, None where it is hidden or stands at another offset.
-#[tactic(auto, unfolding(crate::specs::Lines::line_among))]
-fn line_at(point: Point, offset: u32) -> Option<u32>
-    ensures { result ≡ line_among offset ((point.offset, point.lines) ∷ []) }
-{
-    if point.offset != offset {
-        return None;
-    }
-    match point.lines {
-        None => None,
-        Some(lines) => Some(lines.0),
-    }
-}
-
-/// The start line of the first point at an offset that isn't hidden (Portable PDB v1.0, sequence points).
-#[tactic(auto, using(crate::proofs::Lines::line_behind, crate::proofs::Lines::line_there, crate::proofs::Lines::no_line))]
+/// The start line of the point at an offset, None where none stands there or a hidden one (Portable PDB v1.0,
+/// sequence points). Its time is logarithmic in the number of points.
 fn line_in(points: &Points, offset: u32) -> Option<u32>
     ensures { result ≡ line_among offset (lines_read points.now).points }
 {
-    for i in 0..points.len() {
-        let line = line_at(points.point(i), offset);
-        if line.is_some() {
-            return line;
-        }
+    points.rising();
+    match points.at(offset) {
+        None => None,
+        Some(point) => match point.lines {
+            None => None,
+            Some(lines) => Some(lines.0),
+        },
     }
-    None
 }
 
 impl Frame {

@@ -19,11 +19,11 @@ use Rattle.enc_opcodes.specs.declared.code.Instr.{Instr}
 use Rattle.enc_opcodes.specs.Sound.{begins_at, instruction_size, are_whole, body_is_sound}
 use Rattle.enc_plain.specs.Module.{Module}
 use Rattle.enc_versions.specs.Version.{Version}
-use Rattle.enc_frames.specs.Machine.{Thread, Shared, version_world}
+use Rattle.enc_frames.specs.Machine.{Frame, Thread, Shared, version_world}
 use Rattle.enc_vm.specs.Placed.{is_place_in, IsSoundCode, IsFramePlaced}
 use Rattle.enc_vm.specs.EffectsSeen.{Performs}
 use Rattle.enc_frames.specs.Results.{◌>>=◌, or_trap, Made}
-use Rattle.enc_vm.specs.Step.{begin_of, instruction_among, advance, perform}
+use Rattle.enc_vm.specs.Step.{begin_of, instruction_among, instruction_of, advance, perform}
 use Rattle.enc_vm.specs.declared.effect.Effect.{Effect}
 use Rattle.enc_frames.specs.declared.stop.Stop.{Stop}
 
@@ -140,6 +140,13 @@ at_offset texts c offset bytes sound h =
   where
     whole_of : body_is_sound sound.0 (body_of texts c) ≡ true → are_whole (length c.code) 0 (map (instruction_told texts) (instructions_of c.code)) ≡ true
     whole_of e = (and_parts (are_whole (length c.code) 0 (body_of texts c).code) _ (and_parts (are_whole (length c.code) 0 (body_of texts c).code && _) _ (and_parts (are_whole (length c.code) 0 (body_of texts c).code && _ && _) _ e).0).0).0
+
+-- the instruction at which a frame stands
+pub instruction_is : (users : ℕ → Option (List ℕ)) (m : Module) (methods : List (Option Version)) (f : Frame Version)
+    → AreBytes f.code.code.code → IsFramePlaced (version_world users m methods) f
+    → instruction_of (version_world users m methods) f ≡ option_map (told_one users) (instr_in f.code.code.code f.offset)
+unfolding version_world body_of
+instruction_is users m methods f bytes placed = at_offset users f.code.code f.offset bytes placed.sound placed.at
 
 advance_by : (users : ℕ → Option (List ℕ)) (m : Module) (methods : List (Option Version)) (s : Shared) (t : Thread Version)
     → AreBytes t.top.code.code.code → IsFramePlaced (version_world users m methods) t.top

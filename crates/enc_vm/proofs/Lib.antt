@@ -1,6 +1,7 @@
 pub mod Entered
 pub mod Handed
 pub mod Marked
+pub mod Types
 pub mod Declared
 pub mod Called
 pub mod TouchedOn
@@ -41,5 +42,6 @@ pub mod PlainTurns
 pub mod LooksMeant
 pub mod Quiet
 pub mod Written
+pub mod RoomAt
 pub mod FramesSeen
 pub mod TextsKept

@@ -1,6 +1,6 @@
 -- A step writes no more than what there is room for, by the value on the top of the innermost frame's stack.
-use Rattle.std.proofs.Common.{ℕ, zero, suc, ◌+◌, ◌≤◌, ℤ, Bool, true, false, not, ◌||◌, List, length, drop, ◌++◌, Option, Some, None, Result, Ok, Err, is_some, arith, length-append}
-use Rattle.std.specs.Prelude.{option_map, IfSome}
+use Rattle.std.proofs.Common.{◌≡◌, refl, ℕ, zero, suc, ◌+◌, ◌≤◌, ℤ, Bool, true, false, not, ◌||◌, List, length, drop, ◌++◌, Option, Some, None, Result, Ok, Err, is_some, arith, length-append}
+use Rattle.std.specs.Prelude.{option_map, IfSome, if◌then◌else◌}
 use Rattle.enc_base.specs.declared.token.Token.{Token}
 use Rattle.enc_kinds.specs.Outside.{outside_of}
 use Rattle.enc_kinds.specs.declared.outside.Outside.{Outside}
@@ -12,7 +12,7 @@ use Rattle.enc_objects.specs.declared.trap.Trap.{Trap}
 use Rattle.enc_objects.specs.declared.trap.Trap.TheVariants.{X1, X2, X4, X5}
 use Rattle.enc_objects.specs.declared.value.Value.{Value}
 use Rattle.enc_objects.specs.declared.value.Value.TheVariants.{I4, I8, Null, Obj}
-use Rattle.enc_opcodes.specs.Instruction.{Argument, nothing, number, target, targets, token, text as said, raw}
+use Rattle.enc_opcodes.specs.Instruction.{Argument, nothing, number, target, targets, token, text as said, raw, Instruction}
 use Rattle.enc_opcodes.specs.declared.op.Op.{Op}
 use Rattle.enc_plain.specs.Module.{cells_of}
 use Rattle.enc_plain.specs.Rows.{token_at}
@@ -23,9 +23,9 @@ use Rattle.enc_frames.specs.Acts.{bare_act, numbered_act, branch_act, token_act}
 use Rattle.enc_frames.specs.Console.{text, or_empty, line_end, digits_of_number, put_text, unit_at, run_constructor, run_outside, call_outside, is_outside_constructor, new_outside}
 use Rattle.enc_frames.specs.Machine.{World, Thread, Task, going, ended, trapped, Shared, MachineState}
 use Rattle.enc_frames.specs.Memory.{new_in, load_static, store_static}
-use Rattle.enc_frames.specs.Results.{or_trap, ask, Made}
+use Rattle.enc_frames.specs.Results.{◌>>=◌, or_trap, ask, Made}
 use Rattle.enc_vm.specs.Room.{WritesAtMost}
-use Rattle.enc_vm.specs.RoomSeen.{IsRoomForValue, IsRoomForTop, IsRoomForTask}
+use Rattle.enc_vm.specs.RoomSeen.{act_of, may_write, IsRoomForValue, IsRoomForTop, IsRoomAt, IsRoomForThread, IsRoomForTask}
 use Rattle.enc_vm.specs.Step.{instruction_of, stored, is_own_method, act_on, act_or_trap, perform, advance, line_of, Stepped, stepped_by, stepped_with, step_task, task_at}
 use Rattle.enc_frames.specs.Straight.{load}
 use Rattle.enc_vm.specs.Turns.{turn_by, machine_turn}
@@ -129,17 +129,27 @@ new_outside_within n w next member s t =
     through (IsWithin n) (new_in (Instance (token_at (cells_of w.plain) member columns.member_ref_class)) 0 s.store) _ (λ x.
     through (IsWithin n) (load ((w.body t.top.code).stack) next (Obj x.1) t.top) _ (λ f. tt))))
 
+-- room where it is asked for
+abbrev IsRoomWhere : {C : Type 0} → ℕ → Bool → Shared → Thread C → Type 0
+IsRoomWhere n asked s t = asked ≡ true → IsRoomForTop s.store n (upper t.top.stack)
+
+either_by : {A : Type 0} (P : A → Type 0) (b : Bool) (x y : A) → P x → (not b ≡ true → P y) → P (if b then x else y)
+either_by P true x y hx hy = hx
+either_by P false x y hx hy = hy refl
+
 -- instructions
 act_within : {C : Type 0} (n : ℕ) (w : World C) (next : ℕ) (a : Act) (s : Shared) (t : Thread C)
-    → IsRoomForTop s.store n (upper t.top.stack) → AfterOk (IsWithin n) (act_on w next a s t)
+    → IsRoomWhere n (may_write (Some a)) s t → AfterOk (IsWithin n) (act_on w next a s t)
 unfolding act_on
 act_within n w next (act.Frame a) s t room = framed_within n s t _
 act_within n w next (act.Object a) s t room = stored_within n s t _
 act_within n w next act.Return s t room = return_within n w s t
 act_within n w next (act.Call method) s t room =
-    either_way (AfterOk (IsWithin n)) (is_own_method method) _ _ (call_within n w next method s t) (call_outside_within n w false next method s t room)
+    either_by (AfterOk (IsWithin n)) (is_own_method method) _ _ (call_within n w next method s t)
+    (λ outside. call_outside_within n w false next method s t (room outside))
 act_within n w next (act.CallVirtual method) s t room =
-    either_way (AfterOk (IsWithin n)) (is_own_method method) _ _ (call_virtual_within n w next method s t) (call_outside_within n w true next method s t room)
+    either_by (AfterOk (IsWithin n)) (is_own_method method) _ _ (call_virtual_within n w next method s t)
+    (λ outside. call_outside_within n w true next method s t (room outside))
 act_within n w next (act.NewObject method) s t room =
     either_way (AfterOk (IsWithin n)) (is_own_method method) _ _ (new_object_within n w next method s t) (new_outside_within n w next method s t)
 act_within n w next (act.LoadStatic field) s t room =
@@ -150,12 +160,12 @@ act_within n w next act.Throw s t room = threaded_within n s _
 act_within n w next act.EndFinally s t room = threaded_within n s _
 
 act_or_trap_within : {C : Type 0} (n : ℕ) (w : World C) (next : ℕ) (a : Option Act) (s : Shared) (t : Thread C)
-    → IsRoomForTop s.store n (upper t.top.stack) → AfterOk (IsWithin n) (act_or_trap w next a s t)
+    → IsRoomWhere n (may_write a) s t → AfterOk (IsWithin n) (act_or_trap w next a s t)
 act_or_trap_within n w next None s t room = tt
 act_or_trap_within n w next (Some a) s t room = act_within n w next a s t room
 
 perform_within : {C : Type 0} (n : ℕ) (w : World C) (next : ℕ) (op : Op) (a : Argument (List ℕ)) (s : Shared) (t : Thread C)
-    → IsRoomForTop s.store n (upper t.top.stack) → AfterOk (IsWithin n) (perform w next op a s t)
+    → IsRoomWhere n (may_write (act_of op a)) s t → AfterOk (IsWithin n) (perform w next op a s t)
 unfolding perform
 perform_within n w next op nothing s t room =
     either_way (AfterOk (IsWithin n)) (is_some (binary_in op)) _ _ (framed_within n s t _)
@@ -167,9 +177,15 @@ perform_within n w next op (token v) s t room = act_or_trap_within n w next (tok
 perform_within n w next op (said units) s t room = stored_within n s t _
 perform_within n w next op (raw bytes) s t room = tt
 
-advance_within : {C : Type 0} (n : ℕ) (w : World C) (s : Shared) (t : Thread C) → IsRoomForTop s.store n (upper t.top.stack) → AfterOk (IsWithin n) (advance w s t)
+at_within : {C : Type 0} (n : ℕ) (w : World C) (s : Shared) (t : Thread C) (o : Option (Instruction (List ℕ) × ℕ)) → IsRoomAt s.store n t.top.stack o
+    → AfterOk (IsWithin n) (or_trap X1 o >>= λ x. perform w x.1 x.0.op x.0.arg s t)
+at_within n w s t None room = tt
+at_within n w s t (Some x) room = perform_within n w x.1 x.0.op x.0.arg s t room
+
+advance_within : {C : Type 0} (n : ℕ) (w : World C) (s : Shared) (t : Thread C) → IsRoomAt s.store n t.top.stack (instruction_of w t.top)
+    → AfterOk (IsWithin n) (advance w s t)
 unfolding advance
-advance_within n w s t room = through (IsWithin n) (or_trap X1 (instruction_of w t.top)) _ (λ x. perform_within n w x.1 x.0.op x.0.arg s t room)
+advance_within n w s t room = at_within n w s t (instruction_of w t.top) room
 
 -- a step of a task
 abbrev StepsWithin : {C : Type 0} → ℕ → Stepped C → Type 0
@@ -180,25 +196,25 @@ result_within n line s t (Ok m) within = within
 result_within n line s t (Err x) within = tt
 
 going_within : {C : Type 0} (n : ℕ) (w : World C) (s : Shared) (t : Thread C) (flight : Option Flight)
-    → IsRoomForTop s.store n (upper t.top.stack) → StepsWithin n (stepped_with w s t flight)
+    → IsRoomForThread w s.store n t flight → StepsWithin n (stepped_with w s t flight)
 going_within n w s t (Some flight) room = tt
 going_within n w s t None room = result_within n (line_of w t.top) s t (advance w s t) (advance_within n w s t room)
 
 -- and the turn of one that is there
 task_within : {C : Type 0} (n : ℕ) (w : World C) (i : ℕ) (s : MachineState C) (t : Task C)
-    → IsRoomForTask s.shared.store n t → WritesAtMost n (turn_by i s (Some (step_task w s.shared t)))
+    → IsRoomForTask w s.shared.store n t → WritesAtMost n (turn_by i s (Some (step_task w s.shared t)))
 unfolding step_task
 task_within n w i s (going t) room = going_within n w s.shared t t.flight room
 task_within n w i s ended room = tt
 task_within n w i s (trapped x frames) room = tt
 
 one_within : {C : Type 0} (n : ℕ) (w : World C) (i : ℕ) (s : MachineState C) (o : Option (Task C))
-    → IfSome o (IsRoomForTask s.shared.store n) → WritesAtMost n (turn_by i s (option_map (λ (t : Task C). step_task w s.shared t) o))
+    → IfSome o (IsRoomForTask w s.shared.store n) → WritesAtMost n (turn_by i s (option_map (λ (t : Task C). step_task w s.shared t) o))
 one_within n w i s None room = tt
 one_within n w i s (Some t) room = task_within n w i s t room
 
 pub turn_within : {C : Type 0} (w : World C) (task : ℕ) (s : MachineState C) (n : ℕ)
-    → IfSome (task_at s task) (IsRoomForTask s.shared.store n) → WritesAtMost n (machine_turn w task s)
+    → IfSome (task_at s task) (IsRoomForTask w s.shared.store n) → WritesAtMost n (machine_turn w task s)
 unfolding machine_turn
 turn_within w zero s n room = tt
 turn_within w (suc i) s n room = one_within n w i s (task_at s (suc i)) room

@@ -3,6 +3,7 @@ pub mod Step
 pub mod FlightsSeen
 pub mod CallsSeen
 pub mod TouchSeen
+pub mod Touched
 pub mod Placed
 pub mod Anywhere
 pub mod EffectsSeen

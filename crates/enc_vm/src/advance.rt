@@ -32,7 +32,7 @@ fn bytes_law(bytes: &[u8])
 }
 
 /// The instruction at an offset of a code, and the offset behind it.
-fn instruction_in<'a>(code: &'a Code, offset: u32) -> Option<(Instr<'a>, u32)>
+pub(crate) fn instruction_in<'a>(code: &'a Code, offset: u32) -> Option<(Instr<'a>, u32)>
     ensures instr { option_map instr_seen result ≡ instr_in code.now.code.code offset }
     ensures bytes { AreBytes code.now.code.code }
 {

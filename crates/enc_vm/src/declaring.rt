@@ -10,7 +10,7 @@ ghost use Rattle.enc_vm.specs.TouchSeen.{first_touch};
 use crate::touched::Touched;
 use enc_base::Token;
 use enc_kinds::{is_constructor, is_static_method, type_constructor};
-use enc_plain::{ModuleView, Viewed};
+use enc_plain::{CellView, ModuleView, Viewed};
 use enc_schema::columns::{METHOD_DEF_FLAGS, TYPE_DEF_FLAGS};
 use std::alloc::{AllocError, Global};
 

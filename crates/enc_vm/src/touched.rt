@@ -3,9 +3,11 @@ ghost use Rattle.std.specs.Prelude.{◌≡◌, ◌++◌, ◌∷◌, [], nat_lt, 
 ghost use Rattle.std.specs.List.{list_any};
 ghost use Rattle.enc_base.specs.Token.{is_token, number_of};
 ghost use Rattle.enc_base.specs.declared.token.Token.{Token as TheToken};
+ghost use Rattle.enc_schema.specs.Tables.{type_def};
 ghost use Rattle.enc_vm.specs.Calls.{with_type};
 
 use enc_base::Token;
+use enc_schema::tables::TYPE_DEF;
 use std::alloc::{AllocError, Global};
 use std::marker::Model;
 
@@ -28,20 +30,6 @@ fn is_same(a: Token, b: Token) -> bool
     ensures { result ≡ is_token a b }
 {
     a.table == b.table && a.row == b.row
-}
-
-/// Whether a token is one of these.
-fn is_among(token: Token, tokens: &[Token]) -> bool
-    ensures { result ≡ list_any (λ (t : TheToken). is_token t token) tokens.now }
-{
-    let mut rest = tokens;
-    while let [next, tail @ ..] = rest {
-        if is_same(*next, token) {
-            return true;
-        }
-        rest = tail;
-    }
-    false
 }
 
 /// A list with one token more.
@@ -90,10 +78,13 @@ pub(crate) struct Touched {
 impl Model for Touched {
     ghost use Rattle.std.specs.Prelude.{List};
     ghost use Rattle.enc_base.specs.declared.token.Token.{Token as OneToken};
+    ghost use Rattle.enc_vm.specs.Touched.{AreTypesFrom};
 
     ghost Value = { List OneToken };
 
     ghost view = { λ t. t.items.items };
+
+    ghost invariant = { λ t. AreTypesFrom 0 t.items.items };
 }
 
 impl Touched {
@@ -120,15 +111,20 @@ impl Touched {
         self.items.get(i as usize).copied()
     }
 
-    /// Whether a type was touched.
+    /// Whether a type was touched. Its time is logarithmic in the number of those that were.
     pub(crate) fn has(&self, token: Token) -> bool
         ensures { result ≡ list_any (λ (t : TheToken). is_token t token) self.now }
     {
-        is_among(token, self.items.as_slice())
+        match self.items.binary_search_by_key(&token.row, |t| t.row) {
+            Ok(_) => token.table == TYPE_DEF,
+            Err(_) => false,
+        }
     }
 
     /// These types and one more.
+    #[tactic(auto, using(crate::proofs::Types::kept))]
     pub(crate) fn with(&self, alloc: Global, token: Token) -> Result<Touched, AllocError>
+        requires { token.table ≡ type_def }
         ensures { IfOk result (λ t. t ≡ with_type token self.now) }
     {
         let items = with_type(alloc, token, self.items.as_slice())?;
