@@ -19,7 +19,7 @@ use Rattle.enc_edits.specs.declared.body.ArgValue.TheVariants as arg
 use Rattle.enc_edits.specs.declared.body.InstrValue.{InstrValue}
 use Rattle.enc_edits.specs.declared.edit.EditList.{EditList}
 use Rattle.enc_edits.specs.Form.{list_fits}
-use Rattle.enc_pdb_delta.specs.Stated.{points_lie_within}
+use Rattle.enc_pdb_delta.specs.Stated.{points_lie_within, pdb_edited}
 use Rattle.enc_edited.specs.Applied.{MayApply}
 use Rattle.enc_jobs.specs.declared.code.Code.{Code}
 use Rattle.enc_jobs.specs.declared.command.Command.{Command}
@@ -62,6 +62,11 @@ GeneratedFits = (start count j : ℕ) (l : EditList) → count ≤ 64 → slice_
 -- each of its points stands in the code of its body
 abbrev pub GeneratedLie : Type 0
 GeneratedLie = (start count j : ℕ) (l : EditList) → slice_get (generated_lists start count) j ≡ Some l → list_all points_lie_within l.edits ≡ true
+
+-- and it tells no point: a method of which nothing was known stays so, whatever methods its edits are about
+abbrev pub GeneratedTellsNothing : Type 0
+GeneratedTellsNothing = (start count j : ℕ) (l : EditList) (before : PlainPdb) (methods : List Token) (method : Token)
+    → slice_get (generated_lists start count) j ≡ Some l → before method ≡ unknown → pdb_edited before methods l method ≡ unknown
 
 -- and it may be applied to the module that stands before it
 abbrev pub GeneratedMayApply : Type 0

@@ -1,5 +1,5 @@
 //! What every list that is read or drawn has, each as the contract of a function that does nothing.
-ghost use Rattle.enc_jobs.specs.Laws.{SaidFits, PointsLie, StandsAsRead, TargetsBegin, GeneratedFits, GeneratedLie, GeneratedMayApply, BaseIsLittle, GeneratedObeys, GeneratedStaysLittle, GeneratedIsLight, ScriptIsShort, ScriptNamesDeltas};
+ghost use Rattle.enc_jobs.specs.Laws.{SaidFits, PointsLie, StandsAsRead, TargetsBegin, GeneratedFits, GeneratedLie, GeneratedTellsNothing, GeneratedMayApply, BaseIsLittle, GeneratedObeys, GeneratedStaysLittle, GeneratedIsLight, ScriptIsShort, ScriptNamesDeltas};
 
 use enc_opcodes::name_laws;
 
@@ -27,6 +27,7 @@ pub fn target_laws()
 pub fn generated_laws()
     ensures fit { GeneratedFits }
     ensures points { GeneratedLie }
+    ensures silent { GeneratedTellsNothing }
     ensures apply { GeneratedMayApply }
 {}
 

@@ -1,30 +1,27 @@
 -- The files of a generated case, one after the other.
 use Rattle.std.proofs.Common.{◌≡◌, ℕ, zero, suc, ◌+◌, ◌≤◌, List, [], ◌∷◌, ◌++◌, length, take, Option, Some, None, Result, Ok, Err, refl, sym, ap, ◌∙◌, subst, arith, append_assoc, append-nil}
 use Rattle.std.specs.Prelude.{slice_get}
-use Rattle.enc_base.specs.declared.token.Token.{Token}
 use Rattle.enc_base.specs.declared.refusal.Refusal.{Refusal}
 use Rattle.enc_rows.specs.Source.{Source}
 use Rattle.enc_plain.specs.Chain.{Chain}
-use Rattle.enc_plain.specs.Debug.{PlainPdb, debug_of}
+use Rattle.enc_plain.specs.Debug.{PlainPdb}
 use Rattle.enc_plain.specs.Module.{Module}
 use Rattle.enc_plain.specs.Sound.{row_count}
-use Rattle.enc_plain.specs.SoundDebug.{KnowsWithin}
 use Rattle.enc_image.specs.Base.{chain_of_base}
 use Rattle.enc_delta.specs.Delta.{delta_of}
 use Rattle.enc_agg.specs.Extend.{chain_with, extended}
 use Rattle.enc_agg.specs.Seen.{chain_of_all}
-use Rattle.enc_ppdb.specs.PdbChain.{DebugDelta, points_at, debug_at, pdb_begun, pdb_with}
 use Rattle.enc_ppdb.specs.Written.{MeansPdb}
 use Rattle.enc_checker.specs.Check.{Accepted, accepted, judged}
-use Rattle.enc_rewriter.specs.Rewritten.{MeansModule}
+use Rattle.enc_rewriter.specs.Rewritten.{MeansModule, RewritesTo}
 use Rattle.enc_edits.specs.declared.edit.EditList.{EditList}
-use Rattle.enc_rules.specs.Edited.{edited}
 use Rattle.enc_writer.specs.declared.bytes.DeltaBytes.{DeltaBytes}
 use Rattle.enc_writer.specs.Stands.{StandsFor, IsWrittenFor}
-use Rattle.enc_jobs.specs.Generated.{generated_base, edited_by, turns_from, state_after, methods_added, lists_from, generated_lists}
-use Rattle.enc_top.specs.Verdict.{Stop, meta, pdb, DeltaFiles, BaseFiles, Followed, followed_by, in_delta, judge_deltas, base_pdb, judge_all, plain_of}
+use Rattle.enc_jobs.specs.Generated.{generated_base, turns_from, state_after, methods_added, lists_from, generated_lists}
+use Rattle.enc_jobs.specs.Laws.{IsDrawnChain, BaseIsLittle, GeneratedStaysLittle, GeneratedTellsNothing}
+use Rattle.enc_top.specs.Verdict.{Stop, meta, pdb, DeltaFiles, BaseFiles, Followed, followed_by, in_delta, judge_deltas, base_pdb, judge_all, debug_after}
 use Rattle.enc_top.specs.Generating.{no_points, delta_name, module_saves, delta_saves, StandInTurn}
-use Rattle.enc_top.specs.Series.{IsSeries}
+use Rattle.enc_top.specs.Series.{AreDrawn, IsSeries}
 use Rattle.enc_top.specs.Stops.{OnPlan, StopsWith}
 use Rattle.enc_top.specs.Loads.{followed, KnowWithin}
 use Rattle.enc_top.specs.Plans.{saves_of}
@@ -33,6 +30,7 @@ use Rattle.enc_top.specs.declared.plan.Plan.{Plan}
 use Rattle.enc_top.specs.declared.plan.Save.{Save}
 use Rattle.enc_top.specs.declared.stop.Stop.{Stop as Halt}
 use Rattle.enc_top.specs.declared.stop.Stop.TheVariants as halt
+use Rattle.enc_top.proofs.Drawn.{base_drawn, base_silent, drawn_more, nothing_more}
 
 -- where something comes of it, nothing stops it
 on_none : (h : Halt) (P : Plan → Type 0) → ((plan : Plan) → P plan → ⊥) → OnPlan h P → OnPlan h (λ plan. ⊥)
@@ -64,24 +62,20 @@ pub base_judged_as : (m : Module) (p : PlainPdb) (name image symbols : List ℕ)
     → f ≡ record { bytes = image; debug = Some symbols } → fs ≡ [] → judge_all name f fs ≡ Ok (base_begun m p image symbols b d)
 base_judged_as m p name image symbols b d f fs is none = rw (is, none) (base_judged m p name image symbols b d)
 
-base_plain : (m : Module) (p : PlainPdb) (image symbols : List ℕ) (b : MeansModule m image) (d : MeansPdb p (row_count m 6) symbols) → plain_of (base_begun m p image symbols b d) ≡ m
-unfolding chain_with chain_of_base
-base_plain m p image symbols b d = b.means
-
-pub series_begins : (out image symbols : List ℕ) (s : Series) (b : MeansModule generated_base image) (d : MeansPdb no_points (row_count generated_base 6) symbols)
-    → followed s.held ≡ base_begun generated_base no_points image symbols b d → saves_of s.saves.items ≡ module_saves out image symbols → KnowWithin s.held → IsSeries out [] s
-unfolding edited_by
-series_begins out image symbols s b d is saved within = record {
+pub series_begins : (out image symbols : List ℕ) (s : Series) (w : RewritesTo generated_base no_points image symbols) → BaseIsLittle
+    → followed s.held ≡ base_begun generated_base no_points image symbols w.image_is w.pdb_is.means → saves_of s.saves.items ≡ module_saves out image symbols → KnowWithin s.held → IsSeries out [] s
+series_begins out image symbols s w little is saved within = record {
   image = image;
   symbols = symbols;
   deltas = [];
-  begun = base_begun generated_base no_points image symbols b d;
+  begun = base_begun generated_base no_points image symbols w.image_is w.pdb_is.means;
   saved = saved ∙ sym (append-nil (module_saves out image symbols));
-  base_is = b;
-  base_debug = d;
-  begins = record { base = b.read; debug = pdb_is generated_base no_points image symbols b d; deltas = refl; debugs = refl };
+  base_is = w.image_is;
+  base_debug = w.pdb_is.means;
+  begins = record { base = w.image_is.read; debug = pdb_is generated_base no_points image symbols w.image_is w.pdb_is.means; deltas = refl; debugs = refl };
   stand = (refl, is);
-  plain_is = ap plain_of is ∙ base_plain generated_base no_points image symbols b d;
+  drawn = subst (λ (f : Followed). IsDrawnChain [] (chain_with f.base f.deltas)) (sym is) (base_drawn no_points image symbols w little);
+  nothing = λ method. ap (λ (f : Followed). debug_after f method) is ∙ base_silent _ symbols w.pdb_is.means method;
   within = within;
 }
 
@@ -104,11 +98,6 @@ stand_more out n f (x ∷ xs) l saves g d a so stand is =
       rest,
     )
 
-edited_more : (m : Module) (lists : List EditList) (l : EditList) → edited_by m (lists ++ l ∷ []) ≡ edited (edited_by m lists) l.edits
-unfolding edited_by
-edited_more m [] l = refl
-edited_more m (x ∷ xs) l = edited_more (edited m x.edits) xs l
-
 take_more : {X : Type 0} (xs : List X) (i : ℕ) (x : X) → slice_get xs i ≡ Some x → take (i + 1) xs ≡ take i xs ++ x ∷ []
 take_more [] i x h = absurd (cc)
 take_more (y ∷ ys) zero x h = let e : y ≡ x = cc in ap (λ z. z ∷ []) e
@@ -119,20 +108,27 @@ taken_many [] i x h = absurd (cc)
 taken_many (y ∷ ys) zero x h = refl
 taken_many (y ∷ ys) (suc i) x h = ap (λ n. suc n) (taken_many ys i x h)
 
--- the module with one delta more
-plain_more : (g : Followed) (l : EditList) (d : DeltaBytes) (a : Accepted) → StandsFor (chain_with g.base g.deltas) l d → judged (chain_with g.base g.deltas) (delta_of d.meta d.il) (Some d.pdb) ≡ Ok a
-    → plain_of (followed_by g a) ≡ edited (plain_of g) l.edits
+-- the chain with one delta more
+chain_more : (lists : List EditList) (f g : Followed) (s : Source) (p : Option Source) → g ≡ followed_by f (accepted s p) → IsDrawnChain lists (extended (chain_with f.base f.deltas) s) → IsDrawnChain lists (chain_with g.base g.deltas)
 unfolding chain_with
-plain_more g l d a stand is =
-    let e = came _ a (accepted (stand.source) (Some (stand.symbols))) is (stand.stands) in
-    ap (λ (x : Accepted). (extended (chain_with g.base g.deltas) x.delta).plain) (sym e) ∙ stand.means
+chain_more lists f g s p after drawn = subst (λ (h : Followed). IsDrawnChain lists (chain_with h.base h.deltas)) (sym after) drawn
 
-pub series_more : (out : List ℕ) (lists : List EditList) (k : ℕ) (old new : Series) (l : EditList) (d : DeltaBytes) (a : Accepted) → IsSeries out (take k lists) old → slice_get lists k ≡ Some l
-    → IsWrittenFor (chain_of_all old.held.agg) l d → judged (chain_of_all old.held.agg) (delta_of d.meta d.il) (Some d.pdb) ≡ Ok a → followed new.held ≡ followed_by (followed old.held) a
-    → saves_of new.saves.items ≡ saves_of old.saves.items ++ delta_saves (delta_name out (k + 1)) d → KnowWithin new.held → IsSeries out (take (k + 1) lists) new
-series_more out lists k old new l d a so there stand is after saved within =
-    let many : 1 + length (take k lists) ≡ k + 1 = let n = taken_many lists k l there in omega (arith, n) in
-    subst (λ xs. IsSeries out xs new) (sym (take_more lists k l there)) (record {
+-- the list at a place of a case, its delta, and what was judged of it
+pub record IsNext (lists : List EditList) (k : ℕ) (l : EditList) (c : Chain) (d : DeltaBytes) (a : Accepted) : Type 0 where
+  pub drawn : AreDrawn lists
+  pub there : slice_get lists k ≡ Some l
+  pub stand : IsWrittenFor c l d
+  pub is : judged c (delta_of d.meta d.il) (Some d.pdb) ≡ Ok a
+
+pub series_more : (out : List ℕ) (lists : List EditList) (k : ℕ) (old new : Series) (l : EditList) (d : DeltaBytes) (a : Accepted) → IsSeries out (take k lists) old → IsNext lists k l (chain_of_all old.held.agg) d a → GeneratedStaysLittle
+    → GeneratedTellsNothing → followed new.held ≡ followed_by (followed old.held) a → saves_of new.saves.items ≡ saves_of old.saves.items ++ delta_saves (delta_name out (k + 1)) d → KnowWithin new.held → IsSeries out (take (k + 1) lists) new
+series_more out lists k old new l d a so next little silent after saved within =
+    let stand = next.stand in
+    let taken = taken_many lists k l next.there in
+    let many : 1 + length (take k lists) ≡ k + 1 = omega (arith, taken) in
+    let e : accepted (stand.stands.source) (Some (stand.stands.symbols)) ≡ a = came _ a (accepted (stand.stands.source) (Some (stand.stands.symbols))) next.is (stand.stands.stands) in
+    let now : followed new.held ≡ followed_by (followed old.held) (accepted (stand.stands.source) (Some (stand.stands.symbols))) = after ∙ ap (λ (x : Accepted). followed_by (followed old.held) x) (sym e) in
+    subst (λ xs. IsSeries out xs new) (sym (take_more lists k l next.there)) (record {
       image = so.image;
       symbols = so.symbols;
       deltas = so.deltas ++ delta_saves (delta_name out (k + 1)) d;
@@ -141,29 +137,12 @@ series_more out lists k old new l d a so there stand is after saved within =
       base_is = so.base_is;
       base_debug = so.base_debug;
       begins = so.begins;
-      stand = rw (after, ← many) (stand_more out 1 (so.begun) (take k lists) l (so.deltas) (followed old.held) d a (so.stand) stand.stands is);
-      plain_is = ap plain_of after ∙ plain_more (followed old.held) l d a stand.stands is ∙ ap (λ m. edited m l.edits) (so.plain_is) ∙ sym (edited_more generated_base (take k lists) l);
+      stand = rw (after, ← many) (stand_more out 1 (so.begun) (take k lists) l (so.deltas) (followed old.held) d a (so.stand) stand.stands next.is);
+      drawn = chain_more (take k lists ++ l ∷ []) (followed old.held) (followed new.held) (stand.stands.source) (Some (stand.stands.symbols)) now
+      (drawn_more lists k l (chain_of_all old.held.agg) d stand next.drawn little next.there taken (so.drawn));
+      nothing = λ method. ap (λ (f : Followed). debug_after f method) now ∙ nothing_more lists k l (followed old.held) d stand next.drawn silent next.there (so.nothing) method;
       within = within;
     })
-
--- where there is no PDB, nothing is known
-none_known : (method : Token) → pdb_with None [] method ≡ no_points method
-unfolding pdb_with pdb_begun debug_at points_at debug_of
-none_known method = refl
-
-pub nothing_within : (base : Option Source) (deltas : List DebugDelta) (methods : ℕ) → base ≡ None → deltas ≡ [] → KnowsWithin (pdb_begun None) methods → KnowsWithin (pdb_with base deltas) methods
-unfolding pdb_with
-nothing_within base deltas methods none bare within = rw (none, bare) within
-
-pub nothing_meant : (base : Option Source) (deltas : List DebugDelta) (m n : Module) (symbols : List ℕ) → base ≡ None → deltas ≡ [] → m ≡ n → MeansPdb (pdb_with base deltas) (row_count m 6) symbols → MeansPdb no_points (row_count n 6) symbols
-nothing_meant base deltas m n symbols none bare same means =
-    let there = rw (none, bare, same) at means in
-    record {
-      source = there.source;
-      read = there.read;
-      means = λ method. there.means method ∙ none_known method;
-      several = λ n low i j p q at. absurd cc;
-    }
 
 -- saves behind none
 pub first_saves : (saves new : List Save) (more : List (List ℕ × List ℕ)) → saves ≡ [] → saves_of new ≡ saves_of saves ++ more → saves_of new ≡ more

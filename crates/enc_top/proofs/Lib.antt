@@ -9,6 +9,7 @@ pub mod Sums
 mod BaseHeaps
 pub mod Spaced
 pub mod Numerals
+pub mod Drawn
 pub mod Cases
 pub mod Written
 mod Named

@@ -1,13 +1,14 @@
 //! The command `gen`: a generated base, the deltas of generated edit lists, and the module after all.
-ghost use Rattle.std.specs.Prelude.{◌≡◌, ◌≤◌, ◌<◌, ◌+◌, ◌++◌, ◌∷◌, [], Ok, Some, length, take, IsTrue, IfOk, OnOk, IsErrOf, string_bytes, map};
+ghost use Rattle.std.specs.Prelude.{◌≡◌, ◌≤◌, ◌<◌, ◌+◌, ◌++◌, ◌∷◌, [], Ok, Some, None, length, take, IsTrue, IfOk, OnOk, IsErrOf, string_bytes, map};
 ghost use Rattle.enc_schema.specs.Tables.{method_def};
 ghost use Rattle.enc_plain.specs.Sound.{row_count};
 ghost use Rattle.enc_ppdb.specs.Written.{MeansPdb};
-ghost use Rattle.enc_rewriter.specs.Rewritten.{MeansModule};
+ghost use Rattle.enc_rewriter.specs.Limits.{IsFault};
+ghost use Rattle.enc_rewriter.specs.Rewritten.{MeansModule, RewritesTo};
 ghost use Rattle.enc_jobs.specs.Generated.{generated_base, generated_lists, edited_by};
 ghost use Rattle.enc_top.specs.Verdict.{meta, pdb, generates, plain_of, debug_after};
 ghost use Rattle.enc_top.specs.Generating.{no_points, delta_name, last_name, module_saves, delta_saves, case_line as line_of_case};
-ghost use Rattle.enc_top.specs.Series.{AreWritable, IsSeries, StandAt, NothingSaid};
+ghost use Rattle.enc_top.specs.Series.{AreDrawn, IsSeries, StandAt, NothingSaid};
 ghost use Rattle.enc_top.specs.Commands.{numeral_seen};
 ghost use Rattle.enc_top.specs.Plans.{IsPlanOf, saves_of};
 ghost use Rattle.enc_top.specs.Stops.{IfPlan};
@@ -21,10 +22,10 @@ use crate::plan::{Outcome, Plan, Save};
 use crate::stop::Stop;
 use enc_checker::within_law;
 use enc_edited::PlainModule;
-use enc_jobs::{EditLists, generated_laws, make_case};
+use enc_jobs::{EditLists, case_laws, generated_laws, make_case};
 use enc_ppdb::PdbChain;
-use enc_rewriter::{Rewritten, rewrite};
-use enc_writer::{DeltaBytes, write_delta};
+use enc_rewriter::{RewriteFault, Rewritten, rewrite};
+use enc_writer::{DeltaBytes, EditFault, write_delta};
 use std::alloc::{AllocError, Global};
 
 /// What was made so far: the base with its deltas, and the files to be saved.
@@ -102,12 +103,12 @@ fn delta_file(alloc: Global, name: &str, files: &DeltaBytes) -> Result<DeltaFile
 
 /// The base that was written, with nothing behind it yet.
 fn begun(alloc: Global, out: &str, written: Rewritten) -> Result<Series, Stop>
-    requires base { MeansModule generated_base written.image }
-    requires debug { MeansPdb no_points (row_count generated_base method_def) written.pdb }
+    requires { RewritesTo generated_base no_points written.image written.pdb }
     ensures series { IfOk result (λ s. IsSeries out.now [] s) }
     ensures said { NothingSaid result }
     ensures no_fault { ¬ (IsErrOf result Stop.Failed) }
 {
+    case_laws();
     let file = base_file(alloc, &written)?;
     let held = judge_all(alloc, out, file, Vec::new(alloc))?;
     let mut saves = Vec::new(alloc);
@@ -115,8 +116,19 @@ fn begun(alloc: Global, out: &str, written: Rewritten) -> Result<Series, Stop>
     Ok(Series { held, saves })
 }
 
-/// The base, written with a PDB in which nothing is known. A heap of it has room, so that no limit is
-/// passed; where one were, it would be want of memory.
+/// Why a module that passes no limit isn't written: there is no memory.
+fn want_of_memory(fault: RewriteFault) -> Stop
+    requires { IsFault fault None }
+    ensures { result ≡ Stop.Memory }
+{
+    match fault {
+        RewriteFault::Memory => Stop::Memory,
+        RewriteFault::TooLarge(_) => unreachable!(),
+        RewriteFault::Image => unreachable!(),
+    }
+}
+
+/// The base, written with a PDB in which nothing is known. It passes no limit.
 fn begin(alloc: Global, out: &str, base: &PlainModule) -> Result<Series, Stop>
     requires { base.now.plain ≡ generated_base }
     ensures series { IfOk result (λ s. IsSeries out.now [] s) }
@@ -124,12 +136,13 @@ fn begin(alloc: Global, out: &str, base: &PlainModule) -> Result<Series, Stop>
     ensures no_fault { ¬ (IsErrOf result Stop.Failed) }
 {
     within_law();
+    case_laws();
     let nothing = PdbChain::begin(alloc, None)?;
     base.sound();
     nothing.sound();
     match rewrite(alloc, base, &nothing) {
         Ok(written) => begun(alloc, out, written),
-        Err(_) => Err(Stop::Memory),
+        Err(fault) => Err(want_of_memory(fault)),
     }
 }
 
@@ -153,12 +166,15 @@ fn add_delta(
 ) -> Result<(), Stop>
     requires there { k < length lists.now }
     requires few { length lists.now ≤ 64 }
+    requires drawn { AreDrawn lists.now }
     requires series { IsSeries out.now (take k lists.now) series.old }
     requires stand { StandAt lists.now k series.old files }
     ensures series { OnOk result (IsSeries out.now (take (k + 1) lists.now) series.new) }
     ensures said { NothingSaid result }
     ensures no_fault { ¬ (IsErrOf result Stop.Failed) }
 {
+    generated_laws();
+    case_laws();
     let name = delta_name_of(alloc, out, k as u32 + 1)?;
     let file = delta_file(alloc, name.as_str(), &files)?;
     judge_delta(alloc, &mut series.held, file)?;
@@ -166,7 +182,7 @@ fn add_delta(
     Ok(())
 }
 
-/// Writes the delta of the list at a place, and adds it.
+/// Writes the delta of the list at a place, which breaks no rule, and adds it.
 fn add_list(
     alloc: Global,
     out: &str,
@@ -176,23 +192,26 @@ fn add_list(
 ) -> Result<(), Stop>
     requires there { k < length lists.now }
     requires few { length lists.now ≤ 64 }
-    requires writable { AreWritable lists.now }
+    requires drawn { AreDrawn lists.now }
     requires series { IsSeries out.now (take k lists.now) series.old }
     ensures series { OnOk result (IsSeries out.now (take (k + 1) lists.now) series.new) }
     ensures said { NothingSaid result }
     ensures no_fault { ¬ (IsErrOf result Stop.Failed) }
 {
+    generated_laws();
+    case_laws();
     let list = &lists.as_slice()[k];
     match write_delta(alloc, &series.held.agg, list) {
         Ok(files) => add_delta(alloc, out, lists, k, files, series),
-        Err(_) => Err(Stop::Memory),
+        Err(EditFault::Memory) => Err(Stop::Memory),
+        Err(EditFault::Broken(..)) => unreachable!(),
     }
 }
 
 /// Adds the deltas of all lists.
 fn add_lists(alloc: Global, out: &str, lists: &EditLists, series: &mut Series) -> Result<(), Stop>
     requires few { length lists.now ≤ 64 }
-    requires writable { AreWritable lists.now }
+    requires drawn { AreDrawn lists.now }
     requires series { IsSeries out.now [] series.old }
     ensures series { OnOk result (IsSeries out.now lists.now series.new) }
     ensures said { NothingSaid result }
@@ -230,7 +249,7 @@ fn ended(
     })
 }
 
-/// Writes the module after all lists, and ends.
+/// Writes the module after all lists, which passes no limit, and ends.
 fn end(
     alloc: Global,
     start: Number<'_>,
@@ -238,16 +257,18 @@ fn end(
     out: &str,
     series: Series,
 ) -> Result<Plan, Stop>
+    requires few { count.value ≤ 64 }
     requires series { IsSeries out.now (generated_lists start.value count.value) series }
     ensures plan { IfPlan result (IsPlanOf (Ok (generates (numeral_seen start.entry) (numeral_seen count.entry) out.now))) }
     ensures told { IfPlan result (λ plan. plan.outcome ≡ Outcome.Accepted) }
     ensures no_fault { ¬ (IsErrOf result Stop.Failed) }
 {
+    case_laws();
     series.held.agg.sound();
     series.held.debug.sound();
     match rewrite(alloc, &series.held.agg, &series.held.debug) {
         Ok(written) => Ok(ended(alloc, start, count, out, series, written)?),
-        Err(_) => Err(Stop::Memory),
+        Err(fault) => Err(want_of_memory(fault)),
     }
 }
 
@@ -263,7 +284,6 @@ pub fn generate(
     ensures told { IfPlan result (λ plan. plan.outcome ≡ Outcome.Accepted) }
     ensures no_fault { ¬ (IsErrOf result Stop.Failed) }
 {
-    generated_laws();
     let case = make_case(alloc, start.value, count.value as u32)?;
     let mut series = begin(alloc, out, &case.base)?;
     add_lists(alloc, out, &case.lists, &mut series)?;

@@ -1,4 +1,4 @@
-use Rattle.enc_jobs.proofs.GeneratedPoints.{generated_lie}
+use Rattle.enc_jobs.proofs.GeneratedPoints.{generated_lie, generated_tells_nothing}
 use Rattle.enc_jobs.proofs.Cases.{generated_follow}
 use Rattle.enc_jobs.proofs.laws.generated_laws.Goals as goal
 
@@ -10,3 +10,6 @@ returns-clause-apply c start count j l few there = (generated_follow start count
 
 pub returns-clause-points : goal.returns-clause-points
 returns-clause-points c = generated_lie
+
+pub returns-clause-silent : goal.returns-clause-silent
+returns-clause-silent c = generated_tells_nothing

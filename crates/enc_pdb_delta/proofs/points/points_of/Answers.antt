@@ -18,4 +18,4 @@ returns-in-Some c =
 pub returns-in-None : goal.returns-in-None
 returns-in-None c =
     let at = sym c.edit_of.ensures ∙ ap (λ (o : Option (Bor Edit)). option_map (λ (e : Bor Edit). e.now) o) c.in-None.is in
-    rw (method_is c.args.edits.now c.args.placed.now c.args.method None c.if-method-ne-METHOD_DEF.false at) c.no_points-in-None.ensures
+    rw (method_is c.args.edits.now c.args.placed.now c.args.method None c.if-method-ne-METHOD_DEF.false at) c.none-in-None.ensures
