@@ -8,9 +8,9 @@ mod clauses;
 mod instr;
 mod judge;
 mod laws;
-mod marks;
 mod section;
 mod texts;
+mod walk;
 mod write;
 
 pub use body::{BodyFault, read_body};
