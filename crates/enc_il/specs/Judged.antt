@@ -1,7 +1,8 @@
 -- What a body is judged by: where its instructions begin, and that they are one list.
-use Rattle.std.specs.Prelude.{◌≡◌, ℕ, Bool, true, false, not, ◌&&◌, List, [], ◌∷◌, length, slice_index_or}
+use Rattle.std.specs.Prelude.{◌≡◌, ℕ, Bool, true, false, not, ◌&&◌, List, [], ◌∷◌, length, slice_index_or, Option, is_some}
+use Rattle.std.specs.List.{list_all}
 use Rattle.enc_opcodes.specs.declared.op.Operand.{Operand}
-use Rattle.enc_opcodes.specs.Instruction.{Argument, target, targets, token, Instruction, instr_in, IsChain, instructions_of, end_of}
+use Rattle.enc_opcodes.specs.Instruction.{Argument, target, targets, token, text, Instruction, instr_in, IsChain, instructions_of, end_of}
 use Rattle.enc_opcodes.specs.Body.{is_user, is_named}
 
 -- whether an instruction begins at an offset, as marked for each byte of the code
@@ -13,6 +14,15 @@ abbrev pub targets_of : Argument ℕ → List ℕ
 targets_of (target t) = t ∷ []
 targets_of (targets ts) = ts
 targets_of _ = []
+
+-- the user texts that an argument names, by their offsets
+abbrev pub users_of : Argument ℕ → List ℕ
+users_of (text offset) = offset ∷ []
+users_of _ = []
+
+-- each of these offsets is that of a user text
+abbrev pub are_texts : (ℕ → Option (List ℕ)) → List ℕ → Bool
+are_texts texts offsets = list_all (λ (t : ℕ). is_some (texts t)) offsets
 
 -- a token is a row, and not in the place of a user text: what is asked of an argument besides its targets
 abbrev pub names_a_row : (ℕ → ℕ) → Operand → Argument ℕ → Bool

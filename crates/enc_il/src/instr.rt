@@ -25,7 +25,7 @@ fn op_at(code: &[u8], at: usize) -> Option<(Op, usize)>
 }
 
 /// The instruction at an offset, whatever its code and its operand, and the offset behind it.
-#[inline(never)]
+#[inline(always)]
 #[tactic(auto, unfolding(enc_opcodes::specs::Instruction::instr_in))]
 fn any_at(code: &[u8], offset: u32) -> Option<(Instr<'_>, u32)>
     requires few { length code.now < 2 ^ 32 }

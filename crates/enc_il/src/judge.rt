@@ -1,13 +1,14 @@
 //! Whether a body is good (ECMA-335 III.1.7).
-ghost use Rattle.std.specs.Prelude.{◌≡◌, ◌<◌, ◌^◌, ◌&&◌, length, drop, not, is_some, IfOk, IsTrue, slice_index};
+ghost use Rattle.std.specs.Prelude.{◌≡◌, ℕ, ◌<◌, ◌^◌, ◌&&◌, List, Option, length, drop, not, is_some, IfOk, IfSome, IsTrue, slice_index};
 ghost use Rattle.std.specs.List.{list_all};
-ghost use Rattle.enc_opcodes.specs.Body.{code_seen, range_is_good as is_good_range, extra_is_good as is_good_extra, clause_is_good as is_good_clause, locals_are_good as are_good_locals, is_good};
+ghost use Rattle.enc_opcodes.specs.Body.{code_seen, range_is_good as is_good_range, extra_is_good as is_good_extra, clause_is_good as is_good_clause, locals_are_good as are_good_locals, is_good, texts_are_there as are_texts_there};
 ghost use Rattle.enc_opcodes.specs.Clause.{clauses_in, clauses_of};
-ghost use Rattle.enc_il.specs.Judged.{mark_at};
+ghost use Rattle.enc_il.specs.Judged.{mark_at, are_texts};
 ghost use Rattle.enc_il.specs.Seen.{all_sections};
 
 use crate::clauses::clause_front;
 use crate::section::{SectionRef, behind_sections, clause_size, section_front};
+use crate::texts::UserTexts;
 use crate::walk::{is_named, walk_of};
 use enc_base::{Counts, Token};
 use enc_opcodes::{Clause, CodeRef};
@@ -143,22 +144,70 @@ fn are_parts_good(code: &CodeRef<'_>, counts: &Counts, marks: &[bool], targets: 
         && locals_are_good(counts, code.locals)
 }
 
+/// The user texts that the code of a good body names, by their offsets; None where the body is not
+/// good.
+fn users_of_good(
+    alloc: Global,
+    code: &CodeRef<'_>,
+    counts: &Counts,
+) -> Result<Option<Vec<u32>>, AllocError>
+    requires few { length code.now.code.now < 2 ^ 32 }
+    ensures good { IfOk result (λ o. is_some o ≡ is_good (slice_index counts.now.rows) (code_seen code.now)) }
+    ensures users { IfOk result (λ o. IfSome o (λ users. (texts : ℕ → Option (List ℕ)) → are_texts_there texts code.now.code.now ≡ are_texts texts users.items)) }
+{
+    let walk = walk_of(alloc, code, counts)?;
+    if walk.end as usize != code.code.len() {
+        return Ok(None);
+    }
+    if !walk.rows {
+        return Ok(None);
+    }
+    if !are_parts_good(code, counts, walk.marks.as_slice(), walk.targets.as_slice()) {
+        return Ok(None);
+    }
+    Ok(Some(walk.users))
+}
+
 /// Whether the body is not good, where each table has so many rows: its code isn't whole
 /// instructions, or a target, a token, a clause or the local signature isn't what it must be
 /// (ECMA-335 II.25.4.6, III.1.7, III.1.9). The user texts that it names are looked at apart. It goes
-/// over the code once, and fails where memory for a mark for each byte of the code and for the
-/// targets can't be had.
+/// over the code once, and fails where memory for a mark for each byte of the code and for targets and
+/// texts can't be had.
 pub fn first_bad(alloc: Global, code: &CodeRef<'_>, counts: &Counts) -> Result<bool, AllocError>
     requires few { length code.now.code.now < 2 ^ 32 }
     ensures { IfOk result (λ bad. bad ≡ not (is_good (slice_index counts.now.rows) (code_seen code.now))) }
 {
-    let walk = walk_of(alloc, code, counts)?;
-    if walk.end as usize != code.code.len() {
-        return Ok(true);
+    match users_of_good(alloc, code, counts)? {
+        Some(_) => Ok(false),
+        None => Ok(true),
     }
-    if !walk.rows {
-        return Ok(true);
+}
+
+/// Whether a user text stands at each of these offsets.
+fn are_texts<T: UserTexts>(texts: &T, offsets: &[u32]) -> bool
+    ensures { result ≡ are_texts (T.texts texts.now) offsets.now }
+{
+    for offset in offsets {
+        if !texts.has_user(*offset) {
+            return false;
+        }
     }
-    let good = are_parts_good(code, counts, walk.marks.as_slice(), walk.targets.as_slice());
-    Ok(!good)
+    true
+}
+
+/// Whether the body is good, as `first_bad` says, and each user text that it names is there. Like
+/// `first_bad` it goes over the code once.
+pub fn is_good_body<T: UserTexts>(
+    alloc: Global,
+    code: &CodeRef<'_>,
+    counts: &Counts,
+    texts: &T,
+) -> Result<bool, AllocError>
+    requires few { length code.now.code.now < 2 ^ 32 }
+    ensures { IfOk result (λ good. good ≡ (is_good (slice_index counts.now.rows) (code_seen code.now) && are_texts_there (T.texts texts.now) code.now.code.now)) }
+{
+    match users_of_good(alloc, code, counts)? {
+        Some(users) => Ok(are_texts(texts, users.as_slice())),
+        None => Ok(false),
+    }
 }

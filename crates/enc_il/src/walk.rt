@@ -1,9 +1,9 @@
 //! One pass over the instructions of a code: where they begin, where they lead, and whether each of their tokens is a row.
-ghost use Rattle.std.specs.Prelude.{◌≡◌, ℕ, ◌<◌, ◌^◌, ◌++◌, ◌&&◌, Bool, length, slice_index, IfOk, OnOk};
+ghost use Rattle.std.specs.Prelude.{◌≡◌, ℕ, ◌<◌, ◌^◌, ◌++◌, ◌&&◌, Bool, List, Option, length, slice_index, IfOk, OnOk};
 ghost use Rattle.std.specs.List.{list_all};
 ghost use Rattle.enc_opcodes.specs.Instruction.{all_reached, instructions_of, end_of};
-ghost use Rattle.enc_opcodes.specs.Body.{is_named as is_row, is_user as is_user_operand, is_instruction_start, instruction_is_good};
-ghost use Rattle.enc_il.specs.Judged.{mark_at, targets_of, names_a_row as names_good_row};
+ghost use Rattle.enc_opcodes.specs.Body.{is_named as is_row, is_user as is_user_operand, is_instruction_start, instruction_is_good, texts_are_there as are_texts_there};
+ghost use Rattle.enc_il.specs.Judged.{mark_at, targets_of, users_of, are_texts, names_a_row as names_good_row};
 ghost use Rattle.enc_il.specs.Seen.{arg_seen};
 
 use crate::instr::instr_at;
@@ -21,6 +21,8 @@ pub(crate) struct Walk {
     pub(crate) marks: Vec<bool>,
     /// The offsets to which branches lead.
     pub(crate) targets: Vec<u32>,
+    /// The offsets of the user texts that instructions name.
+    pub(crate) users: Vec<u32>,
     /// Whether each token is a row of a table that an instruction may name.
     pub(crate) rows: bool,
     /// The offset behind the last instruction.
@@ -76,9 +78,16 @@ fn push_all(targets: &mut Vec<u32>, end: u32, distances: &[u8]) -> Result<(), Al
     Ok(())
 }
 
-/// Puts the targets of an argument, in an instruction that ends there, behind others.
-fn push_targets(targets: &mut Vec<u32>, end: u32, arg: &Arg<'_>) -> Result<(), AllocError>
-    ensures { OnOk result (targets.new.items ≡ targets.old.items ++ targets_of (arg_seen end arg.now)) }
+/// Puts the targets of an argument, in an instruction that ends there, behind others, and so the user
+/// text that it names.
+fn push_arg(
+    targets: &mut Vec<u32>,
+    users: &mut Vec<u32>,
+    end: u32,
+    arg: &Arg<'_>,
+) -> Result<(), AllocError>
+    ensures targets { OnOk result (targets.new.items ≡ targets.old.items ++ targets_of (arg_seen end arg.now)) }
+    ensures users { OnOk result (users.new.items ≡ users.old.items ++ users_of (arg_seen end arg.now)) }
 {
     match *arg {
         Arg::Target(offset) => {
@@ -86,12 +95,17 @@ fn push_targets(targets: &mut Vec<u32>, end: u32, arg: &Arg<'_>) -> Result<(), A
             Ok(())
         }
         Arg::Targets(distances) => push_all(targets, end, distances),
+        Arg::User(offset) => {
+            users.push(offset)?;
+            Ok(())
+        }
         _ => Ok(()),
     }
 }
 
 /// One pass over a code: its instructions are good where each token is a row and each target an
-/// instruction's beginning. It takes memory for a mark for each byte and for the targets.
+/// instruction's beginning. It takes memory for a mark for each byte, for the targets and for the
+/// offsets of texts.
 pub(crate) fn walk_of(
     alloc: Global,
     code: &CodeRef<'_>,
@@ -101,20 +115,23 @@ pub(crate) fn walk_of(
     ensures marks { IfOk result (λ w. (t : ℕ) → mark_at w.marks.items t ≡ is_instruction_start (instructions_of code.now.code.now) t) }
     ensures end { IfOk result (λ w. w.end ≡ end_of code.now.code.now 0) }
     ensures good { IfOk result (λ w. (starts : ℕ → Bool) → list_all (instruction_is_good (slice_index counts.now.rows) starts) (instructions_of code.now.code.now) ≡ (w.rows && list_all starts w.targets.items)) }
+    ensures users { IfOk result (λ w. (texts : ℕ → Option (List ℕ)) → are_texts_there texts code.now.code.now ≡ are_texts texts w.users.items) }
 {
     let mut marks = vec![in alloc; false; code.code.len()]?;
     let mut targets = Vec::new(alloc);
+    let mut users = Vec::new(alloc);
     let mut rows = true;
     let mut at = 0;
     while let Some((instr, end)) = instr_at(code, at) {
         marks[at as usize] = true;
         rows = rows && names_a_row(counts, instr.op.operand, &instr.arg);
-        push_targets(&mut targets, end, &instr.arg)?;
+        push_arg(&mut targets, &mut users, end, &instr.arg)?;
         at = end;
     }
     Ok(Walk {
         marks,
         targets,
+        users,
         rows,
         end: at,
     })
