@@ -118,7 +118,7 @@ fn broken_body_at<C: ChainView>(
 
 /// The first method whose body isn't good. It goes over the methods once and reads each body once,
 /// whatever the number of methods that share it. It takes memory for a mark for each byte of one
-/// body's code at a time, and for the places of the bodies.
+/// body's code at a time, for its targets and texts, and for the places of the bodies.
 #[tactic(auto, using(enc_base::proofs::First::first_none, enc_base::proofs::First::first_found, enc_base::proofs::First::first_more), unfolding(crate::specs::Rules::broken_body))]
 pub fn broken_body<C: ChainView>(
     alloc: Global,

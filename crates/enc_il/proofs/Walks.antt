@@ -7,7 +7,7 @@ use Rattle.enc_opcodes.specs.declared.op.Operand.{Operand}
 use Rattle.enc_opcodes.specs.Instruction.{Argument, nothing, number, target, targets, token, text, raw, Instruction, instr_in, rest_of}
 use Rattle.enc_opcodes.specs.Body.{arg_is_good, instruction_is_good, text_is_there, texts_are_there}
 use Rattle.enc_opcodes.proofs.Instructions.{rest_none, rest_more}
-use Rattle.enc_il.specs.Judged.{targets_of, users_of, are_texts, names_a_row}
+use Rattle.enc_il.specs.Judged.{targets_of, named_texts, are_texts, names_a_row}
 use Rattle.enc_il.proofs.Starts.{IsRead}
 
 and_true : (b : Bool) → (b && true) ≡ b
@@ -45,7 +45,7 @@ pub all_found : (count : ℕ → ℕ) (code : List ℕ) (at : ℕ) (rows : Bool)
 all_found count code at rows found none before starts = before starts ∙ rw (rest_none code at (sym none)) (and_true (rows && list_all starts found))
 
 -- so it is with the user texts that instructions name
-text_parts : (texts : ℕ → Option (List ℕ)) (a : Argument ℕ) → text_is_there texts a ≡ are_texts texts (users_of a)
+text_parts : (texts : ℕ → Option (List ℕ)) (a : Argument ℕ) → text_is_there texts a ≡ are_texts texts (named_texts a)
 text_parts texts nothing = refl
 text_parts texts (number n) = refl
 text_parts texts (target t) = refl
@@ -61,11 +61,11 @@ joined false t r = refl
 abbrev pub AreNamed : List ℕ → ℕ → List ℕ → Type 0
 AreNamed code at named = (texts : ℕ → Option (List ℕ)) → list_all (λ (x : ℕ × Instruction ℕ). text_is_there texts x.1.arg) (rest_of code 0) ≡ (are_texts texts named && list_all (λ (x : ℕ × Instruction ℕ). text_is_there texts x.1.arg) (rest_of code at))
 
-pub one_named : (code : List ℕ) (at n : ℕ) (i : Instruction ℕ) (named all : List ℕ) → IsRead code at i n → AreNamed code at named → all ≡ named ++ users_of i.arg → AreNamed code n all
+pub one_named : (code : List ℕ) (at n : ℕ) (i : Instruction ℕ) (named all : List ℕ) → IsRead code at i n → AreNamed code at named → all ≡ named ++ named_texts i.arg → AreNamed code n all
 one_named code at n i named all is before is_all texts =
     let behind = list_all (λ (x : ℕ × Instruction ℕ). text_is_there texts x.1.arg) (rest_of code n) in
     before texts
-    ∙ rw (rest_more code at n i (sym is), text_parts texts i.arg, joined (are_texts texts named) (are_texts texts (users_of i.arg)) behind, is_all, list_all-append (λ (t : ℕ). is_some (texts t)) named (users_of i.arg)) refl
+    ∙ rw (rest_more code at n i (sym is), text_parts texts i.arg, joined (are_texts texts named) (are_texts texts (named_texts i.arg)) behind, is_all, list_all-append (λ (t : ℕ). is_some (texts t)) named (named_texts i.arg)) refl
 
 pub all_named : (code : List ℕ) (at : ℕ) (named : List ℕ) → None ≡ instr_in code at → AreNamed code at named → (texts : ℕ → Option (List ℕ)) → texts_are_there texts code ≡ are_texts texts named
 unfolding texts_are_there

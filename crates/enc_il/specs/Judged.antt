@@ -16,9 +16,9 @@ targets_of (targets ts) = ts
 targets_of _ = []
 
 -- the user texts that an argument names, by their offsets
-abbrev pub users_of : Argument ℕ → List ℕ
-users_of (text offset) = offset ∷ []
-users_of _ = []
+abbrev pub named_texts : Argument ℕ → List ℕ
+named_texts (text offset) = offset ∷ []
+named_texts _ = []
 
 -- each of these offsets is that of a user text
 abbrev pub are_texts : (ℕ → Option (List ℕ)) → List ℕ → Bool

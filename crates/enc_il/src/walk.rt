@@ -3,7 +3,7 @@ ghost use Rattle.std.specs.Prelude.{◌≡◌, ℕ, ◌<◌, ◌^◌, ◌++◌, 
 ghost use Rattle.std.specs.List.{list_all};
 ghost use Rattle.enc_opcodes.specs.Instruction.{all_reached, instructions_of, end_of};
 ghost use Rattle.enc_opcodes.specs.Body.{is_named as is_row, is_user as is_user_operand, is_instruction_start, instruction_is_good, texts_are_there as are_texts_there};
-ghost use Rattle.enc_il.specs.Judged.{mark_at, targets_of, users_of, are_texts, names_a_row as names_good_row};
+ghost use Rattle.enc_il.specs.Judged.{mark_at, targets_of, named_texts, are_texts, names_a_row as names_good_row};
 ghost use Rattle.enc_il.specs.Seen.{arg_seen};
 
 use crate::instr::instr_at;
@@ -87,7 +87,7 @@ fn push_arg(
     arg: &Arg<'_>,
 ) -> Result<(), AllocError>
     ensures targets { OnOk result (targets.new.items ≡ targets.old.items ++ targets_of (arg_seen end arg.now)) }
-    ensures users { OnOk result (users.new.items ≡ users.old.items ++ users_of (arg_seen end arg.now)) }
+    ensures users { OnOk result (users.new.items ≡ users.old.items ++ named_texts (arg_seen end arg.now)) }
 {
     match *arg {
         Arg::Target(offset) => {
