@@ -1,4 +1,4 @@
--- For the contracts of private functions: a command of the program as the job that it is.
+-- A command of the program as the job that it is.
 use Rattle.std.specs.Prelude.{◌≡◌, ◌≤◌, ◌^◌, ℕ, Option, Some, None}
 use Rattle.enc_words.specs.declared.command.Command.{Command}
 use Rattle.enc_words.specs.declared.command.Number.{Number}
