@@ -126,11 +126,6 @@ pub if_both : {A : Type 0} (o : Option A) (P Q R : A → Type 0) → IfSome o P 
 if_both (Some x) P Q R h k f = f x h k
 if_both None P Q R h k f = tt
 
-pub next_word : {X : Type 0} (xs : List X) (i : ℕ) (x : X) → slice_get xs i ≡ Some x → drop i xs ≡ x ∷ drop (i + 1) xs
-next_word [] i x h = absurd cc
-next_word (y ∷ ys) zero x h = let e : y ≡ x = cc in ap (λ z. z ∷ ys) e
-next_word (y ∷ ys) (suc i) x h = let e : suc i + 1 ≡ suc (i + 1) = omega arith in rw e (next_word ys i x h)
-
 pub no_word : {X : Type 0} (xs : List X) (i : ℕ) → length xs ≤ i → drop i xs ≡ []
 no_word [] zero h = refl
 no_word [] (suc i) h = refl
