@@ -12,6 +12,7 @@ use Rattle.enc_schema.specs.Columns as columns
 use Rattle.enc_schema.specs.Tables as tables
 use Rattle.enc_delta.specs.Delta.{delta_of, listed}
 use Rattle.enc_delta.specs.Judged.{first_meta}
+use Rattle.enc_agg.specs.Extend.{extended}
 use Rattle.enc_edits.specs.declared.edit.Edit.{Edit}
 use Rattle.enc_edits.specs.declared.edit.EditList.{EditList}
 use Rattle.enc_rules.specs.Edited.{rows_edited}
@@ -58,6 +59,11 @@ lists_so c l s may says u = by (list_any (λ t. is_token t u) (rows_edited c.pla
     by false true e f = absurd (let g : is_edited c.plain l.edits u ≡ true = map_only c l u f in let h : true ≡ false = sym g ∙ e in cc)
     by false false e f = ap (λ ts. list_any (λ t. is_token t u) ts) (listed_is c l s may says) ∙ f ∙ sym e
 
+-- the EncIds of the chain with the delta
+ids_so : (c : Chain) (l : EditList) (s : Source) → SaysDelta c l s → (extended c s).ids ≡ c.ids ++ l.enc_id ∷ []
+unfolding extended
+ids_so c l s says = ap (λ g. c.ids ++ g ∷ []) (guid_is c l s columns.module_enc_id l.enc_id says says.single.enc_id)
+
 some_given : (o : Option Edit) → gives_points o ≡ true → (e : Edit) × (o ≡ Some e)
 some_given None gives = absurd cc
 some_given (Some e) gives = (e, refl)
@@ -86,7 +92,7 @@ files_stand are_read follow mean placed debug c l d may within files =
         stands = accepted_files c (delta_of d.meta d.il) r.0 files.points.source d.pdb read follows files.points.read (placed c l r.0 d.pdb may r.2 files.points within);
         means = mean c l r.0 may r.2;
         debug = λ before method. debug c l r.0 d.pdb may r.2 files.points before method;
-        enc_id = ap (λ g. c.ids ++ g ∷ []) (guid_is c l r.0 columns.module_enc_id l.enc_id r.2 r.2.single.enc_id);
+        enc_id = ids_so c l r.0 r.2;
         lists = lists_so c l r.0 may r.2;
         several = several_so l (rows_edited c.plain l.edits) d.pdb files.points;
       };
