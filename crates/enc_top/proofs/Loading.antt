@@ -1,6 +1,6 @@
 -- Loading and judging, one file after the other.
 use Rattle.std.proofs.Common.{◌≡◌, ℕ, zero, suc, ◌+◌, ◌≤◌, List, [], ◌∷◌, ◌++◌, Option, Some, None, Ok, Err, Result, refl, sym, ap, inl, inr, append_assoc, append-nil, map, arith, drop, length}
-use Rattle.std.specs.Prelude.{◌⊎◌, IfSome, slice_get}
+use Rattle.std.specs.Prelude.{◌⊎◌, IfSome}
 use Rattle.std.proofs.lemmas.List.{map-append}
 use Rattle.enc_outside.specs.Outside.{Files, HasCause}
 use Rattle.enc_top.specs.declared.plan.Plan.{Plan}
