@@ -139,7 +139,7 @@ series_more out lists k old new l d a so next little silent after saved within =
       begins = so.begins;
       stand = rw (after, ← many) (stand_more out 1 (so.begun) (take k lists) l (so.deltas) (followed old.held) d a (so.stand) stand.stands next.is);
       drawn = chain_more (take k lists ++ l ∷ []) (followed old.held) (followed new.held) (stand.stands.source) (Some (stand.stands.symbols)) now
-      (drawn_more lists k l (chain_of_all old.held.agg) d stand next.drawn little next.there taken (so.drawn));
+          (drawn_more lists k l (chain_of_all old.held.agg) d stand next.drawn little next.there taken (so.drawn));
       nothing = λ method. ap (λ (f : Followed). debug_after f method) now ∙ nothing_more lists k l (followed old.held) d stand next.drawn silent next.there (so.nothing) method;
       within = within;
     })

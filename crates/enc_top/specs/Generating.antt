@@ -41,7 +41,7 @@ sum_loaded m = sum_by (λ (r : Row). loaded_in_body (slice_get r.cells 0)) (rows
 unfoldable pub case_line : List ℕ → List ℕ → Module → List ℕ
 case_line start count m =
     codes "gen " ++ start ++ 0x20 ∷ count ++ codes " methods " ++ decimal (row_count m tables.method_def) ++ codes " sum " ++ decimal (sum_loaded m)
-        ++ 0x0a ∷ []
+    ++ 0x0a ∷ []
 
 -- a PDB in which nothing is known
 abbrev pub no_points : PlainPdb
