@@ -19,7 +19,7 @@ use Rattle.enc_image.specs.Base.{base_of, chain_of_base}
 use Rattle.enc_agg.specs.Extend.{chain_with, extended}
 use Rattle.enc_ppdb.specs.PdbChain.{DebugDelta, points_at, debug_at, pdb_begun, pdb_with}
 use Rattle.enc_ppdb.specs.Written.{MeansPdb}
-use Rattle.enc_checker.specs.Check.{Accepted, accepted}
+use Rattle.enc_checker.specs.Check.{accepted}
 use Rattle.enc_rewriter.specs.Limits.{Passed, rewrite_limit, IsFault}
 use Rattle.enc_rewriter.specs.Rewritten.{RewritesTo}
 use Rattle.enc_rewriter.specs.declared.fault.RewriteFault.{RewriteFault}
