@@ -1,6 +1,6 @@
 -- The methods of a chain and a delta: their rows, their tokens and their user texts.
 use Rattle.std.proofs.Common.{◌≡◌, ◌≢◌, ℕ, zero, suc, ◌<◌, ◌≤◌, length, List, Bool, true, false, Option, Some, None, refl, ◌∙◌, arith}
-use Rattle.std.specs.Prelude.{not, ◌==◌, ◌%◌, ◌&&◌, nat_lt, nat_le, Result, Ok, Err, IfOk}
+use Rattle.std.specs.Prelude.{◌==◌, ◌%◌, ◌&&◌, nat_lt, nat_le, Result, Ok, Err, IfOk}
 use Rattle.std.proofs.lemmas.Option.{slice_get_past}
 use Rattle.std.proofs.lemmas.Bool.Decides.{nat_tests}
 use Rattle.enc_base.specs.declared.token.Token.{Token}
@@ -30,20 +30,10 @@ pub inserts_few : (c : Chain) (tokens : List Token) (table n : ℕ) → n ≡ in
 unfolding inserts
 inserts_few c tokens table n is = omega (arith, is, count_by-le-length (λ (t : Token). t.table == table && is_insert c t) tokens)
 
-both_no : (good there : Bool) → true ≡ not good → false ≡ (good && there)
-both_no true there h = absurd cc
-both_no false there h = refl
-
-both_yes : (good there : Bool) → false ≡ not good → there ≡ (good && there)
-both_yes true there h = refl
-both_yes false there h = absurd cc
-
--- a body that is bad by some numbers of rows, and one that is good by them, by numbers that agree on the tables of metadata
-pub bad_body : (f g : ℕ → ℕ) (texts : ℕ → Option (List ℕ)) (c : Code) → ((t : ℕ) → t < 64 → f t ≡ g t) → true ≡ not (is_good f c) → false ≡ code_is_good g texts (Some c)
-bad_body f g texts c same h = both_no (is_good g c) (texts_are_there texts c.code) (rw (good_alike f g c same) at h)
-
-pub good_body : (f g : ℕ → ℕ) (texts : ℕ → Option (List ℕ)) (c : Code) → ((t : ℕ) → t < 64 → f t ≡ g t) → false ≡ not (is_good f c) → texts_are_there texts c.code ≡ code_is_good g texts (Some c)
-good_body f g texts c same h = both_yes (is_good g c) (texts_are_there texts c.code) (rw (good_alike f g c same) at h)
+-- a body with its texts is as good by some numbers of rows as by others that agree on the tables of metadata
+pub whole_body : {E : Type 0} (f g : ℕ → ℕ) (texts : ℕ → Option (List ℕ)) (c : Code) (r : Result Bool E) → ((t : ℕ) → t < 64 → f t ≡ g t) → IfOk r (λ good. good ≡ (is_good f c && texts_are_there texts c.code)) → IfOk r (λ good. good ≡ code_is_good g texts (Some c))
+whole_body f g texts c (Ok good) same h = h ∙ rw (good_alike f g c same) refl
+whole_body f g texts c (Err e) same h = tt
 
 -- a body that stands at a place is judged there
 judged_at : (count : ℕ → ℕ) (texts : ℕ → Option (List ℕ)) (regions : List Region) (place flags : ℕ) (code : Code) → place ≢ 0 → (flags % 4 == 0) ≡ true → Some code ≡ code_loaded regions place → code_is_good count texts (Some code) ≡ body_is_good count texts regions place flags

@@ -13,7 +13,7 @@ use crate::cells::next_of;
 use crate::context::Context;
 use crate::delta::nth_row;
 use enc_base::{Place, Token};
-use enc_il::{first_bad, texts_are_there};
+use enc_il::is_good_body;
 use enc_opcodes::CodeRef;
 use enc_plain::{ChainView, is_row};
 use enc_schema::columns::{METHOD_DEF_IMPL_FLAGS, METHOD_DEF_RVA};
@@ -30,10 +30,7 @@ fn is_whole<C: ChainView>(
     requires few { length code.now.code.now < 2 ^ 32 }
     ensures { IfOk result (λ good. good ≡ code_is_good (rows_with context.now.chain (listed context.now.delta)) (users_after context.now.chain context.now.delta) (Some (code_seen code.now))) }
 {
-    if first_bad(alloc, code, context.counts())? {
-        return Ok(false);
-    }
-    Ok(texts_are_there(context, code))
+    is_good_body(alloc, code, context.counts(), context)
 }
 
 /// Whether a good body stands at a place of the delta's code.
@@ -121,7 +118,7 @@ fn broken_body_at<C: ChainView>(
 
 /// The first method whose body isn't good. It goes over the methods once and reads each body once,
 /// whatever the number of methods that share it. It takes memory for a mark for each byte of one
-/// body's code at a time, and for the places of the bodies.
+/// body's code at a time, for its targets and texts, and for the places of the bodies.
 #[tactic(auto, using(enc_base::proofs::First::first_none, enc_base::proofs::First::first_found, enc_base::proofs::First::first_more), unfolding(crate::specs::Rules::broken_body))]
 pub fn broken_body<C: ChainView>(
     alloc: Global,

@@ -1,6 +1,6 @@
 -- How the parts of a body's judgement come together.
 use Rattle.std.proofs.Common.{◌≡◌, ℕ, zero, suc, ◌-◌, ◌<◌, Bool, true, false, ◌&&◌, List, length, drop, Some, None, refl, sym, ap, ◌∙◌, arith}
-use Rattle.std.specs.Prelude.{◌==◌, not, is_some}
+use Rattle.std.specs.Prelude.{◌==◌, is_some}
 use Rattle.std.proofs.lemmas.Bool.Decides.{nat_tests}
 use Rattle.std.specs.List.{list_all}
 use Rattle.std.proofs.Math.Path.{fun_ext}
@@ -20,6 +20,10 @@ good_by_marks count c marks marked =
     let e : mark_at marks ≡ is_instruction_start (instructions_of c.code) = fun_ext marked in
     rw e refl
 
+-- what one pass over its code found
+abbrev pub Found : (ℕ → ℕ) → Code → Bool → List ℕ → Type 0
+Found count c rows targets = (starts : ℕ → Bool) → list_all (instruction_is_good count starts) (instructions_of c.code) ≡ (rows && list_all starts targets)
+
 is_true : (m n : ℕ) → m ≡ n → (m == n) ≡ true
 is_true m n e = grind (arith, nat_tests)
 
@@ -27,17 +31,29 @@ is_false : (m n : ℕ) → (m ≡ n → ⊥) → (m == n) ≡ false
 is_false m n other = grind (arith, nat_tests)
 
 -- code that isn't whole instructions is not good
-pub not_whole : (count : ℕ → ℕ) (c : Code) (end : ℕ) → end ≡ end_of c.code 0 → (end ≡ length c.code → ⊥) → true ≡ not (is_good count c)
+pub not_whole : (count : ℕ → ℕ) (c : Code) (end : ℕ) → end ≡ end_of c.code 0 → (end ≡ length c.code → ⊥) → false ≡ is_good count c
 unfolding is_good
 not_whole count c end is other =
     let e : (end_of c.code 0 == length c.code) ≡ false = is_false (end_of c.code 0) (length c.code) (λ h. other (is ∙ h)) in
     rw e refl
 
--- code that is, is as good as its parts
-pub whole_parts : (count : ℕ → ℕ) (c : Code) (marks : List Bool) (end : ℕ) (parts : Bool) → ((t : ℕ) → mark_at marks t ≡ is_instruction_start (instructions_of c.code) t) → end ≡ end_of c.code 0 → end ≡ length c.code → parts ≡ (list_all (instruction_is_good count (mark_at marks)) (instructions_of c.code) && list_all (clause_is_good count (mark_at marks) (length c.code)) (clauses_of c.sections) && locals_are_good count c.locals) → not parts ≡ not (is_good count c)
-whole_parts count c marks end parts marked is whole good =
+-- code with a token that is no row is not good
+pub not_rows : (count : ℕ → ℕ) (c : Code) (rows : Bool) (targets : List ℕ) → Found count c rows targets → rows ≡ false → false ≡ is_good count c
+unfolding is_good
+not_rows count c rows targets found bad =
+    let e : list_all (instruction_is_good count (is_instruction_start (instructions_of c.code))) (instructions_of c.code) ≡ false = found (is_instruction_start (instructions_of c.code)) ∙ rw bad refl in
+    rw e (by_end (end_of c.code 0 == length c.code) (list_all (clause_is_good count (is_instruction_start (instructions_of c.code)) (length c.code)) (clauses_of c.sections)) (locals_are_good count c.locals))
+  where
+    by_end : (end clauses locals : Bool) → false ≡ (end && false && clauses && locals)
+    by_end true clauses locals = refl
+    by_end false clauses locals = refl
+
+-- code that is whole, and names rows, is as good as its parts
+pub whole_parts : (count : ℕ → ℕ) (c : Code) (marks : List Bool) (end : ℕ) (rows : Bool) (targets : List ℕ) (parts : Bool) → ((t : ℕ) → mark_at marks t ≡ is_instruction_start (instructions_of c.code) t) → end ≡ end_of c.code 0 → Found count c rows targets → end ≡ length c.code → rows ≡ true → parts ≡ (list_all (mark_at marks) targets && list_all (clause_is_good count (mark_at marks) (length c.code)) (clauses_of c.sections) && locals_are_good count c.locals) → parts ≡ is_good count c
+whole_parts count c marks end rows targets parts marked is found whole all good =
     let e : (end_of c.code 0 == length c.code) ≡ true = is_true (end_of c.code 0) (length c.code) (sym is ∙ whole) in
-    ap not (good ∙ sym (good_by_marks count c marks marked ∙ rw e refl))
+    let f : list_all (instruction_is_good count (mark_at marks)) (instructions_of c.code) ≡ list_all (mark_at marks) targets = found (mark_at marks) ∙ rw all refl in
+    good ∙ sym (good_by_marks count c marks marked ∙ rw (e, f) refl)
 
 -- the clauses of a section, one by one
 first_clause : (p : Clause → Bool) (fat : Bool) (n : ℕ) (bytes : List ℕ) → 0 < n → list_all p (clauses_in fat n bytes) ≡ (p (clause_in fat bytes) && list_all p (clauses_in fat (n - 1) (drop (clause_size fat) bytes)))

@@ -6,4 +6,5 @@ pub mod Numbers
 pub mod Sections
 pub mod SectionsWritten
 pub mod Starts
+pub mod Walks
 mod Goods

@@ -180,6 +180,7 @@ fn user_arg(code: &[u8], at: usize) -> Option<(Arg<'_>, usize)>
 }
 
 /// The operand at a place, and the place behind it. None where it doesn't stand whole there.
+#[inline(always)]
 #[tactic(auto, unfolding(enc_opcodes::specs::Instruction::arg_in))]
 pub fn arg_at(operand: Operand, code: &[u8], at: usize) -> Option<(Arg<'_>, usize)>
     requires few { length code.now < 2 ^ 32 }

@@ -1,21 +1,18 @@
 //! Whether a body is good (ECMA-335 III.1.7).
-ghost use Rattle.std.specs.Prelude.{◌≡◌, ◌<◌, ◌^◌, ◌&&◌, length, drop, not, is_some, IfOk, IsTrue, slice_index};
+ghost use Rattle.std.specs.Prelude.{◌≡◌, ℕ, ◌<◌, ◌^◌, ◌&&◌, List, Option, length, drop, not, is_some, IfOk, IfSome, IsTrue, slice_index};
 ghost use Rattle.std.specs.List.{list_all};
-ghost use Rattle.enc_opcodes.specs.Body.{code_seen, is_named as is_row, is_user as is_user_operand, arg_is_good as is_good_arg, instruction_is_good, range_is_good as is_good_range, extra_is_good as is_good_extra, clause_is_good as is_good_clause, locals_are_good as are_good_locals, is_good};
+ghost use Rattle.enc_opcodes.specs.Body.{code_seen, range_is_good as is_good_range, extra_is_good as is_good_extra, clause_is_good as is_good_clause, locals_are_good as are_good_locals, is_good, texts_are_there as are_texts_there};
 ghost use Rattle.enc_opcodes.specs.Clause.{clauses_in, clauses_of};
-ghost use Rattle.enc_opcodes.specs.Instruction.{all_reached, instructions_of};
-ghost use Rattle.enc_il.specs.Judged.{mark_at};
-ghost use Rattle.enc_il.specs.Seen.{arg_seen, all_sections};
+ghost use Rattle.enc_il.specs.Judged.{mark_at, are_texts};
+ghost use Rattle.enc_il.specs.Seen.{all_sections};
 
 use crate::clauses::clause_front;
-use crate::instr::instr_at;
-use crate::marks::starts_of;
 use crate::section::{SectionRef, behind_sections, clause_size, section_front};
-use enc_base::{Counts, Token, u32_of};
-use enc_opcodes::{Arg, Clause, CodeRef, Operand};
-use enc_schema::tables::{
-    FIELD, MEMBER_REF, METHOD_DEF, METHOD_SPEC, STAND_ALONE_SIG, TYPE_DEF, TYPE_REF, TYPE_SPEC,
-};
+use crate::texts::UserTexts;
+use crate::walk::{is_named, walk_of};
+use enc_base::{Counts, Token};
+use enc_opcodes::{Clause, CodeRef};
+use enc_schema::tables::STAND_ALONE_SIG;
 use std::alloc::{AllocError, Global};
 
 /// Whether an instruction begins at an offset.
@@ -28,70 +25,14 @@ fn is_start(marks: &[bool], offset: u32) -> bool
     }
 }
 
-/// Whether a token is a row of a table that an instruction may name.
-#[tactic(auto, unfolding(enc_opcodes::specs::Body::is_named))]
-fn is_named(counts: &Counts, token: Token) -> bool
-    ensures { result ≡ is_row (slice_index counts.now.rows) token }
+/// Whether an instruction begins at each of these offsets.
+fn are_starts(marks: &[bool], offsets: &[u32]) -> bool
+    ensures { result ≡ list_all (mark_at marks.now) offsets.now }
 {
-    match token.table {
-        TYPE_REF
-        | TYPE_DEF
-        | FIELD
-        | METHOD_DEF
-        | MEMBER_REF
-        | STAND_ALONE_SIG
-        | TYPE_SPEC
-        | METHOD_SPEC => { 1 <= token.row && token.row <= counts.rows[usize::from(token.table)] }
-        _ => false,
-    }
-}
-
-/// Whether the operand is one of a user text.
-fn is_user(operand: Operand) -> bool
-    ensures { result ≡ is_user_operand operand }
-{
-    matches!(operand, Operand::User)
-}
-
-/// Whether the distances of a `switch` that ends there all lead to instructions.
-#[tactic(auto, unfolding(enc_opcodes::specs::Instruction::all_reached))]
-fn are_starts(marks: &[bool], end: u32, distances: &[u8]) -> bool
-    ensures { result ≡ list_all (mark_at marks.now) (all_reached end distances.now) }
-{
-    let mut rest = distances;
-    while let [a, b, c, d, tail @ ..] = rest {
-        let distance = u32_of([*a, *b, *c, *d]);
-        if !is_start(marks, end.wrapping_add(distance)) {
+    for offset in offsets {
+        if !is_start(marks, *offset) {
             return false;
         }
-        rest = tail;
-    }
-    true
-}
-
-/// Whether an argument is good, in an instruction that ends there.
-fn arg_is_good(counts: &Counts, marks: &[bool], end: u32, operand: Operand, arg: &Arg<'_>) -> bool
-    ensures { result ≡ is_good_arg (slice_index counts.now.rows) (mark_at marks.now) operand (arg_seen end arg.now) }
-{
-    match *arg {
-        Arg::Target(offset) => is_start(marks, offset),
-        Arg::Targets(distances) => are_starts(marks, end, distances),
-        Arg::Token(token) => !is_user(operand) && is_named(counts, token),
-        _ => true,
-    }
-}
-
-/// Whether all instructions are good.
-fn are_instructions_good(code: &CodeRef<'_>, counts: &Counts, marks: &[bool]) -> bool
-    requires few { length code.now.code.now < 2 ^ 32 }
-    ensures { result ≡ list_all (instruction_is_good (slice_index counts.now.rows) (mark_at marks.now)) (instructions_of code.now.code.now) }
-{
-    let mut at = 0;
-    while let Some((instr, end)) = instr_at(code, at) {
-        if !arg_is_good(counts, marks, end, instr.op.operand, &instr.arg) {
-            return false;
-        }
-        at = end;
     }
     true
 }
@@ -191,30 +132,82 @@ fn are_clauses_good(code: &CodeRef<'_>, counts: &Counts, marks: &[bool]) -> bool
     }
 }
 
-/// Whether instructions, clauses and the local signature of a body are good, by the marks of where
+/// Whether targets, clauses and the local signature of a body are good, by the marks of where
 /// instructions begin.
-fn are_parts_good(code: &CodeRef<'_>, counts: &Counts, marks: &[bool]) -> bool
-    requires few { length code.now.code.now < 2 ^ 32 }
-    ensures { result ≡ (list_all (instruction_is_good (slice_index counts.now.rows) (mark_at marks.now)) (instructions_of code.now.code.now)
+fn are_parts_good(code: &CodeRef<'_>, counts: &Counts, marks: &[bool], targets: &[u32]) -> bool
+    ensures { result ≡ (list_all (mark_at marks.now) targets.now
         && list_all (is_good_clause (slice_index counts.now.rows) (mark_at marks.now) (length code.now.code.now)) (clauses_of code.now.sections.now)
         && are_good_locals (slice_index counts.now.rows) code.now.locals) }
 {
-    are_instructions_good(code, counts, marks)
+    are_starts(marks, targets)
         && are_clauses_good(code, counts, marks)
         && locals_are_good(counts, code.locals)
 }
 
+/// The user texts that the code of a good body names, by their offsets; None where the body is not
+/// good.
+fn users_of_good(
+    alloc: Global,
+    code: &CodeRef<'_>,
+    counts: &Counts,
+) -> Result<Option<Vec<u32>>, AllocError>
+    requires few { length code.now.code.now < 2 ^ 32 }
+    ensures good { IfOk result (λ o. is_some o ≡ is_good (slice_index counts.now.rows) (code_seen code.now)) }
+    ensures users { IfOk result (λ o. IfSome o (λ users. (texts : ℕ → Option (List ℕ)) → are_texts_there texts code.now.code.now ≡ are_texts texts users.items)) }
+{
+    let walk = walk_of(alloc, code, counts)?;
+    if walk.end as usize != code.code.len() {
+        return Ok(None);
+    }
+    if !walk.rows {
+        return Ok(None);
+    }
+    if !are_parts_good(code, counts, walk.marks.as_slice(), walk.targets.as_slice()) {
+        return Ok(None);
+    }
+    Ok(Some(walk.users))
+}
+
 /// Whether the body is not good, where each table has so many rows: its code isn't whole
 /// instructions, or a target, a token, a clause or the local signature isn't what it must be
-/// (ECMA-335 II.25.4.6, III.1.7, III.1.9). The user texts that it names are looked at apart. It
-/// fails where memory for a mark for each byte of the code can't be had.
+/// (ECMA-335 II.25.4.6, III.1.7, III.1.9). The user texts that it names are looked at apart. It goes
+/// over the code once, and fails where memory for a mark for each byte of the code and for targets and
+/// texts can't be had.
 pub fn first_bad(alloc: Global, code: &CodeRef<'_>, counts: &Counts) -> Result<bool, AllocError>
     requires few { length code.now.code.now < 2 ^ 32 }
     ensures { IfOk result (λ bad. bad ≡ not (is_good (slice_index counts.now.rows) (code_seen code.now))) }
 {
-    let starts = starts_of(alloc, code)?;
-    if starts.end as usize != code.code.len() {
-        return Ok(true);
+    match users_of_good(alloc, code, counts)? {
+        Some(_) => Ok(false),
+        None => Ok(true),
     }
-    Ok(!are_parts_good(code, counts, starts.marks.as_slice()))
+}
+
+/// Whether a user text stands at each of these offsets.
+fn are_texts<T: UserTexts>(texts: &T, offsets: &[u32]) -> bool
+    ensures { result ≡ are_texts (T.texts texts.now) offsets.now }
+{
+    for offset in offsets {
+        if !texts.has_user(*offset) {
+            return false;
+        }
+    }
+    true
+}
+
+/// Whether the body is good, as `first_bad` says, and each user text that it names is there. Like
+/// `first_bad` it goes over the code once.
+pub fn is_good_body<T: UserTexts>(
+    alloc: Global,
+    code: &CodeRef<'_>,
+    counts: &Counts,
+    texts: &T,
+) -> Result<bool, AllocError>
+    requires few { length code.now.code.now < 2 ^ 32 }
+    ensures { IfOk result (λ good. good ≡ (is_good (slice_index counts.now.rows) (code_seen code.now) && are_texts_there (T.texts texts.now) code.now.code.now)) }
+{
+    match users_of_good(alloc, code, counts)? {
+        Some(users) => Ok(are_texts(texts, users.as_slice())),
+        None => Ok(false),
+    }
 }

@@ -8,16 +8,16 @@ mod clauses;
 mod instr;
 mod judge;
 mod laws;
-mod marks;
 mod section;
 mod texts;
+mod walk;
 mod write;
 
 pub use body::{BodyFault, read_body};
 pub use bytes::rest_at;
 pub use clauses::{clause, clause_front};
 pub use instr::instr_at;
-pub use judge::first_bad;
+pub use judge::{first_bad, is_good_body};
 pub use laws::{body_law, written_body_law, written_clauses_law};
 pub use section::{SectionRef, behind_sections, clause_size, section_front};
 pub use texts::{UserTexts, texts_are_there};

@@ -1,6 +1,6 @@
 -- The local signature of a good body is a row.
 use Rattle.std.proofs.Common.{◌≡◌, ℕ, ◌<◌, ◌≤◌, Bool, true, false, length, refl, sym, ◌∙◌, arith}
-use Rattle.std.specs.Prelude.{◌&&◌, ◌||◌, ◌==◌, not, nat_le, IsTrue}
+use Rattle.std.specs.Prelude.{◌&&◌, ◌||◌, ◌==◌, nat_le, IsTrue}
 use Rattle.std.proofs.lemmas.Bool.Decides.{nat_tests}
 use Rattle.enc_base.specs.declared.token.Token.{Token}
 use Rattle.enc_opcodes.specs.Body.{Code, is_instruction_start, instruction_is_good, clause_is_good, is_good, locals_are_good}
@@ -25,11 +25,11 @@ last true true false false h = h
 last true false c false h = h
 last false b c false h = h
 
+first : (a b : Bool) → (a && b) ≡ true → a ≡ true
+first true b h = refl
+first false b h = h
+
 -- a good body has a good one
-pub good_locals : (count : ℕ → ℕ) (c : Code) (bad : Bool) → bad ≡ not (is_good count c) → bad ≡ false → IsTrue (locals_are_good count c.locals)
+pub good_locals : (count : ℕ → ℕ) (c : Code) (texts good : Bool) → good ≡ (is_good count c && texts) → good ≡ true → IsTrue (locals_are_good count c.locals)
 unfolding is_good
-good_locals count c bad is none = last (end_of c.code 0 == length c.code) (list_all (instruction_is_good count (is_instruction_start (instructions_of c.code))) (instructions_of c.code)) (list_all (clause_is_good count (is_instruction_start (instructions_of c.code)) (length c.code)) (clauses_of c.sections)) (locals_are_good count c.locals) (denied _ (sym is ∙ none))
-  where
-    denied : (b : Bool) → not b ≡ false → b ≡ true
-    denied true h = refl
-    denied false h = absurd cc
+good_locals count c texts good is whole = last (end_of c.code 0 == length c.code) (list_all (instruction_is_good count (is_instruction_start (instructions_of c.code))) (instructions_of c.code)) (list_all (clause_is_good count (is_instruction_start (instructions_of c.code)) (length c.code)) (clauses_of c.sections)) (locals_are_good count c.locals) (first _ texts (sym is ∙ whole))

@@ -14,7 +14,7 @@ ghost use Rattle.enc_schema.specs.Tables.{method_def};
 use crate::code::code_at;
 use crate::judge::Cells;
 use enc_base::{Place, Token};
-use enc_il::{UserTexts, first_bad, texts_are_there};
+use enc_il::{UserTexts, is_good_body};
 use enc_meta::Heaps;
 use enc_opcodes::CodeRef;
 use enc_schema::columns::{METHOD_DEF_IMPL_FLAGS, METHOD_DEF_RVA, STAND_ALONE_SIG_SIGNATURE};
@@ -61,13 +61,13 @@ fn is_whole(alloc: Global, cells: &Cells<'_>, code: &CodeRef<'_>) -> Result<bool
     requires few { length code.now.code.now < 2 ^ 32 }
     ensures { IfOk result (λ good. good ≡ (code_is_good (rows_of cells.now.tables.now) (users_of (source_seen cells.now)) (Some (code_seen code.now)) && has_locals (source_seen cells.now) (Some (code_seen code.now)))) }
 {
-    if first_bad(alloc, code, cells.tables.counts())? {
-        return Ok(false);
-    }
     let texts = FileTexts {
         heaps: &cells.heaps,
     };
-    Ok(texts_are_there(&texts, code) && has_locals(cells, code))
+    if !is_good_body(alloc, code, cells.tables.counts(), &texts)? {
+        return Ok(false);
+    }
+    Ok(has_locals(cells, code))
 }
 
 /// Whether a good body with a local signature that is one stands at an RVA.

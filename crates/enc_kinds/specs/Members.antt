@@ -46,6 +46,10 @@ is_type_constructor m method =
 abbrev pub method_of_row : ℕ → Token
 method_of_row row = record { table = tables.method_def; row = row }
 
+-- the first constructor of a type among rows of methods
+abbrev pub constructor_among : Module → List ℕ → Option Token
+constructor_among m rows = option_map method_of_row (slice_get (filter (λ (row : ℕ). is_type_constructor m (method_of_row row)) rows) 0)
+
 -- the first constructor of a type, in order of attachment
 unfoldable pub type_constructor : Module → Token → Option Token
 type_constructor m type =

@@ -6,7 +6,7 @@ ghost use Rattle.enc_schema.specs.Tables.{field, method_def, type_def};
 ghost use Rattle.enc_plain.specs.Cell.{blobs, kind_in};
 ghost use Rattle.enc_plain.specs.Module.{cells_of, has_row};
 ghost use Rattle.enc_plain.specs.Rows.{bytes_at};
-ghost use Rattle.enc_kinds.specs.Members.{call_shape, field_kind, local_kinds, is_static_method, is_named_as, is_constructor, is_type_constructor, type_constructor};
+ghost use Rattle.enc_kinds.specs.Members.{call_shape, field_kind, local_kinds, is_static_method, is_named_as, is_constructor, is_type_constructor, constructor_among, type_constructor};
 
 use crate::kinds::Kinds;
 use crate::shape::MethodShape;
@@ -19,6 +19,7 @@ use enc_schema::columns::{
     STAND_ALONE_SIG_SIGNATURE,
 };
 use enc_schema::tables::{METHOD_DEF, STAND_ALONE_SIG};
+use std::alloc::Global;
 
 /// The blob in a row's column, without bytes where there is no such row.
 #[tactic(auto, using(enc_plain::proofs::CellsOf::blob_there, enc_plain::proofs::CellsOf::bytes_absent))]
@@ -125,8 +126,39 @@ fn is_type_constructor<V: ModuleView>(view: &V, method: Token) -> bool
         && is_called_with_nothing(view, method)
 }
 
+/// The first constructor of a type among rows of its methods.
+fn constructor_among<V: ModuleView>(view: &V, rows: &[u32]) -> Option<Token>
+    ensures { result ≡ constructor_among (V.meaning view.now) rows.now }
+{
+    for row in rows {
+        let method = Token {
+            table: METHOD_DEF,
+            row: *row,
+        };
+        if is_type_constructor(view, method) {
+            return Some(method);
+        }
+    }
+    None
+}
+
+/// The same as `type_constructor`, and it goes over the type's methods once, also where the module has
+/// MethodPtr rows. For this it takes memory for their rows; without it, it asks for one after the
+/// other.
+#[tactic(auto, unfolding(crate::specs::Members::type_constructor))]
+pub fn find_type_constructor<V: ModuleView>(alloc: Global, view: &V, owner: Token) -> Option<Token>
+    requires row { IsTrue (has_row (V.meaning view.now) owner) }
+    requires table { owner.table ≡ type_def }
+    ensures { result ≡ type_constructor (V.meaning view.now) owner }
+{
+    match view.kid_rows(alloc, owner, METHOD_DEF) {
+        Ok(rows) => constructor_among(view, rows.as_slice()),
+        Err(_) => type_constructor(view, owner),
+    }
+}
+
 /// The first constructor of a type in order of attachment, None where it has none (ECMA-335
-/// II.10.5.3).
+/// II.10.5.3). Where the module has MethodPtr rows, each method costs the rows in front of it.
 pub fn type_constructor<V: ModuleView>(view: &V, owner: Token) -> Option<Token>
     requires row { IsTrue (has_row (V.meaning view.now) owner) }
     requires table { owner.table ≡ type_def }

@@ -1,6 +1,6 @@
 //! From the words behind a program's name to its status.
 ghost use Rattle.std.specs.Prelude.{◌≡◌, None, IfSome, map};
-ghost use Rattle.enc_top.specs.Words.{texts};
+ghost use Rattle.enc_words.specs.Words.{texts};
 ghost use Rattle.enc_top.specs.Served.{course, IsServed};
 
 use enc_outside::{FileStore, OutSink, Sink, Store};

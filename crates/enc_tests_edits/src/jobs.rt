@@ -242,12 +242,8 @@ fn rows_are_added(rt: HostRuntime) -> Result<(), Fail> {
     assert_eq!(rt; points.len(), 0);
     assert_eq!(rt; cells.len(), 4);
     assert!(rt; matches!(cells.get(1), Some(Cell::Num(6))));
-    assert!(rt;
-        matches!(cells.get(2), Some(Cell::Text(t)) if t.as_slice() == b"M".as_slice())
-    );
-    assert!(rt;
-        matches!(cells.get(3), Some(Cell::Blob(b)) if b.as_slice() == [0, 1].as_slice())
-    );
+    assert!(rt; matches!(cells.get(2), Some(Cell::Text(t)) if t.as_slice() == b"M".as_slice()));
+    assert!(rt; matches!(cells.get(3), Some(Cell::Blob(b)) if b.as_slice() == [0, 1].as_slice()));
     let Some(
         Edit::Add {
             table,

@@ -4,7 +4,7 @@ use Rattle.enc_rewriter.specs.Limits.{Passed, too_large, too_heavy, rewrite_limi
 use Rattle.enc_rewriter.specs.Rewritten.{RewritesTo}
 use Rattle.enc_rewriter.specs.declared.fault.RewriteFault.{RewriteFault}
 use Rattle.enc_rewriter.specs.declared.fault.RewriteFault.TheVariants.{Memory, TooLarge, Image}
-use Rattle.enc_top.specs.Lines.{saved_line}
+use Rattle.enc_words.specs.Lines.{saved_line}
 use Rattle.enc_top.specs.Plans.{saves_of, IsPlanOf}
 use Rattle.enc_top.specs.Stops.{OnPlan, IsUnwritten}
 use Rattle.enc_top.specs.Verdict.{◌>>=◌, dll, pdb, Followed, plain_of, debug_after, applies, Verdict, limit_told, file_past, past_limit, unless_past, rewrite_on}

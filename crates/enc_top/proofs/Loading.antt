@@ -1,6 +1,6 @@
 -- Loading and judging, one file after the other.
 use Rattle.std.proofs.Common.{◌≡◌, ℕ, zero, suc, ◌+◌, ◌≤◌, List, [], ◌∷◌, ◌++◌, Option, Some, None, Ok, Err, Result, refl, sym, ap, inl, inr, append_assoc, append-nil, map, arith, drop, length}
-use Rattle.std.specs.Prelude.{◌⊎◌, IfSome, slice_get}
+use Rattle.std.specs.Prelude.{◌⊎◌, IfSome}
 use Rattle.std.proofs.lemmas.List.{map-append}
 use Rattle.enc_outside.specs.Outside.{Files, HasCause}
 use Rattle.enc_top.specs.declared.plan.Plan.{Plan}
@@ -125,11 +125,6 @@ ok_stands fault before now a cause = by cause.stands
 pub if_both : {A : Type 0} (o : Option A) (P Q R : A → Type 0) → IfSome o P → IfSome o Q → ((x : A) → P x → Q x → R x) → IfSome o R
 if_both (Some x) P Q R h k f = f x h k
 if_both None P Q R h k f = tt
-
-pub next_word : {X : Type 0} (xs : List X) (i : ℕ) (x : X) → slice_get xs i ≡ Some x → drop i xs ≡ x ∷ drop (i + 1) xs
-next_word [] i x h = absurd cc
-next_word (y ∷ ys) zero x h = let e : y ≡ x = cc in ap (λ z. z ∷ ys) e
-next_word (y ∷ ys) (suc i) x h = let e : suc i + 1 ≡ suc (i + 1) = omega arith in rw e (next_word ys i x h)
 
 pub no_word : {X : Type 0} (xs : List X) (i : ℕ) → length xs ≤ i → drop i xs ≡ []
 no_word [] zero h = refl

@@ -7,7 +7,7 @@ use Rattle.enc_top.specs.declared.plan.Outcome.{Outcome}
 use Rattle.enc_top.specs.declared.plan.Outcome.TheVariants.{Accepted}
 use Rattle.enc_top.specs.declared.ending.Ending.{Ending}
 use Rattle.enc_top.specs.declared.ending.Ending.TheVariants.{Whole, Memory, StoreFault, SinkFault}
-use Rattle.enc_top.specs.Words.{Job}
+use Rattle.enc_words.specs.Words.{Job}
 use Rattle.enc_top.specs.Verdict.{Verdict}
 use Rattle.enc_top.specs.Done.{IsAnswer, AreSaves}
 use Rattle.enc_top.specs.Ending.{after_saves, SavesAt, PrintsAt, IfWhole}

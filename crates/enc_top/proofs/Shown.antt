@@ -31,8 +31,8 @@ use Rattle.enc_delta.specs.Rows.{cell_after}
 use Rattle.enc_delta.specs.Pairs.{attached_of}
 use Rattle.enc_agg.specs.Place.{place_of}
 use Rattle.enc_text.specs.Text.{digits, token_text, quoted, bracketed, guid_text}
-use Rattle.enc_top.specs.Lines.{absent_line}
-use Rattle.enc_top.specs.Listing.{counts_text, base_text, head_text, token_line, delta_text, lines_upto, listing_of}
+use Rattle.enc_words.specs.Lines.{absent_line}
+use Rattle.enc_words.specs.Listing.{counts_text, base_text, head_text, token_line, delta_text, lines_upto, listing_of}
 use Rattle.enc_text.specs.RowText.{joined_below, cell_text, row_place_text, line_text, owner_text, kids_text, code_text, debug_text, row_text_of}
 use Rattle.enc_checker.specs.Check.{with_pdb}
 use Rattle.enc_top.specs.Verdict.{judge_deltas, judge_all, base_pdb}

@@ -8,7 +8,7 @@ use Rattle.enc_jobs.specs.Outcome.{GivesList}
 use Rattle.enc_rules.specs.First.{first_edit}
 use Rattle.enc_writer.specs.declared.bytes.DeltaBytes.{DeltaBytes}
 use Rattle.enc_writer.specs.Stands.{IsWrittenFor}
-use Rattle.enc_top.specs.Lines.{saved_line}
+use Rattle.enc_words.specs.Lines.{saved_line}
 use Rattle.enc_top.specs.Plans.{saves_of, IsPlanOf}
 use Rattle.enc_top.specs.Stops.{OnPlan, StopsWith, IsUnlisted}
 use Rattle.enc_top.specs.Verdict.{◌>>=◌, meta, il, pdb, Edited, no_list, broken_list, list_in_file, unless_list_broken, writes, Verdict, edits_on}

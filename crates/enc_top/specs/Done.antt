@@ -19,10 +19,11 @@ use Rattle.enc_text.specs.Text.{refused_line}
 use Rattle.enc_text.specs.RowText.{row_text_of}
 use Rattle.enc_top.specs.declared.plan.Outcome.{Outcome}
 use Rattle.enc_top.specs.declared.plan.Outcome.TheVariants.{Accepted, Refused, Usage, Missing}
-use Rattle.enc_top.specs.Lines.{limit_line, missing_line, absent_line, accepted_line, saved_line, unlisted_line, broken_line, usage_line}
-use Rattle.enc_top.specs.Listing.{listing_of}
+use Rattle.enc_words.specs.Lines.{limit_line, missing_line, absent_line, accepted_line, saved_line, unlisted_line, broken_line, usage_line}
+use Rattle.enc_words.specs.Listing.{listing_of}
 use Rattle.enc_jobs.specs.Generated.{generated_base, generated_lists, edited_by}
-use Rattle.enc_top.specs.Generating.{case_line, AreFilesOfCase}
+use Rattle.enc_words.specs.Case.{case_line}
+use Rattle.enc_top.specs.Generating.{AreFilesOfCase}
 use Rattle.enc_top.specs.Verdict.{Stop, no_command, absent_file, refused_file, past_limit, no_list, broken_list, dll, meta, il, pdb, Followed, plain_of, debug_after, Edited, Done, shows, lists, counts, applies, writes, runs, generates, Verdict}
 
 -- the token's row, or that the module lacks it

@@ -1,7 +1,3 @@
-pub mod Words
-pub mod Commands
-pub mod Lines
-pub mod Listing
 pub mod Verdict
 pub mod Done
 pub mod Ending

@@ -2,7 +2,7 @@
 use Rattle.std.specs.Prelude.{◌≡◌, ◌⊎◌, ◌≤◌, ℕ, List, Option, None, Err, true, IfSome, IsSome}
 use Rattle.enc_outside.specs.Outside.{Files, Rose, IsTold}
 use Rattle.enc_watch.specs.Audience.{Watching}
-use Rattle.enc_top.specs.Words.{job_of}
+use Rattle.enc_words.specs.Words.{job_of}
 use Rattle.enc_top.specs.Verdict.{no_command, verdict_of}
 use Rattle.enc_top.specs.Answers.{answer_is_whole, status_of, Prints, Leaves}
 

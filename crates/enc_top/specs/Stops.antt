@@ -12,7 +12,7 @@ use Rattle.enc_rewriter.specs.declared.fault.RewriteFault.{RewriteFault}
 use Rattle.enc_rewriter.specs.declared.fault.RewriteFault.TheVariants.{Memory, TooLarge, Image}
 use Rattle.enc_jobs.specs.declared.fault.JobFault.{JobFault}
 use Rattle.enc_jobs.specs.declared.fault.JobFault.TheVariants as job
-use Rattle.enc_top.specs.declared.limits.Limit.TheVariants as limit
+use Rattle.enc_words.specs.declared.limits.Limit.TheVariants as limit
 use Rattle.enc_top.specs.Verdict.{Stop, refused_file, refused_name, past_limit, file_past, no_list}
 use Rattle.enc_top.specs.Plans.{IsPlanOf}
 

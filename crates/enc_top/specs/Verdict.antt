@@ -25,9 +25,9 @@ use Rattle.enc_jobs.specs.declared.command.Command.TheVariants.{Apply}
 use Rattle.enc_watch.specs.Audience.{Watching}
 use Rattle.enc_script.specs.Run.{NamedFiles}
 use Rattle.enc_rules.specs.First.{first_edit}
-use Rattle.enc_top.specs.declared.limits.Limit.{Limit}
-use Rattle.enc_top.specs.declared.limits.Limit.TheVariants as limit
-use Rattle.enc_top.specs.Words.{Numeral, Job, show, list, check, apply, write, run, gen, job_of}
+use Rattle.enc_words.specs.declared.limits.Limit.{Limit}
+use Rattle.enc_words.specs.declared.limits.Limit.TheVariants as limit
+use Rattle.enc_words.specs.Words.{Numeral, Job, show, list, check, apply, write, run, gen, job_of}
 
 -- why a command does nothing: the words are none; a file that must be there is absent; a file is refused, by a rule or by its length,
 -- or as an edit list or a script: it isn't one, or one of its edits breaks a rule

@@ -1,7 +1,7 @@
 //! From words to a plan: which command they are, and what it comes to.
 ghost use Rattle.std.specs.Prelude.{◌≡◌, ◌⊎◌, [], None, Err, IfSome, IsErrOf, IsSome, map};
 ghost use Rattle.enc_outside.specs.Outside.{HasCause};
-ghost use Rattle.enc_top.specs.Words.{job_of, texts};
+ghost use Rattle.enc_words.specs.Words.{job_of, texts};
 ghost use Rattle.enc_top.specs.Verdict.{no_command, verdict_of};
 ghost use Rattle.enc_top.specs.Plans.{IsPlanOf};
 ghost use Rattle.enc_top.specs.Stops.{IfPlan};
@@ -16,7 +16,6 @@ mod run;
 mod show;
 mod write;
 
-use crate::command::{Command, command_of};
 use crate::plan::{Outcome, Plan};
 use crate::plans::unknown;
 use crate::stop::Stop;
@@ -24,6 +23,7 @@ use apply::apply;
 use check::check;
 use enc_outside::Store;
 use enc_watch::Watcher;
+use enc_words::{Command, command_of};
 use generate::generate;
 use list::list;
 use run::run;

@@ -1,17 +1,12 @@
 //! The top call: words, a store and a sink in; a status out.
 #![tactic(auto)]
 
-mod command;
 mod commands;
 mod ending;
 mod finish;
-mod generations;
 mod judge;
 mod laws;
-mod limits;
-mod lines;
 mod load;
-mod loaded;
 mod plan;
 mod plans;
 mod run;
@@ -19,6 +14,6 @@ mod stop;
 
 pub use enc_plain::RowPlace;
 pub use enc_text::row_text;
-pub use generations::listing;
+pub use enc_words::listing;
 pub use laws::{example_delta_row, example_listing, example_row, served_law};
 pub use run::run_tool;

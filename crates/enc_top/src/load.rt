@@ -3,15 +3,15 @@
 ghost use Rattle.std.specs.Prelude.{◌≡◌, ◌+◌, ◌++◌, ℕ, List, length, map, option_map, Some, IfSome, IfOk, IsErrOf, string_bytes, codes};
 ghost use Rattle.std.specs.FinMap.{get};
 ghost use Rattle.enc_outside.specs.Outside.{HasCause};
-ghost use Rattle.enc_top.specs.Words.{texts};
+ghost use Rattle.enc_words.specs.Words.{texts};
 ghost use Rattle.enc_top.specs.Verdict.{dll, meta, il, pdb, kept_whole, taken as taken_from, kept_if_there, optional_size, base_size, files_size, load_one as one_of, load_optional as optional_of, load_base as base_from, load_delta as delta_from, load_deltas as deltas_from};
 ghost use Rattle.enc_top.specs.Stops.{Comes, StopsQuietly};
 ghost use Rattle.enc_top.specs.Loads.{bytes_seen, base_seen, file_seen};
 
-use crate::limits::{FILE_LIMIT, Limit, TOTAL_LIMIT};
 use crate::plans::{missing, too_long};
 use crate::stop::Stop;
 use enc_outside::Store;
+use enc_words::{FILE_LIMIT, Limit, TOTAL_LIMIT};
 use std::alloc::{AllocError, Global};
 use std::marker::Model;
 

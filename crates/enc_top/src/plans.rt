@@ -4,13 +4,12 @@ ghost use Rattle.enc_top.specs.Verdict.{no_command, absent_file, refused_file, p
 ghost use Rattle.enc_top.specs.Plans.{IsPlanOf};
 ghost use Rattle.enc_top.specs.Stops.{OnPlan, IsQuiet, IsUnread, IsUnlisted};
 
-use crate::limits::Limit;
-use crate::lines::{broken_line, limit_line, missing_line, unlisted_line, usage_line};
 use crate::plan::{Outcome, Plan};
 use crate::stop::Stop;
 use enc_base::{ReadFault, Refusal};
 use enc_jobs::JobFault;
 use enc_text::refused_line;
+use enc_words::{Limit, broken_line, limit_line, missing_line, unlisted_line, usage_line};
 use std::alloc::Global;
 
 /// A plan that saves nothing.

@@ -1,7 +1,7 @@
 //! The top call.
 ghost use Rattle.std.specs.Prelude.{◌≡◌, ◌⊎◌, ◌≤◌, None, Err, true, IfSome, IsSome, map};
 ghost use Rattle.enc_outside.specs.Outside.{Rose, IsTold};
-ghost use Rattle.enc_top.specs.Words.{job_of, texts};
+ghost use Rattle.enc_words.specs.Words.{job_of, texts};
 ghost use Rattle.enc_top.specs.Verdict.{no_command, verdict_of};
 ghost use Rattle.enc_top.specs.Done.{outcome_of};
 ghost use Rattle.enc_top.specs.Ending.{IfWhole};

@@ -9,7 +9,7 @@ ghost use Rattle.enc_vm.specs.TouchSeen.{first_touch};
 
 use crate::touched::Touched;
 use enc_base::Token;
-use enc_kinds::{is_constructor, is_static_method, type_constructor};
+use enc_kinds::{find_type_constructor, is_constructor, is_static_method};
 use enc_plain::{CellView, ModuleView, Viewed};
 use enc_schema::columns::{METHOD_DEF_FLAGS, TYPE_DEF_FLAGS};
 use std::alloc::{AllocError, Global};
@@ -76,7 +76,7 @@ pub(crate) fn first_touch<V: ModuleView>(
         return Ok(None);
     }
     let touched = touched.with(alloc, token)?;
-    let constructor = type_constructor(view, token);
+    let constructor = find_type_constructor(alloc, view, token);
     Ok(Some(FirstTouch {
         touched,
         constructor,

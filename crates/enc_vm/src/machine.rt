@@ -76,7 +76,7 @@ impl Machine {
         if self.tasks.len() >= MOST_TASKS {
             return Ok(SpawnEnd::Limit);
         }
-        if !may_spawn(view, versions, method) {
+        if !may_spawn(self.alloc, view, versions, method) {
             return Ok(SpawnEnd::Method);
         }
         let Some(frame) = frame_now(self.alloc, view, versions, method)? else {

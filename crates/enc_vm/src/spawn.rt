@@ -15,7 +15,7 @@ use crate::thread::Thread;
 use crate::touched::Touched;
 use enc_base::Token;
 use enc_frames::{Callers, Frame, new_frame};
-use enc_kinds::{is_called_with_nothing, is_static_method, type_constructor};
+use enc_kinds::{find_type_constructor, is_called_with_nothing, is_static_method};
 use enc_plain::{ModuleView, is_row};
 use enc_schema::tables::METHOD_DEF;
 use enc_versions::Versions;
@@ -33,13 +33,18 @@ fn runs<V: ModuleView>(view: &V, versions: &Versions, method: Token) -> bool
 
 /// Whether the interpreter runs a type's constructor, where it has one.
 #[tactic(auto, using(crate::proofs::Spawned::constructor_table))]
-fn constructor_runs<V: ModuleView>(view: &V, versions: &Versions, owner: Token) -> bool
+fn constructor_runs<V: ModuleView>(
+    alloc: Global,
+    view: &V,
+    versions: &Versions,
+    owner: Token,
+) -> bool
     requires row { IsTrue (has_row (V.meaning view.now) owner) }
     requires table { owner.table ≡ type_def }
     requires versions { AreBodiesOf (V.users view.now) (V.meaning view.now) versions.now.methods }
     ensures { result ≡ constructor_runs (V.meaning view.now) (type_constructor (V.meaning view.now) owner) }
 {
-    match type_constructor(view, owner) {
+    match find_type_constructor(alloc, view, owner) {
         None => true,
         Some(constructor) => runs(view, versions, constructor),
     }
@@ -48,7 +53,12 @@ fn constructor_runs<V: ModuleView>(view: &V, versions: &Versions, owner: Token) 
 /// Whether a task can begin with a method: with a static one without parameters, of a kind that the
 /// interpreter runs, and so its type's constructor.
 #[tactic(auto, unfolding(crate::specs::Step::may_spawn))]
-pub(crate) fn may_spawn<V: ModuleView>(view: &V, versions: &Versions, method: Token) -> bool
+pub(crate) fn may_spawn<V: ModuleView>(
+    alloc: Global,
+    view: &V,
+    versions: &Versions,
+    method: Token,
+) -> bool
     requires { AreBodiesOf (V.users view.now) (V.meaning view.now) versions.now.methods }
     ensures may { result ≡ may_spawn (V.meaning view.now) method }
     ensures row { IsTrue result → IsTrue (has_row (V.meaning view.now) method) }
@@ -59,7 +69,7 @@ pub(crate) fn may_spawn<V: ModuleView>(view: &V, versions: &Versions, method: To
         && is_static_method(view, method)
         && is_called_with_nothing(view, method)
         && runs(view, versions, method)
-        && constructor_runs(view, versions, declaring(view, method))
+        && constructor_runs(alloc, view, versions, declaring(view, method))
 }
 
 /// The frame of a method that is called without arguments, None where the interpreter doesn't run it.
@@ -97,7 +107,7 @@ pub(crate) fn constructor_frame<V: ModuleView>(
     if touched.has(owner) {
         return Ok(None);
     }
-    match type_constructor(view, owner) {
+    match find_type_constructor(alloc, view, owner) {
         None => Ok(None),
         Some(constructor) => frame_now(alloc, view, versions, constructor),
     }

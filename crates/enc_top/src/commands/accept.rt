@@ -1,7 +1,7 @@
 //! What the commands share: the files are loaded, and then judged.
 ghost use Rattle.std.specs.Prelude.{◌≡◌, IfSome, IfOk};
 ghost use Rattle.enc_outside.specs.Outside.{HasCause};
-ghost use Rattle.enc_top.specs.Words.{texts};
+ghost use Rattle.enc_words.specs.Words.{texts};
 ghost use Rattle.enc_top.specs.Verdict.{accept as accept_from, accept_text as text_from};
 ghost use Rattle.enc_top.specs.Stops.{Comes, StopsQuietly};
 ghost use Rattle.enc_top.specs.Loads.{followed, texted, KnowWithin};

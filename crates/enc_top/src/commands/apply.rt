@@ -1,8 +1,8 @@
 //! The command `apply`: the one module that has all edits, written from scratch with its PDB.
 ghost use Rattle.std.specs.Prelude.{◌≡◌, ◌≢◌, ◌⊎◌, ◌∷◌, [], Err, IfSome, IfOk, IsErrOf, string_bytes};
 ghost use Rattle.enc_outside.specs.Outside.{HasCause};
-ghost use Rattle.enc_top.specs.Lines.{saved_line as line_of_saved};
-ghost use Rattle.enc_top.specs.Words.{texts};
+ghost use Rattle.enc_words.specs.Lines.{saved_line as line_of_saved};
+ghost use Rattle.enc_words.specs.Words.{texts};
 ghost use Rattle.enc_top.specs.Verdict.{dll, pdb, past_limit, file_past as file_of_limit, rewrite_on, apply_on};
 ghost use Rattle.enc_top.specs.Plans.{IsPlanOf, saves_of};
 ghost use Rattle.enc_top.specs.Stops.{OnPlan, IfPlan, IsQuiet, IsUnwritten};
@@ -10,8 +10,6 @@ ghost use Rattle.enc_top.specs.Loads.{followed, KnowWithin};
 
 use crate::commands::accept::accept;
 use crate::judge::Judged;
-use crate::limits::Limit;
-use crate::lines::saved_line;
 use crate::load::name_of;
 use crate::plan::{Outcome, Plan, Save};
 use crate::plans::too_long;
@@ -19,6 +17,7 @@ use crate::stop::Stop;
 use enc_base::StreamName;
 use enc_outside::Store;
 use enc_rewriter::{RewriteFault, Rewritten, rewrite};
+use enc_words::{Limit, saved_line};
 use std::alloc::{AllocError, Global};
 
 /// The name of the file that would pass a limit: that of the PDB, or of the module.

@@ -1,7 +1,7 @@
 //! The command `check`: whether a base and its deltas are accepted.
 ghost use Rattle.std.specs.Prelude.{◌≡◌, Ok, length, IfSome, IfOk};
 ghost use Rattle.enc_outside.specs.Outside.{HasCause};
-ghost use Rattle.enc_top.specs.Words.{texts};
+ghost use Rattle.enc_words.specs.Words.{texts};
 ghost use Rattle.enc_top.specs.Verdict.{counts, check_on};
 ghost use Rattle.enc_top.specs.Done.{counted_as};
 ghost use Rattle.enc_top.specs.Plans.{IsPlanOf};
@@ -10,13 +10,13 @@ ghost use Rattle.enc_top.specs.Loads.{followed};
 
 use crate::commands::accept::accept;
 use crate::judge::Judged;
-use crate::lines::push_accepted;
 use crate::plan::{Outcome, Plan};
 use crate::plans::saving_nothing;
 use crate::stop::Stop;
 use enc_agg::Aggregate;
 use enc_outside::Store;
 use enc_plain::ChainView;
+use enc_words::push_accepted;
 use std::alloc::{AllocError, Global};
 
 /// How many deltas an aggregate has.

@@ -7,16 +7,15 @@ ghost use Rattle.enc_rewriter.specs.Limits.{IsFault};
 ghost use Rattle.enc_rewriter.specs.Rewritten.{MeansModule, RewritesTo};
 ghost use Rattle.enc_jobs.specs.Generated.{generated_base, generated_lists, edited_by};
 ghost use Rattle.enc_top.specs.Verdict.{meta, pdb, generates, plain_of, debug_after};
-ghost use Rattle.enc_top.specs.Generating.{no_points, delta_name, last_name, module_saves, delta_saves, case_line as line_of_case};
+ghost use Rattle.enc_top.specs.Generating.{no_points, delta_name, last_name, module_saves, delta_saves};
+ghost use Rattle.enc_words.specs.Case.{case_line as line_of_case};
 ghost use Rattle.enc_top.specs.Series.{AreDrawn, IsSeries, StandAt, NothingSaid};
-ghost use Rattle.enc_top.specs.Commands.{numeral_seen};
+ghost use Rattle.enc_words.specs.Commands.{numeral_seen};
 ghost use Rattle.enc_top.specs.Plans.{IsPlanOf, saves_of};
 ghost use Rattle.enc_top.specs.Stops.{IfPlan};
 ghost use Rattle.enc_top.specs.Loads.{base_seen, file_seen, followed};
 
-use crate::command::Number;
 use crate::judge::{Judged, judge_all, judge_delta};
-use crate::lines::case_line;
 use crate::load::{BaseFile, DeltaFile, name_of};
 use crate::plan::{Outcome, Plan, Save};
 use crate::stop::Stop;
@@ -25,6 +24,7 @@ use enc_edited::PlainModule;
 use enc_jobs::{EditLists, case_laws, generated_laws, make_case};
 use enc_ppdb::PdbChain;
 use enc_rewriter::{RewriteFault, Rewritten, rewrite};
+use enc_words::{Number, case_line};
 use enc_writer::{DeltaBytes, EditFault, write_delta};
 use std::alloc::{AllocError, Global};
 

@@ -1,7 +1,7 @@
 //! The command `list`: the generations of a base and its deltas.
 ghost use Rattle.std.specs.Prelude.{◌≡◌, Ok, IfSome, IfOk};
 ghost use Rattle.enc_outside.specs.Outside.{HasCause};
-ghost use Rattle.enc_top.specs.Words.{texts};
+ghost use Rattle.enc_words.specs.Words.{texts};
 ghost use Rattle.enc_top.specs.Verdict.{lists, list_on};
 ghost use Rattle.enc_top.specs.Done.{listed_as};
 ghost use Rattle.enc_top.specs.Plans.{IsPlanOf};
@@ -9,12 +9,12 @@ ghost use Rattle.enc_top.specs.Stops.{IfPlan, IsQuiet};
 ghost use Rattle.enc_top.specs.Loads.{followed};
 
 use crate::commands::accept::accept;
-use crate::generations::listing;
 use crate::judge::Judged;
 use crate::plan::{Outcome, Plan};
 use crate::plans::saving_nothing;
 use crate::stop::Stop;
 use enc_outside::Store;
+use enc_words::listing;
 use std::alloc::{AllocError, Global};
 
 /// The listing of an aggregate.

@@ -4,7 +4,7 @@ ghost use Rattle.std.specs.List.{list_all};
 ghost use Rattle.enc_rewriter.specs.Distinct.{borrowed};
 ghost use Rattle.enc_jobs.specs.Laws.{names_a_delta};
 ghost use Rattle.enc_jobs.specs.Scripts.{is_name};
-ghost use Rattle.enc_top.specs.Words.{texts};
+ghost use Rattle.enc_words.specs.Words.{texts};
 ghost use Rattle.enc_top.specs.Verdict.{deltas_named, with_name};
 
 use enc_jobs::Command;

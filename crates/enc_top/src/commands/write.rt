@@ -6,8 +6,8 @@ ghost use Rattle.enc_edits.specs.declared.edit.EditList.{EditList};
 ghost use Rattle.enc_edits.specs.Form.{list_fits};
 ghost use Rattle.enc_pdb_delta.specs.Stated.{points_lie_within};
 ghost use Rattle.enc_jobs.specs.Edits.{edits_said};
-ghost use Rattle.enc_top.specs.Lines.{saved_line as line_of_saved};
-ghost use Rattle.enc_top.specs.Words.{texts};
+ghost use Rattle.enc_words.specs.Lines.{saved_line as line_of_saved};
+ghost use Rattle.enc_words.specs.Words.{texts};
 ghost use Rattle.enc_top.specs.Verdict.{dll, meta, il, pdb, list_in_file, edits_on, write_on};
 ghost use Rattle.enc_top.specs.Plans.{IsPlanOf, saves_of};
 ghost use Rattle.enc_top.specs.Stops.{Comes, IfPlan, StopsQuietly};
@@ -15,7 +15,6 @@ ghost use Rattle.enc_top.specs.Loads.{followed};
 
 use crate::commands::accept::accept_text;
 use crate::judge::Judged;
-use crate::lines::saved_line;
 use crate::load::name_of;
 use crate::plan::{Outcome, Plan, Save};
 use crate::plans::{broken, unlisted};
@@ -23,6 +22,7 @@ use crate::stop::Stop;
 use enc_edits::EditList;
 use enc_jobs::read_edits;
 use enc_outside::Store;
+use enc_words::saved_line;
 use enc_writer::{DeltaBytes, EditFault, write_delta};
 use std::alloc::{AllocError, Global};
 

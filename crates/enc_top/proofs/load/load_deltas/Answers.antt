@@ -2,10 +2,11 @@ use Rattle.std.proofs.Common.{◌≡◌, drop, map, refl, ap, sym, subst, ◌∙
 use Rattle.std.specs.Prelude.{IfSome, string_bytes}
 use Rattle.std.proofs.lemmas.Option.{slice_get_read}
 use Rattle.enc_top.specs.Loads.{file_seen}
-use Rattle.enc_top.specs.Words.{texts}
+use Rattle.enc_words.specs.Words.{texts}
 use Rattle.enc_top.specs.Verdict.{load_delta, load_deltas}
 use Rattle.enc_top.specs.Stops.{Comes, OnPlan, StopsWith}
-use Rattle.enc_top.proofs.Loading.{if_both, next_word, no_word, more_loaded, loading_stops, loaded_none, after_loaded, loaded_so_far, ok_stands}
+use Rattle.enc_words.proofs.Listed.{next_word}
+use Rattle.enc_top.proofs.Loading.{if_both, no_word, more_loaded, loading_stops, loaded_none, after_loaded, loaded_so_far, ok_stands}
 use Rattle.enc_top.proofs.Served.{if_some}
 use Rattle.enc_top.proofs.load.load_deltas.Goals as goal
 

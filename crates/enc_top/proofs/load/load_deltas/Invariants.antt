@@ -1,6 +1,6 @@
 use Rattle.std.proofs.Common.{◌≡◌, drop, map}
 use Rattle.std.specs.Prelude.{IfSome}
-use Rattle.enc_top.specs.Words.{texts}
+use Rattle.enc_words.specs.Words.{texts}
 use Rattle.enc_top.specs.Verdict.{load_deltas}
 use Rattle.enc_top.specs.Loads.{file_seen}
 use Rattle.enc_top.proofs.Loading.{after_loaded}

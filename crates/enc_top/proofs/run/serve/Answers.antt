@@ -1,5 +1,5 @@
 use Rattle.std.proofs.Common.{Err}
-use Rattle.enc_top.specs.Words.{job_of, texts}
+use Rattle.enc_words.specs.Words.{job_of, texts}
 use Rattle.enc_top.specs.Verdict.{no_command}
 use Rattle.enc_top.specs.Plans.{IsPlanOf}
 use Rattle.enc_top.proofs.Served.{asked_for, if_some, leaves_at, unchanged_by}

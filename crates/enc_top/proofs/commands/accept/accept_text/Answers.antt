@@ -1,6 +1,6 @@
 use Rattle.std.proofs.Common.{◌≡◌, refl, ◌+◌, length, map, sym, subst, arith, Ok, Err}
 use Rattle.std.specs.Prelude.{IfSome}
-use Rattle.enc_top.specs.Words.{texts}
+use Rattle.enc_words.specs.Words.{texts}
 use Rattle.enc_top.specs.Verdict.{base_size, load_one, load_base, load_deltas, judge_all, accept_text}
 use Rattle.enc_top.specs.Stops.{Comes, OnPlan, StopsWith}
 use Rattle.enc_top.specs.Loads.{base_seen, file_seen, texted}

@@ -1,6 +1,6 @@
 use Rattle.std.proofs.Common.{◌≡◌, ◌++◌, drop}
 use Rattle.enc_rewriter.specs.Distinct.{borrowed}
-use Rattle.enc_top.specs.Words.{texts}
+use Rattle.enc_words.specs.Words.{texts}
 use Rattle.enc_top.proofs.commands.named.texts_of.Given as goal
 
 -- those so far, and what is left

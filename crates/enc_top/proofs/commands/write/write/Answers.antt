@@ -1,5 +1,5 @@
 use Rattle.std.proofs.Common.{◌≡◌, Ok}
-use Rattle.enc_top.specs.Words.{texts}
+use Rattle.enc_words.specs.Words.{texts}
 use Rattle.enc_top.specs.Verdict.{accept_text}
 use Rattle.enc_top.specs.Loads.{texted}
 use Rattle.enc_top.proofs.Served.{if_some}

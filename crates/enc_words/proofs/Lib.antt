@@ -1,0 +1,4 @@
+pub mod Listed
+pub mod Sums
+pub mod Spaced
+pub mod Numerals

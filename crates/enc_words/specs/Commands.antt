@@ -1,0 +1,29 @@
+-- A command of the program as the job that it is.
+use Rattle.std.specs.Prelude.{◌≡◌, ◌≤◌, ◌^◌, ℕ, Option, Some, None}
+use Rattle.enc_words.specs.declared.command.Command.{Command}
+use Rattle.enc_words.specs.declared.command.Number.{Number}
+use Rattle.enc_words.specs.declared.command.Command.TheVariants.{Show, List, Check, Apply, Write, Run, Gen}
+use Rattle.enc_words.specs.Words.{Numeral, Job, show, list, check, apply, write, run, gen, texts}
+
+-- a number with its digits
+abbrev pub numeral_seen : Number → Numeral
+numeral_seen n = record { digits = n.digits.now; value = n.value }
+
+abbrev pub job_seen : Command → Job
+job_seen (Show base token deltas) = show base.now token (texts deltas.now)
+job_seen (List base deltas) = list base.now (texts deltas.now)
+job_seen (Check base deltas) = check base.now (texts deltas.now)
+job_seen (Apply base out deltas) = apply base.now out.now (texts deltas.now)
+job_seen (Write base edits out deltas) = write base.now edits.now out.now (texts deltas.now)
+job_seen (Run base script) = run base.now script.now
+job_seen (Gen start count out) = gen (numeral_seen start) (numeral_seen count) out.now
+
+-- a generated case has at most 64 lists
+abbrev pub HasFewLists : Command → Type 0
+HasFewLists (Gen start count out) = count.value ≤ 64
+HasFewLists _ = Unit {0}
+
+-- a number of 64 bits, none where it has more
+abbrev pub IsValue : Option ℕ → ℕ → Type 0
+IsValue (Some n) value = n ≡ value
+IsValue None value = 2 ^ 64 ≤ value

@@ -1,0 +1,5 @@
+pub mod Words
+pub mod Commands
+pub mod Lines
+pub mod Listing
+pub mod Case
