@@ -1,5 +1,5 @@
 -- The chain of a generated case as far as it is made, and that nothing ends it but want of memory.
-use Rattle.std.proofs.Common.{◌≡◌, ℕ, ◌+◌, ◌≤◌, true, List, [], ◌∷◌, ◌++◌, length, map, take, Option, Some, None, Ok, refl, sym, ap, ◌∙◌, subst, arith, length-append}
+use Rattle.std.proofs.Common.{◌≡◌, ℕ, ◌+◌, ◌≤◌, true, List, [], ◌∷◌, ◌++◌, length, map, take, Option, Some, None, Ok, Err, refl, sym, ap, ◌∙◌, subst, arith, length-append}
 use Rattle.std.specs.Prelude.{slice_get}
 use Rattle.std.specs.List.{list_all}
 use Rattle.std.proofs.Math.Path.{fun_ext}
@@ -19,7 +19,7 @@ use Rattle.enc_image.specs.Base.{base_of, chain_of_base}
 use Rattle.enc_agg.specs.Extend.{chain_with, extended}
 use Rattle.enc_ppdb.specs.PdbChain.{DebugDelta, points_at, debug_at, pdb_begun, pdb_with}
 use Rattle.enc_ppdb.specs.Written.{MeansPdb}
-use Rattle.enc_checker.specs.Check.{Accepted, accepted}
+use Rattle.enc_checker.specs.Check.{accepted}
 use Rattle.enc_rewriter.specs.Limits.{Passed, rewrite_limit, IsFault}
 use Rattle.enc_rewriter.specs.Rewritten.{RewritesTo}
 use Rattle.enc_rewriter.specs.declared.fault.RewriteFault.{RewriteFault}
@@ -30,7 +30,9 @@ use Rattle.enc_rules.specs.Edited.{rows_edited, edited}
 use Rattle.enc_rules.specs.First.{first_edit}
 use Rattle.enc_written.specs.Holds.{heaps_written}
 use Rattle.enc_writer.specs.declared.bytes.DeltaBytes.{DeltaBytes}
-use Rattle.enc_writer.specs.Stands.{IsWrittenFor}
+use Rattle.enc_writer.specs.declared.fault.EditFault.{EditFault}
+use Rattle.enc_writer.specs.declared.fault.EditFault.TheVariants.{Broken}
+use Rattle.enc_writer.specs.Stands.{IsWrittenFor, WritesEdits}
 use Rattle.enc_jobs.specs.Generated.{generated_base, generated_lists, edited_by}
 use Rattle.enc_jobs.specs.Laws.{AreLittle, IsDrawnChain, GeneratedFits, GeneratedLie, GeneratedTellsNothing, BaseIsLittle, GeneratedObeys, GeneratedStaysLittle, GeneratedIsLight}
 use Rattle.enc_top.specs.Verdict.{Followed, followed_by, plain_of, debug_after}
@@ -100,9 +102,11 @@ drawn_fits lists k l d law there = law d.start d.count k l d.few (at_place lists
 pub drawn_lies : (lists : List EditList) (k : ℕ) (l : EditList) → AreDrawn lists → GeneratedLie → slice_get lists k ≡ Some l → list_all points_lie_within l.edits ≡ true
 drawn_lies lists k l d law there = law d.start d.count k l (at_place lists k l d there)
 
-pub drawn_obeys : (lists : List EditList) (k : ℕ) (l : EditList) (c : Chain) (broken : ℕ × ℕ) → AreDrawn lists → GeneratedObeys → slice_get lists k ≡ Some l → IsDrawnChain (take k lists) c → first_edit c l ≡ Some broken → ⊥
-drawn_obeys lists k l c broken d law there drawn is =
+pub drawn_obeys : (lists : List EditList) (k : ℕ) (l : EditList) (c : Chain) (fault : EditFault) (rule edit : ℕ) → AreDrawn lists → GeneratedObeys → slice_get lists k ≡ Some l → IsDrawnChain (take k lists) c
+    → fault ≡ Broken rule edit → WritesEdits c l (Err fault) → ⊥
+drawn_obeys lists k l c fault rule edit d law there drawn is told =
     let none : first_edit c l ≡ None = law d.start d.count k l c d.few (at_place lists k l d there) (before_it lists k c d drawn) in
+    let broken : first_edit c l ≡ Some (rule, edit) = subst (λ (f : EditFault). WritesEdits c l (Err f)) is told in
     cc
 
 -- one list more: its edits are made, its EncId is behind the others, and its heaps stay little

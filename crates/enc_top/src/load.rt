@@ -176,6 +176,30 @@ pub fn load_base<S: Store>(
     Ok(BaseFile { bytes, debug })
 }
 
+/// The names of a delta's files.
+#[derive(Drop)]
+struct DeltaNames {
+    metadata: String,
+    code: String,
+    debug: String,
+}
+
+/// Those of the delta with a name.
+fn names_of(alloc: Global, delta: &str) -> Result<DeltaNames, AllocError>
+    ensures metadata { IfOk result (λ n. string_bytes n.metadata ≡ meta delta.now) }
+    ensures code { IfOk result (λ n. string_bytes n.code ≡ il delta.now) }
+    ensures debug { IfOk result (λ n. string_bytes n.debug ≡ pdb delta.now) }
+{
+    let metadata = name_of(alloc, delta, ".meta")?;
+    let code = name_of(alloc, delta, ".il")?;
+    let debug = name_of(alloc, delta, ".pdb")?;
+    Ok(DeltaNames {
+        metadata,
+        code,
+        debug,
+    })
+}
+
 /// Loads the files of a delta.
 #[tactic(auto, unfolding(crate::specs::Verdict::load_delta))]
 fn load_delta<S: Store>(
@@ -190,11 +214,13 @@ fn load_delta<S: Store>(
     ensures quiet { StopsQuietly result }
     ensures counted { IfOk result (λ f. loaded.new ≡ loaded.old + files_size (file_seen f)) }
 {
-    let name = name_of(alloc, delta, ".meta")?;
+    let DeltaNames {
+        metadata: name,
+        code: code_name,
+        debug: debug_name,
+    } = names_of(alloc, delta)?;
     let metadata = loaded.load(alloc, name.as_str(), store)?;
-    let code_name = name_of(alloc, delta, ".il")?;
     let code = loaded.load(alloc, code_name.as_str(), store)?;
-    let debug_name = name_of(alloc, delta, ".pdb")?;
     let debug = loaded.load_optional(alloc, debug_name.as_str(), store)?;
     Ok(DeltaFile {
         name,

@@ -18,4 +18,5 @@ add_delta-requires-clause-stand c =
 
 pub unreachable-requires : goal.unreachable-requires
 unreachable-requires c =
-    drawn_obeys c.args.lists.now c.args.k c.index-as_slice-k.result (chain_of_all c.args.series.now.held.agg) _ c.requires.drawn c.case_laws.ensures.obeys (slice_get_read c.args.lists.now _ c.args.k c.index-as_slice-k.result refl c.requires.there (rw c.as_slice.ensures at c.index-as_slice-k.is)) c.requires.series.drawn c.in-Err-Broken.ensures
+    drawn_obeys c.args.lists.now c.args.k c.index-as_slice-k.result (chain_of_all c.args.series.now.held.agg) c.in-Err-Broken.field-0 _ _ c.requires.drawn c.case_laws.ensures.obeys (slice_get_read c.args.lists.now _ c.args.k c.index-as_slice-k.result refl c.requires.there (rw c.as_slice.ensures at c.index-as_slice-k.is)) c.requires.series.drawn
+    c.in-Err-Broken.field-0-is c.in-Err-Broken.ensures
