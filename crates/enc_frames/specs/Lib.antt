@@ -15,3 +15,4 @@ pub mod ConsoleSeen
 pub mod FrameActs
 pub mod FramesSeen
 pub mod Lines
+pub mod Moves

@@ -1,7 +1,8 @@
 //! The arguments or local variables of a frame.
-ghost use Rattle.std.specs.Prelude.{◌≡◌, ◌<◌, length, slice_get, slice_set};
+ghost use Rattle.std.specs.Prelude.{◌≡◌, ◌<◌, ◌++◌, length, slice_get, slice_set, OnOk, OnErr};
 
 use enc_objects::Value;
+use std::alloc::AllocError;
 use std::marker::Model;
 
 /// Values by their numbers, from 0.
@@ -48,6 +49,14 @@ impl Cells {
         if (n as usize) < self.items.len() {
             self.items[n as usize] = value;
         }
+    }
+
+    /// Puts values behind the last. Without memory nothing changes.
+    pub(crate) fn append(&mut self, more: &[Value]) -> Result<(), AllocError>
+        ensures ok { OnOk result (self.new ≡ self.old ++ more.now) }
+        ensures err { OnErr result (self.new ≡ self.old) }
+    {
+        self.items.extend_from_slice(more)
     }
 
     /// All, in order.

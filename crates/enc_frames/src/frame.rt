@@ -1,19 +1,23 @@
 //! Calls that are under way.
-ghost use Rattle.std.specs.Prelude.{◌≡◌, ◌<◌, ◌^◌, length};
+ghost use Rattle.std.specs.Prelude.{◌≡◌, ◌<◌, ◌^◌, ◌==◌, length, not, OnOk, OnErr};
 ghost use Rattle.enc_opcodes.specs.Body.{code_seen};
 ghost use Rattle.enc_schema.specs.Tables.{method_def};
+ghost use Rattle.enc_frames.specs.Moves.{moved_to};
 
 use crate::cells::Cells;
 use crate::handlers::RunningHandlers;
 use crate::stack::Stack;
 use enc_base::Token;
+use enc_objects::Value;
 use enc_opcodes::CodeRef;
 use enc_versions::Code;
+use std::alloc::AllocError;
 use std::marker::Model;
 use std::rc::Rc;
 
-/// A call that is under way (ECMA-335 I.12.3.2): its method, the code that it began with and keeps, the
-/// offset of its next instruction, its arguments, local variables and stack, and the handlers that it runs.
+/// A call that is under way (ECMA-335 I.12.3.2): its method, the code that it keeps, with which it began or
+/// to which it was moved last, the offset of its next instruction, its arguments, local variables and stack,
+/// and the handlers that it runs.
 #[derive(Drop)]
 pub struct Frame {
     pub(crate) method: Token,
@@ -71,7 +75,7 @@ impl Frame {
         self.offset
     }
 
-    /// The code that it began with and keeps.
+    /// The code that it keeps: the one with which it began, or that of its last move.
     pub fn code(&self) -> &Rc<Code>
         ensures { result.now.value ≡ self.now.code }
     {
@@ -83,6 +87,30 @@ impl Frame {
         ensures { result.now ≡ self.now.stack }
     {
         &self.stack
+    }
+
+    /// Whether it runs a handler.
+    pub fn is_handling(&self) -> bool
+        ensures { result ≡ not (length self.now.running == 0) }
+    {
+        !self.running.is_empty()
+    }
+
+    /// Goes on in another code, at an offset of it, with more local variables behind its own; all else stays.
+    /// Without memory nothing changes.
+    pub fn move_to(
+        &mut self,
+        code: Rc<Code>,
+        offset: u32,
+        more: &[Value],
+    ) -> Result<(), AllocError>
+        ensures ok { OnOk result (self.new ≡ moved_to code.value offset more.now self.old) }
+        ensures err { OnErr result (self.new ≡ self.old) }
+    {
+        self.locals.append(more)?;
+        self.code = code;
+        self.offset = offset;
+        Ok(())
     }
 
     /// How many values its stack may hold.

@@ -1,5 +1,5 @@
 //! Frames as they are shown.
-ghost use Rattle.std.specs.Prelude.{◌≡◌, reverse};
+ghost use Rattle.std.specs.Prelude.{◌≡◌, ◌==◌, length, not, reverse};
 
 use crate::frame::Frame;
 use enc_base::Token;
@@ -40,7 +40,7 @@ impl<'a> FrameRef<'a> {
         frame.offset
     }
 
-    /// The code that it began with and keeps.
+    /// The code that it keeps: the one with which it began, or that of its last move.
     pub fn code(&self) -> &'a Rc<Code>
         ensures { result.now.value ≡ self.now.code }
     {
@@ -70,6 +70,14 @@ impl<'a> FrameRef<'a> {
     {
         let frame = self.frame;
         frame.stack.as_slice()
+    }
+
+    /// Whether it runs a handler.
+    pub fn is_handling(&self) -> bool
+        ensures { result ≡ not (length self.now.running == 0) }
+    {
+        let frame = self.frame;
+        frame.is_handling()
     }
 }
 

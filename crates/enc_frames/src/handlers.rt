@@ -1,5 +1,5 @@
 //! Handlers that begin and end in a frame (ECMA-335 I.12.4.2, III.3.35, III.3.46).
-ghost use Rattle.std.specs.Prelude.{◌≡◌, ◌∷◌, [], ◌<◌, IfOk};
+ghost use Rattle.std.specs.Prelude.{◌≡◌, ◌∷◌, [], ◌<◌, ◌==◌, length, IfOk};
 ghost use Rattle.enc_unwind.specs.Search.{is_in_range, handlers_of};
 ghost use Rattle.enc_frames.specs.Callers.{first_if_any, without_first};
 ghost use Rattle.enc_frames.specs.Does.{Does};
@@ -76,6 +76,13 @@ impl RunningHandlers {
         RunningHandlers {
             items: Vec::new(alloc),
         }
+    }
+
+    /// Whether there are none.
+    pub(crate) fn is_empty(&self) -> bool
+        ensures { result ≡ (length self.now == 0) }
+    {
+        self.items.is_empty()
     }
 
     /// Those that still run at an offset.

@@ -8,22 +8,13 @@ ghost use Rattle.enc_il.specs.Seen.{all_sections};
 
 use crate::clauses::clause_front;
 use crate::section::{SectionRef, behind_sections, clause_size, section_front};
+use crate::starts::is_start;
 use crate::texts::UserTexts;
 use crate::walk::{is_named, walk_of};
 use enc_base::{Counts, Token};
 use enc_opcodes::{Clause, CodeRef};
 use enc_schema::tables::STAND_ALONE_SIG;
 use std::alloc::{AllocError, Global};
-
-/// Whether an instruction begins at an offset.
-fn is_start(marks: &[bool], offset: u32) -> bool
-    ensures { result ≡ mark_at marks.now offset }
-{
-    match marks.get(offset as usize) {
-        Some(mark) => *mark,
-        None => false,
-    }
-}
 
 /// Whether an instruction begins at each of these offsets.
 fn are_starts(marks: &[bool], offsets: &[u32]) -> bool

@@ -4,3 +4,4 @@ pub mod Climbed
 pub mod Firsts
 pub mod Bases
 pub mod Example
+pub mod Handled

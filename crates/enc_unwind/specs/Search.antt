@@ -1,5 +1,6 @@
 -- Which clause of a body comes next: a catch clause for a thrown object, a finally or a fault clause on the way out (ECMA-335 I.12.4.2, II.25.4.6).
 use Rattle.std.specs.Prelude.{ℕ, Bool, true, false, not, ◌&&◌, List, length, Option, Some, None, option_and_then, slice_get, map, nat_lt, nat_le, ◌==◌, if◌then◌else◌}
+use Rattle.std.specs.List.{list_any}
 use Rattle.enc_base.specs.Order.{first_below}
 use Rattle.enc_opcodes.specs.Body.{Handler, HandlerKind, catching, finishing, faulting, handler_meant}
 use Rattle.enc_opcodes.specs.Clause.{clauses_of}
@@ -16,6 +17,13 @@ is_in_range range offset = nat_le range.0 offset && nat_lt offset range.1
 -- the clause protects the instruction at an offset
 abbrev pub protects : Handler → ℕ → Bool
 protects clause offset = is_in_range clause.tries offset
+
+-- the handler of a clause has the instruction at an offset
+abbrev pub is_in_handler : ℕ → Handler → Bool
+is_in_handler offset clause = is_in_range clause.handler offset
+
+abbrev pub is_handled : ℕ → List Handler → Bool
+is_handled offset clauses = list_any (is_in_handler offset) clauses
 
 -- the number of the first clause that passes a test of its number and itself
 abbrev pub answer_at : (ℕ → Handler → Bool) → List Handler → ℕ → Option ℕ

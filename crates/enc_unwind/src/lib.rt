@@ -2,6 +2,7 @@
 #![tactic(auto)]
 
 mod catches;
+mod handles;
 mod kinds;
 mod laws;
 mod passing;
@@ -13,6 +14,6 @@ mod types;
 mod walk;
 
 pub use laws::{caught_law, example_searches, search_laws};
-pub use search::{catch_in, next_handler};
+pub use search::{catch_in, is_handled, next_handler};
 pub use stop::Stop;
 pub use thrown::Thrown;

@@ -1,8 +1,9 @@
 //! The searches for the clause that is next.
 ghost use Rattle.std.specs.Prelude.{◌≡◌, ◌<◌, ◌^◌, length};
-ghost use Rattle.enc_unwind.specs.Search.{catch_among, next_among, handlers_of};
+ghost use Rattle.enc_unwind.specs.Search.{catch_among, is_handled as lies_in_handler, next_among, handlers_of};
 
 use crate::catches::Catches;
+use crate::handles::Handles;
 use crate::runs::Runs;
 use crate::stop::Stop;
 use crate::thrown::Thrown;
@@ -44,4 +45,13 @@ pub fn next_handler(code: &CodeRef<'_>, past: Option<u32>, offset: u32, stop: St
     ensures { result ≡ next_among (handlers_of code.now.sections.now) past offset stop }
 {
     first_clause(code.sections, &Runs { past, offset, stop })
+}
+
+/// Whether an offset lies in the handler of a clause (ECMA-335 II.25.4.6). It takes no memory.
+#[tactic(auto, using(crate::proofs::Handled::some_handles))]
+pub fn is_handled(code: &CodeRef<'_>, offset: u32) -> bool
+    requires { length code.now.sections.now < 2 ^ 32 }
+    ensures { result ≡ lies_in_handler offset (handlers_of code.now.sections.now) }
+{
+    first_clause(code.sections, &Handles { offset }).is_some()
 }

@@ -3,3 +3,4 @@ pub mod Begun
 pub mod Committed
 pub mod AfterCommit
 pub mod Known
+pub mod Stopped

@@ -3,3 +3,4 @@ pub mod StandFor
 pub mod Commit
 pub mod Laws
 pub mod Shared
+pub mod Stops

@@ -2,8 +2,10 @@
 ghost use Rattle.std.specs.Prelude.{◌≡◌, ◌<◌, ◌^◌, length, IsTrue, IfOk};
 ghost use Rattle.enc_opcodes.specs.Body.{code_seen};
 ghost use Rattle.enc_versions.specs.Commit.{is_entry, version_in};
+ghost use Rattle.enc_versions.specs.Stops.{is_at_point, is_stop_in};
 
 use crate::list::CodeEntry;
+use crate::stops::Stops;
 use enc_base::{Bytes, Token};
 use enc_opcodes::CodeRef;
 use enc_seqpoints::Points;
@@ -89,22 +91,32 @@ fn short(bytes: Bytes) -> Result<Bytes, AllocError>
 pub struct Code {
     stored: Rc<Stored>,
     points: Points,
+    stops: Stops,
 }
 
 impl Model for Code {
+    ghost use Rattle.std.specs.Prelude.{◌≡◌, ℕ};
+    ghost use Rattle.enc_versions.specs.Stops.{is_stop_in};
     ghost use Rattle.enc_versions.specs.Version.{Version};
 
     ghost Value = { Version };
 
     ghost view = { λ c. record { code = c.stored.value; points = c.points } };
+
+    ghost invariant = { λ c. (offset : ℕ) → c.stops offset ≡ is_stop_in c.stored.value c.points.points offset };
 }
 
 impl Code {
-    /// A body with its points.
-    pub(crate) fn of(stored: Rc<Stored>, points: Points) -> Code
-        ensures { result ≡ record { code = stored.value; points = points } }
+    /// A body with its points. It goes over the code once, where there are points.
+    pub(crate) fn of(alloc: Global, stored: Rc<Stored>, points: Points) -> Result<Code, AllocError>
+        ensures { IfOk result (λ c. c ≡ record { code = stored.value; points = points }) }
     {
-        Code { stored, points }
+        let stops = Stops::of(alloc, &stored.as_ref().code(), &points)?;
+        Ok(Code {
+            stored,
+            points,
+            stops,
+        })
     }
 
     /// The body that an entry brings, with its points.
@@ -119,7 +131,7 @@ impl Code {
             code: entry.code,
             sections: short(entry.sections)?,
         };
-        Ok(Code::of(Rc::new(alloc, stored)?, entry.points))
+        Code::of(alloc, Rc::new(alloc, stored)?, entry.points)
     }
 
     /// The body (ECMA-335 II.25.4). It takes no memory.
@@ -137,5 +149,27 @@ impl Code {
         ensures { result.now ≡ self.now.points }
     {
         &self.points
+    }
+
+    /// Whether a sequence point that isn't hidden stands at the offset (Portable PDB v1.0). Its time is
+    /// logarithmic in the number of points.
+    #[tactic(auto, using(crate::proofs::Stopped::not_at_point, crate::proofs::Stopped::at_point))]
+    pub fn is_at_point(&self, offset: u32) -> bool
+        ensures { result ≡ is_at_point self.now.points.points offset }
+    {
+        self.points.rising();
+        match self.points.at(offset) {
+            Some(point) => point.lines.is_some(),
+            None => false,
+        }
+    }
+
+    /// Whether a frame may stop at the offset: a sequence point that isn't hidden stands there, and an
+    /// instruction begins there (Portable PDB v1.0, ECMA-335 III.1.2). Its time is logarithmic in the number of
+    /// points.
+    pub fn is_stop(&self, offset: u32) -> bool
+        ensures { result ≡ is_stop_in self.now.code self.now.points.points offset }
+    {
+        self.stops.has(offset)
     }
 }

@@ -6,6 +6,7 @@ mod commit;
 mod laws;
 mod list;
 mod shared;
+mod stops;
 mod versions;
 
 pub use code::Code;

@@ -74,7 +74,7 @@ fn slot_of<V: ModuleView, P: PointSource>(
         return Ok(Slot { code: None });
     };
     let points = points_of(alloc, points, method)?;
-    let code = Rc::new(alloc, Code::of(stored, points))?;
+    let code = Rc::new(alloc, Code::of(alloc, stored, points)?)?;
     Ok(Slot { code: Some(code) })
 }
 

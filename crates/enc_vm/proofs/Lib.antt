@@ -45,3 +45,4 @@ pub mod Written
 pub mod RoomAt
 pub mod FramesSeen
 pub mod TextsKept
+pub mod Moved

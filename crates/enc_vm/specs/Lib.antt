@@ -16,3 +16,4 @@ pub mod StaticsSeen
 pub mod Room
 pub mod RoomSeen
 pub mod Texts
+pub mod Moves

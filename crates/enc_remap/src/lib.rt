@@ -1,0 +1,11 @@
+//! A frame that is under way goes on in the newest body of its method, as a debugger asks for behind an edit at a
+//! breakpoint.
+#![tactic(auto)]
+
+mod goal;
+mod kinds;
+mod remap;
+mod remapped;
+
+pub use remap::remap;
+pub use remapped::Remapped;
