@@ -86,7 +86,7 @@ pub fn fitting(alloc: Global, stack: &Stack, kinds: &[Kind]) -> Result<Vec<Value
 }
 
 /// The defaults of kinds.
-pub(crate) fn defaults(alloc: Global, kinds: &Kinds<'_>) -> Result<Vec<Value>, AllocError>
+pub fn defaults(alloc: Global, kinds: &Kinds<'_>) -> Result<Vec<Value>, AllocError>
     ensures { IfOk result (λ l. l.items ≡ map default_of kinds.now) }
 {
     let mut values = Vec::new(alloc);

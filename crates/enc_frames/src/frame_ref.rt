@@ -1,5 +1,6 @@
 //! Frames as they are shown.
 ghost use Rattle.std.specs.Prelude.{◌≡◌, ◌==◌, length, not, reverse};
+ghost use Rattle.enc_schema.specs.Tables.{method_def};
 
 use crate::frame::Frame;
 use enc_base::Token;
@@ -26,10 +27,11 @@ impl<'a> Model for FrameRef<'a> {
 impl<'a> FrameRef<'a> {
     /// Its method.
     pub fn method(&self) -> Token
-        ensures { result ≡ self.now.method }
+        ensures method { result ≡ self.now.method }
+        ensures table { result.table ≡ method_def }
     {
         let frame = self.frame;
-        frame.method
+        frame.method()
     }
 
     /// The offset of its next instruction.

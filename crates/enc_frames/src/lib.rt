@@ -30,7 +30,7 @@ mod told;
 mod values;
 
 pub use act::{Act, FrameAct, ObjectAct, Test};
-pub use arguments::{called_kinds, fitting, taken_kinds};
+pub use arguments::{called_kinds, defaults, fitting, taken_kinds};
 pub use callers::Callers;
 pub use console::{Written, call_outside, new_outside};
 pub use decode::{bare_act, branch_act, numbered_act, token_act};

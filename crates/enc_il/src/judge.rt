@@ -7,8 +7,8 @@ ghost use Rattle.enc_il.specs.Judged.{mark_at, are_texts};
 ghost use Rattle.enc_il.specs.Seen.{all_sections};
 
 use crate::clauses::clause_front;
+use crate::marks::is_start;
 use crate::section::{SectionRef, behind_sections, clause_size, section_front};
-use crate::starts::is_start;
 use crate::texts::UserTexts;
 use crate::walk::{is_named, walk_of};
 use enc_base::{Counts, Token};

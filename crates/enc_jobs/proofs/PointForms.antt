@@ -22,10 +22,10 @@ use Rattle.enc_jobs.specs.declared.body.Placed.{Placed}
 use Rattle.enc_jobs.specs.declared.body.Method.{Method}
 use Rattle.enc_jobs.specs.declared.fault.JobFault.{JobFault}
 use Rattle.enc_jobs.specs.Outcome.{GivesList}
-use Rattle.enc_jobs.specs.Json.{elements_of, has_only, at_key_or, number_said, word_said, token_said}
+use Rattle.enc_jobs.specs.Json.{elements_of, has_only, at_key_or, number_said, word_said, token_said, pair_said}
 use Rattle.enc_jobs.specs.Code.{within_word, offsets_of, code_said}
 use Rattle.enc_jobs.specs.Clause.{clauses_said}
-use Rattle.enc_jobs.specs.Points.{at_said, position_said, hidden_said, shown_said, point_said, points_from, points_said}
+use Rattle.enc_jobs.specs.Points.{at_said, hidden_said, shown_said, point_said, points_from, points_said}
 use Rattle.enc_jobs.specs.Body.{body_said, method_said, method_said_if}
 use Rattle.enc_jobs.specs.Cell.{cells_said}
 use Rattle.enc_jobs.specs.Edits.{table_named, add_keys, owner_said, add_to_said, add_said, replace_said, edit_of_kind, edit_said, edits_said}
@@ -111,8 +111,8 @@ shown_low starts n low d p h =
     let w = if_some (has_only (codes "at" ∷ codes "document" ∷ codes "from" ∷ codes "to" ∷ []) d) _ p h in
     let o = then_some (at_said starts d) _ p w.1 in
     let document = then_some (option_and_then word_said (get (codes "document") d)) _ p o.2 in
-    let from = then_some (option_and_then position_said (get (codes "from") d)) _ p document.2 in
-    let to = then_some (option_and_then position_said (get (codes "to") d)) _ p from.2 in
+    let from = then_some (option_and_then pair_said (get (codes "from") d)) _ p document.2 in
+    let to = then_some (option_and_then pair_said (get (codes "to") d)) _ p from.2 in
     let e : record { offset = o.0; document = document.0; lines = Some (from.0.0, from.0.1, to.0.0, to.0.1) } ≡ p = cc in
     rw (← e) (at_low starts n low d o.0 o.1)
 

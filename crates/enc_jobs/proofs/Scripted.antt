@@ -9,14 +9,14 @@ use Rattle.enc_base.specs.declared.token.Token.{Token}
 use Rattle.enc_opcodes.specs.Instruction.{◌>>=◌}
 use Rattle.enc_watch.specs.declared.event.WatchKind.{WatchKind}
 use Rattle.enc_jobs.specs.declared.command.Command.{Command}
-use Rattle.enc_jobs.specs.declared.command.Command.TheVariants.{Spawn, Step, Apply, Attach, Detach, State}
+use Rattle.enc_jobs.specs.declared.command.Command.TheVariants.{Spawn, Step, Apply, Attach, Detach, Remap, State}
 use Rattle.enc_jobs.specs.declared.fault.JobFault.{JobFault}
 use Rattle.enc_jobs.specs.declared.fault.JobFault.TheVariants.{L3}
 use Rattle.enc_jobs.specs.Edits.{json_value}
 use Rattle.enc_jobs.specs.Json.{elements_of, has_only, word_said, number_said, token_said}
 use Rattle.enc_jobs.specs.Laws.{names_a_delta, ScriptIsShort, ScriptNamesDeltas}
 use Rattle.enc_jobs.specs.Lists.{next_number, with_numbered, read_in_turn}
-use Rattle.enc_jobs.specs.Scripts.{most_commands, most_steps, spawn_said, step_of, step_said, is_name, name_said, apply_said, watcher_said, attach_said, detach_said, state_said, command_of_kind, command_said, commands_of_items, commands_of_value, script_said}
+use Rattle.enc_jobs.specs.Scripts.{most_commands, most_steps, spawn_said, step_of, step_said, is_name, name_said, apply_said, watcher_said, attach_said, detach_said, map_said, remap_said, state_said, command_of_kind, command_said, commands_of_items, commands_of_value, script_said}
 
 -- what holds of a command that is there
 abbrev Names : Option Command → Type 0
@@ -88,6 +88,12 @@ unfolding detach_said
 detach_names d =
     where_names (has_only (codes "do" ∷ codes "number" ∷ []) d) _ (then_names (get (codes "number") d >>= word_said) _ (λ n is. some_names (Detach n) refl))
 
+remap_names : (d : Data) → Names (remap_said d)
+unfolding remap_said
+remap_names d =
+    where_names (has_only (codes "do" ∷ codes "task" ∷ codes "map" ∷ []) d) _
+    (then_names (get (codes "task") d >>= word_said) _ (λ task is. then_names (get (codes "map") d >>= map_said) _ (λ pairs said. some_names (Remap task pairs) refl)))
+
 state_names : (d : Data) → Names (state_said d)
 unfolding state_said
 state_names d = where_names (has_only (codes "do" ∷ []) d) (Some State) (some_names State refl)
@@ -99,7 +105,8 @@ kind_names d kind =
     (or_names (bytes_eq kind (codes "apply")) _ _ (apply_names d)
     (or_names (bytes_eq kind (codes "attach")) _ _ (attach_names d)
     (or_names (bytes_eq kind (codes "detach")) _ _ (detach_names d)
-    (or_names (bytes_eq kind (codes "state")) _ _ (state_names d) none_names)))))
+    (or_names (bytes_eq kind (codes "remap")) _ _ (remap_names d)
+    (or_names (bytes_eq kind (codes "state")) _ _ (state_names d) none_names))))))
 
 command_names : (d : Data) → Names (command_said d)
 unfolding command_said

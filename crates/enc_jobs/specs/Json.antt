@@ -55,6 +55,17 @@ number_said most d = do
 abbrev pub word_said : Data → Option ℕ
 word_said d = number_said 0xFFFFFFFF d
 
+-- an array of two numbers
+abbrev pub pair_in : List Data → Option (ℕ × ℕ)
+pair_in (a ∷ b ∷ []) = do
+  first ← word_said a
+  second ← word_said b
+  Some (first, second)
+pair_in _ = None
+
+unfoldable pub pair_said : Data → Option (ℕ × ℕ)
+pair_said d = elements_of d >>= pair_in
+
 -- the bytes that a text of hexadecimal digits of either case spells
 unfoldable pub hex_said : Data → Option (List ℕ)
 hex_said d = as_str d >>= λ t. result_ok (decode_of t)

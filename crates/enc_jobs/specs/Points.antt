@@ -4,23 +4,11 @@ use Rattle.serde_json.specs.Data.{Data}
 use Rattle.serde_json.specs.Find.{get, as_bool}
 use Rattle.enc_seqpoints.specs.declared.point.Point.{Point}
 use Rattle.enc_opcodes.specs.Instruction.{◌>>=◌}
-use Rattle.enc_jobs.specs.Json.{elements_of, has_only, word_said}
+use Rattle.enc_jobs.specs.Json.{elements_of, has_only, pair_said, word_said}
 
 -- the offset of the instruction with the index at the key `at`
 unfoldable pub at_said : List ℕ → Data → Option ℕ
 at_said starts d = (get (codes "at") d >>= word_said) >>= slice_get starts
-
--- two numbers
-abbrev pub position_in : List Data → Option (ℕ × ℕ)
-position_in (a ∷ b ∷ []) = do
-  line ← word_said a
-  column ← word_said b
-  Some (line, column)
-position_in _ = None
-
--- an array of a line and a column
-unfoldable pub position_said : Data → Option (ℕ × ℕ)
-position_said d = elements_of d >>= position_in
 
 -- a hidden point of this document
 unfoldable pub hidden_said : List ℕ → ℕ → Data → Option Point
@@ -34,8 +22,8 @@ unfoldable pub shown_said : List ℕ → Data → Option Point
 shown_said starts d = if has_only (codes "at" ∷ codes "document" ∷ codes "from" ∷ codes "to" ∷ []) d then (do
   offset ← at_said starts d
   document ← get (codes "document") d >>= word_said
-  from ← get (codes "from") d >>= position_said
-  to ← get (codes "to") d >>= position_said
+  from ← get (codes "from") d >>= pair_said
+  to ← get (codes "to") d >>= pair_said
   Some (record { offset = offset; document = document; lines = Some (from.0, from.1, to.0, to.1) })) else None
 
 -- a point behind one of this document

@@ -7,12 +7,12 @@ use Rattle.enc_opcodes.specs.Instruction.{◌>>=◌}
 use Rattle.enc_watch.specs.declared.event.WatchKind.{WatchKind}
 use Rattle.enc_watch.specs.declared.event.WatchKind.TheVariants as watch
 use Rattle.enc_jobs.specs.declared.command.Command.{Command}
-use Rattle.enc_jobs.specs.declared.command.Command.TheVariants.{Spawn, Step, Apply, Attach, Detach, State}
+use Rattle.enc_jobs.specs.declared.command.Command.TheVariants.{Spawn, Step, Apply, Attach, Detach, Remap, State}
 use Rattle.enc_jobs.specs.declared.fault.JobFault.{JobFault}
 use Rattle.enc_jobs.specs.declared.fault.JobFault.TheVariants.{J1, J2, L3}
 use Rattle.enc_jobs.specs.Edits.{json_value}
-use Rattle.enc_jobs.specs.Json.{elements_of, has_only, word_said, number_said, token_said}
-use Rattle.enc_jobs.specs.Lists.{read_in_turn}
+use Rattle.enc_jobs.specs.Json.{elements_of, has_only, pair_said, word_said, number_said, token_said}
+use Rattle.enc_jobs.specs.Lists.{every, read_in_turn}
 
 -- as many commands as a script has, and as many steps as one command makes
 abbrev pub most_commands : ℕ
@@ -20,6 +20,10 @@ most_commands = 100000
 
 abbrev pub most_steps : ℕ
 most_steps = 1000000
+
+-- as many pairs as a map has
+abbrev pub most_pairs : ℕ
+most_pairs = 65536
 
 -- a task begins with a method
 unfoldable pub spawn_said : Data → Option Command
@@ -82,6 +86,20 @@ detach_said d = if has_only (codes "do" ∷ codes "number" ∷ []) d then (do
   n ← get (codes "number") d >>= word_said
   Some (Detach n)) else None
 
+-- a map from offsets to offsets: pairs, in order
+abbrev pub pairs_in : List Data → Option (List (ℕ × ℕ))
+pairs_in items = if nat_lt most_pairs (length items) then None else every pair_said items
+
+unfoldable pub map_said : Data → Option (List (ℕ × ℕ))
+map_said d = elements_of d >>= pairs_in
+
+-- the innermost frame of a task goes on in the newest body of its method
+unfoldable pub remap_said : Data → Option Command
+remap_said d = if has_only (codes "do" ∷ codes "task" ∷ codes "map" ∷ []) d then (do
+  task ← get (codes "task") d >>= word_said
+  pairs ← get (codes "map") d >>= map_said
+  Some (Remap task pairs)) else None
+
 -- the state is shown
 unfoldable pub state_said : Data → Option Command
 state_said d = if has_only (codes "do" ∷ []) d then Some State else None
@@ -94,6 +112,7 @@ command_of_kind d kind =
     else if bytes_eq kind (codes "apply") then apply_said d
     else if bytes_eq kind (codes "attach") then attach_said d
     else if bytes_eq kind (codes "detach") then detach_said d
+    else if bytes_eq kind (codes "remap") then remap_said d
     else if bytes_eq kind (codes "state") then state_said d
     else None
 

@@ -1,5 +1,6 @@
 //! Commands of a script.
 use enc_base::{Bytes, Token};
+use enc_plain::PairList;
 use enc_watch::WatchKind;
 use std::alloc::{AllocError, AllocFailed, Global};
 use std::marker::Model;
@@ -17,6 +18,9 @@ pub enum Command {
     Attach(WatchKind),
     /// The watcher with this number hears no more.
     Detach(u32),
+    /// The innermost frame of a task goes on in the newest body of its method: the task's number, and the map from
+    /// offsets of its own body to offsets of that one, of at most 65,536 pairs.
+    Remap(u32, PairList),
     /// The state of the machine is shown.
     State,
 }

@@ -14,6 +14,7 @@ mod laws;
 mod list;
 mod name;
 mod point;
+mod remap;
 mod script;
 mod value;
 

@@ -5,11 +5,11 @@ ghost use Rattle.serde_json.specs.Find.{get};
 ghost use Rattle.serde_json.specs.View.{view};
 ghost use Rattle.serde_json.specs.declared.value.Value.{Value as TheValue};
 ghost use Rattle.enc_jobs.specs.Outcome.{ReadsAs};
-ghost use Rattle.enc_jobs.specs.Points.{at_said, position_in, position_said, hidden_said, shown_said, point_said, points_from, points_said};
+ghost use Rattle.enc_jobs.specs.Points.{at_said, hidden_said, shown_said, point_said, points_from, points_said};
 
 use crate::code::start_at;
 use crate::fault::Refused;
-use crate::value::{at_key, elements, has_only, word};
+use crate::value::{at_key, elements, has_only, pair, word};
 use enc_edits::{PointList, TargetList};
 use enc_seqpoints::Point;
 use serde_json::Value;
@@ -22,29 +22,6 @@ fn offset(starts: &TargetList, value: &Value) -> Result<u32, Refused>
 {
     let index = word(at_key(value, "at")?)?;
     start_at(starts, index)
-}
-
-/// A line and a column.
-fn position_of(items: &[Value]) -> Result<(u32, u32), Refused>
-    ensures { ReadsAs result (position_in (map view items.now)) }
-{
-    match items {
-        [line, column] => {
-            let line = word(line)?;
-            let column = word(column)?;
-            Ok((line, column))
-        }
-        _ => Err(Refused::Form),
-    }
-}
-
-/// An array of a line and a column.
-#[tactic(auto, unfolding(crate::specs::Points::position_said))]
-fn position(value: &Value) -> Result<(u32, u32), Refused>
-    ensures { ReadsAs result (position_said (view value.now)) }
-{
-    let items = elements(value)?;
-    position_of(items)
 }
 
 /// A hidden point of this document.
@@ -76,8 +53,8 @@ fn shown(starts: &TargetList, value: &Value) -> Result<Point, Refused>
     }
     let offset = offset(starts, value)?;
     let document = word(at_key(value, "document")?)?;
-    let (line, column) = position(at_key(value, "from")?)?;
-    let (end_line, end_column) = position(at_key(value, "to")?)?;
+    let (line, column) = pair(at_key(value, "from")?)?;
+    let (end_line, end_column) = pair(at_key(value, "to")?)?;
     Ok(Point {
         offset,
         document,

@@ -10,6 +10,7 @@ use crate::command::{Command, Script};
 use crate::fault::{JobFault, Refused};
 use crate::list::{at_number, parsed};
 use crate::name::is_name;
+use crate::remap::remap;
 use crate::value::{at_key, bytes_of, elements, has_only, number, text, token, word};
 use enc_base::Bytes;
 use enc_watch::WatchKind;
@@ -152,6 +153,9 @@ fn of_kind(alloc: Global, value: &Value, kind: &str) -> Result<Command, Refused>
     }
     if kind == "detach" {
         return detach(value);
+    }
+    if kind == "remap" {
+        return remap(alloc, value);
     }
     if kind == "state" {
         return state(value);

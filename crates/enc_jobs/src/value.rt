@@ -8,7 +8,7 @@ ghost use Rattle.serde_json.specs.View.{view, members_view};
 ghost use Rattle.serde_json.specs.declared.value.Value.{Value as TheValue};
 ghost use Rattle.enc_jobs.specs.Outcome.{ReadsAs};
 ghost use Rattle.enc_jobs.specs.Json.{elements_of, is_one_of, keys_in, has_only as has_only_keys};
-ghost use Rattle.enc_jobs.specs.Json.{number_said, word_said, hex_said, bytes_said, token_number_said, token_said, guid_said};
+ghost use Rattle.enc_jobs.specs.Json.{number_said, word_said, pair_in, pair_said, hex_said, bytes_said, token_number_said, token_said, guid_said};
 
 use crate::fault::Refused;
 use enc_base::{Bytes, Token};
@@ -96,6 +96,29 @@ pub fn word(value: &Value) -> Result<u32, Refused>
 {
     let number = number(0xFFFF_FFFF, value)?;
     Ok(number as u32)
+}
+
+/// Two numbers.
+fn pair_of(items: &[Value]) -> Result<(u32, u32), Refused>
+    ensures { ReadsAs result (pair_in (map view items.now)) }
+{
+    match items {
+        [first, second] => {
+            let first = word(first)?;
+            let second = word(second)?;
+            Ok((first, second))
+        }
+        _ => Err(Refused::Form),
+    }
+}
+
+/// An array of two numbers below 2^32.
+#[tactic(auto, unfolding(crate::specs::Json::pair_said))]
+pub fn pair(value: &Value) -> Result<(u32, u32), Refused>
+    ensures { ReadsAs result (pair_said (view value.now)) }
+{
+    let items = elements(value)?;
+    pair_of(items)
 }
 
 /// The bytes that a text of hexadecimal digits of either case spells.

@@ -1,8 +1,8 @@
 -- A remap's answer, and the machine behind it.
-use Rattle.std.specs.Prelude.{◌≡◌, ℕ, Bool, not, List, [], ◌∷◌, ◌++◌, length, Option, Some, Result, Ok, Err, ◌==◌}
+use Rattle.std.specs.Prelude.{◌≡◌, ℕ, Bool, false, not, List, [], ◌∷◌, ◌++◌, length, Option, Some, is_some, Result, Ok, Err, ◌==◌}
 use Rattle.std.specs.declared.alloc.AllocError.{AllocError}
 use Rattle.enc_base.specs.declared.token.Token.{Token}
-use Rattle.enc_frames.specs.Machine.{Frame, MachineState, code_meant, state_meant}
+use Rattle.enc_frames.specs.Machine.{Frame, Task, going, MachineState, code_meant, state_meant}
 use Rattle.enc_objects.specs.declared.kind.Kind.{Kind}
 use Rattle.enc_plain.specs.Debug.{PlainPdb}
 use Rattle.enc_plain.specs.Module.{Module}
@@ -39,3 +39,8 @@ pub record IsGoal (x : Move) (newest : Option Version) (code : Version) (to : �
 -- and for a frame: nothing is on its stack, and it runs no handler
 abbrev pub frame_rules : {C : Type 0} → Frame C → Move → List (ℕ × Bool)
 frame_rules f x = (2, not (length f.stack == 0)) ∷ move_rules x ++ (7, not (length f.running == 0)) ∷ []
+
+-- a task goes on, and no object is on its way in it
+abbrev pub goes_on : {C : Type 0} → Option (Task C) → Bool
+goes_on (Some (going t)) = not (is_some t.flight)
+goes_on _ = false

@@ -1,14 +1,12 @@
 //! The kinds of local variables of two bodies.
-ghost use Rattle.std.specs.Prelude.{◌≡◌, [], map, unwrap_or, IfOk};
+ghost use Rattle.std.specs.Prelude.{◌≡◌, [], unwrap_or};
 ghost use Rattle.enc_kinds.specs.Members.{local_kinds};
-ghost use Rattle.enc_objects.specs.Values.{default_of};
 ghost use Rattle.enc_remap.specs.Remap.{kinds_behind, number_of};
 
 use enc_base::Token;
 use enc_kinds::{Kinds, local_kinds};
-use enc_objects::{Kind, Value};
+use enc_objects::Kind;
 use enc_plain::ModuleView;
-use std::alloc::{AllocError, Global};
 
 /// A number of each kind.
 fn number_of(kind: Kind) -> u8
@@ -55,17 +53,4 @@ pub(crate) fn kinds_of<V: ModuleView>(view: &V, locals: Token) -> Kinds<'_>
         Some(kinds) => kinds,
         None => Kinds::none(),
     }
-}
-
-/// The defaults of kinds.
-pub(crate) fn defaults(alloc: Global, kinds: Kinds<'_>) -> Result<Vec<Value>, AllocError>
-    ensures { IfOk result (λ l. l.items ≡ map default_of kinds) }
-{
-    let mut values = Vec::new(alloc);
-    let mut next = kinds.split_first();
-    while let Some((kind, rest)) = next {
-        values.push(kind.default_value())?;
-        next = rest.split_first();
-    }
-    Ok(values)
 }

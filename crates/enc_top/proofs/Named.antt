@@ -11,7 +11,7 @@ use Rattle.std.proofs.lemmas.Bool.{and_parts}
 use Rattle.enc_jobs.specs.Laws.{names_a_delta}
 use Rattle.enc_jobs.specs.Scripts.{is_name_byte, is_name}
 use Rattle.enc_jobs.specs.declared.command.Command.{Command}
-use Rattle.enc_jobs.specs.declared.command.Command.TheVariants.{Spawn, Step, Apply, Attach, Detach, State}
+use Rattle.enc_jobs.specs.declared.command.Command.TheVariants.{Spawn, Step, Apply, Attach, Detach, Remap, State}
 use Rattle.enc_rewriter.specs.Distinct.{borrowed}
 use Rattle.enc_script.specs.Run.{NamedFiles}
 use Rattle.enc_top.specs.Verdict.{DeltaFiles, as_named, deltas_named, with_name}
@@ -39,6 +39,7 @@ one_named names more (Spawn method) rest left is named = rw (is, named) refl
 one_named names more (Step task count) rest left is named = rw (is, named) refl
 one_named names more (Attach kind) rest left is named = rw (is, named) refl
 one_named names more (Detach number) rest left is named = rw (is, named) refl
+one_named names more (Remap task pairs) rest left is named = rw (is, named) refl
 one_named names more State rest left is named = rw (is, named) refl
 
 pub none_named : (names : List (List ℕ)) (left : List Command) → left ≡ [] → deltas_named names left ≡ names

@@ -109,7 +109,7 @@ handlers_same count p q size (h ∷ hs) e =
 four_same : {A : Type 0} (f : Bool → Bool → Bool → A) (a b c d e g : Bool) → a ≡ b → c ≡ d → e ≡ g → f a c e ≡ f b d g
 four_same f a b c d e g x y z = ap (λ t. f t c e) x ∙ ap (λ t. f b t e) y ∙ ap (λ t. f b d t) z
 
-sound_same : (u v : ℕ → Option (List ℕ)) (count : ℕ → ℕ) (c : Code) → body_is_sound count (body_of u c) ≡ body_is_sound count (body_of v c)
+pub sound_same : (u v : ℕ → Option (List ℕ)) (count : ℕ → ℕ) (c : Code) → body_is_sound count (body_of u c) ≡ body_is_sound count (body_of v c)
 unfolding body_of body_is_sound
 sound_same u v count c =
     four_same (λ (a b d : Bool). a && b && d && locals_are_good count c.locals) _ _ _ _ _ _

@@ -16,6 +16,7 @@ use Rattle.enc_vm.specs.Placed.{IsFramePlaced, IsTaskPlaced, AreTasksPlaced, is_
 use Rattle.enc_vm.specs.Step.{task_at}
 use Rattle.enc_vm.specs.Texts.{version_texts, task_texts, machine_texts}
 use Rattle.enc_vm.proofs.StaysPlaced.{another}
+use Rattle.enc_vm.proofs.StepsMeant.{nth_by, set_by}
 
 -- what a moved task means
 task_means : (users : ℕ → Option (List ℕ)) (v : Version) (offset : ℕ) (more : List Value) (t : Task Version)
@@ -24,22 +25,12 @@ task_means users v offset more (going t) = refl
 task_means users v offset more ended = refl
 task_means users v offset more (trapped x frames) = refl
 
-map_set : {A B : Type 0} (f : A → B) (xs : List A) (i : ℕ) (x : A) → map f (slice_set xs i x) ≡ slice_set (map f xs) i (f x)
-map_set f [] i x = refl
-map_set f (y ∷ ys) zero x = refl
-map_set f (y ∷ ys) (suc i) x = ap (λ (l : List _). f y ∷ l) (map_set f ys i x)
-
-map_get : {A B : Type 0} (f : A → B) (xs : List A) (i : ℕ) → slice_get (map f xs) i ≡ option_map f (slice_get xs i)
-map_get f [] i = refl
-map_get f (x ∷ xs) zero = refl
-map_get f (x ∷ xs) (suc i) = map_get f xs i
-
 by_task : (users : ℕ → Option (List ℕ)) (i : ℕ) (v : Version) (offset : ℕ) (more : List Value) (s : MachineState Version) (o : Option (Task Version))
     → state_meant users (moved_at i v offset more s o) ≡ moved_at i (code_meant users v) offset more (state_meant users s) (option_map (task_meant users) o)
 by_task users i v offset more s None = refl
 by_task users i v offset more s (Some t) =
     ap (λ (ts : List (Task _)). record { shared = s.shared; tasks = ts })
-    (map_set (task_meant users) s.tasks i (task_moved v offset more t)
+    (sym (set_by (task_meant users) s.tasks i (task_moved v offset more t))
     ∙ ap (λ (u : Task _). slice_set (map (task_meant users) s.tasks) i u) (task_means users v offset more t))
 
 pub moves_mean : MovesMean
@@ -47,7 +38,7 @@ unfolding moved_in
 moves_mean users zero v offset more s = refl
 moves_mean users (suc i) v offset more s =
     by_task users i v offset more s (slice_get s.tasks i)
-    ∙ ap (moved_at i (code_meant users v) offset more (state_meant users s)) (sym (map_get (task_meant users) s.tasks i))
+    ∙ ap (moved_at i (code_meant users v) offset more (state_meant users s)) (sym (nth_by (task_meant users) s.tasks i))
 
 -- a task that is idle stays placed
 none_running : (b : Body) (f : Frame Version) → (length f.running == 0) ≡ true → lead_to_places b f.running ≡ true

@@ -92,7 +92,7 @@ body_none (body b) h = absurd (h refl)
 body_none (field t) h = refl
 
 -- a row of another table has no body
-other_body : (m : Module) (t : Token) → HasKinds m → has_row m t ≡ true → (t.table == method_def) ≡ false → method_body m t ≡ None
+pub other_body : (m : Module) (t : Token) → HasKinds m → has_row m t ≡ true → (t.table == method_def) ≡ false → method_body m t ≡ None
 other_body m t has row apart = by_column (column_in t.table 0) (cell_of m t 0) refl refl
   where
     by_column : (k : Option Column) (c : Option Cell) → column_in t.table 0 ≡ k → cell_of m t 0 ≡ c → method_body m t ≡ None
@@ -128,7 +128,7 @@ version_same users m debug methods method are at row =
     ∙ shape_same users m (lines_known (debug method)) (newest_of methods method) (is_some (call_shape m method)) is.lines
     ∙ ap (λ (o : Option Body). option_map (code_meant users) (if is_some (if is_some (call_shape m method) then if_runs m o else None) then newest_of methods method else None)) (sym cell)
 
-is_table : (a b : ℕ) → (a == b) ≡ true → a ≡ b
+pub is_table : (a b : ℕ) → (a == b) ≡ true → a ≡ b
 is_table a b h = grind (arith, nat_tests)
 
 -- the code of each method

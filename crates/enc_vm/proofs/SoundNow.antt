@@ -49,7 +49,7 @@ cell_sound m t (body (Some b)) sound is =
     by_column None row column = let e = no_cell_of m t sound.kinds column in absurd cc
     by_column (Some k) row column = body_sound m t b (sound.cells.each t 0 k (body (Some b)) row column is)
 
-method_sound : (m : Module) (t : Token) (o : Option Cell) → IsSound m → cell_of m t 0 ≡ o → AfterSome IsSoundCode (body_of_cell o)
+pub method_sound : (m : Module) (t : Token) (o : Option Cell) → IsSound m → cell_of m t 0 ≡ o → AfterSome IsSoundCode (body_of_cell o)
 method_sound m t None sound is = tt
 method_sound m t (Some c) sound is = cell_sound m t c sound is
 

@@ -65,7 +65,7 @@ nth_by g [] i = refl
 nth_by g (x ∷ xs) zero = refl
 nth_by g (x ∷ xs) (suc i) = nth_by g xs i
 
-set_by : {A B : Type 0} (g : A → B) (xs : List A) (i : ℕ) (y : A) → slice_set (map g xs) i (g y) ≡ map g (slice_set xs i y)
+pub set_by : {A B : Type 0} (g : A → B) (xs : List A) (i : ℕ) (y : A) → slice_set (map g xs) i (g y) ≡ map g (slice_set xs i y)
 set_by g [] i y = refl
 set_by g (x ∷ xs) zero y = refl
 set_by g (x ∷ xs) (suc i) y = ap (λ (zs : List _). g x ∷ zs) (set_by g xs i y)

@@ -30,6 +30,7 @@ fn add_named<'a>(names: &mut IndexSet<&'a [u8]>, command: &'a Command) -> Result
         Command::Step(_, _) => Ok(()),
         Command::Attach(_) => Ok(()),
         Command::Detach(_) => Ok(()),
+        Command::Remap(_, _) => Ok(()),
         Command::State => Ok(()),
     }
 }
