@@ -6,10 +6,12 @@ use Rattle.enc_vm.specs.Step.{Spawning}
 use Rattle.enc_vm.specs.Turns.{IsSpawn}
 use Rattle.enc_vm.specs.declared.ends.SpawnEnd.{SpawnEnd}
 use Rattle.enc_vm.specs.declared.ends.SpawnEnd.TheVariants as spawned
+use Rattle.enc_remap.specs.Remap.{Remapping, moved, refused}
+use Rattle.enc_remap.specs.declared.remapped.Remapped.{Remapped}
 use Rattle.enc_watch.specs.Audience.{Watching}
-use Rattle.enc_session.specs.Session.{PlainSession, Happened, HasPassed}
-use Rattle.enc_script.specs.Lines.{spawn_line}
-use Rattle.enc_script.specs.Ran.{spawn_end_line, HasRan}
+use Rattle.enc_session.specs.Session.{PlainSession, Happened, HasPassed, remapped_as}
+use Rattle.enc_script.specs.Lines.{spawn_line, remap_line}
+use Rattle.enc_script.specs.Ran.{spawn_end_line, remapped_end_line, HasRan}
 use Rattle.enc_script.specs.Run.{PlainRun, Ran, ran_with, says}
 
 -- a run by its parts
@@ -51,3 +53,11 @@ pub spawn_said : (method : Token) (end : SpawnEnd) (new old : MachineState Plain
 spawn_said method (spawned.Task n) new old s is = ap (spawn_line method) (sym is)
 spawn_said method spawned.Limit new old s is = ap (spawn_line method) (sym is.0)
 spawn_said method spawned.Method new old s is = ap (spawn_line method) (sym is.0)
+
+-- the line of a remap
+line_of : (task : ℕ) (s : Remapping PlainCode) → remapped_end_line task (remapped_as s) ≡ remap_line task s
+line_of task (moved method from to u) = refl
+line_of task (refused number) = refl
+
+pub remap_said : (task : ℕ) (r : Remapped) (s : Remapping PlainCode) → r ≡ remapped_as s → remapped_end_line task r ≡ remap_line task s
+remap_said task r s is = ap (remapped_end_line task) is ∙ line_of task s

@@ -1,6 +1,8 @@
 -- The lines of a script's commands.
 use Rattle.std.specs.Prelude.{ℕ, List, [], ◌∷◌, ◌++◌, codes, decimal}
 use Rattle.enc_base.specs.declared.token.Token.{Token}
+use Rattle.enc_remap.specs.Remap.{Remapping, moved, refused}
+use Rattle.enc_text.specs.BodyText.{label}
 use Rattle.enc_text.specs.Text.{token_text}
 use Rattle.enc_vm.specs.Step.{Spawning, begun, too_many, no_method}
 use Rattle.enc_watch.specs.Audience.{watcher_line}
@@ -49,3 +51,15 @@ detached_line number = watcher_line number (codes "detached")
 
 unfoldable pub number_absent_line : ℕ → List ℕ
 number_absent_line number = watcher_line number (codes "absent")
+
+unfoldable pub remapped_line : ℕ → Token → ℕ → ℕ → List ℕ
+remapped_line task method from to =
+    task_line task (codes "remapped " ++ token_text method ++ 0x20 ∷ label from ++ 0x20 ∷ label to)
+
+unfoldable pub remap_refused_line : ℕ → ℕ → List ℕ
+remap_refused_line task number = task_line task (codes "remap refused Q" ++ decimal number)
+
+-- a remap: the method, the offset at which its frame stood and that at which it goes on, or which rule is broken
+abbrev pub remap_line : {C : Type 0} → ℕ → Remapping C → List ℕ
+remap_line task (moved method from to s) = remapped_line task method from to
+remap_line task (refused number) = remap_refused_line task number

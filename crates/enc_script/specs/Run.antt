@@ -4,19 +4,19 @@ use Rattle.enc_base.specs.declared.refusal.Refusal.{Refusal}
 use Rattle.enc_base.specs.declared.token.Token.{Token}
 use Rattle.enc_checker.specs.Followed.{Followed, is_of_pdb}
 use Rattle.enc_jobs.specs.declared.command.Command.{Command}
-use Rattle.enc_jobs.specs.declared.command.Command.TheVariants.{Spawn, Step, Apply, Attach, Detach, State}
+use Rattle.enc_jobs.specs.declared.command.Command.TheVariants.{Spawn, Step, Apply, Attach, Detach, Remap, State}
 use Rattle.enc_text.specs.Text.{refused_line}
 use Rattle.enc_frames.specs.Machine.{PlainCode, at_rest}
 use Rattle.enc_vm.specs.Step.{ran, done, stopped, spawn_in}
 use Rattle.enc_vm.specs.Turns.{MachineTurn, absent, idle, went, machine_turn}
 use Rattle.enc_watch.specs.Audience.{Watching, Seat, attached, first_of_kind, without_kind, seat_at, without, seat_report, reports}
 use Rattle.enc_watch.specs.declared.event.WatchKind.{WatchKind}
-use Rattle.enc_session.specs.Session.{PlainSession, Happened, DeltaContents, files_in, with_seated, world_of, judged_after, applied_as, step_passed, spawn_passed, apply_passed}
+use Rattle.enc_session.specs.Session.{PlainSession, Happened, DeltaContents, files_in, with_seated, world_of, judged_after, applied_as, step_passed, spawn_passed, apply_passed, remap_of, remap_passed}
 use Rattle.enc_session.specs.States.{state_text}
 use Rattle.enc_session.specs.declared.applied.Applied.{Applied}
 use Rattle.enc_session.specs.declared.applied.Applied.TheVariants.{Generation, Refused}
 use Rattle.enc_script.specs.declared.files.NamedDelta.{NamedDelta}
-use Rattle.enc_script.specs.Lines.{spawn_line, ran_line, idle_line, absent_task_line, applied_line, attached_line, none_line, detached_line, number_absent_line}
+use Rattle.enc_script.specs.Lines.{spawn_line, ran_line, idle_line, absent_task_line, applied_line, attached_line, none_line, detached_line, number_absent_line, remap_line}
 
 -- the files of a delta, and the names of its metadata's and its PDB's
 pub record NamedFiles : Type 0 where
@@ -128,6 +128,10 @@ detach_ran number (Some s) deaf r =
       handed = r.handed;
     })
 
+-- a remap: its line, and no watcher hears of it
+abbrev pub remap_ran : ℕ → List (ℕ × ℕ) → List Bool → PlainRun → Ran
+remap_ran task pairs deaf r = ran_with (remap_line task (remap_of task pairs r.session)) r.handed (remap_passed task pairs deaf r.session)
+
 -- a command
 unfoldable pub command_ran : List NamedFiles → Command → List Bool → PlainRun → Ran
 command_ran deltas (Spawn method) deaf r = spawn_ran method deaf r
@@ -136,6 +140,7 @@ command_ran deltas (Step task count) deaf r =
 command_ran deltas (Apply name) deaf r = apply_ran name (files_of name deltas) deaf r
 command_ran deltas (Attach k) deaf r = attach_ran k (first_of_kind k r.handed) deaf r
 command_ran deltas (Detach number) deaf r = detach_ran number (seat_at number r.session.seated.seats) deaf r
+command_ran deltas (Remap task pairs) deaf r = remap_ran task pairs deaf r
 command_ran deltas State deaf r = says (state_text r.session.machine) deaf r
 
 -- commands in order

@@ -4,14 +4,15 @@ ghost use Rattle.enc_text.specs.Text.{refused_line, token_text};
 ghost use Rattle.enc_watch.specs.Audience.{line_front, watcher_line};
 ghost use Rattle.enc_checker.specs.Followed.{is_of_pdb};
 ghost use Rattle.enc_session.specs.Lines.{task_line};
-ghost use Rattle.enc_script.specs.Lines.{number_absent_line, applied_line, attached_line, detached_line, watch_kind_text, none_line, ran_line, refused_spawn};
-ghost use Rattle.enc_script.specs.Ran.{spawn_end_line};
+ghost use Rattle.enc_script.specs.Lines.{number_absent_line, applied_line, attached_line, detached_line, watch_kind_text, none_line, ran_line, refused_spawn, remap_refused_line, remapped_line};
+ghost use Rattle.enc_script.specs.Ran.{remapped_end_line, spawn_end_line};
 ghost use Rattle.enc_script.specs.Run.{apply_line, named_delta, refused_file};
 
 use crate::files::NamedDelta;
 use enc_base::{Code, Refusal, Token};
+use enc_remap::Remapped;
 use enc_session::{Applied, push_task};
-use enc_text::{push_decimal, push_str, push_token, refused_line};
+use enc_text::{push_decimal, push_label, push_str, push_token, refused_line};
 use enc_vm::SpawnEnd;
 use enc_watch::WatchKind;
 use std::alloc::{AllocError, Global};
@@ -74,6 +75,58 @@ pub(crate) fn push_ran(
     push_str(out, "ran ")?;
     push_decimal(alloc, out, count)?;
     push_str(out, "\n")
+}
+
+/// Appends the line of a frame that goes on in the newest body of its method.
+#[tactic(auto, unfolding(enc_session::specs::Lines::task_line, crate::specs::Lines::remapped_line))]
+fn push_moved(
+    alloc: Global,
+    task: u32,
+    method: Token,
+    offsets: (u32, u32),
+    out: &mut Vec<u8>,
+) -> Result<(), AllocError>
+    ensures { OnOk result (out.new.items ≡ out.old.items ++ remapped_line task method offsets.0 offsets.1) }
+{
+    push_task(alloc, task, out)?;
+    push_str(out, "remapped ")?;
+    push_token(out, method)?;
+    push_str(out, " ")?;
+    push_label(offsets.0, out)?;
+    push_str(out, " ")?;
+    push_label(offsets.1, out)?;
+    push_str(out, "\n")
+}
+
+/// Appends the line of a remap that is refused by the rule with a number.
+#[tactic(auto, unfolding(enc_session::specs::Lines::task_line, crate::specs::Lines::remap_refused_line))]
+fn push_unmoved(
+    alloc: Global,
+    task: u32,
+    number: u8,
+    out: &mut Vec<u8>,
+) -> Result<(), AllocError>
+    ensures { OnOk result (out.new.items ≡ out.old.items ++ remap_refused_line task number) }
+{
+    push_task(alloc, task, out)?;
+    push_str(out, "remap refused Q")?;
+    push_decimal(alloc, out, u32::from(number))?;
+    push_str(out, "\n")
+}
+
+/// Appends the line of a remap.
+pub(crate) fn push_remap(
+    alloc: Global,
+    task: u32,
+    remapped: Remapped,
+    out: &mut Vec<u8>,
+) -> Result<(), AllocError>
+    ensures { OnOk result (out.new.items ≡ out.old.items ++ remapped_end_line task remapped) }
+{
+    match remapped {
+        Remapped::Moved { method, from, to } => push_moved(alloc, task, method, (from, to), out),
+        Remapped::Refused(number) => push_unmoved(alloc, task, number, out),
+    }
 }
 
 /// Appends the line of a delta that made a generation.

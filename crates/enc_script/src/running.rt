@@ -1,17 +1,18 @@
 //! A run on its way, command by command.
 ghost use Rattle.std.specs.Prelude.{◌≡◌, ◌≤◌, ◌<◌, ◌+◌, ◌^◌, ◌++◌, [], Some, IfOk, OnOk, map};
 ghost use Rattle.enc_script.specs.Ran.{HasRan};
-ghost use Rattle.enc_script.specs.Run.{apply_ran, attach_ran, begun_with, command_ran, detach_ran, files_of, named_delta, spawn_ran, steps_of, steps_ran};
+ghost use Rattle.enc_script.specs.Run.{apply_ran, attach_ran, begun_with, command_ran, detach_ran, files_of, named_delta, remap_ran, spawn_ran, steps_of, steps_ran};
 ghost use Rattle.enc_session.specs.Session.{world_of};
 ghost use Rattle.enc_vm.specs.Turns.{machine_turn};
 ghost use Rattle.enc_watch.specs.Audience.{first_of_kind, reports, seat_at};
 
 use crate::files::{NamedDelta, copied_files, files_of};
-use crate::lines::{push_attached, push_none, push_outcome, push_ran, push_said, push_spawn};
+use crate::lines::{push_attached, push_none, push_outcome, push_ran, push_remap, push_said, push_spawn};
 use crate::steps::make_steps;
 use enc_base::Token;
 use enc_image::Image;
 use enc_jobs::Command;
+use enc_plain::PairList;
 use enc_ppdb::Pdb;
 use enc_session::{Session, push_word};
 use enc_vm::TaskState;
@@ -140,6 +141,17 @@ impl<W: Watcher> Running<W> {
         watcher.report(out)
     }
 
+    /// A remap: its line.
+    fn remap(&mut self, task: u32, map: &PairList, out: &mut Vec<u8>) -> Result<(), AllocError>
+        ensures ran { OnOk result (HasRan (remap_ran task map.now) self.new self.old out.new.items out.old.items) }
+        ensures given { OnOk result (self.new.session.seated.given ≡ self.old.session.seated.given) }
+    {
+        let mut gone = Vec::new(self.alloc);
+        let remapped = self.session.remap(task, map, &mut gone)?;
+        push_remap(self.alloc, task, remapped, out)?;
+        out.extend_from_slice(&gone)
+    }
+
     /// A command, and the lines that it prints.
     #[tactic(auto, unfolding(crate::specs::Run::command_ran))]
     pub(crate) fn command(
@@ -158,6 +170,7 @@ impl<W: Watcher> Running<W> {
             Command::Apply(name) => self.apply(deltas, name.as_slice(), out),
             Command::Attach(kind) => self.attach(*kind, out),
             Command::Detach(number) => self.detach(*number, out),
+            Command::Remap(task, map) => self.remap(*task, map, out),
             Command::State => self.session.state(out),
         }
     }

@@ -11,3 +11,4 @@ mod NewBodies
 mod Changed
 mod Coded
 mod Committed
+pub mod Remapping

@@ -14,6 +14,9 @@ use Rattle.enc_vm.specs.Step.{Ending, ran, done, stopped, Spawning, begun, too_m
 use Rattle.enc_vm.specs.Turns.{MachineTurn, absent, idle, went, machine_turn}
 use Rattle.enc_vm.specs.declared.ends.StepEnd.{StepEnd}
 use Rattle.enc_vm.specs.declared.ends.StepEnd.TheVariants as end
+use Rattle.enc_remap.specs.Remap.{Remapping, moved, refused, remap_in}
+use Rattle.enc_remap.specs.declared.remapped.Remapped.{Remapped}
+use Rattle.enc_remap.specs.declared.remapped.Remapped.TheVariants as remapped
 use Rattle.enc_watch.specs.Audience.{Seated, Heard, told_events}
 use Rattle.enc_watch.specs.declared.event.Event.{Event}
 use Rattle.enc_watch.specs.declared.event.Event.TheVariants as event
@@ -157,6 +160,22 @@ apply_by said deaf s =
 
 unfoldable pub apply_passed : DeltaContents → List Bool → PlainSession → Happened
 apply_passed files deaf s = apply_by (judged_after s.followed files) deaf s
+
+-- a remap of the innermost frame of a task: no watcher hears of it
+abbrev pub remap_of : ℕ → List (ℕ × ℕ) → PlainSession → Remapping PlainCode
+remap_of task pairs s = remap_in (plain_of s.followed) (debug_after s.followed) task pairs s.machine
+
+abbrev pub remap_by : Remapping PlainCode → List Bool → PlainSession → Happened
+remap_by (moved method from to u) deaf s = nothing_passed deaf (with_machine u s)
+remap_by (refused number) deaf s = nothing_passed deaf s
+
+unfoldable pub remap_passed : ℕ → List (ℕ × ℕ) → List Bool → PlainSession → Happened
+remap_passed task pairs deaf s = remap_by (remap_of task pairs s) deaf s
+
+-- what it comes to, as it is answered
+abbrev pub remapped_as : {C : Type 0} → Remapping C → Remapped
+remapped_as (moved method from to u) = remapped.Moved method from to
+remapped_as (refused number) = remapped.Refused number
 
 -- it passed, and what it prints was appended: of each hearing it is free only whether it found memory
 pub record HasPassed (event : List Bool → PlainSession → Happened) (new old : PlainSession) (now before : List ℕ) : Type 0 where

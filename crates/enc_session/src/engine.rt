@@ -1,13 +1,15 @@
 //! A session but for its watchers.
 ghost use Rattle.std.specs.Prelude.{◌≡◌, ◌++◌, [], IfOk, OnOk, OnErr, option_map};
 ghost use Rattle.enc_agg.specs.Extend.{chain_with};
-ghost use Rattle.enc_checker.specs.Followed.{followed_by};
+ghost use Rattle.enc_checker.specs.Followed.{debug_after, followed_by, plain_of};
 ghost use Rattle.enc_checker.specs.Check.{accepted};
 ghost use Rattle.enc_vm.specs.Looks.{frame_in, innermost_in, state_in};
 ghost use Rattle.enc_frames.specs.Machine.{at_rest};
 ghost use Rattle.enc_vm.specs.Room.{WritesAtMost};
 ghost use Rattle.enc_vm.specs.Step.{spawn_in};
 ghost use Rattle.enc_vm.specs.Turns.{IsSpawn, IsTurn, KeepsSeen, machine_turn};
+ghost use Rattle.enc_remap.specs.Remap.{remap_in};
+ghost use Rattle.enc_remap.specs.Seen.{IsRemap};
 ghost use Rattle.enc_session.specs.Engine.{IsAcceptedAfter};
 ghost use Rattle.enc_session.specs.Session.{applied_as, files_in, followed_after, judged_after, innermost_method, world_of};
 ghost use Rattle.enc_session.specs.States.{state_text};
@@ -18,13 +20,15 @@ use crate::states::push_state;
 use enc_base::{ReadFault, Token};
 use enc_checker::{Checked, Files, check};
 use enc_image::Image;
-use enc_plain::ChainView;
+use enc_plain::{ChainView, PairList};
 use enc_ppdb::Pdb;
+use enc_remap::{Remapped, remap};
 use enc_vm::{Machine, Seen, SpawnEnd, StepEnd, TaskState, look_laws, meaning_laws, text_law};
 use std::alloc::{AllocError, Global};
 use std::marker::Model;
 
-/// A base with the deltas that follow it, and a machine over it. Each frame keeps the body that it began with.
+/// A base with the deltas that follow it, and a machine over it. Each frame keeps the body with which it began, or that
+/// of its last remap.
 #[derive(Drop)]
 pub(crate) struct Engine {
     parts: Parts,
@@ -78,6 +82,22 @@ impl Engine {
             &self.parts.dispatch,
             task,
             seen,
+        )
+    }
+
+    /// A task's innermost frame goes on in the newest body of its method, as the plain machine's.
+    pub(crate) fn remap(&mut self, task: u32, map: &PairList) -> Result<Remapped, AllocError>
+        ensures remapped { IsRemap result self.new.machine self.old.machine (remap_in (plain_of self.old.followed) (debug_after self.old.followed) task map.now self.old.machine) }
+        ensures followed { self.new.followed ≡ self.old.followed }
+    {
+        self.parts.agg.sound();
+        remap(
+            self.alloc,
+            &mut self.machine,
+            &self.parts.agg,
+            &self.parts.versions,
+            task,
+            map,
         )
     }
 

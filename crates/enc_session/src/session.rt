@@ -6,7 +6,7 @@ ghost use Rattle.enc_vm.specs.Step.{spawn_in};
 ghost use Rattle.enc_vm.specs.Turns.{IsSpawn, machine_turn, shown_in};
 ghost use Rattle.enc_watch.specs.Audience.{Seat, attached, fault_room, reports, seat_at, without};
 ghost use Rattle.enc_session.specs.Seen.{ending_told};
-ghost use Rattle.enc_session.specs.Session.{HasPassed, applied_as, apply_passed, files_in, judged_after, spawn_passed, step_lines, step_passed, turn_end, with_seated, world_of};
+ghost use Rattle.enc_session.specs.Session.{HasPassed, applied_as, apply_passed, files_in, judged_after, remap_of, remap_passed, remapped_as, spawn_passed, step_lines, step_passed, turn_end, with_seated, world_of};
 ghost use Rattle.enc_session.specs.States.{state_text};
 
 use crate::applied::Applied;
@@ -16,7 +16,9 @@ use crate::lines::{push_ended, push_trapped, push_written};
 use enc_base::Token;
 use enc_checker::Files;
 use enc_image::Image;
+use enc_plain::PairList;
 use enc_ppdb::Pdb;
+use enc_remap::Remapped;
 use enc_vm::{Seen, SpawnEnd, StepEnd, TaskState};
 use enc_watch::{Audience, Watcher};
 use std::alloc::{AllocError, Global};
@@ -27,7 +29,7 @@ const STEP_ROOM: usize = 66;
 
 /// Tasks over a base with the deltas that follow it, and watchers. Each call is one event of a machine whose module is
 /// edited directly: a call enters the newest body of its method, and a frame that is under way goes on in the body, the
-/// texts and the sequence points with which it began.
+/// texts and the sequence points with which it began, or those of its last remap.
 ///
 /// What a call appends to `out` are the lines of that event, and those of watchers that didn't hear it: such a watcher is
 /// gone, and the event stands all the same. Without memory the session, its watchers and `out` stay as they are.
@@ -167,6 +169,26 @@ impl<W: Watcher> Session<W> {
         let applied = self.engine.apply(files)?;
         self.audience.tell(&[applied_event(applied)], out);
         Ok(applied)
+    }
+
+    /// The innermost frame of a task goes on in the newest body of its method, at the offset to which a map leads from
+    /// the frame's; or it is refused by the first of Q1 to Q7 that it breaks, and then nothing changes (`enc_remap`
+    /// says what each asks). No watcher hears of it, and nothing is appended.
+    #[tactic(auto, using(crate::proofs::Remapping::remap_has_passed, crate::proofs::Remapping::remap_answers))]
+    pub fn remap(
+        &mut self,
+        task: u32,
+        map: &PairList,
+        out: &mut Vec<u8>,
+    ) -> Result<Remapped, AllocError>
+        ensures remapped { IfOk result (λ r. r ≡ remapped_as (remap_of task map.now self.old)) }
+        ensures passed { OnOk result (HasPassed (remap_passed task map.now) self.new self.old out.new.items out.old.items) }
+        ensures given { self.new.seated.given ≡ self.old.seated.given }
+        ensures err { OnErr result (self.new ≡ self.old) }
+        ensures kept { out.new.items ≡ out.old.items }
+    {
+        let _ = out;
+        self.engine.remap(task, map)
     }
 
     /// How it stands with a task. None exactly where no task has the number.

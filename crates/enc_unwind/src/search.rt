@@ -48,7 +48,6 @@ pub fn next_handler(code: &CodeRef<'_>, past: Option<u32>, offset: u32, stop: St
 }
 
 /// Whether an offset lies in the handler of a clause (ECMA-335 II.25.4.6). It takes no memory.
-#[tactic(auto, using(crate::proofs::Handled::some_handles))]
 pub fn is_handled(code: &CodeRef<'_>, offset: u32) -> bool
     requires { length code.now.sections.now < 2 ^ 32 }
     ensures { result ≡ lies_in_handler offset (handlers_of code.now.sections.now) }

@@ -5,11 +5,12 @@ ghost use Rattle.enc_versions.specs.Commit.{is_entry, version_in};
 ghost use Rattle.enc_versions.specs.Stops.{is_at_point, is_stop_in};
 
 use crate::list::CodeEntry;
-use crate::stops::Stops;
+use crate::stops::stops_of;
 use enc_base::{Bytes, Token};
 use enc_opcodes::CodeRef;
 use enc_seqpoints::Points;
 use std::alloc::{AllocError, Global};
+use std::collections::BTreeSet;
 use std::marker::Model;
 use std::rc::Rc;
 
@@ -91,19 +92,18 @@ fn short(bytes: Bytes) -> Result<Bytes, AllocError>
 pub struct Code {
     stored: Rc<Stored>,
     points: Points,
-    stops: Stops,
+    stops: BTreeSet<u32>,
 }
 
 impl Model for Code {
-    ghost use Rattle.std.specs.Prelude.{◌≡◌, ℕ};
-    ghost use Rattle.enc_versions.specs.Stops.{is_stop_in};
+    ghost use Rattle.enc_versions.specs.Stops.{AreStops};
     ghost use Rattle.enc_versions.specs.Version.{Version};
 
     ghost Value = { Version };
 
     ghost view = { λ c. record { code = c.stored.value; points = c.points } };
 
-    ghost invariant = { λ c. (offset : ℕ) → c.stops offset ≡ is_stop_in c.stored.value c.points.points offset };
+    ghost invariant = { λ c. AreStops c.stored.value c.points.points c.stops };
 }
 
 impl Code {
@@ -111,7 +111,7 @@ impl Code {
     pub(crate) fn of(alloc: Global, stored: Rc<Stored>, points: Points) -> Result<Code, AllocError>
         ensures { IfOk result (λ c. c ≡ record { code = stored.value; points = points }) }
     {
-        let stops = Stops::of(alloc, &stored.as_ref().code(), &points)?;
+        let stops = stops_of(alloc, &stored.as_ref().code(), &points)?;
         Ok(Code {
             stored,
             points,
@@ -153,7 +153,6 @@ impl Code {
 
     /// Whether a sequence point that isn't hidden stands at the offset (Portable PDB v1.0). Its time is
     /// logarithmic in the number of points.
-    #[tactic(auto, using(crate::proofs::Stopped::not_at_point, crate::proofs::Stopped::at_point))]
     pub fn is_at_point(&self, offset: u32) -> bool
         ensures { result ≡ is_at_point self.now.points.points offset }
     {
@@ -170,6 +169,6 @@ impl Code {
     pub fn is_stop(&self, offset: u32) -> bool
         ensures { result ≡ is_stop_in self.now.code self.now.points.points offset }
     {
-        self.stops.has(offset)
+        self.stops.contains(&offset)
     }
 }

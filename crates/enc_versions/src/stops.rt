@@ -4,14 +4,13 @@ ghost use Rattle.std.specs.BTreeSet.{contains};
 ghost use Rattle.std.specs.Ordering.{nat_cmp};
 ghost use Rattle.enc_il.specs.Judged.{mark_at};
 ghost use Rattle.enc_opcodes.specs.Body.{code_seen};
-ghost use Rattle.enc_versions.specs.Stops.{AreStops, KeepsStop, is_at_point, is_stop_in};
+ghost use Rattle.enc_versions.specs.Stops.{AreStops, KeepsStop, is_at_point};
 
 use enc_il::{is_start, starts_of};
 use enc_opcodes::CodeRef;
 use enc_seqpoints::{Point, Points};
 use std::alloc::{AllocError, Global};
 use std::collections::BTreeSet;
-use std::marker::Model;
 
 /// Whether a frame may stop at a point: the point isn't hidden, and an instruction begins there.
 fn may_stop(marks: &[bool], point: Point) -> bool
@@ -53,7 +52,7 @@ fn marked_stops(
 /// The offsets at which a frame may stop in a body with these points: one pass over the code, where there are
 /// points.
 #[tactic(auto, using(crate::proofs::Stopped::none_stop, crate::proofs::Stopped::marked_stop))]
-fn offsets_of(
+pub(crate) fn stops_of(
     alloc: Global,
     code: &CodeRef<'_>,
     points: &Points,
@@ -66,43 +65,4 @@ fn offsets_of(
     }
     let marks = starts_of(alloc, code)?;
     marked_stops(alloc, marks.as_slice(), points)
-}
-
-/// The offsets at which a frame may stop in a body.
-#[derive(Drop)]
-pub(crate) struct Stops {
-    offsets: BTreeSet<u32>,
-}
-
-impl Model for Stops {
-    ghost use Rattle.std.specs.Prelude.{ℕ, Bool};
-    ghost use Rattle.std.specs.BTreeSet.{contains};
-    ghost use Rattle.std.specs.Ordering.{nat_cmp};
-
-    ghost Value = { ℕ → Bool };
-
-    ghost view = { λ s. contains nat_cmp s.offsets };
-}
-
-impl Stops {
-    /// Those of a body with these points.
-    pub(crate) fn of(
-        alloc: Global,
-        code: &CodeRef<'_>,
-        points: &Points,
-    ) -> Result<Stops, AllocError>
-        requires { length code.now.code.now < 2 ^ 32 }
-        ensures { IfOk result (λ s. (offset : ℕ) → s offset ≡ is_stop_in (code_seen code.now) points.now.points offset) }
-    {
-        Ok(Stops {
-            offsets: offsets_of(alloc, code, points)?,
-        })
-    }
-
-    /// Whether an offset is one of them. Its time is logarithmic in the number of points.
-    pub(crate) fn has(&self, offset: u32) -> bool
-        ensures { result ≡ self.now offset }
-    {
-        self.offsets.contains(&offset)
-    }
 }

@@ -26,7 +26,7 @@ use std::marker::Model;
 const MOST_TASKS: usize = 64;
 
 /// Tasks, numbered from 1, the objects and statics that they share, and the types that they touched. Each
-/// frame keeps the code that it began with.
+/// frame keeps the code that it began with, or that of its last move.
 #[derive(Drop)]
 pub struct Machine {
     pub(crate) objects: Objects,
