@@ -3,6 +3,7 @@ pub mod KindsAt
 pub mod PartsRead
 pub mod FilterClauses
 pub mod KindsLeft
+pub mod KindsNth
 pub mod FirstKid
 pub mod Ended
 pub mod Absent

@@ -1,5 +1,5 @@
 -- Kinds at the front of bytes, read one behind the other (ECMA-335 II.23.2).
-use Rattle.std.specs.Prelude.{ℕ, zero, suc, List, [], ◌∷◌, drop, Option, Some, None, option_map, option_and_then, if◌then◌else◌}
+use Rattle.std.specs.Prelude.{ℕ, zero, suc, List, [], ◌∷◌, drop, Option, Some, None, option_map, option_and_then, slice_get, if◌then◌else◌}
 use Rattle.enc_base.specs.Readers.{Reader, giving, both}
 use Rattle.enc_objects.specs.declared.kind.Kind.{Kind}
 use Rattle.enc_sigs.specs.Grammar.{begins, is_coded, many, type_in}
@@ -40,3 +40,7 @@ kinds_at (suc n) bytes = with_kinds (kinds_at n) (parameter_front bytes)
 abbrev pub all_kinds : Option (Kind × List Kind) → List Kind
 all_kinds None = []
 all_kinds (Some p) = p.0 ∷ p.1
+
+-- of what is read, the thing at a place, and what is behind all of it: None where there is no such place
+abbrev pub nth_of : {A : Type 0} → ℕ → Option (List A × List ℕ) → Option (A × List ℕ)
+nth_of {A} i o = option_and_then (λ (p : List A × List ℕ). option_map (λ (x : A). (x, p.1)) (slice_get p.0 i)) o

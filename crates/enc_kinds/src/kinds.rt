@@ -1,9 +1,9 @@
 //! Kinds that stand one behind the other in a blob.
 ghost use Rattle.std.specs.Prelude.{◌≡◌, List, [], ◌∷◌, length, slice_get, option_map};
 ghost use Rattle.enc_sigs.specs.Grammar.{many};
-ghost use Rattle.enc_kinds.specs.Fronts.{kind_front, parameter_kinds, kinds_at, all_kinds};
+ghost use Rattle.enc_kinds.specs.Fronts.{kind_front, parameter_kinds, kinds_at, all_kinds, nth_of};
 
-use crate::front::{parameter_front, past_kinds, past_parameters};
+use crate::front::{kind_front, parameter_front, past_kinds, past_parameters};
 use enc_objects::Kind;
 use std::marker::Model;
 
@@ -98,6 +98,26 @@ pub fn kinds_front(count: u32, bytes: &[u8]) -> Option<(Kinds<'_>, &[u8])>
 {
     let behind = past_kinds(count, bytes)?;
     Some((Kinds { count, bytes }, behind))
+}
+
+/// The kind at a place of the kinds of so many types at the front, and what is behind all of them. None where
+/// there is no such place, and where one of them has no kind.
+pub fn nth_front(count: u32, bytes: &[u8], n: u32) -> Option<(Kind, &[u8])>
+    ensures { option_map (λ x. (x.0, x.1.now)) result ≡ nth_of n (many kind_front count bytes.now) }
+{
+    if n >= count {
+        return None;
+    }
+    let Some(before) = past_kinds(n, bytes) else {
+        return None;
+    };
+    let Some((kind, behind)) = kind_front(before) else {
+        return None;
+    };
+    let Some(rest) = past_kinds(count - n - 1, behind) else {
+        return None;
+    };
+    Some((kind, rest))
 }
 
 /// The kinds of so many parameters at the front, and what is behind them. None where one has no kind.

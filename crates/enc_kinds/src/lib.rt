@@ -17,7 +17,7 @@ pub use element::kind_of_element;
 pub use kinds::Kinds;
 pub use members::{
     field_kind, find_type_constructor, is_called_with_nothing, is_constructor, is_static_method,
-    local_kinds, method_shape, type_constructor,
+    local_kind_at, local_kinds, method_shape, type_constructor,
 };
 pub use members_outside::outside_of;
 pub use outside::Outside;

@@ -1,5 +1,5 @@
 //! What the interpreter sees of fields and methods (ECMA-335 II.22.15, II.22.26).
-ghost use Rattle.std.specs.Prelude.{◌≡◌, Some, IfSome, IsTrue};
+ghost use Rattle.std.specs.Prelude.{◌≡◌, Some, IfSome, IsTrue, option_and_then, slice_get};
 ghost use Rattle.enc_kinds.specs.Elements.{takes_nothing};
 ghost use Rattle.enc_schema.specs.Columns.{method_def_signature};
 ghost use Rattle.enc_schema.specs.Tables.{field, method_def, type_def};
@@ -10,7 +10,9 @@ ghost use Rattle.enc_kinds.specs.Members.{call_shape, field_kind, local_kinds, i
 
 use crate::kinds::Kinds;
 use crate::shape::MethodShape;
-use crate::signature::{call_shape_in, field_kind_in, local_kinds_in, takes_nothing};
+use crate::signature::{
+    call_shape_in, field_kind_in, local_kind_in, local_kinds_in, takes_nothing,
+};
 use enc_base::Token;
 use enc_objects::Kind;
 use enc_plain::{CellView, ModuleView, Viewed, is_row};
@@ -74,6 +76,21 @@ pub fn local_kinds<V: ModuleView>(view: &V, locals: Token) -> Option<Kinds<'_>>
         return None;
     }
     local_kinds_in(blob_of(view, locals, STAND_ALONE_SIG_SIGNATURE))
+}
+
+/// The kind of one of a body's local variables, by its number from 0: the same as `local_kinds`, and then its
+/// n-th, in one pass over the signature (ECMA-335 II.25.4.4, II.23.2.6).
+#[tactic(auto, using(enc_plain::proofs::ColumnKinds::alone_kind), unfolding(crate::specs::Members::local_kinds))]
+pub fn local_kind_at<V: ModuleView>(view: &V, locals: Token, n: u32) -> Option<Kind>
+    ensures { result ≡ option_and_then (λ ks. slice_get ks n) (local_kinds (V.meaning view.now) locals) }
+{
+    if locals.row == 0 {
+        return None;
+    }
+    if locals.table != STAND_ALONE_SIG {
+        return None;
+    }
+    local_kind_in(blob_of(view, locals, STAND_ALONE_SIG_SIGNATURE), n)
 }
 
 /// Whether a method is static (ECMA-335 II.23.1.10).

@@ -1,11 +1,11 @@
 //! What the interpreter sees of signatures (ECMA-335 II.23.2).
-ghost use Rattle.std.specs.Prelude.{◌≡◌, option_map};
+ghost use Rattle.std.specs.Prelude.{◌≡◌, option_map, option_and_then, slice_get};
 ghost use Rattle.enc_kinds.specs.Elements.{call_shape_in, takes_nothing, field_kind_in, local_kinds_in};
 ghost use Rattle.enc_kinds.specs.Parts.{given_of_element, given_front, shape_behind, shape_front, behind_byte, nothing_front};
 
 use crate::element::kind_of_element;
 use crate::front::kind_front;
-use crate::kinds::{Kinds, kinds_front, parameters_front};
+use crate::kinds::{Kinds, kinds_front, nth_front, parameters_front};
 use crate::shape::MethodShape;
 use enc_base::unsigned_front;
 use enc_objects::Kind;
@@ -134,4 +134,24 @@ pub fn local_kinds_in(blob: &[u8]) -> Option<Kinds<'_>>
         return None;
     }
     Some(kinds)
+}
+
+/// The kind of one of the local variables, by the blob and its number from 0: the n-th of `local_kinds_in`, so
+/// None also where another one has none (ECMA-335 II.23.2.6).
+pub fn local_kind_in(blob: &[u8], n: u32) -> Option<Kind>
+    ensures { result ≡ option_and_then (λ ks. slice_get ks n) (local_kinds_in blob.now) }
+{
+    let Some(first) = behind_byte(0x07, blob) else {
+        return None;
+    };
+    let Some((count, second)) = unsigned_front(first) else {
+        return None;
+    };
+    let Some((kind, behind)) = nth_front(count, second, n) else {
+        return None;
+    };
+    if !behind.is_empty() {
+        return None;
+    }
+    Some(kind)
 }
