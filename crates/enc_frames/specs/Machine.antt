@@ -33,8 +33,8 @@ code_now m debug method = option_map (λ (b : Body). record { body = b; points =
 unfoldable pub plain_world : Module → PlainPdb → World PlainCode
 plain_world m debug = record { plain = m; body = λ c. c.body; points = λ c. c.points; now = code_now m debug }
 
--- a call that is under way: its method, the code that it began with, the offset of the next instruction, its arguments, local variables and stack, the
--- top first, and the handlers that it runs, the last begun first
+-- a call that is under way: its method, the code that it keeps, with which it began or to which it was moved last, the offset of the next instruction, its
+-- arguments, local variables and stack, the top first, and the handlers that it runs, the last begun first
 pub record Frame (C : Type 0) : Type 0 where
   pub method : Token
   pub code : C
