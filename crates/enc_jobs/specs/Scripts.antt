@@ -87,11 +87,11 @@ detach_said d = if has_only (codes "do" ∷ codes "number" ∷ []) d then (do
   Some (Detach n)) else None
 
 -- a map from offsets to offsets: pairs, in order
-abbrev pub pairs_in : List Data → Option (List (ℕ × ℕ))
-pairs_in items = if nat_lt most_pairs (length items) then None else every pair_said items
+abbrev pub pairs_of_items : List Data → Option (List (ℕ × ℕ))
+pairs_of_items items = if nat_lt most_pairs (length items) then None else every pair_said items
 
 unfoldable pub map_said : Data → Option (List (ℕ × ℕ))
-map_said d = elements_of d >>= pairs_in
+map_said d = elements_of d >>= pairs_of_items
 
 -- the innermost frame of a task goes on in the newest body of its method
 unfoldable pub remap_said : Data → Option Command

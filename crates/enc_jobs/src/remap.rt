@@ -4,7 +4,7 @@ ghost use Rattle.serde_json.specs.View.{view};
 ghost use Rattle.enc_jobs.specs.Json.{pair_said};
 ghost use Rattle.enc_jobs.specs.Lists.{every};
 ghost use Rattle.enc_jobs.specs.Outcome.{ReadsAs};
-ghost use Rattle.enc_jobs.specs.Scripts.{map_said, pairs_in, remap_said};
+ghost use Rattle.enc_jobs.specs.Scripts.{map_said, pairs_of_items, remap_said};
 
 use crate::command::Command;
 use crate::fault::Refused;
@@ -30,7 +30,7 @@ fn every_pair(alloc: Global, items: &[Value]) -> Result<PairList, Refused>
 
 /// Pairs of offsets, of which there may not be too many.
 fn pairs_of(alloc: Global, items: &[Value]) -> Result<PairList, Refused>
-    ensures { ReadsAs result (pairs_in (map view items.now)) }
+    ensures { ReadsAs result (pairs_of_items (map view items.now)) }
 {
     if items.len() > MOST_PAIRS {
         return Err(Refused::Form);

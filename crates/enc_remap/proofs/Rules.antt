@@ -15,9 +15,9 @@ use Rattle.enc_versions.specs.StandFor.{lines_read}
 use Rattle.enc_versions.specs.Stops.{stands_at, is_stop_in}
 use Rattle.enc_versions.specs.Stops.{is_at_point as is_point_in}
 use Rattle.enc_versions.specs.Version.{Version, newest_of}
-use Rattle.enc_vm.specs.Moves.{is_idle, moved_in}
+use Rattle.enc_vm.specs.Moves.{is_idle, moved_top}
 use Rattle.enc_vm.specs.Step.{task_at}
-use Rattle.enc_remap.specs.Remap.{Move, Codes, MayMove, Remapping, moved, refused, first_broken, move_rules, thread_rules, move_of, goal, led_from, kinds_behind, kinds_of, new_kinds, is_at_point, is_stop, remap_by, remap_task, remap_thread, remap_with}
+use Rattle.enc_remap.specs.Remap.{Move, Codes, MayMove, Remapping, moved, refused, first_broken, move_rules, thread_rules, move_of, goal, led_from, kinds_behind, kinds_of, new_kinds, is_visible, is_stop, remap_by, remap_task, remap_thread, remap_with}
 use Rattle.enc_remap.specs.Seen.{IsGoal, frame_rules, goes_on, version_codes}
 use Rattle.enc_remap.proofs.Newest.{begins_in}
 
@@ -37,49 +37,49 @@ points_meant : (points : List Point) (offset : ℕ)
 points_meant [] offset = refl
 points_meant (p ∷ points) offset = ap (λ (b : Bool). stands_at offset p || b) (points_meant points offset)
 
-point_meant : (users : ℕ → Option (List ℕ)) (v : Version) (offset : ℕ) → is_at_point (code_meant users v) offset ≡ is_point_in v.points.points offset
+point_meant : (users : ℕ → Option (List ℕ)) (v : Version) (offset : ℕ) → is_visible (code_meant users v) offset ≡ is_point_in v.points.points offset
 point_meant users v offset = points_meant v.points.points offset
 
 stop_meant : (users : ℕ → Option (List ℕ)) (v : Version) (offset : ℕ) → is_stop (code_meant users v) offset ≡ is_stop_in v.code v.points.points offset
 stop_meant users v offset =
-    ap (λ (b : Bool). b && is_at_point (code_meant users v) offset) (begins_in users v.code offset)
+    ap (λ (b : Bool). b && is_visible (code_meant users v) offset) (begins_in users v.code offset)
     ∙ ap (λ (b : Bool). is_instruction_start (instructions_of v.code.code) offset && b) (point_meant users v offset)
 
 -- the rules of a move, each broken first, and none
-third : (x : Move) → is_at_point x.code x.from ≡ false → first_broken (move_rules x) ≡ Some 3
+third : (x : Move) → is_visible x.code x.from ≡ false → first_broken (move_rules x) ≡ Some 3
 unfolding first_broken
 third x a = rw a refl
 
-fourth : (x : Move) → is_at_point x.code x.from ≡ true → goal x ≡ None → first_broken (move_rules x) ≡ Some 4
+fourth : (x : Move) → is_visible x.code x.from ≡ true → goal x ≡ None → first_broken (move_rules x) ≡ Some 4
 unfolding first_broken
 fourth x a g = rw (a, g) refl
 
-no_newest : (x : Move) (to : ℕ) → is_at_point x.code x.from ≡ true → goal x ≡ Some to → x.newest ≡ None → first_broken (move_rules x) ≡ Some 5
+no_newest : (x : Move) (to : ℕ) → is_visible x.code x.from ≡ true → goal x ≡ Some to → x.newest ≡ None → first_broken (move_rules x) ≡ Some 5
 unfolding first_broken
 no_newest x to a g n = rw (a, g, n) refl
 
-fifth : (x : Move) (to : ℕ) (c : PlainCode) → is_at_point x.code x.from ≡ true → goal x ≡ Some to → x.newest ≡ Some c → is_stop c to ≡ false
+fifth : (x : Move) (to : ℕ) (c : PlainCode) → is_visible x.code x.from ≡ true → goal x ≡ Some to → x.newest ≡ Some c → is_stop c to ≡ false
     → first_broken (move_rules x) ≡ Some 5
 unfolding first_broken
 fifth x to c a g n s = rw (a, g, n, s) refl
 
-not_run : (x : Move) (to : ℕ) (c : PlainCode) → is_at_point x.code x.from ≡ true → goal x ≡ Some to → x.newest ≡ Some c → is_stop c to ≡ true
+not_run : (x : Move) (to : ℕ) (c : PlainCode) → is_visible x.code x.from ≡ true → goal x ≡ Some to → x.newest ≡ Some c → is_stop c to ≡ true
     → is_some (run_body x.plain x.method) ≡ false → first_broken (move_rules x) ≡ Some 6
 unfolding first_broken
 not_run x to c a g n s r = rw (a, g, n, s, r) refl
 
-no_kinds : (x : Move) (to : ℕ) (c : PlainCode) → is_at_point x.code x.from ≡ true → goal x ≡ Some to → x.newest ≡ Some c → is_stop c to ≡ true
+no_kinds : (x : Move) (to : ℕ) (c : PlainCode) → is_visible x.code x.from ≡ true → goal x ≡ Some to → x.newest ≡ Some c → is_stop c to ≡ true
     → is_some (run_body x.plain x.method) ≡ true → kinds_behind (kinds_of x.plain x.code) (kinds_of x.plain c) ≡ None → first_broken (move_rules x) ≡ Some 6
 unfolding first_broken
 no_kinds x to c a g n s r k = rw (a, g, n, s, r, k) refl
 
-seventh : (x : Move) (to : ℕ) (c : PlainCode) (ks : List Kind) → is_at_point x.code x.from ≡ true → goal x ≡ Some to → x.newest ≡ Some c → is_stop c to ≡ true
+seventh : (x : Move) (to : ℕ) (c : PlainCode) (ks : List Kind) → is_visible x.code x.from ≡ true → goal x ≡ Some to → x.newest ≡ Some c → is_stop c to ≡ true
     → is_some (run_body x.plain x.method) ≡ true → kinds_behind (kinds_of x.plain x.code) (kinds_of x.plain c) ≡ Some ks → is_handled to c.body.handlers ≡ true
     → first_broken (move_rules x) ≡ Some 7
 unfolding first_broken
 seventh x to c ks a g n s r k h = rw (a, g, n, s, r, k, h) refl
 
-none : (x : Move) (to : ℕ) (c : PlainCode) (ks : List Kind) → is_at_point x.code x.from ≡ true → goal x ≡ Some to → x.newest ≡ Some c → is_stop c to ≡ true
+none : (x : Move) (to : ℕ) (c : PlainCode) (ks : List Kind) → is_visible x.code x.from ≡ true → goal x ≡ Some to → x.newest ≡ Some c → is_stop c to ≡ true
     → is_some (run_body x.plain x.method) ≡ true → kinds_behind (kinds_of x.plain x.code) (kinds_of x.plain c) ≡ Some ks → is_handled to c.body.handlers ≡ false
     → first_broken (move_rules x) ≡ None
 unfolding first_broken

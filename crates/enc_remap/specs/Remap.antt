@@ -14,7 +14,7 @@ use Rattle.enc_plain.specs.Debug.{PlainPdb}
 use Rattle.enc_plain.specs.Module.{Module}
 use Rattle.enc_unwind.specs.Search.{is_handled}
 use Rattle.enc_versions.specs.StandFor.{lines_known}
-use Rattle.enc_vm.specs.Moves.{moved_in}
+use Rattle.enc_vm.specs.Moves.{moved_top}
 use Rattle.enc_vm.specs.Step.{task_at}
 
 -- the newest body of a method with its points, whether the interpreter runs it or not
@@ -22,12 +22,12 @@ abbrev pub newest_code : Module → PlainPdb → Token → Option PlainCode
 newest_code m debug method = option_map (λ (b : Body). record { body = b; points = (lines_known (debug method)).points }) (method_body m method)
 
 -- the offset is that of a point that isn't hidden (Portable PDB v1.0, sequence points)
-abbrev pub is_at_point : PlainCode → ℕ → Bool
-is_at_point c offset = list_any (λ (p : ℕ × Option (ℕ × ℕ × ℕ × ℕ)). p.0 == offset && is_some p.1) c.points
+abbrev pub is_visible : PlainCode → ℕ → Bool
+is_visible c offset = list_any (λ (p : ℕ × Option (ℕ × ℕ × ℕ × ℕ)). p.0 == offset && is_some p.1) c.points
 
 -- and that of an instruction (ECMA-335 III.1.2)
 abbrev pub is_stop : PlainCode → ℕ → Bool
-is_stop c offset = begins_at c.body.code offset && is_at_point c offset
+is_stop c offset = begins_at c.body.code offset && is_visible c offset
 
 -- where a map leads from an offset: by the first pair from there
 unfoldable pub led_from : ℕ → List (ℕ × ℕ) → Option ℕ
@@ -35,22 +35,22 @@ led_from offset [] = None
 led_from offset (p ∷ rest) = if p.0 == offset then Some p.1 else led_from offset rest
 
 -- two kinds are the same
-abbrev pub number_of : Kind → ℕ
-number_of kind.I1 = 0
-number_of kind.U1 = 1
-number_of kind.I2 = 2
-number_of kind.U2 = 3
-number_of kind.I4 = 4
-number_of kind.U4 = 5
-number_of kind.I8 = 6
-number_of kind.U8 = 7
-number_of kind.Ref = 8
+abbrev pub kind_number : Kind → ℕ
+kind_number kind.I1 = 0
+kind_number kind.U1 = 1
+kind_number kind.I2 = 2
+kind_number kind.U2 = 3
+kind_number kind.I4 = 4
+kind_number kind.U4 = 5
+kind_number kind.I8 = 6
+kind_number kind.U8 = 7
+kind_number kind.Ref = 8
 
 -- the kinds behind others, where these are the first of them
 unfoldable pub kinds_behind : List Kind → List Kind → Option (List Kind)
 kinds_behind [] kinds = Some kinds
 kinds_behind (k ∷ first) [] = None
-kinds_behind (k ∷ first) (j ∷ kinds) = if number_of k == number_of j then kinds_behind first kinds else None
+kinds_behind (k ∷ first) (j ∷ kinds) = if kind_number k == kind_number j then kinds_behind first kinds else None
 
 -- the kinds of a body's local variables (ECMA-335 II.25.4.4)
 abbrev pub kinds_of : Module → PlainCode → List Kind
@@ -65,12 +65,12 @@ pub record Move : Type 0 where
   pub from : ℕ
   pub pairs : List (ℕ × ℕ)
 
--- where it leads, and whether it passes a test there in the newest body
+-- where it leads, and whether it holds_there a test there in the newest body
 abbrev pub goal : Move → Option ℕ
 goal x = led_from x.from x.pairs
 
-abbrev pub passes : (PlainCode → ℕ → Bool) → Move → Bool
-passes test x = option_map_or (λ (to : ℕ). option_map_or (λ (c : PlainCode). test c to) x.newest false) (goal x) false
+abbrev pub holds_there : (PlainCode → ℕ → Bool) → Move → Bool
+holds_there test x = option_map_or (λ (to : ℕ). option_map_or (λ (c : PlainCode). test c to) x.newest false) (goal x) false
 
 -- the kinds of the local variables that the newest body has behind those of the frame's body, where these are the first
 abbrev pub new_kinds : Move → Option (List Kind)
@@ -79,11 +79,11 @@ new_kinds x = option_and_then (λ (c : PlainCode). kinds_behind (kinds_of x.plai
 -- what Q3 to Q7 ask of a method, an offset and a map, without a frame's stack and handlers: the number of each, and whether it is broken
 abbrev pub move_rules : Move → List (ℕ × Bool)
 move_rules x =
-    (3, not (is_at_point x.code x.from))
+    (3, not (is_visible x.code x.from))
     ∷ (4, not (is_some (goal x)))
-    ∷ (5, not (passes is_stop x))
+    ∷ (5, not (holds_there is_stop x))
     ∷ (6, not (is_some (run_body x.plain x.method) && is_some (new_kinds x)))
-    ∷ (7, passes (λ (c : PlainCode) (to : ℕ). is_handled to c.body.handlers) x)
+    ∷ (7, holds_there (λ (c : PlainCode) (to : ℕ). is_handled to c.body.handlers) x)
     ∷ []
 
 -- the number of the first that is broken
@@ -109,7 +109,7 @@ pub data Remapping (C : Type 0) : Type 0 where
 -- the innermost frame gets the newest code and the offset; its local variables stay, and the defaults of the new ones follow. Where no rule is broken, there
 -- are all three
 abbrev pub remap_by : {C : Type 0} → ℕ → MachineState C → Frame C → Option ℕ → Option C → Option ℕ → Option (List Kind) → Remapping C
-remap_by n s f None (Some code) (Some to) (Some kinds) = moved f.method f.offset to (moved_in n code to (map default_of kinds) s)
+remap_by n s f None (Some code) (Some to) (Some kinds) = moved f.method f.offset to (moved_top n code to (map default_of kinds) s)
 remap_by n s f (Some number) code to kinds = refused number
 remap_by n s f None code to kinds = refused 5
 

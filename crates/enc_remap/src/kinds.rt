@@ -1,7 +1,7 @@
 //! The kinds of local variables of two bodies.
 ghost use Rattle.std.specs.Prelude.{◌≡◌, [], unwrap_or};
 ghost use Rattle.enc_kinds.specs.Members.{local_kinds};
-ghost use Rattle.enc_remap.specs.Remap.{kinds_behind, number_of};
+ghost use Rattle.enc_remap.specs.Remap.{kinds_behind, kind_number};
 
 use enc_base::Token;
 use enc_kinds::{Kinds, local_kinds};
@@ -9,8 +9,8 @@ use enc_objects::Kind;
 use enc_plain::ModuleView;
 
 /// A number of each kind.
-fn number_of(kind: Kind) -> u8
-    ensures { result ≡ number_of kind }
+fn kind_number(kind: Kind) -> u8
+    ensures { result ≡ kind_number kind }
 {
     match kind {
         Kind::I1 => 0,
@@ -36,7 +36,7 @@ pub(crate) fn kinds_behind<'a>(first: Kinds<'_>, kinds: Kinds<'a>) -> Option<Kin
         let Some((other, more)) = behind.split_first() else {
             return None;
         };
-        if number_of(kind) != number_of(other) {
+        if kind_number(kind) != kind_number(other) {
             return None;
         }
         left = rest;

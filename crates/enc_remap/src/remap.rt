@@ -3,7 +3,7 @@ ghost use Rattle.std.specs.Prelude.{◌≡◌, map, IsTrue, IfOk, IfErr};
 ghost use Rattle.enc_objects.specs.Values.{default_of};
 ghost use Rattle.enc_plain.specs.Sound.{IsSound};
 ghost use Rattle.enc_vm.specs.CallsSeen.{AreBodiesOf};
-ghost use Rattle.enc_vm.specs.Moves.{IsBeginIn, is_idle, moved_in};
+ghost use Rattle.enc_vm.specs.Moves.{IsBeginIn, is_idle, moved_top};
 ghost use Rattle.enc_vm.specs.Step.{task_at};
 ghost use Rattle.enc_vm.specs.Texts.{machine_texts, version_texts};
 ghost use Rattle.enc_remap.specs.Remap.{moved, refused, remap_with};
@@ -46,7 +46,7 @@ fn plan_of<'a, V: ModuleView>(
 ) -> Result<Plan<'a>, u8>
     requires sound { IsSound (V.meaning view.now) }
     requires versions { AreBodiesOf (V.users view.now) (V.meaning view.now) versions.now.methods }
-    ensures moved { IfOk result (λ p. remap_with (version_codes (V.users view.now) versions.now.methods) (V.meaning view.now) task pairs.now machine.now ≡ moved p.method p.from p.goal.to (moved_in task p.goal.code.now.value p.goal.to (map default_of p.goal.kinds) machine.now)) }
+    ensures moved { IfOk result (λ p. remap_with (version_codes (V.users view.now) versions.now.methods) (V.meaning view.now) task pairs.now machine.now ≡ moved p.method p.from p.goal.to (moved_top task p.goal.code.now.value p.goal.to (map default_of p.goal.kinds) machine.now)) }
     ensures idle { IfOk result (λ p. IsTrue (is_idle (task_at machine.now task))) }
     ensures begins { IfOk result (λ p. IsBeginIn p.goal.code.now.value p.goal.to) }
     ensures texts { IfOk result (λ p. IsTrue (version_texts (V.users view.now) p.goal.code.now.value)) }

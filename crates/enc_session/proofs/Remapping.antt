@@ -6,16 +6,16 @@ use Rattle.enc_remap.specs.Remap.{Remapping, moved, refused}
 use Rattle.enc_remap.specs.Seen.{IsRemap}
 use Rattle.enc_remap.specs.declared.remapped.Remapped.{Remapped}
 use Rattle.enc_remap.specs.declared.remapped.Remapped.TheVariants as remapped
-use Rattle.enc_session.specs.Session.{PlainSession, Happened, nothing_passed, with_machine, remap_of, remap_by, remap_passed, remapped_as, HasPassed}
+use Rattle.enc_session.specs.Session.{PlainSession, Happened, nothing_passed, with_machine, remap_of, remap_happened, remap_passed, remapped_as, HasPassed}
 
 behind : PlainSession → List Bool → Happened
 behind s deaf = nothing_passed deaf s
 
 by_answer : (r : Remapped) (new old : MachineState PlainCode) (said : Remapping PlainCode) (s : PlainSession) (deaf : List Bool) → s.machine ≡ old
-    → IsRemap (Ok r) new old said → remap_by said deaf s ≡ nothing_passed deaf (with_machine new s)
-by_answer (remapped.Moved method from to) new old said s deaf same h = ap (λ (x : Remapping PlainCode). remap_by x deaf s) h
+    → IsRemap (Ok r) new old said → remap_happened said deaf s ≡ nothing_passed deaf (with_machine new s)
+by_answer (remapped.Moved method from to) new old said s deaf same h = ap (λ (x : Remapping PlainCode). remap_happened x deaf s) h
 by_answer (remapped.Refused number) new old said s deaf same h =
-    ap (λ (x : Remapping PlainCode). remap_by x deaf s) h.0 ∙ ap (λ (m : MachineState PlainCode). nothing_passed deaf (with_machine m s)) (same ∙ sym h.1)
+    ap (λ (x : Remapping PlainCode). remap_happened x deaf s) h.0 ∙ ap (λ (m : MachineState PlainCode). nothing_passed deaf (with_machine m s)) (same ∙ sym h.1)
 
 session_of : (new old : PlainSession) (deaf : List Bool) → new.followed ≡ old.followed → new.seated ≡ old.seated
     → nothing_passed deaf (with_machine new.machine old) ≡ nothing_passed deaf new

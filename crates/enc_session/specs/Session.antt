@@ -165,12 +165,12 @@ apply_passed files deaf s = apply_by (judged_after s.followed files) deaf s
 abbrev pub remap_of : ℕ → List (ℕ × ℕ) → PlainSession → Remapping PlainCode
 remap_of task pairs s = remap_in (plain_of s.followed) (debug_after s.followed) task pairs s.machine
 
-abbrev pub remap_by : Remapping PlainCode → List Bool → PlainSession → Happened
-remap_by (moved method from to u) deaf s = nothing_passed deaf (with_machine u s)
-remap_by (refused number) deaf s = nothing_passed deaf s
+abbrev pub remap_happened : Remapping PlainCode → List Bool → PlainSession → Happened
+remap_happened (moved method from to u) deaf s = nothing_passed deaf (with_machine u s)
+remap_happened (refused number) deaf s = nothing_passed deaf s
 
 unfoldable pub remap_passed : ℕ → List (ℕ × ℕ) → List Bool → PlainSession → Happened
-remap_passed task pairs deaf s = remap_by (remap_of task pairs s) deaf s
+remap_passed task pairs deaf s = remap_happened (remap_of task pairs s) deaf s
 
 -- what it comes to, as it is answered
 abbrev pub remapped_as : {C : Type 0} → Remapping C → Remapped

@@ -11,7 +11,7 @@ use Rattle.enc_versions.specs.Version.{Version}
 use Rattle.enc_frames.specs.Machine.{Frame, Thread, Task, going, ended, trapped, MachineState, version_world, code_meant, frame_meant, task_meant, state_meant}
 use Rattle.enc_frames.specs.Moves.{moved_to}
 use Rattle.enc_vm.specs.Anywhere.{ArePlacedAnywhere}
-use Rattle.enc_vm.specs.Moves.{MovesMean, IsBeginIn, is_idle, task_moved, moved_at, moved_in}
+use Rattle.enc_vm.specs.Moves.{MovesMean, IsBeginIn, is_idle, task_moved, moved_at, moved_top}
 use Rattle.enc_vm.specs.Placed.{IsFramePlaced, IsTaskPlaced, AreTasksPlaced, is_place_in, lead_to_places}
 use Rattle.enc_vm.specs.Step.{task_at}
 use Rattle.enc_vm.specs.Texts.{version_texts, task_texts, machine_texts}
@@ -34,7 +34,7 @@ by_task users i v offset more s (Some t) =
     ∙ ap (λ (u : Task _). slice_set (map (task_meant users) s.tasks) i u) (task_means users v offset more t))
 
 pub moves_mean : MovesMean
-unfolding moved_in
+unfolding moved_top
 moves_mean users zero v offset more s = refl
 moves_mean users (suc i) v offset more s =
     by_task users i v offset more s (slice_get s.tasks i)
@@ -124,15 +124,15 @@ at_texts users i v offset more s None is new h = h
 at_texts users i v offset more s (Some t) is new h = set_texts users v offset more s.tasks i t is new h
 
 pub moved_texts : (users : ℕ → Option (List ℕ)) (n : ℕ) (v : Version) (offset : ℕ) (more : List Value) (s : MachineState Version)
-    → version_texts users v ≡ true → machine_texts users s ≡ true → machine_texts users (moved_in n v offset more s) ≡ true
-unfolding moved_in machine_texts
+    → version_texts users v ≡ true → machine_texts users s ≡ true → machine_texts users (moved_top n v offset more s) ≡ true
+unfolding moved_top machine_texts
 moved_texts users zero v offset more s new h = h
 moved_texts users (suc i) v offset more s new h = at_texts users i v offset more s (slice_get s.tasks i) refl new h
 
 -- the machine behind a move, by the task that has the number
 pub moved_by_task : (n i : ℕ) (v : Version) (offset : ℕ) (more : List Value) (s : MachineState Version) (t : Task Version) → n ≡ i + 1
-    → slice_get s.tasks i ≡ Some t → moved_in n v offset more s ≡ record { shared = s.shared; tasks = slice_set s.tasks i (task_moved v offset more t) }
-unfolding moved_in
+    → slice_get s.tasks i ≡ Some t → moved_top n v offset more s ≡ record { shared = s.shared; tasks = slice_set s.tasks i (task_moved v offset more t) }
+unfolding moved_top
 moved_by_task n i v offset more s t is there =
     let next : n ≡ suc i = omega (arith, is) in
-    ap (λ (k : ℕ). moved_in k v offset more s) next ∙ ap (moved_at i v offset more s) there
+    ap (λ (k : ℕ). moved_top k v offset more s) next ∙ ap (moved_at i v offset more s) there

@@ -19,9 +19,9 @@ abbrev pub moved_at : {C : Type 0} → ℕ → C → ℕ → List Value → Mach
 moved_at i code offset more s None = s
 moved_at i code offset more s (Some t) = record { shared = s.shared; tasks = slice_set s.tasks i (task_moved code offset more t) }
 
-unfoldable pub moved_in : {C : Type 0} → ℕ → C → ℕ → List Value → MachineState C → MachineState C
-moved_in zero code offset more s = s
-moved_in (suc i) code offset more s = moved_at i code offset more s (slice_get s.tasks i)
+unfoldable pub moved_top : {C : Type 0} → ℕ → C → ℕ → List Value → MachineState C → MachineState C
+moved_top zero code offset more s = s
+moved_top (suc i) code offset more s = moved_at i code offset more s (slice_get s.tasks i)
 
 -- a task goes on, no object is on its way, and its innermost frame has nothing on its stack and runs no handler
 abbrev pub is_idle : {C : Type 0} → Option (Task C) → Bool
@@ -35,4 +35,4 @@ IsBeginIn v offset = (users : ℕ → Option (List ℕ)) → IsSoundCode (body_o
 -- a move of frames that hold versions means that of what they mean
 abbrev pub MovesMean : Type 0
 MovesMean = (users : ℕ → Option (List ℕ)) (n : ℕ) (v : Version) (offset : ℕ) (more : List Value) (s : MachineState Version)
-    → state_meant users (moved_in n v offset more s) ≡ moved_in n (code_meant users v) offset more (state_meant users s)
+    → state_meant users (moved_top n v offset more s) ≡ moved_top n (code_meant users v) offset more (state_meant users s)

@@ -3,7 +3,7 @@ ghost use Rattle.std.specs.Prelude.{◌≡◌, ◌==◌, length, not, is_some, o
 ghost use Rattle.std.specs.Option.{option_map_or};
 ghost use Rattle.enc_frames.specs.Machine.{Frame as TheFrame};
 ghost use Rattle.enc_vm.specs.Looks.{flight_in, innermost_in};
-ghost use Rattle.enc_vm.specs.Moves.{IsBeginIn, MovesMean, is_idle, moved_in, task_moved};
+ghost use Rattle.enc_vm.specs.Moves.{IsBeginIn, MovesMean, is_idle, moved_top, task_moved};
 ghost use Rattle.enc_vm.specs.Step.{task_at};
 
 use crate::ends::TaskState;
@@ -70,7 +70,7 @@ impl Machine {
     ) -> Result<(), AllocError>
         requires idle { IsTrue (is_idle (task_at self.old task)) }
         requires begins { IsBeginIn code.value offset }
-        ensures ok { OnOk result (self.new ≡ moved_in task code.value offset more.now self.old) }
+        ensures ok { OnOk result (self.new ≡ moved_top task code.value offset more.now self.old) }
         ensures err { OnErr result (self.new ≡ self.old) }
     {
         let Some(i) = task.checked_sub(1) else {
