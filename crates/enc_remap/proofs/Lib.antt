@@ -1,3 +1,4 @@
 pub mod Newest
 pub mod Meant
 pub mod Rules
+pub mod Planned

@@ -145,6 +145,7 @@ is_goal users methods m pairs f to v ks a g n s r k h = record {
       (stop_meant users v to ∙ s) r k h;
   newest_is = n;
   goal_is = g;
+  stop = s;
   kinds_are = ap (λ (o : Option Version). new_kinds (record { plain = m; method = f.method; code = code_meant users f.code; newest = option_map (code_meant users) o; from = f.offset; pairs = pairs })) n ∙ k;
 }
 
@@ -179,7 +180,7 @@ pub then_running : (f : Frame Version) (x : Move) → (length f.stack == 0) ≡ 
 unfolding first_broken
 then_running f x e h r = rw e (last_rule (move_rules x) (7, not (length f.running == 0)) h ∙ rw r refl)
 
-no_rule : (f : Frame Version) (x : Move) → (length f.stack == 0) ≡ true → MayMove x → (length f.running == 0) ≡ true → first_broken (frame_rules f x) ≡ None
+pub no_rule : (f : Frame Version) (x : Move) → (length f.stack == 0) ≡ true → MayMove x → (length f.running == 0) ≡ true → first_broken (frame_rules f x) ≡ None
 unfolding first_broken
 no_rule f x e h r = rw e (last_rule (move_rules x) (7, not (length f.running == 0)) h ∙ rw r refl)
 
@@ -199,7 +200,7 @@ not_going codes m n pairs s h = by_task (task_at s n) h
     by_task (Some (trapped x frames)) h = refl
     by_task (Some (going t)) h = by_flight t (move_of codes m pairs t.top) (is_some t.flight) refl h
 
-in_frame : (codes : Codes Version) (m : Module) (n : ℕ) (pairs : List (ℕ × ℕ)) (s : MachineState Version) (t : Thread Version) (number : ℕ) → is_some t.flight ≡ false
+pub in_frame : (codes : Codes Version) (m : Module) (n : ℕ) (pairs : List (ℕ × ℕ)) (s : MachineState Version) (t : Thread Version) (number : ℕ) → is_some t.flight ≡ false
     → first_broken (frame_rules t.top (move_of codes m pairs t.top)) ≡ Some number → remap_thread codes m n pairs s t (move_of codes m pairs t.top) ≡ refused number
 unfolding first_broken
 in_frame codes m n pairs s t number quiet h = rw (quiet, h) refl

@@ -65,7 +65,7 @@ pub record Move : Type 0 where
   pub from : ℕ
   pub pairs : List (ℕ × ℕ)
 
--- where it leads, and whether it holds_there a test there in the newest body
+-- where it leads, and whether a test of the newest body holds there
 abbrev pub goal : Move → Option ℕ
 goal x = led_from x.from x.pairs
 

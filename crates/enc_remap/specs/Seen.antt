@@ -1,5 +1,5 @@
 -- A remap's answer, and the machine behind it.
-use Rattle.std.specs.Prelude.{◌≡◌, ℕ, Bool, false, not, List, [], ◌∷◌, ◌++◌, length, Option, Some, is_some, Result, Ok, Err, ◌==◌}
+use Rattle.std.specs.Prelude.{◌≡◌, ℕ, Bool, true, false, not, List, [], ◌∷◌, ◌++◌, length, Option, Some, is_some, Result, Ok, Err, ◌==◌}
 use Rattle.std.specs.declared.alloc.AllocError.{AllocError}
 use Rattle.enc_base.specs.declared.token.Token.{Token}
 use Rattle.enc_frames.specs.Machine.{Frame, Task, going, MachineState, code_meant, state_meant}
@@ -7,6 +7,7 @@ use Rattle.enc_objects.specs.declared.kind.Kind.{Kind}
 use Rattle.enc_plain.specs.Debug.{PlainPdb}
 use Rattle.enc_plain.specs.Module.{Module}
 use Rattle.enc_versions.specs.StandFor.{AreVersionsOf}
+use Rattle.enc_versions.specs.Stops.{is_stop_in}
 use Rattle.enc_versions.specs.Version.{Version, newest_of}
 use Rattle.enc_remap.specs.Remap.{Codes, Move, Remapping, moved, refused, MayMove, move_rules, goal, new_kinds, remap_in}
 use Rattle.enc_remap.specs.declared.remapped.Remapped.{Remapped}
@@ -34,6 +35,7 @@ pub record IsGoal (x : Move) (newest : Option Version) (code : Version) (to : �
   pub may : MayMove x
   pub newest_is : newest ≡ Some code
   pub goal_is : goal x ≡ Some to
+  pub stop : is_stop_in code.code code.points.points to ≡ true
   pub kinds_are : new_kinds x ≡ Some kinds
 
 -- and for a frame: nothing is on its stack, and it runs no handler

@@ -1,5 +1,5 @@
 -- Frames that go on in another code: what they mean, that they are placed, and that their user texts are there.
-use Rattle.std.proofs.Common.{◌≡◌, ℕ, zero, suc, ◌+◌, Bool, true, false, not, ◌&&◌, ◌||◌, List, [], ◌∷◌, map, length, Option, Some, None, IsTrue, refl, sym, ap, ◌∙◌, subst, arith}
+use Rattle.std.proofs.Common.{◌≡◌, ℕ, zero, suc, ◌+◌, Bool, true, false, not, ◌&&◌, ◌||◌, List, [], ◌∷◌, map, length, Option, Some, None, Result, Ok, Err, OnOk, OnErr, IsTrue, refl, sym, ap, ◌∙◌, subst, arith}
 use Rattle.std.specs.Prelude.{slice_get, slice_set, is_some, option_map, ◌==◌}
 use Rattle.std.specs.List.{list_all}
 use Rattle.std.proofs.lemmas.Bool.Decides.{nat_tests}
@@ -136,3 +136,22 @@ unfolding moved_top
 moved_by_task n i v offset more s t is there =
     let next : n ≡ suc i = omega (arith, is) in
     ap (λ (k : ℕ). moved_top k v offset more s) next ∙ ap (moved_at i v offset more s) there
+
+-- what a task became by a move, or stayed without memory
+pub either_placed : {A E : Type 0} (result : Result A E) (tasks : List (Task Version)) (i : ℕ) (v : Version) (offset : ℕ) (more : List Value) (t u : Task Version)
+    → slice_get tasks i ≡ Some t → is_idle (Some t) ≡ true → IsBeginIn v offset → ArePlacedAnywhere tasks
+    → OnOk result (u ≡ task_moved v offset more t) → OnErr result (u ≡ t) → ArePlacedAnywhere (slice_set tasks i u)
+either_placed (Ok x) tasks i v offset more t u is idle begins p ok err =
+    subst (λ (w : Task Version). ArePlacedAnywhere (slice_set tasks i w)) (sym ok) (moved_placed tasks i v offset more t is idle begins p)
+either_placed (Err e) tasks i v offset more t u is idle begins p ok err =
+    λ users m methods. another (version_world users m methods) tasks i u (p users m methods)
+        (subst (IsTaskPlaced (version_world users m methods)) (sym err) (nth_placed users m methods tasks i t is (p users m methods)))
+
+pub idle_at : (n i : ℕ) (s : MachineState Version) (t : Task Version) → n ≡ i + 1 → slice_get s.tasks i ≡ Some t → is_idle (task_at s n) ≡ true → is_idle (Some t) ≡ true
+idle_at n i s t is there h =
+    let next : n ≡ suc i = omega (arith, is) in
+    sym (ap is_idle there) ∙ sym (ap (λ (k : ℕ). is_idle (task_at s k)) next) ∙ h
+
+pub ok_then : {A E : Type 0} {P Q : Type 0} (result : Result A E) → (P → Q) → OnOk result P → OnOk result Q
+ok_then (Ok x) f p = f p
+ok_then (Err e) f p = tt

@@ -1,5 +1,5 @@
 //! A frame goes on in another code.
-ghost use Rattle.std.specs.Prelude.{◌≡◌, ◌==◌, length, not, is_some, option_map, IsTrue, OnOk, OnErr};
+ghost use Rattle.std.specs.Prelude.{◌≡◌, ◌==◌, false, length, not, is_some, option_map, IsTrue, OnOk, OnErr};
 ghost use Rattle.std.specs.Option.{option_map_or};
 ghost use Rattle.enc_frames.specs.Machine.{Frame as TheFrame};
 ghost use Rattle.enc_vm.specs.Looks.{flight_in, innermost_in};
@@ -76,10 +76,10 @@ impl Machine {
         let Some(i) = task.checked_sub(1) else {
             return Ok(());
         };
-        match self.tasks.get_mut(i as usize) {
-            None => Ok(()),
-            Some(task) => task.move_top(code, offset, more),
-        }
+        let Some(task) = self.tasks.get_mut(i as usize) else {
+            return Ok(());
+        };
+        task.move_top(code, offset, more)
     }
 }
 
