@@ -2,7 +2,6 @@
 use Rattle.std.proofs.Common.{◌≡◌, ℕ, zero, suc, ◌+◌, ◌≤◌, ◌<◌, Bool, true, false, ◌&&◌, ◌||◌, List, [], ◌∷◌, map, length, Option, Some, None, IsTrue, IfSome, refl, sym, ap, ◌∙◌, inl, inr, arith, subst, option_map, get_or, if◌then◌else◌, ◌==◌, nat_lt, nat_le}
 use Rattle.std.specs.List.{list_any}
 use Rattle.std.proofs.lemmas.Bool.Decides.{nat_tests}
-use Rattle.std.proofs.lemmas.List.{get_or_default}
 use Rattle.enc_base.specs.declared.token.Token.{Token}
 use Rattle.enc_frames.specs.Machine.{PlainCode, code_meant}
 use Rattle.enc_kinds.specs.Members.{method_body, body_of_cell}
@@ -26,9 +25,17 @@ use Rattle.enc_vm.specs.Placed.{IsSoundCode}
 use Rattle.enc_vm.specs.Texts.{version_texts}
 use Rattle.enc_remap.specs.Remap.{newest_code}
 
-no_either : (b : Bool) → (if b then None {U = Version} else None) ≡ None
+abbrev the_none : Option Version
+the_none = None
+
+no_either : (b : Bool) → (if b then the_none else the_none) ≡ the_none
 no_either true = refl
 no_either false = refl
+
+get_past : (xs : List (Option Version)) (i : ℕ) → length xs ≤ i → get_or xs i None ≡ None
+get_past [] i h = refl
+get_past (x ∷ xs) zero h = absurd (omega (arith, h))
+get_past (x ∷ xs) (suc i) h = get_past xs i (omega (arith, h))
 
 past_rows : (i count : ℕ) → (nat_lt 0 (suc i) && nat_le (suc i) count) ≡ false → count ≤ i
 past_rows i count h = grind (arith, nat_tests, h)
@@ -41,7 +48,7 @@ none_at m methods table zero few is none = no_either (table == method_def)
 none_at m methods table (suc i) few is none =
     let e = is_table table method_def is in
     let past : length methods ≤ i = omega (arith, few, past_rows i (length (rows_in m method_def)) (subst (λ (t : ℕ). (nat_lt 0 (suc i) && nat_le (suc i) (length (rows_in m t))) ≡ false) e none)) in
-    ap (λ (b : Bool). if b then get_or methods i None else None) is ∙ get_or_default methods i None past
+    ap (λ (b : Bool). if b then get_or methods i None else None) is ∙ get_past methods i past
 
 pub none_past : (m : Module) (methods : List (Option Version)) (t : Token) → length methods ≤ length (rows_in m method_def) → (t.table == method_def) ≡ true
     → has_row m t ≡ false → newest_of methods t ≡ None
@@ -127,3 +134,9 @@ begins_anywhere users m methods t v offset sound are at is begins others =
     let body = body_of_newest users m methods t v are at is in
     let good : IsSoundCode (body_of users v.code) = there IsSoundCode (method_body m t) (body_of users v.code) body (method_sound m t (cell_of m t 0) sound refl) in
     ((good.0, sym (sound_same users others good.0 v.code) ∙ good.1), begins_in others v.code offset ∙ begins)
+
+pub bodies_if_some : {A : Type 0} (users : ℕ → Option (List ℕ)) (m : Module) (methods : List (Option Version)) (t : Token) (o : Option A) (version : A → Version)
+    → AreBodiesOf users m methods → t.table ≡ method_def → option_map version o ≡ newest_of methods t
+    → IfSome o (λ (a : A). method_body m t ≡ Some (body_of users (version a).code))
+bodies_if_some users m methods t None version are at is = tt
+bodies_if_some users m methods t (Some a) version are at is = body_of_newest users m methods t (version a) are at (sym is)

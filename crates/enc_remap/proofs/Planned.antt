@@ -34,16 +34,23 @@ no_flight t h = by_test (is_some t.flight) h
     by_test true h = absurd cc
     by_test false h = refl
 
+first_of_thread : (t : Thread Version) (x : Move) → is_some t.flight ≡ false → first_broken (thread_rules t x) ≡ first_broken (frame_rules t.top x)
+unfolding first_broken
+first_of_thread t x quiet = rw quiet refl
+
 -- of a frame that may be moved
 in_thread : (users : ℕ → Option (List ℕ)) (methods : List (Option Version)) (m : Module) (n : ℕ) (pairs : List (ℕ × ℕ)) (s : MachineState Version) (t : Thread Version)
     → (v : Version) (to : ℕ) (ks : List Kind) → is_some t.flight ≡ false → length t.top.stack ≡ 0 → length t.top.running ≡ 0
     → IsGoal (asked_of users methods m pairs t.top) (newest_of methods t.top.method) v to ks
     → remap_thread (version_codes users methods) m n pairs s t (asked_of users methods m pairs t.top)
     ≡ moved t.top.method t.top.offset to (moved_top n v to (map default_of ks) s)
-unfolding first_broken
 in_thread users methods m n pairs s t v to ks quiet stack running g =
-    let none = no_rule t.top (asked_of users methods m pairs t.top) (is_empty (length t.top.stack) stack) g.may (is_empty (length t.top.running) running) in
-    rw (quiet, none, g.newest_is, g.goal_is, g.kinds_are) refl
+    let x = asked_of users methods m pairs t.top in
+    let none = no_rule t.top x (is_empty (length t.top.stack) stack) g.may (is_empty (length t.top.running) running) in
+    ap (λ (r : Option ℕ). remap_by n s t.top r (newest_of methods t.top.method) (goal x) (new_kinds x)) (first_of_thread t x quiet ∙ none)
+    ∙ ap (λ (o : Option Version). remap_by n s t.top None o (goal x) (new_kinds x)) g.newest_is
+    ∙ ap (λ (o : Option ℕ). remap_by n s t.top None (Some v) o (new_kinds x)) g.goal_is
+    ∙ ap (λ (o : Option (List Kind)). remap_by n s t.top None (Some v) (Some to) o) g.kinds_are
 
 by_task : (users : ℕ → Option (List ℕ)) (methods : List (Option Version)) (m : Module) (n : ℕ) (pairs : List (ℕ × ℕ)) (s : MachineState Version) (f : Frame Version)
     → (v : Version) (to : ℕ) (ks : List Kind) (o : Option (Task Version)) → goes_on o ≡ true → option_and_then innermost_of o ≡ Some f

@@ -1,11 +1,13 @@
 -- The rules of a remap, one after the other, by what is known of a frame that holds a version.
 use Rattle.std.proofs.Common.{◌≡◌, ℕ, Bool, true, false, not, ◌&&◌, ◌||◌, List, [], ◌∷◌, ◌++◌, map, length, Option, Some, None, refl, sym, ap, ◌∙◌, option_map, if◌then◌else◌, ◌==◌}
-use Rattle.std.specs.Prelude.{is_some}
+use Rattle.std.specs.Prelude.{is_some, reverse, unwrap_or}
+use Rattle.std.proofs.lemmas.List.{length-reverse}
 use Rattle.std.specs.List.{list_any}
 use Rattle.enc_frames.specs.Machine.{PlainCode, Frame, Thread, Task, going, ended, trapped, MachineState, code_meant}
 use Rattle.enc_kinds.specs.Members.{local_kinds, method_body, run_body, call_shape, if_runs, runs_body}
 use Rattle.enc_objects.specs.Values.{default_of}
 use Rattle.enc_objects.specs.declared.kind.Kind.{Kind}
+use Rattle.enc_objects.specs.declared.value.Value.{Value}
 use Rattle.enc_opcodes.specs.Body.{Body, body_of, is_instruction_start}
 use Rattle.enc_opcodes.specs.Instruction.{instructions_of}
 use Rattle.enc_plain.specs.Module.{Module}
@@ -44,6 +46,30 @@ stop_meant : (users : ℕ → Option (List ℕ)) (v : Version) (offset : ℕ) �
 stop_meant users v offset =
     ap (λ (b : Bool). b && is_visible (code_meant users v) offset) (begins_in users v.code offset)
     ∙ ap (λ (b : Bool). is_instruction_start (instructions_of v.code.code) offset && b) (point_meant users v offset)
+
+handlers_meant : (users : ℕ → Option (List ℕ)) (v : Version) → (code_meant users v).body.handlers ≡ handlers_of v.code.sections
+unfolding body_of
+handlers_meant users v = refl
+
+handled_meant : (users : ℕ → Option (List ℕ)) (v : Version) (offset : ℕ) → is_handled offset (code_meant users v).body.handlers ≡ is_handled offset (handlers_of v.code.sections)
+handled_meant users v offset = ap (is_handled offset) (handlers_meant users v)
+
+-- the kinds of a version's local variables
+abbrev pub kinds_in : Module → Version → List Kind
+kinds_in m v = unwrap_or (local_kinds m v.code.locals) []
+
+kinds_meant : (users : ℕ → Option (List ℕ)) (m : Module) (v : Version) → kinds_of m (code_meant users v) ≡ kinds_in m v
+unfolding body_of
+kinds_meant users m v = refl
+
+behind_meant : (users : ℕ → Option (List ℕ)) (m : Module) (v w : Version)
+    → kinds_behind (kinds_of m (code_meant users v)) (kinds_of m (code_meant users w)) ≡ kinds_behind (kinds_in m v) (kinds_in m w)
+behind_meant users m v w =
+    ap (λ (ks : List Kind). kinds_behind ks (kinds_of m (code_meant users w))) (kinds_meant users m v) ∙ ap (kinds_behind (kinds_in m v)) (kinds_meant users m w)
+
+-- a stack that is shown from the bottom up
+pub empty_stack : (shown stack : List Value) (b : Bool) → reverse shown ≡ stack → (length shown == 0) ≡ b → (length stack == 0) ≡ b
+empty_stack shown stack b is h = ap (λ (n : ℕ). n == 0) (ap (λ (l : List Value). length l) (sym is) ∙ length-reverse shown) ∙ h
 
 -- the rules of a move, each broken first, and none
 third : (x : Move) → is_visible x.code x.from ≡ false → first_broken (move_rules x) ≡ Some 3
@@ -120,53 +146,55 @@ is_sixth_run users methods m pairs f to v a g n s r =
 pub is_sixth_kinds : (users : ℕ → Option (List ℕ)) (methods : List (Option Version)) (m : Module) (pairs : List (ℕ × ℕ)) (f : Frame Version) (to : ℕ) (v : Version)
     → is_point_in f.code.points.points f.offset ≡ true → led_from f.offset pairs ≡ Some to → newest_of methods f.method ≡ Some v
     → is_stop_in v.code v.points.points to ≡ true → is_some (run_body m f.method) ≡ true
-    → kinds_behind (kinds_of m (code_meant users f.code)) (kinds_of m (code_meant users v)) ≡ None
+    → kinds_behind (kinds_in m f.code) (kinds_in m v) ≡ None
     → first_broken (move_rules (asked_of users methods m pairs f)) ≡ Some 6
 is_sixth_kinds users methods m pairs f to v a g n s r k =
     no_kinds (asked_of users methods m pairs f) to (code_meant users v) (point_meant users f.code f.offset ∙ a) g (ap (option_map (code_meant users)) n)
-    (stop_meant users v to ∙ s) r k
+    (stop_meant users v to ∙ s) r (behind_meant users m f.code v ∙ k)
 
 pub is_seventh : (users : ℕ → Option (List ℕ)) (methods : List (Option Version)) (m : Module) (pairs : List (ℕ × ℕ)) (f : Frame Version) (to : ℕ) (v : Version) (ks : List Kind)
     → is_point_in f.code.points.points f.offset ≡ true → led_from f.offset pairs ≡ Some to → newest_of methods f.method ≡ Some v
     → is_stop_in v.code v.points.points to ≡ true → is_some (run_body m f.method) ≡ true
-    → kinds_behind (kinds_of m (code_meant users f.code)) (kinds_of m (code_meant users v)) ≡ Some ks → is_handled to (handlers_of v.code.sections) ≡ true
+    → kinds_behind (kinds_in m f.code) (kinds_in m v) ≡ Some ks → is_handled to (handlers_of v.code.sections) ≡ true
     → first_broken (move_rules (asked_of users methods m pairs f)) ≡ Some 7
 is_seventh users methods m pairs f to v ks a g n s r k h =
     seventh (asked_of users methods m pairs f) to (code_meant users v) ks (point_meant users f.code f.offset ∙ a) g (ap (option_map (code_meant users)) n)
-    (stop_meant users v to ∙ s) r k h
+    (stop_meant users v to ∙ s) r (behind_meant users m f.code v ∙ k) (handled_meant users v to ∙ h)
 
 pub is_goal : (users : ℕ → Option (List ℕ)) (methods : List (Option Version)) (m : Module) (pairs : List (ℕ × ℕ)) (f : Frame Version) (to : ℕ) (v : Version) (ks : List Kind)
     → is_point_in f.code.points.points f.offset ≡ true → led_from f.offset pairs ≡ Some to → newest_of methods f.method ≡ Some v
     → is_stop_in v.code v.points.points to ≡ true → is_some (run_body m f.method) ≡ true
-    → kinds_behind (kinds_of m (code_meant users f.code)) (kinds_of m (code_meant users v)) ≡ Some ks → is_handled to (handlers_of v.code.sections) ≡ false
+    → kinds_behind (kinds_in m f.code) (kinds_in m v) ≡ Some ks → is_handled to (handlers_of v.code.sections) ≡ false
     → IsGoal (asked_of users methods m pairs f) (newest_of methods f.method) v to ks
 is_goal users methods m pairs f to v ks a g n s r k h = record {
   may = none (asked_of users methods m pairs f) to (code_meant users v) ks (point_meant users f.code f.offset ∙ a) g (ap (option_map (code_meant users)) n)
-      (stop_meant users v to ∙ s) r k h;
+      (stop_meant users v to ∙ s) r (behind_meant users m f.code v ∙ k) (handled_meant users v to ∙ h);
   newest_is = n;
   goal_is = g;
   stop = s;
-  kinds_are = ap (λ (o : Option Version). new_kinds (record { plain = m; method = f.method; code = code_meant users f.code; newest = option_map (code_meant users) o; from = f.offset; pairs = pairs })) n ∙ k;
+  kinds_are = ap (λ (o : Option Version). new_kinds (record { plain = m; method = f.method; code = code_meant users f.code; newest = option_map (code_meant users) o; from = f.offset; pairs = pairs })) n ∙ behind_meant users m f.code v ∙ k;
 }
 
 -- rules of a frame: what is on its stack first, what runs in it last
+behind_by : (r last : ℕ × Bool) (rules : List (ℕ × Bool)) (n : ℕ) (b : Bool) → (first_broken rules ≡ Some n → first_broken (rules ++ last ∷ []) ≡ Some n)
+    → (if b then Some r.0 else first_broken rules) ≡ Some n → (if b then Some r.0 else first_broken (rules ++ last ∷ [])) ≡ Some n
+behind_by r last rules n true later h = h
+behind_by r last rules n false later h = later h
+
 behind_rules : (rules : List (ℕ × Bool)) (last : ℕ × Bool) (n : ℕ) → first_broken rules ≡ Some n → first_broken (rules ++ last ∷ []) ≡ Some n
 unfolding first_broken
 behind_rules [] last n h = absurd cc
-behind_rules (r ∷ rules) last n h = by_test r.1 refl
-  where
-    by_test : (b : Bool) → r.1 ≡ b → (if r.1 then Some r.0 else first_broken (rules ++ last ∷ [])) ≡ Some n
-    by_test true e = rw e (sym (rw e refl) ∙ h)
-    by_test false e = rw e (behind_rules rules last n (sym (rw e refl) ∙ h))
+behind_rules (r ∷ rules) last n h = behind_by r last rules n r.1 (behind_rules rules last n) h
+
+last_by : (r last : ℕ × Bool) (rules : List (ℕ × Bool)) (b : Bool) → (first_broken rules ≡ None → first_broken (rules ++ last ∷ []) ≡ (if last.1 then Some last.0 else None))
+    → (if b then Some r.0 else first_broken rules) ≡ None → (if b then Some r.0 else first_broken (rules ++ last ∷ [])) ≡ (if last.1 then Some last.0 else None)
+last_by r last rules true later h = absurd cc
+last_by r last rules false later h = later h
 
 last_rule : (rules : List (ℕ × Bool)) (last : ℕ × Bool) → first_broken rules ≡ None → first_broken (rules ++ last ∷ []) ≡ (if last.1 then Some last.0 else None)
 unfolding first_broken
 last_rule [] last h = refl
-last_rule (r ∷ rules) last h = by_test r.1 refl
-  where
-    by_test : (b : Bool) → r.1 ≡ b → (if r.1 then Some r.0 else first_broken (rules ++ last ∷ [])) ≡ (if last.1 then Some last.0 else None)
-    by_test true e = let bad : Some r.0 ≡ None = sym (rw e refl) ∙ h in absurd cc
-    by_test false e = rw e (last_rule rules last (sym (rw e refl) ∙ h))
+last_rule (r ∷ rules) last h = last_by r last rules r.1 (last_rule rules last) h
 
 pub stack_first : (f : Frame Version) (x : Move) → (length f.stack == 0) ≡ false → first_broken (frame_rules f x) ≡ Some 2
 unfolding first_broken
@@ -187,11 +215,10 @@ no_rule f x e h r = rw e (last_rule (move_rules x) (7, not (length f.running == 
 -- and of a task
 pub not_going : (codes : Codes Version) (m : Module) (n : ℕ) (pairs : List (ℕ × ℕ)) (s : MachineState Version) → goes_on (task_at s n) ≡ false
     → remap_with codes m n pairs s ≡ refused 1
-unfolding remap_with
+unfolding remap_with first_broken
 not_going codes m n pairs s h = by_task (task_at s n) h
   where
     by_flight : (t : Thread Version) (x : Move) (b : Bool) → is_some t.flight ≡ b → not b ≡ false → remap_thread codes m n pairs s t x ≡ refused 1
-    unfolding first_broken
     by_flight t x true e h = rw e refl
     by_flight t x false e h = absurd cc
     by_task : (o : Option (Task Version)) → goes_on o ≡ false → remap_task codes m n pairs s o ≡ refused 1

@@ -28,7 +28,7 @@ fn kind_number(kind: Kind) -> u8
 /// The kinds behind others, where these are the first of them.
 #[tactic(auto, unfolding(crate::specs::Remap::kinds_behind))]
 pub(crate) fn kinds_behind<'a>(first: Kinds<'_>, kinds: Kinds<'a>) -> Option<Kinds<'a>>
-    ensures { result ≡ kinds_behind first kinds }
+    ensures { result ≡ kinds_behind first.entry kinds.entry }
 {
     let mut left = first;
     let mut behind = kinds;

@@ -4,8 +4,8 @@
 
 mod goal;
 mod kinds;
-mod remap;
+mod moving;
 mod remapped;
 
-pub use remap::remap;
+pub use moving::remap;
 pub use remapped::Remapped;
