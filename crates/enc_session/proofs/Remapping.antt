@@ -1,5 +1,5 @@
 -- What comes of a remap: no watcher hears of it.
-use Rattle.std.proofs.Common.{◌≡◌, ℕ, Bool, List, [], ◌++◌, Result, Ok, Err, OnErr, refl, sym, ap, ◌∙◌, append-nil}
+use Rattle.std.proofs.Common.{◌≡◌, ℕ, Bool, List, [], ◌++◌, Result, Ok, Err, OnOk, refl, sym, ap, ◌∙◌, append-nil}
 use Rattle.std.specs.declared.alloc.AllocError.{AllocError}
 use Rattle.enc_frames.specs.Machine.{PlainCode, MachineState}
 use Rattle.enc_remap.specs.Remap.{Remapping, moved, refused}
@@ -7,9 +7,6 @@ use Rattle.enc_remap.specs.Seen.{IsRemap}
 use Rattle.enc_remap.specs.declared.remapped.Remapped.{Remapped}
 use Rattle.enc_remap.specs.declared.remapped.Remapped.TheVariants as remapped
 use Rattle.enc_session.specs.Session.{PlainSession, Happened, nothing_passed, with_machine, remap_of, remap_happened, remap_passed, remapped_as, HasPassed}
-
-behind : PlainSession → List Bool → Happened
-behind s deaf = nothing_passed deaf s
 
 by_answer : (r : Remapped) (new old : MachineState PlainCode) (said : Remapping PlainCode) (s : PlainSession) (deaf : List Bool) → s.machine ≡ old
     → IsRemap (Ok r) new old said → remap_happened said deaf s ≡ nothing_passed deaf (with_machine new s)
@@ -32,6 +29,12 @@ remap_has_passed task pairs r new old now before h followed seated kept = record
   appended = kept ∙ sym (append-nil before);
   passed = λ more. by_answer r new.machine old.machine (remap_of task pairs old) old more refl h ∙ session_of new old more followed seated;
 }
+
+pub remap_is_passed : (task : ℕ) (pairs : List (ℕ × ℕ)) (result : Result Remapped AllocError) (new old : PlainSession) (now before : List ℕ)
+    → IsRemap result new.machine old.machine (remap_of task pairs old) → new.followed ≡ old.followed → new.seated ≡ old.seated → now ≡ before
+    → OnOk result (HasPassed (remap_passed task pairs) new old now before)
+remap_is_passed task pairs (Ok r) new old now before h followed seated kept = remap_has_passed task pairs r new old now before h followed seated kept
+remap_is_passed task pairs (Err e) new old now before h followed seated kept = tt
 
 -- and what it comes to is answered
 pub remap_answers : (r : Remapped) (new old : MachineState PlainCode) (said : Remapping PlainCode) → IsRemap (Ok r) new old said → r ≡ remapped_as said
