@@ -2,7 +2,6 @@
 use Rattle.std.proofs.Common.{◌≡◌, ℕ, List, map, Option, Some, None, Result, Ok, Err, refl, sym, ap, subst, ◌∙◌}
 use Rattle.std.specs.Prelude.{option_map}
 use Rattle.std.specs.declared.alloc.AllocError.{AllocError}
-use Rattle.enc_base.specs.declared.token.Token.{Token}
 use Rattle.enc_frames.specs.Machine.{PlainCode, Frame, Thread, Task, going, ended, trapped, MachineState, code_meant, frame_meant, thread_meant, task_meant, state_meant}
 use Rattle.enc_objects.specs.Values.{default_of}
 use Rattle.enc_objects.specs.declared.kind.Kind.{Kind}
@@ -14,7 +13,7 @@ use Rattle.enc_versions.specs.Version.{Version, newest_of}
 use Rattle.enc_vm.proofs.Moved.{moves_mean}
 use Rattle.enc_vm.proofs.StepsMeant.{tasks_mean}
 use Rattle.enc_vm.specs.Step.{task_at}
-use Rattle.enc_remap.specs.Remap.{Move, Remapping, moved, refused, remap_by, remap_thread, remap_task, remap_with, remap_in, move_of, plain_codes, newest_code, first_broken, thread_rules, goal, new_kinds}
+use Rattle.enc_remap.specs.Remap.{Move, Remapping, moved, refused, remap_by, remap_task, remap_with, remap_in, move_of, plain_codes, first_broken, thread_rules, goal, new_kinds}
 use Rattle.enc_remap.specs.Seen.{IsRemap, IsPlainRemap, version_codes}
 use Rattle.enc_remap.specs.declared.remapped.Remapped.{Remapped}
 use Rattle.enc_remap.specs.declared.remapped.Remapped.TheVariants as remapped
@@ -48,13 +47,13 @@ thread_means : (users : ℕ → Option (List ℕ)) (m : Module) (debug : PlainPd
 thread_means users m debug methods n pairs s t sound are =
     let same = newest_meant users m debug methods t.top.method sound are in
     ap (λ (o : Option PlainCode). remap_by n (state_meant users s) (frame_meant users t.top) (first_broken (thread_rules (thread_meant users t) (record { plain = m; method = t.top.method; code = code_meant users t.top.code; newest = option_map (λ (c : PlainCode). c) o; from = t.top.offset; pairs = pairs })))
-        o (goal (move_of (version_codes users methods) m pairs t.top))
-        (new_kinds (record { plain = m; method = t.top.method; code = code_meant users t.top.code; newest = option_map (λ (c : PlainCode). c) o; from = t.top.offset; pairs = pairs }))) same
+    o (goal (move_of (version_codes users methods) m pairs t.top))
+    (new_kinds (record { plain = m; method = t.top.method; code = code_meant users t.top.code; newest = option_map (λ (c : PlainCode). c) o; from = t.top.offset; pairs = pairs }))) same
     ∙ ap (λ (o : Option PlainCode). remap_by n (state_meant users s) (frame_meant users t.top) (first_broken (thread_rules (thread_meant users t) (record { plain = m; method = t.top.method; code = code_meant users t.top.code; newest = o; from = t.top.offset; pairs = pairs })))
-        (option_map (code_meant users) (newest_of methods t.top.method)) (goal (move_of (version_codes users methods) m pairs t.top))
-        (new_kinds (record { plain = m; method = t.top.method; code = code_meant users t.top.code; newest = o; from = t.top.offset; pairs = pairs }))) (same_option (option_map (code_meant users) (newest_of methods t.top.method)))
+    (option_map (code_meant users) (newest_of methods t.top.method)) (goal (move_of (version_codes users methods) m pairs t.top))
+    (new_kinds (record { plain = m; method = t.top.method; code = code_meant users t.top.code; newest = o; from = t.top.offset; pairs = pairs }))) (same_option (option_map (code_meant users) (newest_of methods t.top.method)))
     ∙ by_parts users n s t.top (first_broken (thread_rules t (move_of (version_codes users methods) m pairs t.top))) (newest_of methods t.top.method)
-        (goal (move_of (version_codes users methods) m pairs t.top)) (new_kinds (move_of (version_codes users methods) m pairs t.top))
+    (goal (move_of (version_codes users methods) m pairs t.top)) (new_kinds (move_of (version_codes users methods) m pairs t.top))
 
 task_means : (users : ℕ → Option (List ℕ)) (m : Module) (debug : PlainPdb) (methods : List (Option Version)) (n : ℕ) (pairs : List (ℕ × ℕ)) (s : MachineState Version) (o : Option (Task Version))
     → IsSound m → AreVersionsOf users m debug methods

@@ -1,9 +1,8 @@
 -- The newest version of a method means its body, has its user texts, and its instructions' offsets are places where a frame may go on.
-use Rattle.std.proofs.Common.{◌≡◌, ℕ, zero, suc, ◌+◌, ◌≤◌, ◌<◌, Bool, true, false, ◌&&◌, ◌||◌, List, [], ◌∷◌, map, length, Option, Some, None, IsTrue, IfSome, refl, sym, ap, ◌∙◌, inl, inr, arith, subst, option_map, get_or, if◌then◌else◌, ◌==◌, nat_lt, nat_le}
-use Rattle.std.specs.List.{list_any}
+use Rattle.std.proofs.Common.{◌≡◌, ℕ, zero, suc, ◌≤◌, Bool, true, false, ◌&&◌, ◌||◌, List, [], ◌∷◌, map, length, Option, Some, None, IsTrue, IfSome, refl, sym, ap, ◌∙◌, inl, inr, arith, subst, option_map, get_or, if◌then◌else◌, ◌==◌, nat_lt, nat_le}
 use Rattle.std.proofs.lemmas.Bool.Decides.{nat_tests}
 use Rattle.enc_base.specs.declared.token.Token.{Token}
-use Rattle.enc_frames.specs.Machine.{PlainCode, code_meant}
+use Rattle.enc_frames.specs.Machine.{code_meant}
 use Rattle.enc_kinds.specs.Members.{method_body, body_of_cell}
 use Rattle.enc_opcodes.specs.Body.{Body, Code, body_of, instruction_told, is_instruction_start, texts_are_there}
 use Rattle.enc_opcodes.specs.Instruction.{Instruction, instructions_of}
@@ -23,6 +22,7 @@ use Rattle.enc_vm.specs.CallsSeen.{AreBodiesOf}
 use Rattle.enc_vm.specs.Moves.{IsBeginIn}
 use Rattle.enc_vm.specs.Placed.{IsSoundCode}
 use Rattle.enc_vm.specs.Texts.{version_texts}
+use Rattle.enc_remap.specs.Laws.{NewestMayBeMovedTo}
 use Rattle.enc_remap.specs.Remap.{newest_code}
 
 abbrev the_none : Option Version
@@ -140,3 +140,6 @@ pub bodies_if_some : {A : Type 0} (users : ℕ → Option (List ℕ)) (m : Modul
     → IfSome o (λ (a : A). method_body m t ≡ Some (body_of users (version a).code))
 bodies_if_some users m methods t None version are at is = tt
 bodies_if_some users m methods t (Some a) version are at is = body_of_newest users m methods t (version a) are at (sym is)
+
+pub newest_law : NewestMayBeMovedTo
+newest_law users m methods t v offset sound are at is begins = begins_anywhere users m methods t v offset sound are at is begins

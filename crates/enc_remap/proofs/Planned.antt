@@ -1,9 +1,8 @@
 -- What comes of a remap, by the task's innermost frame.
-use Rattle.std.proofs.Common.{◌≡◌, ℕ, Bool, true, false, not, ◌&&◌, List, ◌∷◌, map, length, Option, Some, None, IsTrue, refl, sym, ap, ◌∙◌, subst, arith, option_and_then, ◌==◌, if◌then◌else◌}
+use Rattle.std.proofs.Common.{◌≡◌, ℕ, Bool, true, false, not, List, map, length, Option, Some, None, IsTrue, refl, sym, ap, ◌∙◌, subst, arith, option_and_then, ◌==◌}
 use Rattle.std.specs.Prelude.{is_some}
 use Rattle.std.proofs.lemmas.Bool.Decides.{nat_tests}
 use Rattle.std.proofs.lemmas.Bool.{and_parts}
-use Rattle.enc_base.specs.declared.token.Token.{Token}
 use Rattle.enc_frames.specs.Machine.{Frame, Thread, Task, going, ended, trapped, MachineState}
 use Rattle.enc_objects.specs.Values.{default_of}
 use Rattle.enc_objects.specs.declared.kind.Kind.{Kind}
@@ -19,7 +18,7 @@ use Rattle.enc_vm.specs.Looks.{innermost_of, innermost_in}
 use Rattle.enc_vm.specs.Moves.{IsBeginIn, is_idle, moved_top}
 use Rattle.enc_vm.specs.Step.{task_at}
 use Rattle.enc_vm.specs.Texts.{version_texts}
-use Rattle.enc_remap.specs.Remap.{Move, Codes, MayMove, Remapping, moved, refused, first_broken, move_rules, thread_rules, move_of, goal, new_kinds, remap_by, remap_task, remap_thread, remap_with}
+use Rattle.enc_remap.specs.Remap.{Move, Codes, moved, refused, first_broken, thread_rules, goal, new_kinds, remap_by, remap_task, remap_thread, remap_with}
 use Rattle.enc_remap.specs.Seen.{IsGoal, frame_rules, goes_on, version_codes}
 use Rattle.enc_remap.proofs.Newest.{begins_anywhere, texts_of_newest}
 use Rattle.enc_remap.proofs.Rules.{asked_of, no_rule, in_frame}
@@ -62,7 +61,7 @@ by_task users methods m n pairs s f v to ks (Some (trapped x frames)) going_on i
 by_task users methods m n pairs s f v to ks (Some (going t)) going_on is stack running g =
     let e : t.top ≡ f = cc in
     subst (λ (h : Frame Version). remap_thread (version_codes users methods) m n pairs s t (asked_of users methods m pairs t.top)
-        ≡ moved h.method h.offset to (moved_top n v to (map default_of ks) s)) e
+    ≡ moved h.method h.offset to (moved_top n v to (map default_of ks) s)) e
     (in_thread users methods m n pairs s t v to ks (no_flight t going_on) (ap (λ (h : Frame Version). length h.stack) e ∙ stack) (ap (λ (h : Frame Version). length h.running) e ∙ running)
     (subst (λ (h : Frame Version). IsGoal (asked_of users methods m pairs h) (newest_of methods h.method) v to ks) (sym e) g))
 
@@ -111,8 +110,11 @@ idle_by f (Some ended) h is stack running = absurd cc
 idle_by f (Some (trapped x frames)) h is stack running = absurd cc
 idle_by f (Some (going t)) h is stack running =
     let e : t.top ≡ f = cc in
-    rw (no_flight t h, is_empty (length t.top.stack) (ap (λ (g : Frame Version). length g.stack) e ∙ stack),
-        is_empty (length t.top.running) (ap (λ (g : Frame Version). length g.running) e ∙ running)) refl
+    rw (
+      no_flight t h,
+      is_empty (length t.top.stack) (ap (λ (g : Frame Version). length g.stack) e ∙ stack),
+      is_empty (length t.top.running) (ap (λ (g : Frame Version). length g.running) e ∙ running),
+    ) refl
 
 pub plan_is_idle : (n : ℕ) (s : MachineState Version) (f : Frame Version) → goes_on (task_at s n) ≡ true → innermost_in s n ≡ Some f
     → length f.stack ≡ 0 → length f.running ≡ 0 → IsTrue (is_idle (task_at s n))

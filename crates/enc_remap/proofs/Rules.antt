@@ -5,7 +5,6 @@ use Rattle.std.proofs.lemmas.List.{length-reverse}
 use Rattle.std.specs.List.{list_any}
 use Rattle.enc_frames.specs.Machine.{PlainCode, Frame, Thread, Task, going, ended, trapped, MachineState, code_meant}
 use Rattle.enc_kinds.specs.Members.{local_kinds, method_body, run_body, call_shape, if_runs, runs_body}
-use Rattle.enc_objects.specs.Values.{default_of}
 use Rattle.enc_objects.specs.declared.kind.Kind.{Kind}
 use Rattle.enc_objects.specs.declared.value.Value.{Value}
 use Rattle.enc_opcodes.specs.Body.{Body, body_of, is_instruction_start}
@@ -13,13 +12,11 @@ use Rattle.enc_opcodes.specs.Instruction.{instructions_of}
 use Rattle.enc_plain.specs.Module.{Module}
 use Rattle.enc_seqpoints.specs.declared.point.Point.{Point}
 use Rattle.enc_unwind.specs.Search.{handlers_of, is_handled}
-use Rattle.enc_versions.specs.StandFor.{lines_read}
 use Rattle.enc_versions.specs.Stops.{stands_at, is_stop_in}
 use Rattle.enc_versions.specs.Stops.{is_at_point as is_point_in}
 use Rattle.enc_versions.specs.Version.{Version, newest_of}
-use Rattle.enc_vm.specs.Moves.{is_idle, moved_top}
 use Rattle.enc_vm.specs.Step.{task_at}
-use Rattle.enc_remap.specs.Remap.{Move, Codes, MayMove, Remapping, moved, refused, first_broken, move_rules, thread_rules, move_of, goal, led_from, kinds_behind, kinds_of, new_kinds, is_visible, is_stop, remap_by, remap_task, remap_thread, remap_with}
+use Rattle.enc_remap.specs.Remap.{Move, Codes, MayMove, refused, first_broken, move_rules, move_of, goal, led_from, kinds_behind, kinds_of, new_kinds, is_visible, is_stop, remap_task, remap_thread, remap_with}
 use Rattle.enc_remap.specs.Seen.{IsGoal, frame_rules, goes_on, version_codes}
 use Rattle.enc_remap.proofs.Newest.{begins_in}
 
@@ -221,6 +218,7 @@ not_going codes m n pairs s h = by_task (task_at s n) h
     by_flight : (t : Thread Version) (x : Move) (b : Bool) → is_some t.flight ≡ b → not b ≡ false → remap_thread codes m n pairs s t x ≡ refused 1
     by_flight t x true e h = rw e refl
     by_flight t x false e h = absurd cc
+
     by_task : (o : Option (Task Version)) → goes_on o ≡ false → remap_task codes m n pairs s o ≡ refused 1
     by_task None h = refl
     by_task (Some ended) h = refl

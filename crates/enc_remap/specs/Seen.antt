@@ -1,7 +1,6 @@
 -- A remap's answer, and the machine behind it.
 use Rattle.std.specs.Prelude.{◌≡◌, ℕ, Bool, true, false, not, List, [], ◌∷◌, ◌++◌, length, Option, Some, is_some, Result, Ok, Err, ◌==◌}
 use Rattle.std.specs.declared.alloc.AllocError.{AllocError}
-use Rattle.enc_base.specs.declared.token.Token.{Token}
 use Rattle.enc_frames.specs.Machine.{Frame, Task, going, MachineState, code_meant, state_meant}
 use Rattle.enc_objects.specs.declared.kind.Kind.{Kind}
 use Rattle.enc_plain.specs.Debug.{PlainPdb}

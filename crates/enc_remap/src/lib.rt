@@ -4,8 +4,10 @@
 
 mod goal;
 mod kinds;
+mod laws;
 mod moving;
 mod remapped;
 
+pub use laws::newest_law;
 pub use moving::remap;
 pub use remapped::Remapped;

@@ -1,4 +1,4 @@
-use Rattle.std.proofs.Common.{rules, ◌≡◌, ℕ, true, false, length, ◌==◌}
+use Rattle.std.proofs.Common.{rules, ◌≡◌, true, false, length, ◌==◌}
 use Rattle.enc_remap.proofs.Rules.{asked_of, empty_stack, stack_first, then_rules, then_running}
 use Rattle.enc_remap.proofs.goal.frame_goal.Goals as goal
 

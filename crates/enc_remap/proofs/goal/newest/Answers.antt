@@ -1,4 +1,3 @@
-use Rattle.std.proofs.Common.{sym}
 use Rattle.enc_remap.proofs.Newest.{bodies_if_some}
 use Rattle.enc_remap.proofs.goal.newest.Goals as goal
 

@@ -1,8 +1,6 @@
-use Rattle.std.proofs.Common.{rules, ◌≡◌, Some, true, false, refl, sym, ap, ◌∙◌}
+use Rattle.std.proofs.Common.{rules, ◌≡◌, Some, true, false, refl, ◌∙◌}
 use Rattle.enc_vm.specs.Looks.{innermost_in}
-use Rattle.enc_vm.specs.Moves.{moved_top}
 use Rattle.enc_vm.specs.Step.{task_at}
-use Rattle.enc_remap.specs.Remap.{moved}
 use Rattle.enc_remap.specs.Seen.{goes_on, version_codes}
 use Rattle.enc_remap.proofs.Planned.{plan_moves, plan_refuses, plan_begins, plan_texts}
 use Rattle.enc_remap.proofs.Rules.{not_going}

@@ -1,4 +1,4 @@
-use Rattle.std.proofs.Common.{rules, ◌≡◌, IsTrue, subst, sym, ap}
+use Rattle.std.proofs.Common.{rules, ◌≡◌, IsTrue, subst, sym}
 use Rattle.enc_versions.specs.Version.{Version}
 use Rattle.enc_vm.proofs.Moved.{moved_texts}
 use Rattle.enc_vm.specs.Moves.{IsBeginIn}
@@ -14,5 +14,5 @@ pub returns-clause-texts : goal.returns-clause-texts
 returns-clause-texts g c =
     let same : c.in_ok-code.code.value ≡ c.in-Ok.plan.goal.code.now.value = search rules in
     λ h. subst (λ (s : _). IsTrue (machine_texts (g.V.ModuleView.users c.args.view.now) s)) (sym c.in_ok-move_top.ensures.ok)
-        (moved_texts (g.V.ModuleView.users c.args.view.now) c.args.task c.in_ok-code.code.value c.in-Ok.plan.goal.to c.as_slice.result.now c.args.machine.now
-        (subst (λ (v : Version). IsTrue (version_texts (g.V.ModuleView.users c.args.view.now) v)) (sym same) c.in-Ok.ensures.texts) h)
+    (moved_texts (g.V.ModuleView.users c.args.view.now) c.args.task c.in_ok-code.code.value c.in-Ok.plan.goal.to c.as_slice.result.now c.args.machine.now
+    (subst (λ (v : Version). IsTrue (version_texts (g.V.ModuleView.users c.args.view.now) v)) (sym same) c.in-Ok.ensures.texts) h)
