@@ -98,12 +98,7 @@ impl Frame {
 
     /// Goes on in another code, at an offset of it, with more local variables behind its own; all else stays.
     /// Without memory nothing changes.
-    pub fn move_to(
-        &mut self,
-        code: Rc<Code>,
-        offset: u32,
-        more: &[Value],
-    ) -> Result<(), AllocError>
+    pub fn move_to(&mut self, code: Rc<Code>, offset: u32, more: &[Value]) -> Result<(), AllocError>
         ensures ok { OnOk result (self.new ≡ moved_to code.value offset more.now self.old) }
         ensures err { OnErr result (self.new ≡ self.old) }
     {

@@ -100,12 +100,7 @@ fn push_moved(
 
 /// Appends the line of a remap that is refused by the rule with a number.
 #[tactic(auto, unfolding(enc_session::specs::Lines::task_line, crate::specs::Lines::remap_refused_line))]
-fn push_unmoved(
-    alloc: Global,
-    task: u32,
-    number: u8,
-    out: &mut Vec<u8>,
-) -> Result<(), AllocError>
+fn push_unmoved(alloc: Global, task: u32, number: u8, out: &mut Vec<u8>) -> Result<(), AllocError>
     ensures { OnOk result (out.new.items ≡ out.old.items ++ remap_refused_line task number) }
 {
     push_task(alloc, task, out)?;

@@ -7,7 +7,9 @@ ghost use Rattle.enc_vm.specs.Turns.{machine_turn};
 ghost use Rattle.enc_watch.specs.Audience.{first_of_kind, reports, seat_at};
 
 use crate::files::{NamedDelta, copied_files, files_of};
-use crate::lines::{push_attached, push_none, push_outcome, push_ran, push_remap, push_said, push_spawn};
+use crate::lines::{
+    push_attached, push_none, push_outcome, push_ran, push_remap, push_said, push_spawn,
+};
 use crate::steps::make_steps;
 use enc_base::Token;
 use enc_image::Image;

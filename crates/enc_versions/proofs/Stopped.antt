@@ -3,7 +3,6 @@ use Rattle.std.proofs.Common.{◌≡◌, ℕ, zero, suc, ◌+◌, ◌<◌, Bool,
 use Rattle.std.specs.Prelude.{Option, is_some, slice_get, find, ◌==◌, if◌then◌else◌}
 use Rattle.std.specs.BTreeMap.{is_at}
 use Rattle.std.specs.BTreeSet.{BTreeSet, contains, Updates, IsEmpty}
-use Rattle.std.specs.List.{list_any}
 use Rattle.std.specs.Ordering.{nat_cmp}
 use Rattle.std.proofs.lemmas.Bool.Decides.{nat_tests}
 use Rattle.std.proofs.lemmas.List.Folds.{list_any-append}
@@ -11,7 +10,7 @@ use Rattle.enc_opcodes.specs.Body.{Code, is_instruction_start}
 use Rattle.enc_opcodes.specs.Instruction.{instructions_of}
 use Rattle.enc_seqpoints.specs.Grammar.{AreRising}
 use Rattle.enc_seqpoints.specs.declared.point.Point.{Point}
-use Rattle.enc_versions.specs.Stops.{stands_at, is_at_point, is_stop_in, AreStops, KeepsStop}
+use Rattle.enc_versions.specs.Stops.{stands_at, is_at_point, AreStops, KeepsStop}
 
 same : (k q : ℕ) → is_at (nat_cmp k) q ≡ true → k ≡ q
 same k q h = grind (arith, nat_tests, h)

@@ -6,7 +6,6 @@ use Rattle.std.specs.Ordering.{nat_cmp}
 use Rattle.enc_opcodes.specs.Body.{Code, is_instruction_start}
 use Rattle.enc_opcodes.specs.Instruction.{instructions_of}
 use Rattle.enc_seqpoints.specs.declared.point.Point.{Point}
-use Rattle.enc_versions.specs.Version.{Version}
 
 -- a point that isn't hidden stands at an offset
 abbrev pub stands_at : ℕ → Point → Bool

@@ -21,11 +21,7 @@ fn may_stop(marks: &[bool], point: Point) -> bool
 
 /// Puts the offset of a point into a set, where a frame may stop there.
 #[tactic(auto, using(crate::proofs::Stopped::stop_kept, crate::proofs::Stopped::no_stop))]
-fn keep_stop(
-    stops: &mut BTreeSet<u32>,
-    marks: &[bool],
-    point: Point,
-) -> Result<(), AllocError>
+fn keep_stop(stops: &mut BTreeSet<u32>, marks: &[bool], point: Point) -> Result<(), AllocError>
     ensures { OnOk result (KeepsStop (mark_at marks.now) point stops.old stops.new) }
 {
     if may_stop(marks, point) {
@@ -35,11 +31,7 @@ fn keep_stop(
 }
 
 /// The offsets of the points at which a frame may stop, by the marks of where instructions begin.
-fn marked_stops(
-    alloc: Global,
-    marks: &[bool],
-    points: &Points,
-) -> Result<BTreeSet<u32>, AllocError>
+fn marked_stops(alloc: Global, marks: &[bool], points: &Points) -> Result<BTreeSet<u32>, AllocError>
     ensures { IfOk result (λ s. (offset : ℕ) → contains nat_cmp s offset ≡ (mark_at marks.now offset && is_at_point points.now.points offset)) }
 {
     let mut stops = BTreeSet::new(alloc);

@@ -62,8 +62,7 @@ task_placed : (users : ℕ → Option (List ℕ)) (m : Module) (methods : List (
 unfolding version_world
 task_placed users m methods v offset more (going t) idle begins p =
     let quiet = and_second (length t.top.stack == 0) (length t.top.running == 0) (and_second (not (is_some t.flight)) _ idle) in
-    let is = begins users in
-    (
+    let is = begins users in (
       record {
         sound = is.0;
         at = or_first (begins_at ((body_of users v.code).code) offset) _ is.1;
@@ -145,7 +144,7 @@ either_placed (Ok x) tasks i v offset more t u is idle begins p ok err =
     subst (λ (w : Task Version). ArePlacedAnywhere (slice_set tasks i w)) (sym ok) (moved_placed tasks i v offset more t is idle begins p)
 either_placed (Err e) tasks i v offset more t u is idle begins p ok err =
     λ users m methods. another (version_world users m methods) tasks i u (p users m methods)
-        (subst (IsTaskPlaced (version_world users m methods)) (sym err) (nth_placed users m methods tasks i t is (p users m methods)))
+    (subst (IsTaskPlaced (version_world users m methods)) (sym err) (nth_placed users m methods tasks i t is (p users m methods)))
 
 pub idle_at : (n i : ℕ) (s : MachineState Version) (t : Task Version) → n ≡ i + 1 → slice_get s.tasks i ≡ Some t → is_idle (task_at s n) ≡ true → is_idle (Some t) ≡ true
 idle_at n i s t is there h =

@@ -27,6 +27,6 @@ returns-clause-ok c =
     let there : slice_get c.self.inside.tasks.items c.in-Some.i ≡ Some c.in-Some-get_mut.task.now = slice_get-get_or c.self.inside.tasks.items c.in-Some.i c.in-Some-get_mut.task.now (search rules) ∙ ap Some (search rules) in
     ok_then c.move_top.result
     (λ ok. ap (λ (t : Task Version). record { shared = shared_by c.self.inside.objects c.self.inside.touched; tasks = slice_set c.self.inside.tasks.items c.in-Some.i t }) ok
-        ∙ sym (moved_by_task c.args.task c.in-Some.i c.args.code.value c.args.offset c.args.more.now s c.in-Some-get_mut.task.now (omega (arith, c.in-Some.ensures)) there)
-        ∙ ap (moved_top c.args.task c.args.code.value c.args.offset c.args.more.now) c.self.view_is)
+    ∙ sym (moved_by_task c.args.task c.in-Some.i c.args.code.value c.args.offset c.args.more.now s c.in-Some-get_mut.task.now (omega (arith, c.in-Some.ensures)) there)
+    ∙ ap (moved_top c.args.task c.args.code.value c.args.offset c.args.more.now) c.self.view_is)
     c.move_top.ensures.ok
