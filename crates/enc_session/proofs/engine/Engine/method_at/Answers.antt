@@ -17,4 +17,4 @@ returns-in-Some c =
     let users = users_of_all c.self.inside.parts.agg in
     rw (← c.self.view_is)
     (sym (method_at_meant users c.self.inside.machine c.args.task c.args.i (c.look_laws.ensures.frames users c.self.inside.machine c.args.task c.args.i)
-    ∙ ap (option_map (λ (f : Frame Version). f.method)) (sym c.frame.ensures ∙ c.in-Some.is) ∙ ap Some (sym c.method.ensures)))
+    ∙ ap (option_map (λ (f : Frame Version). f.method)) (sym c.frame.ensures ∙ c.in-Some.is) ∙ ap Some (sym c.method.ensures.method)))
