@@ -52,12 +52,19 @@ detached_line number = watcher_line number (codes "detached")
 unfoldable pub number_absent_line : ℕ → List ℕ
 number_absent_line number = watcher_line number (codes "absent")
 
+-- two offsets, each behind a blank
+unfoldable pub two_labels : ℕ → ℕ → List ℕ
+two_labels from to = 0x20 ∷ label from ++ 0x20 ∷ label to
+
 unfoldable pub remapped_line : ℕ → Token → ℕ → ℕ → List ℕ
-remapped_line task method from to =
-    task_line task (codes "remapped " ++ token_text method ++ 0x20 ∷ label from ++ 0x20 ∷ label to)
+remapped_line task method from to = task_line task (codes "remapped " ++ token_text method ++ two_labels from to)
+
+-- a rule of remaps by its number
+unfoldable pub rule_text : ℕ → List ℕ
+rule_text number = codes "refused Q" ++ decimal number
 
 unfoldable pub remap_refused_line : ℕ → ℕ → List ℕ
-remap_refused_line task number = task_line task (codes "remap refused Q" ++ decimal number)
+remap_refused_line task number = task_line task (codes "remap " ++ rule_text number)
 
 -- a remap: the method, the offset at which its frame stood and that at which it goes on, or which rule is broken
 abbrev pub remap_line : {C : Type 0} → ℕ → Remapping C → List ℕ

@@ -4,7 +4,7 @@ ghost use Rattle.enc_text.specs.Text.{refused_line, token_text};
 ghost use Rattle.enc_watch.specs.Audience.{line_front, watcher_line};
 ghost use Rattle.enc_checker.specs.Followed.{is_of_pdb};
 ghost use Rattle.enc_session.specs.Lines.{task_line};
-ghost use Rattle.enc_script.specs.Lines.{number_absent_line, applied_line, attached_line, detached_line, watch_kind_text, none_line, ran_line, refused_spawn, remap_refused_line, remapped_line};
+ghost use Rattle.enc_script.specs.Lines.{number_absent_line, applied_line, attached_line, detached_line, watch_kind_text, none_line, ran_line, refused_spawn, remap_refused_line, remapped_line, rule_text, two_labels};
 ghost use Rattle.enc_script.specs.Ran.{remapped_end_line, spawn_end_line};
 ghost use Rattle.enc_script.specs.Run.{apply_line, named_delta, refused_file};
 
@@ -77,6 +77,17 @@ pub(crate) fn push_ran(
     push_str(out, "\n")
 }
 
+/// Appends two offsets, each behind a blank.
+#[tactic(auto, unfolding(crate::specs::Lines::two_labels))]
+fn push_labels(from: u32, to: u32, out: &mut Vec<u8>) -> Result<(), AllocError>
+    ensures { OnOk result (out.new.items ≡ out.old.items ++ two_labels from to) }
+{
+    push_str(out, " ")?;
+    push_label(from, out)?;
+    push_str(out, " ")?;
+    push_label(to, out)
+}
+
 /// Appends the line of a frame that goes on in the newest body of its method.
 #[tactic(auto, unfolding(enc_session::specs::Lines::task_line, crate::specs::Lines::remapped_line))]
 fn push_moved(
@@ -91,21 +102,27 @@ fn push_moved(
     push_task(alloc, task, out)?;
     push_str(out, "remapped ")?;
     push_token(out, method)?;
-    push_str(out, " ")?;
-    push_label(offsets.0, out)?;
-    push_str(out, " ")?;
-    push_label(offsets.1, out)?;
+    push_labels(offsets.0, offsets.1, out)?;
     push_str(out, "\n")
+}
+
+/// Appends that a rule with a number refuses a remap.
+#[tactic(auto, unfolding(crate::specs::Lines::rule_text))]
+fn push_rule(alloc: Global, number: u32, out: &mut Vec<u8>) -> Result<(), AllocError>
+    ensures { OnOk result (out.new.items ≡ out.old.items ++ rule_text number) }
+{
+    push_str(out, "refused Q")?;
+    push_decimal(alloc, out, number)
 }
 
 /// Appends the line of a remap that is refused by the rule with a number.
 #[tactic(auto, unfolding(enc_session::specs::Lines::task_line, crate::specs::Lines::remap_refused_line))]
-fn push_unmoved(alloc: Global, task: u32, number: u8, out: &mut Vec<u8>) -> Result<(), AllocError>
+fn push_unmoved(alloc: Global, task: u32, number: u32, out: &mut Vec<u8>) -> Result<(), AllocError>
     ensures { OnOk result (out.new.items ≡ out.old.items ++ remap_refused_line task number) }
 {
     push_task(alloc, task, out)?;
-    push_str(out, "remap refused Q")?;
-    push_decimal(alloc, out, u32::from(number))?;
+    push_str(out, "remap ")?;
+    push_rule(alloc, number, out)?;
     push_str(out, "\n")
 }
 
@@ -120,7 +137,7 @@ pub(crate) fn push_remap(
 {
     match remapped {
         Remapped::Moved { method, from, to } => push_moved(alloc, task, method, (from, to), out),
-        Remapped::Refused(number) => push_unmoved(alloc, task, number, out),
+        Remapped::Refused(number) => push_unmoved(alloc, task, u32::from(number), out),
     }
 }
 
