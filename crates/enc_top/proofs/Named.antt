@@ -79,4 +79,5 @@ all_good names (Spawn method ∷ rest) good all = all_good names rest good all
 all_good names (Step task count ∷ rest) good all = all_good names rest good all
 all_good names (Attach kind ∷ rest) good all = all_good names rest good all
 all_good names (Detach number ∷ rest) good all = all_good names rest good all
+all_good names (Remap task pairs ∷ rest) good all = all_good names rest good all
 all_good names (State ∷ rest) good all = all_good names rest good all
