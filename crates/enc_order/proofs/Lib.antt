@@ -1,0 +1,4 @@
+pub mod OneOrder
+pub mod Pointwise
+pub mod RowPlaces
+pub mod Rowed
