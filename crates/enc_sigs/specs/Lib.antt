@@ -7,3 +7,4 @@ pub mod Walk
 pub mod Laws
 pub mod Mix
 pub mod Shape
+pub mod Moved
