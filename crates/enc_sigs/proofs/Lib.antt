@@ -15,3 +15,5 @@ pub mod Shapes
 pub mod Shared
 pub mod Rounds
 pub mod TypeFronts
+pub mod MovedTrees
+pub mod MovedInTable

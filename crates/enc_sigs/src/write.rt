@@ -10,7 +10,7 @@ use crate::form::{Form, Numeral};
 use crate::kind::SigKind;
 use crate::number::form_by;
 use crate::sig::{Front, Sig};
-use enc_base::{Token, push_signed, push_unsigned};
+use enc_base::{Token, push_signed, push_unsigned, written_laws};
 use enc_schema::tables::{TYPE_DEF, TYPE_REF};
 use std::alloc::{AllocError, Global};
 
@@ -344,9 +344,26 @@ fn write_front<F: Fn(Token) -> Token>(
     }
 }
 
+/// Appends the shortest spelling of the signature with each of its tokens moved, or nothing.
+#[tactic(auto, unfolding(crate::specs::Spelling::sig_bytes))]
+fn write_whole<F: Fn(Token) -> Token>(
+    alloc: Global,
+    front: &Front,
+    moved: &F,
+    out: &mut Vec<u8>,
+) -> Result<(), AllocError>
+    requires { F.IsAlwaysCallable moved.now }
+    ensures { (f : Token → Token) → GivesTokens (F.post moved.now) f → out.new.items ≡ (if is_ok result then out.old.items ++ sig_bytes (sig_moved f front.now) else out.old.items) }
+{
+    let mut bytes = Vec::new(alloc);
+    write_front(front, moved, &mut bytes)?;
+    out.extend_from_slice(bytes.as_slice())
+}
+
 /// Appends the shortest spelling of the signature with each of its tokens moved (ECMA-335 II.23.2).
 /// Without memory nothing is appended. Where each token stays in its table, in a row from 1 to
-/// 2^24 - 1, what is appended is read as the signature with its tokens moved (`moved_laws`).
+/// 2^24 - 1, what is appended is read as the signature with its tokens moved, the range of these
+/// aside; `moved_laws` say with which counts.
 pub fn write_moved<F: Fn(Token) -> Token>(
     alloc: Global,
     sig: &Sig,
@@ -357,9 +374,8 @@ pub fn write_moved<F: Fn(Token) -> Token>(
     ensures written { (f : Token → Token) → GivesTokens (F.post moved) f → out.new.items ≡ (if is_ok result then out.old.items ++ sig_bytes (sig_moved f sig.now) else out.old.items) }
     ensures back { (f : Token → Token) → GivesTokens (F.post moved) f → all_tokens (stays_in_table f) (forest_of sig.now.parts) ≡ true → IsSpelled (sig_moved f sig.now) }
 {
-    let mut bytes = Vec::new(alloc);
-    write_front(&sig.front, &moved, &mut bytes)?;
-    out.extend_from_slice(bytes.as_slice())
+    written_laws();
+    write_whole(alloc, &sig.front, &moved, out)
 }
 
 /// Appends the signature's shortest spelling (ECMA-335 II.23.2). Without memory nothing is
@@ -369,5 +385,5 @@ pub fn write_sig(alloc: Global, sig: &Sig, out: &mut Vec<u8>) -> Result<(), Allo
     ensures written { out.new.items ≡ (if is_ok result then out.old.items ++ sig_bytes sig.now else out.old.items) }
     ensures back { IsSpelled sig.now }
 {
-    write_moved(alloc, sig, |token| token, out)
+    write_whole(alloc, &sig.front, &|token| token, out)
 }
