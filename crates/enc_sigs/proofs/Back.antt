@@ -1,5 +1,5 @@
 -- What is written reads back, with what is moved in it: one thing and another, a number and what depends on it, many.
-use Rattle.std.proofs.Common.{◌≡◌, ℕ, zero, suc, ◌<◌, Bool, true, false, List, [], ◌∷◌, ◌++◌, length, drop, Option, Some, None, refl, sym, ap, subst, ◌∙◌, arith, append_assoc}
+use Rattle.std.proofs.Common.{◌≡◌, ℕ, zero, suc, ◌<◌, Bool, true, false, List, [], ◌∷◌, ◌++◌, length, drop, Option, Some, None, refl, sym, ap, subst, ◌∙◌, append_assoc}
 use Rattle.std.proofs.lemmas.Bool.{lt-ltb, ltb-true}
 use Rattle.std.proofs.lemmas.Int.{of_z-to_z}
 use Rattle.std.proofs.Math.Seq.{drop-append_seam}
@@ -35,11 +35,11 @@ pub record Fits {A B : Type 0} (h : A → B) (m : Moves A) (n : Moves B) (x : A)
   pub to : n.to (h x) ≡ h (m.to x)
   pub bytes : n.bytes (h (m.to x)) ≡ m.bytes (m.to x)
 
-and_left : (s t : Bool) → (s && t) ≡ true → s ≡ true
+pub and_left : (s t : Bool) → (s && t) ≡ true → s ≡ true
 and_left true t e = refl
 and_left false t e = absurd (cc)
 
-and_second : (s t : Bool) → (s && t) ≡ true → t ≡ true
+pub and_second : (s t : Bool) → (s && t) ≡ true → t ≡ true
 and_second true t e = e
 and_second false t e = absurd (cc)
 
@@ -53,7 +53,7 @@ given_back {A} {B} h m n r s bytes (Some q) p rest fits back is e may =
     let P : B × List ℕ → Type 0 = λ x. n.may x.0 ≡ true → giving h s (n.bytes (n.to x.0) ++ rest) ≡ Some (n.to x.0, rest) in
     let Q : B → Type 0 = λ y. giving h s (n.bytes y ++ rest) ≡ Some (y, rest) in
     let read : n.may (h q.0) ≡ true → giving h s (m.bytes (m.to q.0) ++ rest) ≡ Some (h (m.to q.0), rest)
-        = λ g. ap (option_map {T = A × List ℕ} (λ q. (h q.0, q.1))) (back bytes q rest is (sym k.may ∙ g)) in
+    = λ g. ap (option_map {T = A × List ℕ} (λ q. (h q.0, q.1))) (back bytes q rest is (sym k.may ∙ g)) in
     let here : P (h q.0, q.1) = λ g. subst Q (sym k.to) (ap (λ z. giving h s (z ++ rest)) k.bytes ∙ read g) in
     subst P f here may
 
@@ -80,13 +80,13 @@ second_back m n r u s v bytes x None p rest first second is at e may = absurd (c
 second_back {A} {B} m n r u s v bytes x (Some y) p rest first second is at e may =
     let f : ((x.0, y.0), y.1) ≡ p = cc in
     let P : (A × B) × List ℕ → Type 0 = λ q. (m.may q.0.0 && n.may q.0.1) ≡ true
-        → both u v ((m.bytes (m.to q.0.0) ++ n.bytes (n.to q.0.1)) ++ rest) ≡ Some ((m.to q.0.0, n.to q.0.1), rest) in
+    → both u v ((m.bytes (m.to q.0.0) ++ n.bytes (n.to q.0.1)) ++ rest) ≡ Some ((m.to q.0.0, n.to q.0.1), rest) in
     let a = m.bytes (m.to x.0) in
     let b = n.bytes (n.to y.0) in
     let here : P ((x.0, y.0), y.1) = λ g.
-        let one = first bytes x (b ++ rest) is (and_left (m.may x.0) (n.may y.0) g) in
-        let two = second x.1 y rest at (and_second (m.may x.0) (n.may y.0) g) in
-        ap (both u v) (append_assoc a b rest) ∙ both_read u v (a ++ (b ++ rest)) (b ++ rest) rest (m.to x.0) (n.to y.0) one two in
+    let one = first bytes x (b ++ rest) is (and_left (m.may x.0) (n.may y.0) g) in
+    let two = second x.1 y rest at (and_second (m.may x.0) (n.may y.0) g) in
+    ap (both u v) (append_assoc a b rest) ∙ both_read u v (a ++ (b ++ rest)) (b ++ rest) rest (m.to x.0) (n.to y.0) one two in
     subst P f here may
 
 first_back : {A B : Type 0} (m : Moves A) (n : Moves B) (r u : Reader A) (s v : Reader B) (bytes : List ℕ) (o : Option (A × List ℕ)) (p : (A × B) × List ℕ)
@@ -119,12 +119,12 @@ upon_second w m r s v bytes x None p rest first second is at e may = absurd (cc)
 upon_second {B} w m r s v bytes x (Some y) p rest first second is at e may =
     let f : ((x.0, y.0), y.1) ≡ p = cc in
     let P : (ℕ × B) × List ℕ → Type 0 = λ q. (m q.0.0).may q.0.1 ≡ true
-        → upon r v ((w q.0.0 ++ (m q.0.0).bytes ((m q.0.0).to q.0.1)) ++ rest) ≡ Some ((q.0.0, (m q.0.0).to q.0.1), rest) in
+    → upon r v ((w q.0.0 ++ (m q.0.0).bytes ((m q.0.0).to q.0.1)) ++ rest) ≡ Some ((q.0.0, (m q.0.0).to q.0.1), rest) in
     let a = w x.0 in
     let b = (m x.0).bytes ((m x.0).to y.0) in
     let here : P ((x.0, y.0), y.1) = λ g.
-        ap (upon r v) (append_assoc a b rest)
-        ∙ upon_read r v (a ++ (b ++ rest)) (b ++ rest) rest x.0 ((m x.0).to y.0) (first bytes x (b ++ rest) is refl) (second x.0 x.1 y rest at g) in
+    ap (upon r v) (append_assoc a b rest)
+    ∙ upon_read r v (a ++ (b ++ rest)) (b ++ rest) rest x.0 ((m x.0).to y.0) (first bytes x (b ++ rest) is refl) (second x.0 x.1 y rest at g) in
     subst P f here may
 
 upon_first : {B : Type 0} (w : ℕ → List ℕ) (m : ℕ → Moves B) (r : Reader ℕ) (s v : ℕ → Reader B) (bytes : List ℕ) (o : Option (ℕ × List ℕ))
@@ -174,7 +174,7 @@ counted_back {A} m ms r s are numbers back =
       may = refl;
       to = refl;
       bytes = ap (λ k. number_bytes k ++ ms.bytes (ms.to q.0.1))
-        (moved_length m ms q.0.1 are ∙ upon_known (λ x. length x.1 ≡ x.0) (many r) (number_in bytes) q (many_length r) e);
+          (moved_length m ms q.0.1 are ∙ upon_known (λ x. length x.1 ≡ x.0) (many r) (number_in bytes) q (many_length r) e);
     })
     (upon_back number_bytes (λ n. ms) number_in (many r) (many s) numbers (λ n. many_back m ms r s n are back))
 
@@ -209,7 +209,7 @@ small_on (Some x) bytes p e = small_if (bits_of x.0) (drop x.1 bytes) (is_small 
 
 signed_on : (o : Option (ℤ × ℕ)) (n : ℕ) (s rest : List ℕ) → o ≡ Some (cast_signed w32 n, length s) → is_small n ≡ true
     → option_and_then {T = ℤ × ℕ} {U = ℕ × List ℕ} (λ x. if is_small (bits_of x.0) then Some (bits_of x.0, drop x.1 (s ++ rest)) else None) o
-        ≡ Some (n, rest)
+    ≡ Some (n, rest)
 signed_on o n s rest e small =
     let few : n < 0x100000000 = ltb-true n 0x100000000 (and_second (is_within 0x10000000 n) (nat_lt n 0x100000000) small) in
     rw (e, of_z-to_z w32 n few, small, drop-append_seam s rest) refl

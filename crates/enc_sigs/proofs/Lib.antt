@@ -17,3 +17,4 @@ pub mod Rounds
 pub mod TypeFronts
 pub mod MovedTrees
 pub mod MovedInTable
+pub mod MovedFronts

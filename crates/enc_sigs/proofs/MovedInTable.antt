@@ -1,5 +1,5 @@
 -- A token that is moved within its table is spelled and read.
-use Rattle.std.proofs.Common.{◌≡◌, ℕ, zero, suc, ◌+◌, ◌*◌, ◌/◌, ◌%◌, ◌^◌, ◌<◌, Bool, true, false, not, refl, sym, ap, ◌∙◌, arith}
+use Rattle.std.proofs.Common.{◌≡◌, ℕ, zero, suc, ◌+◌, ◌*◌, ◌/◌, ◌%◌, ◌<◌, Bool, true, false, not, refl, sym, ap, ◌∙◌, arith}
 use Rattle.std.proofs.lemmas.Bool.{eqb-true, ltb-true}
 use Rattle.std.specs.Prelude.{◌&&◌, ◌==◌, nat_le, nat_lt, if◌then◌else◌}
 use Rattle.enc_base.specs.Numbers.{WrittenIsRead, SignedWrittenIsRead}
@@ -9,6 +9,7 @@ use Rattle.enc_sigs.specs.Tree.{SigTree, forest_of}
 use Rattle.enc_sigs.specs.Grammar.{table_of, token_named, is_coded}
 use Rattle.enc_sigs.specs.Spelling.{token_number, sig_bytes, IsSpelled}
 use Rattle.enc_sigs.specs.Moved.{sig_moved, all_tokens, stays_in_table, GoesTo}
+use Rattle.enc_sigs.proofs.Back.{and_left, and_second}
 use Rattle.enc_sigs.proofs.Written.{moved_reads}
 
 -- the two low bits that name a table
@@ -71,14 +72,6 @@ goes_by f n is few =
       short = short_by u.row (tag_of u.table) low few;
       passes = coded_low (token_number u) (tag_of u.table) (low_of u.row (tag_of u.table) low) low;
     }
-
-and_left : (s t : Bool) → (s && t) ≡ true → s ≡ true
-and_left true t e = refl
-and_left false t e = absurd (cc)
-
-and_second : (s t : Bool) → (s && t) ≡ true → t ≡ true
-and_second true t e = e
-and_second false t e = absurd (cc)
 
 stays_goes : (f : Token → Token) (n : ℕ) → stays_in_table f (token_named n) ≡ true → GoesTo f is_coded n
 stays_goes f n stays =

@@ -1,5 +1,5 @@
 -- Types with their tokens moved: as many, with the same numbers; moved by the identity they are the same.
-use Rattle.std.proofs.Common.{◌≡◌, ℕ, zero, suc, ◌-◌, ◌<◌, ◌%◌, Bool, true, false, List, [], ◌∷◌, ◌++◌, length, take, drop, get_or, map, Option, Some, None, refl, sym, ap, ◌∙◌, arith, append_assoc}
+use Rattle.std.proofs.Common.{◌≡◌, ℕ, zero, suc, ◌-◌, ◌<◌, ◌%◌, Bool, true, false, List, [], ◌∷◌, ◌++◌, length, take, drop, get_or, map, Option, refl, sym, ap, ◌∙◌, arith, append_assoc}
 use Rattle.std.proofs.Math.Seq.{take-length}
 use Rattle.std.specs.Prelude.{slice_get, IfOk, Result, Ok, Err, if◌then◌else◌}
 use Rattle.enc_base.specs.declared.token.Token.{Token}
@@ -44,7 +44,8 @@ numerals_moved : (f : Token → Token) (kind : Numeral) (t : Tree) → numerals_
 unfolding numerals_bytes
 numerals_moved f kind t = rw (long_moved f t.kids, each_moved f kind t.kids) refl
 
-at_moved : (f : Token → Token) (kind : Numeral) (ts : List Tree) (i : ℕ) → numerals_of kind (slice_get (map (tree_moved f) ts) i) ≡ numerals_of kind (slice_get ts i)
+at_moved : (f : Token → Token) (kind : Numeral) (ts : List Tree) (i : ℕ)
+    → numerals_of kind (slice_get (map (tree_moved f) ts) i) ≡ numerals_of kind (slice_get ts i)
 at_moved f kind [] i = refl
 at_moved f kind (t ∷ ts) zero = numerals_moved f kind t
 at_moved f kind (t ∷ ts) (suc i) = at_moved f kind ts i
@@ -53,13 +54,13 @@ pub numerals_at_moved : (f : Token → Token) (kind : Numeral) (ts : List Tree) 
     → numerals_of kind (slice_get (trees (forest_moved f (forest_of ts))) i) ≡ numerals_of kind (slice_get ts i)
 numerals_at_moved f kind ts i = ap (λ us. numerals_of kind (slice_get us i)) (trees_moved f ts) ∙ at_moved f kind ts i
 
-less_one : (n : ℕ) → suc n - 1 ≡ n
+pub less_one : (n : ℕ) → suc n - 1 ≡ n
 less_one n = omega arith
 
 -- a pointer's count of generic parameters and its parts
 pub pointer_moved : (f : Token → Token) (calling : ℕ) (ts : List Tree) (g : Tree) → 0 < length ts → g ≡ get_or ts 0 g
     → pointer_bytes calling (trees (forest_moved f (forest_of ts))) (spellings (forest_moved f (forest_of ts)))
-        ≡ (calling % 0x100) ∷ (generics_bytes calling g.number ++ parts_bytes (spellings (forest_moved f (forest_of (take (length ts - 1) (drop 1 ts))))))
+    ≡ (calling % 0x100) ∷ (generics_bytes calling g.number ++ parts_bytes (spellings (forest_moved f (forest_of (take (length ts - 1) (drop 1 ts))))))
 unfolding pointer_bytes spellings forest_moved
 pointer_moved f calling [] g long is = absurd (omega (arith, long))
 pointer_moved f calling (t ∷ ts) g long is =
@@ -91,9 +92,15 @@ pub same_sig : (s : SigTree) → sig_moved (λ t. t) s ≡ s
 unfolding sig_moved
 same_sig s = ap (λ ts. record { form = s.form; kind = s.kind; generics = s.generics; parts = ts }) (same_trees s.parts)
 
+-- what stands behind its first byte
+abbrev within_moved : (Token → Token) → Option Form → Tree → List ℕ
+within_moved f o t =
+    formed_bytes o (if form_has_token o then f t.token else t.token) t.number (trees (forest_moved f t.kids)) (spellings (forest_moved f t.kids))
+
 -- a type: its first byte and what stands behind it
-pub elem_written : {T E : Type 0} (r : Result T E) (f : Token → Token) (t : Tree) (o : Option Form) (e : ℕ) (a b new : List ℕ) → e ≡ t.element → o ≡ form_of e → b ≡ a ++ e ∷ []
-    → IfOk r (λ _. new ≡ b ++ formed_bytes o (if form_has_token o then f t.token else t.token) t.number (trees (forest_moved f t.kids)) (spellings (forest_moved f t.kids)))
+pub elem_written : {T E : Type 0} (r : Result T E) (f : Token → Token) (t : Tree) (o : Option Form) (e : ℕ) (a b new : List ℕ)
+    → e ≡ t.element → o ≡ form_of e → b ≡ a ++ e ∷ []
+    → IfOk r (λ _. new ≡ b ++ within_moved f o t)
     → IfOk r (λ _. new ≡ a ++ tree_bytes (tree_moved f t))
 unfolding tree_bytes has_token
 elem_written r f t o e a b new is formed first h =

@@ -17,10 +17,10 @@ use Rattle.enc_base.specs.Readers.{Reader, giving, both, number_in}
 use Rattle.enc_sigs.specs.Spelling.{number_bytes, token_bytes, numeral_bytes, each_numeral, numerals_bytes, joined, counted_bytes, generics_bytes, parts_bytes, array_bytes, pointer_bytes, formed_bytes, spellings, tree_bytes, front_bytes, sig_bytes, token_number}
 use Rattle.enc_sigs.specs.Moved.{form_has_token, has_token, forest_moved, tree_moved, sig_moved, all_tokens, GoesTo}
 use Rattle.enc_sigs.proofs.Spelled.{length_spellings}
-use Rattle.enc_sigs.proofs.MovedTrees.{forest_of_moved, length_moved, same_sig}
+use Rattle.enc_sigs.proofs.MovedTrees.{forest_of_moved, length_moved, less_one, same_sig}
 use Rattle.enc_sigs.proofs.Many.{many_length, params_length}
 use Rattle.enc_sigs.proofs.Agreed.{IsPlain, elem_plain, map_known, upon_known, both_known, formed_element, first_is_sentinel, marked_first}
-use Rattle.enc_sigs.proofs.Back.{Moves, Back, Fits, AreMany, Goes, staying, pair_moves, upon_moves, counted_moves, token_moves, giving_back, both_back, upon_back, many_back, counted_back, number_back, signed_back, byte_back, byte_tested, token_back}
+use Rattle.enc_sigs.proofs.Back.{Moves, Back, AreMany, Goes, staying, pair_moves, upon_moves, counted_moves, token_moves, giving_back, both_back, upon_back, many_back, counted_back, number_back, signed_back, byte_back, byte_tested, token_back, and_left}
 
 -- what stands behind a first byte of this form
 abbrev pub within : Form → Tree → List ℕ
@@ -180,7 +180,8 @@ each_lists f ok kind = record { none = refl; stays = refl; more = λ x. record {
 each_back : (f : Token → Token) (ok : Token → Bool) (kind : Numeral) → WrittenIsRead → SignedWrittenIsRead
     → Back (each f ok kind) (numbered_in 0 (numeral_in kind)) (numbered_in 0 (numeral_in kind))
 each_back f ok kind written signed =
-    indexed_back f ok 0 (numeral_bytes kind) (λ (t : Tree). numeral_bytes kind t.number) (numeral_in kind) bare_zero (λ n. refl) (numeral_back kind written signed)
+    indexed_back f ok 0 (numeral_bytes kind) (λ (t : Tree). numeral_bytes kind t.number) (numeral_in kind) bare_zero (λ n. refl)
+    (numeral_back kind written signed)
 
 abbrev numerals : (Token → Token) → (Token → Bool) → Numeral → Moves Tree
 numerals f ok kind = tree_moves f ok (numerals_bytes kind)
@@ -279,7 +280,8 @@ instance_back f ok good test r s b named written tokens back =
     })
     (both_back (staying (λ n. n ∷ [])) behind (byte_in is_class) (byte_in is_class) (both (token_in good) (list_in r)) (both (token_in test) (list_in s))
     (byte_back is_class)
-    (both_back (token_moves f ok) (list_moves f ok many_bytes) (token_in good) (token_in test) (list_in r) (list_in s) tokens (elems_back f ok r s written back)))
+    (both_back (token_moves f ok) (list_moves f ok many_bytes) (token_in good) (token_in test) (list_in r) (list_in s) tokens
+    (elems_back f ok r s written back)))
 
 -- parameters
 abbrev marked_bytes : List Tree → List ℕ
@@ -334,7 +336,7 @@ params_on f ok r s n bytes false p rest plain back others e may =
     let all = list_bytes (map (tree_moved f) p.0) ++ rest in
     ap (λ t. if t then marked_in s n (drop 1 all) else more_in s (params s n) all) (plain_begins f r (params r n) bytes p plain e rest)
     ∙ giving_back (λ (p : Tree × List Tree). p.0 ∷ p.1) (pair_moves (types f ok) (lists f ok)) (lists f ok) (both r (params r n)) (both s (params s n))
-      (λ b q g. (type_lists f ok).more q.0) (both_back (types f ok) (lists f ok) r s (params r n) (params s n) back others) bytes p rest e may
+    (λ b q g. (type_lists f ok).more q.0) (both_back (types f ok) (lists f ok) r s (params r n) (params s n) back others) bytes p rest e may
 
 params_back : (f : Token → Token) (ok : Token → Bool) (r s : Reader Tree) (n : ℕ) → IsPlain r → Back (types f ok) r s
     → Back (lists f ok) (params r n) (params s n)
@@ -354,9 +356,6 @@ parts_is : (xs : List Tree) → parts_bytes (spellings (forest_of xs)) ≡ behin
 unfolding parts_bytes
 parts_is xs = ap (λ n. number_bytes (n - 1) ++ list_bytes xs) (length_spellings xs)
 
-less_one : (n : ℕ) → suc n - 1 ≡ n
-less_one n = omega arith
-
 first_and : (n : ℕ) (x : Tree) (xs : List Tree) → length xs ≡ n → behind_bytes (x ∷ xs) ≡ number_bytes n ++ (tree_bytes x ++ list_bytes xs)
 first_and n x xs e =
     ap (λ k. number_bytes k ++ list_bytes (x ∷ xs)) (less_one (length xs) ∙ e) ∙ ap (λ s. number_bytes n ++ s) (list_more x xs)
@@ -373,7 +372,7 @@ others_length r rs bytes q size e =
 first_back : (f : Token → Token) (ok : Token → Bool) (r s : Reader Tree) (rs ss : ℕ → Reader (List Tree)) → WrittenIsRead → Back (types f ok) r s
     → ((n : ℕ) → Back (lists f ok) (rs n) (ss n)) → HasLength rs
     → Back (list_moves f ok behind_bytes) (giving (λ (p : ℕ × (Tree × List Tree)). p.1.0 ∷ p.1.1) (upon number_in (λ n. both r (rs n))))
-        (giving (λ (p : ℕ × (Tree × List Tree)). p.1.0 ∷ p.1.1) (upon number_in (λ n. both s (ss n))))
+    (giving (λ (p : ℕ × (Tree × List Tree)). p.1.0 ∷ p.1.1) (upon number_in (λ n. both s (ss n))))
 first_back f ok r s rs ss written back others size =
     let all = pair_moves (types f ok) (lists f ok) in
     giving_back (λ (p : ℕ × (Tree × List Tree)). p.1.0 ∷ p.1.1) (upon_moves number_bytes (λ n. all)) (list_moves f ok behind_bytes)
@@ -427,10 +426,6 @@ method_back f ok r s written plain back =
     both_back call_moves (list_moves f ok behind_bytes) calling_in calling_in (parts_in r) (parts_in s) (calling_back written)
     (parts_back f ok r s written plain back)
 
-first_test : (s t : Bool) → (s && t) ≡ true → s ≡ true
-first_test true t e = refl
-first_test false t e = absurd (cc)
-
 abbrev call_on : Option (ℕ × List ℕ) → Option ((ℕ × ℕ) × List ℕ)
 call_on o = option_and_then {T = ℕ × List ℕ} (λ p. option_map {T = ℕ × List ℕ} (λ q. ((p.0, q.0), q.1)) (generics_in p.0 p.1)) o
 
@@ -446,7 +441,7 @@ calling_known bytes p e = first_known bytes (byte_in is_calling bytes) p refl e
 
 calling_low : (b : ℕ) → is_calling b ≡ true → b % 0x100 ≡ b
 unfolding is_calling
-calling_low b e = low_byte b (omega (arith, ltb-true b 0x80 (first_test (nat_lt b 0x80) (nat_le (b % 0x10) 5 || b % 0x10 == 9) e)))
+calling_low b e = low_byte b (omega (arith, ltb-true b 0x80 (and_left (nat_lt b 0x80) (nat_le (b % 0x10) 5 || b % 0x10 == 9) e)))
 
 pointer_is : (b n g : ℕ) (xs : List Tree) → n % 0x100 ≡ n
     → within form.Pointer (tree b nil n (tree 0 nil g [] ∷ xs)) ≡ ((n ∷ []) ++ generics_bytes n g) ++ behind_bytes xs
@@ -472,7 +467,7 @@ pointer_back f ok r s b bare written plain back =
     (λ bytes q e. record {
       may = bare_may ok b q.0.0.0 (tree 0 nil q.0.0.1 [] ∷ q.0.1) bare ∙ pointer_may ok q.0.0.1 q.0.1;
       to = bare_to f b q.0.0.0 (tree 0 nil q.0.0.1 [] ∷ q.0.1) bare
-        ∙ ap (λ x. tree b nil q.0.0.0 (x ∷ map (tree_moved f) q.0.1)) (bare_to f 0 q.0.0.1 [] bare_zero);
+          ∙ ap (λ x. tree b nil q.0.0.0 (x ∷ map (tree_moved f) q.0.1)) (bare_to f 0 q.0.0.1 [] bare_zero);
       bytes = pointer_is b q.0.0.0 q.0.0.1 (map (tree_moved f) q.0.1) (pointer_low r bytes q e);
     })
     (method_back f ok r s written plain back)
@@ -519,7 +514,7 @@ form_has b g is = ap form_has_token is
 opened_back : (f : Token → Token) (ok : Token → Bool) (good test : ℕ → Bool) (o : Option Form) (b depth : ℕ) (bytes : List ℕ) (p : Tree × List ℕ)
     (rest : List ℕ)
     → ((g : Form) → has_token b ≡ form_has_token (Some g)
-        → Back (tree_moves f ok (within g)) (formed_in good (elem_in good depth) g b) (formed_in test (elem_in test depth) g b))
+    → Back (tree_moves f ok (within g)) (formed_in good (elem_in good depth) g b) (formed_in test (elem_in test depth) g b))
     → form_of b ≡ o → option_and_then {T = Form} (λ g. formed_in good (elem_in good depth) g b bytes) o ≡ Some p → tree_may ok p.0 ≡ true
     → elem_in test (suc depth) (tree_bytes (tree_moved f p.0) ++ rest) ≡ Some (tree_moved f p.0, rest)
 unfolding elem_in
@@ -546,7 +541,7 @@ all_bytes s = front_bytes s.form s.kind s.generics (spellings (forest_of s.parts
 abbrev pub sig_moves : (Token → Token) → (Token → Bool) → Moves SigTree
 sig_moves f ok = record { may = λ (s : SigTree). list_may ok s.parts; to = sig_moved f; bytes = all_bytes }
 
-abbrev tagged : SigKind → ℕ × List Tree → SigTree
+abbrev pub tagged : SigKind → ℕ × List Tree → SigTree
 tagged kind p = record { form = kind; kind = p.0; generics = 0; parts = p.1 }
 
 tagged_back : (f : Token → Token) (ok : Token → Bool) (kind : SigKind) (tag : ℕ → Bool) (w : List Tree → List ℕ) (r s : Reader (List Tree))
@@ -567,7 +562,7 @@ plain_type : (good : ℕ → Bool) → IsPlain (type_in good)
 unfolding type_in
 plain_type good = elem_plain good 100
 
-abbrev called : (ℕ × ℕ) × List Tree → SigTree
+abbrev pub called : (ℕ × ℕ) × List Tree → SigTree
 called p = record { form = Method; kind = p.0.0; generics = p.0.1; parts = p.1 }
 
 called_back : (f : Token → Token) (ok : Token → Bool) (r s : Reader Tree) → WrittenIsRead → IsPlain r → Back (types f ok) r s
@@ -581,7 +576,7 @@ called_back f ok r s written plain back =
       bytes = ap (λ z. q.0.0.0 ∷ (generics_bytes q.0.0.0 q.0.0.1 ++ z)) (parts_is (map (tree_moved f) q.0.1));
     }) (method_back f ok r s written plain back)
 
-abbrev field : ℕ × Tree → SigTree
+abbrev pub field : ℕ × Tree → SigTree
 field p = record { form = Field; kind = p.0; generics = 0; parts = p.1 ∷ [] }
 
 field_back : (f : Token → Token) (ok : Token → Bool) (tag : ℕ → Bool) (r s : Reader Tree) → Back (types f ok) r s
@@ -592,7 +587,7 @@ field_back f ok tag r s back =
     (λ b q e. record { may = may_one ok q.0.1; to = refl; bytes = ap (λ z. q.0.0 ∷ z) (list_one (tree_moved f q.0.1)) })
     (both_back (staying (λ b. b ∷ [])) (types f ok) (byte_in tag) (byte_in tag) r s (byte_back tag) back)
 
-abbrev alone : Tree → SigTree
+abbrev pub alone : Tree → SigTree
 alone t = record { form = TypeSpec; kind = 0; generics = 0; parts = t ∷ [] }
 
 alone_back : (f : Token → Token) (ok : Token → Bool) (r s : Reader Tree) → Back (types f ok) r s

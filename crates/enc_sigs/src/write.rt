@@ -1,4 +1,4 @@
-//! Writing signatures in their shortest spelling (ECMA-335 II.23.2).
+//! Writing signatures in their shortest spelling, each token moved by a function (ECMA-335 II.23.2).
 ghost use Rattle.std.specs.Prelude.{◌≡◌, ℕ, ◌++◌, ◌∷◌, [], ◌%◌, ◌-◌, length, slice_get, IfOk, is_ok, true, if◌then◌else◌};
 ghost use Rattle.enc_sigs.specs.Tree.{forest_of, trees};
 ghost use Rattle.enc_sigs.specs.Spelling.{number_bytes, signed_bytes, token_bytes, numeral_bytes, each_numeral, numerals_bytes, joined, counted_bytes, generics_bytes, parts_bytes, array_bytes, numerals_of, front_of, pointer_bytes, formed_bytes, spellings, tree_bytes, front_bytes, sig_bytes, IsSpelled};
@@ -140,7 +140,7 @@ fn write_moved_token<F: Fn(Token) -> Token>(
     write_token(moved(token), out)
 }
 
-/// Appends a type.
+/// Appends a type, its tokens moved.
 #[cycle(writer)]
 #[tactic(auto, unfolding(crate::specs::Spelling::tree_bytes, crate::specs::Moved::has_token))]
 fn write_elem<F: Fn(Token) -> Token>(
@@ -363,7 +363,7 @@ fn write_whole<F: Fn(Token) -> Token>(
 /// Appends the shortest spelling of the signature with each of its tokens moved (ECMA-335 II.23.2).
 /// Without memory nothing is appended. Where each token stays in its table, in a row from 1 to
 /// 2^24 - 1, what is appended is read as the signature with its tokens moved, the range of these
-/// aside; `moved_laws` say with which counts.
+/// aside; `moved_laws` says with which counts.
 pub fn write_moved<F: Fn(Token) -> Token>(
     alloc: Global,
     sig: &Sig,

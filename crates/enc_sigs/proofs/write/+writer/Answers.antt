@@ -1,4 +1,4 @@
-use Rattle.std.proofs.Common.{◌≡◌, ◌++◌, ◌∷◌, [], ◌%◌, ◌-◌, length, ap}
+use Rattle.std.proofs.Common.{◌∷◌, [], ◌%◌, ◌-◌, length, ap}
 use Rattle.std.specs.Prelude.{slice_get}
 use Rattle.enc_sigs.specs.declared.form.Numeral.TheVariants.{Size, Bound}
 use Rattle.enc_sigs.specs.Tree.{Tree, forest_of}
@@ -25,7 +25,8 @@ write_counted-returns g t c = λ f h.
 
 pub write_elem-returns : goal.write_elem-returns
 write_elem-returns g t c = λ f h.
-    elem_written _ f c.args.elem.now _ _ c.args.out.now.items _ _ (ap (λ (x : Tree). x.element) c.elem.view_is) c.form_by.ensures c.in_ok-write_byte.ensures (c.write_within.ensures f h)
+    elem_written _ f c.args.elem.now _ _ c.args.out.now.items _ _ (ap (λ (x : Tree). x.element) c.elem.view_is)
+    c.form_by.ensures c.in_ok-write_byte.ensures (c.write_within.ensures f h)
 
 pub write_instance-returns : goal.write_instance-returns
 write_instance-returns g t c = λ f h.
@@ -44,13 +45,15 @@ write_pointer-returns g t c = λ f h.
     let generics = c.generics-item.result in
     rw (pointer_moved f c.args.calling c.args.kids.now generics c.in-len1-up.len_at_least c.generics-item.is, ← c.generics.view_is)
     (then_written _ c.args.out.now.items _ ((c.args.calling % 0x100) ∷ []) _ _ c.in_ok-write_byte.ensures
-    (then_written _ c.write_byte.new.out.items _ (generics_bytes c.args.calling c.generics.inside.number) _ _ c.in_ok-write_generics.ensures (c.write_parts.ensures f h)))
+    (then_written _ c.write_byte.new.out.items _ (generics_bytes c.args.calling c.generics.inside.number) _ _ c.in_ok-write_generics.ensures
+    (c.write_parts.ensures f h)))
 
 pub write_within-returns-in_ok-write_moved_token-in-Modified : goal.write_within-returns-in_ok-write_moved_token-in-Modified
 unfolding formed_bytes
 write_within-returns-in_ok-write_moved_token-in-Modified g t c = λ f h.
     rw (c.in-Some.is, c.in-Modified.is, ← c.kids-kids.ensures.forest, ← c.elem.view_is)
-    (then_written _ c.args.out.now.items _ (token_bytes (f c.elem.inside.token)) _ _ (c.in_ok-write_moved_token-in-Modified.ensures f h) (c.write_elems-in-Modified.ensures f h))
+    (then_written _ c.args.out.now.items _ (token_bytes (f c.elem.inside.token)) _ _ (c.in_ok-write_moved_token-in-Modified.ensures f h)
+    (c.write_elems-in-Modified.ensures f h))
 
 pub write_within-returns-in-Array : goal.write_within-returns-in-Array
 unfolding formed_bytes

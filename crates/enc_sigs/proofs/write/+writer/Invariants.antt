@@ -32,7 +32,11 @@ abbrev pub decreases-write_pointer : goal.decreases-write_pointer
 decreases-write_pointer g l = 5 * forest_size (forest_of l.kids.now) + 3
 
 abbrev pub invariant-write_elems-loop-rest : goal.invariant-write_elems-loop-rest
-invariant-write_elems-loop-rest g l = record { same : (f : _) → GivesTokens (goal.F-post g l.fn.moved) f → l.out.items ++ joined (spellings (forest_moved f (forest_of l.rest))) ≡ l.fn.out.items ++ joined (spellings (forest_moved f (forest_of l.fn.kids))); small : forest_size (forest_of l.rest) ≤ forest_size (forest_of l.fn.kids) }
+invariant-write_elems-loop-rest g l = record {
+  same : (f : _) → GivesTokens (goal.F-post g l.fn.moved) f
+      → l.out.items ++ joined (spellings (forest_moved f (forest_of l.rest))) ≡ l.fn.out.items ++ joined (spellings (forest_moved f (forest_of l.fn.kids)));
+  small : forest_size (forest_of l.rest) ≤ forest_size (forest_of l.fn.kids);
+}
 
 abbrev pub decreases-write_elems-loop-rest : goal.decreases-write_elems-loop-rest
 decreases-write_elems-loop-rest g l = length l.rest

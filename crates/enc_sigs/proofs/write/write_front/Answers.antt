@@ -1,4 +1,4 @@
-use Rattle.std.proofs.Common.{◌≡◌, ◌++◌, ◌∷◌, []}
+use Rattle.std.proofs.Common.{◌∷◌, []}
 use Rattle.enc_sigs.specs.Spelling.{front_bytes, generics_bytes}
 use Rattle.enc_sigs.proofs.MovedTrees.{then_written}
 use Rattle.enc_sigs.proofs.write.write_front.Goals as goal

@@ -1,4 +1,4 @@
-use Rattle.std.proofs.Common.{rules, ◌≡◌, ◌++◌}
+use Rattle.std.proofs.Common.{rules}
 use Rattle.enc_sigs.proofs.MovedTrees.{same_sig}
 use Rattle.enc_sigs.proofs.write.write_sig.Goals as goal
 

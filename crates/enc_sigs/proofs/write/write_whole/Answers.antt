@@ -1,4 +1,3 @@
-use Rattle.std.proofs.Common.{◌≡◌, ◌++◌}
 use Rattle.enc_sigs.specs.Spelling.{sig_bytes}
 use Rattle.enc_sigs.specs.Moved.{sig_moved}
 use Rattle.enc_sigs.proofs.MovedTrees.{forest_of_moved}
