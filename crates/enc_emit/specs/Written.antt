@@ -134,10 +134,10 @@ unfoldable pub has_ptr_rows : List (List (List ℕ)) → Bool
 has_ptr_rows rows = list_any (λ table. nat_lt 0 (count_at rows table)) (field_ptr ∷ method_ptr ∷ param_ptr ∷ event_ptr ∷ property_ptr ∷ [])
 
 -- all indices take four bytes, as a stream `#JTD` says
-abbrev pub is_wide : RootForm → Bool
-is_wide Module = false
-is_wide WideModule = true
-is_wide Delta = true
+abbrev pub has_jtd : RootForm → Bool
+has_jtd Module = false
+has_jtd WideModule = true
+has_jtd Delta = true
 
 -- the root is that of a delta
 abbrev pub is_delta : RootForm → Bool
@@ -147,7 +147,7 @@ is_delta _ = false
 -- the root of a form; the tables of a delta, and those with Ptr rows, are in the uncompressed form
 unfoldable pub root_built : Parts → RootForm → List ℕ
 root_built p form =
-    root_written (is_wide form) (is_delta form || has_ptr_rows p.rows) (stream_of p.rows (is_wide form) (heap_bits p.rows)) (heaps_built p.heaps)
+    root_written (has_jtd form) (is_delta form || has_ptr_rows p.rows) (stream_of p.rows (has_jtd form) (heap_bits p.rows)) (heaps_built p.heaps)
 
 -- how long it is, by whether its indices are wide
 abbrev pub built_size : Parts → Bool → ℕ

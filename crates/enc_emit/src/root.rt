@@ -2,9 +2,9 @@
 ghost use Rattle.std.specs.Prelude.{◌≡◌, ◌<◌, ◌^◌, ◌||◌, false, [], IfOk};
 ghost use Rattle.enc_meta.specs.Built.{none_from};
 ghost use Rattle.enc_rows.specs.Written.{IndicesFit};
-ghost use Rattle.enc_emit.specs.Written.{has_ptr_rows as ptrs_have_rows, is_wide as form_is_wide, is_delta as form_is_delta, root_built, built_size, pdb_root_built, pdb_built_size};
+ghost use Rattle.enc_emit.specs.Written.{has_ptr_rows as ptrs_have_rows, has_jtd as form_has_jtd, is_delta as form_is_delta, root_built, built_size, pdb_root_built, pdb_built_size};
 
-use crate::root_form::{RootForm, is_delta, is_wide};
+use crate::root_form::{RootForm, has_jtd, is_delta};
 use crate::written::{pdb_root_bytes, root_bytes};
 use enc_meta::{HeapBuilder, HeapLengths};
 use enc_rows::{TableBuilder, heap_bits_law};
@@ -90,13 +90,13 @@ impl RootBuilder {
     /// The table stream is `#-` in the form `Delta` or where a Ptr table has rows, and else `#~`.
     #[tactic(auto, unfolding(crate::specs::Written::root_built))]
     pub fn finish(self, alloc: Global, form: RootForm) -> Result<Vec<u8>, AllocError>
-        requires fit { IndicesFit self.rows (form_is_wide form) }
-        requires size { built_size self (form_is_wide form) < 2 ^ 32 }
+        requires fit { IndicesFit self.rows (form_has_jtd form) }
+        requires size { built_size self (form_has_jtd form) < 2 ^ 32 }
         ensures { IfOk result (λ v. v.items ≡ root_built self form) }
     {
         self.tables.laws();
         heap_bits_law();
-        let wide = is_wide(form);
+        let wide = has_jtd(form);
         let uncompressed = is_uncompressed(form, &self.tables);
         let flags = self.tables.heap_bits();
         let stream = self.tables.finish(alloc, wide, flags)?;

@@ -1,6 +1,6 @@
 //! In which form a metadata root is written.
 ghost use Rattle.std.specs.Prelude.{◌≡◌};
-ghost use Rattle.enc_emit.specs.Written.{is_wide as form_is_wide, is_delta as form_is_delta};
+ghost use Rattle.enc_emit.specs.Written.{has_jtd as form_has_jtd, is_delta as form_is_delta};
 
 /// The form of a metadata root.
 #[derive(Clone, Copy, Debug, PartialEq, Eq)]
@@ -14,8 +14,8 @@ pub enum RootForm {
 }
 
 /// Whether all indices take four bytes, as a stream `#JTD` says.
-pub(crate) fn is_wide(form: RootForm) -> bool
-    ensures { result ≡ form_is_wide form }
+pub(crate) fn has_jtd(form: RootForm) -> bool
+    ensures { result ≡ form_has_jtd form }
 {
     match form {
         RootForm::Module => false,
