@@ -27,7 +27,7 @@ fn word_law(n: u32)
 {}
 
 /// The image of parts.
-#[tactic(auto, using(crate::proofs::RunsFit::module_fits), unfolding(crate::specs::Rewritten::image_of_parts))]
+#[tactic(auto, unfolding(crate::specs::Rewritten::image_of_parts))]
 fn image_with<V: ModuleView>(
     alloc: Global,
     view: &V,
