@@ -1,5 +1,5 @@
 -- An image of parts that hold a module of little weight fits.
-use Rattle.std.proofs.Common.{◌≡◌, ℕ, ◌+◌, ◌-◌, ◌<◌, ◌≤◌, Bool, true, false, List, [], ◌++◌, length, refl, ap, arith, length-append}
+use Rattle.std.proofs.Common.{◌≡◌, ℕ, ◌+◌, ◌<◌, ◌≤◌, Bool, true, false, List, [], ◌++◌, length, refl, ap, arith, length-append}
 use Rattle.std.specs.Prelude.{◌^◌, codes}
 use Rattle.enc_base.specs.Numbers.{padded}
 use Rattle.enc_emit.specs.Written.{stream_header_written, front_written, jtd_streams, streams_begin, five_end, five_headers_written, further_headers_written, five_written, further_written, root_with_further, root_size, root_written, has_ptr_rows}

@@ -1,7 +1,7 @@
 -- The form of a module's root: it is wide where a run asks for it, and its table stream is `#-` where a Ptr table has rows.
-use Rattle.std.proofs.Common.{◌≡◌, ℕ, ◌<◌, ◌^◌, Bool, true, false, List, refl, sym, subst}
+use Rattle.std.proofs.Common.{◌≡◌, ℕ, Bool, true, false, List, refl, sym, subst}
 use Rattle.std.specs.Prelude.{if◌then◌else◌}
-use Rattle.enc_emit.specs.Written.{Parts, has_jtd, built_size, root_written, root_built, has_ptr_rows}
+use Rattle.enc_emit.specs.Written.{Parts, has_jtd, root_written, root_built, has_ptr_rows}
 use Rattle.enc_emit.specs.declared.root_form.RootForm.TheVariants as form
 use Rattle.enc_meta.specs.Built.{Built, heaps_built}
 use Rattle.enc_plain.specs.Module.{Module}
@@ -29,6 +29,3 @@ root_is m h rows = root_by (record { heaps = h; rows = rows }) (needs_jtd m)
 -- so what fits by that fits the form
 pub indices_fit_form : (m : Module) (rows : List (List (List ℕ))) → IndicesFit rows (needs_jtd m) → IndicesFit rows (has_jtd (root_form m))
 indices_fit_form m rows fit = subst (λ b. IndicesFit rows b) (sym (wide_is m)) fit
-
-pub size_fits_form : (m : Module) (p : Parts) → built_size p (needs_jtd m) < 2 ^ 32 → built_size p (has_jtd (root_form m)) < 2 ^ 32
-size_fits_form m p fits = subst (λ b. built_size p b < 2 ^ 32) (sym (wide_is m)) fits

@@ -34,7 +34,11 @@ pub(crate) struct ModuleParts {
 fn form_with(wide: bool) -> RootForm
     ensures { result ≡ (if wide then form.WideModule else form.Module) }
 {
-    if wide { RootForm::WideModule } else { RootForm::Module }
+    if wide {
+        RootForm::WideModule
+    } else {
+        RootForm::Module
+    }
 }
 
 /// The parts of a module whose values the heaps keep: the bodies and the initial bytes of fields in
