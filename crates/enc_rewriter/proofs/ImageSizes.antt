@@ -75,8 +75,10 @@ parts_light m h light = omega (arith, weight_is m h, light)
 root_few : (m : Module) (h : Built) (rows : List (List (List ℕ)))
     → length (root_of_parts m h rows) ≤ length (stream_of rows (needs_jtd m) (heap_bits rows)) + heaps_length (heaps_built h) + 146
 root_few m h rows =
-    let same : length (root_of_parts m h rows) ≡ length (root_written (needs_jtd m) (has_ptr_rows rows) (stream_of rows (needs_jtd m) (heap_bits rows)) (heaps_built h)) = ap length (root_is m h rows) in
-    omega (arith, same, root_length (needs_jtd m) (has_ptr_rows rows) (stream_of rows (needs_jtd m) (heap_bits rows)) (heaps_built h))
+    let stream = stream_of rows (needs_jtd m) (heap_bits rows) in
+    let root = root_written (needs_jtd m) (has_ptr_rows rows) stream (heaps_built h) in
+    let same : length (root_of_parts m h rows) ≡ length root = ap length (root_is m h rows) in
+    omega (arith, same, root_length (needs_jtd m) (has_ptr_rows rows) stream (heaps_built h))
 
 -- the image is no longer than the module's weight
 pub image_light : (m : Module) (h : Built) (p : Placed) (rows : List (List (List ℕ))) → IsSound m → HoldModule m h p rows → length p.code ≤ bodies_weight m + fields_weight m + 4096

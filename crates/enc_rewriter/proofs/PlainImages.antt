@@ -36,8 +36,8 @@ no_ptrs : (m : Module) (child : ℕ) → Stands m child ≡ true → ptr_rows m 
 unfolding ptr_rows
 no_ptrs m child order = ap (λ (b : Bool). if b then [] else rows_of_one (all_kids m child)) order
 
-ptrs_none : (m : Module) (h : Counted) (p : Placed) (rows : List (List (List ℕ))) (child : ℕ) → HoldRows m h p rows → stands_in_order m ≡ true → is_child_table child ≡ true
-    → count_at rows (ptr_of child) ≡ 0
+ptrs_none : (m : Module) (h : Counted) (p : Placed) (rows : List (List (List ℕ))) (child : ℕ) → HoldRows m h p rows → stands_in_order m ≡ true
+    → is_child_table child ≡ true → count_at rows (ptr_of child) ≡ 0
 ptrs_none m h p rows child said order is = ap length (said.ptrs child is ∙ no_ptrs m child (in_order m child order is))
 
 has_none : (rows : List (List (List ℕ))) → ((child : ℕ) → is_child_table child ≡ true → count_at rows (ptr_of child) ≡ 0) → has_ptr_rows rows ≡ false
@@ -47,12 +47,13 @@ has_none rows none = rw (none 0x04 refl, none 0x06 refl, none 0x08 refl, none 0x
 ptr_low : (child : ℕ) → is_child_table child ≡ true → nat_lt (ptr_of child) 64 ≡ true
 ptr_low child is = by_child (λ k. nat_lt (ptr_of k) 64 ≡ true) refl refl refl refl refl child is
 
-pub image_plain : (m : Module) (h : Built) (p : Placed) (rows : List (List (List ℕ))) → IsSound m → HoldModule m h p rows → FitsImage m h p rows → AreRead m h p rows
-    → stands_in_order m ≡ true → IsPlainImage (image_of_parts m h p rows)
+pub image_plain : (m : Module) (h : Built) (p : Placed) (rows : List (List (List ℕ))) → IsSound m → HoldModule m h p rows → FitsImage m h p rows
+    → AreRead m h p rows → stands_in_order m ≡ true → IsPlainImage (image_of_parts m h p rows)
 image_plain m h p rows sound held fits are order =
     let w = written_source m h p rows sound held fits are.fit in
     let r : IsRead m h p rows w.0 = record { sound = sound; held = held; read = w.2 } in
-    let none : (child : ℕ) → is_child_table child ≡ true → count_at rows (ptr_of child) ≡ 0 = λ child is. ptrs_none m (heaps_built h) p rows child held.said order is in
+    let none : (child : ℕ) → is_child_table child ≡ true → count_at rows (ptr_of child) ≡ 0 =
+        λ child is. ptrs_none m (heaps_built h) p rows child held.said order is in
     record {
       container = w.3.container;
       root = w.3.root;

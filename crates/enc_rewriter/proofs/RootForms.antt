@@ -17,7 +17,8 @@ pub wide_is : (m : Module) → has_jtd (root_form m) ≡ needs_jtd m
 wide_is m = wide_by (needs_jtd m)
 
 root_by : (p : Parts) (wide : Bool)
-    → root_built p (if wide then form.WideModule else form.Module) ≡ root_written wide (has_ptr_rows p.rows) (stream_of p.rows wide (heap_bits p.rows)) (heaps_built p.heaps)
+    → root_built p (if wide then form.WideModule else form.Module)
+    ≡ root_written wide (has_ptr_rows p.rows) (stream_of p.rows wide (heap_bits p.rows)) (heaps_built p.heaps)
 unfolding root_built
 root_by p true = refl
 root_by p false = refl
