@@ -1,15 +1,10 @@
 -- What each cell of a module says fits its column after a delta too.
-use Rattle.std.proofs.Common.{◌≡◌, ℕ, ◌^◌, ◌≤◌, Bool, true, false, [], map, Option, Some, None, refl, sym, ◌∙◌, inl, inr, arith}
-use Rattle.std.specs.Prelude.{◌&&◌, ◌||◌, nat_lt, slice_get, unwrap_or, if◌then◌else◌}
+use Rattle.std.proofs.Common.{◌≡◌, ℕ, ◌≤◌, Bool, true, false, [], Option, Some, None, refl, sym, ◌∙◌, inl, inr, arith}
+use Rattle.std.specs.Prelude.{◌&&◌, ◌||◌, slice_get, unwrap_or, if◌then◌else◌}
 use Rattle.std.proofs.lemmas.Bool.{cases_lt, or_cases}
-use Rattle.std.proofs.lemmas.Bool.Decides.{nat_tests}
 use Rattle.enc_base.specs.Token.{nil, is_token}
-use Rattle.enc_base.specs.Order.{or_else}
-use Rattle.enc_base.specs.declared.refusal.Place.{Place}
 use Rattle.enc_base.specs.declared.token.Token.{Token}
 use Rattle.enc_base.proofs.SmallNumbers.{EachIsByte}
-use Rattle.enc_meta.specs.Heaps.{Counted}
-use Rattle.enc_meta.specs.Joined.{joined_length}
 use Rattle.enc_meta.proofs.EntryLengths.{joined_zero, joined_long}
 use Rattle.enc_schema.specs.declared.column.Column.{Column}
 use Rattle.enc_schema.specs.Schema.{columns_in, column_in}
@@ -27,7 +22,7 @@ use Rattle.enc_plain.proofs.KindsOf.{kind_of_cell, row_table}
 use Rattle.enc_plain.proofs.LoadedBytes.{AreLoaded}
 use Rattle.enc_plain.proofs.ReadCells.{ReadsFor, read_fits}
 use Rattle.enc_delta.specs.Delta.{listed, place_in}
-use Rattle.enc_delta.specs.Rules.{broken, heaps_after, users_after, reading_after, blobs_break, heap_fault, broken_body}
+use Rattle.enc_delta.specs.Rules.{heaps_after, users_after, reading_after, broken_body}
 use Rattle.enc_delta.specs.Changes.{bad_locals}
 use Rattle.enc_delta.specs.Rows.{cell_after, cells_after}
 use Rattle.enc_rows.proofs.Listed.{get_below, get_past}

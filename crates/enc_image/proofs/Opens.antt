@@ -10,7 +10,7 @@ use Rattle.enc_base.specs.declared.refusal.Refusal.{Refusal}
 use Rattle.enc_base.proofs.SmallNumbers.{EachIsByte, bytes_each, each_drop, each_take}
 use Rattle.enc_meta.specs.declared.root.Root.{Root}
 use Rattle.enc_meta.specs.declared.span.Span.{Span}
-use Rattle.enc_meta.specs.Heaps.{part, heaps_of}
+use Rattle.enc_meta.specs.Heaps.{part}
 use Rattle.enc_meta.specs.Regions.{Region}
 use Rattle.enc_meta.specs.Root.{root_of}
 use Rattle.enc_pe.specs.declared.container.Container.{Container}
