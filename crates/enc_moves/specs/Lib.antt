@@ -1,1 +1,4 @@
 pub mod Body
+pub mod Copied
+pub mod Held
+pub mod Laws

@@ -1,0 +1,3 @@
+mod CodeBytes
+mod Kept
+mod Means
