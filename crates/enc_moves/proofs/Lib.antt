@@ -1,3 +1,6 @@
 mod CodeBytes
 mod Kept
 mod Means
+mod OwnBytes
+mod CodeMoved
+mod SectionsMoved

@@ -1,5 +1,5 @@
 -- A body whose instructions and clauses are those of another with their tokens moved.
-use Rattle.std.proofs.Common.{◌≡◌, ℕ, Bool, List, [], ◌∷◌, length, map, Option, Some, None, refl, sym, ap, ◌∙◌}
+use Rattle.std.proofs.Common.{◌≡◌, ℕ, Bool, List, [], ◌∷◌, length, map, Option, Some, None, refl, ap, subst, ◌∙◌}
 use Rattle.std.specs.Prelude.{◌&&◌}
 use Rattle.std.specs.List.{list_all}
 use Rattle.enc_base.specs.declared.token.Token.{Token}
@@ -70,4 +70,5 @@ means_moved f c code sections instructions clauses size many = record {
 pub means_own : (f : Token → Token) (c : Code) (code sections : List ℕ) → IsMovedFrom f c.code code 0 → AreMoved f c.sections sections → code ≡ c.code → sections ≡ c.sections
     → MeansMoved f c (held_code None c (f c.locals))
 means_own f c code sections instructions clauses same alike =
-    rw (← same, ← alike) (means_moved f c code sections instructions clauses (ap (λ (xs : List ℕ). length xs) same) (ap (λ (xs : List ℕ). length xs) alike))
+    subst (λ xs. MeansMoved f c (with_parts c (f c.locals) c.code xs)) alike
+    (subst (λ xs. MeansMoved f c (with_parts c (f c.locals) xs sections)) same (means_moved f c code sections instructions clauses (ap (λ (xs : List ℕ). length xs) same) (ap (λ (xs : List ℕ). length xs) alike)))

@@ -48,7 +48,7 @@ fn push_clauses<M: Moves>(
     ensures { OnOk result (out.new.items ≡ out.old.items ++ clauses_moved (M.to moves.now) section.now.fat section.now.count section.now.clauses.now) }
 {
     let mut rest = section.clauses;
-    for _ in 0..section.count {
+    for i in 0..section.count {
         match push_clause(section.fat, rest, moves, out) {
             Ok(()) => {}
             Err(fault) => return Err(fault),
