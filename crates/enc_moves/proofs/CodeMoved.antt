@@ -1,8 +1,10 @@
 -- Code whose tokens are moved, instruction by instruction.
-use Rattle.std.proofs.Common.{◌≡◌, ℕ, ◌+◌, ◌-◌, ◌*◌, ◌<◌, ◌≤◌, ◌^◌, Bool, true, false, List, [], ◌∷◌, ◌++◌, length, map, take, drop, get_or, Option, Some, None, refl, sym, ap, subst, ◌∙◌, arith, Result, Ok, Err}
+use Rattle.std.proofs.Common.{◌≡◌, ℕ, ◌+◌, ◌-◌, ◌<◌, ◌≤◌, ◌^◌, Bool, true, false, List, [], ◌∷◌, ◌++◌, length, map, take, drop, get_or, Option, Some}
+use Rattle.std.proofs.Common.{None, refl, sym, ap, subst, ◌∙◌, arith, Result, Ok, Err}
 use Rattle.std.specs.Prelude.{OnOk, IfOk}
 use Rattle.std.specs.Int.{w32, to_le_bytes}
-use Rattle.std.proofs.lemmas.List.{append_assoc, append-nil, length-append, length-take-le, length-drop, get_or-drop, get_or-take, get_or_append_left, get_or-append_right}
+use Rattle.std.proofs.lemmas.List.{append_assoc, append-nil, length-append, length-take-le, length-drop, get_or-drop, get_or-take, get_or_append_left}
+use Rattle.std.proofs.lemmas.List.{get_or-append_right}
 use Rattle.enc_base.specs.Numbers.{little_endian_at}
 use Rattle.enc_base.specs.Token.{number_of}
 use Rattle.enc_base.specs.declared.token.Token.{Token}
@@ -14,8 +16,8 @@ use Rattle.enc_opcodes.specs.declared.code.Arg.TheVariants as arg
 use Rattle.enc_opcodes.specs.Instruction.{Argument, nothing, number, target, targets, token, text, raw, Instruction, instr_in, rest_of}
 use Rattle.enc_opcodes.proofs.Instructions.{instr_ends, rest_none, rest_more}
 use Rattle.enc_moves.specs.Body.{argument_moved, instruction_moved}
-use Rattle.enc_moves.specs.Copied.{IsMovedFrom, IsMovedUpTo}
-use Rattle.enc_moves.proofs.OwnBytes.{Same, NamesAt, names_at, names_few, number_small, instr_same, instr_token}
+use Rattle.enc_moves.specs.Copied.{with_number, IsMovedFrom, IsMovedUpTo}
+use Rattle.enc_moves.proofs.OwnBytes.{Same, names_at, names_few, number_small, instr_same, instr_token}
 
 pub one_more : (f : Token → Token) (code moved : List ℕ) (at n : ℕ) (i j : Instruction ℕ) → instr_in code at ≡ Some (i, n) → instr_in moved at ≡ Some (j, n)
     → (at, j) ≡ instruction_moved f (at, i) → IsMovedFrom f code moved n → IsMovedFrom f code moved at
@@ -49,7 +51,8 @@ plain_seen end (arg.User x) other = refl
 plain_seen end (arg.Raw bytes) other = refl
 
 -- the bytes of an instruction stand behind what was moved before it
-same_here : (code moved rest : List ℕ) (at n : ℕ) → length moved ≡ at → at ≤ n → n ≤ length code → Same code (moved ++ (take (n - at) (drop at code) ++ rest)) at n
+same_here : (code moved rest : List ℕ) (at n : ℕ) → length moved ≡ at → at ≤ n → n ≤ length code
+    → Same code (moved ++ (take (n - at) (drop at code) ++ rest)) at n
 same_here code moved rest at n size from to =
     let piece = take (n - at) (drop at code) in
     let long : length piece ≡ n - at = length-take-le (n - at) (drop at code) (rw (length-drop at code) (omega (arith, to))) in
@@ -86,7 +89,8 @@ moved_plain f code moved at n i is plain before =
     record {
       size = piece_size code moved at n before.size from lt.1;
       before = λ rest same.
-          let there : instr_in (moved ++ (piece ++ rest)) at ≡ Some (i, n) = instr_same code (moved ++ (piece ++ rest)) at n i (same_here code moved rest at n before.size from lt.1) is in
+          let there : instr_in (moved ++ (piece ++ rest)) at ≡ Some (i, n) =
+          instr_same code (moved ++ (piece ++ rest)) at n i (same_here code moved rest at n before.size from lt.1) is in
           let split : (moved ++ piece) ++ rest ≡ moved ++ (piece ++ rest) = append_assoc moved piece rest in
           let later : IsMovedFrom f code (moved ++ (piece ++ rest)) n = subst (λ xs. IsMovedFrom f code xs n) split same in
           let now = one_more f code (moved ++ (piece ++ rest)) at n i i is there (ap (with_arg at i) (arg_stays f i.arg plain)) later in
@@ -94,13 +98,11 @@ moved_plain f code moved at n i is plain before =
     }
 
 -- one that names a token has the number of another in its last four bytes
-abbrev pub with_number : List ℕ → List ℕ → ℕ → ℕ → ℕ → List ℕ
-with_number moved code at n x = (moved ++ take (n - at) (drop at code)) ++ to_le_bytes w32 x
-
 number_size : (xs : List ℕ) (x : ℕ) → length (xs ++ to_le_bytes w32 x) ≡ length xs + 4
 number_size xs x = length-append xs (to_le_bytes w32 x)
 
-pub moved_token : (f : Token → Token) (code moved : List ℕ) (at n : ℕ) (t : Token) (i : Instruction ℕ) → EachIsByte code → instr_in code at ≡ Some (i, n) → i.arg ≡ token t
+pub moved_token : (f : Token → Token) (code moved : List ℕ) (at n : ℕ) (t : Token) (i : Instruction ℕ) → EachIsByte code → instr_in code at ≡ Some (i, n)
+    → i.arg ≡ token t
     → (f t).table ≡ t.table → (f t).row < 2 ^ 24 → IsMovedUpTo f code moved at → IsMovedUpTo f code (with_number moved code at (n - 4) (number_of (f t))) n
 moved_token f code moved at n t i bytes is names stays low before =
     let lt = instr_ends code at n i is in
@@ -116,12 +118,16 @@ moved_token f code moved at n t i bytes is names stays low before =
     record {
       size = number_size (moved ++ piece) (number_of (f t)) ∙ omega (arith, size, room);
       before = λ rest same.
-          let split : ((moved ++ piece) ++ word) ++ rest ≡ moved ++ (piece ++ (word ++ rest)) = append_assoc (moved ++ piece) word rest ∙ append_assoc moved piece (word ++ rest) in
+          let split : ((moved ++ piece) ++ word) ++ rest ≡ moved ++ (piece ++ (word ++ rest)) = append_assoc (moved ++ piece) word rest
+          ∙ append_assoc moved piece (word ++ rest) in
           let whole = moved ++ (piece ++ (word ++ rest)) in
-          let read : little_endian_at w32 ((moved ++ piece) ++ (word ++ rest)) (n - 4) ≡ Some (number_of (f t)) = word_between (moved ++ piece) rest (number_of (f t)) (n - 4) size few in
-          let again : little_endian_at w32 whole (n - 4) ≡ Some (number_of (f t)) = ap (λ xs. little_endian_at w32 xs (n - 4)) (sym (append_assoc moved piece (word ++ rest))) ∙ read in
+          let read : little_endian_at w32 ((moved ++ piece) ++ (word ++ rest)) (n - 4) ≡ Some (number_of (f t)) =
+          word_between (moved ++ piece) rest (number_of (f t)) (n - 4) size few in
+          let again : little_endian_at w32 whole (n - 4) ≡ Some (number_of (f t)) =
+          ap (λ xs. little_endian_at w32 xs (n - 4)) (sym (append_assoc moved piece (word ++ rest))) ∙ read in
           let j : Instruction ℕ = record { op = i.op; arg = token (f t) } in
-          let there : instr_in whole at ≡ Some (j, n) = instr_token code whole at n t (f t) i is names (same_here code moved (word ++ rest) at (n - 4) before.size from to) again stays low in
+          let there : instr_in whole at ≡ Some (j, n) =
+          instr_token code whole at n t (f t) i is names (same_here code moved (word ++ rest) at (n - 4) before.size from to) again stays low in
           let later : IsMovedFrom f code whole n = subst (λ xs. IsMovedFrom f code xs n) split same in
           let alike : (at, j) ≡ instruction_moved f (at, i) = ap (λ a. with_arg at i (argument_moved f a)) (sym names) in
           let now = one_more f code whole at n i j is there alike later in
@@ -129,14 +135,17 @@ moved_token f code moved at n t i bytes is names stays low before =
     }
 
 -- what stands behind the last instruction stays, and is none there either
-same_rest : (code moved : List ℕ) (at n : ℕ) → length moved ≡ at → at ≤ length code → n ≤ length code → Same (moved ++ take (length code - at) (drop at code)) code at n
+same_rest : (code moved : List ℕ) (at n : ℕ) → length moved ≡ at → at ≤ length code → n ≤ length code
+    → Same (moved ++ take (length code - at) (drop at code)) code at n
 same_rest code moved at n size within to =
     let piece = take (length code - at) (drop at code) in
     let nil : moved ++ (piece ++ []) ≡ moved ++ piece = ap (λ xs. moved ++ xs) (append-nil piece) in
-    let here : Same code (moved ++ piece) at (length code) = subst (λ xs. Same code xs at (length code)) nil (same_here code moved [] at (length code) size within (omega arith)) in
+    let here : Same code (moved ++ piece) at (length code) =
+    subst (λ xs. Same code xs at (length code)) nil (same_here code moved [] at (length code) size within (omega arith)) in
     record { short = to; each = λ i lo hi. sym (here.each i lo (omega (arith, hi, to))) }
 
-none_there : (code moved : List ℕ) (at : ℕ) (o : Option (Instruction ℕ × ℕ)) → length moved ≡ at → at ≤ length code → instr_in code at ≡ None → instr_in (moved ++ take (length code - at) (drop at code)) at ≡ o → o ≡ None
+none_there : (code moved : List ℕ) (at : ℕ) (o : Option (Instruction ℕ × ℕ)) → length moved ≡ at → at ≤ length code → instr_in code at ≡ None
+    → instr_in (moved ++ take (length code - at) (drop at code)) at ≡ o → o ≡ None
 none_there code moved at None size within none is = refl
 none_there code moved at (Some x) size within none is =
     let whole = moved ++ take (length code - at) (drop at code) in
@@ -150,7 +159,8 @@ pub moved_all : (f : Token → Token) (code moved : List ℕ) (at : ℕ) → Non
 moved_all f code moved at none within before =
     let piece = take (length code - at) (drop at code) in
     let past : instr_in (moved ++ piece) at ≡ None = none_there code moved at (instr_in (moved ++ piece) at) before.size within (sym none) refl in
-    let here : IsMovedFrom f code (moved ++ piece) at = rest_none (moved ++ piece) at past ∙ ap (map (instruction_moved f)) (sym (rest_none code at (sym none))) in
+    let here : IsMovedFrom f code (moved ++ piece) at = rest_none (moved ++ piece) at past
+    ∙ ap (map (instruction_moved f)) (sym (rest_none code at (sym none))) in
     (before.before piece here, piece_size code moved at (length code) before.size within (omega arith))
 
 -- of what was pushed

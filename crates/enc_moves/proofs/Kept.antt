@@ -1,5 +1,5 @@
 -- What a body keeps when its tokens are moved.
-use Rattle.std.proofs.Common.{◌≡◌, ℕ, ◌+◌, ◌*◌, Bool, true, List, [], ◌∷◌, ◌++◌, map, refl, sym, ap, ◌∙◌}
+use Rattle.std.proofs.Common.{◌≡◌, ℕ, ◌+◌, ◌*◌, Bool, true, List, [], ◌∷◌, map, refl, ap, ◌∙◌}
 use Rattle.std.specs.Prelude.{nat_le, not, ◌==◌, ◌&&◌, ◌||◌, if◌then◌else◌}
 use Rattle.std.specs.List.{list_all, flat_map}
 use Rattle.std.proofs.lemmas.Bool.{and_parts, and_from}
@@ -8,8 +8,9 @@ use Rattle.enc_base.specs.declared.token.Token.{Token}
 use Rattle.enc_opcodes.specs.declared.op.Operand.{Operand}
 use Rattle.enc_opcodes.specs.declared.op.Operand.TheVariants as operand
 use Rattle.enc_opcodes.specs.Instruction.{Argument, nothing, number, target, targets, token, text, raw, Instruction}
-use Rattle.enc_opcodes.specs.Body.{Body, Handler, HandlerKind, catching, filtering, finishing, faulting, is_user, is_named, range_is_good, locals_are_good}
-use Rattle.enc_opcodes.specs.Sound.{target_count, operand_size, instruction_size, are_whole, begins_at, argument_is_sound, instruction_is_sound, handler_kind_is_sound, handler_is_sound, body_is_sound}
+use Rattle.enc_opcodes.specs.Body.{Handler, HandlerKind, catching, filtering, finishing, faulting, is_user, is_named, range_is_good, locals_are_good}
+use Rattle.enc_opcodes.specs.Sound.{target_count, operand_size, instruction_size, are_whole, begins_at, argument_is_sound, instruction_is_sound}
+use Rattle.enc_opcodes.specs.Sound.{handler_kind_is_sound, handler_is_sound, body_is_sound}
 use Rattle.enc_moves.specs.Body.{argument_moved, instruction_moved, kind_moved, handler_moved, body_moved}
 use Rattle.enc_moves.specs.Laws.{text_in, MovedStaysSound, MovedKeepsTexts}
 
@@ -61,7 +62,8 @@ whole_same f size at (x ∷ xs) =
 abbrev pub KeepsNamed : (Token → Token) → (ℕ → ℕ) → Type 0
 KeepsNamed f count = (t : Token) → is_named count t ≡ true → is_named count (f t) ≡ true
 
-argument_kept : (f : Token → Token) (count : ℕ → ℕ) (p : ℕ → Bool) (o : Operand) (a : Argument (List ℕ)) → KeepsNamed f count → argument_is_sound count p o a ≡ true → argument_is_sound count p o (argument_moved f a) ≡ true
+argument_kept : (f : Token → Token) (count : ℕ → ℕ) (p : ℕ → Bool) (o : Operand) (a : Argument (List ℕ)) → KeepsNamed f count
+    → argument_is_sound count p o a ≡ true → argument_is_sound count p o (argument_moved f a) ≡ true
 argument_kept f count p o nothing keeps h = refl
 argument_kept f count p o (number n) keeps h = refl
 argument_kept f count p o (target t) keeps h = h
@@ -72,17 +74,20 @@ argument_kept f count p o (token t) keeps h =
 argument_kept f count p o (text units) keeps h = refl
 argument_kept f count p o (raw bytes) keeps h = refl
 
-instruction_kept : (f : Token → Token) (count : ℕ → ℕ) (p : ℕ → Bool) (x : ℕ × Instruction (List ℕ)) → KeepsNamed f count → instruction_is_sound count p x ≡ true → instruction_is_sound count p (instruction_moved f x) ≡ true
+instruction_kept : (f : Token → Token) (count : ℕ → ℕ) (p : ℕ → Bool) (x : ℕ × Instruction (List ℕ)) → KeepsNamed f count
+    → instruction_is_sound count p x ≡ true → instruction_is_sound count p (instruction_moved f x) ≡ true
 unfolding instruction_is_sound
 instruction_kept f count p x keeps h = argument_kept f count p x.1.op.operand x.1.arg keeps h
 
-kind_kept : (f : Token → Token) (count : ℕ → ℕ) (p : ℕ → Bool) (k : HandlerKind) → KeepsNamed f count → handler_kind_is_sound count p k ≡ true → handler_kind_is_sound count p (kind_moved f k) ≡ true
+kind_kept : (f : Token → Token) (count : ℕ → ℕ) (p : ℕ → Bool) (k : HandlerKind) → KeepsNamed f count → handler_kind_is_sound count p k ≡ true
+    → handler_kind_is_sound count p (kind_moved f k) ≡ true
 kind_kept f count p (catching t) keeps h = keeps t h
 kind_kept f count p (filtering offset) keeps h = h
 kind_kept f count p finishing keeps h = refl
 kind_kept f count p faulting keeps h = refl
 
-handler_kept : (f : Token → Token) (count : ℕ → ℕ) (p : ℕ → Bool) (size : ℕ) (x : Handler) → KeepsNamed f count → handler_is_sound count p size x ≡ true → handler_is_sound count p size (handler_moved f x) ≡ true
+handler_kept : (f : Token → Token) (count : ℕ → ℕ) (p : ℕ → Bool) (size : ℕ) (x : Handler) → KeepsNamed f count → handler_is_sound count p size x ≡ true
+    → handler_is_sound count p size (handler_moved f x) ≡ true
 unfolding handler_is_sound
 handler_kept f count p size x keeps h =
     let a = and_parts (range_is_good p size x.tries && range_is_good p size x.handler) (handler_kind_is_sound count p x.kind) h in
@@ -99,15 +104,24 @@ pub stays_sound : MovedStaysSound
 unfolding body_is_sound body_moved
 stays_sound f count b named locals h =
     let p = begins_at b.code in
-    let d = and_parts (are_whole b.size 0 b.code && list_all (instruction_is_sound count p) b.code && list_all (handler_is_sound count p b.size) b.handlers) (locals_are_good count b.locals) h in
-    let c = and_parts (are_whole b.size 0 b.code && list_all (instruction_is_sound count p) b.code) (list_all (handler_is_sound count p b.size) b.handlers) d.0 in
+    let d = and_parts (are_whole b.size 0 b.code && list_all (instruction_is_sound count p) b.code && list_all (handler_is_sound count p b.size) b.handlers)
+    (locals_are_good count b.locals) h in
+    let c = and_parts (are_whole b.size 0 b.code && list_all (instruction_is_sound count p) b.code) (list_all (handler_is_sound count p b.size) b.handlers)
+    d.0 in
     let a = and_parts (are_whole b.size 0 b.code) (list_all (instruction_is_sound count p) b.code) c.0 in
     let whole = whole_same f b.size 0 b.code ∙ a.0 in
     let instructions = all_kept (instruction_moved f) (instruction_is_sound count p) b.code (λ x e. instruction_kept f count p x named e) a.1 in
     let handlers = all_kept (handler_moved f) (handler_is_sound count p b.size) b.handlers (λ x e. handler_kept f count p b.size x named e) c.1 in
     rw (begins_same f b.code) (and_from _ _ (and_from _ _ (and_from _ _ whole instructions) handlers) (locals b.locals d.1))
 
--- and so do the user texts
+-- what arguments say besides tokens stays
+pub all_same : {R : Type 0} (g : Argument (List ℕ) → List R) (f : Token → Token) (xs : List (ℕ × Instruction (List ℕ)))
+    → ((a : Argument (List ℕ)) → g (argument_moved f a) ≡ g a)
+    → flat_map (λ (x : ℕ × Instruction (List ℕ)). g x.1.arg) (map (instruction_moved f) xs) ≡ flat_map (λ (x : ℕ × Instruction (List ℕ)). g x.1.arg) xs
+all_same g f [] same = refl
+all_same g f (x ∷ xs) same = rw (same x.1.arg, all_same g f xs same) refl
+
+-- so the user texts do
 text_same : (f : Token → Token) (a : Argument (List ℕ)) → text_in (argument_moved f a) ≡ text_in a
 text_same f nothing = refl
 text_same f (number n) = refl
@@ -117,10 +131,6 @@ text_same f (token t) = refl
 text_same f (text t) = refl
 text_same f (raw bytes) = refl
 
-all_same : (f : Token → Token) (xs : List (ℕ × Instruction (List ℕ))) → flat_map (λ (x : ℕ × Instruction (List ℕ)). text_in x.1.arg) (map (instruction_moved f) xs) ≡ flat_map (λ (x : ℕ × Instruction (List ℕ)). text_in x.1.arg) xs
-all_same f [] = refl
-all_same f (x ∷ xs) = rw (text_same f x.1.arg, all_same f xs) refl
-
 pub keeps_texts : MovedKeepsTexts
 unfolding body_moved
-keeps_texts f b = all_same f b.code
+keeps_texts f b = all_same text_in f b.code (text_same f)

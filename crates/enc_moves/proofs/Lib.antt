@@ -1,6 +1,7 @@
+mod ClausesMoved
 mod CodeBytes
-mod Kept
+mod CodeMoved
+pub mod Kept
 mod Means
 mod OwnBytes
-mod CodeMoved
 mod SectionsMoved

@@ -1,6 +1,7 @@
 -- An instruction is read of its own bytes alone.
-use Rattle.std.proofs.Common.{◌≡◌, ℕ, zero, suc, ◌+◌, ◌-◌, ◌*◌, ◌/◌, ◌%◌, ◌^◌, ◌<◌, ◌≤◌, Bool, true, false, cond, List, [], ◌∷◌, length, take, drop, get_or, Option, Some, None, option_map, refl, sym, ap, ◌∙◌, arith}
-use Rattle.std.specs.Prelude.{ℤ, option_and_then, nat_le, not, ◌==◌, if◌then◌else◌}
+use Rattle.std.proofs.Common.{◌≡◌, ℕ, zero, suc, ◌+◌, ◌-◌, ◌*◌, ◌/◌, ◌%◌, ◌^◌, ◌<◌, ◌≤◌, Bool, true, false, cond, List, [], ◌∷◌, length, take, drop}
+use Rattle.std.proofs.Common.{get_or, Option, Some, None, option_map, refl, sym, ap, ◌∙◌, arith}
+use Rattle.std.specs.Prelude.{ℤ, option_and_then, nat_le, not, ◌==◌}
 use Rattle.std.specs.Int.{Width, byte_len, w8, w16, w32, w64, from_le_bytes}
 use Rattle.std.proofs.lemmas.List.{get_or-drop, length-drop}
 use Rattle.std.proofs.lemmas.Bool.Decides.{nat_tests}
@@ -12,7 +13,8 @@ use Rattle.enc_opcodes.specs.declared.op.Op.{Op}
 use Rattle.enc_opcodes.specs.declared.op.Operand.{Operand}
 use Rattle.enc_opcodes.specs.declared.op.Operand.TheVariants as operand
 use Rattle.enc_opcodes.specs.Opcodes.{op_at}
-use Rattle.enc_opcodes.specs.Instruction.{Argument, nothing, number, target, targets, token, text, raw, Instruction, range_at, widened, target_at, targets_at, text_or_token, switch_in, arg_in, op_in, instr_in}
+use Rattle.enc_opcodes.specs.Instruction.{Argument, nothing, number, target, targets, token, text, raw, Instruction, range_at, widened, target_at}
+use Rattle.enc_opcodes.specs.Instruction.{targets_at, text_or_token, switch_in, arg_in, op_in, instr_in}
 use Rattle.enc_opcodes.proofs.Instructions.{range_there, instr_ends}
 
 -- the bytes from a place up to another stand in both
@@ -30,7 +32,8 @@ is_value : (b : Bool) (x y : ℕ) → cond b (Some x) None ≡ Some y → x ≡ 
 is_value true x y h = cc
 is_value false x y h = absurd cc
 
-by_value : (w : Width) (a b : List ℕ) (p v : ℕ) → p + byte_len w ≤ length b → from_le_bytes w (drop p a) ≡ from_le_bytes w (drop p b) → little_endian_at w a p ≡ Some v → little_endian_at w b p ≡ Some v
+by_value : (w : Width) (a b : List ℕ) (p v : ℕ) → p + byte_len w ≤ length b → from_le_bytes w (drop p a) ≡ from_le_bytes w (drop p b)
+    → little_endian_at w a p ≡ Some v → little_endian_at w b p ≡ Some v
 by_value w a b p v short same is =
     let e : from_le_bytes w (drop p a) ≡ v = is_value (nat_le (p + byte_len w) (length a)) (from_le_bytes w (drop p a)) v is in
     rw (fits (p + byte_len w) (length b) short) (ap (λ (x : ℕ). Some x) (sym same ∙ e))
@@ -42,18 +45,36 @@ number8_same a b at n p v same from to is =
 
 number16_same : (a b : List ℕ) (at n p v : ℕ) → Same a b at n → at ≤ p → p + 2 ≤ n → little_endian_at w16 a p ≡ Some v → little_endian_at w16 b p ≡ Some v
 number16_same a b at n p v same from to is =
-    by_value w16 a b p v (omega (arith, to, same.short)) (omega (arith, byte_same a b at n p 0 same from (omega (arith, to)), byte_same a b at n p 1 same from (omega (arith, to)))) is
+    by_value w16 a b p v (omega (arith, to, same.short))
+    (omega (arith, byte_same a b at n p 0 same from (omega (arith, to)), byte_same a b at n p 1 same from (omega (arith, to)))) is
 
 pub number32_same : (a b : List ℕ) (at n p v : ℕ) → Same a b at n → at ≤ p → p + 4 ≤ n → little_endian_at w32 a p ≡ Some v → little_endian_at w32 b p ≡ Some v
 number32_same a b at n p v same from to is =
     by_value w32 a b p v (omega (arith, to, same.short))
-    (omega (arith, byte_same a b at n p 0 same from (omega (arith, to)), byte_same a b at n p 1 same from (omega (arith, to)), byte_same a b at n p 2 same from (omega (arith, to)), byte_same a b at n p 3 same from (omega (arith, to))))
+    (omega (
+      arith,
+      byte_same a b at n p 0 same from (omega (arith, to)),
+      byte_same a b at n p 1 same from (omega (arith, to)),
+      byte_same a b at n p 2 same from (omega (arith, to)),
+      byte_same a b at n p 3 same from (omega (arith, to)),
+    ))
     is
 
 number64_same : (a b : List ℕ) (at n p v : ℕ) → Same a b at n → at ≤ p → p + 8 ≤ n → little_endian_at w64 a p ≡ Some v → little_endian_at w64 b p ≡ Some v
 number64_same a b at n p v same from to is =
     by_value w64 a b p v (omega (arith, to, same.short))
-    (omega (arith, byte_same a b at n p 0 same from (omega (arith, to)), byte_same a b at n p 1 same from (omega (arith, to)), byte_same a b at n p 2 same from (omega (arith, to)), byte_same a b at n p 3 same from (omega (arith, to)), byte_same a b at n p 4 same from (omega (arith, to)), byte_same a b at n p 5 same from (omega (arith, to)), byte_same a b at n p 6 same from (omega (arith, to)), byte_same a b at n p 7 same from (omega (arith, to))))
+    (omega (
+      arith,
+      byte_same a b at n p 0 same from (omega (arith, to)),
+      byte_same a b at n p 1 same from (omega (arith, to)),
+      byte_same a b at n p 2 same from (omega (arith, to)),
+      byte_same a b at n p 3 same from (omega (arith, to)),
+      byte_same a b at n p 4 same from (omega (arith, to)),
+      byte_same a b
+          at n p 5 same from (omega (arith, to)),
+      byte_same a b at n p 6 same from (omega (arith, to)),
+      byte_same a b at n p 7 same from (omega (arith, to)),
+    ))
     is
 
 -- and the same ranges
@@ -92,11 +113,13 @@ moved : {X Y : Type 0} (f : X → Y) (o p : Option X) (y : Y) → ((x : X) → o
 moved f None p y same h = absurd cc
 moved f (Some x) p y same h = rw (same x refl) h
 
-follow : {X Y : Type 0} (g k : X → Option Y) (o p : Option X) (y : Y) → ((x : X) → o ≡ Some x → g x ≡ Some y → (p ≡ Some x) × (k x ≡ Some y)) → option_and_then g o ≡ Some y → option_and_then k p ≡ Some y
+follow : {X Y : Type 0} (g k : X → Option Y) (o p : Option X) (y : Y) → ((x : X) → o ≡ Some x → g x ≡ Some y → (p ≡ Some x) × (k x ≡ Some y))
+    → option_and_then g o ≡ Some y → option_and_then k p ≡ Some y
 follow g k None p y each h = absurd cc
 follow g k (Some x) p y each h = let e = each x refl h in rw (e.0) (e.1)
 
-after : {X Y : Type 0} (g : X → Option Y) (o p : Option X) (y : Y) → ((x : X) → o ≡ Some x → p ≡ Some x) → option_and_then g o ≡ Some y → option_and_then g p ≡ Some y
+after : {X Y : Type 0} (g : X → Option Y) (o p : Option X) (y : Y) → ((x : X) → o ≡ Some x → p ≡ Some x) → option_and_then g o ≡ Some y
+    → option_and_then g p ≡ Some y
 after g o p y same h = follow g g o p y (λ x e h. (same x e, h)) h
 
 -- a switch
@@ -117,11 +140,13 @@ switch_end at count (Some r) a n h = targets_end (at + 4 + 4 * count) (targets_a
 switch_same : (a b : List ℕ) (at n p : ℕ) (x : Argument ℕ) → Same a b at n → at ≤ p → switch_in a p ≡ Some (x, n) → switch_in b p ≡ Some (x, n)
 unfolding switch_in
 switch_same a b at n p x same from h =
-    follow (λ (k : ℕ). switch_of p k (range_at a (p + 4) (4 * k))) (λ (k : ℕ). switch_of p k (range_at b (p + 4) (4 * k))) (little_endian_at w32 a p) (little_endian_at w32 b p) (x, n)
+    follow (λ (k : ℕ). switch_of p k (range_at a (p + 4) (4 * k))) (λ (k : ℕ). switch_of p k (range_at b (p + 4) (4 * k))) (little_endian_at w32 a p)
+    (little_endian_at w32 b p) (x, n)
     (λ k e f.
     let end : p + 4 + 4 * k ≡ n = switch_end p k (range_at a (p + 4) (4 * k)) x n f in (
       number32_same a b at n p k same from (omega (arith, end)) e,
-      after (λ (distances : List ℕ). with_targets (p + 4 + 4 * k) (targets_at (p + 4 + 4 * k) distances)) (range_at a (p + 4) (4 * k)) (range_at b (p + 4) (4 * k)) (x, n)
+      after (λ (distances : List ℕ). with_targets (p + 4 + 4 * k) (targets_at (p + 4 + 4 * k) distances)) (range_at a (p + 4) (4 * k))
+          (range_at b (p + 4) (4 * k)) (x, n)
           (λ r i. range_same a b at n (p + 4) (4 * k) r same (omega (arith, from)) (omega (arith, end)) i) f,
     ))
     h
@@ -131,19 +156,26 @@ arg_same : (k : Operand) (a b : List ℕ) (at n p : ℕ) (x : Argument ℕ) → 
 unfolding arg_in
 arg_same operand.None a b at n p x same from h = h
 arg_same operand.I8 a b at n p x same from h =
-    let e = mapped (little_endian_at w8 a p) _ (p + 1) x n h in moved _ (little_endian_at w8 a p) (little_endian_at w8 b p) (x, n) (λ v. number8_same a b at n p v same from (omega (arith, e))) h
+    let e = mapped (little_endian_at w8 a p) _ (p + 1) x n h in
+    moved _ (little_endian_at w8 a p) (little_endian_at w8 b p) (x, n) (λ v. number8_same a b at n p v same from (omega (arith, e))) h
 arg_same operand.U8 a b at n p x same from h =
-    let e = mapped (little_endian_at w8 a p) _ (p + 1) x n h in moved _ (little_endian_at w8 a p) (little_endian_at w8 b p) (x, n) (λ v. number8_same a b at n p v same from (omega (arith, e))) h
+    let e = mapped (little_endian_at w8 a p) _ (p + 1) x n h in
+    moved _ (little_endian_at w8 a p) (little_endian_at w8 b p) (x, n) (λ v. number8_same a b at n p v same from (omega (arith, e))) h
 arg_same operand.U16 a b at n p x same from h =
-    let e = mapped (little_endian_at w16 a p) _ (p + 2) x n h in moved _ (little_endian_at w16 a p) (little_endian_at w16 b p) (x, n) (λ v. number16_same a b at n p v same from (omega (arith, e))) h
+    let e = mapped (little_endian_at w16 a p) _ (p + 2) x n h in
+    moved _ (little_endian_at w16 a p) (little_endian_at w16 b p) (x, n) (λ v. number16_same a b at n p v same from (omega (arith, e))) h
 arg_same operand.I32 a b at n p x same from h =
-    let e = mapped (little_endian_at w32 a p) _ (p + 4) x n h in moved _ (little_endian_at w32 a p) (little_endian_at w32 b p) (x, n) (λ v. number32_same a b at n p v same from (omega (arith, e))) h
+    let e = mapped (little_endian_at w32 a p) _ (p + 4) x n h in
+    moved _ (little_endian_at w32 a p) (little_endian_at w32 b p) (x, n) (λ v. number32_same a b at n p v same from (omega (arith, e))) h
 arg_same operand.I64 a b at n p x same from h =
-    let e = mapped (little_endian_at w64 a p) _ (p + 8) x n h in moved _ (little_endian_at w64 a p) (little_endian_at w64 b p) (x, n) (λ v. number64_same a b at n p v same from (omega (arith, e))) h
+    let e = mapped (little_endian_at w64 a p) _ (p + 8) x n h in
+    moved _ (little_endian_at w64 a p) (little_endian_at w64 b p) (x, n) (λ v. number64_same a b at n p v same from (omega (arith, e))) h
 arg_same operand.R4 a b at n p x same from h =
-    let e = mapped (range_at a p 4) _ (p + 4) x n h in moved _ (range_at a p 4) (range_at b p 4) (x, n) (λ r. range_same a b at n p 4 r same from (omega (arith, e))) h
+    let e = mapped (range_at a p 4) _ (p + 4) x n h in
+    moved _ (range_at a p 4) (range_at b p 4) (x, n) (λ r. range_same a b at n p 4 r same from (omega (arith, e))) h
 arg_same operand.R8 a b at n p x same from h =
-    let e = mapped (range_at a p 8) _ (p + 8) x n h in moved _ (range_at a p 8) (range_at b p 8) (x, n) (λ r. range_same a b at n p 8 r same from (omega (arith, e))) h
+    let e = mapped (range_at a p 8) _ (p + 8) x n h in
+    moved _ (range_at a p 8) (range_at b p 8) (x, n) (λ r. range_same a b at n p 8 r same from (omega (arith, e))) h
 arg_same operand.Branch8 a b at n p x same from h =
     let far = λ (v : ℕ). target_at (p + 1) (widened v) in
     let e = mapped (option_and_then far (little_endian_at w8 a p)) _ (p + 1) x n h in
@@ -156,12 +188,15 @@ arg_same operand.Branch32 a b at n p x same from h =
     (λ t. after far (little_endian_at w32 a p) (little_endian_at w32 b p) t (λ v. number32_same a b at n p v same from (omega (arith, e)))) h
 arg_same operand.Switch a b at n p x same from h = switch_same a b at n p x same from h
 arg_same operand.Token a b at n p x same from h =
-    let e = mapped (little_endian_at w32 a p) _ (p + 4) x n h in moved _ (little_endian_at w32 a p) (little_endian_at w32 b p) (x, n) (λ v. number32_same a b at n p v same from (omega (arith, e))) h
+    let e = mapped (little_endian_at w32 a p) _ (p + 4) x n h in
+    moved _ (little_endian_at w32 a p) (little_endian_at w32 b p) (x, n) (λ v. number32_same a b at n p v same from (omega (arith, e))) h
 arg_same operand.User a b at n p x same from h =
-    let e = mapped (little_endian_at w32 a p) _ (p + 4) x n h in moved _ (little_endian_at w32 a p) (little_endian_at w32 b p) (x, n) (λ v. number32_same a b at n p v same from (omega (arith, e))) h
+    let e = mapped (little_endian_at w32 a p) _ (p + 4) x n h in
+    moved _ (little_endian_at w32 a p) (little_endian_at w32 b p) (x, n) (λ v. number32_same a b at n p v same from (omega (arith, e))) h
 
 -- which ends behind its place
-switch_behind : (a : List ℕ) (p : ℕ) (x : Argument ℕ) (n : ℕ) (o : Option ℕ) → option_and_then (λ (k : ℕ). switch_of p k (range_at a (p + 4) (4 * k))) o ≡ Some (x, n) → p ≤ n
+switch_behind : (a : List ℕ) (p : ℕ) (x : Argument ℕ) (n : ℕ) (o : Option ℕ)
+    → option_and_then (λ (k : ℕ). switch_of p k (range_at a (p + 4) (4 * k))) o ≡ Some (x, n) → p ≤ n
 switch_behind a p x n None h = absurd cc
 switch_behind a p x n (Some k) h = omega (arith, switch_end p k (range_at a (p + 4) (4 * k)) x n h)
 
@@ -175,7 +210,8 @@ arg_behind operand.I32 a p x n h = omega (arith, mapped (little_endian_at w32 a 
 arg_behind operand.I64 a p x n h = omega (arith, mapped (little_endian_at w64 a p) _ (p + 8) x n h)
 arg_behind operand.R4 a p x n h = omega (arith, mapped (range_at a p 4) _ (p + 4) x n h)
 arg_behind operand.R8 a p x n h = omega (arith, mapped (range_at a p 8) _ (p + 8) x n h)
-arg_behind operand.Branch8 a p x n h = omega (arith, mapped (option_and_then (λ (v : ℕ). target_at (p + 1) (widened v)) (little_endian_at w8 a p)) _ (p + 1) x n h)
+arg_behind operand.Branch8 a p x n h =
+    omega (arith, mapped (option_and_then (λ (v : ℕ). target_at (p + 1) (widened v)) (little_endian_at w8 a p)) _ (p + 1) x n h)
 arg_behind operand.Branch32 a p x n h = omega (arith, mapped (option_and_then (target_at (p + 4)) (little_endian_at w32 a p)) _ (p + 4) x n h)
 arg_behind operand.Switch a p x n h = switch_behind a p x n (little_endian_at w32 a p) h
 arg_behind operand.Token a p x n h = omega (arith, mapped (little_endian_at w32 a p) _ (p + 4) x n h)
@@ -195,7 +231,8 @@ apart p t n differs h =
     let f : is_token p.0 ≡ true = ap (λ (y : Argument ℕ × ℕ). is_token y.0) e in
     absurd cc
 
-by_number : (o : Option ℕ) (f : ℕ → ℤ) (next : ℕ) (t : Token) (n : ℕ) → option_map {U = Argument ℕ × ℕ} (λ (v : ℕ). (number (f v), next)) o ≡ Some (token t, n) → ⊥
+by_number : (o : Option ℕ) (f : ℕ → ℤ) (next : ℕ) (t : Token) (n : ℕ)
+    → option_map {U = Argument ℕ × ℕ} (λ (v : ℕ). (number (f v), next)) o ≡ Some (token t, n) → ⊥
 by_number None f next t n h = absurd cc
 by_number (Some v) f next t n h = apart (number (f v), next) t n refl h
 
@@ -215,7 +252,8 @@ by_range : (p k : ℕ) (o : Option (List ℕ)) (t : Token) (n : ℕ) → switch_
 by_range p k None t n h = absurd cc
 by_range p k (Some r) t n h = by_targets (p + 4 + 4 * k) (targets_at (p + 4 + 4 * k) r) t n h
 
-by_count : (a : List ℕ) (p : ℕ) (o : Option ℕ) (t : Token) (n : ℕ) → option_and_then (λ (k : ℕ). switch_of p k (range_at a (p + 4) (4 * k))) o ≡ Some (token t, n) → ⊥
+by_count : (a : List ℕ) (p : ℕ) (o : Option ℕ) (t : Token) (n : ℕ)
+    → option_and_then (λ (k : ℕ). switch_of p k (range_at a (p + 4) (4 * k))) o ≡ Some (token t, n) → ⊥
 by_count a p None t n h = absurd cc
 by_count a p (Some k) t n h = by_range p k (range_at a (p + 4) (4 * k)) t n h
 
@@ -238,17 +276,21 @@ token_is t u m n h =
     told (token v) = v
     told _ = t
 
-plain_token : (a : List ℕ) (p : ℕ) (o : Option ℕ) (t : Token) (n : ℕ) → little_endian_at w32 a p ≡ o → option_map {U = Argument ℕ × ℕ} (λ (v : ℕ). (token (token_of v), p + 4)) o ≡ Some (token t, n) → TokenAt operand.Token a p t n
+plain_token : (a : List ℕ) (p : ℕ) (o : Option ℕ) (t : Token) (n : ℕ) → little_endian_at w32 a p ≡ o
+    → option_map {U = Argument ℕ × ℕ} (λ (v : ℕ). (token (token_of v), p + 4)) o ≡ Some (token t, n) → TokenAt operand.Token a p t n
 plain_token a p None t n is h = absurd cc
-plain_token a p (Some v) t n is h = (refl, place_is {X = Argument ℕ} (token (token_of v), p + 4) (token t, n) h, (v, is, sym (token_is (token_of v) t (p + 4) n h)))
+plain_token a p (Some v) t n is h =
+    (refl, place_is {X = Argument ℕ} (token (token_of v), p + 4) (token t, n) h, (v, is, sym (token_is (token_of v) t (p + 4) n h)))
 
-user_token : (a : List ℕ) (p v : ℕ) (b : Bool) (t : Token) (n : ℕ) → little_endian_at w32 a p ≡ Some v → (v / 0x1000000 == 0x70) ≡ b → placed (cond b (text (v % 0x1000000)) (token (token_of v))) (p + 4) ≡ placed (token t) n → TokenAt operand.User a p t n
+user_token : (a : List ℕ) (p v : ℕ) (b : Bool) (t : Token) (n : ℕ) → little_endian_at w32 a p ≡ Some v → (v / 0x1000000 == 0x70) ≡ b
+    → placed (cond b (text (v % 0x1000000)) (token (token_of v))) (p + 4) ≡ placed (token t) n → TokenAt operand.User a p t n
 user_token a p v true t n is other h = absurd (apart (text (v % 0x1000000), p + 4) t n refl h)
 user_token a p v false t n is other h =
     let e : token_of v ≡ t = token_is (token_of v) t (p + 4) n h in
     (ap (λ (u : Token). not (u.table == 0x70)) (sym e) ∙ ap not other, place_is {X = Argument ℕ} (token (token_of v), p + 4) (token t, n) h, (v, is, sym e))
 
-text_token : (a : List ℕ) (p : ℕ) (o : Option ℕ) (t : Token) (n : ℕ) → little_endian_at w32 a p ≡ o → option_map {U = Argument ℕ × ℕ} (λ (v : ℕ). (text_or_token v, p + 4)) o ≡ Some (token t, n) → TokenAt operand.User a p t n
+text_token : (a : List ℕ) (p : ℕ) (o : Option ℕ) (t : Token) (n : ℕ) → little_endian_at w32 a p ≡ o
+    → option_map {U = Argument ℕ × ℕ} (λ (v : ℕ). (text_or_token v, p + 4)) o ≡ Some (token t, n) → TokenAt operand.User a p t n
 text_token a p None t n is h = absurd cc
 text_token a p (Some v) t n is h = user_token a p v (v / 0x1000000 == 0x70) t n is refl h
 
@@ -262,7 +304,8 @@ token_operand operand.I32 a p t n h = absurd (by_number (little_endian_at w32 a 
 token_operand operand.I64 a p t n h = absurd (by_number (little_endian_at w64 a p) _ (p + 8) t n h)
 token_operand operand.R4 a p t n h = absurd (by_raw (range_at a p 4) (p + 4) t n h)
 token_operand operand.R8 a p t n h = absurd (by_raw (range_at a p 8) (p + 8) t n h)
-token_operand operand.Branch8 a p t n h = absurd (by_target (option_and_then (λ (v : ℕ). target_at (p + 1) (widened v)) (little_endian_at w8 a p)) (p + 1) t n h)
+token_operand operand.Branch8 a p t n h =
+    absurd (by_target (option_and_then (λ (v : ℕ). target_at (p + 1) (widened v)) (little_endian_at w8 a p)) (p + 1) t n h)
 token_operand operand.Branch32 a p t n h = absurd (by_target (option_and_then (target_at (p + 4)) (little_endian_at w32 a p)) (p + 4) t n h)
 token_operand operand.Switch a p t n h = absurd (by_count a p (little_endian_at w32 a p) t n h)
 token_operand operand.Token a p t n h = plain_token a p (little_endian_at w32 a p) t n refl h
@@ -301,7 +344,8 @@ op_same a b at n op m same some le h =
     follow (op_behind_first a at) (op_behind_first b at) (little_endian_at w8 a at) (little_endian_at w8 b at) (op, m)
     (λ first e f. (number8_same a b at n at first same (omega arith) (omega (arith, some)) e, prefix_same a b at n first (first == 0xFE) op m same le f)) h
 
-prefix_behind : (a : List ℕ) (at first : ℕ) (t : Bool) (op : Op) (m : ℕ) → cond t (second_of first (at + 2) (little_endian_at w8 a (at + 1))) (op_of (at + 1) (op_at first 0)) ≡ Some (op, m) → at < m
+prefix_behind : (a : List ℕ) (at first : ℕ) (t : Bool) (op : Op) (m : ℕ)
+    → cond t (second_of first (at + 2) (little_endian_at w8 a (at + 1))) (op_of (at + 1) (op_at first 0)) ≡ Some (op, m) → at < m
 prefix_behind a at first true op m h = omega (arith, second_end first (at + 2) (little_endian_at w8 a (at + 1)) op m h)
 prefix_behind a at first false op m h = omega (arith, op_end (at + 1) (op_at first 0) op m h)
 
@@ -320,7 +364,8 @@ with_arg op o = option_and_then (λ (rest : Argument ℕ × ℕ). Some (record {
 abbrev Parts : List ℕ → ℕ → Instruction ℕ → ℕ → Type 0
 Parts a at i n = (m : ℕ) × (op_in a at ≡ Some (i.op, m)) × (arg_in i.op.operand a m ≡ Some (i.arg, n))
 
-by_arg : (a : List ℕ) (at : ℕ) (op : Op) (m : ℕ) (o : Option (Argument ℕ × ℕ)) (i : Instruction ℕ) (n : ℕ) → op_in a at ≡ Some (op, m) → arg_in op.operand a m ≡ o → with_arg op o ≡ Some (i, n) → Parts a at i n
+by_arg : (a : List ℕ) (at : ℕ) (op : Op) (m : ℕ) (o : Option (Argument ℕ × ℕ)) (i : Instruction ℕ) (n : ℕ) → op_in a at ≡ Some (op, m)
+    → arg_in op.operand a m ≡ o → with_arg op o ≡ Some (i, n) → Parts a at i n
 by_arg a at op m None i n head is h = absurd cc
 by_arg a at op m (Some x) i n head is h =
     let e : (record { op = op; arg = x.0 }, x.1) ≡ (i, n) = cc in
@@ -328,7 +373,8 @@ by_arg a at op m (Some x) i n head is h =
     let f : x ≡ (i.arg, n) = ap (λ (y : Instruction ℕ × ℕ). (y.0.arg, y.1)) e in
     (m, head ∙ ap (λ (p : Op). Some (p, m)) o, ap (λ (p : Op). arg_in p.operand a m) (sym o) ∙ is ∙ ap (λ (y : Argument ℕ × ℕ). Some y) f)
 
-by_op : (a : List ℕ) (at : ℕ) (o : Option (Op × ℕ)) (i : Instruction ℕ) (n : ℕ) → op_in a at ≡ o → option_and_then (λ (head : Op × ℕ). with_arg head.0 (arg_in head.0.operand a head.1)) o ≡ Some (i, n) → Parts a at i n
+by_op : (a : List ℕ) (at : ℕ) (o : Option (Op × ℕ)) (i : Instruction ℕ) (n : ℕ) → op_in a at ≡ o
+    → option_and_then (λ (head : Op × ℕ). with_arg head.0 (arg_in head.0.operand a head.1)) o ≡ Some (i, n) → Parts a at i n
 by_op a at None i n is h = absurd cc
 by_op a at (Some x) i n is h = by_arg a at x.0 x.1 (arg_in x.0.operand a x.1) i n is refl h
 
@@ -336,7 +382,8 @@ parts : (a : List ℕ) (at n : ℕ) (i : Instruction ℕ) → instr_in a at ≡ 
 unfolding instr_in
 parts a at n i h = by_op a at (op_in a at) i n refl h
 
-joined : (a : List ℕ) (at m n : ℕ) (op : Op) (x : Argument ℕ) → op_in a at ≡ Some (op, m) → arg_in op.operand a m ≡ Some (x, n) → instr_in a at ≡ Some (record { op = op; arg = x }, n)
+joined : (a : List ℕ) (at m n : ℕ) (op : Op) (x : Argument ℕ) → op_in a at ≡ Some (op, m) → arg_in op.operand a m ≡ Some (x, n)
+    → instr_in a at ≡ Some (record { op = op; arg = x }, n)
 unfolding instr_in
 joined a at m n op x e f = rw e (rw f refl)
 
@@ -347,7 +394,8 @@ instr_same a b at n i same h =
     let lt = instr_ends a at n i h in
     let le : p.0 ≤ n = arg_behind i.op.operand a p.0 i.arg n p.2 in
     let lo : at < p.0 = op_behind a at i.op p.0 p.1 in
-    joined b at p.0 n i.op i.arg (op_same a b at n i.op p.0 same (omega (arith, lt.0)) le p.1) (arg_same i.op.operand a b at n p.0 i.arg same (omega (arith, lo)) p.2)
+    joined b at p.0 n i.op i.arg (op_same a b at n i.op p.0 same (omega (arith, lt.0)) le p.1)
+    (arg_same i.op.operand a b at n p.0 i.arg same (omega (arith, lo)) p.2)
 
 -- one that names a token has its number in its last four bytes
 pub record NamesAt (a : List ℕ) (at n : ℕ) (t : Token) : Type 0 where
@@ -364,10 +412,10 @@ names_at a at n t i h is =
     record { room = omega (arith, op_behind a at i.op p.0 p.1, e.1); value = e.2.0; told = ap (λ k. little_endian_at w32 a k) m ∙ e.2.1; is = e.2.2 }
 
 -- so its row is one of three bytes, and in bytes its table is one
-row_few : (v : ℕ) → v % 0x1000000 < 2 ^ 24
+pub row_few : (v : ℕ) → v % 0x1000000 < 2 ^ 24
 row_few v = omega arith
 
-table_few : (v : ℕ) → v < 2 ^ 32 → v / 0x1000000 < 256
+pub table_few : (v : ℕ) → v < 2 ^ 32 → v / 0x1000000 < 256
 table_few v few = omega arith
 
 pub names_few : (a : List ℕ) (at n : ℕ) (t : Token) → EachIsByte a → NamesAt a at n t → (t.row < 2 ^ 24) × (t.table < 256)
@@ -389,7 +437,8 @@ pub number_small : (t : Token) → t.row < 2 ^ 24 → t.table < 256 → number_o
 number_small t few small = omega (arith, few, small)
 
 -- with another number there, another token is named
-token_read : (k : Operand) (b : List ℕ) (p : ℕ) (t u : Token) → may_stand k t ≡ true → u.table ≡ t.table → u.row < 2 ^ 24 → little_endian_at w32 b p ≡ Some (number_of u) → arg_in k b p ≡ Some (token u, p + 4)
+token_read : (k : Operand) (b : List ℕ) (p : ℕ) (t u : Token) → may_stand k t ≡ true → u.table ≡ t.table → u.row < 2 ^ 24
+    → little_endian_at w32 b p ≡ Some (number_of u) → arg_in k b p ≡ Some (token u, p + 4)
 unfolding arg_in switch_in
 token_read operand.None b p t u may same few h = absurd cc
 token_read operand.I8 b p t u may same few h = absurd cc
@@ -411,7 +460,8 @@ token_read operand.User b p t u may same few h =
     not_true true e = absurd cc
     not_true false e = refl
 
-pub instr_token : (a b : List ℕ) (at n : ℕ) (t u : Token) (i : Instruction ℕ) → instr_in a at ≡ Some (i, n) → i.arg ≡ token t → Same a b at (n - 4) → little_endian_at w32 b (n - 4) ≡ Some (number_of u) → u.table ≡ t.table → u.row < 2 ^ 24
+pub instr_token : (a b : List ℕ) (at n : ℕ) (t u : Token) (i : Instruction ℕ) → instr_in a at ≡ Some (i, n) → i.arg ≡ token t → Same a b at (n - 4)
+    → little_endian_at w32 b (n - 4) ≡ Some (number_of u) → u.table ≡ t.table → u.row < 2 ^ 24
     → instr_in b at ≡ Some (record { op = i.op; arg = token u }, n)
 instr_token a b at n t u i h is same told alike few =
     let p = parts a at n i h in

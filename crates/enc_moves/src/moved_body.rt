@@ -47,7 +47,8 @@ impl MovedBody {
     ) -> Result<Option<MovedBody>, AllocError>
         requires few { length body.now.code.now < 2 ^ 32 }
         requires short { length body.now.sections.now < 2 ^ 32 }
-        ensures { IfOk result (λ r. MeansMoved (M.to moves.now) (code_seen body.now) (held_code r (code_seen body.now) (M.to moves.now body.now.locals))) }
+        ensures { IfOk result (λ r. MeansMoved (M.to moves.now) (code_seen body.now)
+            (held_code r (code_seen body.now) (M.to moves.now body.now.locals))) }
     {
         let code = moved_code(alloc, body, moves)?;
         let sections = moved_sections(alloc, body.sections, moves)?;

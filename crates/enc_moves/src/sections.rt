@@ -45,7 +45,8 @@ fn push_clauses<M: Moves>(
     out: &mut Vec<u8>,
 ) -> Result<(), AllocError>
     requires { length section.now.clauses.now ≡ size_of_clause section.now.fat * section.now.count }
-    ensures { OnOk result (out.new.items ≡ out.old.items ++ clauses_moved (M.to moves.now) section.now.fat section.now.count section.now.clauses.now) }
+    ensures { OnOk result (out.new.items ≡ out.old.items
+        ++ clauses_moved (M.to moves.now) section.now.fat section.now.count section.now.clauses.now) }
 {
     let mut rest = section.clauses;
     for i in 0..section.count {
@@ -67,7 +68,8 @@ fn push_section<M: Moves>(
 ) -> Result<(), AllocError>
     requires head { 4 ≤ length bytes.now }
     requires whole { length section.now.clauses.now ≡ size_of_clause section.now.fat * section.now.count }
-    ensures { OnOk result (out.new.items ≡ (out.old.items ++ take 4 bytes.now) ++ clauses_moved (M.to moves.now) section.now.fat section.now.count section.now.clauses.now) }
+    ensures { OnOk result (out.new.items ≡ (out.old.items ++ take 4 bytes.now)
+        ++ clauses_moved (M.to moves.now) section.now.fat section.now.count section.now.clauses.now) }
 {
     out.extend_from_slice(&bytes[..4])?;
     push_clauses(section, moves, out)

@@ -1,4 +1,4 @@
-use Rattle.std.proofs.Common.{◌≡◌, ◌≤◌, length, sym, subst, arith}
+use Rattle.std.proofs.Common.{sym, subst}
 use Rattle.enc_il.specs.Seen.{instr_seen}
 use Rattle.enc_il.proofs.Starts.{behind, fewer_left}
 use Rattle.enc_moves.specs.Copied.{IsMovedFrom}

@@ -23,7 +23,8 @@ push_section-requires-clause-head g c =
     omega (arith, front.size)
 
 pub push_section-requires-clause-whole : goal.push_section-requires-clause-whole
-push_section-requires-clause-whole g c = (front_of c.loop-section.rest.now (section_seen (c.in-Some.section, c.in-Some.behind)) (sym c.in-Some.ensures.section)).whole
+push_section-requires-clause-whole g c =
+    (front_of c.loop-section.rest.now (section_seen (c.in-Some.section, c.in-Some.behind)) (sym c.in-Some.ensures.section)).whole
 
 pub loop-section-preserved : goal.loop-section-preserved
 loop-section-preserved g c =
@@ -32,9 +33,11 @@ loop-section-preserved g c =
     let before = c.loop-section.out.items in
     let left = c.loop-section.rest.now in
     let x : Section × List ℕ = section_seen (c.in-Some.section, c.in-Some.behind) in
-    let put : c.push_section.new.out.items ≡ before ++ front_moved f left x.0 = c.in-Ok.ensures ∙ append_assoc before (take 4 left) (clauses_moved f x.0.fat x.0.count x.0.clauses) in
+    let put : c.push_section.new.out.items ≡ before ++ front_moved f left x.0 = c.in-Ok.ensures
+    ∙ append_assoc before (take 4 left) (clauses_moved f x.0.fat x.0.count x.0.clauses) in
     subst (λ xs. AreMovedUpTo f sections xs x.1) (sym put)
-    (one_more f sections before left x (g.met.M.Moves.stays c.args.moves.now) (g.met.M.Moves.low c.args.moves.now) (sym c.in-Some.ensures.section) c.if-not-section.false c.loop-section.invariant)
+    (one_more f sections before left x (g.met.M.Moves.stays c.args.moves.now) (g.met.M.Moves.low c.args.moves.now) (sym c.in-Some.ensures.section)
+    c.if-not-section.false c.loop-section.invariant)
 
 pub returns-then-not-section : goal.returns-then-not-section
 returns-then-not-section g c =
@@ -43,8 +46,10 @@ returns-then-not-section g c =
     let before = c.loop-section.out.items in
     let left = c.loop-section.rest.now in
     let x : Section × List ℕ = section_seen (c.in-Some.section, c.in-Some.behind) in
-    let put : c.push_section.new.out.items ≡ before ++ front_moved f left x.0 = c.in-Ok.ensures ∙ append_assoc before (take 4 left) (clauses_moved f x.0.fat x.0.count x.0.clauses) in
-    let all = last_moved f sections before left x (g.met.M.Moves.stays c.args.moves.now) (g.met.M.Moves.low c.args.moves.now) (sym c.in-Some.ensures.section) c.if-not-section.true c.loop-section.invariant in
+    let put : c.push_section.new.out.items ≡ before ++ front_moved f left x.0 = c.in-Ok.ensures
+    ∙ append_assoc before (take 4 left) (clauses_moved f x.0.fat x.0.count x.0.clauses) in
+    let all = last_moved f sections before left x (g.met.M.Moves.stays c.args.moves.now) (g.met.M.Moves.low c.args.moves.now) (sym c.in-Some.ensures.section)
+    c.if-not-section.true c.loop-section.invariant in
     let same = ap (λ xs. xs ++ x.1) (sym put) in
     record {
       moved = if_ok c.with_rest.result (λ v. v.items ≡ c.push_section.new.out.items ++ x.1) (λ v. AreMoved f sections v.items)

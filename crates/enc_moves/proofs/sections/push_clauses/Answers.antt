@@ -1,7 +1,7 @@
 use Rattle.std.proofs.Common.{◌≡◌, ◌+◌, ◌-◌, ◌*◌, ◌++◌, suc, length, drop, sym, ap, subst, ◌∙◌, arith}
 use Rattle.enc_opcodes.specs.Clause.{clause_size}
 use Rattle.enc_moves.specs.Copied.{clauses_moved}
-use Rattle.enc_moves.proofs.SectionsMoved.{more_put, none_put, left_size, one_there}
+use Rattle.enc_moves.proofs.ClausesMoved.{more_put, none_put, left_size, one_there}
 use Rattle.enc_moves.proofs.sections.push_clauses.Goals as goal
 
 pub push_clause-requires : goal.push_clause-requires
@@ -28,4 +28,5 @@ pub returns : goal.returns
 returns g c =
     let f = g.M.Moves.to c.args.moves.now in
     let s = c.args.section.now in
-    none_put f s.fat (s.count - c.loop-i.i) c.loop-i.rest.now c.loop-i.out.items (c.args.out.now.items ++ clauses_moved f s.fat s.count s.clauses.now) (omega (arith, c.loop-i-test.false)) c.loop-i.invariant.0
+    none_put f s.fat (s.count - c.loop-i.i) c.loop-i.rest.now c.loop-i.out.items (c.args.out.now.items ++ clauses_moved f s.fat s.count s.clauses.now)
+    (omega (arith, c.loop-i-test.false)) c.loop-i.invariant.0

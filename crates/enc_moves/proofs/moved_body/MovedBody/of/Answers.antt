@@ -1,4 +1,4 @@
-use Rattle.std.proofs.Common.{◌≡◌, ℕ, List, length, sym, ap, subst, ◌∙◌}
+use Rattle.std.proofs.Common.{◌≡◌, sym, subst, ◌∙◌}
 use Rattle.enc_opcodes.specs.Body.{code_seen}
 use Rattle.enc_moves.specs.Body.{MeansMoved}
 use Rattle.enc_moves.proofs.Means.{with_parts, means_moved, means_own}
@@ -18,6 +18,7 @@ returns g c =
     let own = code_seen c.args.body.now in
     let code = c.in_ok-code.code.items in
     let sections = c.in_ok-sections.sections.items in
-    let moved : MeansMoved f own (with_parts own (f own.locals) code sections) = means_moved f own code sections c.in_ok-code.ensures.moved c.in_ok-sections.ensures.moved c.in_ok-code.ensures.size c.in_ok-sections.ensures.size in
+    let moved : MeansMoved f own (with_parts own (f own.locals) code sections) =
+    means_moved f own code sections c.in_ok-code.ensures.moved c.in_ok-sections.ensures.moved c.in_ok-code.ensures.size c.in_ok-sections.ensures.size in
     subst (λ xs. MeansMoved f own (with_parts own (f own.locals) c.from_vec.result xs)) (sym c.from_vec-2.ensures)
     (subst (λ xs. MeansMoved f own (with_parts own (f own.locals) xs sections)) (sym c.from_vec.ensures) moved)
