@@ -1,7 +1,6 @@
 //! The data sections of a body with the classes of their clauses moved (ECMA-335 II.25.4.5,
 //! II.25.4.6).
-ghost use Rattle.std.specs.Prelude.{◌≡◌, ◌*◌, ◌≤◌, ◌++◌, Some, length, take, IfOk, OnOk};
-ghost use Rattle.enc_il.specs.Seen.{section_seen};
+ghost use Rattle.std.specs.Prelude.{◌≡◌, ◌*◌, ◌≤◌, ◌++◌, length, take, IfOk, OnOk};
 ghost use Rattle.enc_moves.specs.Copied.{extra_moved, clause_moved, clauses_moved, AreMoved};
 ghost use Rattle.enc_opcodes.specs.Clause.{clause_size as size_of_clause};
 
