@@ -1,0 +1,4 @@
+pub mod Body
+pub mod Copied
+pub mod Held
+pub mod Laws
