@@ -1,16 +1,11 @@
 -- What each cell of a module says fits its column after a delta too.
-use Rattle.std.proofs.Common.{◌≡◌, ℕ, ◌^◌, ◌≤◌, Bool, true, false, [], map, Option, Some, None, refl, sym, ◌∙◌, inl, inr, arith}
-use Rattle.std.specs.Prelude.{◌&&◌, ◌||◌, nat_lt, slice_get, unwrap_or, if◌then◌else◌}
+use Rattle.std.proofs.Common.{◌≡◌, ℕ, ◌≤◌, Bool, true, false, [], Option, Some, None, refl, sym, ◌∙◌, inl, inr, arith}
+use Rattle.std.specs.Prelude.{◌&&◌, ◌||◌, slice_get, unwrap_or, if◌then◌else◌}
 use Rattle.std.proofs.lemmas.Bool.{cases_lt, or_cases}
-use Rattle.std.proofs.lemmas.Bool.Decides.{nat_tests}
 use Rattle.enc_base.specs.Token.{nil, is_token}
-use Rattle.enc_base.specs.Order.{or_else}
-use Rattle.enc_base.specs.declared.refusal.Place.{Place}
 use Rattle.enc_base.specs.declared.token.Token.{Token}
 use Rattle.enc_base.proofs.SmallNumbers.{EachIsByte}
-use Rattle.enc_meta.specs.Heaps.{Counted}
-use Rattle.enc_meta.specs.Joined.{joined_length}
-use Rattle.enc_meta.proofs.EntryLengths.{joined_zero, joined_few, joined_long}
+use Rattle.enc_meta.proofs.EntryLengths.{joined_zero, joined_long}
 use Rattle.enc_schema.specs.declared.column.Column.{Column}
 use Rattle.enc_schema.specs.Schema.{columns_in, column_in}
 use Rattle.enc_rows.specs.Source.{Source, raw_in}
@@ -27,7 +22,7 @@ use Rattle.enc_plain.proofs.KindsOf.{kind_of_cell, row_table}
 use Rattle.enc_plain.proofs.LoadedBytes.{AreLoaded}
 use Rattle.enc_plain.proofs.ReadCells.{ReadsFor, read_fits}
 use Rattle.enc_delta.specs.Delta.{listed, place_in}
-use Rattle.enc_delta.specs.Rules.{broken, heaps_after, users_after, reading_after, blobs_break, heap_fault, broken_body}
+use Rattle.enc_delta.specs.Rules.{heaps_after, users_after, reading_after, broken_body}
 use Rattle.enc_delta.specs.Changes.{bad_locals}
 use Rattle.enc_delta.specs.Rows.{cell_after, cells_after}
 use Rattle.enc_rows.proofs.Listed.{get_below, get_past}
@@ -42,33 +37,12 @@ use Rattle.enc_agg.proofs.SoundSignatures.{Counted as IsCounted}
 use Rattle.enc_agg.proofs.Tokens.{PlaceRow}
 use Rattle.enc_agg.proofs.Viewing.{listed_cells, kept_cell, kept_row, number_listed}
 
--- the joined blobs keep their limit
-neither : {A : Type 0} (a b : Option A) → or_else a b ≡ None → (a ≡ None) × (b ≡ None)
-neither None None h = (refl, refl)
-neither (Some x) b h = absurd cc
-neither None (Some x) h = absurd cc
-
-unbroken : (b : Bool) (p : Place) → broken b p ≡ None → b ≡ false
-unbroken true p h = absurd cc
-unbroken false p h = refl
-
-few_blobs : (c : Chain) (s : Source) → heap_fault c s ≡ None → joined_length (map (λ (h : Counted). h.blobs) (heaps_after c s)) ≤ 2 ^ 29
-unfolding heap_fault blobs_break
-few_blobs c s none =
-    let strings = neither _ _ none in
-    let users = neither _ _ strings.1 in
-    let blobs = neither _ _ users.1 in
-    most (joined_length (map (λ (h : Counted). h.blobs) (heaps_after c s))) (unbroken _ _ blobs.0)
-  where
-    most : (n : ℕ) → nat_lt (2 ^ 29) n ≡ false → n ≤ 2 ^ 29
-    most n h = grind (arith, nat_tests)
-
 at_most : (a b : ℕ) → b ≡ a → a ≤ b
 at_most a b h = omega arith
 
-delta_reads : (c : Chain) (s : Source) → heap_fault c s ≡ None → IsCounted c s → ReadsFor (extended c s).plain (reading_after c s)
+delta_reads : (c : Chain) (s : Source) → IsCounted c s → ReadsFor (extended c s).plain (reading_after c s)
 unfolding reading_after
-delta_reads c s none counts = record { texts = λ n x h. joined_zero (heaps_after c s) n x h; blobs = λ n x h. joined_few (heaps_after c s) n x (few_blobs c s none) h; guids = λ n x h. joined_long (heaps_after c s) n x h; rows = λ t part low. at_most _ _ (counts t) }
+delta_reads c s counts = record { texts = λ n x h. joined_zero (heaps_after c s) n x h; guids = λ n x h. joined_long (heaps_after c s) n x h; rows = λ t part low. at_most _ _ (counts t) }
 
 -- a cell of a row that the delta lists is what its number stands for
 same_cell : (x y : Cell) → Some x ≡ Some y → y ≡ x
@@ -90,7 +64,6 @@ pub record Says (c : Chain) (s : Source) : Type 0 where
   pub follows : Lands c s
   pub judged : JudgedBy c s
   pub counts : IsCounted c s
-  pub heaps : heap_fault c s ≡ None
   pub bodies : broken_body c s ≡ None
   pub locals : bad_locals c s ≡ None
   pub places : (u : Token) (k : ℕ) → place_in (listed s) u ≡ Some k → PlaceRow s u k
@@ -116,7 +89,7 @@ by_place c s u k i column false true says tables few there place e hb = no_bytes
 by_place c s u k i column false false says tables few there place e hb =
     let own : Token = record { table = u.table; row = k } in
     let t = row_table (extended c s).plain u tables few there in
-    read_fits (extended c s).plain u (reading_after c s) i column (raw_in s own i) (delta_reads c s says.heaps says.counts) t.0 t.1 e (raw_fits s own i column says.stream e)
+    read_fits (extended c s).plain u (reading_after c s) i column (raw_in s own i) (delta_reads c s says.counts) t.0 t.1 e (raw_fits s own i column says.stream e)
 
 listed_cell : (c : Chain) (s : Source) (u : Token) (k i : ℕ) (column : Column) (x : Cell) → Says c s → HasTables (extended c s).plain → HasCounts (extended c s).plain → has_row (extended c s).plain u ≡ true → place_in (listed s) u ≡ Some k → column_in u.table i ≡ Some column → cell_of (extended c s).plain u i ≡ Some x → cell_is_sound (extended c s).plain u column x ≡ true
 unfolding cell_with reading_after

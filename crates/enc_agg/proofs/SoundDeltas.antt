@@ -52,7 +52,7 @@ keeps_sound c s bytes follows sound =
     let many = count_is c s has follows.lands in
     let tables = has_tables c s has in
     let counts = counts_after c s u.early.tables u.early.cell_tables u.limit tables.all many sound.counts in
-    let says : Says c s = record { follows = follows.lands; judged = judged; counts = many; heaps = u.early.heaps; bodies = u.broken_body; locals = u.locals; places = λ t k place. place_row c s t k follows.lands place; stream = bytes.stream; loaded = bytes.loaded } in
+    let says : Says c s = record { follows = follows.lands; judged = judged; counts = many; bodies = u.broken_body; locals = u.locals; places = λ t k place. place_row c s t k follows.lands place; stream = bytes.stream; loaded = bytes.loaded } in
     record {
       owners = record { tables = tables; runs = has_runs c s has follows.lands sound.owners.runs; owned = owned_after c s has follows.lands sound.owners.runs sound.owners.owned };
       counts = counts;

@@ -21,7 +21,6 @@ use Rattle.enc_delta.specs.Rules.{may_change}
 use Rattle.enc_rules.specs.Edited.{rows_edited, cell_stated, cells_stated}
 use Rattle.enc_rules.specs.Listed.{count_after}
 use Rattle.enc_rules.specs.Rules.{cells_break, table_breaks, table_is_closed, token_breaks, token_is_missing}
-use Rattle.enc_edited.specs.Applied.{blob_is_short, blobs_are_short}
 use Rattle.enc_edited.proofs.Unbroken.{BreakNothing}
 use Rattle.enc_edited.proofs.Stated.{stated_at, value_at}
 
@@ -34,7 +33,6 @@ pub record IsAdd (c : Chain) (l : EditList) (k table : ℕ) (owner : Token) (cel
   pub fits : cells_fit (stated_columns table) cells ≡ true
   pub owned : owner_fits table owner ≡ true
   pub coded : code_fits table code points ≡ true
-  pub short : list_all blob_is_short cells ≡ true
   pub unbroken : cells_break (count_after c l.edits) (stated_columns table) cells ≡ false
 
 neither : (a b : Bool) → (a || b) ≡ false → (a ≡ false) × (b ≡ false)
@@ -82,7 +80,6 @@ add_is c l k table owner cells code points t form none there row =
       fits = parts.1;
       owned = parts.0;
       coded = parts.2;
-      short = of_all blobs_are_short l.edits k (Add table owner cells code points) none.blobs there;
       unbroken = rw (there, row) at (none.tokens k);
     }
 
@@ -100,7 +97,6 @@ pub record HasValue (count : ℕ → ℕ) (table i : ℕ) (column : Column) (all
   pub there : slice_get all i ≡ Some (cell_stated value)
   pub fits : Rattle.enc_edits.specs.Form.cell_fits column value ≡ true
   pub unbroken : Rattle.enc_rules.specs.Rules.value_breaks count column value ≡ false
-  pub short : blob_is_short value ≡ true
 
 mapped : (vs : List CellValue) (i : ℕ) (v : CellValue) → slice_get vs i ≡ Some v → slice_get (map cell_stated vs) i ≡ Some (cell_stated v)
 mapped [] i v h = absurd cc
@@ -120,11 +116,11 @@ pub columns_plain : (table : ℕ) → (table == 6) ≡ false → (table == 0x1D)
 unfolding stated_columns
 columns_plain table six rva = rw (six, rva) refl
 
-pub plain_value : (count : ℕ → ℕ) (table i : ℕ) (column : Column) (cells : List CellValue) (code : Option BodyValue) → (table == 6) ≡ false → (table == 0x1D) ≡ false → cells_fit (stated_columns table) cells ≡ true → cells_break count (stated_columns table) cells ≡ false → list_all blob_is_short cells ≡ true → column_in table i ≡ Some column → is_some (kind_of column) ≡ true → HasValue count table i column (cells_stated table cells code)
-plain_value count table i column cells code six rva fits unbroken short e k =
+pub plain_value : (count : ℕ → ℕ) (table i : ℕ) (column : Column) (cells : List CellValue) (code : Option BodyValue) → (table == 6) ≡ false → (table == 0x1D) ≡ false → cells_fit (stated_columns table) cells ≡ true → cells_break count (stated_columns table) cells ≡ false → column_in table i ≡ Some column → is_some (kind_of column) ≡ true → HasValue count table i column (cells_stated table cells code)
+plain_value count table i column cells code six rva fits unbroken e k =
     let cols = columns_plain table six rva in
     let w = value_at count (filter is_stated (columns_in table)) cells i column (subst (λ cs. cells_fit cs cells ≡ true) cols fits) (subst (λ cs. cells_break count cs cells ≡ false) cols unbroken) (stated_at (columns_in table) i column (columns_last table) e k) in
-    record { value = w.value; there = ap (λ cs. slice_get cs i) (cells_plain table cells code six rva) ∙ mapped cells i w.value w.there; fits = w.fits; unbroken = w.unbroken; short = of_all blob_is_short cells _ w.value short w.there }
+    record { value = w.value; there = ap (λ cs. slice_get cs i) (cells_plain table cells code six rva) ∙ mapped cells i w.value w.there; fits = w.fits; unbroken = w.unbroken }
 
 tail_last : runs_last (drop 1 (columns_in 6)) ≡ true
 unfolding columns_in runs_last
@@ -135,8 +131,8 @@ unfolding columns_in
 behind_first i column h = h
 
 -- of MethodDef, behind the body
-pub method_value : (count : ℕ → ℕ) (i : ℕ) (column : Column) (cells : List CellValue) (code : Option BodyValue) → cells_fit (stated_columns 6) cells ≡ true → cells_break count (stated_columns 6) cells ≡ false → list_all blob_is_short cells ≡ true → column_in 6 (suc i) ≡ Some column → is_some (kind_of column) ≡ true → HasValue count 6 (suc i) column (cells_stated 6 cells code)
+pub method_value : (count : ℕ → ℕ) (i : ℕ) (column : Column) (cells : List CellValue) (code : Option BodyValue) → cells_fit (stated_columns 6) cells ≡ true → cells_break count (stated_columns 6) cells ≡ false → column_in 6 (suc i) ≡ Some column → is_some (kind_of column) ≡ true → HasValue count 6 (suc i) column (cells_stated 6 cells code)
 unfolding stated_columns cells_stated
-method_value count i column cells code fits unbroken short e k =
+method_value count i column cells code fits unbroken e k =
     let w = value_at count (filter is_stated (drop 1 (columns_in 6))) cells i column fits unbroken (stated_at (drop 1 (columns_in 6)) i column tail_last (behind_first i column e) k) in
-    record { value = w.value; there = mapped cells i w.value w.there; fits = w.fits; unbroken = w.unbroken; short = of_all blob_is_short cells _ w.value short w.there }
+    record { value = w.value; there = mapped cells i w.value w.there; fits = w.fits; unbroken = w.unbroken }

@@ -20,7 +20,6 @@ use Rattle.enc_edits.specs.Form.{cell_fits, list_fits}
 use Rattle.enc_rules.specs.Edited.{row_edited, rows_edited, cell_stated, body_stated, cells_stated, cells_edited, cells_with, edited}
 use Rattle.enc_rules.specs.Listed.{count_after, body_given}
 use Rattle.enc_rules.specs.Rules.{value_breaks}
-use Rattle.enc_edited.specs.Applied.{blob_is_short}
 use Rattle.enc_edited.proofs.Unbroken.{BreakNothing}
 use Rattle.enc_edited.proofs.Landed.{lands}
 use Rattle.enc_edited.proofs.Changed.{IsRow, changed, kept, row_is}
@@ -36,7 +35,7 @@ pub record GivesBody (c : Chain) (l : EditList) (u : Token) (b : Option BodyValu
   pub given : body_given edit ≡ b
 
 pub data CellCase (c : Chain) (l : EditList) (u : Token) (i : ℕ) (column : Column) (x : Cell) : Type 0 where
-  stated : (v : CellValue) → x ≡ cell_stated v → cell_fits column v ≡ true → value_breaks (count_after c l.edits) column v ≡ false → blob_is_short v ≡ true → is_body u.table i ≡ false → is_field u.table i ≡ false → (u.table == 0) ≡ false → CellCase c l u i column x
+  stated : (v : CellValue) → x ≡ cell_stated v → cell_fits column v ≡ true → value_breaks (count_after c l.edits) column v ≡ false → is_body u.table i ≡ false → is_field u.table i ≡ false → (u.table == 0) ≡ false → CellCase c l u i column x
   given : (b : Option BodyValue) → x ≡ body (option_map body_stated b) → u.table ≡ 6 → i ≡ 0 → GivesBody c l u b → CellCase c l u i column x
   old : has_row c.plain u ≡ true → cell_of c.plain u i ≡ Some x → CellCase c l u i column x
 
@@ -78,7 +77,7 @@ same_some a b h = cc
 -- of an added row
 of_value : (c : Chain) (l : EditList) (u : Token) (i table : ℕ) (column : Column) (x : Cell) (all : List Cell) → u.table ≡ table → (table == 0) ≡ false → is_body table i ≡ false → is_field table i ≡ false → HasValue (count_after c l.edits) table i column all → slice_get all i ≡ Some x → CellCase c l u i column x
 of_value c l u i table column x all is own nobody nofield w h =
-    stated w.value (same_some x (cell_stated w.value) (sym h ∙ w.there)) w.fits w.unbroken w.short (rw is nobody) (rw is nofield) (rw is own)
+    stated w.value (same_some x (cell_stated w.value) (sym h ∙ w.there)) w.fits w.unbroken (rw is nobody) (rw is nofield) (rw is own)
 
 of_method : (c : Chain) (l : EditList) (u : Token) (i k : ℕ) (owner : Token) (cells : _) (code : _) (points : _) (column : Column) (x : Cell) → IsAdd c l k 6 owner cells code points u → u.table ≡ 6 → column_in 6 i ≡ Some column → is_some (kind_of column) ≡ true → slice_get (cells_stated 6 cells code) i ≡ Some x → CellCase c l u i column x
 unfolding cells_stated
@@ -87,7 +86,7 @@ of_method c l u zero k owner cells code points column x add is e kind h =
 of_method c l u (suc i) k owner cells code points column x add is e kind h =
     let later : (suc i == 0) ≡ false = grind (arith, nat_tests) in
     let nobody : is_body 6 (suc i) ≡ false = rw later refl in
-    of_value c l u (suc i) 6 column x (cells_stated 6 cells code) is refl nobody refl (method_value (count_after c l.edits) i column cells code add.fits add.unbroken add.short e kind) h
+    of_value c l u (suc i) 6 column x (cells_stated 6 cells code) is refl nobody refl (method_value (count_after c l.edits) i column cells code add.fits add.unbroken e kind) h
 
 of_added : (c : Chain) (l : EditList) (u : Token) (i k table : ℕ) (owner : Token) (cells : _) (code : _) (points : _) (column : Column) (x : Cell) (b : Bool) → (table == 6) ≡ b → IsAdd c l k table owner cells code points u → u.table ≡ table → column_in table i ≡ Some column → is_some (kind_of column) ≡ true → slice_get (cells_stated table cells code) i ≡ Some x → CellCase c l u i column x
 of_added c l u i k table owner cells code points column x true six add is e kind h =
@@ -97,7 +96,7 @@ of_added c l u i k table owner cells code points column x false six add is e kin
     let rva = no_field_rva table add.changes in
     let nobody : is_body table i ≡ false = rw six refl in
     let nofield : is_field table i ≡ false = rw rva refl in
-    of_value c l u i table column x (cells_stated table cells code) is add.own nobody nofield (plain_value (count_after c l.edits) table i column cells code six rva add.fits add.unbroken add.short e kind) h
+    of_value c l u i table column x (cells_stated table cells code) is add.own nobody nofield (plain_value (count_after c l.edits) table i column cells code six rva add.fits add.unbroken e kind) h
 
 -- of a method whose body is replaced
 of_replaced : (c : Chain) (l : EditList) (u : Token) (i k : ℕ) (code : BodyValue) (points : _) (column : Column) (x : Cell) (old_cells : Option (List Cell)) → u.table ≡ 6 → has_row c.plain u ≡ true → cells_of c.plain u ≡ old_cells → slice_get l.edits k ≡ Some (Replace u code points) → slice_get (rows_edited c.plain l.edits) k ≡ Some u → slice_get (cells_with (body_stated code) (unwrap_or old_cells [])) i ≡ Some x → CellCase c l u i column x

@@ -23,7 +23,6 @@ use Rattle.enc_edits.specs.Form.{cell_fits, list_fits}
 use Rattle.enc_rules.specs.Edited.{cell_stated, body_stated, edited}
 use Rattle.enc_rules.specs.Listed.{count_after}
 use Rattle.enc_rules.specs.Rules.{names_row, value_breaks}
-use Rattle.enc_edited.specs.Applied.{blob_is_short}
 use Rattle.enc_edited.proofs.Unbroken.{BreakNothing}
 use Rattle.enc_edited.proofs.BodiesAfter.{old_body, given_body}
 use Rattle.enc_edited.proofs.CellCases.{CellCase, stated, given, old, GivesBody, cell_case}
@@ -84,16 +83,16 @@ unbroken true h = refl
 unbroken false h = absurd cc
 
 -- a stated value fits
-stated_fits : (m : Module) (u : Token) (count : ℕ → ℕ) (i : ℕ) (column : Column) (v : CellValue) → ((k : ℕ) → row_count m k ≡ count k) → (column ≡ Guid → ⊥) → cell_fits column v ≡ true → value_breaks count column v ≡ false → blob_is_short v ≡ true → cell_is_sound m u column (cell_stated v) ≡ true
-stated_fits m u count i Num8 (cell.Num n) same own fits none short = fits
-stated_fits m u count i Num16 (cell.Num n) same own fits none short = fits
-stated_fits m u count i Num32 (cell.Num n) same own fits none short = fits
-stated_fits m u count i Text (cell.Text b) same own fits none short = fits
-stated_fits m u count i Blob (cell.Blob b) same own fits none short = short
-stated_fits m u count i Guid (cell.Guid g) same own fits none short = absurd (own refl)
-stated_fits m u count i (Index t) (cell.Refer r) same own fits none short = reference_by m count (Index t) r (r.row == 0) same refl (unbroken (names_row count (Index t) r) none)
-stated_fits m u count i (Coded k) (cell.Refer r) same own fits none short = reference_by m count (Coded k) r (r.row == 0) same refl (unbroken (names_row count (Coded k) r) none)
-stated_fits m u count i _ _ same own fits none short = absurd cc
+stated_fits : (m : Module) (u : Token) (count : ℕ → ℕ) (i : ℕ) (column : Column) (v : CellValue) → ((k : ℕ) → row_count m k ≡ count k) → (column ≡ Guid → ⊥) → cell_fits column v ≡ true → value_breaks count column v ≡ false → cell_is_sound m u column (cell_stated v) ≡ true
+stated_fits m u count i Num8 (cell.Num n) same own fits none = fits
+stated_fits m u count i Num16 (cell.Num n) same own fits none = fits
+stated_fits m u count i Num32 (cell.Num n) same own fits none = fits
+stated_fits m u count i Text (cell.Text b) same own fits none = fits
+stated_fits m u count i Blob (cell.Blob b) same own fits none = refl
+stated_fits m u count i Guid (cell.Guid g) same own fits none = absurd (own refl)
+stated_fits m u count i (Index t) (cell.Refer r) same own fits none = reference_by m count (Index t) r (r.row == 0) same refl (unbroken (names_row count (Index t) r) none)
+stated_fits m u count i (Coded k) (cell.Refer r) same own fits none = reference_by m count (Coded k) r (r.row == 0) same refl (unbroken (names_row count (Coded k) r) none)
+stated_fits m u count i _ _ same own fits none = absurd cc
 
 -- a body that is given is sound
 given_fits : (c : Chain) (l : EditList) (u : Token) (column : Column) (b : Option BodyValue) → HasTables c.plain → BreakNothing c l → GivesBody c l u b → cell_is_sound (edited c.plain l.edits) u column (body (option_map body_stated b)) ≡ true
@@ -136,8 +135,8 @@ old_fits c l u i column (field bytes) has none kinds cells row e is h =
     old_field c l u bytes has none kinds cells row (field_by u.table i (is_body u.table i) (is_field u.table i) (column_in u.table i) refl kind) h
 
 fits_by : (c : Chain) (l : EditList) (u : Token) (i : ℕ) (column : Column) (x : Cell) → HasTables c.plain → BreakNothing c l → HasKinds c.plain → HasCells c.plain → u.table < 0x2D → column_in u.table i ≡ Some column → CellCase c l u i column x → cell_is_sound (edited c.plain l.edits) u column x ≡ true
-fits_by c l u i column x has none kinds cells low e (stated v is fits unbroken_value short nobody nofield own) =
-    rw is (stated_fits (edited c.plain l.edits) u (count_after c l.edits) i column v (λ k. count_is c l k has none) (λ g. no_guids u.table i own low (e ∙ ap (λ y. Some y) g)) fits unbroken_value short)
+fits_by c l u i column x has none kinds cells low e (stated v is fits unbroken_value nobody nofield own) =
+    rw is (stated_fits (edited c.plain l.edits) u (count_after c l.edits) i column v (λ k. count_is c l k has none) (λ g. no_guids u.table i own low (e ∙ ap (λ y. Some y) g)) fits unbroken_value)
 fits_by c l u i column x has none kinds cells low e (given b is table first w) = rw is (given_fits c l u column b has none w)
 fits_by c l u i column x has none kinds cells low e (old row is) = old_fits c l u i column x has none kinds cells row e is (cells.each u i column x row e is)
 

@@ -151,7 +151,7 @@ plain_is : (table i : ℕ) (column : Column) → is_body table i ≡ false → i
 plain_is table i column nobody nofield e = rw (nobody, nofield, e) refl
 
 kind_by : (c : Chain) (l : EditList) (u : Token) (i : ℕ) (k : Kind) (column : Column) (x : Cell) → HasKinds c.plain → kind_in u.table i ≡ Some k → column_in u.table i ≡ Some column → CellCase c l u i column x → Some (cell_kind x) ≡ Some k
-kind_by c l u i k column x before kind e (stated v is fits unbroken short nobody nofield own) =
+kind_by c l u i k column x before kind e (stated v is fits unbroken nobody nofield own) =
     ap (λ y. Some (cell_kind y)) is ∙ sym (kind_fits column v fits) ∙ sym (plain_is u.table i column nobody nofield e) ∙ kind
 kind_by c l u i k column x before kind e (given b is table zero_ w) =
     ap (λ y. Some (cell_kind y)) is ∙ (rw (table, zero_) at kind)

@@ -27,6 +27,5 @@ pub mod FieldsAfter
 pub mod CellsAfter
 pub mod OwnersAfter
 pub mod KeptSound
-pub mod ShortBlobs
 pub mod NoneBroken
 pub mod MayBeApplied

@@ -32,7 +32,7 @@ use Rattle.enc_edited.proofs.Unbroken.{BreakNothing}
 
 pub breaks_nothing : (m : Module) (l : EditList) → MayApply m l → BreakNothing (alone m) l
 breaks_nothing m l may =
-    nothing_breaks (alone m) l may.blobs (λ k low. unbroken rules_of_rows (alone m) l k (silent (first_at rules_of_rows (alone m) l) (length l.edits) k may.rules low))
+    nothing_breaks (alone m) l (λ k low. unbroken rules_of_rows (alone m) l k (silent (first_at rules_of_rows (alone m) l) (length l.edits) k may.rules low))
 
 pub sound_applied : (m : Module) (l : EditList) → list_fits l ≡ true → MayApply m l → IsSound m → IsSound (edited m l.edits)
 sound_applied m l form may sound = sound_after (alone m) l form may.few (breaks_nothing m l may) sound

@@ -1,13 +1,9 @@
 -- A list with no first rule that it breaks breaks none, and so keeps a sound module sound.
-use Rattle.std.proofs.Common.{◌≡◌, ℕ, ◌+◌, ◌<◌, Bool, true, false, List, [], ◌∷◌, length, take, Option, Some, None, if◌then◌else◌, inl, inr, refl, arith}
-use Rattle.std.specs.List.{list_all}
-use Rattle.std.proofs.lemmas.List.{take_all}
+use Rattle.std.proofs.Common.{◌≡◌, ℕ, ◌+◌, ◌<◌, Bool, true, false, List, [], ◌∷◌, length, Option, Some, None, if◌then◌else◌, inl, inr, refl}
 use Rattle.std.proofs.lemmas.Option.{slice_get_cases}
 use Rattle.enc_base.specs.Order.{or_else, first_below}
 use Rattle.enc_base.specs.declared.token.Token.{Token}
 use Rattle.enc_base.proofs.First.{silent}
-use Rattle.enc_meta.specs.Built.{none_from}
-use Rattle.enc_meta.specs.Joined.{joined_lengths}
 use Rattle.enc_plain.specs.Chain.{Chain}
 use Rattle.enc_plain.specs.Sound.{IsSound}
 use Rattle.enc_edits.specs.declared.edit.Edit.{Edit}
@@ -15,11 +11,9 @@ use Rattle.enc_edits.specs.declared.edit.EditList.{EditList}
 use Rattle.enc_edits.specs.Form.{list_fits}
 use Rattle.enc_rules.specs.Edited.{edited}
 use Rattle.enc_rules.specs.First.{EditRule, list_rules, edit_rules, first_of_list, first_at, first_edit}
-use Rattle.enc_rules.specs.Listed.{rows_listed}
-use Rattle.enc_rules.specs.Rules.{at_edit, id_is_taken, heaps_are_full, there_are_too_many, passes_limits, with_edits, heap_passes, row_is_edited_twice, owner_is_missing, table_is_closed, token_is_missing, body_is_broken, signature_is_bad, locals_are_bad}
-use Rattle.enc_edited.specs.Applied.{rules_of_rows, blobs_are_short}
+use Rattle.enc_rules.specs.Rules.{at_edit, id_is_taken, heaps_are_full, there_are_too_many, row_is_edited_twice, owner_is_missing, table_is_closed, token_is_missing, body_is_broken, signature_is_bad, locals_are_bad}
+use Rattle.enc_edited.specs.Applied.{rules_of_rows}
 use Rattle.enc_edited.proofs.Unbroken.{BreakNothing}
-use Rattle.enc_edited.proofs.ShortBlobs.{short_edits}
 use Rattle.enc_edited.proofs.KeptSound.{sound_after}
 
 none_of_both : (a b : Option (ℕ × ℕ)) → or_else a b ≡ None → (a ≡ None) × (b ≡ None)
@@ -54,22 +48,9 @@ everywhere rule c l within k = elim (slice_get_cases l.edits k).1 [
   | inr past ↦ rw past.1 refl
 ]
 
--- with the last edit no heap passes its limit
-short_all : (c : Chain) (l : EditList) → ((k : ℕ) → k < length l.edits → heap_passes c l k ≡ false) → list_all blobs_are_short l.edits ≡ true
-unfolding heap_passes
-short_all c l within = by l.edits refl
-  where
-    by : (edits : List Edit) → l.edits ≡ edits → list_all blobs_are_short l.edits ≡ true
-    by [] is = rw is refl
-    by (e ∷ edits) is =
-        let low : length edits < length l.edits = rw is (omega arith) in
-        let all : length edits + 1 ≡ length l.edits = rw is (omega arith) in
-        let room : passes_limits (with_edits (rows_listed c l.edits) (none_from (joined_lengths c.heaps)) (take (length edits + 1) l.edits)) ≡ false = within (length edits) low in
-        short_edits (rows_listed c l.edits) (none_from (joined_lengths c.heaps)) l.edits (rw (all, take_all (length l.edits) l.edits (omega arith)) at room)
-
-pub nothing_breaks : (c : Chain) (l : EditList) → list_all blobs_are_short l.edits ≡ true → ((k : ℕ) → k < length l.edits → Unbroken rules_of_rows c l k) → BreakNothing c l
+pub nothing_breaks : (c : Chain) (l : EditList) → ((k : ℕ) → k < length l.edits → Unbroken rules_of_rows c l k) → BreakNothing c l
 unfolding row_is_edited_twice owner_is_missing table_is_closed token_is_missing body_is_broken signature_is_bad locals_are_bad
-nothing_breaks c l blobs each = record {
+nothing_breaks c l each = record {
   rows = everywhere _ c l (λ k low. (each k low).0);
   owners = everywhere _ c l (λ k low. (each k low).1.0);
   tables = everywhere _ c l (λ k low. (each k low).1.1.0);
@@ -77,7 +58,6 @@ nothing_breaks c l blobs each = record {
   bodies = everywhere _ c l (λ k low. (each k low).1.1.1.1.0);
   signatures = everywhere _ c l (λ k low. (each k low).1.1.1.1.1.1.1.1.0);
   locals = everywhere _ c l (λ k low. (each k low).1.1.1.1.1.1.1.1.1.0);
-  blobs = blobs;
 }
 
 -- a list that breaks no rule keeps a sound module sound
@@ -86,4 +66,4 @@ unfolding first_edit
 sound_kept c l form none sound =
     let two = none_of_both (first_of_list list_rules c l) (first_below (first_at edit_rules c l) (length l.edits)) none in
     let each : (k : ℕ) → k < length l.edits → Unbroken edit_rules c l k = λ k low. unbroken edit_rules c l k (silent (first_at edit_rules c l) (length l.edits) k two.1 low) in
-    sound_after c l form (few c l two.0) (nothing_breaks c l (short_all c l (λ k low. (each k low).0)) (λ k low. (each k low).1)) sound
+    sound_after c l form (few c l two.0) (nothing_breaks c l (λ k low. (each k low).1)) sound

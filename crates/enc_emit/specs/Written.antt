@@ -1,5 +1,6 @@
 -- Metadata roots that are written: the header, the streams' headers, and the streams (ECMA-335 II.24.2.1, II.24.2.2).
-use Rattle.std.specs.Prelude.{◌≡◌, ℕ, ◌+◌, ◌-◌, ◌<◌, ◌^◌, Bool, false, ◌||◌, List, [], ◌∷◌, ◌++◌, length, replicate, Some, Ok, nat_lt, codes, if◌then◌else◌}
+use Rattle.std.specs.Prelude.{◌≡◌, ℕ, ◌+◌, ◌-◌, ◌<◌, ◌^◌, Bool, true, false, ◌||◌, nat_lt, if◌then◌else◌}
+use Rattle.std.specs.Prelude.{List, [], ◌∷◌, ◌++◌, length, replicate, Some, Ok, codes}
 use Rattle.std.specs.List.{list_any}
 use Rattle.std.specs.Int.{w16, w32, to_le_bytes}
 use Rattle.enc_base.specs.Numbers.{padded}
@@ -10,6 +11,8 @@ use Rattle.enc_meta.specs.declared.root.Root.{Root}
 use Rattle.enc_meta.specs.declared.span.Span.{Span}
 use Rattle.enc_schema.specs.Tables.{field_ptr, method_ptr, param_ptr, event_ptr, property_ptr}
 use Rattle.enc_rows.specs.Written.{count_at, stream_of, heap_bits}
+use Rattle.enc_emit.specs.declared.root_form.RootForm.{RootForm}
+use Rattle.enc_emit.specs.declared.root_form.RootForm.TheVariants.{Module, WideModule, Delta}
 
 -- what a root is built from: its heaps, and the rows of its tables
 pub record Parts : Type 0 where
@@ -113,7 +116,7 @@ root_with_further more uncompressed stream h =
 abbrev pub size_with_further : List Further → List ℕ → Counted → ℕ
 size_with_further more stream h = further_end (five_end (streams_begin more) stream h) more
 
--- the root of a module, or with `#JTD` that of a delta
+-- a root with `#JTD` or without
 unfoldable pub root_written : Bool → Bool → List ℕ → Counted → List ℕ
 root_written jtd uncompressed stream h = root_with_further (jtd_streams jtd) uncompressed stream h
 
@@ -131,13 +134,25 @@ pdb_root_size pdb stream h = size_with_further (pdb_streams pdb) stream h
 unfoldable pub has_ptr_rows : List (List (List ℕ)) → Bool
 has_ptr_rows rows = list_any (λ table. nat_lt 0 (count_at rows table)) (field_ptr ∷ method_ptr ∷ param_ptr ∷ event_ptr ∷ property_ptr ∷ [])
 
--- the root with `#JTD`, for a delta, or without; the tables of a delta, and those with Ptr rows, are in the uncompressed form
-unfoldable pub root_built : Parts → Bool → List ℕ
-root_built p jtd = root_written jtd (jtd || has_ptr_rows p.rows) (stream_of p.rows jtd (heap_bits p.rows)) (heaps_built p.heaps)
+-- all indices take four bytes, as a stream `#JTD` says
+abbrev pub has_jtd : RootForm → Bool
+has_jtd Module = false
+has_jtd WideModule = true
+has_jtd Delta = true
 
--- how long it is
+-- the root is that of a delta
+abbrev pub is_delta : RootForm → Bool
+is_delta Delta = true
+is_delta _ = false
+
+-- the root of a form; the tables of a delta, and those with Ptr rows, are in the uncompressed form
+unfoldable pub root_built : Parts → RootForm → List ℕ
+root_built p form =
+    root_written (has_jtd form) (is_delta form || has_ptr_rows p.rows) (stream_of p.rows (has_jtd form) (heap_bits p.rows)) (heaps_built p.heaps)
+
+-- how long it is, by whether its indices are wide
 abbrev pub built_size : Parts → Bool → ℕ
-built_size p jtd = root_size jtd (stream_of p.rows jtd (heap_bits p.rows)) (heaps_built p.heaps)
+built_size p wide = root_size wide (stream_of p.rows wide (heap_bits p.rows)) (heaps_built p.heaps)
 
 -- the root with `#Pdb`: narrow indices, and the uncompressed form only where there are Ptr rows, as no PDB has
 unfoldable pub pdb_root_built : Parts → List ℕ → List ℕ

@@ -2,8 +2,9 @@
 ghost use Rattle.std.specs.Prelude.{◌≡◌, ◌<◌, ◌^◌, ◌||◌, false, [], IfOk};
 ghost use Rattle.enc_meta.specs.Built.{none_from};
 ghost use Rattle.enc_rows.specs.Written.{IndicesFit};
-ghost use Rattle.enc_emit.specs.Written.{has_ptr_rows as ptrs_have_rows, root_built, built_size, pdb_root_built, pdb_built_size};
+ghost use Rattle.enc_emit.specs.Written.{has_ptr_rows as ptrs_have_rows, has_jtd as form_has_jtd, is_delta as form_is_delta, root_built, built_size, pdb_root_built, pdb_built_size};
 
+use crate::root_form::{RootForm, has_jtd, is_delta};
 use crate::written::{pdb_root_bytes, root_bytes};
 use enc_meta::{HeapBuilder, HeapLengths};
 use enc_rows::{TableBuilder, heap_bits_law};
@@ -39,10 +40,10 @@ fn has_ptr_rows(tables: &TableBuilder) -> bool
 }
 
 /// Whether the tables are in the uncompressed form.
-fn is_uncompressed(jtd: bool, tables: &TableBuilder) -> bool
-    ensures { result ≡ (jtd || ptrs_have_rows tables.now) }
+fn is_uncompressed(form: RootForm, tables: &TableBuilder) -> bool
+    ensures { result ≡ (form_is_delta form || ptrs_have_rows tables.now) }
 {
-    jtd || has_ptr_rows(tables)
+    is_delta(form) || has_ptr_rows(tables)
 }
 
 impl RootBuilder {
@@ -84,23 +85,23 @@ impl RootBuilder {
         &mut self.tables
     }
 
-    /// The bytes of the root. With `jtd` all indices take four bytes and a stream `#JTD` says so,
-    /// as in the metadata of a delta. Offsets take four bytes in the columns of a heap where one of
-    /// them needs more than two. The table stream is `#-` with `jtd` or where a Ptr table has rows,
-    /// and else `#~`.
+    /// The bytes of the root. But in the form `Module` all indices take four bytes and a stream `#JTD`
+    /// says so. Offsets take four bytes in the columns of a heap where one of them needs more than two.
+    /// The table stream is `#-` in the form `Delta` or where a Ptr table has rows, and else `#~`.
     #[tactic(auto, unfolding(crate::specs::Written::root_built))]
-    pub fn finish(self, alloc: Global, jtd: bool) -> Result<Vec<u8>, AllocError>
-        requires fit { IndicesFit self.rows jtd }
-        requires size { built_size self jtd < 2 ^ 32 }
-        ensures { IfOk result (λ v. v.items ≡ root_built self jtd) }
+    pub fn finish(self, alloc: Global, form: RootForm) -> Result<Vec<u8>, AllocError>
+        requires fit { IndicesFit self.rows (form_has_jtd form) }
+        requires size { built_size self (form_has_jtd form) < 2 ^ 32 }
+        ensures { IfOk result (λ v. v.items ≡ root_built self form) }
     {
         self.tables.laws();
         heap_bits_law();
-        let uncompressed = is_uncompressed(jtd, &self.tables);
+        let wide = has_jtd(form);
+        let uncompressed = is_uncompressed(form, &self.tables);
         let flags = self.tables.heap_bits();
-        let stream = self.tables.finish(alloc, jtd, flags)?;
+        let stream = self.tables.finish(alloc, wide, flags)?;
         let heaps = self.heaps.finish()?;
-        root_bytes(alloc, jtd, uncompressed, &stream, &heaps)
+        root_bytes(alloc, wide, uncompressed, &stream, &heaps)
     }
 
     /// The bytes of the root of a Portable PDB, with these of its stream `#Pdb` (Portable PDB v1.0,

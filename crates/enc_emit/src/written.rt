@@ -159,7 +159,7 @@ fn root_of_six(
     Ok(out)
 }
 
-/// The bytes of a root of a module, or with `jtd` of a delta.
+/// The bytes of a root of a module or a delta, with `#JTD` or without.
 #[tactic(auto, unfolding(crate::specs::Written::root_written))]
 pub(crate) fn root_bytes(
     alloc: Global,

@@ -10,7 +10,7 @@ use Rattle.enc_base.specs.declared.refusal.Refusal.{Refusal}
 use Rattle.enc_base.proofs.SmallNumbers.{EachIsByte, bytes_each, each_drop, each_take}
 use Rattle.enc_meta.specs.declared.root.Root.{Root}
 use Rattle.enc_meta.specs.declared.span.Span.{Span}
-use Rattle.enc_meta.specs.Heaps.{part, heaps_of}
+use Rattle.enc_meta.specs.Heaps.{part}
 use Rattle.enc_meta.specs.Regions.{Region}
 use Rattle.enc_meta.specs.Root.{root_of}
 use Rattle.enc_pe.specs.declared.container.Container.{Container}
@@ -28,7 +28,6 @@ use Rattle.enc_image.specs.Base.{◌>>=◌, metadata_of, layout_for, no_counts, 
 pub record IsBase (s : Source) : Type 0 where
   pub cells : cells_fault s ≡ None
   pub stream : EachIsByte s.stream
-  pub blobs : EachIsByte s.heaps.blobs
   pub loaded : AreLoaded s.loaded
   pub few : (t : ℕ) → rows_of s.layout t < 2 ^ 24
   pub single : rows_of s.layout 0 ≡ 1
@@ -119,10 +118,9 @@ unfolding layout_for stream_tables
 root_counts bytes root l h = layout_counts (part bytes root.tables) root.tables root.jtd no_counts l (not_fault (layout_of (part bytes root.tables) root.tables form.Base root.jtd no_counts) l h)
 
 parts_bytes : (bytes : List ℕ) (c : Container) (root : Root) (l : Layout) → EachIsByte bytes → cells_fault (source_from bytes c root l) ≡ None → HasCounts l → IsBase (source_from bytes c root l)
-unfolding heaps_of
 parts_bytes bytes c root l all cells counts =
     let metadata = each_part bytes c.metadata all in
-    record { cells = cells; stream = each_part (metadata_of bytes c) root.tables metadata; blobs = each_part (metadata_of bytes c) root.blobs metadata; loaded = regions_bytes bytes c.sections all; few = counts.few; single = counts.single }
+    record { cells = cells; stream = each_part (metadata_of bytes c) root.tables metadata; loaded = regions_bytes bytes c.sections all; few = counts.few; single = counts.single }
 
 source_is : (bytes : List ℕ) (s : Source) → EachIsByte bytes → source_of bytes ≡ Ok s → cells_fault s ≡ None → IsBase s
 unfolding source_of done

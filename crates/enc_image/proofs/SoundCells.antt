@@ -6,7 +6,7 @@ use Rattle.std.proofs.lemmas.Bool.Decides.{nat_tests}
 use Rattle.enc_base.specs.Numbers.{little_endian_at}
 use Rattle.enc_base.specs.declared.token.Token.{Token}
 use Rattle.enc_base.proofs.SmallNumbers.{EachIsByte, got_few, number16_few, number32_few}
-use Rattle.enc_meta.proofs.EntryLengths.{text_zero, blob_few, guid_long}
+use Rattle.enc_meta.proofs.EntryLengths.{text_zero, guid_long}
 use Rattle.enc_schema.specs.declared.column.Column.{Column}
 use Rattle.enc_schema.specs.declared.column.Column.TheVariants.{Num8, Num16, Num32, Text, Guid, Blob, Index, Coded, Run}
 use Rattle.enc_schema.specs.Schema.{column_in}
@@ -70,7 +70,7 @@ at_most : (a b : ℕ) → b ≡ a → a ≤ b
 at_most a b h = omega arith
 
 base_reads : (s : Source) → IsBase s → ReadsFor (module_in s) (reading_of s)
-base_reads s base = record { texts = λ n x h. text_zero s.heaps.strings n x h; blobs = λ n x h. blob_few s.heaps.blobs n x base.blobs h; guids = λ n x h. guid_long s.heaps.guids n x h; rows = λ t part low. at_most _ _ (count_there s t low part) }
+base_reads s base = record { texts = λ n x h. text_zero s.heaps.strings n x h; guids = λ n x h. guid_long s.heaps.guids n x h; rows = λ t part low. at_most _ _ (count_there s t low part) }
 
 place_of : (table i k : ℕ) → (table == k && i == 0) ≡ true → (table ≡ k) × (i ≡ 0)
 place_of table i k h = (grind (arith, nat_tests), grind (arith, nat_tests))

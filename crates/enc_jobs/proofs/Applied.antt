@@ -1,7 +1,7 @@
 -- A list of acts that obey may be applied, and the module after it has their methods too.
 use Rattle.std.proofs.Common.{◌≡◌, ℕ, zero, suc, ◌+◌, ◌-◌, ◌<◌, ◌≤◌, ◌^◌, Bool, true, false, List, [], ◌∷◌, ◌++◌, length, Option, Some, None, refl, sym, ap, ◌∙◌, arith, length-append}
 use Rattle.std.specs.Prelude.{slice_get, nat_lt, filter, flat_map}
-use Rattle.std.specs.List.{list_any, list_all}
+use Rattle.std.specs.List.{list_any}
 use Rattle.std.proofs.lemmas.Bool.{false≢true}
 use Rattle.std.proofs.lemmas.Bool.Decides.{nat_tests}
 use Rattle.std.proofs.lemmas.Option.{slice_get_within}
@@ -31,7 +31,7 @@ use Rattle.enc_rows.specs.Sums.{below}
 use Rattle.enc_rewriter.proofs.Gathered.{starts_after}
 use Rattle.enc_rewriter.specs.Values.{texts_named, users_of_body, with_one, with_all, all_values, no_heaps, heaps_for, passes_limit}
 use Rattle.enc_rewriter.specs.declared.pass.Pass.TheVariants as pass
-use Rattle.enc_edited.specs.Applied.{alone, rules_of_rows, blobs_are_short, MayApply}
+use Rattle.enc_edited.specs.Applied.{alone, rules_of_rows, MayApply}
 use Rattle.enc_edited.specs.Encoded.{body_of_row, users_of_row}
 use Rattle.enc_edited.specs.Plain.{body_in_cell}
 use Rattle.enc_edited.proofs.Agreed.{numbers_agree, bytes_agree}
@@ -111,15 +111,7 @@ few_enough m l acts short few =
     let entries = not_more 0xFFFFFE (length (edits_of_acts acts) + length (filter has_owner (edits_of_acts acts))) (omega (arith, all, owners, short)) in
     rw (rows, entries) refl
 
--- the form, and blobs
-act_short : (c : Chain) (names : List (List ℕ)) (acts : List Act) (a : Act) → IsGoodAct (IsPlainRow (count_after c (edits_of_acts acts))) (length names) a → blobs_are_short (edit_of_act a) ≡ true
-act_short c names acts (plain_row table cells) good = good.spelled
-act_short c names acts (method name n) good = refl
-act_short c names acts (code r n) good = refl
-
-all_short : (c : Chain) (names : List (List ℕ)) (acts : List Act) → Obeys c names acts → list_all blobs_are_short (edits_of_acts acts) ≡ true
-all_short c names acts obeys = each_of blobs_are_short (edits_of_acts acts) (λ k e h. let w = act_there acts k e h in rw (← w.2) (act_short c names acts w.0 (obeys.good k w.0 w.1)))
-
+-- the form
 act_fits : (c : Chain) (names : List (List ℕ)) (acts : List Act) (a : Act) → IsGoodAct (IsPlainRow (count_after c (edits_of_acts acts))) (length names) a → edit_fits (edit_of_act a) ≡ true
 act_fits c names acts (plain_row table cells) good = good.form
 act_fits c names acts (method name n) good = method_fits name n good.0 good.1
@@ -130,7 +122,7 @@ unfolding list_fits
 acts_fit c l names acts obeys = each_of edit_fits (edits_of_acts acts) (λ k e h. let w = act_there acts k e h in rw (← w.2) (act_fits c names acts w.0 (obeys.good k w.0 w.1)))
 
 pub breaks_nothing : (m : Module) (l : EditList) (names : List (List ℕ)) (acts : List Act) → Obeys (alone m) names acts → BreakNothing (alone m) (listed_as l acts)
-breaks_nothing m l names acts obeys = nothing_breaks (alone m) (listed_as l acts) (all_short (alone m) names acts obeys) (λ k low.
+breaks_nothing m l names acts obeys = nothing_breaks (alone m) (listed_as l acts) (λ k low.
     let all = all_many acts in
     let a = act_at acts k (omega (arith, low, all)) in
     unbroken rules_of_rows (alone m) (listed_as l acts) k (obeyed (alone m) l names acts k a.0 obeys a.1))
@@ -209,7 +201,7 @@ unfolding columns_in
 first_column t is = rw is refl
 
 plain_by : (m : Module) (l : EditList) (acts : List Act) (u : Token) (b : Body) → HasNoUsers m → u.table ≡ method_def → CellCase (alone m) (listed_as l acts) u 0 Num32 (body (Some b)) → texts_named b.code ≡ []
-plain_by m l acts u b plain is (stated v e fits unbroken short nobody nofield own) = absurd (false≢true (sym (rw is at nobody)))
+plain_by m l acts u b plain is (stated v e fits unbroken nobody nofield own) = absurd (false≢true (sym (rw is at nobody)))
 plain_by m l acts u b plain is (given None e t z w) = absurd cc
 plain_by m l acts u b plain is (given (Some v) e t z w) =
     let same : b ≡ body_stated v = cc in
@@ -253,6 +245,5 @@ may_apply m l names acts stands obeys few =
     record {
       few = few_enough m l acts obeys.short few;
       rules = all_obeyed (alone m) l names acts obeys;
-      blobs = all_short (alone m) names acts obeys;
       texts = room_for_users (edited m (edits_of_acts acts)) after.sound after.plain;
     }

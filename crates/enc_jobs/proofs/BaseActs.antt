@@ -126,19 +126,19 @@ is_there n h = grind (arith, nat_tests, h)
 
 plain_assembly : (count : ℕ → ℕ) → IsPlainRow count assembly_ref assembly_cells
 unfolding cells_break stated_columns columns_in signature_column edit_fits cells_fit tables_of
-plain_assembly count = record { other = refl; alone = refl; allowed = refl; tokens = refl; unsigned = refl; form = refl; spelled = refl }
+plain_assembly count = record { other = refl; alone = refl; allowed = refl; tokens = refl; unsigned = refl; form = refl }
 
 plain_object : (count : ℕ → ℕ) → 1 ≤ count assembly_ref → IsPlainRow count type_ref object_cells
 unfolding cells_break stated_columns columns_in signature_column edit_fits cells_fit tables_of
-plain_object count some = record { other = refl; alone = refl; allowed = refl; tokens = rw (is_there (count assembly_ref) some) refl; unsigned = refl; form = refl; spelled = refl }
+plain_object count some = record { other = refl; alone = refl; allowed = refl; tokens = rw (is_there (count assembly_ref) some) refl; unsigned = refl; form = refl }
 
 plain_module : (count : ℕ → ℕ) → IsPlainRow count type_def (type_cells 0 (codes "<Module>") nil)
 unfolding cells_break stated_columns columns_in signature_column edit_fits cells_fit tables_of
-plain_module count = record { other = refl; alone = refl; allowed = refl; tokens = refl; unsigned = refl; form = refl; spelled = refl }
+plain_module count = record { other = refl; alone = refl; allowed = refl; tokens = refl; unsigned = refl; form = refl }
 
 plain_p : (count : ℕ → ℕ) → 1 ≤ count type_ref → IsPlainRow count type_def (type_cells 0x100001 (codes "P") (named_row type_ref 1))
 unfolding cells_break stated_columns columns_in signature_column edit_fits cells_fit tables_of
-plain_p count some = record { other = refl; alone = refl; allowed = refl; tokens = rw (is_there (count type_ref) some) refl; unsigned = refl; form = refl; spelled = refl }
+plain_p count some = record { other = refl; alone = refl; allowed = refl; tokens = rw (is_there (count type_ref) some) refl; unsigned = refl; form = refl }
 
 all_good : (count : ℕ → ℕ) → 1 ≤ count assembly_ref → 1 ≤ count type_ref → Each (IsGoodAct (IsPlainRow count) 0) base_acts
 unfolding base_acts

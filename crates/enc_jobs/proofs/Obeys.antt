@@ -1,7 +1,7 @@
 -- Acts break no rule on rows, bodies and points.
 use Rattle.std.proofs.Common.{◌≡◌, ℕ, zero, suc, ◌+◌, ◌-◌, ◌*◌, ◌<◌, ◌≤◌, ◌^◌, Bool, true, false, List, [], ◌∷◌, ◌++◌, length, take, Option, Some, None, refl, sym, ap, ◌∙◌, arith, ◌⊎◌, inl, inr, length-append}
 use Rattle.std.specs.Prelude.{slice_get, ◌==◌, ◌||◌, ◌&&◌, nat_le, not, option_map, sum_by, bytes_eq}
-use Rattle.std.specs.List.{list_any, list_all}
+use Rattle.std.specs.List.{list_any}
 use Rattle.std.proofs.lemmas.Bool.{false≢true, cases_eq}
 use Rattle.std.proofs.lemmas.Bool.Decides.{nat_tests}
 use Rattle.std.proofs.lemmas.Slice.Eq.{bytes_eq-Decides}
@@ -34,7 +34,6 @@ use Rattle.enc_rules.specs.Listed.{count_after, rows_listed, body_given, edit_of
 use Rattle.enc_rules.specs.Rules.{of_child, row_is_edited_twice, owner_is_missing, owner_breaks, table_is_closed, table_breaks, token_is_missing, token_breaks, cells_break, body_is_broken, given_stands, is_il, room_of_edit, gives_body, body_is_missing_or_stands, field_is_out_of_layout, method_has_no_slot, member_has_twin, signature_is_bad, new_signature_breaks, locals_are_bad, locals_break, points_are_bad, has_points}
 use Rattle.enc_rules.proofs.RowsEdited.{at_edit_is, row_behind}
 use Rattle.enc_rules.proofs.RowsListed.{number_new, bytes_new}
-use Rattle.enc_edited.specs.Applied.{blob_is_short}
 use Rattle.enc_jobs.specs.Generated.{named_row, adds_plain_row, adds_method, body_loading}
 use Rattle.enc_jobs.proofs.NamesApart.{Apart, Each}
 use Rattle.enc_jobs.proofs.Acts.{Act, plain_row, method, code, edit_of_act, edits_of_acts, new_names, Once, IsGoodAct}
@@ -49,7 +48,6 @@ pub record IsPlainRow (count : ℕ → ℕ) (table : ℕ) (cells : List CellValu
   pub tokens : cells_break count (stated_columns table) cells ≡ false
   pub unsigned : signature_column table ≡ None
   pub form : edit_fits (adds_plain_row table cells) ≡ true
-  pub spelled : list_all blob_is_short cells ≡ true
 
 -- what acts have that break no rule
 pub record Obeys (c : Chain) (names : List (List ℕ)) (acts : List Act) : Type 0 where

@@ -1,1 +1,7 @@
+mod ClausesMoved
 mod CodeBytes
+mod CodeMoved
+pub mod Kept
+mod Means
+mod OwnBytes
+mod SectionsMoved

@@ -1,5 +1,5 @@
 -- Bodies whose tokens are moved, each to another row of its table (ECMA-335 II.25.4, III.1.9).
-use Rattle.std.specs.Prelude.{◌≡◌, ℕ, ◌<◌, ◌^◌, List, map, length, Option}
+use Rattle.std.specs.Prelude.{◌≡◌, ℕ, List, map, length, Option}
 use Rattle.enc_base.specs.declared.token.Token.{Token}
 use Rattle.enc_opcodes.specs.Body.{Code, Body, Handler, HandlerKind, catching, filtering, finishing, faulting, body_of, texts_are_there}
 use Rattle.enc_opcodes.specs.Instruction.{Argument, nothing, number, target, targets, token, text, raw, Instruction}

@@ -19,6 +19,10 @@ pub record IsMovedUpTo (f : Token → Token) (code moved : List ℕ) (at : ℕ) 
   pub size : length moved ≡ at
   pub before : (rest : List ℕ) → IsMovedFrom f code (moved ++ rest) at → IsMovedFrom f code (moved ++ rest) 0
 
+-- bytes with those of code behind them, from a place up to another, and then a number of four bytes
+abbrev pub with_number : List ℕ → List ℕ → ℕ → ℕ → ℕ → List ℕ
+with_number bytes code at n x = (bytes ++ take (n - at) (drop at code)) ++ to_le_bytes w32 x
+
 -- a clause of this kind has no class: its last four bytes are an offset, or nothing (II.25.4.6)
 abbrev pub has_no_class : ℕ → Bool
 has_no_class kind = kind == 1 || kind == 2 || kind == 4

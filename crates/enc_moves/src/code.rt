@@ -1,10 +1,9 @@
 //! The code of a body with its tokens moved: each stands in the last four bytes of its instruction
 //! (ECMA-335 III.1.9).
 ghost use Rattle.std.specs.Prelude.{◌≡◌, ◌+◌, ◌-◌, ◌<◌, ◌≤◌, ◌^◌, ◌++◌, Some, length, take, drop, IfOk, OnOk};
-ghost use Rattle.std.specs.Int.{w32, to_le_bytes};
 ghost use Rattle.enc_base.specs.Numbers.{AreBytes};
 ghost use Rattle.enc_il.specs.Seen.{instr_seen};
-ghost use Rattle.enc_moves.specs.Copied.{IsMovedFrom, IsMovedUpTo};
+ghost use Rattle.enc_moves.specs.Copied.{with_number, IsMovedFrom, IsMovedUpTo};
 ghost use Rattle.enc_opcodes.specs.Instruction.{instr_in};
 
 use crate::moves::Moves;
@@ -40,7 +39,7 @@ fn push_token(
 ) -> Result<(), AllocError>
     requires order { at + 4 < end }
     requires within { end ≤ length code.now }
-    ensures { OnOk result (out.new.items ≡ (out.old.items ++ take (end - 4 - at) (drop at code.now)) ++ to_le_bytes w32 number) }
+    ensures { OnOk result (out.new.items ≡ with_number out.old.items code.now at (end - 4) number) }
 {
     push_plain(code, at as usize, (end - 4) as usize, out)?;
     push_word(number, out)
@@ -61,9 +60,7 @@ fn push_instr<M: Moves>(
     ensures { OnOk result (IsMovedUpTo (M.to moves.now) code.now.code.now out.new.items read.now.1) }
 {
     match read.0.arg {
-        Arg::Token(token) => {
-            push_token(code.code, at, read.1, moves.moved(token).number(), out)
-        }
+        Arg::Token(token) => push_token(code.code, at, read.1, moves.moved(token).number(), out),
         _ => push_plain(code.code, at as usize, read.1 as usize, out),
     }
 }

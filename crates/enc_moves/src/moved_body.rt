@@ -1,5 +1,5 @@
 //! A body whose tokens are moved.
-ghost use Rattle.std.specs.Prelude.{◌≡◌, ◌<◌, ◌^◌, length, Some, IfOk};
+ghost use Rattle.std.specs.Prelude.{◌≡◌, ◌<◌, ◌^◌, true, length, Some, IfOk};
 ghost use Rattle.enc_opcodes.specs.Body.{code_seen};
 ghost use Rattle.enc_moves.specs.Body.{MeansMoved};
 ghost use Rattle.enc_moves.specs.Held.{held_code};
@@ -47,7 +47,8 @@ impl MovedBody {
     ) -> Result<Option<MovedBody>, AllocError>
         requires few { length body.now.code.now < 2 ^ 32 }
         requires short { length body.now.sections.now < 2 ^ 32 }
-        ensures { IfOk result (λ r. MeansMoved (M.to moves.now) (code_seen body.now) (held_code r (code_seen body.now) (M.to moves.now body.now.locals))) }
+        ensures { IfOk result (λ r. MeansMoved (M.to moves.now) (code_seen body.now)
+            (held_code r (code_seen body.now) (M.to moves.now body.now.locals))) }
     {
         let code = moved_code(alloc, body, moves)?;
         let sections = moved_sections(alloc, body.sections, moves)?;

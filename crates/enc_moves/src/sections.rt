@@ -1,7 +1,6 @@
 //! The data sections of a body with the classes of their clauses moved (ECMA-335 II.25.4.5,
 //! II.25.4.6).
-ghost use Rattle.std.specs.Prelude.{◌≡◌, ◌*◌, ◌≤◌, ◌++◌, Some, length, take, IfOk, OnOk};
-ghost use Rattle.enc_il.specs.Seen.{section_seen};
+ghost use Rattle.std.specs.Prelude.{◌≡◌, ◌*◌, ◌≤◌, ◌++◌, length, take, IfOk, OnOk};
 ghost use Rattle.enc_moves.specs.Copied.{extra_moved, clause_moved, clauses_moved, AreMoved};
 ghost use Rattle.enc_opcodes.specs.Clause.{clause_size as size_of_clause};
 
@@ -45,10 +44,11 @@ fn push_clauses<M: Moves>(
     out: &mut Vec<u8>,
 ) -> Result<(), AllocError>
     requires { length section.now.clauses.now ≡ size_of_clause section.now.fat * section.now.count }
-    ensures { OnOk result (out.new.items ≡ out.old.items ++ clauses_moved (M.to moves.now) section.now.fat section.now.count section.now.clauses.now) }
+    ensures { OnOk result (out.new.items ≡ out.old.items
+        ++ clauses_moved (M.to moves.now) section.now.fat section.now.count section.now.clauses.now) }
 {
     let mut rest = section.clauses;
-    for _ in 0..section.count {
+    for i in 0..section.count {
         match push_clause(section.fat, rest, moves, out) {
             Ok(()) => {}
             Err(fault) => return Err(fault),
@@ -67,7 +67,8 @@ fn push_section<M: Moves>(
 ) -> Result<(), AllocError>
     requires head { 4 ≤ length bytes.now }
     requires whole { length section.now.clauses.now ≡ size_of_clause section.now.fat * section.now.count }
-    ensures { OnOk result (out.new.items ≡ (out.old.items ++ take 4 bytes.now) ++ clauses_moved (M.to moves.now) section.now.fat section.now.count section.now.clauses.now) }
+    ensures { OnOk result (out.new.items ≡ (out.old.items ++ take 4 bytes.now)
+        ++ clauses_moved (M.to moves.now) section.now.fat section.now.count section.now.clauses.now) }
 {
     out.extend_from_slice(&bytes[..4])?;
     push_clauses(section, moves, out)

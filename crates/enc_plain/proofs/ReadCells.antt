@@ -17,10 +17,9 @@ use Rattle.enc_plain.specs.Module.{Module, has_row}
 use Rattle.enc_plain.specs.Reading.{Reading, within, index_token, cell_read}
 use Rattle.enc_plain.specs.Sound.{row_count, is_part, is_tables, can_name, is_reference, number_fits, cell_is_sound}
 
--- a text has no zero, a blob's length can be spelled, a GUID has sixteen bytes, and no table has more rows than the module
+-- a text has no zero, a GUID has sixteen bytes, and no table has more rows than the module
 pub record ReadsFor (m : Module) (r : Reading) : Type 0 where
   pub texts : (n : ℕ) (x : List ℕ) → r.text n ≡ Some x → list_any (λ b. b == 0) x ≡ false
-  pub blobs : (n : ℕ) (x : List ℕ) → r.blob n ≡ Some x → length x < 2 ^ 29
   pub guids : (n : ℕ) (x : List ℕ) → r.guid n ≡ Some x → length x ≡ 16
   pub rows : (t : ℕ) → is_part t ≡ true → t < 0x2D → r.count t ≤ row_count m t
 
@@ -79,9 +78,9 @@ text_fits : (m : Module) (u : Token) (o : Option (List ℕ)) → ((x : List ℕ)
 text_fits m u None h = refl
 text_fits m u (Some x) h = rw (h x refl) refl
 
-blob_fits : (m : Module) (u : Token) (o : Option (List ℕ)) → ((x : List ℕ) → o ≡ Some x → length x < 2 ^ 29) → cell_is_sound m u Blob (unwrap_or (option_map blob o) (number 0)) ≡ true
-blob_fits m u None h = refl
-blob_fits m u (Some x) h = let few = h x refl in grind (arith, nat_tests)
+blob_fits : (m : Module) (u : Token) (o : Option (List ℕ)) → cell_is_sound m u Blob (unwrap_or (option_map blob o) (number 0)) ≡ true
+blob_fits m u None = refl
+blob_fits m u (Some x) = refl
 
 guid_fits : (m : Module) (u : Token) (o : Option (List ℕ)) → ((x : List ℕ) → o ≡ Some x → length x ≡ 16) → cell_is_sound m u Guid (unwrap_or (option_map guid o) (number 0)) ≡ true
 guid_fits m u None h = refl
@@ -164,7 +163,7 @@ read_by m u r Num16 n reads parts fits = fits
 read_by m u r Num32 n reads parts fits = fits
 read_by m u r Text n reads parts fits = text_fits m u (r.text n) (reads.texts n)
 read_by m u r Guid n reads parts fits = guid_fits m u (r.guid n) (reads.guids n)
-read_by m u r Blob n reads parts fits = blob_fits m u (r.blob n) (reads.blobs n)
+read_by m u r Blob n reads parts fits = blob_fits m u (r.blob n)
 read_by m u r (Index t) n reads parts fits = index_fits m u r t n reads parts
 read_by m u r (Coded kind) n reads parts fits = coded_fits m u r kind n (n / 2 ^ tag_bits kind) ((n / 2 ^ tag_bits kind) == 0) reads parts refl
 read_by m u r (Run t) n reads parts fits = refl

@@ -93,11 +93,11 @@ is_size n None = false
 unfoldable pub field_is_sound : Module → Token → List ℕ → Bool
 field_is_sound m row there = length there == 0 || is_size (length there) (size_of m (extent_of m row))
 
--- a number fits its column's width, a text has no zero, a blob's length can be spelled, a GUID has sixteen bytes, and all else is as above
+-- a number fits its column's width, a text has no zero, a blob is any bytes, a GUID has sixteen of them, and all else is as above
 abbrev pub cell_is_sound : Module → Token → Column → Cell → Bool
 cell_is_sound m u column (number n) = number_fits column n
 cell_is_sound m u column (text there) = not (list_any (λ b. b == 0) there)
-cell_is_sound m u column (blob there) = nat_lt (length there) (2 ^ 29)
+cell_is_sound m u column (blob there) = true
 cell_is_sound m u column (guid there) = length there == 16
 cell_is_sound m u column (refer t) = is_reference m column t
 cell_is_sound m u column (body None) = true

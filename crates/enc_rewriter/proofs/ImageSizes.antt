@@ -1,8 +1,8 @@
 -- An image of parts that hold a module of little weight fits.
-use Rattle.std.proofs.Common.{◌≡◌, ℕ, ◌+◌, ◌-◌, ◌<◌, ◌≤◌, Bool, true, false, List, [], ◌++◌, length, refl, arith, length-append}
-use Rattle.std.specs.Prelude.{◌^◌, ◌||◌, codes}
+use Rattle.std.proofs.Common.{◌≡◌, ℕ, ◌+◌, ◌<◌, ◌≤◌, Bool, true, false, List, [], ◌++◌, length, refl, ap, arith, length-append}
+use Rattle.std.specs.Prelude.{◌^◌, codes}
 use Rattle.enc_base.specs.Numbers.{padded}
-use Rattle.enc_emit.specs.Written.{stream_header_written, front_written, jtd_streams, streams_begin, five_end, five_headers_written, further_headers_written, five_written, further_written, root_with_further, root_size, root_written, root_built, has_ptr_rows}
+use Rattle.enc_emit.specs.Written.{stream_header_written, front_written, jtd_streams, streams_begin, five_end, five_headers_written, further_headers_written, five_written, further_written, root_with_further, root_size, root_written, has_ptr_rows}
 use Rattle.enc_meta.specs.Built.{Built, joined_size, heaps_built}
 use Rattle.enc_meta.specs.Heaps.{Counted}
 use Rattle.enc_pe.specs.Written.{rounded, section_size, image_size}
@@ -14,6 +14,7 @@ use Rattle.enc_rewriter.specs.Numbers.{needs_jtd}
 use Rattle.enc_rewriter.specs.Placed.{Placed}
 use Rattle.enc_rewriter.specs.Rewritten.{HoldModule, FitsImage, root_of_parts, image_of_parts}
 use Rattle.enc_rewriter.specs.Weight.{rows_weight, heaps_weight, bodies_weight, fields_weight, module_weight, most_weight}
+use Rattle.enc_rewriter.proofs.RootForms.{root_is}
 use Rattle.enc_rewriter.proofs.RowSizes.{stream_light}
 use Rattle.enc_ppdb.proofs.RootSizes.{padded_few, header_length, headers_few, front_length, heaps_length, five_few, heaps_are}
 
@@ -71,25 +72,32 @@ weight_is m h = refl
 pub parts_light : (m : Module) (h : Built) → module_weight m h < most_weight → bodies_weight m + fields_weight m < 2 ^ 31
 parts_light m h light = omega (arith, weight_is m h, light)
 
+root_few : (m : Module) (h : Built) (rows : List (List (List ℕ)))
+    → length (root_of_parts m h rows) ≤ length (stream_of rows (needs_jtd m) (heap_bits rows)) + heaps_length (heaps_built h) + 146
+root_few m h rows =
+    let stream = stream_of rows (needs_jtd m) (heap_bits rows) in
+    let root = root_written (needs_jtd m) (has_ptr_rows rows) stream (heaps_built h) in
+    let same : length (root_of_parts m h rows) ≡ length root = ap length (root_is m h rows) in
+    omega (arith, same, root_length (needs_jtd m) (has_ptr_rows rows) stream (heaps_built h))
+
 -- the image is no longer than the module's weight
 pub image_light : (m : Module) (h : Built) (p : Placed) (rows : List (List (List ℕ))) → IsSound m → HoldModule m h p rows → length p.code ≤ bodies_weight m + fields_weight m + 4096
     → length (image_of_parts m h p rows) ≤ module_weight m h
-unfolding root_built image_of_parts
+unfolding image_of_parts
 image_light m h p rows sound held code =
     let stream = stream_of rows (needs_jtd m) (heap_bits rows) in
     let s = stream_light m (heaps_built h) p rows (needs_jtd m) (heap_bits rows) sound held.numbers held.said in
-    let root : length (root_of_parts m h rows) ≤ length stream + heaps_length (heaps_built h) + 146 = root_length (needs_jtd m) (needs_jtd m || has_ptr_rows rows) stream (heaps_built h) in
+    let root : length (root_of_parts m h rows) ≤ length stream + heaps_length (heaps_built h) + 146 = root_few m h rows in
     let heaps = heaps_are h held.begins held.good in
     omega (arith, s, root, heaps, image_few (root_of_parts m h rows) p.code m.resources, weight_is m h, code, length_written (root_of_parts m h rows) p.code m.resources m.entry)
 
 pub image_fits : (m : Module) (h : Built) (p : Placed) (rows : List (List (List ℕ))) → IsSound m → HoldModule m h p rows → module_weight m h < most_weight
     → length p.code ≤ bodies_weight m + fields_weight m + 4096 → m.entry < 2 ^ 32 → FitsImage m h p rows
-unfolding root_built
 image_fits m h p rows sound held light code entry =
     let stream = stream_of rows (needs_jtd m) (heap_bits rows) in
     let s = stream_light m (heaps_built h) p rows (needs_jtd m) (heap_bits rows) sound held.numbers held.said in
     let size = size_few (needs_jtd m) stream (heaps_built h) in
-    let root : length (root_of_parts m h rows) ≤ length stream + heaps_length (heaps_built h) + 146 = root_length (needs_jtd m) (needs_jtd m || has_ptr_rows rows) stream (heaps_built h) in
+    let root : length (root_of_parts m h rows) ≤ length stream + heaps_length (heaps_built h) + 146 = root_few m h rows in
     let heaps = heaps_are h held.begins held.good in
     record {
       root = omega (arith, s, size, heaps, weight_is m h, light);

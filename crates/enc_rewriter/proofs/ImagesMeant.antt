@@ -30,12 +30,13 @@ none_of : (a b c d e : Option Place) → a ≡ None → b ≡ None → c ≡ Non
     → or_else (rule 7 a) (or_else (rule 8 b) (or_else (rule 11 c) (or_else (rule 10 d) (rule 5 e)))) ≡ None
 none_of a b c d e ha hb hc hd he = rw (ha, hb, hc, hd, he) refl
 
-unrefused : (m : Module) (h : Built) (p : Placed) (rows : List (List (List ℕ))) (s : Source) → IsRead m h p rows s → index_fault (rows_from s) ≡ None → cells_fault s ≡ None
+pub unrefused : (m : Module) (h : Built) (p : Placed) (rows : List (List (List ℕ))) (s : Source) → IsRead m h p rows s → index_fault (rows_from s) ≡ None
+    → cells_fault s ≡ None
 unfolding cells_fault
 unrefused m h p rows s r good =
     none_of _ _ _ _ _ good (no_offset_fault m h p rows s r) (no_signature_fault m h p rows s r) (no_body_fault m h p rows s r) (no_field_fault m h p rows s r)
 
-base_is : (bytes : List ℕ) (s : Source) → source_of bytes ≡ Ok s → cells_fault s ≡ None → base_of bytes ≡ Ok s
+pub base_is : (bytes : List ℕ) (s : Source) → source_of bytes ≡ Ok s → cells_fault s ≡ None → base_of bytes ≡ Ok s
 unfolding base_of
 base_is bytes s read none =
     ap (λ (o : Result Source Refusal). o >>= λ (x : Source). source_or x (cells_fault x)) read

@@ -28,11 +28,13 @@ pub mod ModuleMeant
 pub mod NumbersMeant
 pub mod NumbersWritten
 pub mod Passing
+pub mod PlainImages
 pub mod OwnBytes
 pub mod PtrRows
 pub mod PtrTables
 pub mod ReadAs
 pub mod RefersTo
+pub mod RootForms
 pub mod RowSizes
 pub mod ImageSizes
 pub mod RowsPushed

@@ -1,12 +1,12 @@
 -- An image that was written is read as its parts.
 use Rattle.std.proofs.Common.{◌≡◌, ℕ, zero, suc, ◌+◌, ◌<◌, ◌≤◌, Bool, true, false, List, [], length, Option, Result, Ok, refl, ap, ◌∙◌, arith, lt-ltb}
-use Rattle.std.specs.Prelude.{◌^◌, ◌||◌, ◌==◌, IsTrue, unwrap_or, nat_lt, slice_index, replicate, if◌then◌else◌}
+use Rattle.std.specs.Prelude.{◌^◌, ◌==◌, IsTrue, unwrap_or, nat_lt, slice_index, replicate, if◌then◌else◌}
 use Rattle.std.proofs.lemmas.Bool.{and_from}
 use Rattle.std.proofs.lemmas.Bool.Decides.{nat_tests}
 use Rattle.std.proofs.lemmas.Option.{slice_get_past}
 use Rattle.enc_base.specs.Token.{nth_row}
 use Rattle.enc_base.specs.declared.refusal.Refusal.{Refusal}
-use Rattle.enc_emit.specs.Written.{root_written, root_size, root_built, has_ptr_rows, HoldsStreams}
+use Rattle.enc_emit.specs.Written.{root_written, root_size, has_ptr_rows, HoldsStreams}
 use Rattle.enc_emit.proofs.Read.{root_is_read}
 use Rattle.enc_image.specs.Base.{◌>>=◌, metadata_of, no_counts, layout_for, source_from, source_of}
 use Rattle.enc_meta.specs.Built.{Built, heaps_built}
@@ -32,8 +32,9 @@ use Rattle.enc_rows.proofs.HeapBits.{heap_bits_fit}
 use Rattle.enc_rows.proofs.Layouts.{count_is, stream_read}
 use Rattle.enc_rewriter.specs.Numbers.{HoldRows, needs_jtd}
 use Rattle.enc_rewriter.specs.Placed.{Placed}
-use Rattle.enc_rewriter.specs.Rewritten.{HoldModule, FitsImage, image_of_parts}
+use Rattle.enc_rewriter.specs.Rewritten.{HoldModule, FitsImage, root_of_parts, image_of_parts}
 use Rattle.enc_rewriter.proofs.ReadAs.{IsReadAs}
+use Rattle.enc_rewriter.proofs.RootForms.{root_is}
 
 -- tables past those of modules are parts without rows
 past_part : (t : ℕ) → 0x2D ≤ t → is_part t ≡ true
@@ -133,12 +134,21 @@ read_as m h p rows bytes metadata c root jtd uncompressed are fit holds streams 
       bare = holds.bare;
     }
 
+-- the container and the root of an image, whose tables are in a form
+pub record HasRoot (bytes : List ℕ) (uncompressed : Bool) : Type 0 where
+  pub container : Container
+  pub root : Root
+  pub contained : container_of bytes ≡ Ok container
+  pub rooted : root_of (metadata_of bytes container) ≡ Ok root
+  pub form : root.uncompressed ≡ uncompressed
+
 read_with : (m : Module) (h : Built) (p : Placed) (rows : List (List (List ℕ))) (jtd uncompressed : Bool) (root : List ℕ)
     → root ≡ root_written jtd uncompressed (stream_of rows jtd (heap_bits rows)) (heaps_built h)
     → AreRows rows → IsTrue (form_allows form.Base (valid_of rows) (counts_of rows)) → AllFit rows jtd (heap_bits rows)
     → root_size jtd (stream_of rows jtd (heap_bits rows)) (heaps_built h) < 2 ^ 32 → counted_strings (heaps_built h).strings ≡ (heaps_built h).strings
     → image_size root p.code m.resources ≤ most_bytes → m.entry < 2 ^ 32
     → (s : Source) × (source_of (image_written root p.code m.resources m.entry) ≡ Ok s) × IsReadAs m h p rows s
+    × HasRoot (image_written root p.code m.resources m.entry) uncompressed
 read_with m h p rows jtd uncompressed root is are fine fit few texts small entry =
     let stream = stream_of rows jtd (heap_bits rows) in
     let image = image_written root p.code m.resources m.entry in
@@ -157,11 +167,13 @@ read_with m h p rows jtd uncompressed root is are fine fit few texts small entry
       source_from image c.0 r.0 (layout_written rows r.0.tables jtd (heap_bits rows)),
       source_is image (root_written jtd uncompressed stream (heaps_built h)) c.0 r.0 (layout_written rows r.0.tables jtd (heap_bits rows)) c.1 metadata r.1 laid,
       read_as m h p rows image (root_written jtd uncompressed stream (heaps_built h)) c.0 r.0 jtd uncompressed are fit holds r.2,
+      record { container = c.0; root = r.0; contained = c.1; rooted = ap root_of metadata ∙ r.1; form = r.2.form },
     )
 
 -- the image of parts that hold a sound module is read as these parts, where its indices fit
 pub written_source : (m : Module) (h : Built) (p : Placed) (rows : List (List (List ℕ))) → IsSound m → HoldModule m h p rows → FitsImage m h p rows → IndicesFit rows (needs_jtd m)
-    → (s : Source) × (source_of (image_of_parts m h p rows) ≡ Ok s) × IsReadAs m h p rows s
-unfolding image_of_parts root_built
+    → (s : Source) × (source_of (image_of_parts m h p rows) ≡ Ok s) × IsReadAs m h p rows s × HasRoot (image_of_parts m h p rows) (has_ptr_rows rows)
+unfolding image_of_parts
 written_source m h p rows sound held fits indices =
-    read_with m h p rows (needs_jtd m) (needs_jtd m || has_ptr_rows rows) (root_written (needs_jtd m) (needs_jtd m || has_ptr_rows rows) (stream_of rows (needs_jtd m) (heap_bits rows)) (heaps_built h)) refl held.numbers (allowed m h p rows sound held.said) (heap_bits_fit rows (needs_jtd m) held.numbers indices) fits.root (all_texts_count h held.good) fits.image fits.entry
+    read_with m h p rows (needs_jtd m) (has_ptr_rows rows) (root_of_parts m h rows) (root_is m h rows) held.numbers (allowed m h p rows sound held.said)
+    (heap_bits_fit rows (needs_jtd m) held.numbers indices) fits.root (all_texts_count h held.good) fits.image fits.entry

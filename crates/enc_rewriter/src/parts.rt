@@ -1,9 +1,9 @@
 //! The parts of an image that hold a module.
-ghost use Rattle.std.specs.Prelude.{◌≡◌, ◌+◌, ◌<◌, ◌≤◌, ◌^◌, length, IfOk};
+ghost use Rattle.std.specs.Prelude.{◌≡◌, ◌+◌, ◌<◌, ◌≤◌, ◌^◌, length, IfOk, if◌then◌else◌};
+ghost use Rattle.enc_emit.specs.declared.root_form.RootForm.TheVariants as form;
 ghost use Rattle.enc_plain.specs.Sound.{IsSound};
 ghost use Rattle.enc_rewriter.specs.Limits.{image_limit, TellsLimit};
-ghost use Rattle.enc_rewriter.specs.Numbers.{needs_jtd as jtd_is_needed};
-ghost use Rattle.enc_rewriter.specs.Rewritten.{HoldModule};
+ghost use Rattle.enc_rewriter.specs.Rewritten.{HoldModule, root_form};
 ghost use Rattle.enc_rewriter.specs.Values.{no_starts, heaps_for, KeepValues};
 ghost use Rattle.enc_rewriter.specs.Weight.{bodies_weight, fields_weight, module_weight as weight_of_module, most_weight};
 
@@ -14,19 +14,31 @@ use crate::placed::{PlacedCode, placed_code};
 use crate::rows::push_all;
 use crate::runs::{all_runs, needs_jtd};
 use crate::weight::{MOST, module_weight};
+use enc_emit::RootForm;
 use enc_meta::HeapBuilder;
 use enc_plain::ModuleView;
 use enc_rows::TableBuilder;
 use std::alloc::{AllocError, Global};
 
-/// The parts of an image: the heaps of its values, its code, the rows of its tables, and whether all
-/// indices take four bytes, as a stream `#JTD` says.
+/// The parts of an image: the heaps of its values, its code, the rows of its tables, and the form of
+/// its root.
 #[derive(Drop)]
 pub(crate) struct ModuleParts {
     pub(crate) heaps: HeapBuilder,
     pub(crate) placed: PlacedCode,
     pub(crate) tables: TableBuilder,
-    pub(crate) jtd: bool,
+    pub(crate) form: RootForm,
+}
+
+/// The form of the root of a module with a run that asks for wide indices, or with none.
+fn form_with(wide: bool) -> RootForm
+    ensures { result ≡ (if wide then form.WideModule else form.Module) }
+{
+    if wide {
+        RootForm::WideModule
+    } else {
+        RootForm::Module
+    }
 }
 
 /// The parts of a module whose values the heaps keep: the bodies and the initial bytes of fields in
@@ -42,12 +54,12 @@ pub(crate) fn parts_with<V: ModuleView>(
     ensures held { IfOk result (λ p. HoldModule (V.meaning view.now) p.heaps p.placed p.tables) }
     ensures heaps { IfOk result (λ p. p.heaps ≡ heaps) }
     ensures code { IfOk result (λ p. length p.placed.code ≤ bodies_weight (V.meaning view.now) + fields_weight (V.meaning view.now) + 4096) }
-    ensures jtd { IfOk result (λ p. p.jtd ≡ jtd_is_needed (V.meaning view.now)) }
+    ensures form { IfOk result (λ p. p.form ≡ root_form (V.meaning view.now)) }
 {
     let mut heaps = heaps;
     let placed = placed_code(alloc, view, &mut heaps)?;
     let runs = all_runs(alloc, view)?;
-    let jtd = needs_jtd(view, &runs);
+    let form = form_with(needs_jtd(view, &runs));
     let mut tables = TableBuilder::begin(alloc);
     push_all(alloc, view, &mut heaps, &runs, &placed, &mut tables)?;
     heaps.laws();
@@ -56,7 +68,7 @@ pub(crate) fn parts_with<V: ModuleView>(
         heaps,
         placed,
         tables,
-        jtd,
+        form,
     })
 }
 

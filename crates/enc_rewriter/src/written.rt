@@ -1,15 +1,14 @@
 //! A module written from scratch.
-ghost use Rattle.std.specs.Prelude.{◌≡◌, ◌<◌, ◌≤◌, ◌^◌, length, IfOk};
+ghost use Rattle.std.specs.Prelude.{◌≡◌, ◌<◌, ◌≤◌, ◌^◌, true, length, IfOk};
 ghost use Rattle.enc_plain.specs.Sound.{IsSound};
 ghost use Rattle.enc_plain.specs.Sound.{row_count};
 ghost use Rattle.enc_plain.specs.SoundDebug.{IsSoundPdb, KnowsWithin};
 ghost use Rattle.enc_ppdb.specs.Written.{WritesPdb};
 ghost use Rattle.enc_rewriter.specs.Limits.{pdb_limit, rewrite_limit, TellsLimit};
 ghost use Rattle.enc_schema.specs.Tables.{method_def};
-ghost use Rattle.enc_rewriter.specs.Numbers.{needs_jtd};
 ghost use Rattle.enc_rewriter.specs.Values.{KeepValues};
 ghost use Rattle.enc_rewriter.specs.Weight.{module_weight, most_weight};
-ghost use Rattle.enc_rewriter.specs.Rewritten.{image_of_parts, FitsImage, HoldModule, MeansModule, RewritesTo};
+ghost use Rattle.enc_rewriter.specs.Rewritten.{root_form, image_of_parts, FitsImage, HoldModule, IsPlainImage, MeansModule, RewritesTo, stands_in_order};
 
 use crate::fault::RewriteFault;
 use crate::parts::{ModuleParts, parts_with, values_within};
@@ -28,7 +27,7 @@ fn word_law(n: u32)
 {}
 
 /// The image of parts.
-#[tactic(auto, using(crate::proofs::RunsFit::module_fits), unfolding(crate::specs::Rewritten::image_of_parts))]
+#[tactic(auto, unfolding(crate::specs::Rewritten::image_of_parts))]
 fn image_with<V: ModuleView>(
     alloc: Global,
     view: &V,
@@ -37,16 +36,16 @@ fn image_with<V: ModuleView>(
     requires sound { IsSound (V.meaning view.now) }
     requires held { HoldModule (V.meaning view.now) parts.heaps parts.placed parts.tables }
     requires fits { FitsImage (V.meaning view.now) parts.heaps parts.placed parts.tables }
-    requires jtd { parts.jtd ≡ needs_jtd (V.meaning view.now) }
+    requires form { parts.form ≡ root_form (V.meaning view.now) }
     ensures { IfOk result (λ v. v.items ≡ image_of_parts (V.meaning view.now) parts.heaps parts.placed parts.tables) }
 {
     let ModuleParts {
         heaps,
         placed,
         tables,
-        jtd,
+        form,
     } = parts;
-    let root = RootBuilder::of(heaps, tables).finish(alloc, jtd)?;
+    let root = RootBuilder::of(heaps, tables).finish(alloc, form)?;
     match write_pe(alloc, &root, placed.code(), view.resources(), view.entry()) {
         Ok(bytes) => Ok(bytes),
         Err(PeFault::Memory) => Err(AllocError),
@@ -66,6 +65,7 @@ fn image_of<V: ModuleView>(
     requires light { module_weight (V.meaning view.now) heaps < most_weight }
     ensures means { IfOk result (λ v. MeansModule (V.meaning view.now) v.items) }
     ensures light { IfOk result (λ v. length v.items ≤ module_weight (V.meaning view.now) heaps) }
+    ensures plain { IfOk result (λ v. stands_in_order (V.meaning view.now) ≡ true → IsPlainImage v.items) }
 {
     word_law(view.entry());
     let parts = parts_with(alloc, view, heaps)?;
@@ -101,7 +101,9 @@ fn pdb_of<V: ModuleView, P: PointSource>(
 /// A module and its plain PDB written from scratch: an image (PE32, one section) that isn't refused as
 /// a base and whose module is the view's, with every token as it was; and a Portable PDB that isn't
 /// refused for it and whose plain PDB is that of the points. The initial bytes of fields stand at multiples
-/// of eight, `#Pdb` names the module's entry point, and neither file is longer than its weight.
+/// of eight, `#Pdb` names the module's entry point, and neither file is longer than its weight. Where
+/// the children of all owners, by owner and attachment, are the rows in order, the table stream is
+/// `#~`, and no Ptr table has rows.
 ///
 /// `TooLarge` exactly where a heap of distinct values passes its limit, with the first such heap of
 /// `#Strings`, `#US`, `#Blob` and `#GUID`; else `Image` exactly where the weight of the module passes

@@ -15,3 +15,6 @@ pub mod Shapes
 pub mod Shared
 pub mod Rounds
 pub mod TypeFronts
+pub mod MovedTrees
+pub mod MovedInTable
+pub mod MovedFronts

@@ -1,13 +1,13 @@
 -- Signatures whose tokens are moved, each to another row of its table (ECMA-335 II.23.2).
-use Rattle.std.specs.Prelude.{◌≡◌, ℕ, ◌<◌, ◌^◌, Bool, true, false, ◌&&◌, ◌==◌, List, [], ◌∷◌, take, map, Option, Some, None, nat_le, nat_lt, if◌then◌else◌}
+use Rattle.std.specs.Prelude.{◌≡◌, ℕ, ◌<◌, ◌^◌, Bool, true, false, ◌&&◌, ◌==◌, List, ◌∷◌, take, map, Option, Some, nat_le, nat_lt, if◌then◌else◌}
 use Rattle.enc_base.specs.declared.token.Token.{Token}
-use Rattle.enc_sigs.specs.Tree.{Forest, none, more, Tree, SigTree, forest_of}
-use Rattle.enc_sigs.specs.Grammar.{form_of, token_named, sig_in, token_in, is_coded, NamesTables}
-use Rattle.enc_sigs.specs.Spelling.{token_number, sig_bytes, IsSpelled}
+use Rattle.enc_sigs.specs.Tree.{Forest, none, more, Tree, SigTree}
+use Rattle.enc_sigs.specs.Grammar.{form_of, token_named, sig_in, token_in}
+use Rattle.enc_sigs.specs.Spelling.{token_number, sig_bytes}
 use Rattle.enc_sigs.specs.declared.form.Form.{Form}
 use Rattle.enc_sigs.specs.declared.form.Form.TheVariants as form
 use Rattle.enc_sigs.specs.declared.kind.SigKind.{SigKind}
-use Rattle.enc_sigs.specs.declared.kind.SigKind.TheVariants.{Field, TypeSpec}
+use Rattle.enc_sigs.specs.declared.kind.SigKind.TheVariants.{Field}
 
 -- a token stands behind the first byte of a class or value type, of a modifier and of a generic instance (II.23.2.7, II.23.2.8, II.23.2.12)
 abbrev pub form_has_token : Option Form → Bool

@@ -1,15 +1,16 @@
-//! Writing signatures in their shortest spelling (ECMA-335 II.23.2).
-ghost use Rattle.std.specs.Prelude.{◌≡◌, ℕ, ◌++◌, ◌∷◌, [], ◌%◌, ◌-◌, length, slice_get, IfOk, is_ok, if◌then◌else◌};
+//! Writing signatures in their shortest spelling, each token moved by a function (ECMA-335 II.23.2).
+ghost use Rattle.std.specs.Prelude.{◌≡◌, ℕ, ◌++◌, ◌∷◌, [], ◌%◌, ◌-◌, length, slice_get, IfOk, is_ok, true, if◌then◌else◌};
 ghost use Rattle.enc_sigs.specs.Tree.{forest_of, trees};
 ghost use Rattle.enc_sigs.specs.Spelling.{number_bytes, signed_bytes, token_bytes, numeral_bytes, each_numeral, numerals_bytes, joined, counted_bytes, generics_bytes, parts_bytes, array_bytes, numerals_of, front_of, pointer_bytes, formed_bytes, spellings, tree_bytes, front_bytes, sig_bytes, IsSpelled};
 ghost use Rattle.enc_base.specs.Numbers.{has_flag};
+ghost use Rattle.enc_sigs.specs.Moved.{form_has_token, has_token, forest_moved, tree_moved, sig_moved, all_tokens, stays_in_table, GivesTokens};
 
 use crate::elem::Elem;
 use crate::form::{Form, Numeral};
 use crate::kind::SigKind;
 use crate::number::form_by;
 use crate::sig::{Front, Sig};
-use enc_base::{Token, push_signed, push_unsigned};
+use enc_base::{Token, push_signed, push_unsigned, written_laws};
 use enc_schema::tables::{TYPE_DEF, TYPE_REF};
 use std::alloc::{AllocError, Global};
 
@@ -127,50 +128,78 @@ fn write_count_behind(kids: &[Elem], out: &mut Vec<u8>) -> Result<(), AllocError
     write_number(kids.len().saturating_sub(1), out)
 }
 
-/// Appends a type.
+/// Appends a token, moved.
+fn write_moved_token<F: Fn(Token) -> Token>(
+    token: Token,
+    moved: &F,
+    out: &mut Vec<u8>,
+) -> Result<(), AllocError>
+    requires { F.IsAlwaysCallable moved.now }
+    ensures { (f : Token → Token) → GivesTokens (F.post moved.now) f → IfOk result (λ _. out.new.items ≡ out.old.items ++ token_bytes (f token)) }
+{
+    write_token(moved(token), out)
+}
+
+/// Appends a type, its tokens moved.
 #[cycle(writer)]
-#[tactic(auto, unfolding(crate::specs::Spelling::tree_bytes))]
-fn write_elem(elem: &Elem, out: &mut Vec<u8>) -> Result<(), AllocError>
-    ensures { IfOk result (λ _. out.new.items ≡ out.old.items ++ tree_bytes elem.now) }
+#[tactic(auto, unfolding(crate::specs::Spelling::tree_bytes, crate::specs::Moved::has_token))]
+fn write_elem<F: Fn(Token) -> Token>(
+    elem: &Elem,
+    moved: &F,
+    out: &mut Vec<u8>,
+) -> Result<(), AllocError>
+    requires { F.IsAlwaysCallable moved.now }
+    ensures { (f : Token → Token) → GivesTokens (F.post moved.now) f → IfOk result (λ _. out.new.items ≡ out.old.items ++ tree_bytes (tree_moved f elem.now)) }
 {
     write_byte(elem.element, out)?;
-    write_within(form_by(elem.element), elem, out)
+    write_within(form_by(elem.element), elem, moved, out)
 }
 
 /// Appends what stands behind a type's first byte.
 #[cycle(writer)]
 #[tactic(auto, unfolding(crate::specs::Spelling::formed_bytes))]
-fn write_within(form: Option<Form>, elem: &Elem, out: &mut Vec<u8>) -> Result<(), AllocError>
-    ensures { IfOk result (λ _. out.new.items ≡ out.old.items ++ formed_bytes form elem.now.token elem.now.number (trees elem.now.kids) (spellings elem.now.kids)) }
+fn write_within<F: Fn(Token) -> Token>(
+    form: Option<Form>,
+    elem: &Elem,
+    moved: &F,
+    out: &mut Vec<u8>,
+) -> Result<(), AllocError>
+    requires { F.IsAlwaysCallable moved.now }
+    ensures { (f : Token → Token) → GivesTokens (F.post moved.now) f → IfOk result (λ _. out.new.items ≡ out.old.items ++ formed_bytes form (if form_has_token form then f elem.now.token else elem.now.token) elem.now.number (trees (forest_moved f elem.now.kids)) (spellings (forest_moved f elem.now.kids))) }
 {
     let kids = elem.kids();
     let Some(form) = form else {
-        return write_elems(kids, out);
+        return write_elems(kids, moved, out);
     };
     match form {
         Form::Bare => Ok(()),
-        Form::Wrapped => write_elems(kids, out),
-        Form::Named => write_token(elem.token, out),
+        Form::Wrapped => write_elems(kids, moved, out),
+        Form::Named => write_moved_token(elem.token, moved, out),
         Form::Modified => {
-            write_token(elem.token, out)?;
-            write_elems(kids, out)
+            write_moved_token(elem.token, moved, out)?;
+            write_elems(kids, moved, out)
         }
         Form::Numbered => write_number(elem.number as usize, out),
-        Form::Array => write_array(elem.number, kids, out),
-        Form::Instance => write_instance(elem.number, elem.token, kids, out),
-        Form::Pointer => write_pointer(elem.number, kids, out),
+        Form::Array => write_array(elem.number, kids, moved, out),
+        Form::Instance => write_instance(elem.number, elem.token, kids, moved, out),
+        Form::Pointer => write_pointer(elem.number, kids, moved, out),
     }
 }
 
 /// Appends these types.
 #[cycle(writer)]
-#[tactic(auto, unfolding(crate::specs::Spelling::spellings, crate::specs::Spelling::tree_bytes))]
-fn write_elems(kids: &[Elem], out: &mut Vec<u8>) -> Result<(), AllocError>
-    ensures { IfOk result (λ _. out.new.items ≡ out.old.items ++ joined (spellings (forest_of kids.now))) }
+#[tactic(auto, unfolding(crate::specs::Spelling::spellings, crate::specs::Spelling::tree_bytes, crate::specs::Moved::forest_moved))]
+fn write_elems<F: Fn(Token) -> Token>(
+    kids: &[Elem],
+    moved: &F,
+    out: &mut Vec<u8>,
+) -> Result<(), AllocError>
+    requires { F.IsAlwaysCallable moved.now }
+    ensures { (f : Token → Token) → GivesTokens (F.post moved.now) f → IfOk result (λ _. out.new.items ≡ out.old.items ++ joined (spellings (forest_moved f (forest_of kids.now)))) }
 {
     let mut rest = kids;
     while let [kid, more @ ..] = rest {
-        write_elem(kid, out)?;
+        write_elem(kid, moved, out)?;
         rest = more;
     }
     Ok(())
@@ -178,12 +207,17 @@ fn write_elems(kids: &[Elem], out: &mut Vec<u8>) -> Result<(), AllocError>
 
 /// Appends the first of these types.
 #[cycle(writer)]
-#[tactic(auto, unfolding(crate::specs::Spelling::spellings, crate::specs::Spelling::tree_bytes))]
-fn write_first(kids: &[Elem], out: &mut Vec<u8>) -> Result<(), AllocError>
-    ensures { IfOk result (λ _. out.new.items ≡ out.old.items ++ front_of (spellings (forest_of kids.now))) }
+#[tactic(auto, unfolding(crate::specs::Spelling::spellings, crate::specs::Spelling::tree_bytes, crate::specs::Moved::forest_moved))]
+fn write_first<F: Fn(Token) -> Token>(
+    kids: &[Elem],
+    moved: &F,
+    out: &mut Vec<u8>,
+) -> Result<(), AllocError>
+    requires { F.IsAlwaysCallable moved.now }
+    ensures { (f : Token → Token) → GivesTokens (F.post moved.now) f → IfOk result (λ _. out.new.items ≡ out.old.items ++ front_of (spellings (forest_moved f (forest_of kids.now)))) }
 {
     match kids {
-        [kid, ..] => write_elem(kid, out),
+        [kid, ..] => write_elem(kid, moved, out),
         [] => Ok(()),
     }
 }
@@ -191,10 +225,16 @@ fn write_first(kids: &[Elem], out: &mut Vec<u8>) -> Result<(), AllocError>
 /// Appends an array's type, rank, sizes and lower bounds.
 #[cycle(writer)]
 #[tactic(auto, unfolding(crate::specs::Spelling::array_bytes))]
-fn write_array(rank: u32, kids: &[Elem], out: &mut Vec<u8>) -> Result<(), AllocError>
-    ensures { IfOk result (λ _. out.new.items ≡ out.old.items ++ array_bytes rank kids.now (spellings (forest_of kids.now))) }
+fn write_array<F: Fn(Token) -> Token>(
+    rank: u32,
+    kids: &[Elem],
+    moved: &F,
+    out: &mut Vec<u8>,
+) -> Result<(), AllocError>
+    requires { F.IsAlwaysCallable moved.now }
+    ensures { (f : Token → Token) → GivesTokens (F.post moved.now) f → IfOk result (λ _. out.new.items ≡ out.old.items ++ array_bytes rank (trees (forest_moved f (forest_of kids.now))) (spellings (forest_moved f (forest_of kids.now)))) }
 {
-    write_first(kids, out)?;
+    write_first(kids, moved, out)?;
     write_number(rank as usize, out)?;
     write_numerals_at(Numeral::Size, kids, 1, out)?;
     write_numerals_at(Numeral::Bound, kids, 2, out)
@@ -203,93 +243,147 @@ fn write_array(rank: u32, kids: &[Elem], out: &mut Vec<u8>) -> Result<(), AllocE
 /// Appends a count and so many types.
 #[cycle(writer)]
 #[tactic(auto, unfolding(crate::specs::Spelling::counted_bytes))]
-fn write_counted(kids: &[Elem], out: &mut Vec<u8>) -> Result<(), AllocError>
-    ensures { IfOk result (λ _. out.new.items ≡ out.old.items ++ counted_bytes (spellings (forest_of kids.now))) }
+fn write_counted<F: Fn(Token) -> Token>(
+    kids: &[Elem],
+    moved: &F,
+    out: &mut Vec<u8>,
+) -> Result<(), AllocError>
+    requires { F.IsAlwaysCallable moved.now }
+    ensures { (f : Token → Token) → GivesTokens (F.post moved.now) f → IfOk result (λ _. out.new.items ≡ out.old.items ++ counted_bytes (spellings (forest_moved f (forest_of kids.now)))) }
 {
     write_count(kids, out)?;
-    write_elems(kids, out)
+    write_elems(kids, moved, out)
 }
 
 /// Appends what stands behind a generic instance's first byte.
 #[cycle(writer)]
-fn write_instance(
+fn write_instance<F: Fn(Token) -> Token>(
     class: u32,
     token: Token,
     kids: &[Elem],
+    moved: &F,
     out: &mut Vec<u8>,
 ) -> Result<(), AllocError>
-    ensures { IfOk result (λ _. out.new.items ≡ out.old.items ++ (class % 0x100) ∷ (token_bytes token ++ counted_bytes (spellings (forest_of kids.now)))) }
+    requires { F.IsAlwaysCallable moved.now }
+    ensures { (f : Token → Token) → GivesTokens (F.post moved.now) f → IfOk result (λ _. out.new.items ≡ out.old.items ++ (class % 0x100) ∷ (token_bytes (f token) ++ counted_bytes (spellings (forest_moved f (forest_of kids.now))))) }
 {
     write_byte((class % 0x100) as u8, out)?;
-    write_token(token, out)?;
-    write_counted(kids, out)
+    write_moved_token(token, moved, out)?;
+    write_counted(kids, moved, out)
 }
 
 /// Appends the count of parameters, the return type or the type, and the parameters.
 #[cycle(writer)]
 #[tactic(auto, unfolding(crate::specs::Spelling::parts_bytes))]
-fn write_parts(kids: &[Elem], out: &mut Vec<u8>) -> Result<(), AllocError>
-    ensures { IfOk result (λ _. out.new.items ≡ out.old.items ++ parts_bytes (spellings (forest_of kids.now))) }
+fn write_parts<F: Fn(Token) -> Token>(
+    kids: &[Elem],
+    moved: &F,
+    out: &mut Vec<u8>,
+) -> Result<(), AllocError>
+    requires { F.IsAlwaysCallable moved.now }
+    ensures { (f : Token → Token) → GivesTokens (F.post moved.now) f → IfOk result (λ _. out.new.items ≡ out.old.items ++ parts_bytes (spellings (forest_moved f (forest_of kids.now)))) }
 {
     write_count_behind(kids, out)?;
-    write_elems(kids, out)
+    write_elems(kids, moved, out)
 }
 
 /// Appends the signature of a function pointer.
 #[cycle(writer)]
-#[tactic(auto, unfolding(crate::specs::Spelling::pointer_bytes, crate::specs::Spelling::spellings))]
-fn write_pointer(calling: u32, kids: &[Elem], out: &mut Vec<u8>) -> Result<(), AllocError>
-    ensures { IfOk result (λ _. out.new.items ≡ out.old.items ++ pointer_bytes calling kids.now (spellings (forest_of kids.now))) }
+#[tactic(auto, unfolding(crate::specs::Spelling::pointer_bytes, crate::specs::Spelling::spellings, crate::specs::Moved::forest_moved))]
+fn write_pointer<F: Fn(Token) -> Token>(
+    calling: u32,
+    kids: &[Elem],
+    moved: &F,
+    out: &mut Vec<u8>,
+) -> Result<(), AllocError>
+    requires { F.IsAlwaysCallable moved.now }
+    ensures { (f : Token → Token) → GivesTokens (F.post moved.now) f → IfOk result (λ _. out.new.items ≡ out.old.items ++ pointer_bytes calling (trees (forest_moved f (forest_of kids.now))) (spellings (forest_moved f (forest_of kids.now)))) }
 {
     let [generics, parts @ ..] = kids else {
         return Ok(());
     };
     write_byte((calling % 0x100) as u8, out)?;
     write_generics(calling, generics.number, out)?;
-    write_parts(parts, out)
+    write_parts(parts, moved, out)
 }
 
 /// Appends the parts of a signature of this kind.
 #[tactic(auto, unfolding(crate::specs::Spelling::front_bytes))]
-fn write_front(front: &Front, out: &mut Vec<u8>) -> Result<(), AllocError>
-    ensures { IfOk result (λ _. out.new.items ≡ out.old.items ++ front_bytes front.now.form front.now.kind front.now.generics (spellings (forest_of front.now.parts))) }
+fn write_front<F: Fn(Token) -> Token>(
+    front: &Front,
+    moved: &F,
+    out: &mut Vec<u8>,
+) -> Result<(), AllocError>
+    requires { F.IsAlwaysCallable moved.now }
+    ensures { (f : Token → Token) → GivesTokens (F.post moved.now) f → IfOk result (λ _. out.new.items ≡ out.old.items ++ front_bytes front.now.form front.now.kind front.now.generics (spellings (forest_moved f (forest_of front.now.parts)))) }
 {
     let parts = front.parts.as_slice();
     match front.form {
-        SigKind::TypeSpec => write_elems(parts, out),
+        SigKind::TypeSpec => write_elems(parts, moved, out),
         SigKind::Method => {
             write_byte(front.kind, out)?;
             write_generics(u32::from(front.kind), front.generics, out)?;
-            write_parts(parts, out)
+            write_parts(parts, moved, out)
         }
         SigKind::Field => {
             write_byte(front.kind, out)?;
-            write_elems(parts, out)
+            write_elems(parts, moved, out)
         }
         SigKind::Property => {
             write_byte(front.kind, out)?;
-            write_parts(parts, out)
+            write_parts(parts, moved, out)
         }
         SigKind::Locals => {
             write_byte(front.kind, out)?;
-            write_counted(parts, out)
+            write_counted(parts, moved, out)
         }
         SigKind::MethodSpec => {
             write_byte(front.kind, out)?;
-            write_counted(parts, out)
+            write_counted(parts, moved, out)
         }
     }
+}
+
+/// Appends the shortest spelling of the signature with each of its tokens moved, or nothing.
+#[tactic(auto, unfolding(crate::specs::Spelling::sig_bytes))]
+fn write_whole<F: Fn(Token) -> Token>(
+    alloc: Global,
+    front: &Front,
+    moved: &F,
+    out: &mut Vec<u8>,
+) -> Result<(), AllocError>
+    requires { F.IsAlwaysCallable moved.now }
+    ensures { (f : Token → Token) → GivesTokens (F.post moved.now) f → out.new.items ≡ (if is_ok result then out.old.items ++ sig_bytes (sig_moved f front.now) else out.old.items) }
+{
+    let mut bytes = Vec::new(alloc);
+    write_front(front, moved, &mut bytes)?;
+    out.extend_from_slice(bytes.as_slice())
+}
+
+/// Appends the shortest spelling of the signature with each of its tokens moved (ECMA-335 II.23.2).
+/// Without memory nothing is appended. Where each token stays in its table, in a row from 1 to
+/// 2^24 - 1, what is appended is read as the signature with its tokens moved, the range of these
+/// aside; `moved_laws` says with which counts.
+pub fn write_moved<F: Fn(Token) -> Token>(
+    alloc: Global,
+    sig: &Sig,
+    moved: F,
+    out: &mut Vec<u8>,
+) -> Result<(), AllocError>
+    requires callable { F.IsAlwaysCallable moved }
+    ensures written { (f : Token → Token) → GivesTokens (F.post moved) f → out.new.items ≡ (if is_ok result then out.old.items ++ sig_bytes (sig_moved f sig.now) else out.old.items) }
+    ensures back { (f : Token → Token) → GivesTokens (F.post moved) f → all_tokens (stays_in_table f) (forest_of sig.now.parts) ≡ true → IsSpelled (sig_moved f sig.now) }
+{
+    written_laws();
+    write_whole(alloc, &sig.front, &moved, out)
 }
 
 /// Appends the signature's shortest spelling (ECMA-335 II.23.2). Without memory nothing is
 /// appended. What is appended is read as the same signature, the range of its tokens aside, and with
 /// any counts with which it was read (`signature_laws`).
-#[tactic(auto, unfolding(crate::specs::Spelling::sig_bytes))]
 pub fn write_sig(alloc: Global, sig: &Sig, out: &mut Vec<u8>) -> Result<(), AllocError>
     ensures written { out.new.items ≡ (if is_ok result then out.old.items ++ sig_bytes sig.now else out.old.items) }
     ensures back { IsSpelled sig.now }
 {
-    let mut bytes = Vec::new(alloc);
-    write_front(&sig.front, &mut bytes)?;
-    out.extend_from_slice(bytes.as_slice())
+    write_whole(alloc, &sig.front, &|token| token, out)
 }

@@ -3,7 +3,7 @@ ghost use Rattle.std.specs.Prelude.{◌≡◌, ◌≤◌, ◌==◌, IfOk, length
 ghost use Rattle.std.specs.List.{list_all, list_any};
 ghost use Rattle.enc_emit.specs.Little.{IsLittle};
 
-use enc_emit::RootBuilder;
+use enc_emit::{RootBuilder, RootForm};
 use enc_lines::{Args, Fault, parts};
 use enc_meta::{HeapBuilder, HeapLengths};
 use enc_rows::TableBuilder;
@@ -99,13 +99,13 @@ fn add_row(alloc: Global, root: &mut RootBuilder, word: &str) -> Result<(), Faul
     push(root, table, &cells)
 }
 
-/// The bytes of the root of a module, with `jtd` of a delta.
-fn finish(alloc: Global, mut root: RootBuilder, jtd: bool) -> Result<Vec<u8>, Fault>
+/// The bytes of the root of a module or of a delta.
+fn finish(alloc: Global, mut root: RootBuilder, form: RootForm) -> Result<Vec<u8>, Fault>
     requires { IsLittle root }
 {
     root.tables().laws();
     root.heaps().laws();
-    Ok(root.finish(alloc, jtd)?)
+    Ok(root.finish(alloc, form)?)
 }
 
 /// The bytes of the root of a PDB.
@@ -118,13 +118,15 @@ fn finish_pdb(alloc: Global, mut root: RootBuilder, pdb: &[u8]) -> Result<Vec<u8
     Ok(root.finish_pdb(alloc, pdb)?)
 }
 
-/// The bytes of the root of a kind: `module`, `delta`, or the bytes of the stream `#Pdb` of a PDB.
+/// The bytes of the root of a kind: `module`, `wide` with `#JTD`, `delta`, or the bytes of the stream
+/// `#Pdb` of a PDB.
 fn finish_kind(alloc: Global, root: RootBuilder, kind: &str) -> Result<Vec<u8>, Fault>
     requires { IsLittle root }
 {
     match kind {
-        "module" => finish(alloc, root, false),
-        "delta" => finish(alloc, root, true),
+        "module" => finish(alloc, root, RootForm::Module),
+        "wide" => finish(alloc, root, RootForm::WideModule),
+        "delta" => finish(alloc, root, RootForm::Delta),
         _ => {
             let pdb = parts::of_digits(alloc, kind)?;
             if pdb.len() > 1000 {

@@ -11,7 +11,7 @@ use crate::log::push_log;
 use crate::map::push_map;
 use crate::module_row::push_module;
 use crate::rows::push_tables;
-use enc_emit::RootBuilder;
+use enc_emit::{RootBuilder, RootForm};
 use enc_meta::HeapBuilder;
 use enc_plain::ChainView;
 use enc_rows::TableBuilder;
@@ -40,7 +40,7 @@ fn tables_of<C: ChainView>(
     Ok(tables)
 }
 
-/// The metadata: a root with `#JTD`, whose indices take four bytes.
+/// The metadata: the root of a delta, whose indices take four bytes.
 pub(crate) fn metadata_of<C: ChainView>(
     alloc: Global,
     context: &Context<'_, C>,
@@ -58,6 +58,6 @@ pub(crate) fn metadata_of<C: ChainView>(
     heaps.laws();
     tables.laws();
     let root = RootBuilder::of(heaps, tables);
-    let bytes = root.finish(alloc, true)?;
+    let bytes = root.finish(alloc, RootForm::Delta)?;
     Ok(bytes)
 }

@@ -5,6 +5,7 @@ use Rattle.std.specs.List.{range_with_len}
 use Rattle.std.proofs.lemmas.Bool.{and_from}
 use Rattle.enc_base.specs.Token.{nth_row}
 use Rattle.enc_emit.specs.Written.{root_written, root_built, built_size, HoldsStreams}
+use Rattle.enc_emit.specs.declared.root_form.RootForm.TheVariants as root_form
 use Rattle.enc_emit.proofs.Read.{root_is_read}
 use Rattle.enc_meta.specs.Built.{Built, heaps_built}
 use Rattle.enc_meta.specs.BuiltLaws.{IsGood}
@@ -112,7 +113,7 @@ read_as bytes il root h rows are fit streams =
 
 pub delta_is_read : (h : Built) (rows : List (List (List ℕ))) (il : List ℕ) → IsGood h → AreRows rows → IndicesFit rows true → count_at rows 0 ≡ 1 → ((t : ℕ) → 0x2D ≤ t → count_at rows t ≡ 0)
     → built_size (record { heaps = h; rows = rows }) true < 2 ^ 32
-    → (s : Source) × (delta_of (root_built (record { heaps = h; rows = rows }) true) il ≡ Ok s) × IsDeltaReadAs h rows il s
+    → (s : Source) × (delta_of (root_built (record { heaps = h; rows = rows }) root_form.Delta) il ≡ Ok s) × IsDeltaReadAs h rows il s
 unfolding root_built
 delta_is_read h rows il good are indices one none small =
     let flags = heap_bits rows in

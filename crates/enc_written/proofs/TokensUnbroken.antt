@@ -17,7 +17,6 @@ use Rattle.enc_rules.specs.Listed.{count_after, rows_listed}
 use Rattle.enc_rules.specs.Rules.{at_edit, id_is_taken, heaps_are_full, there_are_too_many, passes_limits, with_edits, heaps_with, heap_passes, row_is_edited_twice, owner_is_missing, table_is_closed, token_is_missing, body_is_broken, field_is_out_of_layout, method_has_no_slot, member_has_twin, signature_is_bad, locals_are_bad, points_are_bad}
 use Rattle.enc_rules.proofs.RowsFew.{rows_few}
 use Rattle.enc_edited.proofs.Unbroken.{BreakNothing}
-use Rattle.enc_edited.proofs.ShortBlobs.{short_edits}
 use Rattle.enc_written.specs.Holds.{MayFollow}
 
 -- the rules of the list as a whole and those of each edit that aren't among `BreakNothing`
@@ -118,7 +117,6 @@ nothing_breaks c l may =
       bodies = everywhere _ c l (λ k low. (each k low).1.1.1.1.1.0);
       signatures = everywhere _ c l (λ k low. (each k low).1.1.1.1.1.1.1.1.1.0);
       locals = everywhere _ c l (λ k low. (each k low).1.1.1.1.1.1.1.1.1.1.0);
-      blobs = short_edits (rows_listed c l.edits) (none_from (joined_lengths c.heaps)) l.edits (heaps_have_room c l may);
     }
 
 -- no table has more than 2^24 - 1 rows after it

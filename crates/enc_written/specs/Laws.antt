@@ -1,6 +1,7 @@
 -- The delta of an edit list is read as it was written, breaks no rule, and makes the module with all edits made directly.
 use Rattle.std.specs.Prelude.{◌≡◌, ℕ, ◌<◌, ◌^◌, true, List, None, Ok}
 use Rattle.enc_emit.specs.Written.{root_built, built_size}
+use Rattle.enc_emit.specs.declared.root_form.RootForm.TheVariants.{Delta}
 use Rattle.enc_plain.specs.Chain.{Chain}
 use Rattle.enc_rows.specs.Source.{Source}
 use Rattle.enc_delta.specs.Delta.{delta_of}
@@ -10,9 +11,9 @@ use Rattle.enc_edits.specs.declared.edit.EditList.{EditList}
 use Rattle.enc_rules.specs.Edited.{edited}
 use Rattle.enc_written.specs.Holds.{MayFollow, heaps_written, HoldDelta, SaysDelta}
 
--- the bytes of a delta's metadata: a root with `#JTD`
+-- the bytes of a delta's metadata: the root of a delta
 unfoldable pub metadata_written : Chain → EditList → List (List (List ℕ)) → List ℕ
-metadata_written c l rows = root_built (record { heaps = heaps_written c l; rows = rows }) true
+metadata_written c l rows = root_built (record { heaps = heaps_written c l; rows = rows }) Delta
 
 -- parts that hold what a list states are read as a delta that says it
 abbrev pub DeltasAreRead : Type 0

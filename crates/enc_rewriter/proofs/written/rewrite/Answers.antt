@@ -20,5 +20,6 @@ returns-clause-written g c = record {
   light =
       subst (λ h. length c.from_vec.result ≤ module_weight (g.V.ModuleView.meaning c.args.view.now) h) (c.in_ok-heaps.ensures ∙ c.in-Ok.ensures.values)
       (rw c.from_vec.ensures (c.in_ok-image.ensures.light));
+  plain = rw c.from_vec.ensures (c.in_ok-image.ensures.plain);
   pdb_is = rw c.from_vec-2.ensures (c.in-Ok-pdb_of.ensures.written);
 }

@@ -1,0 +1,9 @@
+pub mod Places
+pub mod Rows
+pub mod Owners
+pub mod CountsKept
+pub mod KindsKept
+pub mod SignaturesKept
+pub mod FieldsKept
+pub mod CellsKept
+pub mod SoundKept
