@@ -198,10 +198,10 @@ place_of table i h = grind (arith, nat_tests)
 field_table : (u : Token) (i : ℕ) → kind_in u.table i ≡ Some fields → u.table ≡ 0x1D
 field_table u i h = place_of u.table i (field_from (is_body u.table i) (is_field u.table i) (column_in u.table i) h)
 
--- the length of a signature with its tokens moved: the bound of blobs' lengths is being dropped, and then this is refl
+-- a blob may be any bytes
 blob_case : (m : Module) (orders : Orders) (t : Token) (i : ℕ) (column : Column) (bytes : List ℕ) → cell_is_sound m t column (blob bytes) ≡ true
     → cell_is_sound (module_with orders m) (moved_by orders t) column (cell_moved (moved_by orders) t.table i (blob bytes)) ≡ true
-blob_case m orders t i column bytes h = ?
+blob_case m orders t i column bytes h = refl
 
 -- each cell
 cell_kept : (m : Module) (orders : Orders) (t : Token) (i : ℕ) (column : Column) (c : Cell) → MovedBeginsAlike → MovedFieldFront → MovedStaysSound

@@ -1,1 +1,4 @@
 pub mod Moved
+pub mod Held
+pub mod Seen
+pub mod Laws

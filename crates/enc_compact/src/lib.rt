@@ -1,5 +1,19 @@
-//! The edited program as one ordinary module: rows in the order that loaders expect, and tokens moved with
-//! them.
+//! The edited program as one ordinary module: its rows in the order that loaders expect, and each token
+//! moved with its row (ECMA-335 II.22).
 #![tactic(auto)]
 
-fn nothing() {}
+mod bodies;
+mod compact;
+mod laws;
+mod module;
+mod mover;
+mod moves;
+mod points;
+mod signatures;
+
+pub use compact::{Compacted, compact};
+pub use enc_order::Order;
+pub use laws::compact_laws;
+pub use module::MovedModule;
+pub use moves::moved_rows;
+pub use points::PlainPoints;

@@ -1,0 +1,1 @@
+//! A module in the order of an ordinary one.

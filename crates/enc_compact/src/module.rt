@@ -1,0 +1,1 @@
+//! A module whose rows were moved, as a view.

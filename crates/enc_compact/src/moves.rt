@@ -1,0 +1,45 @@
+//! The rows that move.
+ghost use Rattle.std.specs.Prelude.{◌≡◌, map, IfOk};
+ghost use Rattle.enc_compact.specs.Moved.{moves_listed};
+ghost use Rattle.enc_order.specs.Orders.{new_order};
+ghost use Rattle.enc_plain.specs.Sound.{IsSound};
+ghost use Rattle.enc_schema.specs.Schema.{list_at};
+ghost use Rattle.enc_schema.specs.Tables.{table_count};
+
+use enc_base::Token;
+use enc_order::Order;
+use enc_plain::ModuleView;
+use std::alloc::{AllocError, Global};
+
+/// Appends a table's rows that move, each with its new place.
+fn push_table<V: ModuleView>(
+    view: &V,
+    order: &Order,
+    table: u8,
+    moves: &mut Vec<(Token, Token)>,
+) -> Result<(), AllocError> {
+    for n in 0..view.count(table) {
+        let old = Token { table, row: n + 1 };
+        let new = order.new_of(old);
+        if new != old {
+            moves.push((old, new))?;
+        }
+    }
+    Ok(())
+}
+
+/// The rows that move in the order of a module, each with its new place, by table and row.
+pub fn moved_rows<V: ModuleView>(
+    alloc: Global,
+    view: &V,
+    order: &Order,
+) -> Result<Vec<(Token, Token)>, AllocError>
+    requires { list_at order.now ≡ new_order (V.meaning view.now) }
+    ensures { IfOk result (λ v. v.items ≡ moves_listed (V.meaning view.now)) }
+{
+    let mut moves = Vec::new(alloc);
+    for table in 0..0x2d {
+        push_table(view, order, table, &mut moves)?;
+    }
+    Ok(moves)
+}
