@@ -1,5 +1,5 @@
 -- What a moved module holds beside the one that it lends: the bodies and the signatures that another bytes say once their tokens are moved.
-use Rattle.std.specs.Prelude.{◌≡◌, ℕ, zero, suc, ◌+◌, ◌<◌, Bool, true, List, length, Option, Some, None, option_map, slice_get, unwrap_or}
+use Rattle.std.specs.Prelude.{◌≡◌, ℕ, zero, suc, ◌+◌, ◌<◌, Bool, true, List, [], length, Option, Some, None, option_map, slice_get, unwrap_or}
 use Rattle.enc_base.specs.Token.{nth_row}
 use Rattle.enc_base.specs.declared.token.Token.{Token}
 use Rattle.enc_moves.specs.Body.{body_moved}
@@ -47,3 +47,15 @@ pub record AreSignaturesHeld (m : Module) (f : Token → Token) (table : ℕ) (h
   pub each : (n column slot : ℕ) → signature_column table ≡ Some column → slice_get slots n ≡ Some slot
       → SlotSays f table held (bytes_at (cells_of m) (nth_row table n) column) slot
   pub count : (column : ℕ) → signature_column table ≡ Some column → length slots ≡ row_count m table
+
+-- the signatures of a table that are held, with the numbers of its rows
+pub record HeldOf : Type 0 where
+  pub held : List (List ℕ)
+  pub slots : List ℕ
+
+-- so are those of all tables
+abbrev pub held_at : List HeldOf → ℕ → HeldOf
+held_at all table = unwrap_or (slice_get all table) (record { held = []; slots = [] })
+
+abbrev pub AreAllHeld : Module → (Token → Token) → List HeldOf → Type 0
+AreAllHeld m f all = (table : ℕ) → AreSignaturesHeld m f table (held_at all table).held (held_at all table).slots

@@ -1,1 +1,145 @@
 //! A module whose rows were moved, as a view.
+ghost use Rattle.std.specs.Prelude.{◌≡◌};
+ghost use Rattle.enc_compact.specs.Moved.{module_moved};
+ghost use Rattle.enc_compact.specs.Seen.{bodies_moved, blob_numbered};
+
+use crate::bodies::HeldBodies;
+use crate::signatures::HeldSignatures;
+use enc_base::Token;
+use enc_opcodes::CodeRef;
+use enc_order::Order;
+use enc_plain::{ModuleView, is_row};
+use std::alloc::{AllocError, Global};
+use std::marker::Model;
+use std::rc::Rc;
+
+/// A module whose rows have the order of an ordinary one, each token moved with its row. The module that it
+/// was made of is lent; held are an order, and the bodies and signatures whose bytes change.
+#[derive(Drop)]
+pub struct MovedModule<'a, V: ModuleView> {
+    pub(crate) view: &'a V,
+    pub(crate) order: Rc<Order>,
+    pub(crate) bodies: HeldBodies,
+    pub(crate) signatures: HeldSignatures,
+}
+
+impl<'a, V: ModuleView> Model for MovedModule<'a, V> {
+    ghost use Rattle.std.specs.Prelude.{◌≡◌, ℕ};
+    ghost use Rattle.enc_compact.specs.Held.{AreBodiesHeld, AreAllHeld};
+    ghost use Rattle.enc_order.specs.Orders.{moved_by, new_order};
+    ghost use Rattle.enc_plain.specs.Sound.{IsSound};
+    ghost use Rattle.enc_schema.specs.Schema.{list_at};
+
+    ghost Value = { V };
+
+    ghost view = { λ m. m.view.now };
+
+    ghost invariant = { λ m. IsSound (V.meaning m.view.now) × (list_at m.order.value ≡ new_order (V.meaning m.view.now)) × AreBodiesHeld (V.meaning m.view.now) (moved_by (new_order (V.meaning m.view.now))) (V.users m.view.now) m.bodies.held.items m.bodies.slots.items × AreAllHeld (V.meaning m.view.now) (moved_by (new_order (V.meaning m.view.now))) m.signatures };
+}
+
+impl<V: ModuleView> ModuleView for MovedModule<'_, V> {
+    ghost meaning = { λ v. module_moved (V.meaning v) };
+
+    ghost users = { V.users };
+
+    ghost places = { λ v. bodies_moved (V.meaning v) (V.places v) };
+
+    ghost stored = { λ v. blob_numbered (module_moved (V.meaning v)) };
+
+    fn count(&self, table: u8) -> u32 {
+        self.view.count(table)
+    }
+
+    fn num(&self, row: Token, column: u8) -> u32 {
+        self.view.num(self.order.old(row), column)
+    }
+
+    fn text(&self, row: Token, column: u8) -> &[u8] {
+        self.view.text(self.order.old(row), column)
+    }
+
+    fn blob(&self, row: Token, column: u8) -> &[u8] {
+        let old = self.order.old(row);
+        self.signatures.blob(old, column, self.view.blob(old, column))
+    }
+
+    fn blob_place(&self, row: Token, column: u8) -> u64 {
+        (u64::from(row.table) * 0x1_0000_0000 + u64::from(row.row)) * 0x100 + u64::from(column)
+    }
+
+    fn guid(&self, row: Token, column: u8) -> [u8; 16] {
+        self.view.guid(self.order.old(row), column)
+    }
+
+    fn refer(&self, row: Token, column: u8) -> Token {
+        self.order.moved(self.view.refer(self.order.old(row), column))
+    }
+
+    fn code(&self, method: Token) -> Option<CodeRef<'_>> {
+        let old = self.order.old(method);
+        match self.view.code(old) {
+            Some(code) => {
+                let locals = self.order.moved(code.locals);
+                Some(self.bodies.code(old.row, code, locals))
+            }
+            None => None,
+        }
+    }
+
+    fn code_place(&self, method: Token) -> u64 {
+        self.view.code_place(self.order.old(method))
+    }
+
+    fn field_bytes(&self, row: Token) -> &[u8] {
+        self.view.field_bytes(self.order.old(row))
+    }
+
+    fn user_text(&self, offset: u32) -> Option<&[u8]> {
+        self.view.user_text(offset)
+    }
+
+    fn resources(&self) -> &[u8] {
+        self.view.resources()
+    }
+
+    fn entry(&self) -> u32 {
+        let entry = self.view.entry();
+        let token = Token::of(entry);
+        if !is_row(self.view, token) {
+            return entry;
+        }
+        self.order.moved(token).number()
+    }
+
+    fn owner(&self, child: Token) -> Token {
+        self.order.moved(self.view.owner(self.order.old(child)))
+    }
+
+    fn kids(&self, owner: Token, table: u8) -> u32 {
+        self.view.kids(self.order.old(owner), table)
+    }
+
+    fn kid(&self, owner: Token, table: u8, i: u32) -> Token {
+        self.order.moved(self.view.kid(self.order.old(owner), table, i))
+    }
+
+    fn kid_rows(&self, alloc: Global, owner: Token, table: u8) -> Result<Vec<u32>, AllocError> {
+        let rows = self.view.kid_rows(alloc, self.order.old(owner), table)?;
+        moved_rows_of(alloc, &self.order, table, &rows)
+    }
+}
+
+/// The rows of a table at their new places.
+fn moved_rows_of(
+    alloc: Global,
+    order: &Order,
+    table: u8,
+    rows: &[u32],
+) -> Result<Vec<u32>, AllocError> {
+    let mut moved = Vec::with_capacity(alloc, rows.len())?;
+    for i in 0..rows.len() {
+        let row = rows[i];
+        moved.push(order.moved(Token { table, row }).row)?;
+    }
+    Ok(moved)
+}

@@ -12,6 +12,7 @@ use enc_plain::{ModuleView, kind_in_table, signature_column};
 use enc_sigs::{SigFault, read_sig, write_moved};
 use std::alloc::{AllocError, Global};
 use std::collections::BTreeMap;
+use std::marker::Model;
 
 /// The signatures of a table whose bytes change, each once for its place, and for each row of the module
 /// that is lent 0 where its bytes stay, else 1 and the place of its signature among these.
@@ -21,10 +22,27 @@ pub(crate) struct HeldTable {
     slots: Vec<u32>,
 }
 
+impl Model for HeldTable {
+    ghost use Rattle.enc_compact.specs.Held.{HeldOf};
+
+    ghost Value = { HeldOf };
+
+    ghost view = { λ t. record { held = t.held.items; slots = t.slots.items } };
+}
+
 /// The signatures of all tables whose bytes change.
 #[derive(Drop)]
 pub(crate) struct HeldSignatures {
     tables: Vec<HeldTable>,
+}
+
+impl Model for HeldSignatures {
+    ghost use Rattle.std.specs.Prelude.{List};
+    ghost use Rattle.enc_compact.specs.Held.{HeldOf};
+
+    ghost Value = { List HeldOf };
+
+    ghost view = { λ s. s.tables.items };
 }
 
 /// How many rows each table has.
@@ -65,5 +83,116 @@ impl HeldTable {
             return blob;
         }
         self.held[slot as usize - 1].as_slice()
+    }
+}
+
+/// The slot of a row's signature; one at a place that was met before isn't moved again.
+fn slot_of<V: ModuleView>(
+    alloc: Global,
+    view: &V,
+    moving: &Moving<'_>,
+    row: Token,
+    column: u8,
+    known: &mut BTreeMap<u64, u32>,
+    held: &mut Vec<Bytes>,
+) -> Result<u32, AllocError> {
+    let place = view.blob_place(row, column);
+    if let Some(slot) = known.get(&place) {
+        return Ok(*slot);
+    }
+    let slot = hold(alloc, moving, row.table, view.blob(row, column), held)?;
+    match known.insert(place, slot) {
+        Ok(_) => Ok(slot),
+        Err(_) => Err(AllocError),
+    }
+}
+
+/// What moves the tokens of signatures.
+struct Moving<'a> {
+    order: &'a Order,
+    counts: &'a Counts,
+}
+
+/// Moves the tokens of a signature, and answers its slot.
+fn hold(
+    alloc: Global,
+    moving: &Moving<'_>,
+    table: u8,
+    blob: &[u8],
+    held: &mut Vec<Bytes>,
+) -> Result<u32, AllocError> {
+    let bytes = moved_signature(alloc, table, blob, moving.counts, moving.order)?;
+    if bytes.as_slice() == blob {
+        return Ok(0);
+    }
+    held.push(Bytes::from_vec(bytes))?;
+    Ok(held.len() as u32)
+}
+
+/// The signatures of a table's column.
+fn held_table<V: ModuleView>(
+    alloc: Global,
+    view: &V,
+    moving: &Moving<'_>,
+    table: u8,
+    column: u8,
+) -> Result<HeldTable, AllocError> {
+    let mut held = Vec::new(alloc);
+    let mut known = BTreeMap::new(alloc);
+    let mut slots = Vec::new(alloc);
+    for n in 0..view.count(table) {
+        let row = Token { table, row: n + 1 };
+        slots.push(slot_of(
+            alloc, view, moving, row, column, &mut known, &mut held,
+        )?)?;
+    }
+    Ok(HeldTable { held, slots })
+}
+
+/// The signatures of a table, none where it has none.
+fn held_or_none<V: ModuleView>(
+    alloc: Global,
+    view: &V,
+    moving: &Moving<'_>,
+    table: u8,
+) -> Result<HeldTable, AllocError> {
+    match signature_column(table) {
+        Some(column) => held_table(alloc, view, moving, table, column),
+        None => Ok(HeldTable {
+            held: Vec::new(alloc),
+            slots: Vec::new(alloc),
+        }),
+    }
+}
+
+impl HeldSignatures {
+    /// The signatures of a module whose bytes change by an order.
+    pub(crate) fn of<V: ModuleView>(
+        alloc: Global,
+        view: &V,
+        order: &Order,
+    ) -> Result<HeldSignatures, AllocError> {
+        let counts = counts_of(view);
+        let moving = Moving {
+            order,
+            counts: &counts,
+        };
+        let mut tables = Vec::new(alloc);
+        for table in 0..0x2d {
+            tables.push(held_or_none(alloc, view, &moving, table)?)?;
+        }
+        Ok(HeldSignatures { tables })
+    }
+
+    /// The blob in a column of a row, by its row in the module that is lent: a signature that changes is
+    /// held.
+    pub(crate) fn blob<'a>(&'a self, row: Token, column: u8, blob: &'a [u8]) -> &'a [u8] {
+        if signature_column(row.table) != Some(column) {
+            return blob;
+        }
+        match self.tables.get(row.table as usize) {
+            Some(table) => table.blob(row.row, blob),
+            None => blob,
+        }
     }
 }
