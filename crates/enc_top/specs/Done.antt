@@ -1,5 +1,5 @@
 -- What a command may print and save: its answer, or why it does nothing.
-use Rattle.std.specs.Prelude.{◌≡◌, ℕ, List, [], ◌∷◌, length, Some, Ok, Err, if◌then◌else◌}
+use Rattle.std.specs.Prelude.{◌≡◌, ℕ, List, [], ◌∷◌, ◌++◌, length, Some, Ok, Err, if◌then◌else◌}
 use Rattle.enc_base.specs.declared.token.Token.{Token}
 use Rattle.enc_plain.specs.declared.place.RowPlace.{RowPlace}
 use Rattle.enc_plain.specs.Module.{Module, has_row}
@@ -11,7 +11,8 @@ use Rattle.enc_agg.specs.Place.{place_of}
 use Rattle.enc_ppdb.specs.Pdb.{entry_told}
 use Rattle.enc_ppdb.specs.PdbChain.{pdb_with}
 use Rattle.enc_ppdb.specs.Written.{MeansPdb}
-use Rattle.enc_rewriter.specs.Rewritten.{MeansModule}
+use Rattle.enc_compact.specs.Moved.{module_moved, pdb_moved, moves_listed}
+use Rattle.enc_rewriter.specs.Rewritten.{MeansModule, IsPlainImage}
 use Rattle.enc_script.specs.Run.{IsRunText}
 use Rattle.enc_writer.specs.declared.bytes.DeltaBytes.{DeltaBytes}
 use Rattle.enc_writer.specs.Stands.{StandsFor}
@@ -19,12 +20,12 @@ use Rattle.enc_text.specs.Text.{refused_line}
 use Rattle.enc_text.specs.RowText.{row_text_of}
 use Rattle.enc_top.specs.declared.plan.Outcome.{Outcome}
 use Rattle.enc_top.specs.declared.plan.Outcome.TheVariants.{Accepted, Refused, Usage, Missing}
-use Rattle.enc_words.specs.Lines.{limit_line, missing_line, absent_line, accepted_line, saved_line, unlisted_line, broken_line, usage_line}
+use Rattle.enc_words.specs.Lines.{limit_line, missing_line, absent_line, accepted_line, saved_line, moved_lines, unlisted_line, broken_line, usage_line}
 use Rattle.enc_words.specs.Listing.{listing_of}
 use Rattle.enc_jobs.specs.Generated.{generated_base, generated_lists, edited_by}
 use Rattle.enc_words.specs.Case.{case_line}
 use Rattle.enc_top.specs.Generating.{AreFilesOfCase}
-use Rattle.enc_top.specs.Verdict.{Stop, no_command, absent_file, refused_file, past_limit, no_list, broken_list, dll, meta, il, pdb, Followed, plain_of, debug_after, Edited, Done, shows, lists, counts, applies, writes, runs, generates, Verdict}
+use Rattle.enc_top.specs.Verdict.{Stop, no_command, absent_file, refused_file, past_limit, no_list, broken_list, dll, meta, il, pdb, Followed, plain_of, debug_after, Edited, Done, shows, lists, counts, applies, compacts, writes, runs, generates, Verdict}
 
 -- the token's row, or that the module lacks it
 unfoldable pub row_or_absent : Module → PlainPdb → RowPlace → Token → List ℕ
@@ -46,6 +47,7 @@ IsOutput (shows token f) output = output ≡ shown token f
 IsOutput (lists f) output = output ≡ listed_as f
 IsOutput (counts f) output = output ≡ counted_as f
 IsOutput (applies out f) output = output ≡ saved_line (dll out ∷ pdb out ∷ [])
+IsOutput (compacts out f) output = output ≡ saved_line (dll out ∷ pdb out ∷ []) ++ moved_lines (moves_listed (plain_of f))
 IsOutput (writes out e) output = output ≡ saved_line (meta out ∷ il out ∷ pdb out ∷ [])
 IsOutput (runs handed f deltas script) output = IsRunText deltas handed f script output
 IsOutput (generates start count out) output = output ≡ case_line start.digits count.digits (edited_by generated_base (generated_lists start.value count.value))
@@ -59,15 +61,21 @@ pub record AreFilesOf (out : List ℕ) (m : Module) (debug : PlainPdb) (saves : 
   pub debug_is : MeansPdb debug (row_count m tables.method_def) symbols
   pub entry_is : entry_told symbols ≡ Some m.entry
 
+-- the same in the order of an ordinary module, whose table stream is `#~` and which has no rows in Ptr tables
+pub record AreFilesOfOrdinary (out : List ℕ) (m : Module) (debug : PlainPdb) (saves : List (List ℕ × List ℕ)) : Type 0 where
+  pub files : AreFilesOf out (module_moved m) (pdb_moved m debug) saves
+  pub plain : IsPlainImage files.image
+
 -- the files of a delta that stand for an edit list after a base with its deltas: they are accepted, and make the edits
 pub record AreFilesOfList (out : List ℕ) (e : Edited) (saves : List (List ℕ × List ℕ)) : Type 0 where
   pub files : DeltaBytes
   pub saved : saves ≡ (meta out, files.meta) ∷ (il out, files.il) ∷ (pdb out, files.pdb) ∷ []
   pub stand : StandsFor (chain_with e.followed.base e.followed.deltas) e.list files
 
--- what may be saved of it, in order, each a name and its bytes: `apply`, `write` and `gen` alone save
+-- what may be saved of it, in order, each a name and its bytes: `apply`, `compact`, `write` and `gen` alone save
 abbrev pub IsSaves : Done → List (List ℕ × List ℕ) → Type 0
 IsSaves (applies out f) saves = AreFilesOf out (plain_of f) (debug_after f) saves
+IsSaves (compacts out f) saves = AreFilesOfOrdinary out (plain_of f) (debug_after f) saves
 IsSaves (writes out e) saves = AreFilesOfList out e saves
 IsSaves (generates start count out) saves = AreFilesOfCase out (generated_lists start.value count.value) saves
 IsSaves done saves = saves ≡ []

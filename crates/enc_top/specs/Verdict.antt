@@ -21,13 +21,14 @@ use Rattle.enc_jobs.specs.declared.fault.JobFault.{JobFault}
 use Rattle.enc_jobs.specs.Edits.{edits_said}
 use Rattle.enc_jobs.specs.Scripts.{script_said}
 use Rattle.enc_jobs.specs.declared.command.Command.{Command}
+use Rattle.enc_compact.specs.Moved.{module_moved, pdb_moved}
 use Rattle.enc_jobs.specs.declared.command.Command.TheVariants.{Apply}
 use Rattle.enc_watch.specs.Audience.{Watching}
 use Rattle.enc_script.specs.Run.{NamedFiles}
 use Rattle.enc_rules.specs.First.{first_edit}
 use Rattle.enc_words.specs.declared.limits.Limit.{Limit}
 use Rattle.enc_words.specs.declared.limits.Limit.TheVariants as limit
-use Rattle.enc_words.specs.Words.{Numeral, Job, show, list, check, apply, write, run, gen, job_of}
+use Rattle.enc_words.specs.Words.{Numeral, Job, show, list, check, apply, compact, write, run, gen, job_of}
 
 -- why a command does nothing: the words are none; a file that must be there is absent; a file is refused, by a rule or by its length,
 -- or as an edit list or a script: it isn't one, or one of its edits breaks a rule
@@ -205,6 +206,10 @@ unless_past out f (Some passed) = Err (past_limit (file_past out (limit_told pas
 unfoldable pub can_be_written : List ℕ → Followed → Result Followed Stop
 can_be_written out f = unless_past out f (rewrite_limit (plain_of f) (debug_after f))
 
+-- the same of the module whose rows have the order of an ordinary one, and of its PDB
+unfoldable pub can_be_compacted : List ℕ → Followed → Result Followed Stop
+can_be_compacted out f = unless_past out f (rewrite_limit (module_moved (plain_of f)) (pdb_moved (plain_of f) (debug_after f)))
+
 -- a base with its deltas, and an edit list to follow them
 pub record Edited : Type 0 where
   pub followed : Followed
@@ -238,13 +243,14 @@ accept_text files base edits deltas = do
   Ok (record { followed = g; text = text })
 
 -- what an accepted command does with them: it shows a token's row, lists them, counts the deltas, saves the one module that has all
--- edits, or the delta of an edit list; it runs a script over a base, with the watchers that are handed in and the deltas that the script
+-- edits, as it is or in the order of an ordinary one, or the delta of an edit list; it runs a script over a base, with the watchers that are handed in and the deltas that the script
 -- names; or it saves a generated case
 pub data Done : Type 0 where
   shows : Token → Followed → Done
   lists : Followed → Done
   counts : Followed → Done
   applies : List ℕ → Followed → Done
+  compacts : List ℕ → Followed → Done
   writes : List ℕ → Edited → Done
   runs : List Watching → Followed → List NamedFiles → List Command → Done
   generates : Numeral → Numeral → List ℕ → Done
@@ -282,6 +288,18 @@ abbrev pub apply_on : Files → List ℕ → List ℕ → List (List ℕ) → Ve
 apply_on files base out deltas = do
   f ← accept files base deltas
   rewrite_on out f
+
+-- what is written of accepted files in the order of an ordinary module
+abbrev pub compacted_on : List ℕ → Followed → Verdict
+compacted_on out f = do
+  g ← can_be_compacted out f
+  Ok (compacts out g)
+
+-- `compact BASE OUT DELTA..`
+abbrev pub compact_on : Files → List ℕ → List ℕ → List (List ℕ) → Verdict
+compact_on files base out deltas = do
+  f ← accept files base deltas
+  compacted_on out f
 
 -- an edit list that breaks no rule after a base with its deltas
 abbrev pub edits_on : List ℕ → List ℕ → Edited → Verdict
@@ -334,6 +352,7 @@ verdict_on handed files (Some (show base token deltas)) = show_on files base tok
 verdict_on handed files (Some (list base deltas)) = list_on files base deltas
 verdict_on handed files (Some (check base deltas)) = check_on files base deltas
 verdict_on handed files (Some (apply base out deltas)) = apply_on files base out deltas
+verdict_on handed files (Some (compact base out deltas)) = compact_on files base out deltas
 verdict_on handed files (Some (write base edits out deltas)) = write_on files base edits out deltas
 verdict_on handed files (Some (run base script)) = run_on handed files base script
 verdict_on handed files (Some (gen start count out)) = Ok (generates start count out)

@@ -9,6 +9,7 @@ ghost use Rattle.enc_top.specs.Stops.{IfPlan};
 mod accept;
 mod apply;
 mod check;
+mod compact;
 mod generate;
 mod list;
 mod named;
@@ -21,6 +22,7 @@ use crate::plans::unknown;
 use crate::stop::Stop;
 use apply::apply;
 use check::check;
+use compact::compact;
 use enc_outside::Store;
 use enc_watch::Watcher;
 use enc_words::{Command, command_of};
@@ -58,6 +60,7 @@ pub fn plan_of<S: Store, W: Watcher>(
         Some(Command::List { base, deltas }) => list(alloc, base, deltas, store),
         Some(Command::Check { base, deltas }) => check(alloc, base, deltas, store),
         Some(Command::Apply { base, out, deltas }) => apply(alloc, base, out, deltas, store),
+        Some(Command::Compact { base, out, deltas }) => compact(alloc, base, out, deltas, store),
         Some(
             Command::Write {
                 base,

@@ -37,6 +37,13 @@ spaced names = flat_map (λ name. 0x20 ∷ name) names
 unfoldable pub saved_line : List (List ℕ) → List ℕ
 saved_line names = codes "saved" ++ spaced names ++ 0x0a ∷ []
 
+-- the line of a row that moves, with its new token, and those of all
+unfoldable pub moved_line : Token × Token → List ℕ
+moved_line x = codes "moved " ++ token_text x.0 ++ 0x20 ∷ token_text x.1 ++ 0x0a ∷ []
+
+unfoldable pub moved_lines : List (Token × Token) → List ℕ
+moved_lines moves = flat_map moved_line moves
+
 -- the number and the place of what isn't an edit list
 abbrev pub fault_text : JobFault → List ℕ
 fault_text J1 = codes "J1 json"
@@ -54,4 +61,4 @@ broken_line name rule edit = codes "refused " ++ name ++ codes " E" ++ decimal r
 
 -- the line of words that are no command
 unfoldable pub usage_line : List ℕ
-usage_line = codes "usage: enc show list check apply write run gen" ++ 0x0a ∷ []
+usage_line = codes "usage: enc show list check apply write run gen compact" ++ 0x0a ∷ []

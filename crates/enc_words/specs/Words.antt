@@ -16,13 +16,14 @@ pub record Numeral : Type 0 where
   pub value : ℕ
 
 -- what a command asks for: a row of a base with deltas, their listing, whether all are accepted, the one module that has all edits,
--- under a name of its own, the delta of an edit list, in a file, that follows them, what a script prints over a base, or a generated
--- case by its two numbers
+-- under a name of its own, the same in the order of an ordinary module, the delta of an edit list, in a file, that follows them, what a
+-- script prints over a base, or a generated case by its two numbers
 pub data Job : Type 0 where
   show : List ℕ → Token → List (List ℕ) → Job
   list : List ℕ → List (List ℕ) → Job
   check : List ℕ → List (List ℕ) → Job
   apply : List ℕ → List ℕ → List (List ℕ) → Job
+  compact : List ℕ → List ℕ → List (List ℕ) → Job
   write : List ℕ → List ℕ → List ℕ → List (List ℕ) → Job
   run : List ℕ → List ℕ → Job
   gen : Numeral → Numeral → List ℕ → Job
@@ -58,6 +59,11 @@ check_of [] = None
 abbrev pub apply_of : List (List ℕ) → Option Job
 apply_of (base ∷ out ∷ deltas) = if are_names base (out ∷ deltas) then Some (apply base out deltas) else None
 apply_of _ = None
+
+-- `compact BASE OUT DELTA..`
+abbrev pub compact_of : List (List ℕ) → Option Job
+compact_of (base ∷ out ∷ deltas) = if are_names base (out ∷ deltas) then Some (compact base out deltas) else None
+compact_of _ = None
 
 -- `write BASE EDITS OUT DELTA..`
 abbrev pub write_of : List (List ℕ) → Option Job
@@ -98,6 +104,7 @@ job_of (name ∷ words) =
     else if bytes_eq name (codes "write") then write_of words
     else if bytes_eq name (codes "run") then run_of words
     else if bytes_eq name (codes "gen") then gen_of words
+    else if bytes_eq name (codes "compact") then compact_of words
     else None
 job_of [] = None
 

@@ -2,7 +2,7 @@
 ghost use Rattle.std.specs.Prelude.{◌≡◌, ◌≤◌, true, length, option_map, map, IfSome};
 ghost use Rattle.std.specs.Str.Parse.{digits_value};
 ghost use Rattle.std.specs.List.{list_all};
-ghost use Rattle.enc_words.specs.Words.{is_name, are_names, token_of_word, show_of, list_of, check_of, apply_of, write_of, run_of, is_digit, numeral_of, gen_of, job_of, texts};
+ghost use Rattle.enc_words.specs.Words.{is_name, are_names, token_of_word, show_of, list_of, check_of, apply_of, write_of, run_of, is_digit, numeral_of, gen_of, compact_of, job_of, texts};
 ghost use Rattle.enc_words.specs.Commands.{numeral_seen, job_seen, HasFewLists, IsValue};
 
 use enc_base::Token;
@@ -36,6 +36,12 @@ pub enum Command<'a> {
     },
     /// Saves the one module that has all edits of a base and its deltas.
     Apply {
+        base: &'a str,
+        out: &'a str,
+        deltas: &'a [String],
+    },
+    /// Saves the same as an ordinary module, whose rows have the order that loaders expect.
+    Compact {
         base: &'a str,
         out: &'a str,
         deltas: &'a [String],
@@ -157,6 +163,24 @@ fn apply_of(words: &[String]) -> Option<Command<'_>>
     })
 }
 
+/// The words of `compact`.
+#[tactic(auto, unfolding(crate::specs::Words::are_names))]
+fn compact_of(words: &[String]) -> Option<Command<'_>>
+    ensures { option_map job_seen result ≡ compact_of (texts words.now) }
+{
+    let [base, out, deltas @ ..] = words else {
+        return None;
+    };
+    if !is_name(base.as_str()) || !are_names(out.as_str(), deltas) {
+        return None;
+    }
+    Some(Command::Compact {
+        base: base.as_str(),
+        out: out.as_str(),
+        deltas,
+    })
+}
+
 /// The words of `write`.
 #[tactic(auto, unfolding(crate::specs::Words::are_names))]
 fn write_of(words: &[String]) -> Option<Command<'_>>
@@ -267,6 +291,7 @@ pub fn command_of(words: &[String]) -> Option<Command<'_>>
         "write" => write_of(words),
         "run" => run_of(words),
         "gen" => gen_of(words),
+        "compact" => compact_of(words),
         _ => None,
     }
 }

@@ -4,7 +4,7 @@ ghost use Rattle.std.specs.Prelude.{◌≡◌, ◌++◌, ◌∷◌, List, ℕ, O
 ghost use Rattle.enc_agg.specs.Seen.{module_of_all};
 ghost use Rattle.enc_words.specs.Case.{case_line as line_of_case};
 ghost use Rattle.std.specs.Borrow.{Bor};
-ghost use Rattle.enc_words.specs.Lines.{limit_text, limit_line, missing_line, absent_line, accepted_line, spaced, saved_line, fault_text, unlisted_line, broken_line, usage_line};
+ghost use Rattle.enc_words.specs.Lines.{limit_text, limit_line, missing_line, absent_line, accepted_line, spaced, saved_line, moved_line, moved_lines, fault_text, unlisted_line, broken_line, usage_line};
 
 use crate::limits::Limit;
 use crate::loaded::sum_loaded;
@@ -100,6 +100,30 @@ pub fn saved_line(alloc: Global, names: &[&str]) -> Result<Vec<u8>, AllocError>
     Ok(line)
 }
 
+/// Appends the line of a row that moves, with its new token.
+#[tactic(auto, unfolding(crate::specs::Lines::moved_line))]
+fn push_moved(out: &mut Vec<u8>, old: Token, new: Token) -> Result<(), AllocError>
+    ensures { OnOk result (out.new.items ≡ out.old.items ++ moved_line (old, new)) }
+{
+    push_str(out, "moved ")?;
+    push_token(out, old)?;
+    push_str(out, " ")?;
+    push_token(out, new)?;
+    push_str(out, "\n")
+}
+
+/// Appends the lines of rows that move, each with its new token.
+#[tactic(auto, unfolding(crate::specs::Lines::moved_lines))]
+pub fn push_moves(out: &mut Vec<u8>, moves: &[(Token, Token)]) -> Result<(), AllocError>
+    ensures { OnOk result (out.new.items ≡ out.old.items ++ moved_lines moves.now) }
+{
+    for i in 0..moves.len() {
+        let (old, new) = moves[i];
+        push_moved(out, old, new)?;
+    }
+    Ok(())
+}
+
 /// Appends the number and the place of what isn't an edit list.
 fn push_fault(alloc: Global, out: &mut Vec<u8>, fault: JobFault) -> Result<(), AllocError>
     ensures { OnOk result (out.new.items ≡ out.old.items ++ fault_text fault) }
@@ -176,7 +200,7 @@ pub fn usage_line(alloc: Global) -> Result<Vec<u8>, AllocError>
     let mut line = Vec::new(alloc);
     push_str(
         &mut line,
-        "usage: enc show list check apply write run gen\n",
+        "usage: enc show list check apply write run gen compact\n",
     )?;
     Ok(line)
 }

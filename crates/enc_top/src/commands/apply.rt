@@ -43,7 +43,7 @@ fn past(alloc: Global, out: &str, limit: Limit) -> Stop
 }
 
 /// The stop at a module that isn't written.
-fn unwritten(alloc: Global, out: &str, fault: RewriteFault) -> Stop
+pub fn unwritten(alloc: Global, out: &str, fault: RewriteFault) -> Stop
     ensures plan { IsUnwritten out.now fault result }
     ensures quiet { OnPlan result IsQuiet }
     ensures no_fault { result ≢ Stop.Failed }
@@ -56,7 +56,7 @@ fn unwritten(alloc: Global, out: &str, fault: RewriteFault) -> Stop
 }
 
 /// The plan that saves what was written: the module, then its PDB.
-fn saving(alloc: Global, out: &str, written: Rewritten) -> Result<Plan, AllocError>
+pub fn saving(alloc: Global, out: &str, written: Rewritten) -> Result<Plan, AllocError>
     ensures outcome { IfOk result (λ plan. plan.outcome ≡ Outcome.Accepted) }
     ensures output { IfOk result (λ plan. plan.output.items ≡ line_of_saved (dll out.now ∷ pdb out.now ∷ [])) }
     ensures saves { IfOk result (λ plan. saves_of plan.saves.items ≡ (dll out.now, written.image) ∷ (pdb out.now, written.pdb) ∷ []) }
