@@ -108,6 +108,7 @@ fn slot_of<V: ModuleView>(
 }
 
 /// What moves the tokens of signatures.
+#[derive(Drop)]
 struct Moving<'a> {
     order: &'a Order,
     counts: &'a Counts,
