@@ -4,6 +4,7 @@ pub mod Shown
 pub mod Loading
 pub mod KnownMethods
 pub mod Applied
+pub mod Ordinary
 mod BaseHeaps
 pub mod Drawn
 pub mod Cases

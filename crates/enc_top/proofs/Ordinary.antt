@@ -1,0 +1,76 @@
+-- The plan of what is written of accepted files in the order of an ordinary module, and of what isn't.
+use Rattle.std.proofs.Common.{◌≡◌, ℕ, zero, suc, ◌+◌, true, List, [], ◌∷◌, ◌++◌, map, Option, Some, None, Ok, Err, refl, sym, ap, subst, ◌∙◌, arith}
+use Rattle.std.specs.Prelude.{◌==◌, ◌&&◌}
+use Rattle.std.specs.List.{list_all, range_with_len}
+use Rattle.std.proofs.lemmas.Bool.{and_from, eq-eqb}
+use Rattle.enc_compact.specs.Laws.{MovedStandsInOrder}
+use Rattle.enc_compact.specs.Moved.{module_moved, pdb_moved, moves_listed}
+use Rattle.enc_order.specs.Orders.{rows_listed}
+use Rattle.enc_plain.specs.Module.{Module}
+use Rattle.enc_plain.specs.Sound.{IsSound, row_count, all_kids}
+use Rattle.enc_rewriter.specs.Limits.{Passed, too_large, too_heavy, rewrite_limit, IsFault}
+use Rattle.enc_rewriter.specs.Numbers.{in_order_from, is_in_row_order}
+use Rattle.enc_rewriter.specs.Rewritten.{RewritesTo, stands_in_order}
+use Rattle.enc_rewriter.specs.declared.fault.RewriteFault.{RewriteFault}
+use Rattle.enc_rewriter.specs.declared.fault.RewriteFault.TheVariants.{Memory, TooLarge, Image}
+use Rattle.enc_rows.specs.Sums.{below}
+use Rattle.enc_schema.specs.Children.{is_child_table}
+use Rattle.enc_schema.specs.Tables as tables
+use Rattle.enc_words.specs.Lines.{saved_line, moved_lines}
+use Rattle.enc_top.specs.Plans.{saves_of, IsPlanOf}
+use Rattle.enc_top.specs.Stops.{OnPlan, IsUnwritten}
+use Rattle.enc_top.specs.Verdict.{◌>>=◌, dll, pdb, Followed, plain_of, debug_after, compacts, Verdict, limit_told, file_past, past_limit, unless_past, compacted_on}
+use Rattle.enc_top.specs.Verdict.{can_be_compacted}
+use Rattle.enc_top.specs.declared.plan.Plan.{Plan}
+use Rattle.enc_top.specs.declared.plan.Outcome.TheVariants.{Accepted}
+use Rattle.enc_top.specs.declared.stop.Stop.{Stop as Halt}
+
+-- rows that are listed stand in order
+in_order : (k n : ℕ) → in_order_from (k + 1) (map (λ i. i + 1) (range_with_len k n)) ≡ true
+in_order k zero = refl
+in_order k (suc n) = and_from (k + 1 == k + 1) _ (eq-eqb (k + 1) (k + 1) refl) (in_order (k + 1) n)
+
+listed_in_order : (m : Module) (t : ℕ) → is_in_row_order (rows_listed m t) ≡ true
+unfolding rows_listed below
+listed_in_order m t = in_order 0 (row_count m t)
+
+-- so do the children of a module whose rows were moved
+pub moved_in_order : MovedStandsInOrder → (m : Module) → IsSound m → stands_in_order (module_moved m) ≡ true
+unfolding stands_in_order
+moved_in_order law m sound =
+    and_from _ _ (one tables.field refl) (and_from _ _ (one tables.method_def refl) (and_from _ _ (one tables.param refl)
+    (and_from _ _ (one tables.event refl) (and_from _ _ (one tables.property refl) refl))))
+  where
+    one : (child : ℕ) → is_child_table child ≡ true → is_in_row_order (all_kids (module_moved m) child) ≡ true
+    one child is = ap is_in_row_order (law m child sound is) ∙ listed_in_order (module_moved m) child
+
+-- what is written, by the limit that is passed
+abbrev limit_of : Followed → Option Passed
+limit_of f = rewrite_limit (module_moved (plain_of f)) (pdb_moved (plain_of f) (debug_after f))
+
+write_by : (out : List ℕ) (f : Followed) (o : Option Passed) → limit_of f ≡ o → compacted_on out f ≡ (unless_past out f o >>= λ (g : Followed). Ok (compacts out g))
+unfolding can_be_compacted
+write_by out f o is = ap (λ (x : Option Passed). unless_past out f x >>= λ (g : Followed). Ok (compacts out g)) is
+
+pub plan_compacted : (out : List ℕ) (f : Followed) (plan : Plan) (image symbols : List ℕ) → stands_in_order (module_moved (plain_of f)) ≡ true → limit_of f ≡ None
+    → RewritesTo (module_moved (plain_of f)) (pdb_moved (plain_of f) (debug_after f)) image symbols → plan.outcome ≡ Accepted
+    → plan.output.items ≡ saved_line (dll out ∷ pdb out ∷ []) ++ moved_lines (moves_listed (plain_of f))
+    → saves_of plan.saves.items ≡ (dll out, image) ∷ (pdb out, symbols) ∷ [] → IsPlanOf (compacted_on out f) plan
+plan_compacted out f plan image symbols order none written done line saved =
+    subst (λ (v : Verdict). IsPlanOf v plan) (sym (write_by out f None none)) (record {
+      outcome = done;
+      output = line;
+      saves = record {
+        files = record { image = image; symbols = symbols; saved = saved; module_is = written.image_is; debug_is = written.pdb_is.means; entry_is = written.pdb_is.entry_is };
+        plain = written.plain order;
+      };
+    })
+
+past : (out : List ℕ) (f : Followed) (p : Passed) (h : Halt) → limit_of f ≡ Some p → OnPlan h (IsPlanOf (Err (past_limit (file_past out (limit_told p)) (limit_told p))))
+    → OnPlan h (IsPlanOf (compacted_on out f))
+past out f p h is plan = subst (λ (v : Verdict). OnPlan h (IsPlanOf v)) (sym (write_by out f (Some p) is)) plan
+
+pub plan_uncompacted : (out : List ℕ) (f : Followed) (fault : RewriteFault) (h : Halt) → IsFault fault (limit_of f) → IsUnwritten out fault h → OnPlan h (IsPlanOf (compacted_on out f))
+plan_uncompacted out f Memory h told is = rw is tt
+plan_uncompacted out f (TooLarge heap) h told is = past out f (too_large heap) h told is
+plan_uncompacted out f Image h told is = past out f too_heavy h told is
