@@ -1,4 +1,5 @@
 pub mod OneOrder
 pub mod Pointwise
 pub mod RowPlaces
+pub mod RowSteps
 pub mod Rowed
