@@ -1,3 +1,4 @@
+pub mod Moved
 pub mod OneOrder
 pub mod Pointwise
 pub mod RowPlaces

@@ -86,6 +86,7 @@ impl Order {
     }
 
     /// Where a token goes; what is no row stays. It takes no memory.
+    #[tactic(auto, using(crate::proofs::Moved::moves_none, crate::proofs::Moved::moves_some))]
     pub fn moved(&self, token: Token) -> Token
         ensures moved { result ≡ moved_by (list_at self.now) token }
         ensures low { token.row < 2 ^ 24 → result.row < 2 ^ 24 }
@@ -101,8 +102,10 @@ impl Order {
 
     /// The token of the row that comes to this one's place; past a table's last the token itself. It
     /// takes no memory.
+    #[tactic(auto, using(crate::proofs::Moved::comes_none))]
     pub fn old(&self, token: Token) -> Token
-        ensures { result ≡ record { table = token.table; row = old_row (list_at self.now token.table) token.row } }
+        ensures old { result ≡ record { table = token.table; row = old_row (list_at self.now token.table) token.row } }
+        ensures low { token.row < 2 ^ 24 → result.row < 2 ^ 24 }
     {
         match self.tables.get(token.table as usize) {
             Some(rows) => Token {
@@ -116,7 +119,8 @@ impl Order {
     /// Where a row of the module goes: the token of the same table that it has behind the move. It
     /// takes no memory.
     pub fn new_of(&self, old: Token) -> Token
-        ensures { result ≡ moved_by (list_at self.now) old }
+        ensures moved { result ≡ moved_by (list_at self.now) old }
+        ensures low { old.row < 2 ^ 24 → result.row < 2 ^ 24 }
     {
         self.moved(old)
     }
