@@ -86,7 +86,6 @@ impl Order {
     }
 
     /// Where a token goes; what is no row stays. It takes no memory.
-    #[tactic(auto, using(crate::proofs::Moved::moves_none, crate::proofs::Moved::moves_some))]
     pub fn moved(&self, token: Token) -> Token
         ensures moved { result ≡ moved_by (list_at self.now) token }
         ensures low { token.row < 2 ^ 24 → result.row < 2 ^ 24 }
@@ -102,7 +101,6 @@ impl Order {
 
     /// The token of the row that comes to this one's place; past a table's last the token itself. It
     /// takes no memory.
-    #[tactic(auto, using(crate::proofs::Moved::comes_none))]
     pub fn old(&self, token: Token) -> Token
         ensures old { result ≡ record { table = token.table; row = old_row (list_at self.now token.table) token.row } }
         ensures low { token.row < 2 ^ 24 → result.row < 2 ^ 24 }
