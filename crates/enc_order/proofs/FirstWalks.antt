@@ -1,10 +1,10 @@
 -- Walks of one step: of each type the first row of NestedClass that has it tells the type around it.
-use Rattle.std.proofs.Common.{◌≡◌, ℕ, zero, suc, ◌+◌, ◌-◌, ◌<◌, ◌≤◌, Bool, true, false, List, [], ◌∷◌, ◌++◌, length, map, Option, Some, None, refl, sym, ap, subst, ◌∙◌, arith, slice_set, inl, inr}
+use Rattle.std.proofs.Common.{◌≡◌, ℕ, zero, suc, ◌+◌, ◌-◌, ◌<◌, ◌≤◌, Bool, true, false, List, [], ◌∷◌, ◌++◌, length, map, Option, Some, None, refl, sym, ap, subst, ◌∙◌, arith, slice_set, take, drop, inl, inr}
 use Rattle.std.specs.Prelude.{◌≢◌, ◌==◌, ◌&&◌, nat_le, is_none, slice_get, option_and_then, if◌then◌else◌}
 use Rattle.std.proofs.lemmas.Bool.{eq-eqb, ne_eqb, cases_eq}
 use Rattle.std.specs.Prelude.{◌⊎◌}
 use Rattle.std.proofs.lemmas.Bool.Decides.{nat_tests}
-use Rattle.std.proofs.lemmas.List.{length-set}
+use Rattle.std.proofs.lemmas.List.{length-set, append-nil}
 use Rattle.enc_base.specs.Order.{first_below, or_else}
 use Rattle.enc_base.specs.Token.{nth_row, is_token, nil}
 use Rattle.enc_base.specs.declared.token.Token.{Token}
@@ -53,7 +53,7 @@ abbrev said : Token → ℕ → ℕ → Option ℕ
 said nested enclosing type = if is_token nested (record { table = type_def; row = type }) then Some enclosing else None
 
 -- a nested class is nil, or one of the types
-abbrev IsType : ℕ → Token → Type 0
+abbrev pub IsType : ℕ → Token → Type 0
 IsType count t = (t ≡ nil) ⊎ ((t.table ≡ type_def) × (0 < t.row) × (t.row ≤ count))
 
 free_step : (before : Option ℕ) → has_ended (Some (one_step before)) ≡ is_none before
@@ -157,3 +157,31 @@ walk_is m type = walk_of m (enclosing m type)
 pub first_ends : (m : Module) (walks : List Walk) → AreFirst m (row_count m nested_class) walks → AreWalks m 1 walks
 unfolding enclosing
 first_ends m walks are = record { count = are.count; each = λ i low. are.each i low ∙ ap Some (walk_is m (i + 1)) }
+
+drop_all : (xs : List Walk) (n : ℕ) → length xs ≤ n → drop n xs ≡ []
+drop_all [] zero past = refl
+drop_all [] (suc n) past = refl
+drop_all (x ∷ xs) zero past = absurd (omega (arith, past))
+drop_all (x ∷ xs) (suc n) past = drop_all xs n (omega (arith, past))
+
+take_whole : (xs : List Walk) (n : ℕ) → length xs ≤ n → take n xs ≡ xs
+take_whole [] zero past = refl
+take_whole [] (suc n) past = refl
+take_whole (x ∷ xs) zero past = absurd (omega (arith, past))
+take_whole (x ∷ xs) (suc n) past = ap (λ ys. x ∷ ys) (take_whole xs n (omega (arith, past)))
+
+-- what is noted in place is all that a vector has then
+pub written_back : (len : ℕ) (new now old : List Walk) (nested enclosing : ℕ) → new ≡ noted nested enclosing now → now ≡ old → length now ≡ len
+    → take len (new ++ drop (length new) old) ≡ noted nested enclosing old
+written_back len new now old nested enclosing is same count =
+    let all : length new ≡ len = ap length is ∙ long now enclosing nested ∙ count in
+    let past : length old ≤ length new = omega (arith, all, count, ap length same) in
+    ap (λ xs. take len (new ++ xs)) (drop_all old (length new) past) ∙ ap (take len) (append-nil new) ∙ take_whole new len (omega (arith, all))
+    ∙ is ∙ ap (noted nested enclosing) same
+
+pub first_notes : (m : Module) (k : ℕ) (walks : List Walk) (t u : Token) → AreFirst m k walks → t ≡ token_at (cells_of m) (nth_row nested_class k) 0
+    → u ≡ token_at (cells_of m) (nth_row nested_class k) 1 → IsType (row_count m type_def) t → AreFirst m (k + 1) (noted t.row u.row walks)
+first_notes m k walks t u are nested enclosing good =
+    subst (λ (v : Token). AreFirst m (k + 1) (noted v.row u.row walks)) (sym nested)
+    (subst (λ (v : Token). AreFirst m (k + 1) (noted (token_at (cells_of m) (nth_row nested_class k) 0).row v.row walks)) (sym enclosing)
+    (first_goes_on m k walks are (subst (IsType (row_count m type_def)) nested good)))

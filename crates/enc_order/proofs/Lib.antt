@@ -2,6 +2,7 @@ pub mod FirstWalks
 pub mod Moved
 pub mod OneOrder
 pub mod Pointwise
+pub mod References
 pub mod RowPlaces
 pub mod RowSteps
 pub mod Rowed

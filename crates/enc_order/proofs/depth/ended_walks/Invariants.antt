@@ -4,4 +4,4 @@ use Rattle.enc_rows.specs.Sums.{below}
 use Rattle.enc_order.proofs.depth.ended_walks.Given as goal
 
 abbrev pub invariant-loop-n : goal.invariant-loop-n
-invariant-loop-n l = l.walks.items ≡ map (λ (n : ℕ). ended) (below l.n)
+invariant-loop-n l = l.walks.items ≡ map (λ (n : ℕ). ended) (below l._n)
