@@ -49,7 +49,7 @@ get_set (x ∷ xs) zero y low = refl
 get_set (x ∷ xs) (suc i) y low = get_set xs i y (omega (arith, low))
 
 -- what a row of NestedClass says of a type
-abbrev said : Token → ℕ → ℕ → Option ℕ
+abbrev pub said : Token → ℕ → ℕ → Option ℕ
 said nested enclosing type = if is_token nested (record { table = type_def; row = type }) then Some enclosing else None
 
 -- a nested class is nil, or one of the types
@@ -105,10 +105,10 @@ module _ (walks : List Walk) (enclosing : ℕ) where
       by None at = rw (at, b) (get_set walks i (record { around = Some enclosing; depth = 1 }) low)
       by (Some x) at = rw at at
 
-nil_says : (t : Token) (enclosing type : ℕ) → t ≡ nil → said t enclosing type ≡ None
+pub nil_says : (t : Token) (enclosing type : ℕ) → t ≡ nil → said t enclosing type ≡ None
 nil_says t enclosing type e = rw e refl
 
-row_says : (t : Token) (enclosing type : ℕ) (b : Bool) → t.table ≡ type_def → (t.row == type) ≡ b → said t enclosing type ≡ (if b then Some enclosing else None)
+pub row_says : (t : Token) (enclosing type : ℕ) (b : Bool) → t.table ≡ type_def → (t.row == type) ≡ b → said t enclosing type ≡ (if b then Some enclosing else None)
 row_says t enclosing type b e f = rw (e, f) refl
 
 -- one row more

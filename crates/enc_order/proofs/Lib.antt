@@ -1,3 +1,4 @@
+pub mod Depths
 pub mod FirstWalks
 pub mod Moved
 pub mod OneOrder

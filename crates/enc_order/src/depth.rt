@@ -156,7 +156,8 @@ pub(crate) fn depths<V: ModuleView>(alloc: Global, view: &V) -> Result<Vec<u32>,
         walks = all_doubled(alloc, &walks)?;
         steps *= 2;
     }
-    depths_of(alloc, &walks, count)
+    let depths = depths_of(alloc, &walks, count)?;
+    Ok(depths)
 }
 
 /// The depths that walks have met, each at most so much.
