@@ -1,5 +1,6 @@
 pub mod Depths
 pub mod FirstWalks
+pub mod KeysOf
 pub mod Moved
 pub mod OneOrder
 pub mod Pointwise
@@ -7,4 +8,5 @@ pub mod References
 pub mod RowPlaces
 pub mod RowSteps
 pub mod Rowed
+pub mod Tags
 pub mod Walked

@@ -1,10 +1,10 @@
 //! The numbers by which rows go.
-ghost use Rattle.std.specs.Prelude.{◌≡◌, ◌<◌, ◌^◌, true, Some, length, map, IsTrue, IfOk};
-ghost use Rattle.enc_base.specs.declared.token.Token.{Token as TheToken};
+ghost use Rattle.std.specs.Prelude.{◌≡◌, ◌<◌, ◌^◌, ◌||◌, ◌==◌, true, map, IsTrue, IfOk};
 ghost use Rattle.enc_order.specs.Keyed.{entry_of};
 ghost use Rattle.enc_order.specs.Orders.{coded_value, column_key, key_of, rows_listed};
 ghost use Rattle.enc_plain.specs.Module.{has_row};
-ghost use Rattle.enc_plain.specs.Sound.{IsSound, is_reference};
+ghost use Rattle.enc_plain.specs.Sound.{IsSound, can_name};
+ghost use Rattle.enc_schema.specs.declared.column.Column.TheVariants.{Coded};
 ghost use Rattle.enc_schema.specs.Schema.{column_in, list_at};
 
 use crate::key_columns::key_columns;
@@ -17,6 +17,8 @@ use std::alloc::{AllocError, Global};
 
 /// The number of a token in a coded column; nil is 0.
 fn coded(kind: Coding, token: Token) -> u32
+    requires low { token.row < 2 ^ 24 }
+    requires named { ((token.row == 0) || can_name (Coded kind) token.table) ≡ true }
     ensures { result ≡ coded_value kind token }
 {
     match encode_coded(kind, token) {

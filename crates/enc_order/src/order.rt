@@ -89,6 +89,7 @@ impl Order {
     pub fn moved(&self, token: Token) -> Token
         ensures moved { result ≡ moved_by (list_at self.now) token }
         ensures low { token.row < 2 ^ 24 → result.row < 2 ^ 24 }
+        ensures none { token.row ≡ 0 → result.row ≡ 0 }
     {
         match self.tables.get(token.table as usize) {
             Some(rows) => Token {

@@ -95,6 +95,7 @@ impl Rows {
     pub(crate) fn new_row(&self, row: u32) -> u32
         ensures moved { result ≡ new_row self.now row }
         ensures low { row < 2 ^ 24 → result < 2 ^ 24 }
+        ensures none { row ≡ 0 → result ≡ 0 }
     {
         let places: &[u32] = &self.new;
         if row == 0 {
