@@ -3,6 +3,7 @@ pub mod FirstWalks
 pub mod KeysOf
 pub mod Moved
 pub mod OneOrder
+pub mod Permuted
 pub mod Pointwise
 pub mod References
 pub mod RowPlaces
