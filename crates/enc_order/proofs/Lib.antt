@@ -9,5 +9,6 @@ pub mod References
 pub mod RowPlaces
 pub mod RowSteps
 pub mod Rowed
+pub mod Staged
 pub mod Tags
 pub mod Walked

@@ -64,11 +64,11 @@ count_upto : (k n : ℕ) → count_by (λ j. j == k) (map (λ i. i + 1) (below n
 unfolding below
 count_upto k zero = none k
   where
-    none : (k : ℕ) → 0 ≡ cond (nat_le 1 k && nat_le k 0) 1 0
+    none : (k : ℕ) → zero ≡ cond (nat_le 1 k && nat_le k 0) 1 0
     none zero = refl
     none (suc k) = let no : nat_le (suc k) 0 ≡ false = grind (arith, nat_tests) in rw no (by (nat_le 1 (suc k)))
       where
-        by : (b : Bool) → 0 ≡ cond (b && false) 1 0
+        by : (b : Bool) → zero ≡ cond (b && false) 1 0
         by true = refl
         by false = refl
 count_upto k (suc n) =

@@ -1,5 +1,6 @@
 -- Rows with the numbers by which they go.
-use Rattle.std.specs.Prelude.{ℕ}
+use Rattle.std.specs.Prelude.{ℕ, ◌+◌, List, get_or, length, map}
+use Rattle.enc_rows.specs.Sums.{below}
 use Rattle.enc_order.specs.declared.sorting.Entry.{Entry}
 
 abbrev pub entry_key : Entry → ℕ
@@ -11,3 +12,7 @@ entry_row e = e.row
 -- a row with its number
 abbrev pub entry_of : (ℕ → ℕ) → ℕ → Entry
 entry_of key row = record { key = key row; row = row }
+
+-- rows from 1 with these numbers
+unfoldable pub entries_of : List ℕ → List Entry
+entries_of keys = map (λ i. record { key = get_or keys i 0; row = i + 1 }) (below (length keys))

@@ -9,6 +9,7 @@ use crate::rows::{Rows, rows_upto};
 use crate::stage::{Stage, staged};
 use enc_base::Token;
 use enc_plain::ModuleView;
+use enc_schema::tables::TABLE_COUNT;
 use std::alloc::{AllocError, Global};
 use std::marker::Model;
 
@@ -41,8 +42,9 @@ impl Order {
         ensures orders { IfOk result (λ o. AreOrdersOf (V.meaning view.now) o) }
     {
         let mut tables = Vec::new(alloc);
-        for table in 0..0x2d {
-            tables.push(Rows::of(alloc, rows_upto(alloc, view.count(table))?)?)?;
+        for table in 0..TABLE_COUNT {
+            let list = rows_upto(alloc, view.count(table))?;
+            tables.push(Rows::of(alloc, list)?)?;
         }
         Ok(Order { tables })
     }
@@ -62,7 +64,8 @@ impl Order {
         let order = staged(alloc, view, &order, Stage::Method)?;
         let order = staged(alloc, view, &order, Stage::Key)?;
         let order = staged(alloc, view, &order, Stage::Param)?;
-        staged(alloc, view, &order, Stage::Attribute)
+        let order = staged(alloc, view, &order, Stage::Attribute)?;
+        Ok(order)
     }
 
     /// The rows of a table in their new order, none where it has none.
