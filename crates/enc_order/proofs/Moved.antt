@@ -5,7 +5,7 @@ use Rattle.enc_schema.specs.Schema.{list_at}
 use Rattle.enc_order.specs.Orders.{moved_by, new_row, old_row, place_behind}
 
 -- past the last table there is no list
-pub past_all : (lists : List (List ℕ)) (t : ℕ) → length lists ≤ t → list_at lists t ≡ []
+pub past_all : {A : Type 0} (lists : List (List A)) (t : ℕ) → length lists ≤ t → list_at lists t ≡ []
 past_all [] t past = refl
 past_all (xs ∷ lists) zero past = absurd (omega (arith, past))
 past_all (xs ∷ lists) (suc t) past = past_all lists t (omega (arith, past))

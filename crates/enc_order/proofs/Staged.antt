@@ -15,7 +15,7 @@ use Rattle.enc_schema.specs.Schema.{list_at}
 use Rattle.enc_schema.specs.Tables as tables
 use Rattle.enc_schema.specs.Tables.{table_count}
 use Rattle.enc_order.specs.Depth.{depth}
-use Rattle.enc_order.specs.Keyed.{entry_key, entry_row, entry_of}
+use Rattle.enc_order.specs.Keyed.{entry_key, entry_row, entry_of, entries_of}
 use Rattle.enc_order.specs.declared.sorting.Entry.{Entry}
 use Rattle.enc_order.specs.Orders.{Orders, rows_listed, kids_listed, keyed_rows, key_of, is_member_table, by_depth, by_owner, by_method, by_key, by_param, by_attribute, new_order}
 use Rattle.enc_order.specs.Places.{is_row_of}
@@ -25,7 +25,7 @@ use Rattle.enc_order.specs.declared.stage.Stage.{Stage}
 use Rattle.enc_order.specs.declared.stage.Stage.TheVariants as stage
 use Rattle.enc_order.proofs.Moved.{past_all}
 use Rattle.enc_order.proofs.OneOrder.{sorted_permutes, sorted_map}
-use Rattle.enc_order.proofs.Permuted.{kids_permute, rows_long, rows_fit_all, rows_few}
+use Rattle.enc_order.proofs.Permuted.{kids_permute, rows_long, rows_fit, rows_fit_all, rows_few}
 use Rattle.enc_order.proofs.Pointwise.{same_orders}
 use Rattle.enc_order.proofs.Rowed.{more_mapped}
 
@@ -56,7 +56,7 @@ stage_keeps stage m before table rows off is =
     is ∙ sym (stage_is stage m before table ∙ ap (λ b. if b then ordered_rows stage m before table else before table) off)
 
 -- tables of members and of parameters are those of children
-members_own : (table : ℕ) → is_member_table table ≡ true → is_child_table table ≡ true
+pub members_own : (table : ℕ) → is_member_table table ≡ true → is_child_table table ≡ true
 members_own table h = by (table == tables.field) (table == tables.method_def) (table == tables.event) (table == tables.property) refl refl refl refl h
   where
     by : (a b c d : Bool) → (table == tables.field) ≡ a → (table == tables.method_def) ≡ b → (table == tables.event) ≡ c → (table == tables.property) ≡ d
@@ -67,13 +67,8 @@ members_own table h = by (table == tables.field) (table == tables.method_def) (t
     by false false false true e f g i h = let is : table ≡ tables.property = eqb-true table tables.property i in rw is refl
     by false false false false e f g i h = absurd cc
 
-params_own : (table : ℕ) → (table == tables.param) ≡ true → is_child_table table ≡ true
+pub params_own : (table : ℕ) → (table == tables.param) ≡ true → is_child_table table ≡ true
 params_own table h = let is : table ≡ tables.param = eqb-true table tables.param h in rw is refl
-
--- a stage that goes by owners orders tables of children
-pub owned_tables : (stage : Stage) (table : ℕ) → (stage ≡ stage.Owner) ⊎ (stage ≡ stage.Method) → is_ordered stage table ≡ true → is_child_table table ≡ true
-owned_tables stage table (inl e) on = members_own table (subst (λ s. is_ordered s table ≡ true) e on)
-owned_tables stage table (inr e) on = params_own table (subst (λ s. is_ordered s table ≡ true) e on)
 
 keyed_permute : (m : Module) (before : Orders) (table : ℕ) → IsPermutation (rows_listed m table) (keyed_rows before m table)
 unfolding keyed_rows
@@ -153,6 +148,20 @@ more_tables f n old new rows before is after = after ∙ ap (λ xs. xs ++ rows �
 pub own_order : (m : Module) (table : ℕ) → IsPermutation (rows_listed m table) (rows_listed m table)
 own_order m table = IsPermutation-refl (rows_listed m table)
 
+pub own_rows : (m : Module) (table count : ℕ) (rows : List ℕ) → count ≡ row_count m table → rows ≡ map (λ n. n + 1) (below count) → rows ≡ rows_listed m table
+unfolding rows_listed
+own_rows m table count rows same is = is ∙ ap (λ k. map (λ n. n + 1) (below k)) same
+
+pub own_few : (m : Module) (table count : ℕ) (rows : List ℕ) → IsSound m → count ≡ row_count m table → rows ≡ map (λ n. n + 1) (below count)
+    → length rows < 2 ^ 24
+own_few m table count rows sound same is =
+    rows_few m table rows sound (subst (IsPermutation (rows_listed m table)) (sym (own_rows m table count rows same is)) (own_order m table))
+
+pub own_fit : (m : Module) (table count : ℕ) (rows : List ℕ) → count ≡ row_count m table → rows ≡ map (λ n. n + 1) (below count)
+    → list_all (is_row_of (length rows)) rows ≡ true
+own_fit m table count rows same is =
+    rows_fit_all m table rows (subst (IsPermutation (rows_listed m table)) (sym (own_rows m table count rows same is)) (own_order m table))
+
 -- behind all stages
 pub all_staged : (m : Module) (o0 o1 o2 o3 o4 o5 o6 : Orders) → o0 ≡ rows_listed m → o1 ≡ by_depth m o0 → o2 ≡ by_owner m o1 → o3 ≡ by_method m o2
     → o4 ≡ by_key m o3 → o5 ≡ by_param m o4 → o6 ≡ by_attribute m o5 → o6 ≡ new_order m
@@ -199,3 +208,58 @@ depth_at m f table depths i d is low =
     ap (λ xs. get_or xs i d) is
     ∙ get_listed f (map (λ n. n + 1) (below (row_count m table))) i (i + 1) d
     (get_below (λ n. n + 1) (row_count m table) i (omega (arith, low, depths_long m f table depths is)))
+
+-- the first types with their depths
+abbrev pub front_entries : List ℕ → ℕ → List Entry
+front_entries keys n = map (λ i. record { key = get_or keys i 0; row = i + 1 }) (below n)
+
+pub no_front : (keys : List ℕ) (entries : List Entry) → entries ≡ [] → entries ≡ front_entries keys 0
+unfolding below
+no_front keys entries none = none
+
+pub more_front : (keys : List ℕ) (i : ℕ) (old new : List Entry) (k : ℕ) → old ≡ front_entries keys i → k ≡ get_or keys i 0
+    → new ≡ old ++ record { key = k; row = i + 1 } ∷ [] → new ≡ front_entries keys (i + 1)
+more_front keys i old new k before is after =
+    after ∙ ap (λ xs. xs ++ record { key = k; row = i + 1 } ∷ []) before
+    ∙ ap (λ (j : ℕ). let e : Entry = record { key = j; row = i + 1 } in front_entries keys i ++ e ∷ []) is
+    ∙ more_mapped (λ j. let e : Entry = record { key = get_or keys j 0; row = j + 1 } in e) i
+
+pub all_front : (keys : List ℕ) (i : ℕ) (entries : List Entry) → i ≡ length keys → entries ≡ front_entries keys i → entries ≡ entries_of keys
+unfolding entries_of
+all_front keys i entries all is = is ∙ ap (front_entries keys) all
+
+agree : {X : Type 0} (f g : ℕ → X) (n : ℕ) → ((i : ℕ) → i < n → f i ≡ g i) → map f (below n) ≡ map g (below n)
+unfolding below
+agree f g zero same = refl
+agree {X} f g (suc n) same =
+    let e : n + 1 ≡ suc n = omega arith in
+    let step : map f (below (n + 1)) ≡ map g (below (n + 1)) =
+        sym (more_mapped f n) ∙ ap (λ xs. xs ++ f n ∷ []) (agree f g n (λ i low. same i (omega (arith, low))))
+        ∙ ap (λ x. map g (below n) ++ x ∷ []) (same n (omega arith)) ∙ more_mapped g n in
+    subst (λ k. map f (below k) ≡ map g (below k)) e step
+
+map_after : {X : Type 0} (f : ℕ → X) (xs : List ℕ) → map (λ i. f (i + 1)) xs ≡ map f (map (λ n. n + 1) xs)
+map_after f [] = refl
+map_after f (x ∷ xs) = ap (λ ys. f (x + 1) ∷ ys) (map_after f xs)
+
+entries_are : (m : Module) (f : ℕ → ℕ) (table : ℕ) (keys : List ℕ) → keys ≡ map f (rows_listed m table) → length keys ≡ row_count m table
+    → entries_of keys ≡ map (entry_of f) (rows_listed m table)
+unfolding entries_of rows_listed
+entries_are m f table keys is long =
+    agree (λ i. let e : Entry = record { key = get_or keys i 0; row = i + 1 } in e) (λ i. entry_of f (i + 1)) (length keys)
+    (λ i low. ap (λ (k : ℕ). let e : Entry = record { key = k; row = i + 1 } in e) (depth_at m f table keys i 0 is low))
+    ∙ ap (λ n. map (λ i. entry_of f (i + 1)) (below n)) long ∙ map_after (entry_of f) (below (row_count m table))
+
+pub depth_sorted : (m : Module) (table : ℕ) (keys : List ℕ) (entries : List Entry) (rows : List ℕ) → keys ≡ map (depth m) (rows_listed m table)
+    → entries ≡ entries_of keys → rows ≡ map entry_row (sorted_by entry_key entries) → rows ≡ sorted_by (depth m) (rows_listed m table)
+depth_sorted m table keys entries rows are is sorted =
+    sorted ∙ entries_sorted (depth m) (rows_listed m table) entries (is ∙ entries_are m (depth m) table keys are (depths_long m (depth m) table keys are))
+
+pub depths_few : (m : Module) (table : ℕ) (keys : List ℕ) → IsSound m → keys ≡ map (depth m) (rows_listed m table) → length keys < 2 ^ 24
+depths_few m table keys sound are = omega (arith, depths_long m (depth m) table keys are, sound.counts.few table)
+
+pub owners_fit : (m : Module) (before : List (List ℕ)) (table owners_table : ℕ) (owners : List ℕ) → AreOrdersOf m before → table ≡ owners_table
+    → owners ≡ list_at before table → list_all (is_row_of (row_count m owners_table)) owners ≡ true
+owners_fit m before table owners_table owners are same is =
+    subst (λ xs. list_all (is_row_of (row_count m owners_table)) xs ≡ true) (sym (is ∙ ap (list_at before) same))
+    (rows_fit m owners_table (list_at before owners_table) (are.each owners_table))
