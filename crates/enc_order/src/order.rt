@@ -58,13 +58,13 @@ impl Order {
         ensures order { IfOk result (λ o. list_at o ≡ new_order (V.meaning view.now)) }
         ensures orders { IfOk result (λ o. AreOrdersOf (V.meaning view.now) o) }
     {
-        let order = Order::begin(alloc, view)?;
-        let order = staged(alloc, view, &order, Stage::Depth)?;
-        let order = staged(alloc, view, &order, Stage::Owner)?;
-        let order = staged(alloc, view, &order, Stage::Method)?;
-        let order = staged(alloc, view, &order, Stage::Key)?;
-        let order = staged(alloc, view, &order, Stage::Param)?;
-        let order = staged(alloc, view, &order, Stage::Attribute)?;
+        let own = Order::begin(alloc, view)?;
+        let types = staged(alloc, view, &own, Stage::Depth)?;
+        let members = staged(alloc, view, &types, Stage::Owner)?;
+        let params = staged(alloc, view, &members, Stage::Method)?;
+        let keyed = staged(alloc, view, &params, Stage::Key)?;
+        let constraints = staged(alloc, view, &keyed, Stage::Param)?;
+        let order = staged(alloc, view, &constraints, Stage::Attribute)?;
         Ok(order)
     }
 
