@@ -17,7 +17,7 @@ use Rattle.enc_plain.proofs.CellsOf.{token_there}
 use Rattle.enc_rows.specs.Sums.{below}
 use Rattle.enc_rows.proofs.Listed.{get_below, length_below}
 use Rattle.enc_schema.specs.Tables.{type_def, nested_class}
-use Rattle.enc_order.specs.Depth.{enclosing, enclosing_at, depth_around, depth_by, depth}
+use Rattle.enc_order.specs.Depth.{enclosing, enclosing_at, depth_by, depth}
 use Rattle.enc_order.specs.Orders.{rows_listed}
 use Rattle.enc_order.specs.Walks.{reached, AreWalks, ended, walk_from, going_on, doubled, is_short}
 use Rattle.enc_order.specs.declared.depth.Walk.{Walk}

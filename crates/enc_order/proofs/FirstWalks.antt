@@ -1,18 +1,16 @@
 -- Walks of one step: of each type the first row of NestedClass that has it tells the type around it.
 use Rattle.std.proofs.Common.{◌≡◌, ℕ, zero, suc, ◌+◌, ◌-◌, ◌<◌, ◌≤◌, Bool, true, false, List, [], ◌∷◌, ◌++◌, length, map, Option, Some, None, refl, sym, ap, subst, ◌∙◌, arith, slice_set, take, drop, inl, inr}
-use Rattle.std.specs.Prelude.{◌≢◌, ◌==◌, ◌&&◌, nat_le, is_none, slice_get, option_and_then, if◌then◌else◌}
+use Rattle.std.specs.Prelude.{◌≢◌, ◌==◌, is_none, slice_get, option_and_then, if◌then◌else◌}
 use Rattle.std.proofs.lemmas.Bool.{eq-eqb, ne_eqb, cases_eq}
 use Rattle.std.specs.Prelude.{◌⊎◌}
-use Rattle.std.proofs.lemmas.Bool.Decides.{nat_tests}
 use Rattle.std.proofs.lemmas.List.{length-set, append-nil}
 use Rattle.enc_base.specs.Order.{first_below, or_else}
 use Rattle.enc_base.specs.Token.{nth_row, is_token, nil}
 use Rattle.enc_base.specs.declared.token.Token.{Token}
 use Rattle.enc_base.proofs.First.{first_none, first_suc}
-use Rattle.enc_plain.specs.Module.{Module, cells_of, has_row}
+use Rattle.enc_plain.specs.Module.{Module, cells_of}
 use Rattle.enc_plain.specs.Rows.{token_at}
 use Rattle.enc_plain.specs.Sound.{row_count}
-use Rattle.enc_plain.proofs.KindsOf.{row_bounds}
 use Rattle.enc_rows.specs.Sums.{below}
 use Rattle.enc_rows.proofs.Listed.{get_below, length_below}
 use Rattle.enc_schema.specs.Tables.{type_def, nested_class}
@@ -68,9 +66,6 @@ other_row : (row type : ℕ) → row ≢ type → said (record { table = type_de
 other_row row type d = rw (ne_eqb row type d) refl
 
 module _ (walks : List Walk) (enclosing : ℕ) where
-  step : Walk
-  step = record { around = Some enclosing; depth = 1 }
-
   -- where no type is named, nothing is noted
   nil_noted : (row : ℕ) → row ≡ 0 → noted row enclosing walks ≡ walks
   unfolding noted is_free

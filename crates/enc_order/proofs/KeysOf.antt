@@ -1,17 +1,15 @@
 -- The numbers by which rows go: of each key column, and all of them as one.
-use Rattle.std.proofs.Common.{◌≡◌, ℕ, zero, suc, ◌+◌, ◌*◌, ◌^◌, ◌<◌, ◌≤◌, List, [], ◌∷◌, ◌++◌, length, get_or, map, Some, refl, sym, ap, subst, ◌∙◌, arith}
+use Rattle.std.proofs.Common.{◌≡◌, ℕ, ◌+◌, ◌*◌, ◌^◌, ◌<◌, ◌≤◌, List, [], ◌∷◌, ◌++◌, length, get_or, map, Some, refl, sym, ap, ◌∙◌, arith}
 use Rattle.enc_base.specs.declared.token.Token.{Token}
 use Rattle.std.specs.Prelude.{Bool, true, false, ◌||◌, ◌==◌}
 use Rattle.std.proofs.lemmas.Bool.{eqb-true}
 use Rattle.enc_plain.specs.Sound.{can_name, row_count}
 use Rattle.enc_plain.specs.Cell.{refer, number}
-use Rattle.enc_plain.specs.Module.{Module, cells_of, cell_of}
-use Rattle.enc_plain.specs.Rows.{token_at, number_at}
+use Rattle.enc_plain.specs.Module.{Module, cell_of}
 use Rattle.enc_plain.proofs.CellsOf.{token_there, number_there}
 use Rattle.enc_rows.specs.Sums.{below}
 use Rattle.enc_schema.specs.Schema.{column_in}
 use Rattle.enc_schema.specs.declared.column.Coding.{Coding}
-use Rattle.enc_schema.specs.declared.column.Column.{Column}
 use Rattle.enc_schema.specs.declared.column.Column.TheVariants.{Num16, Index, Coded}
 use Rattle.enc_order.specs.Keyed.{entry_of}
 use Rattle.enc_order.specs.declared.sorting.Entry.{Entry}

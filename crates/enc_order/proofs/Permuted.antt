@@ -9,7 +9,6 @@ use Rattle.std.proofs.lemmas.List.{append-nil}
 use Rattle.std.proofs.lemmas.List.Sums.{sum_by-cons}
 use Rattle.std.proofs.lemmas.List.Sorted.{IsPermutation-refl, IsPermutation-cons, IsPermutation-trans, IsPermutation-sym, IsPermutation-middle, length_permutation, sum_by-IsPermutation, list_any-IsPermutation}
 use Rattle.enc_base.specs.Token.{nth_row}
-use Rattle.enc_base.specs.declared.token.Token.{Token}
 use Rattle.enc_plain.specs.Module.{Module, Row, rows_in, row_at, row_of, has_row, kids_at, kids_of, kids_with}
 use Rattle.enc_plain.specs.Sound.{IsSound, row_count, all_kids, IsOwned}
 use Rattle.enc_plain.proofs.Owned.{count_cons, count_append}

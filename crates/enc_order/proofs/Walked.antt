@@ -1,6 +1,6 @@
 -- Walks through the types around a type: one walk behind another, and how far they count.
-use Rattle.std.proofs.Common.{◌≡◌, ℕ, zero, suc, ◌+◌, ◌<◌, ◌≤◌, List, length, Option, Some, None, refl, sym, ap, ◌∙◌, arith}
-use Rattle.std.specs.Prelude.{min, option_and_then, slice_get}
+use Rattle.std.proofs.Common.{◌≡◌, ℕ, zero, suc, ◌+◌, ◌≤◌, Option, Some, None, refl, arith}
+use Rattle.std.specs.Prelude.{min, option_and_then}
 use Rattle.enc_plain.specs.Module.{Module}
 use Rattle.enc_order.specs.Depth.{enclosing, depth_around, depth_by}
 use Rattle.enc_order.specs.Walks.{reached}

@@ -1,6 +1,5 @@
 -- For the contracts of what finds all depths at once: walks through the types around a type, by steps that double.
-use Rattle.std.specs.Prelude.{◌≡◌, ℕ, zero, suc, ◌+◌, ◌-◌, ◌<◌, ◌^◌, Bool, true, false, List, length, Option, Some, None, option_and_then, is_none, nat_lt, slice_get, slice_set, unwrap_or, if◌then◌else◌}
-use Rattle.std.specs.List.{list_all}
+use Rattle.std.specs.Prelude.{◌≡◌, ℕ, zero, suc, ◌+◌, ◌-◌, ◌<◌, ◌^◌, Bool, false, List, length, Option, Some, None, option_and_then, is_none, nat_lt, slice_get, slice_set, unwrap_or, if◌then◌else◌}
 use Rattle.enc_base.specs.Order.{first_below}
 use Rattle.enc_plain.specs.Module.{Module}
 use Rattle.enc_plain.specs.Sound.{row_count}

@@ -1,4 +1,4 @@
-use Rattle.std.proofs.Common.{◌<◌, ◌^◌, ◌-◌, ◌*◌}
+use Rattle.std.proofs.Common.{◌<◌, ◌^◌, ◌-◌}
 use Rattle.enc_order.specs.Walks.{AreWalks}
 use Rattle.enc_order.proofs.depth.depths.Given as goal
 

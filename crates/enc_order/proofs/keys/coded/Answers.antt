@@ -1,4 +1,4 @@
-use Rattle.std.proofs.Common.{◌≡◌, ℕ, Some, sym, ◌∙◌, inl, inr}
+use Rattle.std.proofs.Common.{inl, inr}
 use Rattle.std.proofs.lemmas.Bool.{cases_eq}
 use Rattle.enc_order.proofs.Tags.{code_some, code_none, code_there, same_number}
 use Rattle.enc_order.proofs.keys.coded.Goals as goal

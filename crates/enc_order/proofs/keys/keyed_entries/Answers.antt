@@ -1,7 +1,5 @@
-use Rattle.std.proofs.Common.{◌≡◌, ◌∙◌, ◌<◌, ap, sym, map, subst, arith}
-use Rattle.std.specs.Prelude.{length}
+use Rattle.std.proofs.Common.{◌≡◌, ◌∙◌, arith}
 use Rattle.enc_plain.specs.Sound.{row_count}
-use Rattle.enc_rows.specs.Sums.{below}
 use Rattle.enc_schema.specs.Schema.{list_at}
 use Rattle.enc_order.specs.Orders.{key_of}
 use Rattle.enc_order.proofs.References.{row_here}

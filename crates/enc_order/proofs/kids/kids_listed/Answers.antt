@@ -1,4 +1,4 @@
-use Rattle.std.proofs.Common.{◌≡◌, ◌∙◌, ◌+◌, ◌++◌, ap, sym, get_or, take}
+use Rattle.std.proofs.Common.{◌∙◌, ◌++◌, ap, get_or}
 use Rattle.enc_base.specs.declared.token.Token.{Token}
 use Rattle.enc_plain.specs.Module.{kids_of}
 use Rattle.enc_order.proofs.Permuted.{no_kids, more_kids, owner_there}

@@ -1,4 +1,4 @@
-use Rattle.std.proofs.Common.{◌≤◌, ◌∙◌, sym, ap, subst, length, drop, arith}
+use Rattle.std.proofs.Common.{sym, subst, length, drop, arith}
 use Rattle.enc_order.specs.Places.{ArePlacedFrom}
 use Rattle.enc_order.proofs.RowSteps.{no_places, one_down}
 use Rattle.enc_order.proofs.rows.places_of.Goals as goal

@@ -1,4 +1,4 @@
-use Rattle.std.proofs.Common.{◌≡◌, ◌∙◌, arith}
+use Rattle.std.proofs.Common.{◌≡◌, arith}
 use Rattle.std.specs.Prelude.{length}
 use Rattle.enc_order.proofs.Staged.{no_front, more_front, all_front}
 use Rattle.enc_order.proofs.stage.depth_entries.Goals as goal

@@ -1,4 +1,4 @@
-use Rattle.std.proofs.Common.{◌≡◌, ◌+◌, map, get_or}
+use Rattle.std.proofs.Common.{◌≡◌}
 use Rattle.enc_order.proofs.Staged.{front_entries}
 use Rattle.enc_order.proofs.stage.depth_entries.Given as goal
 

@@ -1,4 +1,4 @@
-use Rattle.std.proofs.Common.{◌≡◌, ◌∙◌, ◌<◌, ap, sym, subst}
+use Rattle.std.proofs.Common.{◌∙◌, ◌<◌, ap, sym, subst}
 use Rattle.std.specs.Prelude.{◌^◌, length}
 use Rattle.enc_schema.specs.Tables.{type_def}
 use Rattle.enc_order.specs.Keyed.{entries_of}

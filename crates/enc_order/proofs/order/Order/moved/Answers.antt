@@ -1,4 +1,4 @@
-use Rattle.std.proofs.Common.{◌≡◌, ◌∙◌, ◌≤◌, sym, ap, subst, length, get_or}
+use Rattle.std.proofs.Common.{◌≡◌, ◌∙◌, ◌≤◌, ap, subst, length}
 use Rattle.enc_schema.specs.Schema.{list_at}
 use Rattle.enc_order.proofs.Moved.{moves_none, moves_some, there_at}
 use Rattle.enc_order.proofs.order.Order.moved.Goals as goal

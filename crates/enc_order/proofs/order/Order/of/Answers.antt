@@ -1,4 +1,3 @@
-use Rattle.enc_schema.specs.Schema.{list_at}
 use Rattle.enc_order.proofs.Staged.{all_staged}
 use Rattle.enc_order.proofs.order.Order.of.Goals as goal
 
