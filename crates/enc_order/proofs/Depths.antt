@@ -50,7 +50,7 @@ no_row_says m type k sound out low =
     let u = nth_row nested_class k in
     let cell = refer_there (cell_of m u 0) (sound.kinds.kinds u 0 references (row_here m nested_class k low) nested_kind) in
     let good : IsType (row_count m type_def) (token_at (cells_of m) u 0) =
-        subst (IsType (row_count m type_def)) (token_there m u 0 cell.0 cell.1) (nested_type m k cell.0 sound low cell.1) in
+    subst (IsType (row_count m type_def)) (token_there m u 0 cell.0 cell.1) (nested_type m k cell.0 sound low cell.1) in
     says_none (row_count m type_def) type (token_at (cells_of m) u 1).row (token_at (cells_of m) u 0) out good
 
 none_says : {A : Type 0} (rule : ℕ → Option A) (n : ℕ) → ((k : ℕ) → k < n → rule k ≡ None) → first_below rule n ≡ None
@@ -117,7 +117,7 @@ walks_double m steps walks twice sound some are is =
     let e : steps + steps ≡ steps * 2 = omega arith in
     subst (AreWalks m (steps * 2)) (sym is) (subst (λ n. AreWalks m n (map (doubled walks) walks)) e (record {
       count = long_map (doubled walks) walks ∙ are.count;
-      each = λ i low. get_mapped (doubled walks) walks i _ (are.each i low) ∙ ap Some (doubled_is m steps walks (i + 1) sound some are)
+      each = λ i low. get_mapped (doubled walks) walks i _ (are.each i low) ∙ ap Some (doubled_is m steps walks (i + 1) sound some are);
     }))
 
 all_from : {A : Type 0} (p : A → Bool) (xs : List A) → ((i : ℕ) (x : A) → slice_get xs i ≡ Some x → p x ≡ true) → list_all p xs ≡ true
@@ -130,6 +130,7 @@ walks_short m steps walks few are = all_from is_short walks each
   where
     short : (n : ℕ) → n ≤ steps → nat_lt n (2 ^ 31) ≡ true
     short n low = grind (arith, nat_tests)
+
     each : (i : ℕ) (w : Walk) → slice_get walks i ≡ Some w → is_short w ≡ true
     each i w e =
         let low : i < length walks = slice_get_within walks i w e in
@@ -156,12 +157,15 @@ walks_end m steps most walks depths are count enough is =
   where
     counted : length (map (λ (w : Walk). min w.depth most) walks) ≡ row_count m type_def
     counted = long_map (λ (w : Walk). min w.depth most) walks ∙ are.count
+
     long : length (map (λ (w : Walk). min w.depth most) walks) ≡ length (map (λ type. depth_by m (row_count m type_def) type) (map (λ n. n + 1) (below (row_count m type_def))))
     long = counted ∙ sym (long_map (λ type. depth_by m (row_count m type_def) type) (map (λ n. n + 1) (below (row_count m type_def))) ∙ length_below (λ n. n + 1) (row_count m type_def))
+
     bound : (type : ℕ) → min (depth_by m steps type) most ≡ depth_by m (row_count m type_def) type
     bound type =
         let e : steps ≡ most + (steps - most) = omega (arith, enough) in
         ap (λ n. min (depth_by m n type) most) e ∙ sym (depth_bound m most (steps - most) type) ∙ ap (λ n. depth_by m n type) count
+
     each : (i : ℕ) → i < length (map (λ (w : Walk). min w.depth most) walks)
         → slice_get (map (λ (w : Walk). min w.depth most) walks) i ≡ slice_get (map (λ type. depth_by m (row_count m type_def) type) (map (λ n. n + 1) (below (row_count m type_def)))) i
     each i less =

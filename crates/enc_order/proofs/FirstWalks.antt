@@ -31,7 +31,7 @@ pub first_begins : (m : Module) (walks : List Walk) → walks ≡ map (λ (n : �
 first_begins m walks is = record {
   count = ap length is ∙ length_below (λ (n : ℕ). ended) (row_count m type_def);
   each = λ i low. ap (λ xs. slice_get xs i) is ∙ get_below (λ (n : ℕ). ended) (row_count m type_def) i low
-      ∙ ap (λ o. Some (one_step o)) (sym (first_none (enclosing_at m (i + 1))))
+      ∙ ap (λ o. Some (one_step o)) (sym (first_none (enclosing_at m (i + 1))));
 }
 
 get_other : (xs : List Walk) (i j : ℕ) (y : Walk) → i ≢ j → slice_get (slice_set xs i y) j ≡ slice_get xs j
@@ -94,6 +94,7 @@ module _ (walks : List Walk) (enclosing : ℕ) where
     where
       b : suc i - 1 ≡ i
       b = omega arith
+
       by : (o : Option ℕ) → slice_get walks i ≡ Some (one_step o)
           → slice_get (if has_ended (slice_get walks i) then slice_set walks (suc i - 1) (record { around = Some enclosing; depth = 1 }) else walks) i
           ≡ Some (one_step (or_else o (Some enclosing)))
@@ -136,7 +137,7 @@ first_goes_on m k walks are good =
       each = λ i low.
           let e : k + 1 ≡ suc k = omega arith in
           noted_says m k i u.row t walks are good low
-          ∙ ap (λ o. Some (one_step o)) (sym (ap (first_below (enclosing_at m (i + 1))) e ∙ first_suc (enclosing_at m (i + 1)) k))
+          ∙ ap (λ o. Some (one_step o)) (sym (ap (first_below (enclosing_at m (i + 1))) e ∙ first_suc (enclosing_at m (i + 1)) k));
     }
 
 -- with all rows seen, the walks are of one step

@@ -86,6 +86,7 @@ moved_named o kind t v moved none named = by (t.row == 0) refl named
     later : (b : Bool) → (b || true) ≡ true
     later true = refl
     later false = refl
+
     by : (b : Bool) → (t.row == 0) ≡ b → (b || can_name (Coded kind) t.table) ≡ true → ((v.row == 0) || can_name (Coded kind) v.table) ≡ true
     by true e h = let empty : v.row ≡ 0 = none (eqb-true t.row 0 e) in rw empty refl
     by false e h = rw (moved_table o t v moved) (rw h (later (v.row == 0)))

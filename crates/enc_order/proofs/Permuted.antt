@@ -32,7 +32,7 @@ front x (y ∷ ys) some = by (y == x) refl (λ e. front x ys e)
     by true e later = let same : y ≡ x = eqb-true y x e in rw same (IsPermutation-refl (x ∷ ys))
     by false e later =
         let few : count_by (λ j. j == x) (y ∷ ys) ≡ cond false 1 0 + count_by (λ j. j == x) ys =
-            count_cons (λ j. j == x) y ys ∙ ap (λ (b : Bool). cond b 1 0 + count_by (λ j. j == x) ys) e in
+        count_cons (λ j. j == x) y ys ∙ ap (λ (b : Bool). cond b 1 0 + count_by (λ j. j == x) ys) e in
         IsPermutation-trans _ _ _ (IsPermutation-cons y _ _ (later (omega (arith, some, few)))) (IsPermutation-middle (y ∷ []) x (without x ys))
 
 -- lists that have each number equally often have the same elements
@@ -41,18 +41,18 @@ same_counts [] [] same = IsPermutation-refl []
 same_counts [] (y ∷ ys) same =
     let here : (y == y) ≡ true = eq-eqb y y refl in
     let many : count_by (λ j. j == y) (y ∷ ys) ≡ 1 + count_by (λ j. j == y) ys =
-        count_cons (λ j. j == y) y ys ∙ ap (λ (b : Bool). cond b 1 0 + count_by (λ j. j == y) ys) here in
+    count_cons (λ j. j == y) y ys ∙ ap (λ (b : Bool). cond b 1 0 + count_by (λ j. j == y) ys) here in
     absurd (omega (arith, same y, many))
 same_counts (x ∷ xs) ys same =
     let here : (x == x) ≡ true = eq-eqb x x refl in
     let many : count_by (λ j. j == x) (x ∷ xs) ≡ 1 + count_by (λ j. j == x) xs =
-        count_cons (λ j. j == x) x xs ∙ ap (λ (b : Bool). cond b 1 0 + count_by (λ j. j == x) xs) here in
+    count_cons (λ j. j == x) x xs ∙ ap (λ (b : Bool). cond b 1 0 + count_by (λ j. j == x) xs) here in
     let moved : IsPermutation ys (x ∷ without x ys) = front x ys (omega (arith, same x, many)) in
     let rest : IsPermutation xs (without x ys) = same_counts xs (without x ys) (λ k.
-        let a = count_cons (λ j. j == k) x xs in
-        let b = count_cons (λ j. j == k) x (without x ys) in
-        let c : count_by (λ j. j == k) (x ∷ without x ys) ≡ count_by (λ j. j == k) ys = sum_by-IsPermutation (λ j. cond (j == k) 1 0) ys (x ∷ without x ys) moved in
-        omega (arith, a, b, c, same k)) in
+    let a = count_cons (λ j. j == k) x xs in
+    let b = count_cons (λ j. j == k) x (without x ys) in
+    let c : count_by (λ j. j == k) (x ∷ without x ys) ≡ count_by (λ j. j == k) ys = sum_by-IsPermutation (λ j. cond (j == k) 1 0) ys (x ∷ without x ys) moved in
+    omega (arith, a, b, c, same k)) in
     IsPermutation-trans _ _ _ (IsPermutation-cons x _ _ rest) (IsPermutation-sym _ _ moved)
 
 -- the rows of a table have each number up to their count once
@@ -135,7 +135,7 @@ module _ (m : Module) (child : ℕ) (there : is_child_table child ≡ true) wher
       let e : suc n ≡ n + 1 = omega arith in
       let x = some_there (rows_in m (owner_table child)) n (omega (arith, low)) in
       let more : map (λ i. i + 1) (below (suc n)) ≡ map (λ i. i + 1) (below n) ++ (n + 1) ∷ [] =
-          ap (λ k. map (λ i. i + 1) (below k)) e ∙ sym (more_mapped (λ i. i + 1) n) in
+      ap (λ k. map (λ i. i + 1) (below k)) e ∙ sym (more_mapped (λ i. i + 1) n) in
       ap (flat_map (λ row. kids_of m (record { table = owner_table child; row = row }) child)) more
       ∙ flat_last (λ row. kids_of m (record { table = owner_table child; row = row }) child) (map (λ i. i + 1) (below n)) (n + 1)
       ∙ ap (λ xs. xs ++ kids_of m (nth_row (owner_table child) n) child) (kids_upto n (omega (arith, low)))
@@ -216,6 +216,7 @@ more_kids m child i d owners old rows new low before is after =
   where
     f : ℕ → List ℕ
     f row = kids_of m (record { table = owner_table child; row = row }) child
+
     got : (xs : List ℕ) (i : ℕ) → i < length xs → slice_get xs i ≡ Some (get_or xs i d)
     got [] i low = absurd (omega (arith, low))
     got (x ∷ xs) zero low = refl

@@ -48,7 +48,7 @@ pub no_places : (old : List ℕ) → ArePlacedFrom (length old) (length old) (dr
 unfolding place_behind
 no_places old = record {
   count = length_below (λ n. n + 1) (length old);
-  each = λ i low. get_below (λ n. n + 1) (length old) i low ∙ ap (λ xs. Some (place_behind (length old) xs (i + 1))) (sym (drop_whole old))
+  each = λ i low. get_below (λ n. n + 1) (length old) i low ∙ ap (λ xs. Some (place_behind (length old) xs (i + 1))) (sym (drop_whole old));
 }
 
 step : (old new : List ℕ) (i d : ℕ) → ArePlacedFrom (i + 1) (length old) (drop (i + 1) old) new → i < length old
@@ -56,16 +56,19 @@ step : (old new : List ℕ) (i d : ℕ) → ArePlacedFrom (i + 1) (length old) (
     → ArePlacedFrom i (length old) (drop i old) (slice_set new (slice_index_or old i d - 1) (i + 1))
 step old new i d are low rows = record {
   count = length-set new (slice_index_or old i d - 1) (i + 1) ∙ are.count;
-  each = λ j less. by j less (slice_index_or old i d == j + 1) refl
+  each = λ j less. by j less (slice_index_or old i d == j + 1) refl;
 }
   where
     is_row : is_row_of (length old) (slice_index_or old i d) ≡ true
     is_row = row_at (is_row_of (length old)) old i d rows low
+
     some : 1 ≤ slice_index_or old i d
     some = let row = is_row in grind (arith, nat_tests)
+
     place : (j : ℕ) (b : Bool) → (slice_index_or old i d == j + 1) ≡ b
         → place_behind i (drop i old) (j + 1) ≡ (if b then i + 1 else place_behind (i + 1) (drop (i + 1) old) (j + 1))
     place j b e = ap (λ xs. place_behind i xs (j + 1)) (drop_one old i d low) ∙ place_by i (slice_index_or old i d) (j + 1) (drop (i + 1) old) b e
+
     by : (j : ℕ) → j < length old → (b : Bool) → (slice_index_or old i d == j + 1) ≡ b
         → slice_get (slice_set new (slice_index_or old i d - 1) (i + 1)) j ≡ Some (place_behind i (drop i old) (j + 1))
     by j less true e =

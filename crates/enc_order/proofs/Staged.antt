@@ -131,7 +131,7 @@ pub all_orders : (m : Module) (f : Orders) (lists : List (List ℕ)) → IsSound
     → lists ≡ map f (below table_count) → AreOrdersOf m lists
 all_orders m f lists sound each is = record {
   count = ap length is ∙ length_below f table_count;
-  each = λ t. subst (IsPermutation (rows_listed m t)) (sym (ap (λ o. o t) (all_tables m f lists sound each is))) (each t)
+  each = λ t. subst (IsPermutation (rows_listed m t)) (sym (ap (λ o. o t) (all_tables m f lists sound each is))) (each t);
 }
 
 -- a list of tables, one more
@@ -233,8 +233,8 @@ agree f g zero same = refl
 agree {X} f g (suc n) same =
     let e : n + 1 ≡ suc n = omega arith in
     let step : map f (below (n + 1)) ≡ map g (below (n + 1)) =
-        sym (more_mapped f n) ∙ ap (λ xs. xs ++ f n ∷ []) (agree f g n (λ i low. same i (omega (arith, low))))
-        ∙ ap (λ x. map g (below n) ++ x ∷ []) (same n (omega arith)) ∙ more_mapped g n in
+    sym (more_mapped f n) ∙ ap (λ xs. xs ++ f n ∷ []) (agree f g n (λ i low. same i (omega (arith, low))))
+    ∙ ap (λ x. map g (below n) ++ x ∷ []) (same n (omega arith)) ∙ more_mapped g n in
     subst (λ k. map f (below k) ≡ map g (below k)) e step
 
 map_after : {X : Type 0} (f : ℕ → X) (xs : List ℕ) → map (λ i. f (i + 1)) xs ≡ map f (map (λ n. n + 1) xs)

@@ -66,7 +66,7 @@ position_is (None ∷ xs) (suc i) t once at = position_cons (is_some_table t) No
 position_is (Some u ∷ xs) (suc i) t once at =
     let both = and_parts (not (list_any (is_some_table u) xs)) (no_twice xs) once in
     let other : (u == t) ≡ false =
-        ne_eqb u t (λ e. not_true (list_any (is_some_table u) xs) both.0 (listed xs i u (at ∙ ap (λ k. Some k) (sym e)))) in
+    ne_eqb u t (λ e. not_true (list_any (is_some_table u) xs) both.0 (listed xs i u (at ∙ ap (λ k. Some k) (sym e)))) in
     position_cons (is_some_table t) (Some u) xs ∙ rw other (ap (option_map suc) (position_is xs i t both.1 at))
 
 tag_is : (kind : Coding) (tag t : ℕ) → table_with kind tag ≡ Some t → tag_of kind t ≡ tag

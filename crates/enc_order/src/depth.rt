@@ -16,6 +16,7 @@ use std::alloc::{AllocError, Global};
 
 /// The columns of NestedClass.
 const NESTED_CLASS_NESTED_CLASS: u8 = 0;
+
 const NESTED_CLASS_ENCLOSING_CLASS: u8 = 1;
 
 /// Where a walk from a type through the types around it has come to, None where it has ended, and how

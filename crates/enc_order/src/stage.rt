@@ -20,8 +20,8 @@ use crate::sorting::{Entry, sorted_rows};
 use enc_plain::ModuleView;
 use enc_schema::owner_table;
 use enc_schema::tables::{
-    CUSTOM_ATTRIBUTE, EVENT, FIELD, GENERIC_PARAM_CONSTRAINT, METHOD_DEF, PARAM, PROPERTY, TABLE_COUNT,
-    TYPE_DEF,
+    CUSTOM_ATTRIBUTE, EVENT, FIELD, GENERIC_PARAM_CONSTRAINT, METHOD_DEF, PARAM, PROPERTY,
+    TABLE_COUNT, TYPE_DEF,
 };
 use std::alloc::{AllocError, Global};
 

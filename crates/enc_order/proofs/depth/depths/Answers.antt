@@ -11,15 +11,14 @@ all_doubled-requires g c =
     let at = c.loop-steps.invariant in
     record {
       short = subst (λ xs. list_all is_short xs ≡ true) (sym c.deref.ensures.value)
-          (walks_short (g.V.ModuleView.meaning c.args.view.now) c.loop-steps.steps c.loop-steps.walks.items (omega (arith, at.1)) at.2)
+          (walks_short (g.V.ModuleView.meaning c.args.view.now) c.loop-steps.steps c.loop-steps.walks.items (omega (arith, at.1)) at.2);
     }
 
 pub loop-steps-preserved : goal.loop-steps-preserved
 loop-steps-preserved g c =
     let at = c.loop-steps.invariant in
     let few = c.count-count.ensures.few in
-    let on = c.loop-steps-test.true in
-    (
+    let on = c.loop-steps-test.true in (
       omega (arith, at.0),
       omega (arith, few, on),
       walks_double (g.V.ModuleView.meaning c.args.view.now) c.loop-steps.steps c.loop-steps.walks.items _ c.requires.sound at.0 at.2

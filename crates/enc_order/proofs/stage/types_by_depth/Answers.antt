@@ -8,7 +8,7 @@ use Rattle.enc_order.proofs.stage.types_by_depth.Goals as goal
 pub depth_entries-requires : goal.depth_entries-requires
 depth_entries-requires g c = record {
   few = subst (λ xs. length xs < 2 ^ 24) (sym c.deref.ensures.value)
-      (depths_few (g.V.ModuleView.meaning c.args.view.now) type_def _ c.requires.sound c.in_ok-depths.ensures)
+      (depths_few (g.V.ModuleView.meaning c.args.view.now) type_def _ c.requires.sound c.in_ok-depths.ensures);
 }
 
 pub returns : goal.returns

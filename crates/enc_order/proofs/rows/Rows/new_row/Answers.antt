@@ -17,6 +17,6 @@ returns-clause-moved c =
 pub returns-clause-low : goal.returns-clause-low
 returns-clause-low c =
     let is : c.unwrap_or.result ≡ new_row c.args.self.now c.args.row =
-        goes_to c.args.self.now _ _ _ _ c.args.row _ c.self.view_is c.self.invariant c.deref-places.ensures.value (omega (arith, c.if-row-eq0.false))
-        c.number_at.ensures c.unwrap_or.ensures in
+    goes_to c.args.self.now _ _ _ _ c.args.row _ c.self.view_is c.self.invariant c.deref-places.ensures.value (omega (arith, c.if-row-eq0.false))
+    c.number_at.ensures c.unwrap_or.ensures in
     λ low. subst (λ n. n < 2 ^ 24) (sym is) (goes_low c.args.self.now _ _ c.args.row c.self.view_is c.self.invariant low)

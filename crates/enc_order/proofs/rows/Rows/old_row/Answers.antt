@@ -15,6 +15,6 @@ returns-clause-row c =
 pub returns-clause-low : goal.returns-clause-low
 returns-clause-low c =
     let is : c.unwrap_or.result ≡ old_row c.args.self.now c.args.place =
-        comes_to c.args.self.now _ _ _ c.args.place _ c.self.view_is c.deref-rows.ensures.value (omega (arith, c.if-place-eq0.false))
-        c.number_at.ensures c.unwrap_or.ensures in
+    comes_to c.args.self.now _ _ _ c.args.place _ c.self.view_is c.deref-rows.ensures.value (omega (arith, c.if-place-eq0.false))
+    c.number_at.ensures c.unwrap_or.ensures in
     λ low. subst (λ n. n < 2 ^ 24) (sym is) (comes_low c.args.self.now _ _ c.args.place c.self.view_is c.self.invariant low)
