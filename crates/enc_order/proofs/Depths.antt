@@ -1,5 +1,6 @@
 -- All depths by walks whose steps double.
-use Rattle.std.proofs.Common.{◌≡◌, ℕ, zero, suc, ◌+◌, ◌-◌, ◌*◌, ◌<◌, ◌≤◌, ◌^◌, Bool, true, false, List, [], ◌∷◌, length, map, Option, Some, None, refl, sym, ap, subst, ◌∙◌, arith, inl, inr}
+use Rattle.std.proofs.Common.{◌≡◌, ℕ, zero, suc, ◌+◌, ◌-◌, ◌*◌, ◌<◌, ◌≤◌, ◌^◌, Bool, true, false, List, [], ◌∷◌, length, map, Option, Some, None, refl, sym, ap}
+use Rattle.std.proofs.Common.{subst, ◌∙◌, arith, inl, inr}
 use Rattle.std.specs.Prelude.{◌⊎◌, min, slice_get, option_map, option_and_then, nat_lt, unwrap_or}
 use Rattle.std.specs.List.{list_all}
 use Rattle.std.proofs.lemmas.Bool.{and_from, ne_eqb, cases_lt}
@@ -100,7 +101,8 @@ doubled_is : (m : Module) (steps : ℕ) (walks : List Walk) (type : ℕ) → IsS
     ≡ record { around = reached m (steps + steps) type; depth = depth_by m (steps + steps) type }
 unfolding doubled
 doubled_is m steps walks type sound some are =
-    going_is m steps walks (reached m steps type) (depth_by m steps type) sound some are ∙ rw (reached_more m steps steps type, depth_more m steps steps type) refl
+    going_is m steps walks (reached m steps type) (depth_by m steps type) sound some are
+    ∙ rw (reached_more m steps steps type, depth_more m steps steps type) refl
 
 long_map : {A B : Type 0} (f : A → B) (xs : List A) → length (map f xs) ≡ length xs
 long_map f [] = refl
@@ -153,13 +155,16 @@ pub walks_end : (m : Module) (steps most : ℕ) (walks : List Walk) (depths : Li
     → depths ≡ map (λ (w : Walk). min w.depth most) walks → depths ≡ map (depth m) (rows_listed m type_def)
 unfolding depth rows_listed
 walks_end m steps most walks depths are count enough is =
-    is ∙ same_lists (map (λ (w : Walk). min w.depth most) walks) (map (λ type. depth_by m (row_count m type_def) type) (map (λ n. n + 1) (below (row_count m type_def)))) long each
+    is ∙ same_lists (map (λ (w : Walk). min w.depth most) walks) (map (λ type. depth_by m (row_count m type_def) type) all_types) long each
   where
+    all_types : List ℕ
+    all_types = map (λ n. n + 1) (below (row_count m type_def))
+
     counted : length (map (λ (w : Walk). min w.depth most) walks) ≡ row_count m type_def
     counted = long_map (λ (w : Walk). min w.depth most) walks ∙ are.count
 
-    long : length (map (λ (w : Walk). min w.depth most) walks) ≡ length (map (λ type. depth_by m (row_count m type_def) type) (map (λ n. n + 1) (below (row_count m type_def))))
-    long = counted ∙ sym (long_map (λ type. depth_by m (row_count m type_def) type) (map (λ n. n + 1) (below (row_count m type_def))) ∙ length_below (λ n. n + 1) (row_count m type_def))
+    long : length (map (λ (w : Walk). min w.depth most) walks) ≡ length (map (λ type. depth_by m (row_count m type_def) type) all_types)
+    long = counted ∙ sym (long_map (λ type. depth_by m (row_count m type_def) type) all_types ∙ length_below (λ n. n + 1) (row_count m type_def))
 
     bound : (type : ℕ) → min (depth_by m steps type) most ≡ depth_by m (row_count m type_def) type
     bound type =
@@ -167,8 +172,8 @@ walks_end m steps most walks depths are count enough is =
         ap (λ n. min (depth_by m n type) most) e ∙ sym (depth_bound m most (steps - most) type) ∙ ap (λ n. depth_by m n type) count
 
     each : (i : ℕ) → i < length (map (λ (w : Walk). min w.depth most) walks)
-        → slice_get (map (λ (w : Walk). min w.depth most) walks) i ≡ slice_get (map (λ type. depth_by m (row_count m type_def) type) (map (λ n. n + 1) (below (row_count m type_def)))) i
+        → slice_get (map (λ (w : Walk). min w.depth most) walks) i ≡ slice_get (map (λ type. depth_by m (row_count m type_def) type) all_types) i
     each i less =
         let low : i < row_count m type_def = omega (arith, less, counted) in
         get_mapped (λ (w : Walk). min w.depth most) walks i _ (are.each i low) ∙ ap Some (bound (i + 1))
-        ∙ sym (get_mapped (λ type. depth_by m (row_count m type_def) type) (map (λ n. n + 1) (below (row_count m type_def))) i (i + 1) (get_below (λ n. n + 1) (row_count m type_def) i low))
+        ∙ sym (get_mapped (λ type. depth_by m (row_count m type_def) type) all_types i (i + 1) (get_below (λ n. n + 1) (row_count m type_def) i low))

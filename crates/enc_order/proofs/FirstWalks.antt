@@ -1,5 +1,6 @@
 -- Walks of one step: of each type the first row of NestedClass that has it tells the type around it.
-use Rattle.std.proofs.Common.{◌≡◌, ℕ, zero, suc, ◌+◌, ◌-◌, ◌<◌, ◌≤◌, Bool, true, false, List, [], ◌∷◌, ◌++◌, length, map, Option, Some, None, refl, sym, ap, subst, ◌∙◌, arith, slice_set, take, drop, inl, inr}
+use Rattle.std.proofs.Common.{◌≡◌, ℕ, zero, suc, ◌+◌, ◌-◌, ◌<◌, ◌≤◌, Bool, true, false, List, [], ◌∷◌, ◌++◌, length, map, Option, Some, None, refl, sym, ap}
+use Rattle.std.proofs.Common.{subst, ◌∙◌, arith, slice_set, take, drop, inl, inr}
 use Rattle.std.specs.Prelude.{◌≢◌, ◌==◌, is_none, slice_get, option_and_then, if◌then◌else◌}
 use Rattle.std.proofs.lemmas.Bool.{eq-eqb, ne_eqb, cases_eq}
 use Rattle.std.specs.Prelude.{◌⊎◌}
@@ -104,7 +105,8 @@ module _ (walks : List Walk) (enclosing : ℕ) where
 pub nil_says : (t : Token) (enclosing type : ℕ) → t ≡ nil → said t enclosing type ≡ None
 nil_says t enclosing type e = rw e refl
 
-pub row_says : (t : Token) (enclosing type : ℕ) (b : Bool) → t.table ≡ type_def → (t.row == type) ≡ b → said t enclosing type ≡ (if b then Some enclosing else None)
+pub row_says : (t : Token) (enclosing type : ℕ) (b : Bool) → t.table ≡ type_def → (t.row == type) ≡ b
+    → said t enclosing type ≡ (if b then Some enclosing else None)
 row_says t enclosing type b e f = rw (e, f) refl
 
 -- one row more
@@ -112,13 +114,15 @@ noted_says : (m : Module) (k i enclosing : ℕ) (t : Token) (walks : List Walk) 
     → slice_get (noted t.row enclosing walks) i ≡ Some (one_step (or_else (first_below (enclosing_at m (i + 1)) k) (said t enclosing (i + 1))))
 noted_says m k i enclosing t walks are (inl empty) low =
     ap (λ xs. slice_get xs i) (nil_noted walks enclosing t.row (ap (λ (u : Token). u.row) empty)) ∙ are.each i low
-    ∙ ap (λ o. Some (one_step o)) (sym (still (first_below (enclosing_at m (i + 1)) k)) ∙ ap (or_else (first_below (enclosing_at m (i + 1)) k)) (sym (nil_says t enclosing (i + 1) empty)))
+    ∙ ap (λ o. Some (one_step o)) (sym (still (first_below (enclosing_at m (i + 1)) k))
+    ∙ ap (or_else (first_below (enclosing_at m (i + 1)) k)) (sym (nil_says t enclosing (i + 1) empty)))
 noted_says m k i enclosing t walks are (inr row) low = elim (cases_eq t.row (i + 1)) [
   | inl same ↦
       let e : t.row ≡ suc i = omega (arith, same) in
       let long : i < length walks = omega (arith, low, are.count) in
       ap (λ n. slice_get (noted n enclosing walks) i) e ∙ noted_here walks enclosing i (first_below (enclosing_at m (i + 1)) k) long (are.each i low)
-      ∙ ap (λ o. Some (one_step (or_else (first_below (enclosing_at m (i + 1)) k) o))) (sym (row_says t enclosing (i + 1) true row.0 (eq-eqb t.row (i + 1) same)))
+      ∙ ap (λ o. Some (one_step (or_else (first_below (enclosing_at m (i + 1)) k) o)))
+      (sym (row_says t enclosing (i + 1) true row.0 (eq-eqb t.row (i + 1) same)))
   | inr other ↦
       noted_other walks enclosing t.row i row.1 other ∙ are.each i low
       ∙ ap (λ o. Some (one_step o)) (sym (still (first_below (enclosing_at m (i + 1)) k))

@@ -79,7 +79,8 @@ unfolding moved_by
 moved_table o t v moved = ap (λ (w : Token). w.table) moved
 
 -- a token is of a table of the coding once it is moved, too
-pub moved_named : (o : Orders) (kind : Coding) (t v : Token) → v ≡ moved_by o t → (t.row ≡ 0 → v.row ≡ 0) → ((t.row == 0) || can_name (Coded kind) t.table) ≡ true
+pub moved_named : (o : Orders) (kind : Coding) (t v : Token) → v ≡ moved_by o t → (t.row ≡ 0 → v.row ≡ 0)
+    → ((t.row == 0) || can_name (Coded kind) t.table) ≡ true
     → ((v.row == 0) || can_name (Coded kind) v.table) ≡ true
 moved_named o kind t v moved none named = by (t.row == 0) refl named
   where

@@ -177,7 +177,8 @@ key_first {A} key k z zs (y ∷ rest) is = by (key y == k) refl is (key_first ke
 -- a stable sort gives the sorted list
 pub sorted_is : {A : Type 0} (key : A → ℕ) (xs ys : List A) → IsNonDecreasingBy key ys → IsStableByKey key nat_cmp xs ys → ys ≡ sorted_by key xs
 sorted_is {A} key xs ys up stable =
-    only_one key ys (sorted_by key xs) (rises_from key ys up) (sorted_rises key xs) (λ k. by k (of_key key k ys) (of_key key k xs) refl refl ∙ sym (sorted_ties key k xs))
+    only_one key ys (sorted_by key xs) (rises_from key ys up) (sorted_rises key xs)
+    (λ k. by k (of_key key k ys) (of_key key k xs) refl refl ∙ sym (sorted_ties key k xs))
   where
     at : (k : ℕ) (x : A) → key x ≡ k → of_key key k ys ≡ of_key key k xs
     at k x e =

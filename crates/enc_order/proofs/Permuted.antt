@@ -1,5 +1,6 @@
 -- Orders of a table's rows: each stands once, and children keep to their owners.
-use Rattle.std.proofs.Common.{◌≡◌, ℕ, zero, suc, ◌+◌, ◌<◌, ◌≤◌, ◌^◌, Bool, true, false, List, [], ◌∷◌, ◌++◌, length, map, get_or, take, cond, Some, refl, sym, ap, subst, ◌∙◌, arith, append_assoc}
+use Rattle.std.proofs.Common.{◌≡◌, ℕ, zero, suc, ◌+◌, ◌<◌, ◌≤◌, ◌^◌, Bool, true, false, List, [], ◌∷◌, ◌++◌, length, map, get_or, take, cond, Some, refl, sym}
+use Rattle.std.proofs.Common.{ap, subst, ◌∙◌, arith, append_assoc}
 use Rattle.std.specs.Prelude.{◌==◌, ◌&&◌, ◌||◌, not, nat_le, nat_lt, slice_get, flat_map, count_by, sum_by, if◌then◌else◌}
 use Rattle.std.specs.List.{list_all, list_any}
 use Rattle.std.specs.List.Sorted.{IsPermutation}
@@ -7,7 +8,8 @@ use Rattle.std.proofs.lemmas.Bool.{and_parts, eq-eqb, eqb-true}
 use Rattle.std.proofs.lemmas.Bool.Decides.{nat_tests}
 use Rattle.std.proofs.lemmas.List.{append-nil}
 use Rattle.std.proofs.lemmas.List.Sums.{sum_by-cons}
-use Rattle.std.proofs.lemmas.List.Sorted.{IsPermutation-refl, IsPermutation-cons, IsPermutation-trans, IsPermutation-sym, IsPermutation-middle, length_permutation, sum_by-IsPermutation, list_any-IsPermutation}
+use Rattle.std.proofs.lemmas.List.Sorted.{IsPermutation-refl, IsPermutation-cons, IsPermutation-trans, IsPermutation-sym, IsPermutation-middle}
+use Rattle.std.proofs.lemmas.List.Sorted.{length_permutation, sum_by-IsPermutation, list_any-IsPermutation}
 use Rattle.enc_base.specs.Token.{nth_row}
 use Rattle.enc_plain.specs.Module.{Module, Row, rows_in, row_at, row_of, has_row, kids_at, kids_of, kids_with}
 use Rattle.enc_plain.specs.Sound.{IsSound, row_count, all_kids, IsOwned}
@@ -28,7 +30,8 @@ front : (x : ℕ) (ys : List ℕ) → 1 ≤ count_by (λ j. j == x) ys → IsPer
 front x [] some = absurd (omega (arith, some))
 front x (y ∷ ys) some = by (y == x) refl (λ e. front x ys e)
   where
-    by : (b : Bool) → (y == x) ≡ b → (1 ≤ count_by (λ j. j == x) ys → IsPermutation ys (x ∷ without x ys)) → IsPermutation (y ∷ ys) (x ∷ (if b then ys else y ∷ without x ys))
+    by : (b : Bool) → (y == x) ≡ b → (1 ≤ count_by (λ j. j == x) ys → IsPermutation ys (x ∷ without x ys))
+        → IsPermutation (y ∷ ys) (x ∷ (if b then ys else y ∷ without x ys))
     by true e later = let same : y ≡ x = eqb-true y x e in rw same (IsPermutation-refl (x ∷ ys))
     by false e later =
         let few : count_by (λ j. j == x) (y ∷ ys) ≡ cond false 1 0 + count_by (λ j. j == x) ys =
@@ -207,7 +210,8 @@ rows_few m table rows sound moved = omega (arith, rows_long m table rows moved, 
 
 -- the children of one owner more
 pub more_kids : (m : Module) (child i d : ℕ) (owners old rows new : List ℕ) → i < length owners → old ≡ kids_listed m (take i owners) child
-    → rows ≡ kids_of m (record { table = owner_table child; row = get_or owners i d }) child → new ≡ old ++ rows → new ≡ kids_listed m (take (i + 1) owners) child
+    → rows ≡ kids_of m (record { table = owner_table child; row = get_or owners i d }) child → new ≡ old ++ rows
+    → new ≡ kids_listed m (take (i + 1) owners) child
 unfolding kids_listed
 more_kids m child i d owners old rows new low before is after =
     let e : i + 1 ≡ suc i = omega arith in

@@ -1,5 +1,6 @@
 -- Where rows stand in a new order, and which stand there.
-use Rattle.std.proofs.Common.{◌≡◌, ℕ, zero, suc, ◌+◌, ◌-◌, ◌<◌, ◌≤◌, ◌^◌, Bool, true, false, List, [], ◌∷◌, length, Option, Some, None, refl, sym, ap, subst, ◌∙◌, arith}
+use Rattle.std.proofs.Common.{◌≡◌, ℕ, zero, suc, ◌+◌, ◌-◌, ◌<◌, ◌≤◌, ◌^◌, Bool, true, false, List, [], ◌∷◌, length, Option, Some, None, refl, sym, ap, subst}
+use Rattle.std.proofs.Common.{◌∙◌, arith}
 use Rattle.std.specs.Prelude.{◌==◌, slice_get, unwrap_or, if◌then◌else◌}
 use Rattle.std.specs.List.{list_all}
 use Rattle.std.proofs.lemmas.Bool.{and_parts, ne_eqb}
@@ -134,6 +135,7 @@ pub comes_low : (self old new : List ℕ) (place : ℕ) → old ≡ self → Are
 comes_low self old new place same are low = subst (λ xs. old_row xs place < 2 ^ 24) same (old_row_low old new place are low)
 
 -- what is found for each row
-pub are_places : (old new : List ℕ) → length old < 2 ^ 24 → list_all (is_row_of (length old)) old ≡ true → ArePlacedFrom 0 (length old) old new → ArePlaces old new
+pub are_places : (old new : List ℕ) → length old < 2 ^ 24 → list_all (is_row_of (length old)) old ≡ true
+    → ArePlacedFrom 0 (length old) old new → ArePlaces old new
 unfolding new_row
 are_places old new few rows placed = record { few = few; rows = rows; count = placed.count; each = placed.each }

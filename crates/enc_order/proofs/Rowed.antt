@@ -23,7 +23,8 @@ unfolding below
 more_mapped f n =
     let e : n + 1 ≡ suc n = omega arith in
     let z : 0 + n ≡ n = omega arith in
-    sym (map_more f (range_with_len 0 n) n) ∙ ap (λ k. map f (range_with_len 0 n ++ k ∷ [])) (sym z) ∙ ap (map f) (sym (from_suc 0 n)) ∙ ap (λ k. map f (range_with_len 0 k)) (sym e)
+    sym (map_more f (range_with_len 0 n) n) ∙ ap (λ k. map f (range_with_len 0 n ++ k ∷ [])) (sym z)
+    ∙ ap (map f) (sym (from_suc 0 n)) ∙ ap (λ k. map f (range_with_len 0 k)) (sym e)
 
 pub more_upto : (n : ℕ) → map (λ k. k + 1) (below n) ++ (n + 1) ∷ [] ≡ map (λ k. k + 1) (below (n + 1))
 more_upto n = more_mapped (λ k. k + 1) n

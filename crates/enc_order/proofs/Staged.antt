@@ -1,5 +1,6 @@
 -- What a stage gives: the rows of each table, each once.
-use Rattle.std.proofs.Common.{◌≡◌, ℕ, zero, suc, ◌+◌, ◌<◌, ◌≤◌, ◌^◌, Bool, true, false, List, [], ◌∷◌, ◌++◌, length, map, get_or, Some, refl, sym, ap, subst, ◌∙◌, arith, inl, inr}
+use Rattle.std.proofs.Common.{◌≡◌, ℕ, zero, suc, ◌+◌, ◌<◌, ◌≤◌, ◌^◌, Bool, true, false, List, [], ◌∷◌, ◌++◌, length, map, get_or, Some, refl, sym, ap, subst}
+use Rattle.std.proofs.Common.{◌∙◌, arith, inl, inr}
 use Rattle.std.specs.Prelude.{◌==◌, ◌||◌, slice_get, unwrap_or, if◌then◌else◌}
 use Rattle.std.specs.List.{list_all}
 use Rattle.std.specs.List.Sorted.{IsPermutation}
@@ -16,7 +17,8 @@ use Rattle.enc_schema.specs.Tables.{table_count}
 use Rattle.enc_order.specs.Depth.{depth}
 use Rattle.enc_order.specs.Keyed.{entry_key, entry_row, entry_of, entries_of}
 use Rattle.enc_order.specs.declared.sorting.Entry.{Entry}
-use Rattle.enc_order.specs.Orders.{Orders, rows_listed, kids_listed, keyed_rows, key_of, is_member_table, by_depth, by_owner, by_method, by_key, by_param, by_attribute, new_order}
+use Rattle.enc_order.specs.Orders.{Orders, rows_listed, kids_listed, keyed_rows, key_of, is_member_table, by_depth, by_owner, by_method, by_key, by_param}
+use Rattle.enc_order.specs.Orders.{by_attribute, new_order}
 use Rattle.enc_order.specs.Places.{is_row_of}
 use Rattle.enc_order.specs.Sorted.{sorted_by}
 use Rattle.enc_order.specs.Stages.{stage_of, is_ordered, ordered_rows, AreOrdersOf}
@@ -30,7 +32,8 @@ use Rattle.enc_order.proofs.Rowed.{more_mapped}
 
 -- a stage orders some tables, and all others stay
 methods : (m : Module) (before : Orders) (table : ℕ) (b : Bool) → (table == tables.param) ≡ b
-    → (if b then kids_listed m (before tables.method_def) table else before table) ≡ (if b then kids_listed m (before (owner_table table)) table else before table)
+    → (if b then kids_listed m (before tables.method_def) table else before table)
+    ≡ (if b then kids_listed m (before (owner_table table)) table else before table)
 methods m before table true e = let is : table ≡ tables.param = eqb-true table tables.param e in rw is refl
 methods m before table false e = refl
 
@@ -98,7 +101,8 @@ stage_permutes stage m lists sound are table =
 pub ordered_few : (stage : Stage) (m : Module) (tables : List (List ℕ)) (table : ℕ) (rows : List ℕ) → IsSound m → AreOrdersOf m tables
     → is_ordered stage table ≡ true → rows ≡ ordered_rows stage m (list_at tables) table → length rows < 2 ^ 24
 ordered_few stage m lists table rows sound are on is =
-    subst (λ xs. length xs < 2 ^ 24) (sym is) (rows_few m table (ordered_rows stage m (list_at lists) table) sound (ordered_permute stage m lists table sound are on))
+    subst (λ xs. length xs < 2 ^ 24) (sym is)
+    (rows_few m table (ordered_rows stage m (list_at lists) table) sound (ordered_permute stage m lists table sound are on))
 
 pub ordered_fit : (stage : Stage) (m : Module) (tables : List (List ℕ)) (table : ℕ) (rows : List ℕ) → IsSound m → AreOrdersOf m tables
     → is_ordered stage table ≡ true → rows ≡ ordered_rows stage m (list_at tables) table → list_all (is_row_of (length rows)) rows ≡ true

@@ -1,5 +1,6 @@
 -- The number that stands for a token in a coded column.
-use Rattle.std.proofs.Common.{◌≡◌, ◌≢◌, ℕ, zero, suc, ◌+◌, ◌*◌, ◌/◌, ◌%◌, ◌^◌, ◌<◌, ◌≤◌, Bool, true, false, List, [], ◌∷◌, length, get_or, Option, Some, None, option_map, refl, sym, ◌∙◌, ap, arith}
+use Rattle.std.proofs.Common.{◌≡◌, ◌≢◌, ℕ, zero, suc, ◌+◌, ◌*◌, ◌/◌, ◌%◌, ◌^◌, ◌<◌, ◌≤◌, Bool, true, false, List, [], ◌∷◌, length, get_or, Option, Some, None}
+use Rattle.std.proofs.Common.{option_map, refl, sym, ◌∙◌, ap, arith}
 use Rattle.std.specs.Prelude.{◌&&◌, ◌||◌, ◌==◌, not, position, option_and_then, slice_get, nat_le, unwrap_or, if◌then◌else◌}
 use Rattle.std.specs.List.{list_any}
 use Rattle.std.proofs.lemmas.Bool.{and_parts, ne_eqb, eq-eqb, eqb-true}
@@ -130,7 +131,8 @@ by_tag : (table : ℕ) (o : Option ℕ) (rest : List (Option ℕ)) (b : Bool) �
 by_tag table o rest true is later e = (0, omega arith, tag_test table o true is refl)
 by_tag table o rest false is later e = let r = later e in (suc r.0, omega (arith, r.1), r.2)
 
-tag_there : (table : ℕ) (tables : List (Option ℕ)) → list_any (is_tables table) tables ≡ true → (tag : ℕ) × (tag < length tables) × (get_or tables tag None ≡ Some table)
+tag_there : (table : ℕ) (tables : List (Option ℕ)) → list_any (is_tables table) tables ≡ true
+    → (tag : ℕ) × (tag < length tables) × (get_or tables tag None ≡ Some table)
 tag_there table [] e = absurd cc
 tag_there table (o ∷ rest) e = by_tag table o rest (is_tables table o) refl (λ f. tag_there table rest f) e
 

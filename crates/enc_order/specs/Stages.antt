@@ -3,7 +3,8 @@ use Rattle.std.specs.Prelude.{◌≡◌, ℕ, Bool, not, ◌&&◌, ◌==◌, Lis
 use Rattle.std.specs.List.Sorted.{IsPermutation}
 use Rattle.enc_plain.specs.Module.{Module}
 use Rattle.enc_order.specs.Depth.{depth}
-use Rattle.enc_order.specs.Orders.{Orders, rows_listed, kids_listed, keyed_rows, is_member_table, is_keyed, is_last, by_depth, by_owner, by_method, by_key, by_param, by_attribute}
+use Rattle.enc_order.specs.Orders.{Orders, rows_listed, kids_listed, keyed_rows, is_member_table, is_keyed, is_last, by_depth, by_owner, by_method, by_key}
+use Rattle.enc_order.specs.Orders.{by_param, by_attribute}
 use Rattle.enc_order.specs.Sorted.{sorted_by}
 use Rattle.enc_order.specs.declared.stage.Stage.{Stage}
 use Rattle.enc_order.specs.declared.stage.Stage.TheVariants as stage
@@ -29,11 +30,18 @@ is_ordered stage.Key table = is_keyed table && not (is_last table)
 is_ordered stage.Param table = table == tables.generic_param_constraint
 is_ordered stage.Attribute table = table == tables.custom_attribute
 
+-- types by depth, and children by their owners
+abbrev pub types_by_depth : Module → List ℕ
+types_by_depth m = sorted_by (depth m) (rows_listed m tables.type_def)
+
+abbrev pub rows_by_owner : Module → Orders → Orders
+rows_by_owner m before table = kids_listed m (before (owner_table table)) table
+
 -- the rows of a table that it orders
 abbrev pub ordered_rows : Stage → Module → Orders → Orders
 ordered_rows stage.Depth m before table = sorted_by (depth m) (rows_listed m table)
-ordered_rows stage.Owner m before table = kids_listed m (before (owner_table table)) table
-ordered_rows stage.Method m before table = kids_listed m (before (owner_table table)) table
+ordered_rows stage.Owner m before table = rows_by_owner m before table
+ordered_rows stage.Method m before table = rows_by_owner m before table
 ordered_rows stage.Key m before table = keyed_rows before m table
 ordered_rows stage.Param m before table = keyed_rows before m table
 ordered_rows stage.Attribute m before table = keyed_rows before m table

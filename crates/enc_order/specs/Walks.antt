@@ -1,9 +1,11 @@
 -- For the contracts of what finds all depths at once: walks through the types around a type, by steps that double.
-use Rattle.std.specs.Prelude.{◌≡◌, ℕ, zero, suc, ◌+◌, ◌-◌, ◌<◌, ◌^◌, Bool, false, List, length, Option, Some, None, option_and_then, is_none, nat_lt, slice_get, slice_set, unwrap_or, if◌then◌else◌}
+use Rattle.std.specs.Prelude.{◌≡◌, ℕ, zero, suc, ◌+◌, ◌-◌, ◌<◌, ◌^◌, Bool, false, List, length, map, Option, Some, None, option_and_then, is_none, nat_lt, slice_get}
+use Rattle.std.specs.Prelude.{slice_set, unwrap_or, if◌then◌else◌}
 use Rattle.enc_base.specs.Order.{first_below}
 use Rattle.enc_plain.specs.Module.{Module}
 use Rattle.enc_plain.specs.Sound.{row_count}
-use Rattle.enc_order.specs.Depth.{enclosing, enclosing_at, depth_by}
+use Rattle.enc_order.specs.Orders.{rows_listed}
+use Rattle.enc_order.specs.Depth.{depth, enclosing, enclosing_at, depth_by}
 use Rattle.enc_order.specs.declared.depth.Walk.{Walk}
 use Rattle.enc_schema.specs.Tables as tables
 
@@ -17,6 +19,10 @@ pub record AreWalks (m : Module) (steps : ℕ) (walks : List Walk) : Type 0 wher
   pub count : length walks ≡ row_count m tables.type_def
   pub each : (i : ℕ) → i < row_count m tables.type_def
       → slice_get walks i ≡ Some (record { around = reached m steps (i + 1); depth = depth_by m steps (i + 1) })
+
+-- the depths of all types, in the order of their rows
+abbrev pub all_depths : Module → List ℕ
+all_depths m = map (depth m) (rows_listed m tables.type_def)
 
 -- a walk that has ended where it began, and one of a single step
 abbrev pub ended : Walk

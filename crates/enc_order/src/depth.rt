@@ -1,13 +1,10 @@
 //! How deep types are nested (ECMA-335 II.22.32).
-ghost use Rattle.std.specs.Prelude.{◌≡◌, ℕ, ◌+◌, ◌-◌, ◌*◌, ◌<◌, ◌≤◌, ◌^◌, true, length, map, min, Some, IfOk};
+ghost use Rattle.std.specs.Prelude.{◌≡◌, ℕ, ◌-◌, ◌<◌, ◌^◌, true, length, map, min, IfOk};
 ghost use Rattle.std.specs.List.{list_all};
-ghost use Rattle.enc_order.specs.Depth.{depth};
-ghost use Rattle.enc_order.specs.Orders.{rows_listed};
-ghost use Rattle.enc_order.specs.Walks.{AreWalks, doubled, ended, is_free, is_short, noted, walk_from};
+ghost use Rattle.enc_order.specs.Walks.{AreWalks, all_depths, doubled, ended, is_free, is_short, noted, walk_from};
 ghost use Rattle.enc_order.specs.declared.depth.Walk.{Walk};
 ghost use Rattle.enc_plain.specs.Sound.{IsSound};
 ghost use Rattle.enc_rows.specs.Sums.{below};
-ghost use Rattle.enc_schema.specs.Tables.{type_def};
 
 use enc_base::Token;
 use enc_plain::ModuleView;
@@ -148,7 +145,7 @@ fn all_doubled(alloc: Global, walks: &[Walk]) -> Result<Vec<Walk>, AllocError>
 /// types costs no more than others.
 pub(crate) fn depths<V: ModuleView>(alloc: Global, view: &V) -> Result<Vec<u32>, AllocError>
     requires sound { IsSound (V.meaning view.now) }
-    ensures { IfOk result (λ d. d.items ≡ map (depth (V.meaning view.now)) (rows_listed (V.meaning view.now) type_def)) }
+    ensures { IfOk result (λ d. d.items ≡ all_depths (V.meaning view.now)) }
 {
     let count = view.count(TYPE_DEF);
     let mut walks = first_walks(alloc, view)?;

@@ -1,7 +1,7 @@
 //! The numbers by which rows go.
-ghost use Rattle.std.specs.Prelude.{◌≡◌, ◌<◌, ◌^◌, ◌||◌, ◌==◌, true, map, IsTrue, IfOk};
-ghost use Rattle.enc_order.specs.Keyed.{entry_of};
-ghost use Rattle.enc_order.specs.Orders.{coded_value, column_key, key_of, rows_listed};
+ghost use Rattle.std.specs.Prelude.{◌≡◌, ◌<◌, ◌^◌, ◌||◌, ◌==◌, true, IsTrue, IfOk};
+ghost use Rattle.enc_order.specs.Keyed.{entries_by};
+ghost use Rattle.enc_order.specs.Orders.{coded_value, column_key, key_of};
 ghost use Rattle.enc_plain.specs.Module.{has_row};
 ghost use Rattle.enc_plain.specs.Sound.{IsSound, can_name};
 ghost use Rattle.enc_schema.specs.declared.column.Column.TheVariants.{Coded};
@@ -65,7 +65,7 @@ pub(crate) fn keyed_entries<V: ModuleView>(
     table: u8,
 ) -> Result<Vec<Entry>, AllocError>
     requires sound { IsSound (V.meaning view.now) }
-    ensures { IfOk result (λ v. v.items ≡ map (entry_of (key_of (list_at order.now) (V.meaning view.now) table)) (rows_listed (V.meaning view.now) table)) }
+    ensures { IfOk result (λ v. v.items ≡ entries_by (list_at order.now) (V.meaning view.now) table) }
 {
     let mut entries = Vec::with_capacity(alloc, view.count(table) as usize)?;
     for n in 0..view.count(table) {

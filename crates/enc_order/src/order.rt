@@ -1,5 +1,5 @@
 //! The order of a module's rows.
-ghost use Rattle.std.specs.Prelude.{◌≡◌, ◌<◌, ◌^◌, length, IfOk};
+ghost use Rattle.std.specs.Prelude.{◌≡◌, ◌<◌, ◌^◌, IfOk};
 ghost use Rattle.enc_order.specs.Orders.{rows_listed, moved_by, new_order, old_row};
 ghost use Rattle.enc_order.specs.Stages.{AreOrdersOf};
 ghost use Rattle.enc_plain.specs.Sound.{IsSound};

@@ -1,14 +1,18 @@
 //! The stages in which the rows of a module get their order.
 ghost use Rattle.std.specs.Prelude.{◌≡◌, ◌<◌, ◌^◌, ◌&&◌, not, true, length, IfOk};
-ghost use Rattle.enc_order.specs.Depth.{depth};
 ghost use Rattle.enc_order.specs.Keyed.{entries_of};
-ghost use Rattle.enc_order.specs.Orders.{is_keyed, is_last, keyed_rows, kids_listed, rows_listed};
-ghost use Rattle.enc_order.specs.Sorted.{sorted_by};
-ghost use Rattle.enc_order.specs.Stages.{is_ordered, ordered_rows, stage_of, AreOrdersOf};
+ghost use Rattle.enc_order.specs.Orders.{is_keyed, is_last, keyed_rows};
+ghost use Rattle.enc_order.specs.Stages.{
+  is_ordered,
+  ordered_rows,
+  rows_by_owner as owned_rows,
+  stage_of,
+  types_by_depth as sorted_types,
+  AreOrdersOf,
+};
 ghost use Rattle.enc_plain.specs.Sound.{IsSound};
-ghost use Rattle.enc_schema.specs.Children.{is_child_table, owner_table as table_of_owners};
+ghost use Rattle.enc_schema.specs.Children.{is_child_table};
 ghost use Rattle.enc_schema.specs.Schema.{list_at};
-ghost use Rattle.enc_schema.specs.Tables.{type_def};
 
 use crate::depth::depths;
 use crate::key_columns::key_columns;
@@ -46,7 +50,7 @@ pub(crate) enum Stage {
 /// The types by depth.
 fn types_by_depth<V: ModuleView>(alloc: Global, view: &V) -> Result<Vec<u32>, AllocError>
     requires sound { IsSound (V.meaning view.now) }
-    ensures { IfOk result (λ v. v.items ≡ sorted_by (depth (V.meaning view.now)) (rows_listed (V.meaning view.now) type_def)) }
+    ensures { IfOk result (λ v. v.items ≡ sorted_types (V.meaning view.now)) }
 {
     let depths = depths(alloc, view)?;
     let entries = depth_entries(alloc, &depths)?;
@@ -94,7 +98,7 @@ fn rows_by_owner<V: ModuleView>(
 ) -> Result<Vec<u32>, AllocError>
     requires orders { AreOrdersOf (V.meaning view.now) before.now }
     requires table { is_child_table table ≡ true }
-    ensures { IfOk result (λ v. v.items ≡ kids_listed (V.meaning view.now) (list_at before.now (table_of_owners table)) table) }
+    ensures { IfOk result (λ v. v.items ≡ owned_rows (V.meaning view.now) (list_at before.now) table) }
 {
     let rows = kids_listed(alloc, view, before.rows(owner_table(table)), table)?;
     Ok(rows)

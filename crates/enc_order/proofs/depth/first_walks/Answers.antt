@@ -10,13 +10,15 @@ use Rattle.enc_order.proofs.FirstWalks.{first_begins, first_notes, first_ends, w
 use Rattle.enc_order.proofs.depth.first_walks.Goals as goal
 
 pub refer-nested-requires-clause-row : goal.refer-nested-requires-clause-row
-refer-nested-requires-clause-row g c = row_here (g.V.ModuleView.meaning c.args.view.now) nested_class c.loop-k.k (omega (arith, c.loop-k-test.true, c.count-k-end.ensures.count))
+refer-nested-requires-clause-row g c =
+    row_here (g.V.ModuleView.meaning c.args.view.now) nested_class c.loop-k.k (omega (arith, c.loop-k-test.true, c.count-k-end.ensures.count))
 
 pub refer-nested-requires-clause-kind : goal.refer-nested-requires-clause-kind
 refer-nested-requires-clause-kind g c = nested_kind
 
 pub refer-enclosing-requires-clause-row : goal.refer-enclosing-requires-clause-row
-refer-enclosing-requires-clause-row g c = row_here (g.V.ModuleView.meaning c.args.view.now) nested_class c.loop-k.k (omega (arith, c.loop-k-test.true, c.count-k-end.ensures.count))
+refer-enclosing-requires-clause-row g c =
+    row_here (g.V.ModuleView.meaning c.args.view.now) nested_class c.loop-k.k (omega (arith, c.loop-k-test.true, c.count-k-end.ensures.count))
 
 pub refer-enclosing-requires-clause-kind : goal.refer-enclosing-requires-clause-kind
 refer-enclosing-requires-clause-kind g c = enclosing_kind
@@ -30,9 +32,11 @@ loop-k-preserved g c =
     let m = g.V.ModuleView.meaning c.args.view.now in
     let row = nth_row nested_class c.loop-k.k in
     let low : c.loop-k.k < row_count m nested_class = omega (arith, c.loop-k-test.true, c.count-k-end.ensures.count) in
-    let back = written_back c.loop-k.walks.len c.note_first.new.walks c.deref_mut.result.now c.loop-k.walks.items _ _ c.note_first.ensures c.deref_mut.ensures.value c.deref_mut.ensures.len in
+    let back = written_back c.loop-k.walks.len c.note_first.new.walks c.deref_mut.result.now c.loop-k.walks.items _ _
+    c.note_first.ensures c.deref_mut.ensures.value c.deref_mut.ensures.len in
     subst (AreFirst m (c.loop-k.k + 1)) (sym back)
-    (first_notes m c.loop-k.k c.loop-k.walks.items _ _ c.loop-k.invariant (token_there m row 0 _ c.refer-nested.ensures) (token_there m row 1 _ c.refer-enclosing.ensures)
+    (first_notes m c.loop-k.k c.loop-k.walks.items _ _ c.loop-k.invariant
+    (token_there m row 0 _ c.refer-nested.ensures) (token_there m row 1 _ c.refer-enclosing.ensures)
     (nested_type m c.loop-k.k _ c.requires.sound low c.refer-nested.ensures))
 
 pub returns : goal.returns

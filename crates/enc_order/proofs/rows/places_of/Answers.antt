@@ -6,7 +6,8 @@ use Rattle.enc_order.proofs.rows.places_of.Goals as goal
 pub loop-i-init : goal.loop-i-init
 loop-i-init c =
     let here = no_places c.args.old.now in
-    (omega arith, subst (λ xs. ArePlacedFrom (length c.args.old.now) (length c.args.old.now) (drop (length c.args.old.now) c.args.old.now) xs) (sym c.in_ok-new.ensures) here)
+    let many = length c.args.old.now in
+    (omega arith, subst (λ xs. ArePlacedFrom many many (drop many c.args.old.now) xs) (sym c.in_ok-new.ensures) here)
 
 pub loop-i-preserved : goal.loop-i-preserved
 loop-i-preserved c =
