@@ -48,11 +48,15 @@ coded_kind t i k e = other_kind t i (Coded k) e (λ f. cc)
 pub short_kind : (t i : ℕ) → column_in t i ≡ Some Num16 → kind_in t i ≡ Some numbers
 short_kind t i e = other_kind t i Num16 e (λ f. cc)
 
+same_parts : (table row : ℕ) (other_table other_row : ℕ) → table ≡ other_table → row ≡ other_row
+    → ◌≡◌ {A = Token} (record { table = table; row = row }) (record { table = other_table; row = other_row })
+same_parts table row other_table other_row a b = rw (a, b) refl
+
 same_token : (t u : Token) → is_token t u ≡ true → t ≡ u
 same_token t u e =
     let a : t.table ≡ u.table = grind (arith, nat_tests) in
     let b : t.row ≡ u.row = grind (arith, nat_tests) in
-    ap (λ x. record { table = x; row = t.row }) a ∙ ap (λ y. record { table = u.table; row = y }) b
+    same_parts t.table t.row u.table u.row a b
 
 is_row : (m : Module) (t : Token) → has_row m t ≡ true → (0 < t.row) × (t.row ≤ row_count m t.table)
 unfolding has_row
