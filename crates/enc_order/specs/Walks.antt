@@ -1,7 +1,6 @@
 -- For the contracts of what finds all depths at once: walks through the types around a type, by steps that double.
 use Rattle.std.specs.Prelude.{◌≡◌, ℕ, zero, suc, ◌+◌, ◌-◌, ◌<◌, ◌^◌, Bool, false, List, length, map, Option, Some, None}
-use Rattle.std.specs.Prelude.{option_and_then, is_none, nat_lt, slice_get}
-use Rattle.std.specs.Prelude.{slice_set, unwrap_or, if◌then◌else◌}
+use Rattle.std.specs.Prelude.{option_and_then, is_none, nat_lt, slice_get, slice_set, unwrap_or, if◌then◌else◌}
 use Rattle.enc_base.specs.Order.{first_below}
 use Rattle.enc_plain.specs.Module.{Module}
 use Rattle.enc_plain.specs.Sound.{row_count}

@@ -48,12 +48,13 @@ fn key<V: ModuleView>(view: &V, order: &Order, row: Token) -> u64
     ensures { result ≡ key_of (list_at order.now) (V.meaning view.now) row.table row.row }
 {
     match key_columns(row.table) {
-        [first, second] => {
-            u64::from(column_number(view, order, row, *first)) * 0x1_0000_0000
-                + u64::from(column_number(view, order, row, *second))
-        }
+        [] => 0,
         [only] => u64::from(column_number(view, order, row, *only)),
-        _ => 0,
+        [first, second, ..] => {
+            let high = column_number(view, order, row, *first);
+            let low = column_number(view, order, row, *second);
+            u64::from(high) * 0x1_0000_0000 + u64::from(low)
+        }
     }
 }
 
