@@ -1,4 +1,14 @@
+pub mod Depths
+pub mod FirstWalks
+pub mod KeysOf
+pub mod Moved
 pub mod OneOrder
+pub mod Permuted
 pub mod Pointwise
+pub mod References
 pub mod RowPlaces
+pub mod RowSteps
 pub mod Rowed
+pub mod Staged
+pub mod Tags
+pub mod Walked

@@ -1,6 +1,6 @@
 -- Sorting by keys: the same elements, in the order of keys, ties as they stood; and no other list is so.
-use Rattle.std.proofs.Common.{◌≡◌, ℕ, zero, suc, ◌+◌, ◌-◌, ◌<◌, ◌≤◌, Bool, true, false, List, [], ◌∷◌, ◌++◌, length, refl, sym, ap, subst, ◌∙◌, cond, arith}
-use Rattle.std.specs.Prelude.{◌≢◌, ◌==◌, ◌&&◌, filter, map, nat_le, slice_index_or, if◌then◌else◌}
+use Rattle.std.proofs.Common.{◌≡◌, ℕ, suc, ◌<◌, ◌≤◌, Bool, true, false, List, [], ◌∷◌, length, refl, sym, ap, subst, ◌∙◌, cond, arith}
+use Rattle.std.specs.Prelude.{◌==◌, ◌&&◌, filter, map, nat_le, slice_index_or, if◌then◌else◌}
 use Rattle.std.specs.List.{list_all}
 use Rattle.std.specs.Ordering.{is_lt, nat_cmp}
 use Rattle.std.specs.List.Sorted.{IsPermutation, IsNonDecreasingBy, IsStableByKey, ties}
@@ -41,6 +41,7 @@ put_ties {A} key k x (y ∷ rest) = by (nat_le (key x) (key y)) refl (put_ties k
     swapped true true p q late = absurd (grind (arith, nat_tests))
     swapped true false p q late = refl
     swapped false c p q late = refl
+
     by : (b : Bool) → nat_le (key x) (key y) ≡ b → of_key key k (put_by key x rest) ≡ of_key key k (x ∷ rest)
         → of_key key k (if b then x ∷ y ∷ rest else y ∷ put_by key x rest) ≡ of_key key k (x ∷ y ∷ rest)
     by true is before = refl
@@ -135,10 +136,13 @@ only_one {A} key (x ∷ xs) (y ∷ ys) up down same =
   where
     kept_as : (z : A) (zs : List A) (k : ℕ) → key z ≡ k → of_key key k (z ∷ zs) ≡ z ∷ of_key key k zs
     kept_as z zs k e = rw e (rw (eq-eqb k k refl) refl)
+
     kept : (z : A) (zs : List A) → of_key key (key z) (z ∷ zs) ≡ z ∷ of_key key (key z) zs
     kept z zs = kept_as z zs (key z) refl
+
     at_least : (z : A) (zs : List A) → rises key (z ∷ zs) ≡ true → list_all (λ w. nat_le (key z) (key w)) (z ∷ zs) ≡ true
     at_least z zs h = and_from (nat_le (key z) (key z)) _ (grind (arith, nat_tests)) (rises_first key z zs h)
+
     behind : (k : ℕ) (u v : A) (us vs : List A) → u ≡ v → of_key key k (u ∷ us) ≡ of_key key k (v ∷ vs) → of_key key k us ≡ of_key key k vs
     behind k u v us vs e h = by (key v == k) (subst (λ w. of_key key k (w ∷ us) ≡ of_key key k (v ∷ vs)) e h)
       where
@@ -173,13 +177,15 @@ key_first {A} key k z zs (y ∷ rest) is = by (key y == k) refl is (key_first ke
 -- a stable sort gives the sorted list
 pub sorted_is : {A : Type 0} (key : A → ℕ) (xs ys : List A) → IsNonDecreasingBy key ys → IsStableByKey key nat_cmp xs ys → ys ≡ sorted_by key xs
 sorted_is {A} key xs ys up stable =
-    only_one key ys (sorted_by key xs) (rises_from key ys up) (sorted_rises key xs) (λ k. by k (of_key key k ys) (of_key key k xs) refl refl ∙ sym (sorted_ties key k xs))
+    only_one key ys (sorted_by key xs) (rises_from key ys up) (sorted_rises key xs)
+    (λ k. by k (of_key key k ys) (of_key key k xs) refl refl ∙ sym (sorted_ties key k xs))
   where
     at : (k : ℕ) (x : A) → key x ≡ k → of_key key k ys ≡ of_key key k xs
     at k x e =
         let same : (y : A) → ties (λ u v. is_lt (nat_cmp (key u) (key v))) x y ≡ (key y == k) = λ y. tie_is key x y ∙ ap (λ n. key y == n) e in
         sym (filter_agree (ties (λ u v. is_lt (nat_cmp (key u) (key v))) x) (λ y. key y == k) same ys)
         ∙ stable x ∙ filter_agree (ties (λ u v. is_lt (nat_cmp (key u) (key v))) x) (λ y. key y == k) same xs
+
     by : (k : ℕ) (us vs : List A) → of_key key k ys ≡ us → of_key key k xs ≡ vs → of_key key k ys ≡ of_key key k xs
     by k [] [] e f = e ∙ sym f
     by k (u ∷ us) vs e f = at k u (key_first key k u us ys e)

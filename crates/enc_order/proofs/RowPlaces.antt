@@ -1,8 +1,9 @@
 -- Where rows stand in a new order, and which stand there.
-use Rattle.std.proofs.Common.{◌≡◌, ℕ, zero, suc, ◌+◌, ◌-◌, ◌<◌, ◌≤◌, ◌^◌, Bool, true, false, List, [], ◌∷◌, ◌++◌, length, drop, slice_set, Option, Some, None, refl, sym, ap, subst, ◌∙◌, arith}
-use Rattle.std.specs.Prelude.{◌≢◌, ◌==◌, ◌&&◌, nat_le, slice_get, unwrap_or, if◌then◌else◌}
+use Rattle.std.proofs.Common.{◌≡◌, ℕ, zero, suc, ◌+◌, ◌-◌, ◌<◌, ◌≤◌, ◌^◌, Bool, true, false, List, [], ◌∷◌, length, Option, Some, None, refl, sym, ap, subst}
+use Rattle.std.proofs.Common.{◌∙◌, arith}
+use Rattle.std.specs.Prelude.{◌==◌, slice_get, unwrap_or, if◌then◌else◌}
 use Rattle.std.specs.List.{list_all}
-use Rattle.std.proofs.lemmas.Bool.{and_parts, ne_eqb, eqb-true, eq-eqb}
+use Rattle.std.proofs.lemmas.Bool.{and_parts, ne_eqb}
 use Rattle.std.proofs.lemmas.Bool.Decides.{nat_tests}
 use Rattle.std.proofs.lemmas.Option.{slice_get_within}
 use Rattle.enc_order.specs.Orders.{new_row, old_row, place_behind}
@@ -106,3 +107,35 @@ old_is rows place some = by (slice_get rows (place - 1)) refl
     by : (o : Option ℕ) → slice_get rows (place - 1) ≡ o → unwrap_or o place ≡ old_row rows place
     by None e = old_past rows place some e
     by (Some x) e = old_there rows place x some e
+
+pub goes_to : (self old new places : List ℕ) (o : Option ℕ) (row result : ℕ) → old ≡ self → ArePlaces old new → places ≡ new → 0 < row
+    → o ≡ slice_get places (row - 1) → result ≡ unwrap_or o row → result ≡ new_row self row
+goes_to self old new places o row result same are there some found is =
+    is ∙ ap (λ p. unwrap_or p row) (found ∙ ap (λ xs. slice_get xs (row - 1)) there) ∙ place_is old new row are some ∙ ap (λ xs. new_row xs row) same
+
+pub comes_to : (self old rows : List ℕ) (o : Option ℕ) (place result : ℕ) → old ≡ self → rows ≡ old → 0 < place
+    → o ≡ slice_get rows (place - 1) → result ≡ unwrap_or o place → result ≡ old_row self place
+comes_to self old rows o place result same there some found is =
+    is ∙ ap (λ p. unwrap_or p place) (found ∙ ap (λ xs. slice_get xs (place - 1)) (there ∙ same)) ∙ old_is self place some
+
+-- rows and places stay low
+pub goes_low : (self old new : List ℕ) (row : ℕ) → old ≡ self → ArePlaces old new → row < 2 ^ 24 → new_row self row < 2 ^ 24
+goes_low self old new row same are low = subst (λ xs. new_row xs row < 2 ^ 24) same (new_low old row are.few low)
+
+old_row_low : (old new : List ℕ) (place : ℕ) → ArePlaces old new → place < 2 ^ 24 → old_row old place < 2 ^ 24
+unfolding old_row
+old_row_low old new zero are low = omega arith
+old_row_low old new (suc i) are low = by (slice_get old i) refl
+  where
+    by : (o : Option ℕ) → slice_get old i ≡ o → unwrap_or o (suc i) < 2 ^ 24
+    by None e = low
+    by (Some x) e = old_low old new i x are e
+
+pub comes_low : (self old new : List ℕ) (place : ℕ) → old ≡ self → ArePlaces old new → place < 2 ^ 24 → old_row self place < 2 ^ 24
+comes_low self old new place same are low = subst (λ xs. old_row xs place < 2 ^ 24) same (old_row_low old new place are low)
+
+-- what is found for each row
+pub are_places : (old new : List ℕ) → length old < 2 ^ 24 → list_all (is_row_of (length old)) old ≡ true
+    → ArePlacedFrom 0 (length old) old new → ArePlaces old new
+unfolding new_row
+are_places old new few rows placed = record { few = few; rows = rows; count = placed.count; each = placed.each }

@@ -1,10 +1,6 @@
 -- The rows of a table, listed one behind the other.
-use Rattle.std.proofs.Common.{◌≡◌, ℕ, zero, suc, ◌+◌, ◌<◌, ◌≤◌, Bool, true, List, [], ◌∷◌, ◌++◌, map, length, refl, sym, ap, ◌∙◌, arith}
-use Rattle.std.specs.Prelude.{nat_le}
-use Rattle.std.specs.List.{list_all, range_with_len}
-use Rattle.std.proofs.lemmas.Bool.{and_from}
-use Rattle.std.proofs.lemmas.Bool.Decides.{nat_tests}
-use Rattle.enc_order.specs.Places.{is_row_of}
+use Rattle.std.proofs.Common.{◌≡◌, ℕ, zero, suc, ◌+◌, List, [], ◌∷◌, ◌++◌, map, refl, sym, ap, ◌∙◌, arith}
+use Rattle.std.specs.List.{range_with_len}
 use Rattle.enc_rows.specs.Sums.{below}
 
 -- none, and one more
@@ -18,13 +14,17 @@ from_suc a (suc n) =
     let e : a + suc n ≡ a + 1 + n = omega arith in
     rw e (ap (λ xs. a ∷ xs) (from_suc (a + 1) n))
 
-map_more : (xs : List ℕ) (x : ℕ) → map (λ n. n + 1) (xs ++ x ∷ []) ≡ map (λ n. n + 1) xs ++ (x + 1) ∷ []
-map_more [] x = refl
-map_more (y ∷ ys) x = ap (λ zs. (y + 1) ∷ zs) (map_more ys x)
+map_more : {X : Type 0} (f : ℕ → X) (xs : List ℕ) (x : ℕ) → map f (xs ++ x ∷ []) ≡ map f xs ++ f x ∷ []
+map_more f [] x = refl
+map_more f (y ∷ ys) x = ap (λ zs. f y ∷ zs) (map_more f ys x)
 
-pub more_upto : (n : ℕ) → map (λ k. k + 1) (below n) ++ (n + 1) ∷ [] ≡ map (λ k. k + 1) (below (n + 1))
+pub more_mapped : {X : Type 0} (f : ℕ → X) (n : ℕ) → map f (below n) ++ f n ∷ [] ≡ map f (below (n + 1))
 unfolding below
-more_upto n =
+more_mapped f n =
     let e : n + 1 ≡ suc n = omega arith in
     let z : 0 + n ≡ n = omega arith in
-    sym (map_more (range_with_len 0 n) n) ∙ ap (λ k. map (λ i. i + 1) (range_with_len 0 n ++ k ∷ [])) (sym z) ∙ ap (map (λ i. i + 1)) (sym (from_suc 0 n)) ∙ ap (λ k. map (λ i. i + 1) (range_with_len 0 k)) (sym e)
+    sym (map_more f (range_with_len 0 n) n) ∙ ap (λ k. map f (range_with_len 0 n ++ k ∷ [])) (sym z)
+    ∙ ap (map f) (sym (from_suc 0 n)) ∙ ap (λ k. map f (range_with_len 0 k)) (sym e)
+
+pub more_upto : (n : ℕ) → map (λ k. k + 1) (below n) ++ (n + 1) ∷ [] ≡ map (λ k. k + 1) (below (n + 1))
+more_upto n = more_mapped (λ k. k + 1) n

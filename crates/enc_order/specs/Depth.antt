@@ -2,7 +2,6 @@
 use Rattle.std.specs.Prelude.{ℕ, zero, suc, ◌+◌, Option, Some, None, if◌then◌else◌}
 use Rattle.enc_base.specs.Order.{first_below}
 use Rattle.enc_base.specs.Token.{nth_row, is_token}
-use Rattle.enc_base.specs.declared.token.Token.{Token}
 use Rattle.enc_plain.specs.Module.{Module, cells_of}
 use Rattle.enc_plain.specs.Rows.{token_at}
 use Rattle.enc_plain.specs.Sound.{row_count}

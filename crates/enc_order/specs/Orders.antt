@@ -1,6 +1,7 @@
 -- The order in which the rows of an ordinary module stand: children behind one another in the order of their owners, and tables that loaders search by
 -- halves in the order of their keys (ECMA-335 II.22, II.24.2.6).
-use Rattle.std.specs.Prelude.{◌≡◌, ℕ, zero, suc, ◌+◌, ◌*◌, ◌^◌, not, ◌&&◌, ◌||◌, ◌==◌, List, [], ◌∷◌, map, flat_map, length, Bool, false, Option, Some, None, nat_lt, slice_get, unwrap_or, if◌then◌else◌}
+use Rattle.std.specs.Prelude.{ℕ, zero, suc, ◌+◌, ◌*◌, ◌^◌, not, ◌&&◌, ◌||◌, ◌==◌, List, [], ◌∷◌, map, flat_map, length, Bool, false, Option, Some, nat_lt}
+use Rattle.std.specs.Prelude.{slice_get, unwrap_or, if◌then◌else◌}
 use Rattle.std.specs.List.{position}
 use Rattle.std.specs.Option.{option_map_or}
 use Rattle.enc_base.specs.declared.token.Token.{Token}

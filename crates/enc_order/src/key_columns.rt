@@ -1,10 +1,10 @@
 //! The columns by which tables are searched.
-ghost use Rattle.std.specs.Prelude.{◌≡◌, ◌<◌, length};
+ghost use Rattle.std.specs.Prelude.{◌≡◌, ◌≤◌, length};
 ghost use Rattle.enc_order.specs.Orders.{key_columns};
 
 use enc_schema::tables::{
-    CLASS_LAYOUT, CONSTANT, CUSTOM_ATTRIBUTE, DECL_SECURITY, FIELD_LAYOUT, FIELD_MARSHAL, FIELD_RVA,
-    GENERIC_PARAM, GENERIC_PARAM_CONSTRAINT, IMPL_MAP, INTERFACE_IMPL, METHOD_IMPL,
+    CLASS_LAYOUT, CONSTANT, CUSTOM_ATTRIBUTE, DECL_SECURITY, FIELD_LAYOUT, FIELD_MARSHAL,
+    FIELD_RVA, GENERIC_PARAM, GENERIC_PARAM_CONSTRAINT, IMPL_MAP, INTERFACE_IMPL, METHOD_IMPL,
     METHOD_SEMANTICS, NESTED_CLASS,
 };
 
@@ -12,7 +12,8 @@ use enc_schema::tables::{
 /// go by keys (ECMA-335 II.22).
 #[tactic(auto, unfolding(crate::specs::Orders::key_columns))]
 pub(crate) fn key_columns(table: u8) -> &'static [u8]
-    ensures { result.now ≡ key_columns table }
+    ensures columns { result.now ≡ key_columns table }
+    ensures few { length result.now ≤ 2 }
 {
     match table {
         INTERFACE_IMPL => &[0, 1],

@@ -1,10 +1,10 @@
 //! The numbers by which rows go.
-ghost use Rattle.std.specs.Prelude.{◌≡◌, ◌<◌, ◌^◌, true, Some, length, map, IsTrue, IfOk};
-ghost use Rattle.enc_base.specs.declared.token.Token.{Token as TheToken};
-ghost use Rattle.enc_order.specs.Keyed.{entry_of};
-ghost use Rattle.enc_order.specs.Orders.{coded_value, column_key, key_of, rows_listed};
+ghost use Rattle.std.specs.Prelude.{◌≡◌, ◌<◌, ◌^◌, ◌||◌, ◌==◌, true, IsTrue, IfOk};
+ghost use Rattle.enc_order.specs.Keyed.{entries_by};
+ghost use Rattle.enc_order.specs.Orders.{coded_value, column_key, key_of};
 ghost use Rattle.enc_plain.specs.Module.{has_row};
-ghost use Rattle.enc_plain.specs.Sound.{IsSound, is_reference};
+ghost use Rattle.enc_plain.specs.Sound.{IsSound, can_name};
+ghost use Rattle.enc_schema.specs.declared.column.Column.TheVariants.{Coded};
 ghost use Rattle.enc_schema.specs.Schema.{column_in, list_at};
 
 use crate::key_columns::key_columns;
@@ -17,6 +17,8 @@ use std::alloc::{AllocError, Global};
 
 /// The number of a token in a coded column; nil is 0.
 fn coded(kind: Coding, token: Token) -> u32
+    requires low { token.row < 2 ^ 24 }
+    requires named { ((token.row == 0) || can_name (Coded kind) token.table) ≡ true }
     ensures { result ≡ coded_value kind token }
 {
     match encode_coded(kind, token) {
@@ -46,12 +48,13 @@ fn key<V: ModuleView>(view: &V, order: &Order, row: Token) -> u64
     ensures { result ≡ key_of (list_at order.now) (V.meaning view.now) row.table row.row }
 {
     match key_columns(row.table) {
-        [first, second] => {
-            u64::from(column_number(view, order, row, *first)) * 0x1_0000_0000
-                + u64::from(column_number(view, order, row, *second))
-        }
+        [] => 0,
         [only] => u64::from(column_number(view, order, row, *only)),
-        _ => 0,
+        [first, second, ..] => {
+            let high = column_number(view, order, row, *first);
+            let low = column_number(view, order, row, *second);
+            u64::from(high) * 0x1_0000_0000 + u64::from(low)
+        }
     }
 }
 
@@ -63,7 +66,7 @@ pub(crate) fn keyed_entries<V: ModuleView>(
     table: u8,
 ) -> Result<Vec<Entry>, AllocError>
     requires sound { IsSound (V.meaning view.now) }
-    ensures { IfOk result (λ v. v.items ≡ map (entry_of (key_of (list_at order.now) (V.meaning view.now) table)) (rows_listed (V.meaning view.now) table)) }
+    ensures { IfOk result (λ v. v.items ≡ entries_by (list_at order.now) (V.meaning view.now) table) }
 {
     let mut entries = Vec::with_capacity(alloc, view.count(table) as usize)?;
     for n in 0..view.count(table) {

@@ -1,5 +1,5 @@
 //! The order of a module's rows.
-ghost use Rattle.std.specs.Prelude.{◌≡◌, ◌<◌, ◌^◌, length, IfOk};
+ghost use Rattle.std.specs.Prelude.{◌≡◌, ◌<◌, ◌^◌, IfOk};
 ghost use Rattle.enc_order.specs.Orders.{rows_listed, moved_by, new_order, old_row};
 ghost use Rattle.enc_order.specs.Stages.{AreOrdersOf};
 ghost use Rattle.enc_plain.specs.Sound.{IsSound};
@@ -9,6 +9,7 @@ use crate::rows::{Rows, rows_upto};
 use crate::stage::{Stage, staged};
 use enc_base::Token;
 use enc_plain::ModuleView;
+use enc_schema::tables::TABLE_COUNT;
 use std::alloc::{AllocError, Global};
 use std::marker::Model;
 
@@ -41,8 +42,9 @@ impl Order {
         ensures orders { IfOk result (λ o. AreOrdersOf (V.meaning view.now) o) }
     {
         let mut tables = Vec::new(alloc);
-        for table in 0..0x2d {
-            tables.push(Rows::of(alloc, rows_upto(alloc, view.count(table))?)?)?;
+        for table in 0..TABLE_COUNT {
+            let list = rows_upto(alloc, view.count(table))?;
+            tables.push(Rows::of(alloc, list)?)?;
         }
         Ok(Order { tables })
     }
@@ -56,13 +58,14 @@ impl Order {
         ensures order { IfOk result (λ o. list_at o ≡ new_order (V.meaning view.now)) }
         ensures orders { IfOk result (λ o. AreOrdersOf (V.meaning view.now) o) }
     {
-        let order = Order::begin(alloc, view)?;
-        let order = staged(alloc, view, &order, Stage::Depth)?;
-        let order = staged(alloc, view, &order, Stage::Owner)?;
-        let order = staged(alloc, view, &order, Stage::Method)?;
-        let order = staged(alloc, view, &order, Stage::Key)?;
-        let order = staged(alloc, view, &order, Stage::Param)?;
-        staged(alloc, view, &order, Stage::Attribute)
+        let own = Order::begin(alloc, view)?;
+        let types = staged(alloc, view, &own, Stage::Depth)?;
+        let members = staged(alloc, view, &types, Stage::Owner)?;
+        let params = staged(alloc, view, &members, Stage::Method)?;
+        let keyed = staged(alloc, view, &params, Stage::Key)?;
+        let constraints = staged(alloc, view, &keyed, Stage::Param)?;
+        let order = staged(alloc, view, &constraints, Stage::Attribute)?;
+        Ok(order)
     }
 
     /// The rows of a table in their new order, none where it has none.
@@ -89,6 +92,7 @@ impl Order {
     pub fn moved(&self, token: Token) -> Token
         ensures moved { result ≡ moved_by (list_at self.now) token }
         ensures low { token.row < 2 ^ 24 → result.row < 2 ^ 24 }
+        ensures none { token.row ≡ 0 → result.row ≡ 0 }
     {
         match self.tables.get(token.table as usize) {
             Some(rows) => Token {
@@ -102,7 +106,8 @@ impl Order {
     /// The token of the row that comes to this one's place; past a table's last the token itself. It
     /// takes no memory.
     pub fn old(&self, token: Token) -> Token
-        ensures { result ≡ record { table = token.table; row = old_row (list_at self.now token.table) token.row } }
+        ensures old { result ≡ record { table = token.table; row = old_row (list_at self.now token.table) token.row } }
+        ensures low { token.row < 2 ^ 24 → result.row < 2 ^ 24 }
     {
         match self.tables.get(token.table as usize) {
             Some(rows) => Token {
@@ -116,7 +121,8 @@ impl Order {
     /// Where a row of the module goes: the token of the same table that it has behind the move. It
     /// takes no memory.
     pub fn new_of(&self, old: Token) -> Token
-        ensures { result ≡ moved_by (list_at self.now) old }
+        ensures moved { result ≡ moved_by (list_at self.now) old }
+        ensures low { old.row < 2 ^ 24 → result.row < 2 ^ 24 }
     {
         self.moved(old)
     }

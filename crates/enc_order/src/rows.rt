@@ -93,7 +93,9 @@ impl Rows {
 
     /// Where a row goes; what is no row of the table stays.
     pub(crate) fn new_row(&self, row: u32) -> u32
-        ensures { result ≡ new_row self.now row }
+        ensures moved { result ≡ new_row self.now row }
+        ensures low { row < 2 ^ 24 → result < 2 ^ 24 }
+        ensures none { row ≡ 0 → result ≡ 0 }
     {
         let places: &[u32] = &self.new;
         if row == 0 {
@@ -104,7 +106,8 @@ impl Rows {
 
     /// Which row comes to a place; past the last the place itself.
     pub(crate) fn old_row(&self, place: u32) -> u32
-        ensures { result ≡ old_row self.now place }
+        ensures row { result ≡ old_row self.now place }
+        ensures low { place < 2 ^ 24 → result < 2 ^ 24 }
     {
         let rows: &[u32] = &self.old;
         if place == 0 {

@@ -1,9 +1,18 @@
 //! The stages in which the rows of a module get their order.
-ghost use Rattle.std.specs.Prelude.{◌≡◌, ◌<◌, IfOk};
-ghost use Rattle.enc_order.specs.Stages.{stage_of, AreOrdersOf};
+ghost use Rattle.std.specs.Prelude.{◌≡◌, ◌<◌, ◌^◌, ◌&&◌, not, true, length, IfOk};
+ghost use Rattle.enc_order.specs.Keyed.{entries_of};
+ghost use Rattle.enc_order.specs.Orders.{is_keyed, is_last, keyed_rows};
+ghost use Rattle.enc_order.specs.Stages.{
+  is_ordered,
+  ordered_rows,
+  rows_by_owner as owned_rows,
+  stage_of,
+  types_by_depth as sorted_types,
+  AreOrdersOf,
+};
 ghost use Rattle.enc_plain.specs.Sound.{IsSound};
+ghost use Rattle.enc_schema.specs.Children.{is_child_table};
 ghost use Rattle.enc_schema.specs.Schema.{list_at};
-ghost use Rattle.enc_schema.specs.Tables.{table_count};
 
 use crate::depth::depths;
 use crate::key_columns::key_columns;
@@ -15,7 +24,8 @@ use crate::sorting::{Entry, sorted_rows};
 use enc_plain::ModuleView;
 use enc_schema::owner_table;
 use enc_schema::tables::{
-    CUSTOM_ATTRIBUTE, EVENT, FIELD, GENERIC_PARAM_CONSTRAINT, METHOD_DEF, PARAM, PROPERTY, TYPE_DEF,
+    CUSTOM_ATTRIBUTE, EVENT, FIELD, GENERIC_PARAM_CONSTRAINT, METHOD_DEF, PARAM, PROPERTY,
+    TABLE_COUNT, TYPE_DEF,
 };
 use std::alloc::{AllocError, Global};
 
@@ -38,8 +48,21 @@ pub(crate) enum Stage {
 }
 
 /// The types by depth.
-fn types_by_depth<V: ModuleView>(alloc: Global, view: &V) -> Result<Vec<u32>, AllocError> {
+fn types_by_depth<V: ModuleView>(alloc: Global, view: &V) -> Result<Vec<u32>, AllocError>
+    requires sound { IsSound (V.meaning view.now) }
+    ensures { IfOk result (λ v. v.items ≡ sorted_types (V.meaning view.now)) }
+{
     let depths = depths(alloc, view)?;
+    let entries = depth_entries(alloc, &depths)?;
+    let rows = sorted_rows(alloc, entries)?;
+    Ok(rows)
+}
+
+/// The types, from row 1, with their depths.
+fn depth_entries(alloc: Global, depths: &[u32]) -> Result<Vec<Entry>, AllocError>
+    requires few { length depths.now < 2 ^ 24 }
+    ensures { IfOk result (λ v. v.items ≡ entries_of depths.now) }
+{
     let mut entries = Vec::with_capacity(alloc, depths.len())?;
     for i in 0..depths.len() {
         let depth = depths[i];
@@ -48,22 +71,60 @@ fn types_by_depth<V: ModuleView>(alloc: Global, view: &V) -> Result<Vec<u32>, Al
             row: i as u32 + 1,
         })?;
     }
-    sorted_rows(alloc, entries)
+    Ok(entries)
+}
+
+/// The rows of a table by its keys.
+fn rows_by_key<V: ModuleView>(
+    alloc: Global,
+    view: &V,
+    before: &Order,
+    table: u8,
+) -> Result<Vec<u32>, AllocError>
+    requires sound { IsSound (V.meaning view.now) }
+    ensures { IfOk result (λ v. v.items ≡ keyed_rows (list_at before.now) (V.meaning view.now) table) }
+{
+    let entries = keyed_entries(alloc, view, before, table)?;
+    let rows = sorted_rows(alloc, entries)?;
+    Ok(rows)
+}
+
+/// The rows of a child table by their owners.
+fn rows_by_owner<V: ModuleView>(
+    alloc: Global,
+    view: &V,
+    before: &Order,
+    table: u8,
+) -> Result<Vec<u32>, AllocError>
+    requires orders { AreOrdersOf (V.meaning view.now) before.now }
+    requires table { is_child_table table ≡ true }
+    ensures { IfOk result (λ v. v.items ≡ owned_rows (V.meaning view.now) (list_at before.now) table) }
+{
+    let rows = kids_listed(alloc, view, before.rows(owner_table(table)), table)?;
+    Ok(rows)
+}
+
+/// Whether a table goes by keys, and names no rows of others that do.
+fn goes_by_key(table: u8) -> bool
+    ensures { result ≡ (is_keyed table && not (is_last table)) }
+{
+    if table == GENERIC_PARAM_CONSTRAINT || table == CUSTOM_ATTRIBUTE {
+        return false;
+    }
+    !key_columns(table).is_empty()
 }
 
 /// Whether a stage orders a table.
-fn orders(stage: Stage, table: u8) -> bool {
+fn orders(stage: Stage, table: u8) -> bool
+    ensures { result ≡ is_ordered stage table }
+{
     match stage {
         Stage::Depth => table == TYPE_DEF,
         Stage::Owner => {
             table == FIELD || table == METHOD_DEF || table == EVENT || table == PROPERTY
         }
         Stage::Method => table == PARAM,
-        Stage::Key => {
-            !key_columns(table).is_empty()
-                && table != GENERIC_PARAM_CONSTRAINT
-                && table != CUSTOM_ATTRIBUTE
-        }
+        Stage::Key => goes_by_key(table),
         Stage::Param => table == GENERIC_PARAM_CONSTRAINT,
         Stage::Attribute => table == CUSTOM_ATTRIBUTE,
     }
@@ -76,15 +137,19 @@ fn ordered<V: ModuleView>(
     before: &Order,
     stage: Stage,
     table: u8,
-) -> Result<Vec<u32>, AllocError> {
+) -> Result<Vec<u32>, AllocError>
+    requires sound { IsSound (V.meaning view.now) }
+    requires orders { AreOrdersOf (V.meaning view.now) before.now }
+    requires on { is_ordered stage table ≡ true }
+    ensures { IfOk result (λ v. v.items ≡ ordered_rows stage (V.meaning view.now) (list_at before.now) table) }
+{
     match stage {
         Stage::Depth => types_by_depth(alloc, view),
-        Stage::Owner | Stage::Method => {
-            kids_listed(alloc, view, before.rows(owner_table(table)), table)
-        }
-        Stage::Key | Stage::Param | Stage::Attribute => {
-            sorted_rows(alloc, keyed_entries(alloc, view, before, table)?)
-        }
+        Stage::Owner => rows_by_owner(alloc, view, before, table),
+        Stage::Method => rows_by_owner(alloc, view, before, table),
+        Stage::Key => rows_by_key(alloc, view, before, table),
+        Stage::Param => rows_by_key(alloc, view, before, table),
+        Stage::Attribute => rows_by_key(alloc, view, before, table),
     }
 }
 
@@ -95,11 +160,18 @@ fn table_rows<V: ModuleView>(
     before: &Order,
     stage: Stage,
     table: u8,
-) -> Result<Rows, AllocError> {
+) -> Result<Rows, AllocError>
+    requires sound { IsSound (V.meaning view.now) }
+    requires orders { AreOrdersOf (V.meaning view.now) before.now }
+    ensures { IfOk result (λ r. r ≡ stage_of stage (V.meaning view.now) (list_at before.now) table) }
+{
     if !orders(stage, table) {
-        return before.copied(alloc, table);
+        let same = before.copied(alloc, table)?;
+        return Ok(same);
     }
-    Rows::of(alloc, ordered(alloc, view, before, stage, table)?)
+    let list = ordered(alloc, view, before, stage, table)?;
+    let rows = Rows::of(alloc, list)?;
+    Ok(rows)
 }
 
 /// The order behind a stage.
@@ -115,7 +187,7 @@ pub(crate) fn staged<V: ModuleView>(
     ensures orders { IfOk result (λ o. AreOrdersOf (V.meaning view.now) o) }
 {
     let mut tables = Vec::new(alloc);
-    for table in 0..0x2d {
+    for table in 0..TABLE_COUNT {
         tables.push(table_rows(alloc, view, before, stage, table)?)?;
     }
     Ok(Order::with(tables))
