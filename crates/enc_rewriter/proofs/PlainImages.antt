@@ -53,7 +53,7 @@ image_plain m h p rows sound held fits are order =
     let w = written_source m h p rows sound held fits are.fit in
     let r : IsRead m h p rows w.0 = record { sound = sound; held = held; read = w.2 } in
     let none : (child : ℕ) → is_child_table child ≡ true → count_at rows (ptr_of child) ≡ 0 =
-        λ child is. ptrs_none m (heaps_built h) p rows child held.said order is in
+    λ child is. ptrs_none m (heaps_built h) p rows child held.said order is in
     record {
       container = w.3.container;
       root = w.3.root;
