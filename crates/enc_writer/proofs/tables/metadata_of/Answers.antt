@@ -1,7 +1,8 @@
-use Rattle.std.proofs.Common.{◌≡◌, true, ◌∙◌, ap, subst}
+use Rattle.std.proofs.Common.{◌≡◌, ◌∙◌, ap, subst}
 use Rattle.enc_meta.specs.Built.{Built}
 use Rattle.enc_meta.specs.BuiltLaws.{IsGood}
 use Rattle.enc_emit.specs.Written.{Parts, root_built}
+use Rattle.enc_emit.specs.declared.root_form.RootForm.TheVariants.{Delta}
 use Rattle.enc_written.specs.Holds.{heaps_written}
 use Rattle.enc_written.specs.Laws.{metadata_written}
 use Rattle.enc_writer.proofs.DeltaHeld.{delta_held, indices_fit, rows_are_few}
@@ -32,5 +33,5 @@ returns g c =
       rows = c.in_ok-tables.tables;
       held = delta_held j.chain j.list c.args.bodies.now.il.items c.in_ok-tables.tables c.requires.may good c.laws-2.ensures fit c.in_ok-tables.ensures.written;
       size = root_fits j.chain j.list c.in_ok-tables.tables c.requires.may good (rows_are_few j.chain j.list c.args.bodies.now.il.items c.in_ok-tables.tables c.requires.may c.laws-2.ensures c.in_ok-tables.ensures.written);
-      root = c.in_ok-bytes.ensures ∙ ap (λ (p : Parts). root_built p true) (c.of-root.ensures ∙ ap (λ (h : Built). record { heaps = h; rows = c.in_ok-tables.tables }) same);
+      root = c.in_ok-bytes.ensures ∙ ap (λ (p : Parts). root_built p Delta) (c.of-root.ensures ∙ ap (λ (h : Built). record { heaps = h; rows = c.in_ok-tables.tables }) same);
     }
