@@ -7,3 +7,12 @@ pub mod SignaturesKept
 pub mod FieldsKept
 pub mod CellsKept
 pub mod SoundKept
+pub mod Permutes
+pub mod NewOrder
+pub mod LawsKept
+pub mod MovesLow
+pub mod HeldKept
+pub mod BodiesHeld
+pub mod SignaturesHeld
+pub mod MovesListed
+pub mod SeenMoved

@@ -183,7 +183,7 @@ count_map q g [] = refl
 count_map q g (x ∷ xs) =
     count_cons q (g x) (map g xs) ∙ ap (λ n. cond (q (g x)) 1 0 + n) (count_map q g xs) ∙ sym (count_cons (λ y. q (g y)) x xs)
 
-same_place : (n : ℕ) (rows : List ℕ) (k row : ℕ) → IsOrder n rows → (new_row rows k == row) ≡ (k == old_row rows row)
+pub same_place : (n : ℕ) (rows : List ℕ) (k row : ℕ) → IsOrder n rows → (new_row rows k == row) ≡ (k == old_row rows row)
 same_place n rows k row order = by_both (new_row rows k) (old_row rows row)
     (λ e. sym (old_new n rows k order) ∙ ap (old_row rows) e) (λ e. ap (new_row rows) e ∙ new_old n rows row order)
   where
@@ -199,14 +199,14 @@ same_place n rows k row order = by_both (new_row rows k) (old_row rows row)
 low_same : (r : ℕ) → nat_lt 0 r ≡ nat_le 1 r
 low_same r = grind (arith, nat_tests)
 
-old_there : (n : ℕ) (rows : List ℕ) (row : ℕ) → IsOrder n rows → (nat_le 1 (old_row rows row) && nat_le (old_row rows row) n) ≡ (nat_le 1 row && nat_le row n)
+pub old_there : (n : ℕ) (rows : List ℕ) (row : ℕ) → IsOrder n rows → (nat_le 1 (old_row rows row) && nat_le (old_row rows row) n) ≡ (nat_le 1 row && nat_le row n)
 old_there n rows row order =
     let there = new_there n rows (old_row rows row) order in
     let e : (nat_lt 0 row && nat_le row n) ≡ (nat_lt 0 (old_row rows row) && nat_le (old_row rows row) n) =
     ap (λ r. nat_lt 0 r && nat_le r n) (sym (new_old n rows row order)) ∙ there in
     ap (λ b. b && nat_le (old_row rows row) n) (sym (low_same (old_row rows row))) ∙ sym e ∙ ap (λ b. b && nat_le row n) (low_same row)
 
-child_row : (orders : Orders) (child : ℕ) (rows : List ℕ) → children_moved (moved_by orders) child rows ≡ map (new_row (orders child)) rows
+pub child_row : (orders : Orders) (child : ℕ) (rows : List ℕ) → children_moved (moved_by orders) child rows ≡ map (new_row (orders child)) rows
 unfolding moved_by
 child_row orders child rows = refl
 

@@ -1,4 +1,5 @@
 pub mod Moved
 pub mod Held
+pub mod Mover
 pub mod Seen
 pub mod Laws

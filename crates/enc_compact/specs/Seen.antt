@@ -25,9 +25,9 @@ unfoldable pub bodies_moved : Module → (ℕ → Option Body) → ℕ → Optio
 bodies_moved m places n = option_map (body_moved (moved_by (new_order m))) (places n)
 
 -- where the row of a method stood in these orders
-unfoldable pub old_by : Orders → Token → Token
+abbrev pub old_by : Orders → Token → Token
 old_by orders t = record { table = t.table; row = old_row (orders t.table) t.row }
 
 -- what is known of methods whose rows have these orders
-unfoldable pub pdb_by : Orders → PlainPdb → PlainPdb
+abbrev pub pdb_by : Orders → PlainPdb → PlainPdb
 pdb_by orders p t = p (old_by orders t)

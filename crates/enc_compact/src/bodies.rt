@@ -1,15 +1,21 @@
 //! The bodies whose bytes change when tokens move.
-ghost use Rattle.std.specs.Prelude.{◌≡◌, IfOk};
-ghost use Rattle.enc_compact.specs.Held.{AreBodiesHeld};
-ghost use Rattle.enc_order.specs.Orders.{moved_by};
+ghost use Rattle.std.specs.Prelude.{◌≡◌, ◌+◌, ◌<◌, ◌^◌, ◌++◌, ℕ, List, length, IfOk, IfSome, OnOk, IsTrue};
+ghost use Rattle.enc_base.specs.Token.{nth_row};
+ghost use Rattle.enc_compact.specs.Held.{slot_in, held_by, SlotHolds, CellHolds, AreBodiesHeld, AreKnown};
+ghost use Rattle.enc_order.specs.Orders.{moved_by, new_order};
+ghost use Rattle.enc_moves.specs.Held.{Held, held_code};
+ghost use Rattle.enc_opcodes.specs.Body.{code_seen};
+ghost use Rattle.enc_plain.specs.Module.{has_row, cell_of};
 ghost use Rattle.enc_plain.specs.Sound.{IsSound};
 ghost use Rattle.enc_schema.specs.Schema.{list_at};
+ghost use Rattle.enc_schema.specs.Tables.{method_def};
 
 use crate::mover::Mover;
+use enc_order::Order;
+use crate::slots::{known_at, slot_at};
 use enc_base::Token;
 use enc_moves::MovedBody;
 use enc_opcodes::CodeRef;
-use enc_order::Order;
 use enc_plain::ModuleView;
 use enc_schema::tables::METHOD_DEF;
 use std::alloc::{AllocError, Global};
@@ -23,15 +29,30 @@ pub(crate) struct HeldBodies {
     slots: Vec<u32>,
 }
 
-/// Moves the tokens of a method's body, and answers its slot; the body of a place that was met before
-/// isn't moved again.
+/// Those that are held so far, and the numbers of the places that were met.
+#[derive(Drop)]
+struct Bodies {
+    held: Vec<MovedBody>,
+    known: BTreeMap<u64, u32>,
+}
+
+/// Moves the tokens of a method's body, and answers its number; it is held where its bytes change.
 fn hold<V: ModuleView>(
     alloc: Global,
     view: &V,
     mover: &Mover<'_>,
     method: Token,
     held: &mut Vec<MovedBody>,
-) -> Result<u32, AllocError> {
+) -> Result<u32, AllocError>
+    requires sound { IsSound (V.meaning view.now) }
+    requires order { list_at mover.now.order.now ≡ new_order (V.meaning view.now) }
+    requires row { IsTrue (has_row (V.meaning view.now) method) }
+    requires table { method.table ≡ method_def }
+    requires few { length held.old.items < 2 ^ 24 }
+    ensures holds { IfOk result (CellHolds (moved_by (new_order (V.meaning view.now))) (V.users view.now) held.new.items (cell_of (V.meaning view.now) method 0)) }
+    ensures grows { (more : List Held) × (held.new.items ≡ held.old.items ++ more) }
+    ensures few { length held.new.items < length held.old.items + 2 }
+{
     let Some(code) = view.code(method) else {
         return Ok(0);
     };
@@ -44,61 +65,88 @@ fn hold<V: ModuleView>(
     }
 }
 
-/// The slot of a method's body.
+/// The number of a method's body; the body of a place that was met before isn't moved again.
 fn slot_of<V: ModuleView>(
     alloc: Global,
     view: &V,
     mover: &Mover<'_>,
     method: Token,
-    known: &mut BTreeMap<u64, u32>,
-    held: &mut Vec<MovedBody>,
-) -> Result<u32, AllocError> {
+    bodies: &mut Bodies,
+) -> Result<u32, AllocError>
+    requires sound { IsSound (V.meaning view.now) }
+    requires order { list_at mover.now.order.now ≡ new_order (V.meaning view.now) }
+    requires row { IsTrue (has_row (V.meaning view.now) method) }
+    requires table { method.table ≡ method_def }
+    requires few { length bodies.old.held.items < 2 ^ 24 }
+    requires known { AreKnown (V.places view.now) (SlotHolds (moved_by (new_order (V.meaning view.now))) (V.users view.now) bodies.old.held.items) bodies.old.known }
+    ensures holds { IfOk result (CellHolds (moved_by (new_order (V.meaning view.now))) (V.users view.now) bodies.new.held.items (cell_of (V.meaning view.now) method 0)) }
+    ensures known { OnOk result (AreKnown (V.places view.now) (SlotHolds (moved_by (new_order (V.meaning view.now))) (V.users view.now) bodies.new.held.items) bodies.new.known) }
+    ensures grows { OnOk result ((more : List Held) × (bodies.new.held.items ≡ bodies.old.held.items ++ more)) }
+    ensures few { OnOk result (length bodies.new.held.items < length bodies.old.held.items + 2) }
+{
     let place = view.code_place(method);
-    if let Some(slot) = known.get(&place) {
-        return Ok(*slot);
+    if let Some(slot) = known_at(&bodies.known, place) {
+        return Ok(slot);
     }
-    let slot = hold(alloc, view, mover, method, held)?;
-    match known.insert(place, slot) {
+    let slot = match hold(alloc, view, mover, method, &mut bodies.held) {
+        Ok(slot) => slot,
+        Err(fault) => return Err(fault),
+    };
+    match bodies.known.insert(place, slot) {
         Ok(_) => Ok(slot),
         Err(_) => Err(AllocError),
     }
 }
 
 impl HeldBodies {
-    /// The bodies of a module whose bytes change by an order.
+    /// The bodies of a module whose bytes change by the order of an ordinary one.
     pub(crate) fn of<V: ModuleView>(
         alloc: Global,
         view: &V,
         order: &Order,
     ) -> Result<HeldBodies, AllocError>
-        ensures { IfOk result (λ b. AreBodiesHeld (V.meaning view.now) (moved_by (list_at order.now)) (V.users view.now) b.held.items b.slots.items) }
+        requires sound { IsSound (V.meaning view.now) }
+        requires order { list_at order.now ≡ new_order (V.meaning view.now) }
+        ensures { IfOk result (λ b. AreBodiesHeld (V.meaning view.now) (moved_by (new_order (V.meaning view.now))) (V.users view.now) b.held.items b.slots.items) }
     {
         let mover = Mover { order };
-        let mut held = Vec::new(alloc);
-        let mut known = BTreeMap::new(alloc);
+        let mut bodies = Bodies {
+            held: Vec::new(alloc),
+            known: BTreeMap::new(alloc),
+        };
         let mut slots = Vec::new(alloc);
         for n in 0..view.count(METHOD_DEF) {
             let method = Token {
                 table: METHOD_DEF,
                 row: n + 1,
             };
-            slots.push(slot_of(
-                alloc, view, &mover, method, &mut known, &mut held,
-            )?)?;
+            match slot_of(alloc, view, &mover, method, &mut bodies) {
+                Ok(slot) => slots.push(slot)?,
+                Err(fault) => return Err(fault),
+            }
         }
-        Ok(HeldBodies { held, slots })
+        Ok(HeldBodies {
+            held: bodies.held,
+            slots,
+        })
     }
 
     /// The body of a method, by its row in the module that is lent, with its tokens moved: its own bytes
     /// where they stay.
-    pub(crate) fn code<'a>(&'a self, row: u32, code: CodeRef<'a>, locals: Token) -> CodeRef<'a> {
-        let slot = match self.slots.get(row as usize - 1) {
-            Some(slot) => *slot,
-            None => 0,
-        };
+    pub(crate) fn code<'a>(&'a self, row: u32, code: CodeRef<'a>, locals: Token) -> CodeRef<'a>
+        requires few { length code.code.now < 2 ^ 32 }
+        requires short { length code.sections.now < 2 ^ 32 }
+        ensures code { code_seen result ≡ held_code (held_by self.now.held.items (slot_in self.now.slots.items row)) (code_seen code.entry) locals }
+        ensures few { length result.code.now < 2 ^ 32 }
+        ensures short { length result.sections.now < 2 ^ 32 }
+    {
+        let slot = slot_at(&self.slots, row);
         if slot == 0 {
             return CodeRef { locals, ..code };
         }
-        self.held[slot as usize - 1].code(&code, locals)
+        match self.held.get(slot as usize - 1) {
+            Some(body) => body.code(&code, locals),
+            None => CodeRef { locals, ..code },
+        }
     }
 }

@@ -3,15 +3,16 @@
 #![tactic(auto)]
 
 mod bodies;
-mod compact;
+mod compacted;
 mod laws;
 mod module;
 mod mover;
 mod moves;
 mod points;
 mod signatures;
+mod slots;
 
-pub use compact::{Compacted, compact};
+pub use compacted::{Compacted, compact};
 pub use enc_order::Order;
 pub use laws::compact_laws;
 pub use module::MovedModule;

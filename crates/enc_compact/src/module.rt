@@ -1,7 +1,10 @@
 //! A module whose rows were moved, as a view.
-ghost use Rattle.std.specs.Prelude.{◌≡◌};
-ghost use Rattle.enc_compact.specs.Moved.{module_moved};
+ghost use Rattle.std.specs.Prelude.{◌≡◌, ◌<◌, ◌^◌, IfOk, IsTrue};
+ghost use Rattle.enc_compact.specs.Moved.{children_moved, module_moved};
+ghost use Rattle.enc_order.specs.Orders.{new_of, old_of};
 ghost use Rattle.enc_compact.specs.Seen.{bodies_moved, blob_numbered};
+ghost use Rattle.enc_plain.specs.Module.{has_row};
+ghost use Rattle.enc_plain.specs.Sound.{IsSound};
 
 use crate::bodies::HeldBodies;
 use crate::signatures::HeldSignatures;
@@ -37,6 +40,46 @@ impl<'a, V: ModuleView> Model for MovedModule<'a, V> {
     ghost invariant = { λ m. IsSound (V.meaning m.view.now) × (list_at m.order.value ≡ new_order (V.meaning m.view.now)) × AreBodiesHeld (V.meaning m.view.now) (moved_by (new_order (V.meaning m.view.now))) (V.users m.view.now) m.bodies.held.items m.bodies.slots.items × AreAllHeld (V.meaning m.view.now) (moved_by (new_order (V.meaning m.view.now))) m.signatures };
 }
 
+impl<V: ModuleView> MovedModule<'_, V> {
+    /// The module that is lent.
+    fn lent(&self) -> &V
+        ensures lent { result.now ≡ self.now }
+        ensures sound { IsSound (V.meaning self.now) }
+    {
+        self.view
+    }
+
+    /// The row of the module that is lent that came to a row's place.
+    fn old(&self, row: Token) -> Token
+        requires { IsTrue (has_row (module_moved (V.meaning self.now)) row) }
+        ensures old { result ≡ old_of (V.meaning self.now) row }
+        ensures there { IsTrue (has_row (V.meaning self.now) result) }
+        ensures table { result.table ≡ row.table }
+    {
+        self.order.old(row)
+    }
+
+    /// Where a token goes.
+    fn moved(&self, token: Token) -> Token
+        ensures moved { result ≡ new_of (V.meaning self.now) token }
+        ensures low { token.row < 2 ^ 24 → result.row < 2 ^ 24 }
+    {
+        self.order.moved(token)
+    }
+
+    /// The rows of a table at their new places.
+    fn moved_all(&self, alloc: Global, table: u8, rows: &[u32]) -> Result<Vec<u32>, AllocError>
+        ensures { IfOk result (λ v. v.items ≡ children_moved (new_of (V.meaning self.now)) table rows.now) }
+    {
+        let mut moved = Vec::with_capacity(alloc, rows.len())?;
+        for i in 0..rows.len() {
+            let row = rows[i];
+            moved.push(self.moved(Token { table, row }).row)?;
+        }
+        Ok(moved)
+    }
+}
+
 impl<V: ModuleView> ModuleView for MovedModule<'_, V> {
     ghost meaning = { λ v. module_moved (V.meaning v) };
 
@@ -47,39 +90,40 @@ impl<V: ModuleView> ModuleView for MovedModule<'_, V> {
     ghost stored = { λ v. blob_numbered (module_moved (V.meaning v)) };
 
     fn count(&self, table: u8) -> u32 {
-        self.view.count(table)
+        self.lent().count(table)
     }
 
     fn num(&self, row: Token, column: u8) -> u32 {
-        self.view.num(self.order.old(row), column)
+        self.lent().num(self.old(row), column)
     }
 
     fn text(&self, row: Token, column: u8) -> &[u8] {
-        self.view.text(self.order.old(row), column)
+        self.lent().text(self.old(row), column)
     }
 
     fn blob(&self, row: Token, column: u8) -> &[u8] {
-        let old = self.order.old(row);
-        self.signatures.blob(old, column, self.view.blob(old, column))
+        let old = self.old(row);
+        self.signatures.blob(old, column, self.lent().blob(old, column))
     }
 
     fn blob_place(&self, row: Token, column: u8) -> u64 {
+        let _ = &self.view;
         (u64::from(row.table) * 0x1_0000_0000 + u64::from(row.row)) * 0x100 + u64::from(column)
     }
 
     fn guid(&self, row: Token, column: u8) -> [u8; 16] {
-        self.view.guid(self.order.old(row), column)
+        self.lent().guid(self.old(row), column)
     }
 
     fn refer(&self, row: Token, column: u8) -> Token {
-        self.order.moved(self.view.refer(self.order.old(row), column))
+        self.moved(self.lent().refer(self.old(row), column))
     }
 
     fn code(&self, method: Token) -> Option<CodeRef<'_>> {
-        let old = self.order.old(method);
-        match self.view.code(old) {
+        let old = self.old(method);
+        match self.lent().code(old) {
             Some(code) => {
-                let locals = self.order.moved(code.locals);
+                let locals = self.moved(code.locals);
                 Some(self.bodies.code(old.row, code, locals))
             }
             None => None,
@@ -87,59 +131,45 @@ impl<V: ModuleView> ModuleView for MovedModule<'_, V> {
     }
 
     fn code_place(&self, method: Token) -> u64 {
-        self.view.code_place(self.order.old(method))
+        self.lent().code_place(self.old(method))
     }
 
     fn field_bytes(&self, row: Token) -> &[u8] {
-        self.view.field_bytes(self.order.old(row))
+        self.lent().field_bytes(self.old(row))
     }
 
     fn user_text(&self, offset: u32) -> Option<&[u8]> {
-        self.view.user_text(offset)
+        self.lent().user_text(offset)
     }
 
     fn resources(&self) -> &[u8] {
-        self.view.resources()
+        self.lent().resources()
     }
 
     fn entry(&self) -> u32 {
-        let entry = self.view.entry();
+        let entry = self.lent().entry();
         let token = Token::of(entry);
-        if !is_row(self.view, token) {
+        if !is_row(self.lent(), token) {
             return entry;
         }
-        self.order.moved(token).number()
+        self.moved(token).number()
     }
 
     fn owner(&self, child: Token) -> Token {
-        self.order.moved(self.view.owner(self.order.old(child)))
+        self.moved(self.lent().owner(self.old(child)))
     }
 
     fn kids(&self, owner: Token, table: u8) -> u32 {
-        self.view.kids(self.order.old(owner), table)
+        self.lent().kids(self.old(owner), table)
     }
 
     fn kid(&self, owner: Token, table: u8, i: u32) -> Token {
-        self.order.moved(self.view.kid(self.order.old(owner), table, i))
+        self.moved(self.lent().kid(self.old(owner), table, i))
     }
 
     fn kid_rows(&self, alloc: Global, owner: Token, table: u8) -> Result<Vec<u32>, AllocError> {
-        let rows = self.view.kid_rows(alloc, self.order.old(owner), table)?;
-        moved_rows_of(alloc, &self.order, table, &rows)
+        let rows = self.lent().kid_rows(alloc, self.old(owner), table)?;
+        let moved = self.moved_all(alloc, table, &rows)?;
+        Ok(moved)
     }
-}
-
-/// The rows of a table at their new places.
-fn moved_rows_of(
-    alloc: Global,
-    order: &Order,
-    table: u8,
-    rows: &[u32],
-) -> Result<Vec<u32>, AllocError> {
-    let mut moved = Vec::with_capacity(alloc, rows.len())?;
-    for i in 0..rows.len() {
-        let row = rows[i];
-        moved.push(order.moved(Token { table, row }).row)?;
-    }
-    Ok(moved)
 }

@@ -1,11 +1,11 @@
 //! An order as what moves tokens.
 ghost use Rattle.std.specs.Prelude.{◌≡◌};
-ghost use Rattle.enc_order.specs.Orders.{moved_by};
+ghost use Rattle.enc_compact.specs.Mover.{moved_low, moved_stays, moved_is_low};
 ghost use Rattle.enc_schema.specs.Schema.{list_at};
 
+use enc_order::Order;
 use enc_base::Token;
 use enc_moves::Moves;
-use enc_order::Order;
 
 /// Moves tokens by an order.
 #[derive(Drop)]
@@ -14,9 +14,13 @@ pub(crate) struct Mover<'a> {
 }
 
 impl Moves for Mover<'_> {
-    ghost to = { λ m. moved_by (list_at m.order.now) };
+    ghost to = { λ m. moved_low (list_at m.order.now) };
 
     fn moved(&self, token: Token) -> Token {
         self.order.moved(token)
     }
+
+    ghost stays = { λ m t. moved_stays (list_at m.order.now) t };
+
+    ghost low = { λ m t. moved_is_low (list_at m.order.now) t };
 }

@@ -1,15 +1,29 @@
 //! The rows that move.
-ghost use Rattle.std.specs.Prelude.{◌≡◌, map, IfOk};
-ghost use Rattle.enc_compact.specs.Moved.{moves_listed};
+ghost use Rattle.std.specs.Prelude.{◌≡◌, ◌++◌, ◌∷◌, [], IfOk, OnOk, if◌then◌else◌};
+ghost use Rattle.enc_base.specs.Token.{is_token};
+ghost use Rattle.enc_compact.specs.Moved.{moves_in, moves_listed};
 ghost use Rattle.enc_order.specs.Orders.{new_order};
-ghost use Rattle.enc_plain.specs.Sound.{IsSound};
 ghost use Rattle.enc_schema.specs.Schema.{list_at};
-ghost use Rattle.enc_schema.specs.Tables.{table_count};
 
 use enc_base::Token;
 use enc_order::Order;
 use enc_plain::ModuleView;
 use std::alloc::{AllocError, Global};
+
+/// Appends a row with its new place, where it moves.
+fn push_move(
+    old: Token,
+    new: Token,
+    moves: &mut Vec<(Token, Token)>,
+) -> Result<(), AllocError>
+    ensures { OnOk result (moves.new.items ≡ moves.old.items ++ (if is_token new old then [] else (old, new) ∷ [])) }
+{
+    if new.table == old.table && new.row == old.row {
+        return Ok(());
+    }
+    moves.push((old, new))?;
+    Ok(())
+}
 
 /// Appends a table's rows that move, each with its new place.
 fn push_table<V: ModuleView>(
@@ -17,13 +31,13 @@ fn push_table<V: ModuleView>(
     order: &Order,
     table: u8,
     moves: &mut Vec<(Token, Token)>,
-) -> Result<(), AllocError> {
+) -> Result<(), AllocError>
+    requires { list_at order.now ≡ new_order (V.meaning view.now) }
+    ensures { OnOk result (moves.new.items ≡ moves.old.items ++ moves_in (V.meaning view.now) table) }
+{
     for n in 0..view.count(table) {
         let old = Token { table, row: n + 1 };
-        let new = order.new_of(old);
-        if new != old {
-            moves.push((old, new))?;
-        }
+        push_move(old, order.new_of(old), moves)?;
     }
     Ok(())
 }

@@ -37,4 +37,6 @@ impl<P: PointSource> PointSource for PlainPoints<'_, P> {
     fn document_place(&self, method: Token, number: u32) -> u64 {
         self.points.document_place(self.order.old(method), number)
     }
+
+    ghost knows = { λ s t. P.knows s.points.now (old_by (list_at s.order.value) t) };
 }

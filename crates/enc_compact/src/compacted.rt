@@ -38,7 +38,7 @@ pub fn compact<'a, V: ModuleView, P: PointSource>(
 ) -> Result<Compacted<'a, V, P>, AllocError>
     requires sound { IsSound (V.meaning view.now) }
     ensures module { IfOk result (λ c. c.module ≡ view.now) }
-    ensures points { IfOk result (λ c. PlainPoints-PointSource.debug c.points ≡ pdb_moved (V.meaning view.now) (P.debug points.now)) }
+    ensures points { IfOk result (λ c. ⟦<PlainPoints<'static, P> as PointSource>⟧.debug c.points ≡ pdb_moved (V.meaning view.now) (P.debug points.now)) }
     ensures order { IfOk result (λ c. list_at c.order.value ≡ new_order (V.meaning view.now)) }
 {
     let order = Rc::new(alloc, Order::of(alloc, view)?)?;
