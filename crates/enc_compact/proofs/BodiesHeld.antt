@@ -1,6 +1,6 @@
 -- The bodies that are held say those of the module that is lent with their tokens moved.
-use Rattle.std.proofs.Common.{◌≡◌, ℕ, zero, suc, ◌+◌, ◌<◌, ◌≤◌, Bool, true, List, [], ◌∷◌, ◌++◌, length, Option, Some, None, refl, sym, ap, subst, ◌∙◌, arith}
-use Rattle.std.specs.Prelude.{option_map, slice_get}
+use Rattle.std.proofs.Common.{◌≡◌, ℕ, ◌+◌, ◌<◌, ◌≤◌, true, List, [], ◌∷◌, ◌++◌, length, Option, Some, None, sym, ap, subst, ◌∙◌, arith}
+use Rattle.std.specs.Prelude.{option_map}
 use Rattle.std.specs.BTreeMap.{BTreeMap, get, Updates}
 use Rattle.std.specs.Ordering.{nat_cmp}
 use Rattle.enc_base.specs.Token.{nth_row}
@@ -12,7 +12,7 @@ use Rattle.enc_opcodes.specs.declared.code.CodeRef.{CodeRef}
 use Rattle.enc_plain.specs.Cell.{Cell, body}
 use Rattle.enc_plain.specs.Module.{Module, has_row, cell_of}
 use Rattle.enc_plain.specs.Sound.{IsSound, row_count}
-use Rattle.enc_compact.specs.Held.{slot_in, with_locals, held_by, HoldsBody, HeldSays, SlotHolds, CellHolds, AreHeldUpto, AreBodiesHeld, AreKnown}
+use Rattle.enc_compact.specs.Held.{slot_in, held_by, HeldSays, SlotHolds, CellHolds, AreHeldUpto, AreBodiesHeld, AreKnown}
 use Rattle.enc_compact.specs.Mover.{moved_low}
 use Rattle.enc_order.specs.Orders.{Orders, moved_by, new_order, new_of}
 use Rattle.enc_compact.proofs.HeldKept.{rows_of, row_slot, held_still, low_still, last_held, last_low, one_known, one_slot}
@@ -64,11 +64,14 @@ holds_still f texts held new more b slot grown holds = subst (λ xs. SlotHolds f
   says = subst (HeldSays f texts b) (sym (held_still held more slot holds.low)) holds.says;
 })
 
-pub place_holds : (places : ℕ → Option Body) (f : Token → Token) (texts : ℕ → Option (List ℕ)) (held : List Held) (known : BTreeMap ℕ ℕ) (cell : Option Cell) (place slot : ℕ)
-    → AreKnown places (SlotHolds f texts held) known → Some slot ≡ get nat_cmp known place → cell ≡ Some (body (places place)) → CellHolds f texts held cell slot
+pub place_holds : (places : ℕ → Option Body) (f : Token → Token) (texts : ℕ → Option (List ℕ)) (held : List Held) (known : BTreeMap ℕ ℕ) (cell : Option Cell)
+    (place slot : ℕ)
+    → AreKnown places (SlotHolds f texts held) known → Some slot ≡ get nat_cmp known place → cell ≡ Some (body (places place))
+    → CellHolds f texts held cell slot
 place_holds places f texts held known cell place slot all found at b e = all place slot b (sym found) (same_body cell (places place) b at e)
 
-pub place_known : (places : ℕ → Option Body) (f : Token → Token) (texts : ℕ → Option (List ℕ)) (held new more : List Held) (before after : BTreeMap ℕ ℕ) (cell : Option Cell) (place slot : ℕ)
+pub place_known : (places : ℕ → Option Body) (f : Token → Token) (texts : ℕ → Option (List ℕ)) (held new more : List Held) (before after : BTreeMap ℕ ℕ)
+    (cell : Option Cell) (place slot : ℕ)
     → AreKnown places (SlotHolds f texts held) before → new ≡ held ++ more → cell ≡ Some (body (places place)) → CellHolds f texts new cell slot
     → Updates nat_cmp before after place (Some slot) → AreKnown places (SlotHolds f texts new) after
 place_known places f texts held new more before after cell place slot all grown at holds updates =
@@ -80,7 +83,8 @@ pub method_holds : (m : Module) (f : Token → Token) (texts : ℕ → Option (L
     → AreHeldUpto m f texts held slots n → new ≡ held ++ more → CellHolds f texts new (cell_of m (nth_row 0x06 n) 0) slot → after ≡ slots ++ slot ∷ []
     → AreHeldUpto m f texts new after (n + 1)
 method_holds m f texts held new more slots after n slot all grown holds pushed =
-    one_slot (λ k i. CellHolds f texts held (cell_of m (nth_row 0x06 k) 0) i) (λ k i. CellHolds f texts new (cell_of m (nth_row 0x06 k) 0) i) slots after n slot all
+    one_slot (λ k i. CellHolds f texts held (cell_of m (nth_row 0x06 k) 0) i) (λ k i. CellHolds f texts new (cell_of m
+    (nth_row 0x06 k) 0) i) slots after n slot all
     (λ k i h b e. holds_still f texts held new more b i grown (h b e)) holds pushed
 
 -- what is held of a row's body says it
@@ -104,7 +108,8 @@ said_there f texts c b None locals says there = there
 said_there f texts c b (Some h) locals says there = says.there
 
 -- so a moved module's body is what its own view says
-pub code_moved : (m : Module) (texts : ℕ → Option (List ℕ)) (held : List Held) (slots : List ℕ) (u : Token) (code : CodeRef) (o : Option CodeRef) (locals : Token) (new : Code)
+pub code_moved : (m : Module) (texts : ℕ → Option (List ℕ)) (held : List Held) (slots : List ℕ) (u : Token) (code : CodeRef) (o : Option CodeRef)
+    (locals : Token) (new : Code)
     → AreBodiesHeld m (new_of m) texts held slots → has_row m u ≡ true → u.table ≡ 0x06
     → cell_of m u 0 ≡ Some (body (option_map (λ (r : CodeRef). body_of texts (code_seen r)) o)) → o ≡ Some code → locals ≡ new_of m code.locals
     → new ≡ held_code (held_by held (slot_in slots u.row)) (code_seen code) locals → body_of texts new ≡ body_moved (new_of m) (body_of texts (code_seen code))
@@ -117,7 +122,8 @@ code_moved m texts held slots u code o locals new all there table cell some move
     ap (body_of texts) (is ∙ ap (λ (t : Token). held_code (held_by held (slot_in slots u.row)) (code_seen code) t) moved)
     ∙ said_means (new_of m) texts (code_seen code) (held_by held (slot_in slots u.row)) holds.says
 
-pub code_there : (m : Module) (texts : ℕ → Option (List ℕ)) (held : List Held) (slots : List ℕ) (u : Token) (code : CodeRef) (o : Option CodeRef) (locals : Token) (new : Code)
+pub code_there : (m : Module) (texts : ℕ → Option (List ℕ)) (held : List Held) (slots : List ℕ) (u : Token) (code : CodeRef) (o : Option CodeRef)
+    (locals : Token) (new : Code)
     → AreBodiesHeld m (new_of m) texts held slots → has_row m u ≡ true → u.table ≡ 0x06
     → cell_of m u 0 ≡ Some (body (option_map (λ (r : CodeRef). body_of texts (code_seen r)) o)) → o ≡ Some code → texts_are_there texts code.code.now ≡ true
     → new ≡ held_code (held_by held (slot_in slots u.row)) (code_seen code) locals → texts_are_there texts new.code ≡ true

@@ -1,5 +1,6 @@
 -- What is held stays what numbers tell while more is held, and what is known of places.
-use Rattle.std.proofs.Common.{◌≡◌, ℕ, zero, suc, ◌+◌, ◌<◌, ◌≤◌, Bool, true, false, List, [], ◌∷◌, ◌++◌, length, Option, Some, None, refl, sym, ap, subst, ◌∙◌, ◌-◌, ◌⊎◌, cond, inl, inr, arith}
+use Rattle.std.proofs.Common.{◌≡◌, ℕ, zero, suc, ◌+◌, ◌<◌, ◌≤◌, Bool, true, false, List, [], ◌∷◌, ◌++◌}
+use Rattle.std.proofs.Common.{length, Option, Some, None, refl, sym, ap, subst, ◌∙◌, ◌-◌, ◌⊎◌, cond, inl, inr, arith}
 use Rattle.std.specs.Prelude.{slice_get, unwrap_or, nat_lt, nat_le, ◌&&◌}
 use Rattle.std.specs.BTreeMap.{BTreeMap, get, is_at, Updates, IsEmpty}
 use Rattle.std.specs.Ordering.{nat_cmp}

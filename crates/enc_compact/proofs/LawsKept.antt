@@ -7,10 +7,9 @@ use Rattle.enc_moves.specs.Laws.{MovedStaysSound}
 use Rattle.enc_sigs.specs.Moved.{MovedReadsBack, MovedBeginsAlike, MovedFieldFront}
 use Rattle.enc_rows.specs.Sums.{below}
 use Rattle.enc_schema.specs.Children.{is_child_table}
-use Rattle.enc_plain.specs.Debug.{PlainPdb, unknown}
 use Rattle.enc_plain.specs.Module.{Module}
 use Rattle.enc_plain.specs.Sound.{IsSound, row_count, all_kids}
-use Rattle.enc_plain.specs.SoundDebug.{KnowsWithin, is_method_of}
+use Rattle.enc_plain.specs.SoundDebug.{is_method_of}
 use Rattle.enc_compact.specs.Laws.{MovedIsSound, MovedPdbIsSound, MovedKnowsWithin, MovedStandsInOrder}
 use Rattle.enc_compact.specs.Moved.{AreOrders, module_moved, pdb_moved}
 use Rattle.enc_order.specs.Orders.{old_row, new_order, old_of, rows_listed}

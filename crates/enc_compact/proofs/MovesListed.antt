@@ -1,8 +1,7 @@
 -- The rows that move, one more at a time.
-use Rattle.std.proofs.Common.{◌≡◌, ℕ, zero, suc, ◌+◌, Bool, true, false, List, [], ◌∷◌, ◌++◌, map, refl, sym, ap, ◌∙◌, append_assoc, arith}
-use Rattle.std.specs.Prelude.{flat_map, ◌==◌, ◌&&◌, if◌then◌else◌}
+use Rattle.std.proofs.Common.{◌≡◌, ℕ, zero, suc, ◌+◌, List, [], ◌∷◌, ◌++◌, map, refl, sym, ap, ◌∙◌, append_assoc, arith}
+use Rattle.std.specs.Prelude.{flat_map, if◌then◌else◌}
 use Rattle.std.specs.List.{range_with_len}
-
 use Rattle.enc_base.specs.Token.{is_token}
 use Rattle.enc_base.specs.declared.token.Token.{Token}
 use Rattle.enc_rows.specs.Sums.{below}
@@ -10,7 +9,7 @@ use Rattle.enc_plain.specs.Module.{Module}
 use Rattle.enc_plain.specs.Sound.{row_count}
 use Rattle.enc_compact.specs.Moved.{move_of, moves_in, moves_listed}
 use Rattle.enc_order.specs.Orders.{rows_listed, new_of}
-use Rattle.enc_order.proofs.Rowed.{none_upto, more_upto}
+use Rattle.enc_order.proofs.Rowed.{more_upto}
 
 -- those of the first rows of a table
 abbrev pub moves_upto : Module → ℕ → ℕ → List (Token × Token)

@@ -1,5 +1,5 @@
 -- An order moves tokens to rows that a token's number has room for.
-use Rattle.std.proofs.Common.{◌≡◌, ℕ, ◌<◌, ◌≤◌, ◌^◌, Bool, true, false, refl, sym, ap, ◌∙◌, cond, inl, inr, arith}
+use Rattle.std.proofs.Common.{◌≡◌, ℕ, ◌<◌, ◌≤◌, ◌^◌, false, refl, sym, ap, ◌∙◌, inl, inr, arith}
 use Rattle.std.specs.Prelude.{not, ◌&&◌, nat_lt}
 use Rattle.std.proofs.lemmas.Bool.{cases_lt}
 use Rattle.std.proofs.lemmas.Bool.Decides.{nat_tests}
@@ -24,7 +24,8 @@ is_low orders t u e low =
     let there : comes_past t (moved_by orders t) ≡ false = ap (λ (v : Token). comes_past t v) (sym e) ∙ no in
     e ∙ rw there refl
 
-row_low : (n : ℕ) (m : Module) (orders : Orders) (t : ℕ) (row : ℕ) → AreOrders m orders → n ≡ row_count m t → n < 2 ^ 24 → row < 2 ^ 24 → new_row (orders t) row < 2 ^ 24
+row_low : (n : ℕ) (m : Module) (orders : Orders) (t : ℕ) (row : ℕ) → AreOrders m orders → n ≡ row_count m t → n < 2 ^ 24 → row < 2 ^ 24
+    → new_row (orders t) row < 2 ^ 24
 row_low n m orders t row are is few low = elim (cases_lt 0 row) [
   | inl some ↦ elim (cases_lt (row_count m t) row) [
     | inl past ↦ rw (new_absent (row_count m t) (orders t) row (is_order m orders t are) (λ l. past)) low

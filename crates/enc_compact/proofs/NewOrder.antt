@@ -2,7 +2,6 @@
 use Rattle.std.proofs.Common.{◌≡◌, ℕ, ◌+◌, ◌*◌, ◌^◌, Bool, true, false, List, [], ◌∷◌, refl, sym, ap, ◌∙◌, cond, arith}
 use Rattle.std.specs.Prelude.{◌==◌, filter}
 use Rattle.std.proofs.lemmas.Bool.Decides.{nat_tests}
-use Rattle.enc_base.specs.Token.{is_token}
 use Rattle.enc_base.specs.declared.token.Token.{Token}
 use Rattle.enc_schema.specs.Children.{is_child_table, owner_table}
 use Rattle.enc_schema.specs.Schema.{columns_in}
@@ -12,7 +11,8 @@ use Rattle.enc_plain.specs.Rows.{token_at}
 use Rattle.enc_plain.specs.Sound.{IsSound}
 use Rattle.enc_plain.proofs.Applied.{same_is}
 use Rattle.enc_compact.specs.Moved.{AreOrders, KeepLayouts, is_layout_of}
-use Rattle.enc_order.specs.Orders.{Orders, rows_listed, kids_listed, moved_by, new_row, by_depth, by_owner, by_method, by_key, by_param, by_attribute, key_columns, key_from, key_of, keyed_rows, new_order}
+use Rattle.enc_order.specs.Orders.{Orders, rows_listed, kids_listed, moved_by, new_row, by_depth, by_owner, by_method}
+use Rattle.enc_order.specs.Orders.{by_key, by_param, by_attribute, key_columns, key_from, key_of, keyed_rows, new_order}
 use Rattle.enc_order.specs.Sorted.{sorted_by}
 use Rattle.enc_order.proofs.OneOrder.{of_key, sorted_ties}
 use Rattle.enc_compact.proofs.Permutes.{new_order_permutes}
@@ -65,7 +65,8 @@ layouts_sorted : (m : Module) → new_order m 0x0F ≡ keyed_rows (by_method m (
 unfolding new_order by_attribute by_param by_key key_columns
 layouts_sorted m = refl
 
-layouts_by : (orders : Orders) (m : Module) (type : ℕ) → filter (is_layout_of m type) (keyed_rows orders m 0x0F) ≡ filter (is_layout_of m type) (rows_listed m 0x0F)
+layouts_by : (orders : Orders) (m : Module) (type : ℕ) → filter (is_layout_of m type) (keyed_rows orders m 0x0F) ≡ filter (is_layout_of m type)
+    (rows_listed m 0x0F)
 unfolding keyed_rows
 layouts_by orders m type =
     sorted_keeps (is_layout_of m type) (key_of orders m 0x0F) (new_row (orders 0x02) type) (rows_listed m 0x0F) (λ row is. layout_key orders m type row is)

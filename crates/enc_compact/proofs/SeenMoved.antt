@@ -1,6 +1,7 @@
 -- What a moved module says where the module that is lent says it of the row that came to a row's place.
-use Rattle.std.proofs.Common.{◌≡◌, ℕ, zero, suc, ◌+◌, ◌*◌, ◌/◌, ◌%◌, ◌^◌, ◌<◌, ◌≤◌, Bool, true, false, List, [], ◌∷◌, length, map, Option, Some, None, refl, sym, ap, subst, ◌∙◌, arith}
-use Rattle.std.specs.Prelude.{◌==◌, ◌&&◌, ◌||◌, is_some, nat_lt, nat_le, option_map, slice_get, if◌then◌else◌}
+use Rattle.std.proofs.Common.{◌≡◌, ℕ, ◌+◌, ◌*◌, ◌/◌, ◌%◌, ◌^◌, ◌<◌, ◌≤◌, Bool, true, false}
+use Rattle.std.proofs.Common.{List, [], ◌∷◌, length, map, Option, Some, None, refl, sym, ap, subst, ◌∙◌, arith}
+use Rattle.std.specs.Prelude.{◌==◌, ◌||◌, is_some, nat_lt, nat_le, option_map, slice_get}
 use Rattle.std.specs.List.{list_any}
 use Rattle.std.proofs.lemmas.Bool.{and_parts}
 use Rattle.std.proofs.lemmas.Bool.Decides.{nat_tests}
@@ -9,7 +10,7 @@ use Rattle.enc_base.specs.Token.{token_of, number_of}
 use Rattle.enc_base.specs.declared.token.Token.{Token}
 use Rattle.enc_moves.specs.Body.{body_moved}
 use Rattle.enc_opcodes.specs.Body.{Body}
-use Rattle.enc_schema.specs.Children.{is_child_table, owner_table}
+use Rattle.enc_schema.specs.Children.{is_child_table}
 use Rattle.enc_plain.specs.Cell.{Cell, blob, body, blobs, kind_in}
 use Rattle.enc_plain.specs.Debug.{PlainPdb}
 use Rattle.enc_plain.specs.Module.{Module, rows_in, has_row, cell_of, kids_of, owner_of}
@@ -17,7 +18,7 @@ use Rattle.enc_plain.specs.Sound.{IsSound, IsOwned, row_count}
 use Rattle.enc_plain.proofs.Owned.{kid_owner, has_owner}
 use Rattle.enc_compact.specs.Moved.{cell_moved, children_moved, entry_moved, module_with, module_moved, pdb_moved}
 use Rattle.enc_order.specs.Orders.{Orders, new_row, old_row, moved_by, new_order, new_of, old_of}
-use Rattle.enc_compact.specs.Seen.{bodies_moved, pdb_by, place_number, blob_in, blob_numbered}
+use Rattle.enc_compact.specs.Seen.{bodies_moved, pdb_by, place_number, blob_numbered}
 use Rattle.enc_compact.proofs.HeldKept.{rows_of}
 use Rattle.enc_compact.proofs.KindsKept.{blob_at}
 use Rattle.enc_compact.proofs.NewOrder.{new_order_are}
@@ -30,7 +31,8 @@ unfolding module_moved
 count_seen m t n sound e = e ∙ sym (count_moved m (new_order m) t sound.owners.tables (new_order_are m sound))
 
 -- the row that came to a row's place
-pub old_is : (m : Module) (orders more : Orders) (t u : Token) → orders ≡ new_order m → more ≡ orders → u ≡ record { table = t.table; row = old_row (more t.table) t.row } → u ≡ old_of m t
+pub old_is : (m : Module) (orders more : Orders) (t u : Token) → orders ≡ new_order m → more ≡ orders
+    → u ≡ record { table = t.table; row = old_row (more t.table) t.row } → u ≡ old_of m t
 unfolding old_of
 old_is m orders more t u is same e = e ∙ ap (λ (o : Orders). record { table = t.table; row = old_row (o t.table) t.row }) (same ∙ is)
 
@@ -51,7 +53,8 @@ same_table : (m : Module) (u : Token) → (old_of m u).table ≡ u.table
 unfolding old_of
 same_table m u = refl
 
-cell_at_new : (m : Module) (u : Token) (i : ℕ) → IsSound m → cell_of (module_moved m) (new_of m u) i ≡ option_map (cell_moved (new_of m) u.table i) (cell_of m u i)
+cell_at_new : (m : Module) (u : Token) (i : ℕ) → IsSound m → cell_of (module_moved m) (new_of m u) i ≡ option_map (cell_moved (new_of m) u.table i)
+    (cell_of m u i)
 unfolding module_moved
 cell_at_new m u i sound = moved_cell m (new_order m) u i sound.owners.tables (new_order_are m sound)
 
@@ -113,7 +116,8 @@ unfolding module_moved module_with
 resources_seen m bytes e = e
 
 -- children
-kids_at_new : (m : Module) (u : Token) (child : ℕ) → IsSound m → kids_of (module_moved m) (new_of m u) child ≡ children_moved (new_of m) child (kids_of m u child)
+kids_at_new : (m : Module) (u : Token) (child : ℕ) → IsSound m → kids_of (module_moved m) (new_of m u) child ≡ children_moved (new_of m) child
+    (kids_of m u child)
 unfolding module_moved
 kids_at_new m u child sound = moved_kids m (new_order m) u child sound.owners.tables (new_order_are m sound)
 
@@ -130,7 +134,8 @@ kids_many m u child n sound e =
 pub kid_there : (m : Module) (u : Token) (child i : ℕ) → IsSound m → i < length (kids_of (module_moved m) u child) → i < length (kids_of m (old_of m u) child)
 kid_there m u child i sound low = subst (λ n. i < n) (sym (kids_many m u child (length (kids_of m (old_of m u) child)) sound refl)) low
 
-pub kid_seen : (m : Module) (u k w : Token) (child i : ℕ) → IsSound m → slice_get (kids_of m (old_of m u) child) i ≡ Some k.row → k.table ≡ child → w ≡ new_of m k
+pub kid_seen : (m : Module) (u k w : Token) (child i : ℕ) → IsSound m → slice_get (kids_of m (old_of m u) child) i ≡ Some k.row → k.table ≡ child
+    → w ≡ new_of m k
     → slice_get (kids_of (module_moved m) u child) i ≡ Some w.row
 kid_seen m u k w child i sound e table moved =
     ap (λ (xs : List ℕ). slice_get xs i) (kids_seen m u child sound)

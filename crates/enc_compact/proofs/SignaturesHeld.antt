@@ -1,6 +1,7 @@
 -- The signatures that are held say those of the module that is lent with their tokens moved.
-use Rattle.std.proofs.Common.{◌≡◌, ℕ, zero, suc, ◌+◌, ◌/◌, ◌%◌, ◌<◌, ◌≤◌, Bool, true, false, List, [], ◌∷◌, ◌++◌, length, Option, Some, None, refl, sym, ap, subst, ◌∙◌, ◌⊎◌, inl, inr, arith}
-use Rattle.std.specs.Prelude.{◌==◌, ◌&&◌, nat_le, option_map, is_some, slice_get, unwrap_or, if◌then◌else◌}
+use Rattle.std.proofs.Common.{◌≡◌, ℕ, ◌+◌, ◌/◌, ◌%◌, ◌<◌, ◌≤◌, Bool, true, false, List, []}
+use Rattle.std.proofs.Common.{◌∷◌, ◌++◌, length, Option, Some, None, refl, sym, ap, subst, ◌∙◌, ◌⊎◌, inl, inr, arith}
+use Rattle.std.specs.Prelude.{◌==◌, ◌&&◌, nat_le, option_map, is_some, unwrap_or, if◌then◌else◌}
 use Rattle.std.specs.BTreeMap.{BTreeMap, get, Updates}
 use Rattle.std.specs.Ordering.{nat_cmp}
 use Rattle.std.specs.Option.{option_map_or}
@@ -18,7 +19,8 @@ use Rattle.enc_plain.specs.Rows.{bytes_at}
 use Rattle.enc_plain.specs.Signatures.{signature_column, kind_in_table, is_signature}
 use Rattle.enc_plain.specs.Sound.{IsSound, row_count}
 use Rattle.enc_plain.proofs.CellsOf.{blob_there}
-use Rattle.enc_compact.specs.Held.{slot_in, held_by, bytes_by, SlotSays, AreSaidUpto, AreSignaturesHeld, HeldOf, held_at, AreTablesHeld, AreAllHeld, blob_held, blob_seen, AreKnown}
+use Rattle.enc_compact.specs.Held.{slot_in, bytes_by, SlotSays, AreSaidUpto, AreSignaturesHeld}
+use Rattle.enc_compact.specs.Held.{HeldOf, held_at, AreTablesHeld, AreAllHeld, blob_held, blob_seen, AreKnown}
 use Rattle.enc_compact.specs.Moved.{signature_moved, blob_moved, is_signature_column}
 use Rattle.enc_order.specs.Orders.{new_of}
 use Rattle.enc_compact.proofs.Rows.{none_past}
@@ -50,7 +52,8 @@ pub no_fault : (count : ℕ → ℕ) (table : ℕ) (bytes : List ℕ) → is_sig
 unfolding is_signature
 no_fault count table bytes is none = let both : true ≡ false = sym is ∙ ap is_some none in absurd cc
 
-pub written_is : (f : Token → Token) (count : ℕ → ℕ) (table : ℕ) (bytes out : List ℕ) (s : SigTree) → sig_in (is_counted count) (kind_in_table table bytes) bytes ≡ Some s
+pub written_is : (f : Token → Token) (count : ℕ → ℕ) (table : ℕ) (bytes out : List ℕ) (s : SigTree)
+    → sig_in (is_counted count) (kind_in_table table bytes) bytes ≡ Some s
     → out ≡ [] ++ sig_bytes (sig_moved f s) → out ≡ signature_moved f table bytes
 written_is f count table bytes out s read written = written ∙ sym (signature_is f count table bytes s read)
 
@@ -75,7 +78,8 @@ says_still f table held new more bytes slot grown says = subst (λ xs. SlotSays 
 })
 
 -- the signature that a view tells is sound
-pub own_signature : (m : Module) (row : Token) (column : ℕ) (bytes : List ℕ) (count : ℕ → ℕ) → IsSound m → has_row m row ≡ true → signature_column row.table ≡ Some column
+pub own_signature : (m : Module) (row : Token) (column : ℕ) (bytes : List ℕ) (count : ℕ → ℕ) → IsSound m → has_row m row ≡ true
+    → signature_column row.table ≡ Some column
     → ((t : ℕ) → t < 64 → count t ≡ row_count m t) → cell_of m row column ≡ Some (blob bytes) → is_signature count row.table bytes ≡ true
 own_signature m row column bytes count sound there e same cell =
     signature_same count (row_count m) row.table bytes same
@@ -85,29 +89,35 @@ same_blob : (cell : Option Cell) (o : Option (List ℕ)) (bytes : List ℕ) → 
 same_blob cell None bytes e f = let none : None ≡ Some (blob bytes) = sym e ∙ f in absurd cc
 same_blob cell (Some b) bytes e f = let same : Some (blob b) ≡ Some (blob bytes) = sym e ∙ f in cc
 
-stored_blob : (cell : Option Cell) (o : Option (List ℕ)) → cell ≡ option_map blob o → is_some o ≡ true → (bytes : List ℕ) × (o ≡ Some bytes) × (cell ≡ Some (blob bytes))
+stored_blob : (cell : Option Cell) (o : Option (List ℕ)) → cell ≡ option_map blob o → is_some o ≡ true
+    → (bytes : List ℕ) × (o ≡ Some bytes) × (cell ≡ Some (blob bytes))
 stored_blob cell None e some = absurd cc
 stored_blob cell (Some b) e some = (b, refl, e)
 
 -- the number that is known of a blob's place
-pub place_says : (m : Module) (f : Token → Token) (stored : ℕ → Option (List ℕ)) (row : Token) (column : ℕ) (held : List (List ℕ)) (known : BTreeMap ℕ ℕ) (place slot : ℕ)
+pub place_says : (m : Module) (f : Token → Token) (stored : ℕ → Option (List ℕ)) (row : Token) (column : ℕ) (held : List (List ℕ)) (known : BTreeMap ℕ ℕ)
+    (place slot : ℕ)
     → AreKnown stored (SlotSays f row.table held) known → Some slot ≡ get nat_cmp known place → cell_of m row column ≡ option_map blob (stored place)
     → is_some (stored place) ≡ true → SlotSays f row.table held (bytes_at (cells_of m) row column) slot
 place_says m f stored row column held known place slot all found at some =
     let w = stored_blob (cell_of m row column) (stored place) at some in
     subst (λ b. SlotSays f row.table held b slot) (blob_there m row column w.0 w.2) (all place slot w.0 (sym found) w.1)
 
-pub own_says : (m : Module) (f : Token → Token) (row : Token) (column : ℕ) (held : List (List ℕ)) (bytes : List ℕ) (slot : ℕ) → cell_of m row column ≡ Some (blob bytes)
+pub own_says : (m : Module) (f : Token → Token) (row : Token) (column : ℕ) (held : List (List ℕ)) (bytes : List ℕ) (slot : ℕ)
+    → cell_of m row column ≡ Some (blob bytes)
     → SlotSays f row.table held bytes slot → SlotSays f row.table held (bytes_at (cells_of m) row column) slot
 own_says m f row column held bytes slot cell says = subst (λ b. SlotSays f row.table held b slot) (blob_there m row column bytes cell) says
 
 -- and one more that is known
-pub blob_known : (m : Module) (f : Token → Token) (stored : ℕ → Option (List ℕ)) (row : Token) (column : ℕ) (held new more : List (List ℕ)) (before after : BTreeMap ℕ ℕ)
-    (bytes : List ℕ) (place slot : ℕ) → AreKnown stored (SlotSays f row.table held) before → new ≡ held ++ more → cell_of m row column ≡ option_map blob (stored place)
+pub blob_known : (m : Module) (f : Token → Token) (stored : ℕ → Option (List ℕ)) (row : Token) (column : ℕ) (held new more : List (List ℕ))
+    (before after : BTreeMap ℕ ℕ)
+    (bytes : List ℕ) (place slot : ℕ) → AreKnown stored (SlotSays f row.table held) before → new ≡ held ++ more
+    → cell_of m row column ≡ option_map blob (stored place)
     → cell_of m row column ≡ Some (blob bytes) → SlotSays f row.table new bytes slot → Updates nat_cmp before after place (Some slot)
     → AreKnown stored (SlotSays f row.table new) after
 blob_known m f stored row column held new more before after bytes place slot all grown at own says updates =
-    one_known stored (SlotSays f row.table held) (SlotSays f row.table new) before after place slot all (λ b n h. says_still f row.table held new more b n grown h)
+    one_known stored (SlotSays f row.table held) (SlotSays f row.table new) before after place slot all
+    (λ b n h. says_still f row.table held new more b n grown h)
     (λ b e. subst (λ x. SlotSays f row.table new x slot) (same_bytes b (sym (same_blob (cell_of m row column) (stored place) bytes at own) ∙ e)) says) updates
   where
     same_bytes : (b : List ℕ) → Some bytes ≡ Some b → bytes ≡ b
@@ -134,11 +144,13 @@ one_longer : (all : List HeldOf) (h : HeldOf) → length (all ++ h ∷ []) ≡ l
 one_longer [] h = refl
 one_longer (x ∷ xs) h = omega (arith, one_longer xs h)
 
-pub table_said : (m : Module) (f : Token → Token) (all new : List HeldOf) (h : HeldOf) (n : ℕ) → AreTablesHeld m f all n → AreSignaturesHeld m f n h.held h.slots
+pub table_said : (m : Module) (f : Token → Token) (all new : List HeldOf) (h : HeldOf) (n : ℕ) → AreTablesHeld m f all n
+    → AreSignaturesHeld m f n h.held h.slots
     → new ≡ all ++ h ∷ [] → AreTablesHeld m f new (n + 1)
 table_said m f all new h n held says grown = record {
   count = ap (λ (xs : List HeldOf). length xs) grown ∙ one_longer all h ∙ ap (λ k. k + 1) held.count;
-  each = λ t low. subst (λ (x : HeldOf). AreSignaturesHeld m f t x.held x.slots) (sym (ap (λ (xs : List HeldOf). held_at xs t) grown)) (by t (cases_lt t n) low);
+  each = λ t low. subst (λ (x : HeldOf). AreSignaturesHeld m f t x.held x.slots) (sym (ap (λ (xs : List HeldOf). held_at xs t) grown)) (by t
+      (cases_lt t n) low);
 }
   where
     by : (t : ℕ) → (t < n) ⊎ (n ≤ t) → t < n + 1 → AreSignaturesHeld m f t (held_at (all ++ h ∷ []) t).held (held_at (all ++ h ∷ []) t).slots

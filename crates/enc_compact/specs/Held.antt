@@ -11,9 +11,10 @@ use Rattle.enc_plain.specs.Cell.{Cell, body}
 use Rattle.enc_plain.specs.Module.{Module, cells_of, cell_of}
 use Rattle.enc_plain.specs.Rows.{bytes_at}
 use Rattle.enc_plain.specs.Signatures.{signature_column}
-use Rattle.enc_plain.specs.Sound.{row_count}
+use Rattle.enc_plain.specs.Sound.{IsSound, row_count}
 use Rattle.enc_schema.specs.Tables as tables
 use Rattle.enc_compact.specs.Moved.{signature_moved, is_signature_column}
+use Rattle.enc_order.specs.Orders.{Orders, moved_by, new_order}
 
 -- the number of a row, from 1: 0 where there is none
 abbrev pub slot_in : List ℕ → ℕ → ℕ
@@ -107,3 +108,10 @@ blob_held h row bytes false = bytes
 
 abbrev pub blob_seen : List HeldOf → Token → ℕ → List ℕ → List ℕ
 blob_seen all t column bytes = blob_held (held_at all t.table) t.row bytes (is_signature_column t.table column)
+
+-- what a moved module holds fits the module that it lends
+pub record HoldsMoved (m : Module) (texts : ℕ → Option (List ℕ)) (orders : Orders) (held : List Held) (slots : List ℕ) (all : List HeldOf) : Type 0 where
+  pub sound : IsSound m
+  pub order : orders ≡ new_order m
+  pub bodies : AreBodiesHeld m (moved_by (new_order m)) texts held slots
+  pub signatures : AreAllHeld m (moved_by (new_order m)) all

@@ -7,9 +7,9 @@ ghost use Rattle.enc_schema.specs.Schema.{list_at};
 
 use crate::bodies::HeldBodies;
 use crate::module::MovedModule;
+use enc_order::Order;
 use crate::points::PlainPoints;
 use crate::signatures::HeldSignatures;
-use enc_order::Order;
 use enc_plain::{ModuleView, PointSource};
 use std::alloc::{AllocError, Global};
 use std::rc::Rc;
@@ -38,7 +38,8 @@ pub fn compact<'a, V: ModuleView, P: PointSource>(
 ) -> Result<Compacted<'a, V, P>, AllocError>
     requires sound { IsSound (V.meaning view.now) }
     ensures module { IfOk result (λ c. c.module ≡ view.now) }
-    ensures points { IfOk result (λ c. ⟦<PlainPoints<'static, P> as PointSource>⟧.debug c.points ≡ pdb_moved (V.meaning view.now) (P.debug points.now)) }
+    ensures points { IfOk result (λ c. ⟦<PlainPoints<'static, P> as PointSource>⟧.debug c.points ≡ pdb_moved
+        (V.meaning view.now) (P.debug points.now)) }
     ensures order { IfOk result (λ c. list_at c.order.value ≡ new_order (V.meaning view.now)) }
 {
     let order = Rc::new(alloc, Order::of(alloc, view)?)?;

@@ -7,10 +7,10 @@ ghost use Rattle.enc_plain.specs.Module.{has_row};
 ghost use Rattle.enc_plain.specs.Sound.{IsSound};
 
 use crate::bodies::HeldBodies;
+use enc_order::Order;
 use crate::signatures::HeldSignatures;
 use enc_base::Token;
 use enc_opcodes::CodeRef;
-use enc_order::Order;
 use enc_plain::{ModuleView, is_row};
 use std::alloc::{AllocError, Global};
 use std::marker::Model;
@@ -27,17 +27,15 @@ pub struct MovedModule<'a, V: ModuleView> {
 }
 
 impl<'a, V: ModuleView> Model for MovedModule<'a, V> {
-    ghost use Rattle.std.specs.Prelude.{◌≡◌, ℕ};
-    ghost use Rattle.enc_compact.specs.Held.{AreBodiesHeld, AreAllHeld};
-    ghost use Rattle.enc_order.specs.Orders.{moved_by, new_order};
-    ghost use Rattle.enc_plain.specs.Sound.{IsSound};
+    ghost use Rattle.enc_compact.specs.Held.{HoldsMoved};
     ghost use Rattle.enc_schema.specs.Schema.{list_at};
 
     ghost Value = { V };
 
     ghost view = { λ m. m.view.now };
 
-    ghost invariant = { λ m. IsSound (V.meaning m.view.now) × (list_at m.order.value ≡ new_order (V.meaning m.view.now)) × AreBodiesHeld (V.meaning m.view.now) (moved_by (new_order (V.meaning m.view.now))) (V.users m.view.now) m.bodies.held.items m.bodies.slots.items × AreAllHeld (V.meaning m.view.now) (moved_by (new_order (V.meaning m.view.now))) m.signatures };
+    ghost invariant = { λ m. HoldsMoved (V.meaning m.view.now) (V.users m.view.now) (list_at m.order.value)
+        m.bodies.held.items m.bodies.slots.items m.signatures };
 }
 
 impl<V: ModuleView> MovedModule<'_, V> {
@@ -103,7 +101,8 @@ impl<V: ModuleView> ModuleView for MovedModule<'_, V> {
 
     fn blob(&self, row: Token, column: u8) -> &[u8] {
         let old = self.old(row);
-        self.signatures.blob(old, column, self.lent().blob(old, column))
+        self.signatures
+            .blob(old, column, self.lent().blob(old, column))
     }
 
     fn blob_place(&self, row: Token, column: u8) -> u64 {

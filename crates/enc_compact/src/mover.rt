@@ -1,5 +1,4 @@
 //! An order as what moves tokens.
-ghost use Rattle.std.specs.Prelude.{◌≡◌};
 ghost use Rattle.enc_compact.specs.Mover.{moved_low, moved_stays, moved_is_low};
 ghost use Rattle.enc_schema.specs.Schema.{list_at};
 

@@ -5,17 +5,13 @@ ghost use Rattle.enc_compact.specs.Moved.{moves_in, moves_listed};
 ghost use Rattle.enc_order.specs.Orders.{new_order};
 ghost use Rattle.enc_schema.specs.Schema.{list_at};
 
-use enc_base::Token;
 use enc_order::Order;
+use enc_base::Token;
 use enc_plain::ModuleView;
 use std::alloc::{AllocError, Global};
 
 /// Appends a row with its new place, where it moves.
-fn push_move(
-    old: Token,
-    new: Token,
-    moves: &mut Vec<(Token, Token)>,
-) -> Result<(), AllocError>
+fn push_move(old: Token, new: Token, moves: &mut Vec<(Token, Token)>) -> Result<(), AllocError>
     ensures { OnOk result (moves.new.items ≡ moves.old.items ++ (if is_token new old then [] else (old, new) ∷ [])) }
 {
     if new.table == old.table && new.row == old.row {

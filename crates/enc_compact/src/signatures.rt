@@ -1,8 +1,9 @@
 //! The signatures whose bytes change when tokens move (ECMA-335 II.23.2).
 ghost use Rattle.std.specs.Prelude.{◌≡◌, ◌+◌, ◌<◌, ◌^◌, ◌++◌, ℕ, List, length, Some, slice_index, IfOk, IsTrue, OnOk};
-ghost use Rattle.enc_compact.specs.Held.{slot_in, bytes_by, blob_seen, SlotSays, AreSaidUpto, AreSignaturesHeld, AreAllHeld, AreKnown};
+ghost use Rattle.enc_compact.specs.Held.{slot_in, bytes_by, blob_seen, SlotSays};
+ghost use Rattle.enc_compact.specs.Held.{AreSaidUpto, AreSignaturesHeld, AreAllHeld, AreKnown};
 ghost use Rattle.enc_compact.specs.Moved.{is_signature_column, signature_moved};
-ghost use Rattle.enc_order.specs.Orders.{moved_by, new_order};
+ghost use Rattle.enc_order.specs.Orders.{moved_by};
 ghost use Rattle.enc_plain.specs.Module.{has_row, cells_of};
 ghost use Rattle.enc_plain.specs.Rows.{bytes_at};
 ghost use Rattle.enc_plain.specs.Signatures.{is_signature, signature_column};
@@ -128,9 +129,12 @@ fn slot_of<V: ModuleView>(
     requires column { signature_column row.table ≡ Some column }
     requires counts { (t : ℕ) → t < 64 → slice_index moving.now.counts.now.rows t ≡ row_count (V.meaning view.now) t }
     requires few { length blobs.old.held.items < 2 ^ 24 }
-    requires known { AreKnown (V.stored view.now) (SlotSays (moved_by (list_at moving.now.order.now)) row.table blobs.old.held.items) blobs.old.known }
-    ensures says { IfOk result (SlotSays (moved_by (list_at moving.now.order.now)) row.table blobs.new.held.items (bytes_at (cells_of (V.meaning view.now)) row column)) }
-    ensures known { OnOk result (AreKnown (V.stored view.now) (SlotSays (moved_by (list_at moving.now.order.now)) row.table blobs.new.held.items) blobs.new.known) }
+    requires known { AreKnown (V.stored view.now) (SlotSays (moved_by
+        (list_at moving.now.order.now)) row.table blobs.old.held.items) blobs.old.known }
+    ensures says { IfOk result (SlotSays (moved_by (list_at moving.now.order.now)) row.table blobs.new.held.items
+        (bytes_at (cells_of (V.meaning view.now)) row column)) }
+    ensures known { OnOk result (AreKnown (V.stored view.now) (SlotSays (moved_by
+        (list_at moving.now.order.now)) row.table blobs.new.held.items) blobs.new.known) }
     ensures grows { OnOk result ((more : List (List ℕ)) × (blobs.new.held.items ≡ blobs.old.held.items ++ more)) }
     ensures few { OnOk result (length blobs.new.held.items < length blobs.old.held.items + 2) }
 {
@@ -159,7 +163,8 @@ fn held_table<V: ModuleView>(
     requires sound { IsSound (V.meaning view.now) }
     requires column { signature_column table ≡ Some column }
     requires counts { (t : ℕ) → t < 64 → slice_index moving.now.counts.now.rows t ≡ row_count (V.meaning view.now) t }
-    ensures { IfOk result (λ h. AreSaidUpto (V.meaning view.now) (moved_by (list_at moving.now.order.now)) table column h.held h.slots (row_count (V.meaning view.now) table)) }
+    ensures { IfOk result (λ h. AreSaidUpto (V.meaning view.now) (moved_by
+        (list_at moving.now.order.now)) table column h.held h.slots (row_count (V.meaning view.now) table)) }
 {
     let mut blobs = Blobs {
         held: Vec::new(moving.alloc),
@@ -187,7 +192,8 @@ fn held_or_none<V: ModuleView>(
 ) -> Result<HeldTable, AllocError>
     requires sound { IsSound (V.meaning view.now) }
     requires counts { (t : ℕ) → t < 64 → slice_index moving.now.counts.now.rows t ≡ row_count (V.meaning view.now) t }
-    ensures { IfOk result (λ h. AreSignaturesHeld (V.meaning view.now) (moved_by (list_at moving.now.order.now)) table h.held h.slots) }
+    ensures { IfOk result (λ h. AreSignaturesHeld (V.meaning view.now) (moved_by
+        (list_at moving.now.order.now)) table h.held h.slots) }
 {
     match signature_column(table) {
         Some(column) => held_table(view, moving, table, column),

@@ -13,7 +13,10 @@ slot_of-requires-clause-row g c =
 pub loop-n-preserved : goal.loop-n-preserved
 loop-n-preserved g c =
     let m = g.V.ModuleView.meaning c.args.view.now in
-    let inv = c.loop-n.invariant in
-    (row_says m (moved_by (list_at c.args.moving.now.order.now)) c.args.table c.args.column c.loop-n.blobs.held.items _ c.in-Ok.ensures.grows.0
-    c.loop-n.slots.items c.push.new.self.items c.loop-n.n c.in-Ok.slot inv.0 c.in-Ok.ensures.grows.1 c.in-Ok.ensures.says c.in_ok-push-in-Ok.ensures.items,
-    c.in-Ok.ensures.known, omega (arith, inv.2, c.in-Ok.ensures.few))
+    let inv = c.loop-n.invariant in (
+      row_says m (moved_by (list_at c.args.moving.now.order.now)) c.args.table c.args.column c.loop-n.blobs.held.items _ c.in-Ok.ensures.grows.0
+          c.loop-n.slots.items c.push.new.self.items c.loop-n.n c.in-Ok.slot inv.0 c.in-Ok.ensures.grows.1 c.in-Ok.ensures.says
+          c.in_ok-push-in-Ok.ensures.items,
+      c.in-Ok.ensures.known,
+      omega (arith, inv.2, c.in-Ok.ensures.few),
+    )

@@ -1,4 +1,4 @@
-use Rattle.std.proofs.Common.{ℕ, slice_index, rules}
+use Rattle.std.proofs.Common.{slice_index, rules}
 use Rattle.enc_schema.specs.Schema.{list_at}
 use Rattle.enc_order.specs.Orders.{moved_by}
 use Rattle.enc_compact.proofs.SignaturesHeld.{no_fault, written_is}

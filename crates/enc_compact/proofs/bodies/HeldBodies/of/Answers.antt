@@ -12,7 +12,10 @@ slot_of-requires-clause-row g c =
 pub loop-n-preserved : goal.loop-n-preserved
 loop-n-preserved g c =
     let m = g.V.ModuleView.meaning c.args.view.now in
-    let inv = c.loop-n.invariant in
-    (method_holds m (moved_by (new_order m)) (g.V.ModuleView.users c.args.view.now) c.loop-n.bodies.held.items _ c.in-Ok.ensures.grows.0 c.loop-n.slots.items
-    c.push.new.self.items c.loop-n.n c.in-Ok.slot inv.0 c.in-Ok.ensures.grows.1 c.in-Ok.ensures.holds c.in_ok-push-in-Ok.ensures.items,
-    c.in-Ok.ensures.known, omega (arith, inv.2, c.in-Ok.ensures.few), inv.3)
+    let inv = c.loop-n.invariant in (
+      method_holds m (moved_by (new_order m)) (g.V.ModuleView.users c.args.view.now) c.loop-n.bodies.held.items _ c.in-Ok.ensures.grows.0 c.loop-n.slots.items
+          c.push.new.self.items c.loop-n.n c.in-Ok.slot inv.0 c.in-Ok.ensures.grows.1 c.in-Ok.ensures.holds c.in_ok-push-in-Ok.ensures.items,
+      c.in-Ok.ensures.known,
+      omega (arith, inv.2, c.in-Ok.ensures.few),
+      inv.3,
+    )
