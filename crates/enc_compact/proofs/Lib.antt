@@ -7,7 +7,6 @@ pub mod SignaturesKept
 pub mod FieldsKept
 pub mod CellsKept
 pub mod SoundKept
-pub mod Permutes
 pub mod NewOrder
 pub mod LawsKept
 pub mod MovesLow

@@ -15,7 +15,7 @@ use Rattle.enc_order.specs.Orders.{Orders, rows_listed, kids_listed, moved_by, n
 use Rattle.enc_order.specs.Orders.{by_key, by_param, by_attribute, key_columns, key_from, key_of, keyed_rows, new_order}
 use Rattle.enc_order.specs.Sorted.{sorted_by}
 use Rattle.enc_order.proofs.OneOrder.{of_key, sorted_ties}
-use Rattle.enc_compact.proofs.Permutes.{new_order_permutes}
+use Rattle.enc_order.proofs.Permutes.{new_order_permutes}
 
 pub new_order_are : (m : Module) → IsSound m → AreOrders m (new_order m)
 new_order_are m sound = record { each = new_order_permutes m sound }

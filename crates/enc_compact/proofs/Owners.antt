@@ -199,7 +199,8 @@ same_place n rows k row order = by_both (new_row rows k) (old_row rows row)
 low_same : (r : ℕ) → nat_lt 0 r ≡ nat_le 1 r
 low_same r = grind (arith, nat_tests)
 
-pub old_there : (n : ℕ) (rows : List ℕ) (row : ℕ) → IsOrder n rows → (nat_le 1 (old_row rows row) && nat_le (old_row rows row) n) ≡ (nat_le 1 row && nat_le row n)
+pub old_there : (n : ℕ) (rows : List ℕ) (row : ℕ) → IsOrder n rows
+    → (nat_le 1 (old_row rows row) && nat_le (old_row rows row) n) ≡ (nat_le 1 row && nat_le row n)
 old_there n rows row order =
     let there = new_there n rows (old_row rows row) order in
     let e : (nat_lt 0 row && nat_le row n) ≡ (nat_lt 0 (old_row rows row) && nat_le (old_row rows row) n) =

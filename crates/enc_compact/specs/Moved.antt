@@ -106,7 +106,8 @@ pub record AreOrders (m : Module) (orders : Orders) : Type 0 where
 -- whether a row of ClassLayout is of a type
 abbrev pub is_layout_of : Module → ℕ → ℕ → Bool
 is_layout_of m type row =
-    is_token (token_at (cells_of m) (record { table = tables.class_layout; row = row }) columns.class_layout_parent) (record { table = tables.type_def; row = type })
+    is_token (token_at (cells_of m) (record { table = tables.class_layout; row = row }) columns.class_layout_parent)
+    (record { table = tables.type_def; row = type })
 
 -- the layouts of one type stay in their order, so that the first of them stays the first
 pub record KeepLayouts (m : Module) (orders : Orders) : Type 0 where

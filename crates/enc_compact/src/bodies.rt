@@ -10,11 +10,11 @@ ghost use Rattle.enc_schema.specs.Schema.{list_at};
 ghost use Rattle.enc_schema.specs.Tables.{method_def};
 
 use crate::mover::Mover;
-use enc_order::Order;
 use crate::slots::{known_at, slot_at};
 use enc_base::Token;
 use enc_moves::MovedBody;
 use enc_opcodes::CodeRef;
+use enc_order::Order;
 use enc_plain::ModuleView;
 use enc_schema::tables::METHOD_DEF;
 use std::alloc::{AllocError, Global};

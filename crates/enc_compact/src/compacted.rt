@@ -7,9 +7,9 @@ ghost use Rattle.enc_schema.specs.Schema.{list_at};
 
 use crate::bodies::HeldBodies;
 use crate::module::MovedModule;
-use enc_order::Order;
 use crate::points::PlainPoints;
 use crate::signatures::HeldSignatures;
+use enc_order::Order;
 use enc_plain::{ModuleView, PointSource};
 use std::alloc::{AllocError, Global};
 use std::rc::Rc;

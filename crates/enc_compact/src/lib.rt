@@ -12,8 +12,8 @@ mod points;
 mod signatures;
 mod slots;
 
-pub use enc_order::Order;
 pub use compacted::{Compacted, compact};
+pub use enc_order::Order;
 pub use laws::compact_laws;
 pub use module::MovedModule;
 pub use moves::moved_rows;

@@ -7,10 +7,10 @@ ghost use Rattle.enc_plain.specs.Module.{has_row};
 ghost use Rattle.enc_plain.specs.Sound.{IsSound};
 
 use crate::bodies::HeldBodies;
-use enc_order::Order;
 use crate::signatures::HeldSignatures;
 use enc_base::Token;
 use enc_opcodes::CodeRef;
+use enc_order::Order;
 use enc_plain::{ModuleView, is_row};
 use std::alloc::{AllocError, Global};
 use std::marker::Model;

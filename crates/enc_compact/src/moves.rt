@@ -5,8 +5,8 @@ ghost use Rattle.enc_compact.specs.Moved.{moves_in, moves_listed};
 ghost use Rattle.enc_order.specs.Orders.{new_order};
 ghost use Rattle.enc_schema.specs.Schema.{list_at};
 
-use enc_order::Order;
 use enc_base::Token;
+use enc_order::Order;
 use enc_plain::ModuleView;
 use std::alloc::{AllocError, Global};
 

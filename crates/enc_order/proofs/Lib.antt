@@ -4,6 +4,7 @@ pub mod KeysOf
 pub mod Moved
 pub mod OneOrder
 pub mod Permuted
+pub mod Permutes
 pub mod Pointwise
 pub mod References
 pub mod RowPlaces

@@ -10,7 +10,7 @@ pub loop-n-preserved : goal.loop-n-preserved
 loop-n-preserved g c =
     one_row (g.V.ModuleView.meaning c.args.view.now) c.args.table c.loop-n.n c.args.moves.now.items c.loop-n.moves.items c.push_move.new.moves.items
     c.new_of.result c.loop-n.invariant
-    (c.new_of.ensures ∙ ap (λ (o : Orders). moved_by o (record { table = c.args.table; row = c.loop-n.n + 1 })) c.requires) c.in_ok-push_move.ensures
+    (c.new_of.ensures.moved ∙ ap (λ (o : Orders). moved_by o (record { table = c.args.table; row = c.loop-n.n + 1 })) c.requires) c.in_ok-push_move.ensures
 
 pub returns : goal.returns
 returns g c =
