@@ -8,6 +8,7 @@ ghost use Rattle.enc_schema.specs.Schema.{list_at};
 use enc_base::Token;
 use enc_order::Order;
 use enc_plain::ModuleView;
+use enc_schema::tables::TABLE_COUNT;
 use std::alloc::{AllocError, Global};
 
 /// Appends a row with its new place, where it moves.
@@ -48,7 +49,7 @@ pub fn moved_rows<V: ModuleView>(
     ensures { IfOk result (λ v. v.items ≡ moves_listed (V.meaning view.now)) }
 {
     let mut moves = Vec::new(alloc);
-    for table in 0..0x2d {
+    for table in 0..TABLE_COUNT {
         push_table(view, order, table, &mut moves)?;
     }
     Ok(moves)

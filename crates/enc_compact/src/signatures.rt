@@ -14,6 +14,7 @@ use crate::slots::{known_at, slot_at};
 use enc_base::{Bytes, Counts, Token};
 use enc_order::Order;
 use enc_plain::{ModuleView, kind_in_table, signature_column};
+use enc_schema::tables::TABLE_COUNT;
 use enc_sigs::{SigFault, read_sig, write_moved};
 use std::alloc::{AllocError, Global};
 use std::collections::BTreeMap;
@@ -247,7 +248,7 @@ impl HeldSignatures {
             counts: &counts,
         };
         let mut tables = Vec::new(alloc);
-        for table in 0..0x2d {
+        for table in 0..TABLE_COUNT {
             tables.push(held_or_none(view, &moving, table)?)?;
         }
         Ok(HeldSignatures { tables })
