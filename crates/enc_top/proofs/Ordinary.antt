@@ -1,11 +1,12 @@
 -- The plan of what is written of accepted files in the order of an ordinary module, and of what isn't.
-use Rattle.std.proofs.Common.{◌≡◌, ℕ, zero, suc, ◌+◌, true, List, [], ◌∷◌, ◌++◌, map, Option, Some, None, Ok, Err, refl, sym, ap, subst, ◌∙◌, arith}
-use Rattle.std.specs.Prelude.{◌==◌, ◌&&◌}
-use Rattle.std.specs.List.{list_all, range_with_len}
+use Rattle.std.proofs.Common.{◌≡◌, ℕ, zero, suc, ◌+◌, true, List, [], ◌∷◌, ◌++◌, map, Option, Some, None, Ok, Err, refl, sym, ap, subst, ◌∙◌}
+use Rattle.std.specs.Prelude.{◌==◌}
+use Rattle.std.specs.List.{range_with_len}
 use Rattle.std.proofs.lemmas.Bool.{and_from, eq-eqb}
 use Rattle.enc_compact.specs.Laws.{MovedStandsInOrder}
 use Rattle.enc_compact.specs.Moved.{module_moved, pdb_moved, moves_listed}
 use Rattle.enc_order.specs.Orders.{rows_listed}
+use Rattle.enc_plain.specs.Debug.{PlainPdb}
 use Rattle.enc_plain.specs.Module.{Module}
 use Rattle.enc_plain.specs.Sound.{IsSound, row_count, all_kids}
 use Rattle.enc_rewriter.specs.Limits.{Passed, too_large, too_heavy, rewrite_limit, IsFault}
@@ -35,7 +36,7 @@ unfolding rows_listed below
 listed_in_order m t = in_order 0 (row_count m t)
 
 -- so do the children of a module whose rows were moved
-pub moved_in_order : MovedStandsInOrder → (m : Module) → IsSound m → stands_in_order (module_moved m) ≡ true
+moved_in_order : MovedStandsInOrder → (m : Module) → IsSound m → stands_in_order (module_moved m) ≡ true
 unfolding stands_in_order
 moved_in_order law m sound =
     and_from _ _ (one tables.field refl) (and_from _ _ (one tables.method_def refl) (and_from _ _ (one tables.param refl)
@@ -52,7 +53,7 @@ write_by : (out : List ℕ) (f : Followed) (o : Option Passed) → limit_of f �
 unfolding can_be_compacted
 write_by out f o is = ap (λ (x : Option Passed). unless_past out f x >>= λ (g : Followed). Ok (compacts out g)) is
 
-pub plan_compacted : (out : List ℕ) (f : Followed) (plan : Plan) (image symbols : List ℕ) → stands_in_order (module_moved (plain_of f)) ≡ true → limit_of f ≡ None
+plan_compacted : (out : List ℕ) (f : Followed) (plan : Plan) (image symbols : List ℕ) → stands_in_order (module_moved (plain_of f)) ≡ true → limit_of f ≡ None
     → RewritesTo (module_moved (plain_of f)) (pdb_moved (plain_of f) (debug_after f)) image symbols → plan.outcome ≡ Accepted
     → plan.output.items ≡ saved_line (dll out ∷ pdb out ∷ []) ++ moved_lines (moves_listed (plain_of f))
     → saves_of plan.saves.items ≡ (dll out, image) ∷ (pdb out, symbols) ∷ [] → IsPlanOf (compacted_on out f) plan
@@ -70,7 +71,23 @@ past : (out : List ℕ) (f : Followed) (p : Passed) (h : Halt) → limit_of f �
     → OnPlan h (IsPlanOf (compacted_on out f))
 past out f p h is plan = subst (λ (v : Verdict). OnPlan h (IsPlanOf v)) (sym (write_by out f (Some p) is)) plan
 
-pub plan_uncompacted : (out : List ℕ) (f : Followed) (fault : RewriteFault) (h : Halt) → IsFault fault (limit_of f) → IsUnwritten out fault h → OnPlan h (IsPlanOf (compacted_on out f))
+plan_uncompacted : (out : List ℕ) (f : Followed) (fault : RewriteFault) (h : Halt) → IsFault fault (limit_of f) → IsUnwritten out fault h → OnPlan h (IsPlanOf (compacted_on out f))
 plan_uncompacted out f Memory h told is = rw is tt
 plan_uncompacted out f (TooLarge heap) h told is = past out f (too_large heap) h told is
 plan_uncompacted out f Image h told is = past out f too_heavy h told is
+
+-- the same of what is written of a module and a PDB that are these
+pub plan_of_written : (out : List ℕ) (f : Followed) (plan : Plan) (image symbols : List ℕ) (m : Module) (p : PlainPdb) → MovedStandsInOrder → IsSound (plain_of f)
+    → m ≡ module_moved (plain_of f) → p ≡ pdb_moved (plain_of f) (debug_after f) → rewrite_limit m p ≡ None → RewritesTo m p image symbols → plan.outcome ≡ Accepted
+    → plan.output.items ≡ saved_line (dll out ∷ pdb out ∷ []) ++ moved_lines (moves_listed (plain_of f))
+    → saves_of plan.saves.items ≡ (dll out, image) ∷ (pdb out, symbols) ∷ [] → IsPlanOf (compacted_on out f) plan
+plan_of_written out f plan image symbols m p law sound module_is pdb_is none written =
+    plan_compacted out f plan image symbols (moved_in_order law (plain_of f) sound)
+    (subst (λ (n : Module). rewrite_limit n (pdb_moved (plain_of f) (debug_after f)) ≡ None) module_is (subst (λ (q : PlainPdb). rewrite_limit m q ≡ None) pdb_is none))
+    (subst (λ (n : Module). RewritesTo n (pdb_moved (plain_of f) (debug_after f)) image symbols) module_is (subst (λ (q : PlainPdb). RewritesTo m q image symbols) pdb_is written))
+
+pub plan_of_unwritten : (out : List ℕ) (f : Followed) (fault : RewriteFault) (h : Halt) (m : Module) (p : PlainPdb) → m ≡ module_moved (plain_of f) → p ≡ pdb_moved (plain_of f) (debug_after f)
+    → IsFault fault (rewrite_limit m p) → IsUnwritten out fault h → OnPlan h (IsPlanOf (compacted_on out f))
+plan_of_unwritten out f fault h m p module_is pdb_is tells =
+    plan_uncompacted out f fault h
+    (subst (λ (n : Module). IsFault fault (rewrite_limit n (pdb_moved (plain_of f) (debug_after f)))) module_is (subst (λ (q : PlainPdb). IsFault fault (rewrite_limit m q)) pdb_is tells))

@@ -16,7 +16,7 @@ use crate::commands::apply::{saving, unwritten};
 use crate::judge::Judged;
 use crate::plan::{Outcome, Plan};
 use crate::stop::Stop;
-use enc_compact::{Compacted, Order, compact as compacted, compact_laws, moved_rows};
+use enc_compact::{Order, compact as compacted, compact_laws, moved_rows};
 use enc_outside::Store;
 use enc_rewriter::{Rewritten, rewrite};
 use enc_words::push_moves;
@@ -53,16 +53,11 @@ fn rewritten(alloc: Global, out: &str, judged: &Judged) -> Result<Plan, Stop>
     judged.agg.sound();
     judged.debug.sound();
     compact_laws();
-    let Compacted {
-        module,
-        points,
-        order,
-    } = match compacted(alloc, &judged.agg, &judged.debug) {
-        Ok(compacted) => compacted,
-        Err(_) => return Err(Stop::Memory),
+    let Ok(ordinary) = compacted(alloc, &judged.agg, &judged.debug) else {
+        return Err(Stop::Memory);
     };
-    match rewrite(alloc, &module, &points) {
-        Ok(written) => Ok(saving_moved(alloc, out, written, judged, &order)?),
+    match rewrite(alloc, &ordinary.module, &ordinary.points) {
+        Ok(written) => Ok(saving_moved(alloc, out, written, judged, &ordinary.order)?),
         Err(fault) => Err(unwritten(alloc, out, fault)),
     }
 }
