@@ -12,7 +12,7 @@ use Rattle.enc_opcodes.specs.declared.code.CodeRef.{CodeRef}
 use Rattle.enc_plain.specs.Cell.{Cell, body}
 use Rattle.enc_plain.specs.Module.{Module, has_row, cell_of}
 use Rattle.enc_plain.specs.Sound.{IsSound, row_count}
-use Rattle.enc_compact.specs.Held.{slot_in, held_by, HeldSays, SlotHolds, CellHolds, AreHeldUpto, AreBodiesHeld, AreKnown}
+use Rattle.enc_compact.specs.Held.{number_in_slots, held_by, HeldSays, SlotHolds, CellHolds, AreHeldUpto, AreBodiesHeld, AreSlotsKnown}
 use Rattle.enc_compact.specs.Mover.{moved_low}
 use Rattle.enc_order.specs.Orders.{Orders, moved_by, new_order, new_of}
 use Rattle.enc_compact.proofs.HeldKept.{rows_of, row_slot, held_still, low_still, last_held, last_low, one_known, one_slot}
@@ -66,14 +66,14 @@ holds_still f texts held new more b slot grown holds = subst (λ xs. SlotHolds f
 
 pub place_holds : (places : ℕ → Option Body) (f : Token → Token) (texts : ℕ → Option (List ℕ)) (held : List Held) (known : BTreeMap ℕ ℕ) (cell : Option Cell)
     (place slot : ℕ)
-    → AreKnown places (SlotHolds f texts held) known → Some slot ≡ get nat_cmp known place → cell ≡ Some (body (places place))
+    → AreSlotsKnown places (SlotHolds f texts held) known → Some slot ≡ get nat_cmp known place → cell ≡ Some (body (places place))
     → CellHolds f texts held cell slot
 place_holds places f texts held known cell place slot all found at b e = all place slot b (sym found) (same_body cell (places place) b at e)
 
 pub place_known : (places : ℕ → Option Body) (f : Token → Token) (texts : ℕ → Option (List ℕ)) (held new more : List Held) (before after : BTreeMap ℕ ℕ)
     (cell : Option Cell) (place slot : ℕ)
-    → AreKnown places (SlotHolds f texts held) before → new ≡ held ++ more → cell ≡ Some (body (places place)) → CellHolds f texts new cell slot
-    → Updates nat_cmp before after place (Some slot) → AreKnown places (SlotHolds f texts new) after
+    → AreSlotsKnown places (SlotHolds f texts held) before → new ≡ held ++ more → cell ≡ Some (body (places place)) → CellHolds f texts new cell slot
+    → Updates nat_cmp before after place (Some slot) → AreSlotsKnown places (SlotHolds f texts new) after
 place_known places f texts held new more before after cell place slot all grown at holds updates =
     one_known places (SlotHolds f texts held) (SlotHolds f texts new) before after place slot all (λ b n h. holds_still f texts held new more b n grown h)
     (λ b e. holds b (at ∙ ap (λ (o : Option Body). Some (body o)) e)) updates
@@ -90,10 +90,10 @@ method_holds m f texts held new more slots after n slot all grown holds pushed =
 -- what is held of a row's body says it
 pub row_holds : (m : Module) (f : Token → Token) (texts : ℕ → Option (List ℕ)) (held : List Held) (slots : List ℕ) (row : ℕ) (b : Body)
     → AreBodiesHeld m f texts held slots → 0 < row → row ≤ row_count m 0x06 → cell_of m (record { table = 0x06; row = row }) 0 ≡ Some (body (Some b))
-    → SlotHolds f texts held b (slot_in slots row)
+    → SlotHolds f texts held b (number_in_slots slots row)
 row_holds m f texts held slots row b all some low at =
     let w = row_slot slots (row_count m 0x06) row all.count some low in
-    all.each w.0 (slot_in slots row) w.2 b (ap (λ k. cell_of m (record { table = 0x06; row = k }) 0) (sym w.1) ∙ at)
+    all.each w.0 (number_in_slots slots row) w.2 b (ap (λ k. cell_of m (record { table = 0x06; row = k }) 0) (sym w.1) ∙ at)
 
 -- so the parts with what is held mean the body with its tokens moved, and name texts that are there
 pub said_means : (f : Token → Token) (texts : ℕ → Option (List ℕ)) (c : Code) (o : Option Held) → HeldSays f texts (body_of texts c) o
@@ -112,21 +112,21 @@ pub code_moved : (m : Module) (texts : ℕ → Option (List ℕ)) (held : List H
     (locals : Token) (new : Code)
     → AreBodiesHeld m (new_of m) texts held slots → has_row m u ≡ true → u.table ≡ 0x06
     → cell_of m u 0 ≡ Some (body (option_map (λ (r : CodeRef). body_of texts (code_seen r)) o)) → o ≡ Some code → locals ≡ new_of m code.locals
-    → new ≡ held_code (held_by held (slot_in slots u.row)) (code_seen code) locals → body_of texts new ≡ body_moved (new_of m) (body_of texts (code_seen code))
+    → new ≡ held_code (held_by held (number_in_slots slots u.row)) (code_seen code) locals → body_of texts new ≡ body_moved (new_of m) (body_of texts (code_seen code))
 code_moved m texts held slots u code o locals new all there table cell some moved is =
     let b : Body = body_of texts (code_seen code) in
     let p = rows_of m u there in
     let at : cell_of m (record { table = 0x06; row = u.row }) 0 ≡ Some (body (Some b)) =
     ap (λ t. cell_of m (record { table = t; row = u.row }) 0) (sym table) ∙ code_at (cell_of m u 0) texts o code cell some in
     let holds = row_holds m (new_of m) texts held slots u.row b all p.0 (subst (λ t. u.row ≤ row_count m t) table p.1) at in
-    ap (body_of texts) (is ∙ ap (λ (t : Token). held_code (held_by held (slot_in slots u.row)) (code_seen code) t) moved)
-    ∙ said_means (new_of m) texts (code_seen code) (held_by held (slot_in slots u.row)) holds.says
+    ap (body_of texts) (is ∙ ap (λ (t : Token). held_code (held_by held (number_in_slots slots u.row)) (code_seen code) t) moved)
+    ∙ said_means (new_of m) texts (code_seen code) (held_by held (number_in_slots slots u.row)) holds.says
 
 pub code_there : (m : Module) (texts : ℕ → Option (List ℕ)) (held : List Held) (slots : List ℕ) (u : Token) (code : CodeRef) (o : Option CodeRef)
     (locals : Token) (new : Code)
     → AreBodiesHeld m (new_of m) texts held slots → has_row m u ≡ true → u.table ≡ 0x06
     → cell_of m u 0 ≡ Some (body (option_map (λ (r : CodeRef). body_of texts (code_seen r)) o)) → o ≡ Some code → texts_are_there texts code.code.now ≡ true
-    → new ≡ held_code (held_by held (slot_in slots u.row)) (code_seen code) locals → texts_are_there texts new.code ≡ true
+    → new ≡ held_code (held_by held (number_in_slots slots u.row)) (code_seen code) locals → texts_are_there texts new.code ≡ true
 code_there m texts held slots u code o locals new all there table cell some names is =
     let b : Body = body_of texts (code_seen code) in
     let p = rows_of m u there in
@@ -134,4 +134,4 @@ code_there m texts held slots u code o locals new all there table cell some name
     ap (λ t. cell_of m (record { table = t; row = u.row }) 0) (sym table) ∙ code_at (cell_of m u 0) texts o code cell some in
     let holds = row_holds m (new_of m) texts held slots u.row b all p.0 (subst (λ t. u.row ≤ row_count m t) table p.1) at in
     ap (λ (c : Code). texts_are_there texts c.code) is
-    ∙ said_there (new_of m) texts (code_seen code) b (held_by held (slot_in slots u.row)) locals holds.says names
+    ∙ said_there (new_of m) texts (code_seen code) b (held_by held (number_in_slots slots u.row)) locals holds.says names

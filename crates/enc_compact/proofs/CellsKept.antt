@@ -22,8 +22,8 @@ use Rattle.enc_plain.proofs.CellsOf.{blob_there}
 use Rattle.enc_plain.proofs.ColumnKinds.{alone_kind}
 use Rattle.enc_plain.proofs.KindsOf.{kind_of_cell, row_there}
 use Rattle.enc_plain.specs.Signatures.{signature_column}
-use Rattle.enc_order.specs.Orders.{Orders, new_row, moved_by}
-use Rattle.enc_compact.specs.Moved.{AreOrders, KeepLayouts, is_signature_column, signature_moved, cell_moved, module_with}
+use Rattle.enc_order.specs.Orders.{Orders, place_in_order, moved_by}
+use Rattle.enc_compact.specs.Moved.{AreOrders, KeepLayouts, holds_signatures, signature_moved, cell_moved, module_with}
 use Rattle.enc_sigs.specs.Moved.{MovedBeginsAlike, MovedFieldFront}
 use Rattle.enc_compact.proofs.CountsKept.{each_row}
 use Rattle.enc_compact.proofs.FieldsKept.{field_kept}
@@ -73,7 +73,7 @@ named_moved m orders t are h =
     let c = and_parts (may_name t.table) (nat_le 1 t.row) a.0 in
     let b = new_bounds (row_count m t.table) (orders t.table) t.row (is_order m orders t.table are)
     (le_of 1 t.row c.1) (le_of t.row (row_count m t.table) a.1) in
-    and_from _ _ (and_from _ _ c.0 (le_true 1 (new_row (orders t.table) t.row) b.0)) (le_true (new_row (orders t.table) t.row) (row_count m t.table) b.1)
+    and_from _ _ (and_from _ _ c.0 (le_true 1 (place_in_order (orders t.table) t.row) b.0)) (le_true (place_in_order (orders t.table) t.row) (row_count m t.table) b.1)
 
 table_true : (n : ℕ) → n ≡ 0x11 → (n == 0x11) ≡ true
 table_true n e = grind (arith, nat_tests)
@@ -91,8 +91,8 @@ some_local : (m : Module) (orders : Orders) (t : Token) → AreOrders m orders �
 unfolding locals_are_good moved_by
 some_local m orders t are e low high =
     let b = new_bounds (row_count m 0x11) (orders 0x11) t.row (is_order m orders 0x11 are) (omega arith) high in
-    let within : nat_le (new_row (orders t.table) t.row) (row_count m 0x11) ≡ true =
-    ap (λ n. nat_le (new_row (orders n) t.row) (row_count m 0x11)) e ∙ le_true (new_row (orders 0x11) t.row) (row_count m 0x11) b.1 in
+    let within : nat_le (place_in_order (orders t.table) t.row) (row_count m 0x11) ≡ true =
+    ap (λ n. nat_le (place_in_order (orders n) t.row) (row_count m 0x11)) e ∙ le_true (place_in_order (orders 0x11) t.row) (row_count m 0x11) b.1 in
     right_true _ _ (and_from _ _ (table_true t.table e) within)
 
 locals_moved : (m : Module) (orders : Orders) (t : Token) → AreOrders m orders → locals_are_good (row_count m) t ≡ true
@@ -104,7 +104,7 @@ locals_moved m orders t are h = by_row (t.row == 0) refl
     by_row false e = let p = good_local (row_count m) t h e in some_local m orders t are p.0 p.1 p.2
 
 -- a local signature is still nil or one of locals
-alone_column : (t : Token) → t.table ≡ 0x11 → is_signature_column t.table 0 ≡ true
+alone_column : (t : Token) → t.table ≡ 0x11 → holds_signatures t.table 0 ≡ true
 unfolding signature_column
 alone_column t e = rw e refl
 

@@ -31,8 +31,8 @@ use Rattle.enc_plain.specs.Sound.{row_count, is_reference, class_size_at, class_
 use Rattle.enc_plain.proofs.Applied.{same_is}
 use Rattle.enc_plain.proofs.CellsOf.{blob_there, token_there}
 use Rattle.enc_plain.proofs.ColumnKinds.{field_signature}
-use Rattle.enc_order.specs.Orders.{Orders, new_row, moved_by, rows_listed}
-use Rattle.enc_compact.specs.Moved.{AreOrders, KeepLayouts, is_layout_of, is_signature_column, module_with}
+use Rattle.enc_order.specs.Orders.{Orders, place_in_order, moved_by, standing_rows}
+use Rattle.enc_compact.specs.Moved.{AreOrders, KeepLayouts, is_layout_of, holds_signatures, module_with}
 use Rattle.enc_sigs.specs.Moved.{sig_moved, FieldFrontMoves, MovedFieldFront}
 use Rattle.enc_compact.proofs.KindsKept.{blob_at}
 use Rattle.enc_compact.proofs.Places.{is_order, new_at, new_some, same_moved, listed_many}
@@ -86,8 +86,8 @@ first_filtered {X} {A} p v (x ∷ xs) = by_test (p x) (first_filtered p v xs)
 layout_says : Module → ℕ → ℕ → Option ℕ
 layout_says m type row = if is_layout_of m type row then Some (number_at (cells_of m) (record { table = 0x0F; row = row }) 1) else None
 
-listed_get : (m : Module) (t k x : ℕ) → slice_get (rows_listed m t) k ≡ Some x → x ≡ k + 1
-unfolding rows_listed
+listed_get : (m : Module) (t k x : ℕ) → slice_get (standing_rows m t) k ≡ Some x → x ≡ k + 1
+unfolding standing_rows
 listed_get m t k x e = elim (cases_lt k (row_count m t)) [
   | inl low ↦ same x (k + 1) (sym e ∙ get_below (λ n. n + 1) (row_count m t) k low)
   | inr past ↦ let none = sym (get_past (λ n. n + 1) (row_count m t) k past) ∙ e in absurd cc
@@ -100,21 +100,21 @@ layout_at : (m : Module) (type k : ℕ) → class_size_at m type k ≡ layout_sa
 unfolding class_size_at layout_says
 layout_at m type k = refl
 
-old_size : (m : Module) (type : ℕ) → class_size m type ≡ first_some (layout_says m type) (rows_listed m 0x0F)
+old_size : (m : Module) (type : ℕ) → class_size m type ≡ first_some (layout_says m type) (standing_rows m 0x0F)
 unfolding class_size
 old_size m type =
     ap (first_below (class_size_at m type)) (sym (listed_many m 0x0F))
-    ∙ first_list (class_size_at m type) (layout_says m type) (rows_listed m 0x0F)
+    ∙ first_list (class_size_at m type) (layout_says m type) (standing_rows m 0x0F)
     (λ k x e. layout_at m type k ∙ ap (layout_says m type) (sym (listed_get m 0x0F k x e)))
 
 says_moved : (m : Module) (orders : Orders) (type x k : ℕ) → HasTables m → AreOrders m orders → slice_get (orders 0x0F) k ≡ Some x
-    → class_size_at (module_with orders m) (new_row (orders 0x02) type) k ≡ layout_says m type x
+    → class_size_at (module_with orders m) (place_in_order (orders 0x02) type) k ≡ layout_says m type x
 unfolding class_size_at layout_says moved_by
 says_moved m orders type x k has are e =
     let q : Module = module_with orders m in
     let row : Token = record { table = 0x0F; row = x } in
     let def : Token = record { table = 0x02; row = type } in
-    let place : k + 1 ≡ new_row (orders 0x0F) x = sym (new_at (row_count m 0x0F) (orders 0x0F) k x (is_order m orders 0x0F are) e) in
+    let place : k + 1 ≡ place_in_order (orders 0x0F) x = sym (new_at (row_count m 0x0F) (orders 0x0F) k x (is_order m orders 0x0F are) e) in
     let at : nth_row 0x0F k ≡ moved_by orders row = ap (λ n. record { table = 0x0F; row = n }) place in
     let parent : is_token (token_at (cells_of q) (nth_row 0x0F k) 2) (moved_by orders def) ≡ is_token (token_at (cells_of m) row 2) def =
     ap (λ (t : Token). is_token (token_at (cells_of q) t 2) (moved_by orders def)) at
@@ -126,12 +126,12 @@ says_moved m orders type x k has are e =
     ∙ ap (λ n. if is_token (token_at (cells_of m) row 2) def then Some n else None) size
 
 new_size : (m : Module) (orders : Orders) (type : ℕ) → HasTables m → AreOrders m orders
-    → class_size (module_with orders m) (new_row (orders 0x02) type) ≡ first_some (layout_says m type) (orders 0x0F)
+    → class_size (module_with orders m) (place_in_order (orders 0x02) type) ≡ first_some (layout_says m type) (orders 0x0F)
 unfolding class_size
 new_size m orders type has are =
     let q : Module = module_with orders m in
-    ap (first_below (class_size_at q (new_row (orders 0x02) type))) (count_moved m orders 0x0F has are ∙ sym (is_order m orders 0x0F are).many)
-    ∙ first_list (class_size_at q (new_row (orders 0x02) type)) (layout_says m type) (orders 0x0F) (λ k x e. says_moved m orders type x k has are e)
+    ap (first_below (class_size_at q (place_in_order (orders 0x02) type))) (count_moved m orders 0x0F has are ∙ sym (is_order m orders 0x0F are).many)
+    ∙ first_list (class_size_at q (place_in_order (orders 0x02) type)) (layout_says m type) (orders 0x0F) (λ k x e. says_moved m orders type x k has are e)
 
 says_filtered : (m : Module) (type : ℕ) (rows : List ℕ)
     → first_some (layout_says m type) rows
@@ -141,12 +141,12 @@ says_filtered m type rows = first_filtered (is_layout_of m type) (λ row. number
 
 -- the first layout of a type tells the same size
 pub class_size_moved : (m : Module) (orders : Orders) (type : ℕ) → HasTables m → AreOrders m orders → KeepLayouts m orders
-    → class_size (module_with orders m) (new_row (orders 0x02) type) ≡ class_size m type
+    → class_size (module_with orders m) (place_in_order (orders 0x02) type) ≡ class_size m type
 class_size_moved m orders type has are keep =
     new_size m orders type has are
     ∙ says_filtered m type (orders 0x0F)
     ∙ ap (first_some (λ row. Some (number_at (cells_of m) (record { table = 0x0F; row = row }) 1))) (keep.each type)
-    ∙ sym (says_filtered m type (rows_listed m 0x0F))
+    ∙ sym (says_filtered m type (standing_rows m 0x0F))
     ∙ sym (old_size m type)
 
 -- the type that a token of a signature names
@@ -227,11 +227,11 @@ told_moved : (m : Module) (orders : Orders) (t : Token) → HasTables m → AreO
     → size_of (module_with orders m) (class_told (moved_by orders t)) ≡ size_of m (class_told t)
 unfolding class_told moved_by
 told_moved m orders t has are keep =
-    let row : ℕ = new_row (orders t.table) t.row in
+    let row : ℕ = place_in_order (orders t.table) t.row in
     ap (λ b. size_of (module_with orders m) (if b then None else if t.table == 0x02 then Some (Class row) else None))
     (new_some (row_count m t.table) (orders t.table) t.row (is_order m orders t.table are))
     ∙ told_by m (module_with orders m) t row (t.row == 0) (t.table == 0x02) refl (λ e.
-    ap (λ n. class_size (module_with orders m) (new_row (orders n) t.row)) e ∙ class_size_moved m orders t.row has are keep)
+    ap (λ n. class_size (module_with orders m) (place_in_order (orders n) t.row)) e ∙ class_size_moved m orders t.row has are keep)
 
 extent_of_field : (bytes rest : List ℕ) (k : ℕ) → bytes ≡ 0x06 ∷ k ∷ rest
     → extent_in bytes ≡ (if k == 0x11 then class_in rest else option_map (λ n. Bytes n) (size_of_kind k))
@@ -268,7 +268,7 @@ field_column : (t : Token) → t.table ≡ 0x04 → signature_column t.table ≡
 unfolding signature_column
 field_column t e = rw e refl
 
-is_column : (t : Token) → t.table ≡ 0x04 → is_signature_column t.table 2 ≡ true
+is_column : (t : Token) → t.table ≡ 0x04 → holds_signatures t.table 2 ≡ true
 unfolding signature_column
 is_column t e = rw e refl
 

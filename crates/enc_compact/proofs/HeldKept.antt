@@ -9,10 +9,10 @@ use Rattle.std.proofs.lemmas.Bool.{and_parts}
 use Rattle.enc_base.specs.declared.token.Token.{Token}
 use Rattle.enc_plain.specs.Module.{Module, has_row}
 use Rattle.enc_plain.specs.Sound.{row_count}
-use Rattle.enc_compact.specs.Held.{slot_in, held_by, AreSlots, AreKnown}
+use Rattle.enc_compact.specs.Held.{number_in_slots, held_by, AreSlots, AreSlotsKnown}
 
 -- the number of a row
-pub slot_there : (slots : List ℕ) (row x : ℕ) → 0 < row → unwrap_or (slice_get slots (row - 1)) 0 ≡ x → x ≡ slot_in slots row
+pub slot_there : (slots : List ℕ) (row x : ℕ) → 0 < row → unwrap_or (slice_get slots (row - 1)) 0 ≡ x → x ≡ number_in_slots slots row
 slot_there slots zero x some e = absurd (omega (arith, some))
 slot_there slots (suc k) x some e = let s : suc k - 1 ≡ k = omega arith in sym e ∙ ap (λ i. unwrap_or (slice_get slots i) 0) s
 
@@ -51,7 +51,7 @@ pub last_low : {A : Type 0} (new : List A) (slot : ℕ) → slot ≡ length new 
 last_low new slot many = omega (arith, many)
 
 -- no place is known yet
-pub none_known : {A : Type 0} (places : ℕ → Option A) (Says : A → ℕ → Type 0) (known : BTreeMap ℕ ℕ) → IsEmpty known → AreKnown places Says known
+pub none_known : {A : Type 0} (places : ℕ → Option A) (Says : A → ℕ → Type 0) (known : BTreeMap ℕ ℕ) → IsEmpty known → AreSlotsKnown places Says known
 none_known places Says known empty place slot x found there = let e : get nat_cmp known place ≡ None = rw empty refl in absurd cc
 
 -- one more place is
@@ -61,8 +61,8 @@ here k q h = grind (arith, nat_tests, h)
 some_same : (a b : ℕ) → Some a ≡ Some b → a ≡ b
 some_same a b e = cc
 
-pub one_known : {A : Type 0} (places : ℕ → Option A) (Before Says : A → ℕ → Type 0) (old new : BTreeMap ℕ ℕ) (k slot : ℕ) → AreKnown places Before old
-    → ((x : A) (n : ℕ) → Before x n → Says x n) → ((x : A) → places k ≡ Some x → Says x slot) → Updates nat_cmp old new k (Some slot) → AreKnown places Says new
+pub one_known : {A : Type 0} (places : ℕ → Option A) (Before Says : A → ℕ → Type 0) (old new : BTreeMap ℕ ℕ) (k slot : ℕ) → AreSlotsKnown places Before old
+    → ((x : A) (n : ℕ) → Before x n → Says x n) → ((x : A) → places k ≡ Some x → Says x slot) → Updates nat_cmp old new k (Some slot) → AreSlotsKnown places Says new
 one_known {A} places Before Says old new k slot all still one updates place n x found there =
     by (is_at (nat_cmp k) place) (get nat_cmp new place) refl (updates.0 place) found
   where
@@ -118,11 +118,11 @@ rows_of m u there =
     within : (n k : ℕ) → nat_le n k ≡ true → n ≤ k
     within n k e = grind (arith, nat_tests)
 
-pub row_slot : (slots : List ℕ) (n row : ℕ) → length slots ≡ n → 0 < row → row ≤ n → (k : ℕ) × (row ≡ k + 1) × (slice_get slots k ≡ Some (slot_in slots row))
+pub row_slot : (slots : List ℕ) (n row : ℕ) → length slots ≡ n → 0 < row → row ≤ n → (k : ℕ) × (row ≡ k + 1) × (slice_get slots k ≡ Some (number_in_slots slots row))
 row_slot slots n zero many some low = absurd (omega (arith, some))
 row_slot slots n (suc k) many some low = let e : suc k ≡ k + 1 = omega arith in (k, e, there slots k (omega (arith, many, low)))
   where
-    there : (xs : List ℕ) (k : ℕ) → k < length xs → slice_get xs k ≡ Some (slot_in xs (suc k))
+    there : (xs : List ℕ) (k : ℕ) → k < length xs → slice_get xs k ≡ Some (number_in_slots xs (suc k))
     there [] k low = absurd (omega (arith, low))
     there (x ∷ xs) zero low = refl
     there (x ∷ xs) (suc k) low = there xs k (omega (arith, low))

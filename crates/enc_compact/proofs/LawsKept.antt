@@ -12,7 +12,7 @@ use Rattle.enc_plain.specs.Sound.{IsSound, row_count, all_kids}
 use Rattle.enc_plain.specs.SoundDebug.{is_method_of}
 use Rattle.enc_compact.specs.Laws.{MovedIsSound, MovedPdbIsSound, MovedKnowsWithin, MovedStandsInOrder}
 use Rattle.enc_compact.specs.Moved.{AreOrders, module_moved, pdb_moved}
-use Rattle.enc_order.specs.Orders.{old_row, new_order, old_of, rows_listed}
+use Rattle.enc_order.specs.Orders.{old_row, new_order, old_of, standing_rows}
 use Rattle.enc_compact.proofs.NewOrder.{new_order_are, layouts_kept, kids_stand}
 use Rattle.enc_compact.proofs.Owners.{old_there, kids_in_order}
 use Rattle.enc_compact.proofs.Places.{is_order}
@@ -52,11 +52,11 @@ knows_within m p sound within = record {
       (old_is_method m t (new_order_are m sound) ∙ ap (λ n. is_method_of n t) (sym (counts_stay m 0x06 sound)) ∙ out);
 }
 
-listed_same : (m q : Module) (t : ℕ) → row_count q t ≡ row_count m t → rows_listed m t ≡ rows_listed q t
-unfolding rows_listed
+listed_same : (m q : Module) (t : ℕ) → row_count q t ≡ row_count m t → standing_rows m t ≡ standing_rows q t
+unfolding standing_rows
 listed_same m q t e = ap (λ n. map (λ k. k + 1) (below n)) (sym e)
 
-moved_in_order : (m : Module) (child : ℕ) → IsSound m → is_child_table child ≡ true → all_kids (module_moved m) child ≡ rows_listed m child
+moved_in_order : (m : Module) (child : ℕ) → IsSound m → is_child_table child ≡ true → all_kids (module_moved m) child ≡ standing_rows m child
 unfolding module_moved
 moved_in_order m child sound there = kids_in_order m (new_order m) child there (new_order_are m sound) sound (kids_stand m child there)
 

@@ -7,13 +7,13 @@ use Rattle.enc_base.specs.declared.token.Token.{Token}
 use Rattle.enc_rows.specs.Sums.{below}
 use Rattle.enc_plain.specs.Module.{Module}
 use Rattle.enc_plain.specs.Sound.{row_count}
-use Rattle.enc_compact.specs.Moved.{move_of, moves_in, moves_listed}
-use Rattle.enc_order.specs.Orders.{rows_listed, new_of}
+use Rattle.enc_compact.specs.Moved.{moves_of_row, moves_in, moves_listed}
+use Rattle.enc_order.specs.Orders.{standing_rows, new_of}
 use Rattle.enc_order.proofs.Rowed.{more_upto}
 
 -- those of the first rows of a table
 abbrev pub moves_upto : Module → ℕ → ℕ → List (Token × Token)
-moves_upto m table n = flat_map (λ row. move_of m (record { table = table; row = row })) (map (λ k. k + 1) (below n))
+moves_upto m table n = flat_map (λ row. moves_of_row m (record { table = table; row = row })) (map (λ k. k + 1) (below n))
 
 flat_last : {A B : Type 0} (f : A → List B) (xs : List A) (x : A) → flat_map f (xs ++ x ∷ []) ≡ flat_map f xs ++ f x
 flat_last f [] x = none (f x)
@@ -27,13 +27,13 @@ pub none_move : (m : Module) (table : ℕ) → moves_upto m table 0 ≡ []
 unfolding below
 none_move m table = refl
 
-pub more_moves : (m : Module) (table n : ℕ) → moves_upto m table (n + 1) ≡ moves_upto m table n ++ move_of m (record { table = table; row = n + 1 })
+pub more_moves : (m : Module) (table n : ℕ) → moves_upto m table (n + 1) ≡ moves_upto m table n ++ moves_of_row m (record { table = table; row = n + 1 })
 more_moves m table n =
-    ap (flat_map (λ row. move_of m (record { table = table; row = row }))) (sym (more_upto n))
-    ∙ flat_last (λ row. move_of m (record { table = table; row = row })) (map (λ k. k + 1) (below n)) (n + 1)
+    ap (flat_map (λ row. moves_of_row m (record { table = table; row = row }))) (sym (more_upto n))
+    ∙ flat_last (λ row. moves_of_row m (record { table = table; row = row })) (map (λ k. k + 1) (below n)) (n + 1)
 
 pub all_moves : (m : Module) (table n : ℕ) → n ≡ row_count m table → moves_upto m table n ≡ moves_in m table
-unfolding moves_in rows_listed
+unfolding moves_in standing_rows
 all_moves m table n e = ap (moves_upto m table) e
 
 -- those of the first tables
@@ -80,8 +80,8 @@ one_row m table n xs ys new u before moved pushed =
     let t : Token = record { table = table; row = n + 1 } in
     pushed
     ∙ ap (λ (w : Token). ys ++ (if is_token w t then [] else (t, w) ∷ [])) moved
-    ∙ ap (λ (zs : List (Token × Token)). zs ++ move_of m t) before
-    ∙ append_assoc xs (moves_upto m table n) (move_of m t)
+    ∙ ap (λ (zs : List (Token × Token)). zs ++ moves_of_row m t) before
+    ∙ append_assoc xs (moves_upto m table n) (moves_of_row m t)
     ∙ ap (λ (zs : List (Token × Token)). xs ++ zs) (sym (more_moves m table n))
 
 pub rows_end : (m : Module) (table n : ℕ) (xs ys : List (Token × Token)) → ys ≡ xs ++ moves_upto m table n → n ≡ row_count m table → ys ≡ xs ++ moves_in m table

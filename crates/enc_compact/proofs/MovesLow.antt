@@ -8,7 +8,7 @@ use Rattle.enc_plain.specs.Module.{Module}
 use Rattle.enc_plain.specs.Sound.{row_count, HasCounts}
 use Rattle.enc_compact.specs.Moved.{AreOrders}
 use Rattle.enc_compact.specs.Mover.{comes_past, moved_low}
-use Rattle.enc_order.specs.Orders.{Orders, new_row, moved_by}
+use Rattle.enc_order.specs.Orders.{Orders, place_in_order, moved_by}
 use Rattle.enc_compact.proofs.Places.{is_order, new_bounds, new_absent}
 
 not_past : (a b : ℕ) → (a < 2 ^ 24 → b < 2 ^ 24) → (nat_lt a (2 ^ 24) && not (nat_lt b (2 ^ 24))) ≡ false
@@ -25,7 +25,7 @@ is_low orders t u e low =
     e ∙ rw there refl
 
 row_low : (n : ℕ) (m : Module) (orders : Orders) (t : ℕ) (row : ℕ) → AreOrders m orders → n ≡ row_count m t → n < 2 ^ 24 → row < 2 ^ 24
-    → new_row (orders t) row < 2 ^ 24
+    → place_in_order (orders t) row < 2 ^ 24
 row_low n m orders t row are is few low = elim (cases_lt 0 row) [
   | inl some ↦ elim (cases_lt (row_count m t) row) [
     | inl past ↦ rw (new_absent (row_count m t) (orders t) row (is_order m orders t are) (λ l. past)) low

@@ -11,8 +11,8 @@ use Rattle.enc_plain.specs.Rows.{token_at}
 use Rattle.enc_plain.specs.Sound.{IsSound}
 use Rattle.enc_plain.proofs.Applied.{same_is}
 use Rattle.enc_compact.specs.Moved.{AreOrders, KeepLayouts, is_layout_of}
-use Rattle.enc_order.specs.Orders.{Orders, rows_listed, kids_listed, moved_by, new_row, by_depth, by_owner, by_method}
-use Rattle.enc_order.specs.Orders.{by_key, by_param, by_attribute, key_columns, key_from, key_of, keyed_rows, new_order}
+use Rattle.enc_order.specs.Orders.{Orders, standing_rows, kids_listed, moved_by, place_in_order, by_depth, by_owner, by_method}
+use Rattle.enc_order.specs.Orders.{by_key, by_param, by_attribute, key_columns, key_from, order_key, keyed_rows, new_order}
 use Rattle.enc_order.specs.Sorted.{sorted_by}
 use Rattle.enc_order.proofs.OneOrder.{of_key, sorted_ties}
 use Rattle.enc_order.proofs.Permutes.{new_order_permutes}
@@ -40,41 +40,41 @@ sorted_keeps p key k xs h =
 
 -- a row of ClassLayout goes by the new place of its type
 layout_number : (orders : Orders) (m : Module) (row : ℕ)
-    → key_of orders m 0x0F row ≡ 0 * 2 ^ 32 + (moved_by orders (token_at (cells_of m) (record { table = 0x0F; row = row }) 2)).row
-unfolding key_of key_from key_columns columns_in
+    → order_key orders m 0x0F row ≡ 0 * 2 ^ 32 + (moved_by orders (token_at (cells_of m) (record { table = 0x0F; row = row }) 2)).row
+unfolding order_key key_from key_columns columns_in
 layout_number orders m row = refl
 
-type_number : (orders : Orders) (type : ℕ) → 0 * 2 ^ 32 + (moved_by orders (record { table = 0x02; row = type })).row ≡ new_row (orders 0x02) type
+type_number : (orders : Orders) (type : ℕ) → 0 * 2 ^ 32 + (moved_by orders (record { table = 0x02; row = type })).row ≡ place_in_order (orders 0x02) type
 unfolding moved_by
-type_number orders type = nothing_before (new_row (orders 0x02) type)
+type_number orders type = nothing_before (place_in_order (orders 0x02) type)
   where
     nothing_before : (n : ℕ) → 0 * 2 ^ 32 + n ≡ n
     nothing_before n = omega arith
 
-layout_key : (orders : Orders) (m : Module) (type row : ℕ) → is_layout_of m type row ≡ true → (key_of orders m 0x0F row == new_row (orders 0x02) type) ≡ true
+layout_key : (orders : Orders) (m : Module) (type row : ℕ) → is_layout_of m type row ≡ true → (order_key orders m 0x0F row == place_in_order (orders 0x02) type) ≡ true
 layout_key orders m type row is =
     let e = same_is (token_at (cells_of m) (record { table = 0x0F; row = row }) 2) (record { table = 0x02; row = type }) is in
-    let key : key_of orders m 0x0F row ≡ new_row (orders 0x02) type =
+    let key : order_key orders m 0x0F row ≡ place_in_order (orders 0x02) type =
     layout_number orders m row ∙ ap (λ (t : Token). 0 * 2 ^ 32 + (moved_by orders t).row) e ∙ type_number orders type in
-    equal (key_of orders m 0x0F row) (new_row (orders 0x02) type) key
+    equal (order_key orders m 0x0F row) (place_in_order (orders 0x02) type) key
   where
     equal : (a b : ℕ) → a ≡ b → (a == b) ≡ true
     equal a b e = grind (arith, nat_tests)
 
-layouts_sorted : (m : Module) → new_order m 0x0F ≡ keyed_rows (by_method m (by_owner m (by_depth m (rows_listed m)))) m 0x0F
+layouts_sorted : (m : Module) → new_order m 0x0F ≡ keyed_rows (by_method m (by_owner m (by_depth m (standing_rows m)))) m 0x0F
 unfolding new_order by_attribute by_param by_key key_columns
 layouts_sorted m = refl
 
 layouts_by : (orders : Orders) (m : Module) (type : ℕ) → filter (is_layout_of m type) (keyed_rows orders m 0x0F) ≡ filter (is_layout_of m type)
-    (rows_listed m 0x0F)
+    (standing_rows m 0x0F)
 unfolding keyed_rows
 layouts_by orders m type =
-    sorted_keeps (is_layout_of m type) (key_of orders m 0x0F) (new_row (orders 0x02) type) (rows_listed m 0x0F) (λ row is. layout_key orders m type row is)
+    sorted_keeps (is_layout_of m type) (order_key orders m 0x0F) (place_in_order (orders 0x02) type) (standing_rows m 0x0F) (λ row is. layout_key orders m type row is)
 
 pub layouts_kept : (m : Module) → KeepLayouts m (new_order m)
 layouts_kept m = record {
   each = λ type.
-      ap (filter (is_layout_of m type)) (layouts_sorted m) ∙ layouts_by (by_method m (by_owner m (by_depth m (rows_listed m)))) m type;
+      ap (filter (is_layout_of m type)) (layouts_sorted m) ∙ layouts_by (by_method m (by_owner m (by_depth m (standing_rows m)))) m type;
 }
 
 -- the children of owners that stand in order stand in order

@@ -16,7 +16,7 @@ use Rattle.enc_plain.specs.Module.{Module, Row, rows_in, row_at, row_of, kids_at
 use Rattle.enc_plain.specs.Sound.{row_count, all_kids, IsOwned, HasTables, IsSound}
 use Rattle.enc_plain.proofs.AttachedTo.{run_at}
 use Rattle.enc_plain.proofs.Owned.{count_cons, count_append}
-use Rattle.enc_order.specs.Orders.{Orders, new_row, old_row, moved_by, rows_listed, kids_listed}
+use Rattle.enc_order.specs.Orders.{Orders, place_in_order, old_row, moved_by, standing_rows, kids_listed}
 use Rattle.enc_compact.specs.Moved.{AreOrders, children_moved, kids_moved, row_moved, rows_moved, module_with}
 use Rattle.enc_compact.proofs.Places.{IsOrder, is_order, new_at, new_there, new_old, old_new}
 use Rattle.enc_compact.proofs.Rows.{rows_new, count_moved, row_any, row_any_low, was_row}
@@ -152,8 +152,8 @@ from_rows m child a all (r ∷ rows) h =
     (λ (o : Option Row). kids_with o child ++ flat_map (λ row. kids_with (row_at all row) child) (map (λ n. n + 1) (range_with_len (a + 1) (length rows)))) here
     ∙ ap (λ ys. kids_at r child ++ ys) rest
 
-pub listed_kids : (m : Module) (child : ℕ) → is_child_table child ≡ true → kids_listed m (rows_listed m (owner_table child)) child ≡ all_kids m child
-unfolding kids_listed rows_listed below
+pub listed_kids : (m : Module) (child : ℕ) → is_child_table child ≡ true → kids_listed m (standing_rows m (owner_table child)) child ≡ all_kids m child
+unfolding kids_listed standing_rows below
 listed_kids m child there =
     let rows : List Row = rows_in m (owner_table child) in
     flat_same _ (λ row. kids_with (row_at rows row) child) (map (λ n. n + 1) (range_with_len 0 (length rows))) (λ row. owner_kids m child row there)
@@ -166,13 +166,13 @@ count_flat q f (x ∷ xs) =
     count_append q (f x) (flat_map f xs) ∙ ap (λ n. count_by q (f x) + n) (count_flat q f xs) ∙ sym (sum_by-cons (λ y. count_by q (f y)) x xs)
 
 count_ordered : (m : Module) (orders : Orders) (child : ℕ) (q : ℕ → Bool) → AreOrders m orders
-    → count_by q (kids_listed m (orders (owner_table child)) child) ≡ count_by q (kids_listed m (rows_listed m (owner_table child)) child)
+    → count_by q (kids_listed m (orders (owner_table child)) child) ≡ count_by q (kids_listed m (standing_rows m (owner_table child)) child)
 unfolding kids_listed
 count_ordered m orders child q are =
     let f : ℕ → List ℕ = λ row. kids_of m (record { table = owner_table child; row = row }) child in
     count_flat q f (orders (owner_table child))
-    ∙ sum_by-IsPermutation (λ row. count_by q (f row)) (rows_listed m (owner_table child)) (orders (owner_table child)) (are.each (owner_table child))
-    ∙ sym (count_flat q f (rows_listed m (owner_table child)))
+    ∙ sum_by-IsPermutation (λ row. count_by q (f row)) (standing_rows m (owner_table child)) (orders (owner_table child)) (are.each (owner_table child))
+    ∙ sym (count_flat q f (standing_rows m (owner_table child)))
 
 count_listed : (m : Module) (orders : Orders) (child : ℕ) (q : ℕ → Bool) → AreOrders m orders → is_child_table child ≡ true
     → count_by q (kids_listed m (orders (owner_table child)) child) ≡ count_by q (all_kids m child)
@@ -183,9 +183,9 @@ count_map q g [] = refl
 count_map q g (x ∷ xs) =
     count_cons q (g x) (map g xs) ∙ ap (λ n. cond (q (g x)) 1 0 + n) (count_map q g xs) ∙ sym (count_cons (λ y. q (g y)) x xs)
 
-pub same_place : (n : ℕ) (rows : List ℕ) (k row : ℕ) → IsOrder n rows → (new_row rows k == row) ≡ (k == old_row rows row)
-same_place n rows k row order = by_both (new_row rows k) (old_row rows row)
-    (λ e. sym (old_new n rows k order) ∙ ap (old_row rows) e) (λ e. ap (new_row rows) e ∙ new_old n rows row order)
+pub same_place : (n : ℕ) (rows : List ℕ) (k row : ℕ) → IsOrder n rows → (place_in_order rows k == row) ≡ (k == old_row rows row)
+same_place n rows k row order = by_both (place_in_order rows k) (old_row rows row)
+    (λ e. sym (old_new n rows k order) ∙ ap (old_row rows) e) (λ e. ap (place_in_order rows) e ∙ new_old n rows row order)
   where
     by_both : (a b : ℕ) → (a ≡ row → k ≡ b) → (k ≡ b → a ≡ row) → (a == row) ≡ (k == b)
     by_both a b f g = elim (cases_eq a row) [
@@ -207,7 +207,7 @@ old_there n rows row order =
     ap (λ r. nat_lt 0 r && nat_le r n) (sym (new_old n rows row order)) ∙ there in
     ap (λ b. b && nat_le (old_row rows row) n) (sym (low_same (old_row rows row))) ∙ sym e ∙ ap (λ b. b && nat_le row n) (low_same row)
 
-pub child_row : (orders : Orders) (child : ℕ) (rows : List ℕ) → children_moved (moved_by orders) child rows ≡ map (new_row (orders child)) rows
+pub child_row : (orders : Orders) (child : ℕ) (rows : List ℕ) → children_moved (moved_by orders) child rows ≡ map (place_in_order (orders child)) rows
 unfolding moved_by
 child_row orders child rows = refl
 
@@ -216,10 +216,10 @@ count_moved_kids : (m : Module) (orders : Orders) (child row : ℕ) → HasTable
 count_moved_kids m orders child row has are owned there =
     let order = is_order m orders child are in
     let kids : List ℕ = kids_listed m (orders (owner_table child)) child in
-    let back : (λ (k : ℕ). new_row (orders child) k == row) ≡ (λ (k : ℕ). k == old_row (orders child) row) =
+    let back : (λ (k : ℕ). place_in_order (orders child) k == row) ≡ (λ (k : ℕ). k == old_row (orders child) row) =
     λ i k. same_place (row_count m child) (orders child) k row order i in
     ap (count_by (λ k. k == row)) (all_kids_moved m orders child has are there ∙ child_row orders child kids)
-    ∙ count_map (λ k. k == row) (new_row (orders child)) kids
+    ∙ count_map (λ k. k == row) (place_in_order (orders child)) kids
     ∙ ap (λ (q : ℕ → Bool). count_by q kids) back
     ∙ count_listed m orders child (λ k. k == old_row (orders child) row) are there
     ∙ owned.once child (old_row (orders child) row) there
@@ -234,25 +234,25 @@ owned_moved m orders has are owned = record {
 }
 
 -- children that are listed owner by owner in the new order get the numbers 1, 2, 3 ..
-in_order : (rows xs : List ℕ) (a : ℕ) → ((i r : ℕ) → slice_get xs i ≡ Some r → new_row rows r ≡ a + i + 1)
-    → map (new_row rows) xs ≡ map (λ n. n + 1) (range_with_len a (length xs))
+in_order : (rows xs : List ℕ) (a : ℕ) → ((i r : ℕ) → slice_get xs i ≡ Some r → place_in_order rows r ≡ a + i + 1)
+    → map (place_in_order rows) xs ≡ map (λ n. n + 1) (range_with_len a (length xs))
 in_order rows [] a h = refl
 in_order rows (x ∷ xs) a h =
     let z : a + 0 + 1 ≡ a + 1 = omega arith in
     let rest = in_order rows xs (a + 1) (λ i r e. let s : a + suc i + 1 ≡ a + 1 + i + 1 = omega arith in h (suc i) r e ∙ s) in
     rw (h 0 x refl ∙ z, rest) refl
 
-order_listed : (m : Module) (orders : Orders) (t : ℕ) → AreOrders m orders → map (new_row (orders t)) (orders t) ≡ rows_listed m t
-unfolding rows_listed below
+order_listed : (m : Module) (orders : Orders) (t : ℕ) → AreOrders m orders → map (place_in_order (orders t)) (orders t) ≡ standing_rows m t
+unfolding standing_rows below
 order_listed m orders t are =
     let order = is_order m orders t are in
     in_order (orders t) (orders t) 0 (λ i r e. let s : i + 1 ≡ 0 + i + 1 = omega arith in new_at (row_count m t) (orders t) i r order e ∙ s)
     ∙ ap (λ n. map (λ k. k + 1) (range_with_len 0 n)) order.many
 
 pub kids_in_order : (m : Module) (orders : Orders) (child : ℕ) → is_child_table child ≡ true → AreOrders m orders → IsSound m
-    → orders child ≡ kids_listed m (orders (owner_table child)) child → all_kids (module_with orders m) child ≡ rows_listed m child
+    → orders child ≡ kids_listed m (orders (owner_table child)) child → all_kids (module_with orders m) child ≡ standing_rows m child
 kids_in_order m orders child there are sound e =
     all_kids_moved m orders child sound.owners.tables are there
     ∙ child_row orders child (kids_listed m (orders (owner_table child)) child)
-    ∙ ap (map (new_row (orders child))) (sym e)
+    ∙ ap (map (place_in_order (orders child))) (sym e)
     ∙ order_listed m orders child are

@@ -13,7 +13,7 @@ use Rattle.enc_rows.proofs.Listed.{length_below}
 use Rattle.enc_plain.specs.Module.{Module}
 use Rattle.enc_plain.specs.Sound.{row_count}
 use Rattle.enc_plain.proofs.Owned.{count_cons}
-use Rattle.enc_order.specs.Orders.{Orders, place_behind, new_row, old_row, moved_by, rows_listed}
+use Rattle.enc_order.specs.Orders.{Orders, place_behind, place_in_order, old_row, moved_by, standing_rows}
 use Rattle.enc_compact.specs.Moved.{AreOrders}
 
 -- how often a number stands among so many behind one
@@ -62,12 +62,12 @@ in_range r n =
     rw (e, low) refl
 
 -- each row of a table stands once among those listed
-pub listed_count : (m : Module) (t r : ℕ) → count_by (λ k. k == r) (rows_listed m t) ≡ cond (nat_le 1 r && nat_le r (row_count m t)) 1 0
-unfolding rows_listed below
+pub listed_count : (m : Module) (t r : ℕ) → count_by (λ k. k == r) (standing_rows m t) ≡ cond (nat_le 1 r && nat_le r (row_count m t)) 1 0
+unfolding standing_rows below
 listed_count m t r = range_count r 0 (row_count m t) ∙ in_range r (row_count m t)
 
-pub listed_many : (m : Module) (t : ℕ) → length (rows_listed m t) ≡ row_count m t
-unfolding rows_listed
+pub listed_many : (m : Module) (t : ℕ) → length (standing_rows m t) ≡ row_count m t
+unfolding standing_rows
 listed_many m t = length_below (λ n. n + 1) (row_count m t)
 
 -- each number from 1 to n once, and nothing else
@@ -77,8 +77,8 @@ pub record IsOrder (n : ℕ) (rows : List ℕ) : Type 0 where
 
 pub is_order : (m : Module) (orders : Orders) (t : ℕ) → AreOrders m orders → IsOrder (row_count m t) (orders t)
 is_order m orders t are = record {
-  once = λ r. sum_by-IsPermutation (λ k. cond (k == r) 1 0) (rows_listed m t) (orders t) (are.each t) ∙ listed_count m t r;
-  many = length_permutation (rows_listed m t) (orders t) (are.each t) ∙ listed_many m t;
+  once = λ r. sum_by-IsPermutation (λ k. cond (k == r) 1 0) (standing_rows m t) (orders t) (are.each t) ∙ listed_count m t r;
+  many = length_permutation (standing_rows m t) (orders t) (are.each t) ∙ listed_many m t;
 }
 
 -- what stands in a list is counted
@@ -172,15 +172,15 @@ no_place before r (x ∷ xs) h = by_first (x == r) refl (rw (count_cons (λ k. k
     by_first false e h rest = rest (omega arith)
 
 -- a row goes to where it stands in the order
-pub new_at : (n : ℕ) (rows : List ℕ) (i r : ℕ) → IsOrder n rows → slice_get rows i ≡ Some r → new_row rows r ≡ i + 1
-unfolding new_row
+pub new_at : (n : ℕ) (rows : List ℕ) (i r : ℕ) → IsOrder n rows → slice_get rows i ≡ Some r → place_in_order rows r ≡ i + 1
+unfolding place_in_order
 new_at n rows i r order e =
     let at = first_place 0 r rows i (few_by (count_by (λ k. k == r) rows) (nat_le 1 r && nat_le r n) (order.once r)) e in
     omega (arith, at)
 
 -- what is no row stays
-pub new_absent : (n : ℕ) (rows : List ℕ) (r : ℕ) → IsOrder n rows → (1 ≤ r → n < r) → new_row rows r ≡ r
-unfolding new_row
+pub new_absent : (n : ℕ) (rows : List ℕ) (r : ℕ) → IsOrder n rows → (1 ≤ r → n < r) → place_in_order rows r ≡ r
+unfolding place_in_order
 new_absent n rows r order out = no_place 0 r rows (none_of r n (count_by (λ k. k == r) rows) (order.once r) out)
 
 within : {A : Type 0} (xs : List A) (i : ℕ) (x : A) → slice_get xs i ≡ Some x → i < length xs
@@ -189,7 +189,7 @@ within (y ∷ ys) zero x h = omega arith
 within (y ∷ ys) (suc i) x h = omega (arith, within ys i x h)
 
 -- a row goes to a row
-pub new_bounds : (n : ℕ) (rows : List ℕ) (r : ℕ) → IsOrder n rows → 1 ≤ r → r ≤ n → (1 ≤ new_row rows r) × (new_row rows r ≤ n)
+pub new_bounds : (n : ℕ) (rows : List ℕ) (r : ℕ) → IsOrder n rows → 1 ≤ r → r ≤ n → (1 ≤ place_in_order rows r) × (place_in_order rows r ≤ n)
 new_bounds n rows r order low high =
     let w = order_has n rows r order low high in
     let e = new_at n rows w.0 r order w.1 in
@@ -215,7 +215,7 @@ get_within (x ∷ xs) zero h = (x, refl)
 get_within (x ∷ xs) (suc i) h = get_within xs i (omega arith)
 
 -- the old row of a new one is the row itself
-pub old_new : (n : ℕ) (rows : List ℕ) (r : ℕ) → IsOrder n rows → old_row rows (new_row rows r) ≡ r
+pub old_new : (n : ℕ) (rows : List ℕ) (r : ℕ) → IsOrder n rows → old_row rows (place_in_order rows r) ≡ r
 old_new n rows r order = elim (cases_lt 0 r) [
   | inl low ↦ elim (cases_lt n r) [
     | inl past ↦ rw (new_absent n rows r order (λ l. past)) (old_absent n rows r order (λ l. past))
@@ -227,7 +227,7 @@ old_new n rows r order = elim (cases_lt 0 r) [
 ]
 
 -- and the new row of the old one too
-pub new_old : (n : ℕ) (rows : List ℕ) (r : ℕ) → IsOrder n rows → new_row rows (old_row rows r) ≡ r
+pub new_old : (n : ℕ) (rows : List ℕ) (r : ℕ) → IsOrder n rows → place_in_order rows (old_row rows r) ≡ r
 new_old n rows zero order =
     let out : 1 ≤ 0 → n < 0 = λ l. absurd (omega arith) in
     rw (old_absent n rows 0 order out) (new_absent n rows 0 order out)
@@ -253,11 +253,11 @@ old_bounds n rows (suc i) order low high =
     rw old (order_bounds n rows i w.0 order w.1)
 
 -- the new row is one where the old one is
-pub new_there : (n : ℕ) (rows : List ℕ) (r : ℕ) → IsOrder n rows → (nat_lt 0 (new_row rows r) && nat_le (new_row rows r) n) ≡ (nat_lt 0 r && nat_le r n)
+pub new_there : (n : ℕ) (rows : List ℕ) (r : ℕ) → IsOrder n rows → (nat_lt 0 (place_in_order rows r) && nat_le (place_in_order rows r) n) ≡ (nat_lt 0 r && nat_le r n)
 new_there n rows r order = elim (cases_lt 0 r) [
   | inl low ↦ elim (cases_lt n r) [
     | inl past ↦ rw (new_absent n rows r order (λ l. past)) refl
-    | inr high ↦ let b = new_bounds n rows r order (omega arith) high in same r (new_row rows r) low high b.0 b.1
+    | inr high ↦ let b = new_bounds n rows r order (omega arith) high in same r (place_in_order rows r) low high b.0 b.1
   ]
   | inr z ↦ let out : 1 ≤ r → n < r = λ l. absurd (omega arith) in rw (new_absent n rows r order out) refl
 ]
@@ -271,14 +271,14 @@ new_there n rows r order = elim (cases_lt 0 r) [
         rw (x, y, z, w) refl
 
 -- the new row is 0 where the old one is
-pub new_zero : (n : ℕ) (rows : List ℕ) → IsOrder n rows → new_row rows 0 ≡ 0
+pub new_zero : (n : ℕ) (rows : List ℕ) → IsOrder n rows → place_in_order rows 0 ≡ 0
 new_zero n rows order = new_absent n rows 0 order (λ l. absurd (omega arith))
 
-pub new_some : (n : ℕ) (rows : List ℕ) (r : ℕ) → IsOrder n rows → (new_row rows r == 0) ≡ (r == 0)
+pub new_some : (n : ℕ) (rows : List ℕ) (r : ℕ) → IsOrder n rows → (place_in_order rows r == 0) ≡ (r == 0)
 new_some n rows r order = elim (cases_lt 0 r) [
   | inl low ↦ elim (cases_lt n r) [
     | inl past ↦ rw (new_absent n rows r order (λ l. past)) refl
-    | inr high ↦ let b = new_bounds n rows r order (omega arith) high in not_zero r (new_row rows r) low b.0
+    | inr high ↦ let b = new_bounds n rows r order (omega arith) high in not_zero r (place_in_order rows r) low b.0
   ]
   | inr z ↦ let e : r ≡ 0 = omega arith in rw (e, new_zero n rows order) refl
 ]
@@ -287,7 +287,7 @@ new_some n rows r order = elim (cases_lt 0 r) [
     not_zero r s a b = grind (arith, nat_tests)
 
 -- no two rows go to one
-pub new_apart : (n : ℕ) (rows : List ℕ) (r s : ℕ) → IsOrder n rows → new_row rows r ≡ new_row rows s → r ≡ s
+pub new_apart : (n : ℕ) (rows : List ℕ) (r s : ℕ) → IsOrder n rows → place_in_order rows r ≡ place_in_order rows s → r ≡ s
 new_apart n rows r s order e = sym (old_new n rows r order) ∙ ap (old_row rows) e ∙ old_new n rows s order
 
 -- the row that comes to a token's place
@@ -317,10 +317,10 @@ pub same_moved : (m : Module) (orders : Orders) (t u : Token) → AreOrders m or
 unfolding moved_by
 same_moved m orders t u are = by_table (t.table == u.table) refl
   where
-    by_row : (table a b : ℕ) → (new_row (orders table) a == new_row (orders table) b) ≡ (a == b)
+    by_row : (table a b : ℕ) → (place_in_order (orders table) a == place_in_order (orders table) b) ≡ (a == b)
     by_row table a b = elim (cases_eq a b) [
-      | inl e ↦ rw e (both b (new_row (orders table) b))
-      | inr d ↦ other a b (new_row (orders table) a) (new_row (orders table) b) d
+      | inl e ↦ rw e (both b (place_in_order (orders table) b))
+      | inr d ↦ other a b (place_in_order (orders table) a) (place_in_order (orders table) b) d
           (λ e. new_apart (row_count m table) (orders table) a b (is_order m orders table are) e)
     ]
       where
@@ -334,7 +334,7 @@ same_moved m orders t u are = by_table (t.table == u.table) refl
         ]
 
     by_table : (b : Bool) → (t.table == u.table) ≡ b
-        → (t.table == u.table && new_row (orders t.table) t.row == new_row (orders u.table) u.row) ≡ (t.table == u.table && t.row == u.row)
+        → (t.table == u.table && place_in_order (orders t.table) t.row == place_in_order (orders u.table) u.row) ≡ (t.table == u.table && t.row == u.row)
     by_table true e =
         let is : t.table ≡ u.table = grind (arith, nat_tests) in
         rw is (ap (λ b. (u.table == u.table) && b) (by_row u.table t.row u.row))

@@ -13,8 +13,8 @@ use Rattle.enc_plain.specs.Module.{Module, Row, rows_in, row_at, row_of, has_row
 use Rattle.enc_plain.specs.Rows.{number_of_cell, bytes_of_cell, token_of_cell, number_at, bytes_at, token_at}
 use Rattle.enc_plain.specs.Sound.{row_count, HasTables}
 use Rattle.enc_plain.proofs.CellsOf.{has_cells, cell_there}
-use Rattle.enc_order.specs.Orders.{Orders, new_row, old_row, moved_by}
-use Rattle.enc_compact.specs.Moved.{AreOrders, is_signature_column, signature_moved, cell_moved, cells_moved, row_moved, rows_moved, module_with}
+use Rattle.enc_order.specs.Orders.{Orders, place_in_order, old_row, moved_by}
+use Rattle.enc_compact.specs.Moved.{AreOrders, holds_signatures, signature_moved, cell_moved, cells_moved, row_moved, rows_moved, module_with}
 use Rattle.enc_compact.proofs.Places.{IsOrder, is_order, order_bounds, order_has, new_at, new_there, before, moved_before, nil_stays, get_within}
 
 -- an element of a list that was made from another
@@ -132,7 +132,7 @@ row_low rows zero r e = absurd cc
 row_low rows (suc i) r e = let b = within rows i r e in (omega arith, omega arith)
 
 at_row : (f : Token → Token) (t : ℕ) (order : List ℕ) (rows : List Row) (row : ℕ) (r : Row) → IsOrder (length rows) order → row_at rows row ≡ Some r
-    → row_at (rows_moved f t order rows) (new_row order row) ≡ Some (row_moved f t r)
+    → row_at (rows_moved f t order rows) (place_in_order order row) ≡ Some (row_moved f t r)
 unfolding rows_moved
 at_row f t order rows row r o e =
     let b = row_low rows row r e in
@@ -148,14 +148,14 @@ pub moved_row : (m : Module) (orders : Orders) (t : Token) (r : Row) → AreOrde
     → row_of (module_with orders m) (moved_by orders t) ≡ Some (row_moved (moved_by orders) t.table r)
 unfolding row_of moved_by
 moved_row m orders t r are low e =
-    ap (λ (rows : List Row). row_at rows (new_row (orders t.table) t.row)) (rows_low m orders t.table low)
+    ap (λ (rows : List Row). row_at rows (place_in_order (orders t.table) t.row)) (rows_low m orders t.table low)
     ∙ at_row (moved_by orders) t.table (orders t.table) (rows_in m t.table) t.row r (is_order m orders t.table are) e
 
 pub moved_row_in : (m : Module) (orders : Orders) (t : Token) (r : Row) → HasTables m → AreOrders m orders → row_of m t ≡ Some r
     → row_of (module_with orders m) (moved_by orders t) ≡ Some (row_moved (moved_by orders) t.table r)
 unfolding row_of moved_by
 moved_row_in m orders t r has are e =
-    ap (λ (rows : List Row). row_at rows (new_row (orders t.table) t.row)) (rows_new m orders t.table has are)
+    ap (λ (rows : List Row). row_at rows (place_in_order (orders t.table) t.row)) (rows_new m orders t.table has are)
     ∙ at_row (moved_by orders) t.table (orders t.table) (rows_in m t.table) t.row r (is_order m orders t.table are) e
 
 -- what is no row is none at its place
@@ -297,7 +297,7 @@ token_moved m orders t i has are =
 
 -- a blob of signatures has its tokens moved
 pub signature_there : (m : Module) (orders : Orders) (t : Token) (i : ℕ) (bytes : List ℕ) → HasTables m → AreOrders m orders
-    → is_signature_column t.table i ≡ true → cell_of m t i ≡ Some (blob bytes)
+    → holds_signatures t.table i ≡ true → cell_of m t i ≡ Some (blob bytes)
     → bytes_at (cells_of (module_with orders m)) (moved_by orders t) i ≡ signature_moved (moved_by orders) t.table bytes
 unfolding bytes_at
 signature_there m orders t i bytes has are column e =

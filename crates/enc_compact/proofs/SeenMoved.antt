@@ -17,7 +17,7 @@ use Rattle.enc_plain.specs.Module.{Module, rows_in, has_row, cell_of, kids_of, o
 use Rattle.enc_plain.specs.Sound.{IsSound, IsOwned, row_count}
 use Rattle.enc_plain.proofs.Owned.{kid_owner, has_owner}
 use Rattle.enc_compact.specs.Moved.{cell_moved, children_moved, entry_moved, module_with, module_moved, pdb_moved}
-use Rattle.enc_order.specs.Orders.{Orders, new_row, old_row, moved_by, new_order, new_of, old_of}
+use Rattle.enc_order.specs.Orders.{Orders, place_in_order, old_row, moved_by, new_order, new_of, old_of}
 use Rattle.enc_compact.specs.Seen.{bodies_moved, pdb_by, place_number, blob_numbered}
 use Rattle.enc_compact.proofs.HeldKept.{rows_of}
 use Rattle.enc_compact.proofs.KindsKept.{blob_at}
@@ -160,10 +160,10 @@ has_moved_kid m w child sound h =
     let orders : Orders = new_order m in
     let kids : List ℕ = kids_of m w child.table in
     let order = is_order m orders child.table (new_order_are m sound) in
-    let back : (λ (k : ℕ). new_row (orders child.table) k == child.row) ≡ (λ (k : ℕ). k == old_row (orders child.table) child.row) =
+    let back : (λ (k : ℕ). place_in_order (orders child.table) k == child.row) ≡ (λ (k : ℕ). k == old_row (orders child.table) child.row) =
     λ i k. same_place (row_count m child.table) (orders child.table) k child.row order i in
     ap (list_any (λ k. k == child.row)) (kids_at_new m w child.table sound ∙ child_row orders child.table kids)
-    ∙ any_mapped (λ k. k == child.row) (new_row (orders child.table)) kids
+    ∙ any_mapped (λ k. k == child.row) (place_in_order (orders child.table)) kids
     ∙ ap (λ (q : ℕ → Bool). list_any q kids) back
     ∙ h
 

@@ -19,9 +19,9 @@ use Rattle.enc_plain.specs.Rows.{bytes_at}
 use Rattle.enc_plain.specs.Signatures.{signature_column, kind_in_table, is_signature}
 use Rattle.enc_plain.specs.Sound.{IsSound, row_count}
 use Rattle.enc_plain.proofs.CellsOf.{blob_there}
-use Rattle.enc_compact.specs.Held.{slot_in, bytes_by, SlotSays, AreSaidUpto, AreSignaturesHeld}
-use Rattle.enc_compact.specs.Held.{HeldOf, held_at, AreTablesHeld, AreAllHeld, blob_held, blob_seen, AreKnown}
-use Rattle.enc_compact.specs.Moved.{signature_moved, blob_moved, is_signature_column}
+use Rattle.enc_compact.specs.Held.{number_in_slots, bytes_by, SlotSays, AreSaidUpto, AreSignaturesHeld}
+use Rattle.enc_compact.specs.Held.{HeldOf, held_at, AreTablesHeld, AreAllHeld, blob_held, blob_seen, AreSlotsKnown}
+use Rattle.enc_compact.specs.Moved.{signature_moved, blob_moved, holds_signatures}
 use Rattle.enc_order.specs.Orders.{new_of}
 use Rattle.enc_compact.proofs.Rows.{none_past}
 use Rattle.enc_compact.proofs.HeldKept.{rows_of, row_slot, front_get, last_get, held_still, low_still, last_held, last_low, one_known, one_slot}
@@ -97,7 +97,7 @@ stored_blob cell (Some b) e some = (b, refl, e)
 -- the number that is known of a blob's place
 pub place_says : (m : Module) (f : Token → Token) (stored : ℕ → Option (List ℕ)) (row : Token) (column : ℕ) (held : List (List ℕ)) (known : BTreeMap ℕ ℕ)
     (place slot : ℕ)
-    → AreKnown stored (SlotSays f row.table held) known → Some slot ≡ get nat_cmp known place → cell_of m row column ≡ option_map blob (stored place)
+    → AreSlotsKnown stored (SlotSays f row.table held) known → Some slot ≡ get nat_cmp known place → cell_of m row column ≡ option_map blob (stored place)
     → is_some (stored place) ≡ true → SlotSays f row.table held (bytes_at (cells_of m) row column) slot
 place_says m f stored row column held known place slot all found at some =
     let w = stored_blob (cell_of m row column) (stored place) at some in
@@ -111,10 +111,10 @@ own_says m f row column held bytes slot cell says = subst (λ b. SlotSays f row.
 -- and one more that is known
 pub blob_known : (m : Module) (f : Token → Token) (stored : ℕ → Option (List ℕ)) (row : Token) (column : ℕ) (held new more : List (List ℕ))
     (before after : BTreeMap ℕ ℕ)
-    (bytes : List ℕ) (place slot : ℕ) → AreKnown stored (SlotSays f row.table held) before → new ≡ held ++ more
+    (bytes : List ℕ) (place slot : ℕ) → AreSlotsKnown stored (SlotSays f row.table held) before → new ≡ held ++ more
     → cell_of m row column ≡ option_map blob (stored place)
     → cell_of m row column ≡ Some (blob bytes) → SlotSays f row.table new bytes slot → Updates nat_cmp before after place (Some slot)
-    → AreKnown stored (SlotSays f row.table new) after
+    → AreSlotsKnown stored (SlotSays f row.table new) after
 blob_known m f stored row column held new more before after bytes place slot all grown at own says updates =
     one_known stored (SlotSays f row.table held) (SlotSays f row.table new) before after place slot all
     (λ b n h. says_still f row.table held new more b n grown h)
@@ -177,10 +177,10 @@ column_of table i (Some c) e = let is : c ≡ i = grind (arith, nat_tests) in ap
 
 -- so a moved module's blob is what its own view says
 pub blob_said : (m : Module) (all : List HeldOf) (u : Token) (i : ℕ) (bytes new : List ℕ) → IsSound m → AreAllHeld m (new_of m) all → has_row m u ≡ true
-    → cell_of m u i ≡ Some (blob bytes) → new ≡ blob_seen all u i bytes → new ≡ blob_moved (new_of m) u.table (is_signature_column u.table i) bytes
-blob_said m all u i bytes new sound held there cell is = is ∙ by (is_signature_column u.table i) refl
+    → cell_of m u i ≡ Some (blob bytes) → new ≡ blob_seen all u i bytes → new ≡ blob_moved (new_of m) u.table (holds_signatures u.table i) bytes
+blob_said m all u i bytes new sound held there cell is = is ∙ by (holds_signatures u.table i) refl
   where
-    by : (b : Bool) → is_signature_column u.table i ≡ b → blob_held (held_at all u.table) u.row bytes b ≡ blob_moved (new_of m) u.table b bytes
+    by : (b : Bool) → holds_signatures u.table i ≡ b → blob_held (held_at all u.table) u.row bytes b ≡ blob_moved (new_of m) u.table b bytes
     by false e = refl
     by true e =
         let said = held.each u.table (table_low m u sound there) i (column_of u.table i (signature_column u.table) e) in
@@ -188,6 +188,6 @@ blob_said m all u i bytes new sound held there cell is = is ∙ by (is_signature
         let w = row_slot (held_at all u.table).slots (row_count m u.table) u.row said.count p.0 p.1 in
         let at : bytes_at (cells_of m) (nth_row u.table w.0) i ≡ bytes =
         ap (λ k. bytes_at (cells_of m) (record { table = u.table; row = k }) i) (sym w.1) ∙ sym (blob_there m u i bytes cell) in
-        let says = said.each w.0 (slot_in (held_at all u.table).slots u.row) w.2 in
-        ap (λ (b : List ℕ). bytes_by (held_at all u.table).held b (slot_in (held_at all u.table).slots u.row)) (sym at)
+        let says = said.each w.0 (number_in_slots (held_at all u.table).slots u.row) w.2 in
+        ap (λ (b : List ℕ). bytes_by (held_at all u.table).held b (number_in_slots (held_at all u.table).slots u.row)) (sym at)
         ∙ says.says ∙ ap (signature_moved (new_of m) u.table) at

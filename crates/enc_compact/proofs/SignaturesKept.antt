@@ -19,8 +19,8 @@ use Rattle.enc_plain.specs.Signatures.{signature_column, member_kind, alone_kind
 use Rattle.enc_plain.specs.Sound.{row_count, HasTables, HasCounts, HasKinds, HasSignatures}
 use Rattle.enc_plain.proofs.CellsOf.{blob_there}
 use Rattle.enc_plain.proofs.SignatureColumns.{signature_kind}
-use Rattle.enc_order.specs.Orders.{Orders, new_row, moved_by}
-use Rattle.enc_compact.specs.Moved.{AreOrders, spelled_or, signature_moved, is_signature_column, module_with}
+use Rattle.enc_order.specs.Orders.{Orders, place_in_order, moved_by}
+use Rattle.enc_compact.specs.Moved.{AreOrders, spelled_or, signature_moved, holds_signatures, module_with}
 use Rattle.enc_sigs.specs.Moved.{sig_moved, GoesTo, MovedReadsBack, MovedBeginsAlike}
 use Rattle.enc_compact.proofs.CountsKept.{each_row}
 use Rattle.enc_compact.proofs.KindsKept.{blob_at}
@@ -133,7 +133,7 @@ goes_to m orders n counts are h =
     let t : ℕ = table_of (n % 4) in
     let few = counts.few t in
     let b = new_bounds (row_count m t) (orders t) (n / 4) (is_order m orders t are) (le_of 1 (n / 4) c.1) (le_of (n / 4) (row_count m t) a.1) in
-    goes_by (moved_by orders) (row_count m) n (new_row (orders t) (n / 4)) (tag_low n c.0) b.0 b.1 (omega (arith, b.1, few)) refl
+    goes_by (moved_by orders) (row_count m) n (place_in_order (orders t) (n / 4)) (tag_low n c.0) b.0 b.1 (omega (arith, b.1, few)) refl
   where
     le_of : (a b : ℕ) → nat_le a b ≡ true → a ≤ b
     le_of a b h = grind (arith, nat_tests)
@@ -172,7 +172,7 @@ signature_stays m orders table bytes back alike counts are h =
     let same = kinds_alike table (signature_moved f table bytes) bytes (begins_alike f table bytes alike) in
     rw is (is_by (row_count m) table (sig_bytes (sig_moved f w.0)) (sig_moved f w.0) (kind_in_table table bytes) (rw is at same) again)
 
-column_is : (table i : ℕ) → signature_column table ≡ Some i → is_signature_column table i ≡ true
+column_is : (table i : ℕ) → signature_column table ≡ Some i → holds_signatures table i ≡ true
 column_is table i e = let same : (i == i) ≡ true = grind (arith, nat_tests) in rw e same
 
 signature_at : (m : Module) (orders : Orders) (t : Token) (i : ℕ) → MovedReadsBack → MovedBeginsAlike → HasTables m → HasCounts m → HasKinds m → HasSignatures m

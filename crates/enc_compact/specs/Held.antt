@@ -13,13 +13,13 @@ use Rattle.enc_plain.specs.Rows.{bytes_at}
 use Rattle.enc_plain.specs.Signatures.{signature_column}
 use Rattle.enc_plain.specs.Sound.{IsSound, row_count}
 use Rattle.enc_schema.specs.Tables as tables
-use Rattle.enc_compact.specs.Moved.{signature_moved, is_signature_column}
+use Rattle.enc_compact.specs.Moved.{signature_moved, holds_signatures}
 use Rattle.enc_order.specs.Orders.{Orders, moved_by, new_order}
 
 -- the number of a row, from 1: 0 where there is none
-abbrev pub slot_in : List ℕ → ℕ → ℕ
-slot_in slots zero = 0
-slot_in slots (suc k) = unwrap_or (slice_get slots k) 0
+abbrev pub number_in_slots : List ℕ → ℕ → ℕ
+number_in_slots slots zero = 0
+number_in_slots slots (suc k) = unwrap_or (slice_get slots k) 0
 
 -- the body with its local signature moved alone
 abbrev pub with_locals : (Token → Token) → Body → Body
@@ -35,8 +35,8 @@ pub record AreSlots (Says : ℕ → ℕ → Type 0) (slots : List ℕ) (many : �
   pub each : (n slot : ℕ) → slice_get slots n ≡ Some slot → Says n slot
 
 -- the numbers that are known of places: they tell what stands there
-abbrev pub AreKnown : {A : Type 0} → (ℕ → Option A) → (A → ℕ → Type 0) → BTreeMap ℕ ℕ → Type 0
-AreKnown {A} places Says known = (place slot : ℕ) (x : A) → get nat_cmp known place ≡ Some slot → places place ≡ Some x → Says x slot
+abbrev pub AreSlotsKnown : {A : Type 0} → (ℕ → Option A) → (A → ℕ → Type 0) → BTreeMap ℕ ℕ → Type 0
+AreSlotsKnown {A} places Says known = (place slot : ℕ) (x : A) → get nat_cmp known place ≡ Some slot → places place ≡ Some x → Says x slot
 
 -- what is held says the body with its tokens moved, and names the texts that are there
 pub record HoldsBody (f : Token → Token) (texts : ℕ → Option (List ℕ)) (b : Body) (h : Held) : Type 0 where
@@ -103,11 +103,11 @@ AreAllHeld m f all = AreTablesHeld m f all tables.table_count
 
 -- the blob in a column of a row, where these are its own bytes
 abbrev pub blob_held : HeldOf → ℕ → List ℕ → Bool → List ℕ
-blob_held h row bytes true = bytes_by h.held bytes (slot_in h.slots row)
+blob_held h row bytes true = bytes_by h.held bytes (number_in_slots h.slots row)
 blob_held h row bytes false = bytes
 
 abbrev pub blob_seen : List HeldOf → Token → ℕ → List ℕ → List ℕ
-blob_seen all t column bytes = blob_held (held_at all t.table) t.row bytes (is_signature_column t.table column)
+blob_seen all t column bytes = blob_held (held_at all t.table) t.row bytes (holds_signatures t.table column)
 
 -- what a moved module holds fits the module that it lends
 pub record HoldsMoved (m : Module) (texts : ℕ → Option (List ℕ)) (orders : Orders) (held : List Held) (slots : List ℕ) (all : List HeldOf) : Type 0 where

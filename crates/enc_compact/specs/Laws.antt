@@ -4,7 +4,7 @@ use Rattle.enc_plain.specs.Debug.{PlainPdb}
 use Rattle.enc_plain.specs.Module.{Module}
 use Rattle.enc_plain.specs.Sound.{IsSound, row_count, all_kids}
 use Rattle.enc_plain.specs.SoundDebug.{IsSoundPdb, KnowsWithin}
-use Rattle.enc_order.specs.Orders.{rows_listed}
+use Rattle.enc_order.specs.Orders.{standing_rows}
 use Rattle.enc_schema.specs.Children.{is_child_table}
 use Rattle.enc_schema.specs.Tables as tables
 use Rattle.enc_compact.specs.Moved.{module_moved, pdb_moved}
@@ -23,4 +23,4 @@ MovedKnowsWithin = (m : Module) (p : PlainPdb) → IsSound m → KnowsWithin p (
 
 -- the children of all owners, by owner and attachment, are the rows in order
 abbrev pub MovedStandsInOrder : Type 0
-MovedStandsInOrder = (m : Module) (child : ℕ) → IsSound m → is_child_table child ≡ true → all_kids (module_moved m) child ≡ rows_listed (module_moved m) child
+MovedStandsInOrder = (m : Module) (child : ℕ) → IsSound m → is_child_table child ≡ true → all_kids (module_moved m) child ≡ standing_rows (module_moved m) child

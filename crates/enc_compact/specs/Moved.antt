@@ -5,7 +5,7 @@ use Rattle.std.specs.Option.{option_map_or}
 use Rattle.enc_base.specs.Token.{nth_row, token_of, number_of, is_token}
 use Rattle.enc_base.specs.declared.token.Token.{Token}
 use Rattle.enc_moves.specs.Body.{body_moved}
-use Rattle.enc_order.specs.Orders.{Orders, moved_by, new_order, old_of, rows_listed}
+use Rattle.enc_order.specs.Orders.{Orders, moved_by, new_order, old_of, standing_rows}
 use Rattle.enc_plain.specs.Apply.{childless}
 use Rattle.enc_plain.specs.Cell.{Cell, number, text, blob, guid, refer, body, field}
 use Rattle.enc_plain.specs.Debug.{PlainPdb}
@@ -31,8 +31,8 @@ unfoldable pub signature_moved : (Token → Token) → ℕ → List ℕ → List
 signature_moved f table bytes = spelled_or f bytes (sig_in is_coded (kind_in_table table bytes) bytes)
 
 -- the column of a table that holds signatures
-abbrev pub is_signature_column : ℕ → ℕ → Bool
-is_signature_column table i = option_map_or (λ c. c == i) (signature_column table) false
+abbrev pub holds_signatures : ℕ → ℕ → Bool
+holds_signatures table i = option_map_or (λ c. c == i) (signature_column table) false
 
 -- a cell of a table's column with each token moved; other blobs than signatures keep their bytes
 abbrev pub blob_moved : (Token → Token) → ℕ → Bool → List ℕ → List ℕ
@@ -42,7 +42,7 @@ blob_moved f table false bytes = bytes
 abbrev pub cell_moved : (Token → Token) → ℕ → ℕ → Cell → Cell
 cell_moved f table i (number n) = number n
 cell_moved f table i (text bytes) = text bytes
-cell_moved f table i (blob bytes) = blob (blob_moved f table (is_signature_column table i) bytes)
+cell_moved f table i (blob bytes) = blob (blob_moved f table (holds_signatures table i) bytes)
 cell_moved f table i (guid bytes) = guid bytes
 cell_moved f table i (refer t) = refer (f t)
 cell_moved f table i (body b) = body (option_map (body_moved f) b)
@@ -90,18 +90,18 @@ unfoldable pub pdb_moved : Module → PlainPdb → PlainPdb
 pdb_moved m p t = p (old_of m t)
 
 -- the rows of a table that move, each with its new place, and those of all tables
-abbrev pub move_of : Module → Token → List (Token × Token)
-move_of m t = if is_token (moved_by (new_order m) t) t then [] else (t, moved_by (new_order m) t) ∷ []
+abbrev pub moves_of_row : Module → Token → List (Token × Token)
+moves_of_row m t = if is_token (moved_by (new_order m) t) t then [] else (t, moved_by (new_order m) t) ∷ []
 
 unfoldable pub moves_in : Module → ℕ → List (Token × Token)
-moves_in m table = flat_map (λ row. move_of m (record { table = table; row = row })) (rows_listed m table)
+moves_in m table = flat_map (λ row. moves_of_row m (record { table = table; row = row })) (standing_rows m table)
 
 unfoldable pub moves_listed : Module → List (Token × Token)
 moves_listed m = flat_map (moves_in m) (below tables.table_count)
 
 -- the order of each table has each of its rows once, and nothing else
 pub record AreOrders (m : Module) (orders : Orders) : Type 0 where
-  pub each : (table : ℕ) → IsPermutation (rows_listed m table) (orders table)
+  pub each : (table : ℕ) → IsPermutation (standing_rows m table) (orders table)
 
 -- whether a row of ClassLayout is of a type
 abbrev pub is_layout_of : Module → ℕ → ℕ → Bool
@@ -111,7 +111,7 @@ is_layout_of m type row =
 
 -- the layouts of one type stay in their order, so that the first of them stays the first
 pub record KeepLayouts (m : Module) (orders : Orders) : Type 0 where
-  pub each : (type : ℕ) → filter (is_layout_of m type) (orders tables.class_layout) ≡ filter (is_layout_of m type) (rows_listed m tables.class_layout)
+  pub each : (type : ℕ) → filter (is_layout_of m type) (orders tables.class_layout) ≡ filter (is_layout_of m type) (standing_rows m tables.class_layout)
 
 -- a sound module is sound in whatever orders its rows stand, as long as the layouts of one type keep theirs
 abbrev pub OrdersKeepSound : Type 0

@@ -12,13 +12,13 @@ use Rattle.enc_plain.specs.Module.{Module, cell_of}
 abbrev pub place_number : Token → ℕ → ℕ
 place_number t column = (t.table * 2 ^ 32 + t.row) * 2 ^ 8 + column
 
-abbrev pub blob_in : Option Cell → Option (List ℕ)
-blob_in (Some (blob bytes)) = Some bytes
-blob_in _ = None
+abbrev pub blob_in_cell : Option Cell → Option (List ℕ)
+blob_in_cell (Some (blob bytes)) = Some bytes
+blob_in_cell _ = None
 
 -- the blob of the row's column that a number stands for: each cell is a place of its own
 unfoldable pub blob_numbered : Module → ℕ → Option (List ℕ)
-blob_numbered m n = blob_in (cell_of m (record { table = n / 2 ^ 40; row = n / 2 ^ 8 % 2 ^ 32 }) (n % 2 ^ 8))
+blob_numbered m n = blob_in_cell (cell_of m (record { table = n / 2 ^ 40; row = n / 2 ^ 8 % 2 ^ 32 }) (n % 2 ^ 8))
 
 -- the body at a place, with its tokens moved
 unfoldable pub bodies_moved : Module → (ℕ → Option Body) → ℕ → Option Body

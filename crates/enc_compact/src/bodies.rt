@@ -1,6 +1,6 @@
 //! The bodies whose bytes change when tokens move.
 ghost use Rattle.std.specs.Prelude.{◌≡◌, ◌+◌, ◌<◌, ◌^◌, ◌++◌, List, length, IfOk, OnOk, IsTrue};
-ghost use Rattle.enc_compact.specs.Held.{slot_in, held_by, SlotHolds, CellHolds, AreBodiesHeld, AreKnown};
+ghost use Rattle.enc_compact.specs.Held.{number_in_slots, held_by, SlotHolds, CellHolds, AreBodiesHeld, AreSlotsKnown};
 ghost use Rattle.enc_order.specs.Orders.{moved_by, new_order};
 ghost use Rattle.enc_moves.specs.Held.{Held, held_code};
 ghost use Rattle.enc_opcodes.specs.Body.{code_seen};
@@ -78,12 +78,13 @@ fn slot_of<V: ModuleView>(
     requires row { IsTrue (has_row (V.meaning view.now) method) }
     requires table { method.table ≡ method_def }
     requires few { length bodies.old.held.items < 2 ^ 24 }
-    requires known { AreKnown (V.places view.now) (SlotHolds (moved_by (new_order (V.meaning view.now)))
+    requires known { AreSlotsKnown (V.places view.now) (SlotHolds (moved_by (new_order (V.meaning view.now)))
         (V.users view.now) bodies.old.held.items) bodies.old.known }
     ensures holds { IfOk result (CellHolds (moved_by (new_order (V.meaning view.now)))
         (V.users view.now) bodies.new.held.items (cell_of (V.meaning view.now) method 0)) }
-    ensures known { OnOk result (AreKnown (V.places view.now) (SlotHolds (moved_by (new_order (V.meaning view.now)))
-        (V.users view.now) bodies.new.held.items) bodies.new.known) }
+    ensures known { OnOk result (AreSlotsKnown (V.places view.now)
+        (SlotHolds (moved_by (new_order (V.meaning view.now))) (V.users view.now) bodies.new.held.items)
+        bodies.new.known) }
     ensures grows { OnOk result ((more : List Held) × (bodies.new.held.items ≡ bodies.old.held.items ++ more)) }
     ensures few { OnOk result (length bodies.new.held.items < length bodies.old.held.items + 2) }
 {
@@ -140,8 +141,8 @@ impl HeldBodies {
     pub(crate) fn code<'a>(&'a self, row: u32, code: CodeRef<'a>, locals: Token) -> CodeRef<'a>
         requires few { length code.code.now < 2 ^ 32 }
         requires short { length code.sections.now < 2 ^ 32 }
-        ensures code { code_seen result ≡ held_code (held_by self.now.held.items (slot_in self.now.slots.items row))
-            (code_seen code.entry) locals }
+        ensures code { code_seen result ≡ held_code
+            (held_by self.now.held.items (number_in_slots self.now.slots.items row)) (code_seen code.entry) locals }
         ensures few { length result.code.now < 2 ^ 32 }
         ensures short { length result.sections.now < 2 ^ 32 }
     {

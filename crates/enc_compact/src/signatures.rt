@@ -1,8 +1,8 @@
 //! The signatures whose bytes change when tokens move (ECMA-335 II.23.2).
 ghost use Rattle.std.specs.Prelude.{◌≡◌, ◌+◌, ◌<◌, ◌^◌, ◌++◌, ℕ, List, length, Some, slice_index, IfOk, IsTrue, OnOk};
-ghost use Rattle.enc_compact.specs.Held.{slot_in, bytes_by, blob_seen, SlotSays};
-ghost use Rattle.enc_compact.specs.Held.{AreSaidUpto, AreSignaturesHeld, AreAllHeld, AreKnown};
-ghost use Rattle.enc_compact.specs.Moved.{is_signature_column, signature_moved};
+ghost use Rattle.enc_compact.specs.Held.{number_in_slots, bytes_by, blob_seen, SlotSays};
+ghost use Rattle.enc_compact.specs.Held.{AreSaidUpto, AreSignaturesHeld, AreAllHeld, AreSlotsKnown};
+ghost use Rattle.enc_compact.specs.Moved.{holds_signatures, signature_moved};
 ghost use Rattle.enc_order.specs.Orders.{moved_by};
 ghost use Rattle.enc_plain.specs.Module.{has_row, cells_of};
 ghost use Rattle.enc_plain.specs.Rows.{bytes_at};
@@ -130,11 +130,11 @@ fn slot_of<V: ModuleView>(
     requires column { signature_column row.table ≡ Some column }
     requires counts { (t : ℕ) → t < 64 → slice_index moving.now.counts.now.rows t ≡ row_count (V.meaning view.now) t }
     requires few { length blobs.old.held.items < 2 ^ 24 }
-    requires known { AreKnown (V.stored view.now) (SlotSays (moved_by
+    requires known { AreSlotsKnown (V.stored view.now) (SlotSays (moved_by
         (list_at moving.now.order.now)) row.table blobs.old.held.items) blobs.old.known }
     ensures says { IfOk result (SlotSays (moved_by (list_at moving.now.order.now)) row.table blobs.new.held.items
         (bytes_at (cells_of (V.meaning view.now)) row column)) }
-    ensures known { OnOk result (AreKnown (V.stored view.now) (SlotSays (moved_by
+    ensures known { OnOk result (AreSlotsKnown (V.stored view.now) (SlotSays (moved_by
         (list_at moving.now.order.now)) row.table blobs.new.held.items) blobs.new.known) }
     ensures grows { OnOk result ((more : List (List ℕ)) × (blobs.new.held.items ≡ blobs.old.held.items ++ more)) }
     ensures few { OnOk result (length blobs.new.held.items < length blobs.old.held.items + 2) }
@@ -206,8 +206,8 @@ fn held_or_none<V: ModuleView>(
 }
 
 /// Whether a table's signatures stand in this column.
-fn is_signature_column(table: u8, column: u8) -> bool
-    ensures { result ≡ is_signature_column table column }
+fn holds_signatures(table: u8, column: u8) -> bool
+    ensures { result ≡ holds_signatures table column }
 {
     match signature_column(table) {
         Some(own) => own == column,
@@ -218,7 +218,7 @@ fn is_signature_column(table: u8, column: u8) -> bool
 impl HeldTable {
     /// The signature of a row, by its row in the module that is lent: its own bytes where they stay.
     fn blob<'a>(&'a self, row: u32, blob: &'a [u8]) -> &'a [u8]
-        ensures { result.now ≡ bytes_by self.now.held blob.now (slot_in self.now.slots row) }
+        ensures { result.now ≡ bytes_by self.now.held blob.now (number_in_slots self.now.slots row) }
     {
         let slot = slot_at(&self.slots, row);
         if slot == 0 {
@@ -259,7 +259,7 @@ impl HeldSignatures {
     pub(crate) fn blob<'a>(&'a self, row: Token, column: u8, blob: &'a [u8]) -> &'a [u8]
         ensures { result.now ≡ blob_seen self.now row column blob.now }
     {
-        if !is_signature_column(row.table, column) {
+        if !holds_signatures(row.table, column) {
             return blob;
         }
         match self.tables.get(row.table as usize) {

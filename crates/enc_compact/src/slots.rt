@@ -2,13 +2,13 @@
 ghost use Rattle.std.specs.Prelude.{◌≡◌};
 ghost use Rattle.std.specs.BTreeMap.{get};
 ghost use Rattle.std.specs.Ordering.{nat_cmp};
-ghost use Rattle.enc_compact.specs.Held.{slot_in};
+ghost use Rattle.enc_compact.specs.Held.{number_in_slots};
 
 use std::collections::BTreeMap;
 
 /// The number of a row, 0 where there is none.
 pub(crate) fn slot_at(slots: &[u32], row: u32) -> u32
-    ensures { result ≡ slot_in slots.now row }
+    ensures { result ≡ number_in_slots slots.now row }
 {
     if row == 0 {
         return 0;

@@ -12,7 +12,7 @@ use Rattle.enc_opcodes.specs.Body.{Handler, HandlerKind, catching, filtering, fi
 use Rattle.enc_opcodes.specs.Sound.{target_count, operand_size, instruction_size, are_whole, begins_at, argument_is_sound, instruction_is_sound}
 use Rattle.enc_opcodes.specs.Sound.{handler_kind_is_sound, handler_is_sound, body_is_sound}
 use Rattle.enc_moves.specs.Body.{argument_moved, instruction_moved, kind_moved, handler_moved, body_moved}
-use Rattle.enc_moves.specs.Laws.{text_in, MovedStaysSound, MovedKeepsTexts}
+use Rattle.enc_moves.specs.Laws.{text_of_argument, MovedStaysSound, MovedKeepsTexts}
 
 -- the same offsets begin instructions
 one_begins : (f : Token → Token) (xs : List (ℕ × Instruction (List ℕ))) (t : ℕ) → begins_at (map (instruction_moved f) xs) t ≡ begins_at xs t
@@ -122,7 +122,7 @@ all_same g f [] same = refl
 all_same g f (x ∷ xs) same = rw (same x.1.arg, all_same g f xs same) refl
 
 -- so the user texts do
-text_same : (f : Token → Token) (a : Argument (List ℕ)) → text_in (argument_moved f a) ≡ text_in a
+text_same : (f : Token → Token) (a : Argument (List ℕ)) → text_of_argument (argument_moved f a) ≡ text_of_argument a
 text_same f nothing = refl
 text_same f (number n) = refl
 text_same f (target t) = refl
@@ -133,4 +133,4 @@ text_same f (raw bytes) = refl
 
 pub keeps_texts : MovedKeepsTexts
 unfolding body_moved
-keeps_texts f b = all_same text_in f b.code (text_same f)
+keeps_texts f b = all_same text_of_argument f b.code (text_same f)

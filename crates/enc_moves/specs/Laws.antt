@@ -14,13 +14,13 @@ MovedStaysSound = (f : Token → Token) (count : ℕ → ℕ) (b : Body) → ((t
     → body_is_sound count (body_moved f b) ≡ true
 
 -- the user text that an argument names
-abbrev pub text_in : Argument (List ℕ) → List (List ℕ)
-text_in (text units) = units ∷ []
-text_in _ = []
+abbrev pub text_of_argument : Argument (List ℕ) → List (List ℕ)
+text_of_argument (text units) = units ∷ []
+text_of_argument _ = []
 
 -- those that a body names, in the order of its instructions
 abbrev pub texts_in : Body → List (List ℕ)
-texts_in b = flat_map (λ (x : ℕ × Instruction (List ℕ)). text_in x.1.arg) b.code
+texts_in b = flat_map (λ (x : ℕ × Instruction (List ℕ)). text_of_argument x.1.arg) b.code
 
 -- they stay
 abbrev pub MovedKeepsTexts : Type 0

@@ -19,8 +19,8 @@ use Rattle.enc_rows.specs.Sums.{below}
 use Rattle.enc_rows.proofs.Listed.{get_below, length_below}
 use Rattle.enc_schema.specs.Tables.{type_def, nested_class}
 use Rattle.enc_order.specs.Depth.{enclosing, enclosing_at, depth_by, depth}
-use Rattle.enc_order.specs.Orders.{rows_listed}
-use Rattle.enc_order.specs.Walks.{reached, AreWalks, ended, walk_from, going_on, doubled, is_short}
+use Rattle.enc_order.specs.Orders.{standing_rows}
+use Rattle.enc_order.specs.Walks.{type_walked, AreWalks, ended, walk_from, going_on, doubled, is_short}
 use Rattle.enc_order.specs.declared.depth.Walk.{Walk}
 use Rattle.enc_order.proofs.FirstWalks.{IsType, said, nil_says, row_says}
 use Rattle.enc_order.proofs.References.{row_here, nested_kind, nested_type}
@@ -64,10 +64,10 @@ unfolding enclosing
 none_around m type sound out = none_says (enclosing_at m type) (row_count m nested_class) (λ k low. no_row_says m type k sound out low)
 
 walk_at : Module → ℕ → ℕ → Walk
-walk_at m steps type = record { around = reached m steps type; depth = depth_by m steps type }
+walk_at m steps type = record { around = type_walked m steps type; depth = depth_by m steps type }
 
 ended_at : (m : Module) (steps type : ℕ) → 0 < steps → enclosing m type ≡ None → ended ≡ walk_at m steps type
-unfolding walk_at reached depth_by
+unfolding walk_at type_walked depth_by
 ended_at m zero type some none = absurd (omega (arith, some))
 ended_at m (suc n) type some none = rw none refl
 
@@ -90,18 +90,18 @@ walk_is m steps walks zero sound some are = ended_at m steps 0 some (none_around
 walk_is m steps walks (suc i) sound some are = from_row m steps walks i sound some are
 
 going_is : (m : Module) (steps : ℕ) (walks : List Walk) (o : Option ℕ) (before : ℕ) → IsSound m → 0 < steps → AreWalks m steps walks
-    → going_on walks (record { around = o; depth = before }) o ≡ record { around = option_and_then (reached m steps) o; depth = before + depth_from m steps o }
+    → going_on walks (record { around = o; depth = before }) o ≡ record { around = option_and_then (type_walked m steps) o; depth = before + depth_from m steps o }
 unfolding walk_at
 going_is m steps walks None before sound some are = let e : before + 0 ≡ before = omega arith in rw e refl
 going_is m steps walks (Some type) before sound some are =
     ap (λ (w : Walk). let v : Walk = record { around = w.around; depth = before + w.depth } in v) (walk_is m steps walks type sound some are)
 
 doubled_is : (m : Module) (steps : ℕ) (walks : List Walk) (type : ℕ) → IsSound m → 0 < steps → AreWalks m steps walks
-    → doubled walks (record { around = reached m steps type; depth = depth_by m steps type })
-    ≡ record { around = reached m (steps + steps) type; depth = depth_by m (steps + steps) type }
+    → doubled walks (record { around = type_walked m steps type; depth = depth_by m steps type })
+    ≡ record { around = type_walked m (steps + steps) type; depth = depth_by m (steps + steps) type }
 unfolding doubled
 doubled_is m steps walks type sound some are =
-    going_is m steps walks (reached m steps type) (depth_by m steps type) sound some are
+    going_is m steps walks (type_walked m steps type) (depth_by m steps type) sound some are
     ∙ rw (reached_more m steps steps type, depth_more m steps steps type) refl
 
 long_map : {A B : Type 0} (f : A → B) (xs : List A) → length (map f xs) ≡ length xs
@@ -137,7 +137,7 @@ walks_short m steps walks few are = all_from is_short walks each
     each i w e =
         let low : i < length walks = slice_get_within walks i w e in
         let at = are.each i (omega (arith, low, are.count)) in
-        let same : w ≡ record { around = reached m steps (i + 1); depth = depth_by m steps (i + 1) } = cc in
+        let same : w ≡ record { around = type_walked m steps (i + 1); depth = depth_by m steps (i + 1) } = cc in
         ap is_short same ∙ short (depth_by m steps (i + 1)) (depth_few m steps (i + 1))
 
 same_lists : {A : Type 0} (xs ys : List A) → length xs ≡ length ys → ((i : ℕ) → i < length xs → slice_get xs i ≡ slice_get ys i) → xs ≡ ys
@@ -152,8 +152,8 @@ same_lists {A} (x ∷ xs) (y ∷ ys) long each =
 
 -- with as many steps as there are types, they have met all
 pub walks_end : (m : Module) (steps most : ℕ) (walks : List Walk) (depths : List ℕ) → AreWalks m steps walks → most ≡ row_count m type_def → most ≤ steps
-    → depths ≡ map (λ (w : Walk). min w.depth most) walks → depths ≡ map (depth m) (rows_listed m type_def)
-unfolding depth rows_listed
+    → depths ≡ map (λ (w : Walk). min w.depth most) walks → depths ≡ map (depth m) (standing_rows m type_def)
+unfolding depth standing_rows
 walks_end m steps most walks depths are count enough is =
     is ∙ same_lists (map (λ (w : Walk). min w.depth most) walks) (map (λ type. depth_by m (row_count m type_def) type) all_types) long each
   where

@@ -16,7 +16,7 @@ use Rattle.enc_rows.specs.Sums.{below}
 use Rattle.enc_rows.proofs.Listed.{get_below, length_below}
 use Rattle.enc_schema.specs.Tables.{type_def, nested_class}
 use Rattle.enc_order.specs.Depth.{enclosing, enclosing_at, depth_around, depth_by}
-use Rattle.enc_order.specs.Walks.{reached, AreWalks, AreFirst, ended, one_step, has_ended, is_free, noted}
+use Rattle.enc_order.specs.Walks.{type_walked, AreWalks, AreFirst, ended, one_step, has_ended, is_free, noted}
 use Rattle.enc_order.specs.declared.depth.Walk.{Walk}
 use Rattle.enc_order.proofs.Rowed.{more_mapped}
 
@@ -145,13 +145,13 @@ first_goes_on m k walks are good =
     }
 
 -- with all rows seen, the walks are of one step
-walk_of : (m : Module) (o : Option ℕ) → one_step o ≡ record { around = option_and_then (reached m 0) o; depth = depth_around o (depth_by m 0) }
-unfolding reached depth_by
+walk_of : (m : Module) (o : Option ℕ) → one_step o ≡ record { around = option_and_then (type_walked m 0) o; depth = depth_around o (depth_by m 0) }
+unfolding type_walked depth_by
 walk_of m None = refl
 walk_of m (Some type) = refl
 
-walk_is : (m : Module) (type : ℕ) → one_step (enclosing m type) ≡ record { around = reached m 1 type; depth = depth_by m 1 type }
-unfolding reached depth_by
+walk_is : (m : Module) (type : ℕ) → one_step (enclosing m type) ≡ record { around = type_walked m 1 type; depth = depth_by m 1 type }
+unfolding type_walked depth_by
 walk_is m type = walk_of m (enclosing m type)
 
 pub first_ends : (m : Module) (walks : List Walk) → AreFirst m (row_count m nested_class) walks → AreWalks m 1 walks

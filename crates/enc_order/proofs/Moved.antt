@@ -2,7 +2,7 @@
 use Rattle.std.proofs.Common.{◌≡◌, ℕ, zero, suc, ◌<◌, ◌≤◌, List, [], ◌∷◌, length, get_or, refl, ap, sym, ◌∙◌, arith}
 use Rattle.enc_base.specs.declared.token.Token.{Token}
 use Rattle.enc_schema.specs.Schema.{list_at}
-use Rattle.enc_order.specs.Orders.{moved_by, new_row, old_row, place_behind}
+use Rattle.enc_order.specs.Orders.{moved_by, place_in_order, old_row, place_behind}
 
 -- past the last table there is no list
 pub past_all : {A : Type 0} (lists : List (List A)) (t : ℕ) → length lists ≤ t → list_at lists t ≡ []
@@ -19,13 +19,13 @@ abbrev with_row : Token → ℕ → Token
 with_row t row = record { table = t.table; row = row }
 
 pub moves_none : (lists : List (List ℕ)) (t : Token) → length lists ≤ t.table → t ≡ moved_by (list_at lists) t
-unfolding moved_by new_row place_behind
-moves_none lists t past = ap (λ rows. with_row t (new_row rows t.row)) (sym (past_all lists t.table past))
+unfolding moved_by place_in_order place_behind
+moves_none lists t past = ap (λ rows. with_row t (place_in_order rows t.row)) (sym (past_all lists t.table past))
 
-pub moves_some : (lists : List (List ℕ)) (t : Token) (rows : List ℕ) (row : ℕ) → rows ≡ list_at lists t.table → row ≡ new_row rows t.row
+pub moves_some : (lists : List (List ℕ)) (t : Token) (rows : List ℕ) (row : ℕ) → rows ≡ list_at lists t.table → row ≡ place_in_order rows t.row
     → record { table = t.table; row = row } ≡ moved_by (list_at lists) t
 unfolding moved_by
-moves_some lists t rows row there is = ap (with_row t) (is ∙ ap (λ xs. new_row xs t.row) there)
+moves_some lists t rows row there is = ap (with_row t) (is ∙ ap (λ xs. place_in_order xs t.row) there)
 
 old_none : (row : ℕ) → row ≡ old_row [] row
 unfolding old_row

@@ -17,8 +17,8 @@ use Rattle.enc_plain.proofs.Owned.{count_cons, count_append}
 use Rattle.enc_rows.specs.Sums.{below}
 use Rattle.enc_rows.proofs.Listed.{length_below}
 use Rattle.enc_schema.specs.Children.{is_child_table, owner_table}
-use Rattle.enc_order.specs.Orders.{rows_listed, kids_listed}
-use Rattle.enc_order.specs.Places.{is_row_of}
+use Rattle.enc_order.specs.Orders.{standing_rows, kids_listed}
+use Rattle.enc_order.specs.Places.{is_row_within}
 use Rattle.enc_order.proofs.Rowed.{more_mapped}
 
 -- a list without the first of a number
@@ -145,25 +145,25 @@ module _ (m : Module) (child : ℕ) (there : is_child_table child ≡ true) wher
       ∙ ap (λ xs. flat_map (λ (r : Row). kids_at r child) (take n (rows_in m (owner_table child))) ++ xs) (kids_of_row m child n x.0 there x.1)
       ∙ sym (flat_more (λ (r : Row). kids_at r child) (rows_in m (owner_table child)) n x.0 x.1)
 
-  all_listed : kids_listed m (rows_listed m (owner_table child)) child ≡ all_kids m child
-  unfolding kids_listed rows_listed
+  all_listed : kids_listed m (standing_rows m (owner_table child)) child ≡ all_kids m child
+  unfolding kids_listed standing_rows
   all_listed =
       kids_upto (row_count m (owner_table child)) (omega arith)
       ∙ ap (flat_map (λ (r : Row). kids_at r child)) (take_whole (rows_in m (owner_table child)) (row_count m (owner_table child)) (omega arith))
 
-  rows_count : (k : ℕ) → count_by (λ j. j == k) (rows_listed m child) ≡ cond (nat_le 1 k && nat_le k (row_count m child)) 1 0
-  unfolding rows_listed
+  rows_count : (k : ℕ) → count_by (λ j. j == k) (standing_rows m child) ≡ cond (nat_le 1 k && nat_le k (row_count m child)) 1 0
+  unfolding standing_rows
   rows_count k = count_upto k (row_count m child)
 
-  flat : (owners : List ℕ) (k : ℕ) → IsPermutation (rows_listed m (owner_table child)) owners
-      → count_by (λ j. j == k) (kids_listed m (rows_listed m (owner_table child)) child) ≡ count_by (λ j. j == k) (kids_listed m owners child)
+  flat : (owners : List ℕ) (k : ℕ) → IsPermutation (standing_rows m (owner_table child)) owners
+      → count_by (λ j. j == k) (kids_listed m (standing_rows m (owner_table child)) child) ≡ count_by (λ j. j == k) (kids_listed m owners child)
   unfolding kids_listed
-  flat owners k moved = flat_same (λ row. kids_of m (record { table = owner_table child; row = row }) child) (rows_listed m (owner_table child)) owners k moved
+  flat owners k moved = flat_same (λ row. kids_of m (record { table = owner_table child; row = row }) child) (standing_rows m (owner_table child)) owners k moved
 
   -- so their children are the rows of the child table, each once
-  pub kids_permute : (owners : List ℕ) → IsOwned m → IsPermutation (rows_listed m (owner_table child)) owners
-      → IsPermutation (rows_listed m child) (kids_listed m owners child)
-  kids_permute owners owned moved = same_counts (rows_listed m child) (kids_listed m owners child) (λ k.
+  pub kids_permute : (owners : List ℕ) → IsOwned m → IsPermutation (standing_rows m (owner_table child)) owners
+      → IsPermutation (standing_rows m child) (kids_listed m owners child)
+  kids_permute owners owned moved = same_counts (standing_rows m child) (kids_listed m owners child) (λ k.
       rows_count k ∙ sym (owned.once child k there) ∙ sym (ap (count_by (λ j. j == k)) all_listed) ∙ flat owners k moved)
 
 -- an order of rows is a list of rows, as long as the table
@@ -178,14 +178,14 @@ all_any p (x ∷ xs) = by (p x) (all_any p xs)
 all_permuted : (p : ℕ → Bool) (xs ys : List ℕ) → IsPermutation xs ys → list_all p xs ≡ list_all p ys
 all_permuted p xs ys moved = all_any p xs ∙ ap not (list_any-IsPermutation (λ x. not (p x)) xs ys moved) ∙ sym (all_any p ys)
 
-all_upto : (k n : ℕ) → n ≤ k → list_all (is_row_of k) (map (λ i. i + 1) (below n)) ≡ true
+all_upto : (k n : ℕ) → n ≤ k → list_all (is_row_within k) (map (λ i. i + 1) (below n)) ≡ true
 unfolding below
 all_upto k zero low = refl
 all_upto k (suc n) low =
     let e : suc n ≡ n + 1 = omega arith in
-    let here : is_row_of k (n + 1) ≡ true = grind (arith, nat_tests) in
-    ap (λ j. list_all (is_row_of k) (map (λ i. i + 1) (below j))) e ∙ ap (list_all (is_row_of k)) (sym (more_mapped (λ i. i + 1) n))
-    ∙ all_last (is_row_of k) (map (λ i. i + 1) (below n)) (n + 1) (all_upto k n (omega (arith, low))) here
+    let here : is_row_within k (n + 1) ≡ true = grind (arith, nat_tests) in
+    ap (λ j. list_all (is_row_within k) (map (λ i. i + 1) (below j))) e ∙ ap (list_all (is_row_within k)) (sym (more_mapped (λ i. i + 1) n))
+    ∙ all_last (is_row_within k) (map (λ i. i + 1) (below n)) (n + 1) (all_upto k n (omega (arith, low))) here
   where
     all_last : (p : ℕ → Bool) (xs : List ℕ) (x : ℕ) → list_all p xs ≡ true → p x ≡ true → list_all p (xs ++ x ∷ []) ≡ true
     all_last p [] x all e = rw e refl
@@ -193,19 +193,19 @@ all_upto k (suc n) low =
         let both = and_parts (p y) (list_all p ys) all in
         rw both.0 (all_last p ys x both.1 e)
 
-pub rows_fit : (m : Module) (table : ℕ) (rows : List ℕ) → IsPermutation (rows_listed m table) rows → list_all (is_row_of (row_count m table)) rows ≡ true
-unfolding rows_listed
+pub rows_fit : (m : Module) (table : ℕ) (rows : List ℕ) → IsPermutation (standing_rows m table) rows → list_all (is_row_within (row_count m table)) rows ≡ true
+unfolding standing_rows
 rows_fit m table rows moved =
-    sym (all_permuted (is_row_of (row_count m table)) (rows_listed m table) rows moved) ∙ all_upto (row_count m table) (row_count m table) (omega arith)
+    sym (all_permuted (is_row_within (row_count m table)) (standing_rows m table) rows moved) ∙ all_upto (row_count m table) (row_count m table) (omega arith)
 
-pub rows_long : (m : Module) (table : ℕ) (rows : List ℕ) → IsPermutation (rows_listed m table) rows → length rows ≡ row_count m table
-unfolding rows_listed
-rows_long m table rows moved = length_permutation (rows_listed m table) rows moved ∙ length_below (λ n. n + 1) (row_count m table)
+pub rows_long : (m : Module) (table : ℕ) (rows : List ℕ) → IsPermutation (standing_rows m table) rows → length rows ≡ row_count m table
+unfolding standing_rows
+rows_long m table rows moved = length_permutation (standing_rows m table) rows moved ∙ length_below (λ n. n + 1) (row_count m table)
 
-pub rows_fit_all : (m : Module) (table : ℕ) (rows : List ℕ) → IsPermutation (rows_listed m table) rows → list_all (is_row_of (length rows)) rows ≡ true
-rows_fit_all m table rows moved = subst (λ n. list_all (is_row_of n) rows ≡ true) (sym (rows_long m table rows moved)) (rows_fit m table rows moved)
+pub rows_fit_all : (m : Module) (table : ℕ) (rows : List ℕ) → IsPermutation (standing_rows m table) rows → list_all (is_row_within (length rows)) rows ≡ true
+rows_fit_all m table rows moved = subst (λ n. list_all (is_row_within n) rows ≡ true) (sym (rows_long m table rows moved)) (rows_fit m table rows moved)
 
-pub rows_few : (m : Module) (table : ℕ) (rows : List ℕ) → IsSound m → IsPermutation (rows_listed m table) rows → length rows < 2 ^ 24
+pub rows_few : (m : Module) (table : ℕ) (rows : List ℕ) → IsSound m → IsPermutation (standing_rows m table) rows → length rows < 2 ^ 24
 rows_few m table rows sound moved = omega (arith, rows_long m table rows moved, sound.counts.few table)
 
 -- the children of one owner more
@@ -237,10 +237,10 @@ row_at_place p (x ∷ xs) (suc i) d all low = row_at_place p xs i d (and_parts (
 
 -- the owners are rows of their table
 pub owner_there : (m : Module) (table owners_table : ℕ) (owners : List ℕ) (i d : ℕ) → table ≡ owners_table
-    → list_all (is_row_of (row_count m owners_table)) owners ≡ true → i < length owners → has_row m (record { table = table; row = get_or owners i d }) ≡ true
+    → list_all (is_row_within (row_count m owners_table)) owners ≡ true → i < length owners → has_row m (record { table = table; row = get_or owners i d }) ≡ true
 unfolding has_row
 owner_there m table owners_table owners i d same all low =
-    rw same (by (row_count m owners_table) (get_or owners i d) (row_at_place (is_row_of (row_count m owners_table)) owners i d all low))
+    rw same (by (row_count m owners_table) (get_or owners i d) (row_at_place (is_row_within (row_count m owners_table)) owners i d all low))
   where
-    by : (n row : ℕ) → is_row_of n row ≡ true → (nat_lt 0 row && nat_le row n) ≡ true
+    by : (n row : ℕ) → is_row_within n row ≡ true → (nat_lt 0 row && nat_le row n) ≡ true
     by n row there = grind (arith, nat_tests)

@@ -7,7 +7,7 @@ use Rattle.std.proofs.lemmas.Bool.{and_parts, eqb-true, eqb-false}
 use Rattle.std.proofs.lemmas.Bool.Decides.{nat_tests}
 use Rattle.std.proofs.lemmas.List.{length-set}
 use Rattle.enc_order.specs.Orders.{place_behind}
-use Rattle.enc_order.specs.Places.{is_row_of, ArePlacedFrom}
+use Rattle.enc_order.specs.Places.{is_row_within, ArePlacedFrom}
 use Rattle.enc_rows.specs.Sums.{below}
 use Rattle.enc_rows.proofs.Listed.{get_below, length_below}
 
@@ -53,15 +53,15 @@ no_places old = record {
 }
 
 step : (old new : List ℕ) (i d : ℕ) → ArePlacedFrom (i + 1) (length old) (drop (i + 1) old) new → i < length old
-    → list_all (is_row_of (length old)) old ≡ true
+    → list_all (is_row_within (length old)) old ≡ true
     → ArePlacedFrom i (length old) (drop i old) (slice_set new (slice_index_or old i d - 1) (i + 1))
 step old new i d are low rows = record {
   count = length-set new (slice_index_or old i d - 1) (i + 1) ∙ are.count;
   each = λ j less. by j less (slice_index_or old i d == j + 1) refl;
 }
   where
-    is_row : is_row_of (length old) (slice_index_or old i d) ≡ true
-    is_row = row_at (is_row_of (length old)) old i d rows low
+    is_row : is_row_within (length old) (slice_index_or old i d) ≡ true
+    is_row = row_at (is_row_within (length old)) old i d rows low
 
     some : 1 ≤ slice_index_or old i d
     some = let row = is_row in grind (arith, nat_tests)
@@ -82,7 +82,7 @@ step old new i d are low rows = record {
         get_other new (slice_index_or old i d - 1) j (i + 1) other ∙ are.each j less ∙ ap Some (sym (place j false e))
 
 -- one row more, from the last down
-pub one_down : (old new : List ℕ) (i d : ℕ) → 0 < i → i ≤ length old → list_all (is_row_of (length old)) old ≡ true
+pub one_down : (old new : List ℕ) (i d : ℕ) → 0 < i → i ≤ length old → list_all (is_row_within (length old)) old ≡ true
     → ArePlacedFrom i (length old) (drop i old) new
     → ArePlacedFrom (i - 1) (length old) (drop (i - 1) old) (slice_set new (slice_index_or old (i - 1) d - 1) (i - 1 + 1))
 one_down old new i d some low rows are =

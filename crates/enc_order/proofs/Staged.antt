@@ -15,11 +15,11 @@ use Rattle.enc_schema.specs.Schema.{list_at}
 use Rattle.enc_schema.specs.Tables as tables
 use Rattle.enc_schema.specs.Tables.{table_count}
 use Rattle.enc_order.specs.Depth.{depth}
-use Rattle.enc_order.specs.Keyed.{entry_key, entry_row, entry_of, entries_of}
+use Rattle.enc_order.specs.Keyed.{sorted_key, entry_row, numbered_row, entries_numbered}
 use Rattle.enc_order.specs.declared.sorting.Entry.{Entry}
-use Rattle.enc_order.specs.Orders.{Orders, rows_listed, kids_listed, keyed_rows, key_of, is_member_table, by_depth, by_owner, by_method, by_key, by_param}
+use Rattle.enc_order.specs.Orders.{Orders, standing_rows, kids_listed, keyed_rows, order_key, goes_by_owner, by_depth, by_owner, by_method, by_key, by_param}
 use Rattle.enc_order.specs.Orders.{by_attribute, new_order}
-use Rattle.enc_order.specs.Places.{is_row_of}
+use Rattle.enc_order.specs.Places.{is_row_within}
 use Rattle.enc_order.specs.Sorted.{sorted_by}
 use Rattle.enc_order.specs.Stages.{stage_of, is_ordered, ordered_rows, AreOrdersOf}
 use Rattle.enc_order.specs.declared.stage.Stage.{Stage}
@@ -58,7 +58,7 @@ stage_keeps stage m before table rows off is =
     is ∙ sym (stage_is stage m before table ∙ ap (λ b. if b then ordered_rows stage m before table else before table) off)
 
 -- tables of members and of parameters are those of children
-pub members_own : (table : ℕ) → is_member_table table ≡ true → is_child_table table ≡ true
+pub members_own : (table : ℕ) → goes_by_owner table ≡ true → is_child_table table ≡ true
 members_own table h = by (table == tables.field) (table == tables.method_def) (table == tables.event) (table == tables.property) refl refl refl refl h
   where
     by : (a b c d : Bool) → (table == tables.field) ≡ a → (table == tables.method_def) ≡ b → (table == tables.event) ≡ c → (table == tables.property) ≡ d
@@ -72,13 +72,13 @@ members_own table h = by (table == tables.field) (table == tables.method_def) (t
 pub params_own : (table : ℕ) → (table == tables.param) ≡ true → is_child_table table ≡ true
 params_own table h = let is : table ≡ tables.param = eqb-true table tables.param h in rw is refl
 
-keyed_permute : (m : Module) (before : Orders) (table : ℕ) → IsPermutation (rows_listed m table) (keyed_rows before m table)
+keyed_permute : (m : Module) (before : Orders) (table : ℕ) → IsPermutation (standing_rows m table) (keyed_rows before m table)
 unfolding keyed_rows
-keyed_permute m before table = sorted_permutes (key_of before m table) (rows_listed m table)
+keyed_permute m before table = sorted_permutes (order_key before m table) (standing_rows m table)
 
 pub ordered_permute : (stage : Stage) (m : Module) (tables : List (List ℕ)) (table : ℕ) → IsSound m → AreOrdersOf m tables → is_ordered stage table ≡ true
-    → IsPermutation (rows_listed m table) (ordered_rows stage m (list_at tables) table)
-ordered_permute stage.Depth m lists table sound are on = sorted_permutes (depth m) (rows_listed m table)
+    → IsPermutation (standing_rows m table) (ordered_rows stage m (list_at tables) table)
+ordered_permute stage.Depth m lists table sound are on = sorted_permutes (depth m) (standing_rows m table)
 ordered_permute stage.Owner m lists table sound are on =
     kids_permute m table (members_own table on) (list_at lists (owner_table table)) sound.owners.owned (are.each (owner_table table))
 ordered_permute stage.Method m lists table sound are on =
@@ -88,12 +88,12 @@ ordered_permute stage.Param m lists table sound are on = keyed_permute m (list_a
 ordered_permute stage.Attribute m lists table sound are on = keyed_permute m (list_at lists) table
 
 pub stage_permutes : (stage : Stage) (m : Module) (tables : List (List ℕ)) → IsSound m → AreOrdersOf m tables → (table : ℕ)
-    → IsPermutation (rows_listed m table) (stage_of stage m (list_at tables) table)
+    → IsPermutation (standing_rows m table) (stage_of stage m (list_at tables) table)
 stage_permutes stage m lists sound are table =
-    subst (IsPermutation (rows_listed m table)) (sym (stage_is stage m (list_at lists) table)) (by (is_ordered stage table) refl)
+    subst (IsPermutation (standing_rows m table)) (sym (stage_is stage m (list_at lists) table)) (by (is_ordered stage table) refl)
   where
     by : (b : Bool) → is_ordered stage table ≡ b
-        → IsPermutation (rows_listed m table) (if b then ordered_rows stage m (list_at lists) table else list_at lists table)
+        → IsPermutation (standing_rows m table) (if b then ordered_rows stage m (list_at lists) table else list_at lists table)
     by true on = ordered_permute stage m lists table sound are on
     by false off = are.each table
 
@@ -105,9 +105,9 @@ ordered_few stage m lists table rows sound are on is =
     (rows_few m table (ordered_rows stage m (list_at lists) table) sound (ordered_permute stage m lists table sound are on))
 
 pub ordered_fit : (stage : Stage) (m : Module) (tables : List (List ℕ)) (table : ℕ) (rows : List ℕ) → IsSound m → AreOrdersOf m tables
-    → is_ordered stage table ≡ true → rows ≡ ordered_rows stage m (list_at tables) table → list_all (is_row_of (length rows)) rows ≡ true
+    → is_ordered stage table ≡ true → rows ≡ ordered_rows stage m (list_at tables) table → list_all (is_row_within (length rows)) rows ≡ true
 ordered_fit stage m lists table rows sound are on is =
-    subst (λ xs. list_all (is_row_of (length xs)) xs ≡ true) (sym is)
+    subst (λ xs. list_all (is_row_within (length xs)) xs ≡ true) (sym is)
     (rows_fit_all m table (ordered_rows stage m (list_at lists) table) (ordered_permute stage m lists table sound are on))
 
 -- a list of all tables is an order of all rows
@@ -115,27 +115,27 @@ nothing : (xs : List ℕ) → length xs ≡ 0 → xs ≡ []
 nothing [] e = refl
 nothing (x ∷ xs) e = absurd (omega (arith, e))
 
-past_none : (m : Module) (rows : List ℕ) (t : ℕ) → IsSound m → table_count ≤ t → IsPermutation (rows_listed m t) rows → rows ≡ []
+past_none : (m : Module) (rows : List ℕ) (t : ℕ) → IsSound m → table_count ≤ t → IsPermutation (standing_rows m t) rows → rows ≡ []
 past_none m rows t sound past moved =
     let none : rows_in m t ≡ [] = past_all m.tables t (omega (arith, past, sound.owners.tables.all)) in
     nothing rows (rows_long m t rows moved ∙ ap length none)
 
-listed_at : (m : Module) (f : Orders) (t : ℕ) → IsSound m → ((table : ℕ) → IsPermutation (rows_listed m table) (f table))
+listed_at : (m : Module) (f : Orders) (t : ℕ) → IsSound m → ((table : ℕ) → IsPermutation (standing_rows m table) (f table))
     → list_at (map f (below table_count)) t ≡ f t
 listed_at m f t sound each = elim (cases_lt t table_count) [
   | inl low ↦ ap (λ o. unwrap_or o []) (get_below f table_count t low)
   | inr past ↦ ap (λ o. unwrap_or o []) (get_past f table_count t past) ∙ sym (past_none m (f t) t sound past (each t))
 ]
 
-pub all_tables : (m : Module) (f : Orders) (lists : List (List ℕ)) → IsSound m → ((table : ℕ) → IsPermutation (rows_listed m table) (f table))
+pub all_tables : (m : Module) (f : Orders) (lists : List (List ℕ)) → IsSound m → ((table : ℕ) → IsPermutation (standing_rows m table) (f table))
     → lists ≡ map f (below table_count) → list_at lists ≡ f
 all_tables m f lists sound each is = ap (λ xs. list_at xs) is ∙ same_orders (list_at (map f (below table_count))) f (λ t. listed_at m f t sound each)
 
-pub all_orders : (m : Module) (f : Orders) (lists : List (List ℕ)) → IsSound m → ((table : ℕ) → IsPermutation (rows_listed m table) (f table))
+pub all_orders : (m : Module) (f : Orders) (lists : List (List ℕ)) → IsSound m → ((table : ℕ) → IsPermutation (standing_rows m table) (f table))
     → lists ≡ map f (below table_count) → AreOrdersOf m lists
 all_orders m f lists sound each is = record {
   count = ap length is ∙ length_below f table_count;
-  each = λ t. subst (IsPermutation (rows_listed m t)) (sym (ap (λ o. o t) (all_tables m f lists sound each is))) (each t);
+  each = λ t. subst (IsPermutation (standing_rows m t)) (sym (ap (λ o. o t) (all_tables m f lists sound each is))) (each t);
 }
 
 -- a list of tables, one more
@@ -148,46 +148,46 @@ pub more_tables : (f : Orders) (n : ℕ) (old new : List (List ℕ)) (rows : Lis
 more_tables f n old new rows before is after = after ∙ ap (λ xs. xs ++ rows ∷ []) before ∙ ap (λ r. map f (below n) ++ r ∷ []) is ∙ more_mapped f n
 
 -- before all stages
-pub own_order : (m : Module) (table : ℕ) → IsPermutation (rows_listed m table) (rows_listed m table)
-own_order m table = IsPermutation-refl (rows_listed m table)
+pub own_order : (m : Module) (table : ℕ) → IsPermutation (standing_rows m table) (standing_rows m table)
+own_order m table = IsPermutation-refl (standing_rows m table)
 
-pub own_rows : (m : Module) (table count : ℕ) (rows : List ℕ) → count ≡ row_count m table → rows ≡ map (λ n. n + 1) (below count) → rows ≡ rows_listed m table
-unfolding rows_listed
+pub own_rows : (m : Module) (table count : ℕ) (rows : List ℕ) → count ≡ row_count m table → rows ≡ map (λ n. n + 1) (below count) → rows ≡ standing_rows m table
+unfolding standing_rows
 own_rows m table count rows same is = is ∙ ap (λ k. map (λ n. n + 1) (below k)) same
 
 pub own_few : (m : Module) (table count : ℕ) (rows : List ℕ) → IsSound m → count ≡ row_count m table → rows ≡ map (λ n. n + 1) (below count)
     → length rows < 2 ^ 24
 own_few m table count rows sound same is =
-    rows_few m table rows sound (subst (IsPermutation (rows_listed m table)) (sym (own_rows m table count rows same is)) (own_order m table))
+    rows_few m table rows sound (subst (IsPermutation (standing_rows m table)) (sym (own_rows m table count rows same is)) (own_order m table))
 
 pub own_fit : (m : Module) (table count : ℕ) (rows : List ℕ) → count ≡ row_count m table → rows ≡ map (λ n. n + 1) (below count)
-    → list_all (is_row_of (length rows)) rows ≡ true
+    → list_all (is_row_within (length rows)) rows ≡ true
 own_fit m table count rows same is =
-    rows_fit_all m table rows (subst (IsPermutation (rows_listed m table)) (sym (own_rows m table count rows same is)) (own_order m table))
+    rows_fit_all m table rows (subst (IsPermutation (standing_rows m table)) (sym (own_rows m table count rows same is)) (own_order m table))
 
 -- behind all stages
-pub all_staged : (m : Module) (o0 o1 o2 o3 o4 o5 o6 : Orders) → o0 ≡ rows_listed m → o1 ≡ by_depth m o0 → o2 ≡ by_owner m o1 → o3 ≡ by_method m o2
+pub all_staged : (m : Module) (o0 o1 o2 o3 o4 o5 o6 : Orders) → o0 ≡ standing_rows m → o1 ≡ by_depth m o0 → o2 ≡ by_owner m o1 → o3 ≡ by_method m o2
     → o4 ≡ by_key m o3 → o5 ≡ by_param m o4 → o6 ≡ by_attribute m o5 → o6 ≡ new_order m
 unfolding new_order
 all_staged m o0 o1 o2 o3 o4 o5 o6 e0 e1 e2 e3 e4 e5 e6 =
     e6 ∙ ap (by_attribute m) (e5 ∙ ap (by_param m) (e4 ∙ ap (by_key m) (e3 ∙ ap (by_method m) (e2 ∙ ap (by_owner m) (e1 ∙ ap (by_depth m) e0)))))
 
 -- the rows of entries that are sorted by their keys
-rows_back : (key : ℕ → ℕ) (rows : List ℕ) → map entry_row (map (entry_of key) rows) ≡ rows
+rows_back : (key : ℕ → ℕ) (rows : List ℕ) → map entry_row (map (numbered_row key) rows) ≡ rows
 rows_back key [] = refl
 rows_back key (r ∷ rows) = ap (λ xs. r ∷ xs) (rows_back key rows)
 
-pub entries_sorted : (key : ℕ → ℕ) (rows : List ℕ) (entries : List Entry) → entries ≡ map (entry_of key) rows
-    → map entry_row (sorted_by entry_key entries) ≡ sorted_by key rows
+pub entries_sorted : (key : ℕ → ℕ) (rows : List ℕ) (entries : List Entry) → entries ≡ map (numbered_row key) rows
+    → map entry_row (sorted_by sorted_key entries) ≡ sorted_by key rows
 entries_sorted key rows entries is =
-    ap (λ xs. map entry_row (sorted_by entry_key xs)) is ∙ ap (map entry_row) (sym (sorted_map (entry_of key) entry_key rows))
+    ap (λ xs. map entry_row (sorted_by sorted_key xs)) is ∙ ap (map entry_row) (sym (sorted_map (numbered_row key) sorted_key rows))
     ∙ rows_back key (sorted_by key rows)
 
 pub keyed_sorted : (m : Module) (before : Orders) (table : ℕ) (entries : List Entry) (rows : List ℕ)
-    → entries ≡ map (entry_of (key_of before m table)) (rows_listed m table) → rows ≡ map entry_row (sorted_by entry_key entries)
+    → entries ≡ map (numbered_row (order_key before m table)) (standing_rows m table) → rows ≡ map entry_row (sorted_by sorted_key entries)
     → rows ≡ keyed_rows before m table
 unfolding keyed_rows
-keyed_sorted m before table entries rows is sorted = sorted ∙ entries_sorted (key_of before m table) (rows_listed m table) entries is
+keyed_sorted m before table entries rows is sorted = sorted ∙ entries_sorted (order_key before m table) (standing_rows m table) entries is
 
 -- a type's depth among all
 get_listed : (f : ℕ → ℕ) (xs : List ℕ) (i x d : ℕ) → slice_get xs i ≡ Some x → get_or (map f xs) i d ≡ f x
@@ -199,14 +199,14 @@ long_map : (f : ℕ → ℕ) (xs : List ℕ) → length (map f xs) ≡ length xs
 long_map f [] = refl
 long_map f (x ∷ xs) = ap suc (long_map f xs)
 
-pub depths_long : (m : Module) (f : ℕ → ℕ) (table : ℕ) (depths : List ℕ) → depths ≡ map f (rows_listed m table) → length depths ≡ row_count m table
-unfolding rows_listed
+pub depths_long : (m : Module) (f : ℕ → ℕ) (table : ℕ) (depths : List ℕ) → depths ≡ map f (standing_rows m table) → length depths ≡ row_count m table
+unfolding standing_rows
 depths_long m f table depths is =
     ap length is ∙ long_map f (map (λ n. n + 1) (below (row_count m table))) ∙ length_below (λ n. n + 1) (row_count m table)
 
-pub depth_at : (m : Module) (f : ℕ → ℕ) (table : ℕ) (depths : List ℕ) (i d : ℕ) → depths ≡ map f (rows_listed m table) → i < length depths
+pub depth_at : (m : Module) (f : ℕ → ℕ) (table : ℕ) (depths : List ℕ) (i d : ℕ) → depths ≡ map f (standing_rows m table) → i < length depths
     → get_or depths i d ≡ f (i + 1)
-unfolding rows_listed
+unfolding standing_rows
 depth_at m f table depths i d is low =
     ap (λ xs. get_or xs i d) is
     ∙ get_listed f (map (λ n. n + 1) (below (row_count m table))) i (i + 1) d
@@ -227,8 +227,8 @@ more_front keys i old new k before is after =
     ∙ ap (λ (j : ℕ). let e : Entry = record { key = j; row = i + 1 } in front_entries keys i ++ e ∷ []) is
     ∙ more_mapped (λ j. let e : Entry = record { key = get_or keys j 0; row = j + 1 } in e) i
 
-pub all_front : (keys : List ℕ) (i : ℕ) (entries : List Entry) → i ≡ length keys → entries ≡ front_entries keys i → entries ≡ entries_of keys
-unfolding entries_of
+pub all_front : (keys : List ℕ) (i : ℕ) (entries : List Entry) → i ≡ length keys → entries ≡ front_entries keys i → entries ≡ entries_numbered keys
+unfolding entries_numbered
 all_front keys i entries all is = is ∙ ap (front_entries keys) all
 
 agree : {X : Type 0} (f g : ℕ → X) (n : ℕ) → ((i : ℕ) → i < n → f i ≡ g i) → map f (below n) ≡ map g (below n)
@@ -245,24 +245,24 @@ map_after : {X : Type 0} (f : ℕ → X) (xs : List ℕ) → map (λ i. f (i + 1
 map_after f [] = refl
 map_after f (x ∷ xs) = ap (λ ys. f (x + 1) ∷ ys) (map_after f xs)
 
-entries_are : (m : Module) (f : ℕ → ℕ) (table : ℕ) (keys : List ℕ) → keys ≡ map f (rows_listed m table) → length keys ≡ row_count m table
-    → entries_of keys ≡ map (entry_of f) (rows_listed m table)
-unfolding entries_of rows_listed
+entries_are : (m : Module) (f : ℕ → ℕ) (table : ℕ) (keys : List ℕ) → keys ≡ map f (standing_rows m table) → length keys ≡ row_count m table
+    → entries_numbered keys ≡ map (numbered_row f) (standing_rows m table)
+unfolding entries_numbered standing_rows
 entries_are m f table keys is long =
-    agree (λ i. let e : Entry = record { key = get_or keys i 0; row = i + 1 } in e) (λ i. entry_of f (i + 1)) (length keys)
+    agree (λ i. let e : Entry = record { key = get_or keys i 0; row = i + 1 } in e) (λ i. numbered_row f (i + 1)) (length keys)
     (λ i low. ap (λ (k : ℕ). let e : Entry = record { key = k; row = i + 1 } in e) (depth_at m f table keys i 0 is low))
-    ∙ ap (λ n. map (λ i. entry_of f (i + 1)) (below n)) long ∙ map_after (entry_of f) (below (row_count m table))
+    ∙ ap (λ n. map (λ i. numbered_row f (i + 1)) (below n)) long ∙ map_after (numbered_row f) (below (row_count m table))
 
-pub depth_sorted : (m : Module) (table : ℕ) (keys : List ℕ) (entries : List Entry) (rows : List ℕ) → keys ≡ map (depth m) (rows_listed m table)
-    → entries ≡ entries_of keys → rows ≡ map entry_row (sorted_by entry_key entries) → rows ≡ sorted_by (depth m) (rows_listed m table)
+pub depth_sorted : (m : Module) (table : ℕ) (keys : List ℕ) (entries : List Entry) (rows : List ℕ) → keys ≡ map (depth m) (standing_rows m table)
+    → entries ≡ entries_numbered keys → rows ≡ map entry_row (sorted_by sorted_key entries) → rows ≡ sorted_by (depth m) (standing_rows m table)
 depth_sorted m table keys entries rows are is sorted =
-    sorted ∙ entries_sorted (depth m) (rows_listed m table) entries (is ∙ entries_are m (depth m) table keys are (depths_long m (depth m) table keys are))
+    sorted ∙ entries_sorted (depth m) (standing_rows m table) entries (is ∙ entries_are m (depth m) table keys are (depths_long m (depth m) table keys are))
 
-pub depths_few : (m : Module) (table : ℕ) (keys : List ℕ) → IsSound m → keys ≡ map (depth m) (rows_listed m table) → length keys < 2 ^ 24
+pub depths_few : (m : Module) (table : ℕ) (keys : List ℕ) → IsSound m → keys ≡ map (depth m) (standing_rows m table) → length keys < 2 ^ 24
 depths_few m table keys sound are = omega (arith, depths_long m (depth m) table keys are, sound.counts.few table)
 
 pub owners_fit : (m : Module) (before : List (List ℕ)) (table owners_table : ℕ) (owners : List ℕ) → AreOrdersOf m before → table ≡ owners_table
-    → owners ≡ list_at before table → list_all (is_row_of (row_count m owners_table)) owners ≡ true
+    → owners ≡ list_at before table → list_all (is_row_within (row_count m owners_table)) owners ≡ true
 owners_fit m before table owners_table owners are same is =
-    subst (λ xs. list_all (is_row_of (row_count m owners_table)) xs ≡ true) (sym (is ∙ ap (list_at before) same))
+    subst (λ xs. list_all (is_row_within (row_count m owners_table)) xs ≡ true) (sym (is ∙ ap (list_at before) same))
     (rows_fit m owners_table (list_at before owners_table) (are.each owners_table))

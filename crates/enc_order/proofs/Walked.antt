@@ -3,16 +3,16 @@ use Rattle.std.proofs.Common.{◌≡◌, ℕ, zero, suc, ◌+◌, ◌≤◌, Opt
 use Rattle.std.specs.Prelude.{min, option_and_then}
 use Rattle.enc_plain.specs.Module.{Module}
 use Rattle.enc_order.specs.Depth.{enclosing, depth_around, depth_by}
-use Rattle.enc_order.specs.Walks.{reached}
+use Rattle.enc_order.specs.Walks.{type_walked}
 
-reached_around : (m : Module) (a b : ℕ) (o : Option ℕ) → ((type : ℕ) → reached m (a + b) type ≡ option_and_then (reached m b) (reached m a type))
-    → option_and_then (reached m (a + b)) o ≡ option_and_then (reached m b) (option_and_then (reached m a) o)
+reached_around : (m : Module) (a b : ℕ) (o : Option ℕ) → ((type : ℕ) → type_walked m (a + b) type ≡ option_and_then (type_walked m b) (type_walked m a type))
+    → option_and_then (type_walked m (a + b)) o ≡ option_and_then (type_walked m b) (option_and_then (type_walked m a) o)
 reached_around m a b None before = refl
 reached_around m a b (Some type) before = before type
 
 -- a walk goes on where the one before it has come to
-pub reached_more : (m : Module) (a b type : ℕ) → reached m (a + b) type ≡ option_and_then (reached m b) (reached m a type)
-unfolding reached
+pub reached_more : (m : Module) (a b type : ℕ) → type_walked m (a + b) type ≡ option_and_then (type_walked m b) (type_walked m a type)
+unfolding type_walked
 reached_more m zero b type = let e : 0 + b ≡ b = omega arith in rw e refl
 reached_more m (suc a) b type =
     let e : suc a + b ≡ suc (a + b) = omega arith in
@@ -23,14 +23,14 @@ abbrev pub depth_from : Module → ℕ → Option ℕ → ℕ
 depth_from m n None = 0
 depth_from m n (Some type) = depth_by m n type
 
-depth_further : (m : Module) (a b : ℕ) (o : Option ℕ) → ((type : ℕ) → depth_by m (a + b) type ≡ depth_by m a type + depth_from m b (reached m a type))
-    → depth_around o (depth_by m (a + b)) ≡ depth_around o (depth_by m a) + depth_from m b (option_and_then (reached m a) o)
+depth_further : (m : Module) (a b : ℕ) (o : Option ℕ) → ((type : ℕ) → depth_by m (a + b) type ≡ depth_by m a type + depth_from m b (type_walked m a type))
+    → depth_around o (depth_by m (a + b)) ≡ depth_around o (depth_by m a) + depth_from m b (option_and_then (type_walked m a) o)
 depth_further m a b None before = refl
 depth_further m a b (Some type) before = omega (arith, before type)
 
 -- and it counts what they count together
-pub depth_more : (m : Module) (a b type : ℕ) → depth_by m (a + b) type ≡ depth_by m a type + depth_from m b (reached m a type)
-unfolding depth_by reached
+pub depth_more : (m : Module) (a b type : ℕ) → depth_by m (a + b) type ≡ depth_by m a type + depth_from m b (type_walked m a type)
+unfolding depth_by type_walked
 depth_more m zero b type = let e : 0 + b ≡ b = omega arith in rw e (omega arith)
 depth_more m (suc a) b type =
     let e : suc a + b ≡ suc (a + b) = omega arith in

@@ -29,8 +29,8 @@ place_behind before [] row = row
 place_behind before (r ∷ rest) row = if r == row then before + 1 else place_behind (before + 1) rest row
 
 -- where a row stands in an order
-unfoldable pub new_row : List ℕ → ℕ → ℕ
-new_row rows row = place_behind 0 rows row
+unfoldable pub place_in_order : List ℕ → ℕ → ℕ
+place_in_order rows row = place_behind 0 rows row
 
 -- which row stands at a place of an order, from 1; past its end the place is the row
 unfoldable pub old_row : List ℕ → ℕ → ℕ
@@ -39,11 +39,11 @@ old_row rows (suc i) = unwrap_or (slice_get rows i) (suc i)
 
 -- the token with its row at the new place
 unfoldable pub moved_by : Orders → Token → Token
-moved_by orders t = record { table = t.table; row = new_row (orders t.table) t.row }
+moved_by orders t = record { table = t.table; row = place_in_order (orders t.table) t.row }
 
 -- the rows of a table as they stand
-unfoldable pub rows_listed : Module → ℕ → List ℕ
-rows_listed m table = map (λ n. n + 1) (below (row_count m table))
+unfoldable pub standing_rows : Module → ℕ → List ℕ
+standing_rows m table = map (λ n. n + 1) (below (row_count m table))
 
 -- the children of these owners in a child table, owner by owner, in order of attachment
 unfoldable pub kids_listed : Module → List ℕ → ℕ → List ℕ
@@ -51,14 +51,14 @@ kids_listed m owners child = flat_map (λ row. kids_of m (record { table = owner
 
 -- TypeDef rows go by depth, so that each type stands behind the one around it (II.22.32); all others stay as they were before
 unfoldable pub by_depth : Module → Orders → Orders
-by_depth m before table = if table == tables.type_def then sorted_by (depth m) (rows_listed m table) else before table
+by_depth m before table = if table == tables.type_def then sorted_by (depth m) (standing_rows m table) else before table
 
 -- Field, MethodDef, Event and Property rows go by their owners; the rows of the two maps stay
-abbrev pub is_member_table : ℕ → Bool
-is_member_table table = table == tables.field || table == tables.method_def || table == tables.event || table == tables.property
+abbrev pub goes_by_owner : ℕ → Bool
+goes_by_owner table = table == tables.field || table == tables.method_def || table == tables.event || table == tables.property
 
 unfoldable pub by_owner : Module → Orders → Orders
-by_owner m before table = if is_member_table table then kids_listed m (before (owner_table table)) table else before table
+by_owner m before table = if goes_by_owner table then kids_listed m (before (owner_table table)) table else before table
 
 -- and so do Param rows
 unfoldable pub by_method : Module → Orders → Orders
@@ -111,12 +111,12 @@ unfoldable pub key_from : ℕ → Orders → Module → Token → List ℕ → �
 key_from before orders m u [] = before
 key_from before orders m u (i ∷ columns) = key_from (before * 2 ^ 32 + column_key orders m u i (column_in u.table i)) orders m u columns
 
-unfoldable pub key_of : Orders → Module → ℕ → ℕ → ℕ
-key_of orders m table row = key_from 0 orders m (record { table = table; row = row }) (key_columns table)
+unfoldable pub order_key : Orders → Module → ℕ → ℕ → ℕ
+order_key orders m table row = key_from 0 orders m (record { table = table; row = row }) (key_columns table)
 
 -- the rows of a table by key
 unfoldable pub keyed_rows : Orders → Module → ℕ → List ℕ
-keyed_rows orders m table = sorted_by (key_of orders m table) (rows_listed m table)
+keyed_rows orders m table = sorted_by (order_key orders m table) (standing_rows m table)
 
 -- tables that name rows of other tables that go by keys
 abbrev pub is_last : ℕ → Bool
@@ -135,7 +135,7 @@ by_attribute m before table = if table == tables.custom_attribute then keyed_row
 
 -- one after the other
 unfoldable pub new_order : Module → Orders
-new_order m = by_attribute m (by_param m (by_key m (by_method m (by_owner m (by_depth m (rows_listed m))))))
+new_order m = by_attribute m (by_param m (by_key m (by_method m (by_owner m (by_depth m (standing_rows m))))))
 
 -- where a row of a module goes, and which row comes to a place
 abbrev pub new_of : Module → Token → Token

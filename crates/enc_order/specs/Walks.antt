@@ -4,25 +4,25 @@ use Rattle.std.specs.Prelude.{option_and_then, is_none, nat_lt, slice_get, slice
 use Rattle.enc_base.specs.Order.{first_below}
 use Rattle.enc_plain.specs.Module.{Module}
 use Rattle.enc_plain.specs.Sound.{row_count}
-use Rattle.enc_order.specs.Orders.{rows_listed}
+use Rattle.enc_order.specs.Orders.{standing_rows}
 use Rattle.enc_order.specs.Depth.{depth, enclosing, enclosing_at, depth_by}
 use Rattle.enc_order.specs.declared.depth.Walk.{Walk}
 use Rattle.enc_schema.specs.Tables as tables
 
--- the type that is reached from one by so many steps, None where the walk has ended before
-unfoldable pub reached : Module → ℕ → ℕ → Option ℕ
-reached m zero type = Some type
-reached m (suc n) type = option_and_then (reached m n) (enclosing m type)
+-- the type that is type_walked from one by so many steps, None where the walk has ended before
+unfoldable pub type_walked : Module → ℕ → ℕ → Option ℕ
+type_walked m zero type = Some type
+type_walked m (suc n) type = option_and_then (type_walked m n) (enclosing m type)
 
 -- for each type is listed where it comes to by so many steps, and how many types stand around it, counted by them
 pub record AreWalks (m : Module) (steps : ℕ) (walks : List Walk) : Type 0 where
   pub count : length walks ≡ row_count m tables.type_def
   pub each : (i : ℕ) → i < row_count m tables.type_def
-      → slice_get walks i ≡ Some (record { around = reached m steps (i + 1); depth = depth_by m steps (i + 1) })
+      → slice_get walks i ≡ Some (record { around = type_walked m steps (i + 1); depth = depth_by m steps (i + 1) })
 
 -- the depths of all types, in the order of their rows
 abbrev pub all_depths : Module → List ℕ
-all_depths m = map (depth m) (rows_listed m tables.type_def)
+all_depths m = map (depth m) (standing_rows m tables.type_def)
 
 -- a walk that has ended where it began, and one of a single step
 abbrev pub ended : Walk

@@ -1,7 +1,7 @@
 //! The numbers by which rows go.
 ghost use Rattle.std.specs.Prelude.{◌≡◌, ◌<◌, ◌^◌, ◌||◌, ◌==◌, true, IsTrue, IfOk};
 ghost use Rattle.enc_order.specs.Keyed.{entries_by};
-ghost use Rattle.enc_order.specs.Orders.{coded_value, column_key, key_of};
+ghost use Rattle.enc_order.specs.Orders.{coded_value, column_key, order_key};
 ghost use Rattle.enc_plain.specs.Module.{has_row};
 ghost use Rattle.enc_plain.specs.Sound.{IsSound, can_name};
 ghost use Rattle.enc_schema.specs.declared.column.Column.TheVariants.{Coded};
@@ -45,7 +45,7 @@ fn column_number<V: ModuleView>(view: &V, order: &Order, row: Token, i: u8) -> u
 fn key<V: ModuleView>(view: &V, order: &Order, row: Token) -> u64
     requires sound { IsSound (V.meaning view.now) }
     requires row { IsTrue (has_row (V.meaning view.now) row) }
-    ensures { result ≡ key_of (list_at order.now) (V.meaning view.now) row.table row.row }
+    ensures { result ≡ order_key (list_at order.now) (V.meaning view.now) row.table row.row }
 {
     match key_columns(row.table) {
         [] => 0,

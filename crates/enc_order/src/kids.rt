@@ -2,7 +2,7 @@
 ghost use Rattle.std.specs.Prelude.{◌≡◌, true, IfOk};
 ghost use Rattle.std.specs.List.{list_all};
 ghost use Rattle.enc_order.specs.Orders.{kids_listed};
-ghost use Rattle.enc_order.specs.Places.{is_row_of};
+ghost use Rattle.enc_order.specs.Places.{is_row_within};
 ghost use Rattle.enc_plain.specs.Sound.{row_count};
 ghost use Rattle.enc_schema.specs.Children.{is_child_table, owner_table};
 
@@ -19,7 +19,7 @@ pub(crate) fn kids_listed<V: ModuleView>(
     child: u8,
 ) -> Result<Vec<u32>, AllocError>
     requires table { is_child_table child ≡ true }
-    requires rows { list_all (is_row_of (row_count (V.meaning view.now) (owner_table child))) owners.now ≡ true }
+    requires rows { list_all (is_row_within (row_count (V.meaning view.now) (owner_table child))) owners.now ≡ true }
     ensures { IfOk result (λ v. v.items ≡ kids_listed (V.meaning view.now) owners.now child) }
 {
     let mut kids = Vec::new(alloc);

@@ -1,6 +1,6 @@
 //! The order of a module's rows.
 ghost use Rattle.std.specs.Prelude.{◌≡◌, ◌<◌, ◌^◌, IfOk};
-ghost use Rattle.enc_order.specs.Orders.{rows_listed, moved_by, new_order, old_row};
+ghost use Rattle.enc_order.specs.Orders.{standing_rows, moved_by, new_order, old_row};
 ghost use Rattle.enc_order.specs.Stages.{AreOrdersOf};
 ghost use Rattle.enc_plain.specs.Sound.{IsSound};
 ghost use Rattle.enc_schema.specs.Schema.{list_at};
@@ -38,7 +38,7 @@ impl Order {
     /// All rows as they stand.
     fn begin<V: ModuleView>(alloc: Global, view: &V) -> Result<Order, AllocError>
         requires sound { IsSound (V.meaning view.now) }
-        ensures same { IfOk result (λ o. list_at o ≡ rows_listed (V.meaning view.now)) }
+        ensures same { IfOk result (λ o. list_at o ≡ standing_rows (V.meaning view.now)) }
         ensures orders { IfOk result (λ o. AreOrdersOf (V.meaning view.now) o) }
     {
         let mut tables = Vec::new(alloc);

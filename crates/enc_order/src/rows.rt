@@ -1,8 +1,8 @@
 //! The rows of a table in a new order.
 ghost use Rattle.std.specs.Prelude.{◌≡◌, ◌+◌, ◌<◌, ◌^◌, true, length, map, slice_get, IfOk};
 ghost use Rattle.std.specs.List.{list_all};
-ghost use Rattle.enc_order.specs.Orders.{new_row, old_row};
-ghost use Rattle.enc_order.specs.Places.{is_row_of, ArePlacedFrom};
+ghost use Rattle.enc_order.specs.Orders.{place_in_order, old_row};
+ghost use Rattle.enc_order.specs.Places.{is_row_within, ArePlacedFrom};
 ghost use Rattle.enc_rows.specs.Sums.{below};
 
 use std::alloc::{AllocError, Global};
@@ -17,13 +17,13 @@ pub(crate) struct Rows {
 
 impl Model for Rows {
     ghost use Rattle.std.specs.Prelude.{ℕ, List};
-    ghost use Rattle.enc_order.specs.Places.{ArePlaces};
+    ghost use Rattle.enc_order.specs.Places.{AreNewPlaces};
 
     ghost Value = { List ℕ };
 
     ghost view = { λ r. r.old.items };
 
-    ghost invariant = { λ r. ArePlaces r.old.items r.new.items };
+    ghost invariant = { λ r. AreNewPlaces r.old.items r.new.items };
 }
 
 /// The numbers from 1 on.
@@ -48,7 +48,7 @@ fn number_at(list: &[u32], i: usize) -> Option<u32>
 /// For each row its place among these.
 fn places_of(alloc: Global, old: &[u32]) -> Result<Vec<u32>, AllocError>
     requires few { length old.now < 2 ^ 24 }
-    requires rows { list_all (is_row_of (length old.now)) old.now ≡ true }
+    requires rows { list_all (is_row_within (length old.now)) old.now ≡ true }
     ensures { IfOk result (λ v. ArePlacedFrom 0 (length old.now) old.now v.items) }
 {
     let mut new = rows_upto(alloc, old.len() as u32)?;
@@ -65,7 +65,7 @@ impl Rows {
     /// These rows, each of which is one of the table's.
     pub(crate) fn of(alloc: Global, old: Vec<u32>) -> Result<Rows, AllocError>
         requires few { length old.items < 2 ^ 24 }
-        requires rows { list_all (is_row_of (length old.items)) old.items ≡ true }
+        requires rows { list_all (is_row_within (length old.items)) old.items ≡ true }
         ensures { IfOk result (λ r. r ≡ old.items) }
     {
         let new = places_of(alloc, &old)?;
@@ -86,14 +86,14 @@ impl Rows {
     pub(crate) fn as_slice(&self) -> &[u32]
         ensures rows { result.now ≡ self.now }
         ensures few { length result.now < 2 ^ 24 }
-        ensures within { list_all (is_row_of (length result.now)) result.now ≡ true }
+        ensures within { list_all (is_row_within (length result.now)) result.now ≡ true }
     {
         &self.old
     }
 
     /// Where a row goes; what is no row of the table stays.
     pub(crate) fn new_row(&self, row: u32) -> u32
-        ensures moved { result ≡ new_row self.now row }
+        ensures moved { result ≡ place_in_order self.now row }
         ensures low { row < 2 ^ 24 → result < 2 ^ 24 }
         ensures none { row ≡ 0 → result ≡ 0 }
     {

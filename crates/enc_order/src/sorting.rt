@@ -1,6 +1,6 @@
 //! Rows in the order of keys.
 ghost use Rattle.std.specs.Prelude.{◌≡◌, map, IfOk};
-ghost use Rattle.enc_order.specs.Keyed.{entry_row, entry_key};
+ghost use Rattle.enc_order.specs.Keyed.{entry_row, sorted_key};
 ghost use Rattle.enc_order.specs.Sorted.{sorted_by};
 
 use std::alloc::{AllocError, Global};
@@ -15,7 +15,7 @@ pub(crate) struct Entry {
 /// The entries in the order of their keys, ties as they stand.
 #[tactic(auto, using(crate::proofs::OneOrder::sorted_is))]
 fn sorted(mut entries: Vec<Entry>) -> Result<Vec<Entry>, AllocError>
-    ensures { IfOk result (λ v. v.items ≡ sorted_by entry_key entries.items) }
+    ensures { IfOk result (λ v. v.items ≡ sorted_by sorted_key entries.items) }
 {
     entries.sort_by_key(|entry| entry.key)?;
     Ok(entries)
@@ -35,7 +35,7 @@ fn rows_of(alloc: Global, entries: &[Entry]) -> Result<Vec<u32>, AllocError>
 
 /// The rows of entries in the order of their keys, ties as they stand.
 pub(crate) fn sorted_rows(alloc: Global, entries: Vec<Entry>) -> Result<Vec<u32>, AllocError>
-    ensures { IfOk result (λ v. v.items ≡ map entry_row (sorted_by entry_key entries.items)) }
+    ensures { IfOk result (λ v. v.items ≡ map entry_row (sorted_by sorted_key entries.items)) }
 {
     let entries = sorted(entries)?;
     rows_of(alloc, &entries)

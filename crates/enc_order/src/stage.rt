@@ -1,6 +1,6 @@
 //! The stages in which the rows of a module get their order.
 ghost use Rattle.std.specs.Prelude.{◌≡◌, ◌<◌, ◌^◌, ◌&&◌, not, true, length, IfOk};
-ghost use Rattle.enc_order.specs.Keyed.{entries_of};
+ghost use Rattle.enc_order.specs.Keyed.{entries_numbered};
 ghost use Rattle.enc_order.specs.Orders.{is_keyed, is_last, keyed_rows};
 ghost use Rattle.enc_order.specs.Stages.{
   is_ordered,
@@ -61,7 +61,7 @@ fn types_by_depth<V: ModuleView>(alloc: Global, view: &V) -> Result<Vec<u32>, Al
 /// The types, from row 1, with their depths.
 fn depth_entries(alloc: Global, depths: &[u32]) -> Result<Vec<Entry>, AllocError>
     requires few { length depths.now < 2 ^ 24 }
-    ensures { IfOk result (λ v. v.items ≡ entries_of depths.now) }
+    ensures { IfOk result (λ v. v.items ≡ entries_numbered depths.now) }
 {
     let mut entries = Vec::with_capacity(alloc, depths.len())?;
     for i in 0..depths.len() {

@@ -5,7 +5,7 @@ use Rattle.std.specs.List.{range_with_len}
 use Rattle.std.proofs.lemmas.Bool.{and_from, eq-eqb}
 use Rattle.enc_compact.specs.Laws.{MovedStandsInOrder}
 use Rattle.enc_compact.specs.Moved.{module_moved, pdb_moved, moves_listed}
-use Rattle.enc_order.specs.Orders.{rows_listed}
+use Rattle.enc_order.specs.Orders.{standing_rows}
 use Rattle.enc_plain.specs.Debug.{PlainPdb}
 use Rattle.enc_plain.specs.Module.{Module}
 use Rattle.enc_plain.specs.Sound.{IsSound, row_count, all_kids}
@@ -31,8 +31,8 @@ in_order : (k n : ℕ) → in_order_from (k + 1) (map (λ i. i + 1) (range_with_
 in_order k zero = refl
 in_order k (suc n) = and_from (k + 1 == k + 1) _ (eq-eqb (k + 1) (k + 1) refl) (in_order (k + 1) n)
 
-listed_in_order : (m : Module) (t : ℕ) → is_in_row_order (rows_listed m t) ≡ true
-unfolding rows_listed below
+listed_in_order : (m : Module) (t : ℕ) → is_in_row_order (standing_rows m t) ≡ true
+unfolding standing_rows below
 listed_in_order m t = in_order 0 (row_count m t)
 
 -- so do the children of a module whose rows were moved

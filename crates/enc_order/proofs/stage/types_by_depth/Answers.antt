@@ -1,7 +1,7 @@
 use Rattle.std.proofs.Common.{◌∙◌, ◌<◌, ap, sym, subst}
 use Rattle.std.specs.Prelude.{◌^◌, length}
 use Rattle.enc_schema.specs.Tables.{type_def}
-use Rattle.enc_order.specs.Keyed.{entries_of}
+use Rattle.enc_order.specs.Keyed.{entries_numbered}
 use Rattle.enc_order.proofs.Staged.{depth_sorted, depths_few}
 use Rattle.enc_order.proofs.stage.types_by_depth.Goals as goal
 
@@ -13,5 +13,5 @@ depth_entries-requires g c = record {
 
 pub returns : goal.returns
 returns g c =
-    depth_sorted (g.V.ModuleView.meaning c.args.view.now) type_def _ _ _ c.in_ok-depths.ensures (c.in_ok-entries.ensures ∙ ap entries_of c.deref.ensures.value)
+    depth_sorted (g.V.ModuleView.meaning c.args.view.now) type_def _ _ _ c.in_ok-depths.ensures (c.in_ok-entries.ensures ∙ ap entries_numbered c.deref.ensures.value)
     c.in_ok-rows.ensures
