@@ -31,3 +31,4 @@ pub mod Gained
 pub mod BodyPlaces
 pub mod BlobPlaces
 pub mod Next
+pub mod Following

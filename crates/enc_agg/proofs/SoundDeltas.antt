@@ -25,8 +25,9 @@ use Rattle.enc_delta.specs.Delta.{map_token, map_in, listed, loaded_code, delta_
 use Rattle.enc_delta.specs.Judged.{first_meta}
 use Rattle.enc_image.proofs.Opens.{each_part}
 use Rattle.enc_image.proofs.SoundCells.{raw_fits}
-use Rattle.enc_agg.specs.Extend.{extended}
-use Rattle.enc_agg.specs.Follows.{Follows}
+use Rattle.enc_agg.specs.Extend.{extended, chain_with}
+use Rattle.enc_agg.specs.Follows.{Follows, AllFollow}
+use Rattle.enc_agg.specs.Laws.{ChainsAreSound}
 use Rattle.enc_agg.proofs.Children.{owned_after}
 use Rattle.enc_agg.proofs.Fitting.{fits, count_is, has_tables, has_runs}
 use Rattle.enc_agg.proofs.Judged.{judged_rows}
@@ -123,3 +124,9 @@ pub delta_keeps_sound : (c : Chain) (s : Source) → WasRead s → first_meta c 
 delta_keeps_sound c s w none sound =
     let bytes = delta_bytes w.metadata w.il s w.bytes w.code w.read in
     keeps_sound c s bytes (bytes_follow c s bytes none) sound
+
+-- and so do all that follow one another
+pub chains_are_sound : ChainsAreSound
+unfolding AllFollow chain_with
+chains_are_sound base [] all = all
+chains_are_sound base (d ∷ older) all = delta_keeps_sound (chain_with base older) d all.0 all.1.0.rules (chains_are_sound base older all.1.1)

@@ -4,6 +4,7 @@ ghost use Rattle.enc_opcodes.specs.Body.{code_seen};
 ghost use Rattle.enc_plain.specs.Module.{rows_in};
 ghost use Rattle.enc_meta.specs.Joined.{joined_lengths};
 ghost use Rattle.enc_agg.specs.Extend.{chain_with};
+ghost use Rattle.enc_agg.specs.Follows.{AllFollow};
 ghost use Rattle.enc_agg.specs.Seen.{sources, AllAdded, newest_number, code_in, rows_counted};
 
 use enc_base::{Counts, Token};
@@ -123,4 +124,17 @@ pub fn count_in(image: &Image, added: &[Added], table: u8) -> u32
         return image.count(table);
     };
     count_of(&last.counts, table)
+}
+
+/// A base that is sound, and deltas of which each was read from two files and follows those before it.
+pub fn all_follow(image: &Image, added: &[Added])
+    requires { AllAdded image.now (reverse added.now) }
+    ensures { AllFollow image.now (sources (reverse added.now)) }
+{
+    image.sound();
+    let mut rest = added;
+    while let Some((last, older)) = newest(rest) {
+        last.delta.was_read();
+        rest = older;
+    }
 }

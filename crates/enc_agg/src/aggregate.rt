@@ -11,13 +11,13 @@ ghost use Rattle.enc_delta.specs.Rules.{inserts};
 ghost use Rattle.enc_delta.specs.Judged.{first_meta};
 ghost use Rattle.enc_image.specs.Base.{cells_fault};
 ghost use Rattle.enc_agg.specs.Extend.{extended, chain_with};
-ghost use Rattle.enc_agg.specs.Follows.{Follows};
+ghost use Rattle.enc_agg.specs.Follows.{AllFollow, Follows};
 ghost use Rattle.enc_agg.specs.Place.{place_of, place_in_heaps, delta_at};
 ghost use Rattle.enc_agg.specs.Seen.{chain_of_all, module_of_all, sources, AllAdded};
 ghost use Rattle.enc_agg.specs.Prepared.{IsPrepared};
 ghost use Rattle.enc_agg.specs.Next.{with_delta, history_of_next, chain_of_next};
 
-use crate::added::{Added, count_in, lengths_in};
+use crate::added::{Added, all_follow, count_in, lengths_in};
 use crate::after::After;
 use crate::directory::{Directory, Entries, find};
 use crate::entries::{Brought, brought_by};
@@ -118,6 +118,14 @@ impl Aggregate {
         ensures { IsSound (module_of_all self.now) }
     {
         let _ = &self.image;
+    }
+
+    /// The base is sound, and each delta was read from two files and follows those before it: a law, of
+    /// which a caller makes use. It goes over the deltas once.
+    pub fn follows(&self)
+        ensures { AllFollow self.now.base self.now.deltas }
+    {
+        all_follow(&self.image, &self.added);
     }
 
     /// A delta that breaks no rule leaves it sound.

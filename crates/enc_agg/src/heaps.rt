@@ -122,7 +122,7 @@ pub fn guid_in(image: &Image, added: &[Added], k: u32) -> Option<[u8; 16]>
 fn own_place(heaps: &Heaps<'_>, heap: Heap, generation: u32, offset: u32) -> Option<HeapPlace>
     ensures { result ≡ own_place (bytes_in heap heaps.now) generation offset }
 {
-    if (offset as usize) < heaps.bytes(heap).len() {
+    if (offset as usize) < heaps.counted(heap).len() {
         Some(HeapPlace { generation, offset })
     } else {
         None

@@ -17,5 +17,5 @@ mod view;
 pub use after::After;
 pub use aggregate::{Aggregate, Ready};
 pub use enc_plain::RowPlace;
-pub use laws::{delta_keeps_sound_law, judged_rows_law};
+pub use laws::{chains_are_sound_law, delta_keeps_sound_law, judged_rows_law};
 pub use place::HeapPlace;

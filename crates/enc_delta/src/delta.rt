@@ -7,7 +7,7 @@ ghost use Rattle.enc_schema.specs.Schema.{column_in};
 ghost use Rattle.enc_rows.specs.Layout.{rows_of, stream_has_row};
 ghost use Rattle.enc_rows.specs.Source.{raw_in};
 ghost use Rattle.enc_base.specs.Token.{nth_row};
-ghost use Rattle.enc_delta.specs.Delta.{delta_of, delta_source, entry_at, map_token, log_in, map_in, listed};
+ghost use Rattle.enc_delta.specs.Delta.{delta_of, delta_source, entry_at, loaded_code, map_token, log_in, map_in, listed};
 ghost use Rattle.enc_base.specs.declared.refusal.ReadFault.TheVariants.{Memory};
 ghost use Rattle.enc_delta.specs.Seen.{ReadsDelta, IsDeltaOpened, IsRising, WasRead};
 ghost use Rattle.enc_schema.specs.Tables.{enc_log, enc_map};
@@ -128,6 +128,13 @@ impl Delta {
             Some(_) => self.tables.cell(&self.meta, row, column),
             None => 0,
         }
+    }
+
+    /// The bytes of the delta's code. It takes no memory.
+    pub fn il(&self) -> &[u8]
+        ensures { self.now.loaded ≡ loaded_code result.now }
+    {
+        &self.il
     }
 
     /// The parts of the body at an offset of the delta's code, None where none stands whole there

@@ -1,5 +1,5 @@
 -- A root that was written is read back.
-use Rattle.std.proofs.Common.{◌≡◌, ℕ, ◌+◌, ◌-◌, ◌^◌, ◌<◌, ◌≤◌, Bool, true, false, List, [], ◌∷◌, ◌++◌, length, Some, None, Ok, refl, ap, ◌∙◌, arith, append_assoc}
+use Rattle.std.proofs.Common.{◌≡◌, ℕ, ◌+◌, ◌-◌, ◌^◌, ◌<◌, ◌≤◌, Bool, true, false, List, [], ◌∷◌, ◌++◌, length, Some, None, Ok, refl, ap, ◌∙◌, arith, append_assoc, subst}
 use Rattle.std.specs.Prelude.{Option, codes, replicate}
 use Rattle.std.proofs.lemmas.List.{append-nil}
 use Rattle.enc_base.specs.Numbers.{padded}
@@ -7,7 +7,7 @@ use Rattle.enc_meta.specs.Root.{version_len, root_of, root_with}
 use Rattle.enc_meta.specs.Heaps.{Counted, counted_strings, heaps_of, part}
 use Rattle.enc_meta.specs.declared.root.Root.{Root}
 use Rattle.enc_meta.specs.declared.span.Span.{Span}
-use Rattle.enc_emit.specs.Written.{Further, jtd_streams, pdb_streams, streams_begin, five_end, five_headers_written, further_headers_written, five_written, further_written, front_written, root_with_further, root_written, root_size, pdb_root_written, in_fours, table_name, HoldsStreams, RootIsRead, PdbRootIsRead}
+use Rattle.enc_emit.specs.Written.{Further, jtd_streams, pdb_streams, streams_begin, five_end, five_headers_written, further_headers_written, five_written, further_written, front_written, root_with_further, root_written, root_size, pdb_root_written, in_fours, table_name, that_count, HoldsStreams, RootIsRead, CountedRootIsRead, PdbRootIsRead}
 use Rattle.enc_emit.proofs.Rests.{Rests, IsName, at_begin, as_split, past, part_here, rest_size, fours_size}
 use Rattle.enc_emit.proofs.Names.{front_size, front_version, front_five, front_six, jtd_name, pdb_name}
 use Rattle.enc_emit.proofs.Five.{Spans, Ends, five, six, header_of, headers_there, five_there, six_there, streams_are, root_is}
@@ -86,14 +86,18 @@ are_there bytes at stream h last r0 =
       rest = fours_past bytes _ h.blobs last r4;
     }
 
-counted_again : (bytes : List ℕ) (jtd u : Bool) (at : ℕ) (stream : List ℕ) (h : Counted) (last : List ℕ) (pdb : Option Span) → AreThere bytes at stream h last → counted_strings h.strings ≡ h.strings
-    → heaps_of bytes (root_for jtd u (spans_from at stream h) pdb) ≡ h
+counted_again : (bytes : List ℕ) (jtd u : Bool) (at : ℕ) (stream : List ℕ) (h : Counted) (last : List ℕ) (pdb : Option Span) → AreThere bytes at stream h last
+    → heaps_of bytes (root_for jtd u (spans_from at stream h) pdb) ≡ that_count h
 unfolding heaps_of
-counted_again bytes jtd u at stream h last pdb is counts = rw (is.strings, is.users, is.guids, is.blobs, counts) refl
+counted_again bytes jtd u at stream h last pdb is = rw (is.strings, is.users, is.guids, is.blobs) refl
 
-holds : (bytes : List ℕ) (jtd u : Bool) (at : ℕ) (stream : List ℕ) (h : Counted) (last : List ℕ) (pdb : Option Span) → AreThere bytes at stream h last → counted_strings h.strings ≡ h.strings
-    → HoldsStreams bytes jtd u stream h (root_for jtd u (spans_from at stream h) pdb)
-holds bytes jtd u at stream h last pdb is counts = record { tables = is.tables; form = refl; wide = refl; heaps = counted_again bytes jtd u at stream h last pdb is counts }
+holds : (bytes : List ℕ) (jtd u : Bool) (at : ℕ) (stream : List ℕ) (h : Counted) (last : List ℕ) (pdb : Option Span) → AreThere bytes at stream h last
+    → HoldsStreams bytes jtd u stream (that_count h) (root_for jtd u (spans_from at stream h) pdb)
+holds bytes jtd u at stream h last pdb is = record { tables = is.tables; form = refl; wide = refl; heaps = counted_again bytes jtd u at stream h last pdb is }
+
+-- heaps of which every byte counts
+all_count : (h : Counted) → counted_strings h.strings ≡ h.strings → that_count h ≡ h
+all_count h counts = ap (λ (xs : List ℕ). record { strings = xs; users = h.users; blobs = h.blobs; guids = h.guids }) counts
 
 -- the headers of the five and what stands behind them, one part behind the other
 apart : (a b c d e t : List ℕ) → ((((a ++ b) ++ c) ++ d) ++ e) ++ t ≡ a ++ (b ++ (c ++ (d ++ (e ++ t))))
@@ -136,9 +140,9 @@ version_of : (bytes : List ℕ) (count : ℕ) (rest : List ℕ) → bytes ≡ fr
 version_of bytes count rest e = ap version_len e ∙ front_version count rest
 
 -- the five streams alone
-five_read : (bytes : List ℕ) (u : Bool) (stream : List ℕ) (h : Counted) → bytes ≡ front_written 5 ++ headers_there u (spans_from 108 stream h) (tail stream h []) → size_from 108 stream h < 2 ^ 32 → counted_strings h.strings ≡ h.strings
-    → (root : Root) × (root_of bytes ≡ Ok root) × HoldsStreams bytes false u stream h root
-five_read bytes u stream h e small counts =
+five_read : (bytes : List ℕ) (u : Bool) (stream : List ℕ) (h : Counted) → bytes ≡ front_written 5 ++ headers_there u (spans_from 108 stream h) (tail stream h []) → size_from 108 stream h < 2 ^ 32
+    → (root : Root) × (root_of bytes ≡ Ok root) × HoldsStreams bytes false u stream (that_count h) root
+five_read bytes u stream h e small =
     let s = spans_from 108 stream h in
     let size = size_from 108 stream h in
     let there = five_there bytes u s size (tail stream h []) (ends 108 stream h) small (behind_front bytes 5 _ e) in
@@ -146,7 +150,7 @@ five_read bytes u stream h e small counts =
     let whole : length bytes ≡ size = omega (arith, rest_size bytes size [] is.rest) in
     let listed = streams_are bytes 5 108 (five u s) (version_of bytes 5 _ e) (rw e (front_five _)) there.0 in
     let read = root_is bytes (five u s) listed (rw whole (five_good size u s (ends 108 stream h))) in
-    (root_for false u s None, read ∙ ap (λ (r : Root). Ok r) (five_root u s), holds bytes false u 108 stream h [] None is counts)
+    (root_for false u s None, read ∙ ap (λ (r : Root). Ok r) (five_root u s), holds bytes false u 108 stream h [] None is)
 
 -- where the further stream stands
 abbrev further_span : List ℕ → Counted → List ℕ → Span
@@ -188,23 +192,29 @@ six_of u stream h name x eight =
     ∙ ap (λ (n : ℕ). front_written 6 ++ headers_there u (spans_from n stream h) (further_headers_written (five_end n stream h) (f ∷ []) ++ tail stream h (further_written (f ∷ [])))) begin
     ∙ ap (λ xs. front_written 6 ++ headers_there u (spans_from 124 stream h) (xs ++ tail stream h (in_fours x ++ []))) (append-nil (header_of name (further_span stream h x)))
 
-jtd_read : (u : Bool) (stream : List ℕ) (h : Counted) → root_size true stream h < 2 ^ 32 → counted_strings h.strings ≡ h.strings
-    → (root : Root) × (root_of (root_written true u stream h) ≡ Ok root) × HoldsStreams (root_written true u stream h) true u stream h root
+jtd_read : (u : Bool) (stream : List ℕ) (h : Counted) → root_size true stream h < 2 ^ 32
+    → (root : Root) × (root_of (root_written true u stream h) ≡ Ok root) × HoldsStreams (root_written true u stream h) true u stream (that_count h) root
 unfolding root_written padded
-jtd_read u stream h small counts =
+jtd_read u stream h small =
     let bytes = root_with_further (jtd_streams true) u stream h in
     let are = six_read bytes u stream h (codes "#JTD") [] jtd_name jtd_beside (six_of u stream h (codes "#JTD") [] refl) small in
-    (root_for true u (spans_from 124 stream h) None, are.read ∙ ap (λ (r : Root). Ok r) (jtd_root u (spans_from 124 stream h) (further_span stream h [])), holds bytes true u 124 stream h _ None are.there counts)
+    (root_for true u (spans_from 124 stream h) None, are.read ∙ ap (λ (r : Root). Ok r) (jtd_root u (spans_from 124 stream h) (further_span stream h [])), holds bytes true u 124 stream h _ None are.there)
 
-five_alone : (u : Bool) (stream : List ℕ) (h : Counted) → root_size false stream h < 2 ^ 32 → counted_strings h.strings ≡ h.strings
-    → (root : Root) × (root_of (root_written false u stream h) ≡ Ok root) × HoldsStreams (root_written false u stream h) false u stream h root
+five_alone : (u : Bool) (stream : List ℕ) (h : Counted) → root_size false stream h < 2 ^ 32
+    → (root : Root) × (root_of (root_written false u stream h) ≡ Ok root) × HoldsStreams (root_written false u stream h) false u stream (that_count h) root
 unfolding root_written
-five_alone u stream h small counts = five_read (root_with_further [] u stream h) u stream h (root_apart [] u stream h) small counts
+five_alone u stream h small = five_read (root_with_further [] u stream h) u stream h (root_apart [] u stream h) small
 
--- the root of a module or of a delta
+-- the root of a module or of a delta, whatever its texts end with
+pub counted_root_is_read : CountedRootIsRead
+counted_root_is_read true u stream h small = jtd_read u stream h small
+counted_root_is_read false u stream h small = five_alone u stream h small
+
+-- and where every byte of its texts counts
 pub root_is_read : RootIsRead
-root_is_read true u stream h small counts = jtd_read u stream h small counts
-root_is_read false u stream h small counts = five_alone u stream h small counts
+root_is_read jtd u stream h small counts =
+    let r = counted_root_is_read jtd u stream h small in
+    (r.0, r.1, subst (λ (x : Counted). HoldsStreams (root_written jtd u stream h) jtd u stream x r.0) (all_count h counts) r.2)
 
 -- and that of a PDB
 pub pdb_root_is_read : PdbRootIsRead
@@ -216,6 +226,6 @@ pdb_root_is_read pdb u stream h small counts =
     let are = six_read bytes u stream h (codes "#Pdb") pdb pdb_name pdb_beside (six_of u stream h (codes "#Pdb") pdb refl) small in (
       root_for false u s (Some span),
       are.read ∙ ap (λ (r : Root). Ok r) (pdb_root u s span),
-      holds bytes false u 124 stream h _ (Some span) are.there counts,
+      subst (λ (x : Counted). HoldsStreams bytes false u stream x (root_for false u s (Some span))) (all_count h counts) (holds bytes false u 124 stream h _ (Some span) are.there),
       (span, refl, are.last),
     )

@@ -174,6 +174,16 @@ RootIsRead = (jtd uncompressed : Bool) (stream : List ℕ) (h : Counted) → roo
     → (root : Root) × (root_of (root_written jtd uncompressed stream h) ≡ Ok root)
     × HoldsStreams (root_written jtd uncompressed stream h) jtd uncompressed stream h root
 
+-- the heaps by the bytes that count
+abbrev pub that_count : Counted → Counted
+that_count h = record { strings = counted_strings h.strings; users = h.users; blobs = h.blobs; guids = h.guids }
+
+-- a root that was written is read back, its texts by the bytes that count
+abbrev pub CountedRootIsRead : Type 0
+CountedRootIsRead = (jtd uncompressed : Bool) (stream : List ℕ) (h : Counted) → root_size jtd stream h < 2 ^ 32
+    → (root : Root) × (root_of (root_written jtd uncompressed stream h) ≡ Ok root)
+    × HoldsStreams (root_written jtd uncompressed stream h) jtd uncompressed stream (that_count h) root
+
 -- the bytes of `#Pdb` stand in the root
 abbrev pub HoldsPdb : List ℕ → List ℕ → Root → Type 0
 HoldsPdb bytes pdb root = (span : Span) × (root.pdb ≡ Some span) × (part bytes span ≡ pdb)

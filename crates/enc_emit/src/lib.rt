@@ -6,6 +6,6 @@ mod root;
 mod root_form;
 mod written;
 
-pub use laws::{pdb_root_law, root_law};
-pub use root::RootBuilder;
+pub use laws::{counted_root_law, pdb_root_law, root_law};
+pub use root::{RootBuilder, write_root};
 pub use root_form::RootForm;

@@ -1,12 +1,13 @@
 //! A metadata root that is built: its heaps, its tables, and then its bytes (ECMA-335 II.24.2.1).
 ghost use Rattle.std.specs.Prelude.{◌≡◌, ◌<◌, ◌^◌, ◌||◌, false, [], IfOk};
 ghost use Rattle.enc_meta.specs.Built.{none_from};
+ghost use Rattle.enc_meta.specs.BuiltSeen.{heap_bytes_seen};
 ghost use Rattle.enc_rows.specs.Written.{IndicesFit};
-ghost use Rattle.enc_emit.specs.Written.{has_ptr_rows as ptrs_have_rows, has_jtd as form_has_jtd, is_delta as form_is_delta, root_built, built_size, pdb_root_built, pdb_built_size};
+ghost use Rattle.enc_emit.specs.Written.{has_ptr_rows as ptrs_have_rows, has_jtd as form_has_jtd, is_delta as form_is_delta, root_built, built_size, pdb_root_built, pdb_built_size, root_size, root_written};
 
 use crate::root_form::{RootForm, has_jtd, is_delta};
 use crate::written::{pdb_root_bytes, root_bytes};
-use enc_meta::{HeapBuilder, HeapLengths};
+use enc_meta::{HeapBuilder, HeapBytes, HeapLengths};
 use enc_rows::{TableBuilder, heap_bits_law};
 use enc_schema::tables::{EVENT_PTR, FIELD_PTR, METHOD_PTR, PARAM_PTR, PROPERTY_PTR};
 use std::alloc::{AllocError, Global};
@@ -44,6 +45,21 @@ fn is_uncompressed(form: RootForm, tables: &TableBuilder) -> bool
     ensures { result ≡ (form_is_delta form || ptrs_have_rows tables.now) }
 {
     is_delta(form) || has_ptr_rows(tables)
+}
+
+/// The bytes of a root of a table stream and heaps as they are, where `delta` says that it is a delta's,
+/// with `#JTD` and the uncompressed table stream `#-`, and not a module's with `#~`. `read_root` and
+/// `Heaps` read them back, `#Strings` by the bytes that count.
+pub fn write_root(
+    alloc: Global,
+    tables: &[u8],
+    heaps: &HeapBytes,
+    delta: bool,
+) -> Result<Vec<u8>, AllocError>
+    requires { root_size delta tables.now (heap_bytes_seen heaps.now) < 2 ^ 32 }
+    ensures { IfOk result (λ v. v.items ≡ root_written delta delta tables.now (heap_bytes_seen heaps.now)) }
+{
+    root_bytes(alloc, delta, delta, tables, heaps)
 }
 
 impl RootBuilder {

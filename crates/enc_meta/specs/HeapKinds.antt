@@ -1,5 +1,7 @@
 -- What the heaps whose entries go by offsets have in common.
-use Rattle.std.specs.Prelude.{ℕ, List, map, Option}
+use Rattle.std.specs.Prelude.{ℕ, ◌*◌, ◌/◌, List, [], length, map, take, Option}
+use Rattle.enc_base.specs.declared.refusal.StreamName.{StreamName}
+use Rattle.enc_base.specs.declared.refusal.StreamName.TheVariants as stream
 use Rattle.enc_meta.specs.Heaps.{Counted, text_entry, blob_entry, user_entry, text_at, blob_at, user_at}
 use Rattle.enc_meta.specs.Joined.{joined_entry}
 use Rattle.enc_meta.specs.declared.heap.Heap.{Heap}
@@ -11,6 +13,14 @@ abbrev pub bytes_in : Heap → Counted → List ℕ
 bytes_in heap.Strings h = h.strings
 bytes_in heap.Users h = h.users
 bytes_in heap.Blobs h = h.blobs
+
+-- the bytes of a stream that count: of `#GUID` the whole entries (II.24.2.5), of a stream that is no heap none
+abbrev pub stream_counted : StreamName → Counted → List ℕ
+stream_counted stream.Strings h = h.strings
+stream_counted stream.Users h = h.users
+stream_counted stream.Blobs h = h.blobs
+stream_counted stream.Guids h = take (length h.guids / 16 * 16) h.guids
+stream_counted _ h = []
 
 -- the entry that begins at an offset of a heap's bytes
 abbrev pub heap_entry : Heap → List ℕ → ℕ → Option (List ℕ)

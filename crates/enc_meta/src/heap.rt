@@ -1,9 +1,10 @@
 //! The heaps whose entries go by offsets.
-ghost use Rattle.std.specs.Prelude.{◌≡◌};
+ghost use Rattle.std.specs.Prelude.{◌≡◌, ◌*◌, ◌/◌, length, take};
 ghost use Rattle.std.specs.Option.{option_copied};
-ghost use Rattle.enc_meta.specs.HeapKinds.{bytes_in, heap_entry, own_at, length_in};
+ghost use Rattle.enc_meta.specs.HeapKinds.{bytes_in, heap_entry, own_at, length_in, stream_counted};
 
 use crate::heaps::{HeapLengths, Heaps};
+use enc_base::StreamName;
 
 /// A heap whose entries go by offsets (ECMA-335 II.24.2.3, II.24.2.4). Of `#GUID` the entries are
 /// counted.
@@ -17,9 +18,30 @@ pub enum Heap {
     Blobs,
 }
 
+/// The bytes of the whole entries of a `#GUID`.
+fn whole_entries(guids: &[u8]) -> &[u8]
+    ensures { result.now ≡ take (length guids.now / 16 * 16) guids.now }
+{
+    &guids[..guids.len() / 16 * 16]
+}
+
 impl<'a> Heaps<'a> {
+    /// The bytes of a stream that count: of `#Strings` up to the zero of its last text, of `#US` and
+    /// `#Blob` all, of `#GUID` the whole entries, and of a stream that is no heap none.
+    pub fn bytes(&self, stream: StreamName) -> &'a [u8]
+        ensures { result.now ≡ stream_counted stream self.now }
+    {
+        match stream {
+            StreamName::Strings => self.strings(),
+            StreamName::Users => self.users(),
+            StreamName::Blobs => self.blobs(),
+            StreamName::Guids => whole_entries(self.guids()),
+            _ => &[],
+        }
+    }
+
     /// The bytes of a heap that count.
-    pub fn bytes(&self, heap: Heap) -> &'a [u8]
+    pub fn counted(&self, heap: Heap) -> &'a [u8]
         ensures { result.now ≡ bytes_in heap self.now }
     {
         match heap {

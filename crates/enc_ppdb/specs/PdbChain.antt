@@ -1,5 +1,5 @@
 -- The PDBs of a base and its deltas, and the plain PDB that they mean (Portable PDB v1.0).
-use Rattle.std.specs.Prelude.{ℕ, ◌&&◌, ◌==◌, List, [], ◌∷◌, Option, Some, None, option_map, option_and_then, unwrap_or, nat_le, if◌then◌else◌}
+use Rattle.std.specs.Prelude.{ℕ, Bool, false, ◌&&◌, ◌==◌, List, [], ◌∷◌, Option, Some, None, option_map, option_and_then, unwrap_or, is_some, nat_le, if◌then◌else◌}
 use Rattle.std.specs.List.{list_any}
 use Rattle.enc_base.specs.Token.{is_token}
 use Rattle.enc_base.specs.declared.token.Token.{Token}
@@ -49,6 +49,11 @@ base_row pdb method = option_and_then (λ (s : Source). row_in_file s (row_of_me
 
 abbrev pub delta_row : Option Source → Token → Option (Source × Token)
 delta_row pdb method = option_and_then (λ (s : Source). row_in_file s (row_for s method)) pdb
+
+-- the PDB of a delta has a row for a method
+unfoldable pub is_named_by : Option DebugDelta → Token → Bool
+is_named_by None method = false
+is_named_by (Some d) method = is_some (delta_row d.pdb method)
 
 -- what is known by a row of a file, by no row nothing
 unfoldable pub points_at : Option (Source × Token) → MethodPoints

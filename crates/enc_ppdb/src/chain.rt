@@ -1,9 +1,9 @@
 //! The PDBs of a base and its deltas.
-ghost use Rattle.std.specs.Prelude.{◌≡◌, ◌+◌, ◌*◌, ◌^◌, ◌<◌, ◌≤◌, [], ◌∷◌, length, IfOk, OnOk, reverse};
+ghost use Rattle.std.specs.Prelude.{◌≡◌, ◌+◌, ◌*◌, ◌^◌, ◌<◌, ◌≤◌, [], ◌∷◌, length, IfOk, OnOk, option_copied, reverse, slice_get};
 ghost use Rattle.std.specs.List.{list_any};
 ghost use Rattle.enc_base.specs.Token.{is_token};
 ghost use Rattle.enc_plain.specs.SoundDebug.{IsSoundPdb};
-ghost use Rattle.enc_ppdb.specs.PdbChain.{base_row, delta_row, pdb_begun, pdb_with, points_at, documents_at};
+ghost use Rattle.enc_ppdb.specs.PdbChain.{base_row, delta_row, is_named_by, pdb_begun, pdb_with, points_at, documents_at};
 ghost use Rattle.enc_ppdb.specs.Sound.{KeepsSound};
 ghost use Rattle.enc_ppdb.specs.KnownAt.{known_at};
 ghost use Rattle.enc_ppdb.specs.PlacedAt.{file_number};
@@ -74,6 +74,16 @@ impl Said {
     {
         self.changed.place(method).is_some()
     }
+}
+
+/// What a delta says, counted back from the newest, from 0.
+fn said_at(added: &[Said], back: usize) -> Option<&Said>
+    ensures { option_copied result ≡ slice_get (reverse added.now) back }
+{
+    if back >= added.len() {
+        return None;
+    }
+    added.get(added.len() - 1 - back)
 }
 
 /// Where the newest file that knows a method has it.
@@ -180,6 +190,18 @@ impl PdbChain {
         ensures { IsSoundPdb (pdb_with self.now.base self.now.deltas) }
     {
         let _ = &self.base;
+    }
+
+    /// Whether the PDB of a delta has a row for a method; of the newest delta where `back` is 0, of the one
+    /// before it where it is 1, and so on. False where the delta has no PDB, or isn't there.
+    #[tactic(auto, unfolding(crate::specs::PdbChain::is_named_by))]
+    pub fn names(&self, back: usize, method: Token) -> bool
+        ensures { result ≡ is_named_by (slice_get self.now.deltas back) method }
+    {
+        match said_at(&self.added, back) {
+            Some(said) => said.known(method).is_some(),
+            None => false,
+        }
     }
 
     /// Adds what a delta says: its PDB, where it has one, and the methods that have a new body in it.

@@ -1,6 +1,5 @@
 pub mod Entered
 pub mod Handed
-pub mod Marked
 pub mod Types
 pub mod Declared
 pub mod Called

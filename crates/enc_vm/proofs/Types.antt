@@ -1,5 +1,5 @@
 -- Types in the order of their rows: one more comes in, and one is found by halves.
-use Rattle.std.proofs.Common.{◌≡◌, ℕ, zero, suc, ◌+◌, ◌<◌, ◌≤◌, Bool, true, false, List, [], ◌∷◌, length, Some, get_or, refl, sym, ap, ◌∙◌, subst, ⊎_elim, arith}
+use Rattle.std.proofs.Common.{◌≡◌, ℕ, zero, suc, ◌+◌, ◌<◌, ◌≤◌, Bool, true, false, List, [], ◌∷◌, ◌++◌, length, take, drop, Some, get_or, refl, sym, ap, ◌∙◌, subst, ⊎_elim, arith}
 use Rattle.std.specs.Prelude.{slice_get, nat_lt, ◌==◌, ◌&&◌, ◌||◌, if◌then◌else◌}
 use Rattle.std.specs.List.{list_any}
 use Rattle.std.specs.List.Sorted.{IsNonDecreasingBy, IsPartitionPoint}
@@ -128,3 +128,64 @@ by_table types token i d false e all low is = none_any token types (λ k t at. n
 pub found : (types : List Token) (token : Token) (i : ℕ) (d : Token) → AreTypesFrom 0 types → i < length types → (get_or types i d).row ≡ token.row
     → list_any (λ (u : Token). is_token u token) types ≡ (token.table == tables.type_def)
 found types token i d all low is = by_table types token i d (token.table == tables.type_def) refl all low is
+
+-- a type that is there comes in nowhere; another stands behind those of less rows
+all_types : (least : ℕ) (types : List Token) → AreTypesFrom least types → (k : ℕ) (t : Token) → slice_get types k ≡ Some t → t.table ≡ tables.type_def
+all_types least types all k t at = (one_of least k types t all at).0
+
+steps : (type t : Token) (rest : List Token) (a b : Bool) → nat_lt (number_of type) (number_of t) ≡ a → is_token type t ≡ b
+    → with_type type (t ∷ rest) ≡ (if a then type ∷ t ∷ rest else if b then t ∷ rest else t ∷ with_type type rest)
+unfolding with_type
+steps type t rest a b e f =
+    ap (λ (x : Bool). if x then type ∷ t ∷ rest else if is_token type t then t ∷ rest else t ∷ with_type type rest) e
+    ∙ ap (λ (x : Bool). if a then type ∷ t ∷ rest else if x then t ∷ rest else t ∷ with_type type rest) f
+
+before : (type t : Token) → type.table ≡ tables.type_def → t.table ≡ tables.type_def → type.row < t.row → nat_lt (number_of type) (number_of t) ≡ true
+before type t a b lt = grind (arith, nat_tests, a, b, lt)
+
+not_before : (type t : Token) → type.table ≡ tables.type_def → t.table ≡ tables.type_def → t.row ≤ type.row → nat_lt (number_of type) (number_of t) ≡ false
+not_before type t a b le = grind (arith, nat_tests, a, b, le)
+
+apart : (type t : Token) → t.row < type.row → is_token type t ≡ false
+apart type t lt = grind (arith, nat_tests, lt)
+
+pub stays_there : (least i : ℕ) (types : List Token) (type t : Token) → type.table ≡ tables.type_def → AreTypesFrom least types → slice_get types i ≡ Some t → t.row ≡ type.row
+    → with_type type types ≡ types
+stays_there least i [] type t table all at is = absurd cc
+stays_there least zero (x ∷ types) type t table all at is =
+    let e : x ≡ t = cc in
+    let row : x.row ≡ type.row = ap (λ (y : Token). y.row) e ∙ is in
+    steps type x types false true (not_before type x table all.0 (omega (arith, row))) (is_same type x table all.0 (sym row))
+stays_there least (suc i) (x ∷ types) type t table all at is =
+    let less : x.row < t.row = (one_of (x.row + 1) i types t all.2 at).1 in
+    let lt : x.row < type.row = omega (arith, less, is) in
+    steps type x types false false (not_before type x table all.0 (omega (arith, lt))) (apart type x lt)
+    ∙ ap (λ (l : List Token). x ∷ l) (stays_there (x.row + 1) i types type t table all.2 at is)
+
+pub comes_in : (least i : ℕ) (types : List Token) (type : Token) → type.table ≡ tables.type_def → AreTypesFrom least types → i ≤ length types
+    → ((k : ℕ) (t : Token) → slice_get types k ≡ Some t → k < i → t.row < type.row)
+    → ((k : ℕ) (t : Token) → slice_get types k ≡ Some t → i ≤ k → type.row < t.row)
+    → take i types ++ type ∷ drop i types ≡ with_type type types
+comes_in least zero [] type table all le low high = sym (none_yet type)
+  where
+    none_yet : (type : Token) → with_type type [] ≡ type ∷ []
+    unfolding with_type
+    none_yet type = refl
+comes_in least (suc i) [] type table all le low high = absurd (omega (arith, le))
+comes_in least zero (x ∷ types) type table all le low high =
+    sym (steps type x types true (is_token type x) (before type x table all.0 (high 0 x refl (omega arith))) refl)
+comes_in least (suc i) (x ∷ types) type table all le low high =
+    let lt = low 0 x refl (omega arith) in
+    ap (λ (l : List Token). x ∷ l) (comes_in (x.row + 1) i types type table all.2 (omega (arith, le)) (λ k t at h. low (suc k) t at (omega (arith, h))) (λ k t at h. high (suc k) t at (omega (arith, h))))
+    ∙ sym (steps type x types false false (not_before type x table all.0 (omega (arith, lt))) (apart type x lt))
+
+-- so it is by a search
+row_by : (types : List Token) (i k : ℕ) (t : Token) → slice_get types k ≡ Some t → get_or types k t ≡ t
+row_by types i k t at = get_or_from_slice_get types k t t at
+
+pub comes_in_parted : (types : List Token) (type : Token) (i : ℕ) → type.table ≡ tables.type_def → AreTypesFrom 0 types → i ≤ length types
+    → IsPartitionPoint (λ (t : Token). nat_cmp t.row type.row ≡ Less) (λ (t : Token). nat_cmp t.row type.row ≡ Greater) types i
+    → take i types ++ type ∷ drop i types ≡ with_type type types
+comes_in_parted types type i table all le parted = comes_in 0 i types type table all le
+    (λ k t at lt. let is_less = parted.0 k t (omega arith) lt in let o : nat_cmp t.row type.row ≡ Less = ap (λ (q : Token). nat_cmp q.row type.row) (sym (row_by types i k t at)) ∙ is_less in grind (arith, nat_tests, o))
+    (λ k t at ge. let is_greater = parted.1 k t ge (slice_get_within types k t at) in let o : nat_cmp t.row type.row ≡ Greater = ap (λ (q : Token). nat_cmp q.row type.row) (sym (row_by types i k t at)) ∙ is_greater in grind (arith, nat_tests, o))

@@ -1,7 +1,7 @@
 //! The types that were touched (ECMA-335 II.10.5.3).
-ghost use Rattle.std.specs.Prelude.{◌≡◌, ◌++◌, ◌∷◌, [], nat_lt, slice_get, IfOk};
+ghost use Rattle.std.specs.Prelude.{◌≡◌, ◌≤◌, ◌++◌, ◌∷◌, [], drop, length, slice_get, take, IfOk};
 ghost use Rattle.std.specs.List.{list_any};
-ghost use Rattle.enc_base.specs.Token.{is_token, number_of};
+ghost use Rattle.enc_base.specs.Token.{is_token};
 ghost use Rattle.enc_base.specs.declared.token.Token.{Token as TheToken};
 ghost use Rattle.enc_schema.specs.Tables.{type_def};
 ghost use Rattle.enc_vm.specs.Calls.{with_type};
@@ -11,35 +11,6 @@ use enc_schema::tables::TYPE_DEF;
 use std::alloc::{AllocError, Global};
 use std::marker::Model;
 
-/// The number of a token (ECMA-335 II.22).
-fn number(token: Token) -> u64
-    ensures { result ≡ number_of token }
-{
-    u64::from(token.table) * 0x100_0000 + u64::from(token.row)
-}
-
-/// Whether a token's number is less than another's.
-fn is_before(a: Token, b: Token) -> bool
-    ensures { result ≡ nat_lt (number_of a) (number_of b) }
-{
-    number(a) < number(b)
-}
-
-/// Whether two tokens are the same.
-fn is_same(a: Token, b: Token) -> bool
-    ensures { result ≡ is_token a b }
-{
-    a.table == b.table && a.row == b.row
-}
-
-/// A list with one token more.
-fn with_token(mut tokens: Vec<Token>, token: Token) -> Result<Vec<Token>, AllocError>
-    ensures { IfOk result (λ l. l.items ≡ tokens.items ++ token ∷ []) }
-{
-    tokens.push(token)?;
-    Ok(tokens)
-}
-
 /// A list with others behind it.
 fn joined(mut tokens: Vec<Token>, rest: &[Token]) -> Result<Vec<Token>, AllocError>
     ensures { IfOk result (λ l. l.items ≡ tokens.items ++ rest.now) }
@@ -48,25 +19,21 @@ fn joined(mut tokens: Vec<Token>, rest: &[Token]) -> Result<Vec<Token>, AllocErr
     Ok(tokens)
 }
 
-/// Tokens with one more in their order, once.
-#[tactic(auto, using(crate::proofs::Marked::stands_before, crate::proofs::Marked::stands_there, crate::proofs::Marked::stands_behind), unfolding(crate::specs::Calls::with_type))]
-fn with_type(alloc: Global, token: Token, tokens: &[Token]) -> Result<Vec<Token>, AllocError>
-    ensures { IfOk result (λ l. l.items ≡ with_type token tokens.now) }
+/// Tokens with one more at a place.
+fn with_at(
+    alloc: Global,
+    tokens: &[Token],
+    at: usize,
+    token: Token,
+) -> Result<Vec<Token>, AllocError>
+    requires { at ≤ length tokens.now }
+    ensures { IfOk result (λ l. l.items ≡ take at tokens.now ++ token ∷ drop at tokens.now) }
 {
-    let mut all = Vec::new(alloc);
-    let mut rest = tokens;
-    while let [next, tail @ ..] = rest {
-        if is_before(token, *next) {
-            let all = with_token(all, token)?;
-            return joined(all, rest);
-        }
-        if is_same(token, *next) {
-            return joined(all, rest);
-        }
-        all = with_token(all, *next)?;
-        rest = tail;
-    }
-    with_token(all, token)
+    let mut all = Vec::with_capacity(alloc, tokens.len() + 1)?;
+    all.extend_from_slice(&tokens[..at])?;
+    all.push(token)?;
+    all.extend_from_slice(&tokens[at..])?;
+    Ok(all)
 }
 
 /// The types that were touched, in the order of their tokens.
@@ -121,13 +88,16 @@ impl Touched {
         }
     }
 
-    /// These types and one more.
+    /// These types and one more. Its place is found by halves, and the others are copied as they stand.
     #[tactic(auto, using(crate::proofs::Types::kept))]
     pub(crate) fn with(&self, alloc: Global, token: Token) -> Result<Touched, AllocError>
         requires { token.table ≡ type_def }
         ensures { IfOk result (λ t. t ≡ with_type token self.now) }
     {
-        let items = with_type(alloc, token, self.items.as_slice())?;
+        let items = match self.items.binary_search_by_key(&token.row, |t| t.row) {
+            Ok(_) => joined(Vec::new(alloc), self.items.as_slice())?,
+            Err(at) => with_at(alloc, self.items.as_slice(), at, token)?,
+        };
         Ok(Touched { items })
     }
 }

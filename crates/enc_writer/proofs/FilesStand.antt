@@ -5,8 +5,13 @@ use Rattle.std.specs.List.{list_any}
 use Rattle.enc_base.specs.Token.{is_token, nth_row}
 use Rattle.enc_base.specs.declared.token.Token.{Token}
 use Rattle.enc_base.specs.declared.refusal.Refusal.{Refusal}
+use Rattle.enc_emit.specs.Written.{root_built}
+use Rattle.enc_emit.proofs.Read.{counted_root_is_read}
+use Rattle.enc_meta.specs.Built.{heaps_built}
+use Rattle.enc_meta.specs.Root.{root_of}
 use Rattle.enc_plain.specs.Chain.{Chain}
 use Rattle.enc_rows.specs.Source.{Source}
+use Rattle.enc_rows.specs.Written.{heap_bits, stream_of}
 use Rattle.enc_plain.specs.Debug.{MethodDebug}
 use Rattle.enc_schema.specs.Columns as columns
 use Rattle.enc_schema.specs.Tables as tables
@@ -28,13 +33,15 @@ use Rattle.enc_pdb_delta.proofs.Lists.{some_by_one}
 use Rattle.enc_pdb_delta.proofs.Told.{names_itself}
 use Rattle.enc_checker.specs.Check.{accepted, judged, with_pdb, code_sizes}
 use Rattle.enc_written.specs.Delta.{is_edited, map_written}
-use Rattle.enc_written.specs.Holds.{MayFollow, SaysDelta}
+use Rattle.enc_written.specs.Holds.{MayFollow, SaysDelta, heaps_written}
 use Rattle.enc_written.proofs.LogRulesSets.{map_lists, map_only}
 use Rattle.enc_written.proofs.ModuleRules.{guid_is}
 use Rattle.enc_written.proofs.Tokens.{listed_is}
 use Rattle.enc_written.proofs.TokensUnbroken.{nothing_breaks}
-use Rattle.enc_written.specs.Laws.{DeltasAreRead, DeltasFollow, DeltasMean}
+use Rattle.enc_written.specs.Laws.{DeltasAreRead, DeltasFollow, DeltasMean, metadata_written}
 use Rattle.enc_writer.specs.Files.{FilesStand}
+use Rattle.enc_writer.specs.Stands.{HasDeltaForm}
+use Rattle.enc_writer.specs.Writing.{IsMetadata}
 use Rattle.enc_writer.specs.PdbFollows.{PdbsFollow, PdbsOfListsMean}
 
 accepted_pdb : (s p : Source) (bytes : List ℕ) → pdb_delta_of bytes ≡ Ok p → first_misplaced p (code_sizes s) ≡ None → with_pdb s (Some bytes) ≡ Ok (accepted s (Some p))
@@ -79,6 +86,14 @@ several_so l methods bytes p k t at =
     let e = row_of_edit l methods bytes p k t at in
     subst (λ (d : MethodDebug). IsNilOverSeveral d.points (document_told p.source k)) (sym (p.says k t e.0 at e.1)) (p.several k t e.0 at e.1)
 
+-- the metadata has the form of a delta
+form_so : (c : Chain) (l : EditList) (il bytes : List ℕ) → IsMetadata c l il bytes → HasDeltaForm bytes
+unfolding metadata_written root_built
+form_so c l il bytes is =
+    let stream = stream_of is.rows true (heap_bits is.rows) in
+    let r = counted_root_is_read true true stream (heaps_built (heaps_written c l)) is.size in
+    (r.0, ap root_of is.root ∙ r.1, r.2.form, r.2.wide)
+
 pub files_stand : DeltasAreRead → DeltasFollow → DeltasMean → PdbsFollow → PdbsOfListsMean → FilesStand
 files_stand are_read follow mean placed debug c l d may within files =
     let r = are_read c l d.il files.meta.rows may files.meta.held files.meta.size in
@@ -96,6 +111,7 @@ files_stand are_read follow mean placed debug c l d may within files =
         lists = lists_so c l r.0 may r.2;
         several = several_so l (rows_edited c.plain l.edits) d.pdb files.points;
       };
+      form = form_so c l d.il d.meta files.meta;
       read = read;
       says = r.2;
       points = files.points;

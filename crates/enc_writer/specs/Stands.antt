@@ -1,11 +1,13 @@
 -- Files that stand for an edit list after a chain.
-use Rattle.std.specs.Prelude.{◌≡◌, ℕ, List, [], ◌∷◌, ◌++◌, length, Some, None, Result, Ok, Err, slice_get}
+use Rattle.std.specs.Prelude.{◌≡◌, ℕ, true, List, [], ◌∷◌, ◌++◌, length, Some, None, Result, Ok, Err, slice_get}
 use Rattle.std.specs.List.{list_any}
 use Rattle.enc_base.specs.Token.{is_token, nth_row}
 use Rattle.enc_base.specs.declared.token.Token.{Token}
 use Rattle.enc_plain.specs.Chain.{Chain, mvid_of, id_of}
 use Rattle.enc_plain.specs.Debug.{PlainPdb}
 use Rattle.enc_meta.specs.Joined.{joined_guid}
+use Rattle.enc_meta.specs.Root.{root_of}
+use Rattle.enc_meta.specs.declared.root.Root.{Root}
 use Rattle.enc_rows.specs.Source.{Source}
 use Rattle.enc_schema.specs.Tables as tables
 use Rattle.enc_delta.specs.Delta.{delta_of, listed}
@@ -40,10 +42,15 @@ pub record StandsFor (c : Chain) (l : EditList) (d : DeltaBytes) : Type 0 where
   pub several : (k : ℕ) (t : Token) → slice_get (named_tokens symbols) k ≡ Some t
       → IsNilOverSeveral (debug_at (Some (symbols, nth_row tables.method_debug_information k))).points (document_told symbols k)
 
--- files that are written for a list: they stand for it, their metadata says what it states and their PDB its points
+-- the metadata is in the form of a delta: an uncompressed table stream, and `#JTD` (II.24.2.1)
+abbrev pub HasDeltaForm : List ℕ → Type 0
+HasDeltaForm bytes = (root : Root) × ((root_of bytes ≡ Ok root) × ((root.uncompressed ≡ true) × (root.jtd ≡ true)))
+
+-- files that are written for a list: they stand for it, their metadata has the form of a delta and says what it states, and their PDB says its points
 pub record IsWrittenFor (c : Chain) (l : EditList) (d : DeltaBytes) : Type 0 where
   pub rules : first_edit c l ≡ None
   pub stands : StandsFor c l d
+  pub form : HasDeltaForm d.meta
   pub read : delta_of d.meta d.il ≡ Ok stands.source
   pub says : SaysDelta c l stands.source
   pub points : SaysEdits l (rows_edited c.plain l.edits) d.pdb

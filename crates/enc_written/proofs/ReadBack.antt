@@ -1,15 +1,15 @@
 -- A delta that was written is read as its parts.
-use Rattle.std.proofs.Common.{◌≡◌, ℕ, zero, suc, ◌+◌, ◌<◌, ◌≤◌, Bool, true, List, [], ◌∷◌, length, map, Option, Some, Ok, refl, sym, ap, ◌∙◌, arith, lt-ltb}
+use Rattle.std.proofs.Common.{◌≡◌, ℕ, zero, suc, ◌+◌, ◌<◌, ◌≤◌, Bool, true, List, [], ◌∷◌, length, map, Option, Some, Ok, refl, sym, subst, ap, ◌∙◌, arith, lt-ltb}
 use Rattle.std.specs.Prelude.{◌^◌, ◌==◌, IsTrue, unwrap_or, nat_lt, slice_get, slice_index, replicate, if◌then◌else◌}
 use Rattle.std.specs.List.{range_with_len}
 use Rattle.std.proofs.lemmas.Bool.{and_from}
 use Rattle.enc_base.specs.Token.{nth_row}
-use Rattle.enc_emit.specs.Written.{root_written, root_built, built_size, HoldsStreams}
+use Rattle.enc_emit.specs.Written.{root_written, root_size, root_built, built_size, that_count, HoldsStreams}
 use Rattle.enc_emit.specs.declared.root_form.RootForm.TheVariants as root_form
-use Rattle.enc_emit.proofs.Read.{root_is_read}
+use Rattle.enc_emit.proofs.Read.{counted_root_is_read}
 use Rattle.enc_meta.specs.Built.{Built, heaps_built}
 use Rattle.enc_meta.specs.BuiltLaws.{IsGood}
-use Rattle.enc_meta.specs.Heaps.{part}
+use Rattle.enc_meta.specs.Heaps.{Counted, part}
 use Rattle.enc_meta.specs.Root.{root_of}
 use Rattle.enc_meta.specs.declared.root.Root.{Root}
 use Rattle.enc_meta.proofs.BuiltMeanings.{all_texts_count}
@@ -88,15 +88,15 @@ unfolding counts_of below
 count_past rows t le = past_index (map (count_at rows) (range_with_len 0 64)) t (rw (as_long (count_at rows) 0 64) le)
 
 -- the delta says these rows, these heaps and this code
-pub record IsDeltaReadAs (h : Built) (rows : List (List (List ℕ))) (il : List ℕ) (s : Source) : Type 0 where
+pub record IsDeltaReadAs (h : Counted) (rows : List (List (List ℕ))) (il : List ℕ) (s : Source) : Type 0 where
   pub counts : (t : ℕ) → t < 64 → rows_of s.layout t ≡ count_at rows t
   pub past : (t : ℕ) → 64 ≤ t → rows_of s.layout t ≡ 0
   pub numbers : (t n i : ℕ) (cells : List ℕ) (x : ℕ) → slice_get (rows_at rows t) n ≡ Some cells → slice_get cells i ≡ Some x → raw_in s (nth_row t n) i ≡ x
-  pub heaps : s.heaps ≡ heaps_built h
+  pub heaps : s.heaps ≡ h
   pub loaded : s.loaded ≡ loaded_code il
 
-read_as : (bytes il : List ℕ) (root : Root) (h : Built) (rows : List (List (List ℕ))) → AreRows rows → AllFit rows true (heap_bits rows)
-    → HoldsStreams bytes true true (stream_of rows true (heap_bits rows)) (heaps_built h) root
+read_as : (bytes il : List ℕ) (root : Root) (h : Counted) (rows : List (List (List ℕ))) → AreRows rows → AllFit rows true (heap_bits rows)
+    → HoldsStreams bytes true true (stream_of rows true (heap_bits rows)) h root
     → IsDeltaReadAs h rows il (delta_source bytes il root (layout_written rows root.tables true (heap_bits rows)))
 read_as bytes il root h rows are fit streams =
     let flags = heap_bits rows in
@@ -111,17 +111,29 @@ read_as bytes il root h rows are fit streams =
       loaded = refl;
     }
 
-pub delta_is_read : (h : Built) (rows : List (List (List ℕ))) (il : List ℕ) → IsGood h → AreRows rows → IndicesFit rows true → count_at rows 0 ≡ 1 → ((t : ℕ) → 0x2D ≤ t → count_at rows t ≡ 0)
-    → built_size (record { heaps = h; rows = rows }) true < 2 ^ 32
-    → (s : Source) × (delta_of (root_built (record { heaps = h; rows = rows }) root_form.Delta) il ≡ Ok s) × IsDeltaReadAs h rows il s
-unfolding root_built
-delta_is_read h rows il good are indices one none small =
+-- whatever heaps stand in its root, they are read by the bytes that count
+pub counted_is_read : (h : Counted) (rows : List (List (List ℕ))) (il : List ℕ) → AreRows rows → IndicesFit rows true → count_at rows 0 ≡ 1 → ((t : ℕ) → 0x2D ≤ t → count_at rows t ≡ 0)
+    → root_size true (stream_of rows true (heap_bits rows)) h < 2 ^ 32
+    → (s : Source) × (delta_of (root_written true true (stream_of rows true (heap_bits rows)) h) il ≡ Ok s) × IsDeltaReadAs (that_count h) rows il s
+counted_is_read h rows il are indices one none small =
     let flags = heap_bits rows in
     let stream = stream_of rows true flags in
-    let bytes = root_written true true stream (heaps_built h) in
-    let r = root_is_read true true stream (heaps_built h) small (all_texts_count h good) in
+    let bytes = root_written true true stream h in
+    let r = counted_root_is_read true true stream h small in
     let laid = layout_is bytes r.0 rows flags are (allowed rows one none) r.2.tables r.2.wide in (
       delta_source bytes il r.0 (layout_written rows r.0.tables true flags),
       source_is bytes il r.0 (layout_written rows r.0.tables true flags) r.1 laid,
-      read_as bytes il r.0 h rows are (heap_bits_fit rows true are indices) r.2,
+      read_as bytes il r.0 (that_count h) rows are (heap_bits_fit rows true are indices) r.2,
     )
+
+-- heaps that were built count whole
+all_count : (h : Built) → IsGood h → that_count (heaps_built h) ≡ heaps_built h
+all_count h good = ap (λ (xs : List ℕ). record { strings = xs; users = (heaps_built h).users; blobs = (heaps_built h).blobs; guids = (heaps_built h).guids }) (all_texts_count h good)
+
+pub delta_is_read : (h : Built) (rows : List (List (List ℕ))) (il : List ℕ) → IsGood h → AreRows rows → IndicesFit rows true → count_at rows 0 ≡ 1 → ((t : ℕ) → 0x2D ≤ t → count_at rows t ≡ 0)
+    → built_size (record { heaps = h; rows = rows }) true < 2 ^ 32
+    → (s : Source) × (delta_of (root_built (record { heaps = h; rows = rows }) root_form.Delta) il ≡ Ok s) × IsDeltaReadAs (heaps_built h) rows il s
+unfolding root_built
+delta_is_read h rows il good are indices one none small =
+    let r = counted_is_read (heaps_built h) rows il are indices one none small in
+    (r.0, r.1, subst (λ (x : Counted). IsDeltaReadAs x rows il r.0) (all_count h good) r.2)

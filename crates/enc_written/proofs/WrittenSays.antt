@@ -6,6 +6,7 @@ use Rattle.std.proofs.lemmas.Bool.{and_parts, and_from}
 use Rattle.std.proofs.lemmas.Bool.Decides.{nat_tests}
 use Rattle.enc_base.specs.Token.{nth_row, number_of, token_of, is_token, nil}
 use Rattle.enc_base.specs.declared.token.Token.{Token}
+use Rattle.enc_meta.specs.Built.{heaps_built}
 use Rattle.enc_meta.specs.BuiltLaws.{heaps_joined}
 use Rattle.enc_meta.specs.Heaps.{Counted}
 use Rattle.enc_meta.specs.Joined.{joined_user, joined_guid}
@@ -160,7 +161,7 @@ of_its_table p t (k ∷ ns) n u h = by (p (nth_row t k)) n h (λ m g. of_its_tab
     by true (suc m) g more = more m g
     by false m g more = more m g
 
-pub row_says : (c : Chain) (l : EditList) (il : List ℕ) (rows : List (List (List ℕ))) (s : Source) (t n : ℕ) (u : Token) → IsDeltaReadAs (heaps_written c l) rows il s → HoldDelta c l il rows
+pub row_says : (c : Chain) (l : EditList) (il : List ℕ) (rows : List (List (List ℕ))) (s : Source) (t n : ℕ) (u : Token) → IsDeltaReadAs (heaps_built (heaps_written c l)) rows il s → HoldDelta c l il rows
     → is_listed_table t ≡ true → slice_get (tokens_written c l.edits t) n ≡ Some u → SaysRow c l (heaps_joined c.heaps (heaps_written c l)) il u (raw_in s (nth_row t n))
 unfolding tokens_written
 row_says c l il rows s t n u read held listed there =
@@ -241,7 +242,7 @@ five_columns = refl
 one_more : (numbers : List ℕ) (rows : List (List (List ℕ))) → rows_at rows 0 ≡ numbers ∷ [] → count_at rows 0 ≡ 1
 one_more numbers rows is = ap length is
 
-module_says : (c : Chain) (l : EditList) (il : List ℕ) (rows : List (List (List ℕ))) (s : Source) → IsDeltaReadAs (heaps_written c l) rows il s → (held : HoldDelta c l il rows)
+module_says : (c : Chain) (l : EditList) (il : List ℕ) (rows : List (List (List ℕ))) (s : Source) → IsDeltaReadAs (heaps_built (heaps_written c l)) rows il s → (held : HoldDelta c l il rows)
     → SaysModule c l (heaps_joined c.heaps (heaps_written c l)) (raw_in s module_token)
 module_says c l il rows s read held =
     let heaps = heaps_joined c.heaps (heaps_written c l) in
@@ -262,14 +263,14 @@ module_says c l il rows s read held =
 
 -- what is read of parts that hold what a list states says it
 pub delta_says : (c : Chain) (l : EditList) (il : List ℕ) (rows : List (List (List ℕ))) (s : Source) → list_all edit_fits l.edits ≡ true → ((t : ℕ) → count_after c l.edits t < 2 ^ 24)
-    → list_all is_low (rows_edited c.plain l.edits) ≡ true → ((t : ℕ) → 64 ≤ t → tokens_written c l.edits t ≡ []) → IsDeltaReadAs (heaps_written c l) rows il s → HoldDelta c l il rows → SaysDelta c l s
+    → list_all is_low (rows_edited c.plain l.edits) ≡ true → ((t : ℕ) → 64 ≤ t → tokens_written c l.edits t ≡ []) → IsDeltaReadAs (heaps_built (heaps_written c l)) rows il s → HoldDelta c l il rows → SaysDelta c l s
 delta_says c l il rows s fit few low past read held = record {
   heaps = read.heaps;
   good = held.good;
   code = (il, read.loaded, λ t n u listed there. row_says c l il rows s t n u read held listed there);
   single = module_says c l il rows s read held;
-  log = log_says (heaps_written c l) rows il s (log_written c.plain l.edits) read held.log (log_low c.plain l.edits fit low);
-  map_ = map_says (heaps_written c l) rows il s (map_written c l.edits) read held.map_ (map_low c l.edits few);
+  log = log_says (heaps_built (heaps_written c l)) rows il s (log_written c.plain l.edits) read held.log (log_low c.plain l.edits fit low);
+  map_ = map_says (heaps_built (heaps_written c l)) rows il s (map_written c l.edits) read held.map_ (map_low c l.edits few);
   counts = λ t listed. by (nat_lt t 64) t refl listed;
 }
   where
