@@ -130,9 +130,6 @@ pub found : (types : List Token) (token : Token) (i : ℕ) (d : Token) → AreTy
 found types token i d all low is = by_table types token i d (token.table == tables.type_def) refl all low is
 
 -- a type that is there comes in nowhere; another stands behind those of less rows
-all_types : (least : ℕ) (types : List Token) → AreTypesFrom least types → (k : ℕ) (t : Token) → slice_get types k ≡ Some t → t.table ≡ tables.type_def
-all_types least types all k t at = (one_of least k types t all at).0
-
 steps : (type t : Token) (rest : List Token) (a b : Bool) → nat_lt (number_of type) (number_of t) ≡ a → is_token type t ≡ b
     → with_type type (t ∷ rest) ≡ (if a then type ∷ t ∷ rest else if b then t ∷ rest else t ∷ with_type type rest)
 unfolding with_type
@@ -149,7 +146,7 @@ not_before type t a b le = grind (arith, nat_tests, a, b, le)
 apart : (type t : Token) → t.row < type.row → is_token type t ≡ false
 apart type t lt = grind (arith, nat_tests, lt)
 
-pub stays_there : (least i : ℕ) (types : List Token) (type t : Token) → type.table ≡ tables.type_def → AreTypesFrom least types → slice_get types i ≡ Some t → t.row ≡ type.row
+stays_there : (least i : ℕ) (types : List Token) (type t : Token) → type.table ≡ tables.type_def → AreTypesFrom least types → slice_get types i ≡ Some t → t.row ≡ type.row
     → with_type type types ≡ types
 stays_there least i [] type t table all at is = absurd cc
 stays_there least zero (x ∷ types) type t table all at is =
@@ -157,20 +154,24 @@ stays_there least zero (x ∷ types) type t table all at is =
     let row : x.row ≡ type.row = ap (λ (y : Token). y.row) e ∙ is in
     steps type x types false true (not_before type x table all.0 (omega (arith, row))) (is_same type x table all.0 (sym row))
 stays_there least (suc i) (x ∷ types) type t table all at is =
-    let less : x.row < t.row = (one_of (x.row + 1) i types t all.2 at).1 in
+    let less : x.row + 1 ≤ t.row = (one_of (x.row + 1) i types t all.2 at).1 in
     let lt : x.row < type.row = omega (arith, less, is) in
     steps type x types false false (not_before type x table all.0 (omega (arith, lt))) (apart type x lt)
     ∙ ap (λ (l : List Token). x ∷ l) (stays_there (x.row + 1) i types type t table all.2 at is)
+
+pub stays_at : (i : ℕ) (types : List Token) (type : Token) → type.table ≡ tables.type_def → AreTypesFrom 0 types → i < length types → (get_or types i type).row ≡ type.row
+    → with_type type types ≡ types
+stays_at i types type table all low is = stays_there 0 i types type (get_or types i type) table all (read types i type low) is
+
+none_yet : (type : Token) → with_type type [] ≡ type ∷ []
+unfolding with_type
+none_yet type = refl
 
 pub comes_in : (least i : ℕ) (types : List Token) (type : Token) → type.table ≡ tables.type_def → AreTypesFrom least types → i ≤ length types
     → ((k : ℕ) (t : Token) → slice_get types k ≡ Some t → k < i → t.row < type.row)
     → ((k : ℕ) (t : Token) → slice_get types k ≡ Some t → i ≤ k → type.row < t.row)
     → take i types ++ type ∷ drop i types ≡ with_type type types
 comes_in least zero [] type table all le low high = sym (none_yet type)
-  where
-    none_yet : (type : Token) → with_type type [] ≡ type ∷ []
-    unfolding with_type
-    none_yet type = refl
 comes_in least (suc i) [] type table all le low high = absurd (omega (arith, le))
 comes_in least zero (x ∷ types) type table all le low high =
     sym (steps type x types true (is_token type x) (before type x table all.0 (high 0 x refl (omega arith))) refl)

@@ -5,6 +5,7 @@ ghost use Rattle.enc_base.specs.Token.{is_token};
 ghost use Rattle.enc_base.specs.declared.token.Token.{Token as TheToken};
 ghost use Rattle.enc_schema.specs.Tables.{type_def};
 ghost use Rattle.enc_vm.specs.Calls.{with_type};
+ghost use Rattle.enc_vm.specs.Touched.{AreTypesFrom};
 
 use enc_base::Token;
 use enc_schema::tables::TYPE_DEF;
@@ -34,6 +35,18 @@ fn with_at(
     all.push(token)?;
     all.extend_from_slice(&tokens[at..])?;
     Ok(all)
+}
+
+/// Types with one more in their order, once. Its place is found by halves, and the others are copied as they stand.
+fn with_type(alloc: Global, token: Token, types: &[Token]) -> Result<Vec<Token>, AllocError>
+    requires kind { token.table ≡ type_def }
+    requires order { AreTypesFrom 0 types.now }
+    ensures { IfOk result (λ l. l.items ≡ with_type token types.now) }
+{
+    match types.binary_search_by_key(&token.row, |t| t.row) {
+        Ok(_) => joined(Vec::new(alloc), types),
+        Err(at) => with_at(alloc, types, at, token),
+    }
 }
 
 /// The types that were touched, in the order of their tokens.
@@ -88,16 +101,13 @@ impl Touched {
         }
     }
 
-    /// These types and one more. Its place is found by halves, and the others are copied as they stand.
+    /// These types and one more.
     #[tactic(auto, using(crate::proofs::Types::kept))]
     pub(crate) fn with(&self, alloc: Global, token: Token) -> Result<Touched, AllocError>
         requires { token.table ≡ type_def }
         ensures { IfOk result (λ t. t ≡ with_type token self.now) }
     {
-        let items = match self.items.binary_search_by_key(&token.row, |t| t.row) {
-            Ok(_) => joined(Vec::new(alloc), self.items.as_slice())?,
-            Err(at) => with_at(alloc, self.items.as_slice(), at, token)?,
-        };
+        let items = with_type(alloc, token, self.items.as_slice())?;
         Ok(Touched { items })
     }
 }
