@@ -1,6 +1,6 @@
 -- The user texts that an edit brings have a place in the heaps of a delta.
 use Rattle.std.proofs.Common.{◌≡◌, ℕ, ◌+◌, ◌<◌, ◌≤◌, Bool, true, false, List, [], ◌∷◌, ◌++◌, length, Option, Some, refl, sym, ap, ◌∙◌, arith}
-use Rattle.std.specs.Prelude.{◌^◌, ◌&&◌, ◌||◌, nat_lt, flat_map, sum_by, bytes_eq, slice_get, if◌then◌else◌}
+use Rattle.std.specs.Prelude.{◌^◌, ◌||◌, nat_lt, flat_map, sum_by, bytes_eq, slice_get, if◌then◌else◌}
 use Rattle.std.specs.List.{list_all}
 use Rattle.std.proofs.lemmas.Bool.{and_parts, and_from}
 use Rattle.std.proofs.lemmas.Bool.Decides.{nat_tests}

@@ -92,7 +92,7 @@ unfolding metadata_written root_built
 form_so c l il bytes is =
     let stream = stream_of is.rows true (heap_bits is.rows) in
     let r = counted_root_is_read true true stream (heaps_built (heaps_written c l)) is.size in
-    (r.0, ap root_of is.root ∙ r.1, r.2.form, r.2.wide)
+    (r.0, (ap root_of is.root ∙ r.1, (r.2.form, r.2.wide)))
 
 pub files_stand : DeltasAreRead → DeltasFollow → DeltasMean → PdbsFollow → PdbsOfListsMean → FilesStand
 files_stand are_read follow mean placed debug c l d may within files =
