@@ -1,9 +1,10 @@
 //! A case: its files, and what its runs printed.
 
+use crate::call::{Call, Kind};
+use crate::every::stretches_of;
+use crate::faults::faults_of;
 use crate::line::Line;
-use enc_outside::{MemSink, MemStore};
-use enc_top::run_tool;
-use enc_watch::{Cover, Failing, Trace, Watcher};
+use crate::store::CaseStore;
 use std::alloc::{AllocError, Global};
 
 /// The case that is being read.
@@ -12,32 +13,10 @@ pub struct Case {
     alloc: Global,
     name: String,
     runs: u32,
-    store: MemStore,
+    store: CaseStore,
     words: Vec<String>,
     watchers: Vec<Kind>,
     is_bad: bool,
-}
-
-/// A watcher that is handed to a run.
-#[derive(Clone, Copy, Debug)]
-enum Kind {
-    Trace,
-    Cover,
-    Failing(u32),
-}
-
-/// The watcher that a word tells: `trace`, `cover` or `failing:N`. None where the word is another.
-fn kind_of(word: &str) -> Option<Kind> {
-    match word {
-        "trace" => return Some(Kind::Trace),
-        "cover" => return Some(Kind::Cover),
-        _ => {}
-    }
-    let limit = word.strip_prefix("failing:")?;
-    match limit.parse::<u32>() {
-        Ok(limit) => Some(Kind::Failing(limit)),
-        Err(_) => None,
-    }
 }
 
 /// The bytes with some of them replaced from an offset on, as far as they are there.
@@ -50,6 +29,11 @@ fn poked(alloc: Global, bytes: &[u8], at: usize, new: &[u8]) -> Result<Vec<u8>, 
     Ok(all)
 }
 
+/// How it is told whether all was as it has to be.
+fn verdict(is_kept: bool) -> &'static str {
+    if is_kept { "ok" } else { "wrong" }
+}
+
 impl Case {
     /// No case yet.
     pub fn begin(alloc: Global) -> Case {
@@ -57,7 +41,7 @@ impl Case {
             alloc,
             name: String::new(alloc),
             runs: 0,
-            store: MemStore::begin(alloc),
+            store: CaseStore::begin(alloc),
             words: Vec::new(alloc),
             watchers: Vec::new(alloc),
             is_bad: false,
@@ -69,60 +53,82 @@ impl Case {
         self.store.file(name).unwrap_or(&[])
     }
 
-    /// The words of a run.
-    fn words_of(&mut self, text: &str) -> Result<Vec<String>, AllocError> {
-        let mut words = Vec::new(self.alloc);
-        std::mem::swap(&mut words, &mut self.words);
+    /// The call of a line's words, behind those that were kept for it, with the watchers that were.
+    fn call_of(&mut self, text: &str) -> Result<Call, AllocError> {
+        let mut call = Call {
+            alloc: self.alloc,
+            words: Vec::new(self.alloc),
+            watchers: Vec::new(self.alloc),
+        };
+        std::mem::swap(&mut call.words, &mut self.words);
+        std::mem::swap(&mut call.watchers, &mut self.watchers);
+        self.runs = self.runs.wrapping_add(1);
         if text.is_empty() {
-            return Ok(words);
+            return Ok(call);
         }
         for word in text.split(' ') {
-            words.push(String::from_str(self.alloc, word)?)?;
+            call.words.push(String::from_str(self.alloc, word)?)?;
         }
-        Ok(words)
-    }
-
-    /// The status of the top call, with the watchers of these kinds.
-    fn status_of(&mut self, words: &[String], sink: &mut MemSink) -> Result<u8, AllocError> {
-        let mut watchers = Vec::new(self.alloc);
-        for kind in &self.watchers {
-            let watcher: Box<dyn Watcher> = match *kind {
-                Kind::Trace => Box::new(self.alloc, Trace::begin(self.alloc))?,
-                Kind::Cover => Box::new(self.alloc, Cover::begin(self.alloc))?,
-                Kind::Failing(limit) => Box::new(self.alloc, Failing::begin(self.alloc, limit))?,
-            };
-            watchers.push(watcher)?;
-        }
-        self.watchers = Vec::new(self.alloc);
-        Ok(run_tool(self.alloc, words, &mut self.store, sink, watchers))
+        Ok(call)
     }
 
     /// Runs the top call; the line of its status, and what it printed.
     fn run(&mut self, text: &str) -> Result<Vec<u8>, AllocError> {
-        let words = self.words_of(text)?;
-        let mut sink = MemSink::begin(self.alloc);
-        let status = self.status_of(&words, &mut sink)?;
-        self.runs = self.runs.wrapping_add(1);
+        let call = self.call_of(text)?;
+        let answer = call.answer(&mut self.store)?;
         let mut printed = Vec::new(self.alloc);
         let head = format!(in self.alloc;
             "{} {} status {}\n",
             self.name.as_str(),
             self.runs,
-            status
+            answer.status
         )?;
         printed.extend_from_slice(head.as_bytes())?;
-        printed.extend_from_slice(sink.bytes())?;
-        if sink.bytes().last() != Some(&b'\n') {
-            printed.push(b'\n')?;
+        answer.add_to(&mut printed)?;
+        Ok(printed)
+    }
+
+    /// Runs the top call with a file cut at every length; each stretch of equal answers.
+    fn run_every(&mut self, name: &str, text: &str) -> Result<Vec<u8>, AllocError> {
+        let call = self.call_of(text)?;
+        let mut printed = Vec::new(self.alloc);
+        for stretch in &stretches_of(&call, &self.store, name)? {
+            let head = format!(in self.alloc;
+                "{} {} {}..{} status {}\n",
+                self.name.as_str(),
+                self.runs,
+                stretch.from,
+                stretch.to,
+                stretch.answer.status
+            )?;
+            printed.extend_from_slice(head.as_bytes())?;
+            stretch.answer.add_to(&mut printed)?;
         }
         Ok(printed)
+    }
+
+    /// Runs the top call with each call of the store and of the sink failing; one line.
+    fn run_faults(&mut self, text: &str) -> Result<Vec<u8>, AllocError> {
+        let call = self.call_of(text)?;
+        let faults = faults_of(&call, &self.store)?;
+        let mut line = format!(in self.alloc; "{} {} store", self.name.as_str(), self.runs)?;
+        for status in &faults.statuses {
+            line.push_str(format!(in self.alloc; " {status}")?.as_str())?;
+        }
+        let end = format!(in self.alloc;
+            " files {} sink {}\n",
+            verdict(faults.keeps_files),
+            verdict(faults.prints_parts)
+        )?;
+        line.push_str(end.as_str())?;
+        Ok(line.into_bytes())
     }
 
     /// Begins the next case.
     fn next(&mut self, name: &str) -> Result<(), AllocError> {
         self.name = String::from_str(self.alloc, name)?;
         self.runs = 0;
-        self.store = MemStore::begin(self.alloc);
+        self.store = CaseStore::begin(self.alloc);
         self.words = Vec::new(self.alloc);
         self.watchers = Vec::new(self.alloc);
         self.is_bad = false;
@@ -165,7 +171,7 @@ impl Case {
     fn keep_watchers(&mut self, kinds: &str) -> Result<bool, AllocError> {
         let mut watchers = Vec::new(self.alloc);
         for kind in kinds.split(' ') {
-            match kind_of(kind) {
+            match Kind::of(kind) {
                 Some(kind) => watchers.push(kind)?,
                 None => return Ok(false),
             }
@@ -198,6 +204,8 @@ impl Case {
         }
         match line {
             Line::Run(words) => self.run(words),
+            Line::Every { name, words } => self.run_every(name, words),
+            Line::Faults(words) => self.run_faults(words),
             _ => {
                 let mut printed = Vec::new(self.alloc);
                 if !self.change(line)? {

@@ -28,6 +28,13 @@ pub enum Line<'a> {
     },
     /// Runs the top call with words that are separated by single spaces.
     Run(&'a str),
+    /// Runs the top call with these words once for each length of a file, cut to that length.
+    Every {
+        name: &'a str,
+        words: &'a str,
+    },
+    /// Runs the top call with these words, each call of the store failing in turn, and then each of the sink.
+    Faults(&'a str),
     /// A word in front of the next run's, by its bytes' digits.
     Word(&'a str),
     /// The watchers that are handed to the next run: their kinds, separated by single spaces.
@@ -79,6 +86,11 @@ impl<'a> Line<'a> {
             "cut" => cut(rest),
             "poke" => poke(rest),
             "run" => Line::Run(rest),
+            "every" => Line::Every {
+                name,
+                words: behind,
+            },
+            "faults" => Line::Faults(rest),
             "word" => Line::Word(rest),
             "watchers" => Line::Watchers(rest),
             _ => Line::Bad,

@@ -2,8 +2,12 @@
 //! printed. docs/testing.md has the form.
 #![tactic(auto)]
 
+mod call;
 mod case;
+mod every;
+mod faults;
 mod line;
+mod store;
 
 ghost use Rattle.std.specs.Prelude.{◌≡◌, OnOk};
 ghost use Rattle.enc_outside.specs.Outside.{with_piece};
