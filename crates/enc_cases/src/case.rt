@@ -1,6 +1,6 @@
 //! A case: its files, and what its runs printed.
 
-use crate::call::{Call, Kind};
+use crate::call::{Answer, Call, Kind};
 use crate::every::stretches_of;
 use crate::faults::faults_of;
 use crate::line::Line;
@@ -72,10 +72,8 @@ impl Case {
         Ok(call)
     }
 
-    /// Runs the top call; the line of its status, and what it printed.
-    fn run(&mut self, text: &str) -> Result<Vec<u8>, AllocError> {
-        let call = self.call_of(text)?;
-        let answer = call.answer(&mut self.store)?;
+    /// The line of a run's status, and what it printed.
+    fn printed(&self, answer: &Answer) -> Result<Vec<u8>, AllocError> {
         let mut printed = Vec::new(self.alloc);
         let head = format!(in self.alloc;
             "{} {} status {}\n",
@@ -86,6 +84,13 @@ impl Case {
         printed.extend_from_slice(head.as_bytes())?;
         answer.add_to(&mut printed)?;
         Ok(printed)
+    }
+
+    /// Runs the top call over the case's files; the line of its status, and what it printed.
+    fn run(&mut self, text: &str) -> Result<Vec<u8>, AllocError> {
+        let call = self.call_of(text)?;
+        let answer = call.answer(&mut self.store)?;
+        self.printed(&answer)
     }
 
     /// Runs the top call with a file cut at every length; each stretch of equal answers.
