@@ -279,7 +279,10 @@ int LLVMFuzzerTestOneInput(const uint8_t *data, size_t n) {
         put(names[i], in.parts[i], needed || in.parts[i].n);
     }
     char token[9] = "01000001";
-    if (in.parts[TOKEN].n) for (int i = 0; i < 8; i++) { char c = (char)in.parts[TOKEN].at[(size_t)i % in.parts[TOKEN].n]; token[i] = c ? c : '0'; }
+    if (in.parts[TOKEN].n) for (int i = 0; i < 8; i++) {
+        char c = (char)in.parts[TOKEN].at[(size_t)i % in.parts[TOKEN].n];
+        token[i] = c && strchr("0123456789abcdef", c) ? c : "0123456789abcdef"[c & 15];
+    }
     static const char *const commands[][4] = {{"show", "b", "TOKEN"}, {"list", "b"}, {"check", "b"}, {"apply", "b", "o"}, {"compact", "b", "o"}, {"write", "b", "t.json", "o"}, {"run", "b", "t.json"}};
     size_t which = in.command % (sizeof commands / sizeof *commands);
     char *words[10] = {"enc"};
@@ -294,9 +297,9 @@ int LLVMFuzzerTestOneInput(const uint8_t *data, size_t n) {
     double seconds = (double)(used.ru_utime.tv_sec + used.ru_stime.tv_sec) + (double)(used.ru_utime.tv_usec + used.ru_stime.tv_usec) / 1e6;
     count(seconds, most, data, n);
     if (WIFEXITED(status) && WEXITSTATUS(status) < 16) told.statuses[WEXITSTATUS(status)]++;
-    /* the words are no command only where a token is none, and no UTF-8 only there */
-    if (WIFEXITED(status) && WEXITSTATUS(status) == 3 && which != 0) told.memory++;
-    int is_known = WIFEXITED(status) && WEXITSTATUS(status) <= 6 && (WEXITSTATUS(status) != 2 || which == 0);
+    /* the words are always a command */
+    if (WIFEXITED(status) && WEXITSTATUS(status) == 3) told.memory++;
+    int is_known = WIFEXITED(status) && WEXITSTATUS(status) <= 6 && WEXITSTATUS(status) != 2;
     int saves = which >= 3 && which <= 5;
     if (is_known && (WEXITSTATUS(status) != 0 || !saves) && (!access("o.dll", F_OK) || !access("o.meta", F_OK))) is_known = 0;
     if (!is_known) {
