@@ -1,6 +1,6 @@
 //! The files of a case: a store in memory that knows its files' names, and under which of them a run saved.
 
-ghost use Rattle.std.specs.Prelude.{◌≡◌, Some};
+ghost use Rattle.std.specs.Prelude.{Some};
 
 use enc_outside::{LoadError, MemStore, SaveError, Store};
 use std::alloc::{AllocError, Global};
