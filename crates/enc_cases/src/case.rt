@@ -53,7 +53,7 @@ impl Case {
         self.store.file(name).unwrap_or(&[])
     }
 
-    /// The call of a line's words, behind those that were kept for it, with the watchers that were.
+    /// The call of a line's words, behind those that were kept for it, with the watchers that were. It counts as a run.
     fn call_of(&mut self, text: &str) -> Result<Call, AllocError> {
         let mut call = Call {
             alloc: self.alloc,
