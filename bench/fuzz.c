@@ -152,7 +152,6 @@ static long block_at(uint64_t at) {
 static uint8_t *text, *own;
 static uint64_t text_at, base_at;
 static size_t text_size, *left_on_page;
-static char folder[64];
 static const char *program;
 
 static void read_text(void) {
@@ -180,9 +179,7 @@ int LLVMFuzzerInitialize(int *argc, char ***argv) {
     program = getenv("FUZZ_ENC");
     read_text();
     personality(ADDR_NO_RANDOMIZE);
-    snprintf(folder, sizeof folder, "/dev/shm/enc-fuzz-%d", getpid());
-    mkdir(folder, 0700);
-    if (chdir(folder)) { perror(folder); exit(2); }
+    if (chdir(getenv("FUZZ_ROOM"))) { perror("FUZZ_ROOM"); exit(2); }
     atexit(tell);
     return 0;
 }
