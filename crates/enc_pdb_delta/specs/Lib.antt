@@ -4,3 +4,4 @@ pub mod Laws
 pub mod Listed
 pub mod Names
 pub mod Holding
+pub mod Methods

@@ -11,3 +11,4 @@ pub mod Cases
 pub mod Written
 mod Named
 mod Running
+pub mod Merging

@@ -1,5 +1,5 @@
 -- What a command comes to over the files that are told: nothing here knows how the program works.
-use Rattle.std.specs.Prelude.{ℕ, ◌+◌, List, [], ◌∷◌, ◌++◌, length, map, Option, Some, None, Result, Ok, Err, nat_lt, bytes_eq, if◌then◌else◌, codes}
+use Rattle.std.specs.Prelude.{ℕ, ◌+◌, Bool, true, false, List, [], ◌∷◌, ◌++◌, length, map, Option, Some, None, Result, Ok, Err, nat_lt, bytes_eq, if◌then◌else◌, codes}
 use Rattle.std.specs.List.{list_any}
 use Rattle.std.specs.FinMap.{get}
 use Rattle.enc_outside.specs.Outside.{Files}
@@ -23,15 +23,20 @@ use Rattle.enc_jobs.specs.Scripts.{script_said}
 use Rattle.enc_jobs.specs.declared.command.Command.{Command}
 use Rattle.enc_compact.specs.Moved.{module_moved, pdb_moved}
 use Rattle.enc_jobs.specs.declared.command.Command.TheVariants.{Apply}
+use Rattle.enc_depth.specs.Depth.{first_deep}
+use Rattle.enc_merge.specs.Merges.{weight_of_both}
+use Rattle.enc_plain.specs.Debug.{PlainPdb}
+use Rattle.enc_ppdb.specs.Written.{most_pdb_weight}
 use Rattle.enc_watch.specs.Audience.{Watching}
 use Rattle.enc_script.specs.Run.{NamedFiles}
 use Rattle.enc_rules.specs.First.{first_edit}
 use Rattle.enc_words.specs.declared.limits.Limit.{Limit}
 use Rattle.enc_words.specs.declared.limits.Limit.TheVariants as limit
-use Rattle.enc_words.specs.Words.{Numeral, Job, show, list, check, apply, compact, write, run, gen, job_of}
+use Rattle.enc_words.specs.Words.{Numeral, Job, show, list, check, apply, compact, merge, write, run, gen, job_of}
 
 -- why a command does nothing: the words are none; a file that must be there is absent; a file is refused, by a rule or by its length,
--- or as an edit list or a script: it isn't one, or one of its edits breaks a rule
+-- or as an edit list or a script: it isn't one, or one of its edits breaks a rule; or the last delta isn't merged with the one before it, as a reference lies
+-- too deep in others
 pub data Stop : Type 0 where
   no_command : Stop
   absent_file : List ℕ → Stop
@@ -39,6 +44,7 @@ pub data Stop : Type 0 where
   past_limit : List ℕ → Limit → Stop
   no_list : List ℕ → JobFault → Stop
   broken_list : List ℕ → ℕ → ℕ → Stop
+  deep_chain : List ℕ → Token → Stop
 
 -- one thing after the other, up to the first stop
 infixl 10 ◌>>=◌
@@ -210,6 +216,28 @@ can_be_written out f = unless_past out f (rewrite_limit (plain_of f) (debug_afte
 unfoldable pub can_be_compacted : List ℕ → Followed → Result Followed Stop
 can_be_compacted out f = unless_past out f (rewrite_limit (module_moved (plain_of f)) (pdb_moved (plain_of f) (debug_after f)))
 
+-- what a plain PDB weighs that has what is known of the methods of the last two deltas
+abbrev pub weight_by : Source → List Source → PlainPdb → ℕ
+weight_by base (b ∷ a ∷ older) p = weight_of_both (chain_with base older) a b p
+weight_by base deltas p = 0
+
+unfoldable pub weight_of_last : Followed → ℕ
+weight_of_last f = weight_by f.base f.deltas (debug_after f)
+
+-- the PDB of one delta in the place of the last two isn't too long, and in the module no reference lies too deep in others
+abbrev pub unless_heavy : List ℕ → Followed → Bool → Result Followed Stop
+unless_heavy out f false = Ok f
+unless_heavy out f true = Err (past_limit (pdb out) (limit.Heap stream.Pdb))
+
+abbrev pub unless_deep : List ℕ → Followed → Option Token → Result Followed Stop
+unless_deep name f None = Ok f
+unless_deep name f (Some t) = Err (deep_chain name t)
+
+unfoldable pub can_be_merged : List ℕ → List ℕ → Followed → Result Followed Stop
+can_be_merged name out f = do
+  g ← unless_heavy out f (nat_lt most_pdb_weight (weight_of_last f))
+  unless_deep name g (first_deep (plain_of g))
+
 -- a base with its deltas, and an edit list to follow them
 pub record Edited : Type 0 where
   pub followed : Followed
@@ -243,7 +271,7 @@ accept_text files base edits deltas = do
   Ok (record { followed = g; text = text })
 
 -- what an accepted command does with them: it shows a token's row, lists them, counts the deltas, saves the one module that has all
--- edits, as it is or in the order of an ordinary one, or the delta of an edit list; it runs a script over a base, with the watchers that are handed in and the deltas that the script
+-- edits, as it is or in the order of an ordinary one, one delta that stands for the last two, or the delta of an edit list; it runs a script over a base, with the watchers that are handed in and the deltas that the script
 -- names; or it saves a generated case
 pub data Done : Type 0 where
   shows : Token → Followed → Done
@@ -251,6 +279,7 @@ pub data Done : Type 0 where
   counts : Followed → Done
   applies : List ℕ → Followed → Done
   compacts : List ℕ → Followed → Done
+  merges : List ℕ → Followed → Done
   writes : List ℕ → Edited → Done
   runs : List Watching → Followed → List NamedFiles → List Command → Done
   generates : Numeral → Numeral → List ℕ → Done
@@ -300,6 +329,24 @@ abbrev pub compact_on : Files → List ℕ → List ℕ → List (List ℕ) → 
 compact_on files base out deltas = do
   f ← accept files base deltas
   compacted_on out f
+
+-- the last of some words
+abbrev pub last_word : List (List ℕ) → List ℕ
+last_word [] = []
+last_word (x ∷ []) = x
+last_word (x ∷ y ∷ words) = last_word (y ∷ words)
+
+-- the last two of accepted deltas merged
+abbrev pub merged_on : List ℕ → List ℕ → Followed → Verdict
+merged_on name out f = do
+  g ← can_be_merged name out f
+  Ok (merges out g)
+
+-- `merge BASE OUT DELTA DELTA ..`
+abbrev pub merge_on : Files → List ℕ → List ℕ → List (List ℕ) → Verdict
+merge_on files base out deltas = do
+  f ← accept files base deltas
+  merged_on (meta (last_word deltas)) out f
 
 -- an edit list that breaks no rule after a base with its deltas
 abbrev pub edits_on : List ℕ → List ℕ → Edited → Verdict
@@ -353,6 +400,7 @@ verdict_on handed files (Some (list base deltas)) = list_on files base deltas
 verdict_on handed files (Some (check base deltas)) = check_on files base deltas
 verdict_on handed files (Some (apply base out deltas)) = apply_on files base out deltas
 verdict_on handed files (Some (compact base out deltas)) = compact_on files base out deltas
+verdict_on handed files (Some (merge base out deltas)) = merge_on files base out deltas
 verdict_on handed files (Some (write base edits out deltas)) = write_on files base edits out deltas
 verdict_on handed files (Some (run base script)) = run_on handed files base script
 verdict_on handed files (Some (gen start count out)) = Ok (generates start count out)

@@ -12,6 +12,7 @@ mod check;
 mod compact;
 mod generate;
 mod list;
+mod merge;
 mod named;
 mod run;
 mod show;
@@ -28,6 +29,7 @@ use enc_watch::Watcher;
 use enc_words::{Command, command_of};
 use generate::generate;
 use list::list;
+use merge::merge;
 use run::run;
 use show::show;
 use std::alloc::Global;
@@ -61,6 +63,7 @@ pub fn plan_of<S: Store, W: Watcher>(
         Some(Command::Check { base, deltas }) => check(alloc, base, deltas, store),
         Some(Command::Apply { base, out, deltas }) => apply(alloc, base, out, deltas, store),
         Some(Command::Compact { base, out, deltas }) => compact(alloc, base, out, deltas, store),
+        Some(Command::Merge { base, out, deltas }) => merge(alloc, base, out, deltas, store),
         Some(
             Command::Write {
                 base,

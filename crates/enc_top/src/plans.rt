@@ -1,15 +1,15 @@
 //! Plans that save nothing, and the stops of commands that do nothing.
 ghost use Rattle.std.specs.Prelude.{◌≡◌, ◌≢◌, [], Err};
-ghost use Rattle.enc_top.specs.Verdict.{no_command, absent_file, refused_file, past_limit, no_list, broken_list};
+ghost use Rattle.enc_top.specs.Verdict.{no_command, absent_file, refused_file, past_limit, no_list, broken_list, deep_chain};
 ghost use Rattle.enc_top.specs.Plans.{IsPlanOf};
 ghost use Rattle.enc_top.specs.Stops.{OnPlan, IsQuiet, IsUnread, IsUnlisted};
 
 use crate::plan::{Outcome, Plan};
 use crate::stop::Stop;
-use enc_base::{ReadFault, Refusal};
+use enc_base::{ReadFault, Refusal, Token};
 use enc_jobs::JobFault;
 use enc_text::refused_line;
-use enc_words::{Limit, broken_line, limit_line, missing_line, unlisted_line, usage_line};
+use enc_words::{Limit, broken_line, deep_line, limit_line, missing_line, unlisted_line, usage_line};
 use std::alloc::Global;
 
 /// A plan that saves nothing.
@@ -104,6 +104,18 @@ pub fn broken(alloc: Global, name: &str, rule: u8, edit: u32) -> Stop
     ensures no_fault { result ≢ Stop.Failed }
 {
     match broken_line(alloc, name, rule, edit) {
+        Ok(line) => Stop::Plan(saving_nothing(alloc, Outcome::Refused, line)),
+        Err(_) => Stop::Memory,
+    }
+}
+
+/// The stop at two deltas that aren't merged, as a reference lies too deep in others.
+pub fn too_deep(alloc: Global, name: &str, token: Token) -> Stop
+    ensures plan { OnPlan result (IsPlanOf (Err (deep_chain name.now token))) }
+    ensures quiet { OnPlan result IsQuiet }
+    ensures no_fault { result ≢ Stop.Failed }
+{
+    match deep_line(alloc, name, token) {
         Ok(line) => Stop::Plan(saving_nothing(alloc, Outcome::Refused, line)),
         Err(_) => Stop::Memory,
     }

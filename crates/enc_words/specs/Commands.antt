@@ -2,8 +2,8 @@
 use Rattle.std.specs.Prelude.{◌≡◌, ◌≤◌, ◌^◌, ℕ, Option, Some, None}
 use Rattle.enc_words.specs.declared.command.Command.{Command}
 use Rattle.enc_words.specs.declared.command.Number.{Number}
-use Rattle.enc_words.specs.declared.command.Command.TheVariants.{Show, List, Check, Apply, Compact, Write, Run, Gen}
-use Rattle.enc_words.specs.Words.{Numeral, Job, show, list, check, apply, compact, write, run, gen, texts}
+use Rattle.enc_words.specs.declared.command.Command.TheVariants.{Show, List, Check, Apply, Compact, Merge, Write, Run, Gen}
+use Rattle.enc_words.specs.Words.{Numeral, Job, show, list, check, apply, compact, merge, write, run, gen, texts}
 
 -- a number with its digits
 abbrev pub numeral_seen : Number → Numeral
@@ -15,6 +15,7 @@ job_seen (List base deltas) = list base.now (texts deltas.now)
 job_seen (Check base deltas) = check base.now (texts deltas.now)
 job_seen (Apply base out deltas) = apply base.now out.now (texts deltas.now)
 job_seen (Compact base out deltas) = compact base.now out.now (texts deltas.now)
+job_seen (Merge base out deltas) = merge base.now out.now (texts deltas.now)
 job_seen (Write base edits out deltas) = write base.now edits.now out.now (texts deltas.now)
 job_seen (Run base script) = run base.now script.now
 job_seen (Gen start count out) = gen (numeral_seen start) (numeral_seen count) out.now

@@ -59,6 +59,10 @@ unlisted_line name fault = codes "refused " ++ name ++ 0x20 ∷ fault_text fault
 unfoldable pub broken_line : List ℕ → ℕ → ℕ → List ℕ
 broken_line name rule edit = codes "refused " ++ name ++ codes " E" ++ decimal rule ++ 0x20 ∷ decimal edit ++ 0x0a ∷ []
 
+-- the line of two deltas that aren't merged, as a reference lies too deep in others
+unfoldable pub deep_line : List ℕ → Token → List ℕ
+deep_line name token = codes "refused " ++ name ++ codes " G1 " ++ token_text token ++ 0x0a ∷ []
+
 -- the line of words that are no command
 unfoldable pub usage_line : List ℕ
-usage_line = codes "usage: enc show list check apply write run gen compact" ++ 0x0a ∷ []
+usage_line = codes "usage: enc show list check apply write run gen compact merge" ++ 0x0a ∷ []

@@ -16,14 +16,15 @@ pub record Numeral : Type 0 where
   pub value : ℕ
 
 -- what a command asks for: a row of a base with deltas, their listing, whether all are accepted, the one module that has all edits,
--- under a name of its own, the same in the order of an ordinary module, the delta of an edit list, in a file, that follows them, what a
--- script prints over a base, or a generated case by its two numbers
+-- under a name of its own, the same in the order of an ordinary module, one delta that stands for the last two, the delta of an edit list, in
+-- a file, that follows them, what a script prints over a base, or a generated case by its two numbers
 pub data Job : Type 0 where
   show : List ℕ → Token → List (List ℕ) → Job
   list : List ℕ → List (List ℕ) → Job
   check : List ℕ → List (List ℕ) → Job
   apply : List ℕ → List ℕ → List (List ℕ) → Job
   compact : List ℕ → List ℕ → List (List ℕ) → Job
+  merge : List ℕ → List ℕ → List (List ℕ) → Job
   write : List ℕ → List ℕ → List ℕ → List (List ℕ) → Job
   run : List ℕ → List ℕ → Job
   gen : Numeral → Numeral → List ℕ → Job
@@ -65,6 +66,12 @@ abbrev pub compact_of : List (List ℕ) → Option Job
 compact_of (base ∷ out ∷ deltas) = if are_names base (out ∷ deltas) then Some (compact base out deltas) else None
 compact_of _ = None
 
+-- `merge BASE OUT DELTA DELTA ..`, with two deltas or more
+abbrev pub merge_of : List (List ℕ) → Option Job
+merge_of (base ∷ out ∷ first ∷ second ∷ deltas) =
+    if are_names base (out ∷ first ∷ second ∷ deltas) then Some (merge base out (first ∷ second ∷ deltas)) else None
+merge_of _ = None
+
 -- `write BASE EDITS OUT DELTA..`
 abbrev pub write_of : List (List ℕ) → Option Job
 write_of (base ∷ edits ∷ out ∷ deltas) = if are_names base (edits ∷ out ∷ deltas) then Some (write base edits out deltas) else None
@@ -105,6 +112,7 @@ job_of (name ∷ words) =
     else if bytes_eq name (codes "run") then run_of words
     else if bytes_eq name (codes "gen") then gen_of words
     else if bytes_eq name (codes "compact") then compact_of words
+    else if bytes_eq name (codes "merge") then merge_of words
     else None
 job_of [] = None
 

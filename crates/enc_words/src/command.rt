@@ -2,7 +2,7 @@
 ghost use Rattle.std.specs.Prelude.{◌≡◌, ◌≤◌, true, length, option_map, map, IfSome};
 ghost use Rattle.std.specs.Str.Parse.{digits_value};
 ghost use Rattle.std.specs.List.{list_all};
-ghost use Rattle.enc_words.specs.Words.{is_name, are_names, token_of_word, show_of, list_of, check_of, apply_of, write_of, run_of, is_digit, numeral_of, gen_of, compact_of, job_of, texts};
+ghost use Rattle.enc_words.specs.Words.{is_name, are_names, token_of_word, show_of, list_of, check_of, apply_of, write_of, run_of, is_digit, numeral_of, gen_of, compact_of, merge_of, job_of, texts};
 ghost use Rattle.enc_words.specs.Commands.{numeral_seen, job_seen, HasFewLists, IsValue};
 
 use enc_base::Token;
@@ -42,6 +42,12 @@ pub enum Command<'a> {
     },
     /// Saves the same as an ordinary module, whose rows have the order that loaders expect.
     Compact {
+        base: &'a str,
+        out: &'a str,
+        deltas: &'a [String],
+    },
+    /// Saves the delta that stands for the last two deltas of a base.
+    Merge {
         base: &'a str,
         out: &'a str,
         deltas: &'a [String],
@@ -181,6 +187,27 @@ fn compact_of(words: &[String]) -> Option<Command<'_>>
     })
 }
 
+/// The words of `merge`.
+#[tactic(auto, unfolding(crate::specs::Words::are_names))]
+fn merge_of(words: &[String]) -> Option<Command<'_>>
+    ensures { option_map job_seen result ≡ merge_of (texts words.now) }
+{
+    let [base, out, deltas @ ..] = words else {
+        return None;
+    };
+    let [_, _, ..] = deltas else {
+        return None;
+    };
+    if !is_name(base.as_str()) || !are_names(out.as_str(), deltas) {
+        return None;
+    }
+    Some(Command::Merge {
+        base: base.as_str(),
+        out: out.as_str(),
+        deltas,
+    })
+}
+
 /// The words of `write`.
 #[tactic(auto, unfolding(crate::specs::Words::are_names))]
 fn write_of(words: &[String]) -> Option<Command<'_>>
@@ -292,6 +319,7 @@ pub fn command_of(words: &[String]) -> Option<Command<'_>>
         "run" => run_of(words),
         "gen" => gen_of(words),
         "compact" => compact_of(words),
+        "merge" => merge_of(words),
         _ => None,
     }
 }

@@ -4,7 +4,7 @@ ghost use Rattle.std.specs.Prelude.{◌≡◌, ◌++◌, ◌∷◌, List, ℕ, O
 ghost use Rattle.enc_agg.specs.Seen.{module_of_all};
 ghost use Rattle.enc_words.specs.Case.{case_line as line_of_case};
 ghost use Rattle.std.specs.Borrow.{Bor};
-ghost use Rattle.enc_words.specs.Lines.{limit_text, limit_line, missing_line, absent_line, accepted_line, spaced, saved_line, moved_line, moved_lines, fault_text, unlisted_line, broken_line, usage_line};
+ghost use Rattle.enc_words.specs.Lines.{limit_text, limit_line, missing_line, absent_line, accepted_line, spaced, saved_line, moved_line, moved_lines, fault_text, unlisted_line, broken_line, deep_line, usage_line};
 
 use crate::limits::Limit;
 use crate::loaded::sum_loaded;
@@ -192,6 +192,20 @@ pub fn case_line(
     Ok(line)
 }
 
+/// The line of two deltas that aren't merged, as a reference lies too deep in others.
+#[tactic(auto, unfolding(crate::specs::Lines::deep_line))]
+pub fn deep_line(alloc: Global, name: &str, token: Token) -> Result<Vec<u8>, AllocError>
+    ensures { IfOk result (λ line. line.items ≡ deep_line name.now token) }
+{
+    let mut line = Vec::new(alloc);
+    push_str(&mut line, "refused ")?;
+    push_str(&mut line, name)?;
+    push_str(&mut line, " G1 ")?;
+    push_token(&mut line, token)?;
+    push_str(&mut line, "\n")?;
+    Ok(line)
+}
+
 /// The line of words that are no command.
 #[tactic(auto, unfolding(crate::specs::Lines::usage_line))]
 pub fn usage_line(alloc: Global) -> Result<Vec<u8>, AllocError>
@@ -200,7 +214,7 @@ pub fn usage_line(alloc: Global) -> Result<Vec<u8>, AllocError>
     let mut line = Vec::new(alloc);
     push_str(
         &mut line,
-        "usage: enc show list check apply write run gen compact\n",
+        "usage: enc show list check apply write run gen compact merge\n",
     )?;
     Ok(line)
 }

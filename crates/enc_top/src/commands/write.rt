@@ -67,7 +67,7 @@ fn saves(
 }
 
 /// The plan that saves what was written: metadata, code and PDB.
-fn saving(alloc: Global, out: &str, files: DeltaBytes) -> Result<Plan, AllocError>
+pub fn saving(alloc: Global, out: &str, files: DeltaBytes) -> Result<Plan, AllocError>
     ensures outcome { IfOk result (λ plan. plan.outcome ≡ Outcome.Accepted) }
     ensures output { IfOk result (λ plan. plan.output.items ≡ line_of_saved (meta out.now ∷ il out.now ∷ pdb out.now ∷ [])) }
     ensures saves { IfOk result (λ plan. saves_of plan.saves.items ≡ (meta out.now, files.meta) ∷ (il out.now, files.il) ∷ (pdb out.now, files.pdb) ∷ []) }

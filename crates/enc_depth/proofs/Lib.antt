@@ -1,0 +1,15 @@
+pub mod Agreeing
+pub mod TypesRead
+pub mod OneKind
+pub mod References
+pub mod Signatures
+pub mod Ends
+pub mod Sound
+pub mod RowsKept
+pub mod TokensKept
+pub mod Twice
+pub mod Members
+pub mod Layouts
+pub mod EdgesTold
+pub mod RowsRead
+pub mod NextDepths
