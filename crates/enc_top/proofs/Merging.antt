@@ -1,10 +1,8 @@
 -- The plan of the last two deltas merged: what accepted files keep, and what comes of merging.
-use Rattle.std.proofs.Common.{◌≡◌, ℕ, zero, suc, ◌+◌, ◌^◌, ◌≤◌, Bool, true, false, List, [], ◌∷◌, length, map, take, drop, Option, Some, None, Result, Ok, Err, refl, sym, ap, ◌∙◌, subst, arith}
-use Rattle.std.specs.Prelude.{nat_lt, option_map, if◌then◌else◌}
-use Rattle.std.specs.FinMap.{get}
-use Rattle.std.proofs.lemmas.Bool.Decides.{nat_tests}
-use Rattle.std.proofs.lemmas.List.{length-take, length-drop}
-use Rattle.enc_outside.specs.Outside.{Files}
+use Rattle.std.proofs.Common.{◌≡◌, ℕ, zero, suc, ◌+◌, ◌-◌, ◌^◌, ◌≤◌, true, false, List, [], ◌∷◌, ◌++◌, get_or, length, map, drop, Option, Some, None, Result, Ok, Err, refl, sym, ap, ◌∙◌, subst, arith}
+use Rattle.std.specs.Prelude.{nat_lt, option_map, codes, IfOk, String, string_bytes}
+use Rattle.std.specs.declared.alloc.Global.{Global}
+use Rattle.std.proofs.lemmas.List.{length-append, length-map, length-take, length-drop, map-append}
 use Rattle.enc_base.specs.declared.refusal.Refusal.{Refusal}
 use Rattle.enc_base.specs.declared.token.Token.{Token}
 use Rattle.enc_meta.specs.Heaps.{part}
@@ -20,82 +18,27 @@ use Rattle.enc_ppdb.specs.Fault.{pdb_delta_of}
 use Rattle.enc_ppdb.specs.Misplaced.{first_misplaced}
 use Rattle.enc_ppdb.specs.PdbChain.{DebugDelta}
 use Rattle.enc_checker.specs.Check.{Accepted, accepted, code_sizes, judged, new_bodies, placed_pdb, refused_row, unless, unless_broken, with_pdb}
-use Rattle.enc_merged.specs.Held.{il_of}
-use Rattle.enc_merge.specs.Merges.{AllGo, GoesWith, IsShortDelta, PdbGoes}
-use Rattle.enc_top.specs.Verdict.{◌>>=◌, Stop, DeltaFiles, Followed, BaseFiles, accept, base_pdb, file_limit, followed_by, in_delta, in_file, judge_all, judge_deltas, kept_whole, kept_if_there, load_base, load_delta, load_deltas, load_one, load_optional, taken, meta, il, pdb, dll, files_size, base_size}
-
--- a file that is kept is short
-short_file : (name : List ℕ) (before : ℕ) (bytes b : List ℕ) → kept_whole name before bytes ≡ Ok b → length b ≤ 2 ^ 26
-unfolding kept_whole
-short_file name before bytes b e = by (nat_lt file_limit (length bytes)) refl e
-  where
-    rest : (t : Bool) (s : Stop) → (if t then Err s else Ok bytes) ≡ Ok b → bytes ≡ b
-    rest true s f = absurd cc
-    rest false s f = cc
-
-    by : (t : Bool) → nat_lt file_limit (length bytes) ≡ t → (if t then Err _ else if nat_lt _ (before + length bytes) then Err _ else Ok bytes) ≡ Ok b → length b ≤ 2 ^ 26
-    by true f g = absurd cc
-    by false f g = let same : bytes ≡ b = rest _ _ g in subst (λ (l : List ℕ). length l ≤ 2 ^ 26) same (grind (arith, nat_tests, f))
-
-short_taken : (name : List ℕ) (before : ℕ) (o : Option (List ℕ)) (b : List ℕ) → taken name before o ≡ Ok b → length b ≤ 2 ^ 26
-short_taken name before None b e = absurd cc
-short_taken name before (Some bytes) b e = short_file name before bytes b e
-
-short_one : (files : Files) (name : List ℕ) (before : ℕ) (b : List ℕ) → load_one files name before ≡ Ok b → length b ≤ 2 ^ 26
-unfolding load_one
-short_one files name before b e = short_taken name before (get files name) b e
-
--- so are those of a delta
-record IsShort (f : DeltaFiles) : Type 0 where
-  metadata : length f.metadata ≤ 2 ^ 26
-  code : length f.code ≤ 2 ^ 26
-
-short_delta : (files : Files) (delta : List ℕ) (before : ℕ) (f : DeltaFiles) → load_delta files delta before ≡ Ok f → IsShort f
-unfolding load_delta
-short_delta files delta before f e = first (load_one files (meta delta) before) refl e
-  where
-    made : List ℕ → List ℕ → Option (List ℕ) → DeltaFiles
-    made m c d = record { name = meta delta; debug_name = pdb delta; metadata = m; code = c; debug = d }
-
-    third : (m c : List ℕ) (r : Result (Option (List ℕ)) Stop) → length m ≤ 2 ^ 26 → length c ≤ 2 ^ 26 → (r >>= λ d. Ok (made m c d)) ≡ Ok f → IsShort f
-    third m c (Err s) a b g = absurd cc
-    third m c (Ok d) a b g = let same : made m c d ≡ f = cc in subst IsShort same (record { metadata = a; code = b })
-
-    second : (m : List ℕ) (r : Result (List ℕ) Stop) → load_one files (il delta) (before + length m) ≡ r → length m ≤ 2 ^ 26
-        → (r >>= λ c. load_optional files (pdb delta) (before + length m + length c) >>= λ d. Ok (made m c d)) ≡ Ok f → IsShort f
-    second m (Err s) is a g = absurd cc
-    second m (Ok c) is a g = third m c _ a (short_one files (il delta) (before + length m) c is) g
-
-    first : (r : Result (List ℕ) Stop) → load_one files (meta delta) before ≡ r
-        → (r >>= λ m. load_one files (il delta) (before + length m) >>= λ c. load_optional files (pdb delta) (before + length m + length c) >>= λ d. Ok (made m c d)) ≡ Ok f → IsShort f
-    first (Err s) is g = absurd cc
-    first (Ok m) is g = second m (load_one files (il delta) (before + length m)) refl (short_one files (meta delta) before m is) g
-
-AllShort : List DeltaFiles → Type 0
-AllShort [] = Unit {0}
-AllShort (f ∷ fs) = IsShort f × AllShort fs
-
--- as many as there are words
-record Loads (words : List (List ℕ)) (fs : List DeltaFiles) : Type 0 where
-  many : length fs ≡ length words
-  short : AllShort fs
-
-loads : (files : Files) (words : List (List ℕ)) (before : ℕ) (fs : List DeltaFiles) → load_deltas files words before ≡ Ok fs → Loads words fs
-unfolding load_deltas AllShort
-loads files [] before fs e = let same : [] ≡ fs = cc in subst (Loads []) same (record { many = refl; short = tt })
-loads files (w ∷ words) before fs e = first (load_delta files w before) refl e (λ n gs g. loads files words n gs g)
-  where
-    second : (x : DeltaFiles) (r : Result (List DeltaFiles) Stop) → IsShort x → ((gs : List DeltaFiles) → r ≡ Ok gs → Loads words gs) → (r >>= λ gs. Ok (x ∷ gs)) ≡ Ok fs → Loads (w ∷ words) fs
-    second x (Err s) short more g = absurd cc
-    second x (Ok gs) short more g =
-        let rest = more gs refl in
-        let same : x ∷ gs ≡ fs = cc in
-        subst (Loads (w ∷ words)) same (record { many = ap suc rest.many; short = (short, rest.short) })
-
-    first : (r : Result DeltaFiles Stop) → load_delta files w before ≡ r → (r >>= λ x. load_deltas files words (before + files_size x) >>= λ gs. Ok (x ∷ gs)) ≡ Ok fs
-        → ((n : ℕ) (gs : List DeltaFiles) → load_deltas files words n ≡ Ok gs → Loads words gs) → Loads (w ∷ words) fs
-    first (Err s) is g more = absurd cc
-    first (Ok x) is g more = second x (load_deltas files words (before + files_size x)) (short_delta files w before x is) (more (before + files_size x)) g
+use Rattle.enc_base.specs.declared.refusal.StreamName.TheVariants as stream
+use Rattle.enc_depth.specs.Depth.{first_deep}
+use Rattle.enc_merged.specs.Merged.{after_both}
+use Rattle.enc_merge.specs.Merges.{AllGo, GoesWith, IsShortDelta, MergesBoth, PdbGoes, ShortLast, StandsForBoth, weight_of_both}
+use Rattle.enc_merge.specs.declared.fault.MergeFault.{MergeFault}
+use Rattle.enc_merge.specs.declared.fault.MergeFault.TheVariants.{TooLarge, Deep}
+use Rattle.enc_ppdb.specs.PdbChain.{pdb_with}
+use Rattle.enc_ppdb.specs.Written.{most_pdb_weight}
+use Rattle.enc_words.specs.Lines.{saved_line}
+use Rattle.enc_words.specs.Words.{texts}
+use Rattle.enc_words.specs.declared.limits.Limit.TheVariants as limit
+use Rattle.enc_writer.specs.declared.bytes.DeltaBytes.{DeltaBytes}
+use Rattle.enc_top.specs.Plans.{saves_of, IsPlanOf}
+use Rattle.enc_top.specs.Stops.{Comes, OnPlan}
+use Rattle.enc_top.specs.declared.plan.Outcome.TheVariants.{Accepted as Done}
+use Rattle.enc_top.specs.declared.plan.Plan.{Plan}
+use Rattle.enc_top.specs.declared.stop.Stop.{Stop as Halt}
+use Rattle.enc_top.specs.Loads.{AreShort, HaveGone, IsShort, file_seen, followed}
+use Rattle.enc_top.specs.declared.judge.Judged.{Judged}
+use Rattle.enc_top.specs.declared.load.DeltaFile.{DeltaFile}
+use Rattle.enc_top.specs.Verdict.{◌>>=◌, Stop, DeltaFiles, Followed, BaseFiles, Verdict, base_pdb, can_be_merged, debug_after, deep_chain, dll, followed_by, il, in_delta, in_file, judge_all, judge_deltas, last_word, merged_on, merges, meta, past_limit, pdb, plain_of, weight_by, weight_of_last}
 
 -- a delta that was read is no longer than its files
 part_short : (bytes : List ℕ) (root : Root) → length (part bytes root.tables) ≤ length bytes
@@ -146,11 +89,11 @@ goes_unbroken : (d : Source) (a : Accepted) (pdb : Option (List ℕ)) (o : Optio
 goes_unbroken d a pdb None e = goes_pdb d a pdb e
 goes_unbroken d a pdb (Some f) e = absurd cc
 
-Judged : Accepted → Type 0
-Judged a = GoesWith a.delta (known_of a) × IsShortDelta a.delta
+GoesShort : Accepted → Type 0
+GoesShort a = GoesWith a.delta (known_of a) × IsShortDelta a.delta
 
-goes_judged : (c : Chain) (r : Result Source Refusal) (a : Accepted) (pdb : Option (List ℕ)) → ((d : Source) → r ≡ Ok d → IsShortDelta d) → judged c r pdb ≡ Ok a → Judged a
-unfolding Judged Goes known_of
+goes_judged : (c : Chain) (r : Result Source Refusal) (a : Accepted) (pdb : Option (List ℕ)) → ((d : Source) → r ≡ Ok d → IsShortDelta d) → judged c r pdb ≡ Ok a → GoesShort a
+unfolding GoesShort Goes known_of
 goes_judged c (Ok d) a pdb short e =
     let g = goes_unbroken d a pdb (first_meta c d) e in
     (record { changed = refl; pdb = g.1 }, subst IsShortDelta (sym g.0) (short d refl))
@@ -161,9 +104,9 @@ told_delta x (Ok b) a e = let same : b ≡ a = cc in ap (λ (y : Accepted). Ok y
 told_delta x (Err f) a e = absurd cc
 
 -- so all go, and there are as many as files
-goes_on : (f : Followed) (fs : List DeltaFiles) (g : Followed) → AllGo f.deltas f.debugs → AllShort fs → judge_deltas f fs ≡ Ok g
+goes_on : (f : Followed) (fs : List DeltaFiles) (g : Followed) → AllGo f.deltas f.debugs → AreShort fs → judge_deltas f fs ≡ Ok g
     → AllGo g.deltas g.debugs × (length g.deltas ≡ length f.deltas + length fs)
-unfolding judge_deltas AllShort AllGo Judged known_of
+unfolding judge_deltas AreShort AllGo GoesShort known_of
 goes_on f [] g go short e = let same : f ≡ g = cc in subst (λ (x : Followed). AllGo x.deltas x.debugs × (length x.deltas ≡ length f.deltas + 0)) same (go, omega arith)
 goes_on f (x ∷ xs) g go short e = by (in_delta x (judged (chain_with f.base f.deltas) (delta_of x.metadata x.code) x.debug)) refl e (λ h more k. goes_on h xs g more short.1 k)
   where
@@ -177,7 +120,7 @@ goes_on f (x ∷ xs) g go short e = by (in_delta x (judged (chain_with f.base f.
         let many = rest.1 in
         (rest.0, omega (arith, many))
 
-goes_all : (base : List ℕ) (f : BaseFiles) (fs : List DeltaFiles) (g : Followed) → AllShort fs → judge_all base f fs ≡ Ok g → AllGo g.deltas g.debugs × (length g.deltas ≡ length fs)
+pub goes_all : (base : List ℕ) (f : BaseFiles) (fs : List DeltaFiles) (g : Followed) → AreShort fs → judge_all base f fs ≡ Ok g → AllGo g.deltas g.debugs × (length g.deltas ≡ length fs)
 unfolding judge_all AllGo
 goes_all base f fs g short e = first (in_file (dll base) _) e
   where
@@ -193,17 +136,138 @@ goes_all base f fs g short e = first (in_file (dll base) _) e
     first (Err s) k = absurd cc
     first (Ok b) k = second b (in_file (pdb base) (base_pdb b f.debug)) k
 
-pub accepted_go : (files : Files) (base : List ℕ) (words : List (List ℕ)) (g : Followed) → accept files base words ≡ Ok g → AllGo g.deltas g.debugs × (length g.deltas ≡ length words)
-unfolding accept
-accepted_go files base words g e = first (load_base files base 0) e
-  where
-    second : (f : BaseFiles) (r : Result (List DeltaFiles) Stop) → load_deltas files words (base_size f) ≡ r → (r >>= λ fs. judge_all base f fs) ≡ Ok g → AllGo g.deltas g.debugs × (length g.deltas ≡ length words)
-    second f (Err s) is k = absurd cc
-    second f (Ok fs) is k =
-        let l = loads files words (base_size f) fs is in
-        let h = goes_all base f fs g l.short k in
-        (h.0, h.1 ∙ l.many)
+-- so all that were judged
+pub gone_so : (base : List ℕ) (f : BaseFiles) (files : List DeltaFile) (words : ℕ) (r : Result Judged Halt) → AreShort (map file_seen files) → length files ≡ words
+    → Comes followed r (judge_all base f (map file_seen files)) → IfOk r (λ (j : Judged). HaveGone words j)
+gone_so base f files words (Ok j) short many step =
+    let h = goes_all base f (map file_seen files) (followed j) short step in
+    record { many = h.1 ∙ length-map files file_seen ∙ many; go = h.0 }
+gone_so base f files words (Err h) short many step = tt
 
-    first : (r : Result BaseFiles Stop) → (r >>= λ f. load_deltas files words (base_size f) >>= λ fs. judge_all base f fs) ≡ Ok g → AllGo g.deltas g.debugs × (length g.deltas ≡ length words)
-    first (Err s) k = absurd cc
-    first (Ok f) k = second f (load_deltas files words (base_size f)) refl k
+-- none so far
+pub none_short : (fs : List DeltaFile) → fs ≡ [] → AreShort (map file_seen fs)
+unfolding AreShort
+none_short fs e = subst (λ (l : List DeltaFile). AreShort (map file_seen l)) (sym e) tt
+
+-- the files of one more delta
+short_more : (fs : List DeltaFiles) (f : DeltaFiles) → AreShort fs → IsShort f → AreShort (fs ++ f ∷ [])
+unfolding AreShort
+short_more [] f all short = (short, tt)
+short_more (g ∷ fs) f all short = (all.0, short_more fs f all.1 short)
+
+pub one_longer : (new old : List DeltaFile) (f : DeltaFile) (n : ℕ) → new ≡ old ++ f ∷ [] → length old ≡ n → length new ≡ n + 1
+one_longer new old f n e many =
+    let long = length-append old (f ∷ []) in
+    let same = ap (λ (l : List DeltaFile). length l) e in
+    omega (arith, long, same, many)
+
+pub short_seen : (new old : List DeltaFile) (f : DeltaFile) → new ≡ old ++ f ∷ [] → AreShort (map file_seen old) → IsShort (file_seen f) → AreShort (map file_seen new)
+short_seen new old f e all short =
+    subst AreShort (sym (ap (map file_seen) e ∙ map-append file_seen old (f ∷ []))) (short_more (map file_seen old) (file_seen f) all short)
+
+-- the last two together
+pub short_last : (deltas : List Source) (debugs : List DebugDelta) → AllGo deltas debugs → ShortLast deltas
+unfolding AllGo
+short_last [] debugs go = tt
+short_last (b ∷ []) debugs go = tt
+short_last (b ∷ a ∷ older) [] go = absurd go
+short_last (b ∷ a ∷ older) (y ∷ []) go = absurd go.1.1
+short_last (b ∷ a ∷ older) (y ∷ x ∷ debugs) go =
+    let p = go.1.0.stream in
+    let q = go.1.1.1.0.stream in
+    let r = go.1.0.code in
+    let t = go.1.1.1.0.code in
+    (grind (arith, p, q), grind (arith, r, t))
+
+-- the last of some words
+pub last_at : (words : List (String Global)) (w : String Global) → 1 ≤ length words → w ≡ get_or words (length words - 1) w → last_word (texts words) ≡ string_bytes w
+last_at [] w some e = absurd (omega (arith, some))
+last_at (v ∷ []) w some e =
+    let none : suc zero - 1 ≡ 0 = omega arith in
+    let same : w ≡ v = e ∙ ap (λ n. get_or (v ∷ []) n w) none in
+    ap string_bytes (sym same)
+last_at (v ∷ u ∷ words) w some e =
+    let less : suc (suc (length words)) - 1 ≡ suc (suc (length words) - 1) = omega arith in
+    last_at (u ∷ words) w (omega arith) (e ∙ ap (λ n. get_or (v ∷ u ∷ words) n w) less)
+
+pub deep_name : (words : List (String Global)) (w : String Global) (text name : List ℕ) → 1 ≤ length words → w ≡ get_or words (length words - 1) w → text ≡ string_bytes w
+    → name ≡ text ++ codes ".meta" → name ≡ meta (last_word (texts words))
+deep_name words w text name some e is named = named ∙ ap meta (is ∙ sym (last_at words w some e))
+
+-- the last two deltas and what is known before them
+LastTwo : Followed → Type 0
+LastTwo f = (b : Source) × ((a : Source) × ((older : List Source) × ((y : DebugDelta) × ((x : DebugDelta) × ((debugs : List DebugDelta) × ((f.deltas ≡ b ∷ a ∷ older) × (f.debugs ≡ y ∷ x ∷ debugs)))))))
+
+last_two : (deltas : List Source) (debugs : List DebugDelta) (f : Followed) → f.deltas ≡ deltas → f.debugs ≡ debugs → 2 ≤ length deltas → AllGo deltas debugs → LastTwo f
+unfolding AllGo LastTwo
+last_two [] debugs f d e two go = absurd (omega (arith, two))
+last_two (b ∷ []) debugs f d e two go = absurd (omega (arith, two))
+last_two (b ∷ a ∷ older) [] f d e two go = absurd go
+last_two (b ∷ a ∷ older) (y ∷ []) f d e two go = absurd go.1.1
+last_two (b ∷ a ∷ older) (y ∷ x ∷ debugs) f d e two go = (b, (a, (older, (y, (x, (debugs, (d, e)))))))
+
+-- what comes of merging, by the weight of the PDB and the first reference that lies too deep
+heavy_by : (name out : List ℕ) (f : Followed) → nat_lt most_pdb_weight (weight_of_last f) ≡ true → merged_on name out f ≡ Err (past_limit (pdb out) (limit.Heap stream.Pdb))
+unfolding can_be_merged
+heavy_by name out f w = rw w refl
+
+deep_by : (name out : List ℕ) (f : Followed) (t : Token) → nat_lt most_pdb_weight (weight_of_last f) ≡ false → first_deep (plain_of f) ≡ Some t → merged_on name out f ≡ Err (deep_chain name t)
+unfolding can_be_merged
+deep_by name out f t w o = rw (w, o) refl
+
+fine_by : (name out : List ℕ) (f : Followed) → nat_lt most_pdb_weight (weight_of_last f) ≡ false → first_deep (plain_of f) ≡ None → merged_on name out f ≡ Ok (merges out f)
+unfolding can_be_merged
+fine_by name out f w o = rw (w, o) refl
+
+weight_is : (f : Followed) (b a : Source) (older : List Source) → f.deltas ≡ b ∷ a ∷ older → weight_of_last f ≡ weight_of_both (chain_with f.base older) a b (debug_after f)
+unfolding weight_of_last
+weight_is f b a older e = ap (λ ds. weight_by f.base ds (debug_after f)) e
+
+module_is : (f : Followed) (b a : Source) (older : List Source) → f.deltas ≡ b ∷ a ∷ older → plain_of f ≡ (after_both (chain_with f.base older) a b).plain
+unfolding chain_with
+module_is f b a older e = ap (λ ds. (chain_with f.base ds).plain) e
+
+-- the last two of accepted deltas merged
+abbrev pub MergesOf : Followed → Result DeltaBytes MergeFault → Type 0
+MergesOf f r =
+    (a b : Source) (older : List Source) (x y : DebugDelta) (debugs : List DebugDelta) → f.deltas ≡ b ∷ a ∷ older → f.debugs ≡ y ∷ x ∷ debugs
+    → MergesBoth (chain_with f.base older) a b (pdb_with f.debug debugs) (pdb_with f.debug f.debugs) r
+
+pub plan_of_merged : (name out : List ℕ) (f : Followed) (plan : Plan) (d : DeltaBytes) → 2 ≤ length f.deltas → AllGo f.deltas f.debugs → MergesOf f (Ok d)
+    → plan.outcome ≡ Done → plan.output.items ≡ saved_line (meta out ∷ il out ∷ pdb out ∷ []) → saves_of plan.saves.items ≡ (meta out, d.meta) ∷ (il out, d.il) ∷ (pdb out, d.pdb) ∷ []
+    → IsPlanOf (merged_on name out f) plan
+unfolding LastTwo
+plan_of_merged name out f plan d two go merged done line saved = by (last_two f.deltas f.debugs f refl refl two go)
+  where
+    by : LastTwo f → IsPlanOf (merged_on name out f) plan
+    by (b, (a, (older, (y, (x, (debugs, (ds, es))))))) =
+        let m = merged a b older x y debugs ds es in
+        let w : nat_lt most_pdb_weight (weight_of_last f) ≡ false = ap (nat_lt most_pdb_weight) (weight_is f b a older ds) ∙ m.1 in
+        let o : first_deep (plain_of f) ≡ None = ap first_deep (module_is f b a older ds) ∙ m.2 in
+        let rest : debugs ≡ drop 2 f.debugs = ap (drop 2) (sym es) in
+        let stand = subst (λ l. StandsForBoth (chain_with f.base older) a b (pdb_with f.debug l) (debug_after f) d) rest m.0 in
+        subst (λ (v : Verdict). IsPlanOf v plan) (sym (fine_by name out f w o))
+        (record { outcome = done; output = line; saves = record { files = d; saved = saved; second = b; first = a; older = older; deltas = ds; stand = stand } })
+
+pub plan_of_heavy : (name out : List ℕ) (f : Followed) (h : Halt) → 2 ≤ length f.deltas → AllGo f.deltas f.debugs → MergesOf f (Err TooLarge)
+    → OnPlan h (IsPlanOf (Err (past_limit (pdb out) (limit.Heap stream.Pdb)))) → OnPlan h (IsPlanOf (merged_on name out f))
+unfolding LastTwo
+plan_of_heavy name out f h two go merged plan = by (last_two f.deltas f.debugs f refl refl two go)
+  where
+    by : LastTwo f → OnPlan h (IsPlanOf (merged_on name out f))
+    by (b, (a, (older, (y, (x, (debugs, (ds, es))))))) =
+        let m = merged a b older x y debugs ds es in
+        let w : nat_lt most_pdb_weight (weight_of_last f) ≡ true = ap (nat_lt most_pdb_weight) (weight_is f b a older ds) ∙ m in
+        subst (λ (v : Verdict). OnPlan h (IsPlanOf v)) (sym (heavy_by name out f w)) plan
+
+pub plan_of_deep : (name out : List ℕ) (f : Followed) (t : Token) (h : Halt) → 2 ≤ length f.deltas → AllGo f.deltas f.debugs → MergesOf f (Err (Deep t))
+    → OnPlan h (IsPlanOf (Err (deep_chain name t))) → OnPlan h (IsPlanOf (merged_on name out f))
+unfolding LastTwo
+plan_of_deep name out f t h two go merged plan = by (last_two f.deltas f.debugs f refl refl two go)
+  where
+    by : LastTwo f → OnPlan h (IsPlanOf (merged_on name out f))
+    by (b, (a, (older, (y, (x, (debugs, (ds, es))))))) =
+        let m = merged a b older x y debugs ds es in
+        let w : nat_lt most_pdb_weight (weight_of_last f) ≡ false = ap (nat_lt most_pdb_weight) (weight_is f b a older ds) ∙ m.0 in
+        let o : first_deep (plain_of f) ≡ Some t = ap first_deep (module_is f b a older ds) ∙ m.1 in
+        subst (λ (v : Verdict). OnPlan h (IsPlanOf v)) (sym (deep_by name out f t w o)) plan

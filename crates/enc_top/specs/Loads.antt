@@ -1,5 +1,5 @@
 -- For the contracts of private functions: what the loaded files stand for.
-use Rattle.std.specs.Prelude.{◌≡◌, ℕ, List, [], Option, option_map, Vec, Result, Ok, Err, string_bytes}
+use Rattle.std.specs.Prelude.{◌≡◌, ◌≤◌, ℕ, List, [], ◌∷◌, length, Option, option_map, Vec, Result, Ok, Err, string_bytes}
 use Rattle.std.specs.declared.alloc.Global.{Global}
 use Rattle.enc_top.specs.declared.judge.Judged.{Judged}
 use Rattle.enc_top.specs.declared.judge.JudgedBase.{JudgedBase}
@@ -10,7 +10,8 @@ use Rattle.enc_top.specs.declared.stop.Stop.{Stop as Halt}
 use Rattle.enc_plain.specs.Sound.{row_count}
 use Rattle.enc_plain.specs.SoundDebug.{KnowsWithin}
 use Rattle.enc_schema.specs.Tables as tables
-use Rattle.enc_top.specs.Verdict.{Stop, BaseFiles, DeltaFiles, Followed, plain_of, debug_after, followed_by, WithText}
+use Rattle.enc_merge.specs.Merges.{AllGo}
+use Rattle.enc_top.specs.Verdict.{Stop, BaseFiles, DeltaFiles, Followed, file_limit, plain_of, debug_after, followed_by, WithText}
 use Rattle.enc_checker.specs.Check.{Accepted}
 use Rattle.enc_top.specs.Stops.{OnPlan, StopsWith}
 
@@ -45,6 +46,20 @@ texted t = record { followed = followed t.judged; text = t.text.items }
 -- what their PDBs know is of their methods
 abbrev pub KnowWithin : Judged → Type 0
 KnowWithin j = KnowsWithin (debug_after (followed j)) (row_count (plain_of (followed j)) tables.method_def)
+
+-- the metadata and the code of a delta aren't longer than a file may be
+pub record IsShort (f : DeltaFiles) : Type 0 where
+  pub metadata : length f.metadata ≤ file_limit
+  pub code : length f.code ≤ file_limit
+
+unfoldable pub AreShort : List DeltaFiles → Type 0
+AreShort [] = Unit {0}
+AreShort (f ∷ fs) = IsShort f × AreShort fs
+
+-- the deltas of so many words follow, none of them longer, and what their PDBs say goes with them
+pub record HaveGone (words : ℕ) (j : Judged) : Type 0 where
+  pub many : length j.agg.deltas ≡ words
+  pub go : AllGo j.agg.deltas j.debug.deltas
 
 -- a delta was added, or it ended at the defined stop
 abbrev pub Adds : {U : Type 0} → Judged → Judged → Result U Halt → Result Accepted Stop → Type 0

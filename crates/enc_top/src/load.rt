@@ -1,12 +1,12 @@
 //! Loading the files of a base and its deltas: all are there, and none is too long, before one is
 //! judged.
-ghost use Rattle.std.specs.Prelude.{◌≡◌, ◌+◌, ◌++◌, ℕ, List, length, map, option_map, Some, IfSome, IfOk, IsErrOf, string_bytes, codes};
+ghost use Rattle.std.specs.Prelude.{◌≡◌, ◌≤◌, ◌+◌, ◌++◌, ℕ, List, length, map, option_map, Some, IfSome, IfOk, IsErrOf, string_bytes, codes};
 ghost use Rattle.std.specs.FinMap.{get};
 ghost use Rattle.enc_outside.specs.Outside.{HasCause};
 ghost use Rattle.enc_words.specs.Words.{texts};
-ghost use Rattle.enc_top.specs.Verdict.{dll, meta, il, pdb, kept_whole, taken as taken_from, kept_if_there, optional_size, base_size, files_size, load_one as one_of, load_optional as optional_of, load_base as base_from, load_delta as delta_from, load_deltas as deltas_from};
+ghost use Rattle.enc_top.specs.Verdict.{dll, meta, il, pdb, file_limit, kept_whole, taken as taken_from, kept_if_there, optional_size, base_size, files_size, load_one as one_of, load_optional as optional_of, load_base as base_from, load_delta as delta_from, load_deltas as deltas_from};
 ghost use Rattle.enc_top.specs.Stops.{Comes, StopsQuietly};
-ghost use Rattle.enc_top.specs.Loads.{bytes_seen, base_seen, file_seen};
+ghost use Rattle.enc_top.specs.Loads.{bytes_seen, base_seen, file_seen, AreShort, IsShort};
 
 use crate::plans::{missing, too_long};
 use crate::stop::Stop;
@@ -72,6 +72,7 @@ impl Loaded {
         ensures quiet { StopsQuietly result }
         ensures no_fault { ¬ (IsErrOf result Stop.Failed) }
         ensures counted { IfOk result (λ b. self.new ≡ self.old + length b.items) }
+        ensures short { IfOk result (λ b. length b.items ≤ file_limit) }
     {
         if bytes.len() > FILE_LIMIT {
             return Err(too_long(alloc, name, Limit::Length));
@@ -89,6 +90,7 @@ impl Loaded {
         ensures quiet { StopsQuietly result }
         ensures no_fault { ¬ (IsErrOf result Stop.Failed) }
         ensures counted { IfOk result (λ b. self.new ≡ self.old + length b.items) }
+        ensures short { IfOk result (λ b. length b.items ≤ file_limit) }
     {
         match bytes {
             Some(bytes) => self.keep(alloc, name, bytes),
@@ -109,6 +111,7 @@ impl Loaded {
         ensures step { IfSome (S.told store.old) (λ files. Comes (λ b. b.items) result (one_of files name.now self.old)) }
         ensures quiet { StopsQuietly result }
         ensures counted { IfOk result (λ b. self.new ≡ self.old + length b.items) }
+        ensures short { IfOk result (λ b. length b.items ≤ file_limit) }
     {
         let bytes = store.load(name)?;
         self.take(alloc, name, bytes)
@@ -213,6 +216,7 @@ fn load_delta<S: Store>(
     ensures step { IfSome (S.told store.old) (λ files. Comes file_seen result (delta_from files delta.now loaded.old)) }
     ensures quiet { StopsQuietly result }
     ensures counted { IfOk result (λ f. loaded.new ≡ loaded.old + files_size (file_seen f)) }
+    ensures short { IfOk result (λ f. IsShort (file_seen f)) }
 {
     let DeltaNames {
         metadata: name,
@@ -242,6 +246,8 @@ pub fn load_deltas<S: Store>(
     ensures stays { S.told store.new ≡ S.told store.old }
     ensures step { IfSome (S.told store.old) (λ files. Comes (λ fs. map file_seen fs.items) result (deltas_from files (texts deltas.now) loaded.old)) }
     ensures quiet { StopsQuietly result }
+    ensures many { IfOk result (λ fs. length fs.items ≡ length deltas.now) }
+    ensures short { IfOk result (λ fs. AreShort (map file_seen fs.items)) }
 {
     let mut files = Vec::new(alloc);
     for delta in deltas {

@@ -1,5 +1,5 @@
 -- A command of the program as the job that it is.
-use Rattle.std.specs.Prelude.{◌≡◌, ◌≤◌, ◌^◌, ℕ, Option, Some, None}
+use Rattle.std.specs.Prelude.{◌≡◌, ◌≤◌, ◌^◌, ℕ, Option, Some, None, length}
 use Rattle.enc_words.specs.declared.command.Command.{Command}
 use Rattle.enc_words.specs.declared.command.Number.{Number}
 use Rattle.enc_words.specs.declared.command.Command.TheVariants.{Show, List, Check, Apply, Compact, Merge, Write, Run, Gen}
@@ -24,6 +24,11 @@ job_seen (Gen start count out) = gen (numeral_seen start) (numeral_seen count) o
 abbrev pub HasFewLists : Command → Type 0
 HasFewLists (Gen start count out) = count.value ≤ 64
 HasFewLists _ = Unit {0}
+
+-- at least two deltas are merged
+abbrev pub HasTwoDeltas : Command → Type 0
+HasTwoDeltas (Merge base out deltas) = 2 ≤ length deltas.now
+HasTwoDeltas _ = Unit {0}
 
 -- a number of 64 bits, none where it has more
 abbrev pub IsValue : Option ℕ → ℕ → Type 0

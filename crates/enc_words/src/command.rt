@@ -3,7 +3,7 @@ ghost use Rattle.std.specs.Prelude.{◌≡◌, ◌≤◌, true, length, option_m
 ghost use Rattle.std.specs.Str.Parse.{digits_value};
 ghost use Rattle.std.specs.List.{list_all};
 ghost use Rattle.enc_words.specs.Words.{is_name, are_names, token_of_word, show_of, list_of, check_of, apply_of, write_of, run_of, is_digit, numeral_of, gen_of, compact_of, merge_of, job_of, texts};
-ghost use Rattle.enc_words.specs.Commands.{numeral_seen, job_seen, HasFewLists, IsValue};
+ghost use Rattle.enc_words.specs.Commands.{numeral_seen, job_seen, HasFewLists, HasTwoDeltas, IsValue};
 
 use enc_base::Token;
 use enc_jobs::is_name;
@@ -190,7 +190,8 @@ fn compact_of(words: &[String]) -> Option<Command<'_>>
 /// The words of `merge`.
 #[tactic(auto, unfolding(crate::specs::Words::are_names))]
 fn merge_of(words: &[String]) -> Option<Command<'_>>
-    ensures { option_map job_seen result ≡ merge_of (texts words.now) }
+    ensures job { option_map job_seen result ≡ merge_of (texts words.now) }
+    ensures two { IfSome result HasTwoDeltas }
 {
     let [base, out, deltas @ ..] = words else {
         return None;
@@ -306,6 +307,7 @@ fn gen_of(words: &[String]) -> Option<Command<'_>>
 pub fn command_of(words: &[String]) -> Option<Command<'_>>
     ensures job { option_map job_seen result ≡ job_of (texts words.now) }
     ensures few { IfSome result HasFewLists }
+    ensures two { IfSome result HasTwoDeltas }
 {
     let [name, words @ ..] = words else {
         return None;

@@ -1,10 +1,10 @@
 //! What the commands share: the files are loaded, and then judged.
-ghost use Rattle.std.specs.Prelude.{◌≡◌, IfSome, IfOk};
+ghost use Rattle.std.specs.Prelude.{◌≡◌, length, IfSome, IfOk};
 ghost use Rattle.enc_outside.specs.Outside.{HasCause};
 ghost use Rattle.enc_words.specs.Words.{texts};
 ghost use Rattle.enc_top.specs.Verdict.{accept as accept_from, accept_text as text_from};
 ghost use Rattle.enc_top.specs.Stops.{Comes, StopsQuietly};
-ghost use Rattle.enc_top.specs.Loads.{followed, texted, KnowWithin};
+ghost use Rattle.enc_top.specs.Loads.{followed, texted, HaveGone, KnowWithin};
 
 use crate::judge::{Judged, judge_all};
 use crate::load::{Loaded, load_base, load_deltas};
@@ -25,6 +25,7 @@ pub fn accept<S: Store>(
     ensures step { IfSome (S.told store.old) (λ files. Comes followed result (accept_from files base.now (texts deltas.now))) }
     ensures quiet { StopsQuietly result }
     ensures within { IfOk result (λ j. KnowWithin j) }
+    ensures gone { IfOk result (λ j. HaveGone (length deltas.now) j) }
 {
     let mut loaded = Loaded::nothing();
     let file = load_base(alloc, base, &mut loaded, store)?;

@@ -5,6 +5,7 @@ use Rattle.enc_top.specs.Verdict.{base_size, load_base, load_deltas, accept}
 use Rattle.enc_top.specs.Stops.{Comes, OnPlan, StopsWith}
 use Rattle.enc_top.specs.Loads.{base_seen, file_seen, followed}
 use Rattle.enc_top.proofs.Loading.{if_both, from_nothing, accept_stops, accept_judged}
+use Rattle.enc_top.proofs.Merging.{gone_so}
 use Rattle.enc_top.proofs.commands.accept.accept.Goals as goal
 
 pub returns-in_err-files-clause-step : goal.returns-in_err-files-clause-step
@@ -17,3 +18,7 @@ pub returns-clause-step : goal.returns-clause-step
 returns-clause-step g c =
     let many : c.load_base.new.loaded ≡ base_size (base_seen c.in_ok-file.file) = from_nothing _ _ _ c.nothing-loaded.ensures c.in_ok-file.ensures.counted in
     if_both (g.S.Store.told c.args.store.now) (λ files. load_base files c.args.base.now 0 ≡ Ok (base_seen c.in_ok-file.file)) (λ files. load_deltas files (texts c.args.deltas.now) (base_size (base_seen c.in_ok-file.file)) ≡ Ok (map file_seen c.in_ok-files.files.items)) _ (rw c.nothing-loaded.ensures at c.in_ok-file.ensures.step) (rw (many, c.load_base.ensures.stays) at c.in_ok-files.ensures.step) (λ files one all. rw (accept_judged files c.args.base.now (texts c.args.deltas.now) (base_seen c.in_ok-file.file) (map file_seen c.in_ok-files.files.items) one all) c.judge_all.ensures.step)
+
+pub returns-clause-gone : goal.returns-clause-gone
+returns-clause-gone g c =
+    gone_so c.args.base.now (base_seen c.in_ok-file.file) c.in_ok-files.files.items _ c.judge_all.result c.in_ok-files.ensures.short c.in_ok-files.ensures.many c.judge_all.ensures.step
