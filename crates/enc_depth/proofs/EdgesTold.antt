@@ -8,7 +8,7 @@ use Rattle.enc_base.specs.declared.token.Token.{Token}
 use Rattle.enc_sigs.specs.Tree.{Forest, none, more, Tree, SigTree, trees, forest_of, forest_size, tree_size}
 use Rattle.enc_plain.specs.Module.{Module, cells_of}
 use Rattle.enc_depth.specs.Depth.{deepest}
-use Rattle.enc_depth.specs.Edges.{has_depth, edge_of, edges_in, AreFew, most, row_at_place, depth_from, IsFlat, AreEdges}
+use Rattle.enc_depth.specs.Edges.{has_depth, edge_of, edges_in, AreFew, greatest, row_at_place, depth_from, IsFlat, AreEdges}
 use Rattle.enc_depth.specs.declared.edges.Edge.{Edge}
 
 -- lists one behind the other
@@ -16,42 +16,42 @@ max_by : (b : Bool) (n x y : ℕ) → (if b then max n (max x y) else max x y) �
 max_by true n x y = omega arith
 max_by false n x y = refl
 
-most-append : (depth : Token → ℕ) (place : ℕ) (xs ys : List Edge) → most depth place (xs ++ ys) ≡ max (most depth place xs) (most depth place ys)
-most-append depth place [] ys = omega arith
-most-append depth place (x ∷ xs) ys =
-    rw (most-append depth place xs ys) (max_by (x.place == place) (1 + depth x.token) (most depth place xs) (most depth place ys))
+greatest-append : (depth : Token → ℕ) (place : ℕ) (xs ys : List Edge) → greatest depth place (xs ++ ys) ≡ max (greatest depth place xs) (greatest depth place ys)
+greatest-append depth place [] ys = omega arith
+greatest-append depth place (x ∷ xs) ys =
+    rw (greatest-append depth place xs ys) (max_by (x.place == place) (1 + depth x.token) (greatest depth place xs) (greatest depth place ys))
 
 -- the edges of one token
-edge_told_by : (depth : Token → ℕ) (place : ℕ) (t : Token) (b : Bool) → has_depth t ≡ b → IsFlat depth → max 1 (most depth place (edge_of place t)) ≡ 1 + depth t
+edge_told_by : (depth : Token → ℕ) (place : ℕ) (t : Token) (b : Bool) → has_depth t ≡ b → IsFlat depth → max 1 (greatest depth place (edge_of place t)) ≡ 1 + depth t
 edge_told_by depth place t true e flat = rw (e, eq-eqb place place refl) (omega arith)
 edge_told_by depth place t false e flat = let none = flat.others t e in rw e (omega (arith, none))
 
-edge_told : (depth : Token → ℕ) (place : ℕ) (t : Token) → IsFlat depth → max 1 (most depth place (edge_of place t)) ≡ 1 + depth t
+edge_told : (depth : Token → ℕ) (place : ℕ) (t : Token) → IsFlat depth → max 1 (greatest depth place (edge_of place t)) ≡ 1 + depth t
 edge_told depth place t flat = edge_told_by depth place t (has_depth t) refl flat
 
-edge_other_by : (depth : Token → ℕ) (place k : ℕ) (t : Token) (b : Bool) → has_depth t ≡ b → (place == k) ≡ false → most depth k (edge_of place t) ≡ 0
+edge_other_by : (depth : Token → ℕ) (place k : ℕ) (t : Token) (b : Bool) → has_depth t ≡ b → (place == k) ≡ false → greatest depth k (edge_of place t) ≡ 0
 edge_other_by depth place k t true e other = rw (e, other) refl
 edge_other_by depth place k t false e other = rw e refl
 
-edge_other : (depth : Token → ℕ) (place k : ℕ) (t : Token) → (place == k) ≡ false → most depth k (edge_of place t) ≡ 0
+edge_other : (depth : Token → ℕ) (place k : ℕ) (t : Token) → (place == k) ≡ false → greatest depth k (edge_of place t) ≡ 0
 edge_other depth place k t other = edge_other_by depth place k t (has_depth t) refl other
 
 -- the edges of types
-types_told : (depth : Token → ℕ) (place : ℕ) (f : Forest) → IsFlat depth → max 1 (most depth place (edges_in place f)) ≡ 1 + deepest depth f
+types_told : (depth : Token → ℕ) (place : ℕ) (f : Forest) → IsFlat depth → max 1 (greatest depth place (edges_in place f)) ≡ 1 + deepest depth f
 types_told depth place none flat = omega arith
 types_told depth place (more e t n k r) flat =
     let a = edge_told depth place t flat in
     let b = types_told depth place k flat in
     let c = types_told depth place r flat in
-    rw (most-append depth place (edge_of place t) (edges_in place k ++ edges_in place r), most-append depth place (edges_in place k) (edges_in place r))
+    rw (greatest-append depth place (edge_of place t) (edges_in place k ++ edges_in place r), greatest-append depth place (edges_in place k) (edges_in place r))
     (omega (arith, a, b, c))
 
-types_other : (depth : Token → ℕ) (place k : ℕ) (f : Forest) → (place == k) ≡ false → most depth k (edges_in place f) ≡ 0
+types_other : (depth : Token → ℕ) (place k : ℕ) (f : Forest) → (place == k) ≡ false → greatest depth k (edges_in place f) ≡ 0
 types_other depth place k none other = refl
 types_other depth place k (more e t n g r) other =
     rw (
-      most-append depth k (edge_of place t) (edges_in place g ++ edges_in place r),
-      most-append depth k (edges_in place g) (edges_in place r),
+      greatest-append depth k (edge_of place t) (edges_in place g ++ edges_in place r),
+      greatest-append depth k (edges_in place g) (edges_in place r),
       edge_other depth place k t other,
       types_other depth place k g other,
       types_other depth place k r other,
@@ -59,22 +59,22 @@ types_other depth place k (more e t n g r) other =
 
 -- what is added for the next row
 record TellsNext (m : Module) (n : ℕ) (added : List Edge) : Type 0 where
-  here : (depth : Token → ℕ) → IsFlat depth → max 1 (most depth n added) ≡ depth_from (cells_of m) depth (row_at_place m n)
-  others : (depth : Token → ℕ) (k : ℕ) → (n == k) ≡ false → most depth k added ≡ 0
+  here : (depth : Token → ℕ) → IsFlat depth → max 1 (greatest depth n added) ≡ depth_from (cells_of m) depth (row_at_place m n)
+  others : (depth : Token → ℕ) (k : ℕ) → (n == k) ≡ false → greatest depth k added ≡ 0
 
 told_first : (m : Module) (n k : ℕ) (edges added : List Edge) (depth : Token → ℕ) → IsFlat depth → AreEdges m n edges → TellsNext m n added → k < n + 1
-    → max 1 (most depth k (edges ++ added)) ≡ depth_from (cells_of m) depth (row_at_place m k)
+    → max 1 (greatest depth k (edges ++ added)) ≡ depth_from (cells_of m) depth (row_at_place m k)
 told_first m n k edges added depth flat are next low =
     elim (cases_eq k n) [
       | inl e ↦
           let past = (are.each depth flat).beyond n (omega arith) in
           let here = next.here depth flat in
-          subst (λ j. max 1 (most depth j (edges ++ added)) ≡ depth_from (cells_of m) depth (row_at_place m j)) (sym e)
-          (rw (most-append depth n edges added, past) (none_first (most depth n added) ∙ here))
+          subst (λ j. max 1 (greatest depth j (edges ++ added)) ≡ depth_from (cells_of m) depth (row_at_place m j)) (sym e)
+          (rw (greatest-append depth n edges added, past) (none_first (greatest depth n added) ∙ here))
       | inr d ↦
           let before = (are.each depth flat).upto k (less k n low d) in
           let nothing = next.others depth k (ne_eqb n k (λ e. d (sym e))) in
-          rw (most-append depth k edges added, nothing) (no_more (most depth k edges) ∙ before)
+          rw (greatest-append depth k edges added, nothing) (no_more (greatest depth k edges) ∙ before)
     ]
   where
     less : (k n : ℕ) → k < n + 1 → (k ≡ n → ⊥) → k < n
@@ -87,11 +87,11 @@ told_first m n k edges added depth flat are next low =
     none_first x = omega arith
 
 told_past : (m : Module) (n k : ℕ) (edges added : List Edge) (depth : Token → ℕ) → IsFlat depth → AreEdges m n edges → TellsNext m n added → n + 1 ≤ k
-    → most depth k (edges ++ added) ≡ 0
+    → greatest depth k (edges ++ added) ≡ 0
 told_past m n k edges added depth flat are next low =
     let past = (are.each depth flat).beyond k (omega arith) in
     let nothing = next.others depth k (ne_eqb n k (λ e. omega (arith, low, e))) in
-    rw (most-append depth k edges added, past, nothing) refl
+    rw (greatest-append depth k edges added, past, nothing) refl
 
 told_more : (m : Module) (n : ℕ) (edges added : List Edge) → AreEdges m n edges → TellsNext m n added → AreEdges m (n + 1) (edges ++ added)
 told_more m n edges added are next = record {

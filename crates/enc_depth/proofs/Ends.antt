@@ -10,13 +10,13 @@ use Rattle.enc_plain.specs.Module.{Module, cells_of, has_row}
 use Rattle.enc_plain.specs.Rows.{Rows, bytes_at, token_at}
 use Rattle.enc_plain.specs.Alike.{refs_alike}
 use Rattle.enc_plain.proofs.CellsOf.{has_cells}
-use Rattle.enc_depth.specs.Depth.{deepest, deepest_in, depth_by}
+use Rattle.enc_depth.specs.Depth.{deepest, deepest_in, depth_within}
 use Rattle.enc_depth.proofs.Agreeing.{Each, each_none, each_more, EachOf}
 use Rattle.enc_depth.proofs.References.{RefsAre, same, types, assemblies, modules, refs_parts, refs_whole}
 
 -- the walk from a token ends in fewer steps
 abbrev pub Ends : Rows → ℕ → Token → Type 0
-Ends rows n t = depth_by rows n t < n
+Ends rows n t = depth_within rows n t < n
 
 low_row : (m : Module) (t : Token) → has_row m t ≡ true → (t.row == 0) ≡ false
 unfolding has_row
@@ -33,28 +33,28 @@ pub some_of_row : (m : Module) (t : Token) → has_row m t ≡ true → is_some 
 some_of_row m t h = sym (has_cells m t) ∙ h
 
 -- the depth by the table
-pub depth_none : (rows : Rows) (n : ℕ) (t : Token) → t.row ≡ 0 → depth_by rows n t ≡ 0
-unfolding depth_by
+pub depth_none : (rows : Rows) (n : ℕ) (t : Token) → t.row ≡ 0 → depth_within rows n t ≡ 0
+unfolding depth_within
 depth_none rows zero t e = refl
 depth_none rows (suc n) t e = rw e refl
 
-pub depth_type : (rows : Rows) (n : ℕ) (t : Token) → (t.row == 0) ≡ false → t.table ≡ 0x01 → depth_by rows (suc n) t ≡ 1 + depth_by rows n (token_at rows t 0)
-unfolding depth_by
+pub depth_type : (rows : Rows) (n : ℕ) (t : Token) → (t.row == 0) ≡ false → t.table ≡ 0x01 → depth_within rows (suc n) t ≡ 1 + depth_within rows n (token_at rows t 0)
+unfolding depth_within
 depth_type rows n t r e = rw (r, e) refl
 
 pub depth_spec : (rows : Rows) (n : ℕ) (t : Token) → (t.row == 0) ≡ false → t.table ≡ 0x1B
-    → depth_by rows (suc n) t ≡ 1 + deepest_in (depth_by rows n) (sig_in is_coded TypeSpec (bytes_at rows t 0))
-unfolding depth_by
+    → depth_within rows (suc n) t ≡ 1 + deepest_in (depth_within rows n) (sig_in is_coded TypeSpec (bytes_at rows t 0))
+unfolding depth_within
 depth_spec rows n t r e = rw (r, e) refl
 
 other_by : (a : Bool) (n k : ℕ) → (if a then 0 else if false then n else if false then k else 0) ≡ 0
 other_by true n k = refl
 other_by false n k = refl
 
-pub depth_other : (rows : Rows) (n : ℕ) (t : Token) → (t.table == 0x01) ≡ false → (t.table == 0x1B) ≡ false → depth_by rows n t ≡ 0
-unfolding depth_by
+pub depth_other : (rows : Rows) (n : ℕ) (t : Token) → (t.table == 0x01) ≡ false → (t.table == 0x1B) ≡ false → depth_within rows n t ≡ 0
+unfolding depth_within
 depth_other rows zero t a b = refl
-depth_other rows (suc n) t a b = rw (a, b) (other_by (t.row == 0) (1 + depth_by rows n (token_at rows t 0)) (1 + deepest_in (depth_by rows n) (sig_in is_coded TypeSpec (bytes_at rows t 0))))
+depth_other rows (suc n) t a b = rw (a, b) (other_by (t.row == 0) (1 + depth_within rows n (token_at rows t 0)) (1 + deepest_in (depth_within rows n) (sig_in is_coded TypeSpec (bytes_at rows t 0))))
 
 -- a TypeRef's scope ends one step sooner
 pub scope_ends : (m : Module) (n : ℕ) (t : Token) → t.table ≡ 0x01 → is_some (cells_of m t) ≡ true → Ends (cells_of m) (suc n) t
@@ -115,13 +115,13 @@ each_ends depth n none h = each_none (λ t. depth t < n)
 each_ends depth n (more e t k f r) h =
     each_more (λ t. depth t < n) e t k f r (omega (arith, h)) (each_ends depth n f (omega (arith, h))) (each_ends depth n r (omega (arith, h)))
 
-parts_end : (rows : Rows) (n : ℕ) (o : Option SigTree) (s : SigTree) → o ≡ Some s → deepest_in (depth_by rows n) o < n → Each (Ends rows n) (forest_of s.parts)
+parts_end : (rows : Rows) (n : ℕ) (o : Option SigTree) (s : SigTree) → o ≡ Some s → deepest_in (depth_within rows n) o < n → Each (Ends rows n) (forest_of s.parts)
 parts_end rows n None s e h = absurd cc
-parts_end rows n (Some x) s e h = let is : x ≡ s = cc in each_ends (depth_by rows n) n (forest_of s.parts) (rw is at h)
+parts_end rows n (Some x) s e h = let is : x ≡ s = cc in each_ends (depth_within rows n) n (forest_of s.parts) (rw is at h)
 
 pub tokens_end : (m : Module) (n : ℕ) (t : Token) → t.table ≡ 0x1B → is_some (cells_of m t) ≡ true → Ends (cells_of m) (suc n) t
     → EachOf (Ends (cells_of m) n) TypeSpec (bytes_at (cells_of m) t 0)
 tokens_end m n t e h k =
     let d = depth_spec (cells_of m) n t (row_is_some m t h) e in
-    let less : deepest_in (depth_by (cells_of m) n) (sig_in is_coded TypeSpec (bytes_at (cells_of m) t 0)) < n = omega (arith, d, k) in
+    let less : deepest_in (depth_within (cells_of m) n) (sig_in is_coded TypeSpec (bytes_at (cells_of m) t 0)) < n = omega (arith, d, k) in
     record { each = λ s is. parts_end (cells_of m) n (sig_in is_coded TypeSpec (bytes_at (cells_of m) t 0)) s is less }

@@ -16,8 +16,8 @@ use Rattle.enc_plain.specs.Module.{Module, cells_of, has_row}
 use Rattle.enc_plain.specs.Rows.{Rows, bytes_at, token_at}
 use Rattle.enc_plain.specs.Signatures.{kind_in_table}
 use Rattle.enc_plain.specs.Sound.{IsSound, row_count}
-use Rattle.enc_depth.specs.Depth.{deepest, deepest_in, depth_by, deep_at, first_deep}
-use Rattle.enc_depth.specs.Edges.{most, row_at_place, depth_from, IsFlat, AreEdges, deep_count, depth_in, AreDepths, AreLow, AreNext, IsRaised, deep_row}
+use Rattle.enc_depth.specs.Depth.{deepest, deepest_in, depth_within, deep_at, first_deep}
+use Rattle.enc_depth.specs.Edges.{greatest, row_at_place, depth_from, IsFlat, AreEdges, deep_count, depth_in, AreDepths, AreLow, AreNext, IsRaised, deep_row}
 use Rattle.enc_depth.specs.declared.edges.Edge.{Edge}
 use Rattle.enc_depth.proofs.Agreeing.{Each, each_parts, EachOf}
 use Rattle.enc_depth.proofs.Signatures.{EachIn}
@@ -45,14 +45,14 @@ parts_low : (depth : Token → ℕ) (n : ℕ) (o : Option SigTree) → ((t : Tok
 parts_low depth n None low = omega arith
 parts_low depth n (Some s) low = deepest_low depth n (forest_of s.parts) low
 
-depth_low : (rows : Rows) (n : ℕ) (t : Token) → depth_by rows n t ≤ n
-unfolding depth_by
+depth_low : (rows : Rows) (n : ℕ) (t : Token) → depth_within rows n t ≤ n
+unfolding depth_within
 depth_low rows zero t = omega arith
 depth_low rows (suc n) t =
     let scope = token_at rows t 0 in
     let spec = sig_in is_coded TypeSpec (bytes_at rows t 0) in
-    tested (t.row == 0) (t.table == 0x01) (t.table == 0x1B) (1 + depth_by rows n scope) (1 + deepest_in (depth_by rows n) spec) (suc n)
-    (omega (arith, depth_low rows n scope)) (omega (arith, parts_low (depth_by rows n) n spec (depth_low rows n)))
+    tested (t.row == 0) (t.table == 0x01) (t.table == 0x1B) (1 + depth_within rows n scope) (1 + deepest_in (depth_within rows n) spec) (suc n)
+    (omega (arith, depth_low rows n scope)) (omega (arith, parts_low (depth_within rows n) n spec (depth_low rows n)))
 
 low_by : (m : Module) (n : ℕ) (depths : List ℕ) (k : ℕ) → AreDepths m n depths → n ≤ 100 → (b : Bool) → nat_lt k (deep_count m) ≡ b → get_or depths k 0 ≤ 100
 low_by m n depths k are few true e =
@@ -104,24 +104,24 @@ pub depth_fits : (refs : ℕ) (depths : List ℕ) (t : Token) (depth : ℕ) → 
 depth_fits refs depths t depth low e = subst (λ k. k ≤ 100) (sym e) (in_low refs depths t low)
 
 module _ (m : Module) (n refs : ℕ) (depths : List ℕ) (are : AreDepths m n depths) (same : refs ≡ row_count m 0x01) where
-  type_depth : (t : Token) → t.table ≡ 0x01 → has_row m t ≡ true → get_or depths (t.row - 1) 0 ≡ depth_by (cells_of m) n t
+  type_depth : (t : Token) → t.table ≡ 0x01 → has_row m t ≡ true → get_or depths (t.row - 1) 0 ≡ depth_within (cells_of m) n t
   type_depth t e there =
       let r = rows_of m t there in
       let high : t.row ≤ row_count m 0x01 = rw e at r.1 in
       let low : t.row - 1 < row_count m 0x01 = omega (arith, r.0, high) in
-      are.each (t.row - 1) (omega (arith, low)) ∙ ap (depth_by (cells_of m) n) ((places m (t.row - 1)).0 low ∙ nth_is t 0x01 e r.0)
+      are.each (t.row - 1) (omega (arith, low)) ∙ ap (depth_within (cells_of m) n) ((places m (t.row - 1)).0 low ∙ nth_is t 0x01 e r.0)
 
-  spec_depth : (t : Token) → t.table ≡ 0x1B → has_row m t ≡ true → get_or depths (refs + t.row - 1) 0 ≡ depth_by (cells_of m) n t
+  spec_depth : (t : Token) → t.table ≡ 0x1B → has_row m t ≡ true → get_or depths (refs + t.row - 1) 0 ≡ depth_within (cells_of m) n t
   spec_depth t e there =
       let r = rows_of m t there in
       let high : t.row ≤ row_count m 0x1B = rw e at r.1 in
       let at : refs + t.row - 1 ≡ row_count m 0x01 + (t.row - 1) = omega (arith, r.0, same) in
       let low : row_count m 0x01 + (t.row - 1) < deep_count m = omega (arith, r.0, high) in
       rw at
-      (are.each (row_count m 0x01 + (t.row - 1)) low ∙ ap (depth_by (cells_of m) n) ((places m (t.row - 1)).1 ∙ nth_is t 0x1B e r.0))
+      (are.each (row_count m 0x01 + (t.row - 1)) low ∙ ap (depth_within (cells_of m) n) ((places m (t.row - 1)).1 ∙ nth_is t 0x1B e r.0))
 
   row_depth : (t : Token) (a b : Bool) → (t.table == 0x01) ≡ a → (t.table == 0x1B) ≡ b → has_row m t ≡ true
-      → depth_in refs depths t ≡ depth_by (cells_of m) n t
+      → depth_in refs depths t ≡ depth_within (cells_of m) n t
   row_depth t true b e f there =
       type_in refs depths t (row_is_some m t (some_of_row m t there)) e ∙ type_depth t (eqb-true t.table 0x01 e) there
   row_depth t false true e f there =
@@ -130,18 +130,18 @@ module _ (m : Module) (n refs : ℕ) (depths : List ℕ) (are : AreDepths m n de
       (flat_in refs depths).others t (rw (e, f) refl) ∙ sym (depth_other (cells_of m) n t e f)
 
   -- what stands at the place of a token that names a row is its depth
-  names_depth : (t : Token) → Names m t → depth_in refs depths t ≡ depth_by (cells_of m) n t
+  names_depth : (t : Token) → Names m t → depth_in refs depths t ≡ depth_within (cells_of m) n t
   names_depth t (nothing e) = rw e (nil_in refs depths ∙ sym (depth_none (cells_of m) n nil refl))
   names_depth t (row there) = row_depth t (t.table == 0x01) (t.table == 0x1B) refl refl there
 
-  deepest_same : (f : Forest) → Each (Names m) f → deepest (depth_in refs depths) f ≡ deepest (depth_by (cells_of m) n) f
+  deepest_same : (f : Forest) → Each (Names m) f → deepest (depth_in refs depths) f ≡ deepest (depth_within (cells_of m) n) f
   deepest_same none h = refl
   deepest_same (more e t k g r) h =
       let p = each_parts (Names m) e t k g r h in
       rw (names_depth t p.0, deepest_same g p.1, deepest_same r p.2) refl
 
   parts_same : (o : Option SigTree) → ((s : SigTree) → o ≡ Some s → Each (Names m) (forest_of s.parts))
-      → deepest_in (depth_in refs depths) o ≡ deepest_in (depth_by (cells_of m) n) o
+      → deepest_in (depth_in refs depths) o ≡ deepest_in (depth_within (cells_of m) n) o
   parts_same None h = refl
   parts_same (Some s) h = deepest_same (forest_of s.parts) (h s refl)
 
@@ -160,13 +160,13 @@ unfolding depth_from
 from_spec rows depth t e = let is : (t.table == 0x01) ≡ false = grind (arith, nat_tests) in rw is refl
 
 module _ (m : Module) (n refs : ℕ) (depths : List ℕ) (sound : IsSound m) (are : AreDepths m n depths) (same : refs ≡ row_count m 0x01) where
-  type_step : (t : Token) → t.table ≡ 0x01 → has_row m t ≡ true → depth_from (cells_of m) (depth_in refs depths) t ≡ depth_by (cells_of m) (suc n) t
+  type_step : (t : Token) → t.table ≡ 0x01 → has_row m t ≡ true → depth_from (cells_of m) (depth_in refs depths) t ≡ depth_within (cells_of m) (suc n) t
   type_step t e there =
       from_type (cells_of m) (depth_in refs depths) t e
       ∙ ap (λ k. 1 + k) (names_depth m n refs depths are same (token_at (cells_of m) t 0) (scope_names m t sound e there))
       ∙ sym (depth_type (cells_of m) n t (row_is_some m t (some_of_row m t there)) e)
 
-  spec_step : (t : Token) → t.table ≡ 0x1B → has_row m t ≡ true → depth_from (cells_of m) (depth_in refs depths) t ≡ depth_by (cells_of m) (suc n) t
+  spec_step : (t : Token) → t.table ≡ 0x1B → has_row m t ≡ true → depth_from (cells_of m) (depth_in refs depths) t ≡ depth_within (cells_of m) (suc n) t
   spec_step t e there =
       from_spec (cells_of m) (depth_in refs depths) t e
       ∙ ap (λ k. 1 + k) (parts_same m n refs depths are same (sig_in is_coded TypeSpec (bytes_at (cells_of m) t 0))
@@ -174,7 +174,7 @@ module _ (m : Module) (n refs : ℕ) (depths : List ℕ) (sound : IsSound m) (ar
       ∙ sym (depth_spec (cells_of m) n t (row_is_some m t (some_of_row m t there)) e)
 
   abbrev Steps : ℕ → Type 0
-  Steps k = depth_from (cells_of m) (depth_in refs depths) (row_at_place m k) ≡ depth_by (cells_of m) (suc n) (row_at_place m k)
+  Steps k = depth_from (cells_of m) (depth_in refs depths) (row_at_place m k) ≡ depth_within (cells_of m) (suc n) (row_at_place m k)
 
   place_step : (k : ℕ) → k < deep_count m → (b : Bool) → nat_lt k (row_count m 0x01) ≡ b → Steps k
   place_step k low true e =
@@ -194,7 +194,7 @@ module _ (m : Module) (n refs : ℕ) (depths : List ℕ) (sound : IsSound m) (ar
     each = λ k low.
         let one : n + 1 ≡ suc n = omega arith in
         is.each k (omega (arith, low, are.count)) ∙ (told.each (depth_in refs depths) (flat_in refs depths)).upto k low
-        ∙ place_step k low (nat_lt k (row_count m 0x01)) refl ∙ ap (λ i. depth_by (cells_of m) i (row_at_place m k)) (sym one);
+        ∙ place_step k low (nat_lt k (row_count m 0x01)) refl ∙ ap (λ i. depth_within (cells_of m) i (row_at_place m k)) (sym one);
   }
 
 -- so many equal numbers
@@ -207,8 +207,8 @@ zero_at zero k = refl
 zero_at (suc n) zero = refl
 zero_at (suc n) (suc k) = zero_at n k
 
-zero_depth : (rows : Rows) (t : Token) → depth_by rows 0 t ≡ 0
-unfolding depth_by
+zero_depth : (rows : Rows) (t : Token) → depth_within rows 0 t ≡ 0
+unfolding depth_within
 zero_depth rows t = refl
 
 pub first_are : (m : Module) (count : ℕ) (depths : List ℕ) → depths ≡ same_of count 0 → count ≡ deep_count m → AreDepths m 0 depths
@@ -220,12 +220,12 @@ first_are m count depths e is = record {
 -- one round over the edges
 abbrev pub RoundAt : List Edge → (Token → ℕ) → ℕ → List ℕ → ℕ → Type 0
 RoundAt edges depth count next i =
-    (length next ≡ count) × ((k : ℕ) → k < count → max (get_or next k 0) (most depth k (drop i edges)) ≡ max 1 (most depth k edges))
+    (length next ≡ count) × ((k : ℕ) → k < count → max (get_or next k 0) (greatest depth k (drop i edges)) ≡ max 1 (greatest depth k edges))
 
 pub round_begins : (edges : List Edge) (depth : Token → ℕ) (count : ℕ) (next : List ℕ) → next ≡ same_of count 1 → RoundAt edges depth count next 0
 round_begins edges depth count next e = (
   ap length e ∙ length-replicate count 1,
-  λ k low. ap (λ (xs : List ℕ). max (get_or xs k 0) (most depth k edges)) e ∙ ap (λ x. max x (most depth k edges)) (get_or-replicate count k 1 0 low),
+  λ k low. ap (λ (xs : List ℕ). max (get_or xs k 0) (greatest depth k edges)) e ∙ ap (λ x. max x (greatest depth k edges)) (get_or-replicate count k 1 0 low),
 )
 
 raised_by : (b : Bool) (x y z : ℕ) → max (if b then max x y else y) z ≡ max y (if b then max x z else z)
@@ -240,9 +240,9 @@ round_goes edges depth count old new i e raised at left is up = (
   λ k low.
       let here = up.each k (omega (arith, low, at.0)) in
       let before = at.1 k low in
-      ap (λ x. max x (most depth k (drop (i + 1) edges))) (here ∙ ap (λ x. if e.place == k then max x (get_or old k 0) else get_or old k 0) is)
-      ∙ raised_by (e.place == k) (1 + depth e.token) (get_or old k 0) (most depth k (drop (i + 1) edges))
-      ∙ ap (λ (xs : List Edge). max (get_or old k 0) (most depth k xs)) (sym left) ∙ before,
+      ap (λ x. max x (greatest depth k (drop (i + 1) edges))) (here ∙ ap (λ x. if e.place == k then max x (get_or old k 0) else get_or old k 0) is)
+      ∙ raised_by (e.place == k) (1 + depth e.token) (get_or old k 0) (greatest depth k (drop (i + 1) edges))
+      ∙ ap (λ (xs : List Edge). max (get_or old k 0) (greatest depth k xs)) (sym left) ∙ before,
 )
 
 pub round_ends : (edges : List Edge) (refs : ℕ) (depths next : List ℕ) (i : ℕ) → RoundAt edges (depth_in refs depths) (length depths) next i
@@ -250,7 +250,7 @@ pub round_ends : (edges : List Edge) (refs : ℕ) (depths next : List ℕ) (i : 
 round_ends edges refs depths next i at all = record {
   count = at.0;
   each = λ k low.
-      let done = ap (λ (xs : List Edge). max (get_or next k 0) (most (depth_in refs depths) k xs)) (drop_all i edges all) in
+      let done = ap (λ (xs : List Edge). max (get_or next k 0) (greatest (depth_in refs depths) k xs)) (drop_all i edges all) in
       no_more (get_or next k 0) ∙ sym done ∙ at.1 k low;
 }
   where
@@ -268,14 +268,14 @@ first_same {A} f g (suc n) h =
     first_suc f n ∙ ap (λ (o : Option A). or_else o (f n)) (first_same f g n (λ k low. h k (omega (arith, low)))) ∙ ap (or_else (first_below g n)) (h n (omega arith))
     ∙ sym (first_suc g n)
 
-deep_same : (m : Module) (depths : List ℕ) (first table n : ℕ) → get_or depths (first + n) 0 ≡ depth_by (cells_of m) 100 (nth_row table n)
+deep_same : (m : Module) (depths : List ℕ) (first table n : ℕ) → get_or depths (first + n) 0 ≡ depth_within (cells_of m) 100 (nth_row table n)
     → deep_row depths first table n ≡ deep_at m table n
 unfolding deep_row deep_at
 deep_same m depths first table n e = rw e refl
 
 types_deep : (m : Module) (depths : List ℕ) (n : ℕ) → AreDepths m 100 depths → n < row_count m 0x01 → deep_row depths 0 0x01 n ≡ deep_at m 0x01 n
 types_deep m depths n are low =
-    deep_same m depths 0 0x01 n (none_first n ∙ are.each n (omega (arith, low)) ∙ ap (depth_by (cells_of m) 100) ((places m n).0 low))
+    deep_same m depths 0 0x01 n (none_first n ∙ are.each n (omega (arith, low)) ∙ ap (depth_within (cells_of m) 100) ((places m n).0 low))
   where
     none_first : (n : ℕ) → get_or depths (0 + n) 0 ≡ get_or depths n 0
     none_first n = let e : 0 + n ≡ n = omega arith in rw e refl
@@ -284,7 +284,7 @@ specs_deep : (m : Module) (refs : ℕ) (depths : List ℕ) (n : ℕ) → AreDept
     → deep_row depths refs 0x1B n ≡ deep_at m 0x1B n
 specs_deep m refs depths n are is low =
     deep_same m depths refs 0x1B n
-    (ap (λ k. get_or depths (k + n) 0) is ∙ are.each (row_count m 0x01 + n) (omega (arith, low)) ∙ ap (depth_by (cells_of m) 100) ((places m n).1))
+    (ap (λ k. get_or depths (k + n) 0) is ∙ are.each (row_count m 0x01 + n) (omega (arith, low)) ∙ ap (depth_within (cells_of m) 100) ((places m n).1))
 
 pub deep_by_places : (m : Module) (refs specs : ℕ) (depths : List ℕ) → AreDepths m 100 depths → refs ≡ row_count m 0x01 → specs ≡ row_count m 0x1B
     → or_else (first_below (deep_row depths 0 0x01) refs) (first_below (deep_row depths refs 0x1B) specs) ≡ first_deep m

@@ -23,7 +23,7 @@ use Rattle.enc_plain.specs.Rows.{token_at}
 use Rattle.enc_plain.specs.Signatures.{kind_in_table, is_signature}
 use Rattle.enc_plain.specs.Sound.{IsSound, row_count, is_reference, can_name}
 use Rattle.enc_plain.proofs.CellsOf.{token_there}
-use Rattle.enc_depth.specs.Depth.{depth_by, deep_at, first_deep, IsShallow}
+use Rattle.enc_depth.specs.Depth.{depth_within, deep_at, first_deep, IsShallow}
 use Rattle.enc_plain.proofs.Applied.{same_is}
 use Rattle.enc_depth.proofs.TypesRead.{IsRead, is_nil, is_named, each_read}
 use Rattle.enc_depth.proofs.Signatures.{EachIn}
@@ -162,7 +162,7 @@ none_deep false x h = absurd cc
 not_deep : (m : Module) (table n : ℕ) → deep_at m table n ≡ None → Ends (cells_of m) 100 (nth_row table n)
 unfolding deep_at
 not_deep m table n h =
-    ltb-true (depth_by (cells_of m) 100 (nth_row table n)) 100 (none_deep (nat_lt (depth_by (cells_of m) 100 (nth_row table n)) 100) (nth_row table n) h)
+    ltb-true (depth_within (cells_of m) 100 (nth_row table n)) 100 (none_deep (nat_lt (depth_within (cells_of m) 100 (nth_row table n)) 100) (nth_row table n) h)
 
 shallow_none : (m : Module) → IsShallow m
     → (first_below (deep_at m 0x01) (row_count m 0x01) ≡ None) × (first_below (deep_at m 0x1B) (row_count m 0x1B) ≡ None)

@@ -24,12 +24,12 @@ deepest_in depth (Some s) = deepest depth (forest_of s.parts)
 
 -- the depth of a token, counted by a walk of at most so many steps: one more than its scope has for a TypeRef, one more than the deepest token of its
 -- signature for a TypeSpec, and 0 for all else
-unfoldable pub depth_by : Rows → ℕ → Token → ℕ
-depth_by rows zero t = 0
-depth_by rows (suc n) t =
+unfoldable pub depth_within : Rows → ℕ → Token → ℕ
+depth_within rows zero t = 0
+depth_within rows (suc n) t =
     if t.row == 0 then 0
-    else if t.table == tables.type_ref then 1 + depth_by rows n (token_at rows t columns.type_ref_resolution_scope)
-    else if t.table == tables.type_spec then 1 + deepest_in (depth_by rows n) (sig_in is_coded TypeSpec (bytes_at rows t columns.type_spec_signature))
+    else if t.table == tables.type_ref then 1 + depth_within rows n (token_at rows t columns.type_ref_resolution_scope)
+    else if t.table == tables.type_spec then 1 + deepest_in (depth_within rows n) (sig_in is_coded TypeSpec (bytes_at rows t columns.type_spec_signature))
     else 0
 
 -- a walk that has counted 100 ends there
@@ -38,7 +38,7 @@ most_depth = 100
 
 -- the n-th row of a table, n from 0, where it is that deep
 unfoldable pub deep_at : Module → ℕ → ℕ → Option Token
-deep_at m table n = if nat_lt (depth_by (cells_of m) most_depth (nth_row table n)) most_depth then None else Some (nth_row table n)
+deep_at m table n = if nat_lt (depth_within (cells_of m) most_depth (nth_row table n)) most_depth then None else Some (nth_row table n)
 
 -- the first TypeRef that is that deep, and else the first TypeSpec
 unfoldable pub first_deep : Module → Option Token

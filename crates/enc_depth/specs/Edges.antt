@@ -10,7 +10,7 @@ use Rattle.enc_plain.specs.Rows.{Rows, bytes_at, token_at}
 use Rattle.enc_plain.specs.Sound.{row_count}
 use Rattle.enc_schema.specs.Tables as tables
 use Rattle.enc_schema.specs.Columns as columns
-use Rattle.enc_depth.specs.Depth.{deepest_in, depth_by, most_depth}
+use Rattle.enc_depth.specs.Depth.{deepest_in, depth_within, most_depth}
 use Rattle.enc_depth.specs.declared.edges.Edge.{Edge}
 
 -- the rows of these tables have a depth
@@ -32,9 +32,9 @@ AreFew none = Unit {0}
 AreFew (more e t n k r) = (length (trees k) < 2 ^ 30) × (AreFew k) × (AreFew r)
 
 -- the greatest depth that counts from these at a place, 0 where none does
-abbrev pub most : (Token → ℕ) → ℕ → List Edge → ℕ
-most depth place [] = 0
-most depth place (e ∷ es) = if e.place == place then max (1 + depth e.token) (most depth place es) else most depth place es
+abbrev pub greatest : (Token → ℕ) → ℕ → List Edge → ℕ
+greatest depth place [] = 0
+greatest depth place (e ∷ es) = if e.place == place then max (1 + depth e.token) (greatest depth place es) else greatest depth place es
 
 -- the rows by their places: those of TypeRef, and behind them those of TypeSpec
 abbrev pub row_at_place : Module → ℕ → Token
@@ -52,8 +52,8 @@ pub record IsFlat (depth : Token → ℕ) : Type 0 where
 
 -- these tell the depths of the first n rows, and of no others
 pub record TellDepths (m : Module) (n : ℕ) (edges : List Edge) (depth : Token → ℕ) : Type 0 where
-  pub upto : (k : ℕ) → k < n → max 1 (most depth k edges) ≡ depth_from (cells_of m) depth (row_at_place m k)
-  pub beyond : (k : ℕ) → n ≤ k → most depth k edges ≡ 0
+  pub upto : (k : ℕ) → k < n → max 1 (greatest depth k edges) ≡ depth_from (cells_of m) depth (row_at_place m k)
+  pub beyond : (k : ℕ) → n ≤ k → greatest depth k edges ≡ 0
 
 pub record AreEdges (m : Module) (n : ℕ) (edges : List Edge) : Type 0 where
   pub each : (depth : Token → ℕ) → IsFlat depth → TellDepths m n edges depth
@@ -73,7 +73,7 @@ depth_in refs depths t =
 -- depths that are counted by walks of at most so many steps
 pub record AreDepths (m : Module) (steps : ℕ) (depths : List ℕ) : Type 0 where
   pub count : length depths ≡ deep_count m
-  pub each : (k : ℕ) → k < deep_count m → slice_index depths k ≡ depth_by (cells_of m) steps (row_at_place m k)
+  pub each : (k : ℕ) → k < deep_count m → slice_index depths k ≡ depth_within (cells_of m) steps (row_at_place m k)
 
 -- no depth is above 100
 abbrev pub AreLow : List ℕ → Type 0
@@ -82,7 +82,7 @@ AreLow depths = (k : ℕ) → slice_index depths k ≤ most_depth
 -- depths that are one step more
 pub record AreNext (edges : List Edge) (refs : ℕ) (depths next : List ℕ) : Type 0 where
   pub count : length next ≡ length depths
-  pub each : (k : ℕ) → k < length depths → slice_index next k ≡ max 1 (most (depth_in refs depths) k edges)
+  pub each : (k : ℕ) → k < length depths → slice_index next k ≡ max 1 (greatest (depth_in refs depths) k edges)
 
 -- the same list but for one place, where the greater stands
 pub record IsRaised (place depth : ℕ) (old new : List ℕ) : Type 0 where

@@ -37,7 +37,7 @@ use Rattle.enc_agg.proofs.SoundBodies.{listed_good}
 use Rattle.enc_agg.proofs.Tokens.{PlaceRow, place_row}
 use Rattle.enc_agg.proofs.Viewing.{body_listed, kept_cell}
 use Rattle.enc_merged.specs.Laws.{KeepsMerged}
-use Rattle.enc_merged.specs.Merged.{MayMerge, SaysMerged, after_both, is_listed}
+use Rattle.enc_merged.specs.Merged.{MayMerge, SaysMerged, after_both, is_in_map}
 use Rattle.enc_merged.proofs.Among.{lists, self}
 use Rattle.enc_merged.proofs.Counts.{tables_after}
 use Rattle.enc_merged.proofs.Silent.{all_silent}
@@ -51,7 +51,7 @@ at_place (t ∷ ts) zero u h = let same : t ≡ u = cc in or_left (is_token t u)
 at_place (t ∷ ts) (suc k) u h = or_right (is_token t u) (lists ts u) (at_place ts k u h)
 
 -- a rule on rows that is silent of each listed token
-pub silent_rows : (s : Source) (rule : Token → Option Place) → ((u : Token) → is_listed s u ≡ true → rule u ≡ None) → first_below (of_nth rule s) (length (listed s)) ≡ None
+pub silent_rows : (s : Source) (rule : Token → Option Place) → ((u : Token) → is_in_map s u ≡ true → rule u ≡ None) → first_below (of_nth rule s) (length (listed s)) ≡ None
 silent_rows s rule each = all_silent (of_nth rule s) (length (listed s)) (λ k low. at k (slice_get (listed s) k) refl)
   where
     at : (k : ℕ) (o : Option Token) → slice_get (listed s) k ≡ o → option_and_then rule o ≡ None
@@ -63,7 +63,7 @@ pub keeps_signatures : KeepsMerged bad_signature
 unfolding bad_signature bad_signature_in bad_signature_at
 keeps_signatures c a b s may says = silent_rows s (bad_signature_in c s) (λ u there. at_column u (signature_column u.table) there refl)
   where
-    at_column : (u : Token) (o : Option ℕ) → is_listed s u ≡ true → signature_column u.table ≡ o → option_and_then (bad_signature_at c s u) o ≡ None
+    at_column : (u : Token) (o : Option ℕ) → is_in_map s u ≡ true → signature_column u.table ≡ o → option_and_then (bad_signature_at c s u) o ≡ None
     at_column u None there is = refl
     at_column u (Some i) there is =
         let m = (after_both c a b).plain in
@@ -85,13 +85,13 @@ body_read : (c : Chain) (s : Source) (row : Token) → row.table ≡ 0x06 → ce
 unfolding cell_after cell_with reading_after columns_in
 body_read c s row is = rw is refl
 
-body_said : (c : Chain) (a b s : Source) (u : Token) → SaysMerged c a b s → is_listed s u ≡ true → u.table ≡ 0x06
+body_said : (c : Chain) (a b s : Source) (u : Token) → SaysMerged c a b s → is_in_map s u ≡ true → u.table ≡ 0x06
     → cell_of (after_both c a b).plain u 0 ≡ Some (body (body_loaded s.loaded (users_after c s) (raw_in s (own_row s u) 0)))
 unfolding columns_in
 body_said c a b s u says there is = sym ((says.rows u there).cells 0 bodies (rw is refl)) ∙ body_read c s (own_row s u) is
 
 -- the body of a method in the module after both is sound
-body_sound : (c : Chain) (a b s : Source) (u : Token) (x : Body) → MayMerge c a b → SaysMerged c a b s → is_listed s u ≡ true → u.table ≡ 0x06
+body_sound : (c : Chain) (a b s : Source) (u : Token) (x : Body) → MayMerge c a b → SaysMerged c a b s → is_in_map s u ≡ true → u.table ≡ 0x06
     → body_loaded s.loaded (users_after c s) (raw_in s (own_row s u) 0) ≡ Some x → method_is_sound (after_both c a b).plain u x ≡ true
 body_sound c a b s u x may says there is has =
     (sound_both c a b may).cells.each u 0 Num32 (body (Some x)) (row_of_both c a b s u may says there) (subst (λ t. column_in t 0 ≡ Some Num32) (sym is) column_zero)
@@ -102,7 +102,7 @@ flags_read : (c : Chain) (s : Source) (row : Token) → row.table ≡ 0x06 → c
 unfolding cell_after cell_with cell_read columns_in
 flags_read c s row is = rw is refl
 
-flags_said : (c : Chain) (a b s : Source) (u : Token) → SaysMerged c a b s → is_listed s u ≡ true → u.table ≡ 0x06 → raw_in s (own_row s u) 1 ≡ number_at (cells_of (after_both c a b).plain) u 1
+flags_said : (c : Chain) (a b s : Source) (u : Token) → SaysMerged c a b s → is_in_map s u ≡ true → u.table ≡ 0x06 → raw_in s (own_row s u) 1 ≡ number_at (cells_of (after_both c a b).plain) u 1
 unfolding columns_in
 flags_said c a b s u says there is =
     number_there (after_both c a b).plain u 1 (raw_in s (own_row s u) 1) (sym ((says.rows u there).cells 1 numbers (rw is refl)) ∙ flags_read c s (own_row s u) is)
@@ -136,7 +136,7 @@ is_method : (u : Token) → u.table ≡ 0x06 → (u.table == 0x06) ≡ true
 is_method u is = grind (arith, nat_tests, is)
 
 -- E16
-body_good : (c : Chain) (a b s : Source) (u : Token) → MayMerge c a b → SaysMerged c a b s → is_listed s u ≡ true → u.table ≡ 0x06
+body_good : (c : Chain) (a b s : Source) (u : Token) → MayMerge c a b → SaysMerged c a b s → is_in_map s u ≡ true → u.table ≡ 0x06
     → body_is_good (rows_with c (listed s)) (users_after c s) s.loaded (raw_in s (own_row s u) 0) (raw_in s (own_row s u) 1) ≡ true
 body_good c a b s u may says there is = elim ((says.rows u there).body (is_method u is)) [
   | inl none ↦ none_at (rows_with c (listed s)) (users_after c s) s.loaded (raw_in s (own_row s u) 0) (raw_in s (own_row s u) 1) none
@@ -182,7 +182,7 @@ own_locals : (users : ℕ → Option (List ℕ)) (k : Code) → (body_of users k
 unfolding body_of
 own_locals users k = refl
 
-locals_by : (c : Chain) (a b s : Source) (u : Token) (o : Option Code) → MayMerge c a b → SaysMerged c a b s → is_listed s u ≡ true → u.table ≡ 0x06 → own_code s u ≡ o → locals_begin (rows_after c s) o ≡ true
+locals_by : (c : Chain) (a b s : Source) (u : Token) (o : Option Code) → MayMerge c a b → SaysMerged c a b s → is_in_map s u ≡ true → u.table ≡ 0x06 → own_code s u ≡ o → locals_begin (rows_after c s) o ≡ true
 locals_by c a b s u None may says there is code = refl
 locals_by c a b s u (Some k) may says there is code =
     let m = (after_both c a b).plain in

@@ -19,7 +19,7 @@ use Rattle.enc_delta.proofs.Placing.{place_none}
 use Rattle.enc_agg.specs.Extend.{extended}
 use Rattle.enc_agg.proofs.SoundDeltas.{delta_keeps_sound}
 use Rattle.enc_agg.proofs.Tokens.{place_token}
-use Rattle.enc_merged.specs.Merged.{MayMerge, SaysMerged, after_both, is_listed}
+use Rattle.enc_merged.specs.Merged.{MayMerge, SaysMerged, after_both, is_in_map}
 use Rattle.enc_merged.proofs.Among.{lists, number_there, self}
 use Rattle.enc_merged.proofs.Counts.{held_by_both}
 
@@ -30,7 +30,7 @@ pub sound_both : (c : Chain) (a b : Source) → MayMerge c a b → IsSound (afte
 sound_both c a b may = delta_keeps_sound (extended c a) b may.second_read may.second.rules (sound_first c a b may)
 
 -- a token of the merged delta names a row of that module
-pub row_of_both : (c : Chain) (a b s : Source) (u : Token) → MayMerge c a b → SaysMerged c a b s → is_listed s u ≡ true → has_row (after_both c a b).plain u ≡ true
+pub row_of_both : (c : Chain) (a b s : Source) (u : Token) → MayMerge c a b → SaysMerged c a b s → is_in_map s u ≡ true → has_row (after_both c a b).plain u ≡ true
 row_of_both c a b s u may says there =
     let held = held_by_both c a b s u may says there in
     row_there (after_both c a b).plain u held.low held.high
@@ -87,7 +87,7 @@ position_at table (t ∷ ts) n u up h = by (t.table == table) refl n h (λ k e. 
 -- the n-th token of a table goes with the table's n-th row
 pub record NthToken (s : Source) (table n : ℕ) (u : Token) : Type 0 where
   pub own : u.table ≡ table
-  pub there : is_listed s u ≡ true
+  pub there : is_in_map s u ≡ true
   pub place : place_in (listed s) u ≡ Some (n + 1)
   pub row : own_row s u ≡ nth_row table n
 
@@ -106,13 +106,13 @@ nth_token c a b s table n u says h =
     }
 
 -- a token has a place just where it is listed
-pub placed : (s : Source) (u : Token) (k : ℕ) → place_in (listed s) u ≡ Some k → is_listed s u ≡ true
+pub placed : (s : Source) (u : Token) (k : ℕ) → place_in (listed s) u ≡ Some k → is_in_map s u ≡ true
 placed s u k h = (in_table u.table (listed s) (k - 1) u (place_token (listed s) u k h).1).1
 
-pub unplaced : (s : Source) (u : Token) → place_in (listed s) u ≡ None → is_listed s u ≡ false
+pub unplaced : (s : Source) (u : Token) → place_in (listed s) u ≡ None → is_in_map s u ≡ false
 unplaced s u h = place_none (listed s) u h
 
-pub no_place : (s : Source) (u : Token) → is_listed s u ≡ false → place_in (listed s) u ≡ None
+pub no_place : (s : Source) (u : Token) → is_in_map s u ≡ false → place_in (listed s) u ≡ None
 no_place s u h = by (place_in (listed s) u) refl
   where
     by : (o : Option ℕ) → place_in (listed s) u ≡ o → place_in (listed s) u ≡ None

@@ -20,7 +20,7 @@ use Rattle.enc_delta.specs.Delta.{listed, of_table}
 use Rattle.enc_delta.specs.Rows.{cell_after, own_row}
 use Rattle.enc_delta.specs.Rules.{broken, reading_after, is_index, cell_breaks, cell_fault, row_fault, table_fault, bad_index, bad_offset}
 use Rattle.enc_merged.specs.Laws.{KeepsMerged}
-use Rattle.enc_merged.specs.Merged.{MayMerge, SaysMerged, after_both, is_listed}
+use Rattle.enc_merged.specs.Merged.{MayMerge, SaysMerged, after_both, is_in_map}
 use Rattle.enc_merged.proofs.Silent.{all_silent}
 use Rattle.enc_merged.proofs.BothModules.{sound_both, row_of_both, NthToken, nth_token}
 
@@ -36,7 +36,7 @@ cell_by : (c : Chain) (a b s : Source) (u : Token) (i : ℕ) (k : Kind) (o : Opt
 cell_by c a b s u i k None said is kind = absurd cc
 cell_by c a b s u i k (Some cell) said is kind = record { cell = cell; said = said ∙ is; there = is; kind = let e : cell_kind cell ≡ k = cc in e }
 
-pub cell_said : (c : Chain) (a b s : Source) (u : Token) (i : ℕ) (k : Kind) → MayMerge c a b → SaysMerged c a b s → is_listed s u ≡ true → kind_in u.table i ≡ Some k → CellSaid c a b s u i k
+pub cell_said : (c : Chain) (a b s : Source) (u : Token) (i : ℕ) (k : Kind) → MayMerge c a b → SaysMerged c a b s → is_in_map s u ≡ true → kind_in u.table i ≡ Some k → CellSaid c a b s u i k
 cell_said c a b s u i k may says there kind =
     let has = (sound_both c a b may).kinds.kinds u i k (row_of_both c a b s u may says there) kind in
     cell_by c a b s u i k (cell_of (after_both c a b).plain u i) ((says.rows u there).cells i k kind) refl has

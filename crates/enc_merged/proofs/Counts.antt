@@ -19,7 +19,7 @@ use Rattle.enc_agg.specs.Follows.{Lands}
 use Rattle.enc_agg.proofs.Counting.{next_row, old_row, inserts_kept, inserts_elsewhere, inserts_here}
 use Rattle.enc_agg.proofs.Fitting.{Good, first_good, rest_good, good_tokens, has_tables, count_is}
 use Rattle.enc_agg.proofs.Changed.{Within, rows_within}
-use Rattle.enc_merged.specs.Merged.{MayMerge, SaysMerged, after_both, is_listed, is_in_either}
+use Rattle.enc_merged.specs.Merged.{MayMerge, SaysMerged, after_both, is_in_map, is_in_either}
 use Rattle.enc_merged.proofs.Among.{lists, one_of_all, all_if_each}
 use Rattle.enc_merged.proofs.InOrder.{new_is, Exact, Ordered, ordered}
 
@@ -50,7 +50,7 @@ pub record Held (c : Chain) (s : Source) (u : Token) : Type 0 where
   pub high : u.row ≤ rows_with c (listed s) u.table
   pub small : u.row < 0x1000000
 
-pub held : (c : Chain) (s : Source) (u : Token) → Lands c s → is_listed s u ≡ true → Held c s u
+pub held : (c : Chain) (s : Source) (u : Token) → Lands c s → is_in_map s u ≡ true → Held c s u
 held c s u f h =
     let good = good_tokens c s f in
     let all = within_at (rows_with c (listed s)) (listed s) u (rows_within c (listed s) (listed s) [] refl good) h in
@@ -78,7 +78,7 @@ new_from c before (t ∷ ts) u good low high =
       ]
     ]
 
-pub new_listed : (c : Chain) (s : Source) (u : Token) → Lands c s → rows_before c u.table < u.row → u.row ≤ rows_with c (listed s) u.table → is_listed s u ≡ true
+pub new_listed : (c : Chain) (s : Source) (u : Token) → Lands c s → rows_before c u.table < u.row → u.row ≤ rows_with c (listed s) u.table → is_in_map s u ≡ true
 unfolding rows_with
 new_listed c s u f low high =
     let none = inserts_none c u.table in
@@ -109,10 +109,10 @@ exact c a b s may says =
       new = λ u low high.
           let past : rows_before c u.table < u.row = omega (arith, low, inserts_none c u.table) in
           says.tokens u ∙ elim (cases_lt (rows_before (extended c a) u.table) u.row) [
-            | inl more ↦ or_right (is_listed a u) (is_listed b u) (new_listed (extended c a) b u may.second.lands more (omega (arith, high, second u.table)))
-            | inr low ↦ or_left (is_listed a u) (is_listed b u) (new_listed c a u may.first.lands past (omega (arith, low, first u.table)))
+            | inl more ↦ or_right (is_in_map a u) (is_in_map b u) (new_listed (extended c a) b u may.second.lands more (omega (arith, high, second u.table)))
+            | inr low ↦ or_left (is_in_map a u) (is_in_map b u) (new_listed c a u may.first.lands past (omega (arith, low, first u.table)))
           ];
-      only = λ u there new. elim (or_cases (is_listed a u) (is_listed b u) (sym (says.tokens u) ∙ there)) [
+      only = λ u there new. elim (or_cases (is_in_map a u) (is_in_map b u) (sym (says.tokens u) ∙ there)) [
         | inl by_first ↦
             let h = held c a u may.first.lands by_first in
             let low = new_is c u new h.low in
@@ -145,10 +145,10 @@ pub record HeldByBoth (c : Chain) (a b : Source) (u : Token) : Type 0 where
   pub high : u.row ≤ rows_before (after_both c a b) u.table
   pub small : u.row < 0x1000000
 
-pub held_by_both : (c : Chain) (a b s : Source) (u : Token) → MayMerge c a b → SaysMerged c a b s → is_listed s u ≡ true → HeldByBoth c a b u
+pub held_by_both : (c : Chain) (a b s : Source) (u : Token) → MayMerge c a b → SaysMerged c a b s → is_in_map s u ≡ true → HeldByBoth c a b u
 held_by_both c a b s u may says there =
     let either = sym (says.tokens u) ∙ there in
-    elim (or_cases (is_listed a u) (is_listed b u) either) [
+    elim (or_cases (is_in_map a u) (is_in_map b u) either) [
       | inl by_first ↦
           let h = held c a u may.first.lands by_first in
           record { either = either; table = h.table; low = h.low; high = omega (arith, h.high, rows_first c a b may u.table, rows_second c a b may u.table, grows (extended c a) (listed b) u.table); small = h.small }

@@ -19,7 +19,7 @@ use Rattle.enc_agg.specs.Extend.{extended}
 use Rattle.enc_agg.specs.Follows.{Lands}
 use Rattle.enc_agg.proofs.Rising.{no_least, no_place}
 use Rattle.enc_merged.specs.Laws.{KeepsMerged}
-use Rattle.enc_merged.specs.Merged.{MayMerge, SaysMerged, is_listed}
+use Rattle.enc_merged.specs.Merged.{MayMerge, SaysMerged, is_in_map}
 use Rattle.enc_merged.proofs.Among.{lists, self, number_there}
 
 -- where two lists of numbers are told to have the same, they have
@@ -134,8 +134,8 @@ same_merged c a b s may says =
         | inr y ↦ or_right (stands_in ca n) (stands_in cb n) (second.to n y)
       ];
       back = λ n there. elim (or_cases (stands_in ca n) (stands_in cb n) (sym (numbers_changed c a b s says n) ∙ there)) [
-        | inl x ↦ numbers_there (listed a) (listed s) (λ u h. says.tokens u ∙ or_left (is_listed a u) (is_listed b u) h) n (first.back n x)
-        | inr y ↦ numbers_there (listed b) (listed s) (λ u h. says.tokens u ∙ or_right (is_listed a u) (is_listed b u) h) n (second.back n y)
+        | inl x ↦ numbers_there (listed a) (listed s) (λ u h. says.tokens u ∙ or_left (is_in_map a u) (is_in_map b u) h) n (first.back n x)
+        | inr y ↦ numbers_there (listed b) (listed s) (λ u h. says.tokens u ∙ or_right (is_in_map a u) (is_in_map b u) h) n (second.back n y)
       ];
     }
 

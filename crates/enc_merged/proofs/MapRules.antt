@@ -24,7 +24,7 @@ use Rattle.enc_agg.specs.Extend.{extended}
 use Rattle.enc_agg.specs.Follows.{Lands}
 use Rattle.enc_agg.proofs.InTables.{rows_are}
 use Rattle.enc_merged.specs.Laws.{KeepsMerged}
-use Rattle.enc_merged.specs.Merged.{has_tokens, is_listed}
+use Rattle.enc_merged.specs.Merged.{has_tokens, is_in_map}
 use Rattle.enc_merged.proofs.Among.{lists, self}
 use Rattle.enc_merged.proofs.Silent.{unbroken_is, first_silent, all_silent}
 use Rattle.enc_merged.proofs.Counts.{in_order, counts_are, rows_second}
@@ -93,7 +93,7 @@ none_there table (t ∷ ts) other = elim (cases_Bool (t.table == table)) [
 ]
 
 -- a delta that lands has no tokens of those tables
-none_apart : (c : Chain) (s : Source) (table : ℕ) (u : Token) → Lands c s → table < 0x100 → is_apart table ≡ true → is_listed s u ≡ true → u.table ≡ table → ⊥
+none_apart : (c : Chain) (s : Source) (table : ℕ) (u : Token) → Lands c s → table < 0x100 → is_apart table ≡ true → is_in_map s u ≡ true → u.table ≡ table → ⊥
 none_apart c s table u f low apart h e =
     let some = some_there table (listed s) u h e in
     let rows = rows_are s table (landed c s f.early).tables low in
@@ -110,7 +110,7 @@ even s table e =
 pub keeps_even : KeepsMerged (λ c s. uneven_table s)
 unfolding uneven_table
 keeps_even c a b s may says = all_silent (uneven_at s) 0x100 (λ table low. even s table (elim (cases_Bool (is_apart table)) [
-  | inl apart ↦ no_rows s table apart ∙ sym (none_there table (listed s) (λ u h e. elim (or_cases (is_listed a u) (is_listed b u) (sym (says.tokens u) ∙ h)) [
+  | inl apart ↦ no_rows s table apart ∙ sym (none_there table (listed s) (λ u h e. elim (or_cases (is_in_map a u) (is_in_map b u) (sym (says.tokens u) ∙ h)) [
     | inl first ↦ none_apart c a table u may.first.lands low apart first e
     | inr second ↦ none_apart (extended c a) b table u may.second.lands low apart second e
   ]))

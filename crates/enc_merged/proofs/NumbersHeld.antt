@@ -20,7 +20,7 @@ use Rattle.enc_agg.specs.Extend.{extended}
 use Rattle.enc_agg.proofs.Fitting.{fits}
 use Rattle.enc_agg.proofs.SoundDeltas.{delta_bytes}
 use Rattle.enc_agg.proofs.Viewing.{kept_cell}
-use Rattle.enc_merged.specs.Merged.{MayMerge, after_both, is_listed}
+use Rattle.enc_merged.specs.Merged.{MayMerge, after_both, is_in_map}
 use Rattle.enc_merged.specs.Held.{HaveShortCode, NumbersAreHeld, heaps_with_merged, il_of, place_moved, reading_merged, shift_of}
 use Rattle.enc_merged.proofs.Counts.{grows, rows_first, rows_second, tables_after}
 use Rattle.enc_merged.proofs.LoadedBoth.{body_there, first_stands, read_loaded, second_stands}
@@ -46,16 +46,16 @@ of_filter p (x ∷ xs) i u e = by (p x) i e (λ j f. of_filter p xs j u f)
     by true (suc i) e more = behind (is_token x u) (more i e)
     by false i e more = behind (is_token x u) (more i e)
 
-unlisted : (s : Source) (u : Token) → is_listed s u ≡ false → place_in (listed s) u ≡ None
+unlisted : (s : Source) (u : Token) → is_in_map s u ≡ false → place_in (listed s) u ≡ None
 unlisted s u not_there = by (place_in (listed s) u) refl
   where
     by : (o : Option ℕ) → place_in (listed s) u ≡ o → o ≡ None
     by None e = refl
     by (Some k) e =
-        let is : is_listed s u ≡ true = of_filter (λ (t : Token). t.table == u.table) (listed s) (k - 1) u (place_there (listed s) u k e).1 in
+        let is : is_in_map s u ≡ true = of_filter (λ (t : Token). t.table == u.table) (listed s) (k - 1) u (place_there (listed s) u k e).1 in
         absurd (let no : true ≡ false = sym is ∙ not_there in cc)
 
-placed : (s : Source) (u : Token) → is_listed s u ≡ true → (k : ℕ) × (place_in (listed s) u ≡ Some k)
+placed : (s : Source) (u : Token) → is_in_map s u ≡ true → (k : ℕ) × (place_in (listed s) u ≡ Some k)
 placed s u there = by (place_in (listed s) u) refl
   where
     by : (o : Option ℕ) → place_in (listed s) u ≡ o → (k : ℕ) × (o ≡ Some k)
@@ -98,7 +98,7 @@ unfolding code_loaded padded
 second_small a b zero v was short e = absurd cc
 second_small a b (suc n) v was short e = let long = code_long b n v was e in grind (arith, short, long)
 
-first_moves : (c : Chain) (a b : Source) (u : Token) → MayMerge c a b → HaveShortCode a b → is_listed b u ≡ false → Moves c a c a b 0 u
+first_moves : (c : Chain) (a b : Source) (u : Token) → MayMerge c a b → HaveShortCode a b → is_in_map b u ≡ false → Moves c a c a b 0 u
 first_moves c a b u may short other = record {
   follows = may.first;
   fits = fits c a may.sound.owners.tables may.first.lands;

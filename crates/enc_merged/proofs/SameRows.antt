@@ -27,7 +27,7 @@ use Rattle.enc_agg.specs.Follows.{Lands}
 use Rattle.enc_agg.proofs.Fitting.{fits}
 use Rattle.enc_agg.proofs.Viewing.{other_cells}
 use Rattle.enc_merged.specs.Laws.{RowsAreOfBoth}
-use Rattle.enc_merged.specs.Merged.{MayMerge, SaysMerged, after_both, is_listed}
+use Rattle.enc_merged.specs.Merged.{MayMerge, SaysMerged, after_both, is_in_map}
 use Rattle.enc_merged.proofs.Counts.{all_rows, all_tables, counts_are, tables_after}
 use Rattle.enc_merged.proofs.BothModules.{sound_both, row_of_both, placed, unplaced, no_place}
 use Rattle.enc_merged.proofs.CellsSaid.{cell_said, keeps_indices, keeps_offsets}
@@ -82,7 +82,7 @@ unfolding row_of
 many_cells m u cells has h = many_in m u.table u.row cells has h
 
 -- each cell of the delta's row is the one that the module after both has
-item_said : (c : Chain) (a b s : Source) (u : Token) (cells : List Cell) (i : ℕ) → MayMerge c a b → SaysMerged c a b s → is_listed s u ≡ true → cells_of (after_both c a b).plain u ≡ Some cells
+item_said : (c : Chain) (a b s : Source) (u : Token) (cells : List Cell) (i : ℕ) → MayMerge c a b → SaysMerged c a b s → is_in_map s u ≡ true → cells_of (after_both c a b).plain u ≡ Some cells
     → i < cell_count u.table → Some (unwrap_or (cell_after c s (own_row s u) i) (number 0)) ≡ slice_get cells i
 item_said c a b s u cells i may says there is low =
     let column = column_some u.table i low in
@@ -92,7 +92,7 @@ item_said c a b s u cells i may says there is low =
     ap (option_and_then (λ (xs : List Cell). slice_get xs i)) (sym is) ∙ cell_there (after_both c a b).plain u i ∙ cell.there in
     ap (λ (o : Option Cell). Some (unwrap_or o (number 0))) cell.said ∙ sym own
 
-row_said : (c : Chain) (a b s : Source) (u : Token) (cells : List Cell) → MayMerge c a b → SaysMerged c a b s → is_listed s u ≡ true → cells_of (after_both c a b).plain u ≡ Some cells → cells_after c s (own_row s u) ≡ cells
+row_said : (c : Chain) (a b s : Source) (u : Token) (cells : List Cell) → MayMerge c a b → SaysMerged c a b s → is_in_map s u ≡ true → cells_of (after_both c a b).plain u ≡ Some cells → cells_after c s (own_row s u) ≡ cells
 row_said c a b s u cells may says there is = same_items (cells_after c s (own_row s u)) cells (λ i. elim (cases_lt i (cell_count u.table)) [
   | inl low ↦ get_below (λ (j : ℕ). unwrap_or (cell_after c s (own_row s u) j) (number 0)) (cell_count u.table) i low ∙ item_said c a b s u cells i may says there is low
   | inr past ↦
@@ -102,16 +102,16 @@ row_said c a b s u cells may says there is = same_items (cells_after c s (own_ro
 ])
 
 -- a row that neither of two deltas lists
-not_of_either : (c : Chain) (a b s : Source) (u : Token) → SaysMerged c a b s → is_listed s u ≡ false → (is_listed a u ≡ false) × (is_listed b u ≡ false)
-not_of_either c a b s u says none = or_parts (is_listed a u) (is_listed b u) (sym (says.tokens u) ∙ none)
+not_of_either : (c : Chain) (a b s : Source) (u : Token) → SaysMerged c a b s → is_in_map s u ≡ false → (is_in_map a u ≡ false) × (is_in_map b u ≡ false)
+not_of_either c a b s u says none = or_parts (is_in_map a u) (is_in_map b u) (sym (says.tokens u) ∙ none)
 
-pub unlisted_cells : (c : Chain) (s : Source) (u : Token) → HasTables c.plain → Lands c s → is_listed s u ≡ false → cells_of (extended c s).plain u ≡ cells_of c.plain u
+pub unlisted_cells : (c : Chain) (s : Source) (u : Token) → HasTables c.plain → Lands c s → is_in_map s u ≡ false → cells_of (extended c s).plain u ≡ cells_of c.plain u
 unlisted_cells c s u has f none = other_cells c s u (fits c s has f) (no_place s u none)
 
 by_place : (c : Chain) (a b s : Source) (u : Token) (o : Option ℕ) → MayMerge c a b → SaysMerged c a b s → place_in (listed s) u ≡ o → rows_after c s u ≡ cells_of (after_both c a b).plain u
 by_place c a b s u (Some k) may says is = by (cells_of (after_both c a b).plain u) refl
   where
-    there : is_listed s u ≡ true
+    there : is_in_map s u ≡ true
     there = placed s u k is
 
     row : own_row s u ≡ record { table = u.table; row = k }

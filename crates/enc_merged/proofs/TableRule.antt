@@ -18,12 +18,12 @@ use Rattle.enc_agg.specs.Follows.{Lands}
 use Rattle.enc_agg.proofs.InTables.{may_be}
 use Rattle.enc_agg.proofs.Tokens.{place_row}
 use Rattle.enc_merged.specs.Laws.{KeepsMerged}
-use Rattle.enc_merged.specs.Merged.{MayMerge, SaysMerged, has_tokens, is_listed}
+use Rattle.enc_merged.specs.Merged.{MayMerge, SaysMerged, has_tokens, is_in_map}
 use Rattle.enc_merged.proofs.Silent.{all_silent}
 use Rattle.enc_merged.proofs.BothModules.{in_table, unplaced}
 
 -- a delta that lands has its tokens in tables that may change
-may_hold : (c : Chain) (s : Source) (u : Token) → Lands c s → is_listed s u ≡ true → may_change u.table ≡ true
+may_hold : (c : Chain) (s : Source) (u : Token) → Lands c s → is_in_map s u ≡ true → may_change u.table ≡ true
 may_hold c s u f there = by (place_in (listed s) u) refl
   where
     by : (o : Option ℕ) → place_in (listed s) u ≡ o → may_change u.table ≡ true
@@ -52,7 +52,7 @@ both_change : (c : Chain) (a b s : Source) (table : ℕ) → MayMerge c a b → 
 both_change c a b s table may says own some =
     let u = first_of (of_table table (listed s)) (omega (arith, says.counts table own, some)) in
     let in_ = in_table table (listed s) 0 u.0 u.1 in
-    rw (← in_.0) (elim (or_cases (is_listed a u.0) (is_listed b u.0) (sym (says.tokens u.0) ∙ in_.1)) [
+    rw (← in_.0) (elim (or_cases (is_in_map a u.0) (is_in_map b u.0) (sym (says.tokens u.0) ∙ in_.1)) [
       | inl first ↦ may_hold c a u.0 may.first.lands first
       | inr second ↦ may_hold (extended c a) b u.0 may.second.lands second
     ])

@@ -18,7 +18,7 @@ use Rattle.enc_plain.specs.Reading.{Reading, cell_with}
 use Rattle.enc_plain.specs.Sound.{number_fits}
 use Rattle.enc_delta.specs.Delta.{loaded_code}
 use Rattle.enc_delta.specs.Rows.{own_row}
-use Rattle.enc_merged.specs.Merged.{MayMerge, after_both, heaps_merged, is_listed}
+use Rattle.enc_merged.specs.Merged.{MayMerge, after_both, heaps_merged, is_in_map}
 
 -- the bytes of a delta's code
 abbrev pub first_loaded : List Region → List ℕ
@@ -88,6 +88,6 @@ HaveShortCode a b = length (il_of a) + length (il_of b) ≤ 2 ^ 27
 abbrev pub NumbersAreHeld : Type 0
 NumbersAreHeld =
     (c : Chain) (a b : Source) (u : Token) (i : ℕ) (column : Column) → MayMerge c a b → HaveShortCode a b → column_in u.table i ≡ Some column
-    → (is_listed b u ≡ true → NumberHeld c a b u i column (number_moved (after_both c a b).heaps (shift_of a) u.table i column (raw_in b (own_row b u) i)))
-    × (is_listed b u ≡ false → is_listed a u ≡ true
+    → (is_in_map b u ≡ true → NumberHeld c a b u i column (number_moved (after_both c a b).heaps (shift_of a) u.table i column (raw_in b (own_row b u) i)))
+    × (is_in_map b u ≡ false → is_in_map a u ≡ true
     → NumberHeld c a b u i column (number_moved (after_both c a b).heaps 0 u.table i column (raw_in a (own_row a u) i)))

@@ -38,12 +38,12 @@ pub record MayMerge (c : Chain) (a b : Source) : Type 0 where
   pub shallow : IsShallow (after_both c a b).plain
 
 -- a token that EncMap of a delta has, the Module's aside
-abbrev pub is_listed : Source → Token → Bool
-is_listed s u = list_any (λ t. is_token t u) (listed s)
+abbrev pub is_in_map : Source → Token → Bool
+is_in_map s u = list_any (λ t. is_token t u) (listed s)
 
 -- a token that one of the two has
 abbrev pub is_in_either : Source → Source → Token → Bool
-is_in_either a b u = is_listed a u || is_listed b u
+is_in_either a b u = is_in_map a u || is_in_map b u
 
 -- the entries of the joined `#GUID`, each from the first generation that has it
 unfoldable pub guids_joined : List Counted → List ℕ
@@ -79,6 +79,6 @@ pub record SaysMerged (c : Chain) (a b s : Source) : Type 0 where
   pub heaps : s.heaps ≡ heaps_merged c a b
   pub log : log_in s ≡ counted (log_in a) ++ counted (log_in b)
   pub rises : IsStrictlyIncreasing (map number_of (listed s))
-  pub tokens : (u : Token) → is_listed s u ≡ is_in_either a b u
+  pub tokens : (u : Token) → is_in_map s u ≡ is_in_either a b u
   pub counts : (table : ℕ) → has_tokens table ≡ true → rows_of s.layout table ≡ length (of_table table (listed s))
-  pub rows : (u : Token) → is_listed s u ≡ true → SaysRowMerged c a b s u
+  pub rows : (u : Token) → is_in_map s u ≡ true → SaysRowMerged c a b s u
