@@ -25,7 +25,6 @@ use Rattle.enc_schema.specs.Widths.{Shape, width_of, space_of, row_width}
 use Rattle.enc_schema.specs.declared.column.Column.{Column}
 use Rattle.enc_ppdb.specs.Written.{pdb_starts}
 use Rattle.enc_pdb_delta.specs.Holding.{HoldPdbDelta}
-use Rattle.enc_pdb_delta.specs.declared.edits.MethodEdit.{MethodEdit}
 
 -- a column takes four bytes at most
 four_most : (width space : ℕ) → Sizes width space → space ≤ 4
@@ -69,14 +68,14 @@ sum_same f n (suc m) each =
     let e : n + suc m ≡ suc (n + m) = omega arith in
     ap (sum_below f) e ∙ sum_suc f (n + m) ∙ omega (arith, sum_same f n m (λ k low high. each k low (omega (arith, high))), each (n + m) (omega arith) (omega arith))
 
-other_none : (p : PlainPdb) (placed : List MethodEdit) (h : Built) (rows : List (List (List ℕ))) (t : ℕ) → HoldPdbDelta p placed h rows → (t ≡ 0x30 → ⊥) → (t ≡ 0x31 → ⊥) → (t ≡ 0x1F → ⊥) → count_at rows t ≡ 0
-other_none p placed h rows t held a b c = held.others t (grind (arith, nat_tests, a)) (grind (arith, nat_tests, b)) (grind (arith, nat_tests, c))
+other_none : (p : PlainPdb) (numbers : List ℕ) (h : Built) (rows : List (List (List ℕ))) (t : ℕ) → HoldPdbDelta p numbers h rows → (t ≡ 0x30 → ⊥) → (t ≡ 0x31 → ⊥) → (t ≡ 0x1F → ⊥) → count_at rows t ≡ 0
+other_none p numbers h rows t held a b c = held.others t (grind (arith, nat_tests, a)) (grind (arith, nat_tests, b)) (grind (arith, nat_tests, c))
 
-tables_few : (p : PlainPdb) (placed : List MethodEdit) (h : Built) (rows : List (List (List ℕ))) (span : Span) (flags : ℕ) → HoldPdbDelta p placed h rows
+tables_few : (p : PlainPdb) (numbers : List ℕ) (h : Built) (rows : List (List (List ℕ))) (span : Span) (flags : ℕ) → HoldPdbDelta p numbers h rows
     → sum_below (table_bytes (layout_written rows span false flags)) 64 ≤ count_at rows 0x1F * 4 + count_at rows 0x30 * 16 + count_at rows 0x31 * 8
-tables_few p placed h rows span flags held =
+tables_few p numbers h rows span flags held =
     let f = table_bytes (layout_written rows span false flags) in
-    let none : (k : ℕ) → k < 64 → (k ≡ 0x30 → ⊥) → (k ≡ 0x31 → ⊥) → (k ≡ 0x1F → ⊥) → f k ≡ 0 = λ k low a b c. no_bytes rows span flags k low (other_none p placed h rows k held a b c) in
+    let none : (k : ℕ) → k < 64 → (k ≡ 0x30 → ⊥) → (k ≡ 0x31 → ⊥) → (k ≡ 0x1F → ⊥) → f k ≡ 0 = λ k low a b c. no_bytes rows span flags k low (other_none p numbers h rows k held a b c) in
     let first = sum_same f 0 0x1F (λ k low high. none k (omega (arith, high)) (λ e. omega (arith, e, high)) (λ e. omega (arith, e, high)) (λ e. omega (arith, e, high))) in
     let second = sum_same f 0x20 0x10 (λ k low high. none k (omega (arith, high)) (λ e. omega (arith, e, high)) (λ e. omega (arith, e, high)) (λ e. omega (arith, e, low))) in
     let last = sum_same f 0x32 14 (λ k low high. none k (omega (arith, high)) (λ e. omega (arith, e, low)) (λ e. omega (arith, e, low)) (λ e. omega (arith, e, low))) in
@@ -110,12 +109,12 @@ begin_few valid flags = by (flags / 0x40 % 2 == 1)
     by true = omega (arith, ones_few (has_table valid) 64)
     by false = omega (arith, ones_few (has_table valid) 64)
 
-stream_few : (p : PlainPdb) (placed : List MethodEdit) (h : Built) (rows : List (List (List ℕ))) (flags : ℕ) → AreRows rows → HoldPdbDelta p placed h rows
+stream_few : (p : PlainPdb) (numbers : List ℕ) (h : Built) (rows : List (List (List ℕ))) (flags : ℕ) → AreRows rows → HoldPdbDelta p numbers h rows
     → length (stream_of rows false flags) ≤ 284 + (count_at rows 0x1F * 4 + count_at rows 0x30 * 16 + count_at rows 0x31 * 8)
 unfolding table_start
-stream_few p placed h rows flags are held =
+stream_few p numbers h rows flags are held =
     let nowhere : Span = record { start = 0; len = 0 } in
-    omega (arith, stream_length rows nowhere false flags are, begin_few (valid_of rows) flags, tables_few p placed h rows nowhere flags held)
+    omega (arith, stream_length rows nowhere false flags are, begin_few (valid_of rows) flags, tables_few p numbers h rows nowhere flags held)
 
 -- the bytes of the heaps
 heap_length : (encode : List ℕ → List ℕ) (values : List (List ℕ)) → length (heap_bytes encode values) ≡ joined_end encode 0 values
@@ -158,8 +157,8 @@ size_few : (pdb stream : List ℕ) (h : Counted) → pdb_root_size pdb stream h 
 size_few pdb stream h =
     omega (arith, padded_few (length pdb), padded_few (length stream), padded_few (length h.strings), padded_few (length h.users), padded_few (length h.guids), padded_few (length h.blobs), padded_few (length (codes "#Pdb") + 1))
 
-pub delta_root_fits : (p : PlainPdb) (placed : List MethodEdit) (h : Built) (rows : List (List (List ℕ))) (pdb : List ℕ) → HoldPdbDelta p placed h rows → IsGood h → AreWithinLimits h → AreRows rows → count_at rows 0x30 < 2 ^ 23 → length pdb ≡ 32
+pub delta_root_fits : (p : PlainPdb) (numbers : List ℕ) (h : Built) (rows : List (List (List ℕ))) (pdb : List ℕ) → HoldPdbDelta p numbers h rows → IsGood h → AreWithinLimits h → AreRows rows → count_at rows 0x30 < 2 ^ 23 → length pdb ≡ 32
     → pdb_built_size (record { heaps = h; rows = rows }) pdb < 2 ^ 32
-delta_root_fits p placed h rows pdb held good within are documents long =
+delta_root_fits p numbers h rows pdb held good within are documents long =
     let stream = stream_of rows false (heap_bits rows) in
-    omega (arith, size_few pdb stream (heaps_built h), stream_few p placed h rows (heap_bits rows) are held, heaps_few h held.starts good within, are.few 0x1F, are.few 0x31, documents, long)
+    omega (arith, size_few pdb stream (heaps_built h), stream_few p numbers h rows (heap_bits rows) are held, heaps_few h held.starts good within, are.few 0x1F, are.few 0x31, documents, long)

@@ -15,7 +15,6 @@ use Rattle.enc_schema.specs.declared.column.Column.{Column}
 use Rattle.enc_ppdb.specs.Written.{HoldPdb}
 use Rattle.enc_pdb_delta.specs.Holding.{map_cells, MoreNamed, HoldPdbDelta}
 use Rattle.enc_pdb_delta.specs.Listed.{has_short_row}
-use Rattle.enc_pdb_delta.specs.declared.edits.MethodEdit.{MethodEdit}
 
 empty : {X : Type 0} (xs : List X) → length xs ≡ 0 → xs ≡ []
 empty [] h = refl
@@ -37,15 +36,15 @@ other_rows p count table h old new more held pushed a b c =
     pushed table ∙ ap (λ (t : Bool). if t then rows_at old table ++ more else rows_at old table) c ∙ empty (rows_at old table) (held.others table a b)
 
 -- with EncMap's rows the parts hold the delta
-pub delta_held : (p : PlainPdb) (placed : List MethodEdit) (h : Built) (old new : List (List (List ℕ))) → HoldPdb p (length placed) h old → MoreNamed old new (map map_cells placed) → HoldPdbDelta p placed h new
-delta_held p placed h old new held pushed = record {
+pub delta_held : (p : PlainPdb) (numbers : List ℕ) (h : Built) (old new : List (List (List ℕ))) → HoldPdb p (length numbers) h old → MoreNamed old new (map map_cells numbers) → HoldPdbDelta p numbers h new
+delta_held p numbers h old new held pushed = record {
   starts = held.starts;
-  documents = ap length (documents_same old new (map map_cells placed) pushed) ∙ held.documents;
-  document = λ n d cells at row. held.document n d cells at (ap (λ (rows : List (List ℕ)). slice_get rows n) (sym (documents_same old new (map map_cells placed) pushed)) ∙ row);
-  methods = ap length (methods_same old new (map map_cells placed) pushed) ∙ held.methods;
-  method = λ n cells row. held.method n cells (ap (λ (rows : List (List ℕ)). slice_get rows n) (sym (methods_same old new (map map_cells placed) pushed)) ∙ row);
-  named = named_rows p (length placed) h old new (map map_cells placed) held pushed;
-  others = λ table a b c. ap length (other_rows p (length placed) table h old new (map map_cells placed) held pushed a b c);
+  documents = ap length (documents_same old new (map map_cells numbers) pushed) ∙ held.documents;
+  document = λ n d cells at row. held.document n d cells at (ap (λ (rows : List (List ℕ)). slice_get rows n) (sym (documents_same old new (map map_cells numbers) pushed)) ∙ row);
+  methods = ap length (methods_same old new (map map_cells numbers) pushed) ∙ held.methods;
+  method = λ n cells row. held.method n cells (ap (λ (rows : List (List ℕ)). slice_get rows n) (sym (methods_same old new (map map_cells numbers) pushed)) ∙ row);
+  named = named_rows p (length numbers) h old new (map map_cells numbers) held pushed;
+  others = λ table a b c. ap length (other_rows p (length numbers) table h old new (map map_cells numbers) held pushed a b c);
 }
 
 -- a number fits the same column in both shapes
@@ -74,40 +73,40 @@ method_columns old new same =
     let counts : slice_index (counts_of new) 0x30 ≡ slice_index (counts_of old) 0x30 = count_is new 0x30 (omega arith) ∙ same ∙ sym (count_is old 0x30 (omega arith)) in
     (λ n. ap (λ (c : ℕ). nat_lt n (2 ^ (8 * narrow (nat_lt c 0x10000)))) counts, (λ n. refl, tt))
 
-map_fits : (s : Shape) (m : MethodEdit) → has_short_row m ≡ true → row_indices_fit s (columns_in 0x1F) (map_cells m) ≡ true
+map_fits : (s : Shape) (m : ℕ) → has_short_row m ≡ true → row_indices_fit s (columns_in 0x1F) (map_cells m) ≡ true
 unfolding columns_in row_indices_fit index_fits fits map_cells
 map_fits s m short =
-    let low : nat_lt (0x31 * 0x1000000 + m.row) (2 ^ 32) ≡ true = grind (arith, nat_tests, short) in
+    let low : nat_lt (0x31 * 0x1000000 + m) (2 ^ 32) ≡ true = grind (arith, nat_tests, short) in
     rw low refl
 
-maps_fit : (s : Shape) (placed : List MethodEdit) → list_all has_short_row placed ≡ true → list_all (row_indices_fit s (columns_in 0x1F)) (map map_cells placed) ≡ true
+maps_fit : (s : Shape) (numbers : List ℕ) → list_all has_short_row numbers ≡ true → list_all (row_indices_fit s (columns_in 0x1F)) (map map_cells numbers) ≡ true
 maps_fit s [] short = refl
-maps_fit s (m ∷ placed) short =
-    let parts = and_parts (has_short_row m) (list_all has_short_row placed) short in
-    rw (map_fits s m parts.0, maps_fit s placed parts.1) refl
+maps_fit s (m ∷ numbers) short =
+    let parts = and_parts (has_short_row m) (list_all has_short_row numbers) short in
+    rw (map_fits s m parts.0, maps_fit s numbers parts.1) refl
 
-table_fits : (p : PlainPdb) (placed : List MethodEdit) (h : Built) (old new : List (List (List ℕ))) (table : ℕ) (a b c : Bool) → (table == 0x30) ≡ a → (table == 0x31) ≡ b → (table == 0x1F) ≡ c
-    → HoldPdb p (length placed) h old → MoreNamed old new (map map_cells placed) → list_all has_short_row placed ≡ true → IndicesFit old false
+table_fits : (p : PlainPdb) (numbers : List ℕ) (h : Built) (old new : List (List (List ℕ))) (table : ℕ) (a b c : Bool) → (table == 0x30) ≡ a → (table == 0x31) ≡ b → (table == 0x1F) ≡ c
+    → HoldPdb p (length numbers) h old → MoreNamed old new (map map_cells numbers) → list_all has_short_row numbers ≡ true → IndicesFit old false
     → list_all (row_indices_fit (shape_of new false 0) (columns_in table)) (rows_at new table) ≡ true
-table_fits p placed h old new table true b c is x y held pushed short fit =
+table_fits p numbers h old new table true b c is x y held pushed short fit =
     let e : 0x30 ≡ table = grind (arith, nat_tests, is) in
     subst (λ t. list_all (row_indices_fit (shape_of new false 0) (columns_in t)) (rows_at new t) ≡ true) e
     (all_same (shape_of new false 0) (shape_of old false 0) (columns_in 0x30) (rows_at new 0x30) (document_columns (shape_of new false 0) (shape_of old false 0))
-    ∙ ap (list_all (row_indices_fit (shape_of old false 0) (columns_in 0x30))) (documents_same old new (map map_cells placed) pushed) ∙ fit.each 0x30)
-table_fits p placed h old new table false true c x is y held pushed short fit =
+    ∙ ap (list_all (row_indices_fit (shape_of old false 0) (columns_in 0x30))) (documents_same old new (map map_cells numbers) pushed) ∙ fit.each 0x30)
+table_fits p numbers h old new table false true c x is y held pushed short fit =
     let e : 0x31 ≡ table = grind (arith, nat_tests, is) in
     subst (λ t. list_all (row_indices_fit (shape_of new false 0) (columns_in t)) (rows_at new t) ≡ true) e
-    (all_same (shape_of new false 0) (shape_of old false 0) (columns_in 0x31) (rows_at new 0x31) (method_columns old new (ap length (documents_same old new (map map_cells placed) pushed)))
-    ∙ ap (list_all (row_indices_fit (shape_of old false 0) (columns_in 0x31))) (methods_same old new (map map_cells placed) pushed) ∙ fit.each 0x31)
-table_fits p placed h old new table false false true x y is held pushed short fit =
+    (all_same (shape_of new false 0) (shape_of old false 0) (columns_in 0x31) (rows_at new 0x31) (method_columns old new (ap length (documents_same old new (map map_cells numbers) pushed)))
+    ∙ ap (list_all (row_indices_fit (shape_of old false 0) (columns_in 0x31))) (methods_same old new (map map_cells numbers) pushed) ∙ fit.each 0x31)
+table_fits p numbers h old new table false false true x y is held pushed short fit =
     let e : 0x1F ≡ table = grind (arith, nat_tests, is) in
     subst (λ t. list_all (row_indices_fit (shape_of new false 0) (columns_in t)) (rows_at new t) ≡ true) e
-    (ap (list_all (row_indices_fit (shape_of new false 0) (columns_in 0x1F))) (named_rows p (length placed) h old new (map map_cells placed) held pushed) ∙ maps_fit (shape_of new false 0) placed short)
-table_fits p placed h old new table false false false x y z held pushed short fit =
-    ap (list_all (row_indices_fit (shape_of new false 0) (columns_in table))) (other_rows p (length placed) table h old new (map map_cells placed) held pushed x y z)
+    (ap (list_all (row_indices_fit (shape_of new false 0) (columns_in 0x1F))) (named_rows p (length numbers) h old new (map map_cells numbers) held pushed) ∙ maps_fit (shape_of new false 0) numbers short)
+table_fits p numbers h old new table false false false x y z held pushed short fit =
+    ap (list_all (row_indices_fit (shape_of new false 0) (columns_in table))) (other_rows p (length numbers) table h old new (map map_cells numbers) held pushed x y z)
 
 -- and their indices fit
-pub delta_fits : (p : PlainPdb) (placed : List MethodEdit) (h : Built) (old new : List (List (List ℕ))) → HoldPdb p (length placed) h old → MoreNamed old new (map map_cells placed) → list_all has_short_row placed ≡ true → IndicesFit old false → IndicesFit new false
-delta_fits p placed h old new held pushed short fit = record {
-  each = λ table. table_fits p placed h old new table (table == 0x30) (table == 0x31) (table == 0x1F) refl refl refl held pushed short fit;
+pub delta_fits : (p : PlainPdb) (numbers : List ℕ) (h : Built) (old new : List (List (List ℕ))) → HoldPdb p (length numbers) h old → MoreNamed old new (map map_cells numbers) → list_all has_short_row numbers ≡ true → IndicesFit old false → IndicesFit new false
+delta_fits p numbers h old new held pushed short fit = record {
+  each = λ table. table_fits p numbers h old new table (table == 0x30) (table == 0x31) (table == 0x1F) refl refl refl held pushed short fit;
 }

@@ -31,7 +31,6 @@ use Rattle.enc_ppdb.proofs.PdbRead.{IsPdbReadAs}
 use Rattle.enc_ppdb.proofs.PdbRows.{has_row, have_rows, documents_there, StandsAs, stands, row_is}
 use Rattle.enc_pdb_delta.specs.Holding.{map_cells, HoldPdbDelta}
 use Rattle.enc_pdb_delta.specs.Listed.{has_short_row}
-use Rattle.enc_pdb_delta.specs.declared.edits.MethodEdit.{MethodEdit}
 use Rattle.enc_pdb_delta.proofs.Lists.{one_of_all}
 
 -- a number of a row that is written
@@ -131,41 +130,38 @@ token_back row low =
     let b : (0x31 * 0x1000000 + row) % 0x1000000 ≡ row = omega (arith, low) in
     rw (a, b) refl
 
-short_is : (m : MethodEdit) → has_short_row m ≡ true → m.row < 2 ^ 24
+short_is : (m : ℕ) → has_short_row m ≡ true → m < 2 ^ 24
 short_is m short = grind (arith, nat_tests, short)
 
 -- EncMap's tokens are all kept
-abbrev pub token_for : MethodEdit → Token
-token_for m = debug_token m.row
-
-same_tokens : (ts : List Token) (xs : List MethodEdit) → length ts ≡ length xs → ((k : ℕ) (m : MethodEdit) → slice_get xs k ≡ Some m → slice_get ts k ≡ Some (debug_token m.row)) → ts ≡ map token_for xs
+same_tokens : (ts : List Token) (xs : List ℕ) → length ts ≡ length xs → ((k m : ℕ) → slice_get xs k ≡ Some m → slice_get ts k ≡ Some (debug_token m)) → ts ≡ map debug_token xs
 same_tokens [] [] many each = refl
 same_tokens [] (m ∷ xs) many each = absurd (omega (arith, many))
 same_tokens (t ∷ ts) [] many each = absurd (omega (arith, many))
 same_tokens (t ∷ ts) (m ∷ xs) many each =
-    let both : Some t ≡ Some (debug_token m.row) = each 0 m refl in
-    let first : t ≡ debug_token m.row = cc in
+    let both : Some t ≡ Some (debug_token m) = each 0 m refl in
+    let first : t ≡ debug_token m = cc in
     rw (first, same_tokens ts xs (omega (arith, many)) (λ k n a. each (suc k) n a)) refl
 
-keeps_all : (f : ℕ → Token) (n : ℕ) (xs : List MethodEdit) → length xs ≡ n → ((k : ℕ) (m : MethodEdit) → slice_get xs k ≡ Some m → f k ≡ debug_token m.row) → map f (below n) ≡ map token_for xs
+keeps_all : (f : ℕ → Token) (n : ℕ) (xs : List ℕ) → length xs ≡ n → ((k m : ℕ) → slice_get xs k ≡ Some m → f k ≡ debug_token m) → map f (below n) ≡ map debug_token xs
 keeps_all f n xs many each =
     same_tokens (map f (below n)) xs (length_below f n ∙ sym many)
     (λ k m at. get_below f n k (omega (arith, slice_get_within xs k m at, many)) ∙ ap (λ (t : Token). Some t) (each k m at))
 
-filter_all : (xs : List MethodEdit) → filter (λ (t : Token). t.table == tables.method_debug_information) (map token_for xs) ≡ map token_for xs
+filter_all : (xs : List ℕ) → filter (λ (t : Token). t.table == tables.method_debug_information) (map debug_token xs) ≡ map debug_token xs
 filter_all [] = refl
-filter_all (m ∷ xs) = ap (λ (ts : List Token). debug_token m.row ∷ ts) (filter_all xs)
+filter_all (m ∷ xs) = ap (λ (ts : List Token). debug_token m ∷ ts) (filter_all xs)
 
 -- what is read of parts that hold a plain PDB and the names of its methods
-module _ (p : PlainPdb) (placed : List MethodEdit) (h : Built) (rows : List (List (List ℕ))) (s : Source) (is : IsPdbReadAs h rows s) (held : HoldPdbDelta p placed h rows) where
-  documents_counted : rows_of s.layout tables.document ≡ length (documents_of p (length placed))
+module _ (p : PlainPdb) (numbers : List ℕ) (h : Built) (rows : List (List (List ℕ))) (s : Source) (is : IsPdbReadAs h rows s) (held : HoldPdbDelta p numbers h rows) where
+  documents_counted : rows_of s.layout tables.document ≡ length (documents_of p (length numbers))
   documents_counted = is.counts tables.document (omega arith) ∙ held.documents
 
-  methods_counted : rows_of s.layout tables.method_debug_information ≡ length placed
+  methods_counted : rows_of s.layout tables.method_debug_information ≡ length numbers
   methods_counted = is.counts tables.method_debug_information (omega arith) ∙ held.methods
 
   -- the n-th document stands in the n-th row
-  document_row : (n : ℕ) (d : Document) → n < length (documents_of p (length placed)) → slice_get (documents_of p (length placed)) n ≡ Some d → IsDocumentOf s (nth_row tables.document n) d
+  document_row : (n : ℕ) (d : Document) → n < length (documents_of p (length numbers)) → slice_get (documents_of p (length numbers)) n ≡ Some d → IsDocumentOf s (nth_row tables.document n) d
   document_row n d lt here =
       let row = row_here rows tables.document n (omega (arith, held.documents, lt)) in
       document_says h rows s n (get_or (rows_at rows tables.document) n []) d is row (held.document n d (get_or (rows_at rows tables.document) n []) here row)
@@ -173,22 +169,22 @@ module _ (p : PlainPdb) (placed : List MethodEdit) (h : Built) (rows : List (Lis
   pub documents_good : documents_fault s ≡ None
   unfolding documents_fault document_fault
   documents_good =
-      let documents = documents_of p (length placed) in
+      let documents = documents_of p (length numbers) in
       let empty : Document = record { name = []; algorithm = []; hash = []; language = [] } in
       none_first _ (rows_of s.layout tables.document) (λ k lt.
       let less : k < length documents = omega (arith, lt, documents_counted) in
       ap (λ b. unless_good b (nth_row tables.document k)) (is_good s (nth_row tables.document k) (get_or documents k empty) (document_row k (get_or documents k empty) less (slice_get-get_or documents k empty less))))
 
-  document_back : (o : Option Document) → is_some o ≡ true → has_row (documents_of p (length placed)) o ≡ true → document_at s (row_among (documents_of p (length placed)) o) ≡ o
+  document_back : (o : Option Document) → is_some o ≡ true → has_row (documents_of p (length numbers)) o ≡ true → document_at s (row_among (documents_of p (length numbers)) o) ≡ o
   document_back None some there = absurd (cc)
   document_back (Some d) some there =
-      let documents = documents_of p (length placed) in
+      let documents = documents_of p (length numbers) in
       let at = stands documents d there in
       let lt = less_place documents d at in
       rw (row_is documents d at) (document_by s (at.place) d (document_row (at.place) d lt (at.here)) (omega (arith, lt, documents_counted)))
 
   -- a method's row says its points
-  points_here : (n : ℕ) → n < length placed → points_of s (nth_row tables.method_debug_information n) ≡ Some (method_points (nth_method p n).locals (points_numbered (documents_of p (length placed)) (nth_method p n).points))
+  points_here : (n : ℕ) → n < length numbers → points_of s (nth_row tables.method_debug_information n) ≡ Some (method_points (nth_method p n).locals (points_numbered (documents_of p (length numbers)) (nth_method p n).points))
   unfolding points_of
   points_here n lt =
       let table = tables.method_debug_information in
@@ -200,7 +196,7 @@ module _ (p : PlainPdb) (placed : List MethodEdit) (h : Built) (rows : List (Lis
       rw (is.heaps, first, second, says.points.1) (says.points.2)
 
   -- and its document
-  pub document_here : (n : ℕ) → n < length placed → IsNilOverSeveral (nth_method p n).points (document_told s n)
+  pub document_here : (n : ℕ) → n < length numbers → IsNilOverSeveral (nth_method p n).points (document_told s n)
   document_here n lt i j q r at to apart =
       let table = tables.method_debug_information in
       let row = row_here rows table n (omega (arith, held.methods, lt)) in
@@ -211,40 +207,40 @@ module _ (p : PlainPdb) (placed : List MethodEdit) (h : Built) (rows : List (Lis
   pub methods_good : IsSoundPdb p → methods_fault s ≡ None
   unfolding methods_fault method_fault is_method
   methods_good sound =
-      let documents = documents_of p (length placed) in
+      let documents = documents_of p (length numbers) in
       let count = rows_of s.layout tables.document in
       none_first _ (rows_of s.layout tables.method_debug_information) (λ k lt.
-      let low : k < length placed = omega (arith, lt, methods_counted) in
+      let low : k < length numbers = omega (arith, lt, methods_counted) in
       ap (λ b. unless_good b (nth_row tables.method_debug_information k)) (ap (all_there count) (points_here k low)
-      ∙ rows_there documents (nth_method p k).points count documents_counted ((sound.each (nth_row tables.method_def k)).documents) (documents_there p (length placed) k low)))
+      ∙ rows_there documents (nth_method p k).points count documents_counted ((sound.each (nth_row tables.method_def k)).documents) (documents_there p (length numbers) k low)))
 
   -- what a row says is what is meant of the method
-  pub method_back : (n : ℕ) → IsSoundPdb p → n < length placed → debug_at (Some (s, nth_row tables.method_debug_information n)) ≡ nth_method p n
+  pub method_back : (n : ℕ) → IsSoundPdb p → n < length numbers → debug_at (Some (s, nth_row tables.method_debug_information n)) ≡ nth_method p n
   method_back n sound lt =
       let row = nth_row tables.method_debug_information n in
-      let documents = documents_of p (length placed) in
+      let documents = documents_of p (length numbers) in
       debug_back s row documents (nth_method p n) (points_here n lt)
       (points_back documents (documents_at (Some (s, row))) (nth_method p n).points (λ o some there. at_document s row (row_among documents o) ∙ document_back o some there)
-      ((sound.each (nth_row tables.method_def n)).documents) (documents_there p (length placed) n lt))
+      ((sound.each (nth_row tables.method_def n)).documents) (documents_there p (length numbers) n lt))
 
-  token_here : (k : ℕ) (m : MethodEdit) → list_all has_short_row placed ≡ true → slice_get placed k ≡ Some m → map_token_at s k ≡ debug_token m.row
+  token_here : (k m : ℕ) → list_all has_short_row numbers ≡ true → slice_get numbers k ≡ Some m → map_token_at s k ≡ debug_token m
   unfolding map_token_at map_cells
   token_here k m short at =
-      let row : slice_get (rows_at rows tables.enc_map) k ≡ Some (map_cells m) = ap (λ (xs : List (List ℕ)). slice_get xs k) held.named ∙ slice_get-map map_cells placed k ∙ ap (λ o. option_map map_cells o) at in
-      let low : m.row < 2 ^ 24 = short_is m (one_of_all has_short_row placed k m short at) in
-      ap token_of (is.numbers tables.enc_map k 0 (map_cells m) (0x31 * 0x1000000 + m.row) row refl) ∙ token_back m.row low
+      let row : slice_get (rows_at rows tables.enc_map) k ≡ Some (map_cells m) = ap (λ (xs : List (List ℕ)). slice_get xs k) held.named ∙ slice_get-map map_cells numbers k ∙ ap (λ o. option_map map_cells o) at in
+      let low : m < 2 ^ 24 = short_is m (one_of_all has_short_row numbers k m short at) in
+      ap token_of (is.numbers tables.enc_map k 0 (map_cells m) (0x31 * 0x1000000 + m) row refl) ∙ token_back m low
 
   -- EncMap names the rows of the methods, in their order
-  pub tokens_are : list_all has_short_row placed ≡ true → named_tokens s ≡ map token_for placed
+  pub tokens_are : list_all has_short_row numbers ≡ true → named_tokens s ≡ map debug_token numbers
   unfolding named_tokens
   tokens_are short =
-      let count : length placed ≡ rows_of s.layout tables.enc_map = sym (is.counts tables.enc_map (omega arith) ∙ ap length held.named ∙ length-map placed map_cells) in
-      ap (filter (λ (t : Token). t.table == tables.method_debug_information)) (keeps_all (map_token_at s) (rows_of s.layout tables.enc_map) placed count (λ k m at. token_here k m short at)) ∙ filter_all placed
+      let count : length numbers ≡ rows_of s.layout tables.enc_map = sym (is.counts tables.enc_map (omega arith) ∙ ap length held.named ∙ length-map numbers map_cells) in
+      ap (filter (λ (t : Token). t.table == tables.method_debug_information)) (keeps_all (map_token_at s) (rows_of s.layout tables.enc_map) numbers count (λ k m at. token_here k m short at)) ∙ filter_all numbers
 
   -- it isn't refused
-  pub not_refused : (bytes : List ℕ) → IsSoundPdb p → list_all has_short_row placed ≡ true → pdb_source_of bytes ≡ Some s → pdb_delta_of bytes ≡ Ok s
+  pub not_refused : (bytes : List ℕ) → IsSoundPdb p → list_all has_short_row numbers ≡ true → pdb_source_of bytes ≡ Some s → pdb_delta_of bytes ≡ Ok s
   unfolding pdb_delta_of fits_map
   not_refused bytes sound short read =
-      let many : length (named_tokens s) ≡ rows_of s.layout tables.method_debug_information = ap length (tokens_are short) ∙ length-map placed token_for ∙ sym methods_counted in
+      let many : length (named_tokens s) ≡ rows_of s.layout tables.method_debug_information = ap length (tokens_are short) ∙ length-map numbers debug_token ∙ sym methods_counted in
       let fits : (length (named_tokens s) == rows_of s.layout tables.method_debug_information) ≡ true = grind (arith, nat_tests, many) in
       rw (read, fits, documents_good, methods_good sound) refl

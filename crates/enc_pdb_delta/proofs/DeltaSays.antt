@@ -1,22 +1,19 @@
 -- The PDB of a delta that was written says its edit list.
-use Rattle.std.proofs.Common.{◌≡◌, ℕ, zero, suc, ◌<◌, Bool, true, false, List, [], ◌∷◌, length, map, take, Option, Some, None, Ok, refl, sym, ap, subst, ◌∙◌, arith}
-use Rattle.std.specs.Prelude.{◌^◌, ◌==◌, nat_le, option_map, slice_get}
+use Rattle.std.proofs.Common.{◌≡◌, ℕ, zero, suc, ◌<◌, Bool, true, false, List, [], ◌∷◌, length, map, take, Option, Some, None, refl, sym, ap, subst, ◌∙◌, arith}
+use Rattle.std.specs.Prelude.{◌==◌, filter, nat_le, option_map, if◌then◌else◌, slice_get}
 use Rattle.std.specs.List.{list_any, list_all}
 use Rattle.std.specs.List.Sorted.{IsStrictlyIncreasing}
-use Rattle.std.proofs.lemmas.Bool.{eqb-true}
+use Rattle.std.proofs.lemmas.Bool.{and_parts}
 use Rattle.std.proofs.lemmas.Bool.Decides.{nat_tests}
+use Rattle.std.proofs.lemmas.List.{length-map}
 use Rattle.std.proofs.lemmas.List.Kept.{AllPairs-from_increasing}
 use Rattle.std.proofs.lemmas.Option.{slice_get-map, slice_get_within, get_or_from_slice_get}
 use Rattle.enc_base.specs.declared.token.Token.{Token}
-use Rattle.enc_emit.specs.Written.{has_ptr_rows, pdb_root_built, pdb_built_size}
-use Rattle.enc_meta.specs.Built.{Built}
-use Rattle.enc_meta.specs.BuiltLaws.{IsGood}
-use Rattle.enc_meta.proofs.BuiltMeanings.{all_texts_count}
 use Rattle.enc_plain.proofs.Applied.{same_is}
-use Rattle.enc_plain.specs.Debug.{Document, PlainPoint, MethodDebug, PlainPdb, plain_point, debug_of}
-use Rattle.enc_rows.specs.Layout.{is_pdb_table}
+use Rattle.enc_plain.specs.Debug.{Document, PlainPoint, MethodDebug, plain_point, debug_of}
+use Rattle.enc_rows.specs.Layout.{rows_of}
 use Rattle.enc_rows.specs.Source.{Source}
-use Rattle.enc_rows.specs.Written.{count_at, AreRows, IndicesFit}
+use Rattle.enc_rows.specs.Sums.{below}
 use Rattle.enc_schema.specs.Tables as tables
 use Rattle.enc_seqpoints.specs.declared.point.Point.{Point}
 use Rattle.enc_seqpoints.specs.Grammar.{MethodPoints}
@@ -26,14 +23,13 @@ use Rattle.enc_edits.specs.declared.edit.EditList.{EditList}
 use Rattle.enc_edits.specs.Form.{edit_fits, list_fits}
 use Rattle.enc_rules.specs.Listed.{body_given, points_given}
 use Rattle.enc_rules.specs.Rules.{has_points}
-use Rattle.enc_ppdb.specs.Fault.{pdb_delta_of}
+use Rattle.enc_ppdb.specs.Fault.{map_token_at, named_tokens}
 use Rattle.enc_ppdb.specs.Misplaced.{debug_token, is_behind}
 use Rattle.enc_ppdb.specs.Points.{names_method}
-use Rattle.enc_ppdb.specs.Written.{pdb_stream, nth_method, IsNilOverSeveral, document_told}
-use Rattle.enc_ppdb.proofs.PdbRead.{IsPdbReadAs, pdb_is_read}
+use Rattle.enc_ppdb.specs.Written.{nth_method, IsNilOverSeveral, document_told}
 use Rattle.enc_pdb_delta.specs.declared.edits.MethodEdit.{MethodEdit}
-use Rattle.enc_pdb_delta.specs.Holding.{HoldPdbDelta}
-use Rattle.enc_pdb_delta.specs.Listed.{row_placed, said_by, documents_used, numbered_document, pdb_listed, list_pdb, AreByRows, IsPdbListed}
+use Rattle.enc_pdb_delta.specs.Listed.{row_placed, said_by, documents_used, numbered_document, pdb_listed, list_pdb, AreByRows}
+use Rattle.enc_pdb_delta.specs.Methods.{SaysMethods}
 use Rattle.enc_pdb_delta.specs.Stated.{document_stated, document_numbered, locals_row, debug_stated, edit_giving, AreMethods}
 use Rattle.enc_pdb_delta.specs.Written.{gives_points, method_named, SaysEdits}
 use Rattle.enc_pdb_delta.proofs.Lists.{one_of_all, one_of_some, some_by_one, none_by_each}
@@ -42,7 +38,10 @@ use Rattle.enc_pdb_delta.proofs.Givings.{gives_at}
 use Rattle.enc_pdb_delta.proofs.RowsRise.{gives_by_points}
 use Rattle.enc_pdb_delta.proofs.PlacedEdits.{has_place, is_placed}
 use Rattle.enc_pdb_delta.proofs.Weighed.{nth_placed}
-use Rattle.enc_pdb_delta.proofs.DeltaRead.{token_for, document_here, method_back, tokens_are, not_refused}
+
+-- the token that names an edit's method
+abbrev token_for : MethodEdit → Token
+token_for m = debug_token m.row
 
 -- a token stands where its method does
 token_at : (placed : List MethodEdit) (k : ℕ) (m : MethodEdit) → slice_get placed k ≡ Some m → slice_get (map token_for placed) k ≡ Some (token_for m)
@@ -190,41 +189,56 @@ row_says l methods placed k t e form are by at given =
     let same : g.edit ≡ e = cc in
     (slice_get_within placed k (r.method) (r.here), nth_is l placed k (r.method) (g.edit) (r.here) (g.here) (g.points) ∙ ap (debug_stated l.documents) same)
 
--- no table but those of a PDB has rows
-none_else : (p : PlainPdb) (placed : List MethodEdit) (h : Built) (rows : List (List (List ℕ))) (t : ℕ) → HoldPdbDelta p placed h rows → is_pdb_table t ≡ false → count_at rows t ≡ 0
-none_else p placed h rows t held e = held.others t (by t 0x30 refl e) (by t 0x31 refl e) (by t 0x1F refl e)
-  where
-    by : (t u : ℕ) → is_pdb_table u ≡ true → is_pdb_table t ≡ false → (t == u) ≡ false
-    by t u there none = with_test (t == u) refl
-      where
-        with_test : (b : Bool) → (t == u) ≡ b → b ≡ false
-        with_test false e = refl
-        with_test true e = let same : t ≡ u = eqb-true t u e in let f : true ≡ false = sym there ∙ ap is_pdb_table (sym same) ∙ none in absurd (cc)
+-- the tokens that EncMap names are those of the methods of the edits
+abbrev is_debug : Token → Bool
+is_debug t = t.table == tables.method_debug_information
 
--- what is read says the list
-source_says : (l : EditList) (methods : List Token) (placed : List MethodEdit) (h : Built) (rows : List (List (List ℕ))) (s : Source) (bytes : List ℕ) → list_all edit_fits l.edits ≡ true → AreMethods methods l.edits → AreByRows methods l.edits placed
-    → IsPdbListed l placed → IsPdbReadAs h rows s → HoldPdbDelta (list_pdb l placed) placed h rows → pdb_delta_of bytes ≡ Ok s → SaysEdits l methods bytes
-source_says l methods placed h rows s bytes form are by listed is held read =
-    let p = list_pdb l placed in
-    let tokens = tokens_are p placed h rows s is held listed.rows in
+debug_is : (t : Token) (row : ℕ) → is_debug t ≡ true → t.row ≡ row → t ≡ debug_token row
+debug_is t row table same =
+    let e : t.table ≡ tables.method_debug_information = grind (arith, nat_tests, table) in
+    let whole : record { table = t.table; row = t.row } ≡ debug_token row = rw (e, same) refl in
+    whole
+
+tokens_by_rows : (ts : List Token) (placed : List MethodEdit) → list_all is_debug ts ≡ true → map (λ (t : Token). t.row) ts ≡ map row_placed placed → ts ≡ map token_for placed
+tokens_by_rows [] [] all same = refl
+tokens_by_rows [] (m ∷ placed) all same = absurd cc
+tokens_by_rows (t ∷ ts) [] all same = absurd cc
+tokens_by_rows (t ∷ ts) (m ∷ placed) all same =
+    let parts = and_parts (is_debug t) (list_all is_debug ts) all in
+    let row : t.row ≡ m.row = cc in
+    let rest : map (λ (u : Token). u.row) ts ≡ map row_placed placed = cc in
+    rw (debug_is t m.row parts.0 row, tokens_by_rows ts placed parts.1 rest) refl
+
+kept_by : (t : Token) (ts : List Token) (b : Bool) → is_debug t ≡ b → list_all is_debug ts ≡ true → list_all is_debug (if b then t ∷ ts else ts) ≡ true
+kept_by t ts true is all = rw (is, all) refl
+kept_by t ts false is all = all
+
+all_kept : (ts : List Token) → list_all is_debug (filter is_debug ts) ≡ true
+all_kept [] = refl
+all_kept (t ∷ ts) = kept_by t (filter is_debug ts) (is_debug t) refl (all_kept ts)
+
+all_debug : (s : Source) → list_all is_debug (named_tokens s) ≡ true
+unfolding named_tokens
+all_debug s = all_kept (map (map_token_at s) (below (rows_of s.layout tables.enc_map)))
+
+-- what says the methods says the list
+pub list_said : (l : EditList) (methods : List Token) (placed : List MethodEdit) (bytes : List ℕ) → list_fits l ≡ true → AreMethods methods l.edits → AreByRows methods l.edits placed → SaysMethods (list_pdb l placed) (map row_placed placed) bytes
+    → SaysEdits l methods bytes
+unfolding list_fits
+list_said l methods placed bytes form are by said =
+    let s = said.source in
+    let tokens = tokens_by_rows (named_tokens s) placed (all_debug s) said.named in
+    let many : length (map row_placed placed) ≡ length placed = length-map placed row_placed in
     record {
       source = s;
-      read = read;
+      read = said.read;
       rises = λ k t at. ap (λ (ts : List Token). is_behind (take k ts) t) tokens ∙ rises placed k t by.rises (sym (ap (λ (ts : List Token). slice_get ts k) tokens) ∙ at);
       named = λ method. ap (list_any (names_method method)) tokens
           ∙ both_ways (list_any (names_method method) (map token_for placed)) (gives_points (edit_giving methods l.edits method)) (named_then l methods placed method form are by) (points_then l methods placed method are by);
       says = λ k t e at given.
           let r = row_says l methods placed k t e form are by (sym (ap (λ (ts : List Token). slice_get ts k) tokens) ∙ at) given in
-          method_back p placed h rows s is held k listed.sound r.0 ∙ r.1;
+          said.says k (omega (arith, many, r.0)) ∙ r.1;
       several = λ k t e at given.
           let r = row_says l methods placed k t e form are by (sym (ap (λ (ts : List Token). slice_get ts k) tokens) ∙ at) given in
-          subst (λ (d : MethodDebug). IsNilOverSeveral d.points (document_told s k)) r.1 (document_here p placed h rows s is held k r.0);
+          subst (λ (d : MethodDebug). IsNilOverSeveral d.points (document_told s k)) r.1 (said.several k (omega (arith, many, r.0)));
     }
-
-pub delta_says : (l : EditList) (methods : List Token) (placed : List MethodEdit) (h : Built) (rows : List (List (List ℕ))) → list_fits l ≡ true → AreMethods methods l.edits → AreByRows methods l.edits placed → IsPdbListed l placed
-    → HoldPdbDelta (list_pdb l placed) placed h rows → IsGood h → AreRows rows → IndicesFit rows false → pdb_built_size (record { heaps = h; rows = rows }) (pdb_stream 0) < 2 ^ 32
-    → SaysEdits l methods (pdb_root_built (record { heaps = h; rows = rows }) (pdb_stream 0))
-unfolding pdb_root_built list_fits
-delta_says l methods placed h rows form are by listed held good rowed fit small =
-    let r = pdb_is_read h rows (has_ptr_rows rows) 0 rowed fit (λ t e. none_else (list_pdb l placed) placed h rows t held e) small (all_texts_count h good) in
-    source_says l methods placed h rows r.0 _ form are by listed r.2 held (not_refused (list_pdb l placed) placed h rows r.0 r.2 held _ listed.sound listed.rows r.1)

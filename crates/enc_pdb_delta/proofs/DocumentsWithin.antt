@@ -1,5 +1,5 @@
 -- The documents of a plain PDB are each once among those that points can have, and so weigh no more.
-use Rattle.std.proofs.Common.{◌≡◌, ℕ, zero, suc, ◌+◌, ◌≤◌, Bool, true, false, List, [], ◌∷◌, ◌++◌, Option, Some, None, refl, sym, ap, ◌∙◌, arith}
+use Rattle.std.proofs.Common.{◌≡◌, ℕ, zero, suc, ◌+◌, ◌<◌, ◌≤◌, Bool, true, false, List, [], ◌∷◌, ◌++◌, Option, Some, None, refl, sym, ap, ◌∙◌, arith}
 use Rattle.std.specs.Prelude.{◌&&◌, ◌||◌, not, sum_by, if◌then◌else◌}
 use Rattle.std.specs.List.{list_any, list_all}
 use Rattle.std.proofs.lemmas.Bool.{and_parts, and_from, or_left, or_right}
@@ -80,10 +80,10 @@ none_apart : apart [] ≡ true
 unfolding apart
 none_apart = refl
 
-pub documents_within : (all : List Document) (p : PlainPdb) (n : ℕ) → ((k : ℕ) → points_among all (nth_method p k).points ≡ true) → AreWithin all (documents_of p n)
+pub documents_within : (all : List Document) (p : PlainPdb) (n : ℕ) → ((k : ℕ) → k < n → points_among all (nth_method p k).points ≡ true) → AreWithin all (documents_of p n)
 unfolding documents_of
 documents_within all p zero each = record { once = none_apart; among = refl }
-documents_within all p (suc n) each = points_within all (documents_of p n) (nth_method p n).points (documents_within all p n each) (each n)
+documents_within all p (suc n) each = points_within all (documents_of p n) (nth_method p n).points (documents_within all p n (λ k lt. each k (omega (arith, lt)))) (each n (omega arith))
 
 -- the others
 without : Document → List Document → List Document

@@ -16,4 +16,5 @@ pub mod ListSound
 pub mod DeltaHeld
 pub mod DeltaFits
 pub mod DeltaRead
+pub mod MethodsSaid
 pub mod DeltaSays

@@ -19,7 +19,7 @@ use Rattle.enc_edits.specs.declared.edit.EditList.{EditList}
 use Rattle.enc_rules.specs.Listed.{body_given, points_given}
 use Rattle.enc_rules.specs.Rules.{has_document, has_points}
 use Rattle.enc_pdb_delta.specs.declared.edits.MethodEdit.{MethodEdit}
-use Rattle.enc_pdb_delta.specs.Listed.{said_by, said_at, can_be_said, can_be_spelled_at, documents_used, edit_of_row, has_short_row, points_said_of, numbered_document, pdb_listed, list_pdb, AreByRows, IsPdbListed}
+use Rattle.enc_pdb_delta.specs.Listed.{said_by, said_at, can_be_said, can_be_spelled_at, documents_used, edit_of_row, has_short_row, row_placed, points_said_of, numbered_document, pdb_listed, list_pdb, AreByRows, IsPdbListed}
 use Rattle.enc_pdb_delta.specs.Stated.{document_stated, locals_row, edit_points_stand, points_stand, AreMethods}
 use Rattle.enc_pdb_delta.proofs.Lists.{one_of_all, all_of_each}
 use Rattle.enc_pdb_delta.proofs.PlacedEdits.{has_place}
@@ -171,14 +171,18 @@ unfolding can_be_spelled_at
 all_can l methods placed stands are by = all_of_each (λ (m : MethodEdit). can_be_said (slice_get l.edits m.place)) placed (λ k m at.
     let r = good_edit l methods placed k m stands are by at in can_by l.documents (slice_get l.edits m.place) (r.0) (r.1) (r.2))
 
-short_row : (m : MethodEdit) (t : Token) → m.row ≡ t.row → t.row < 2 ^ 24 → has_short_row m ≡ true
-short_row m t same low = grind (arith, nat_tests, same, low)
+short_row : (row : ℕ) (t : Token) → row ≡ t.row → t.row < 2 ^ 24 → has_short_row row ≡ true
+short_row row t same low = grind (arith, nat_tests, same, low)
 
-short_rows : (l : EditList) (methods : List Token) (placed : List MethodEdit) → AreMethods methods l.edits → AreByRows methods l.edits placed → list_all has_short_row placed ≡ true
-short_rows l methods placed are by = all_of_each has_short_row placed (λ k m at.
+short_by : (rows : List MethodEdit) → ((k : ℕ) (m : MethodEdit) → slice_get rows k ≡ Some m → has_short_row m.row ≡ true) → list_all has_short_row (map row_placed rows) ≡ true
+short_by [] each = refl
+short_by (m ∷ rows) each = rw (each 0 m refl, short_by rows (λ k n at. each (suc k) n at)) refl
+
+short_rows : (l : EditList) (methods : List Token) (placed : List MethodEdit) → AreMethods methods l.edits → AreByRows methods l.edits placed → list_all has_short_row (map row_placed placed) ≡ true
+short_rows l methods placed are by = short_by placed (λ k m at.
     let place = has_place methods l.edits placed k m by at in
     let row = are.each m.place (place.edit) (place.token) (place.here) (place.named) (place.points) in
-    short_row m (place.token) (place.row) (row.2))
+    short_row m.row (place.token) (place.row) (row.2))
 
 pub is_listed : (l : EditList) (methods : List Token) (placed : List MethodEdit) → points_stand l ≡ true → AreMethods methods l.edits → AreByRows methods l.edits placed → IsPdbListed l placed
 is_listed l methods placed stands are by = record {

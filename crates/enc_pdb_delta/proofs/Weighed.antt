@@ -32,7 +32,7 @@ use Rattle.enc_pdb_delta.proofs.PlacedEdits.{has_place, weight_placed, placed_we
 use Rattle.enc_pdb_delta.proofs.DocumentsWithin.{is_among, points_among, documents_within, sum_within}
 
 -- a sum below n is that of the first n of a list
-sum_listed : {X : Type 0} (f : ℕ → ℕ) (w : X → ℕ) (xs : List X) (n : ℕ) (d : X) → n ≤ length xs → ((k : ℕ) → k < n → f k ≡ w (get_or xs k d)) → sum_below f n ≡ sum_by w (take n xs)
+pub sum_listed : {X : Type 0} (f : ℕ → ℕ) (w : X → ℕ) (xs : List X) (n : ℕ) (d : X) → n ≤ length xs → ((k : ℕ) → k < n → f k ≡ w (get_or xs k d)) → sum_below f n ≡ sum_by w (take n xs)
 sum_listed f w xs zero d le each = sum_none f
 sum_listed f w xs (suc n) d le each =
     let n1 : suc n ≡ n + 1 = omega arith in
@@ -99,7 +99,7 @@ unfolding pdb_weight
 weighs l placed documents =
     let all = map document_stated documents in
     let p = pdb_listed (record { documents = all; methods = said_at l.edits placed }) in
-    let within = sum_within document_weight (documents_of p (length placed)) all (documents_within all p (length placed) (λ k. listed_among (record { documents = all; methods = said_at l.edits placed }) (nth_row tables.method_def k))) in
+    let within = sum_within document_weight (documents_of p (length placed)) all (documents_within all p (length placed) (λ k lt. listed_among (record { documents = all; methods = said_at l.edits placed }) (nth_row tables.method_def k))) in
     omega (arith, methods_weight all l.edits placed, within, documents_weight documents)
 
 -- where an edit has points, there is room for all

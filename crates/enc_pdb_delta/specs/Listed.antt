@@ -32,8 +32,8 @@ abbrev pub row_placed : MethodEdit → ℕ
 row_placed m = m.row
 
 -- a row of three bytes
-abbrev pub has_short_row : MethodEdit → Bool
-has_short_row m = nat_lt m.row (2 ^ 24)
+abbrev pub has_short_row : ℕ → Bool
+has_short_row row = nat_lt row (2 ^ 24)
 
 -- the edits with points by the rising rows of their methods
 pub record AreByRows (methods : List Token) (edits : List Edit) (placed : List MethodEdit) : Type 0 where
@@ -110,4 +110,4 @@ pub record IsPdbListed (l : EditList) (placed : List MethodEdit) : Type 0 where
   pub sound : IsSoundPdb (list_pdb l placed)
   pub light : pdb_weight (list_pdb l placed) (length placed) ≤ 2 ^ 29
   pub few : length placed < 2 ^ 24
-  pub rows : list_all has_short_row placed ≡ true
+  pub rows : list_all has_short_row (map row_placed placed) ≡ true

@@ -1,25 +1,18 @@
-//! The bytes of a delta's PDB (Portable PDB v1.0).
-ghost use Rattle.std.specs.Prelude.{◌≡◌, ◌<◌, ◌^◌, false, true, length, map, IfOk, OnOk, IsTrue};
-ghost use Rattle.std.specs.List.{list_all};
+//! The bytes of a delta's PDB that says an edit list (Portable PDB v1.0).
+ghost use Rattle.std.specs.Prelude.{◌≡◌, map, IfOk, IsTrue};
 ghost use Rattle.enc_edits.specs.Form.{list_fits};
-ghost use Rattle.enc_ppdb.specs.Written.{HoldPdb};
-ghost use Rattle.enc_rows.specs.Written.{count_at, IndicesFit};
-ghost use Rattle.enc_schema.specs.Tables.{document as document_table, enc_map};
-ghost use Rattle.enc_pdb_delta.specs.Holding.{map_cells, MoreNamed, HoldPdbDelta};
-ghost use Rattle.enc_pdb_delta.specs.Listed.{documents_used, has_short_row, pdb_listed, list_pdb, AreByRows, IsPdbListed};
+ghost use Rattle.enc_pdb_delta.specs.Listed.{documents_used, row_placed, pdb_listed, list_pdb, AreByRows, IsPdbListed};
+ghost use Rattle.enc_pdb_delta.specs.Methods.{SaysMethods};
 ghost use Rattle.enc_pdb_delta.specs.Stated.{AreMethods, points_stand};
 ghost use Rattle.enc_pdb_delta.specs.Written.{SaysEdits};
 
 use crate::documents::StatedDocuments;
 use crate::edits::{MethodEdit, by_rows};
+use crate::methods::write_methods;
 use crate::points::ListPoints;
 use enc_base::Token;
 use enc_edits::{DocumentValue, EditList};
-use enc_emit::RootBuilder;
 use enc_meta::BuildFault;
-use enc_ppdb::{PdbParts, pdb_parts};
-use enc_rows::TableBuilder;
-use enc_schema::tables::{ENC_MAP, METHOD_DEBUG_INFORMATION};
 use std::alloc::{AllocError, Global};
 
 /// The documents of the edits with points, none where no edit has one.
@@ -61,52 +54,33 @@ fn source_of<'a>(
     })
 }
 
-/// The parts of a PDB with the points of the edits, one method behind the other.
-fn parts_of(alloc: Global, list: &EditList, placed: &[MethodEdit]) -> Result<PdbParts, AllocError>
-    requires { IsPdbListed list.now placed.now }
-    ensures held { IfOk result (λ r. HoldPdb (list_pdb list.now placed.now) (length placed.now) r.heaps r.tables) }
-    ensures fit { IfOk result (λ r. IndicesFit r.tables false) }
-    ensures documents { IfOk result (λ r. count_at r.tables document_table < 2 ^ 23) }
+/// The rows of the methods of edits.
+fn rows_of(alloc: Global, placed: &[MethodEdit]) -> Result<Vec<u32>, AllocError>
+    ensures { IfOk result (λ rows. rows.items ≡ map row_placed placed.now) }
 {
-    let source = source_of(alloc, list, placed)?;
-    match pdb_parts(alloc, &source, placed.len() as u32) {
-        Ok(parts) => Ok(parts),
-        Err(BuildFault::Memory) => Err(AllocError),
-        Err(BuildFault::TooLarge(_)) => unreachable!(),
-    }
-}
-
-/// Names the methods of edits in EncMap, in their order, by tokens of MethodDebugInformation.
-fn name_methods(placed: &[MethodEdit], tables: &mut TableBuilder) -> Result<(), AllocError>
-    requires none { count_at tables.old enc_map ≡ 0 }
-    requires few { length placed.now < 2 ^ 24 }
-    requires rows { list_all has_short_row placed.now ≡ true }
-    ensures { OnOk result (MoreNamed tables.old tables.new (map map_cells placed.now)) }
-{
+    let mut rows = Vec::new(alloc);
     for edit in placed {
-        let token = Token {
-            table: METHOD_DEBUG_INFORMATION,
-            row: edit.row,
-        };
-        tables.push(ENC_MAP, &[token.number()])?;
+        rows.push(edit.row)?;
     }
-    Ok(())
+    Ok(rows)
 }
 
-/// The parts of the PDB: those of the points of the edits, and the names of their methods.
-fn named_parts(
+/// The PDB of the edits with points.
+fn write_listed(
     alloc: Global,
     list: &EditList,
     placed: &[MethodEdit],
-) -> Result<PdbParts, AllocError>
+) -> Result<Vec<u8>, AllocError>
     requires { IsPdbListed list.now placed.now }
-    ensures held { IfOk result (λ r. HoldPdbDelta (list_pdb list.now placed.now) placed.now r.heaps r.tables) }
-    ensures fit { IfOk result (λ r. IndicesFit r.tables false) }
-    ensures documents { IfOk result (λ r. count_at r.tables document_table < 2 ^ 23) }
+    ensures { IfOk result (λ v. SaysMethods (list_pdb list.now placed.now) (map row_placed placed.now) v.items) }
 {
-    let PdbParts { heaps, mut tables } = parts_of(alloc, list, placed)?;
-    name_methods(placed, &mut tables)?;
-    Ok(PdbParts { heaps, tables })
+    let rows = rows_of(alloc, placed)?;
+    let source = source_of(alloc, list, placed)?;
+    match write_methods(alloc, &source, &rows) {
+        Ok(bytes) => Ok(bytes),
+        Err(BuildFault::Memory) => Err(AllocError),
+        Err(BuildFault::TooLarge(_)) => unreachable!(),
+    }
 }
 
 /// The Portable PDB of the delta of an edit list: a row of MethodDebugInformation for each method whose
@@ -126,10 +100,6 @@ pub fn write_pdb_delta(
     ensures says { IfOk result (λ v. SaysEdits list.now methods.now v.items) }
 {
     let placed = listed(alloc, list, methods)?;
-    let parts = named_parts(alloc, list, &placed)?;
-    parts.heaps.laws();
-    parts.tables.laws();
-    let root = RootBuilder::of(parts.heaps, parts.tables);
-    let bytes = root.finish_pdb(alloc, &[0; 32])?;
+    let bytes = write_listed(alloc, list, &placed)?;
     Ok(bytes)
 }
