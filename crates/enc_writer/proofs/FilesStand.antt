@@ -48,7 +48,7 @@ accepted_pdb : (s p : Source) (bytes : List ℕ) → pdb_delta_of bytes ≡ Ok p
 unfolding with_pdb
 accepted_pdb s p bytes read placed = rw (read, placed) refl
 
-accepted_files : (c : Chain) (d : Result Source Refusal) (s p : Source) (bytes : List ℕ) → d ≡ Ok s → first_meta c s ≡ None → pdb_delta_of bytes ≡ Ok p → first_misplaced p (code_sizes s) ≡ None
+pub accepted_files : (c : Chain) (d : Result Source Refusal) (s p : Source) (bytes : List ℕ) → d ≡ Ok s → first_meta c s ≡ None → pdb_delta_of bytes ≡ Ok p → first_misplaced p (code_sizes s) ≡ None
     → judged c d (Some bytes) ≡ Ok (accepted s (Some p))
 accepted_files c d s p bytes delta follows read placed = rw (delta, follows) (accepted_pdb s p bytes read placed)
 
