@@ -20,7 +20,7 @@ use Rattle.enc_checker.specs.Check.{accepted, code_sizes, judged, new_bodies}
 use Rattle.enc_checker.specs.Within.{debug_of_accepted}
 use Rattle.enc_depth.specs.Depth.{first_deep}
 use Rattle.enc_merged.specs.Held.{il_of}
-use Rattle.enc_merged.specs.Merged.{after_both, is_in_either, is_listed}
+use Rattle.enc_merged.specs.Merged.{after_both, is_in_either, is_in_map}
 use Rattle.enc_writer.specs.declared.bytes.DeltaBytes.{DeltaBytes}
 use Rattle.enc_merge.specs.Points.{debug_of_rows}
 use Rattle.enc_merge.specs.declared.fault.MergeFault.{MergeFault}
@@ -43,7 +43,7 @@ pub record StandsForBoth (c : Chain) (a b : Source) (before after : PlainPdb) (d
   pub means : (extended c source).plain ≡ (after_both c a b).plain
   pub debug : (method : Token) → pdb_changed before (debug_of_accepted (accepted source (Some symbols))) method ≡ after method
   pub enc_id : (extended c source).ids ≡ c.ids ++ own_guid (extended c a) b columns.module_enc_id ∷ []
-  pub lists : (u : Token) → is_listed source u ≡ is_in_either a b u
+  pub lists : (u : Token) → is_in_map source u ≡ is_in_either a b u
   pub several : (k : ℕ) (t : Token) → slice_get (named_tokens symbols) k ≡ Some t
       → IsNilOverSeveral (debug_at (Some (symbols, nth_row tables.method_debug_information k))).points (document_told symbols k)
 

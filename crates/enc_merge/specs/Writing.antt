@@ -1,7 +1,6 @@
 -- For the contracts of private functions: what is written of the merged delta so far.
 use Rattle.std.specs.Prelude.{◌≡◌, ◌≤◌, ◌<◌, ℕ, ◌+◌, ◌^◌, ◌==◌, Bool, true, false, ◌||◌, is_some, List, [], ◌∷◌, ◌++◌, drop, filter, length, map}
-use Rattle.std.specs.Prelude.{Result, Ok, Err, nat_lt, unwrap_or, slice_get, slice_index}
-use Rattle.std.specs.List.{list_all}
+use Rattle.std.specs.Prelude.{Some, Result, Ok, Err, nat_lt, unwrap_or, slice_get, slice_index}
 use Rattle.std.specs.List.Sorted.{IsStrictlyIncreasing}
 use Rattle.enc_base.specs.Token.{number_of, token_of}
 use Rattle.enc_base.specs.declared.token.Token.{Token}
@@ -11,6 +10,8 @@ use Rattle.enc_meta.specs.Joined.{joined_guid}
 use Rattle.enc_rows.specs.Source.{Source}
 use Rattle.enc_rows.specs.Written.{AreRows, IndicesFit, heap_bits, rows_at, stream_of}
 use Rattle.enc_schema.specs.Columns as columns
+use Rattle.enc_schema.specs.Schema.{column_in}
+use Rattle.enc_schema.specs.declared.column.Column.{Column}
 use Rattle.enc_schema.specs.Tables as tables
 use Rattle.enc_plain.specs.Chain.{Chain, id_of, mvid_of}
 use Rattle.enc_plain.specs.Sound.{IsSound}
@@ -22,8 +23,8 @@ use Rattle.enc_agg.specs.Extend.{chain_with, extended}
 use Rattle.enc_agg.specs.Follows.{Follows}
 use Rattle.enc_agg.specs.Seen.{History}
 use Rattle.enc_depth.specs.Depth.{IsShallow}
-use Rattle.enc_merged.specs.Held.{HaveShortCode, RowHeld, heaps_with_merged, il_merged, shift_of}
-use Rattle.enc_merged.specs.Merged.{SaysMerged, after_both, guids_joined, has_tokens, is_listed}
+use Rattle.enc_merged.specs.Held.{HaveShortCode, NumberHeld, RowHeld, heaps_with_merged, il_merged, shift_of}
+use Rattle.enc_merged.specs.Merged.{SaysMerged, after_both, guids_joined, has_tokens, is_in_map}
 use Rattle.enc_written.specs.Holds.{entry_numbers}
 use Rattle.enc_ppdb.specs.PdbChain.{DebugDelta, PdbHistory, is_named_by, pdb_with}
 use Rattle.enc_ppdb.specs.Written.{most_pdb_weight}
@@ -55,8 +56,8 @@ pub record AreLast (h : History) (x : Both) : Type 0 where
   pub code : HaveShortCode x.first x.second
 
 -- the module after both
-abbrev pub after : Both → Chain
-after x = after_both x.chain x.first x.second
+abbrev pub module_after : Both → Chain
+module_after x = after_both x.chain x.first x.second
 
 -- the heaps that are written: those of the two one behind the other, and each entry of `#GUID` that the chain has
 unfoldable pub heaps_put : Both → Counted
@@ -88,10 +89,11 @@ pub record IsModuleHeld (x : Both) (number : ℕ → ℕ) : Type 0 where
   pub mvid : unwrap_or (joined_guid (heaps_with_merged x.chain x.first x.second) (number columns.module_mvid)) nil_guid ≡ mvid_of x.chain
   pub enc_id : unwrap_or (joined_guid (heaps_with_merged x.chain x.first x.second) (number columns.module_enc_id)) nil_guid
       ≡ own_guid (extended x.chain x.first) x.second columns.module_enc_id
-  pub base : unwrap_or (joined_guid (heaps_with_merged x.chain x.first x.second) (number columns.module_enc_base_id)) nil_guid ≡ id_of x.chain (length x.chain.ids)
+  pub base : unwrap_or (joined_guid (heaps_with_merged x.chain x.first x.second) (number columns.module_enc_base_id)) nil_guid
+      ≡ id_of x.chain (length x.chain.ids)
 
 -- the rows of the merged delta
-pub record AreTablesHeld (x : Both) (numbers : List ℕ) (rows : List (List (List ℕ))) : Type 0 where
+pub record AreBothTables (x : Both) (numbers : List ℕ) (rows : List (List (List ℕ))) : Type 0 where
   pub listed : (table : ℕ) → has_tokens table ≡ true → AreRowsHeld x (of_table table (tokens_of numbers)) (rows_at rows table)
   pub single : (row : List ℕ) × ((rows_at rows tables.«module» ≡ row ∷ []) × IsModuleHeld x (slice_index row))
   pub log : rows_at rows tables.enc_log ≡ map entry_numbers (counted (log_in x.first) ++ counted (log_in x.second))
@@ -99,8 +101,14 @@ pub record AreTablesHeld (x : Both) (numbers : List ℕ) (rows : List (List (Lis
 
 -- the newest row of a token: where the second lists it, its own row there, and the bodies move; else that of the first, whose bodies stay
 pub record IsNewest (x : Both) (u : Token) (n : Newest) : Type 0 where
-  pub second : is_listed x.second u ≡ true → (n.delta.now ≡ x.second) × ((n.row ≡ own_row x.second u) × (n.shift ≡ shift_of x.first))
-  pub first : is_listed x.second u ≡ false → (n.delta.now ≡ x.first) × ((n.row ≡ own_row x.first u) × (n.shift ≡ 0))
+  pub second : is_in_map x.second u ≡ true → (n.delta.now ≡ x.second) × ((n.row ≡ own_row x.second u) × (n.shift ≡ shift_of x.first))
+  pub first : is_in_map x.second u ≡ false → (n.delta.now ≡ x.first) × ((n.row ≡ own_row x.first u) × (n.shift ≡ 0))
+
+-- the first numbers of a row say the cells of a token
+pub record FrontHeld (x : Both) (u : Token) (i : ℕ) (numbers : List ℕ) : Type 0 where
+  pub count : length numbers ≡ i
+  pub each : (j : ℕ) (column : Column) (n : ℕ) → column_in u.table j ≡ Some column → slice_get numbers j ≡ Some n
+      → NumberHeld x.chain x.first x.second u j column n
 
 -- rows of other tables than one stay
 abbrev pub StayBut : ℕ → List (List (List ℕ)) → List (List (List ℕ)) → Type 0
@@ -116,7 +124,7 @@ pub record IsMetadataOfBoth (x : Both) (bytes : List ℕ) : Type 0 where
   pub numbers : List ℕ
   pub rows : List (List (List ℕ))
   pub tokens : AreOfEither x.first x.second numbers
-  pub held : AreTablesHeld x numbers rows
+  pub held : AreBothTables x numbers rows
   pub are : AreRows rows
   pub fit : IndicesFit rows true
   pub size : root_size true (stream_of rows true (heap_bits rows)) (heaps_put x) < 2 ^ 32
@@ -124,7 +132,7 @@ pub record IsMetadataOfBoth (x : Both) (bytes : List ℕ) : Type 0 where
 
 -- it is read with the merged code as a delta that says what the two say
 abbrev pub MetadataIsRead : Type 0
-MetadataIsRead = (h : History) (x : Both) (bytes : List ℕ) → AreLast h x → IsShallow (after x).plain → IsMetadataOfBoth x bytes
+MetadataIsRead = (h : History) (x : Both) (bytes : List ℕ) → AreLast h x → IsShallow (module_after x).plain → IsMetadataOfBoth x bytes
     → (s : Source) × ((delta_of bytes (il_merged x.first x.second) ≡ Ok s) × SaysMerged x.chain x.first x.second s)
 
 -- one of the two changes what is known of a method: it has a new body in it, or its PDB has a row for it
@@ -158,6 +166,6 @@ pub record IsFilesOfBoth (x : Both) (p : PdbHistory) (d : DeltaBytes) : Type 0 w
 abbrev pub FilesOfBothStand : Type 0
 FilesOfBothStand =
     (h : History) (p : PdbHistory) (x : Both) (d : DeltaBytes) (first second : DebugDelta) (older : List DebugDelta)
-    → AreLast h x → IsShallow (after x).plain → p.deltas ≡ second ∷ first ∷ older → GoesWith x.second second → GoesWith x.first first
+    → AreLast h x → IsShallow (module_after x).plain → p.deltas ≡ second ∷ first ∷ older → GoesWith x.second second → GoesWith x.first first
     → IsFilesOfBoth x p d
     → StandsForBoth x.chain x.first x.second (pdb_with p.base older) (pdb_with p.base p.deltas) d

@@ -1,9 +1,8 @@
 //! The last two deltas of a chain.
-ghost use Rattle.std.specs.Prelude.{◌≡◌, ◌≤◌, ◌<◌, ◌+◌, ◌^◌, ◌==◌, length};
-ghost use Rattle.enc_agg.specs.Follows.{AllFollow};
+ghost use Rattle.std.specs.Prelude.{◌≡◌, ◌≤◌, ◌<◌, ◌+◌, ◌^◌, length};
 ghost use Rattle.enc_base.specs.Numbers.{padded as fours_of};
 ghost use Rattle.enc_meta.specs.HeapKinds.{stream_counted};
-ghost use Rattle.enc_merged.specs.Held.{il_of, shift_of};
+ghost use Rattle.enc_merged.specs.Held.{shift_of};
 ghost use Rattle.enc_merge.specs.Merges.{ShortLast};
 ghost use Rattle.enc_merge.specs.Writing.{AreLast};
 
@@ -59,10 +58,20 @@ impl<'a> Last<'a> {
     {
         agg.follows();
         let newest = agg.generations() - 1;
-        match (agg.delta(newest - 1), agg.delta(newest)) {
-            (Some(first), Some(second)) => Last { agg, first, second },
-            _ => unreachable!(),
-        }
+        let Some(first) = agg.delta(newest - 1) else {
+            unreachable!()
+        };
+        let Some(second) = agg.delta(newest) else {
+            unreachable!()
+        };
+        Last { agg, first, second }
+    }
+
+    /// The aggregate whose last two they are.
+    pub(crate) fn aggregate(&self) -> &'a Aggregate
+        ensures { AreLast result.now self.now }
+    {
+        self.agg
     }
 
     /// How far the bodies of the second move: behind the code of the first.

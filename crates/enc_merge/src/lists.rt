@@ -1,5 +1,5 @@
 //! EncMap and EncLog of the delta that stands for two (System.Reflection.Metadata).
-ghost use Rattle.std.specs.Prelude.{◌≡◌, ◌+◌, ◌^◌, ◌<◌, ◌||◌, ◌++◌, ◌∷◌, [], ℕ, not, length, map, OnOk, IfOk};
+ghost use Rattle.std.specs.Prelude.{◌≡◌, ◌+◌, ◌-◌, ◌^◌, ◌<◌, ◌++◌, ◌∷◌, [], ℕ, length, map, OnOk, IfOk};
 ghost use Rattle.enc_base.specs.Token.{number_of};
 ghost use Rattle.enc_delta.specs.Delta.{listed, log_in};
 ghost use Rattle.enc_delta.specs.Rules.{counted, counts};
@@ -41,6 +41,16 @@ pub(crate) fn numbers_of_either(
     Ok(numbers)
 }
 
+/// Adds a token to EncMap.
+#[tactic(auto, using(crate::proofs::ListRows::map_columns, crate::proofs::ListRows::map_width))]
+fn push_number(number: u32, tables: &mut TableBuilder) -> Result<(), AllocError>
+    requires few { count_at tables.old enc_map < 2 ^ 24 - 1 }
+    ensures pushed { OnOk result (rows_at tables.new enc_map ≡ rows_at tables.old enc_map ++ (number ∷ []) ∷ []) }
+    ensures others { OnOk result (StayBut enc_map tables.old tables.new) }
+{
+    tables.push(ENC_MAP, &[number])
+}
+
 /// Adds EncMap.
 pub(crate) fn push_map(numbers: &[u32], tables: &mut TableBuilder) -> Result<(), AllocError>
     requires few { count_at tables.old enc_map + length numbers.now < 2 ^ 24 }
@@ -48,8 +58,7 @@ pub(crate) fn push_map(numbers: &[u32], tables: &mut TableBuilder) -> Result<(),
     ensures others { OnOk result (StayBut enc_map tables.old tables.new) }
 {
     for k in 0..numbers.len() {
-        let number = numbers[k];
-        tables.push(ENC_MAP, &[number])?;
+        push_number(numbers[k], tables)?;
     }
     Ok(())
 }
@@ -62,6 +71,7 @@ fn counts(entry: Entry) -> bool
 }
 
 /// Adds an entry of EncLog.
+#[tactic(auto, using(crate::proofs::ListRows::log_columns, crate::proofs::ListRows::log_width))]
 fn push_entry(entry: Entry, tables: &mut TableBuilder) -> Result<(), AllocError>
     requires number { entry.token.row < 2 ^ 24 }
     requires few { count_at tables.old enc_log < 2 ^ 24 - 1 }
@@ -71,22 +81,29 @@ fn push_entry(entry: Entry, tables: &mut TableBuilder) -> Result<(), AllocError>
     tables.push(ENC_LOG, &[entry.token.number(), entry.code])
 }
 
+/// Adds an entry of EncLog, where it counts.
+#[tactic(auto, unfolding(enc_delta::specs::Rules::counted))]
+fn push_if_counted(entry: Entry, tables: &mut TableBuilder) -> Result<(), AllocError>
+    requires number { entry.token.row < 2 ^ 24 }
+    requires few { count_at tables.old enc_log + length (counted (entry ∷ [])) < 2 ^ 24 }
+    ensures pushed { OnOk result (rows_at tables.new enc_log ≡ rows_at tables.old enc_log ++ map entry_numbers (counted (entry ∷ []))) }
+    ensures others { OnOk result (StayBut enc_log tables.old tables.new) }
+{
+    if !counts(entry) {
+        return Ok(());
+    }
+    push_entry(entry, tables)
+}
+
 /// Adds the entries of a delta's EncLog that count.
-fn push_entries(
-    alloc: Global,
-    delta: &Delta,
-    tables: &mut TableBuilder,
-) -> Result<(), AllocError>
+fn push_entries(alloc: Global, delta: &Delta, tables: &mut TableBuilder) -> Result<(), AllocError>
     requires few { count_at tables.old enc_log + length (counted (log_in delta.now)) < 2 ^ 24 }
     ensures pushed { OnOk result (rows_at tables.new enc_log ≡ rows_at tables.old enc_log ++ map entry_numbers (counted (log_in delta.now))) }
     ensures others { OnOk result (StayBut enc_log tables.old tables.new) }
 {
     let log = log_of(delta, alloc)?;
     for k in 0..log.len() {
-        let entry = log[k];
-        if counts(entry) {
-            push_entry(entry, tables)?;
-        }
+        push_if_counted(log[k], tables)?;
     }
     Ok(())
 }

@@ -1,8 +1,7 @@
 //! The metadata of the delta that stands for two (ECMA-335 II.24.2).
-ghost use Rattle.std.specs.Prelude.{◌≡◌, true, IfOk};
+ghost use Rattle.std.specs.Prelude.{true, IfOk};
 ghost use Rattle.enc_depth.specs.Depth.{IsShallow};
-ghost use Rattle.enc_rows.specs.Written.{IndicesFit};
-ghost use Rattle.enc_merge.specs.Writing.{AreOfEither, AreTablesHeld, IsMetadataOfBoth, MetadataIsRead, after};
+ghost use Rattle.enc_merge.specs.Writing.{AreOfEither, AreBothTables, IsMetadataOfBoth, MetadataIsRead, module_after};
 
 use crate::heaps::heaps_merged;
 use crate::last::Last;
@@ -19,10 +18,11 @@ fn tables_merged(
     last: &Last<'_>,
     numbers: &[u32],
 ) -> Result<TableBuilder, AllocError>
-    requires { AreOfEither last.now.first last.now.second numbers.now }
-    ensures held { IfOk result (λ t. AreTablesHeld last.now numbers.now t) }
-    ensures fit { IfOk result (λ t. IndicesFit t true) }
+    requires tokens { AreOfEither last.now.first last.now.second numbers.now }
+    requires shallow { IsShallow (module_after last.now).plain }
+    ensures { IfOk result (λ t. AreBothTables last.now numbers.now t) }
 {
+    last.aggregate();
     let mut tables = TableBuilder::begin(alloc);
     push_rows(alloc, last, numbers, &mut tables)?;
     push_module(last, &mut tables)?;
@@ -37,16 +37,19 @@ pub(crate) fn metadata_merged(
     last: &Last<'_>,
     numbers: &[u32],
 ) -> Result<Vec<u8>, AllocError>
-    requires { AreOfEither last.now.first last.now.second numbers.now }
+    requires tokens { AreOfEither last.now.first last.now.second numbers.now }
+    requires shallow { IsShallow (module_after last.now).plain }
     ensures { IfOk result (λ v. IsMetadataOfBoth last.now v.items) }
 {
+    last.aggregate();
     heap_bits_law();
     let tables = tables_merged(alloc, last, numbers)?;
     tables.laws();
     let flags = tables.heap_bits();
     let stream = tables.finish(alloc, true, flags)?;
     let heaps = heaps_merged(alloc, last)?;
-    write_root(alloc, &stream, &heaps, true)
+    let root = write_root(alloc, &stream, &heaps, true)?;
+    Ok(root)
 }
 
 /// The metadata is read as a delta that says what the two say.

@@ -1,8 +1,5 @@
 //! The methods of the delta that stands for two.
-ghost use Rattle.std.specs.Prelude.{◌≡◌, ◌||◌, filter, is_some, IfOk};
-ghost use Rattle.enc_ppdb.specs.PdbChain.{is_named_by};
-ghost use Rattle.std.specs.Prelude.{slice_get};
-ghost use Rattle.enc_checker.specs.Check.{new_code};
+ghost use Rattle.std.specs.Prelude.{◌≡◌, filter, IfOk};
 ghost use Rattle.enc_merge.specs.Merges.{methods_listed};
 ghost use Rattle.enc_merge.specs.Writing.{AreOfEither, changes_debug};
 
@@ -22,7 +19,7 @@ pub(crate) fn methods_of(
     requires { AreOfEither last.now.first last.now.second numbers.now }
     ensures { IfOk result (λ m. m.items ≡ methods_listed last.now.chain last.now.first last.now.second) }
 {
-    let _ = last;
+    last.aggregate();
     let mut methods = Vec::new(alloc);
     for k in 0..numbers.len() {
         let token = Token::of(numbers[k]);
@@ -34,6 +31,7 @@ pub(crate) fn methods_of(
 }
 
 /// Whether one of the two changes what is known of a method: it has a new body there, or a row in the PDB.
+#[tactic(auto, unfolding(crate::specs::Writing::changes_debug))]
 fn is_changed(last: &Last<'_>, points: &PdbChain, method: Token) -> bool
     ensures { result ≡ changes_debug last.now points.now method }
 {

@@ -33,14 +33,17 @@ fn guid_number(delta: &Delta, column: u8) -> u32
 
 /// Adds the Module row: the first one's generation, no name, the Mvid, the second one's EncId, and the
 /// EncBaseId of the first.
+#[tactic(auto, using(crate::proofs::ModuleNumbers::some_columns, crate::proofs::ModuleNumbers::five_columns))]
 pub(crate) fn push_module(last: &Last<'_>, tables: &mut TableBuilder) -> Result<(), AllocError>
     requires none { rows_at tables.old «module» ≡ [] }
     ensures single { OnOk result ((row : List ℕ) × ((rows_at tables.new «module» ≡ row ∷ []) × IsModuleHeld last.now (slice_index row))) }
     ensures others { OnOk result (StayBut «module» tables.old tables.new) }
 {
+    last.aggregate();
     let generation = last.first.cell(MODULE_ROW, MODULE_GENERATION);
     let mvid = guid_number(last.first, MODULE_MVID);
     let enc_id = guid_number(last.second, MODULE_ENC_ID);
     let base = guid_number(last.first, MODULE_ENC_BASE_ID);
-    tables.push(MODULE, &[generation, 0, mvid, enc_id, base])
+    tables.push(MODULE, &[generation, 0, mvid, enc_id, base])?;
+    Ok(())
 }

@@ -19,6 +19,7 @@ use std::alloc::{AllocError, Global};
 
 /// Tells whether the PDB of the delta that stands for two is too heavy, by what is known of all methods that
 /// one of the two lists.
+#[tactic(auto, unfolding(crate::specs::Merges::weight_of_both))]
 pub(crate) fn weigh(
     alloc: Global,
     last: &Last<'_>,
@@ -28,7 +29,7 @@ pub(crate) fn weigh(
     requires { methods.now ≡ methods_listed last.now.chain last.now.first last.now.second }
     ensures { TellsWeight result (weight_of_both last.now.chain last.now.first last.now.second (pdb_with points.now.base points.now.deltas)) }
 {
-    let _ = last;
+    last.aggregate();
     points.sound();
     let source = SomePoints { points, methods };
     match pdb_parts(alloc, &source, methods.len() as u32) {
@@ -62,6 +63,7 @@ pub(crate) fn pdb_merged(
     requires light { nat_lt most_pdb_weight (weight_of_both last.now.chain last.now.first last.now.second (pdb_with points.now.base points.now.deltas)) ≡ false }
     ensures { IfOk result (λ v. IsPdbOfBoth last.now points.now v.items) }
 {
+    last.aggregate();
     points.sound();
     let changed = changed_methods(alloc, last, points, methods)?;
     let rows = rows_of(alloc, &changed)?;

@@ -81,11 +81,11 @@ unfolding columns_in
 column_one = refl
 
 -- what the row of a method says of its body
-body_read : (c : Chain) (s : Source) (row : Token) → row.table ≡ 0x06 → cell_after c s row 0 ≡ Some (body (body_loaded s.loaded (users_after c s) (raw_in s row 0)))
+pub body_read : (c : Chain) (s : Source) (row : Token) → row.table ≡ 0x06 → cell_after c s row 0 ≡ Some (body (body_loaded s.loaded (users_after c s) (raw_in s row 0)))
 unfolding cell_after cell_with reading_after columns_in
 body_read c s row is = rw is refl
 
-body_said : (c : Chain) (a b s : Source) (u : Token) → SaysMerged c a b s → is_in_map s u ≡ true → u.table ≡ 0x06
+pub body_said : (c : Chain) (a b s : Source) (u : Token) → SaysMerged c a b s → is_in_map s u ≡ true → u.table ≡ 0x06
     → cell_of (after_both c a b).plain u 0 ≡ Some (body (body_loaded s.loaded (users_after c s) (raw_in s (own_row s u) 0)))
 unfolding columns_in
 body_said c a b s u says there is = sym ((says.rows u there).cells 0 bodies (rw is refl)) ∙ body_read c s (own_row s u) is
@@ -234,7 +234,7 @@ place_kept c s u k none at is had =
     rw e at kept
 
 -- E17: a method that has a body has one after a delta that breaks no rule
-body_lasts : (c : Chain) (s : Source) (u : Token) → HasTables c.plain → Follows c s → u.table ≡ 0x06 → has_body (cell_of c.plain u 0) ≡ true → has_body (cell_of (extended c s).plain u 0) ≡ true
+pub body_lasts : (c : Chain) (s : Source) (u : Token) → HasTables c.plain → Follows c s → u.table ≡ 0x06 → has_body (cell_of c.plain u 0) ≡ true → has_body (cell_of (extended c s).plain u 0) ≡ true
 body_lasts c s u has f is had = by (place_in (listed s) u) refl
   where
     by : (o : Option ℕ) → place_in (listed s) u ≡ o → has_body (cell_of (extended c s).plain u 0) ≡ true

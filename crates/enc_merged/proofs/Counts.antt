@@ -2,6 +2,7 @@
 use Rattle.std.proofs.Common.{◌≡◌, ℕ, ◌+◌, ◌<◌, ◌≤◌, true, List, [], ◌∷◌, ◌++◌, map, refl, sym, ◌∙◌, inl, inr, arith, append_assoc, append-nil}
 use Rattle.std.specs.Prelude.{nat_lt}
 use Rattle.std.specs.List.{list_all}
+use Rattle.std.specs.List.Sorted.{IsStrictlyIncreasing}
 use Rattle.std.proofs.lemmas.Bool.{cases_Bool, cases_eq, cases_lt, or_cases, or_left, or_right}
 use Rattle.std.proofs.lemmas.Bool.Decides.{nat_tests}
 use Rattle.enc_base.specs.Token.{is_token, number_of}
@@ -100,19 +101,19 @@ unfolding rows_with
 grows c tokens t = omega arith
 
 -- the merged delta lists just the new rows of both, and other tokens that aren't new
-exact : (c : Chain) (a b s : Source) → MayMerge c a b → SaysMerged c a b s → Exact c (rows_before (after_both c a b)) [] (listed s)
-exact c a b s may says =
+exact : (c : Chain) (a b s : Source) → MayMerge c a b → ((u : Token) → is_in_map s u ≡ is_in_either a b u) → Exact c (rows_before (after_both c a b)) [] (listed s)
+exact c a b s may tokens =
     let first = rows_first c a b may in
     let second = rows_second c a b may in
     record {
       few = λ t. omega (arith, first t, second t, grows c (listed a) t, grows (extended c a) (listed b) t, inserts_none c t);
       new = λ u low high.
           let past : rows_before c u.table < u.row = omega (arith, low, inserts_none c u.table) in
-          says.tokens u ∙ elim (cases_lt (rows_before (extended c a) u.table) u.row) [
+          tokens u ∙ elim (cases_lt (rows_before (extended c a) u.table) u.row) [
             | inl more ↦ or_right (is_in_map a u) (is_in_map b u) (new_listed (extended c a) b u may.second.lands more (omega (arith, high, second u.table)))
             | inr low ↦ or_left (is_in_map a u) (is_in_map b u) (new_listed c a u may.first.lands past (omega (arith, low, first u.table)))
           ];
-      only = λ u there new. elim (or_cases (is_in_map a u) (is_in_map b u) (sym (says.tokens u) ∙ there)) [
+      only = λ u there new. elim (or_cases (is_in_map a u) (is_in_map b u) (sym (tokens u) ∙ there)) [
         | inl by_first ↦
             let h = held c a u may.first.lands by_first in
             let low = new_is c u new h.low in
@@ -124,8 +125,13 @@ exact c a b s may says =
       ];
     }
 
+-- so it is of any delta whose tokens are theirs and rise
+pub order_of : (c : Chain) (a b s : Source) → MayMerge c a b → IsStrictlyIncreasing (map number_of (listed s)) → ((u : Token) → is_in_map s u ≡ is_in_either a b u)
+    → Ordered c (rows_before (after_both c a b)) (listed s)
+order_of c a b s may up tokens = ordered c (rows_before (after_both c a b)) (listed s) (rises (map number_of (listed s)) up) (exact c a b s may tokens)
+
 pub in_order : (c : Chain) (a b s : Source) → MayMerge c a b → SaysMerged c a b s → Ordered c (rows_before (after_both c a b)) (listed s)
-in_order c a b s may says = ordered c (rows_before (after_both c a b)) (listed s) (rises (map number_of (listed s)) says.rises) (exact c a b s may says)
+in_order c a b s may says = order_of c a b s may says.rises says.tokens
 
 -- each table has as many rows after the merged delta as after both
 pub counts_are : (c : Chain) (a b s : Source) → MayMerge c a b → SaysMerged c a b s → (t : ℕ) → rows_with c (listed s) t ≡ rows_before (after_both c a b) t

@@ -96,12 +96,12 @@ unfolding extended
 heaps_extended c a = refl
 
 -- no heap is too long with those of the first and the second behind it
-record Room (c : Chain) (a b : Source) : Type 0 where
-  strings : (joined_lengths c.heaps).strings + length a.heaps.strings + length b.heaps.strings ≤ 2 ^ 29
-  users : (joined_lengths c.heaps).users + length a.heaps.users + length b.heaps.users ≤ 2 ^ 24
-  blobs : (joined_lengths c.heaps).blobs + length a.heaps.blobs + length b.heaps.blobs ≤ 2 ^ 29
+pub record Room (c : Chain) (a b : Source) : Type 0 where
+  pub strings : (joined_lengths c.heaps).strings + length a.heaps.strings + length b.heaps.strings ≤ 2 ^ 29
+  pub users : (joined_lengths c.heaps).users + length a.heaps.users + length b.heaps.users ≤ 2 ^ 24
+  pub blobs : (joined_lengths c.heaps).blobs + length a.heaps.blobs + length b.heaps.blobs ≤ 2 ^ 29
 
-room : (c : Chain) (a b : Source) → heap_fault (extended c a) b ≡ None → Room c a b
+pub room : (c : Chain) (a b : Source) → heap_fault (extended c a) b ≡ None → Room c a b
 room c a b h =
     let t = joined_lengths c.heaps in
     let more : HeapLengths = record { strings = t.strings + length a.heaps.strings; users = t.users + length a.heaps.users; blobs = t.blobs + length a.heaps.blobs; guids = max t.guids (length a.heaps.guids / 16) } in
@@ -116,14 +116,14 @@ last_zero : (c : Chain) (s : Source) → heap_fault c s ≡ None → last_byte s
 unfolding heap_fault strings_break
 last_zero c s h = ends_with_zero s.heaps.strings (or_parts _ _ (first_silent _ (place.Stream name.Strings) _ h).0).1
 
-guids_unbroken : (c : Chain) (s : Source) → heap_fault c s ≡ None → guids_break c s ≡ false
+pub guids_unbroken : (c : Chain) (s : Source) → heap_fault c s ≡ None → guids_break c s ≡ false
 unfolding heap_fault
 guids_unbroken c s h =
     let users = (first_silent _ (place.Stream name.Strings) _ h).1 in
     let blobs = (first_silent _ (place.Stream name.Users) _ users).1 in
     unbroken_is _ (place.Stream name.Guids) (first_silent _ (place.Stream name.Blobs) _ blobs).1
 
-few_guids : (c : Chain) (s : Source) → heap_fault c s ≡ None → 16 * guid_entries (heaps_after c s) ≤ 2 ^ 29
+pub few_guids : (c : Chain) (s : Source) → heap_fault c s ≡ None → 16 * guid_entries (heaps_after c s) ≤ 2 ^ 29
 unfolding guids_break
 few_guids c s h =
     let few : nat_lt (2 ^ 29) (16 * guid_entries (heaps_after c s)) ≡ false = (or_parts _ _ (guids_unbroken c s h)).0 in

@@ -118,7 +118,7 @@ numbers_changed c a b s says n =
     ∙ ap (λ ns. stands_in ns n) (map-append number_of (changed (log_in a)) (changed (log_in b)))
     ∙ list_any-append (λ m. m == n) (map number_of (changed (log_in a))) (map number_of (changed (log_in b)))
 
-same_in : (c : Chain) (s : Source) → Lands c s → Same (map number_of (listed s)) (map number_of (changed (log_in s)))
+pub same_in : (c : Chain) (s : Source) → Lands c s → Same (map number_of (listed s)) (map number_of (changed (log_in s)))
 unfolding unmatched_token
 same_in c s f = same_of _ _ (landed c s f.early).sets
 

@@ -47,7 +47,7 @@ unfolding late_token late_fault
 keeps_rising c a b s may says = rw (none_late (map number_of (listed s)) (rises (map number_of (listed s)) says.rises)) refl
 
 -- Module, EncLog and EncMap have no tokens
-abbrev is_apart : ℕ → Bool
+abbrev pub is_apart : ℕ → Bool
 is_apart table = list_any (λ t. t == table) (tables.«module» ∷ tables.enc_log ∷ tables.enc_map ∷ [])
 
 flipped : (a b : ℕ) → (a == b) ≡ (b == a)
@@ -62,7 +62,7 @@ with_tokens false false true h = absurd cc
 with_tokens false true z h = absurd cc
 with_tokens true y z h = absurd cc
 
-others_have : (table : ℕ) → is_apart table ≡ false → has_tokens table ≡ true
+pub others_have : (table : ℕ) → is_apart table ≡ false → has_tokens table ≡ true
 others_have table h = rw (flipped table tables.«module», flipped table tables.enc_log, flipped table tables.enc_map) (with_tokens (tables.«module» == table) (tables.enc_log == table) (tables.enc_map == table) h)
 
 no_rows : (s : Source) (table : ℕ) → is_apart table ≡ true → rows_for s table ≡ 0
@@ -93,7 +93,7 @@ none_there table (t ∷ ts) other = elim (cases_Bool (t.table == table)) [
 ]
 
 -- a delta that lands has no tokens of those tables
-none_apart : (c : Chain) (s : Source) (table : ℕ) (u : Token) → Lands c s → table < 0x100 → is_apart table ≡ true → is_in_map s u ≡ true → u.table ≡ table → ⊥
+pub none_apart : (c : Chain) (s : Source) (table : ℕ) (u : Token) → Lands c s → table < 0x100 → is_apart table ≡ true → is_in_map s u ≡ true → u.table ≡ table → ⊥
 none_apart c s table u f low apart h e =
     let some = some_there table (listed s) u h e in
     let rows = rows_are s table (landed c s f.early).tables low in

@@ -1,0 +1,27 @@
+-- Files that hold what two deltas say stand for them.
+use Rattle.std.proofs.Common.{ap, ◌∙◌}
+use Rattle.enc_delta.specs.Delta.{delta_of}
+use Rattle.enc_merged.specs.Laws.{MergedFollows, MergedIsNamed, MergedMeans}
+use Rattle.enc_writer.proofs.FilesStand.{accepted_files}
+use Rattle.enc_merge.proofs.LastTwo.{may_merge}
+use Rattle.enc_merge.proofs.PdbStands.{none_misplaced, same_debug, several_nil}
+use Rattle.enc_merge.specs.Writing.{FilesOfBothStand, MetadataIsRead}
+
+pub files_stand : MetadataIsRead → MergedFollows → MergedMeans → MergedIsNamed → FilesOfBothStand
+files_stand are_read follow mean named h p x d first second older are shallow debugs goes gone files =
+    let may = may_merge h x are shallow in
+    let r = are_read h x d.meta are shallow files.meta in
+    let s = r.0 in
+    let says = r.1.1 in
+    let read = ap (delta_of d.meta) files.il ∙ r.1.0 in
+    record {
+      source = s;
+      symbols = files.pdb.source;
+      stands = accepted_files x.chain (delta_of d.meta d.il) s files.pdb.source d.pdb read (follow x.chain x.first x.second s may says) files.pdb.read
+          (none_misplaced h p x d.pdb first second older s are debugs goes gone files.pdb says);
+      means = mean x.chain x.first x.second s may says;
+      debug = λ method. same_debug h p x d.pdb first second older s are debugs goes gone files.pdb says method;
+      enc_id = named x.chain x.first x.second s may says;
+      lists = says.tokens;
+      several = λ k t at. several_nil h p x d.pdb first second older s are debugs goes gone files.pdb says k t at;
+    }

@@ -1,0 +1,17 @@
+pub mod LastTwo
+pub mod Guids
+pub mod ListRows
+pub mod NewestRows
+pub mod TokenRows
+pub mod ModuleNumbers
+pub mod ShortLists
+pub mod WideRows
+pub mod RootRoom
+pub mod MetadataRead
+pub mod SomeWeigh
+pub mod MethodsOfBoth
+pub mod CodeOfBoth
+pub mod PointsWithin
+pub mod PdbStands
+pub mod FilesOfBoth
+pub mod LastMerged
