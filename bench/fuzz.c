@@ -280,13 +280,16 @@ int LLVMFuzzerTestOneInput(const uint8_t *data, size_t n) {
         char c = (char)in.parts[TOKEN].at[(size_t)i % in.parts[TOKEN].n];
         token[i] = c && strchr("0123456789abcdef", c) ? c : "0123456789abcdef"[c & 15];
     }
-    static const char *const commands[][4] = {{"show", "b", "TOKEN"}, {"list", "b"}, {"check", "b"}, {"apply", "b", "o"}, {"compact", "b", "o"}, {"write", "b", "t.json", "o"}, {"run", "b", "t.json"}};
+    static const char *const commands[][4] = {{"show", "b", "TOKEN"}, {"list", "b"}, {"check", "b"}, {"apply", "b", "o"}, {"compact", "b", "o"}, {"write", "b", "t.json", "o"}, {"run", "b", "t.json"}, {"merge", "b", "o"}};
     size_t which = in.command % (sizeof commands / sizeof *commands);
     char *words[10] = {"enc"};
     int many = 1;
     for (int i = 0; i < 4 && commands[which][i]; i++) words[many++] = strcmp(commands[which][i], "TOKEN") ? (char *)commands[which][i] : token;
-    if (which != 6 && deltas > 0) words[many++] = "d1";
-    if (which != 6 && deltas > 1) words[many++] = "d2";
+    /* a script names its deltas, and two are merged, also where one is missing */
+    if (which == 6) deltas = 0;
+    if (which == 7) deltas = 2;
+    if (deltas > 0) words[many++] = "d1";
+    if (deltas > 1) words[many++] = "d2";
     unlink("o.dll"); unlink("o.pdb"); unlink("o.meta"); unlink("o.il");
     struct rusage used;
     size_t most = 0;
@@ -297,7 +300,7 @@ int LLVMFuzzerTestOneInput(const uint8_t *data, size_t n) {
     /* the words are always a command */
     if (WIFEXITED(status) && WEXITSTATUS(status) == 3) told.memory++;
     int is_known = WIFEXITED(status) && WEXITSTATUS(status) <= 6 && WEXITSTATUS(status) != 2;
-    int saves = which >= 3 && which <= 5;
+    int saves = (which >= 3 && which <= 5) || which == 7;
     if (is_known && (WEXITSTATUS(status) != 0 || !saves) && (!access("o.dll", F_OK) || !access("o.meta", F_OK))) is_known = 0;
     if (!is_known) {
         fprintf(stderr, "enc %s: status %x\n", words[1], status);
