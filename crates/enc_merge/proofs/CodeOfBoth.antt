@@ -24,7 +24,7 @@ use Rattle.enc_agg.proofs.Viewing.{body_listed, kept_cell}
 use Rattle.enc_checker.specs.Check.{code_size, new_code}
 use Rattle.enc_merged.specs.Merged.{SaysMerged, is_in_map}
 use Rattle.enc_merged.proofs.BodiesSaid.{body_lasts, body_said}
-use Rattle.enc_merge.specs.Writing.{AreLast, Both, module_after}
+use Rattle.enc_merge.specs.Writing.{AreLast, Both, chain_of_both}
 use Rattle.enc_merge.proofs.NewestRows.{place_any}
 
 -- the size of the code of the body that a cell has, 0 where it has none
@@ -87,18 +87,18 @@ module _ (h : History) (x : Both) (s : Source) (u : Token) (are : AreLast h x) (
   tables_first : HasTables (extended x.chain x.first).plain
   tables_first = has_tables x.chain x.first are.sound.owners.tables
 
-  code_of_merged : is_in_map s u ≡ true → HasCode (cell_of (module_after x).plain u 0) s u
-  code_of_merged there = code_by (cell_of (module_after x).plain u 0) s u (users_after x.chain s) (body_said x.chain x.first x.second s u says there is)
+  code_of_merged : is_in_map s u ≡ true → HasCode (cell_of (chain_of_both x).plain u 0) s u
+  code_of_merged there = code_by (cell_of (chain_of_both x).plain u 0) s u (users_after x.chain s) (body_said x.chain x.first x.second s u says there is)
 
   pub code_of_second : is_in_map s u ≡ true → is_in_map x.second u ≡ true → SameCode s x.second u
   code_of_second there listed =
-      same_code (cell_of (module_after x).plain u 0) s x.second u (code_of_merged there) (code_after (extended x.chain x.first) x.second u tables_first are.second is listed)
+      same_code (cell_of (chain_of_both x).plain u 0) s x.second u (code_of_merged there) (code_after (extended x.chain x.first) x.second u tables_first are.second is listed)
 
   pub code_of_first : is_in_map s u ≡ true → is_in_map x.second u ≡ false → is_in_map x.first u ≡ true → SameCode s x.first u
   code_of_first there none listed =
       let first = code_after x.chain x.first u are.sound.owners.tables are.first is listed in
-      let kept : cell_of (module_after x).plain u 0 ≡ cell_of (extended x.chain x.first).plain u 0 = kept_cell (extended x.chain x.first) x.second u 0 (fits (extended x.chain x.first) x.second tables_first are.second.lands) (not_placed x.second u none) in
-      same_code (cell_of (module_after x).plain u 0) s x.first u (code_of_merged there) (record { size = ap cell_size kept ∙ first.size; some = ap has_body kept ∙ first.some })
+      let kept : cell_of (chain_of_both x).plain u 0 ≡ cell_of (extended x.chain x.first).plain u 0 = kept_cell (extended x.chain x.first) x.second u 0 (fits (extended x.chain x.first) x.second tables_first are.second.lands) (not_placed x.second u none) in
+      same_code (cell_of (chain_of_both x).plain u 0) s x.first u (code_of_merged there) (record { size = ap cell_size kept ∙ first.size; some = ap has_body kept ∙ first.some })
 
 -- a method to which the first gives a body has one in the second, where that lists it
 pub code_lasts : (h : History) (x : Both) (u : Token) → AreLast h x → u.table ≡ tables.method_def → is_in_map x.first u ≡ true → is_in_map x.second u ≡ true → is_some (new_code x.first u) ≡ true → is_some (new_code x.second u) ≡ true

@@ -12,7 +12,7 @@ use Rattle.enc_ppdb.specs.Written.{most_pdb_weight}
 use Rattle.enc_depth.specs.Depth.{first_deep}
 use Rattle.enc_writer.specs.declared.bytes.DeltaBytes.{DeltaBytes}
 use Rattle.enc_merge.specs.Merges.{AllGo, GoesWith, MergesBoth, MergesLast, weight_of_both}
-use Rattle.enc_merge.specs.Writing.{AreLast, Both, FilesOfBothStand, IsFilesOfBoth, TellsWeight, module_after}
+use Rattle.enc_merge.specs.Writing.{AreLast, Both, FilesOfBothStand, IsFilesOfBoth, TellsWeight, chain_of_both}
 use Rattle.enc_merge.specs.declared.fault.MergeFault.{MergeFault}
 use Rattle.enc_merge.specs.declared.fault.MergeFault.TheVariants.{Memory, TooLarge, Deep}
 
@@ -54,7 +54,7 @@ no_memory x p second first older pd = tt
 
 -- a reference lies too deep
 pub too_deep : (x : Both) (p : PdbHistory) (t : Token) → nat_lt most_pdb_weight (weight_of_both x.chain x.first x.second (pdb_with p.base p.deltas)) ≡ false
-    → first_deep (module_after x).plain ≡ Some t → MergesTwo x p (Err (Deep t))
+    → first_deep (chain_of_both x).plain ≡ Some t → MergesTwo x p (Err (Deep t))
 unfolding MergesTwo
 too_deep x p t light deep second first older pd = (light, deep)
 
@@ -67,14 +67,14 @@ goes_both h p x second first older are go pd =
     (g.0, g.1.1.0)
 
 pub files_merged : (h : History) (p : PdbHistory) (x : Both) (d : DeltaBytes) → FilesOfBothStand → AreLast h x → AllGo h.deltas p.deltas
-    → nat_lt most_pdb_weight (weight_of_both x.chain x.first x.second (pdb_with p.base p.deltas)) ≡ false → first_deep (module_after x).plain ≡ None → IsFilesOfBoth x p d → MergesTwo x p (Ok d)
+    → nat_lt most_pdb_weight (weight_of_both x.chain x.first x.second (pdb_with p.base p.deltas)) ≡ false → first_deep (chain_of_both x).plain ≡ None → IsFilesOfBoth x p d → MergesTwo x p (Ok d)
 unfolding MergesTwo
 files_merged h p x d stand are go light shallow files second first older pd =
     let g = goes_both h p x second first older are go pd in
     (stand h p x d first second older are shallow pd g.0 g.1 files, light, shallow)
 
 -- the module after both is that of the whole chain
-pub deep_after : (h : History) (x : Both) (o : Option Token) → AreLast h x → o ≡ first_deep (chain_of_all h).plain → first_deep (module_after x).plain ≡ o
+pub deep_after : (h : History) (x : Both) (o : Option Token) → AreLast h x → o ≡ first_deep (chain_of_all h).plain → first_deep (chain_of_both x).plain ≡ o
 deep_after h x o are is = ap (λ (c : Chain). first_deep c.plain) (sym (chain_is h x are)) ∙ sym is
 
 pub none_left : (o : Option Token) → ((t : Token) → o ≡ Some t → ⊥) → o ≡ None

@@ -14,7 +14,7 @@ use Rattle.enc_depth.specs.Depth.{IsShallow}
 use Rattle.enc_merged.specs.Held.{shift_of}
 use Rattle.enc_merged.specs.Merged.{MayMerge}
 use Rattle.enc_merge.specs.Merges.{ShortLast}
-use Rattle.enc_merge.specs.Writing.{AreLast, Both, module_after}
+use Rattle.enc_merge.specs.Writing.{AreLast, Both, chain_of_both}
 
 get_front : {X : Type 0} (xs : List X) (y : X) (n : ℕ) → n < length xs → slice_get (xs ++ y ∷ []) n ≡ slice_get xs n
 get_front [] y n few = absurd (omega (arith, few))
@@ -79,12 +79,12 @@ last_are h first second are all short =
     }
 
 -- and the chain of all is that after both
-pub chain_is : (h : History) (x : Both) → AreLast h x → chain_of_all h ≡ module_after x
+pub chain_is : (h : History) (x : Both) → AreLast h x → chain_of_all h ≡ chain_of_both x
 unfolding chain_with
 chain_is h x are = ap (chain_with h.base) are.deltas ∙ ap (λ (c : Chain). extended (extended c x.first) x.second) (sym are.chain)
 
 -- they may merge, where no reference lies too deep
-pub may_merge : (h : History) (x : Both) → AreLast h x → IsShallow (module_after x).plain → MayMerge x.chain x.first x.second
+pub may_merge : (h : History) (x : Both) → AreLast h x → IsShallow (chain_of_both x).plain → MayMerge x.chain x.first x.second
 may_merge h x are shallow =
     record { sound = are.sound; first_read = are.first_read; second_read = are.second_read; first = are.first; second = are.second; shallow = shallow }
 

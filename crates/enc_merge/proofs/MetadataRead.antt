@@ -43,7 +43,7 @@ use Rattle.enc_merged.specs.Held.{RowHeld, heaps_with_merged, il_merged, reading
 use Rattle.enc_merged.specs.Merged.{SaysMerged, SaysRowMerged, after_both, has_tokens, heaps_merged, is_in_either, is_in_map}
 use Rattle.enc_merged.proofs.Among.{lists, number_there, self}
 use Rattle.enc_merged.proofs.Counts.{held, order_of}
-use Rattle.enc_merge.specs.Writing.{AreLast, AreOfEither, AreRowsHeld, AreBothTables, Both, MetadataIsRead, module_after, heaps_put, tokens_of}
+use Rattle.enc_merge.specs.Writing.{AreLast, AreOfEither, AreRowsHeld, AreBothTables, Both, MetadataIsRead, chain_of_both, heaps_put, tokens_of}
 use Rattle.enc_merge.proofs.LastTwo.{may_merge}
 use Rattle.enc_merge.proofs.NewestRows.{place_any}
 use Rattle.enc_merge.proofs.TokenRows.{as_many, number_lists, token_table}
@@ -182,7 +182,7 @@ reading_both c a b = refl
 record IsRead (x : Both) (numbers : List ℕ) (rows : List (List (List ℕ))) (s : Source) : Type 0 where
   read : IsDeltaReadAs (heaps_merged x.chain x.first x.second) rows (il_merged x.first x.second) s
   listed_is : listed s ≡ tokens_of numbers
-  counts : rows_with x.chain (listed s) ≡ rows_before (module_after x)
+  counts : rows_with x.chain (listed s) ≡ rows_before (chain_of_both x)
 
 same_reading : (x : Both) (numbers : List ℕ) (rows : List (List (List ℕ))) (s : Source) → IsRead x numbers rows s → reading_after x.chain s ≡ reading_merged x.chain x.first x.second
 same_reading x numbers rows s is =
@@ -262,7 +262,7 @@ found x numbers rows s u is held has there =
 
 body_says : (x : Both) (numbers : List ℕ) (rows : List (List (List ℕ))) (s : Source) (u : Token) → IsRead x numbers rows s → Found x s u → (u.table == tables.method_def) ≡ true
     → (raw_in s (own_row s u) columns.method_def_rva ≡ 0)
-    ⊎ (code_is_good (rows_before (module_after x)) (joined_user (x.chain.heaps ++ s.heaps ∷ [])) (code_loaded s.loaded (raw_in s (own_row s u) columns.method_def_rva)) ≡ true)
+    ⊎ (code_is_good (rows_before (chain_of_both x)) (joined_user (x.chain.heaps ++ s.heaps ∷ [])) (code_loaded s.loaded (raw_in s (own_row s u) columns.method_def_rva)) ≡ true)
 unfolding columns_in
 body_says x numbers rows s u is f method =
     let six : u.table ≡ tables.method_def = eqb-true u.table tables.method_def method in
@@ -275,9 +275,9 @@ body_says x numbers rows s u is f method =
     elim ((f.held.each 0 Num32 n first get).body own) [
       | inl none ↦ inl (raw ∙ none)
       | inr good ↦ inr (
-          ap (λ k. code_is_good (rows_before (module_after x)) (joined_user (x.chain.heaps ++ s.heaps ∷ [])) (code_loaded s.loaded k)) raw
-          ∙ ap (λ l. code_is_good (rows_before (module_after x)) (joined_user (x.chain.heaps ++ s.heaps ∷ [])) (code_loaded l n)) is.read.loaded
-          ∙ ap (λ (h : Counted). code_is_good (rows_before (module_after x)) (joined_user (x.chain.heaps ++ h ∷ [])) (code_loaded (loaded_code (il_merged x.first x.second)) n)) is.read.heaps
+          ap (λ k. code_is_good (rows_before (chain_of_both x)) (joined_user (x.chain.heaps ++ s.heaps ∷ [])) (code_loaded s.loaded k)) raw
+          ∙ ap (λ l. code_is_good (rows_before (chain_of_both x)) (joined_user (x.chain.heaps ++ s.heaps ∷ [])) (code_loaded l n)) is.read.loaded
+          ∙ ap (λ (h : Counted). code_is_good (rows_before (chain_of_both x)) (joined_user (x.chain.heaps ++ h ∷ [])) (code_loaded (loaded_code (il_merged x.first x.second)) n)) is.read.heaps
           ∙ good)
     ]
 
@@ -286,7 +286,7 @@ says_row : (x : Both) (numbers : List ℕ) (rows : List (List (List ℕ))) (s : 
 unfolding cell_after columns_in
 says_row x numbers rows s u is held has there =
     let f = found x numbers rows s u is held has there in
-    let cell : (i : ℕ) (k : Kind) → kind_in u.table i ≡ Some k → cell_after x.chain s (own_row s u) i ≡ cell_of (module_after x).plain u i =
+    let cell : (i : ℕ) (k : Kind) → kind_in u.table i ≡ Some k → cell_after x.chain s (own_row s u) i ≡ cell_of (chain_of_both x).plain u i =
     λ i k kind.
     let column = column_there u.table i k kind in
     let low : i < length f.numbers = let l = low_index (columns_in u.table) i column.0 column.1 in let m = f.held.count in omega (arith, l, m) in
@@ -331,7 +331,7 @@ counts_in h x numbers rows s are tokens held read table has = elim (cases_lt tab
 ]
 
 -- all together
-says_all : (h : History) (x : Both) (numbers : List ℕ) (rows : List (List (List ℕ))) (s : Source) → AreLast h x → IsShallow (module_after x).plain → AreOfEither x.first x.second numbers → AreBothTables x numbers rows
+says_all : (h : History) (x : Both) (numbers : List ℕ) (rows : List (List (List ℕ))) (s : Source) → AreLast h x → IsShallow (chain_of_both x).plain → AreOfEither x.first x.second numbers → AreBothTables x numbers rows
     → AreRows rows → IsDeltaReadAs (heaps_merged x.chain x.first x.second) rows (il_merged x.first x.second) s → SaysMerged x.chain x.first x.second s
 unfolding listed
 says_all h x numbers rows s are_last shallow tokens held are read =
@@ -346,7 +346,7 @@ says_all h x numbers rows s are_last shallow tokens held are read =
     let same : (u : Token) → is_in_map s u ≡ is_in_either x.first x.second u = λ u. ap (λ ts. lists ts u) listed_is ∙ tokens_same h x numbers u are_last tokens in
     let up : IsStrictlyIncreasing (map number_of (listed s)) = subst IsStrictlyIncreasing (sym (ap (map number_of) listed_is ∙ numbers_are numbers)) tokens.rises in
     let order = order_of c x.first x.second s (may_merge h x are_last shallow) up same in
-    let is : IsRead x numbers rows s = record { read = read; listed_is = listed_is; counts = λ i t. counts_at c s (rows_before (module_after x)) order.rows t i } in
+    let is : IsRead x numbers rows s = record { read = read; listed_is = listed_is; counts = λ i t. counts_at c s (rows_before (chain_of_both x)) order.rows t i } in
     let row = held.single.0 in
     let there = held.single.1.0 in
     let module_ = held.single.1.1 in

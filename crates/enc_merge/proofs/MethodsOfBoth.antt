@@ -23,18 +23,18 @@ use Rattle.enc_merged.specs.Merged.{is_in_either, is_in_map}
 use Rattle.enc_merged.proofs.Among.{number_there}
 use Rattle.enc_merged.proofs.Counts.{grows, held}
 use Rattle.enc_merge.specs.Merges.{methods_listed}
-use Rattle.enc_merge.specs.Writing.{AreLast, AreOfEither, Both, module_after, tokens_of}
+use Rattle.enc_merge.specs.Writing.{AreLast, AreOfEither, Both, chain_of_both, tokens_of}
 use Rattle.enc_merge.proofs.TokenRows.{either_lists}
 
 -- the module after both is sound
-pub after_sound : (h : History) (x : Both) → AreLast h x → IsSound (module_after x).plain
+pub after_sound : (h : History) (x : Both) → AreLast h x → IsSound (chain_of_both x).plain
 after_sound h x are =
     delta_keeps_sound (extended x.chain x.first) x.second are.second_read are.second.rules (delta_keeps_sound x.chain x.first are.first_read are.first.rules are.sound)
 
 -- a token of MethodDef that one of the two lists names one of the rows after both
 pub record IsMethod (x : Both) (u : Token) : Type 0 where
   pub low : 1 ≤ u.row
-  pub high : u.row ≤ rows_before (module_after x) u.table
+  pub high : u.row ≤ rows_before (chain_of_both x) u.table
 
 pub method_of_either : (h : History) (x : Both) (u : Token) → AreLast h x → is_in_either x.first x.second u ≡ true → IsMethod x u
 method_of_either h x u are either =
@@ -200,7 +200,7 @@ listed_number x numbers u tokens either =
 
 -- so the methods are the tokens of MethodDef
 abbrev pub methods_after : Both → ℕ
-methods_after x = rows_before (module_after x) tables.method_def
+methods_after x = rows_before (chain_of_both x) tables.method_def
 
 few_after : (h : History) (x : Both) → AreLast h x → methods_after x < 2 ^ 24
 few_after h x are = (after_sound h x are).counts.few tables.method_def
@@ -229,7 +229,7 @@ kept_then h x numbers n are tokens there =
     let table = def_table n parts.0 in
     let row = method_of_either h x (token_of n) are either in
     let r = row_of_def (token_of n) table row.low in
-    let high : (token_of n).row ≤ methods_after x = subst (λ (t : ℕ). (token_of n).row ≤ rows_before (module_after x) t) table row.high in
+    let high : (token_of n).row ≤ methods_after x = subst (λ (t : ℕ). (token_of n).row ≤ rows_before (chain_of_both x) t) table row.high in
     let passes : is_in_either x.first x.second (nth_row tables.method_def r.0) ≡ true = ap (is_in_either x.first x.second) r.1.1 ∙ either in
     let same : number_of (nth_row tables.method_def r.0) ≡ n = ap number_of r.1.1 ∙ number_back n in
     subst (λ (t : ℕ). stands_in (map number_of (rows_from (is_in_either x.first x.second) 0 (methods_after x))) t ≡ true) same

@@ -23,7 +23,7 @@ use Rattle.enc_agg.specs.Seen.{History}
 use Rattle.enc_ppdb.proofs.Positions.{position_any}
 use Rattle.enc_merged.specs.Held.{NumberHeld, NumbersAreHeld, RowHeld, in_column, number_moved, place_moved, shift_of, text_moved}
 use Rattle.enc_merged.specs.Merged.{is_in_either, is_in_map}
-use Rattle.enc_merge.specs.Writing.{AreLast, Both, FrontHeld, IsNewest, module_after}
+use Rattle.enc_merge.specs.Writing.{AreLast, Both, FrontHeld, IsNewest, chain_of_both}
 use Rattle.enc_merge.specs.declared.rows.Newest.{Newest}
 use Rattle.enc_merge.proofs.LastTwo.{may_merge, shift_low}
 
@@ -108,9 +108,9 @@ of_first h x u p n are either is other delta row shift =
 
 -- its number, moved, says what the token has after both
 abbrev pub HeldAs : Both → Token → ℕ → Column → ℕ → ℕ → Type 0
-HeldAs x u i column shift n = NumberHeld x.chain x.first x.second u i column (number_moved (module_after x).heaps shift u.table i column n)
+HeldAs x u i column shift n = NumberHeld x.chain x.first x.second u i column (number_moved (chain_of_both x).heaps shift u.table i column n)
 
-pub newest_held : (h : History) (x : Both) (u : Token) (n : Newest) (i : ℕ) (column : Column) → NumbersAreHeld → AreLast h x → IsShallow (module_after x).plain → is_in_either x.first x.second u ≡ true → IsNewest x u n
+pub newest_held : (h : History) (x : Both) (u : Token) (n : Newest) (i : ℕ) (column : Column) → NumbersAreHeld → AreLast h x → IsShallow (chain_of_both x).plain → is_in_either x.first x.second u ≡ true → IsNewest x u n
     → column_in u.table i ≡ Some column → HeldAs x u i column n.shift (raw_in n.delta.now n.row i)
 newest_held h x u n i column held are shallow either newest there =
     by (is_in_map x.first u) (is_in_map x.second u) refl refl either (held x.chain x.first x.second u i column (may_merge h x are shallow) are.code there)
@@ -171,23 +171,23 @@ newest_shift h x u n are newest = by (is_in_map x.second u) refl
 pub body_fits : (h : History) (x : Both) (u : Token) (n : Newest) (i : ℕ) (column : Column) (k : ℕ) → AreLast h x → IsNewest x u n → column_in u.table i ≡ Some column → is_body u.table i ≡ true
     → HeldAs x u i column n.shift k → k + n.shift < 2 ^ 32
 body_fits h x u n i column k are newest there is held =
-    let fit : number_fits column (place_moved n.shift k) ≡ true = rw (moved_body (module_after x).heaps n.shift u.table i column k is) at held.fit in
+    let fit : number_fits column (place_moved n.shift k) ≡ true = rw (moved_body (chain_of_both x).heaps n.shift u.table i column k is) at held.fit in
     let word : nat_lt (place_moved n.shift k) (2 ^ 32) ≡ true = rw (body_column u.table i column is there) at fit in
     low_place n.shift k (newest_shift h x u n are newest) (grind (arith, nat_tests, word))
 
 pub body_held : (x : Both) (u : Token) (i : ℕ) (column : Column) (shift k y : ℕ) → is_body u.table i ≡ true → HeldAs x u i column shift k → y ≡ place_moved shift k → NumberHeld x.chain x.first x.second u i column y
 body_held x u i column shift k y is held made =
-    subst (NumberHeld x.chain x.first x.second u i column) (moved_body (module_after x).heaps shift u.table i column k is ∙ sym made) held
+    subst (NumberHeld x.chain x.first x.second u i column) (moved_body (chain_of_both x).heaps shift u.table i column k is ∙ sym made) held
 
 pub text_held : (x : Both) (u : Token) (i : ℕ) (column : Column) (shift k y : ℕ) → is_body u.table i ≡ false → column ≡ Text → HeldAs x u i column shift k
-    → y ≡ text_moved (joined_text (module_after x).heaps k) k → NumberHeld x.chain x.first x.second u i column y
+    → y ≡ text_moved (joined_text (chain_of_both x).heaps k) k → NumberHeld x.chain x.first x.second u i column y
 text_held x u i column shift k y is text held made =
-    subst (NumberHeld x.chain x.first x.second u i column) (moved_text (module_after x).heaps shift u.table i column k is text ∙ sym made) held
+    subst (NumberHeld x.chain x.first x.second u i column) (moved_text (chain_of_both x).heaps shift u.table i column k is text ∙ sym made) held
 
 pub other_held : (x : Both) (u : Token) (i : ℕ) (column : Column) (shift k : ℕ) → is_body u.table i ≡ false → (column ≡ Text → ⊥) → HeldAs x u i column shift k → NumberHeld x.chain x.first x.second u i column k
-other_held x u i column shift k is other held = subst (NumberHeld x.chain x.first x.second u i column) (moved_other (module_after x).heaps shift u.table i column k is other) held
+other_held x u i column shift k is other held = subst (NumberHeld x.chain x.first x.second u i column) (moved_other (chain_of_both x).heaps shift u.table i column k is other) held
 
-pub number_held : (h : History) (x : Both) (u : Token) (n : Newest) (i : ℕ) (column : Column) (k : ℕ) → NumbersAreHeld → AreLast h x → IsShallow (module_after x).plain → is_in_either x.first x.second u ≡ true
+pub number_held : (h : History) (x : Both) (u : Token) (n : Newest) (i : ℕ) (column : Column) (k : ℕ) → NumbersAreHeld → AreLast h x → IsShallow (chain_of_both x).plain → is_in_either x.first x.second u ≡ true
     → IsNewest x u n → column_in u.table i ≡ Some column → k ≡ raw_in n.delta.now n.row i → HeldAs x u i column n.shift k
 number_held h x u n i column k held are shallow either newest there raw = subst (HeldAs x u i column n.shift) (sym raw) (newest_held h x u n i column held are shallow either newest there)
 

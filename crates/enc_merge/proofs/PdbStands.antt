@@ -32,7 +32,7 @@ use Rattle.enc_merged.specs.Merged.{SaysMerged, is_in_either, is_in_map}
 use Rattle.enc_merged.proofs.Among.{lists}
 use Rattle.enc_merged.proofs.BodiesSaid.{at_place}
 use Rattle.enc_merge.specs.Merges.{GoesWith, methods_listed}
-use Rattle.enc_merge.specs.Writing.{AreLast, Both, IsPdbOfBoth, module_after, changes_debug, methods_changed}
+use Rattle.enc_merge.specs.Writing.{AreLast, Both, IsPdbOfBoth, chain_of_both, changes_debug, methods_changed}
 use Rattle.enc_merge.proofs.CodeOfBoth.{code_lasts, code_of_first, code_of_second}
 use Rattle.enc_merge.proofs.MethodsOfBoth.{both, filtered_twice, method_of_either, methods_after, row_of_def, rows_from, rows_rise}
 use Rattle.enc_merge.proofs.PointsWithin.{HasNew, filtered, has_new, is_named, known_is, lie_below, named_same, new_by_code, no_new, none_below, of_own_table, still_listed, stray_by}
@@ -79,7 +79,7 @@ unfolding methods_listed
 stands_at h x p m are is =
     let row = method_of_either h x m are is.either in
     let r = row_of_def m is.table row.low in
-    let high : m.row ≤ methods_after x = subst (λ (t : ℕ). m.row ≤ rows_before (module_after x) t) is.table row.high in
+    let high : m.row ≤ methods_after x = subst (λ (t : ℕ). m.row ≤ rows_before (chain_of_both x) t) is.table row.high in
     let there : lists (map (nth_row tables.method_def) (below (methods_after x))) m ≡ true = subst (λ (t : Token). lists (map (nth_row tables.method_def) (below (methods_after x))) t ≡ true) r.1.1 (row_listed x r.0 (omega (arith, r.1.0, high))) in
     place_of (methods_changed x p) m
     (still_listed (changes_debug x p) (methods_listed x.chain x.first x.second) m (still_listed (is_in_either x.first x.second) (map (nth_row tables.method_def) (below (methods_after x))) m there is.either) is.changes)

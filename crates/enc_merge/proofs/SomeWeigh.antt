@@ -19,11 +19,11 @@ use Rattle.enc_ppdb.specs.Written.{document_weight, documents_of, method_weight,
 use Rattle.enc_ppdb.proofs.PdbRows.{documents_there, has_row, have_rows}
 use Rattle.enc_pdb_delta.proofs.DocumentsWithin.{documents_within, is_among, points_among, sum_within}
 use Rattle.enc_pdb_delta.proofs.Weighed.{sum_listed}
-use Rattle.enc_merge.specs.Points.{debug_of_rows, method_at}
+use Rattle.enc_merge.specs.Points.{debug_of_rows, nth_listed}
 
 -- the n-th of some methods stands for the n-th row
-pub method_there : (methods : List Token) (n : ℕ) (t : Token) → slice_get methods n ≡ Some t → method_at methods (nth_row tables.method_def n) ≡ t
-unfolding method_at
+pub method_there : (methods : List Token) (n : ℕ) (t : Token) → slice_get methods n ≡ Some t → nth_listed methods (nth_row tables.method_def n) ≡ t
+unfolding nth_listed
 method_there methods n t at =
     let a : (n + 1 == 0) ≡ false = grind (arith, nat_tests) in
     let b : n + 1 - 1 ≡ n = omega arith in

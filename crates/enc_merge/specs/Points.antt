@@ -6,9 +6,9 @@ use Rattle.enc_plain.specs.Debug.{PlainPdb}
 use Rattle.enc_schema.specs.Tables as tables
 
 -- the method that a row of MethodDef stands for: the n-th of some, n from 1; nil where there is none
-unfoldable pub method_at : List Token → Token → Token
-method_at methods t = if t.table == tables.method_def && not (t.row == 0) then unwrap_or (slice_get methods (t.row - 1)) nil else nil
+unfoldable pub nth_listed : List Token → Token → Token
+nth_listed methods t = if t.table == tables.method_def && not (t.row == 0) then unwrap_or (slice_get methods (t.row - 1)) nil else nil
 
 -- the plain PDB by these rows
 abbrev pub debug_of_rows : List Token → PlainPdb → PlainPdb
-debug_of_rows methods p t = p (method_at methods t)
+debug_of_rows methods p t = p (nth_listed methods t)

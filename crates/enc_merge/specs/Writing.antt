@@ -56,8 +56,8 @@ pub record AreLast (h : History) (x : Both) : Type 0 where
   pub code : HaveShortCode x.first x.second
 
 -- the module after both
-abbrev pub module_after : Both → Chain
-module_after x = after_both x.chain x.first x.second
+abbrev pub chain_of_both : Both → Chain
+chain_of_both x = after_both x.chain x.first x.second
 
 -- the heaps that are written: those of the two one behind the other, and each entry of `#GUID` that the chain has
 unfoldable pub heaps_put : Both → Counted
@@ -132,7 +132,7 @@ pub record IsMetadataOfBoth (x : Both) (bytes : List ℕ) : Type 0 where
 
 -- it is read with the merged code as a delta that says what the two say
 abbrev pub MetadataIsRead : Type 0
-MetadataIsRead = (h : History) (x : Both) (bytes : List ℕ) → AreLast h x → IsShallow (module_after x).plain → IsMetadataOfBoth x bytes
+MetadataIsRead = (h : History) (x : Both) (bytes : List ℕ) → AreLast h x → IsShallow (chain_of_both x).plain → IsMetadataOfBoth x bytes
     → (s : Source) × ((delta_of bytes (il_merged x.first x.second) ≡ Ok s) × SaysMerged x.chain x.first x.second s)
 
 -- one of the two changes what is known of a method: it has a new body in it, or its PDB has a row for it
@@ -166,6 +166,6 @@ pub record IsFilesOfBoth (x : Both) (p : PdbHistory) (d : DeltaBytes) : Type 0 w
 abbrev pub FilesOfBothStand : Type 0
 FilesOfBothStand =
     (h : History) (p : PdbHistory) (x : Both) (d : DeltaBytes) (first second : DebugDelta) (older : List DebugDelta)
-    → AreLast h x → IsShallow (module_after x).plain → p.deltas ≡ second ∷ first ∷ older → GoesWith x.second second → GoesWith x.first first
+    → AreLast h x → IsShallow (chain_of_both x).plain → p.deltas ≡ second ∷ first ∷ older → GoesWith x.second second → GoesWith x.first first
     → IsFilesOfBoth x p d
     → StandsForBoth x.chain x.first x.second (pdb_with p.base older) (pdb_with p.base p.deltas) d

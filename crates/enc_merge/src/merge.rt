@@ -5,7 +5,7 @@ ghost use Rattle.enc_depth.specs.Depth.{IsShallow};
 ghost use Rattle.enc_ppdb.specs.PdbChain.{pdb_with};
 ghost use Rattle.enc_ppdb.specs.Written.{most_pdb_weight};
 ghost use Rattle.enc_merge.specs.Merges.{AllGo, MergesLast, ShortLast, methods_listed, weight_of_both};
-ghost use Rattle.enc_merge.specs.Writing.{AreOfEither, FilesOfBothStand, IsFilesOfBoth, module_after};
+ghost use Rattle.enc_merge.specs.Writing.{AreOfEither, FilesOfBothStand, IsFilesOfBoth, chain_of_both};
 
 use crate::fault::MergeFault;
 use crate::heaps::il_merged;
@@ -34,7 +34,7 @@ fn files_of(
 ) -> Result<DeltaBytes, AllocError>
     requires numbers { AreOfEither last.now.first last.now.second numbers.now }
     requires methods { methods.now ≡ methods_listed last.now.chain last.now.first last.now.second }
-    requires shallow { IsShallow (module_after last.now).plain }
+    requires shallow { IsShallow (chain_of_both last.now).plain }
     requires light { nat_lt most_pdb_weight (weight_of_both last.now.chain last.now.first last.now.second (pdb_with points.now.base points.now.deltas)) ≡ false }
     ensures { IfOk result (λ d. IsFilesOfBoth last.now points.now d) }
 {

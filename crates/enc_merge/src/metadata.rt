@@ -1,7 +1,7 @@
 //! The metadata of the delta that stands for two (ECMA-335 II.24.2).
 ghost use Rattle.std.specs.Prelude.{true, IfOk};
 ghost use Rattle.enc_depth.specs.Depth.{IsShallow};
-ghost use Rattle.enc_merge.specs.Writing.{AreOfEither, AreBothTables, IsMetadataOfBoth, MetadataIsRead, module_after};
+ghost use Rattle.enc_merge.specs.Writing.{AreOfEither, AreBothTables, IsMetadataOfBoth, MetadataIsRead, chain_of_both};
 
 use crate::heaps::heaps_merged;
 use crate::last::Last;
@@ -19,7 +19,7 @@ fn tables_merged(
     numbers: &[u32],
 ) -> Result<TableBuilder, AllocError>
     requires tokens { AreOfEither last.now.first last.now.second numbers.now }
-    requires shallow { IsShallow (module_after last.now).plain }
+    requires shallow { IsShallow (chain_of_both last.now).plain }
     ensures { IfOk result (λ t. AreBothTables last.now numbers.now t) }
 {
     last.aggregate();
@@ -38,7 +38,7 @@ pub(crate) fn metadata_merged(
     numbers: &[u32],
 ) -> Result<Vec<u8>, AllocError>
     requires tokens { AreOfEither last.now.first last.now.second numbers.now }
-    requires shallow { IsShallow (module_after last.now).plain }
+    requires shallow { IsShallow (chain_of_both last.now).plain }
     ensures { IfOk result (λ v. IsMetadataOfBoth last.now v.items) }
 {
     last.aggregate();

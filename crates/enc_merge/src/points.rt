@@ -1,6 +1,6 @@
 //! What is known of some methods, as a source of points for rows that have no gaps.
 ghost use Rattle.std.specs.Prelude.{◌≡◌};
-ghost use Rattle.enc_merge.specs.Points.{method_at, debug_of_rows};
+ghost use Rattle.enc_merge.specs.Points.{nth_listed, debug_of_rows};
 
 use enc_base::Token;
 use enc_plain::{DocumentRef, PointSource};
@@ -16,9 +16,9 @@ pub(crate) struct SomePoints<'a, P> {
 }
 
 /// The method that a row stands for; nil, of which nothing is known, where there is none.
-#[tactic(auto, unfolding(crate::specs::Points::method_at))]
+#[tactic(auto, unfolding(crate::specs::Points::nth_listed))]
 fn method_of(methods: &[Token], row: Token) -> Token
-    ensures { result ≡ method_at methods.now row }
+    ensures { result ≡ nth_listed methods.now row }
 {
     let none = Token { table: 0, row: 0 };
     if row.table != METHOD_DEF || row.row == 0 {
@@ -33,9 +33,9 @@ fn method_of(methods: &[Token], row: Token) -> Token
 impl<P: PointSource> PointSource for SomePoints<'_, P> {
     ghost debug = { λ s. debug_of_rows s.methods.now (P.debug s.points.now) };
 
-    ghost said = { λ s t. P.said s.points.now (method_at s.methods.now t) };
+    ghost said = { λ s t. P.said s.points.now (nth_listed s.methods.now t) };
 
-    ghost documents = { λ s t. P.documents s.points.now (method_at s.methods.now t) };
+    ghost documents = { λ s t. P.documents s.points.now (nth_listed s.methods.now t) };
 
     ghost placed = { λ s. P.placed s.points.now };
 
@@ -53,5 +53,5 @@ impl<P: PointSource> PointSource for SomePoints<'_, P> {
             .document_place(method_of(self.methods, method), number)
     }
 
-    ghost knows = { λ s t. P.knows s.points.now (method_at s.methods.now t) };
+    ghost knows = { λ s t. P.knows s.points.now (nth_listed s.methods.now t) };
 }

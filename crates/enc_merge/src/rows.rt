@@ -7,7 +7,7 @@ ghost use Rattle.enc_rows.specs.Written.{rows_at};
 ghost use Rattle.enc_schema.specs.Schema.{column_in};
 ghost use Rattle.enc_merged.specs.Held.{NumberHeld, RowHeld, place_moved, text_moved};
 ghost use Rattle.enc_merged.specs.Merged.{has_tokens, is_in_either};
-ghost use Rattle.enc_merge.specs.Writing.{AreOfEither, AreTokensHeld, FrontHeld, IsNewest, module_after, tokens_of};
+ghost use Rattle.enc_merge.specs.Writing.{AreOfEither, AreTokensHeld, FrontHeld, IsNewest, chain_of_both, tokens_of};
 
 use crate::last::Last;
 use enc_base::Token;
@@ -85,7 +85,7 @@ fn is_body(table: u8, i: u8) -> bool
 fn number(last: &Last<'_>, token: Token, newest: Newest<'_>, i: u8, column: Column) -> u32
     requires token { is_in_either last.now.first last.now.second token ≡ true }
     requires newest { IsNewest last.now token newest }
-    requires shallow { IsShallow (module_after last.now).plain }
+    requires shallow { IsShallow (chain_of_both last.now).plain }
     requires column { column_in token.table i ≡ Some column }
     ensures { NumberHeld last.now.chain last.now.first last.now.second token i column result }
 {
@@ -112,7 +112,7 @@ fn push_column(
 ) -> Result<(), AllocError>
     requires token { is_in_either last.now.first last.now.second token ≡ true }
     requires newest { IsNewest last.now token newest }
-    requires shallow { IsShallow (module_after last.now).plain }
+    requires shallow { IsShallow (chain_of_both last.now).plain }
     requires column { column_in token.table i ≡ Some column }
     requires so_far { FrontHeld last.now token i numbers.old.items }
     ensures { OnOk result (FrontHeld last.now token (i + 1) numbers.new.items) }
@@ -126,7 +126,7 @@ fn push_column(
 #[tactic(auto, using(crate::proofs::NewestRows::none_held))]
 fn numbers_of(alloc: Global, last: &Last<'_>, token: Token) -> Result<Vec<u32>, AllocError>
     requires token { is_in_either last.now.first last.now.second token ≡ true }
-    requires shallow { IsShallow (module_after last.now).plain }
+    requires shallow { IsShallow (chain_of_both last.now).plain }
     ensures { IfOk result (λ n. RowHeld last.now.chain last.now.first last.now.second token n.items) }
 {
     let newest = newest_row(last, token);
@@ -146,7 +146,7 @@ pub(crate) fn push_rows(
     tables: &mut TableBuilder,
 ) -> Result<(), AllocError>
     requires tokens { AreOfEither last.now.first last.now.second numbers.now }
-    requires shallow { IsShallow (module_after last.now).plain }
+    requires shallow { IsShallow (chain_of_both last.now).plain }
     requires few { length numbers.now < 2 ^ 24 }
     requires none { (table : ℕ) → has_tokens table ≡ true → rows_at tables.old table ≡ [] }
     ensures { OnOk result (AreTokensHeld last.now (tokens_of numbers.now) tables.old tables.new) }
