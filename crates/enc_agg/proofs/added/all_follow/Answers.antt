@@ -6,8 +6,7 @@ pub loop-last-preserved : goal.loop-last-preserved
 loop-last-preserved c =
     let base = c.args.image.now in
     let rest = reverse c.loop-last.rest.now in
-    let older = reverse c.in-Some.older.now in
-    (
+    let older = reverse c.in-Some.older.now in (
       before_added base rest older c.in-Some.last.now c.in-Some.ensures.parts c.loop-last.invariant.0,
       λ follow. c.loop-last.invariant.1 (one_follows base rest older c.in-Some.last.now c.in-Some.ensures.parts c.loop-last.invariant.0 c.was_read.ensures follow),
     )
