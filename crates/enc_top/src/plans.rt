@@ -9,7 +9,9 @@ use crate::stop::Stop;
 use enc_base::{ReadFault, Refusal, Token};
 use enc_jobs::JobFault;
 use enc_text::refused_line;
-use enc_words::{Limit, broken_line, deep_line, limit_line, missing_line, unlisted_line, usage_line};
+use enc_words::{
+    Limit, broken_line, deep_line, limit_line, missing_line, unlisted_line, usage_line,
+};
 use std::alloc::Global;
 
 /// A plan that saves nothing.
