@@ -11,3 +11,6 @@ pub mod Handle
 pub mod Outcomes
 pub mod Asked
 pub mod Opened
+pub mod Clauses
+pub mod History
+pub mod Names

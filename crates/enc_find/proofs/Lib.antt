@@ -1,0 +1,3 @@
+pub mod NameColumns
+pub mod NoKids
+pub mod Maps
