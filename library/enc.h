@@ -106,6 +106,31 @@ typedef struct {
     uint32_t end_column;
 } enc_point;
 
+/* An exception clause; its code goes from the first offset to one past the last byte. */
+typedef struct {
+    uint32_t kind; /* 0 for exceptions of a class, 1 for those that a filter takes, 2 finally, 4 fault */
+    uint32_t try_begin;
+    uint32_t try_end;
+    uint32_t handler_begin;
+    uint32_t handler_end;
+    uint32_t extra; /* the token of the class, or the offset of the filter; 0 of the others */
+} enc_clause;
+
+/* A token of a generation's EncMap. */
+typedef struct {
+    uint32_t token;
+    uint32_t inserted; /* 1 of a row that the generation inserts, 0 of one that it updates */
+} enc_entry;
+
+/* How many bytes of #Strings, #US and #Blob count in a generation's own file, and how many whole entries
+ * its #GUID has. */
+typedef struct {
+    uint32_t strings;
+    uint32_t users;
+    uint32_t blobs;
+    uint32_t guids;
+} enc_heap_lengths;
+
 /* Judges a base, with its Portable PDB where that has bytes, and opens a closed handle. */
 uint32_t enc_open(enc_handle *handle, const uint8_t *bytes, size_t length, const uint8_t *pdb, size_t pdb_length, enc_refusal *refusal);
 
@@ -134,6 +159,15 @@ uint32_t enc_token(enc_handle *handle, uint32_t token, uint8_t column, uint32_t 
 /* The owner of a row of Field, MethodDef, Param, Event or Property. */
 uint32_t enc_owner(enc_handle *handle, uint32_t token, uint32_t *owner);
 
+/* How long a generation's own heaps are, and how many rows a table had after the first so many deltas. */
+uint32_t enc_lengths(enc_handle *handle, uint32_t generation, enc_heap_lengths *lengths);
+uint32_t enc_count_at(enc_handle *handle, uint32_t generation, uint8_t table, uint32_t *count);
+
+/* The type with these names, in UTF-8; nested in another, or in none where that is 0. Of several it is the first. It
+ * goes over the rows of TypeDef, or over those of NestedClass. */
+uint32_t enc_find_type(enc_handle *handle, uint32_t enclosing, const uint8_t *space, size_t space_length, const uint8_t *name,
+                       size_t name_length, uint32_t *token);
+
 /* The calls below copy into a buffer of `length` items and tell how many there are in `size`. */
 
 /* The rows of a row's children in a child table. */
@@ -152,6 +186,22 @@ uint32_t enc_row(enc_handle *handle, uint32_t token, uint8_t *buffer, size_t len
 
 /* The code of a method's newest body, without its header, and what that says. */
 uint32_t enc_code(enc_handle *handle, uint32_t method, uint8_t *buffer, size_t length, size_t *size, enc_code_head *head);
+
+/* The exception clauses of a method's body. */
+uint32_t enc_clauses(enc_handle *handle, uint32_t method, enc_clause *buffer, size_t length, size_t *size);
+
+/* The bytes of the UTF-16 units of the user text at an offset of the joined heap, as `ldstr` names it (without 70 in the
+ * top byte). */
+uint32_t enc_user_text(enc_handle *handle, uint32_t offset, uint8_t *buffer, size_t length, size_t *size);
+
+/* The tokens of a generation's EncMap but the Module's, in its order; the base has none. */
+uint32_t enc_entries(enc_handle *handle, uint32_t generation, enc_entry *buffer, size_t length, size_t *size);
+
+/* The rows of Field, MethodDef, Param, Event or Property with this name that belong to a row: to a type (its events and
+ * properties too), to a method, or to a row of EventMap or PropertyMap. It goes over the children of that row alone, and
+ * for the events and properties of a type over their map. */
+uint32_t enc_find_member(enc_handle *handle, uint32_t owner, uint8_t table, const uint8_t *name, size_t name_length,
+                         uint32_t *buffer, size_t length, size_t *size);
 
 /* The sequence points of a method, and the name of a document that one of them has. */
 uint32_t enc_points(enc_handle *handle, uint32_t method, enc_point *buffer, size_t length, size_t *size);
