@@ -36,10 +36,10 @@ points_meant : (points : List Point) (offset : ℕ)
 points_meant [] offset = refl
 points_meant (p ∷ points) offset = ap (λ (b : Bool). stands_at offset p || b) (points_meant points offset)
 
-point_meant : (users : ℕ → Option (List ℕ)) (v : Version) (offset : ℕ) → is_visible (code_meant users v) offset ≡ is_point_in v.points.points offset
+pub point_meant : (users : ℕ → Option (List ℕ)) (v : Version) (offset : ℕ) → is_visible (code_meant users v) offset ≡ is_point_in v.points.points offset
 point_meant users v offset = points_meant v.points.points offset
 
-stop_meant : (users : ℕ → Option (List ℕ)) (v : Version) (offset : ℕ) → is_stop (code_meant users v) offset ≡ is_stop_in v.code v.points.points offset
+pub stop_meant : (users : ℕ → Option (List ℕ)) (v : Version) (offset : ℕ) → is_stop (code_meant users v) offset ≡ is_stop_in v.code v.points.points offset
 stop_meant users v offset =
     ap (λ (b : Bool). b && is_visible (code_meant users v) offset) (begins_in users v.code offset)
     ∙ ap (λ (b : Bool). is_instruction_start (instructions_of v.code.code) offset && b) (point_meant users v offset)
@@ -48,14 +48,14 @@ handlers_meant : (users : ℕ → Option (List ℕ)) (v : Version) → (code_mea
 unfolding body_of
 handlers_meant users v = refl
 
-handled_meant : (users : ℕ → Option (List ℕ)) (v : Version) (offset : ℕ) → is_handled offset (code_meant users v).body.handlers ≡ is_handled offset (handlers_of v.code.sections)
+pub handled_meant : (users : ℕ → Option (List ℕ)) (v : Version) (offset : ℕ) → is_handled offset (code_meant users v).body.handlers ≡ is_handled offset (handlers_of v.code.sections)
 handled_meant users v offset = ap (is_handled offset) (handlers_meant users v)
 
 -- the kinds of a version's local variables
 abbrev pub kinds_in : Module → Version → List Kind
 kinds_in m v = unwrap_or (local_kinds m v.code.locals) []
 
-kinds_meant : (users : ℕ → Option (List ℕ)) (m : Module) (v : Version) → kinds_of m (code_meant users v) ≡ kinds_in m v
+pub kinds_meant : (users : ℕ → Option (List ℕ)) (m : Module) (v : Version) → kinds_of m (code_meant users v) ≡ kinds_in m v
 unfolding body_of
 kinds_meant users m v = refl
 
@@ -69,40 +69,40 @@ pub empty_stack : (shown stack : List Value) (b : Bool) → reverse shown ≡ st
 empty_stack shown stack b is h = ap (λ (n : ℕ). n == 0) (ap (λ (l : List Value). length l) (sym is) ∙ length-reverse shown) ∙ h
 
 -- the rules of a move, each broken first, and none
-third : (x : Move) → is_visible x.code x.from ≡ false → first_broken (move_rules x) ≡ Some 3
+pub third : (x : Move) → is_visible x.code x.from ≡ false → first_broken (move_rules x) ≡ Some 3
 unfolding first_broken
 third x a = rw a refl
 
-fourth : (x : Move) → is_visible x.code x.from ≡ true → goal x ≡ None → first_broken (move_rules x) ≡ Some 4
+pub fourth : (x : Move) → is_visible x.code x.from ≡ true → goal x ≡ None → first_broken (move_rules x) ≡ Some 4
 unfolding first_broken
 fourth x a g = rw (a, g) refl
 
-no_newest : (x : Move) (to : ℕ) → is_visible x.code x.from ≡ true → goal x ≡ Some to → x.newest ≡ None → first_broken (move_rules x) ≡ Some 5
+pub no_newest : (x : Move) (to : ℕ) → is_visible x.code x.from ≡ true → goal x ≡ Some to → x.newest ≡ None → first_broken (move_rules x) ≡ Some 5
 unfolding first_broken
 no_newest x to a g n = rw (a, g, n) refl
 
-fifth : (x : Move) (to : ℕ) (c : PlainCode) → is_visible x.code x.from ≡ true → goal x ≡ Some to → x.newest ≡ Some c → is_stop c to ≡ false
+pub fifth : (x : Move) (to : ℕ) (c : PlainCode) → is_visible x.code x.from ≡ true → goal x ≡ Some to → x.newest ≡ Some c → is_stop c to ≡ false
     → first_broken (move_rules x) ≡ Some 5
 unfolding first_broken
 fifth x to c a g n s = rw (a, g, n, s) refl
 
-not_run : (x : Move) (to : ℕ) (c : PlainCode) → is_visible x.code x.from ≡ true → goal x ≡ Some to → x.newest ≡ Some c → is_stop c to ≡ true
+pub not_run : (x : Move) (to : ℕ) (c : PlainCode) → is_visible x.code x.from ≡ true → goal x ≡ Some to → x.newest ≡ Some c → is_stop c to ≡ true
     → is_some (run_body x.plain x.method) ≡ false → first_broken (move_rules x) ≡ Some 6
 unfolding first_broken
 not_run x to c a g n s r = rw (a, g, n, s, r) refl
 
-no_kinds : (x : Move) (to : ℕ) (c : PlainCode) → is_visible x.code x.from ≡ true → goal x ≡ Some to → x.newest ≡ Some c → is_stop c to ≡ true
+pub no_kinds : (x : Move) (to : ℕ) (c : PlainCode) → is_visible x.code x.from ≡ true → goal x ≡ Some to → x.newest ≡ Some c → is_stop c to ≡ true
     → is_some (run_body x.plain x.method) ≡ true → kinds_behind (kinds_of x.plain x.code) (kinds_of x.plain c) ≡ None → first_broken (move_rules x) ≡ Some 6
 unfolding first_broken
 no_kinds x to c a g n s r k = rw (a, g, n, s, r, k) refl
 
-seventh : (x : Move) (to : ℕ) (c : PlainCode) (ks : List Kind) → is_visible x.code x.from ≡ true → goal x ≡ Some to → x.newest ≡ Some c → is_stop c to ≡ true
+pub seventh : (x : Move) (to : ℕ) (c : PlainCode) (ks : List Kind) → is_visible x.code x.from ≡ true → goal x ≡ Some to → x.newest ≡ Some c → is_stop c to ≡ true
     → is_some (run_body x.plain x.method) ≡ true → kinds_behind (kinds_of x.plain x.code) (kinds_of x.plain c) ≡ Some ks → is_handled to c.body.handlers ≡ true
     → first_broken (move_rules x) ≡ Some 7
 unfolding first_broken
 seventh x to c ks a g n s r k h = rw (a, g, n, s, r, k, h) refl
 
-none : (x : Move) (to : ℕ) (c : PlainCode) (ks : List Kind) → is_visible x.code x.from ≡ true → goal x ≡ Some to → x.newest ≡ Some c → is_stop c to ≡ true
+pub none : (x : Move) (to : ℕ) (c : PlainCode) (ks : List Kind) → is_visible x.code x.from ≡ true → goal x ≡ Some to → x.newest ≡ Some c → is_stop c to ≡ true
     → is_some (run_body x.plain x.method) ≡ true → kinds_behind (kinds_of x.plain x.code) (kinds_of x.plain c) ≡ Some ks → is_handled to c.body.handlers ≡ false
     → first_broken (move_rules x) ≡ None
 unfolding first_broken

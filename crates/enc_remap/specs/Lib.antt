@@ -1,3 +1,4 @@
 pub mod Remap
 pub mod Seen
 pub mod Laws
+pub mod Asked

@@ -1,7 +1,7 @@
 //! Where a frame is to go on, or the first rule that the move breaks.
 ghost use Rattle.std.specs.Prelude.{◌≡◌, Some, length, option_map, is_some, IfOk, IfErr, IfSome};
 ghost use Rattle.enc_kinds.specs.Members.{method_body, run_body};
-ghost use Rattle.enc_opcodes.specs.Body.{body_of};
+ghost use Rattle.enc_opcodes.specs.Body.{body_of, code_seen};
 ghost use Rattle.enc_remap.specs.Remap.{first_broken, led_from, move_of, move_rules};
 ghost use Rattle.enc_remap.specs.Seen.{IsGoal, frame_rules, version_codes};
 ghost use Rattle.enc_schema.specs.Tables.{method_def};
@@ -11,6 +11,7 @@ ghost use Rattle.enc_vm.specs.CallsSeen.{AreBodiesOf};
 use crate::kinds::{kinds_behind, kinds_of};
 use enc_base::Token;
 use enc_kinds::{Kinds, method_shape, runs_body};
+use enc_opcodes::CodeRef;
 use enc_plain::{ModuleView, PairList};
 use enc_unwind::is_handled;
 use enc_versions::{Code, Versions};
@@ -30,7 +31,7 @@ pub(crate) struct Goal<'a> {
 
 /// Where a map leads from an offset: by the first pair from there.
 #[tactic(auto, unfolding(crate::specs::Remap::led_from))]
-fn led_from(offset: u32, pairs: &[(u32, u32)]) -> Option<u32>
+pub(crate) fn led_from(offset: u32, pairs: &[(u32, u32)]) -> Option<u32>
     ensures { result ≡ led_from offset pairs.now }
 {
     for pair in pairs {
@@ -41,15 +42,24 @@ fn led_from(offset: u32, pairs: &[(u32, u32)]) -> Option<u32>
     None
 }
 
-/// Whether the interpreter runs the newest body of a method: its types have kinds, and so have its body's local
+/// Whether the interpreter runs a body of a method: the method's types have kinds, and so have the body's local
 /// variables, and no clause asks a filter (ECMA-335 II.25.4).
 #[tactic(auto, using(crate::proofs::Rules::body_runs))]
+pub(crate) fn runs_code<V: ModuleView>(view: &V, method: Token, code: &CodeRef<'_>) -> bool
+    requires table { method.table ≡ method_def }
+    requires body { method_body (V.meaning view.now) method ≡ Some (body_of (V.users view.now) (code_seen code.now)) }
+    ensures { result ≡ is_some (run_body (V.meaning view.now) method) }
+{
+    method_shape(view, method).is_some() && runs_body(view, code)
+}
+
+/// Whether it runs the newest body of a method.
 fn runs<V: ModuleView>(view: &V, method: Token, code: &Code) -> bool
     requires table { method.table ≡ method_def }
     requires body { method_body (V.meaning view.now) method ≡ Some (body_of (V.users view.now) code.now.code) }
     ensures { result ≡ is_some (run_body (V.meaning view.now) method) }
 {
-    method_shape(view, method).is_some() && runs_body(view, &code.body())
+    runs_code(view, method, &code.body())
 }
 
 /// The newest code of a method, which means its body.

@@ -2,12 +2,14 @@
 //! breakpoint.
 #![tactic(auto)]
 
+mod asked;
 mod goal;
 mod kinds;
 mod laws;
 mod moving;
 mod remapped;
 
+pub use asked::{Edition, Standing, may_remap};
 pub use laws::newest_law;
 pub use moving::remap;
 pub use remapped::Remapped;
