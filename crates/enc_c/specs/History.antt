@@ -30,13 +30,13 @@ abbrev pub of_generation : {A : Type 0} → State → ℕ → Result A Status �
 of_generation s g answer = if nat_lt g (length (chain_after s).heaps) then answer else Err Later
 
 -- a token of a delta's EncMap, and whether it was no row before
-abbrev pub entry_numbers : Chain → Token → EntryNumbers
-entry_numbers before t = record { token = number_of t; inserted = if is_insert before t then 1 else 0 }
+abbrev pub entry_by_numbers : Chain → Token → EntryNumbers
+entry_by_numbers before t = record { token = number_of t; inserted = if is_insert before t then 1 else 0 }
 
 -- those of a delta; the base has none
 abbrev pub entries_told : Chain → Option Source → List EntryNumbers
 entries_told before None = []
-entries_told before (Some d) = map (entry_numbers before) (listed d)
+entries_told before (Some d) = map (entry_by_numbers before) (listed d)
 
 unfoldable pub asked_entries : State → ℕ → Result (List EntryNumbers) Status
 asked_entries s g = of_generation s g (Ok (entries_told (before_generation s.base s.deltas g) (delta_at s.deltas g)))

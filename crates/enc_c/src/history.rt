@@ -5,7 +5,7 @@ ghost use Rattle.enc_base.specs.declared.token.Token.{Token as TheToken};
 ghost use Rattle.enc_delta.specs.Rules.{is_insert};
 ghost use Rattle.enc_c.specs.State.{chain_after};
 ghost use Rattle.enc_c.specs.Family.{OrMemory, items_listed};
-ghost use Rattle.enc_c.specs.History.{asked_count_at, asked_entries, asked_lengths, before_generation, entry_numbers, lengths_told};
+ghost use Rattle.enc_c.specs.History.{asked_count_at, asked_entries, asked_lengths, before_generation, entry_by_numbers, lengths_told};
 
 use crate::held::Held;
 use crate::status::Status;
@@ -50,7 +50,7 @@ fn entry_of(agg: &Aggregate, generation: u32, token: Token) -> EntryNumbers
     requires low { 0 < generation }
     requires high { generation ≤ length agg.now.deltas }
     requires row { token.row < 2 ^ 24 }
-    ensures { result ≡ entry_numbers (before_generation agg.now.base agg.now.deltas generation) token }
+    ensures { result ≡ entry_by_numbers (before_generation agg.now.base agg.now.deltas generation) token }
 {
     EntryNumbers {
         token: token.number(),
@@ -68,7 +68,7 @@ fn entries_of(
     requires low { 0 < generation }
     requires high { generation ≤ length agg.now.deltas }
     requires rows { IsTrue (list_all (λ (t : TheToken). nat_lt t.row 0x1000000) tokens.now) }
-    ensures { IfOk result (λ e. e.items ≡ map (entry_numbers (before_generation agg.now.base agg.now.deltas generation)) tokens.now) }
+    ensures { IfOk result (λ e. e.items ≡ map (entry_by_numbers (before_generation agg.now.base agg.now.deltas generation)) tokens.now) }
 {
     let mut entries = Vec::new(alloc);
     for i in 0..tokens.len() {

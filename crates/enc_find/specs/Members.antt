@@ -10,8 +10,8 @@ use Rattle.enc_schema.specs.Columns as columns
 use Rattle.enc_schema.specs.Tables as tables
 
 -- the column of a child table that has the name
-abbrev pub name_column : ℕ → ℕ
-name_column table =
+abbrev pub column_of_name : ℕ → ℕ
+column_of_name table =
     if table == tables.field then columns.field_name
     else if table == tables.method_def then columns.method_def_name
     else if table == tables.param then columns.param_name
@@ -19,12 +19,12 @@ name_column table =
     else columns.property_name
 
 -- a row of a child table has this name
-unfoldable pub has_name : Module → ℕ → List ℕ → ℕ → Bool
-has_name m table name row = bytes_eq (bytes_at (cells_of m) (record { table = table; row = row }) (name_column table)) name
+unfoldable pub is_called : Module → ℕ → List ℕ → ℕ → Bool
+is_called m table name row = bytes_eq (bytes_at (cells_of m) (record { table = table; row = row }) (column_of_name table)) name
 
 -- the children of a row with a name, in order of attachment
 unfoldable pub kids_named : Module → ℕ → List ℕ → Token → List ℕ
-kids_named m table name owner = filter (has_name m table name) (kids_of m owner table)
+kids_named m table name owner = filter (is_called m table name) (kids_of m owner table)
 
 -- a type has rows of this table by way of a map: Event and Property (II.22.12, II.22.35)
 abbrev pub owned_by : ℕ → Bool

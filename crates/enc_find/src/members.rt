@@ -1,6 +1,6 @@
 //! Members by their names.
 ghost use Rattle.std.specs.Prelude.{◌≡◌, ◌<◌, ◌^◌, ◌++◌, filter, IfOk, IsTrue};
-ghost use Rattle.enc_find.specs.Members.{has_name, kids_named, members_named as the_members_named, named_behind, named_upto, owned_by};
+ghost use Rattle.enc_find.specs.Members.{is_called, kids_named, members_named as the_members_named, named_behind, named_upto, owned_by};
 ghost use Rattle.enc_plain.specs.Sound.{row_count};
 ghost use Rattle.enc_schema.specs.Children.{is_child_table, owner_table as table_of_owners};
 
@@ -29,10 +29,10 @@ struct Wanted<'a> {
 }
 
 /// Whether a row has the name.
-#[tactic(auto, using(crate::proofs::NameColumns::field_name, crate::proofs::NameColumns::method_name, crate::proofs::NameColumns::param_name, crate::proofs::NameColumns::event_name, crate::proofs::NameColumns::property_name), unfolding(crate::specs::Members::has_name))]
-fn has_name<V: ModuleView>(view: &V, wanted: Wanted<'_>, row: u32) -> bool
+#[tactic(auto, using(crate::proofs::NameColumns::field_name, crate::proofs::NameColumns::method_name, crate::proofs::NameColumns::param_name, crate::proofs::NameColumns::event_name, crate::proofs::NameColumns::property_name), unfolding(crate::specs::Members::is_called))]
+fn is_called<V: ModuleView>(view: &V, wanted: Wanted<'_>, row: u32) -> bool
     requires { IsTrue (is_child_table wanted.table) }
-    ensures { result ≡ has_name (V.meaning view.now) wanted.entry.table wanted.entry.name.now row }
+    ensures { result ≡ is_called (V.meaning view.now) wanted.entry.table wanted.entry.name.now row }
 {
     let rows = Viewed { view };
     let token = row_in(wanted.table, row);
@@ -54,10 +54,10 @@ fn push_named<V: ModuleView>(
     found: &mut Vec<u32>,
 ) -> Result<(), AllocError>
     requires { IsTrue (is_child_table wanted.table) }
-    ensures { IfOk result (λ _. found.new.items ≡ found.old.items ++ filter (has_name (V.meaning view.now) wanted.entry.table wanted.entry.name.now) rows.now) }
+    ensures { IfOk result (λ _. found.new.items ≡ found.old.items ++ filter (is_called (V.meaning view.now) wanted.entry.table wanted.entry.name.now) rows.now) }
 {
     for row in rows {
-        if has_name(view, wanted, *row) {
+        if is_called(view, wanted, *row) {
             found.push(*row)?;
         }
     }
