@@ -4,3 +4,5 @@ pub mod Items
 pub mod Boxes
 pub mod Handles
 pub mod TokensFit
+pub mod Kept
+pub mod ReasonNumbers

@@ -3,11 +3,15 @@ pub mod Copied
 pub mod Kinds
 pub mod Cells
 pub mod Refusals
+pub mod Reasons
 pub mod Family
 pub mod Code
 pub mod Points
 pub mod State
+pub mod Kept
 pub mod Handle
 pub mod Outcomes
 pub mod Asked
 pub mod Opened
+pub mod Judging
+pub mod Saved
