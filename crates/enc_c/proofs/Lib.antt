@@ -6,3 +6,5 @@ pub mod Handles
 pub mod TokensFit
 pub mod Kept
 pub mod ReasonNumbers
+pub mod MovesFew
+pub mod Ordinary

@@ -15,3 +15,6 @@ pub mod Asked
 pub mod Opened
 pub mod Judging
 pub mod Saved
+pub mod Moves
+pub mod Compacted
+pub mod Deltas

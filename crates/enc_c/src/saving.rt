@@ -29,7 +29,7 @@ impl Held {
 }
 
 /// Tells why a module isn't written: a limit by its numbers.
-fn tell_unwritten(fault: RewriteFault, refusal: &mut RefusalNumbers) -> u32
+pub fn tell_unwritten(fault: RewriteFault, refusal: &mut RefusalNumbers) -> u32
     ensures { TellsUnwritten result refusal.old refusal.new fault }
 {
     match fault {
