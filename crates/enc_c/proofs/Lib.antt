@@ -5,3 +5,7 @@ pub mod Boxes
 pub mod Handles
 pub mod TokensFit
 pub mod ClauseLists
+pub mod Kept
+pub mod ReasonNumbers
+pub mod MovesFew
+pub mod Ordinary

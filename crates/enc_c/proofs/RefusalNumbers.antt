@@ -1,5 +1,5 @@
--- What the numbers of a refusal say is that refusal; and its words stand in its line.
-use Rattle.std.specs.Prelude.{◌≡◌, [], drop, Some}
+-- What the numbers of a refusal say is that refusal.
+use Rattle.std.specs.Prelude.{◌≡◌, Some}
 use Rattle.std.proofs.Common.{refl}
 use Rattle.enc_base.specs.declared.refusal.Code.{Code}
 use Rattle.enc_base.specs.declared.refusal.Code.TheVariants.{F, E}
@@ -7,8 +7,7 @@ use Rattle.enc_base.specs.declared.refusal.Place.{Place}
 use Rattle.enc_base.specs.declared.refusal.Place.TheVariants as place
 use Rattle.enc_base.specs.declared.refusal.StreamName.TheVariants as stream
 use Rattle.enc_base.specs.declared.refusal.Refusal.{Refusal}
-use Rattle.enc_text.specs.Text.{refused_line}
-use Rattle.enc_c.specs.Refusals.{numbers_at, numbers_of, refusal_by, words_of, NumbersAreTheRefusals}
+use Rattle.enc_c.specs.Refusals.{numbers_at, numbers_of, refusal_by, NumbersAreTheRefusals}
 
 at_law : (code : Code) (p : Place) → refusal_by (numbers_at code p) ≡ Some (record { code = code; place = p })
 unfolding refusal_by
@@ -56,7 +55,3 @@ at_law (E n) (place.Log entry) = refl
 pub numbers_law : NumbersAreTheRefusals
 unfolding numbers_of
 numbers_law e = at_law e.code e.place
-
-pub words_in_line : (e : Refusal) → drop 9 (refused_line [] e) ≡ words_of e
-unfolding refused_line words_of
-words_in_line e = refl

@@ -3,10 +3,12 @@ pub mod Copied
 pub mod Kinds
 pub mod Cells
 pub mod Refusals
+pub mod Reasons
 pub mod Family
 pub mod Code
 pub mod Points
 pub mod State
+pub mod Kept
 pub mod Handle
 pub mod Outcomes
 pub mod Asked
@@ -14,3 +16,8 @@ pub mod Opened
 pub mod Clauses
 pub mod History
 pub mod Names
+pub mod Judging
+pub mod Saved
+pub mod Moves
+pub mod Compacted
+pub mod Deltas

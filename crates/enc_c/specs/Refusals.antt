@@ -1,5 +1,5 @@
 -- A refusal by numbers, and its words.
-use Rattle.std.specs.Prelude.{◌≡◌, ℕ, List, ◌∷◌, [], ◌++◌, Option, Some, None, option_map, Result, Ok, Err, ◌==◌, if◌then◌else◌}
+use Rattle.std.specs.Prelude.{◌≡◌, ℕ, List, ◌∷◌, [], ◌++◌, Option, Some, None, option_map, ◌==◌, if◌then◌else◌}
 use Rattle.enc_base.specs.declared.refusal.Code.{Code}
 use Rattle.enc_base.specs.declared.refusal.Code.TheVariants.{F, E}
 use Rattle.enc_base.specs.declared.refusal.Place.{Place}
@@ -8,8 +8,6 @@ use Rattle.enc_base.specs.declared.refusal.StreamName.{StreamName}
 use Rattle.enc_base.specs.declared.refusal.StreamName.TheVariants as stream
 use Rattle.enc_base.specs.declared.refusal.Refusal.{Refusal}
 use Rattle.enc_text.specs.Text.{refusal_code_text, place_text}
-use Rattle.enc_c.specs.declared.status.Status.{Status}
-use Rattle.enc_c.specs.declared.status.Status.TheVariants.{Unlike}
 use Rattle.enc_c.specs.declared.refusal.RefusalNumbers.{RefusalNumbers}
 
 -- the letter of a rule, as a byte of ASCII, and its number
@@ -89,11 +87,3 @@ NumbersAreTheRefusals = (e : Refusal) → refusal_by (numbers_of e) ≡ Some e
 -- the words of a refusal: its rule and its place, with the end of a line
 unfoldable pub words_of : Refusal → List ℕ
 words_of e = refusal_code_text e.code ++ 0x20 ∷ place_text e.place ++ 0x0a ∷ []
-
-abbrev pub words_told : Option Refusal → Result (List ℕ) Status
-words_told (Some e) = Ok (words_of e)
-words_told None = Err Unlike
-
--- the words of the refusal that numbers say
-abbrev pub words_by : RefusalNumbers → Result (List ℕ) Status
-words_by n = words_told (refusal_by n)

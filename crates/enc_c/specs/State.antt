@@ -1,5 +1,5 @@
 -- What an open handle means: a base, the deltas that follow it, and what their PDBs say.
-use Rattle.std.specs.Prelude.{ℕ, List, [], ◌∷◌, length, Option, Some, None, Result, Ok, Err}
+use Rattle.std.specs.Prelude.{ℕ, Bool, true, ◌&&◌, nat_le, List, [], ◌∷◌, length, Option, Some, None, Result, Ok, Err}
 use Rattle.enc_base.specs.declared.refusal.Refusal.{Refusal}
 use Rattle.enc_schema.specs.Tables as tables
 use Rattle.enc_rows.specs.Source.{Source}
@@ -13,12 +13,13 @@ use Rattle.enc_ppdb.specs.Fault.{pdb_of}
 use Rattle.enc_ppdb.specs.PdbChain.{DebugDelta, pdb_with}
 use Rattle.enc_checker.specs.Check.{Accepted, judged, new_bodies}
 
--- a base and its PDB, where it has one, and the deltas with what they say of methods, the newest first
+-- a base and its PDB, where it has one, and the deltas with what they say of methods, the newest first; and whether all deltas are short enough to be merged
 pub record State : Type 0 where
   pub base : Source
   pub deltas : List Source
   pub pdb : Option Source
   pub debugs : List DebugDelta
+  pub short : Bool
 
 -- the chain, the plain module and the plain PDB after all deltas
 abbrev pub chain_after : State → Chain
@@ -37,7 +38,7 @@ given_bytes (b ∷ bytes) = Some (b ∷ bytes)
 
 -- a base without deltas
 abbrev pub begun_state : Source → Option Source → State
-begun_state base pdb = record { base = base; deltas = []; pdb = pdb; debugs = [] }
+begun_state base pdb = record { base = base; deltas = []; pdb = pdb; debugs = []; short = true }
 
 abbrev pub begun_state_with : Source → Result Source Refusal → Result State Refusal
 begun_state_with base (Ok pdb) = Ok (begun_state base (Some pdb))
@@ -56,19 +57,27 @@ opened_state_with (Err e) pdb = Err e
 unfoldable pub opened_state : List ℕ → Option (List ℕ) → Result State Refusal
 opened_state bytes pdb = opened_state_with (base_of bytes) pdb
 
--- with a delta that is accepted
-abbrev pub followed_state : State → Accepted → State
-followed_state s a = record {
+-- the most bytes of the metadata and of the code of a delta that may be merged, and whether a delta has no more
+abbrev pub most_to_merge : ℕ
+most_to_merge = 67108864
+
+unfoldable pub is_short_delta : List ℕ → List ℕ → Bool
+is_short_delta meta il = nat_le (length meta) most_to_merge && nat_le (length il) most_to_merge
+
+-- with a delta that is accepted, and may be short
+abbrev pub followed_state : State → Bool → Accepted → State
+followed_state s short a = record {
   base = s.base;
   deltas = a.delta ∷ s.deltas;
   pdb = s.pdb;
   debugs = (record { pdb = a.pdb; changed = new_bodies a.delta }) ∷ s.debugs;
+  short = s.short && short;
 }
 
-abbrev pub followed_state_if : State → Result Accepted Refusal → Result State Refusal
-followed_state_if s (Ok a) = Ok (followed_state s a)
-followed_state_if s (Err e) = Err e
+abbrev pub followed_state_if : State → Bool → Result Accepted Refusal → Result State Refusal
+followed_state_if s short (Ok a) = Ok (followed_state s short a)
+followed_state_if s short (Err e) = Err e
 
 -- what the files of a delta come to, after those before it
 unfoldable pub applied_state : State → List ℕ → List ℕ → Option (List ℕ) → Result State Refusal
-applied_state s meta il pdb = followed_state_if s (judged (chain_after s) (delta_of meta il) pdb)
+applied_state s meta il pdb = followed_state_if s (is_short_delta meta il) (judged (chain_after s) (delta_of meta il) pdb)

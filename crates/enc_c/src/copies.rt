@@ -6,14 +6,15 @@ ghost use Rattle.enc_c.specs.State.{chain_after, module_after};
 ghost use Rattle.enc_c.specs.Cells.{asked_text, asked_blob, asked_guid};
 ghost use Rattle.enc_c.specs.Family.{asked_kids};
 ghost use Rattle.enc_c.specs.Opened.{TellsBodyOf};
-ghost use Rattle.enc_c.specs.Refusals.{words_by};
+ghost use Rattle.enc_c.specs.Reasons.{words_by};
 ghost use Rattle.enc_c.specs.Asked.{of_open, asked_id, asked_row, asked_points, asked_document};
 
 use crate::code::{CodeHead, copy_code};
 use crate::copy::{copy_bytes, copy_guid, copy_items};
 use crate::handle::{Handle, put, take};
 use crate::points::PointNumbers;
-use crate::refusal::{RefusalNumbers, words_by};
+use crate::reason::words_by;
+use crate::refusal::RefusalNumbers;
 use crate::status::Status;
 use enc_base::Token;
 use std::alloc::Global;

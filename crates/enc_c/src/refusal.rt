@@ -1,19 +1,14 @@
-//! A refusal by numbers, as C sees it, and its words.
-ghost use Rattle.std.specs.Prelude.{◌≡◌, ◌∷◌, [], option_map, Some, IfOk, drop, MatchResult, IsTrue, is_some};
-ghost use Rattle.enc_text.specs.Text.{refused_line as line_of_refusal};
-ghost use Rattle.enc_c.specs.Refusals.{letter_of, rule_of, number_of_stream, numbers_at, numbers_of, placed_numbers, code_by, stream_by, place_by, refusal_by, words_of, words_by};
-ghost use Rattle.enc_c.specs.Family.{OrMemory, items_listed};
+//! A refusal of a file by numbers, as C sees it.
+ghost use Rattle.std.specs.Prelude.{◌≡◌};
+ghost use Rattle.enc_c.specs.Refusals.{letter_of, rule_of, number_of_stream, numbers_at, numbers_of, placed_numbers, code_by, stream_by, place_by, refusal_by};
 
-use crate::status::Status;
 use enc_base::{Code, Place, Refusal, StreamName, Token};
-use enc_text::refused_line;
-use std::alloc::{AllocError, Global};
 
-/// A refusal. Where the place has no stream, table, column, row or entry of the log, that is 0.
+/// A refusal. Where the place has no stream, table, column, row, entry of the log or edit, that is 0.
 #[repr(C)]
 #[derive(Clone, Copy)]
 pub struct RefusalNumbers {
-    /// `F` or `E`.
+    /// `F` or `E`; `J`, `L` or `G` where it isn't of a file.
     pub letter: u8,
     pub rule: u8,
     /// The kind of the place.
@@ -43,7 +38,8 @@ fn rule_of(code: Code) -> u8
     }
 }
 
-fn number_of_stream(name: StreamName) -> u8
+/// The number of a stream.
+pub fn number_of_stream(name: StreamName) -> u8
     ensures { result ≡ number_of_stream name }
 {
     match name {
@@ -166,36 +162,4 @@ pub fn refusal_by(numbers: RefusalNumbers) -> Option<Refusal>
         code: code_by(numbers.letter, numbers.rule)?,
         place: place_by(numbers)?,
     })
-}
-
-/// The words of a refusal: its rule and its place, with the end of a line.
-#[tactic(auto, using(crate::proofs::RefusalNumbers::words_in_line))]
-pub fn words(alloc: Global, refusal: Refusal) -> Result<Vec<u8>, AllocError>
-    ensures { IfOk result (λ w. w.items ≡ words_of refusal) }
-{
-    let line = refused_line(alloc, "", refusal)?;
-    behind(alloc, &line)
-}
-
-/// What stands behind the nine bytes of `refused` and two spaces.
-fn behind(alloc: Global, line: &[u8]) -> Result<Vec<u8>, AllocError>
-    ensures { IfOk result (λ w. w.items ≡ drop 9 line.now) }
-{
-    match line.get(9..) {
-        Some(words) => Vec::from_slice(alloc, words),
-        None => Ok(Vec::new(alloc)),
-    }
-}
-
-/// The words of the refusal that numbers say.
-pub fn words_by(alloc: Global, numbers: RefusalNumbers) -> Result<Vec<u8>, Status>
-    ensures { OrMemory (items_listed result) (words_by numbers) }
-{
-    let Some(refusal) = refusal_by(numbers) else {
-        return Err(Status::Unlike);
-    };
-    match words(alloc, refusal) {
-        Ok(words) => Ok(words),
-        Err(AllocError) => Err(Status::Memory),
-    }
 }

@@ -23,6 +23,10 @@ pub enum Status {
     Unlike,
     /// There is no such generation.
     Later,
+    /// A stated limit would be passed.
+    Limit,
+    /// There are fewer than two deltas.
+    Few,
 }
 
 impl Status {
@@ -40,6 +44,8 @@ impl Status {
             Status::Absent => 10,
             Status::Unlike => 11,
             Status::Later => 12,
+            Status::Limit => 13,
+            Status::Few => 14,
         }
     }
 }

@@ -15,3 +15,4 @@ pub mod BodiesHeld
 pub mod SignaturesHeld
 pub mod MovesListed
 pub mod SeenMoved
+pub mod InOrder

@@ -1,6 +1,7 @@
 -- The delta that stands for two that follow a chain.
 use Rattle.std.specs.Prelude.{◌≡◌, ◌≤◌, ℕ, ◌+◌, ◌^◌, true, false, List, [], ◌∷◌, ◌++◌, filter, length, map, Option, Some, None, Result, Ok, Err, nat_lt, slice_get}
 use Rattle.enc_base.specs.Token.{nth_row}
+use Rattle.enc_base.specs.declared.refusal.Refusal.{Refusal}
 use Rattle.enc_base.specs.declared.token.Token.{Token}
 use Rattle.enc_rows.specs.Source.{Source}
 use Rattle.enc_rows.specs.Sums.{below}
@@ -16,7 +17,7 @@ use Rattle.enc_ppdb.specs.Fault.{named_tokens}
 use Rattle.enc_ppdb.specs.Misplaced.{first_misplaced}
 use Rattle.enc_ppdb.specs.PdbChain.{DebugDelta, PdbHistory, debug_at, pdb_changed, pdb_with}
 use Rattle.enc_ppdb.specs.Written.{IsNilOverSeveral, document_told, most_pdb_weight, pdb_weight}
-use Rattle.enc_checker.specs.Check.{accepted, code_sizes, judged, new_bodies}
+use Rattle.enc_checker.specs.Check.{Accepted, accepted, code_sizes, judged, new_bodies}
 use Rattle.enc_checker.specs.Within.{debug_of_accepted}
 use Rattle.enc_depth.specs.Depth.{first_deep}
 use Rattle.enc_merged.specs.Held.{il_of}
@@ -79,6 +80,14 @@ unfoldable pub AllGo : List Source → List DebugDelta → Type 0
 AllGo [] [] = Unit {0}
 AllGo (d ∷ deltas) (x ∷ debugs) = GoesWith d x × (IsShortDelta d × AllGo deltas debugs)
 AllGo _ _ = ⊥
+
+-- an accepted delta goes with what its PDB says
+abbrev pub AcceptedGo : Type 0
+AcceptedGo = (c : Chain) (d : Result Source Refusal) (bytes : Option (List ℕ)) (a : Accepted) → judged c d bytes ≡ Ok a → GoesWith a.delta (debug_of_accepted a)
+
+-- a delta that was read isn't longer than its files
+abbrev pub ReadIsShort : Type 0
+ReadIsShort = (metadata code : List ℕ) (d : Source) → length metadata ≤ 2 ^ 26 → length code ≤ 2 ^ 26 → delta_of metadata code ≡ Ok d → IsShortDelta d
 
 -- the last two aren't too long
 abbrev pub ShortLast : List Source → Type 0

@@ -4,6 +4,7 @@
 mod fault;
 mod heaps;
 mod last;
+mod laws;
 mod lists;
 mod merge;
 mod metadata;
@@ -14,4 +15,5 @@ mod points;
 mod rows;
 
 pub use fault::MergeFault;
+pub use laws::goes_law;
 pub use merge::merge_last;

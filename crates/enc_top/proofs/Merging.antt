@@ -5,23 +5,17 @@ use Rattle.std.specs.declared.alloc.Global.{Global}
 use Rattle.std.proofs.lemmas.List.{length-append, length-map, length-take, length-drop, map-append}
 use Rattle.enc_base.specs.declared.refusal.Refusal.{Refusal}
 use Rattle.enc_base.specs.declared.token.Token.{Token}
-use Rattle.enc_meta.specs.Heaps.{part}
-use Rattle.enc_meta.specs.Root.{root_of}
-use Rattle.enc_meta.specs.declared.root.Root.{Root}
-use Rattle.enc_rows.specs.Layout.{Layout}
 use Rattle.enc_rows.specs.Source.{Source}
 use Rattle.enc_plain.specs.Chain.{Chain}
-use Rattle.enc_delta.specs.Delta.{delta_of, delta_source, source_with, source_in, delta_layout}
-use Rattle.enc_delta.specs.Judged.{first_meta}
+use Rattle.enc_delta.specs.Delta.{delta_of}
 use Rattle.enc_agg.specs.Extend.{chain_with}
-use Rattle.enc_ppdb.specs.Fault.{pdb_delta_of}
-use Rattle.enc_ppdb.specs.Misplaced.{first_misplaced}
 use Rattle.enc_ppdb.specs.PdbChain.{DebugDelta}
-use Rattle.enc_checker.specs.Check.{Accepted, accepted, code_sizes, judged, new_bodies, placed_pdb, refused_row, unless, unless_broken, with_pdb}
+use Rattle.enc_checker.specs.Check.{Accepted, judged, new_bodies}
 use Rattle.enc_base.specs.declared.refusal.StreamName.TheVariants as stream
 use Rattle.enc_depth.specs.Depth.{first_deep}
 use Rattle.enc_merged.specs.Merged.{after_both}
-use Rattle.enc_merge.specs.Merges.{AllGo, GoesWith, IsShortDelta, MergesBoth, PdbGoes, ShortLast, StandsForBoth, weight_of_both}
+use Rattle.enc_merge.specs.Merges.{AllGo, GoesWith, IsShortDelta, MergesBoth, ShortLast, StandsForBoth, weight_of_both}
+use Rattle.enc_merge.proofs.AcceptedGo.{accepted_delta, accepted_go, short_read}
 use Rattle.enc_merge.specs.declared.fault.MergeFault.{MergeFault}
 use Rattle.enc_merge.specs.declared.fault.MergeFault.TheVariants.{TooLarge, Deep}
 use Rattle.enc_ppdb.specs.PdbChain.{pdb_with}
@@ -40,63 +34,16 @@ use Rattle.enc_top.specs.declared.judge.Judged.{Judged}
 use Rattle.enc_top.specs.declared.load.DeltaFile.{DeltaFile}
 use Rattle.enc_top.specs.Verdict.{◌>>=◌, Stop, DeltaFiles, Followed, BaseFiles, Verdict, base_pdb, can_be_merged, debug_after, deep_chain, dll, followed_by, il, in_delta, in_file, judge_all, judge_deltas, last_word, merged_on, merges, meta, past_limit, pdb, plain_of, weight_by, weight_of_last}
 
--- a delta that was read is no longer than its files
-part_short : (bytes : List ℕ) (root : Root) → length (part bytes root.tables) ≤ length bytes
-unfolding part
-part_short bytes root =
-    let a = length-take root.tables.len (drop root.tables.start bytes) in
-    let b = length-drop root.tables.start bytes in
-    omega (arith, a, b)
-
-short_by : (metadata code : List ℕ) (root : Root) (o : Result Layout Refusal) (d : Source) → length metadata ≤ 2 ^ 26 → length code ≤ 2 ^ 26
-    → source_with metadata code root o ≡ Ok d → IsShortDelta d
-short_by metadata code root (Ok l) d a b h =
-    let same : delta_source metadata code root l ≡ d = cc in
-    let few = part_short metadata root in
-    subst IsShortDelta same (record { stream = omega (arith, few, a); code = b })
-short_by metadata code root (Err e) d a b h = absurd cc
-
-short_of : (metadata code : List ℕ) (o : Result Root Refusal) (d : Source) → length metadata ≤ 2 ^ 26 → length code ≤ 2 ^ 26 → source_in metadata code o ≡ Ok d → IsShortDelta d
-short_of metadata code (Ok root) d a b h = short_by metadata code root (delta_layout metadata root) d a b h
-short_of metadata code (Err e) d a b h = absurd cc
-
-short_read : (metadata code : List ℕ) (d : Source) → length metadata ≤ 2 ^ 26 → length code ≤ 2 ^ 26 → delta_of metadata code ≡ Ok d → IsShortDelta d
-unfolding delta_of
-short_read metadata code d a b h = short_of metadata code (root_of metadata) d a b h
-
--- what an accepted delta's PDB says goes with it
+-- what an accepted delta's PDB says goes with it, and it isn't too long
 known_of : Accepted → DebugDelta
 known_of a = record { pdb = a.pdb; changed = new_bodies a.delta }
-
-Goes : Source → Accepted → Type 0
-Goes d a = (a.delta ≡ d) × PdbGoes a.delta a.pdb
-
-goes_placed : (d p : Source) (a : Accepted) (o : Option Token) → first_misplaced p (code_sizes d) ≡ o → unless (option_map refused_row o) (accepted d (Some p)) ≡ Ok a → Goes d a
-unfolding Goes
-goes_placed d p a None is e = let same : accepted d (Some p) ≡ a = cc in subst (λ (x : Accepted). (x.delta ≡ d) × PdbGoes x.delta x.pdb) same (refl, is)
-goes_placed d p a (Some t) is e = absurd cc
-
-goes_read : (d : Source) (a : Accepted) (r : Result Source Refusal) → placed_pdb d r ≡ Ok a → Goes d a
-goes_read d a (Ok p) e = goes_placed d p a (first_misplaced p (code_sizes d)) refl e
-goes_read d a (Err f) e = absurd cc
-
-goes_pdb : (d : Source) (a : Accepted) (pdb : Option (List ℕ)) → with_pdb d pdb ≡ Ok a → Goes d a
-unfolding with_pdb Goes
-goes_pdb d a None e = let same : accepted d None ≡ a = cc in subst (λ (x : Accepted). (x.delta ≡ d) × PdbGoes x.delta x.pdb) same (refl, tt)
-goes_pdb d a (Some bytes) e = goes_read d a (pdb_delta_of bytes) e
-
-goes_unbroken : (d : Source) (a : Accepted) (pdb : Option (List ℕ)) (o : Option Refusal) → unless_broken o d pdb ≡ Ok a → Goes d a
-goes_unbroken d a pdb None e = goes_pdb d a pdb e
-goes_unbroken d a pdb (Some f) e = absurd cc
 
 GoesShort : Accepted → Type 0
 GoesShort a = GoesWith a.delta (known_of a) × IsShortDelta a.delta
 
 goes_judged : (c : Chain) (r : Result Source Refusal) (a : Accepted) (pdb : Option (List ℕ)) → ((d : Source) → r ≡ Ok d → IsShortDelta d) → judged c r pdb ≡ Ok a → GoesShort a
-unfolding GoesShort Goes known_of
-goes_judged c (Ok d) a pdb short e =
-    let g = goes_unbroken d a pdb (first_meta c d) e in
-    (record { changed = refl; pdb = g.1 }, subst IsShortDelta (sym g.0) (short d refl))
+unfolding GoesShort known_of
+goes_judged c (Ok d) a pdb short e = (accepted_go c (Ok d) pdb a e, subst IsShortDelta (sym (accepted_delta c d pdb a e)) (short d refl))
 goes_judged c (Err f) a pdb short e = absurd cc
 
 told_delta : (x : DeltaFiles) (r : Result Accepted Refusal) (a : Accepted) → in_delta x r ≡ Ok a → r ≡ Ok a

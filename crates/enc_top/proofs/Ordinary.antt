@@ -1,22 +1,15 @@
 -- The plan of what is written of accepted files in the order of an ordinary module, and of what isn't.
-use Rattle.std.proofs.Common.{◌≡◌, ℕ, zero, suc, ◌+◌, true, List, [], ◌∷◌, ◌++◌, map, Option, Some, None, Ok, Err, refl, sym, ap, subst, ◌∙◌}
-use Rattle.std.specs.Prelude.{◌==◌}
-use Rattle.std.specs.List.{range_with_len}
-use Rattle.std.proofs.lemmas.Bool.{and_from, eq-eqb}
+use Rattle.std.proofs.Common.{◌≡◌, ℕ, true, List, [], ◌∷◌, ◌++◌, Option, Some, None, Ok, Err, sym, ap, subst}
 use Rattle.enc_compact.specs.Laws.{MovedStandsInOrder}
 use Rattle.enc_compact.specs.Moved.{module_moved, pdb_moved, moves_listed}
-use Rattle.enc_order.specs.Orders.{standing_rows}
+use Rattle.enc_compact.proofs.InOrder.{moved_in_order}
 use Rattle.enc_plain.specs.Debug.{PlainPdb}
 use Rattle.enc_plain.specs.Module.{Module}
-use Rattle.enc_plain.specs.Sound.{IsSound, row_count, all_kids}
+use Rattle.enc_plain.specs.Sound.{IsSound}
 use Rattle.enc_rewriter.specs.Limits.{Passed, too_large, too_heavy, rewrite_limit, IsFault}
-use Rattle.enc_rewriter.specs.Numbers.{in_order_from, is_in_row_order}
 use Rattle.enc_rewriter.specs.Rewritten.{RewritesTo, stands_in_order}
 use Rattle.enc_rewriter.specs.declared.fault.RewriteFault.{RewriteFault}
 use Rattle.enc_rewriter.specs.declared.fault.RewriteFault.TheVariants.{Memory, TooLarge, Image}
-use Rattle.enc_rows.specs.Sums.{below}
-use Rattle.enc_schema.specs.Children.{is_child_table}
-use Rattle.enc_schema.specs.Tables as tables
 use Rattle.enc_words.specs.Lines.{saved_line, moved_lines}
 use Rattle.enc_top.specs.Plans.{saves_of, IsPlanOf}
 use Rattle.enc_top.specs.Stops.{OnPlan, IsUnwritten}
@@ -25,25 +18,6 @@ use Rattle.enc_top.specs.Verdict.{can_be_compacted}
 use Rattle.enc_top.specs.declared.plan.Plan.{Plan}
 use Rattle.enc_top.specs.declared.plan.Outcome.TheVariants.{Accepted}
 use Rattle.enc_top.specs.declared.stop.Stop.{Stop as Halt}
-
--- rows that are listed stand in order
-in_order : (k n : ℕ) → in_order_from (k + 1) (map (λ i. i + 1) (range_with_len k n)) ≡ true
-in_order k zero = refl
-in_order k (suc n) = and_from (k + 1 == k + 1) _ (eq-eqb (k + 1) (k + 1) refl) (in_order (k + 1) n)
-
-listed_in_order : (m : Module) (t : ℕ) → is_in_row_order (standing_rows m t) ≡ true
-unfolding standing_rows below
-listed_in_order m t = in_order 0 (row_count m t)
-
--- so do the children of a module whose rows were moved
-moved_in_order : MovedStandsInOrder → (m : Module) → IsSound m → stands_in_order (module_moved m) ≡ true
-unfolding stands_in_order
-moved_in_order law m sound =
-    and_from _ _ (one tables.field refl) (and_from _ _ (one tables.method_def refl) (and_from _ _ (one tables.param refl)
-    (and_from _ _ (one tables.event refl) (and_from _ _ (one tables.property refl) refl))))
-  where
-    one : (child : ℕ) → is_child_table child ≡ true → is_in_row_order (all_kids (module_moved m) child) ≡ true
-    one child is = ap is_in_row_order (law m child sound is) ∙ listed_in_order (module_moved m) child
 
 -- what is written, by the limit that is passed
 abbrev limit_of : Followed → Option Passed

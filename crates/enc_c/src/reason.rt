@@ -1,0 +1,171 @@
+//! Why something is refused, by numbers, as C sees it, and its words.
+ghost use Rattle.std.specs.Prelude.{◌≡◌, [], drop, IfOk};
+ghost use Rattle.enc_c.specs.Reasons.{numbers_with, numbers_of_reason, json_by, limit_by, depth_by, reason_by, line_of_reason, words_of_reason, words_by};
+ghost use Rattle.enc_c.specs.Family.{OrMemory, items_listed};
+
+use crate::refusal::{RefusalNumbers, number_of_stream, numbers_of, refusal_by, stream_by};
+use crate::status::Status;
+use enc_base::{Refusal, StreamName, Token};
+use enc_jobs::JobFault;
+use enc_text::refused_line;
+use enc_words::{Limit, broken_line, deep_line, limit_line, unlisted_line};
+use std::alloc::{AllocError, Global};
+
+/// Why something is refused.
+#[derive(Clone, Copy)]
+pub enum Reason {
+    /// A file breaks a rule.
+    File(Refusal),
+    /// A text is no JSON.
+    Json,
+    /// The edit with this number, from 1, isn't of the form, or with 0 the whole list.
+    Element(u32),
+    /// The edit with this number, from 1, or with 0 the list as a whole, breaks the rule with the number.
+    Edit(u8, u32),
+    /// A heap or a PDB would pass its limit.
+    Heap(StreamName),
+    /// An image would pass its limit.
+    Image,
+    /// A TypeRef or a TypeSpec lies too deep in others.
+    Deep(Token),
+}
+
+/// The numbers of what isn't a rule of a file.
+fn numbers_with(letter: u8, rule: u8, place: u8, entry: u32) -> RefusalNumbers
+    ensures { result ≡ numbers_with letter rule place 0 0 0 entry }
+{
+    RefusalNumbers {
+        letter,
+        rule,
+        place,
+        stream: 0,
+        table: 0,
+        column: 0,
+        row: 0,
+        entry,
+    }
+}
+
+/// The numbers of a reason.
+#[tactic(auto, unfolding(crate::specs::Reasons::numbers_of_reason))]
+pub fn numbers_of_reason(reason: Reason) -> RefusalNumbers
+    ensures { result ≡ numbers_of_reason reason }
+{
+    match reason {
+        Reason::File(refusal) => numbers_of(refusal),
+        Reason::Json => numbers_with(b'J', 1, 13, 0),
+        Reason::Element(number) => numbers_with(b'J', 2, 14, number),
+        Reason::Edit(rule, number) => numbers_with(b'E', rule, 14, number),
+        Reason::Heap(name) => RefusalNumbers {
+            stream: number_of_stream(name),
+            ..numbers_with(b'L', 4, 1, 0)
+        },
+        Reason::Image => numbers_with(b'L', 4, 15, 0),
+        Reason::Deep(token) => RefusalNumbers {
+            table: token.table,
+            row: token.row,
+            ..numbers_with(b'G', 1, 9, 0)
+        },
+    }
+}
+
+/// Why a text is no edit list.
+fn json_by(numbers: RefusalNumbers) -> Option<Reason>
+    ensures { result ≡ json_by numbers }
+{
+    if numbers.rule == 1 && numbers.place == 13 {
+        return Some(Reason::Json);
+    }
+    if numbers.rule == 2 && numbers.place == 14 {
+        return Some(Reason::Element(numbers.entry));
+    }
+    None
+}
+
+/// A limit that would be passed.
+fn limit_by(numbers: RefusalNumbers) -> Option<Reason>
+    ensures { result ≡ limit_by numbers }
+{
+    if numbers.rule != 4 {
+        return None;
+    }
+    match numbers.place {
+        1 => Some(Reason::Heap(stream_by(u32::from(numbers.stream))?)),
+        15 => Some(Reason::Image),
+        _ => None,
+    }
+}
+
+/// A reference that lies too deep in others.
+fn depth_by(numbers: RefusalNumbers) -> Option<Reason>
+    ensures { result ≡ depth_by numbers }
+{
+    if numbers.rule != 1 || numbers.place != 9 {
+        return None;
+    }
+    Some(Reason::Deep(Token {
+        table: numbers.table,
+        row: numbers.row,
+    }))
+}
+
+/// The reason that numbers say; None where they say none.
+#[tactic(auto, unfolding(crate::specs::Reasons::reason_by))]
+pub fn reason_by(numbers: RefusalNumbers) -> Option<Reason>
+    ensures { result ≡ reason_by numbers }
+{
+    match numbers.letter {
+        b'J' => json_by(numbers),
+        b'L' => limit_by(numbers),
+        b'G' => depth_by(numbers),
+        b'E' if numbers.place == 14 => Some(Reason::Edit(numbers.rule, numbers.entry)),
+        _ => Some(Reason::File(refusal_by(numbers)?)),
+    }
+}
+
+/// The line that the program prints of a reason, where the file's name is empty.
+fn line(alloc: Global, reason: Reason) -> Result<Vec<u8>, AllocError>
+    ensures { IfOk result (λ l. l.items ≡ line_of_reason [] reason) }
+{
+    match reason {
+        Reason::File(refusal) => refused_line(alloc, "", refusal),
+        Reason::Json => unlisted_line(alloc, "", JobFault::J1),
+        Reason::Element(number) => unlisted_line(alloc, "", JobFault::J2(number)),
+        Reason::Edit(rule, number) => broken_line(alloc, "", rule, number),
+        Reason::Heap(name) => limit_line(alloc, "", Limit::Heap(name)),
+        Reason::Image => limit_line(alloc, "", Limit::Image),
+        Reason::Deep(token) => deep_line(alloc, "", token),
+    }
+}
+
+/// What stands behind the nine bytes of `refused` and two spaces.
+fn behind(alloc: Global, line: &[u8]) -> Result<Vec<u8>, AllocError>
+    ensures { IfOk result (λ w. w.items ≡ drop 9 line.now) }
+{
+    match line.get(9..) {
+        Some(words) => Vec::from_slice(alloc, words),
+        None => Ok(Vec::new(alloc)),
+    }
+}
+
+/// The words of a reason: its rule and its place, with the end of a line.
+#[tactic(auto, using(crate::proofs::ReasonNumbers::words_in_line))]
+fn words(alloc: Global, reason: Reason) -> Result<Vec<u8>, AllocError>
+    ensures { IfOk result (λ w. w.items ≡ words_of_reason reason) }
+{
+    let line = line(alloc, reason)?;
+    behind(alloc, &line)
+}
+
+/// The words of the reason that numbers say.
+pub fn words_by(alloc: Global, numbers: RefusalNumbers) -> Result<Vec<u8>, Status>
+    ensures { OrMemory (items_listed result) (words_by numbers) }
+{
+    let Some(reason) = reason_by(numbers) else {
+        return Err(Status::Unlike);
+    };
+    match words(alloc, reason) {
+        Ok(words) => Ok(words),
+        Err(AllocError) => Err(Status::Memory),
+    }
+}
