@@ -2,7 +2,7 @@
 use Rattle.std.proofs.Common.{◌≡◌, ℕ, zero, suc, ◌+◌, ◌-◌, ◌<◌, ◌≤◌, List, [], ◌∷◌, ◌++◌, length, take, drop, reverse, Option, Some, None, refl, sym, ap, ◌∙◌, append_assoc, append-nil, inl, inr, arith}
 use Rattle.std.specs.Prelude.{IsTrue, option_map, unwrap_or, slice_get}
 use Rattle.std.proofs.lemmas.Bool.{cases_lt}
-use Rattle.std.proofs.lemmas.List.{reverse-append, length-map, length-reverse, take_at, take_all}
+use Rattle.std.proofs.lemmas.List.{length-map, length-reverse, take_at, take_all}
 use Rattle.enc_base.specs.declared.token.Token.{Token}
 use Rattle.enc_index.specs.declared.key.Key.{Key}
 use Rattle.enc_index.specs.Index.{value_at, latest, either}
@@ -25,11 +25,11 @@ use Rattle.enc_agg.specs.Seen.{sources, AllAdded, IsAdded, IsAggregate, found_or
 use Rattle.enc_agg.specs.Directory.{row_key, kids_key, place_seen, HasPlaces, IsBare, IsHeld, kept_one, kids_kept, with_kept, AreOwned, AreHeld, IsDirectory, AreBrought}
 use Rattle.std.proofs.lemmas.Bool.Decides.{nat_tests}
 use Rattle.enc_image.specs.Base.{cells_fault, module_in, chain_of_base}
-use Rattle.enc_agg.specs.declared.aggregate.Ready.{Ready}
-use Rattle.enc_agg.specs.Prepared.{to_add, IsPrepared, IsWhole}
+use Rattle.enc_agg.specs.declared.places.Places.{Places}
+use Rattle.enc_agg.specs.Prepared.{IsWhole}
 use Rattle.enc_agg.proofs.Histories.{last_added, with_sound, ids_count}
 use Rattle.enc_agg.proofs.Children.{kids_after, owner_kept, owned_after, rows_grow}
-use Rattle.enc_agg.proofs.Generations.{one_more, reversed_part}
+use Rattle.enc_agg.proofs.Generations.{reversed_part}
 use Rattle.enc_agg.proofs.RowsAndKids.{get_left}
 
 -- what was found is a front of the deltas, oldest first
@@ -82,15 +82,15 @@ count_both : (c d : Option ℕ) (m n k : ℕ) → unwrap_or c m ≡ n → unwrap
 count_both c (Some v) m n k h i = i
 count_both c None m n k h i = h ∙ i
 
-pub get_some : (xs : List ℕ) (i : ℕ) → i < length xs → (x : ℕ) × (slice_get xs i ≡ Some x)
+pub get_some : {X : Type 0} (xs : List X) (i : ℕ) → i < length xs → (x : X) × (slice_get xs i ≡ Some x)
 get_some [] i low = absurd (omega arith)
 get_some (x ∷ xs) zero low = (x, refl)
 get_some (x ∷ xs) (suc i) low = get_some xs i (omega arith)
 
-pub get_front : (xs ys : List ℕ) (i : ℕ) → i < length xs → slice_get (xs ++ ys) i ≡ slice_get xs i
+pub get_front : {X : Type 0} (xs ys : List X) (i : ℕ) → i < length xs → slice_get (xs ++ ys) i ≡ slice_get xs i
 get_front xs ys i low = let w = get_some xs i low in get_left xs ys i w.0 w.1 ∙ sym w.1
 
-pub get_behind : (xs ys : List ℕ) → slice_get (xs ++ ys) (length xs) ≡ slice_get ys 0
+pub get_behind : {X : Type 0} (xs ys : List X) → slice_get (xs ++ ys) (length xs) ≡ slice_get ys 0
 get_behind [] ys = refl
 get_behind (x ∷ xs) ys = get_behind xs ys
 
@@ -170,14 +170,6 @@ directory_more b a older x y e places owners counts kids agg was last entries =
       owners = owned_both (chain_with b []) c a.delta (λ u. value_at x.owners (row_key u)) (λ u. latest e.owners.items (row_key u)) (λ u. value_at y.owners (row_key u)) sound lands (rows_more b older agg.sound agg.all) (λ u. owners (row_key u)) was.owners entries.owners;
       kids = held_after (chain_with b []) c (extended c a.delta) a.delta (value_at x.counts) (value_at x.kids) (latest e.counts.items) (latest e.kids.items) (value_at y.counts) (value_at y.kids) sound lands refl counts kids was.kids entries.kids;
     }
-
-pub whole_more : (b : Source) (added : List Added) (x y : Directory) (p : Ready) → ((q : Key) → value_at y.places q ≡ either (latest p.entries.places.items q) (value_at x.places q)) → ((q : Key) → value_at y.owners q ≡ either (latest p.entries.owners.items q) (value_at x.owners q)) → ((q : Key) → value_at y.counts q ≡ either (latest p.entries.counts.items q) (value_at x.counts q)) → ((q : Key) → value_at y.kids q ≡ either (latest p.entries.kids.items q) (value_at x.kids q)) → IsWhole b (reverse added) x → IsPrepared (chain_with b (sources (reverse added))) p → IsWhole b (reverse (added ++ to_add p ∷ [])) y
-unfolding IsPrepared chain_with
-whole_more b added x y p places owners counts kids whole ready = record {
-  deltas = one_more b added (to_add p) whole.deltas ready.added;
-  directory = rw (reverse-append added (to_add p ∷ [])) (directory_more b (to_add p) (reverse added) x y p.entries places owners counts kids whole.deltas whole.directory ready.added ready.entries);
-  sound = rw (reverse-append added (to_add p ∷ [])) ready.sound;
-}
 
 -- a base alone
 pub bare_is : (b : Source) (x : Directory) → IsBare x → IsDirectory b [] x
@@ -274,11 +266,11 @@ kept_kids kids first count kid held front =
     ∙ kept_front kids first kid (length kids - length first) held.new front (omega (arith, all)) ∙ ap (λ m. take m kids) all
     ∙ take_all (length kids) kids (omega arith)
 
-pub base_kids : (b : Source) (added : List Added) (x : Directory) (u : Token) (t : ℕ) (first rows : List ℕ) → IsWhole b added x → IsTrue (is_child_table t)
+pub base_kids : (b : Source) (added : List Added) (x : Directory) (m : Places) (u : Token) (t : ℕ) (first rows : List ℕ) → IsWhole b added x m → IsTrue (is_child_table t)
     → u.table ≡ owner_table t → first ≡ kids_of (chain_with b []).plain u t
     → rows ≡ with_kept first (value_at x.counts (kids_key t u 0)) (λ i. value_at x.kids (kids_key t u i))
     → rows ≡ kids_of (chain_with b (sources added)).plain u t
-base_kids b added x u t first rows whole child owners is made =
+base_kids b added x m u t first rows whole child owners is made =
     let many : length first ≡ length (kids_of (chain_with b []).plain u t) = ap (λ (xs : List ℕ). length xs) is in
     made ∙ kept_kids (kids_of (chain_with b (sources added)).plain u t) first (value_at x.counts (kids_key t u 0)) (λ i. value_at x.kids (kids_key t u i))
     (rw is (whole.directory.kids u t child owners)) (kids_front b added u t (length first) first whole.deltas.sound whole.deltas.all child many is)
@@ -325,7 +317,7 @@ new_owner before after owner u n owned sound many past row there =
     let w = has_owner after.plain u sound.owned there (omega arith) high in
     (is, λ none. let e : Some w.owner ≡ None = sym (is ∙ w.is) ∙ none in cc)
 
-pub owner_known : (b : Source) (added : List Added) (x : Directory) (u : Token) → IsWhole b added x → (n : ℕ) → n ≡ length (rows_in (module_in b) u.table) → n < u.row → IsTrue (has_row (chain_with b (sources added)).plain u) → IsTrue (is_child_table u.table) → (value_at x.owners (row_key u) ≡ owner_of (chain_with b (sources added)).plain u) × (value_at x.owners (row_key u) ≡ None → ⊥)
-owner_known b added x u whole n many past row there =
+pub owner_known : (b : Source) (added : List Added) (x : Directory) (m : Places) (u : Token) → IsWhole b added x m → (n : ℕ) → n ≡ length (rows_in (module_in b) u.table) → n < u.row → IsTrue (has_row (chain_with b (sources added)).plain u) → IsTrue (is_child_table u.table) → (value_at x.owners (row_key u) ≡ owner_of (chain_with b (sources added)).plain u) × (value_at x.owners (row_key u) ≡ None → ⊥)
+owner_known b added x m u whole n many past row there =
     new_owner (chain_with b []) (chain_with b (sources added)) (λ t. value_at x.owners (row_key t)) u n whole.directory.owners
     (with_sound b added whole.deltas.sound whole.deltas.all) (rw (base_plain b) many) past row there

@@ -49,7 +49,7 @@ same_row t u = and_true (t.table == u.table && t.row == u.row)
 equal : (a b : ℕ) → (a == b) ≡ true → a ≡ b
 equal a b h = grind (arith, nat_tests)
 
-token_is : (t u : Token) → is_token t u ≡ true → t ≡ u
+pub token_is : (t u : Token) → is_token t u ≡ true → t ≡ u
 token_is t u h =
     let parts = and_parts (t.table == u.table) (t.row == u.row) h in
     rw (equal t.table u.table parts.0, equal t.row u.row parts.1) refl

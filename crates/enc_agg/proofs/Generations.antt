@@ -31,7 +31,7 @@ reversed_part xs g =
     let parts : reverse xs ≡ reverse (drop g xs) ++ reverse (take g xs) = ap reverse (sym (take-append-drop g xs)) ∙ reverse-append (take g xs) (drop g xs) in
     rw parts (sym (drop_at (reverse (drop g xs)) (reverse (take g xs)) (length xs - g) (length-reverse (drop g xs) ∙ length-drop g xs)))
 
-all_without : (b : Source) (n : ℕ) (added : List Added) → AllAdded b added → AllAdded b (drop n added)
+pub all_without : (b : Source) (n : ℕ) (added : List Added) → AllAdded b added → AllAdded b (drop n added)
 unfolding AllAdded
 all_without b zero added all = all
 all_without b (suc n) [] all = all

@@ -28,6 +28,8 @@ pub mod SoundDeltas
 pub mod Landing
 pub mod Directories
 pub mod Gained
+pub mod EveryPlace
+pub mod FirstDeltas
 pub mod BodyPlaces
 pub mod BlobPlaces
 pub mod Next

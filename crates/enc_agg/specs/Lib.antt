@@ -5,5 +5,7 @@ pub mod Seen
 pub mod Laws
 pub mod Starts
 pub mod Directory
+pub mod Places
+pub mod Earlier
 pub mod Prepared
 pub mod Next

@@ -23,6 +23,7 @@ use crate::directory::{Directory, Entries, find};
 use crate::entries::{Brought, brought_by};
 use crate::heaps::{guid_place_in, heap_place_in};
 use crate::place::HeapPlace;
+use crate::places::{Listings, Places};
 use enc_base::{Counts, Steps, StreamName, Token};
 use enc_delta::{Delta, enc_id_counted, inserts_of};
 use enc_image::Image;
@@ -39,6 +40,7 @@ pub struct Aggregate {
     pub(crate) image: Image,
     pub(crate) added: Vec<Added>,
     pub(crate) directory: Directory,
+    pub(crate) places: Places,
     alloc: Global,
 }
 
@@ -51,7 +53,7 @@ impl Model for Aggregate {
 
     ghost view = { λ a. record { base = a.image; deltas = sources (reverse a.added.items); room = vec_capacity a.added - vec_len a.added } };
 
-    ghost invariant = { λ a. IsWhole a.image (reverse a.added.items) a.directory };
+    ghost invariant = { λ a. IsWhole a.image (reverse a.added.items) a.directory a.places };
 }
 
 /// A delta that may be committed to the state that it was prepared from. What stands beside the
@@ -64,6 +66,7 @@ pub struct Ready {
     pub(crate) counts: Counts,
     entries: Entries,
     pub(crate) own: Directory,
+    listings: Listings,
 }
 
 /// How many rows a table has after a delta with these inserts.
@@ -109,6 +112,7 @@ impl Aggregate {
             image,
             added: Vec::new(alloc),
             directory: Directory::new(),
+            places: Places::new(),
             alloc,
         })
     }
@@ -151,7 +155,7 @@ impl Aggregate {
         ensures room { IfOk result (λ r. 0 < self.new.room) }
         ensures kept { self.old.room ≤ self.new.room }
         ensures delta { IfOk result (λ r. r.delta ≡ delta) }
-        ensures ready { IfOk result (IsPrepared (chain_of_all self.old)) }
+        ensures ready { IfOk result (IsPrepared self.old.base self.old.deltas) }
         ensures steps { steps.new ≤ steps.old + 3 + 2 * rows_of delta.layout enc_map }
     {
         self.stays_sound(&delta);
@@ -159,7 +163,11 @@ impl Aggregate {
             Ok(tokens) => tokens,
             Err(error) => return Err(error),
         };
-        let Brought { entries, own } = match brought_by(self.alloc, self, &delta, &tokens, steps) {
+        let Brought {
+            entries,
+            own,
+            listings,
+        } = match brought_by(self.alloc, self, &delta, &tokens, steps) {
             Ok(brought) => brought,
             Err(error) => return Err(error),
         };
@@ -178,13 +186,14 @@ impl Aggregate {
             counts,
             entries,
             own,
+            listings,
         })
     }
 
     /// Adds the delta that was made ready from this state. It can't fail.
     #[tactic(auto, unfolding(crate::specs::Prepared::IsPrepared))]
     pub fn commit(&mut self, ready: Ready)
-        requires ready { IsPrepared (chain_of_all self.old) ready }
+        requires ready { IsPrepared self.old.base self.old.deltas ready }
         requires room { 0 < self.old.room }
         ensures base { self.new.base ≡ self.old.base }
         ensures deltas { self.new.deltas ≡ ready.delta ∷ self.old.deltas }
@@ -200,9 +209,11 @@ impl Aggregate {
             counts,
             entries,
             own,
+            listings,
         } = ready;
         drop(own);
         self.directory.add(entries);
+        self.places.add(listings);
         self.added.push_reserved(Added {
             delta,
             before,
@@ -215,7 +226,7 @@ impl Aggregate {
     /// aggregate means this module once the delta is committed.
     #[tactic(auto, unfolding(crate::specs::Prepared::IsPrepared))]
     pub fn after<'a>(&'a self, ready: &'a Ready) -> After<'a>
-        requires { IsPrepared (chain_of_all self.now) ready.now }
+        requires { IsPrepared self.now.base self.now.deltas ready.now }
         ensures before { result.before ≡ self.now }
         ensures delta { result.delta ≡ ready.now.delta }
         ensures chain { chain_of_next result ≡ extended (chain_of_all self.now) ready.now.delta }

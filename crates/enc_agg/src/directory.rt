@@ -150,7 +150,7 @@ impl Directory {
 }
 
 /// The first deltas.
-fn front(added: &[Added], n: u32) -> &[Added]
+pub fn front(added: &[Added], n: u32) -> &[Added]
     requires { n ≤ length added.now }
     ensures { result.now ≡ take n added.now }
 {

@@ -14,10 +14,12 @@ ghost use Rattle.enc_agg.specs.Extend.{extended};
 ghost use Rattle.enc_agg.specs.Follows.{Follows};
 ghost use Rattle.enc_agg.specs.Seen.{chain_of_all, module_of_all};
 ghost use Rattle.enc_agg.specs.Directory.{row_key, kids_key, AreOwned, AreHeld, AreBrought, IsSame, AreAsOwn, IsOwn};
+ghost use Rattle.enc_agg.specs.Places.{AreListings};
 
 use crate::aggregate::Aggregate;
 use crate::directory::{Directory, Entries, kids_key, row_key};
 use crate::kept::Kept;
+use crate::places::Listings;
 use enc_base::{Steps, Token};
 use enc_delta::{Delta, Pair, attached_of, log_of};
 use enc_index::Index;
@@ -118,11 +120,12 @@ fn gained_by(
     Ok(gained)
 }
 
-/// What a delta brings to a directory, and a directory of it alone.
+/// What a delta brings to a directory, a directory of it alone, and the places that it brings.
 #[derive(Drop)]
 pub struct Brought {
     pub entries: Entries,
     pub own: Directory,
+    pub listings: Listings,
 }
 
 /// Entries, and a directory of the same values.
@@ -131,7 +134,9 @@ fn entries_with_own(
     owners: Kept<Token>,
     counts: Kept<u32>,
     kids: Kept<u32>,
+    listings: Listings,
 ) -> Brought
+    ensures listings { result.listings ≡ listings }
     ensures entries { result.entries ≡ record { places = places.entries; owners = owners.entries; counts = counts.entries; kids = kids.entries } }
     ensures own { result.own ≡ record { places = places.own; owners = owners.own; counts = counts.own; kids = kids.own } }
 {
@@ -148,6 +153,7 @@ fn entries_with_own(
             counts: counts.own,
             kids: kids.own,
         },
+        listings,
     }
 }
 
@@ -163,11 +169,13 @@ pub fn brought_by<L: Ledger>(
     requires tokens { tokens.now ≡ listed delta.now }
     ensures entries { IfOk result (λ b. AreBrought (chain_of_all aggregate.now) delta.now b.entries) }
     ensures own { IfOk result (λ b. IsOwn (chain_of_all aggregate.now) delta.now b.own) }
+    ensures listings { IfOk result (λ b. AreListings aggregate.now.deltas (listed delta.now) (latest b.listings.places.items) (latest b.listings.counts.items)) }
     ensures steps { steps.new ≤ steps.old + length tokens.now }
 {
     let places = places_of(alloc, delta, tokens, aggregate.generations(), steps)?;
+    let listings = aggregate.listings(alloc, tokens, &places.own)?;
     let log = log_of(delta, alloc)?;
     let pairs = attached_of(alloc, delta, &log)?;
     let gained = gained_by(alloc, aggregate, delta, &pairs)?;
-    Ok(entries_with_own(places, gained.owners, gained.counts, gained.kids))
+    Ok(entries_with_own(places, gained.owners, gained.counts, gained.kids, listings))
 }

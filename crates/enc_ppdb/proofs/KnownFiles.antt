@@ -1,11 +1,11 @@
 -- The newest file that knows a method, as it is looked for.
-use Rattle.std.proofs.Common.{◌≡◌, ℕ, zero, suc, ◌-◌, ◌<◌, ◌≤◌, true, false, List, [], ◌∷◌, ◌++◌, length, get_or, take, reverse, Option, Some, None, refl, ap, sym, ◌∙◌, arith}
+use Rattle.std.proofs.Common.{◌≡◌, ℕ, zero, suc, ◌-◌, ◌<◌, ◌≤◌, true, false, List, [], ◌∷◌, ◌++◌, length, get_or, take, drop, reverse, Option, Some, None, refl, ap, sym, ◌∙◌, arith}
 use Rattle.std.specs.List.{list_any}
-use Rattle.std.proofs.lemmas.List.{reverse-append}
+use Rattle.std.proofs.lemmas.List.{reverse-append, length-reverse, length-drop, take-append-drop, drop_at}
 use Rattle.enc_base.specs.Token.{is_token}
 use Rattle.enc_base.specs.declared.token.Token.{Token}
 use Rattle.enc_rows.specs.Source.{Source}
-use Rattle.enc_ppdb.specs.PdbChain.{DebugDelta, base_row, delta_row}
+use Rattle.enc_ppdb.specs.PdbChain.{DebugDelta, PdbHistory, base_row, delta_row, earlier_pdb}
 use Rattle.enc_ppdb.specs.KnownAt.{known_or, known_at}
 
 -- a list by its last element
@@ -53,3 +53,14 @@ pub known_before : (base : Option Source) (rest : List DebugDelta) (newest : Deb
 known_before base rest newest method some is row changed =
     let before = known_at base (reverse (take (length rest - 1) rest)) method in
     known_first base rest newest method some is ∙ ap (λ o. known_or o (list_any (is_token method) newest.changed) before) (sym row) ∙ ap (λ b. known_or None b before) (sym changed)
+
+-- the first deltas, the newest of them first
+reversed_front : (xs : List DebugDelta) (g : ℕ) → reverse (take g xs) ≡ drop (length (reverse xs) - g) (reverse xs)
+reversed_front xs g =
+    let parts : reverse xs ≡ reverse (drop g xs) ++ reverse (take g xs) = ap reverse (sym (take-append-drop g xs)) ∙ reverse-append (take g xs) (drop g xs) in
+    let many : length (reverse xs) ≡ length xs = length-reverse xs in
+    rw (many, parts) (sym (drop_at (reverse (drop g xs)) (reverse (take g xs)) (length xs - g) (length-reverse (drop g xs) ∙ length-drop g xs)))
+
+pub earlier_is : (base : Option Source) (added : List DebugDelta) (g room : ℕ)
+    → record { base = base; deltas = reverse (take g added); room = 0 } ≡ earlier_pdb g (record { base = base; deltas = reverse added; room = room })
+earlier_is base added g room = ap (λ (ds : List DebugDelta). record { base = base; deltas = ds; room = 0 }) (reversed_front added g)

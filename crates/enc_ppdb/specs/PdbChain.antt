@@ -1,5 +1,5 @@
 -- The PDBs of a base and its deltas, and the plain PDB that they mean (Portable PDB v1.0).
-use Rattle.std.specs.Prelude.{ℕ, Bool, false, ◌&&◌, ◌==◌, List, [], ◌∷◌, Option, Some, None, option_map, option_and_then, unwrap_or, is_some, nat_le, if◌then◌else◌}
+use Rattle.std.specs.Prelude.{ℕ, ◌-◌, length, drop, Bool, false, ◌&&◌, ◌==◌, List, [], ◌∷◌, Option, Some, None, option_map, option_and_then, unwrap_or, is_some, nat_le, if◌then◌else◌}
 use Rattle.std.specs.List.{list_any}
 use Rattle.enc_base.specs.Token.{is_token}
 use Rattle.enc_base.specs.declared.token.Token.{Token}
@@ -90,3 +90,7 @@ pub record PdbHistory : Type 0 where
   pub base : Option Source
   pub deltas : List DebugDelta
   pub room : ℕ
+
+-- the same with so many deltas, the first of all; it has no room for others
+abbrev pub earlier_pdb : ℕ → PdbHistory → PdbHistory
+earlier_pdb generation h = record { base = h.base; deltas = drop (length h.deltas - generation) h.deltas; room = 0 }

@@ -3,7 +3,7 @@ ghost use Rattle.std.specs.Prelude.{◌≡◌, ◌+◌, ◌*◌, ◌^◌, ◌<�
 ghost use Rattle.std.specs.List.{list_any};
 ghost use Rattle.enc_base.specs.Token.{is_token};
 ghost use Rattle.enc_plain.specs.SoundDebug.{IsSoundPdb};
-ghost use Rattle.enc_ppdb.specs.PdbChain.{base_row, delta_row, is_named_by, pdb_begun, pdb_with, points_at, documents_at};
+ghost use Rattle.enc_ppdb.specs.PdbChain.{base_row, delta_row, is_named_by, pdb_begun, pdb_with, points_at, documents_at, earlier_pdb};
 ghost use Rattle.enc_ppdb.specs.Sound.{KeepsSound};
 ghost use Rattle.enc_ppdb.specs.KnownAt.{known_at};
 ghost use Rattle.enc_ppdb.specs.PlacedAt.{file_number};
@@ -218,6 +218,65 @@ impl PdbChain {
             changed,
         });
     }
+}
+
+/// The PDB of a base and what its first deltas say, whatever deltas were added since. It copies
+/// nothing.
+#[derive(Drop)]
+pub struct EarlierPdb<'a> {
+    base: &'a Option<Pdb>,
+    added: &'a [Said],
+}
+
+impl<'a> Model for EarlierPdb<'a> {
+    ghost use Rattle.std.specs.Prelude.{◌<◌, ◌^◌, ◌+◌, reverse, length};
+    ghost use Rattle.enc_ppdb.specs.PdbChain.{PdbHistory};
+
+    ghost Value = { PdbHistory };
+
+    ghost view = { λ e. record { base = e.base.now; deltas = reverse e.added.now; room = 0 } };
+
+    ghost invariant = { λ e. length e.added.now + 1 < 2 ^ 32 };
+}
+
+impl PdbChain {
+    /// What is known of the methods after the first deltas.
+    pub fn at(&self, generation: u32) -> EarlierPdb<'_>
+        requires { generation ≤ length self.now.deltas }
+        ensures { result ≡ earlier_pdb generation self.now }
+    {
+        EarlierPdb {
+            base: &self.base,
+            added: &self.added[..generation as usize],
+        }
+    }
+}
+
+impl PointSource for EarlierPdb<'_> {
+    ghost use Rattle.enc_ppdb.specs.KnownAt.{knows as known_by};
+    ghost use Rattle.enc_ppdb.specs.PlacedAt.{document_placed};
+
+    ghost debug = { λ h. pdb_with h.base h.deltas };
+
+    ghost said = { λ h method. points_at (known_at h.base h.deltas method) };
+
+    ghost documents = { λ h method. documents_at (known_at h.base h.deltas method) };
+
+    ghost placed = { λ h place. document_placed h.base h.deltas place };
+
+    fn points(&self, alloc: Global, method: Token) -> Result<Points, AllocError> {
+        points_at(alloc, known(self.base, self.added, method))
+    }
+
+    fn document(&self, method: Token, number: u32) -> Option<DocumentRef<'_>> {
+        document_at(known(self.base, self.added, method), number)
+    }
+
+    fn document_place(&self, method: Token, number: u32) -> u64 {
+        place(number_of(self.base, self.added, method) as u32, number)
+    }
+
+    ghost knows = { λ h method. known_by h.base h.deltas method };
 }
 
 impl PointSource for PdbChain {

@@ -19,7 +19,7 @@ mod sizes;
 mod write;
 mod writer;
 
-pub use chain::PdbChain;
+pub use chain::{EarlierPdb, PdbChain};
 pub use hash::{SHA_256, source_hash};
 pub use laws::pdb_means_law;
 pub use methods::MethodList;

@@ -1,9 +1,15 @@
-use Rattle.std.proofs.Common.{◌∙◌}
+use Rattle.std.proofs.Common.{◌≡◌, suc, length, ◌∙◌, arith}
 use Rattle.enc_agg.specs.Directory.{row_key}
 use Rattle.enc_agg.specs.Extend.{extended}
 use Rattle.enc_agg.specs.Seen.{chain_of_all}
+use Rattle.enc_agg.proofs.Histories.{ids_count}
 use Rattle.enc_agg.proofs.Gained.{owned_alone, held_alone}
 use Rattle.enc_agg.proofs.entries.brought_by.Goals as goal
+
+pub listings-requires : goal.listings-requires
+listings-requires g c =
+    let many : c.generations.result ≡ suc (length c.args.aggregate.now.deltas) = omega (arith, c.generations.ensures.count, ids_count c.args.aggregate.now.base c.args.aggregate.now.deltas) in
+    λ u. c.in_ok-places.ensures.same (row_key u) ∙ rw (c.requires.tokens, ← many) (c.in_ok-places.ensures.places u)
 
 pub returns-clause-entries : goal.returns-clause-entries
 returns-clause-entries g c = rw c.entries_with_own.ensures.entries (record {

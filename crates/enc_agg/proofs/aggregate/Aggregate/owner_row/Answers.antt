@@ -14,10 +14,10 @@ returns-then-child-count c =
 
 pub unreachable-requires : goal.unreachable-requires
 unreachable-requires c =
-    let known = owner_known c.self.inside.image _ _ c.args.child c.self.invariant _ c.count.ensures.count c.if-child-count.false (rw (← c.self.view_is) at c.requires.row) c.requires.table in
+    let known = owner_known c.self.inside.image _ _ _ c.args.child c.self.invariant _ c.count.ensures.count c.if-child-count.false (rw (← c.self.view_is) at c.requires.row) c.requires.table in
     known.1 (sym c.owner-2.ensures ∙ c.in-None.is)
 
 pub returns : goal.returns
 returns c =
-    let known = owner_known c.self.inside.image _ _ c.args.child c.self.invariant _ c.count.ensures.count c.if-child-count.false (rw (← c.self.view_is) at c.requires.row) c.requires.table in
+    let known = owner_known c.self.inside.image _ _ _ c.args.child c.self.invariant _ c.count.ensures.count c.if-child-count.false (rw (← c.self.view_is) at c.requires.row) c.requires.table in
     rw (← c.self.view_is) (sym known.0 ∙ sym c.owner-2.ensures ∙ c.in-Some.is)

@@ -1,0 +1,35 @@
+use Rattle.enc_agg.proofs.Asked.{base_row, base_body, base_texts, the_found, body_found, texts_found}
+use Rattle.enc_agg.proofs.earlier.EarlierModuleView.code.Goals as goal
+
+pub body-requires-clause-row : goal.body-requires-clause-row
+body-requires-clause-row c = base_row c.self.inside.image.now _ c.args.method c.self.invariant.deltas _ c.find.ensures
+    c.in_default.is (rw (← c.self.view_is) at c.requires.row)
+
+pub returns-in_default-clause-body : goal.returns-in_default-clause-body
+returns-in_default-clause-body c =
+    let found = c.find.ensures in
+    let there = base_row c.self.inside.image.now _ c.args.method c.self.invariant.deltas _ found c.in_default.is (rw (← c.self.view_is) at c.requires.row) in
+    rw (← c.self.view_is)
+    (base_body c.self.inside.image.now _ c.args.method _ _ c.self.invariant.deltas (λ o units is. is) _ found c.in_default.is there c.requires.table
+    c.body.ensures.code)
+
+pub returns-clause-body : goal.returns-clause-body
+returns-clause-body c =
+    let found = the_found c.self.inside.image.now _ c.args.method c.self.invariant.deltas _ c.in-Some.found c.find.ensures
+    c.in-Some.is in
+    rw (← c.self.view_is)
+    (body_found c.self.inside.image.now _ _ c.args.method _ _ _ _ found (λ o units is. is) c.requires.table
+    (rw c.row_found.ensures at c.number-place.ensures) c.body_in.ensures.code)
+
+pub returns-in_default-clause-texts : goal.returns-in_default-clause-texts
+returns-in_default-clause-texts c =
+    let found = c.find.ensures in
+    let there = base_row c.self.inside.image.now _ c.args.method c.self.invariant.deltas _ found c.in_default.is (rw (← c.self.view_is) at c.requires.row) in
+    rw (← c.self.view_is) (base_texts c.self.inside.image.now _ c.args.method c.body.result c.self.invariant.deltas there c.requires.table c.body.ensures.code)
+
+pub returns-clause-texts : goal.returns-clause-texts
+returns-clause-texts c =
+    let found = the_found c.self.inside.image.now _ c.args.method c.self.invariant.deltas _ c.in-Some.found c.find.ensures
+    c.in-Some.is in
+    rw (← c.self.view_is) (texts_found c.self.inside.image.now _ _ c.args.method _ _ _ found c.requires.table
+    (rw c.row_found.ensures at c.number-place.ensures) c.body_in.ensures.code)
