@@ -1,5 +1,5 @@
 -- A base alone is kept, and so is what comes with a delta that is accepted.
-use Rattle.std.proofs.Common.{◌≡◌, ℕ, ◌^◌, ◌≤◌, Bool, true, false, List, [], ◌∷◌, length, Option, Some, None, Result, Ok, Err, refl, subst, arith}
+use Rattle.std.proofs.Common.{◌≡◌, ℕ, ◌^◌, ◌≤◌, Bool, true, false, List, [], ◌∷◌, length, Option, Some, None, Result, Ok, Err, refl, ap, ◌+◌, subst, arith}
 use Rattle.std.specs.Prelude.{◌&&◌, nat_le}
 use Rattle.std.proofs.lemmas.Bool.Decides.{nat_tests}
 use Rattle.enc_rows.specs.Source.{Source}
@@ -19,7 +19,7 @@ use Rattle.enc_c.specs.State.{State, begun_state, chain_after, followed_state, i
 
 begun_with : (b : Source) (p : Option Source) → KnowsWithin (pdb_begun p) (method_count (chain_of_base b)) → IsKept (begun_state b p)
 unfolding chain_with pdb_with AllGo
-begun_with b p within = record { within = within; go = tt }
+begun_with b p within = record { within = within; go = tt; paired = refl }
 
 -- a base, with its PDB or without
 pub begun_bare : (b : Source) → BaseKnowsWithin → IsKept (begun_state b None)
@@ -45,4 +45,5 @@ pub followed_kept : (s : State) (meta il : List ℕ) (bytes : Option (List ℕ))
 followed_kept s meta il bytes a within go short read delta is kept = record {
   within = within s.base s.deltas (delta_of meta il) bytes a read is s.pdb s.debugs kept.within;
   go = more_go s.short (is_short_delta meta il) a _ s.deltas s.debugs (go (chain_after s) (delta_of meta il) bytes a is) (short_delta meta il a short delta) kept.go;
+  paired = ap (λ n. n + 1) kept.paired;
 }

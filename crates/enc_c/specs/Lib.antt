@@ -21,3 +21,4 @@ pub mod Saved
 pub mod Moves
 pub mod Compacted
 pub mod Deltas
+pub mod Earlier

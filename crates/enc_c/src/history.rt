@@ -95,6 +95,7 @@ impl Held {
     pub fn has_generation(&self, generation: u32) -> bool
         ensures there { result ≡ nat_lt generation (length (chain_after self.now).heaps) }
         ensures few { IsTrue result → generation ≤ length self.now.deltas }
+        ensures paired { IsTrue result → generation ≤ length self.now.debugs }
     {
         generation < self.agg.generations()
     }

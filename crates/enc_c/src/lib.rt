@@ -10,6 +10,8 @@ mod compacting;
 mod copies;
 mod copy;
 mod deltas;
+mod earlier;
+mod earlier_calls;
 mod family;
 mod fill;
 mod handle;
