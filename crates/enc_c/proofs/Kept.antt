@@ -1,6 +1,6 @@
 -- A base alone is kept, and so is what comes with a delta that is accepted.
-use Rattle.std.proofs.Common.{◌≡◌, ℕ, ◌^◌, ◌≤◌, Bool, true, false, List, [], ◌∷◌, length, Option, Some, None, Result, Ok, Err, refl, ap, ◌+◌, subst, arith}
-use Rattle.std.specs.Prelude.{◌&&◌, nat_le}
+use Rattle.std.proofs.Common.{◌≡◌, ℕ, ◌+◌, Bool, true, false, List, ◌∷◌, Option, Some, None, Ok, refl, ap, arith}
+use Rattle.std.specs.Prelude.{◌&&◌}
 use Rattle.std.proofs.lemmas.Bool.Decides.{nat_tests}
 use Rattle.enc_rows.specs.Source.{Source}
 use Rattle.enc_plain.specs.SoundDebug.{KnowsWithin}
@@ -12,7 +12,6 @@ use Rattle.enc_ppdb.specs.Fault.{pdb_of}
 use Rattle.enc_ppdb.specs.PdbChain.{DebugDelta, pdb_begun, pdb_with}
 use Rattle.enc_checker.specs.Check.{Accepted, judged}
 use Rattle.enc_checker.specs.Within.{method_count, BaseKnowsWithin, DeltaKnowsWithin}
-use Rattle.enc_plain.proofs.Columns.{both_right}
 use Rattle.enc_merge.specs.Merges.{AcceptedGo, AllGo, GoesWith, IsShortDelta, ReadIsShort}
 use Rattle.enc_c.specs.Kept.{AllGoIf, IsKept}
 use Rattle.enc_c.specs.State.{State, begun_state, chain_after, followed_state, is_short_delta}

@@ -9,3 +9,4 @@ pub mod Kept
 pub mod ReasonNumbers
 pub mod MovesFew
 pub mod Ordinary
+pub mod MergedLast

@@ -1,5 +1,5 @@
 -- What the numbers of a reason say is that reason; and its words stand in its line.
-use Rattle.std.specs.Prelude.{◌≡◌, ℕ, List, [], drop, Option, Some, option_map}
+use Rattle.std.specs.Prelude.{◌≡◌, ℕ, List, [], drop, option_map}
 use Rattle.std.proofs.Common.{rules, refl, ap, ◌∙◌}
 use Rattle.std.proofs.lemmas.List.{append_assoc}
 use Rattle.enc_base.specs.declared.refusal.Code.{Code}

@@ -6,7 +6,6 @@ use Rattle.enc_base.specs.declared.refusal.Code.TheVariants.{F, E}
 use Rattle.enc_base.specs.declared.refusal.Place.{Place}
 use Rattle.enc_base.specs.declared.refusal.Place.TheVariants as place
 use Rattle.enc_base.specs.declared.refusal.StreamName.TheVariants as stream
-use Rattle.enc_base.specs.declared.refusal.Refusal.{Refusal}
 use Rattle.enc_c.specs.Refusals.{numbers_at, numbers_of, refusal_by, NumbersAreTheRefusals}
 
 at_law : (code : Code) (p : Place) → refusal_by (numbers_at code p) ≡ Some (record { code = code; place = p })

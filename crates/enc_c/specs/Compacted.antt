@@ -40,7 +40,8 @@ pub record WritesOrdinary (status : ℕ) (m : Module) (p : PlainPdb) (a b : Buff
   pub copied : CopiesThree status a b c image symbols (moves_told m)
 
 -- so it is where they pass no limit, and else the first limit is told
-abbrev pub CompactsUnless : ℕ → Module → PlainPdb → Buffer ℕ → Buffer ℕ → Buffer MoveNumbers → RefusalNumbers → RefusalNumbers → Option Passed → Type 0
+abbrev pub CompactsUnless :
+    ℕ → Module → PlainPdb → Buffer ℕ → Buffer ℕ → Buffer MoveNumbers → RefusalNumbers → RefusalNumbers → Option Passed → Type 0
 CompactsUnless status m p a b c old new None = WritesOrdinary status m p a b c × (new ≡ old)
 CompactsUnless status m p a b c old new (Some passed) = RefusesThree status a b c new (numbers_of_reason (reason_of_limit passed))
 

@@ -1,5 +1,6 @@
 -- How calls end that write a delta.
-use Rattle.std.specs.Prelude.{◌≡◌, ◌⊎◌, ℕ, Bool, List, [], ◌∷◌, drop, nat_lt, Option, Some, None, option_map, Result, Ok, Err, if◌then◌else◌}
+use Rattle.std.specs.Prelude.{◌≡◌, ◌⊎◌, ℕ, Bool, if◌then◌else◌, List, [], ◌∷◌, drop, nat_lt}
+use Rattle.std.specs.Prelude.{Option, Some, None, option_map, Result, Ok, Err}
 use Rattle.enc_base.specs.declared.refusal.StreamName.TheVariants.{Pdb}
 use Rattle.enc_base.specs.declared.token.Token.{Token}
 use Rattle.enc_rows.specs.Source.{Source}
@@ -20,7 +21,6 @@ use Rattle.enc_writer.specs.Stands.{StandsFor}
 use Rattle.enc_writer.specs.declared.bytes.DeltaBytes.{DeltaBytes}
 use Rattle.enc_c.specs.declared.deltas.Unwritten.{Unwritten}
 use Rattle.enc_c.specs.declared.deltas.Unwritten.TheVariants.{Only, Because}
-use Rattle.enc_c.specs.declared.reason.Reason.{Reason}
 use Rattle.enc_c.specs.declared.reason.Reason.TheVariants.{Json, Element, Edit, Heap, Deep}
 use Rattle.enc_c.specs.declared.refusal.RefusalNumbers.{RefusalNumbers}
 use Rattle.enc_c.specs.declared.status.Status.{Status}

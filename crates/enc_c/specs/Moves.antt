@@ -1,5 +1,5 @@
 -- The rows that move where a module gets the order of an ordinary one, by the numbers of their tokens.
-use Rattle.std.specs.Prelude.{ℕ, Bool, ◌&&◌, List, map, nat_lt}
+use Rattle.std.specs.Prelude.{Bool, ◌&&◌, List, map, nat_lt}
 use Rattle.enc_base.specs.Token.{number_of}
 use Rattle.enc_base.specs.declared.token.Token.{Token}
 use Rattle.enc_plain.specs.Module.{Module}

@@ -1,8 +1,8 @@
 -- Why something is refused, by numbers, and its words.
-use Rattle.std.specs.Prelude.{◌≡◌, ℕ, List, ◌∷◌, [], ◌++◌, Option, Some, None, option_map, Result, Ok, Err, ◌==◌, ◌&&◌, if◌then◌else◌, codes, decimal}
+use Rattle.std.specs.Prelude.{◌≡◌, ℕ, ◌==◌, ◌&&◌, if◌then◌else◌, List, ◌∷◌, [], ◌++◌, codes, decimal}
+use Rattle.std.specs.Prelude.{Option, Some, None, option_map, Result, Ok, Err}
 use Rattle.enc_base.specs.declared.refusal.Refusal.{Refusal}
 use Rattle.enc_base.specs.declared.refusal.StreamName.{StreamName}
-use Rattle.enc_base.specs.declared.token.Token.{Token}
 use Rattle.enc_jobs.specs.declared.fault.JobFault.TheVariants as fault
 use Rattle.enc_text.specs.Text.{refused_line, token_text}
 use Rattle.enc_words.specs.Lines.{broken_line, deep_line, fault_text, limit_line, limit_text, unlisted_line}
@@ -35,14 +35,15 @@ json_by n = if n.rule == 1 && n.place == 13 then Some Json else if n.rule == 2 &
 
 abbrev pub limit_by : RefusalNumbers → Option Reason
 limit_by n =
-    if n.rule == 4 then (if n.place == 1 then option_map (λ (name : StreamName). Heap name) (stream_by n.stream) else if n.place == 15 then Some Image else None) else None
+    if n.rule == 4 && n.place == 1 then option_map (λ (name : StreamName). Heap name) (stream_by n.stream)
+    else if n.rule == 4 && n.place == 15 then Some Image else None
 
-abbrev pub depth_by : RefusalNumbers → Option Reason
-depth_by n = if n.rule == 1 && n.place == 9 then Some (Deep (record { table = n.table; row = n.row })) else None
+abbrev pub deep_by : RefusalNumbers → Option Reason
+deep_by n = if n.rule == 1 && n.place == 9 then Some (Deep (record { table = n.table; row = n.row })) else None
 
 unfoldable pub reason_by : RefusalNumbers → Option Reason
 reason_by n =
-    if n.letter == 0x4a then json_by n else if n.letter == 0x4c then limit_by n else if n.letter == 0x47 then depth_by n
+    if n.letter == 0x4a then json_by n else if n.letter == 0x4c then limit_by n else if n.letter == 0x47 then deep_by n
     else if n.letter == 0x45 && n.place == 14 then Some (Edit n.rule n.entry) else option_map (λ (e : Refusal). File e) (refusal_by n)
 
 -- what the numbers of a reason say is that reason

@@ -34,6 +34,13 @@ pub record IsUntouched {A : Type 0} (b : Buffer A) : Type 0 where
 abbrev pub has_room : {A : Type 0} → List A → List A → Bool
 has_room items buffer = nat_le (length items) (length buffer)
 
+-- two or three files do
+abbrev pub both_room : {A : Type 0} → List ℕ → List A → List ℕ → List A → Bool
+both_room x y a b = has_room x a && has_room y b
+
+abbrev pub all_room : {A : Type 0} → List ℕ → List ℕ → List A → List ℕ → List ℕ → List A → Bool
+all_room x y z a b c = both_room x y a b && has_room z c
+
 -- items stand at a buffer's front, or nothing of it is written where not all files fit
 abbrev pub written_if : {A : Type 0} → Bool → List A → List A → List A
 written_if true items buffer = items ++ drop (length items) buffer
@@ -44,28 +51,22 @@ status_if true = Done
 status_if false = Short
 
 -- so it is, and how many there are is told in any case
-pub record IsWritten {A : Type 0} (fit : Bool) (items : List A) (b : Buffer A) : Type 0 where
+pub record IsFilled {A : Type 0} (fit : Bool) (items : List A) (b : Buffer A) : Type 0 where
   pub buffer : b.new ≡ written_if fit items b.old
   pub size : b.size ≡ length items
 
 -- two files are copied, or, where one of the buffers is too short, none
-abbrev pub both_fit : {A : Type 0} → List ℕ → List A → Buffer ℕ → Buffer A → Bool
-both_fit x y a b = has_room x a.old && has_room y b.old
-
 pub record CopiesTwo (status : ℕ) (a b : Buffer ℕ) (x y : List ℕ) : Type 0 where
-  pub status_is : status ≡ number_of_status (status_if (both_fit x y a b))
-  pub first : IsWritten (both_fit x y a b) x a
-  pub second : IsWritten (both_fit x y a b) y b
+  pub status_is : status ≡ number_of_status (status_if (both_room x y a.old b.old))
+  pub first : IsFilled (both_room x y a.old b.old) x a
+  pub second : IsFilled (both_room x y a.old b.old) y b
 
 -- so it is of three
-abbrev pub all_fit : {A : Type 0} → List ℕ → List ℕ → List A → Buffer ℕ → Buffer ℕ → Buffer A → Bool
-all_fit x y z a b c = both_fit x y a b && has_room z c.old
-
 pub record CopiesThree {A : Type 0} (status : ℕ) (a b : Buffer ℕ) (c : Buffer A) (x y : List ℕ) (z : List A) : Type 0 where
-  pub status_is : status ≡ number_of_status (status_if (all_fit x y z a b c))
-  pub first : IsWritten (all_fit x y z a b c) x a
-  pub second : IsWritten (all_fit x y z a b c) y b
-  pub third : IsWritten (all_fit x y z a b c) z c
+  pub status_is : status ≡ number_of_status (status_if (all_room x y z a.old b.old c.old))
+  pub first : IsFilled (all_room x y z a.old b.old c.old) x a
+  pub second : IsFilled (all_room x y z a.old b.old c.old) y b
+  pub third : IsFilled (all_room x y z a.old b.old c.old) z c
 
 -- the limit that would be passed
 abbrev pub reason_of_limit : Passed → Reason

@@ -1,5 +1,5 @@
 //! The call that writes the one module that has all edits in the order of an ordinary one.
-ghost use Rattle.std.specs.Prelude.{◌≡◌, IsTrue, IfOk, map, take};
+ghost use Rattle.std.specs.Prelude.{◌≡◌, IsTrue, IfOk, map};
 ghost use Rattle.std.specs.List.{list_all};
 ghost use Rattle.enc_compact.specs.Moved.{module_moved, pdb_moved};
 ghost use Rattle.enc_order.specs.Orders.{new_order};
@@ -69,10 +69,12 @@ impl Held {
     /// (ECMA-335 II.22), with the rows that move. `TooLarge` and `Image` name the first limit that they
     /// pass.
     pub fn compact(&self, alloc: Global) -> Result<Ordinary, RewriteFault>
-        ensures written { IfOk result (λ o. RewritesTo (module_moved (module_after self.now)) (pdb_moved (module_after self.now) (pdb_after self.now)) o.files.image o.files.pdb) }
+        ensures written { IfOk result (λ o. RewritesTo (module_moved (module_after self.now))
+            (pdb_moved (module_after self.now) (pdb_after self.now)) o.files.image o.files.pdb) }
         ensures plain { IfOk result (λ o. IsPlainImage o.files.image) }
         ensures moves { IfOk result (λ o. o.moves.items ≡ moves_told (module_after self.now)) }
-        ensures tells { TellsLimit result (rewrite_limit (module_moved (module_after self.now)) (pdb_moved (module_after self.now) (pdb_after self.now))) }
+        ensures tells { TellsLimit result (rewrite_limit (module_moved (module_after self.now))
+            (pdb_moved (module_after self.now) (pdb_after self.now))) }
     {
         self.agg.sound();
         self.debug.sound();
@@ -104,7 +106,8 @@ pub extern "C" fn enc_compact(
     refusal: &mut RefusalNumbers,
 ) -> u32
     ensures kept { handle.new.held ≡ handle.old.held }
-    ensures answer { Compacts result handle.old.held (buffer_of image.old image.new image_size.old image_size.new) (buffer_of pdb.old pdb.new pdb_size.old pdb_size.new) (buffer_of moves.old moves.new moves_size.old moves_size.new) refusal.old refusal.new }
+    ensures answer { Compacts result handle.old.held (buffer_of image.old image.new image_size.old image_size.new)
+        (buffer_of pdb.old pdb.new pdb_size.old pdb_size.new) (buffer_of moves.old moves.new moves_size.old moves_size.new) refusal.old refusal.new }
 {
     let Some(held) = take(handle, alloc) else {
         return Status::Closed.number();

@@ -1,6 +1,6 @@
 //! Why something is refused, by numbers, as C sees it, and its words.
 ghost use Rattle.std.specs.Prelude.{◌≡◌, [], drop, IfOk};
-ghost use Rattle.enc_c.specs.Reasons.{numbers_with, numbers_of_reason, json_by, limit_by, depth_by, reason_by, line_of_reason, words_of_reason, words_by};
+ghost use Rattle.enc_c.specs.Reasons.{numbers_with, numbers_of_reason, json_by, limit_by, deep_by, reason_by, line_of_reason, words_of_reason, words_by};
 ghost use Rattle.enc_c.specs.Family.{OrMemory, items_listed};
 
 use crate::refusal::{RefusalNumbers, number_of_stream, numbers_of, refusal_by, stream_by};
@@ -86,19 +86,18 @@ fn json_by(numbers: RefusalNumbers) -> Option<Reason>
 fn limit_by(numbers: RefusalNumbers) -> Option<Reason>
     ensures { result ≡ limit_by numbers }
 {
-    if numbers.rule != 4 {
-        return None;
+    if numbers.rule == 4 && numbers.place == 1 {
+        return Some(Reason::Heap(stream_by(u32::from(numbers.stream))?));
     }
-    match numbers.place {
-        1 => Some(Reason::Heap(stream_by(u32::from(numbers.stream))?)),
-        15 => Some(Reason::Image),
-        _ => None,
+    if numbers.rule == 4 && numbers.place == 15 {
+        return Some(Reason::Image);
     }
+    None
 }
 
 /// A reference that lies too deep in others.
-fn depth_by(numbers: RefusalNumbers) -> Option<Reason>
-    ensures { result ≡ depth_by numbers }
+fn deep_by(numbers: RefusalNumbers) -> Option<Reason>
+    ensures { result ≡ deep_by numbers }
 {
     if numbers.rule != 1 || numbers.place != 9 {
         return None;
@@ -117,7 +116,7 @@ pub fn reason_by(numbers: RefusalNumbers) -> Option<Reason>
     match numbers.letter {
         b'J' => json_by(numbers),
         b'L' => limit_by(numbers),
-        b'G' => depth_by(numbers),
+        b'G' => deep_by(numbers),
         b'E' if numbers.place == 14 => Some(Reason::Edit(numbers.rule, numbers.entry)),
         _ => Some(Reason::File(refusal_by(numbers)?)),
     }

@@ -1,8 +1,7 @@
 //! The calls that write the one module that has all edits.
-ghost use Rattle.std.specs.Prelude.{◌≡◌, ◌++◌, ◌∷◌, [], IfOk, OnOk, map, take};
-ghost use Rattle.enc_compact.specs.Moved.{module_moved, moves_listed, pdb_moved};
+ghost use Rattle.std.specs.Prelude.{◌≡◌, IfOk};
 ghost use Rattle.enc_rewriter.specs.Limits.{TellsLimit, rewrite_limit};
-ghost use Rattle.enc_rewriter.specs.Rewritten.{IsPlainImage, RewritesTo};
+ghost use Rattle.enc_rewriter.specs.Rewritten.{RewritesTo};
 ghost use Rattle.enc_c.specs.State.{module_after, pdb_after};
 ghost use Rattle.enc_c.specs.Saved.{TellsUnwritten, buffer_of, Saves};
 
@@ -57,7 +56,8 @@ pub extern "C" fn enc_save(
     refusal: &mut RefusalNumbers,
 ) -> u32
     ensures kept { handle.new.held ≡ handle.old.held }
-    ensures answer { Saves result handle.old.held (buffer_of image.old image.new image_size.old image_size.new) (buffer_of pdb.old pdb.new pdb_size.old pdb_size.new) refusal.old refusal.new }
+    ensures answer { Saves result handle.old.held (buffer_of image.old image.new image_size.old image_size.new)
+        (buffer_of pdb.old pdb.new pdb_size.old pdb_size.new) refusal.old refusal.new }
 {
     let Some(held) = take(handle, alloc) else {
         return Status::Closed.number();

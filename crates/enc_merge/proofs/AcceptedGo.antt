@@ -1,5 +1,5 @@
--- What is said of sequence points goes with an accepted delta, which is no longer than its files.
-use Rattle.std.proofs.Common.{◌≡◌, ℕ, ◌^◌, ◌≤◌, List, length, drop, Option, Some, None, Result, Ok, Err, refl, subst, arith}
+-- What is said of sequence points goes with an accepted delta, which is no longer than its files; and the last two aren't too long together.
+use Rattle.std.proofs.Common.{◌≡◌, ℕ, ◌^◌, ◌≤◌, List, [], ◌∷◌, length, drop, Option, Some, None, Result, Ok, Err, refl, subst, arith}
 use Rattle.std.specs.Prelude.{option_map}
 use Rattle.std.proofs.lemmas.List.{length-take, length-drop}
 use Rattle.enc_base.specs.declared.refusal.Refusal.{Refusal}
@@ -15,7 +15,8 @@ use Rattle.enc_delta.specs.Judged.{first_meta}
 use Rattle.enc_ppdb.specs.Fault.{pdb_delta_of}
 use Rattle.enc_ppdb.specs.Misplaced.{first_misplaced}
 use Rattle.enc_checker.specs.Check.{Accepted, accepted, code_sizes, judged, placed_pdb, refused_row, unless, unless_broken, with_pdb}
-use Rattle.enc_merge.specs.Merges.{AcceptedGo, IsShortDelta, PdbGoes}
+use Rattle.enc_ppdb.specs.PdbChain.{DebugDelta}
+use Rattle.enc_merge.specs.Merges.{AcceptedGo, AllGo, IsShortDelta, PdbGoes, ShortLast}
 
 -- a delta that was read is no longer than its files
 part_short : (bytes : List ℕ) (root : Root) → length (part bytes root.tables) ≤ length bytes
@@ -71,3 +72,17 @@ pub accepted_go : AcceptedGo
 unfolding Goes
 accepted_go c (Ok d) pdb a e = let g = goes_unbroken d a pdb (first_meta c d) e in record { changed = refl; pdb = g.1 }
 accepted_go c (Err f) pdb a e = absurd cc
+
+-- the last two together
+pub short_last : (deltas : List Source) (debugs : List DebugDelta) → AllGo deltas debugs → ShortLast deltas
+unfolding AllGo
+short_last [] debugs go = tt
+short_last (b ∷ []) debugs go = tt
+short_last (b ∷ a ∷ older) [] go = absurd go
+short_last (b ∷ a ∷ older) (y ∷ []) go = absurd go.1.1
+short_last (b ∷ a ∷ older) (y ∷ x ∷ debugs) go =
+    let p = go.1.0.stream in
+    let q = go.1.1.1.0.stream in
+    let r = go.1.0.code in
+    let t = go.1.1.1.0.code in
+    (grind (arith, p, q), grind (arith, r, t))

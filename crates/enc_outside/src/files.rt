@@ -1,6 +1,6 @@
 //! A store of real files.
 ghost use Rattle.std.specs.Prelude.{◌≡◌, ◌+◌, ℕ, None, IfOk, OnOk, IfSome, IsErrOf, take};
-ghost use Rattle.enc_outside.specs.Outside.{HasCause};
+ghost use Rattle.enc_outside.specs.Outside.{HasCause, risen};
 
 use crate::count::one_more;
 use crate::store::{LoadError, SaveError, Store};
@@ -14,11 +14,19 @@ use std::rt::Files;
 /// The most bytes that a file may have. One byte more is read, so that a longer file shows.
 const LIMIT: u64 = 67_108_864;
 
+/// A fault of a store: the name of the file, None where there was no memory for it, and what the system said.
+#[derive(Drop)]
+pub struct FileFault {
+    pub name: Option<String>,
+    pub cause: io::Error,
+}
+
 /// The files of the system, with a count of faults. A name is a path, relative to the current directory.
 #[derive(Drop)]
 pub struct FileStore<R> {
     rt: R,
     faults: u64,
+    last: Option<FileFault>,
 }
 
 impl<R> Model for FileStore<R> {
@@ -34,7 +42,11 @@ impl<R: Files + AllocGlobal> FileStore<R> {
     pub fn begin(rt: R) -> FileStore<R>
         ensures { result ≡ 0 }
     {
-        FileStore { rt, faults: 0 }
+        FileStore {
+            rt,
+            faults: 0,
+            last: None,
+        }
     }
 
     /// How many faults there were. The count stands still at `u64::MAX`.
@@ -42,6 +54,22 @@ impl<R: Files + AllocGlobal> FileStore<R> {
         ensures { result ≡ self.now }
     {
         self.faults
+    }
+
+    /// The last fault, None where there was none: for people to read. No clause speaks of it.
+    pub fn last_fault(&self) -> Option<&FileFault> {
+        self.last.as_ref()
+    }
+
+    /// Counts a fault and keeps it.
+    fn keep(&mut self, name: &str, cause: io::Error)
+        ensures { self.new ≡ risen self.old }
+    {
+        self.faults = one_more(self.faults);
+        self.last = Some(FileFault {
+            name: String::from_str(self.rt.alloc(), name).ok(),
+            cause,
+        });
     }
 }
 
@@ -63,7 +91,7 @@ impl<R: Files + AllocGlobal> Store for FileStore<R> {
                 ErrorKind::NotFound => Ok(None),
                 ErrorKind::OutOfMemory => Err(LoadError::Memory),
                 _ => {
-                    self.faults = one_more(self.faults);
+                    self.keep(name, error);
                     Err(LoadError::Failed)
                 }
             },
@@ -79,15 +107,15 @@ impl<R: Files + AllocGlobal> Store for FileStore<R> {
         let mut file = match File::create(&self.rt, name) {
             Ok(file) => file,
             Err(error) if error.kind() == ErrorKind::OutOfMemory => return Err(SaveError::Memory),
-            Err(_) => {
-                self.faults = one_more(self.faults);
+            Err(error) => {
+                self.keep(name, error);
                 return Err(SaveError::Failed);
             }
         };
         match file.write_all(bytes) {
             Ok(()) => Ok(()),
-            Err(_) => {
-                self.faults = one_more(self.faults);
+            Err(error) => {
+                self.keep(name, error);
                 Err(SaveError::Failed)
             }
         }

@@ -10,7 +10,7 @@ mod sink;
 mod store;
 mod sure;
 
-pub use files::FileStore;
+pub use files::{FileFault, FileStore};
 pub use memory::{MemSink, MemStore};
 pub use output::OutSink;
 pub use sink::{PutError, Sink};

@@ -4,6 +4,7 @@ ghost use Rattle.enc_outside.specs.Outside.{HasCause};
 
 use crate::count::one_more;
 use crate::sink::{PutError, Sink};
+use std::io;
 use std::marker::Model;
 
 /// The standard output, with a count of faults. No byte is held back: each put has written all of its piece, or fails.
@@ -11,6 +12,7 @@ use std::marker::Model;
 pub struct OutSink<R> {
     rt: R,
     faults: u64,
+    last: Option<io::Error>,
 }
 
 impl<R> Model for OutSink<R> {
@@ -26,7 +28,11 @@ impl<R: Print> OutSink<R> {
     pub fn begin(rt: R) -> OutSink<R>
         ensures { result ≡ 0 }
     {
-        OutSink { rt, faults: 0 }
+        OutSink {
+            rt,
+            faults: 0,
+            last: None,
+        }
     }
 
     /// How many faults there were. The count stands still at `u64::MAX`.
@@ -34,6 +40,11 @@ impl<R: Print> OutSink<R> {
         ensures { result ≡ self.now }
     {
         self.faults
+    }
+
+    /// What the system said at the last fault, None where there was none: for people to read. No clause speaks of it.
+    pub fn last_fault(&self) -> Option<io::Error> {
+        self.last
     }
 }
 
@@ -50,8 +61,9 @@ impl<R: Print> Sink for OutSink<R> {
     {
         match self.rt.write_all(bytes) {
             Ok(()) => Ok(()),
-            Err(_) => {
+            Err(error) => {
                 self.faults = one_more(self.faults);
+                self.last = Some(error);
                 Err(PutError::Failed)
             }
         }

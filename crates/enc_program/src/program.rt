@@ -3,7 +3,7 @@ ghost use Rattle.std.specs.Prelude.{◌≡◌, None, IfSome, map};
 ghost use Rattle.enc_words.specs.Words.{texts};
 ghost use Rattle.enc_top.specs.Served.{course, IsServed};
 
-use enc_outside::{FileStore, OutSink, Sink, Store};
+use enc_outside::{FileFault, FileStore, OutSink, Sink, Store};
 use enc_top::run_tool;
 use enc_watch::{Cover, Trace, Watcher};
 use std::alloc::{AllocError, Global};
@@ -37,6 +37,59 @@ pub fn status_of<S: Store, K: Sink>(
     }
 }
 
+/// The forms of all commands.
+const FORMS: &str = "\
+enc: these are the commands
+  enc show BASE TOKEN DELTA..          a row of the module after the deltas
+  enc list BASE DELTA..                the generations, and the rows that each inserts or updates
+  enc check BASE DELTA..               whether the base and each delta keep the rules
+  enc apply BASE OUT DELTA..           saves the one module with all edits, and its PDB
+  enc write BASE EDITS OUT DELTA..     saves the delta of an edit list
+  enc run BASE SCRIPT                  runs a script
+  enc gen START COUNT OUT              saves a generated case
+  enc compact BASE OUT DELTA..         saves the module as an ordinary one, and its PDB
+  enc merge BASE OUT DELTA DELTA ..    saves one delta that stands for the last two
+BASE is read from BASE.dll and BASE.pdb, DELTA from DELTA.meta, DELTA.il and DELTA.pdb; names are 1 to 200
+ASCII letters, digits and _ - . /, and TOKEN is eight hexadecimal digits.
+";
+
+/// Tells what went wrong with a file, on standard error.
+fn tell_file(rt: &HostRuntime, fault: &FileFault) {
+    let _ = match &fault.name {
+        Some(name) => eprintln!(rt; "enc: {}: {}", name, fault.cause),
+        None => eprintln!(rt; "enc: {}", fault.cause),
+    };
+}
+
+/// Tells people on standard error why it ends with a status of 2 or more, where more than the output is known. No clause
+/// speaks of it.
+fn explain(
+    rt: &HostRuntime,
+    status: u8,
+    store: &FileStore<HostRuntime>,
+    out: &OutSink<HostRuntime>,
+) {
+    match status {
+        2 => {
+            let _ = eprint!(rt; "{}", FORMS);
+        }
+        3 => {
+            let _ = eprintln!(rt; "enc: out of memory");
+        }
+        4 => {
+            if let Some(fault) = store.last_fault() {
+                tell_file(rt, fault);
+            }
+        }
+        5 => {
+            if let Some(cause) = out.last_fault() {
+                let _ = eprintln!(rt; "enc: standard output: {}", cause);
+            }
+        }
+        _ => {}
+    }
+}
+
 /// The status of the words over the files and the standard output of the system, with a trace and a cover that a
 /// script may attach.
 fn status_here(rt: HostRuntime, words: Option<Vec<String>>) -> Result<u8, AllocError> {
@@ -48,7 +101,12 @@ fn status_here(rt: HostRuntime, words: Option<Vec<String>>) -> Result<u8, AllocE
     watchers.push(cover)?;
     let mut store = FileStore::begin(rt);
     let mut out = OutSink::begin(rt);
-    Ok(status_of(alloc, words, &mut store, &mut out, watchers))
+    let had_words = words.is_some();
+    let status = status_of(alloc, words, &mut store, &mut out, watchers);
+    if had_words {
+        explain(&rt, status, &store, &out);
+    }
+    Ok(status)
 }
 
 /// Runs the words of this process over the files and the standard output of the system. The status is 3 where

@@ -14,7 +14,7 @@ use Rattle.enc_checker.specs.Check.{Accepted, judged, new_bodies}
 use Rattle.enc_base.specs.declared.refusal.StreamName.TheVariants as stream
 use Rattle.enc_depth.specs.Depth.{first_deep}
 use Rattle.enc_merged.specs.Merged.{after_both}
-use Rattle.enc_merge.specs.Merges.{AllGo, GoesWith, IsShortDelta, MergesBoth, ShortLast, StandsForBoth, weight_of_both}
+use Rattle.enc_merge.specs.Merges.{AllGo, GoesWith, IsShortDelta, MergesBoth, StandsForBoth, weight_of_both}
 use Rattle.enc_merge.proofs.AcceptedGo.{accepted_delta, accepted_go, short_read}
 use Rattle.enc_merge.specs.declared.fault.MergeFault.{MergeFault}
 use Rattle.enc_merge.specs.declared.fault.MergeFault.TheVariants.{TooLarge, Deep}
@@ -111,20 +111,6 @@ one_longer new old f n e many =
 pub short_seen : (new old : List DeltaFile) (f : DeltaFile) → new ≡ old ++ f ∷ [] → AreShort (map file_seen old) → IsShort (file_seen f) → AreShort (map file_seen new)
 short_seen new old f e all short =
     subst AreShort (sym (ap (map file_seen) e ∙ map-append file_seen old (f ∷ []))) (short_more (map file_seen old) (file_seen f) all short)
-
--- the last two together
-pub short_last : (deltas : List Source) (debugs : List DebugDelta) → AllGo deltas debugs → ShortLast deltas
-unfolding AllGo
-short_last [] debugs go = tt
-short_last (b ∷ []) debugs go = tt
-short_last (b ∷ a ∷ older) [] go = absurd go
-short_last (b ∷ a ∷ older) (y ∷ []) go = absurd go.1.1
-short_last (b ∷ a ∷ older) (y ∷ x ∷ debugs) go =
-    let p = go.1.0.stream in
-    let q = go.1.1.1.0.stream in
-    let r = go.1.0.code in
-    let t = go.1.1.1.0.code in
-    (grind (arith, p, q), grind (arith, r, t))
 
 -- the last of some words
 pub last_at : (words : List (String Global)) (w : String Global) → 1 ≤ length words → w ≡ get_or words (length words - 1) w → last_word (texts words) ≡ string_bytes w

@@ -3,7 +3,8 @@ use Rattle.enc_merge.specs.declared.fault.MergeFault.{MergeFault}
 use Rattle.enc_words.specs.Words.{texts}
 use Rattle.enc_top.specs.Loads.{followed}
 use Rattle.enc_top.specs.Verdict.{last_word, meta}
-use Rattle.enc_top.proofs.Merging.{MergesOf, plan_of_deep, plan_of_heavy, plan_of_merged, short_last}
+use Rattle.enc_merge.proofs.AcceptedGo.{short_last}
+use Rattle.enc_top.proofs.Merging.{MergesOf, plan_of_deep, plan_of_heavy, plan_of_merged}
 use Rattle.enc_top.proofs.commands.merge.merged.Goals as goal
 
 pub merge_last-requires-clause-short : goal.merge_last-requires-clause-short
