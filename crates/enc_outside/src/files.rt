@@ -1,6 +1,6 @@
 //! A store of real files.
 ghost use Rattle.std.specs.Prelude.{◌≡◌, ◌+◌, ℕ, None, IfOk, OnOk, IfSome, IsErrOf, take};
-ghost use Rattle.enc_outside.specs.Outside.{HasCause, risen};
+ghost use Rattle.enc_outside.specs.Outside.{HasCause};
 
 use crate::count::one_more;
 use crate::store::{LoadError, SaveError, Store};
@@ -60,17 +60,6 @@ impl<R: Files + AllocGlobal> FileStore<R> {
     pub fn last_fault(&self) -> Option<&FileFault> {
         self.last.as_ref()
     }
-
-    /// Counts a fault and keeps it.
-    fn keep(&mut self, name: &str, cause: io::Error)
-        ensures { self.new ≡ risen self.old }
-    {
-        self.faults = one_more(self.faults);
-        self.last = Some(FileFault {
-            name: String::from_str(self.rt.alloc(), name).ok(),
-            cause,
-        });
-    }
 }
 
 impl<R: Files + AllocGlobal> Store for FileStore<R> {
@@ -91,7 +80,8 @@ impl<R: Files + AllocGlobal> Store for FileStore<R> {
                 ErrorKind::NotFound => Ok(None),
                 ErrorKind::OutOfMemory => Err(LoadError::Memory),
                 _ => {
-                    self.keep(name, error);
+                    self.faults = one_more(self.faults);
+                    self.last = fault_of(self.rt.alloc(), name, error);
                     Err(LoadError::Failed)
                 }
             },
@@ -108,18 +98,28 @@ impl<R: Files + AllocGlobal> Store for FileStore<R> {
             Ok(file) => file,
             Err(error) if error.kind() == ErrorKind::OutOfMemory => return Err(SaveError::Memory),
             Err(error) => {
-                self.keep(name, error);
+                self.faults = one_more(self.faults);
+                self.last = fault_of(self.rt.alloc(), name, error);
                 return Err(SaveError::Failed);
             }
         };
         match file.write_all(bytes) {
             Ok(()) => Ok(()),
             Err(error) => {
-                self.keep(name, error);
+                self.faults = one_more(self.faults);
+                self.last = fault_of(self.rt.alloc(), name, error);
                 Err(SaveError::Failed)
             }
         }
     }
+}
+
+/// A fault with a copy of the file's name.
+fn fault_of(alloc: Global, name: &str, cause: io::Error) -> Option<FileFault> {
+    Some(FileFault {
+        name: String::from_str(alloc, name).ok(),
+        cause,
+    })
 }
 
 fn read_file<R: Files + AllocGlobal>(rt: &R, name: &str) -> io::Result<Vec<u8>> {
