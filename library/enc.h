@@ -106,6 +106,13 @@ typedef struct {
     uint32_t end_column;
 } enc_point;
 
+/* A pair of a map for `enc_may_remap` and `enc_remap`: where a frame stands in its body, and where it is to stand in the
+ * newest one. */
+typedef struct {
+    uint32_t from;
+    uint32_t to;
+} enc_pair;
+
 /* An exception clause; its code goes from the first offset to one past the last byte. */
 typedef struct {
     uint32_t kind; /* 0 for exceptions of a class, 1 for those that a filter takes, 2 finally, 4 fault */
@@ -206,6 +213,25 @@ uint32_t enc_find_member(enc_handle *handle, uint32_t owner, uint8_t table, cons
 /* The sequence points of a method, and the name of a document that one of them has. */
 uint32_t enc_points(enc_handle *handle, uint32_t method, enc_point *buffer, size_t length, size_t *size);
 uint32_t enc_document(enc_handle *handle, uint32_t method, uint32_t number, uint8_t *buffer, size_t length, size_t *size);
+
+/* What was after the first `generation` deltas, though more were applied since: the row as `enc show` printed it then, the
+ * code, the points and a document of a method. ENC_LATER where there is no such generation. A look-up takes the time of
+ * one now, and some more that is logarithmic in the number of generations. */
+uint32_t enc_row_at(enc_handle *handle, uint32_t generation, uint32_t token, uint8_t *buffer, size_t length, size_t *size);
+uint32_t enc_code_at(enc_handle *handle, uint32_t generation, uint32_t method, uint8_t *buffer, size_t length, size_t *size,
+                     enc_code_head *head);
+uint32_t enc_points_at(enc_handle *handle, uint32_t generation, uint32_t method, enc_point *buffer, size_t length, size_t *size);
+uint32_t enc_document_at(enc_handle *handle, uint32_t generation, uint32_t method, uint32_t number, uint8_t *buffer,
+                         size_t length, size_t *size);
+
+/* For a host with frames of its own: whether a frame of a method may go on in the method's newest body. It has the body that
+ * the method had after the first `generation` deltas and stands at an offset of it; the map leads from offsets to offsets.
+ * `rule` is 0 where it may, and else the first that is broken (docs/scripts.md has them as Q3 to Q7):
+ * 3 no visible point stands at its offset; 4 no pair leads from there; 5 where it leads no instruction with a visible point
+ * begins; 6 the local variables aren't those of the old body and perhaps more, or the interpreter doesn't run the new one;
+ * 7 a handler begins where it leads. Its stack and its running handlers are the host's matter. */
+uint32_t enc_may_remap(enc_handle *handle, uint32_t method, uint32_t generation, uint32_t offset, const enc_pair *map,
+                       size_t length, uint32_t *rule);
 
 /* The words of a refusal as the program prints them, with the end of the line: `E16 06000001\n`. */
 uint32_t enc_words(const enc_refusal *refusal, uint8_t *buffer, size_t length, size_t *size);
