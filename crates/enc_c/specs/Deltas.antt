@@ -17,7 +17,7 @@ use Rattle.enc_jobs.specs.declared.fault.JobFault.TheVariants as fault
 use Rattle.enc_merged.specs.Merged.{after_both}
 use Rattle.enc_merge.specs.Merges.{StandsForBoth, weight_of_both}
 use Rattle.enc_rules.specs.First.{first_edit}
-use Rattle.enc_writer.specs.Stands.{StandsFor}
+use Rattle.enc_writer.specs.Stands.{IsWrittenFor}
 use Rattle.enc_writer.specs.declared.bytes.DeltaBytes.{DeltaBytes}
 use Rattle.enc_c.specs.declared.deltas.Unwritten.{Unwritten}
 use Rattle.enc_c.specs.declared.deltas.Unwritten.TheVariants.{Only, Because}
@@ -71,9 +71,9 @@ unwritten_list c (Err fault) = Some (reason_of_fault fault)
 unfoldable pub unwritten : List ℕ → State → Option Unwritten
 unwritten text s = unwritten_list (chain_after s) (edits_said text)
 
--- the files of a delta stand for the edit list that a text says
+-- the files of a delta are written for the edit list that a text says, and stand for it
 abbrev pub StandsForList : Chain → Result EditList JobFault → DeltaBytes → Type 0
-StandsForList c (Ok l) d = StandsFor c l d
+StandsForList c (Ok l) d = IsWrittenFor c l d
 StandsForList c (Err fault) d = ⊥
 
 abbrev pub StandsForText : List ℕ → State → DeltaBytes → Type 0
