@@ -54,7 +54,7 @@ StandsForTwo s deltas d = ⊥
 abbrev pub StandsForLast : State → DeltaBytes → Type 0
 StandsForLast s d = StandsForTwo s s.deltas d
 
--- why a list isn't written after a chain: its text is no edit list, or one of its edits breaks a rule
+-- why a list isn't written after a chain: its text is no edit list (L3 is of scripts alone), or one of its edits breaks a rule
 abbrev pub reason_of_fault : JobFault → Unwritten
 reason_of_fault fault.J1 = Because Json
 reason_of_fault (fault.J2 n) = Because (Element n)
