@@ -28,15 +28,17 @@ typedef void *enc_handle;
  * ENC_SHORT, nothing is written but the refusal at ENC_REFUSED. */
 enum {
     ENC_DONE = 0,    /* all is done */
-    ENC_REFUSED = 1, /* the files break a rule, which `refusal` names with its place */
+    ENC_REFUSED = 1, /* what is given breaks a rule, or what would be written a limit: `refusal` names it with its place */
     ENC_MEMORY = 3,  /* there is no memory */
     ENC_CLOSED = 7,  /* the handle is closed */
     ENC_OPEN = 8,    /* the handle is open already */
-    ENC_SHORT = 9,   /* the buffer is too short: nothing is copied, and `size` has what is needed */
+    ENC_SHORT = 9,   /* a buffer is too short: nothing is copied, and each `size` has what is needed */
     ENC_ABSENT = 10, /* there is no such row, entry, body or document; a stream that is no heap has no entry */
     ENC_UNLIKE = 11, /* the column, the table or the row isn't of the kind that is asked for, or the numbers name no
                       * stream or no refusal */
-    ENC_LATER = 12   /* there is no such generation */
+    ENC_LATER = 12,  /* there is no such generation */
+    ENC_LIMIT = 13,  /* a stated limit is passed: `enc_merge` where a delta's metadata or code has more than 2^26 bytes */
+    ENC_FEW = 14     /* `enc_merge` where there are fewer than two deltas */
 };
 
 /* The kinds of places of a refusal. */
@@ -53,7 +55,10 @@ enum {
     ENC_AT_ROW = 9,      /* table, row */
     ENC_AT_CELL = 10,    /* table, row, column */
     ENC_AT_OWNER = 11,   /* table, row: of the child */
-    ENC_AT_LOG = 12      /* entry */
+    ENC_AT_LOG = 12,     /* entry */
+    ENC_AT_JSON = 13,    /* the text of an edit list */
+    ENC_AT_EDIT = 14,    /* entry: the edit, or 0 for the list as a whole */
+    ENC_AT_IMAGE = 15    /* the image that would be written */
 };
 
 /* Streams. Those up to ENC_GUIDS are heaps. For the others `enc_locate_heap` answers ENC_ABSENT, and for a
@@ -69,16 +74,18 @@ enum {
     ENC_JTD = 7
 };
 
-/* The first rule that files break, and where. What the place doesn't have is 0. */
+/* The first rule that is broken, and where. What the place doesn't have is 0. Letters: F and E of files, E at
+ * ENC_AT_EDIT of edits, J of the text of an edit list, L4 of a limit of what would be written (ENC_AT_STREAM or
+ * ENC_AT_IMAGE), G1 of a row that lies too deep in others to be merged (ENC_AT_ROW). */
 typedef struct {
-    uint8_t letter; /* 'F' or 'E' */
+    uint8_t letter; /* 'F', 'E', 'J', 'L' or 'G' */
     uint8_t rule;
     uint8_t place;
     uint8_t stream;
     uint8_t table;
     uint8_t column; /* from 0 in the order of ECMA-335 II.22 */
     uint32_t row;   /* from 1 */
-    uint32_t entry; /* of EncLog, from 1 */
+    uint32_t entry; /* of EncLog, or the number of an edit, from 1 */
 } enc_refusal;
 
 /* Where a row or an entry of a heap stands: its generation, 0 for the base, and its position there:
@@ -137,6 +144,11 @@ typedef struct {
     uint32_t blobs;
     uint32_t guids;
 } enc_heap_lengths;
+/* A row that moves: the numbers of its token and of the one that it becomes. */
+typedef struct {
+    uint32_t from;
+    uint32_t to;
+} enc_move;
 
 /* Judges a base, with its Portable PDB where that has bytes, and opens a closed handle. */
 uint32_t enc_open(enc_handle *handle, const uint8_t *bytes, size_t length, const uint8_t *pdb, size_t pdb_length, enc_refusal *refusal);
@@ -144,6 +156,10 @@ uint32_t enc_open(enc_handle *handle, const uint8_t *bytes, size_t length, const
 /* Judges a delta after those before it, with its PDB where that has bytes, and adds it. Where it isn't
  * added, the handle stays as it was. */
 uint32_t enc_apply(enc_handle *handle, const uint8_t *metadata, size_t metadata_length, const uint8_t *il, size_t il_length,
+                   const uint8_t *pdb, size_t pdb_length, enc_refusal *refusal);
+
+/* Judges a delta as `enc_apply` does, and adds nothing. */
+uint32_t enc_check(enc_handle *handle, const uint8_t *metadata, size_t metadata_length, const uint8_t *il, size_t il_length,
                    const uint8_t *pdb, size_t pdb_length, enc_refusal *refusal);
 
 /* Closes a handle and frees what it held; ENC_CLOSED where it was closed before. */
@@ -232,6 +248,32 @@ uint32_t enc_document_at(enc_handle *handle, uint32_t generation, uint32_t metho
  * 7 a handler begins where it leads. Its stack and its running handlers are the host's matter. */
 uint32_t enc_may_remap(enc_handle *handle, uint32_t method, uint32_t generation, uint32_t offset, const enc_pair *map,
                        size_t length, uint32_t *rule);
+/* The calls below write files into buffers, each with its size. Where one of the buffers is too short none is
+ * written, and all sizes are told. The handle stays as it is. They do their work again each time: ask for the
+ * sizes first, or give room enough. */
+
+/* The one module that has all edits, and its PDB. ENC_REFUSED with L4 where one passes a limit. */
+uint32_t enc_save(enc_handle *handle, uint8_t *image, size_t image_length, size_t *image_size,
+                  uint8_t *pdb, size_t pdb_length, size_t *pdb_size, enc_refusal *refusal);
+
+/* The same with its rows in the order of an ordinary module (ECMA-335 II.22), and the rows that move, by rising
+ * tokens `from`. */
+uint32_t enc_compact(enc_handle *handle, uint8_t *image, size_t image_length, size_t *image_size,
+                     uint8_t *pdb, size_t pdb_length, size_t *pdb_size,
+                     enc_move *moves, size_t moves_length, size_t *moves_size, enc_refusal *refusal);
+
+/* One delta that stands for the last two: its metadata, its code and its PDB. ENC_FEW, or ENC_LIMIT; or
+ * ENC_REFUSED with L4 where its PDB passes its limit, or with G1 where a reference lies too deep in others. */
+uint32_t enc_merge(enc_handle *handle, uint8_t *metadata, size_t metadata_length, size_t *metadata_size,
+                   uint8_t *il, size_t il_length, size_t *il_size,
+                   uint8_t *pdb, size_t pdb_length, size_t *pdb_size, enc_refusal *refusal);
+
+/* The delta of an edit list, which is JSON (docs/edits.md): ENC_REFUSED with J1 where it is none, with J2 and the
+ * edit that isn't of the form, or with the rule of edits that one breaks. */
+uint32_t enc_write(enc_handle *handle, const uint8_t *json, size_t json_length,
+                   uint8_t *metadata, size_t metadata_length, size_t *metadata_size,
+                   uint8_t *il, size_t il_length, size_t *il_size,
+                   uint8_t *pdb, size_t pdb_length, size_t *pdb_size, enc_refusal *refusal);
 
 /* The words of a refusal as the program prints them, with the end of the line: `E16 06000001\n`. */
 uint32_t enc_words(const enc_refusal *refusal, uint8_t *buffer, size_t length, size_t *size);

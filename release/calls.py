@@ -13,6 +13,10 @@ class Refusal(ctypes.Structure):
     _fields_ = [(n, u8) for n in ("letter", "rule", "place", "stream", "table", "column")] + [("row", u32), ("entry", u32)]
 
 
+class Move(ctypes.Structure):
+    _fields_ = [("before", u32), ("after", u32)]
+
+
 class Place(ctypes.Structure):
     _fields_ = [("generation", u32), ("position", u32)]
 
@@ -44,7 +48,11 @@ def main(library):
     is_so("the base once more", opened(base), 8)
     is_so("the base as a delta", applied(base, bytes(4)), 1)
     is_so("generations before the delta", (enc.enc_generations(at, ctypes.byref(count)), count.value), (0, 1))
+    checked = lambda m, i: enc.enc_check(at, m, size_t(len(m)), i, size_t(len(i)), b"", size_t(0), why)
+    is_so("the delta checked", checked(delta, il), 0)
+    is_so("nothing added", (enc.enc_generations(at, ctypes.byref(count)), count.value), (0, 1))
     is_so("the delta", applied(delta, il), 0)
+    is_so("the delta checked once more", (checked(delta, il), chr(refusal.letter), refusal.rule), (1, "E", 2))
     is_so("the delta once more", (applied(delta, il), chr(refusal.letter), refusal.rule), (1, "E", 2))
     is_so("generations behind it", (enc.enc_generations(at, ctypes.byref(count)), count.value), (0, 2))
     is_so("rows of TypeRef", (enc.enc_count(at, u8(1), ctypes.byref(count)), count.value), (0, 2))
@@ -57,6 +65,42 @@ def main(library):
     is_so("a short buffer", (enc.enc_text(at, u32(STRING), u8(1), short, size_t(5), ctypes.byref(size)), size.value, short.raw), (9, 6, bytes(5)))
     is_so("its name", (enc.enc_text(at, u32(STRING), u8(1), name, size_t(6), ctypes.byref(size)), name.raw), (0, b"String"))
     is_so("its row as it is printed", (enc.enc_row(at, u32(STRING), row, size_t(88), ctypes.byref(size)), size.value, row.raw[:16]), (0, 88, b"01000002 TypeRef"))
+    sizes = [size_t() for _ in range(3)]
+
+    def written(call, *given, count, lengths=(0, 0, 0), kinds=(u8, u8, u8)):
+        """What a call answers that writes files, and what the buffers have."""
+        buffers = [(kind * length)() for kind, length in zip(kinds, lengths)][:count]
+        parts = [p for b, length, s in zip(buffers, lengths, sizes) for p in (b, size_t(length), ctypes.byref(s))]
+        status = call(at, *given, *parts, why)
+        return status, [bytes(b) for b in buffers]
+
+    def whole(what, call, *given, count, kinds=(u8, u8, u8)):
+        """The files of a call, which is asked for their sizes, with one buffer too short, and with room for all."""
+        is_so(f"the sizes of {what}", written(call, *given, count=count, kinds=kinds)[0], 9)
+        lengths = [s.value for s in sizes]
+        lengths[0] -= 1
+        is_so(f"a short buffer for {what}", (lambda s, files: (s, any(any(f) for f in files)))(*written(call, *given, count=count, lengths=lengths, kinds=kinds)), (9, False))
+        lengths[0] += 1
+        status, files = written(call, *given, count=count, lengths=lengths, kinds=kinds)
+        is_so(what, status, 0)
+        return files
+
+    image, pdb = whole("the saved module", enc.enc_save, count=2)
+    second = ctypes.c_void_p()
+    is_so("it opened", enc.enc_open(ctypes.byref(second), image, size_t(len(image)), pdb, size_t(len(pdb)), why), 0)
+    is_so("its rows of TypeRef", (enc.enc_count(ctypes.byref(second), u8(1), ctypes.byref(count)), count.value), (0, 2))
+    is_so("it closed", enc.enc_close(ctypes.byref(second)), 0)
+    image, pdb, moves = whole("the compacted module", enc.enc_compact, count=3, kinds=(u8, u8, Move))
+    is_so("it opened", enc.enc_open(ctypes.byref(second), image, size_t(len(image)), pdb, size_t(len(pdb)), why), 0)
+    is_so("it closed", enc.enc_close(ctypes.byref(second)), 0)
+    is_so("a merge of one delta", written(enc.enc_merge, count=3)[0], 14)
+    bad, good = b"{", b'{"encId":"11111111-2222-3333-4444-555555555555","edits":[]}'
+    line = ctypes.create_string_buffer(8)
+    is_so("a list that is no JSON", written(enc.enc_write, bad, size_t(len(bad)), count=3)[0], 1)
+    is_so("its words", (enc.enc_words(why, line, size_t(8), ctypes.byref(size)), line.raw), (0, b"J1 json\n"))
+    meta, code, pdb = whole("the delta of a list", enc.enc_write, good, size_t(len(good)), count=3)
+    is_so("it applied", enc.enc_apply(at, meta, size_t(len(meta)), code, size_t(len(code)), pdb, size_t(len(pdb)), why), 0)
+    meta, code, pdb = whole("the last two merged", enc.enc_merge, count=3)
     is_so("closing", enc.enc_close(at), 0)
     is_so("closing once more", (enc.enc_close(at), handle.value), (7, None))
     refusal, words = Refusal(letter=ord("E"), rule=16, place=10, table=6, row=1), ctypes.create_string_buffer(17)

@@ -17,7 +17,7 @@ use Rattle.enc_jobs.specs.declared.fault.JobFault.TheVariants as fault
 use Rattle.enc_merged.specs.Merged.{after_both}
 use Rattle.enc_merge.specs.Merges.{StandsForBoth, weight_of_both}
 use Rattle.enc_rules.specs.First.{first_edit}
-use Rattle.enc_writer.specs.Stands.{StandsFor}
+use Rattle.enc_writer.specs.Stands.{IsWrittenFor}
 use Rattle.enc_writer.specs.declared.bytes.DeltaBytes.{DeltaBytes}
 use Rattle.enc_c.specs.declared.deltas.Unwritten.{Unwritten}
 use Rattle.enc_c.specs.declared.deltas.Unwritten.TheVariants.{Only, Because}
@@ -54,7 +54,7 @@ StandsForTwo s deltas d = ⊥
 abbrev pub StandsForLast : State → DeltaBytes → Type 0
 StandsForLast s d = StandsForTwo s s.deltas d
 
--- why a list isn't written after a chain: its text is no edit list, or one of its edits breaks a rule
+-- why a list isn't written after a chain: its text is no edit list (L3 is of scripts alone), or one of its edits breaks a rule
 abbrev pub reason_of_fault : JobFault → Unwritten
 reason_of_fault fault.J1 = Because Json
 reason_of_fault (fault.J2 n) = Because (Element n)
@@ -71,9 +71,9 @@ unwritten_list c (Err fault) = Some (reason_of_fault fault)
 unfoldable pub unwritten : List ℕ → State → Option Unwritten
 unwritten text s = unwritten_list (chain_after s) (edits_said text)
 
--- the files of a delta stand for the edit list that a text says
+-- the files of a delta are written for the edit list that a text says, and stand for it
 abbrev pub StandsForList : Chain → Result EditList JobFault → DeltaBytes → Type 0
-StandsForList c (Ok l) d = StandsFor c l d
+StandsForList c (Ok l) d = IsWrittenFor c l d
 StandsForList c (Err fault) d = ⊥
 
 abbrev pub StandsForText : List ℕ → State → DeltaBytes → Type 0

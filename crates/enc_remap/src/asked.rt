@@ -129,7 +129,7 @@ fn first_broken_of<V: ModuleView>(
         return Ok(Some(6));
     };
     if is_handled(&new.code, to) {
-        return Ok(None);
+        return Ok(Some(7));
     }
     Ok(None)
 }
