@@ -1,14 +1,15 @@
 # Installs the release of dist/: the program enc, the C library with its header and pkg-config file, the manual page.
-#   make install [PREFIX=/usr/local] [DESTDIR=..]    make uninstall    make deb
+#   make install [PREFIX=/usr/local] [DESTDIR=..]    make uninstall    make deb    make nuget
 PREFIX = /usr/local
 VERSION := $(shell cat VERSION)
 INSTALL = install
 to = $(DESTDIR)$(PREFIX)
 deb = out/enc_$(VERSION)_amd64.deb
+nupkg = out/Enc.$(VERSION).nupkg
 
-.PHONY: all install uninstall deb clean
+.PHONY: all install uninstall deb nuget clean
 all:
-	@echo "nothing has to be built: dist/ holds the release. make install, make uninstall, make deb"
+	@echo "nothing has to be built: dist/ holds the release. make install, make uninstall, make deb, make nuget"
 
 out/enc.pc: release/enc.pc.in VERSION
 	mkdir -p out
@@ -35,5 +36,10 @@ $(deb): dist/SOURCES release/deb release/enc.1.in release/enc.pc.in VERSION LICE
 	rm -f out/enc.pc
 	release/deb $(VERSION) $@
 
+nuget: $(nupkg)
+$(nupkg): dist/libenc.so release/nuget csharp/Enc.nuspec csharp/Enc.cs docs/csharp.md VERSION LICENSE
+	release/nuget $(VERSION) dist/libenc.so out/nuget $@
+
 clean:
-	rm -f out/enc.pc out/enc.1.gz out/*.deb
+	rm -rf out/nuget
+	rm -f out/enc.pc out/enc.1.gz out/*.deb out/*.nupkg
