@@ -5,7 +5,7 @@ use Rattle.std.proofs.lemmas.List.{reverse-append, length-reverse, length-drop, 
 use Rattle.enc_base.specs.Token.{is_token}
 use Rattle.enc_base.specs.declared.token.Token.{Token}
 use Rattle.enc_rows.specs.Source.{Source}
-use Rattle.enc_ppdb.specs.PdbChain.{DebugDelta, PdbHistory, base_row, delta_row, earlier_pdb}
+use Rattle.enc_ppdb.specs.PdbChain.{DebugDelta, base_row, delta_row, earlier_pdb}
 use Rattle.enc_ppdb.specs.KnownAt.{known_or, known_at}
 
 -- a list by its last element

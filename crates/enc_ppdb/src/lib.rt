@@ -16,9 +16,11 @@ mod outer;
 mod parts;
 mod pdb;
 mod sizes;
+mod told;
 mod write;
 mod writer;
 
+pub use enc_places::Listings;
 pub use chain::{EarlierPdb, PdbChain};
 pub use hash::{SHA_256, source_hash};
 pub use laws::pdb_means_law;

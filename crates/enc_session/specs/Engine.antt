@@ -56,7 +56,7 @@ pub record IsDeltaReady (p : Parts) (d : Source) (pdb : Option Source) (x : Prep
   pub delta : x.ready.delta ≡ d
   pub debug : x.pdb ≡ pdb
   pub changed : x.changed ≡ new_bodies d
-  pub rows : IsPrepared (chain_of_all p.agg) x.ready
+  pub rows : IsPrepared p.agg.base p.agg.deltas x.ready
   pub rows_room : 0 < p.agg.room
   pub debug_room : 0 < p.debug.room
   pub codes : x.versions ≡ new_versions d pdb

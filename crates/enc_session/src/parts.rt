@@ -57,7 +57,7 @@ fn ready_of<L: Ledger>(agg: &mut Aggregate, delta: Delta, blank: Blank) -> Resul
     ensures deltas { agg.new.deltas ≡ agg.old.deltas }
     ensures room { IfOk result (λ r. 0 < agg.new.room) }
     ensures delta { IfOk result (λ r. r.delta ≡ delta) }
-    ensures ready { IfOk result (IsPrepared (chain_of_all agg.old)) }
+    ensures ready { IfOk result (IsPrepared agg.old.base agg.old.deltas) }
 {
     let mut steps = Steps::<L>::begin(blank);
     agg.prepare(delta, &mut steps)
@@ -71,7 +71,7 @@ fn index_ready(
     dispatch: &mut Dispatch,
     changed: &[Token],
 ) -> Result<NewDispatch, AllocError>
-    requires ready { IsPrepared (chain_of_all agg.now) ready.now }
+    requires ready { IsPrepared agg.now.base agg.now.deltas ready.now }
     requires stands { StandsForModule dispatch.old (module_of_all agg.now) }
     requires changed { IsChangedBy (module_of_all agg.now) (extended (chain_of_all agg.now) ready.now.delta).plain changed.now }
     ensures kept { dispatch.new ≡ with_room dispatch.new.room dispatch.old }

@@ -1,6 +1,5 @@
-use Rattle.std.proofs.Common.{◌≡◌, ◌<◌, ◌+◌, ◌∙◌, ap, sym, length, arith}
+use Rattle.std.proofs.Common.{arith}
 use Rattle.std.specs.Prelude.{vec_len, vec_capacity}
-use Rattle.enc_ppdb.specs.PlacedAt.{room_for}
 use Rattle.enc_ppdb.proofs.PlacedFiles.{room_there, room_less}
 use Rattle.enc_ppdb.proofs.SoundFiles.{chain_keeps_sound}
 use Rattle.enc_ppdb.proofs.chain.PdbChain.add.Goals as goal

@@ -1,4 +1,4 @@
-use Rattle.std.specs.Prelude.{◌-◌, vec_capacity, vec_len}
+use Rattle.std.specs.Prelude.{vec_capacity, vec_len}
 use Rattle.enc_ppdb.specs.PlacedAt.{room_for}
 use Rattle.enc_ppdb.proofs.KnownFiles.{earlier_is}
 use Rattle.enc_ppdb.proofs.chain.PdbChain.at.Goals as goal
