@@ -23,7 +23,8 @@ use Rattle.enc_ppdb.specs.KnownAt.{known_or, known_at}
 use Rattle.enc_ppdb.specs.PdbChain.{DebugDelta, base_row, delta_row, row_in_file, pdb_with}
 use Rattle.enc_ppdb.specs.PlacedAt.{number_or, file_number}
 use Rattle.enc_ppdb.specs.Points.{names_method, row_for}
-use Rattle.enc_ppdb.specs.Told.{method_named_by, methods_named, told_methods, tells_of, own_told, told_by, every_told, AreTold, IsPdbWhole, IsEarlierPdb}
+use Rattle.enc_ppdb.specs.Told.{method_named_by, methods_named, told_methods, tells_of, own_told, told_by, every_told, AreToldBy, IsPdbWhole, IsEarlierPdb}
+use Rattle.enc_ppdb.proofs.KnownFiles.{take_short, reversed_front}
 use Rattle.enc_ppdb.proofs.Positions.{position_any}
 
 -- methods listed one by one behind others
@@ -36,7 +37,7 @@ pub listed_more : (x : Places) (ts ms : List Token) (own : Token → Option RowP
     → ((q : Key) → latest new.places.items q ≡ either (if is_key (place_key t n) q then p else None) (latest old.places.items q))
     → AreOfThose x (ts ++ take k ms) own old → AreOfThose x (ts ++ take (k + 1) ms) own new
 listed_more x ts ms own k n t p old new at many place counts places was =
-    let more : take (k + 1) ms ≡ take k ms ++ t ∷ [] = take_more k ms t (slice_get_within ms k t at) ∙ ap (λ y. take k ms ++ y ∷ []) (get_or_from_slice_get ms k t t at) in
+    let more : take (k + 1) ms ≡ take k ms ++ t ∷ [] = take_more ms k t (slice_get_within ms k t at) ∙ ap (λ y. take k ms ++ y ∷ []) (get_or_from_slice_get ms k t t at) in
     let e : ts ++ take (k + 1) ms ≡ (ts ++ take k ms) ++ t ∷ [] = ap (λ ys. ts ++ ys) more ∙ sym (append_assoc ts (take k ms) (t ∷ [])) in
     rw e (those_behind x own (ts ++ take k ms) n t p old new many place counts places was)
 
@@ -45,6 +46,10 @@ pub all_listed : (x : Places) (ts : List Token) (s : Source) (own : Token → Op
 all_listed x ts s own k l past those =
     let e : take k (map method_named_by (named_tokens s)) ≡ map method_named_by (named_tokens s) = take_all k (map method_named_by (named_tokens s)) (omega (arith, past, length-map (named_tokens s) method_named_by)) in
     rw e at those
+
+pub both_listed : (x : Places) (changed : List Token) (pdb : Option Source) (s : Source) (own : Token → Option RowPlace) (l : Listings) → pdb ≡ Some s
+    → AreOfThose x (changed ++ map method_named_by (named_tokens s)) own l → AreOfThose x (told_methods (record { pdb = pdb; changed = changed })) own l
+both_listed x changed pdb s own l is those = rw is those
 
 -- they are those of which the delta tells something
 turned : (a b : ℕ) → (a == b) ≡ (b == a)
@@ -89,8 +94,8 @@ told_any d u = any_append (λ t. is_token t u) d.changed (methods_named d.pdb)
     ∙ ap (λ b. list_any (is_token u) d.changed || b) (named_any d.pdb u)
 
 pub are_told : (deltas : List DebugDelta) (d : DebugDelta) (x : Places) (g : ℕ) (l : Listings) → KeepsAllPlaces (every_told deltas) (length deltas) x → g ≡ suc (length deltas)
-    → AreOfThose x (told_methods d) (own_told g) l → AreTold deltas d l
-unfolding AreTold
+    → AreOfThose x (told_methods d) (own_told g) l → AreToldBy deltas d l
+unfolding AreToldBy
 are_told deltas d x g l keeps is those =
     all_listings (every_told deltas) (length deltas) x (own_told (suc (length deltas))) (told_by (suc (length deltas)) d) (told_methods d) l keeps
     (λ u. ap (λ b. if b then own_told (suc (length deltas)) u else None) (told_any d u)) (rw is at those)
@@ -109,8 +114,8 @@ told_within (d ∷ older) u i low =
 pub told_more : (deltas : List DebugDelta) (d : DebugDelta) (x y : Places) (l : Listings)
     → ((q : Key) → value_at y.places q ≡ either (latest l.places.items q) (value_at x.places q))
     → ((q : Key) → value_at y.counts q ≡ either (latest l.counts.items q) (value_at x.counts q))
-    → KeepsAllPlaces (every_told deltas) (length deltas) x → AreTold deltas d l → KeepsAllPlaces (every_told (d ∷ deltas)) (length (d ∷ deltas)) y
-unfolding every_told AreTold
+    → KeepsAllPlaces (every_told deltas) (length deltas) x → AreToldBy deltas d l → KeepsAllPlaces (every_told (d ∷ deltas)) (length (d ∷ deltas)) y
+unfolding every_told AreToldBy
 told_more deltas d x y l places counts was brought =
     keeps_more (every_told deltas) (length deltas) (told_by (suc (length deltas)) d) x y l places counts
     (λ u p is. of_generation (suc (length deltas)) (tells_of d u) u p is) was brought
@@ -183,11 +188,12 @@ teller_step : (base : Option Source) (none : ℕ) (d : DebugDelta) (older : List
 unfolding known_at file_number
 teller_step base none d older u true o tells rest =
     let e : length older + 1 ≡ suc (length older) = omega arith in
+    let own : suc (length older) - 1 ≡ length older = omega arith in
     let front : reverse (d ∷ older) ≡ reverse older ++ d ∷ [] = reverse-append (d ∷ []) older in
     let last : slice_get (reverse older ++ d ∷ []) (length older) ≡ Some d = ap (slice_get (reverse older ++ d ∷ [])) (sym (length-reverse older)) ∙ get_behind (reverse older) (d ∷ []) in
     record {
       delta = d;
-      there = ap (λ xs. slice_get xs (length older)) front ∙ last;
+      there = ap (slice_get (reverse (d ∷ older))) own ∙ ap (λ xs. slice_get xs (length older)) front ∙ last;
       low = omega arith;
       high = omega arith;
       known = known_tells (delta_row d.pdb u) (list_any (is_token u) d.changed) _ tells;
@@ -208,13 +214,13 @@ teller_step base none d older u false (Some p) tells rest =
       number = number_else (is_some (delta_row d.pdb u)) (list_any (is_token u) d.changed) (length older + 1) none _ tells ∙ rest.number;
     }
 
+base_alone : (base : Option Source) (none : ℕ) (u : Token) → Teller base none [] u None
+unfolding known_at file_number
+base_alone base none u = (refl, refl)
+
 teller : (base : Option Source) (none : ℕ) (deltas : List DebugDelta) (u : Token) → Teller base none deltas u (slice_get (every_told deltas u) (length (every_told deltas u) - 1))
 unfolding every_told
-teller base none [] u = base_alone
-  where
-    base_alone : Teller base none [] u None
-    unfolding known_at file_number
-    base_alone = (refl, refl)
+teller base none [] u = base_alone base none u
 teller base none (d ∷ older) u =
     subst (Teller base none (d ∷ older) u) (sym (last_with (every_told older u) (told_by (suc (length older)) d u)))
     (teller_step base none d older u (tells_of d u) (slice_get (every_told older u) (length (every_told older u) - 1)) refl (teller base none older u))
@@ -238,3 +244,57 @@ pub told_there : (base : Option Source) (none : ℕ) (added : List DebugDelta) (
     → ((first : List RowPlace) → BeginWith first (length added) (places_kept x u) (λ i. value_at x.places (place_key u i)) → o ≡ slice_get first (length first - 1))
     → o ≡ Some p → IsTeller base none (reverse added) u p
 told_there base none added x u o p keeps told is = subst (Teller base none (reverse added) u) is (teller_kept base none added x u o keeps told)
+
+teller_is : (base : Option Source) (none : ℕ) (added : List DebugDelta) (u : Token) (p : RowPlace) (d : DebugDelta) (t : IsTeller base none (reverse added) u p)
+    → d ≡ get_or added (p.generation - 1) d → d ≡ t.delta
+teller_is base none added u p d t is =
+    let there : slice_get added (p.generation - 1) ≡ Some t.delta = ap (λ xs. slice_get xs (p.generation - 1)) (sym (reverse-reverse added)) ∙ t.there in
+    is ∙ get_or_from_slice_get added (p.generation - 1) t.delta d there
+
+pub told_row : (base : Option Source) (none : ℕ) (added : List DebugDelta) (u : Token) (p : RowPlace) (d : DebugDelta) (o : Option (Source × Token))
+    → IsTeller base none (reverse added) u p → d ≡ get_or added (p.generation - 1) d → o ≡ delta_row d.pdb u → o ≡ known_at base (reverse added) u
+told_row base none added u p d o t is row = row ∙ ap (λ (x : DebugDelta). delta_row x.pdb u) (teller_is base none added u p d t is) ∙ sym t.known
+
+pub told_number : (base : Option Source) (none : ℕ) (added : List DebugDelta) (u : Token) (p : RowPlace) (d : DebugDelta) (b : Bool)
+    → IsTeller base none (reverse added) u p → d ≡ get_or added (p.generation - 1) d → is_some (delta_row d.pdb u) ≡ b
+    → (if b then p.generation else none) ≡ file_number base none (reverse added) u
+told_number base none added u p d b t is some =
+    ap (λ c. if c then p.generation else none) (sym some ∙ ap (λ (x : DebugDelta). is_some (delta_row x.pdb u)) (teller_is base none added u p d t is)) ∙ sym t.number
+
+pub base_number : (base : Option Source) (none : ℕ) (added : List DebugDelta) (u : Token) (b : Bool) → Teller base none (reverse added) u None → is_some (base_row base u) ≡ b
+    → (if b then 0 else none) ≡ file_number base none (reverse added) u
+base_number base none added u b t some = ap (λ c. if c then 0 else none) (sym some) ∙ sym t.1
+
+-- what is kept of a chain, with one delta more
+sound_behind : (base : Option Source) (d : DebugDelta) (older : List DebugDelta) → IsSoundPdb (pdb_with base (d ∷ older))
+    → ((n : ℕ) → IsSoundPdb (pdb_with base (drop n older))) → (n : ℕ) → IsSoundPdb (pdb_with base (drop n (d ∷ older)))
+sound_behind base d older last before zero = last
+sound_behind base d older last before (suc n) = before n
+
+pub whole_more : (base : Option Source) (added more : List DebugDelta) (d : DebugDelta) (x y : Places) (l : Listings) → more ≡ added ++ d ∷ []
+    → IsSoundPdb (pdb_with base (reverse more))
+    → ((q : Key) → value_at y.places q ≡ either (latest l.places.items q) (value_at x.places q))
+    → ((q : Key) → value_at y.counts q ≡ either (latest l.counts.items q) (value_at x.counts q))
+    → IsPdbWhole base (reverse added) x → AreToldBy (reverse added) d l → IsPdbWhole base (reverse more) y
+whole_more base added more d x y l is sound places counts was brought =
+    let e : reverse more ≡ d ∷ reverse added = ap reverse is ∙ reverse-append added (d ∷ []) in
+    rw e (record { sound = sound_behind base d (reverse added) (rw e at sound) was.sound; places = told_more (reverse added) d x y l places counts was.places brought })
+
+-- of a base alone
+pub whole_begun : (base : Option Source) (x : Places) → IsSoundPdb (pdb_with base []) → ((q : Key) → value_at x.counts q ≡ None) → IsPdbWhole base [] x
+whole_begun base x sound none = record { sound = by_number; places = nothing_told x none }
+  where
+    by_number : (n : ℕ) → IsSoundPdb (pdb_with base (drop n []))
+    by_number zero = sound
+    by_number (suc n) = sound
+
+-- and of the first deltas
+pub whole_first : (base : Option Source) (added : List DebugDelta) (g : ℕ) (x : Places) → length added + 1 < 2 ^ 32 → IsPdbWhole base (reverse added) x
+    → IsEarlierPdb base (take g added) x
+whole_first base added g x few whole =
+    let front = reversed_front added g in
+    record {
+      few = omega (arith, few, take_short g added);
+      sound = rw front (whole.sound (length (reverse added) - g));
+      places = rw front (told_first (reverse added) (length (reverse added) - g) x whole.places.first);
+    }

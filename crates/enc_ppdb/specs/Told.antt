@@ -41,8 +41,8 @@ every_told [] method = []
 every_told (d ∷ older) method = every_told older method ++ one_place (told_by (suc (length older)) d method)
 
 -- what is to be kept of a delta that follows others
-unfoldable pub AreTold : List DebugDelta → DebugDelta → Listings → Type 0
-AreTold deltas d l = AreListings (every_told deltas) (told_by (suc (length deltas)) d) l
+unfoldable pub AreToldBy : List DebugDelta → DebugDelta → Listings → Type 0
+AreToldBy deltas d l = AreListings (every_told deltas) (told_by (suc (length deltas)) d) l
 
 -- what is known after each delta is sound, and for each method the deltas are kept that tell of it
 pub record IsPdbWhole (base : Option Source) (deltas : List DebugDelta) (x : Places) : Type 0 where

@@ -5,7 +5,7 @@ ghost use Rattle.enc_ppdb.specs.PdbChain.{base_row, delta_row, is_named_by, pdb_
 ghost use Rattle.enc_ppdb.specs.Sound.{KeepsSound};
 ghost use Rattle.enc_ppdb.specs.KnownAt.{known_at};
 ghost use Rattle.enc_ppdb.specs.PlacedAt.{file_number};
-ghost use Rattle.enc_ppdb.specs.Told.{every_told, AreTold};
+ghost use Rattle.enc_ppdb.specs.Told.{every_told, AreToldBy};
 ghost use Rattle.enc_places.specs.Places.{KeepsPlaces};
 
 use crate::known::{Known, document_at, points_at};
@@ -200,14 +200,14 @@ impl PdbChain {
     /// The methods of which a delta tells something, as they are to be kept of it: those that its PDB
     /// names, where it has one, and those that have a new body in it. `AllocError` where there is no
     /// memory.
-    #[tactic(auto, unfolding(crate::specs::Told::AreTold))]
+    #[tactic(auto, unfolding(crate::specs::Told::AreToldBy))]
     pub fn told(
         &self,
         alloc: Global,
         pdb: &Option<PdbDelta>,
         changed: &MethodList,
     ) -> Result<Listings, AllocError>
-        ensures { IfOk result (AreTold self.now.deltas (record { pdb = pdb.now; changed = changed.now })) }
+        ensures { IfOk result (AreToldBy self.now.deltas (record { pdb = pdb.now; changed = changed.now })) }
     {
         let generation = self.added.len() as u32 + 1;
         let listings = told(alloc, &self.places, pdb, changed, generation)?;
@@ -218,7 +218,7 @@ impl PdbChain {
     /// It can't fail.
     pub fn add(&mut self, delta: Option<PdbDelta>, changed: MethodList, told: Listings)
         requires room { 0 < self.old.room }
-        requires told { AreTold self.old.deltas (record { pdb = delta; changed = changed }) told }
+        requires told { AreToldBy self.old.deltas (record { pdb = delta; changed = changed }) told }
         ensures base { self.new.base ≡ self.old.base }
         ensures deltas { self.new.deltas ≡ (record { pdb = delta; changed = changed }) ∷ self.old.deltas }
         ensures room { self.new.room + 1 ≡ self.old.room }
@@ -297,7 +297,10 @@ impl PointSource for EarlierPdb<'_> {
     }
 
     fn document_place(&self, method: Token, number: u32) -> u64 {
-        place(number_of(self.base, self.added, self.places, method) as u32, number)
+        place(
+            number_of(self.base, self.added, self.places, method) as u32,
+            number,
+        )
     }
 
     ghost knows = { λ h method. known_by h.base h.deltas method };
@@ -324,7 +327,10 @@ impl PointSource for PdbChain {
     }
 
     fn document_place(&self, method: Token, number: u32) -> u64 {
-        place(number_of(&self.base, &self.added, &self.places, method) as u32, number)
+        place(
+            number_of(&self.base, &self.added, &self.places, method) as u32,
+            number,
+        )
     }
 
     ghost knows = { λ h method. known_by h.base h.deltas method };

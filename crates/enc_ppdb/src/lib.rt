@@ -20,8 +20,8 @@ mod told;
 mod write;
 mod writer;
 
-pub use enc_places::Listings;
 pub use chain::{EarlierPdb, PdbChain};
+pub use enc_places::Listings;
 pub use hash::{SHA_256, source_hash};
 pub use laws::pdb_means_law;
 pub use methods::MethodList;
