@@ -25,12 +25,12 @@ use Rattle.enc_agg.specs.Seen.{sources, AllAdded, IsAdded, IsAggregate, found_or
 use Rattle.enc_agg.specs.Directory.{row_key, kids_key, place_seen, HasPlaces, IsBare, IsHeld, kept_one, kids_kept, with_kept, AreOwned, AreHeld, IsDirectory, AreBrought}
 use Rattle.std.proofs.lemmas.Bool.Decides.{nat_tests}
 use Rattle.enc_image.specs.Base.{cells_fault, module_in, chain_of_base}
-use Rattle.enc_agg.specs.declared.places.Places.{Places}
+use Rattle.enc_places.specs.declared.places.Places.{Places}
+use Rattle.enc_places.proofs.Keeping.{get_front}
 use Rattle.enc_agg.specs.Prepared.{IsWhole}
 use Rattle.enc_agg.proofs.Histories.{last_added, with_sound, ids_count}
 use Rattle.enc_agg.proofs.Children.{kids_after, owner_kept, owned_after, rows_grow}
 use Rattle.enc_agg.proofs.Generations.{reversed_part}
-use Rattle.enc_agg.proofs.RowsAndKids.{get_left}
 
 -- what was found is a front of the deltas, oldest first
 front_step : (a : Added) (older : List Added) (o : Option ℕ) (rest : Option (List Added × ℕ)) (f : List Added × ℕ) → (rest ≡ Some f → (length f.0 ≤ length older) × (f.0 ≡ drop (length older - length f.0) older)) → found_or (a ∷ older) o rest ≡ Some f → (length f.0 ≤ suc (length older)) × (f.0 ≡ drop (suc (length older) - length f.0) (a ∷ older))
@@ -82,17 +82,10 @@ count_both : (c d : Option ℕ) (m n k : ℕ) → unwrap_or c m ≡ n → unwrap
 count_both c (Some v) m n k h i = i
 count_both c None m n k h i = h ∙ i
 
-pub get_some : {X : Type 0} (xs : List X) (i : ℕ) → i < length xs → (x : X) × (slice_get xs i ≡ Some x)
+pub get_some : (xs : List ℕ) (i : ℕ) → i < length xs → (x : ℕ) × (slice_get xs i ≡ Some x)
 get_some [] i low = absurd (omega arith)
 get_some (x ∷ xs) zero low = (x, refl)
 get_some (x ∷ xs) (suc i) low = get_some xs i (omega arith)
-
-pub get_front : {X : Type 0} (xs ys : List X) (i : ℕ) → i < length xs → slice_get (xs ++ ys) i ≡ slice_get xs i
-get_front xs ys i low = let w = get_some xs i low in get_left xs ys i w.0 w.1 ∙ sym w.1
-
-pub get_behind : {X : Type 0} (xs ys : List X) → slice_get (xs ++ ys) (length xs) ≡ slice_get ys 0
-get_behind [] ys = refl
-get_behind (x ∷ xs) ys = get_behind xs ys
 
 held_both : (first : ℕ) (xs ys : List ℕ) (c d : Option ℕ) (kid more : ℕ → Option ℕ) → IsHeld xs first c kid → IsHeld (xs ++ ys) (length xs) d more → IsHeld (xs ++ ys) first (either d c) (λ i. either (more i) (kid i))
 held_both first xs ys c d kid more h k = record {
@@ -148,7 +141,7 @@ rows_more b (a ∷ older) clean all t =
     omega (arith, rows_more b older clean parts.1 t, rows_grow (chain_with b (sources older)) a.delta sound.tables parts.0.follows.lands t)
 
 -- the newest places
-place_step : (a : Added) (older : List Added) (o : Option ℕ) (n : ℕ) (rest : Option (List Added × ℕ)) → n ≡ length (a ∷ older) → either (option_map (λ (k : ℕ). record { generation = n; row = k }) o) (option_map place_seen rest) ≡ option_map place_seen (found_or (a ∷ older) o rest)
+pub place_step : (a : Added) (older : List Added) (o : Option ℕ) (n : ℕ) (rest : Option (List Added × ℕ)) → n ≡ length (a ∷ older) → either (option_map (λ (k : ℕ). record { generation = n; row = k }) o) (option_map place_seen rest) ≡ option_map place_seen (found_or (a ∷ older) o rest)
 place_step a older None n rest e = refl
 place_step a older (Some k) n rest e = rw e refl
 

@@ -32,7 +32,7 @@ use Rattle.enc_agg.specs.Directory.{row_key, kids_key, IsHeld, AreOwned, AreHeld
 use Rattle.enc_agg.proofs.Pairs.{OwnedBy, AllOwned}
 use Rattle.enc_agg.proofs.Children.{attaches_row, pairs_owned, owned_at, kids_after, owner_new, once_at, rows_after, owned_after}
 use Rattle.enc_agg.proofs.Histories.{after_few}
-use Rattle.enc_agg.proofs.Directories.{get_front, get_behind}
+use Rattle.enc_places.proofs.Keeping.{get_front, get_behind}
 
 two : (b : Bool) → (b ≡ true) ⊎ (b ≡ false)
 two true = inl refl
@@ -49,7 +49,7 @@ same_row t u = and_true (t.table == u.table && t.row == u.row)
 equal : (a b : ℕ) → (a == b) ≡ true → a ≡ b
 equal a b h = grind (arith, nat_tests)
 
-pub token_is : (t u : Token) → is_token t u ≡ true → t ≡ u
+token_is : (t u : Token) → is_token t u ≡ true → t ≡ u
 token_is t u h =
     let parts = and_parts (t.table == u.table) (t.row == u.row) h in
     rw (equal t.table u.table parts.0, equal t.row u.row parts.1) refl

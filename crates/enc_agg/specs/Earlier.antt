@@ -6,9 +6,10 @@ use Rattle.enc_schema.specs.Children.{is_child_table}
 use Rattle.enc_plain.specs.Module.{Module, rows_in, has_row, owner_of, kids_of}
 use Rattle.enc_plain.specs.Sound.{IsSound}
 use Rattle.enc_agg.specs.declared.added.Added.{Added}
-use Rattle.enc_agg.specs.declared.places.Places.{Places}
+use Rattle.enc_places.specs.declared.places.Places.{Places}
+use Rattle.enc_places.specs.Places.{KeepsPlaces}
 use Rattle.enc_agg.specs.Extend.{chain_with}
-use Rattle.enc_agg.specs.Places.{KeepsPlaces}
+use Rattle.enc_agg.specs.Places.{every_place}
 use Rattle.enc_agg.specs.Seen.{History, sources, module_of_all, IsAggregate}
 
 -- the base with so many deltas, the first of all; it has no room for others
@@ -32,5 +33,5 @@ pub record StayChildren (before after : Module) : Type 0 where
 pub record IsEarlier (base : Source) (added : List Added) (x : Places) (whole : History) : Type 0 where
   pub deltas : IsAggregate base added
   pub sound : IsSound (chain_with base (sources added)).plain
-  pub places : KeepsPlaces (sources added) x
+  pub places : KeepsPlaces (every_place (sources added)) (length (sources added)) x
   pub children : StayChildren (chain_with base (sources added)).plain (module_of_all whole)

@@ -3,9 +3,10 @@ ghost use Rattle.std.specs.Prelude.{◌≡◌, ℕ, ◌<◌, ◌≤◌, Some, No
 ghost use Rattle.enc_schema.specs.Children.{is_child_table, owner_table};
 ghost use Rattle.enc_plain.specs.Module.{kids_of};
 ghost use Rattle.enc_plain.specs.Sound.{IsSound};
+ghost use Rattle.enc_places.specs.Places.{KeepsPlaces};
 ghost use Rattle.enc_agg.specs.Earlier.{earlier_of};
 ghost use Rattle.enc_agg.specs.Place.{place_of};
-ghost use Rattle.enc_agg.specs.Places.{every_place, KeepsPlaces};
+ghost use Rattle.enc_agg.specs.Places.{every_place};
 ghost use Rattle.enc_agg.specs.Seen.{sources, found_in, found_seen, module_of_all, chain_of_all, users_of_all, body_of_all, blob_of_all};
 
 use crate::added::{Added, Found, body_in, count_in, id_in, lengths_in, number};
@@ -13,12 +14,12 @@ use crate::aggregate::Aggregate;
 use crate::code::place_of_all;
 use crate::directory::front;
 use crate::heaps::{entry_in, guid_in, has_text_in};
-use crate::places::Places;
 use crate::view::{row_found, token_meant};
 use enc_base::Token;
 use enc_image::Image;
 use enc_meta::{Heap, HeapLengths};
 use enc_opcodes::CodeRef;
+use enc_places::Places;
 use enc_plain::{ChainView, ModuleView, RowPlace};
 use enc_schema::columns::METHOD_DEF_RVA;
 use std::alloc::{AllocError, Global};
@@ -46,34 +47,13 @@ impl<'a> Model for Earlier<'a> {
     ghost invariant = { λ e. IsEarlier e.image.now (reverse e.added.now) e.places.now e.whole.now };
 }
 
-/// How many of the deltas list a token: searched for by halves among all that do.
-fn times(added: &[Added], places: &Places, token: Token) -> u32
-    requires { KeepsPlaces (sources (reverse added.now)) places.now }
-    ensures { result ≡ length (every_place (sources (reverse added.now)) token) }
-{
-    let mut low = 0;
-    let mut high = places.count(token);
-    while low < high {
-        let middle = low + (high - low) / 2;
-        if places.generation(token, middle) as usize <= added.len() {
-            low = middle + 1;
-        } else {
-            high = middle;
-        }
-    }
-    low
-}
-
 /// The deltas up to the newest that lists a token, and the token's position there.
 fn find<'a>(added: &'a [Added], places: &Places, token: Token) -> Option<Found<'a>>
-    requires { KeepsPlaces (sources (reverse added.now)) places.now }
+    requires { KeepsPlaces (every_place (sources (reverse added.now))) (length (sources (reverse added.now))) places.now }
     ensures { option_map found_seen result ≡ found_in (reverse added.now) token }
 {
-    let Some(last) = times(added, places, token).checked_sub(1) else {
-        return None;
-    };
-    match places.get(token, last) {
-        None => unreachable!(),
+    match places.last_upto(token, added.len()) {
+        None => None,
         Some(place) => Some(Found {
             upto: front(added, place.generation),
             row: place.row,

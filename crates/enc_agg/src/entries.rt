@@ -1,5 +1,5 @@
 //! What a delta brings to the directory of an aggregate.
-ghost use Rattle.std.specs.Prelude.{◌≡◌, ℕ, ◌+◌, ◌<◌, ◌≤◌, ◌^◌, Some, None, IfOk, IsTrue, length, map, option_map, unwrap_or, if◌then◌else◌};
+ghost use Rattle.std.specs.Prelude.{◌≡◌, ℕ, suc, ◌+◌, ◌<◌, ◌≤◌, ◌^◌, Some, None, IfOk, IsTrue, length, map, option_map, unwrap_or, if◌then◌else◌};
 ghost use Rattle.enc_base.specs.declared.token.Token.{Token as TheToken};
 ghost use Rattle.enc_index.specs.declared.key.Key.{Key as TheKey};
 ghost use Rattle.enc_index.specs.Key.{is_key};
@@ -14,15 +14,16 @@ ghost use Rattle.enc_agg.specs.Extend.{extended};
 ghost use Rattle.enc_agg.specs.Follows.{Follows};
 ghost use Rattle.enc_agg.specs.Seen.{chain_of_all, module_of_all};
 ghost use Rattle.enc_agg.specs.Directory.{row_key, kids_key, AreOwned, AreHeld, AreBrought, IsSame, AreAsOwn, IsOwn};
-ghost use Rattle.enc_agg.specs.Places.{AreListings};
+ghost use Rattle.enc_places.specs.Places.{AreListings};
+ghost use Rattle.enc_agg.specs.Places.{every_place, place_listed};
 
 use crate::aggregate::Aggregate;
 use crate::directory::{Directory, Entries, kids_key, row_key};
 use crate::kept::Kept;
-use crate::places::Listings;
 use enc_base::{Steps, Token};
 use enc_delta::{Delta, Pair, attached_of, log_of};
 use enc_index::Index;
+use enc_places::Listings;
 use enc_plain::{ChainView, RowPlace};
 use std::alloc::{AllocError, Global};
 use std::sync::ledger::Ledger;
@@ -169,7 +170,7 @@ pub fn brought_by<L: Ledger>(
     requires tokens { tokens.now ≡ listed delta.now }
     ensures entries { IfOk result (λ b. AreBrought (chain_of_all aggregate.now) delta.now b.entries) }
     ensures own { IfOk result (λ b. IsOwn (chain_of_all aggregate.now) delta.now b.own) }
-    ensures listings { IfOk result (λ b. AreListings aggregate.now.deltas (listed delta.now) (latest b.listings.places.items) (latest b.listings.counts.items)) }
+    ensures listings { IfOk result (λ b. AreListings (every_place aggregate.now.deltas) (place_listed (suc (length aggregate.now.deltas)) (listed delta.now)) b.listings) }
     ensures steps { steps.new ≤ steps.old + length tokens.now }
 {
     let places = places_of(alloc, delta, tokens, aggregate.generations(), steps)?;

@@ -12,8 +12,8 @@ mod heaps;
 mod kept;
 mod kids;
 mod laws;
+mod listings;
 mod place;
-mod places;
 mod view;
 
 pub use after::After;

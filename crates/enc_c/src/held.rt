@@ -130,8 +130,9 @@ impl Held {
         let Checked { delta, pdb } = checked;
         let changed = new_bodies(alloc, &delta)?;
         self.debug.reserve()?;
+        let told = self.debug.told(alloc, &pdb, &changed)?;
         add_counted::<Brand>(&mut self.agg, delta, Blank::new(1))?;
-        self.debug.add(pdb, changed);
+        self.debug.add(pdb, changed, told);
         self.short = self.short && short;
         Ok(())
     }

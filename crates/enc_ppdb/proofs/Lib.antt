@@ -28,3 +28,4 @@ pub mod RootSizes
 pub mod PdbFits
 pub mod ReadSound
 pub mod SoundFiles
+pub mod Tellers

@@ -13,52 +13,6 @@ use Rattle.enc_ppdb.specs.KnownAt.{known_or, known_at}
 use Rattle.enc_ppdb.specs.PlacedAt.{file_at, number_or, file_number, document_placed, room_for}
 use Rattle.enc_ppdb.specs.Points.{row_for}
 use Rattle.enc_ppdb.specs.PdbChain.{row_of_method}
-use Rattle.enc_ppdb.proofs.KnownFiles.{newest_first}
-
-older_length : (rest : List DebugDelta) → 1 ≤ length rest → length (reverse (take (length rest - 1) rest)) + 1 ≡ length rest
-older_length rest some = rw (length-reverse (take (length rest - 1) rest), length-take (length rest - 1) rest) (omega arith)
-
-number_first : (base : Option Source) (none : ℕ) (rest : List DebugDelta) (newest : DebugDelta) (method : Token) → 1 ≤ length rest → newest ≡ get_or rest (length rest - 1) newest
-    → file_number base none (reverse rest) method
-    ≡ number_or (is_some (delta_row newest.pdb method)) (list_any (is_token method) newest.changed) (length rest) none (file_number base none (reverse (take (length rest - 1) rest)) method)
-unfolding file_number
-number_first base none rest newest method some is =
-    let older = reverse (take (length rest - 1) rest) in
-    ap (λ l. file_number base none l method) (newest_first rest newest some is)
-    ∙ ap (λ n. number_or (is_some (delta_row newest.pdb method)) (list_any (is_token method) newest.changed) n none (file_number base none older method)) (older_length rest some)
-
-pub number_here : (base : Option Source) (none : ℕ) (rest : List DebugDelta) (newest : DebugDelta) (method : Token) → 1 ≤ length rest → newest ≡ get_or rest (length rest - 1) newest
-    → is_some (delta_row newest.pdb method) ≡ true → length rest ≡ file_number base none (reverse rest) method
-number_here base none rest newest method some is row =
-    let before = file_number base none (reverse (take (length rest - 1) rest)) method in
-    sym (number_first base none rest newest method some is ∙ ap (λ b. number_or b (list_any (is_token method) newest.changed) (length rest) none before) row)
-
-pub number_nowhere : (base : Option Source) (none : ℕ) (rest : List DebugDelta) (newest : DebugDelta) (method : Token) → 1 ≤ length rest → newest ≡ get_or rest (length rest - 1) newest
-    → is_some (delta_row newest.pdb method) ≡ false → list_any (is_token method) newest.changed ≡ true → none ≡ file_number base none (reverse rest) method
-number_nowhere base none rest newest method some is row changed =
-    let before = file_number base none (reverse (take (length rest - 1) rest)) method in
-    sym (number_first base none rest newest method some is ∙ ap (λ b. number_or b (list_any (is_token method) newest.changed) (length rest) none before) row
-    ∙ ap (λ b. number_or false b (length rest) none before) changed)
-
-pub number_before : (base : Option Source) (none : ℕ) (rest : List DebugDelta) (newest : DebugDelta) (method : Token) → 1 ≤ length rest → newest ≡ get_or rest (length rest - 1) newest
-    → is_some (delta_row newest.pdb method) ≡ false → list_any (is_token method) newest.changed ≡ false
-    → file_number base none (reverse rest) method ≡ file_number base none (reverse (take (length rest - 1) rest)) method
-number_before base none rest newest method some is row changed =
-    let before = file_number base none (reverse (take (length rest - 1) rest)) method in
-    number_first base none rest newest method some is ∙ ap (λ b. number_or b (list_any (is_token method) newest.changed) (length rest) none before) row
-    ∙ ap (λ b. number_or false b (length rest) none before) changed
-
-in_base : (base : Option Source) (none : ℕ) (rest : List DebugDelta) (method : Token) → length rest < 1
-    → file_number base none (reverse rest) method ≡ (if is_some (base_row base method) then 0 else none)
-unfolding file_number
-in_base base none [] method few = refl
-in_base base none (d ∷ rest) method few = absurd (omega arith)
-
-pub number_base : (base : Option Source) (none : ℕ) (rest : List DebugDelta) (method : Token) → length rest < 1 → is_some (base_row base method) ≡ true → 0 ≡ file_number base none (reverse rest) method
-number_base base none rest method few row = sym (in_base base none rest method few ∙ ap (λ b. if b then 0 else none) row)
-
-pub number_none : (base : Option Source) (none : ℕ) (rest : List DebugDelta) (method : Token) → length rest < 1 → is_some (base_row base method) ≡ false → none ≡ file_number base none (reverse rest) method
-number_none base none rest method few row = sym (in_base base none rest method few ∙ ap (λ b. if b then 0 else none) row)
 
 -- no file has a number past the last
 file_none : (base : Option Source) (deltas : List DebugDelta) (n : ℕ) → length deltas < n → file_at base deltas n ≡ None

@@ -11,3 +11,4 @@ pub mod Written
 pub mod Holding
 pub mod Method
 pub mod Sound
+pub mod Told

@@ -1,17 +1,19 @@
 //! The PDBs of a base and its deltas.
 ghost use Rattle.std.specs.Prelude.{◌≡◌, ◌+◌, ◌*◌, ◌^◌, ◌<◌, ◌≤◌, [], ◌∷◌, length, IfOk, OnOk, option_copied, reverse, slice_get};
-ghost use Rattle.std.specs.List.{list_any};
-ghost use Rattle.enc_base.specs.Token.{is_token};
 ghost use Rattle.enc_plain.specs.SoundDebug.{IsSoundPdb};
 ghost use Rattle.enc_ppdb.specs.PdbChain.{base_row, delta_row, is_named_by, pdb_begun, pdb_with, points_at, documents_at, earlier_pdb};
 ghost use Rattle.enc_ppdb.specs.Sound.{KeepsSound};
 ghost use Rattle.enc_ppdb.specs.KnownAt.{known_at};
 ghost use Rattle.enc_ppdb.specs.PlacedAt.{file_number};
+ghost use Rattle.enc_ppdb.specs.Told.{every_told, AreToldBy};
+ghost use Rattle.enc_places.specs.Places.{KeepsPlaces};
 
 use crate::known::{Known, document_at, points_at};
 use crate::methods::MethodList;
 use crate::pdb::{Pdb, PdbDelta};
+use crate::told::told;
 use enc_base::Token;
+use enc_places::{Listings, Places};
 use enc_plain::{DocumentRef, PointSource};
 use enc_seqpoints::Points;
 use std::alloc::{AllocError, Global};
@@ -38,19 +40,20 @@ impl Model for Said {
 pub struct PdbChain {
     base: Option<Pdb>,
     added: Vec<Said>,
+    places: Places,
 }
 
 impl Model for PdbChain {
     ghost use Rattle.std.specs.Prelude.{◌<◌, ◌^◌, ◌+◌, reverse, length, vec_len, vec_capacity};
-    ghost use Rattle.enc_plain.specs.SoundDebug.{IsSoundPdb};
-    ghost use Rattle.enc_ppdb.specs.PdbChain.{PdbHistory, pdb_with};
+    ghost use Rattle.enc_ppdb.specs.PdbChain.{PdbHistory};
     ghost use Rattle.enc_ppdb.specs.PlacedAt.{room_for};
+    ghost use Rattle.enc_ppdb.specs.Told.{IsPdbWhole};
 
     ghost Value = { PdbHistory };
 
     ghost view = { λ c. record { base = c.base; deltas = reverse c.added.items; room = room_for (vec_capacity c.added) (vec_len c.added) } };
 
-    ghost invariant = { λ c. (length c.added.items + 1 < 2 ^ 32) × IsSoundPdb (pdb_with c.base (reverse c.added.items)) };
+    ghost invariant = { λ c. (length c.added.items + 1 < 2 ^ 32) × IsPdbWhole c.base (reverse c.added.items) c.places };
 }
 
 /// Where the PDB of a base has a method.
@@ -67,13 +70,6 @@ impl Said {
     {
         self.pdb.as_ref()?.known(method)
     }
-
-    /// Whether a method has a new body in the delta.
-    fn has_changed(&self, method: Token) -> bool
-        ensures { result ≡ list_any (is_token method) self.now.changed }
-    {
-        self.changed.place(method).is_some()
-    }
 }
 
 /// What a delta says, counted back from the newest, from 0.
@@ -86,45 +82,41 @@ fn said_at(added: &[Said], back: usize) -> Option<&Said>
     added.get(added.len() - 1 - back)
 }
 
-/// Where the newest file that knows a method has it.
-fn known<'a>(base: &'a Option<Pdb>, added: &'a [Said], method: Token) -> Option<Known<'a>>
+/// Where the newest file that knows a method has it: the newest delta is looked for that tells of it.
+fn known<'a>(
+    base: &'a Option<Pdb>,
+    added: &'a [Said],
+    places: &Places,
+    method: Token,
+) -> Option<Known<'a>>
+    requires { KeepsPlaces (every_told (reverse added.now)) (length (reverse added.now)) places.now }
     ensures { result ≡ known_at base.now (reverse added.now) method }
 {
-    let mut rest = added;
-    while let [older @ .., newest] = rest {
-        match newest.known(method) {
-            Some(known) => return Some(known),
-            None => {}
-        }
-        if newest.has_changed(method) {
-            return None;
-        }
-        rest = older;
+    match places.last_upto(method, added.len()) {
+        Some(place) => added[place.generation as usize - 1].known(method),
+        None => in_base(base, method),
     }
-    in_base(base, method)
 }
 
 /// The number of the newest file that knows a method: 0 for the base, from 1 for the deltas, and one
 /// past the last where none knows it.
-fn number_of(base: &Option<Pdb>, added: &[Said], method: Token) -> usize
+fn number_of(base: &Option<Pdb>, added: &[Said], places: &Places, method: Token) -> usize
+    requires { KeepsPlaces (every_told (reverse added.now)) (length (reverse added.now)) places.now }
     ensures number { result ≡ file_number base.now (length added.now + 1) (reverse added.now) method }
     ensures few { result ≤ length added.now + 1 }
 {
-    let mut rest = added;
-    while let [older @ .., newest] = rest {
-        if newest.known(method).is_some() {
-            return rest.len();
+    let Some(place) = places.last_upto(method, added.len()) else {
+        if in_base(base, method).is_some() {
+            return 0;
         }
-        let changed = newest.has_changed(method);
-        if changed {
-            return added.len() + 1;
-        }
-        rest = older;
+        return added.len() + 1;
+    };
+    let number = place.generation as usize;
+    if added[number - 1].known(method).is_some() {
+        number
+    } else {
+        added.len() + 1
     }
-    if in_base(base, method).is_some() {
-        return 0;
-    }
-    added.len() + 1
 }
 
 /// A place in a file.
@@ -167,6 +159,7 @@ impl PdbChain {
         Ok(PdbChain {
             base: pdb,
             added: Vec::new(alloc),
+            places: Places::new(),
         })
     }
 
@@ -204,15 +197,34 @@ impl PdbChain {
         }
     }
 
+    /// The methods of which a delta tells something, as they are to be kept of it: those that its PDB
+    /// names, where it has one, and those that have a new body in it. `AllocError` where there is no
+    /// memory.
+    #[tactic(auto, unfolding(crate::specs::Told::AreToldBy))]
+    pub fn told(
+        &self,
+        alloc: Global,
+        pdb: &Option<PdbDelta>,
+        changed: &MethodList,
+    ) -> Result<Listings, AllocError>
+        ensures { IfOk result (AreToldBy self.now.deltas (record { pdb = pdb.now; changed = changed.now })) }
+    {
+        let generation = self.added.len() as u32 + 1;
+        let listings = told(alloc, &self.places, pdb, changed, generation)?;
+        Ok(listings)
+    }
+
     /// Adds what a delta says: its PDB, where it has one, and the methods that have a new body in it.
     /// It can't fail.
-    pub fn add(&mut self, delta: Option<PdbDelta>, changed: MethodList)
-        requires { 0 < self.old.room }
+    pub fn add(&mut self, delta: Option<PdbDelta>, changed: MethodList, told: Listings)
+        requires room { 0 < self.old.room }
+        requires told { AreToldBy self.old.deltas (record { pdb = delta; changed = changed }) told }
         ensures base { self.new.base ≡ self.old.base }
         ensures deltas { self.new.deltas ≡ (record { pdb = delta; changed = changed }) ∷ self.old.deltas }
         ensures room { self.new.room + 1 ≡ self.old.room }
     {
         keeps_sound(&delta);
+        self.places.add(told);
         self.added.push_reserved(Said {
             pdb: delta,
             changed,
@@ -226,17 +238,19 @@ impl PdbChain {
 pub struct EarlierPdb<'a> {
     base: &'a Option<Pdb>,
     added: &'a [Said],
+    places: &'a Places,
 }
 
 impl<'a> Model for EarlierPdb<'a> {
-    ghost use Rattle.std.specs.Prelude.{◌<◌, ◌^◌, ◌+◌, reverse, length};
+    ghost use Rattle.std.specs.Prelude.{reverse};
     ghost use Rattle.enc_ppdb.specs.PdbChain.{PdbHistory};
+    ghost use Rattle.enc_ppdb.specs.Told.{IsEarlierPdb};
 
     ghost Value = { PdbHistory };
 
     ghost view = { λ e. record { base = e.base.now; deltas = reverse e.added.now; room = 0 } };
 
-    ghost invariant = { λ e. length e.added.now + 1 < 2 ^ 32 };
+    ghost invariant = { λ e. IsEarlierPdb e.base.now e.added.now e.places.now };
 }
 
 impl PdbChain {
@@ -248,7 +262,17 @@ impl PdbChain {
         EarlierPdb {
             base: &self.base,
             added: &self.added[..generation as usize],
+            places: &self.places,
         }
+    }
+}
+
+impl EarlierPdb<'_> {
+    /// What is known of the methods is sound: a law, of which a caller makes use.
+    pub fn sound(&self)
+        ensures { IsSoundPdb (pdb_with self.now.base self.now.deltas) }
+    {
+        let _ = &self.base;
     }
 }
 
@@ -265,15 +289,18 @@ impl PointSource for EarlierPdb<'_> {
     ghost placed = { λ h place. document_placed h.base h.deltas place };
 
     fn points(&self, alloc: Global, method: Token) -> Result<Points, AllocError> {
-        points_at(alloc, known(self.base, self.added, method))
+        points_at(alloc, known(self.base, self.added, self.places, method))
     }
 
     fn document(&self, method: Token, number: u32) -> Option<DocumentRef<'_>> {
-        document_at(known(self.base, self.added, method), number)
+        document_at(known(self.base, self.added, self.places, method), number)
     }
 
     fn document_place(&self, method: Token, number: u32) -> u64 {
-        place(number_of(self.base, self.added, method) as u32, number)
+        place(
+            number_of(self.base, self.added, self.places, method) as u32,
+            number,
+        )
     }
 
     ghost knows = { λ h method. known_by h.base h.deltas method };
@@ -292,15 +319,18 @@ impl PointSource for PdbChain {
     ghost placed = { λ h place. document_placed h.base h.deltas place };
 
     fn points(&self, alloc: Global, method: Token) -> Result<Points, AllocError> {
-        points_at(alloc, known(&self.base, &self.added, method))
+        points_at(alloc, known(&self.base, &self.added, &self.places, method))
     }
 
     fn document(&self, method: Token, number: u32) -> Option<DocumentRef<'_>> {
-        document_at(known(&self.base, &self.added, method), number)
+        document_at(known(&self.base, &self.added, &self.places, method), number)
     }
 
     fn document_place(&self, method: Token, number: u32) -> u64 {
-        place(number_of(&self.base, &self.added, method) as u32, number)
+        place(
+            number_of(&self.base, &self.added, &self.places, method) as u32,
+            number,
+        )
     }
 
     ghost knows = { λ h method. known_by h.base h.deltas method };

@@ -16,10 +16,12 @@ mod outer;
 mod parts;
 mod pdb;
 mod sizes;
+mod told;
 mod write;
 mod writer;
 
 pub use chain::{EarlierPdb, PdbChain};
+pub use enc_places::Listings;
 pub use hash::{SHA_256, source_hash};
 pub use laws::pdb_means_law;
 pub use methods::MethodList;

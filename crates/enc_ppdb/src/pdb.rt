@@ -1,5 +1,5 @@
 //! The PDB of a module, and that of a delta.
-ghost use Rattle.std.specs.Prelude.{◌≡◌, ◌<◌, Some, IfOk, is_some, length, take};
+ghost use Rattle.std.specs.Prelude.{◌≡◌, ◌<◌, Some, IfOk, is_some, length, map, slice_get, take};
 ghost use Rattle.enc_ppdb.specs.Fault.{pdb_of, pdb_delta_of, named_tokens};
 ghost use Rattle.enc_ppdb.specs.Misplaced.{misplaced_row, first_misplaced};
 ghost use Rattle.enc_plain.specs.SoundDebug.{IsSoundPdb};
@@ -7,6 +7,7 @@ ghost use Rattle.enc_ppdb.specs.PdbChain.{row_in_file, row_of_method, pdb_begun}
 ghost use Rattle.enc_ppdb.specs.Points.{row_for, delta_points};
 ghost use Rattle.enc_ppdb.specs.Seen.{ReadsPdb, end_by};
 ghost use Rattle.enc_ppdb.specs.Sound.{KeepsSound};
+ghost use Rattle.enc_ppdb.specs.Told.{method_named_by};
 ghost use Rattle.enc_base.specs.declared.token.Token.{Token as TheToken};
 
 use crate::ends::ends_of;
@@ -139,6 +140,24 @@ impl PdbDelta {
         ensures { KeepsSound (Some self.now) }
     {
         let _ = &self.file;
+    }
+
+    /// How many methods EncMap names.
+    pub(crate) fn methods(&self) -> usize
+        ensures { result ≡ length (named_tokens self.now) }
+    {
+        self.named.len()
+    }
+
+    /// The k-th of them, from 0.
+    pub(crate) fn method(&self, k: usize) -> Token
+        requires { k < length (named_tokens self.now) }
+        ensures { slice_get (map method_named_by (named_tokens self.now)) k ≡ Some result }
+    {
+        Token {
+            table: METHOD_DEF,
+            row: self.named.token(k).row,
+        }
     }
 
     /// The row of a method, None where EncMap has no token of MethodDebugInformation with its row.

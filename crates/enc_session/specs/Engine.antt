@@ -11,6 +11,7 @@ use Rattle.enc_dispatch.specs.Index.{StandsForModule}
 use Rattle.enc_dispatch.specs.Ready.{IsPreparedFor}
 use Rattle.enc_plain.specs.Chain.{Chain}
 use Rattle.enc_ppdb.specs.PdbChain.{pdb_with}
+use Rattle.enc_ppdb.specs.Told.{AreToldBy}
 use Rattle.enc_rows.specs.Source.{Source}
 use Rattle.enc_versions.specs.Commit.{last_row}
 use Rattle.enc_versions.specs.StandFor.{AreVersionsOf}
@@ -56,9 +57,10 @@ pub record IsDeltaReady (p : Parts) (d : Source) (pdb : Option Source) (x : Prep
   pub delta : x.ready.delta ≡ d
   pub debug : x.pdb ≡ pdb
   pub changed : x.changed ≡ new_bodies d
-  pub rows : IsPrepared (chain_of_all p.agg) x.ready
+  pub rows : IsPrepared p.agg.base p.agg.deltas x.ready
   pub rows_room : 0 < p.agg.room
   pub debug_room : 0 < p.debug.room
+  pub told : AreToldBy p.debug.deltas (record { pdb = x.pdb; changed = x.changed }) x.told
   pub codes : x.versions ≡ new_versions d pdb
   pub codes_room : last_row x.versions ≤ p.versions.capacity
   pub index : IsPreparedFor p.dispatch x.dispatch (extended (chain_of_all p.agg) d).plain

@@ -21,7 +21,7 @@ use enc_checker::{Checked, new_bodies};
 use enc_delta::Delta;
 use enc_dispatch::{Dispatch, NewDispatch};
 use enc_image::Image;
-use enc_ppdb::{MethodList, Pdb, PdbChain, PdbDelta};
+use enc_ppdb::{Listings, MethodList, Pdb, PdbChain, PdbDelta};
 use enc_versions::{NewVersions, Versions, commit_law};
 use std::alloc::{AllocError, Global};
 use std::marker::Brand;
@@ -43,6 +43,7 @@ pub(crate) struct Prepared {
     pub(crate) ready: Ready,
     pub(crate) pdb: Option<PdbDelta>,
     pub(crate) changed: MethodList,
+    pub(crate) told: Listings,
     pub(crate) versions: NewVersions,
     pub(crate) dispatch: NewDispatch,
 }
@@ -57,7 +58,7 @@ fn ready_of<L: Ledger>(agg: &mut Aggregate, delta: Delta, blank: Blank) -> Resul
     ensures deltas { agg.new.deltas ≡ agg.old.deltas }
     ensures room { IfOk result (λ r. 0 < agg.new.room) }
     ensures delta { IfOk result (λ r. r.delta ≡ delta) }
-    ensures ready { IfOk result (IsPrepared (chain_of_all agg.old)) }
+    ensures ready { IfOk result (IsPrepared agg.old.base agg.old.deltas) }
 {
     let mut steps = Steps::<L>::begin(blank);
     agg.prepare(delta, &mut steps)
@@ -71,7 +72,7 @@ fn index_ready(
     dispatch: &mut Dispatch,
     changed: &[Token],
 ) -> Result<NewDispatch, AllocError>
-    requires ready { IsPrepared (chain_of_all agg.now) ready.now }
+    requires ready { IsPrepared agg.now.base agg.now.deltas ready.now }
     requires stands { StandsForModule dispatch.old (module_of_all agg.now) }
     requires changed { IsChangedBy (module_of_all agg.now) (extended (chain_of_all agg.now) ready.now.delta).plain changed.now }
     ensures kept { dispatch.new ≡ with_room dispatch.new.room dispatch.old }
@@ -120,6 +121,7 @@ impl Parts {
         let codes = new_codes(alloc, &delta, &pdb)?;
         let tokens = delta.tokens(alloc)?;
         self.debug.reserve()?;
+        let told = self.debug.told(alloc, &pdb, &changed)?;
         let versions = self.versions.prepare(codes)?;
         let ready = ready_of::<Brand>(&mut self.agg, delta, Blank::new(1))?;
         let dispatch = index_ready(alloc, &self.agg, &ready, &mut self.dispatch, &tokens)?;
@@ -127,6 +129,7 @@ impl Parts {
             ready,
             pdb,
             changed,
+            told,
             versions,
             dispatch,
         })
@@ -148,11 +151,12 @@ impl Parts {
             ready,
             pdb,
             changed,
+            told,
             versions,
             dispatch,
         } = prepared;
         self.agg.commit(ready);
-        self.debug.add(pdb, changed);
+        self.debug.add(pdb, changed, told);
         self.versions.commit(versions);
         self.dispatch.commit(dispatch);
     }

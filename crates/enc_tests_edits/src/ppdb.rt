@@ -209,7 +209,8 @@ fn chain(
     methods.push(Token { table: 0x06, row })?;
     let mut chain = PdbChain::begin(alloc, base)?;
     chain.reserve()?;
-    chain.add(delta, methods);
+    let told = chain.told(alloc, &delta, &methods)?;
+    chain.add(delta, methods, told);
     Ok(chain)
 }
 

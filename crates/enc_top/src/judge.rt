@@ -59,8 +59,9 @@ fn add(alloc: Global, held: &mut Judged, checked: Checked) -> Result<(), AllocEr
     let Checked { delta, pdb } = checked;
     let changed = new_bodies(alloc, &delta)?;
     held.debug.reserve()?;
+    let told = held.debug.told(alloc, &pdb, &changed)?;
     add_counted::<Brand>(&mut held.agg, delta, Blank::new(1))?;
-    held.debug.add(pdb, changed);
+    held.debug.add(pdb, changed, told);
     Ok(())
 }
 
