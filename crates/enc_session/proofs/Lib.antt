@@ -12,3 +12,6 @@ mod Changed
 mod Coded
 mod Committed
 pub mod Remapping
+mod Generations
+mod Dated
+mod Lined
