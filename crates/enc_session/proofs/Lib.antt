@@ -15,3 +15,4 @@ pub mod Remapping
 mod Generations
 mod Dated
 mod Lined
+mod Recorded

@@ -1,10 +1,12 @@
 -- For the contracts of private functions: the newest generation of each method's body by its row.
-use Rattle.std.specs.Prelude.{◌≡◌, ◌≤◌, ◌+◌, ◌-◌, ℕ, List, [], ◌∷◌, ◌++◌, length, map, max, drop, replicate, reverse, get_or, slice_set, Vec, ◌==◌, if◌then◌else◌}
+use Rattle.std.specs.Prelude.{◌≡◌, ◌≤◌, ◌+◌, ◌-◌, ℕ, Bool, true, false, List, [], ◌∷◌, ◌++◌, length, map, max, drop, replicate, reverse, get_or, slice_set, Vec, ◌==◌, if◌then◌else◌}
 use Rattle.std.specs.declared.alloc.Global.{Global}
 use Rattle.enc_base.specs.declared.token.Token.{Token}
 use Rattle.enc_frames.specs.Machine.{Frame}
 use Rattle.enc_rows.specs.Source.{Source}
 use Rattle.enc_schema.specs.Tables.{method_def}
+use Rattle.enc_vm.specs.declared.ends.StepEnd.{StepEnd}
+use Rattle.enc_vm.specs.declared.ends.StepEnd.TheVariants as end
 use Rattle.enc_watch.specs.declared.event.Event.{Event}
 use Rattle.enc_session.specs.Recording.{Recorded, body_generation, redated_in, moved_date}
 
@@ -46,3 +48,9 @@ date_moved task method r = record r { dates = moved_date r.followed method task 
 -- the dates of the frames behind so many, from the outermost
 abbrev pub dates_behind : {C : Type 0} → (Token → ℕ) → List (Frame C) → ℕ → List ℕ
 dates_behind date frames n = map (λ (f : Frame _). date f.method) (drop n (reverse frames))
+
+-- a step was made
+abbrev pub is_made : StepEnd → Bool
+is_made end.Absent = false
+is_made end.Idle = false
+is_made _ = true

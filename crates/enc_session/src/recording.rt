@@ -7,7 +7,7 @@ ghost use Rattle.enc_vm.specs.Step.{spawn_in};
 ghost use Rattle.enc_vm.specs.Turns.{IsSpawn, machine_turn};
 ghost use Rattle.enc_session.specs.Engine.{IsAcceptedAfter};
 ghost use Rattle.enc_session.specs.Recording.{HasStepped, apply_recorded, dates_of, facts_in, judged_recorded, recorded_base, remap_recorded, remapped_in, spawn_recorded, step_recorded, values_in};
-ghost use Rattle.enc_session.specs.RecordingSeen.{date_moved, settled};
+ghost use Rattle.enc_session.specs.RecordingSeen.{date_moved, is_made, settled};
 ghost use Rattle.enc_session.specs.declared.applied.Applied.TheVariants.{Generation, Refused};
 ghost use Rattle.enc_session.specs.Session.{applied_as, files_in, judged_after, remapped_as, turn_end, world_of};
 ghost use Rattle.enc_session.specs.States.{state_text};
@@ -73,6 +73,16 @@ fn push_events(events: &[Event], all: &mut Vec<Event>)
     let Ok(()) = all.extend_from_slice(events) else {
         unreachable!()
     };
+}
+
+/// Whether a step was made.
+fn is_made(end: StepEnd) -> bool
+    ensures { result ≡ is_made end }
+{
+    match end {
+        StepEnd::Absent | StepEnd::Idle => false,
+        StepEnd::Ran | StepEnd::Ended | StepEnd::Trapped(_) => true,
+    }
 }
 
 impl Recording {
@@ -148,15 +158,13 @@ impl Recording {
         let method = self.engine.method(task);
         let mut seen = Seen::nothing();
         let end = self.engine.step(task, &mut seen)?;
-        match end {
-            StepEnd::Absent | StepEnd::Idle => {}
-            StepEnd::Ran | StepEnd::Ended | StepEnd::Trapped(_) => {
-                push_step_lines(&self.engine, task, &seen, end, &mut self.text);
-                let events = step_events(task, method, &seen, end);
-                push_events(events.as_slice(), &mut self.events);
-                self.settle(task);
-            }
+        if !is_made(end) {
+            return Ok(end);
         }
+        push_step_lines(&self.engine, task, &seen, end, &mut self.text);
+        let events = step_events(task, method, &seen, end);
+        push_events(events.as_slice(), &mut self.events);
+        self.settle(task);
         Ok(end)
     }
 
@@ -246,11 +254,13 @@ impl Recording {
         ensures recorded { OnOk result (self.new ≡ remap_recorded task map.now self.old) }
         ensures err { OnErr result (self.new ≡ self.old) }
     {
-        let remapped = self.engine.remap(task, map)?;
-        if let Remapped::Moved { method, .. } = remapped {
-            self.move_date(task, method);
+        match self.engine.remap(task, map)? {
+            Remapped::Moved { method, from, to } => {
+                self.move_date(task, method);
+                Ok(Remapped::Moved { method, from, to })
+            }
+            Remapped::Refused(number) => Ok(Remapped::Refused(number)),
         }
-        Ok(remapped)
     }
 
     /// The innermost frame of a task has the date of the newest body of a method.
