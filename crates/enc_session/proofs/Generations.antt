@@ -66,9 +66,9 @@ rows_to_length row rows =
 -- a row gets a generation
 put_by : (rows : List ℕ) (i j g : ℕ) → i < length rows → get_or (slice_set rows i g) j 0 ≡ (if j == i then g else get_or rows j 0)
 put_by rows i j g within = elim (eqb_tells j i) [
-      inl e ↦ rw e.0 (get_or-set_at rows i j g 0 e.1 within)
-    | inr e ↦ rw e.0 (get_or-set_other rows i j g 0 e.1)
-    ]
+  | inl e ↦ rw e.0 (get_or-set_at rows i j g 0 e.1 within)
+  | inr e ↦ rw e.0 (get_or-set_other rows i j g 0 e.1)
+]
 
 either_way : (a b : Bool) (g n : ℕ) → (if a then g else if b then g else n) ≡ (if b || a then g else n)
 either_way true true g n = refl
@@ -97,15 +97,16 @@ by_rows : (t : Token) (methods : List Token) → list_all (is_of t.table) method
     → list_any (is_token t) methods ≡ list_any (λ (u : Token). t.row == u.row) methods
 by_rows t [] all = refl
 by_rows t (m ∷ methods) all = elim (eqb_tells m.table t.table) [
-      inl e ↦
-        let same : (t.table == m.table) ≡ true = same_table t.table m.table (sym e.1) in
-        let rest : list_all (is_of t.table) methods ≡ true = sym (ap (λ (b : Bool). b && list_all (is_of t.table) methods) e.0) ∙ all in
-        rw (same, by_rows t methods rest) refl
-    | inr e ↦ absurd (not_all (is_of t.table m) (list_all (is_of t.table) methods) e.0 all)
-    ]
+  | inl e ↦
+      let same : (t.table == m.table) ≡ true = same_table t.table m.table (sym e.1) in
+      let rest : list_all (is_of t.table) methods ≡ true = sym (ap (λ (b : Bool). b && list_all (is_of t.table) methods) e.0) ∙ all in
+      rw (same, by_rows t methods rest) refl
+  | inr e ↦ absurd (not_all (is_of t.table m) (list_all (is_of t.table) methods) e.0 all)
+]
   where
     same_table : (a b : ℕ) → a ≡ b → (a == b) ≡ true
     same_table a b e = elim (eqb_tells a b) [ inl f ↦ f.0 | inr f ↦ absurd (f.1 e) ]
+
     not_all : (a b : Bool) → a ≡ false → (a && b) ≡ true → ⊥
     not_all true b e h = cc
     not_all false b e h = cc
@@ -113,11 +114,11 @@ by_rows t (m ∷ methods) all = elim (eqb_tells m.table t.table) [
 none_of : (t : Token) (table : ℕ) (methods : List Token) → (t.table == table) ≡ false → list_all (is_of table) methods ≡ true → list_any (is_token t) methods ≡ false
 none_of t table [] other all = refl
 none_of t table (m ∷ methods) other all = elim (eqb_tells m.table table) [
-      inl e ↦
-        let rest : list_all (is_of table) methods ≡ true = sym (ap (λ (b : Bool). b && list_all (is_of table) methods) e.0) ∙ all in
-        rw (e.1, other, none_of t table methods other rest) refl
-    | inr e ↦ absurd (not_all (is_of table m) (list_all (is_of table) methods) e.0 all)
-    ]
+  | inl e ↦
+      let rest : list_all (is_of table) methods ≡ true = sym (ap (λ (b : Bool). b && list_all (is_of table) methods) e.0) ∙ all in
+      rw (e.1, other, none_of t table methods other rest) refl
+  | inr e ↦ absurd (not_all (is_of table m) (list_all (is_of table) methods) e.0 all)
+]
   where
     not_all : (a b : Bool) → a ≡ false → (a && b) ≡ true → ⊥
     not_all true b e h = cc

@@ -16,3 +16,4 @@ mod Generations
 mod Dated
 mod Lined
 mod Recorded
+mod Stepping

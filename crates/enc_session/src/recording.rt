@@ -151,6 +151,7 @@ impl Recording {
         ensures end { IfOk result (λ end. end ≡ turn_end (machine_turn (world_of self.old.followed) task self.old.machine)) }
         ensures recorded { OnOk result (self.new ≡ step_recorded task self.old) }
         ensures few { length self.new.events ≤ length self.old.events + 4 }
+        ensures limit { self.new.limit ≡ self.old.limit }
         ensures err { OnErr result (self.new ≡ self.old) }
     {
         let units = self.engine.write_units(task);
@@ -187,15 +188,19 @@ impl Recording {
     {
         let mut ran = 0;
         while ran < count {
-            match self.step(task) {
-                Ok(StepEnd::Ran) => ran += 1,
-                Ok(StepEnd::Ended) => {
-                    return Stepped {
-                        ran: ran + 1,
-                        end: Ok(StepEnd::Ended),
-                    };
-                }
-                end => return Stepped { ran, end },
+            let Ok(end) = self.step(task) else {
+                return Stepped {
+                    ran,
+                    end: Err(AllocError),
+                };
+            };
+            match end {
+                StepEnd::Ran => ran += 1,
+                StepEnd::Ended => return Stepped {
+                    ran: ran + 1,
+                    end: Ok(StepEnd::Ended),
+                },
+                _ => return Stepped { ran, end: Ok(end) },
             }
         }
         Stepped {

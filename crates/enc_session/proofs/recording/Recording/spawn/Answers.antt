@@ -38,9 +38,11 @@ invariant_of-self-2 c =
     (begun_few c.args.method c.in-Task.task c.spawn.new.self.machine
     (few_frames (world_of c.self.inside.engine.followed) c.args.method c.self.inside.engine.machine c.in-Task.task c.spawn.new.self.machine
     (rw c.in-Task.is at c.in_ok-end.ensures.spawned))) in
-    let asked = rw (← c.self.view_is) at c.requires in
-    (have_room c.self.inside.limit c.push_events.new.all c.self.inside.events c.as_slice.result.now c.push_events.ensures.events c.push_events.ensures.capacity
-    c.self.invariant.0 (omega (arith, few, asked)), rw c.in_ok-end.ensures.followed c.self.invariant.1)
+    let asked = rw (← c.self.view_is) at c.requires in (
+      have_room c.self.inside.limit c.push_events.new.all c.self.inside.events c.as_slice.result.now c.push_events.ensures.events c.push_events.ensures.capacity
+          c.self.invariant.0 (omega (arith, few, asked)),
+      rw c.in_ok-end.ensures.followed c.self.invariant.1,
+    )
 
 pub returns-clause-recorded : goal.returns-clause-recorded
 returns-clause-recorded c =
