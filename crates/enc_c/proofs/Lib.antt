@@ -4,3 +4,4 @@ pub mod Items
 pub mod Boxes
 pub mod Handles
 pub mod TokensFit
+pub mod SessionHandles

@@ -11,3 +11,4 @@ pub mod Handle
 pub mod Outcomes
 pub mod Asked
 pub mod Opened
+pub mod SessionHandle

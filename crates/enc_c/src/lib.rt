@@ -16,6 +16,7 @@ mod loose;
 mod open;
 mod points;
 mod refusal;
+mod session_handle;
 mod status;
 
 pub use laws::{numbers_law, points_law};

@@ -1,5 +1,5 @@
 -- A session that is recorded: its events and its text until they are taken, and the date of each frame, which is the generation that brought its body.
-use Rattle.std.specs.Prelude.{◌≡◌, ◌≤◌, ◌<◌, ◌+◌, ◌-◌, ◌*◌, ℕ, zero, suc, Bool, List, [], ◌∷◌, ◌++◌, length, map, take, drop, reverse, get_or, slice_get, slice_set, is_some, nat_le, Option, Some, None, option_map, unwrap_or, Result, Ok, Err, if◌then◌else◌}
+use Rattle.std.specs.Prelude.{◌≡◌, ◌<◌, ◌+◌, ◌-◌, ℕ, zero, suc, List, [], ◌∷◌, ◌++◌, length, map, take, drop, reverse, get_or, slice_set, nat_le, Option, None, option_map, unwrap_or, Result, Ok, Err, if◌then◌else◌}
 use Rattle.std.specs.List.{list_any}
 use Rattle.std.specs.declared.alloc.AllocError.{AllocError}
 use Rattle.enc_base.specs.Order.{or_else}
@@ -178,7 +178,3 @@ held_in Stack f = reverse f.stack
 -- and so of the i-th frame of a task
 abbrev pub values_in : MachineState PlainCode → ℕ → ℕ → FramePart → Option (List Value)
 values_in m task i part = option_map (held_in part) (frame_in m task i)
-
--- each task has a date for each of its frames, and no other
-abbrev pub AreDated : Recorded → Type 0
-AreDated r = (task : ℕ) → length (dates_of r.dates task) ≡ length (frames_in r.machine task)
