@@ -1,5 +1,5 @@
 -- The dates of frames, which are kept from the outermost.
-use Rattle.std.proofs.Common.{◌≡◌, ℕ, zero, suc, ◌+◌, ◌-◌, ◌<◌, ◌≤◌, min, List, [], ◌∷◌, ◌++◌, length, map, reverse, take, drop, Option, Some, None, option_map, slice_get, refl, sym, ap, ◌∙◌, arith, add-one, append_assoc, length-drop, length-take}
+use Rattle.std.proofs.Common.{◌≡◌, ℕ, zero, suc, ◌+◌, ◌-◌, ◌<◌, ◌≤◌, min, List, [], ◌∷◌, ◌++◌, length, map, reverse, take, drop, Option, option_map, slice_get, refl, sym, ap, ◌∙◌, arith, add-one, append_assoc, length-drop, length-take}
 use Rattle.std.proofs.lemmas.List.{drop_at, length-reverse, map-append, reverse-append, reverse-reverse, take-append-drop}
 use Rattle.std.specs.Prelude.{unwrap_or}
 use Rattle.enc_base.specs.declared.token.Token.{Token}

@@ -1,5 +1,5 @@
 -- The line of a frame by its points, and what frames tell that hold versions.
-use Rattle.std.proofs.Common.{◌≡◌, ℕ, zero, suc, ◌+◌, List, [], ◌∷◌, ◌++◌, map, take, Option, Some, None, option_map, slice_get, refl, sym, ap, ◌∙◌, subst, add-one}
+use Rattle.std.proofs.Common.{◌≡◌, ℕ, zero, suc, ◌+◌, List, [], ◌∷◌, map, take, Option, Some, None, option_map, slice_get, refl, sym, ap, ◌∙◌, add-one}
 use Rattle.enc_base.specs.Order.{or_else}
 use Rattle.enc_frames.specs.Machine.{PlainCode, Frame, MachineState, frame_meant, state_meant}
 use Rattle.enc_objects.specs.declared.value.Value.{Value}

@@ -1,5 +1,5 @@
 -- What is recorded of a spawn, a step, a delta and a remap.
-use Rattle.std.proofs.Common.{◌≡◌, ◌≤◌, ℕ, ◌+◌, ◌-◌, Bool, true, false, List, [], ◌∷◌, ◌++◌, length, map, reverse, Result, Ok, Err, OnOk, refl, sym, ap, ◌∙◌, subst, arith, length-append}
+use Rattle.std.proofs.Common.{◌≡◌, ◌≤◌, ℕ, ◌+◌, true, false, List, [], ◌∷◌, ◌++◌, length, map, reverse, Result, Ok, Err, OnOk, refl, sym, ap, ◌∙◌, arith, length-append}
 use Rattle.std.proofs.lemmas.List.{length-map, length-reverse}
 use Rattle.std.specs.Prelude.{Vec}
 use Rattle.std.specs.declared.alloc.AllocError.{AllocError}
@@ -9,21 +9,19 @@ use Rattle.enc_base.specs.declared.token.Token.{Token}
 use Rattle.enc_checker.specs.Check.{Accepted}
 use Rattle.enc_checker.specs.Followed.{Followed}
 use Rattle.enc_frames.specs.Machine.{PlainCode, Frame, MachineState}
-use Rattle.enc_frames.specs.Results.{Shown}
 use Rattle.enc_remap.specs.Remap.{Remapping}
 use Rattle.enc_remap.specs.Seen.{IsRemap}
-use Rattle.enc_remap.specs.declared.remapped.Remapped.{Remapped}
 use Rattle.enc_remap.specs.declared.remapped.Remapped.TheVariants as remapped
 use Rattle.enc_vm.specs.Looks.{frames_in}
-use Rattle.enc_vm.specs.Step.{Ending, ran, done, stopped, Spawning, begun, too_many, no_method, spawn_in}
-use Rattle.enc_vm.specs.Turns.{MachineTurn, absent, idle, went, machine_turn, shown_in, IsTurn, IsSpawn}
+use Rattle.enc_vm.specs.Step.{Ending, ran, done, stopped, Spawning, begun, spawn_in}
+use Rattle.enc_vm.specs.Turns.{MachineTurn, went, machine_turn, shown_in, IsTurn, IsSpawn}
 use Rattle.enc_vm.specs.declared.ends.StepEnd.{StepEnd}
 use Rattle.enc_vm.specs.declared.ends.StepEnd.TheVariants as end
 use Rattle.enc_vm.specs.declared.ends.SpawnEnd.{SpawnEnd}
 use Rattle.enc_vm.specs.declared.ends.SpawnEnd.TheVariants as spawned
 use Rattle.enc_vm.specs.declared.seen.Seen.{Seen}
 use Rattle.enc_watch.specs.declared.event.Event.{Event}
-use Rattle.enc_session.specs.Recording.{Recorded, body_generation, redated, redated_in, dates_of, spawn_recorded_by, spawn_recorded, turn_recorded, step_recorded, judged_recorded, apply_recorded, remapped_in, remap_recorded_by, remap_recorded}
+use Rattle.enc_session.specs.Recording.{Recorded, body_generation, redated, redated_in, spawn_recorded_by, spawn_recorded, turn_recorded, step_recorded, judged_recorded, apply_recorded, remapped_in, remap_recorded_by, remap_recorded}
 use Rattle.enc_session.specs.RecordingSeen.{HaveRoomTo, is_made, settled, date_moved}
 use Rattle.enc_session.specs.Seen.{ending_told}
 use Rattle.enc_session.specs.Session.{world_of, begun_events, entered_event, innermost_method, step_events, step_lines, DeltaContents, judged_after}

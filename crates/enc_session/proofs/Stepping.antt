@@ -1,5 +1,5 @@
 -- Steps of a task, one behind the other.
-use Rattle.std.proofs.Common.{◌≡◌, ◌<◌, ◌≤◌, ℕ, zero, suc, ◌+◌, ◌-◌, refl, sym, ap, ◌∙◌, subst, arith}
+use Rattle.std.proofs.Common.{◌≡◌, ◌<◌, ℕ, zero, suc, ◌+◌, ◌-◌, refl, sym, ap, ◌∙◌, arith}
 use Rattle.enc_frames.specs.Machine.{PlainCode}
 use Rattle.enc_vm.specs.Step.{ran, done, stopped}
 use Rattle.enc_vm.specs.Turns.{MachineTurn, absent, idle, went, machine_turn}
