@@ -12,3 +12,6 @@ pub mod Outcomes
 pub mod Asked
 pub mod Opened
 pub mod SessionHandle
+pub mod SessionNumbers
+pub mod SessionSeen
+pub mod SessionCalls

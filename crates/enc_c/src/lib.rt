@@ -17,6 +17,8 @@ mod open;
 mod points;
 mod refusal;
 mod session_handle;
+mod session_numbers;
+mod session_open;
 mod status;
 
 pub use laws::{numbers_law, points_law};

@@ -13,7 +13,7 @@ use enc_checker::Files;
 use std::alloc::{AllocError, Global};
 
 /// The bytes of a file that may be absent: where there are none.
-fn given(alloc: Global, bytes: &[u8]) -> Result<Option<Vec<u8>>, AllocError>
+pub(crate) fn given(alloc: Global, bytes: &[u8]) -> Result<Option<Vec<u8>>, AllocError>
     ensures { IfOk result (λ o. bytes_held o ≡ given_bytes bytes.now) }
 {
     match bytes {
@@ -23,7 +23,7 @@ fn given(alloc: Global, bytes: &[u8]) -> Result<Option<Vec<u8>>, AllocError>
 }
 
 /// Tells a fault: a refusal by its numbers.
-fn tell_fault(fault: ReadFault, refusal: &mut RefusalNumbers) -> u32
+pub(crate) fn tell_fault(fault: ReadFault, refusal: &mut RefusalNumbers) -> u32
     ensures { TellsFault result refusal.old refusal.new fault }
 {
     match fault {
@@ -99,7 +99,7 @@ pub extern "C" fn enc_open(
 }
 
 /// The files of a delta.
-fn files_of(alloc: Global, meta: &[u8], il: &[u8], pdb: &[u8]) -> Result<Files, AllocError>
+pub(crate) fn files_of(alloc: Global, meta: &[u8], il: &[u8], pdb: &[u8]) -> Result<Files, AllocError>
     ensures meta { IfOk result (λ f. f.meta.items ≡ meta.now) }
     ensures il { IfOk result (λ f. f.il.items ≡ il.now) }
     ensures pdb { IfOk result (λ f. bytes_held f.pdb ≡ given_bytes pdb.now) }

@@ -23,6 +23,8 @@ pub enum Status {
     Unlike,
     /// There is no such generation.
     Later,
+    /// A stated limit is reached.
+    Limit,
 }
 
 impl Status {
@@ -40,6 +42,7 @@ impl Status {
             Status::Absent => 10,
             Status::Unlike => 11,
             Status::Later => 12,
+            Status::Limit => 13,
         }
     }
 }
