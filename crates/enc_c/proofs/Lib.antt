@@ -5,3 +5,4 @@ pub mod Boxes
 pub mod Handles
 pub mod TokensFit
 pub mod SessionHandles
+pub mod SessionCalled

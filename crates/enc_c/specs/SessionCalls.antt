@@ -19,7 +19,7 @@ use Rattle.enc_c.specs.Copied.{IsCopiedOut}
 use Rattle.enc_c.specs.Outcomes.{Stays}
 use Rattle.enc_c.specs.Refusals.{numbers_of}
 use Rattle.enc_c.specs.SessionNumbers.{stepped_numbers, event_numbers, frame_numbers, value_numbers, part_by, remapped_numbers}
-use Rattle.enc_c.specs.State.{State}
+use Rattle.enc_c.specs.State.{State, given_bytes}
 use Rattle.enc_c.specs.Status.{number_of_status}
 use Rattle.enc_c.specs.declared.refusal.RefusalNumbers.{RefusalNumbers}
 use Rattle.enc_c.specs.declared.session_numbers.EventNumbers.{EventNumbers}
@@ -92,6 +92,9 @@ abbrev pub JudgesIn : ℕ → Option Recorded → RefusalNumbers → RefusalNumb
 JudgesIn status new refusal refusal_new files r (Ok a) = (status ≡ number_of_status Done) × (new ≡ Some (apply_recorded files r)) × (refusal_new ≡ refusal)
 JudgesIn status new refusal refusal_new files r (Err e) = (status ≡ number_of_status Refused) × (new ≡ Some (apply_recorded files r)) × (refusal_new ≡ numbers_of e)
 
+abbrev pub delta_given : List ℕ → List ℕ → List ℕ → DeltaContents
+delta_given meta il pdb = record { metadata = meta; code = il; debug = given_bytes pdb }
+
 abbrev pub AppliesIf : Bool → ℕ → Option Recorded → RefusalNumbers → RefusalNumbers → DeltaContents → Recorded → Type 0
 AppliesIf true status new refusal refusal_new files r =
     JudgesIn status new refusal refusal_new files r (judged_after r.followed files) ⊎ Stays Memory status (Some r) new refusal refusal_new
@@ -109,6 +112,13 @@ asked_remap task pairs r = Ok (remapped_numbers (remapped_in task pairs r), rema
 abbrev pub standing_told : Option TaskState → Result SteppedNumbers Status
 standing_told None = Err Absent
 standing_told (Some s) = Ok (stepped_numbers 0 (Some s))
+
+abbrev pub asked_task : ℕ → Recorded → Result SteppedNumbers Status
+asked_task task r = standing_told (state_in r.machine task)
+
+-- the text of the state
+abbrev pub asked_state : Recorded → Result (List ℕ) Status
+asked_state r = Ok (state_text r.machine)
 
 -- the frames of a task, from the outermost
 abbrev pub listed_if : {A : Type 0} → Option A → List A

@@ -16,9 +16,12 @@ mod loose;
 mod open;
 mod points;
 mod refusal;
+mod session_changes;
 mod session_handle;
+mod session_looks;
 mod session_numbers;
 mod session_open;
+mod session_taken;
 mod status;
 
 pub use laws::{numbers_law, points_law};
