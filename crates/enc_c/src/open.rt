@@ -99,7 +99,12 @@ pub extern "C" fn enc_open(
 }
 
 /// The files of a delta.
-pub(crate) fn files_of(alloc: Global, meta: &[u8], il: &[u8], pdb: &[u8]) -> Result<Files, AllocError>
+pub(crate) fn files_of(
+    alloc: Global,
+    meta: &[u8],
+    il: &[u8],
+    pdb: &[u8],
+) -> Result<Files, AllocError>
     ensures meta { IfOk result (λ f. f.meta.items ≡ meta.now) }
     ensures il { IfOk result (λ f. f.il.items ≡ il.now) }
     ensures pdb { IfOk result (λ f. bytes_held f.pdb ≡ given_bytes pdb.now) }

@@ -17,12 +17,7 @@ use enc_session::Recording;
 use std::alloc::{AllocError, Global};
 
 /// A session over a base, with its PDB, where it has one.
-fn begin(
-    alloc: Global,
-    image: Image,
-    pdb: Option<Pdb>,
-    limit: u32,
-) -> Result<Recording, ReadFault>
+fn begin(alloc: Global, image: Image, pdb: Option<Pdb>, limit: u32) -> Result<Recording, ReadFault>
     ensures { ReadsState result (session_over (Ok (begun_state image pdb)) limit) }
 {
     match Recording::begin(alloc, image, pdb, limit) {
@@ -59,11 +54,7 @@ fn read(alloc: Global, bytes: &[u8], pdb: &[u8], limit: u32) -> Result<Recording
 }
 
 /// Has a closed handle hold this.
-fn hold(
-    alloc: Global,
-    session: &mut SessionHandle,
-    recording: Recording,
-) -> Result<(), AllocError>
+fn hold(alloc: Global, session: &mut SessionHandle, recording: Recording) -> Result<(), AllocError>
     ensures held { OnOk result (session.new.held ≡ Some recording) }
     ensures kept { OnErr result (session.new.held ≡ session.old.held) }
 {
