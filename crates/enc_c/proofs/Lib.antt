@@ -10,3 +10,5 @@ pub mod ReasonNumbers
 pub mod MovesFew
 pub mod Ordinary
 pub mod MergedLast
+pub mod SessionHandles
+pub mod SessionCalled

@@ -23,7 +23,7 @@ use Rattle.enc_c.specs.Refusals.{stream_by}
 use Rattle.enc_c.specs.State.{State, chain_after, module_after, pdb_after}
 
 -- a closed handle answers nothing
-abbrev pub of_open : {A : Type 0} → Option State → (State → Result A Status) → Result A Status
+abbrev pub of_open : {S A : Type 0} → Option S → (S → Result A Status) → Result A Status
 of_open None answer = Err Closed
 of_open (Some s) answer = answer s
 

@@ -22,3 +22,7 @@ pub mod Moves
 pub mod Compacted
 pub mod Deltas
 pub mod Earlier
+pub mod SessionHandle
+pub mod SessionNumbers
+pub mod SessionSeen
+pub mod SessionCalls

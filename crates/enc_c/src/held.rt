@@ -69,7 +69,7 @@ fn add_counted<L: Ledger>(agg: &mut Aggregate, delta: Delta, blank: Blank) -> Re
 }
 
 /// The PDB of a base, read with as many methods as the base has.
-fn read_pdb(alloc: Global, image: &Image, bytes: Vec<u8>) -> Result<Pdb, ReadFault>
+pub(crate) fn read_pdb(alloc: Global, image: &Image, bytes: Vec<u8>) -> Result<Pdb, ReadFault>
     ensures { ReadsPdb result (pdb_of bytes.items (length (rows_in (chain_of_base image.now).plain method_def))) }
 {
     Pdb::read(alloc, bytes, image.count(METHOD_DEF))

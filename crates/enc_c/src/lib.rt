@@ -29,6 +29,12 @@ mod points;
 mod reason;
 mod refusal;
 mod saving;
+mod session_changes;
+mod session_handle;
+mod session_looks;
+mod session_numbers;
+mod session_open;
+mod session_taken;
 mod status;
 
 pub use laws::{numbers_law, points_law, words_law};

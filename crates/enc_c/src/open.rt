@@ -13,7 +13,7 @@ use enc_checker::Files;
 use std::alloc::{AllocError, Global};
 
 /// The bytes of a file that may be absent: where there are none.
-fn given(alloc: Global, bytes: &[u8]) -> Result<Option<Vec<u8>>, AllocError>
+pub(crate) fn given(alloc: Global, bytes: &[u8]) -> Result<Option<Vec<u8>>, AllocError>
     ensures { IfOk result (λ o. bytes_held o ≡ given_bytes bytes.now) }
 {
     match bytes {

@@ -12,3 +12,8 @@ mod Changed
 mod Coded
 mod Committed
 pub mod Remapping
+mod Generations
+mod Dated
+mod Lined
+mod Recorded
+mod Stepping

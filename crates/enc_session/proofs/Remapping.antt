@@ -1,12 +1,12 @@
 -- What comes of a remap: no watcher hears of it.
-use Rattle.std.proofs.Common.{◌≡◌, ℕ, Bool, List, [], ◌++◌, Result, Ok, Err, OnOk, refl, sym, ap, ◌∙◌, append-nil}
+use Rattle.std.proofs.Common.{◌≡◌, ℕ, Bool, List, [], Result, Ok, Err, OnOk, refl, sym, ap, ◌∙◌, append-nil}
 use Rattle.std.specs.declared.alloc.AllocError.{AllocError}
 use Rattle.enc_frames.specs.Machine.{PlainCode, MachineState}
-use Rattle.enc_remap.specs.Remap.{Remapping, moved, refused}
+use Rattle.enc_remap.specs.Remap.{Remapping}
 use Rattle.enc_remap.specs.Seen.{IsRemap}
 use Rattle.enc_remap.specs.declared.remapped.Remapped.{Remapped}
 use Rattle.enc_remap.specs.declared.remapped.Remapped.TheVariants as remapped
-use Rattle.enc_session.specs.Session.{PlainSession, Happened, nothing_passed, with_machine, remap_of, remap_happened, remap_passed, remapped_as, HasPassed}
+use Rattle.enc_session.specs.Session.{PlainSession, nothing_passed, with_machine, remap_of, remap_happened, remap_passed, remapped_as, HasPassed}
 
 by_answer : (r : Remapped) (new old : MachineState PlainCode) (said : Remapping PlainCode) (s : PlainSession) (deaf : List Bool) → s.machine ≡ old
     → IsRemap (Ok r) new old said → remap_happened said deaf s ≡ nothing_passed deaf (with_machine new s)

@@ -5,3 +5,5 @@ pub mod Engine
 pub mod States
 pub mod StatesSeen
 pub mod Codes
+pub mod Recording
+pub mod RecordingSeen

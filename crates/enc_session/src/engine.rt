@@ -1,8 +1,9 @@
 //! A session but for its watchers.
-ghost use Rattle.std.specs.Prelude.{◌≡◌, ◌++◌, [], IfOk, OnOk, OnErr, option_map};
+ghost use Rattle.std.specs.Prelude.{◌≡◌, ◌+◌, ◌++◌, [], IfOk, OnOk, OnErr, length, option_map};
 ghost use Rattle.enc_agg.specs.Extend.{chain_with};
 ghost use Rattle.enc_checker.specs.Followed.{debug_after, followed_by, plain_of};
 ghost use Rattle.enc_checker.specs.Check.{accepted};
+ghost use Rattle.enc_checker.specs.Seen.{Answers};
 ghost use Rattle.enc_vm.specs.Looks.{frame_in, innermost_in, state_in};
 ghost use Rattle.enc_frames.specs.Machine.{at_rest};
 ghost use Rattle.enc_vm.specs.Room.{WritesAtMost};
@@ -31,8 +32,8 @@ use std::marker::Model;
 /// of its last remap.
 #[derive(Drop)]
 pub(crate) struct Engine {
-    parts: Parts,
-    machine: Machine,
+    pub(crate) parts: Parts,
+    pub(crate) machine: Machine,
     alloc: Global,
 }
 
@@ -160,7 +161,7 @@ impl Engine {
     }
 
     /// Adds a delta that breaks no rule.
-    fn follow(&mut self, checked: Checked) -> Result<(), AllocError>
+    pub(crate) fn follow(&mut self, checked: Checked) -> Result<(), AllocError>
         requires { IsAcceptedAfter (chain_with self.old.followed.base self.old.followed.deltas) checked.delta checked.pdb }
         ensures ok { OnOk result (self.new ≡ record { followed = followed_by self.old.followed (accepted checked.delta checked.pdb); machine = self.old.machine }) }
         ensures err { OnErr result (self.new ≡ self.old) }
@@ -171,6 +172,27 @@ impl Engine {
         Ok(())
     }
 
+    /// How many generations there are, the base among them: the number of the next.
+    pub(crate) fn generations(&self) -> u32
+        ensures { result ≡ length self.now.followed.deltas + 1 }
+    {
+        self.parts.agg.generations()
+    }
+
+    /// Judges the files of a delta after the deltas before them.
+    pub(crate) fn judge(&self, files: Files) -> Result<Checked, ReadFault>
+        ensures answer { Answers result (judged_after self.now.followed (files_in files)) }
+        ensures follows { IfOk result (λ c. IsAcceptedAfter (chain_with self.now.followed.base self.now.followed.deltas) c.delta c.pdb) }
+    {
+        match check(self.alloc, &self.parts.agg, files) {
+            Err(fault) => Err(fault),
+            Ok(checked) => {
+                checked.delta.was_read();
+                Ok(checked)
+            }
+        }
+    }
+
     /// The files of a delta: they are applied where they break no rule after the deltas before them, and else
     /// refused. Refused files and want of memory change nothing.
     pub(crate) fn apply(&mut self, files: Files) -> Result<Applied, AllocError>
@@ -178,12 +200,11 @@ impl Engine {
         ensures ok { OnOk result (self.new ≡ record { followed = followed_after (judged_after self.old.followed (files_in files)) self.old.followed; machine = self.old.machine }) }
         ensures err { OnErr result (self.new ≡ self.old) }
     {
-        match check(self.alloc, &self.parts.agg, files) {
+        match self.judge(files) {
             Err(ReadFault::Memory) => Err(AllocError),
             Err(ReadFault::Refused(refusal)) => Ok(Applied::Refused(refusal)),
             Ok(checked) => {
-                checked.delta.was_read();
-                let generation = self.parts.agg.generations();
+                let generation = self.generations();
                 self.follow(checked)?;
                 Ok(Applied::Generation(generation))
             }

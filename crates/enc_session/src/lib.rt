@@ -3,12 +3,16 @@
 
 mod applied;
 mod codes;
+mod dates;
 mod engine;
 mod events;
 mod laws;
 mod lines;
+mod looks;
+mod newest;
 mod objects;
 mod parts;
+mod recording;
 mod session;
 mod states;
 mod values;
@@ -16,4 +20,6 @@ mod values;
 pub use applied::Applied;
 pub use laws::{changed_law, codes_law};
 pub use lines::{push_task, push_word};
+pub use looks::{FrameFacts, FramePart};
+pub use recording::{Recording, Stepped};
 pub use session::Session;

@@ -25,7 +25,7 @@ use std::alloc::{AllocError, Global};
 use std::marker::Model;
 
 /// The room that a step's lines take beside what it writes.
-const STEP_ROOM: usize = 66;
+pub(crate) const STEP_ROOM: usize = 66;
 
 /// Tasks over a base with the deltas that follow it, and watchers. Each call is one event of a machine whose module is
 /// edited directly: a call enters the newest body of its method, and a frame that is under way goes on in the body, the
@@ -49,7 +49,13 @@ impl<W: Watcher> Model for Session<W> {
 
 /// Appends the lines of a step: what it writes, and that the task ended or trapped.
 #[tactic(auto, unfolding(crate::specs::Session::step_lines))]
-fn push_step_lines(engine: &Engine, task: u32, seen: &Seen, end: StepEnd, out: &mut Vec<u8>)
+pub(crate) fn push_step_lines(
+    engine: &Engine,
+    task: u32,
+    seen: &Seen,
+    end: StepEnd,
+    out: &mut Vec<u8>,
+)
     requires { vec_len out.old + (12 * length (unwrap_or seen.now.wrote []) + 66) ≤ vec_capacity out.old }
     ensures text { out.new.items ≡ out.old.items ++ step_lines task (ending_told end) engine.now.machine (shown_in seen.now) }
     ensures len { vec_len out.new ≤ vec_len out.old + (12 * length (unwrap_or seen.now.wrote []) + 66) }

@@ -1,0 +1,145 @@
+-- What is recorded of a spawn, a step, a delta and a remap.
+use Rattle.std.proofs.Common.{◌≡◌, ◌≤◌, ℕ, ◌+◌, true, false, List, [], ◌∷◌, ◌++◌, length, map, reverse, Result, Ok, Err, OnOk, refl, sym, ap, ◌∙◌, arith, length-append}
+use Rattle.std.proofs.lemmas.List.{length-map, length-reverse}
+use Rattle.std.specs.Prelude.{Vec}
+use Rattle.std.specs.declared.alloc.AllocError.{AllocError}
+use Rattle.std.specs.declared.alloc.Global.{Global}
+use Rattle.enc_base.specs.declared.refusal.Refusal.{Refusal}
+use Rattle.enc_base.specs.declared.token.Token.{Token}
+use Rattle.enc_checker.specs.Check.{Accepted}
+use Rattle.enc_checker.specs.Followed.{Followed}
+use Rattle.enc_frames.specs.Machine.{PlainCode, Frame, MachineState}
+use Rattle.enc_remap.specs.Remap.{Remapping}
+use Rattle.enc_remap.specs.Seen.{IsRemap}
+use Rattle.enc_remap.specs.declared.remapped.Remapped.TheVariants as remapped
+use Rattle.enc_vm.specs.Looks.{frames_in}
+use Rattle.enc_vm.specs.Step.{Ending, ran, done, stopped, Spawning, begun, spawn_in}
+use Rattle.enc_vm.specs.Turns.{MachineTurn, went, machine_turn, shown_in, IsTurn, IsSpawn}
+use Rattle.enc_vm.specs.declared.ends.StepEnd.{StepEnd}
+use Rattle.enc_vm.specs.declared.ends.StepEnd.TheVariants as end
+use Rattle.enc_vm.specs.declared.ends.SpawnEnd.{SpawnEnd}
+use Rattle.enc_vm.specs.declared.ends.SpawnEnd.TheVariants as spawned
+use Rattle.enc_vm.specs.declared.seen.Seen.{Seen}
+use Rattle.enc_watch.specs.declared.event.Event.{Event}
+use Rattle.enc_session.specs.Recording.{Recorded, body_generation, redated, redated_in, spawn_recorded_by, spawn_recorded, turn_recorded, step_recorded, judged_recorded, apply_recorded, remapped_in, remap_recorded_by, remap_recorded}
+use Rattle.enc_session.specs.RecordingSeen.{HaveRoomTo, is_made, settled, date_moved}
+use Rattle.enc_session.specs.Seen.{ending_told}
+use Rattle.enc_session.specs.Session.{world_of, begun_events, entered_event, innermost_method, step_events, step_lines, DeltaContents, judged_after}
+
+-- the same by its parts
+recorded_same : (new old : Recorded) → new.followed ≡ old.followed → new.machine ≡ old.machine → new.events ≡ old.events → new.text ≡ old.text
+    → new.dates ≡ old.dates → new.limit ≡ old.limit → new ≡ old
+recorded_same new old followed machine events text dates limit =
+    λ i. record { followed = followed i; machine = machine i; events = events i; text = text i; dates = dates i; limit = limit i }
+
+-- a task begins with at most three events
+pub begun_few : {C : Type 0} (method : Token) (n : ℕ) (u : MachineState C) → length (frames_in u n) ≤ 2 → length (begun_events method n u) ≤ 3
+begun_few method n u few =
+    let e : length (map (entered_event n) (reverse (frames_in u n))) ≡ length (frames_in u n) =
+    length-map (reverse (frames_in u n)) (entered_event n) ∙ length-reverse (frames_in u n) in omega (arith, e, few)
+
+-- dates by equal generations
+dates_same : {C : Type 0} (f g : Token → ℕ) (frames : List (Frame C)) (dates : List ℕ) → ((t : Token) → f t ≡ g t) → redated f frames dates ≡ redated g frames dates
+dates_same f g frames dates same = ap (λ (h : Token → ℕ). redated h frames dates) (λ i t. same t i)
+
+-- a spawn
+pub spawn_is_recorded : (method : Token) (n : ℕ) (new old : Recorded) (date : Token → ℕ)
+    → spawn_in (world_of old.followed) method old.machine ≡ begun n new.machine → ((t : Token) → date t ≡ body_generation old.followed.deltas t)
+    → new.followed ≡ old.followed → new.events ≡ old.events ++ begun_events method n new.machine → new.text ≡ old.text
+    → new.dates ≡ old.dates ++ redated date (frames_in new.machine n) [] ∷ [] → new.limit ≡ old.limit → new ≡ spawn_recorded method old
+unfolding spawn_recorded
+spawn_is_recorded method n new old date is dated followed events text dates limit =
+    recorded_same new (spawn_recorded_by method (begun n new.machine) old) followed refl events text
+    (dates ∙ ap (λ (ds : List ℕ). old.dates ++ ds ∷ []) (dates_same date (body_generation old.followed.deltas) (frames_in new.machine n) [] dated)) limit
+    ∙ sym (ap (λ (x : Spawning PlainCode). spawn_recorded_by method x old) is)
+
+pub no_task_recorded : (method : Token) (how : SpawnEnd) (new old : Recorded) → ((n : ℕ) → how ≡ spawned.Task n → ⊥)
+    → IsSpawn (Ok how) new.machine old.machine (spawn_in (world_of old.followed) method old.machine)
+    → new.followed ≡ old.followed → new.events ≡ old.events → new.text ≡ old.text → new.dates ≡ old.dates → new.limit ≡ old.limit
+    → new ≡ spawn_recorded method old
+unfolding spawn_recorded
+no_task_recorded method (spawned.Task n) new old not is followed events text dates limit = absurd (not n refl)
+no_task_recorded method spawned.Limit new old not is followed events text dates limit =
+    recorded_same new old followed is.1 events text dates limit ∙ sym (ap (λ (x : Spawning PlainCode). spawn_recorded_by method x old) is.0)
+no_task_recorded method spawned.Method new old not is followed events text dates limit =
+    recorded_same new old followed is.1 events text dates limit ∙ sym (ap (λ (x : Spawning PlainCode). spawn_recorded_by method x old) is.0)
+
+-- a step that was made
+made : (task : ℕ) (how : Ending) (seen : Seen) (new mid old : Recorded)
+    → machine_turn (world_of old.followed) task old.machine ≡ went how mid.machine seen.line (shown_in seen) → mid.followed ≡ old.followed
+    → mid.events ≡ old.events ++ step_events task (innermost_method old.machine task) how seen.line (shown_in seen)
+    → mid.text ≡ old.text ++ step_lines task how mid.machine (shown_in seen) → mid.dates ≡ old.dates → mid.limit ≡ old.limit → new ≡ settled task mid
+    → new ≡ step_recorded task old
+unfolding step_recorded
+made task how seen new mid old is followed events text dates limit settles =
+    settles
+    ∙ recorded_same (settled task mid) (turn_recorded task (went how mid.machine seen.line (shown_in seen)) old) followed refl events text
+    (ap (λ (f : Followed). redated_in f mid.machine task mid.dates) followed ∙ ap (redated_in old.followed mid.machine task) dates) limit
+    ∙ sym (ap (λ (x : MachineTurn PlainCode). turn_recorded task x old) is)
+
+pub step_is_recorded : (task : ℕ) (how : StepEnd) (seen : Seen) (new mid old : Recorded) → is_made how ≡ true
+    → IsTurn (Ok how) seen mid.machine old.machine (machine_turn (world_of old.followed) task old.machine) → mid.followed ≡ old.followed
+    → mid.events ≡ old.events ++ step_events task (innermost_method old.machine task) (ending_told how) seen.line (shown_in seen)
+    → mid.text ≡ old.text ++ step_lines task (ending_told how) mid.machine (shown_in seen) → mid.dates ≡ old.dates → mid.limit ≡ old.limit
+    → new ≡ settled task mid → new ≡ step_recorded task old
+step_is_recorded task end.Absent seen new mid old not turn followed events text dates limit settles = absurd cc
+step_is_recorded task end.Idle seen new mid old not turn followed events text dates limit settles = absurd cc
+step_is_recorded task end.Ran seen new mid old is turn followed events text dates limit settles =
+    made task ran seen new mid old turn followed events text dates limit settles
+step_is_recorded task end.Ended seen new mid old is turn followed events text dates limit settles =
+    made task done seen new mid old turn followed events text dates limit settles
+step_is_recorded task (end.Trapped x) seen new mid old is turn followed events text dates limit settles =
+    made task (stopped x) seen new mid old turn followed events text dates limit settles
+
+-- and where none was
+pub no_step_recorded : (task : ℕ) (how : StepEnd) (seen : Seen) (new old : Recorded) → is_made how ≡ false
+    → IsTurn (Ok how) seen new.machine old.machine (machine_turn (world_of old.followed) task old.machine)
+    → new.followed ≡ old.followed → new.events ≡ old.events → new.text ≡ old.text → new.dates ≡ old.dates → new.limit ≡ old.limit
+    → new ≡ step_recorded task old
+unfolding step_recorded
+no_step_recorded task end.Absent seen new old not turn followed events text dates limit =
+    recorded_same new old followed turn.1 events text dates limit ∙ sym (ap (λ (x : MachineTurn PlainCode). turn_recorded task x old) turn.0)
+no_step_recorded task end.Idle seen new old not turn followed events text dates limit =
+    recorded_same new old followed turn.1 events text dates limit ∙ sym (ap (λ (x : MachineTurn PlainCode). turn_recorded task x old) turn.0)
+no_step_recorded task end.Ran seen new old not turn followed events text dates limit = absurd cc
+no_step_recorded task end.Ended seen new old not turn followed events text dates limit = absurd cc
+no_step_recorded task (end.Trapped x) seen new old not turn followed events text dates limit = absurd cc
+
+-- a delta
+pub apply_is_recorded : (files : DeltaContents) (said : Result Accepted Refusal) (new old : Recorded) → judged_after old.followed files ≡ said
+    → new ≡ judged_recorded said old → new ≡ apply_recorded files old
+unfolding apply_recorded
+apply_is_recorded files said new old answer is = is ∙ sym (ap (λ (x : Result Accepted Refusal). judged_recorded x old) answer)
+
+pub apply_if_recorded : {T : Type 0} (files : DeltaContents) (said : Result Accepted Refusal) (r : Result T AllocError) (new old : Recorded)
+    → judged_after old.followed files ≡ said → OnOk r (new ≡ judged_recorded said old) → OnOk r (new ≡ apply_recorded files old)
+apply_if_recorded files said (Ok x) new old answer is = apply_is_recorded files said new old answer is
+apply_if_recorded files said (Err e) new old answer is = tt
+
+-- a remap
+pub remap_is_recorded : (task : ℕ) (pairs : List (ℕ × ℕ)) (method : Token) (from to : ℕ) (new mid old : Recorded)
+    → IsRemap (Ok (remapped.Moved method from to)) mid.machine old.machine (remapped_in task pairs old) → mid.followed ≡ old.followed
+    → mid.events ≡ old.events → mid.text ≡ old.text → mid.dates ≡ old.dates → mid.limit ≡ old.limit → new ≡ date_moved task method mid
+    → new ≡ remap_recorded task pairs old
+unfolding remap_recorded
+remap_is_recorded task pairs method from to new mid old is followed events text dates limit moves =
+    moves ∙ ap (date_moved task method) (recorded_same mid (record old { machine = mid.machine }) followed refl events text dates limit)
+    ∙ sym (ap (λ (x : Remapping PlainCode). remap_recorded_by task x old) is)
+
+pub no_remap_recorded : (task : ℕ) (pairs : List (ℕ × ℕ)) (number : ℕ) (new old : Recorded)
+    → IsRemap (Ok (remapped.Refused number)) new.machine old.machine (remapped_in task pairs old) → new.followed ≡ old.followed
+    → new.events ≡ old.events → new.text ≡ old.text → new.dates ≡ old.dates → new.limit ≡ old.limit → new ≡ remap_recorded task pairs old
+unfolding remap_recorded
+no_remap_recorded task pairs number new old is followed events text dates limit =
+    recorded_same new old followed is.1 events text dates limit ∙ sym (ap (λ (x : Remapping PlainCode). remap_recorded_by task x old) is.0)
+
+-- more events have room
+pub have_room : (limit : ℕ) (new old : Vec Event Global) (more : List Event) → new.items ≡ old.items ++ more → old.cap ≤ new.cap → HaveRoomTo limit old
+    → length old.items + length more ≤ limit → HaveRoomTo limit new
+have_room limit new old more is kept room within =
+    let e : length new.items ≡ length old.items + length more = ap length is ∙ length-append old.items more in
+    let room_before = room.room in
+    record { room = omega (arith, kept, room_before); few = omega (arith, e, within) }
+
+pub more_few : (new old more : List Event) (n : ℕ) → new ≡ old ++ more → length more ≤ n → length new ≤ length old + n
+more_few new old more n is few = let e : length new ≡ length old + length more = ap length is ∙ length-append old more in omega (arith, e, few)
