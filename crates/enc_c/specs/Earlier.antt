@@ -1,5 +1,5 @@
 -- What is asked of an open handle as it was after its first deltas.
-use Rattle.std.specs.Prelude.{ℕ, ◌-◌, ◌⊎◌, List, drop, length, map, Option, Some, None, Result, Ok, Err}
+use Rattle.std.specs.Prelude.{ℕ, ◌-◌, ◌⊎◌, List, drop, length, Option, Some, None, Result, Ok, Err}
 use Rattle.enc_base.specs.declared.token.Token.{Token}
 use Rattle.enc_meta.specs.Joined.{joined_user}
 use Rattle.enc_opcodes.specs.Body.{Body}
@@ -11,7 +11,6 @@ use Rattle.enc_c.specs.History.{of_generation}
 use Rattle.enc_c.specs.State.{State, chain_after, module_after, pdb_after}
 use Rattle.enc_c.specs.Status.{TellsValue}
 use Rattle.enc_c.specs.declared.code.CodeHead.{CodeHead}
-use Rattle.enc_c.specs.declared.earlier.PairNumbers.{PairNumbers}
 use Rattle.enc_c.specs.declared.points.PointNumbers.{PointNumbers}
 use Rattle.enc_c.specs.declared.status.Status.{Status}
 use Rattle.enc_c.specs.declared.status.Status.TheVariants.{Absent, Closed, Memory}
@@ -43,10 +42,6 @@ TellsBodyAt None g t number old new before count head head_new = TellsBody (λ (
 TellsBodyAt (Some s) g t number old new before count head head_new =
     TellsBody (joined_user (chain_after (state_at g s)).heaps) number old new before count head head_new (asked_body_at s g t)
 
--- a map by its pairs
-abbrev pub pairs_by : List PairNumbers → List (ℕ × ℕ)
-pairs_by map_of = map (λ (p : PairNumbers). (p.from_offset, p.to_offset)) map_of
-
 -- the number of the first rule that a move breaks, 0 where it breaks none; a method without a body has no frames
 abbrev pub rule_told : Option (Option ℕ) → Result ℕ Status
 rule_told None = Err Absent
@@ -54,8 +49,8 @@ rule_told (Some None) = Ok 0
 rule_told (Some (Some rule)) = Ok rule
 
 -- whether a frame may go on that has the body of a method of that time
-unfoldable pub asked_remap : State → ℕ → Token → ℕ → List (ℕ × ℕ) → Result ℕ Status
-asked_remap s g t offset pairs =
+unfoldable pub asked_move : State → ℕ → Token → ℕ → List (ℕ × ℕ) → Result ℕ Status
+asked_move s g t offset pairs =
     of_generation s g (unless_unlike (unlike_method (state_at g s) t)
     (rule_told (may_remap (module_after (state_at g s)) (pdb_after (state_at g s)) (module_after s) (pdb_after s) (record { method = t; offset = offset }) pairs)))
 

@@ -1,13 +1,16 @@
 //! What is asked of an open handle as it was after its first deltas.
-ghost use Rattle.std.specs.Prelude.{◌≡◌, ◌==◌, None, Some, IfOk, if◌then◌else◌};
+ghost use Rattle.std.specs.Prelude.{◌≡◌, ◌==◌, None, Some, if◌then◌else◌};
 ghost use Rattle.enc_agg.specs.Seen.{module_of_all};
 ghost use Rattle.enc_plain.specs.Module.{has_row};
 ghost use Rattle.enc_schema.specs.Tables.{method_def};
-ghost use Rattle.enc_c.specs.Earlier.{asked_document_at, asked_points_at, asked_remap, asked_row_at, pairs_by, rule_told};
+ghost use Rattle.enc_c.specs.Earlier.{asked_document_at, asked_points_at, asked_move, asked_row_at, rule_told};
+ghost use Rattle.enc_c.specs.SessionNumbers.{pairs_of};
 ghost use Rattle.enc_c.specs.Family.{OrMemory, items_listed};
 
 use crate::held::Held;
 use crate::points::{PointNumbers, document_name, points};
+use crate::session_changes::list_pairs;
+use crate::session_numbers::PairNumbers;
 use crate::status::Status;
 use enc_agg::Earlier;
 use enc_base::Token;
@@ -17,25 +20,6 @@ use enc_remap::{Edition, Standing, may_remap};
 use enc_schema::tables::METHOD_DEF;
 use enc_text::row_text;
 use std::alloc::{AllocError, Global};
-
-/// A pair of a map: where a frame stands in its body, and where it is to stand in the newest one.
-#[repr(C)]
-#[derive(Clone, Copy)]
-pub struct PairNumbers {
-    pub from_offset: u32,
-    pub to_offset: u32,
-}
-
-/// The pairs of a map.
-fn pairs_of(alloc: Global, map: &[PairNumbers]) -> Result<Vec<(u32, u32)>, AllocError>
-    ensures { IfOk result (λ p. p.items ≡ pairs_by map.now) }
-{
-    let mut pairs = Vec::new(alloc);
-    for pair in map {
-        pairs.push((pair.from_offset, pair.to_offset))?;
-    }
-    Ok(pairs)
-}
 
 /// The number of a rule, 0 for none.
 fn rule_told(broken: Option<Option<u8>>) -> Result<u32, Status>
@@ -126,7 +110,7 @@ impl Held {
 
     /// Whether a frame of a method, which has the method's body of the first so many deltas and stands at an offset,
     /// may go on in the newest body where a map leads: the number of the first of Q3 to Q7 that is broken, 0 where none is.
-    #[tactic(auto, unfolding(crate::specs::Earlier::asked_remap))]
+    #[tactic(auto, unfolding(crate::specs::Earlier::asked_move))]
     fn rule_of(
         &self,
         alloc: Global,
@@ -134,7 +118,7 @@ impl Held {
         at: Standing,
         pairs: &[(u32, u32)],
     ) -> Result<u32, Status>
-        ensures { OrMemory result (asked_remap self.now generation at.method at.offset pairs.now) }
+        ensures { OrMemory result (asked_move self.now generation at.method at.offset pairs.now) }
     {
         if !self.has_generation(generation) {
             return Err(Status::Later);
@@ -165,10 +149,10 @@ impl Held {
         at: Standing,
         map: &[PairNumbers],
     ) -> Result<u32, Status>
-        ensures { OrMemory result (asked_remap self.now generation at.method at.offset (pairs_by map.now)) }
+        ensures { OrMemory result (asked_move self.now generation at.method at.offset (pairs_of map.now)) }
     {
-        match pairs_of(alloc, map) {
-            Ok(pairs) => self.rule_of(alloc, generation, at, &pairs),
+        match list_pairs(alloc, map) {
+            Ok(pairs) => self.rule_of(alloc, generation, at, pairs.as_slice()),
             Err(AllocError) => Err(Status::Memory),
         }
     }

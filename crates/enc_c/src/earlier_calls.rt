@@ -3,14 +3,15 @@ ghost use Rattle.std.specs.Prelude.{◌≡◌};
 ghost use Rattle.enc_base.specs.Token.{token_of};
 ghost use Rattle.enc_c.specs.Asked.{of_open};
 ghost use Rattle.enc_c.specs.Copied.{CopiesOrStays};
-ghost use Rattle.enc_c.specs.Earlier.{TellsBodyAt, TellsOrStays, asked_document_at, asked_points_at, asked_remap, asked_row_at, pairs_by};
+ghost use Rattle.enc_c.specs.SessionNumbers.{pairs_of};
+ghost use Rattle.enc_c.specs.Earlier.{TellsBodyAt, TellsOrStays, asked_document_at, asked_points_at, asked_move, asked_row_at};
 
 use crate::code::{CodeHead, code, copy_code};
 use crate::copy::copy_items;
-use crate::earlier::PairNumbers;
 use crate::handle::{Handle, put, take};
 use crate::held::Held;
 use crate::points::PointNumbers;
+use crate::session_numbers::PairNumbers;
 use crate::status::{Status, tell};
 use enc_base::Token;
 use enc_remap::Standing;
@@ -146,7 +147,7 @@ pub extern "C" fn enc_may_remap(
     rule: &mut u32,
 ) -> u32
     ensures kept { handle.new.held ≡ handle.old.held }
-    ensures answer { TellsOrStays result rule.old rule.new (of_open handle.old.held (λ s. asked_remap s generation (token_of method) offset (pairs_by map.now))) }
+    ensures answer { TellsOrStays result rule.old rule.new (of_open handle.old.held (λ s. asked_move s generation (token_of method) offset (pairs_of map.now))) }
 {
     let Some(held) = take(handle, alloc) else {
         return Status::Closed.number();

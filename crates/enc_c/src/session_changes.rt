@@ -153,7 +153,7 @@ pub extern "C" fn enc_session_apply(
 }
 
 /// The pairs of a map.
-fn list_pairs(alloc: Global, map: &[PairNumbers]) -> Result<PairList, AllocError>
+pub(crate) fn list_pairs(alloc: Global, map: &[PairNumbers]) -> Result<PairList, AllocError>
     ensures { IfOk result (λ l. l ≡ pairs_of map.now) }
 {
     let mut pairs = PairList::begin(alloc);
