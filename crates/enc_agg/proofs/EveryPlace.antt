@@ -14,7 +14,7 @@ use Rattle.enc_plain.specs.declared.place.RowPlace.{RowPlace}
 use Rattle.enc_places.specs.declared.places.Places.{Places}
 use Rattle.enc_places.specs.declared.places.Listings.{Listings}
 use Rattle.enc_places.specs.Places.{place_key, places_kept, generation_kept, BeginWith, KeepsPlaces, KeepsAllPlaces, one_place, AreListings, AreOfThose}
-use Rattle.enc_places.proofs.Keeping.{all_listings, keeps_more, keeps_less, keeps_none, own_within, own_few, last_with}
+use Rattle.enc_places.proofs.Keeping.{those_all, all_listings, keeps_more, keeps_less, keeps_none, own_within, own_few, last_with}
 use Rattle.enc_delta.specs.Delta.{listed, place_in}
 use Rattle.enc_agg.specs.declared.added.Added.{Added}
 use Rattle.enc_agg.specs.declared.aggregate.Ready.{Ready}
@@ -43,12 +43,10 @@ pub are_listings : (deltas : List Source) (x : Places) (own : Index RowPlace) (a
     → ((u : Token) → value_at own (row_key u) ≡ place_listed (suc (length deltas)) all u) → AreOfThose x all (λ u. value_at own (row_key u)) l
     → AreListings (every_place deltas) (place_listed (suc (length deltas)) all) l
 are_listings deltas x own all l keeps is those =
-    let by = all_listings (every_place deltas) (length deltas) x (λ u. value_at own (row_key u)) all l keeps (λ u e. is u ∙ not_listed (suc (length deltas)) all u e) those in
-    record {
-      counts = λ u. by.counts u ∙ ap (option_map (λ (p : RowPlace). length (every_place deltas u) + 1)) (is u);
-      last = λ u. by.last u ∙ is u;
-      others = by.others;
-    }
+    let g = suc (length deltas) in
+    let has : Token → Option RowPlace = λ u. value_at own (row_key u) in
+    all_listings (every_place deltas) (length deltas) x has (place_listed g all) all l keeps
+    (λ u. those_all all has u (λ e. is u ∙ not_listed g all u e) ∙ is u) those
 
 -- with the newest delta
 places_with : (deltas : List Source) (d : Source) (x y : Places) (l : Listings)

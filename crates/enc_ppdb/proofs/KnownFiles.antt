@@ -1,12 +1,8 @@
 -- The first deltas of a chain.
-use Rattle.std.proofs.Common.{◌≡◌, ℕ, zero, suc, ◌-◌, ◌<◌, ◌≤◌, true, false, List, [], ◌∷◌, ◌++◌, length, get_or, take, drop, reverse, Option, Some, None, refl, ap, sym, ◌∙◌, arith}
-use Rattle.std.specs.List.{list_any}
+use Rattle.std.proofs.Common.{◌≡◌, ℕ, zero, suc, ◌-◌, ◌≤◌, List, [], ◌∷◌, ◌++◌, length, take, drop, reverse, Option, ap, sym, ◌∙◌, arith}
 use Rattle.std.proofs.lemmas.List.{reverse-append, length-reverse, length-drop, take-append-drop, drop_at}
-use Rattle.enc_base.specs.Token.{is_token}
-use Rattle.enc_base.specs.declared.token.Token.{Token}
 use Rattle.enc_rows.specs.Source.{Source}
-use Rattle.enc_ppdb.specs.PdbChain.{DebugDelta, base_row, delta_row, earlier_pdb}
-use Rattle.enc_ppdb.specs.KnownAt.{known_or, known_at}
+use Rattle.enc_ppdb.specs.PdbChain.{DebugDelta, earlier_pdb}
 
 -- a front is no longer
 pub take_short : (n : ℕ) (xs : List DebugDelta) → length (take n xs) ≤ length xs

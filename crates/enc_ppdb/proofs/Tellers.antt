@@ -12,7 +12,7 @@ use Rattle.enc_index.specs.Key.{is_key}
 use Rattle.enc_index.specs.Index.{value_at, latest, either}
 use Rattle.enc_places.specs.declared.places.Listings.{Listings}
 use Rattle.enc_places.specs.declared.places.Places.{Places}
-use Rattle.enc_places.specs.Places.{place_key, places_kept, generation_kept, BeginWith, KeepsPlaces, KeepsAllPlaces, one_place, AreListings, of_those, AreOfThose}
+use Rattle.enc_places.specs.Places.{place_key, places_kept, generation_kept, BeginWith, KeepsPlaces, KeepsAllPlaces, one_place, AreOfThose}
 use Rattle.enc_places.proofs.Keeping.{get_front, get_behind, those_behind, all_listings, keeps_more, keeps_less, keeps_none, own_within, own_few, last_with}
 use Rattle.enc_plain.specs.SoundDebug.{IsSoundPdb}
 use Rattle.enc_plain.specs.declared.place.RowPlace.{RowPlace}
@@ -20,7 +20,7 @@ use Rattle.enc_rows.specs.Source.{Source}
 use Rattle.enc_schema.specs.Tables as tables
 use Rattle.enc_ppdb.specs.Fault.{named_tokens}
 use Rattle.enc_ppdb.specs.KnownAt.{known_or, known_at}
-use Rattle.enc_ppdb.specs.PdbChain.{DebugDelta, base_row, delta_row, row_in_file, pdb_with}
+use Rattle.enc_ppdb.specs.PdbChain.{DebugDelta, base_row, delta_row, pdb_with}
 use Rattle.enc_ppdb.specs.PlacedAt.{number_or, file_number}
 use Rattle.enc_ppdb.specs.Points.{names_method, row_for}
 use Rattle.enc_ppdb.specs.Told.{method_named_by, methods_named, told_methods, tells_of, own_told, told_by, every_told, AreToldBy, IsPdbWhole, IsEarlierPdb}

@@ -1,4 +1,4 @@
-use Rattle.std.proofs.Common.{◌≡◌, ◌+◌, suc, length, reverse, arith}
+use Rattle.std.proofs.Common.{reverse, arith}
 use Rattle.std.proofs.lemmas.List.{length-reverse}
 use Rattle.enc_ppdb.proofs.Tellers.{are_told, few_told}
 use Rattle.enc_ppdb.proofs.chain.PdbChain.told.Goals as goal
