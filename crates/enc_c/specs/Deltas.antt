@@ -43,6 +43,7 @@ unmerged_last short base [] after = Some (Only Few)
 unmerged_last short base (b ∷ []) after = Some (Only Few)
 unmerged_last short base (b ∷ a ∷ older) after = if short then unmerged_two (chain_with base older) a b after else Some (Only Limit)
 
+-- so it is of a state
 unfoldable pub unmerged : State → Option Unwritten
 unmerged s = unmerged_last s.short s.base s.deltas (pdb_after s)
 
@@ -51,23 +52,27 @@ abbrev pub StandsForTwo : State → List Source → DeltaBytes → Type 0
 StandsForTwo s (b ∷ a ∷ older) d = StandsForBoth (chain_with s.base older) a b (pdb_with s.pdb (drop 2 s.debugs)) (pdb_after s) d
 StandsForTwo s deltas d = ⊥
 
+-- for the last two of a state
 abbrev pub StandsForLast : State → DeltaBytes → Type 0
 StandsForLast s d = StandsForTwo s s.deltas d
 
--- why a list isn't written after a chain: its text is no edit list (L3 is of scripts alone), or one of its edits breaks a rule
+-- why a text is no edit list (L3 is of scripts alone)
 abbrev pub reason_of_fault : JobFault → Unwritten
 reason_of_fault fault.J1 = Because Json
 reason_of_fault (fault.J2 n) = Because (Element n)
 reason_of_fault fault.L3 = Only Limit
 reason_of_fault fault.Memory = Only Memory
 
+-- a rule that an edit breaks
 abbrev pub reason_of_rule : ℕ × ℕ → Unwritten
 reason_of_rule x = Because (Edit x.0 x.1)
 
+-- why a list isn't written after a chain: its text is none, or it breaks a rule
 abbrev pub unwritten_list : Chain → Result EditList JobFault → Option Unwritten
 unwritten_list c (Ok l) = option_map reason_of_rule (first_edit c l)
 unwritten_list c (Err fault) = Some (reason_of_fault fault)
 
+-- so it is of a text after a state
 unfoldable pub unwritten : List ℕ → State → Option Unwritten
 unwritten text s = unwritten_list (chain_after s) (edits_said text)
 
@@ -76,6 +81,7 @@ abbrev pub StandsForList : Chain → Result EditList JobFault → DeltaBytes →
 StandsForList c (Ok l) d = IsWrittenFor c l d
 StandsForList c (Err fault) d = ⊥
 
+-- the one that a text says, after a state
 abbrev pub StandsForText : List ℕ → State → DeltaBytes → Type 0
 StandsForText text s d = StandsForList (chain_after s) (edits_said text) d
 
@@ -98,6 +104,7 @@ pub record Delivery : Type 0 where
   pub old : RefusalNumbers
   pub new : RefusalNumbers
 
+-- one of these
 abbrev pub delivery : ℕ → Buffer ℕ → Buffer ℕ → Buffer ℕ → RefusalNumbers → RefusalNumbers → Delivery
 delivery status meta il pdb old new = record { status = status; meta = meta; il = il; pdb = pdb; old = old; new = new }
 

@@ -10,11 +10,12 @@ use Rattle.enc_c.specs.Status.{number_of_status}
 use Rattle.enc_c.specs.Refusals.{numbers_of}
 use Rattle.enc_c.specs.State.{State}
 
--- files are accepted, or refused; want of memory tells nothing
+-- files come to a state
 abbrev pub IsAccepted : Result State Refusal → Type 0
 IsAccepted (Ok s) = Unit {0}
 IsAccepted (Err e) = ⊥
 
+-- files are accepted, or refused; want of memory tells nothing
 abbrev pub JudgesAs : {U : Type 0} → Result U ReadFault → Result State Refusal → Type 0
 JudgesAs (Ok u) said = IsAccepted said
 JudgesAs (Err (fault.Refused e)) said = said ≡ Err e

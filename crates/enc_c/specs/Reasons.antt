@@ -29,18 +29,21 @@ numbers_of_reason (Heap name) = numbers_with 0x4c 4 1 (number_of_stream name) 0 
 numbers_of_reason Image = numbers_with 0x4c 4 15 0 0 0 0
 numbers_of_reason (Deep t) = numbers_with 0x47 1 9 0 t.table t.row 0
 
--- what numbers say
+-- what numbers say of a text
 abbrev pub json_by : RefusalNumbers → Option Reason
 json_by n = if n.rule == 1 && n.place == 13 then Some Json else if n.rule == 2 && n.place == 14 then Some (Element n.entry) else None
 
+-- of a limit
 abbrev pub limit_by : RefusalNumbers → Option Reason
 limit_by n =
     if n.rule == 4 && n.place == 1 then option_map (λ (name : StreamName). Heap name) (stream_by n.stream)
     else if n.rule == 4 && n.place == 15 then Some Image else None
 
+-- of a reference that lies too deep
 abbrev pub deep_by : RefusalNumbers → Option Reason
 deep_by n = if n.rule == 1 && n.place == 9 then Some (Deep (record { table = n.table; row = n.row })) else None
 
+-- the reason that numbers say
 unfoldable pub reason_by : RefusalNumbers → Option Reason
 reason_by n =
     if n.letter == 0x4a then json_by n else if n.letter == 0x4c then limit_by n else if n.letter == 0x47 then deep_by n
@@ -74,6 +77,7 @@ line_of_reason name (Deep t) = deep_line name t
 abbrev pub WordsStandInLines : Type 0
 WordsStandInLines = (name : List ℕ) (r : Reason) → line_of_reason name r ≡ codes "refused " ++ name ++ 0x20 ∷ words_of_reason r
 
+-- the words of a reason, where there is one
 abbrev pub words_told : Option Reason → Result (List ℕ) Status
 words_told (Some r) = Ok (words_of_reason r)
 words_told None = Err Unlike

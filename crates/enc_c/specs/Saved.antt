@@ -22,6 +22,7 @@ pub record Buffer (A : Type 0) : Type 0 where
   pub before : ℕ
   pub size : ℕ
 
+-- one of these
 abbrev pub buffer_of : {A : Type 0} → List A → List A → ℕ → ℕ → Buffer A
 buffer_of old new before size = record { old = old; new = new; before = before; size = size }
 
@@ -34,10 +35,11 @@ pub record IsUntouched {A : Type 0} (b : Buffer A) : Type 0 where
 abbrev pub has_room : {A : Type 0} → List A → List A → Bool
 has_room items buffer = nat_le (length items) (length buffer)
 
--- two or three files do
+-- two files do
 abbrev pub both_room : {A : Type 0} → List ℕ → List A → List ℕ → List A → Bool
 both_room x y a b = has_room x a && has_room y b
 
+-- three do
 abbrev pub all_room : {A : Type 0} → List ℕ → List ℕ → List A → List ℕ → List ℕ → List A → Bool
 all_room x y z a b c = both_room x y a b && has_room z c
 
@@ -46,6 +48,7 @@ abbrev pub written_if : {A : Type 0} → Bool → List A → List A → List A
 written_if true items buffer = items ++ drop (length items) buffer
 written_if false items buffer = buffer
 
+-- the status where all fit, or not
 abbrev pub status_if : Bool → Status
 status_if true = Done
 status_if false = Short
