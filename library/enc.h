@@ -37,7 +37,8 @@ enum {
     ENC_UNLIKE = 11, /* the column, the table or the row isn't of the kind that is asked for, or the numbers name no
                       * stream or no refusal */
     ENC_LATER = 12,  /* there is no such generation */
-    ENC_LIMIT = 13,  /* a stated limit is passed: `enc_merge` where a delta's metadata or code has more than 2^26 bytes */
+    ENC_LIMIT = 13,  /* a stated limit is passed: `enc_merge` where a delta's metadata or code has more than 2^26 bytes,
+                      * `enc_spawn` where there are 64 tasks */
     ENC_FEW = 14     /* `enc_merge` where there are fewer than two deltas */
 };
 
@@ -277,6 +278,128 @@ uint32_t enc_write(enc_handle *handle, const uint8_t *json, size_t json_length,
 
 /* The words of a refusal as the program prints them, with the end of the line: `E16 06000001\n`. */
 uint32_t enc_words(const enc_refusal *refusal, uint8_t *buffer, size_t length, size_t *size);
+
+/* A session: tasks that make steps over a base while deltas are applied to it. It is closed where it is NULL, and is
+ * no enc_handle: what is said of handles above holds for it too. Each call enters the newest body of its method, and a
+ * frame that is under way goes on in the body with which it began, or that of its last remap. */
+typedef void *enc_session;
+
+/* How many steps ran, and how it stands with the task. */
+typedef struct {
+    uint32_t ran;   /* one that trapped isn't counted, and one with which the task ended is */
+    uint32_t state; /* ENC_RUNNING, ENC_ENDED or ENC_TRAPPED */
+    uint32_t trap;  /* 1 to 14 for X1 to X14 where it trapped, and else 0 */
+} enc_stepped;
+
+enum {
+    ENC_RUNNING = 0,
+    ENC_ENDED = 1,
+    ENC_TRAPPED = 2
+};
+
+/* What came of a remap. */
+typedef struct {
+    uint32_t rule; /* 0 where the frame was moved, and else the first of Q1 to Q7 that is broken; then the rest is 0 */
+    uint32_t method;
+    uint32_t from;
+    uint32_t to;
+} enc_remapped;
+
+/* A frame of a task. */
+typedef struct {
+    uint32_t method;     /* its token */
+    uint32_t generation; /* that brought the body with which it began, or that of its last remap; 0 for the base */
+    uint32_t offset;     /* of its next instruction, in bytes */
+    uint32_t line;       /* the start line of its body's last point that isn't hidden at or before the offset, or 0 */
+    uint32_t arguments;  /* how many it has */
+    uint32_t locals;
+    uint32_t stack;
+} enc_frame;
+
+/* What a frame holds. */
+enum {
+    ENC_ARGUMENTS = 0,
+    ENC_LOCALS = 1,
+    ENC_STACK = 2 /* from the bottom up */
+};
+
+/* A value. */
+typedef struct {
+    uint32_t kind;
+    uint32_t object; /* the number of the object, from 1, and else 0 */
+    int64_t number;  /* the integer, and else 0 */
+} enc_value;
+
+enum {
+    ENC_INT32 = 0,
+    ENC_INT64 = 1,
+    ENC_NULL = 2,
+    ENC_OBJECT = 3
+};
+
+/* An event. What its kind doesn't have is 0. */
+typedef struct {
+    uint32_t kind;
+    uint32_t task;   /* from 1 */
+    uint32_t method; /* its token */
+    uint32_t detail;
+} enc_event;
+
+enum {
+    ENC_SPAWNED = 1,       /* task, method */
+    ENC_ENTERED = 2,       /* task, method */
+    ENC_LEFT = 3,          /* task, method */
+    ENC_LINE = 4,          /* task, method; detail is the line */
+    ENC_APPLIED = 5,       /* detail is the generation */
+    ENC_DELTA_REFUSED = 6, /* detail is the letter of the rule times 256, and its number */
+    ENC_TASK_TRAPPED = 7,  /* task; detail is the number of the trap */
+    ENC_TASK_ENDED = 8     /* task */
+};
+
+/* Judges a base, with its PDB where that has bytes, and opens a closed session: no task, and no event. There can be
+ * `limit` events that `enc_events` has not taken; memory for them is taken here. A call that might pass the limit
+ * returns ENC_SHORT before it does anything: a spawn tells at most 3 events, a step at most 4, a delta 1. */
+uint32_t enc_session_open(enc_session *session, const uint8_t *bytes, size_t length, const uint8_t *pdb, size_t pdb_length,
+                          uint32_t limit, enc_refusal *refusal);
+
+/* Closes a session and frees what it held; ENC_CLOSED where it was closed before. */
+uint32_t enc_session_close(enc_session *session);
+
+/* Begins a task with a method, and tells its number, from 1. ENC_LIMIT where there are 64 tasks; ENC_UNLIKE where the
+ * method isn't a static one without parameters, or the interpreter doesn't run it or its type's constructor. */
+uint32_t enc_spawn(enc_session *session, uint32_t method, uint32_t *task);
+
+/* Makes at most `count` steps of a task, until it ends or traps. ENC_ABSENT where no task has the number, and then
+ * ENC_SHORT where 4 * count events more might pass the limit. At ENC_MEMORY `stepped` is written too: the steps that
+ * it counts were made and stand, and are fewer than `count`. In all other cases of ENC_MEMORY nothing has changed. */
+uint32_t enc_step(enc_session *session, uint32_t task, uint32_t count, enc_stepped *stepped);
+
+/* Judges a delta after those before it, with its PDB where that has bytes, and applies it. Where it is refused, that is
+ * an event, and all else stays as it was. */
+uint32_t enc_session_apply(enc_session *session, const uint8_t *metadata, size_t metadata_length, const uint8_t *il,
+                           size_t il_length, const uint8_t *pdb, size_t pdb_length, enc_refusal *refusal);
+
+/* Has the innermost frame of a task go on in the newest body of its method, where the map leads from its offset. */
+uint32_t enc_remap(enc_session *session, uint32_t task, const enc_pair *map, size_t length, enc_remapped *remapped);
+
+/* The state of all tasks and objects, as a script's `state` prints it. */
+uint32_t enc_state(enc_session *session, uint8_t *buffer, size_t length, size_t *size);
+
+/* How it stands with a task; `ran` is 0. ENC_ABSENT where no task has the number. */
+uint32_t enc_task(enc_session *session, uint32_t task, enc_stepped *stepped);
+
+/* The frames of a task, from the outermost; none of a task that has ended. ENC_ABSENT where no task has the number. */
+uint32_t enc_frames(enc_session *session, uint32_t task, enc_frame *buffer, size_t length, size_t *size);
+
+/* The arguments, locals or stack of a frame, which is counted from 0 for the outermost. ENC_UNLIKE where `which` is
+ * none of them, and then ENC_ABSENT where there is no such task or frame. */
+uint32_t enc_values(enc_session *session, uint32_t task, uint32_t frame, uint32_t which, enc_value *buffer, size_t length,
+                    size_t *size);
+
+/* All events, and all lines that steps wrote or with which tasks ended or trapped, since the last call that returned
+ * ENC_DONE. At ENC_SHORT all of them stay: none is lost. */
+uint32_t enc_events(enc_session *session, enc_event *buffer, size_t length, size_t *size);
+uint32_t enc_output(enc_session *session, uint8_t *buffer, size_t length, size_t *size);
 
 #ifdef __cplusplus
 }
