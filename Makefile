@@ -1,4 +1,5 @@
-# Installs the release of dist/: the program enc, the C library with its header and pkg-config file, the manual page.
+# Installs the release of dist/: the program enc, the C library with its header and pkg-config file, the manual page, and the
+# completion of commands and file names for bash.
 #   make install [PREFIX=/usr/local] [DESTDIR=..]    make uninstall    make deb    make nuget
 PREFIX = /usr/local
 VERSION := $(shell cat VERSION)
@@ -26,10 +27,12 @@ install: out/enc.pc out/enc.1.gz
 	$(INSTALL) -D -m 644 dist/enc.h $(to)/include/enc.h
 	$(INSTALL) -D -m 644 out/enc.pc $(to)/lib/pkgconfig/enc.pc
 	$(INSTALL) -D -m 644 out/enc.1.gz $(to)/share/man/man1/enc.1.gz
+	$(INSTALL) -D -m 644 release/enc.bash $(to)/share/bash-completion/completions/enc
 
 uninstall:
 	rm -f $(to)/bin/enc $(to)/lib/libenc.so $(to)/lib/libenc.a $(to)/include/enc.h
 	rm -f $(to)/lib/pkgconfig/enc.pc $(to)/share/man/man1/enc.1.gz
+	rm -f $(to)/share/bash-completion/completions/enc
 
 deb: $(deb)
 $(deb): dist/SOURCES release/deb release/enc.1.in release/enc.pc.in VERSION LICENSE
