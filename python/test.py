@@ -1,7 +1,7 @@
 """Tests of the package enc over the examples. Usage: python3 python/test.py LIBENC.so [ENC] [WORDS OF unittest..]
 
-Rows, names and files are compared with what the program ENC (dist/enc) says and saves. Docstrings run as doctests. What the
-library has no call for is skipped. `./test` runs this."""
+Rows, names and files are compared with what the program ENC (dist/enc) says and saves. Docstrings run as doctests.
+What the library has no call for is skipped. `./test` runs this."""
 
 import contextlib
 import doctest
@@ -308,8 +308,8 @@ class Deltas(Folder):
 
     def test_bases(self):
         image, pdb = (_files.read("examples/bank/bank" + ending) for ending in (".dll", ".pdb"))
-        for module in (enc.Module("examples/bank/bank.dll"), enc.Module(image, pdb), enc.Module(Path("examples/bank/bank"))):
-            self.assertTrue(module.points("06000002"))
+        for given in (("examples/bank/bank.dll",), (image, pdb), (Path("examples/bank/bank"),)):
+            self.assertTrue(enc.Module(*given).points("06000002"))
         self.assertEqual(enc.Module(image).points("06000002"), [])
         other = self.copy("examples/bank/bank.dll", "bank.exe")
         self.copy("examples/bank/bank.pdb", "bank.pdb")
@@ -331,7 +331,8 @@ class Deltas(Folder):
             self.assertTrue(refused.rule)
         for base, deltas in CHAINS:
             refused = self.refusal(opened(base, deltas).apply, deltas[0])
-            self.assertEqual(f"refused {refused.file} {refused.code} {refused.place}\n", told("check", base, *deltas, deltas[0]))
+            line = f"refused {refused.file} {refused.code} {refused.place}\n"
+            self.assertEqual(line, told("check", base, *deltas, deltas[0]))
             self.assertEqual(str(refused), "E2 00000001: its Generation isn't the next")
 
     def test_a_refused_delta_changes_nothing(self):
@@ -444,7 +445,8 @@ class Saved(Folder):
         edits = json.loads(_files.read("examples/edits/body.json"))
         module = enc.Module("examples/k")
         twice = {**edits, "edits": edits["edits"] * 2}
-        for list_of, words in (("nothing", "J1 json"), ([], "J2 0"), ({**edits, "edits": [1]}, "J2 1"), (twice, "E6 2")):
+        wrong = (("nothing", "J1 json"), ([], "J2 0"), ({**edits, "edits": [1]}, "J2 1"), (twice, "E6 2"))
+        for list_of, words in wrong:
             with self.assertRaises(enc.Refused) as raised:
                 module.write(list_of)
             self.assertTrue(str(raised.exception).startswith(words + ": "), raised.exception)
@@ -484,7 +486,8 @@ class Dump(Folder):
         self.assertEqual(status, 1)
         self.assertIn("  04000002 row 1 Flags=0001 Name=#Strings:", text)
         self.assertIn("  log 7 TypeDef 02000002 (Account) 2 AddField\n", text)
-        self.assertTrue(text.endswith("refused examples/bank/bank2.meta E2 00000001\n  E2: its Generation isn't the next\n"))
+        last = "refused examples/bank/bank2.meta E2 00000001\n  E2: its Generation isn't the next\n"
+        self.assertTrue(text.endswith(last))
         Path(self.path("z.meta")).write_bytes(b"BSJB")
         Path(self.path("z.il")).write_bytes(b"")
         status, text = printed("dump", "examples/k", self.path("z"))
@@ -535,7 +538,7 @@ def run_script(base, path):
             stepped = session.step(command["task"], command["count"])
             lines += session.output() + [f"task {command['task']} ran {stepped.ran}"]
         elif command["do"] == "apply":
-            session.apply(os.path.join(os.path.dirname(base) if "bank" in base and "/" not in command["delta"] else "", command["delta"]))
+            session.apply(command["delta"])
             lines.append(f"applied {command['delta']}")
         elif command["do"] == "remap":
             moved = session.remap(command["task"], command["map"])
@@ -580,7 +583,8 @@ class Sessions(unittest.TestCase):
             task = session.spawn("06000004")
             session.step(task, 36)
             outer, inner = session.frames(task)
-            self.assertEqual((str(outer.method), str(inner.method), inner.offset, inner.line), ("06000004", "06000002", 15, 10))
+            self.assertEqual((outer.method, inner.method), (0x06000004, 0x06000002))
+            self.assertEqual((inner.offset, inner.line), (15, 10))
             self.assertEqual([str(value) for value in session.values(task, 1, "arguments")], ["#1", "2"])
             self.assertEqual(session.values(task, 1, "stack"), [])
             with self.assertRaises(enc.RemapRefused) as raised:
@@ -609,8 +613,8 @@ class Installed(Folder):
     def test_pip(self):
         if subprocess.run([sys.executable, "-m", "pip", "--version"], capture_output=True).returncode:
             self.skipTest("no pip here")
-        words = ["install", "--no-build-isolation", "--no-index", "--no-compile", "--quiet", "--target", self.path("to")]
-        pip = [sys.executable, "-m", "pip", "--disable-pip-version-check", "--no-input", *words, str(HERE)]
+        words = ["--no-build-isolation", "--no-index", "--no-compile", "--quiet", "--target", self.path("to")]
+        pip = [sys.executable, "-m", "pip", "--disable-pip-version-check", "--no-input", "install", *words, str(HERE)]
         made = subprocess.run(pip, capture_output=True, text=True)
         self.assertEqual(made.returncode, 0, made.stderr)
         around = {name: value for name, value in os.environ.items() if name != "ENC_LIBRARY"}

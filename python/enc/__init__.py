@@ -1,6 +1,7 @@
 """enc: .NET modules and the Edit and Continue deltas that follow them, over the C library `libenc`.
 
-What each call answers is proved of the library: docs/library.md says how. This package turns it into Python, by ctypes alone.
+What each call answers is proved of the library: docs/library.md says how. This package turns it into Python, by
+ctypes alone.
 
 >>> import enc
 >>> bank = enc.Module("examples/bank/bank")

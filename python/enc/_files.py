@@ -67,7 +67,8 @@ def _part(source: Optional[Source]) -> Tuple[bytes, Optional[str]]:
 
 
 def _pdb(source: Optional[Source]) -> Tuple[bytes, Optional[str]]:
-    """A PDB. To the library no bytes are no PDB; a file without bytes is one that it refuses, as it does one zero byte."""
+    """A PDB. To the library no bytes are no PDB; a file without bytes is one that it refuses, as it does one zero
+    byte."""
     part, path = _part(source)
     return (b"\0" if path is not None and not part else part), path
 

@@ -8,7 +8,7 @@ from typing import Any, Iterable, List, NamedTuple, Optional, Tuple, Type
 
 from . import _files, _library
 from ._files import Delta, Source
-from ._library import ABSENT, DONE, LIMIT, REFUSED, SHORT, UNLIKE, Buffer, Handle, Limit, u32
+from ._library import DONE, LIMIT, REFUSED, SHORT, UNLIKE, Handle, Limit, number, u32
 from ._refused import RemapRefused
 from .module import Which, pairs_of, refused_of, text_of
 from .rows import Token, token_of
@@ -24,8 +24,8 @@ _STEP_EVENTS = 4
 
 
 class Stepped(NamedTuple):
-    """How it stands with a task: how many steps ran, its state (`running`, `ended`, `trapped`), and where it trapped the
-    trap (`X5`) and its words."""
+    """How it stands with a task: how many steps ran, its state (`running`, `ended`, `trapped`), and where it trapped
+    the trap (`X5`) and its words."""
 
     ran: int
     state: str
@@ -82,8 +82,9 @@ class Remapped(NamedTuple):
 class Session:
     """Tasks over a base and the deltas that are applied on the way.
 
-    The base is given as to `Module`. `limit` is how many events the library keeps at a time, 4 at least; none is lost, since
-    this class takes them out whenever there are many. A session is used on the thread that opened it alone."""
+    The base is given as to `Module`. `limit` is how many events the library keeps at a time, 4 at least; none is
+    lost, since this class takes them out whenever there are many. A session is used on the thread that opened it
+    alone."""
 
     def __init__(self, base: Source, pdb: Optional[Source] = None, limit: int = 1 << 16) -> None:
         if not _STEP_EVENTS <= limit < 1 << 32:
@@ -133,8 +134,8 @@ class Session:
     # What changes it.
 
     def spawn(self, method: Which) -> int:
-        """Starts a task with a static method without parameters, and tells its number, from 1. `Limit` where there are 64, a
-        ValueError where a task can't begin with the method."""
+        """Starts a task with a static method without parameters, and tells its number, from 1. `Limit` where there
+        are 64, a ValueError where a task can't begin with the method."""
         token, task = token_of(method), u32()
         status = self._call("enc_spawn", u32(token), ctypes.byref(task))
         if status == LIMIT:
@@ -146,7 +147,10 @@ class Session:
         return task.value
 
     def step(self, task: int, count: int = 1) -> Stepped:
-        """Makes so many steps of a task, or fewer where it ends or traps. A LookupError where no task has the number."""
+        """Makes so many steps of a task, or fewer where it ends or traps. A LookupError where no task has the
+        number."""
+        if count < 0:
+            raise ValueError(f"{count} steps")
         ran = 0
         while True:
             part = min(count - ran, self._limit // _STEP_EVENTS)
@@ -157,7 +161,7 @@ class Session:
 
     def _step(self, task: int, count: int) -> Stepped:
         numbers = _library.SteppedNumbers()
-        status = self._call("enc_step", u32(task), u32(count), ctypes.byref(numbers))
+        status = self._call("enc_step", u32(number(task)), u32(count), ctypes.byref(numbers))
         if status != DONE:
             _library.fail(status, f"the task {task}")
         return _stepped(numbers)
@@ -170,10 +174,10 @@ class Session:
         self._judged(status, refusal, "applying a delta", files)
 
     def remap(self, task: int, map: Iterable[Tuple[int, int]]) -> Remapped:
-        """Lets the innermost frame of a task go on in the newest body of its method, at the offset to which the map leads.
-        `RemapRefused` where it may not, with the rule (Q1 to Q7), and then nothing changes."""
+        """Lets the innermost frame of a task go on in the newest body of its method, at the offset to which the map
+        leads. `RemapRefused` where it may not, with the rule (Q1 to Q7), and then nothing changes."""
         pairs, numbers = pairs_of(map), _library.RemappedNumbers()
-        status = self._call("enc_remap", u32(task), pairs, len(pairs), ctypes.byref(numbers))
+        status = self._call("enc_remap", u32(number(task)), pairs, len(pairs), ctypes.byref(numbers))
         if status != DONE:
             _library.fail(status, f"a remap of the task {task}")
         if numbers.rule:
@@ -186,11 +190,11 @@ class Session:
     def task(self, task: int) -> Stepped:
         """How it stands with a task; `ran` is 0."""
         about = f"the task {task}"
-        return _stepped(self._handle.told(about, "enc_task", _library.SteppedNumbers, u32(task)))._replace(ran=0)
+        return _stepped(self._handle.told(about, "enc_task", _library.SteppedNumbers, u32(number(task))))._replace(ran=0)
 
     def frames(self, task: int) -> List[Frame]:
         """The frames of a task, from the outermost."""
-        found = self._handle.copied(f"the task {task}", "enc_frames", _library.FrameNumbers, u32(task))
+        found = self._handle.copied(f"the task {task}", "enc_frames", _library.FrameNumbers, u32(number(task)))
         return [
             Frame(Token(f.method), f.generation, f.offset, f.line, f.arguments, f.locals, f.stack) for f in found
         ]
@@ -200,7 +204,7 @@ class Session:
         if which not in PARTS:
             raise ValueError(f"a frame has {', '.join(PARTS)}, and no {which}")
         about = f"the frame {frame} of the task {task}"
-        arguments = (u32(task), u32(frame), u32(PARTS.index(which)))
+        arguments = (u32(number(task)), u32(number(frame)), u32(PARTS.index(which)))
         found = self._handle.copied(about, "enc_values", _library.ValueNumbers, *arguments)
         return [_slot(value) for value in found]
 
