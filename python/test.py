@@ -115,6 +115,26 @@ class Header(Folder):
     def test_version(self):
         self.assertEqual(enc.__version__, (ROOT / "VERSION").read_text().strip())
 
+    def test_tables_are_those_of_the_schema(self):
+        source = ROOT / "crates" / "enc_schema" / "src"
+        names = re.sub(r"\s", "", (source / "names.rt").read_text().split("56] = [")[1].split("];")[0])
+        listed = [re.findall(r'"(\w+)"', part) for part in names.split("&[")[1:]]
+        schema = (source / "schema.rt").read_text().split("56] = [")[1].split("];")[0]
+        kinds = [_kinds(part) for part in re.split(r"// [0-9A-F]{2}", schema)[1:]]
+        self.assertEqual((len(listed), len(kinds)), (56, 56))
+        for table, words, columns in zip(enc.TABLES, listed, kinds):
+            self.assertEqual([table.name, *(column.name for column in table.columns)], words)
+            self.assertEqual([_schema_kind(column) for column in table.columns], columns, table.name)
+
+    def test_codings_are_those_of_the_schema(self):
+        text = (ROOT / "crates" / "enc_schema" / "src" / "coding.rt").read_text()
+        body = text[text.index("match kind {") : text.index("pub(crate) fn tag_bits")]
+        for name, tables in _raw.CODINGS.items():
+            found = re.search(rf"Coding::{name} => &\[([^]]*)\]", body)
+            if found:
+                said = re.findall(r"\w+", found.group(1).replace("Some", "").replace("_", ""))
+                self.assertEqual(said, ["None" if table == "-" else table.upper() for table in tables])
+
     def test_structs_have_the_sizes_of_c(self):
         if not shutil.which("cc"):
             self.skipTest("no cc here")
@@ -138,6 +158,20 @@ class Header(Folder):
             self.assertEqual(len(arguments.split(",")), len(_library.CALLS[name]), name)
             for said, kind in zip(arguments.split(","), _library.CALLS[name]):
                 self.assertEqual(_kind_said(said), _kind_taken(kind), f"{name}:{said}")
+
+
+def _kinds(part):
+    """The kinds of a table's columns in schema.rt, in the words of `_schema_kind`."""
+    found = re.findall(r"(Num8|Num16|Num32|Text|Guid|Blob)|(Coded)\(Coding::(\w+)\)|(Index|Run)\((\w+)\)", part)
+    return [
+        (plain or coded or index).lower() + (coding or table).lower().replace("_", "")
+        for plain, coded, coding, index, table in found
+    ]
+
+
+def _schema_kind(column):
+    kind = {"body": "num32", "bytes": "num32"}.get(column.kind, column.kind)
+    return kind + column.table.lower()
 
 
 def _kind_said(argument):

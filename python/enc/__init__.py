@@ -24,6 +24,7 @@ from ._library import Limit
 from ._refused import Refused, RemapRefused, rule_words
 from .module import AtGeneration, Compacted, Module, Saved, View
 from .rows import Body, Clause, Entry, Lengths, Move, Place, Point, Row, Token, Value
+from .session import Event, Frame, Remapped, Session, Slot, Stepped
 from .tables import TABLES, Column, Table, table
 
 __version__ = "0.9.0"
@@ -36,6 +37,8 @@ __all__ = [
     "Compacted",
     "Delta",
     "Entry",
+    "Event",
+    "Frame",
     "Lengths",
     "Limit",
     "Module",
@@ -44,8 +47,12 @@ __all__ = [
     "Point",
     "Refused",
     "RemapRefused",
+    "Remapped",
     "Row",
     "Saved",
+    "Session",
+    "Slot",
+    "Stepped",
     "TABLES",
     "Table",
     "Token",

@@ -191,9 +191,15 @@ class Library:
     def __init__(self, path: str) -> None:
         self.path = path
         self._loaded = ctypes.CDLL(path)
+        self._calls: Dict[str, Any] = {}
 
     def call(self, name: str) -> Any:
         """The call of this name; an AttributeError where the library has none."""
+        if name not in self._calls:
+            self._calls[name] = self._found(name)
+        return self._calls[name]
+
+    def _found(self, name: str) -> Any:
         try:
             call = getattr(self._loaded, name)
         except AttributeError:

@@ -189,8 +189,8 @@ class Session:
 
     def task(self, task: int) -> Stepped:
         """How it stands with a task; `ran` is 0."""
-        about = f"the task {task}"
-        return _stepped(self._handle.told(about, "enc_task", _library.SteppedNumbers, u32(number(task))))._replace(ran=0)
+        found = self._handle.told(f"the task {task}", "enc_task", _library.SteppedNumbers, u32(number(task)))
+        return _stepped(found)._replace(ran=0)
 
     def frames(self, task: int) -> List[Frame]:
         """The frames of a task, from the outermost."""
