@@ -612,6 +612,20 @@ class Sessions(unittest.TestCase):
         self.assertEqual(kept[0][0][-1].kind, "ended")
 
     @needs("enc_session_open")
+    def test_events_are_those_of_a_trace(self):
+        session = Session("examples/k")
+        task = session.spawn("06000002")
+        session.step(task, 2)
+        session.apply("examples/k1")
+        session.step(task, 20)
+        report = told("run", "examples/k", "examples/scripts/reload.json").split("watcher 1 report\n")[1]
+        self.assertEqual([str(event) for event in session.events()], report.splitlines())
+        self.assertEqual(session.events(), [])
+        with self.assertRaises(enc.Refused):
+            session.apply("examples/k1")
+        self.assertEqual([str(event) for event in session.events()], ["refused E2"])
+
+    @needs("enc_session_open")
     def test_frames(self):
         with Session("examples/bank/bank") as session:
             task = session.spawn("06000004")

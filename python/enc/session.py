@@ -15,7 +15,8 @@ from .rows import Token, token_of
 from .rules import REMAPS, TRAPS
 
 STATES = ("running", "ended", "trapped")
-EVENTS = ("spawned", "entered", "left", "line", "applied", "refused", "trapped", "ended")
+# By their numbers, from 1.
+EVENTS = ("", "spawned", "entered", "left", "line", "applied", "refused", "trapped", "ended")
 PARTS = ("arguments", "locals", "stack")
 _KINDS = ("int32", "int64", "null", "object")
 
@@ -62,13 +63,31 @@ class Slot(NamedTuple):
 
 
 class Event(NamedTuple):
-    """What happened: `spawned`, `entered`, `left` (task and method), `line` (and the line as detail), `applied` (the
-    generation as detail), `refused`, `trapped` (the number of the trap as detail), `ended`."""
+    """What happened: `spawned`, `entered`, `left` (task and method), `line` (and its number as detail), `applied` (the
+    generation as detail), `refused` (`rule`), `trapped` (task and `rule`), `ended` (task). It prints as a trace prints
+    it in a script."""
 
     kind: str
     task: int
     method: Optional[Token]
     detail: int
+
+    @property
+    def rule(self) -> str:
+        """The rule by which a delta was refused (`E2`), or the trap (`X5`); else nothing.
+
+        >>> print(Event("refused", 0, None, 0x4502), Event("line", 1, Token("06000003"), 16), sep=", ")
+        refused E2, line 1 06000003 16
+        """
+        if self.kind == "refused":
+            return f"{chr(self.detail >> 8)}{self.detail & 0xFF}"
+        return f"X{self.detail}" if self.kind == "trapped" else ""
+
+    def __str__(self) -> str:
+        task = str(self.task) if self.task else ""
+        detail = str(self.detail) if self.kind in ("line", "applied") else self.rule
+        method = str(self.method) if self.method is not None else ""
+        return " ".join(part for part in (self.kind, task, method, detail) if part)
 
 
 class Remapped(NamedTuple):
