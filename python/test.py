@@ -9,6 +9,7 @@ import importlib
 import io
 import json
 import os
+import random
 import re
 import shutil
 import subprocess
@@ -149,6 +150,16 @@ class Header(Folder):
         for name in known:
             self.assertEqual(int(sizes[name]), _library.ctypes.sizeof(_library.STRUCTS[name]), name)
 
+    def test_structs_have_the_fields_of_the_header(self):
+        header = re.sub(r"/\*.*?\*/", "", (ROOT / "library" / "enc.h").read_text(), flags=re.S)
+        structs = re.findall(r"typedef struct {(.*?)}\s*(\w+);", header, re.S)
+        self.assertGreaterEqual(len(structs), 7)
+        for body, name in structs:
+            said = [(field, kind) for kind, field in re.findall(r"(u?int\d+_t) (\w+);", body)]
+            named = {"before": "from", "after": "to"}
+            fields = _library.STRUCTS[name]._fields_
+            self.assertEqual(said, [(named.get(field, field), _INTEGERS[kind]) for field, kind in fields])
+
     def test_calls_take_what_the_header_says(self):
         header = re.sub(r"/\*.*?\*/", "", (ROOT / "library" / "enc.h").read_text(), flags=re.S)
         calls = re.findall(r"^uint32_t (enc_\w+)\(([^)]*)\);", header, re.M)
@@ -158,6 +169,9 @@ class Header(Folder):
             self.assertEqual(len(arguments.split(",")), len(_library.CALLS[name]), name)
             for said, kind in zip(arguments.split(","), _library.CALLS[name]):
                 self.assertEqual(_kind_said(said), _kind_taken(kind), f"{name}:{said}")
+
+
+_INTEGERS = {_library.u8: "uint8_t", _library.u32: "uint32_t", _library.i64: "int64_t"}
 
 
 def _kinds(part):
@@ -388,6 +402,10 @@ class Deltas(Folder):
         self.assertTrue(enc.rule_words("L4", "#Pdb", "merge").startswith("the weight, as above"))
         self.assertEqual(enc.rule_words("J1", "json", "write"), "the text isn't JSON")
 
+    def test_a_file_without_an_end(self):
+        refused = self.refusal(enc.Module, "/dev/zero")
+        self.assertEqual((refused.code, refused.place, refused.file), ("L1", "length", "/dev/zero"))
+
     def test_missing_files(self):
         with self.assertRaises(FileNotFoundError):
             enc.Module("examples/nothing")
@@ -553,6 +571,23 @@ class Dump(Folder):
                 self.assertEqual(_raw.decoded(column, number), row[column.name])
             elif column.kind.startswith("num"):
                 self.assertEqual(number, row[column.name])
+
+    @needs("enc_lengths", "enc_entries")
+    def test_deltas_with_any_byte_changed(self):
+        whole = _files.read("examples/bank/bank2.meta")
+        for ending in (".meta", ".il"):
+            self.copy("examples/bank/bank2" + ending, "d" + ending)
+        chance = random.Random(1)
+        for _ in range(60):
+            at = chance.randrange(len(whole))
+            part = whole[:at] + bytes([chance.randrange(256)]) + whole[at + 1 :]
+            Path(self.path("d.meta")).write_bytes(part)
+            files = ["examples/bank/bank", "examples/bank/bank1", self.path("d")]
+            status, text = printed("dump", *files, "--generation", "2")
+            checked = told("check", *files)
+            self.assertEqual(status, int(checked != "accepted 2\n"))
+            if status:
+                self.assertIn(checked, text)
 
     def test_files_that_cannot_be_read(self):
         metadata = _files.read("examples/bank/bank2.meta")

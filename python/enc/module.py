@@ -81,6 +81,7 @@ class View:
 
     _handle: Handle
     _at: Optional[int]
+    _nested: Optional[Dict[Token, Token]]
 
     def _call(self, name: str) -> Tuple[str, Tuple[Any, ...]]:
         """The call of this name at this generation, and what it takes first."""
@@ -211,8 +212,10 @@ class View:
         return scope if scope.table == row.table and scope.row else None
 
     def _nesting(self) -> Dict[Token, Token]:
-        """The enclosing type of each nested one."""
-        return {row.NestedClass: row.EnclosingClass for row in self.rows(_NESTED)}
+        """The enclosing type of each nested one, looked up once."""
+        if self._nested is None:
+            self._nested = {row.NestedClass: row.EnclosingClass for row in self.rows(_NESTED)}
+        return self._nested
 
     def signature(self, which: Which) -> bytes:
         """The bytes of the signature of a field, method, property, MemberRef, StandAloneSig or TypeSpec.
@@ -328,6 +331,7 @@ class AtGeneration(View):
     def __init__(self, handle: Handle, generation: int) -> None:
         self._handle = handle
         self._at = generation
+        self._nested = None
 
     @property
     def generation(self) -> int:
@@ -359,7 +363,7 @@ class Module(View):
         files = _files.base_files(base, pdb)
         self._at = None
         self._handle = Handle(_library.library(), "enc_close", f"the module {files.names[0] or 'of bytes'}")
-        self._nested: Optional[Dict[Token, Token]] = None
+        self._nested = None
         self._size = len(files.first) + len(files.pdb)
         refusal = _library.RefusalNumbers()
         status = self._handle.call("enc_open", *_library.given((files.first, files.pdb)), ctypes.byref(refusal))
@@ -563,11 +567,6 @@ class Module(View):
     def _kids(self, token: Token, kind: int) -> Tuple[Token, ...]:
         found = self._handle.copied(f"the children of {token}", "enc_kids", u32, u32(token), u8(kind))
         return tuple(Token(kind << 24 | row) for row in found)
-
-    def _nesting(self) -> Dict[Token, Token]:
-        if self._nested is None:
-            self._nested = super()._nesting()
-        return self._nested
 
     def _clauses(self, method: Token) -> List[Clause]:
         found = self._handle.copied(f"the clauses of {method}", "enc_clauses", _library.ClauseNumbers, u32(method))
