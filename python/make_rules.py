@@ -1,6 +1,7 @@
 """Writes enc/rules.py from the tables of docs/rules.md, docs/edits.md and docs/scripts.md.
 
-Usage: python3 python/make_rules.py [--check]. With --check nothing is written, and the status is 1 where it isn't up to date."""
+Usage: python3 python/make_rules.py [--check]. With --check nothing is written, and the status is 1 where it isn't up
+to date."""
 
 import re
 import sys
@@ -35,7 +36,8 @@ def of_edits():
     for row in rows("edits.md"):
         words = row[0].split()
         if CODE.fullmatch(words[0]) and len(words) == 2:
-            yield (words[0], "`%s`" % words[1] if words[1] != "n" else "edit", plain(row[1]))
+            said = plain(row[1]).replace("otherwise: n is ", "")
+            yield (words[0], "`%s`" % words[1] if words[1] != "n" else "edit", said)
         elif CODE.fullmatch(row[0]) and len(row) == 3:
             yield (row[0], "`0`" if row[1] == "0" else "edit", plain(row[2]))
 
@@ -75,7 +77,7 @@ def pair_of(code, words):
 def made():
     """The whole of enc/rules.py."""
     lines = [
-        '"""The rules in words. Written by python/make_rules.py from docs/rules.md, docs/edits.md and docs/scripts.md."""',
+        '"""The rules in words. Written by python/make_rules.py from docs/rules.md, edits.md and scripts.md."""',
         "",
         "from typing import Dict, List, Tuple",
         "",
@@ -88,7 +90,8 @@ def made():
     lines += ["EDITS: List[Tuple[str, str, str]] = ["]
     for rule in of_edits():
         lines += tuple_of(rule)
-    for name, letter, about in (("REMAPS", "Q", "When a frame isn't remapped."), ("TRAPS", "X", "Why a step isn't made.")):
+    numbers = (("REMAPS", "Q", "When a frame isn't remapped."), ("TRAPS", "X", "Why a step isn't made."))
+    for name, letter, about in numbers:
         lines += ["]" if name == "REMAPS" else "}", "", f"# {about}", f"{name}: Dict[str, str] = {{"]
         for code, words in numbered(letter):
             lines += pair_of(code, words)
