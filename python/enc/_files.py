@@ -1,0 +1,141 @@
+"""Files of modules and deltas: which ones a path means, and their bytes."""
+
+from __future__ import annotations
+
+import os
+from typing import NamedTuple, Optional, Tuple, Union
+
+Path = Union[str, "os.PathLike[str]"]
+Source = Union[bytes, bytearray, memoryview, Path]
+
+# The names that compilers give the files of a delta.
+FAMILIES = ((".meta", ".il", ".pdb"), (".dmeta", ".dil", ".dpdb"))
+
+
+class Files(NamedTuple):
+    """The bytes of a base (no second file) or of a delta, and the paths where they have any."""
+
+    first: bytes
+    second: bytes
+    pdb: bytes
+    names: Tuple[Optional[str], Optional[str]]
+
+    def refused_file(self, code: str) -> Optional[str]:
+        """The path of the file that a rule refuses: F12 and E22 are of the PDB."""
+        return self.names[1] if code in ("F12", "E22") else self.names[0]
+
+
+class Delta(NamedTuple):
+    """The three files of a delta as bytes.
+
+    >>> Delta(b"BSJB", b"", b"").il
+    b''
+    """
+
+    meta: bytes
+    il: bytes
+    pdb: bytes
+
+    def save(self, path: Path) -> None:
+        """Saves `PATH.meta`, `PATH.il` and `PATH.pdb`."""
+        for ending, part in zip(FAMILIES[0], self):
+            write(os.fspath(path) + ending, part)
+
+
+def read(path: str) -> bytes:
+    with open(path, "rb") as file:
+        return file.read()
+
+
+def write(path: str, part: bytes) -> None:
+    with open(path, "wb") as file:
+        file.write(part)
+
+
+def _is_bytes(source: object) -> bool:
+    return isinstance(source, (bytes, bytearray, memoryview))
+
+
+def _part(source: Optional[Source]) -> Tuple[bytes, Optional[str]]:
+    """The bytes of a source, and its path."""
+    if source is None:
+        return b"", None
+    if isinstance(source, (bytes, bytearray, memoryview)):
+        return bytes(source), None
+    path = os.fspath(source)
+    return read(path), path
+
+
+def _pdb(source: Optional[Source]) -> Tuple[bytes, Optional[str]]:
+    """A PDB. To the library no bytes are no PDB; a file without bytes is one that it refuses, as it does one zero byte."""
+    part, path = _part(source)
+    return (b"\0" if path is not None and not part else part), path
+
+
+def _beside(path: str) -> Optional[str]:
+    return path if os.path.isfile(path) else None
+
+
+def base_path(path: Path) -> str:
+    """The path of a base, given with `.dll` or without.
+
+    >>> base_path("examples/bank/bank")
+    'examples/bank/bank.dll'
+    >>> base_path("examples/bank/bank.dll")
+    'examples/bank/bank.dll'
+    """
+    path = os.fspath(path)
+    if path.endswith(".dll") or (os.path.isfile(path) and not os.path.isfile(path + ".dll")):
+        return path
+    return path + ".dll"
+
+
+def base_files(base: Source, pdb: Optional[Source]) -> Files:
+    """A base, with the PDB beside it where none is given."""
+    if isinstance(base, (bytes, bytearray, memoryview)):
+        found, pdb_path = _pdb(pdb)
+        return Files(bytes(base), b"", found, (None, pdb_path))
+    path = base_path(base)
+    if pdb is None:
+        pdb = _beside(os.path.splitext(path)[0] + ".pdb")
+    image = read(path)
+    found, pdb_path = _pdb(pdb)
+    return Files(image, b"", found, (path, pdb_path))
+
+
+def delta_paths(path: Path) -> Tuple[str, str, Optional[str]]:
+    """The paths of a delta's files: of what they begin with, or of one of them. The PDB may be absent.
+
+    >>> delta_paths("examples/bank/bank1")
+    ('examples/bank/bank1.meta', 'examples/bank/bank1.il', 'examples/bank/bank1.pdb')
+    >>> delta_paths("examples/k1.il")
+    ('examples/k1.meta', 'examples/k1.il', None)
+    """
+    path = os.fspath(path)
+    for family in FAMILIES:
+        for ending in family:
+            if path.endswith(ending) and os.path.isfile(path):
+                return _family(path[: -len(ending)], family)
+    for family in FAMILIES:
+        if os.path.isfile(path + family[0]):
+            return _family(path, family)
+    return _family(path, FAMILIES[0])
+
+
+def _family(stem: str, family: Tuple[str, str, str]) -> Tuple[str, str, Optional[str]]:
+    return stem + family[0], stem + family[1], _beside(stem + family[2])
+
+
+def delta_files(meta: "Source | Delta", il: Optional[Source], pdb: Optional[Source]) -> Files:
+    """A delta: of a path, of a Delta, or of its metadata, its IL and its PDB as bytes or paths."""
+    if isinstance(meta, Delta):
+        return Files(meta.meta, meta.il, meta.pdb, (None, None))
+    if il is None:
+        if isinstance(meta, (bytes, bytearray, memoryview)):
+            raise TypeError("the IL of a delta is missing: a delta is apply(path) or apply(meta, il, pdb)")
+        meta, il, beside = delta_paths(meta)
+        pdb = beside if pdb is None else pdb
+    metadata, path = _part(meta)
+    code, _ = _part(il)
+    debug, pdb_path = _pdb(pdb)
+    return Files(metadata, code, debug, (path, pdb_path))

@@ -1,0 +1,647 @@
+"""Tests of the package enc over the examples. Usage: python3 python/test.py LIBENC.so [ENC] [WORDS OF unittest..]
+
+Rows, names and files are compared with what the program ENC (dist/enc) says and saves. Docstrings run as doctests. What the
+library has no call for is skipped. `./test` runs this."""
+
+import contextlib
+import doctest
+import importlib
+import io
+import json
+import os
+import re
+import shutil
+import subprocess
+import sys
+import tempfile
+import threading
+import unittest
+from pathlib import Path
+
+HERE = Path(__file__).resolve().parent
+ROOT = HERE.parent
+sys.path.insert(0, str(HERE))
+sys.dont_write_bytecode = True
+
+import backend  # noqa: E402
+import make_rules  # noqa: E402
+
+import enc  # noqa: E402
+from enc import _files, _library, _printed, _raw  # noqa: E402
+from enc.__main__ import main as program  # noqa: E402
+from enc.session import Session  # noqa: E402
+
+ENC = str(ROOT / "dist" / "enc")
+CHAINS = (
+    ("examples/bank/bank", ["examples/bank/bank1", "examples/bank/bank2"]),
+    ("examples/k", ["examples/k1"]),
+    ("examples/m", ["examples/d1"]),
+)
+
+
+def has(*calls):
+    """Whether the library has these calls."""
+    try:
+        for call in calls:
+            _library.library().call(call)
+    except AttributeError:
+        return False
+    return True
+
+
+def needs(*calls):
+    """A test of calls that an older library doesn't have."""
+
+    def guard(test):
+        def guarded(self, *arguments):
+            missing = [call for call in calls if not has(call)]
+            if missing:
+                self.skipTest(f"no {' '.join(missing)} in this library")
+            test(self, *arguments)
+
+        guarded.__name__ = test.__name__
+        return guarded
+
+    return guard
+
+
+def opened(base, deltas):
+    """A module with its deltas."""
+    module = enc.Module(base)
+    for delta in deltas:
+        module.apply(delta)
+    return module
+
+
+def told(*words):
+    """What the program enc prints."""
+    return subprocess.run([ENC, *words], capture_output=True, text=True).stdout
+
+
+def printed(*words):
+    """What `python3 -m enc` prints, and its status."""
+    out = io.StringIO()
+    with contextlib.redirect_stdout(out):
+        status = program(list(words))
+    return status, out.getvalue()
+
+
+def every_token(module):
+    """The tokens of all rows."""
+    return [token for table in enc.TABLES for token in module.tokens(table.number)]
+
+
+class Folder(unittest.TestCase):
+    """A test with a folder of its own."""
+
+    def setUp(self):
+        self.folder = tempfile.mkdtemp()
+        self.addCleanup(shutil.rmtree, self.folder)
+
+    def path(self, name):
+        return os.path.join(self.folder, name)
+
+    def copy(self, source, name):
+        shutil.copy(source, self.path(name))
+        return self.path(name)
+
+
+class Header(Folder):
+    """The package and what it was made from agree."""
+
+    def test_rules_are_those_of_the_pages(self):
+        self.assertEqual((HERE / "enc" / "rules.py").read_text(encoding="utf-8"), make_rules.made())
+
+    def test_version(self):
+        self.assertEqual(enc.__version__, (ROOT / "VERSION").read_text().strip())
+
+    def test_structs_have_the_sizes_of_c(self):
+        if not shutil.which("cc"):
+            self.skipTest("no cc here")
+        header = (ROOT / "library" / "enc.h").read_text()
+        known = [name for name in _library.STRUCTS if re.search(r"}\s*%s;" % name, header)]
+        self.assertIn("enc_refusal", known)
+        body = "".join(f'printf("{name} %zu\\n", sizeof({name}));' for name in known)
+        source = self.path("sizes.c")
+        Path(source).write_text('#include <stdio.h>\n#include "enc.h"\nint main(void) { %s return 0; }\n' % body)
+        subprocess.run(["cc", "-I", str(ROOT / "library"), "-o", self.path("sizes"), source], check=True)
+        sizes = dict(line.split() for line in subprocess.check_output([self.path("sizes")], text=True).splitlines())
+        for name in known:
+            self.assertEqual(int(sizes[name]), _library.ctypes.sizeof(_library.STRUCTS[name]), name)
+
+    def test_calls_take_what_the_header_says(self):
+        header = re.sub(r"/\*.*?\*/", "", (ROOT / "library" / "enc.h").read_text(), flags=re.S)
+        calls = re.findall(r"^uint32_t (enc_\w+)\(([^)]*)\);", header, re.M)
+        self.assertGreater(len(calls), 20)
+        for name, arguments in calls:
+            self.assertIn(name, _library.CALLS)
+            self.assertEqual(len(arguments.split(",")), len(_library.CALLS[name]), name)
+            for said, kind in zip(arguments.split(","), _library.CALLS[name]):
+                self.assertEqual(_kind_said(said), _kind_taken(kind), f"{name}:{said}")
+
+
+def _kind_said(argument):
+    """Whether an argument in C is a pointer, and else its size."""
+    if "*" in argument:
+        return "pointer"
+    return {"uint8_t": 1, "uint32_t": 4, "size_t": 8}[argument.split()[0]]
+
+
+def _kind_taken(kind):
+    ctypes = _library.ctypes
+    is_pointer = kind in (ctypes.c_char_p, ctypes.c_void_p) or hasattr(kind, "contents")
+    return "pointer" if is_pointer else ctypes.sizeof(kind)
+
+
+class Rows(unittest.TestCase):
+    """Rows, names and bodies are what the program says."""
+
+    def each_chain(self):
+        for base, deltas in CHAINS:
+            for count in range(len(deltas) + 1):
+                yield base, deltas[:count], opened(base, deltas[:count])
+
+    def test_each_row_is_as_enc_shows_it(self):
+        for base, deltas, module in self.each_chain():
+            for token in every_token(module):
+                self.assertEqual(module.text(token), told("show", base, str(token), *deltas))
+
+    def test_columns_are_those_that_are_printed(self):
+        for _, _, module in self.each_chain():
+            for token in every_token(module):
+                text = module.text(token)
+                shown = enc.View._printed_row(module, token, _printed.printed(text), text)
+                row = module[token]
+                self.assertEqual(list(row.columns.items()), list(shown.columns.items()))
+                self.assertEqual((row, row.place, row.text), (shown, shown.place, text))
+                named = [name for name, _ in re.findall(r" (\w+)=(\S)", text.split("\n")[0])]
+                runs = [column.name for column in enc.table(row.table).columns if column.kind == "run"]
+                self.assertEqual([name for name in row if name not in runs][: len(named)], named)
+
+    def test_a_row_stays_what_it_was(self):
+        module = enc.Module("examples/bank/bank")
+        before = module["06000002"]
+        text = before.text
+        module.apply("examples/bank/bank1")
+        module.apply("examples/bank/bank2")
+        self.assertEqual((before.place, module["06000002"].place), ((0, 2), (2, 1)))
+        if has("enc_row_at"):
+            self.assertEqual(before.text, text)
+
+    def test_rows_by_what_is_given(self):
+        module = opened(*CHAINS[0])
+        row = module["06000002"]
+        for which in (row, row.token, 0x06000002, "06000002"):
+            self.assertEqual(module[which].Name, "Deposit")
+            self.assertIn(which, module)
+        self.assertEqual(row.Name, row["Name"])
+        self.assertIn("Flags", dir(row))
+        for wrong in ("06000009", "06000000", 0x77000001):
+            self.assertNotIn(wrong, module)
+            with self.assertRaises(LookupError):
+                module[wrong]
+        with self.assertRaises(LookupError):
+            row["Nothing"]
+        with self.assertRaises(AttributeError):
+            row.Nothing
+        with self.assertRaises(ValueError):
+            module["6000002"]
+
+    @needs("enc_find_type", "enc_find_member")
+    def test_each_name_is_found(self):
+        for _, _, module in self.each_chain():
+            for table in ("TypeDef", "MethodDef", "Field", "Property", "Event"):
+                for token in module.tokens(table):
+                    self.assertIn(token, module.find_all(module.name(token)))
+        for wrong in ("", ".", "Nothing", "Account.", "Account/Nothing", "Account..cctor", "/", "Account.Print.x"):
+            with self.assertRaises(LookupError):
+                module.find(wrong)
+
+    @needs("enc_clauses")
+    def test_bodies(self):
+        for _, _, module in self.each_chain():
+            for method in module.methods():
+                if not method.RVA:
+                    continue
+                body = module.body(method)
+                self.assertEqual(body.clauses, enc.View._clauses(module, method.token))
+                local = body.locals if body.locals else enc.Token(0)
+                head = f"  body stack={body.stack} init={int(body.init)} locals={local}\n"
+                self.assertIn(head, module.text(method))
+
+    def test_points(self):
+        for _, _, module in self.each_chain():
+            for method in module.methods():
+                self.assertEqual("".join(map(_point_line, module.points(method))), _point_lines(module.text(method)))
+
+    @needs("enc_entries", "enc_lengths")
+    def test_generations_as_enc_lists_them(self):
+        for base, deltas, module in self.each_chain():
+            got = []
+            for generation in range(module.generations):
+                rows = module.entries(generation) if generation else every_token(opened(base, []))
+                identity = f" {module.enc_id(generation)}" if generation else ""
+                lengths = " ".join(f"{name} {length}" for name, length in module.lengths(generation)._asdict().items())
+                got.append(f"generation {generation}{identity} rows {len(rows)} {lengths}")
+                for entry in module.entries(generation):
+                    got.append(f"{entry.token} {'insert' if entry.inserted else 'update'}")
+            listed = [re.sub(r"^  (\w+ \w+) .*", r"\1", line) for line in told("list", base, *deltas).splitlines()]
+            self.assertEqual(got, listed)
+
+    @needs("enc_row_at", "enc_code_at", "enc_points_at", "enc_document_at", "enc_count_at")
+    def test_earlier_generations(self):
+        for base, deltas in CHAINS:
+            module = opened(base, deltas)
+            for generation in range(module.generations):
+                view, then = module.at(generation), opened(base, deltas[:generation])
+                self.assertEqual(every_token(view), every_token(then))
+                for token in every_token(view):
+                    self.assertEqual((view[token], view.text(token)), (then[token], then.text(token)))
+                    self.assertEqual(view.name(token), then.name(token))
+                for method in then.methods():
+                    self.assertEqual(view.points(method), then.points(method))
+                    if method.RVA:
+                        self.assertEqual(view.body(method), then.body(method))
+            with self.assertRaises(LookupError):
+                module.at(module.generations)
+
+
+def _point_line(point):
+    start = f"  point IL_{point.offset:04x} "
+    if point.hidden:
+        return start + "hidden\n"
+    lines = f"{point.start_line}:{point.start_column}-{point.end_line}:{point.end_column}"
+    return f'{start}"{point.document}" {lines}\n'
+
+
+def _point_lines(text):
+    return "".join(line for line in text.splitlines(keepends=True) if line.startswith("  point "))
+
+
+class Deltas(Folder):
+    """Deltas under any names; what is refused; what isn't there."""
+
+    def test_names_of_deltas(self):
+        for ending, other in ((".meta", ".dmeta"), (".il", ".dil"), (".pdb", ".dpdb")):
+            self.copy("examples/bank/bank1" + ending, "bank.dll.1" + other)
+            self.copy("examples/bank/bank1" + ending, "any" + ending[1:])
+        ways = [
+            (self.path("bank.dll.1"),),
+            (self.path("bank.dll.1.dil"),),
+            (Path(self.path("bank.dll.1.dmeta")),),
+            (self.path("anymeta"), self.path("anyil"), self.path("anypdb")),
+            tuple(_files.read(self.path("any" + ending)) for ending in ("meta", "il", "pdb")),
+            (enc.Delta(*(_files.read(self.path("any" + ending)) for ending in ("meta", "il", "pdb"))),),
+        ]
+        for way in ways:
+            module = enc.Module("examples/bank/bank")
+            self.assertEqual(module.apply(*way), 1)
+            self.assertEqual(module["06000003"].place, (1, 1))
+            self.assertEqual(len(module.points("06000003")), 7)
+
+    def test_a_delta_without_a_pdb(self):
+        for ending in (".meta", ".il"):
+            self.copy("examples/bank/bank1" + ending, "d" + ending)
+        module = enc.Module("examples/bank/bank", pdb=b"")
+        module.apply(self.path("d"))
+        self.assertEqual(module.points("06000003"), [])
+
+    def test_bases(self):
+        image, pdb = (_files.read("examples/bank/bank" + ending) for ending in (".dll", ".pdb"))
+        for module in (enc.Module("examples/bank/bank.dll"), enc.Module(image, pdb), enc.Module(Path("examples/bank/bank"))):
+            self.assertTrue(module.points("06000002"))
+        self.assertEqual(enc.Module(image).points("06000002"), [])
+        other = self.copy("examples/bank/bank.dll", "bank.exe")
+        self.copy("examples/bank/bank.pdb", "bank.pdb")
+        self.assertTrue(enc.Module(other).points("06000002"))
+
+    def refusal(self, act, *arguments):
+        with self.assertRaises(enc.Refused) as raised:
+            act(*arguments)
+        return raised.exception
+
+    def test_refusals_are_those_of_enc(self):
+        Path(self.path("e.dll")).write_bytes(b"")
+        shutil.copy("examples/m.dll", self.path("p.dll"))
+        Path(self.path("p.pdb")).write_bytes(b"")
+        for base in ("e", "p"):
+            wanted = told("check", self.path(base)).split()
+            refused = self.refusal(enc.Module, self.path(base))
+            self.assertEqual(["refused", refused.file, refused.code, refused.place], wanted)
+            self.assertTrue(refused.rule)
+        for base, deltas in CHAINS:
+            refused = self.refusal(opened(base, deltas).apply, deltas[0])
+            self.assertEqual(f"refused {refused.file} {refused.code} {refused.place}\n", told("check", base, *deltas, deltas[0]))
+            self.assertEqual(str(refused), "E2 00000001: its Generation isn't the next")
+
+    def test_a_refused_delta_changes_nothing(self):
+        module = opened(*CHAINS[0])
+        before = [module.text(token) for token in every_token(module)]
+        self.refusal(module.apply, "examples/bank/bank2")
+        self.assertEqual([module.text(token) for token in every_token(module)], before)
+
+    def test_rules_in_words(self):
+        for code, place, words in (
+            ("F7", "06000001.owner", "a field, method"),
+            ("F7", "01000001.ResolutionScope", "an index past its table, a"),
+            ("F5", "debug", "that range doesn't stand"),
+            ("F12", "31000002", "an offset that isn't good; a name"),
+            ("L4", "#US", "the heap of the module's"),
+            ("E10", "log 21", "an entry of EncLog"),
+        ):
+            self.assertTrue(enc.rule_words(code, place).startswith(words), (code, place))
+        self.assertTrue(enc.rule_words("L4", "#Pdb", "merge").startswith("the weight, as above"))
+        self.assertEqual(enc.rule_words("J1", "json", "write"), "the text isn't JSON")
+
+    def test_missing_files(self):
+        with self.assertRaises(FileNotFoundError):
+            enc.Module("examples/nothing")
+        module = enc.Module("examples/k")
+        with self.assertRaises(FileNotFoundError):
+            module.apply("examples/nothing")
+        with self.assertRaises(TypeError):
+            module.apply(b"BSJB")
+
+    def test_a_closed_module(self):
+        with enc.Module("examples/k") as module:
+            self.assertEqual(module.generation, 0)
+        module.close()
+        with self.assertRaises(ValueError):
+            module.count("MethodDef")
+
+    def test_another_thread(self):
+        module, raised = enc.Module("examples/k"), []
+
+        def ask():
+            try:
+                module.count("MethodDef")
+            except RuntimeError as error:
+                raised.append(error)
+
+        thread = threading.Thread(target=ask)
+        thread.start()
+        thread.join()
+        self.assertEqual(len(raised), 1)
+
+    def test_a_call_that_the_library_has_not(self):
+        with self.assertRaises(AttributeError):
+            _library.CALLS["enc_nothing"] = ()
+            _library.library().call("enc_nothing")
+        del _library.CALLS["enc_nothing"]
+
+    @needs("enc_check")
+    def test_check_adds_nothing(self):
+        module = enc.Module("examples/bank/bank")
+        module.check("examples/bank/bank1")
+        self.assertEqual(module.generation, 0)
+        self.assertEqual(self.refusal(module.check, "examples/bank/bank2").code, "E2")
+
+
+class Saved(Folder):
+    """What is saved is what the program saves."""
+
+    def files(self, name, endings):
+        return [_files.read(self.path(name + ending)) for ending in endings]
+
+    @needs("enc_save")
+    def test_save(self):
+        for base, deltas in CHAINS:
+            told("apply", base, self.path("wanted"), *deltas)
+            opened(base, deltas).save(self.path("got"))
+            self.assertEqual(self.files("got", (".dll", ".pdb")), self.files("wanted", (".dll", ".pdb")))
+
+    @needs("enc_compact")
+    def test_compact(self):
+        for base, deltas in CHAINS:
+            lines = told("compact", base, self.path("wanted"), *deltas).splitlines()[1:]
+            moves = opened(base, deltas).compact(self.path("got"))
+            self.assertEqual([f"moved {move.before} {move.after}" for move in moves], lines)
+            self.assertEqual(self.files("got", (".dll", ".pdb")), self.files("wanted", (".dll", ".pdb")))
+
+    @needs("enc_merge")
+    def test_merge(self):
+        base, deltas = CHAINS[0]
+        told("merge", base, self.path("wanted"), *deltas)
+        merged = opened(base, deltas).merge()
+        self.assertEqual(list(merged), self.files("wanted", (".meta", ".il", ".pdb")))
+        merged.save(self.path("got"))
+        self.assertEqual(opened(base, [self.path("got")]).generation, 1)
+        with self.assertRaises(ValueError):
+            opened(base, deltas[:1]).merge()
+
+    @needs("enc_write")
+    def test_write(self):
+        for name in ("body", "call", "type"):
+            path = f"examples/edits/{name}.json"
+            told("write", "examples/k", path, self.path("wanted"))
+            module = enc.Module("examples/k")
+            for edits in (_files.read(path), Path(path).read_text(), json.loads(_files.read(path))):
+                self.assertEqual(list(module.write(edits)), self.files("wanted", (".meta", ".il", ".pdb")))
+            self.assertEqual(module.apply(module.write(edits)), 1)
+
+    @needs("enc_write")
+    def test_refused_edits(self):
+        edits = json.loads(_files.read("examples/edits/body.json"))
+        module = enc.Module("examples/k")
+        twice = {**edits, "edits": edits["edits"] * 2}
+        for list_of, words in (("nothing", "J1 json"), ([], "J2 0"), ({**edits, "edits": [1]}, "J2 1"), (twice, "E6 2")):
+            with self.assertRaises(enc.Refused) as raised:
+                module.write(list_of)
+            self.assertTrue(str(raised.exception).startswith(words + ": "), raised.exception)
+
+
+class Dump(Folder):
+    """`python3 -m enc dump`."""
+
+    @needs("enc_lengths", "enc_entries")
+    def test_the_whole_has_each_row(self):
+        for base, deltas in CHAINS:
+            status, text = printed("dump", base, *deltas)
+            module = opened(base, deltas)
+            self.assertEqual(status, 0)
+            for token in every_token(module):
+                self.assertEqual(len(re.findall(f"^  {token} @{module.place(token)} ", text, re.M)), 1)
+
+    @needs("enc_lengths", "enc_entries")
+    def test_a_generation(self):
+        status, text = printed("dump", CHAINS[0][0], *CHAINS[0][1], "--generation", "1")
+        self.assertEqual(status, 0)
+        self.assertIn('  update MethodDef 06000003 @1.1 RVA=body ImplFlags=0000 Flags=0086 Name="Print"', text)
+        self.assertIn("  log 7 MethodDef 06000003 (Account.Print) 0 Default\n", text)
+        self.assertNotIn("04000002", text)
+
+    @needs("enc_lengths", "enc_entries")
+    def test_a_table(self):
+        for name in ("MemberRef", "0a", "memberref"):
+            status, text = printed("dump", "--table", name, CHAINS[0][0], *CHAINS[0][1])
+            self.assertEqual((status, len(re.findall("^  0a", text, re.M))), (0, 11))
+        status, text = printed("dump", *[CHAINS[0][0], *CHAINS[0][1]], "--table", "EncLog", "--generation", "2")
+        self.assertEqual(len(re.findall("^  log ", text, re.M)), 13)
+
+    @needs("enc_lengths", "enc_entries")
+    def test_a_refused_delta(self):
+        status, text = printed("dump", "examples/bank/bank", "examples/bank/bank2")
+        self.assertEqual(status, 1)
+        self.assertIn("  04000002 row 1 Flags=0001 Name=#Strings:", text)
+        self.assertIn("  log 7 TypeDef 02000002 (Account) 2 AddField\n", text)
+        self.assertTrue(text.endswith("refused examples/bank/bank2.meta E2 00000001\n  E2: its Generation isn't the next\n"))
+        Path(self.path("z.meta")).write_bytes(b"BSJB")
+        Path(self.path("z.il")).write_bytes(b"")
+        status, text = printed("dump", "examples/k", self.path("z"))
+        self.assertEqual(status, 1)
+        self.assertIn("  it can't be read: its headers don't stand whole in it\n", text)
+
+    def test_statuses(self):
+        self.assertEqual(printed("dump", "examples/n"), (6, "missing examples/n.dll\n"))
+        self.assertEqual(printed("dump", "examples/k", "examples/n"), (6, "missing examples/n.meta\n"))
+        self.assertEqual(printed("dump", "examples/k", "--generation", "1")[0], 2)
+        self.assertEqual(printed()[0], 2)
+        Path(self.path("e.dll")).write_bytes(b"")
+        self.assertEqual(printed("dump", self.path("e"))[0], 1)
+
+    def test_rows_of_a_file_are_those_of_the_library(self):
+        for base, deltas in CHAINS:
+            for count, delta in enumerate(deltas, 1):
+                found, module = _raw.raw(_files.read(delta + ".meta")), opened(base, deltas[:count])
+                for number, rows in found.rows.items():
+                    tokens = [token for token in found.map() if token >> 24 == number]
+                    for token, cells in zip(tokens, rows):
+                        self.same_cells(module[token], cells)
+                if has("enc_entries"):
+                    self.assertEqual(found.map(), [entry.token for entry in module.entries(count)])
+
+    def same_cells(self, row, cells):
+        for column, number in zip(enc.table(row.table).columns, cells):
+            if column.kind in ("index", "coded"):
+                self.assertEqual(_raw.decoded(column, number), row[column.name])
+            elif column.kind.startswith("num"):
+                self.assertEqual(number, row[column.name])
+
+    def test_files_that_cannot_be_read(self):
+        metadata = _files.read("examples/bank/bank2.meta")
+        for end in range(len(metadata)):
+            for part in (metadata[:end], metadata[:end] + b"\xff" + metadata[end + 1 :]):
+                with contextlib.suppress(ValueError):
+                    _raw.raw(part)
+
+
+def run_script(base, path):
+    """The lines that a script of spawns, steps, deltas and remaps prints, by a session."""
+    session, lines = Session(base), []
+    for command in json.loads(_files.read(path)):
+        if command["do"] == "spawn":
+            lines.append(f"task {session.spawn(command['method'])} spawned {command['method']}")
+        elif command["do"] == "step":
+            stepped = session.step(command["task"], command["count"])
+            lines += session.output() + [f"task {command['task']} ran {stepped.ran}"]
+        elif command["do"] == "apply":
+            session.apply(os.path.join(os.path.dirname(base) if "bank" in base and "/" not in command["delta"] else "", command["delta"]))
+            lines.append(f"applied {command['delta']}")
+        elif command["do"] == "remap":
+            moved = session.remap(command["task"], command["map"])
+            lines.append(f"task {command['task']} remapped {moved.method} IL_{moved.before:04x} IL_{moved.after:04x}")
+        elif command["do"] == "state":
+            lines += session.state().splitlines()
+    return lines, session
+
+
+class Sessions(unittest.TestCase):
+    """A session does what `enc run` does."""
+
+    @needs("enc_session_open")
+    def test_scripts(self):
+        for base, path in (
+            ("examples/bank/bank", "examples/scripts/remap.json"),
+            ("examples/k", "examples/scripts/say.json"),
+        ):
+            lines = told("run", base, path).splitlines()
+            wanted = [re.sub(r" generation \d+$", "", line) for line in lines]
+            self.assertEqual(run_script(base, path)[0], wanted)
+
+    @needs("enc_session_open")
+    def test_events_with_a_small_limit(self):
+        kept = []
+        for limit in (4, 64, 1 << 16):
+            session = Session("examples/bank/bank", limit=limit)
+            task = session.spawn("06000004")
+            self.assertEqual(session.step(task, 36).ran, 36)
+            session.apply("examples/bank/bank1")
+            session.apply("examples/bank/bank2")
+            self.assertEqual(session.step(task, 1000).state, "ended")
+            kept.append((session.events(), session.output()))
+        self.assertEqual(kept[0], kept[1])
+        self.assertEqual(kept[1], kept[2])
+        self.assertEqual([event.kind for event in kept[0][0][:2]], ["spawned", "entered"])
+        self.assertEqual(kept[0][0][-1].kind, "ended")
+
+    @needs("enc_session_open")
+    def test_frames(self):
+        with Session("examples/bank/bank") as session:
+            task = session.spawn("06000004")
+            session.step(task, 36)
+            outer, inner = session.frames(task)
+            self.assertEqual((str(outer.method), str(inner.method), inner.offset, inner.line), ("06000004", "06000002", 15, 10))
+            self.assertEqual([str(value) for value in session.values(task, 1, "arguments")], ["#1", "2"])
+            self.assertEqual(session.values(task, 1, "stack"), [])
+            with self.assertRaises(enc.RemapRefused) as raised:
+                session.remap(task, [])
+            self.assertEqual(raised.exception.code, "Q4")
+            for wrong in (0, 2):
+                with self.assertRaises(LookupError):
+                    session.step(wrong)
+            with self.assertRaises(ValueError):
+                session.spawn("06000002")
+
+
+class Installed(Folder):
+    """The wheel, and an install without a network."""
+
+    def test_the_wheel(self):
+        name = backend.build_wheel(self.folder)
+        self.assertTrue(name.endswith("-py3-none-linux_x86_64.whl"))
+        with backend.zipfile.ZipFile(self.path(name)) as wheel:
+            names = wheel.namelist()
+            self.assertEqual(wheel.read("enc/libenc.so"), _files.read(_library.library_path()))
+            self.assertEqual(wheel.read("enc/py.typed"), b"")
+        modules = {f"enc/{path.name}" for path in (HERE / "enc").glob("*.py")}
+        self.assertLessEqual(modules, set(names))
+
+    def test_pip(self):
+        if subprocess.run([sys.executable, "-m", "pip", "--version"], capture_output=True).returncode:
+            self.skipTest("no pip here")
+        words = ["install", "--no-build-isolation", "--no-index", "--no-compile", "--quiet", "--target", self.path("to")]
+        pip = [sys.executable, "-m", "pip", "--disable-pip-version-check", "--no-input", *words, str(HERE)]
+        made = subprocess.run(pip, capture_output=True, text=True)
+        self.assertEqual(made.returncode, 0, made.stderr)
+        around = {name: value for name, value in os.environ.items() if name != "ENC_LIBRARY"}
+        around["PYTHONPATH"] = self.path("to")
+        asked = "import enc; module = enc.Module('examples/k'); print(enc.__file__, module.apply('examples/k1'))"
+        got = subprocess.run([sys.executable, "-c", asked], env=around, capture_output=True, text=True)
+        self.assertEqual(got.stdout.split(), [self.path("to/enc/__init__.py"), "1"], got.stderr)
+
+
+def load_tests(loader, tests, pattern):
+    """The tests, and the docstrings."""
+    bank = opened(*CHAINS[0])
+    for name in ("", ".module", ".session", ".rows", ".tables", "._files", "._printed", "._refused"):
+        module = importlib.import_module("enc" + name)
+        extra = {"bank": bank} if name else {}
+        tests.addTests(doctest.DocTestSuite(module, extraglobs=extra, optionflags=doctest.ELLIPSIS))
+    return tests
+
+
+def main(words):
+    if not words:
+        print(__doc__)
+        return 2
+    os.environ["ENC_LIBRARY"] = os.path.abspath(words[0])
+    if len(words) > 1:
+        global ENC
+        ENC = os.path.abspath(words[1])
+    os.chdir(ROOT)
+    made = unittest.main(argv=["test.py", *words[2:]], exit=False, verbosity=1)
+    return 0 if made.result.wasSuccessful() else 1
+
+
+if __name__ == "__main__":
+    sys.exit(main(sys.argv[1:]))
