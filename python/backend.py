@@ -1,7 +1,7 @@
 """Builds the wheel of the package enc: it is Python and one library, so nothing but the standard library is needed.
 
-`pip install ./python` calls this by pyproject.toml. The wheel is of this platform, `py3-none-linux_x86_64`, and carries
-`libenc.so`: the one that ENC_LIBRARY names, else that in enc/, else that of dist/."""
+`pip install ./python` calls this by pyproject.toml. The wheel is of this platform, `py3-none-linux_x86_64`, and
+carries `libenc.so`: the one that ENC_LIBRARY names, else that in enc/, else that of dist/."""
 
 import base64
 import hashlib

@@ -1,6 +1,7 @@
 """Writes enc/rules.py from the tables of docs/rules.md, docs/edits.md and docs/scripts.md.
 
-Usage: python3 python/make_rules.py [--check]. With --check nothing is written, and the status is 1 where it isn't up to date."""
+Usage: python3 python/make_rules.py [--check]. With --check nothing is written, and the status is 1 where it isn't up
+to date."""
 
 import re
 import sys
@@ -75,7 +76,7 @@ def pair_of(code, words):
 def made():
     """The whole of enc/rules.py."""
     lines = [
-        '"""The rules in words. Written by python/make_rules.py from docs/rules.md, docs/edits.md and docs/scripts.md."""',
+        '"""The rules in words. Written by python/make_rules.py from docs/rules.md, edits.md and scripts.md."""',
         "",
         "from typing import Dict, List, Tuple",
         "",
@@ -88,7 +89,8 @@ def made():
     lines += ["EDITS: List[Tuple[str, str, str]] = ["]
     for rule in of_edits():
         lines += tuple_of(rule)
-    for name, letter, about in (("REMAPS", "Q", "When a frame isn't remapped."), ("TRAPS", "X", "Why a step isn't made.")):
+    numbers = (("REMAPS", "Q", "When a frame isn't remapped."), ("TRAPS", "X", "Why a step isn't made."))
+    for name, letter, about in numbers:
         lines += ["]" if name == "REMAPS" else "}", "", f"# {about}", f"{name}: Dict[str, str] = {{"]
         for code, words in numbered(letter):
             lines += pair_of(code, words)

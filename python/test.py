@@ -1,7 +1,7 @@
 """Tests of the package enc over the examples. Usage: python3 python/test.py LIBENC.so [ENC] [WORDS OF unittest..]
 
-Rows, names and files are compared with what the program ENC (dist/enc) says and saves. Docstrings run as doctests. What the
-library has no call for is skipped. `./test` runs this."""
+Rows, names and files are compared with what the program ENC (dist/enc) says and saves. Docstrings run as doctests.
+What the library has no call for is skipped. `./test` runs this."""
 
 import contextlib
 import doctest
@@ -9,6 +9,7 @@ import importlib
 import io
 import json
 import os
+import random
 import re
 import shutil
 import subprocess
@@ -115,6 +116,26 @@ class Header(Folder):
     def test_version(self):
         self.assertEqual(enc.__version__, (ROOT / "VERSION").read_text().strip())
 
+    def test_tables_are_those_of_the_schema(self):
+        source = ROOT / "crates" / "enc_schema" / "src"
+        names = re.sub(r"\s", "", (source / "names.rt").read_text().split("56] = [")[1].split("];")[0])
+        listed = [re.findall(r'"(\w+)"', part) for part in names.split("&[")[1:]]
+        schema = (source / "schema.rt").read_text().split("56] = [")[1].split("];")[0]
+        kinds = [_kinds(part) for part in re.split(r"// [0-9A-F]{2}", schema)[1:]]
+        self.assertEqual((len(listed), len(kinds)), (56, 56))
+        for table, words, columns in zip(enc.TABLES, listed, kinds):
+            self.assertEqual([table.name, *(column.name for column in table.columns)], words)
+            self.assertEqual([_schema_kind(column) for column in table.columns], columns, table.name)
+
+    def test_codings_are_those_of_the_schema(self):
+        text = (ROOT / "crates" / "enc_schema" / "src" / "coding.rt").read_text()
+        body = text[text.index("match kind {") : text.index("pub(crate) fn tag_bits")]
+        for name, tables in _raw.CODINGS.items():
+            found = re.search(rf"Coding::{name} => &\[([^]]*)\]", body)
+            if found:
+                said = re.findall(r"\w+", found.group(1).replace("Some", "").replace("_", ""))
+                self.assertEqual(said, ["None" if table == "-" else table.upper() for table in tables])
+
     def test_structs_have_the_sizes_of_c(self):
         if not shutil.which("cc"):
             self.skipTest("no cc here")
@@ -129,6 +150,16 @@ class Header(Folder):
         for name in known:
             self.assertEqual(int(sizes[name]), _library.ctypes.sizeof(_library.STRUCTS[name]), name)
 
+    def test_structs_have_the_fields_of_the_header(self):
+        header = re.sub(r"/\*.*?\*/", "", (ROOT / "library" / "enc.h").read_text(), flags=re.S)
+        structs = re.findall(r"typedef struct {(.*?)}\s*(\w+);", header, re.S)
+        self.assertGreaterEqual(len(structs), 7)
+        for body, name in structs:
+            said = [(field, kind) for kind, field in re.findall(r"(u?int\d+_t) (\w+);", body)]
+            named = {"before": "from", "after": "to"}
+            fields = _library.STRUCTS[name]._fields_
+            self.assertEqual(said, [(named.get(field, field), _INTEGERS[kind]) for field, kind in fields])
+
     def test_calls_take_what_the_header_says(self):
         header = re.sub(r"/\*.*?\*/", "", (ROOT / "library" / "enc.h").read_text(), flags=re.S)
         calls = re.findall(r"^uint32_t (enc_\w+)\(([^)]*)\);", header, re.M)
@@ -138,6 +169,23 @@ class Header(Folder):
             self.assertEqual(len(arguments.split(",")), len(_library.CALLS[name]), name)
             for said, kind in zip(arguments.split(","), _library.CALLS[name]):
                 self.assertEqual(_kind_said(said), _kind_taken(kind), f"{name}:{said}")
+
+
+_INTEGERS = {_library.u8: "uint8_t", _library.u32: "uint32_t", _library.i64: "int64_t"}
+
+
+def _kinds(part):
+    """The kinds of a table's columns in schema.rt, in the words of `_schema_kind`."""
+    found = re.findall(r"(Num8|Num16|Num32|Text|Guid|Blob)|(Coded)\(Coding::(\w+)\)|(Index|Run)\((\w+)\)", part)
+    return [
+        (plain or coded or index).lower() + (coding or table).lower().replace("_", "")
+        for plain, coded, coding, index, table in found
+    ]
+
+
+def _schema_kind(column):
+    kind = {"body": "num32", "bytes": "num32"}.get(column.kind, column.kind)
+    return kind + column.table.lower()
 
 
 def _kind_said(argument):
@@ -308,8 +356,8 @@ class Deltas(Folder):
 
     def test_bases(self):
         image, pdb = (_files.read("examples/bank/bank" + ending) for ending in (".dll", ".pdb"))
-        for module in (enc.Module("examples/bank/bank.dll"), enc.Module(image, pdb), enc.Module(Path("examples/bank/bank"))):
-            self.assertTrue(module.points("06000002"))
+        for given in (("examples/bank/bank.dll",), (image, pdb), (Path("examples/bank/bank"),)):
+            self.assertTrue(enc.Module(*given).points("06000002"))
         self.assertEqual(enc.Module(image).points("06000002"), [])
         other = self.copy("examples/bank/bank.dll", "bank.exe")
         self.copy("examples/bank/bank.pdb", "bank.pdb")
@@ -331,7 +379,8 @@ class Deltas(Folder):
             self.assertTrue(refused.rule)
         for base, deltas in CHAINS:
             refused = self.refusal(opened(base, deltas).apply, deltas[0])
-            self.assertEqual(f"refused {refused.file} {refused.code} {refused.place}\n", told("check", base, *deltas, deltas[0]))
+            line = f"refused {refused.file} {refused.code} {refused.place}\n"
+            self.assertEqual(line, told("check", base, *deltas, deltas[0]))
             self.assertEqual(str(refused), "E2 00000001: its Generation isn't the next")
 
     def test_a_refused_delta_changes_nothing(self):
@@ -352,6 +401,10 @@ class Deltas(Folder):
             self.assertTrue(enc.rule_words(code, place).startswith(words), (code, place))
         self.assertTrue(enc.rule_words("L4", "#Pdb", "merge").startswith("the weight, as above"))
         self.assertEqual(enc.rule_words("J1", "json", "write"), "the text isn't JSON")
+
+    def test_a_file_without_an_end(self):
+        refused = self.refusal(enc.Module, "/dev/zero")
+        self.assertEqual((refused.code, refused.place, refused.file), ("L1", "length", "/dev/zero"))
 
     def test_missing_files(self):
         with self.assertRaises(FileNotFoundError):
@@ -444,7 +497,8 @@ class Saved(Folder):
         edits = json.loads(_files.read("examples/edits/body.json"))
         module = enc.Module("examples/k")
         twice = {**edits, "edits": edits["edits"] * 2}
-        for list_of, words in (("nothing", "J1 json"), ([], "J2 0"), ({**edits, "edits": [1]}, "J2 1"), (twice, "E6 2")):
+        wrong = (("nothing", "J1 json"), ([], "J2 0"), ({**edits, "edits": [1]}, "J2 1"), (twice, "E6 2"))
+        for list_of, words in wrong:
             with self.assertRaises(enc.Refused) as raised:
                 module.write(list_of)
             self.assertTrue(str(raised.exception).startswith(words + ": "), raised.exception)
@@ -484,7 +538,8 @@ class Dump(Folder):
         self.assertEqual(status, 1)
         self.assertIn("  04000002 row 1 Flags=0001 Name=#Strings:", text)
         self.assertIn("  log 7 TypeDef 02000002 (Account) 2 AddField\n", text)
-        self.assertTrue(text.endswith("refused examples/bank/bank2.meta E2 00000001\n  E2: its Generation isn't the next\n"))
+        last = "refused examples/bank/bank2.meta E2 00000001\n  E2: its Generation isn't the next\n"
+        self.assertTrue(text.endswith(last))
         Path(self.path("z.meta")).write_bytes(b"BSJB")
         Path(self.path("z.il")).write_bytes(b"")
         status, text = printed("dump", "examples/k", self.path("z"))
@@ -517,6 +572,23 @@ class Dump(Folder):
             elif column.kind.startswith("num"):
                 self.assertEqual(number, row[column.name])
 
+    @needs("enc_lengths", "enc_entries")
+    def test_deltas_with_any_byte_changed(self):
+        whole = _files.read("examples/bank/bank2.meta")
+        for ending in (".meta", ".il"):
+            self.copy("examples/bank/bank2" + ending, "d" + ending)
+        chance = random.Random(1)
+        for _ in range(60):
+            at = chance.randrange(len(whole))
+            part = whole[:at] + bytes([chance.randrange(256)]) + whole[at + 1 :]
+            Path(self.path("d.meta")).write_bytes(part)
+            files = ["examples/bank/bank", "examples/bank/bank1", self.path("d")]
+            status, text = printed("dump", *files, "--generation", "2")
+            checked = told("check", *files)
+            self.assertEqual(status, int(checked != "accepted 2\n"))
+            if status:
+                self.assertIn(checked, text)
+
     def test_files_that_cannot_be_read(self):
         metadata = _files.read("examples/bank/bank2.meta")
         for end in range(len(metadata)):
@@ -535,7 +607,7 @@ def run_script(base, path):
             stepped = session.step(command["task"], command["count"])
             lines += session.output() + [f"task {command['task']} ran {stepped.ran}"]
         elif command["do"] == "apply":
-            session.apply(os.path.join(os.path.dirname(base) if "bank" in base and "/" not in command["delta"] else "", command["delta"]))
+            session.apply(command["delta"])
             lines.append(f"applied {command['delta']}")
         elif command["do"] == "remap":
             moved = session.remap(command["task"], command["map"])
@@ -575,12 +647,27 @@ class Sessions(unittest.TestCase):
         self.assertEqual(kept[0][0][-1].kind, "ended")
 
     @needs("enc_session_open")
+    def test_events_are_those_of_a_trace(self):
+        session = Session("examples/k")
+        task = session.spawn("06000002")
+        session.step(task, 2)
+        session.apply("examples/k1")
+        session.step(task, 20)
+        report = told("run", "examples/k", "examples/scripts/reload.json").split("watcher 1 report\n")[1]
+        self.assertEqual([str(event) for event in session.events()], report.splitlines())
+        self.assertEqual(session.events(), [])
+        with self.assertRaises(enc.Refused):
+            session.apply("examples/k1")
+        self.assertEqual([str(event) for event in session.events()], ["refused E2"])
+
+    @needs("enc_session_open")
     def test_frames(self):
         with Session("examples/bank/bank") as session:
             task = session.spawn("06000004")
             session.step(task, 36)
             outer, inner = session.frames(task)
-            self.assertEqual((str(outer.method), str(inner.method), inner.offset, inner.line), ("06000004", "06000002", 15, 10))
+            self.assertEqual((outer.method, inner.method), (0x06000004, 0x06000002))
+            self.assertEqual((inner.offset, inner.line), (15, 10))
             self.assertEqual([str(value) for value in session.values(task, 1, "arguments")], ["#1", "2"])
             self.assertEqual(session.values(task, 1, "stack"), [])
             with self.assertRaises(enc.RemapRefused) as raised:
@@ -609,8 +696,8 @@ class Installed(Folder):
     def test_pip(self):
         if subprocess.run([sys.executable, "-m", "pip", "--version"], capture_output=True).returncode:
             self.skipTest("no pip here")
-        words = ["install", "--no-build-isolation", "--no-index", "--no-compile", "--quiet", "--target", self.path("to")]
-        pip = [sys.executable, "-m", "pip", "--disable-pip-version-check", "--no-input", *words, str(HERE)]
+        words = ["--no-build-isolation", "--no-index", "--no-compile", "--quiet", "--target", self.path("to")]
+        pip = [sys.executable, "-m", "pip", "--disable-pip-version-check", "--no-input", "install", *words, str(HERE)]
         made = subprocess.run(pip, capture_output=True, text=True)
         self.assertEqual(made.returncode, 0, made.stderr)
         around = {name: value for name, value in os.environ.items() if name != "ENC_LIBRARY"}

@@ -1,6 +1,7 @@
 """enc: .NET modules and the Edit and Continue deltas that follow them, over the C library `libenc`.
 
-What each call answers is proved of the library: docs/library.md says how. This package turns it into Python, by ctypes alone.
+What each call answers is proved of the library: docs/library.md says how. This package turns it into Python, by
+ctypes alone.
 
 >>> import enc
 >>> bank = enc.Module("examples/bank/bank")
@@ -23,6 +24,7 @@ from ._library import Limit
 from ._refused import Refused, RemapRefused, rule_words
 from .module import AtGeneration, Compacted, Module, Saved, View
 from .rows import Body, Clause, Entry, Lengths, Move, Place, Point, Row, Token, Value
+from .session import Event, Frame, Remapped, Session, Slot, Stepped
 from .tables import TABLES, Column, Table, table
 
 __version__ = "0.9.0"
@@ -35,6 +37,8 @@ __all__ = [
     "Compacted",
     "Delta",
     "Entry",
+    "Event",
+    "Frame",
     "Lengths",
     "Limit",
     "Module",
@@ -43,8 +47,12 @@ __all__ = [
     "Point",
     "Refused",
     "RemapRefused",
+    "Remapped",
     "Row",
     "Saved",
+    "Session",
+    "Slot",
+    "Stepped",
     "TABLES",
     "Table",
     "Token",

@@ -11,8 +11,9 @@ from .dump import Wanted, dump
 from .report import command as report_command
 from .tables import table
 
-ABOUT = """Prints the rows of a module after deltas, in tables, with the names of tokens: the whole, one generation or one table.
-Of a delta that is refused it prints what its file has (rows, EncLog, EncMap, heaps), and the rule that it breaks."""
+ABOUT = """Prints the rows of a module after deltas, in tables, with the names of tokens: the whole, one generation
+or one table. Of a delta that is refused it prints what its file has (rows, EncLog, EncMap, heaps), and the rule that
+it breaks."""
 
 
 def _table(word: str) -> int:
@@ -26,9 +27,12 @@ def parser() -> argparse.ArgumentParser:
     """What may stand behind `dump`."""
     made = argparse.ArgumentParser(prog="python3 -m enc dump", description=ABOUT)
     made.add_argument("base", metavar="BASE", help="the base, with .dll or without")
-    made.add_argument("deltas", metavar="DELTA", nargs="*", help="what the files of a delta begin with, or one of them")
-    made.add_argument("--generation", type=int, metavar="G", help="what the G-th delta inserts and updates; 0: the base")
-    made.add_argument("--table", type=_table, metavar="T", help="one table, by its name or its number (06)")
+    about = "what the files of a delta begin with, or one of them"
+    made.add_argument("deltas", metavar="DELTA", nargs="*", help=about)
+    about = "what the G-th delta inserts and updates; 0: the base"
+    made.add_argument("--generation", type=int, metavar="G", help=about)
+    about = "one table, by its name or its number (06)"
+    made.add_argument("--table", type=_table, metavar="T", help=about)
     return made
 
 

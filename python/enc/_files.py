@@ -5,8 +5,13 @@ from __future__ import annotations
 import os
 from typing import NamedTuple, Optional, Tuple, Union
 
+from ._refused import Refused, rule_words
+
 Path = Union[str, "os.PathLike[str]"]
 Source = Union[bytes, bytearray, memoryview, Path]
+
+# The most bytes that a file may have.
+LONGEST = 1 << 26
 
 # The names that compilers give the files of a delta.
 FAMILIES = ((".meta", ".il", ".pdb"), (".dmeta", ".dil", ".dpdb"))
@@ -43,17 +48,18 @@ class Delta(NamedTuple):
 
 
 def read(path: str) -> bytes:
+    """The bytes of a file; `Refused` (L1) where it has more than a file may have, of which no more is read."""
     with open(path, "rb") as file:
-        return file.read()
+        part = file.read(LONGEST + 1)
+    if len(part) > LONGEST:
+        raise Refused("L1", "length", rule_words("L1", "length"), path)
+    return part
 
 
 def write(path: str, part: bytes) -> None:
+    """Saves a file."""
     with open(path, "wb") as file:
         file.write(part)
-
-
-def _is_bytes(source: object) -> bool:
-    return isinstance(source, (bytes, bytearray, memoryview))
 
 
 def _part(source: Optional[Source]) -> Tuple[bytes, Optional[str]]:
@@ -67,7 +73,8 @@ def _part(source: Optional[Source]) -> Tuple[bytes, Optional[str]]:
 
 
 def _pdb(source: Optional[Source]) -> Tuple[bytes, Optional[str]]:
-    """A PDB. To the library no bytes are no PDB; a file without bytes is one that it refuses, as it does one zero byte."""
+    """A PDB. To the library no bytes are no PDB; a file without bytes is one that it refuses, as it does one zero
+    byte."""
     part, path = _part(source)
     return (b"\0" if path is not None and not part else part), path
 
@@ -85,7 +92,7 @@ def base_path(path: Path) -> str:
     'examples/bank/bank.dll'
     """
     path = os.fspath(path)
-    if path.endswith(".dll") or (os.path.isfile(path) and not os.path.isfile(path + ".dll")):
+    if path.endswith(".dll") or (os.path.exists(path) and not os.path.exists(path + ".dll")):
         return path
     return path + ".dll"
 

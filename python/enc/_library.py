@@ -24,7 +24,8 @@ def _numbers(*names: str) -> List[Tuple[str, Any]]:
 class RefusalNumbers(ctypes.Structure):
     """`enc_refusal`."""
 
-    _fields_ = [(name, u8) for name in ("letter", "rule", "place", "stream", "table", "column")] + _numbers("row", "entry")
+    _fields_ = [(name, u8) for name in ("letter", "rule", "place", "stream", "table", "column")]
+    _fields_ += _numbers("row", "entry")
 
 
 class PlaceNumbers(ctypes.Structure):
@@ -190,9 +191,15 @@ class Library:
     def __init__(self, path: str) -> None:
         self.path = path
         self._loaded = ctypes.CDLL(path)
+        self._calls: Dict[str, Any] = {}
 
     def call(self, name: str) -> Any:
         """The call of this name; an AttributeError where the library has none."""
+        if name not in self._calls:
+            self._calls[name] = self._found(name)
+        return self._calls[name]
+
+    def _found(self, name: str) -> Any:
         try:
             call = getattr(self._loaded, name)
         except AttributeError:
@@ -211,7 +218,7 @@ def library_path() -> str:
     for path in (package / "libenc.so", package.parent.parent / "dist" / "libenc.so"):
         if path.is_file():
             return str(path)
-    raise OSError("there is no libenc.so: neither in the package enc nor in dist/ of a checkout; ENC_LIBRARY may name one")
+    raise OSError("there is no libenc.so in the package enc or in dist/ of a checkout, and ENC_LIBRARY names none")
 
 
 _libraries: Dict[str, Library] = {}
@@ -223,6 +230,13 @@ def library() -> Library:
     if path not in _libraries:
         _libraries[path] = Library(path)
     return _libraries[path]
+
+
+def number(value: int) -> int:
+    """A number of 32 bits; a ValueError of another one, which ctypes would cut."""
+    if not 0 <= value < 1 << 32:
+        raise ValueError(f"{value} isn't a number of 32 bits")
+    return value
 
 
 class Limit(Exception):

@@ -7,9 +7,8 @@ from typing import Dict, List, NamedTuple, Tuple
 
 _CELL = re.compile(r' (\w+)=("[^"]*"|\[[0-9a-f]*\]|[^ ]+)')
 _PLACE = re.compile(r" @(\d+)\.(\d+)$")
-_CLAUSE = re.compile(
-    r"  (catch|filter|finally|fault) IL_([0-9a-f]+)-IL_([0-9a-f]+) IL_([0-9a-f]+)-IL_([0-9a-f]+)(?: (?:IL_)?([0-9a-f]+))?$"
-)
+_RANGE = r" IL_([0-9a-f]+)-IL_([0-9a-f]+)"
+_CLAUSE = re.compile(rf"  (catch|filter|finally|fault){_RANGE}{_RANGE}(?: (?:IL_)?([0-9a-f]+))?$")
 _KINDS = ("catch", "filter", "finally", "fault")
 _CHILDREN = ("fields", "methods", "params", "events", "properties")
 

@@ -1,7 +1,8 @@
 """A delta's metadata as its file has it: its rows, its EncLog, its heaps (ECMA-335 II.24.2).
 
-`enc dump` shows it of a delta that is refused, which the library doesn't keep, and the EncLog of any delta. It is the one
-reader of metadata in this package; nothing of it is proved, and nothing else uses it. What can't be read is a ValueError."""
+`enc dump` shows it of a delta that is refused, which the library doesn't keep, and the EncLog of any delta. It is
+the one reader of metadata in this package; nothing of it is proved, and nothing else uses it. What can't be read is
+a ValueError."""
 
 from __future__ import annotations
 
@@ -12,8 +13,9 @@ from .rows import Token
 from .tables import TABLES, Column, Table, table
 
 _ATTRIBUTED = (
-    "MethodDef Field TypeRef TypeDef Param InterfaceImpl MemberRef Module DeclSecurity Property Event StandAloneSig ModuleRef "
-    "TypeSpec Assembly AssemblyRef File ExportedType ManifestResource GenericParam GenericParamConstraint MethodSpec"
+    "MethodDef Field TypeRef TypeDef Param InterfaceImpl MemberRef Module DeclSecurity Property Event StandAloneSig "
+    "ModuleRef TypeSpec Assembly AssemblyRef File ExportedType ManifestResource GenericParam GenericParamConstraint "
+    "MethodSpec"
 )
 
 # The tables of each coding by tag, `-` for a tag of no table (ECMA-335 II.24.2.6).
@@ -153,7 +155,8 @@ def entry_length(heap: bytes, at: int) -> Tuple[int, int]:
 
 
 def entries(name: str, heap: bytes) -> Iterator[Tuple[int, bytes]]:
-    """The entries of a heap from its beginning: offset (number of `#GUID`) and bytes. It ends where none stands whole."""
+    """The entries of a heap from its beginning: offset (number of `#GUID`) and bytes. It ends where none stands
+    whole."""
     if name == "#GUID":
         yield from ((i + 1, heap[16 * i : 16 * i + 16]) for i in range(len(heap) // 16))
         return

@@ -38,8 +38,8 @@ def rule_words(code: str, place: str, act: str = "") -> str:
 class Refused(Exception):
     """A file, an edit list or what would be saved breaks a rule.
 
-    `code` is the rule (`E16`), `place` where it is broken (`06000001`), `rule` what the rule says, `file` the path of the
-    refused file where it has one."""
+    `code` is the rule (`E16`), `place` where it is broken (`06000001`), `rule` what the rule says, `file` the path
+    of the refused file where it has one."""
 
     def __init__(self, code: str, place: str, rule: str = "", file: Optional[str] = None) -> None:
         super().__init__(code, place, rule, file)

@@ -1,5 +1,5 @@
-"""`python3 -m enc dump`: the rows of a module after deltas, or of one generation, in tables; and of a delta that is refused what
-its file has."""
+"""`python3 -m enc dump`: the rows of a module after deltas, or of one generation, in tables; and of a delta that is
+refused what its file has."""
 
 from __future__ import annotations
 
@@ -147,8 +147,8 @@ def whole(chain: Chain, wanted: Wanted) -> Iterator[str]:
 
 
 def one(chain: Chain, wanted: Wanted, generation: int) -> Iterator[str]:
-    """A generation, the newest of the module: the rows that it inserts and updates in the order of its EncMap, its EncLog and
-    its heaps; of the base all rows."""
+    """A generation, the newest of the module: the rows that it inserts and updates in the order of its EncMap, its
+    EncLog and its heaps; of the base all rows."""
     module, names = chain.module, Names(chain.module)
     yield generation_line(chain, generation)
     if not generation:
@@ -246,7 +246,8 @@ def raw_cell(found: _raw.Raw, column: Column, number: int, begins: Dict[str, int
     if column.kind in heaps:
         heap = heaps[column.kind]
         part = own_entry(found, heap, number - begins[heap])
-        return f"{column.name}={heap}:{number:x}" + (f" {entry_text(heap, part)}" if part is not None and number else "")
+        text = f" {entry_text(heap, part)}" if part is not None and number else ""
+        return f"{column.name}={heap}:{number:x}{text}"
     token = _raw.decoded(column, number)
     if column.kind in ("index", "coded"):
         return f"{column.name}={names.beside(token) if token is not None else f'{number:x} (no row)'}"
@@ -270,9 +271,10 @@ def failed_lines(chain: Chain, failed: Failed, wanted: Wanted) -> Iterator[str]:
             continue
         listed = [token for token in tokens if token >> 24 == number]
         yield heading(TABLES[number], len(rows))
+        columns = TABLES[number].columns
         for i, cells in enumerate(rows):
             token = str(listed[i]) if i < len(listed) else "--------"
-            shown = (raw_cell(found, column, cell, begins, names) for column, cell in zip(TABLES[number].columns, cells))
+            shown = (raw_cell(found, column, cell, begins, names) for column, cell in zip(columns, cells))
             yield f"  {token} row {i + 1} " + " ".join(shown)
     yield from log_lines(failed.path, failed.metadata, wanted, names)
     if wanted.table is None:

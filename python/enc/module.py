@@ -1,4 +1,5 @@
-"""A module: a base with the deltas that follow it, and what every token, row, body and sequence point means after them."""
+"""A module: a base with the deltas that follow it, and what every token, row, body and sequence point means after
+them."""
 
 from __future__ import annotations
 
@@ -12,7 +13,7 @@ from typing import Any, Dict, Iterable, Iterator, List, NamedTuple, Optional, Se
 
 from . import _files, _library, _printed
 from ._files import Delta, Path, Source
-from ._library import ABSENT, DONE, MEMORY, REFUSED, SHORT, Buffer, Handle, u8, u32
+from ._library import ABSENT, DONE, REFUSED, Buffer, Handle, number, u8, u32
 from ._refused import Refused, rule_words
 from .rows import (
     Body,
@@ -38,7 +39,9 @@ _MEMBERS = ("MethodDef", "Field", "Property", "Event")
 _NESTED = table("NestedClass").number
 
 
-def refused_of(handle: Handle, numbers: _library.RefusalNumbers, act: str = "", files: Optional[_files.Files] = None) -> Refused:
+def refused_of(
+    handle: Handle, numbers: _library.RefusalNumbers, act: str = "", files: Optional[_files.Files] = None
+) -> Refused:
     """The exception of a refusal."""
     code, _, place = _library.words_of(handle.library, numbers).partition(" ")
     return Refused(code, place, rule_words(code, place, act), files.refused_file(code) if files else None)
@@ -78,6 +81,7 @@ class View:
 
     _handle: Handle
     _at: Optional[int]
+    _nested: Optional[Dict[Token, Token]]
 
     def _call(self, name: str) -> Tuple[str, Tuple[Any, ...]]:
         """The call of this name at this generation, and what it takes first."""
@@ -168,8 +172,8 @@ class View:
         return Row(token, Place(*row.place), columns, owner, children, lambda: text)
 
     def name(self, which: Which) -> str:
-        """The name of a row with its namespace, types that it is nested in (`/`) and its type. A row without a name has that of
-        what it is about, or its token.
+        """The name of a row with its namespace, types that it is nested in (`/`) and its type. A row without a name
+        has that of what it is about, or its token.
 
         >>> bank.name("06000003"), bank.name("01000001"), bank.name("0a00000b")
         ('Account.Print', 'System.Console', 'System.Console.WriteLine')
@@ -208,8 +212,10 @@ class View:
         return scope if scope.table == row.table and scope.row else None
 
     def _nesting(self) -> Dict[Token, Token]:
-        """The enclosing type of each nested one."""
-        return {row.NestedClass: row.EnclosingClass for row in self.rows(_NESTED)}
+        """The enclosing type of each nested one, looked up once."""
+        if self._nested is None:
+            self._nested = {row.NestedClass: row.EnclosingClass for row in self.rows(_NESTED)}
+        return self._nested
 
     def signature(self, which: Which) -> bytes:
         """The bytes of the signature of a field, method, property, MemberRef, StandAloneSig or TypeSpec.
@@ -319,12 +325,13 @@ def _printed_value(column: Column, row: _printed.Printed) -> Value:
 
 
 class AtGeneration(View):
-    """A module as it was after its first deltas; `module.at(generation)` makes it. It answers what `View` has: rows, counts,
-    names, bodies and points."""
+    """A module as it was after its first deltas; `module.at(generation)` makes it. It answers what `View` has: rows,
+    counts, names, bodies and points."""
 
     def __init__(self, handle: Handle, generation: int) -> None:
         self._handle = handle
         self._at = generation
+        self._nested = None
 
     @property
     def generation(self) -> int:
@@ -338,8 +345,8 @@ class AtGeneration(View):
 class Module(View):
     """A base and the deltas that follow it.
 
-    `base` is a path, with `.dll` or without, or the bytes of a module. A PDB of the same name beside it is taken where there
-    is one; `pdb` is another one, and `b""` is none. A base that breaks a rule raises `Refused`.
+    `base` is a path, with `.dll` or without, or the bytes of a module. A PDB of the same name beside it is taken
+    where there is one; `pdb` is another one, and `b""` is none. A base that breaks a rule raises `Refused`.
 
     >>> with Module("examples/bank/bank") as module:
     ...     module.apply("examples/bank/bank1")
@@ -356,13 +363,15 @@ class Module(View):
         files = _files.base_files(base, pdb)
         self._at = None
         self._handle = Handle(_library.library(), "enc_close", f"the module {files.names[0] or 'of bytes'}")
-        self._nested: Optional[Dict[Token, Token]] = None
+        self._nested = None
         self._size = len(files.first) + len(files.pdb)
         refusal = _library.RefusalNumbers()
         status = self._handle.call("enc_open", *_library.given((files.first, files.pdb)), ctypes.byref(refusal))
         self._ended(status, refusal, "opening it", "", files)
 
-    def _ended(self, status: int, refusal: Any, about: str, act: str = "", files: Optional[_files.Files] = None) -> None:
+    def _ended(
+        self, status: int, refusal: Any, about: str, act: str = "", files: Optional[_files.Files] = None
+    ) -> None:
         """Raises what a call that judges came to, where it isn't done."""
         if status == REFUSED:
             raise refused_of(self._handle, refusal, act, files)
@@ -393,9 +402,10 @@ class Module(View):
     def apply(self, meta: "Source | Delta", il: Optional[Source] = None, pdb: Optional[Source] = None) -> int:
         """Adds a delta, and tells its generation. A delta that breaks a rule raises `Refused`, and nothing is added.
 
-        `apply(path)` takes the files whose names begin with the path: `.meta`, `.il` and `.pdb`, else `.dmeta`, `.dil` and
-        `.dpdb` as hotreload-delta-gen names them; a path of one of them will do. The PDB may be absent. `apply(meta, il, pdb)`
-        takes files of any names, or their bytes. `apply(delta)` takes what `merge` and `write` give.
+        `apply(path)` takes the files whose names begin with the path: `.meta`, `.il` and `.pdb`, else `.dmeta`,
+        `.dil` and `.dpdb` as hotreload-delta-gen names them; a path of one of them will do. The PDB may be absent.
+        `apply(meta, il, pdb)` takes files of any names, or their bytes. `apply(delta)` takes what `merge` and
+        `write` give.
 
         >>> module = Module("examples/bank/bank.dll")
         >>> module.apply("examples/bank/bank1")
@@ -490,8 +500,8 @@ class Module(View):
         return Place(found.generation, found.position)
 
     def place_in_heap(self, heap: str, offset: int) -> Place:
-        """In which generation an offset of a joined heap stands, and where there; `heap` is `#Strings`, `#US`, `#Blob` or
-        `#GUID`, in which entries are counted from 1.
+        """In which generation an offset of a joined heap stands, and where there; `heap` is `#Strings`, `#US`,
+        `#Blob` or `#GUID`, in which entries are counted from 1.
 
         >>> bank.place_in_heap("#Strings", 240)
         Place(generation=1, position=6)
@@ -500,8 +510,8 @@ class Module(View):
         if heap not in names:
             raise ValueError(f"there is no heap {heap}")
         about = f"the offset {offset} of {heap}"
-        number = u32(names.index(heap))
-        found = self._handle.told(about, "enc_locate_heap", _library.PlaceNumbers, number, u32(offset))
+        at = (u32(names.index(heap)), u32(number(offset)))
+        found = self._handle.told(about, "enc_locate_heap", _library.PlaceNumbers, *at)
         return Place(found.generation, found.position)
 
     def __getitem__(self, which: Which) -> Row:
@@ -519,8 +529,8 @@ class Module(View):
         token = token_of(which)
         place = self.place(token)
         columns = {column.name: self._value(token, i, column) for i, column in enumerate(columns_of(token))}
-        runs = [column.name for column in columns_of(token) if column.kind == "run"]
-        children = tuple(child for name in runs for child in columns[name])  # type: ignore[union-attr]
+        runs = [columns[column.name] for column in columns_of(token) if column.kind == "run"]
+        children = tuple(child for run in runs if isinstance(run, tuple) for child in run)
         return Row(token, place, columns, self._owner(token), children, self._text_at(token, self.generation))
 
     def _text_at(self, token: Token, generation: int) -> Any:
@@ -558,11 +568,6 @@ class Module(View):
         found = self._handle.copied(f"the children of {token}", "enc_kids", u32, u32(token), u8(kind))
         return tuple(Token(kind << 24 | row) for row in found)
 
-    def _nesting(self) -> Dict[Token, Token]:
-        if self._nested is None:
-            self._nested = super()._nesting()
-        return self._nested
-
     def _clauses(self, method: Token) -> List[Clause]:
         found = self._handle.copied(f"the clauses of {method}", "enc_clauses", _library.ClauseNumbers, u32(method))
         return [clause_of(*(getattr(clause, name) for name, _ in clause._fields_)) for clause in found]
@@ -573,7 +578,7 @@ class Module(View):
         >>> bank.user_text(0x70000001)
         'balance:'
         """
-        about = f"the user text {offset:08x}"
+        about = f"the user text {number(offset):08x}"
         units: bytes = self._handle.copied(about, "enc_user_text", ctypes.c_char, u32(offset & 0xFFFFFF))
         return units.decode("utf-16-le", "surrogatepass")
 
@@ -582,8 +587,9 @@ class Module(View):
     def find(self, name: str) -> Token:
         """The row with this name; a LookupError where none has it, or several.
 
-        A name is that of a type (`Namespace.Type`, nested `Outer/Inner`, or `Outer+Inner`), or that of a type and a method, field,
-        property or event (`Namespace.Type.Member`, `Namespace.Type..ctor`). Of types with equal names the first counts.
+        A name is that of a type (`Namespace.Type`, nested `Outer/Inner`, or `Outer+Inner`), or that of a type and a
+        method, field, property or event (`Namespace.Type.Member`, `Namespace.Type..ctor`). Of types with equal names
+        the first counts.
 
         >>> bank.find("Account.Print"), bank.find("Account..ctor"), bank.find("Account")
         (Token('06000003'), Token('06000001'), Token('02000002'))
@@ -618,24 +624,24 @@ class Module(View):
     def _find_type(self, enclosing: int, name: str) -> int:
         """The token of a type of a name with its namespace; 0 where there is none."""
         space, _, own = name.rpartition(".")
-        number = u32()
+        found = u32()
         parts = _library.given((space.encode("utf-8", "surrogateescape"), own.encode("utf-8", "surrogateescape")))
-        status = self._handle.call("enc_find_type", u32(enclosing), *parts, ctypes.byref(number))
+        status = self._handle.call("enc_find_type", u32(enclosing), *parts, ctypes.byref(found))
         if status not in (DONE, ABSENT):
             _library.fail(status, f"the type {name}")
-        return number.value if status == DONE else 0
+        return found.value if status == DONE else 0
 
     def _members(self, kind: int, name: str) -> List[Token]:
         if not kind or not name:
             return []
         found: List[Token] = []
         for member in _MEMBERS:
-            buffer, number = Buffer(u32, 16), table(member).number
-            before = (u32(kind), u8(number), *_library.given((name.encode("utf-8", "surrogateescape"),)))
+            buffer, kin = Buffer(u32, 16), table(member).number
+            before = (u32(kind), u8(kin), *_library.given((name.encode("utf-8", "surrogateescape"),)))
             status = self._handle.fill("enc_find_member", before, [buffer])
             if status not in (DONE, ABSENT):
                 _library.fail(status, f"the member {name}")
-            found += [Token(number << 24 | row) for row in buffer.taken()] if status == DONE else []
+            found += [Token(kin << 24 | row) for row in buffer.taken()] if status == DONE else []
         return found
 
     # Frames.
@@ -643,10 +649,12 @@ class Module(View):
     def may_remap(
         self, method: Which, generation: int, offset: int, map: Iterable[Tuple[int, int]]
     ) -> Optional[str]:
-        """Whether a frame of a method that stands at an offset of its body of a generation may go on in the newest body, by a
-        map of offsets: None where it may, else the rule of docs/scripts.md that it breaks (`Q3` to `Q7`)."""
+        """Whether a frame of a method that stands at an offset of its body of a generation may go on in the newest
+        body, by a map of offsets: None where it may, else the rule of docs/scripts.md that it breaks (`Q3` to
+        `Q7`)."""
         pairs = pairs_of(map)
-        before = (u32(token_of(method)), u32(generation), u32(offset), pairs, len(pairs))
+        self._known(generation)
+        before = (u32(token_of(method)), u32(generation), u32(number(offset)), pairs, len(pairs))
         rule = self._handle.one("whether a frame may be moved", "enc_may_remap", *before)
         return f"Q{rule}" if rule else None
 
@@ -686,12 +694,13 @@ class Module(View):
         _files.write(path + ".pdb", made.pdb)
 
     def merge(self) -> Delta:
-        """One delta that stands for the last two; a ValueError where there are fewer, `Refused` where it can't be made."""
+        """One delta that stands for the last two; a ValueError where there are fewer, `Refused` where it can't be
+        made."""
         return Delta(*self._several("enc_merge", (), (ctypes.c_char,) * 3, "merge"))
 
     def write(self, edits: "str | bytes | Dict[str, Any]") -> Delta:
-        """The delta of an edit list (docs/edits.md), as JSON or as the dict that it says; `Refused` where it can't be made.
-        Nothing is added: `module.apply(module.write(edits))` does that."""
+        """The delta of an edit list (docs/edits.md), as JSON or as the dict that it says; `Refused` where it can't
+        be made. Nothing is added: `module.apply(module.write(edits))` does that."""
         if not isinstance(edits, (str, bytes)):
             edits = json.dumps(edits)
         part = edits.encode("utf-8", "surrogatepass") if isinstance(edits, str) else edits
@@ -700,5 +709,5 @@ class Module(View):
 
 def pairs_of(map: Iterable[Tuple[int, int]]) -> Any:
     """The pairs of a map of offsets as a call takes them."""
-    listed = list(map)
-    return (_library.PairNumbers * len(listed))(*listed)
+    pairs = [_library.PairNumbers(number(before), number(after)) for before, after in map]
+    return (_library.PairNumbers * len(pairs))(*pairs)

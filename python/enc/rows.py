@@ -61,8 +61,8 @@ class Place(NamedTuple):
 
 
 class Clause(NamedTuple):
-    """An exception clause: `catch`, `filter`, `finally` or `fault`, its ranges from the first offset to one past the last
-    byte, and the token of the class that it catches, or the offset of its filter."""
+    """An exception clause: `catch`, `filter`, `finally` or `fault`, its ranges from the first offset to one past the
+    last byte, and the token of the class that it catches, or the offset of its filter."""
 
     kind: str
     try_begin: int
@@ -74,8 +74,8 @@ class Clause(NamedTuple):
 
 
 class Body(NamedTuple):
-    """A method's body: the most values on its stack, the token of its local signature, whether locals begin as zeros, its
-    code and its exception clauses."""
+    """A method's body: the most values on its stack, the token of its local signature, whether locals begin as
+    zeros, its code and its exception clauses."""
 
     stack: int
     locals: Optional[Token]
@@ -104,7 +104,8 @@ class Entry(NamedTuple):
 
 
 class Lengths(NamedTuple):
-    """How many bytes of `#Strings`, `#US` and `#Blob` count in a generation's own file, and the entries of its `#GUID`."""
+    """How many bytes of `#Strings`, `#US` and `#Blob` count in a generation's own file, and the entries of its
+    `#GUID`."""
 
     strings: int
     users: int
@@ -125,12 +126,12 @@ Value = Union[int, str, bytes, bool, uuid.UUID, Token, Tuple[Token, ...]]
 class Row:
     """A row of a module as it was when it was asked for: its columns by their names in ECMA-335 II.22.
 
-    `row.Name` and `row["Name"]` are the value in a column; iteration gives the names. A number is an int, a text a str, a blob
-    bytes, a GUID a UUID, an index a Token (00000000 is nil). A column that begins a run (`MethodList`) is the tokens of the
-    run. `RVA` of a method is whether it has a body, `RVA` of FieldRVA the bytes of the field.
+    `row.Name` and `row["Name"]` are the value in a column; iteration gives the names. A number is an int, a text a
+    str, a blob bytes, a GUID a UUID, an index a Token (00000000 is nil). A column that begins a run (`MethodList`)
+    is the tokens of the run. `RVA` of a method is whether it has a body, `RVA` of FieldRVA the bytes of the field.
 
-    `token`, `table` (a name), `place`, `owner` (of a field, method, parameter, event or property) and `children` are there
-    for every row, and `text` is the row as `enc show` prints it."""
+    `token`, `table` (a name), `place`, `owner` (of a field, method, parameter, event or property) and `children` are
+    there for every row, and `text` is the row as `enc show` prints it."""
 
     def __init__(
         self,

@@ -1,4 +1,4 @@
-"""The rules in words. Written by python/make_rules.py from docs/rules.md, docs/edits.md and docs/scripts.md."""
+"""The rules in words. Written by python/make_rules.py from docs/rules.md, edits.md and scripts.md."""
 
 from typing import Dict, List, Tuple
 

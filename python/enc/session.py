@@ -8,14 +8,15 @@ from typing import Any, Iterable, List, NamedTuple, Optional, Tuple, Type
 
 from . import _files, _library
 from ._files import Delta, Source
-from ._library import ABSENT, DONE, LIMIT, REFUSED, SHORT, UNLIKE, Buffer, Handle, Limit, u32
+from ._library import DONE, LIMIT, REFUSED, SHORT, UNLIKE, Handle, Limit, number, u32
 from ._refused import RemapRefused
 from .module import Which, pairs_of, refused_of, text_of
 from .rows import Token, token_of
 from .rules import REMAPS, TRAPS
 
 STATES = ("running", "ended", "trapped")
-EVENTS = ("spawned", "entered", "left", "line", "applied", "refused", "trapped", "ended")
+# By their numbers, from 1.
+EVENTS = ("", "spawned", "entered", "left", "line", "applied", "refused", "trapped", "ended")
 PARTS = ("arguments", "locals", "stack")
 _KINDS = ("int32", "int64", "null", "object")
 
@@ -24,8 +25,8 @@ _STEP_EVENTS = 4
 
 
 class Stepped(NamedTuple):
-    """How it stands with a task: how many steps ran, its state (`running`, `ended`, `trapped`), and where it trapped the
-    trap (`X5`) and its words."""
+    """How it stands with a task: how many steps ran, its state (`running`, `ended`, `trapped`), and where it trapped
+    the trap (`X5`) and its words."""
 
     ran: int
     state: str
@@ -62,13 +63,31 @@ class Slot(NamedTuple):
 
 
 class Event(NamedTuple):
-    """What happened: `spawned`, `entered`, `left` (task and method), `line` (and the line as detail), `applied` (the
-    generation as detail), `refused`, `trapped` (the number of the trap as detail), `ended`."""
+    """What happened: `spawned`, `entered`, `left` (task and method), `line` (and its number as detail), `applied` (the
+    generation as detail), `refused` (`rule`), `trapped` (task and `rule`), `ended` (task). It prints as a trace prints
+    it in a script."""
 
     kind: str
     task: int
     method: Optional[Token]
     detail: int
+
+    @property
+    def rule(self) -> str:
+        """The rule by which a delta was refused (`E2`), or the trap (`X5`); else nothing.
+
+        >>> print(Event("refused", 0, None, 0x4502), Event("line", 1, Token("06000003"), 16), sep=", ")
+        refused E2, line 1 06000003 16
+        """
+        if self.kind == "refused":
+            return f"{chr(self.detail >> 8)}{self.detail & 0xFF}"
+        return f"X{self.detail}" if self.kind == "trapped" else ""
+
+    def __str__(self) -> str:
+        task = str(self.task) if self.task else ""
+        detail = str(self.detail) if self.kind in ("line", "applied") else self.rule
+        method = str(self.method) if self.method is not None else ""
+        return " ".join(part for part in (self.kind, task, method, detail) if part)
 
 
 class Remapped(NamedTuple):
@@ -82,8 +101,9 @@ class Remapped(NamedTuple):
 class Session:
     """Tasks over a base and the deltas that are applied on the way.
 
-    The base is given as to `Module`. `limit` is how many events the library keeps at a time, 4 at least; none is lost, since
-    this class takes them out whenever there are many. A session is used on the thread that opened it alone."""
+    The base is given as to `Module`. `limit` is how many events the library keeps at a time, 4 at least; none is
+    lost, since this class takes them out whenever there are many. A session is used on the thread that opened it
+    alone."""
 
     def __init__(self, base: Source, pdb: Optional[Source] = None, limit: int = 1 << 16) -> None:
         if not _STEP_EVENTS <= limit < 1 << 32:
@@ -133,8 +153,8 @@ class Session:
     # What changes it.
 
     def spawn(self, method: Which) -> int:
-        """Starts a task with a static method without parameters, and tells its number, from 1. `Limit` where there are 64, a
-        ValueError where a task can't begin with the method."""
+        """Starts a task with a static method without parameters, and tells its number, from 1. `Limit` where there
+        are 64, a ValueError where a task can't begin with the method."""
         token, task = token_of(method), u32()
         status = self._call("enc_spawn", u32(token), ctypes.byref(task))
         if status == LIMIT:
@@ -146,7 +166,10 @@ class Session:
         return task.value
 
     def step(self, task: int, count: int = 1) -> Stepped:
-        """Makes so many steps of a task, or fewer where it ends or traps. A LookupError where no task has the number."""
+        """Makes so many steps of a task, or fewer where it ends or traps. A LookupError where no task has the
+        number."""
+        if count < 0:
+            raise ValueError(f"{count} steps")
         ran = 0
         while True:
             part = min(count - ran, self._limit // _STEP_EVENTS)
@@ -157,7 +180,7 @@ class Session:
 
     def _step(self, task: int, count: int) -> Stepped:
         numbers = _library.SteppedNumbers()
-        status = self._call("enc_step", u32(task), u32(count), ctypes.byref(numbers))
+        status = self._call("enc_step", u32(number(task)), u32(count), ctypes.byref(numbers))
         if status != DONE:
             _library.fail(status, f"the task {task}")
         return _stepped(numbers)
@@ -170,10 +193,10 @@ class Session:
         self._judged(status, refusal, "applying a delta", files)
 
     def remap(self, task: int, map: Iterable[Tuple[int, int]]) -> Remapped:
-        """Lets the innermost frame of a task go on in the newest body of its method, at the offset to which the map leads.
-        `RemapRefused` where it may not, with the rule (Q1 to Q7), and then nothing changes."""
+        """Lets the innermost frame of a task go on in the newest body of its method, at the offset to which the map
+        leads. `RemapRefused` where it may not, with the rule (Q1 to Q7), and then nothing changes."""
         pairs, numbers = pairs_of(map), _library.RemappedNumbers()
-        status = self._call("enc_remap", u32(task), pairs, len(pairs), ctypes.byref(numbers))
+        status = self._call("enc_remap", u32(number(task)), pairs, len(pairs), ctypes.byref(numbers))
         if status != DONE:
             _library.fail(status, f"a remap of the task {task}")
         if numbers.rule:
@@ -185,12 +208,12 @@ class Session:
 
     def task(self, task: int) -> Stepped:
         """How it stands with a task; `ran` is 0."""
-        about = f"the task {task}"
-        return _stepped(self._handle.told(about, "enc_task", _library.SteppedNumbers, u32(task)))._replace(ran=0)
+        found = self._handle.told(f"the task {task}", "enc_task", _library.SteppedNumbers, u32(number(task)))
+        return _stepped(found)._replace(ran=0)
 
     def frames(self, task: int) -> List[Frame]:
         """The frames of a task, from the outermost."""
-        found = self._handle.copied(f"the task {task}", "enc_frames", _library.FrameNumbers, u32(task))
+        found = self._handle.copied(f"the task {task}", "enc_frames", _library.FrameNumbers, u32(number(task)))
         return [
             Frame(Token(f.method), f.generation, f.offset, f.line, f.arguments, f.locals, f.stack) for f in found
         ]
@@ -200,7 +223,7 @@ class Session:
         if which not in PARTS:
             raise ValueError(f"a frame has {', '.join(PARTS)}, and no {which}")
         about = f"the frame {frame} of the task {task}"
-        arguments = (u32(task), u32(frame), u32(PARTS.index(which)))
+        arguments = (u32(number(task)), u32(number(frame)), u32(PARTS.index(which)))
         found = self._handle.copied(about, "enc_values", _library.ValueNumbers, *arguments)
         return [_slot(value) for value in found]
 
