@@ -34,7 +34,8 @@ def library():
 
 def sources():
     """The files of the package, by their names in a wheel."""
-    files = sorted((HERE / "enc").glob("*.py")) + [HERE / "enc" / "py.typed"]
+    data = [HERE / "enc" / "py.typed", *sorted((HERE / "enc").glob("report*.[cjh]*"))]
+    files = sorted((HERE / "enc").glob("*.py")) + data
     return {f"enc/{path.name}": path.read_bytes() for path in files}
 
 
@@ -47,6 +48,8 @@ def metadata():
         "Summary: .NET modules and the Edit and Continue deltas that follow them",
         "License: MIT",
         "Requires-Python: >=3.8",
+        "Provides-Extra: report",
+        "Requires-Dist: jinja2>=3; extra == 'report'",
         "",
     ]
     return "\n".join(lines).encode()

@@ -1,4 +1,4 @@
-"""The program `python3 -m enc`. Its one command is `dump`; the others are those of the program `enc`."""
+"""The program `python3 -m enc`. Its commands are `dump` and `report`; the others are those of the program `enc`."""
 
 from __future__ import annotations
 
@@ -8,6 +8,7 @@ import sys
 from typing import List, Optional
 
 from .dump import Wanted, dump
+from .report import command as report_command
 from .tables import table
 
 ABOUT = """Prints the rows of a module after deltas, in tables, with the names of tokens: the whole, one generation
@@ -37,11 +38,13 @@ def parser() -> argparse.ArgumentParser:
 
 def run(words: List[str]) -> int:
     """Does what the words say, and tells the status: those of the program `enc`."""
-    if words[:1] != ["dump"]:
+    if words[:1] not in (["dump"], ["report"]):
         parser().print_usage()
         return 2
-    given = parser().parse_intermixed_args(words[1:])
     try:
+        if words[0] == "report":
+            return report_command(words[1:])
+        given = parser().parse_intermixed_args(words[1:])
         return dump(given.base, given.deltas, Wanted(given.generation, given.table), print)
     except FileNotFoundError as error:
         print(f"missing {error.filename}")
