@@ -4,8 +4,9 @@ use Rattle.std.proofs.lemmas.List.{length-reverse}
 use Rattle.std.specs.Prelude.{nat_le, unwrap_or, if◌then◌else◌}
 use Rattle.enc_base.specs.declared.token.Token.{Token}
 use Rattle.enc_vm.specs.Looks.{frames_of, frames_in, frame_in}
+use Rattle.enc_vm.specs.Calls.{declaring}
 use Rattle.enc_frames.specs.Machine.{World, Frame, Task, going, MachineState}
-use Rattle.enc_vm.specs.Step.{most_tasks, task_at, first_thread, frame_now, with_task, may_spawn, begun, too_many, no_method, spawned_with, spawn_in}
+use Rattle.enc_vm.specs.Step.{most_tasks, task_at, first_thread, constructor_frame, frame_now, with_task, may_spawn, begun, too_many, no_method, spawned_with, spawn_in}
 use Rattle.enc_session.proofs.Looked.{frame_is}
 use Rattle.enc_session.specs.Seen.{entered_if}
 use Rattle.enc_session.specs.Session.{entered_event}
@@ -74,3 +75,16 @@ entered_frames s n few =
     entered_two n (reverse (frames_in s n)) (rw (back_length (frames_in s n)) few)
     ∙ ap (λ (o : Option (Frame _)). entered_if n o ++ entered_if n (slice_get (reverse (frames_in s n)) 1)) (sym (frame_is s n 0))
     ∙ ap (λ (o : Option (Frame _)). entered_if n (frame_in s n 0) ++ entered_if n o) (sym (frame_is s n 1))
+
+-- the task that began stands behind the others
+last_from : {C : Type 0} (w : World C) (method : Token) (s : MachineState C) (n : ℕ) (u : MachineState C) → Spawned w method s n u
+    → (t : Task C) × (u.tasks ≡ s.tasks ++ t ∷ []) × (frames_in u n ≡ frames_of t)
+last_from w method s n u x =
+    let number : n ≡ suc (length s.tasks) = x.number ∙ omega arith in
+    let t = going (first_thread x.frame (constructor_frame w s.shared (declaring w.plain method))) in
+    (t, ap (λ (m : MachineState _). m.tasks) x.state, rw (x.state, number) (ap (λ (o : Option (Task _)). unwrap_or (option_map frames_of o) []) (last_is s.tasks t)))
+
+pub begun_last : {C : Type 0} (w : World C) (method : Token) (s : MachineState C) (n : ℕ) (u : MachineState C) → spawn_in w method s ≡ begun n u
+    → (t : Task C) × (u.tasks ≡ s.tasks ++ t ∷ []) × (frames_in u n ≡ frames_of t)
+unfolding spawn_in
+begun_last w method s n u h = last_from w method s n u (by_tests w method (nat_le most_tasks (length s.tasks)) (may_spawn w.plain method) s n u h)

@@ -15,5 +15,6 @@ pub mod Remapping
 mod Generations
 mod Dated
 mod Lined
+mod DatesKept
 mod Recorded
 mod Stepping

@@ -1,7 +1,7 @@
 -- What is recorded of a spawn, a step, a delta and a remap.
-use Rattle.std.proofs.Common.{◌≡◌, ◌≤◌, ℕ, ◌+◌, true, false, List, [], ◌∷◌, ◌++◌, length, map, reverse, Result, Ok, Err, OnOk, refl, sym, ap, ◌∙◌, arith, length-append}
+use Rattle.std.proofs.Common.{◌≡◌, ◌≤◌, ℕ, ◌+◌, ◌-◌, true, false, List, [], ◌∷◌, ◌++◌, length, map, reverse, Option, Some, None, Result, Ok, Err, OnOk, refl, sym, ap, ◌∙◌, arith, length-append}
 use Rattle.std.proofs.lemmas.List.{length-map, length-reverse}
-use Rattle.std.specs.Prelude.{Vec}
+use Rattle.std.specs.Prelude.{Vec, slice_set}
 use Rattle.std.specs.declared.alloc.AllocError.{AllocError}
 use Rattle.std.specs.declared.alloc.Global.{Global}
 use Rattle.enc_base.specs.declared.refusal.Refusal.{Refusal}
@@ -9,7 +9,8 @@ use Rattle.enc_base.specs.declared.token.Token.{Token}
 use Rattle.enc_checker.specs.Check.{Accepted}
 use Rattle.enc_checker.specs.Followed.{Followed}
 use Rattle.enc_frames.specs.Machine.{PlainCode, Frame, MachineState}
-use Rattle.enc_remap.specs.Remap.{Remapping}
+use Rattle.enc_frames.specs.Results.{Shown}
+use Rattle.enc_remap.specs.Remap.{Remapping, moved}
 use Rattle.enc_remap.specs.Seen.{IsRemap}
 use Rattle.enc_remap.specs.declared.remapped.Remapped.TheVariants as remapped
 use Rattle.enc_vm.specs.Looks.{frames_in}
@@ -21,10 +22,11 @@ use Rattle.enc_vm.specs.declared.ends.SpawnEnd.{SpawnEnd}
 use Rattle.enc_vm.specs.declared.ends.SpawnEnd.TheVariants as spawned
 use Rattle.enc_vm.specs.declared.seen.Seen.{Seen}
 use Rattle.enc_watch.specs.declared.event.Event.{Event}
-use Rattle.enc_session.specs.Recording.{Recorded, body_generation, redated, redated_in, spawn_recorded_by, spawn_recorded, turn_recorded, step_recorded, judged_recorded, apply_recorded, remapped_in, remap_recorded_by, remap_recorded}
-use Rattle.enc_session.specs.RecordingSeen.{HaveRoomTo, is_made, settled, date_moved}
+use Rattle.enc_session.proofs.DatesKept.{step_dated}
+use Rattle.enc_session.specs.Recording.{Recorded, AreDated, redated, dates_of, with_first_date, body_generation, redated, spawn_recorded_by, spawn_recorded, turn_recorded, step_recorded, judged_recorded, apply_recorded, remapped_in, remap_recorded_by, remap_recorded}
+use Rattle.enc_session.specs.RecordingSeen.{HaveRoomTo, is_made}
 use Rattle.enc_session.specs.Seen.{ending_told}
-use Rattle.enc_session.specs.Session.{world_of, begun_events, entered_event, innermost_method, step_events, step_lines, DeltaContents, judged_after}
+use Rattle.enc_session.specs.Session.{world_of, begun_events, entered_event, innermost_method, line_events, entered_events, left_events, ending_events, step_events, step_lines, DeltaContents, judged_after}
 
 -- the same by its parts
 recorded_same : (new old : Recorded) → new.followed ≡ old.followed → new.machine ≡ old.machine → new.events ≡ old.events → new.text ≡ old.text
@@ -37,6 +39,37 @@ pub begun_few : {C : Type 0} (method : Token) (n : ℕ) (u : MachineState C) →
 begun_few method n u few =
     let e : length (map (entered_event n) (reverse (frames_in u n))) ≡ length (frames_in u n) =
     length-map (reverse (frames_in u n)) (entered_event n) ∙ length-reverse (frames_in u n) in omega (arith, e, few)
+
+-- and a step tells at most four
+few_lines : (task : ℕ) (method : Option Token) (line : Option ℕ) → length (line_events task method line) ≤ 1
+few_lines task None line = omega arith
+few_lines task (Some method) None = omega arith
+few_lines task (Some method) (Some line) = omega arith
+
+few_entered : (task : ℕ) (method : Option Token) → length (entered_events task method) ≤ 1
+few_entered task None = omega arith
+few_entered task (Some method) = omega arith
+
+few_left : (task : ℕ) (method : Option Token) → length (left_events task method) ≤ 1
+few_left task None = omega arith
+few_left task (Some method) = omega arith
+
+few_ends : (task : ℕ) (how : Ending) → length (ending_events task how) ≤ 1
+few_ends task ran = omega arith
+few_ends task done = omega arith
+few_ends task (stopped x) = omega arith
+
+four_few : (a b c d : List Event) → length a ≤ 1 → length b ≤ 1 → length c ≤ 1 → length d ≤ 1 → length (a ++ b ++ c ++ d) ≤ 4
+four_few a b c d fa fb fc fd =
+    let e : length (a ++ b ++ c ++ d) ≡ length (a ++ b ++ c) + length d = length-append (a ++ b ++ c) d in
+    let f : length (a ++ b ++ c) ≡ length (a ++ b) + length c = length-append (a ++ b) c in
+    let g : length (a ++ b) ≡ length a + length b = length-append a b in omega (arith, e, f, g, fa, fb, fc, fd)
+
+pub step_few : (task : ℕ) (method : Option Token) (how : Ending) (line : Option ℕ) (shown : Shown) → length (step_events task method how line shown) ≤ 4
+unfolding step_events
+step_few task method how line shown =
+    four_few (line_events task method line) (entered_events task shown.entered) (left_events task shown.left) (ending_events task how)
+    (few_lines task method line) (few_entered task shown.entered) (few_left task shown.left) (few_ends task how)
 
 -- dates by equal generations
 dates_same : {C : Type 0} (f g : Token → ℕ) (frames : List (Frame C)) (dates : List ℕ) → ((t : Token) → f t ≡ g t) → redated f frames dates ≡ redated g frames dates
@@ -65,31 +98,61 @@ no_task_recorded method spawned.Method new old not is followed events text dates
     recorded_same new old followed is.1 events text dates limit ∙ sym (ap (λ (x : Spawning PlainCode). spawn_recorded_by method x old) is.0)
 
 -- a step that was made
-made : (task : ℕ) (how : Ending) (seen : Seen) (new mid old : Recorded)
-    → machine_turn (world_of old.followed) task old.machine ≡ went how mid.machine seen.line (shown_in seen) → mid.followed ≡ old.followed
-    → mid.events ≡ old.events ++ step_events task (innermost_method old.machine task) how seen.line (shown_in seen)
-    → mid.text ≡ old.text ++ step_lines task how mid.machine (shown_in seen) → mid.dates ≡ old.dates → mid.limit ≡ old.limit → new ≡ settled task mid
+made : (task : ℕ) (how : Ending) (seen : Seen) (new old : Recorded) (date : Token → ℕ)
+    → machine_turn (world_of old.followed) task old.machine ≡ went how new.machine seen.line (shown_in seen)
+    → ((t : Token) → date t ≡ body_generation old.followed.deltas t) → new.followed ≡ old.followed
+    → new.events ≡ old.events ++ step_events task (innermost_method old.machine task) how seen.line (shown_in seen)
+    → new.text ≡ old.text ++ step_lines task how new.machine (shown_in seen)
+    → new.dates ≡ slice_set old.dates (task - 1) (redated date (frames_in new.machine task) (dates_of old.dates task)) → new.limit ≡ old.limit
     → new ≡ step_recorded task old
 unfolding step_recorded
-made task how seen new mid old is followed events text dates limit settles =
-    settles
-    ∙ recorded_same (settled task mid) (turn_recorded task (went how mid.machine seen.line (shown_in seen)) old) followed refl events text
-    (ap (λ (f : Followed). redated_in f mid.machine task mid.dates) followed ∙ ap (redated_in old.followed mid.machine task) dates) limit
+made task how seen new old date is dated followed events text dates limit =
+    recorded_same new (turn_recorded task (went how new.machine seen.line (shown_in seen)) old) followed refl events text
+    (dates
+    ∙ ap (slice_set old.dates (task - 1))
+    (dates_same date (body_generation old.followed.deltas) (frames_in new.machine task) (dates_of old.dates task) dated)) limit
     ∙ sym (ap (λ (x : MachineTurn PlainCode). turn_recorded task x old) is)
 
-pub step_is_recorded : (task : ℕ) (how : StepEnd) (seen : Seen) (new mid old : Recorded) → is_made how ≡ true
-    → IsTurn (Ok how) seen mid.machine old.machine (machine_turn (world_of old.followed) task old.machine) → mid.followed ≡ old.followed
-    → mid.events ≡ old.events ++ step_events task (innermost_method old.machine task) (ending_told how) seen.line (shown_in seen)
-    → mid.text ≡ old.text ++ step_lines task (ending_told how) mid.machine (shown_in seen) → mid.dates ≡ old.dates → mid.limit ≡ old.limit
-    → new ≡ settled task mid → new ≡ step_recorded task old
-step_is_recorded task end.Absent seen new mid old not turn followed events text dates limit settles = absurd cc
-step_is_recorded task end.Idle seen new mid old not turn followed events text dates limit settles = absurd cc
-step_is_recorded task end.Ran seen new mid old is turn followed events text dates limit settles =
-    made task ran seen new mid old turn followed events text dates limit settles
-step_is_recorded task end.Ended seen new mid old is turn followed events text dates limit settles =
-    made task done seen new mid old turn followed events text dates limit settles
-step_is_recorded task (end.Trapped x) seen new mid old is turn followed events text dates limit settles =
-    made task (stopped x) seen new mid old turn followed events text dates limit settles
+pub step_is_recorded : (task : ℕ) (how : StepEnd) (seen : Seen) (new old : Recorded) (date : Token → ℕ) → is_made how ≡ true
+    → IsTurn (Ok how) seen new.machine old.machine (machine_turn (world_of old.followed) task old.machine)
+    → ((t : Token) → date t ≡ body_generation old.followed.deltas t) → new.followed ≡ old.followed
+    → new.events ≡ old.events ++ step_events task (innermost_method old.machine task) (ending_told how) seen.line (shown_in seen)
+    → new.text ≡ old.text ++ step_lines task (ending_told how) new.machine (shown_in seen)
+    → new.dates ≡ slice_set old.dates (task - 1) (redated date (frames_in new.machine task) (dates_of old.dates task)) → new.limit ≡ old.limit
+    → new ≡ step_recorded task old
+step_is_recorded task end.Absent seen new old date not turn dated followed events text dates limit = absurd cc
+step_is_recorded task end.Idle seen new old date not turn dated followed events text dates limit = absurd cc
+step_is_recorded task end.Ran seen new old date is turn dated followed events text dates limit =
+    made task ran seen new old date turn dated followed events text dates limit
+step_is_recorded task end.Ended seen new old date is turn dated followed events text dates limit =
+    made task done seen new old date turn dated followed events text dates limit
+step_is_recorded task (end.Trapped x) seen new old date is turn dated followed events text dates limit =
+    made task (stopped x) seen new old date turn dated followed events text dates limit
+
+-- and each frame has its date
+pub made_dated : (task : ℕ) (how : StepEnd) (seen : Seen) (f : Followed) (s u : MachineState PlainCode) (date : Token → ℕ) (dates new : List (List ℕ)) → is_made how ≡ true
+    → IsTurn (Ok how) seen u s (machine_turn (world_of f) task s) → new ≡ slice_set dates (task - 1) (redated date (frames_in u task) (dates_of dates task))
+    → AreDated s dates → AreDated u new
+made_dated task end.Absent seen f s u date dates new not turn next are = absurd cc
+made_dated task end.Idle seen f s u date dates new not turn next are = absurd cc
+made_dated task end.Ran seen f s u date dates new is turn next are = step_dated (world_of f) date task s u dates new ran seen.line (shown_in seen) turn next are
+made_dated task end.Ended seen f s u date dates new is turn next are = step_dated (world_of f) date task s u dates new done seen.line (shown_in seen) turn next are
+made_dated task (end.Trapped x) seen f s u date dates new is turn next are =
+    step_dated (world_of f) date task s u dates new (stopped x) seen.line (shown_in seen) turn next are
+
+pub none_made_dated : (task : ℕ) (how : StepEnd) (seen : Seen) (f : Followed) (s u : MachineState PlainCode) (dates : List (List ℕ)) → is_made how ≡ false
+    → IsTurn (Ok how) seen u s (machine_turn (world_of f) task s) → AreDated s dates → AreDated u dates
+none_made_dated task end.Absent seen f s u dates not turn are = rw turn.1 are
+none_made_dated task end.Idle seen f s u dates not turn are = rw turn.1 are
+none_made_dated task end.Ran seen f s u dates not turn are = absurd cc
+none_made_dated task end.Ended seen f s u dates not turn are = absurd cc
+none_made_dated task (end.Trapped x) seen f s u dates not turn are = absurd cc
+
+pub no_task_dated : (how : SpawnEnd) (s u : MachineState PlainCode) (said : Spawning PlainCode) (dates : List (List ℕ)) → ((n : ℕ) → how ≡ spawned.Task n → ⊥)
+    → IsSpawn (Ok how) u s said → AreDated s dates → AreDated u dates
+no_task_dated (spawned.Task n) s u said dates not is are = absurd (not n refl)
+no_task_dated spawned.Limit s u said dates not is are = rw is.1 are
+no_task_dated spawned.Method s u said dates not is are = rw is.1 are
 
 -- and where none was
 pub no_step_recorded : (task : ℕ) (how : StepEnd) (seen : Seen) (new old : Recorded) → is_made how ≡ false
@@ -117,13 +180,15 @@ apply_if_recorded files said (Ok x) new old answer is = apply_is_recorded files 
 apply_if_recorded files said (Err e) new old answer is = tt
 
 -- a remap
-pub remap_is_recorded : (task : ℕ) (pairs : List (ℕ × ℕ)) (method : Token) (from to : ℕ) (new mid old : Recorded)
-    → IsRemap (Ok (remapped.Moved method from to)) mid.machine old.machine (remapped_in task pairs old) → mid.followed ≡ old.followed
-    → mid.events ≡ old.events → mid.text ≡ old.text → mid.dates ≡ old.dates → mid.limit ≡ old.limit → new ≡ date_moved task method mid
-    → new ≡ remap_recorded task pairs old
+pub remap_is_recorded : (task : ℕ) (pairs : List (ℕ × ℕ)) (method : Token) (from to : ℕ) (new old : Recorded) (date : Token → ℕ) (one : ℕ)
+    → IsRemap (Ok (remapped.Moved method from to)) new.machine old.machine (remapped_in task pairs old)
+    → ((t : Token) → date t ≡ body_generation old.followed.deltas t) → one ≡ date method → new.followed ≡ old.followed
+    → new.events ≡ old.events → new.text ≡ old.text → new.dates ≡ slice_set old.dates (task - 1) (with_first_date one (dates_of old.dates task))
+    → new.limit ≡ old.limit → new ≡ remap_recorded task pairs old
 unfolding remap_recorded
-remap_is_recorded task pairs method from to new mid old is followed events text dates limit moves =
-    moves ∙ ap (date_moved task method) (recorded_same mid (record old { machine = mid.machine }) followed refl events text dates limit)
+remap_is_recorded task pairs method from to new old date one is dated at followed events text dates limit =
+    recorded_same new (remap_recorded_by task (moved method from to new.machine) old) followed refl events text
+    (dates ∙ ap (λ (d : ℕ). slice_set old.dates (task - 1) (with_first_date d (dates_of old.dates task))) (at ∙ dated method)) limit
     ∙ sym (ap (λ (x : Remapping PlainCode). remap_recorded_by task x old) is)
 
 pub no_remap_recorded : (task : ℕ) (pairs : List (ℕ × ℕ)) (number : ℕ) (new old : Recorded)

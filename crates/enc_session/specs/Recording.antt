@@ -8,11 +8,11 @@ use Rattle.enc_base.specs.declared.refusal.Refusal.{Refusal}
 use Rattle.enc_base.specs.declared.token.Token.{Token}
 use Rattle.enc_checker.specs.Check.{Accepted, new_bodies}
 use Rattle.enc_checker.specs.Followed.{Followed, plain_of, debug_after}
-use Rattle.enc_frames.specs.Machine.{PlainCode, Frame, MachineState, at_rest}
+use Rattle.enc_frames.specs.Machine.{PlainCode, Frame, Task, MachineState, at_rest}
 use Rattle.enc_objects.specs.declared.value.Value.{Value}
 use Rattle.enc_remap.specs.Remap.{Remapping, moved, refused, remap_in}
 use Rattle.enc_rows.specs.Source.{Source}
-use Rattle.enc_vm.specs.Looks.{frames_in, frame_in}
+use Rattle.enc_vm.specs.Looks.{frames_of, frames_in, frame_in}
 use Rattle.enc_vm.specs.Step.{ran, done, stopped, Spawning, begun, too_many, no_method, spawn_in}
 use Rattle.enc_vm.specs.Turns.{MachineTurn, absent, idle, went, machine_turn}
 use Rattle.enc_vm.specs.declared.ends.StepEnd.{StepEnd}
@@ -60,6 +60,10 @@ dates_of dates task = get_or dates (task - 1) []
 
 abbrev pub redated_in : Followed → MachineState PlainCode → ℕ → List (List ℕ) → List (List ℕ)
 redated_in f m task dates = slice_set dates (task - 1) (redated (body_generation f.deltas) (frames_in m task) (dates_of dates task))
+
+-- each task has a date for each of its frames, and no other
+abbrev pub AreDated : MachineState PlainCode → List (List ℕ) → Type 0
+AreDated m dates = map (λ (ds : List ℕ). length ds) dates ≡ map (λ (t : Task PlainCode). length (frames_of t)) m.tasks
 
 -- and with another one of the innermost frame
 abbrev pub with_first_date : ℕ → List ℕ → List ℕ

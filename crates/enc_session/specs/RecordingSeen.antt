@@ -8,7 +8,7 @@ use Rattle.enc_schema.specs.Tables.{method_def}
 use Rattle.enc_vm.specs.declared.ends.StepEnd.{StepEnd}
 use Rattle.enc_vm.specs.declared.ends.StepEnd.TheVariants as end
 use Rattle.enc_watch.specs.declared.event.Event.{Event}
-use Rattle.enc_session.specs.Recording.{Recorded, body_generation, redated_in, moved_date}
+use Rattle.enc_session.specs.Recording.{body_generation}
 
 -- that of a method, 0 where it has none; a token of another table has none
 abbrev pub generation_at : List ℕ → Token → ℕ
@@ -37,20 +37,12 @@ pub record HaveRoomTo (limit : ℕ) (events : Vec Event Global) : Type 0 where
   pub room : limit ≤ events.cap
   pub few : length events.items ≤ limit
 
--- the dates of a task's frames were settled
-abbrev pub settled : ℕ → Recorded → Recorded
-settled task r = record r { dates = redated_in r.followed r.machine task r.dates }
-
--- the innermost frame of a task has the date of a method's newest body
-abbrev pub date_moved : ℕ → Token → Recorded → Recorded
-date_moved task method r = record r { dates = moved_date r.followed method task r.dates }
-
--- the dates of the frames behind so many, from the outermost
-abbrev pub dates_behind : {C : Type 0} → (Token → ℕ) → List (Frame C) → ℕ → List ℕ
-dates_behind date frames n = map (λ (f : Frame _). date f.method) (drop n (reverse frames))
-
 -- a step was made
 abbrev pub is_made : StepEnd → Bool
 is_made end.Absent = false
 is_made end.Idle = false
 is_made _ = true
+
+-- the dates of the frames behind so many, from the outermost
+abbrev pub dates_behind : {C : Type 0} → (Token → ℕ) → List (Frame C) → ℕ → List ℕ
+dates_behind date frames n = map (λ (f : Frame _). date f.method) (drop n (reverse frames))

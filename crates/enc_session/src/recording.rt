@@ -1,13 +1,13 @@
 //! A session that is recorded: tasks over a base, deltas between their steps, and all events until they are taken.
-ghost use Rattle.std.specs.Prelude.{◌≡◌, ◌+◌, ◌*◌, ◌≤◌, ◌++◌, [], Ok, Err, IfOk, OnOk, OnErr, get_or, length, nat_le, option_map, reverse, vec_len, vec_capacity};
+ghost use Rattle.std.specs.Prelude.{◌≡◌, ◌+◌, ◌-◌, ◌*◌, ◌≤◌, ◌++◌, [], Ok, Err, IfOk, OnOk, OnErr, get_or, length, nat_le, option_map, reverse, slice_set, vec_len, vec_capacity};
 ghost use Rattle.enc_agg.specs.Extend.{chain_with};
 ghost use Rattle.enc_checker.specs.Check.{accepted};
 ghost use Rattle.enc_vm.specs.Looks.{frames_in, state_in};
 ghost use Rattle.enc_vm.specs.Step.{spawn_in};
 ghost use Rattle.enc_vm.specs.Turns.{IsSpawn, machine_turn};
 ghost use Rattle.enc_session.specs.Engine.{IsAcceptedAfter};
-ghost use Rattle.enc_session.specs.Recording.{HasStepped, apply_recorded, dates_of, facts_in, judged_recorded, recorded_base, remap_recorded, remapped_in, spawn_recorded, step_recorded, values_in};
-ghost use Rattle.enc_session.specs.RecordingSeen.{date_moved, is_made, settled};
+ghost use Rattle.enc_session.specs.Recording.{AreDated, HasStepped, apply_recorded, dates_of, facts_in, judged_recorded, recorded_base, redated, remap_recorded, remapped_in, spawn_recorded, step_recorded, values_in, with_first_date};
+ghost use Rattle.enc_session.specs.RecordingSeen.{generation_at, is_made};
 ghost use Rattle.enc_session.specs.declared.applied.Applied.TheVariants.{Generation, Refused};
 ghost use Rattle.enc_session.specs.Session.{applied_as, files_in, judged_after, remapped_as, turn_end, world_of};
 ghost use Rattle.enc_session.specs.States.{state_text};
@@ -46,17 +46,18 @@ pub struct Recording {
 }
 
 impl Model for Recording {
-    ghost use Rattle.enc_session.specs.Recording.{Recorded};
+    ghost use Rattle.enc_session.specs.Recording.{AreDated, Recorded};
     ghost use Rattle.enc_session.specs.RecordingSeen.{AreGenerationsOf, HaveRoomTo};
 
     ghost Value = { Recorded };
 
     ghost view = { λ r. record { followed = r.engine.followed; machine = r.engine.machine; events = r.events.items; text = r.text.items; dates = r.dates.items; limit = r.limit } };
 
-    ghost invariant = { λ r. HaveRoomTo r.limit r.events × AreGenerationsOf r.engine.followed.deltas r.newest };
+    ghost invariant = { λ r. HaveRoomTo r.limit r.events × AreGenerationsOf r.engine.followed.deltas r.newest × AreDated r.engine.machine r.dates.items };
 }
 
 /// How many steps ran, and how the last one ended.
+#[derive(Drop)]
 pub struct Stepped {
     /// How many ran, as a script counts: one that trapped isn't counted, and one with which the task ended is.
     pub ran: u32,
@@ -73,6 +74,26 @@ fn push_events(events: &[Event], all: &mut Vec<Event>)
     let Ok(()) = all.extend_from_slice(events) else {
         unreachable!()
     };
+}
+
+/// The dates of a task's frames as they are now.
+fn settle(dates: &mut Vec<Dates>, engine: &Engine, newest: &Newest, task: u32)
+    ensures { dates.new.items ≡ slice_set dates.old.items (task - 1) (redated (generation_at newest.now) (frames_in engine.now.machine task) (dates_of dates.old.items task)) }
+{
+    let i = (task as usize).saturating_sub(1);
+    if let Some(dates) = dates.get_mut(i) {
+        dates.settle(engine, newest, task);
+    }
+}
+
+/// The innermost frame of a task has another date.
+fn move_date(dates: &mut Vec<Dates>, task: u32, date: u32)
+    ensures { dates.new.items ≡ slice_set dates.old.items (task - 1) (with_first_date date (dates_of dates.old.items task)) }
+{
+    let i = (task as usize).saturating_sub(1);
+    if let Some(dates) = dates.get_mut(i) {
+        dates.move_first(date);
+    }
 }
 
 /// Whether a step was made.
@@ -165,18 +186,8 @@ impl Recording {
         push_step_lines(&self.engine, task, &seen, end, &mut self.text);
         let events = step_events(task, method, &seen, end);
         push_events(events.as_slice(), &mut self.events);
-        self.settle(task);
+        settle(&mut self.dates, &self.engine, &self.newest, task);
         Ok(end)
-    }
-
-    /// The dates of a task's frames as they are now.
-    fn settle(&mut self, task: u32)
-        ensures { self.new ≡ settled task self.old }
-    {
-        let i = (task as usize).saturating_sub(1);
-        if let Some(dates) = self.dates.get_mut(i) {
-            dates.settle(&self.engine, &self.newest, task);
-        }
     }
 
     /// At most so many steps of a task, until one doesn't run; their events are at most 4 each. Without memory those
@@ -261,21 +272,10 @@ impl Recording {
     {
         match self.engine.remap(task, map)? {
             Remapped::Moved { method, from, to } => {
-                self.move_date(task, method);
+                move_date(&mut self.dates, task, self.newest.at(method));
                 Ok(Remapped::Moved { method, from, to })
             }
             Remapped::Refused(number) => Ok(Remapped::Refused(number)),
-        }
-    }
-
-    /// The innermost frame of a task has the date of the newest body of a method.
-    fn move_date(&mut self, task: u32, method: Token)
-        ensures { self.new ≡ date_moved task method self.old }
-    {
-        let date = self.newest.at(method);
-        let i = (task as usize).saturating_sub(1);
-        if let Some(dates) = self.dates.get_mut(i) {
-            dates.move_first(date);
         }
     }
 
@@ -290,6 +290,7 @@ impl Recording {
     pub fn frames(&self, task: u32) -> u32
         ensures frames { result ≡ length (frames_in self.now.machine task) }
         ensures few { result ≤ 1024 }
+        ensures dated { AreDated self.now.machine self.now.dates }
     {
         self.engine.depth(task)
     }

@@ -9,6 +9,7 @@ invariant_of-self-in_err-follow c = (
   rw c.in_err-follow.ensures.err
       (generations_stay c.self.inside.engine.followed.deltas (greatest_row c.in_ok-methods.methods) c.make_room.new.self c.self.inside.newest
       c.in_ok-make_room.ensures.ok c.self.invariant.1),
+  rw c.in_err-follow.ensures.err c.self.invariant.2,
 )
 
 pub invariant_of-self-2 : goal.invariant_of-self-2
@@ -19,4 +20,5 @@ invariant_of-self-2 c = (
       (generations_follow c.args.checked.delta c.self.inside.engine.followed.deltas c.in_ok-methods.methods c.bring.new.self c.make_room.new.self
       c.self.inside.newest c.generations-generation.result c.in_ok-methods.ensures c.generations-generation.ensures c.in_ok-make_room.ensures.ok
       c.bring.ensures c.self.invariant.1),
+  rw c.in_ok-follow.ensures.ok c.self.invariant.2,
 )

@@ -1,5 +1,6 @@
 use Rattle.std.proofs.Common.{◌≤◌, length, refl, arith}
 use Rattle.enc_session.proofs.Begun.{few_frames}
+use Rattle.enc_session.proofs.DatesKept.{spawn_dated}
 use Rattle.enc_session.proofs.Recorded.{begun_few, have_room, more_few, no_task_recorded, spawn_is_recorded}
 use Rattle.enc_session.specs.RecordingSeen.{generation_at}
 use Rattle.enc_session.specs.Session.{world_of}
@@ -39,9 +40,13 @@ invariant_of-self-2 c =
     (few_frames (world_of c.self.inside.engine.followed) c.args.method c.self.inside.engine.machine c.in-Task.task c.spawn.new.self.machine
     (rw c.in-Task.is at c.in_ok-end.ensures.spawned))) in
     let asked = rw (← c.self.view_is) at c.requires in (
-      have_room c.self.inside.limit c.push_events.new.all c.self.inside.events c.as_slice.result.now c.push_events.ensures.events c.push_events.ensures.capacity
-          c.self.invariant.0 (omega (arith, few, asked)),
+      have_room c.self.inside.limit c.push_events.new.all c.self.inside.events c.as_slice.result.now c.push_events.ensures.events
+          c.push_events.ensures.capacity c.self.invariant.0 (omega (arith, few, asked)),
       rw c.in_ok-end.ensures.followed c.self.invariant.1,
+      spawn_dated (world_of c.self.inside.engine.followed) c.args.method (generation_at c.self.inside.newest) c.self.inside.engine.machine
+          c.spawn.new.self.machine c.in-Task.task c.self.inside.dates.items c.push_reserved.new.self.items
+          (rw c.in-Task.is at c.in_ok-end.ensures.spawned)
+          (rw (c.reserve.ensures.items, c.settle.ensures, c.in_ok-dates.ensures) at c.push_reserved.ensures.items) c.self.invariant.2,
     )
 
 pub returns-clause-recorded : goal.returns-clause-recorded
