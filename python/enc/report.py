@@ -1,12 +1,13 @@
 """`python3 -m enc report`: one page of HTML about a base and its deltas, which any browser opens without a network.
 
-The page says what the library says: rows and bodies are taken from what it prints. Of a delta that is refused the library
-keeps nothing, so its rows are taken from its file, as `dump` takes them, and the page says so."""
+The page says what the library says: rows and bodies are taken from what it prints. Of a delta that is refused the
+library keeps nothing, so its rows are taken from its file, as `dump` takes them, and the page says so."""
 
 from __future__ import annotations
 
 import argparse
 import base64
+import functools
 import hashlib
 import importlib.util
 import os
@@ -24,8 +25,8 @@ from .module import Module
 from .rows import Entry, Lengths, Token
 from .tables import TABLES, Column
 
-ABOUT = """Saves one page about a base and its deltas, for any browser without a network: what each delta inserts and updates,
-each changed method with its body before and after, and of a refused delta the rule that it breaks."""
+ABOUT = """Saves one page about a base and its deltas, for any browser without a network: what each delta inserts and
+updates, each changed method with its body before and after, and of a refused delta the rule that it breaks."""
 
 HERE = Path(__file__).resolve().parent
 
@@ -135,7 +136,7 @@ class Group(NamedTuple):
 
 
 class Head(NamedTuple):
-    """A generation: its number, what it was read from, its EncId, how many rows it inserts and updates, its own heaps."""
+    """A generation: its number, what it was read from, its EncId, how many rows it inserts and updates, its heaps."""
 
     number: int
     path: str
@@ -182,7 +183,8 @@ def cells_of(token: Token, now: Printed, before: Optional[Printed]) -> List[Cell
 
 def moved_points(pairs: List[_sides.Pair]) -> bool:
     """Whether sequence points of equal lines differ."""
-    return any(pair.before and pair.now and pair.kind != "changed" and pair.before.points != pair.now.points for pair in pairs)
+    equal = [(pair.before, pair.now) for pair in pairs if pair.kind in ("same", "alike")]
+    return any(before and now and before.points != now.points for before, now in equal)
 
 
 class Page:
@@ -218,7 +220,8 @@ class Page:
     def _head(self, number: int, entries: List[Entry]) -> Head:
         inserted = sum(1 for entry in entries if entry.inserted) if number else rows_of_the_base(self.module)
         enc_id = str(self.module.enc_id(number)) if number else ""
-        return Head(number, self.paths[number], enc_id, inserted, len(entries) - inserted if number else 0, self.module.lengths(number))
+        updated = len(entries) - inserted if number else 0
+        return Head(number, self.paths[number], enc_id, inserted, updated, self.module.lengths(number))
 
     # Rows.
 
@@ -229,8 +232,8 @@ class Page:
 
     def _item(self, number: int, entry: Entry, texts: Tuple[str, str]) -> Item:
         now, before = texts
-        short = self.spent > MOST_ROW_BYTES
-        cells = [] if short else cells_of(entry.token, printed(first_lines(now)), printed(first_lines(before)) if before else None)
+        old = printed(first_lines(before)) if before else None
+        cells = [] if self.spent > MOST_ROW_BYTES else cells_of(entry.token, printed(first_lines(now)), old)
         is_newest = self.newest.get(entry.token) == number
         return Item(str(entry.token), entry.inserted, is_newest, self.names.of(entry.token), cells)
 
@@ -244,7 +247,7 @@ class Page:
         return Method(item, pairs, counts, bool(before.lines), moved_points(pairs), list(named), now.cut + before.cut)
 
     def _shown_method(self, number: int, entry: Entry, share: int) -> Any:
-        """A method as it is on the page: whole, or where that is too long the lines that differ, or without its body."""
+        """A method as it is on the page: whole, or where that is too long what differs, or without its body."""
         now, before = self._texts(number, entry)
         method = self._method(number, entry, (now, before))
         for pairs in (method.pairs, _sides.near(method.pairs)):
@@ -262,7 +265,7 @@ class Page:
             if table != _METHOD:
                 made = self._macros.row(number, self._item(number, entry, self._texts(number, entry)), self.link)
             elif share > 0:
-                made = self._shown_method(number, entry, max(share // (len(entries) - i), min(share, 60_000)))
+                made = self._shown_method(number, entry, max(share // (len(entries) - i), min(share, 12_000)))
             else:
                 made = self._macros.short(number, self._item(number, entry, ("", ""))._replace(cells=[]))
             share -= len(made)
@@ -351,12 +354,13 @@ def digest(text: str) -> str:
     return "sha256-" + base64.b64encode(hashlib.sha256(text.encode()).digest()).decode()
 
 
+@functools.lru_cache(None)
 def environment() -> Any:
     """Jinja's environment: all that isn't marked as safe is escaped."""
     import jinja2
 
-    loader = jinja2.FileSystemLoader(HERE)
-    made = jinja2.Environment(loader=loader, autoescape=True, trim_blocks=True, lstrip_blocks=True, undefined=jinja2.StrictUndefined)
+    blocks = {"trim_blocks": True, "lstrip_blocks": True, "undefined": jinja2.StrictUndefined}
+    made = jinja2.Environment(loader=jinja2.FileSystemLoader(HERE), autoescape=True, **blocks)
     made.filters["number"] = lambda number: f"{number:,}"
     made.filters["cut"] = cut
     return made
@@ -368,8 +372,8 @@ def rendered(**known: Any) -> str:
     made = environment()
     page = known.get("page")
     groups = page.groups(made.get_template("report_parts.html.jinja").module) if page else {}
-    hashes = (digest(style), digest(script))
-    text: str = made.get_template("report.html.jinja").render(groups=groups, style=style, script=script, hashes=hashes, **known)
+    inline = {"style": style, "script": script, "hashes": (digest(style), digest(script))}
+    text: str = made.get_template("report.html.jinja").render(groups=groups, **inline, **known)
     return text
 
 
@@ -383,7 +387,7 @@ class Request(NamedTuple):
 
 
 def load(request: Request, module: Module) -> Tuple[int, Optional[Tuple[bytes, Refused]]]:
-    """Adds the deltas, up to the first that is refused: how many were added, and the refused one's metadata and refusal."""
+    """Adds the deltas, up to the first that is refused: how many were added, the refused one's metadata and refusal."""
     for number, path in enumerate(request.deltas):
         files = _files.delta_files(path, None, None)
         try:
@@ -433,7 +437,7 @@ def parser() -> argparse.ArgumentParser:
     made.add_argument("base", metavar="BASE", help="the base, with .dll or without")
     made.add_argument("deltas", metavar="DELTA", nargs="*", help="what the files of a delta begin with, or one of them")
     made.add_argument("-o", dest="out", metavar="FILE", required=True, help="where the page is saved")
-    made.add_argument("--source", metavar="DIR", action="append", default=[], help="a folder with sources; may be repeated")
+    made.add_argument("--source", metavar="DIR", action="append", default=[], help="a folder with sources")
     return made
 
 
