@@ -1,7 +1,7 @@
 """Tests of `python3 -m enc report`. Usage: python3 python/test_report.py LIBENC.so ENC [--pictures DIR] [WORDS..]
 
-Pages are made of the examples, of hostile names and of changed deltas, and read as HTML. Where Chromium is they are opened
-in it: searched, folded, followed, printed, seen wide, narrow and dark. `./test` runs this."""
+Pages are made of the examples, of hostile names and of changed deltas, and read as HTML. Where Chromium is they are
+opened in it: searched, folded, followed, printed, seen wide, narrow and dark. `./test` runs this."""
 
 import base64
 import contextlib
@@ -181,9 +181,11 @@ class Pages(Case):
         self.has(text, "bank and 0 deltas")
 
     def test_what_is_too_long_is_left_out(self):
-        for name in ("MOST_BYTES", "MOST_ROWS", "MOST_ROW_BYTES"):
+        for name in ("MOST_BYTES", "MOST_ROWS", "MOST_ROW_BYTES", "MOST_GENERATIONS"):
             self.addCleanup(setattr, report, name, getattr(report, name))
-        report.MOST_BYTES = 20
+        report.MOST_GENERATIONS = 1
+        self.has(self.made(*BANK)[0], "Not shown: the first 1 of 2 deltas")
+        report.MOST_GENERATIONS, report.MOST_BYTES = 400, 20
         self.has(self.made(*BANK)[0], "Its body isn't shown")
         report.MOST_ROWS, report.MOST_ROW_BYTES = 6, 0
         text, _ = self.made(*BANK)

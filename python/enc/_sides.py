@@ -75,7 +75,7 @@ Meaning = Callable[[str], Any]
 def _line(label: str, word: str, rest: str, meaning: Meaning) -> Line:
     """A line without its points. Numbers (`ldc.i4 12345678`) and texts aren't tokens."""
     found = None if rest.startswith('"') or word.startswith("ldc.") else _TOKEN.search(rest)
-    token = found.group() if found and not rest.startswith("IL_") or word == "catch" and found else ""
+    token = found.group() if found else ""
     said = rest[: -len(token)].rstrip() if token else rest
     bare = said if said.startswith('"') else _LABEL.sub("IL", said)
     return Line(label, word, said, token, (word, bare, meaning(token) or token if token else ""), [])

@@ -66,7 +66,8 @@ class Names:
 
     def of(self, token: int) -> str:
         """The name of a token; nothing where it has none."""
-        return self._said(token, 0)[0]
+        name, signature = self._said(token, 0)
+        return name or (shown_blob(signature.hex()) if signature else "")
 
     def meaning(self, digits: str) -> Any:
         """A token's name and signature; nothing where it has neither."""
@@ -154,10 +155,15 @@ class Listed(NamedTuple):
     inserted: "Counter[int]"
 
 
+def shown_blob(digits: str) -> str:
+    """The digits of a blob, not too many."""
+    return f"[{digits}]" if len(digits) <= MOST_DIGITS else f"[{digits[:MOST_DIGITS]}…] ({len(digits) // 2:,} bytes)"
+
+
 def shown_cell(column: Column, cell: str) -> str:
     """A printed cell, not too long: blobs by their digits, texts by their characters."""
     if cell.startswith("["):
-        return cell if len(cell) <= MOST_DIGITS + 2 else f"{cell[: MOST_DIGITS + 1]}…] ({len(cell) // 2 - 1:,} bytes)"
+        return shown_blob(cell[1:-1])
     if cell.startswith('"') and len(cell) > MOST_TEXT:
         return f'{cell[:MOST_TEXT]}…" ({len(cell) - 2:,} characters)'
     return cell
@@ -195,7 +201,7 @@ class Page:
         self.paths = paths
         self.names = Names(module)
         self.sources = sources
-        self.heads: List[Head] = []
+        self.heads: Dict[int, Head] = {}
         self.listed: Dict[int, Listed] = {}
         self.newest: Dict[int, int] = {}
         self.spent = 0
@@ -206,16 +212,15 @@ class Page:
     def gather(self) -> None:
         """Asks for the generations, and decides which rows are listed: each generation has its share."""
         left, last = MOST_ROWS, self.module.generation
-        for number in range(last + 1):
-            entries = self.module.entries(number) if number else []
-            self.heads.append(self._head(number, entries))
-            if number and last - number < MOST_GENERATIONS:
-                share = left // (last - number + 1)
-                counts = Counter(entry.token >> 24 for entry in entries)
-                inserted = Counter(entry.token >> 24 for entry in entries if entry.inserted)
-                self.listed[number] = Listed(_fair(entries, share), counts, inserted)
-                left -= len(self.listed[number].entries)
-                self.newest.update((entry.token, number) for entry in self.listed[number].entries)
+        self.heads[0] = self._head(0, [])
+        for number in range(max(1, last - MOST_GENERATIONS + 1), last + 1):
+            entries = self.module.entries(number)
+            self.heads[number] = self._head(number, entries)
+            counts = Counter(entry.token >> 24 for entry in entries)
+            inserted = Counter(entry.token >> 24 for entry in entries if entry.inserted)
+            self.listed[number] = Listed(_fair(entries, left // (last - number + 1)), counts, inserted)
+            left -= len(self.listed[number].entries)
+            self.newest.update((entry.token, number) for entry in self.listed[number].entries)
 
     def _head(self, number: int, entries: List[Entry]) -> Head:
         inserted = sum(1 for entry in entries if entry.inserted) if number else rows_of_the_base(self.module)
@@ -411,7 +416,7 @@ def page_of(request: Request) -> Tuple[str, Optional[Refused]]:
         page = Page(module, [request.base, *request.deltas], Sources(request.sources))
         page.gather()
         refusal = _refusal_page.of_delta(page, taken, *failed) if failed else None
-        plot = plot_of(page.heads[1:][-MOST_GENERATIONS:], failed is not None)
+        plot = plot_of([page.heads[number] for number in page.listed], failed is not None)
         return rendered(**about, page=page, plot=plot, refusal=refusal, taken=taken), failed[1] if failed else None
 
 
