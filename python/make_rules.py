@@ -36,7 +36,8 @@ def of_edits():
     for row in rows("edits.md"):
         words = row[0].split()
         if CODE.fullmatch(words[0]) and len(words) == 2:
-            yield (words[0], "`%s`" % words[1] if words[1] != "n" else "edit", plain(row[1]))
+            said = plain(row[1]).replace("otherwise: n is ", "")
+            yield (words[0], "`%s`" % words[1] if words[1] != "n" else "edit", said)
         elif CODE.fullmatch(row[0]) and len(row) == 3:
             yield (row[0], "`0`" if row[1] == "0" else "edit", plain(row[2]))
 

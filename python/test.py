@@ -565,6 +565,17 @@ class Dump(Folder):
                 if has("enc_entries"):
                     self.assertEqual(found.map(), [entry.token for entry in module.entries(count)])
 
+    @needs("enc_user_text", "enc_lengths", "enc_entries")
+    def test_heaps(self):
+        for base, deltas in CHAINS:
+            module, text = opened(base, deltas), printed("dump", base, *deltas)[1]
+            for part in re.findall(r"^#US: .*\n((?:  .*\n)*)", text, re.M):
+                for offset, shown in re.findall(r"  (\w{8}) (.*)", part):
+                    units = module.user_text(int(offset, 16)).encode("utf-8")
+                    self.assertEqual(shown.encode("ascii"), b'"' + units + b'"')
+            names = set(re.findall(r' \w*Name="([^"]+)"', text))
+            self.assertLessEqual(names, set(re.findall(r'^  \w{8} "(.*)"$', text, re.M)))
+
     def same_cells(self, row, cells):
         for column, number in zip(enc.table(row.table).columns, cells):
             if column.kind in ("index", "coded"):

@@ -89,6 +89,17 @@ def _streams(metadata: bytes) -> Dict[str, bytes]:
     return streams
 
 
+def streams_in(image: bytes) -> Dict[str, bytes]:
+    """The streams of the first root in an image whose headers stand whole; none where there is no such root."""
+    at = image.find(b"BSJB")
+    while at >= 0:
+        try:
+            return _streams(image[at:])
+        except (struct.error, ValueError):
+            at = image.find(b"BSJB", at + 1)
+    return {}
+
+
 def _rows(stream: bytes, of: Table, count: int, at: int, widths: List[int]) -> Iterator[Tuple[int, ...]]:
     """The rows of a table that begin at an offset of its stream."""
     if at + count * sum(widths) > len(stream):

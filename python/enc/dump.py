@@ -35,27 +35,30 @@ class Failed(NamedTuple):
 
 
 class Chain(NamedTuple):
-    """A module with the deltas that it took, their metadata, and the first that is refused."""
+    """A module with the deltas that it took, the base's image and their metadata, and the first that is refused."""
 
     module: Module
-    path: str
-    metadata: List[bytes]
+    files: List[bytes]
     failed: Optional[Failed]
+
+    def streams(self, generation: int) -> Dict[str, bytes]:
+        """The streams in a generation's own file."""
+        return _raw.streams_in(self.files[generation])
 
 
 def load(base: str, deltas: List[str], last: Optional[int]) -> Chain:
     """Opens a base and adds deltas, so many at most, up to the first that is refused."""
     module = Module(base)
-    taken: List[bytes] = []
+    taken = [_files.read(_files.base_path(base))]
     for path in deltas[:last]:
         files = _files.delta_files(path, None, None)
         try:
             module.apply(files.first, files.second, files.pdb)
         except Refused as refused:
             named = Refused(refused.code, refused.place, refused.rule, files.refused_file(refused.code))
-            return Chain(module, base, taken, Failed(path, files.first, named))
+            return Chain(module, taken, Failed(path, files.first, named))
         taken.append(files.first)
-    return Chain(module, base, taken, None)
+    return Chain(module, taken, None)
 
 
 def _safe_name(module: Module, token: Token) -> str:
@@ -133,17 +136,31 @@ def generation_line(chain: Chain, generation: int) -> str:
     return f"generation {generation} {module.enc_id(generation)}: {heaps_line(module, generation)}; {counts}"
 
 
-def whole(chain: Chain, wanted: Wanted) -> Iterator[str]:
-    """The module after all deltas: its generations, and its tables."""
-    module, names = chain.module, Names(chain.module)
-    for generation in range(module.generations):
-        yield generation_line(chain, generation)
+def all_tables(module: Module, wanted: Wanted, names: Names) -> Iterator[str]:
+    """The tables of the module that have rows, or the one that is wanted."""
     for number in range(len(TABLES)):
         if wanted.table == number or (wanted.table is None and module.count(number)):
             if number not in (_LOG, _MAP):
                 yield from table_lines(module, number, names)
-    for generation, metadata in enumerate(chain.metadata, 1):
-        yield from log_lines(f"generation {generation}", metadata, wanted, names)
+
+
+def own_lines(chain: Chain, generation: int, wanted: Wanted, names: Names) -> Iterator[str]:
+    """What a generation's own file has beside rows: of a delta EncLog and EncMap, and the heaps."""
+    about = f"generation {generation}"
+    if generation:
+        yield from log_lines(about, chain.files[generation], wanted, names)
+    if wanted.table is None:
+        yield from heap_lines(about, chain.streams(generation), before(chain.module, generation))
+
+
+def whole(chain: Chain, wanted: Wanted) -> Iterator[str]:
+    """The module after all deltas: its generations, its tables, and what each generation's file has beside rows."""
+    module, names = chain.module, Names(chain.module)
+    for generation in range(module.generations):
+        yield generation_line(chain, generation)
+    yield from all_tables(module, wanted, names)
+    for generation in range(module.generations):
+        yield from own_lines(chain, generation, wanted, names)
 
 
 def one(chain: Chain, wanted: Wanted, generation: int) -> Iterator[str]:
@@ -152,19 +169,14 @@ def one(chain: Chain, wanted: Wanted, generation: int) -> Iterator[str]:
     module, names = chain.module, Names(chain.module)
     yield generation_line(chain, generation)
     if not generation:
-        for number in range(len(TABLES)):
-            if wanted.table == number or (wanted.table is None and module.count(number)):
-                yield from table_lines(module, number, names)
-        return
+        yield from all_tables(module, wanted, names)
     entries = [entry for entry in module.entries(generation) if wanted.has(entry.token >> 24)]
-    if entries or wanted.table not in (_LOG, _MAP):
+    if generation and (entries or wanted.table not in (_LOG, _MAP)):
         yield f"rows: {len(entries)}"
     for entry in entries:
         mark = "insert" if entry.inserted else "update"
         yield f"  {mark} {entry.token.table} {row_line(module, entry.token, names)}"
-    yield from log_lines(f"generation {generation}", chain.metadata[-1], wanted, names)
-    if wanted.table is None:
-        yield from heap_lines(_raw.raw(chain.metadata[-1]), before(module, generation))
+    yield from own_lines(chain, generation, wanted, names)
 
 
 def log_lines(about: str, metadata: bytes, wanted: Wanted, names: Names) -> Iterator[str]:
@@ -216,11 +228,12 @@ def entry_text(heap: str, part: bytes) -> str:
     return str(uuid.UUID(bytes_le=part)) if heap == "#GUID" else f"[{part.hex()}]"
 
 
-def heap_lines(found: _raw.Raw, begins: Dict[str, int]) -> Iterator[str]:
-    """The entries of a delta's own heaps, by their offsets in the joined ones."""
+def heap_lines(about: str, streams: Dict[str, bytes], begins: Dict[str, int]) -> Iterator[str]:
+    """The entries of a file's own heaps, by their offsets in the joined ones."""
     for heap, begin in begins.items():
-        own = found.streams.get(heap, b"")
-        yield f"{heap}: {len(own)} bytes from {begin:08x}" if heap != "#GUID" else f"#GUID: {len(own) // 16} entries"
+        own = streams.get(heap, b"")
+        length = f"{len(own)} bytes" + ("" if heap == "#GUID" else f" from {begin:08x}")
+        yield f"{heap}: {length} in {about}"
         for at, part in _raw.entries(heap, own):
             if part:
                 yield f"  {begin + at:08x} {entry_text(heap, part)}"
@@ -278,7 +291,7 @@ def failed_lines(chain: Chain, failed: Failed, wanted: Wanted) -> Iterator[str]:
             yield f"  {token} row {i + 1} " + " ".join(shown)
     yield from log_lines(failed.path, failed.metadata, wanted, names)
     if wanted.table is None:
-        yield from heap_lines(found, begins)
+        yield from heap_lines(failed.path, found.streams, begins)
 
 
 def refusal_lines(failed: Failed) -> Iterator[str]:

@@ -130,7 +130,7 @@ EDITS: List[Tuple[str, str, str]] = [
     ("J2", "`0`",
      "the list isn't as above: the object itself, encId, documents, or edits isn't an array"),
     ("J2", "edit",
-     "otherwise: n is the first edit, counted from 1, that isn't as above"),
+     "the first edit, counted from 1, that isn't as above"),
     ("E4", "`0`",
      "the EncId is nil, or was used before"),
     ("E5", "`0`",
