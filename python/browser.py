@@ -14,6 +14,16 @@ import time
 from typing import Any, Dict, List, Optional
 
 PROGRAMS = ("chromium", "chromium-browser", "google-chrome")
+WORDS = (
+    "--headless=new",
+    "--no-sandbox",
+    "--no-first-run",
+    "--disable-gpu",
+    "--disable-dev-shm-usage",
+    "--disable-background-networking",
+    "--hide-scrollbars",
+    "--remote-debugging-pipe",
+)
 
 
 def program() -> Optional[str]:
@@ -44,10 +54,9 @@ class Browser:
             os.dup2(asked, 3)
             os.dup2(answered, 4)
 
-        words = ["--headless=new", "--no-sandbox", "--disable-gpu", "--disable-dev-shm-usage", "--no-first-run", "--hide-scrollbars"]
-        words += ["--remote-debugging-pipe", "--disable-background-networking", f"--user-data-dir={self._folder}", "about:blank"]
-        quiet = {"stdin": subprocess.DEVNULL, "stdout": subprocess.DEVNULL, "stderr": subprocess.DEVNULL}
-        self._process = subprocess.Popen([program() or "", *words], preexec_fn=wire, pass_fds=(3, 4), **quiet)  # type: ignore[call-overload]
+        words = [program() or "", *WORDS, f"--user-data-dir={self._folder}", "about:blank"]
+        quiet: Dict[str, Any] = {name: subprocess.DEVNULL for name in ("stdin", "stdout", "stderr")}
+        self._process = subprocess.Popen(words, preexec_fn=wire, pass_fds=(3, 4), **quiet)
         os.close(asked)
         os.close(answered)
         target = self._call("Target.createTarget", {"url": "about:blank"}, None)["targetId"]
@@ -131,7 +140,8 @@ class Browser:
 
     def screen(self, width: int, height: int, dark: bool = False, media: str = "") -> None:
         """How wide and high the page is seen, in which colours, and as which medium."""
-        self.call("Emulation.setDeviceMetricsOverride", width=width, height=height, deviceScaleFactor=1, mobile=width < 600)
+        sizes = {"width": width, "height": height, "deviceScaleFactor": 1, "mobile": width < 600}
+        self.call("Emulation.setDeviceMetricsOverride", **sizes)
         colours = [{"name": "prefers-color-scheme", "value": "dark" if dark else "light"}]
         self.call("Emulation.setEmulatedMedia", media=media, features=colours)
 

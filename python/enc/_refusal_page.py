@@ -1,4 +1,4 @@
-"""What a report says of a file that is refused: the rule in words, and its place in the row, table or log that breaks it.
+"""What a report says of a file that is refused: the rule in words, and what stands at its place.
 
 The library keeps nothing of a refused delta, so this is taken from its file as `dump` takes it, and isn't judged."""
 
@@ -150,6 +150,8 @@ def _row(page: Any, made: Refusal, found: _raw.Raw, place: Tuple[Token, str]) ->
     marked = (column,) if column else _ABOUT.get(made.code, ())
     shown = []
     for i, of in enumerate(TABLES[token >> 24].columns):
+        if of.kind == "run" and of.name != column:
+            continue
         now = raw_cell(found, of, cells[i], begins, names).partition("=")[2] if cells else ""
         shown.append(Cell(of.name, now, _old(of, old, names), of.name in marked))
     return made._replace(row=str(token), row_name=names.of(token), is_new=is_new, cells=shown)

@@ -36,8 +36,8 @@ class Point(NamedTuple):
 
 
 class Line(NamedTuple):
-    """A line of a body: the label of an instruction (nothing for the body's head and for clauses), a word, what follows it,
-    and the token that it ends with. Lines of equal keys say the same, but for where a label leads."""
+    """A line of a body: the label of an instruction (nothing for the body's head and for clauses), a word, what follows
+    it, and the token that it ends with. Lines of equal keys say the same, but for where a label leads."""
 
     label: str
     word: str
@@ -60,7 +60,7 @@ class Side(NamedTuple):
 
 
 class Pair(NamedTuple):
-    """A line of the page: `same`, `alike` (another token of equal name and signature), `changed`, or `skipped` lines."""
+    """A line of the page: `same`, `alike` (another token, of equal name and signature), `changed`, or `skipped`."""
 
     kind: str
     before: Optional[Line]
@@ -75,7 +75,7 @@ Meaning = Callable[[str], Any]
 def _line(label: str, word: str, rest: str, meaning: Meaning) -> Line:
     """A line without its points. Numbers (`ldc.i4 12345678`) and texts aren't tokens."""
     found = None if rest.startswith('"') or word.startswith("ldc.") else _TOKEN.search(rest)
-    token = found.group() if found and not rest.startswith("IL_") or word == "catch" and found else ""
+    token = found.group() if found else ""
     said = rest[: -len(token)].rstrip() if token else rest
     bare = said if said.startswith('"') else _LABEL.sub("IL", said)
     return Line(label, word, said, token, (word, bare, meaning(token) or token if token else ""), [])
@@ -121,8 +121,8 @@ def _middle(a: List[Any], b: List[Any]) -> List[Tuple[int, int]]:
 
 
 def _equal(before: List[Line], now: List[Line]) -> List[Tuple[int, int]]:
-    """The lines of equal keys, in order: those that both begin with, those that both end with, and of the others those that
-    are found."""
+    """The lines of equal keys, in order: those that both begin with, those that both end with, and of the others those
+    that are found."""
     a, b = [line.key for line in before], [line.key for line in now]
     head = 0
     while head < min(len(a), len(b)) and a[head] == b[head]:
@@ -141,7 +141,7 @@ def _leads(lines: List[Line]) -> Dict[str, int]:
 
 
 class _Labels(NamedTuple):
-    """Where labels lead in two bodies, and which lines of the two are equal. A label of no line is the code's end, -1."""
+    """Where labels lead in two bodies, and which of their lines are equal. A label of no line is the code's end, -1."""
 
     before: Dict[str, int]
     now: Dict[str, int]

@@ -17,8 +17,8 @@ def _unescaped(printed: str) -> str:
 
 
 class Sources:
-    """Folders with sources. Of a document `/src/Bank.cs` and a body of generation 2 the first of these is taken that is there:
-    `DIR/2/Bank.cs`, `DIR/Bank.2.cs`; and, for a body that is the newest of its method, `DIR/src/Bank.cs` and `DIR/Bank.cs`.
+    """Folders with sources. Of a document `/src/Bank.cs` and a body of generation 2 the first of these is taken that is
+    there: `DIR/2/Bank.cs`, `DIR/Bank.2.cs`; and, for a method's newest body, `DIR/src/Bank.cs` and `DIR/Bank.cs`.
     No name leads out of a folder."""
 
     def __init__(self, folders: List[str]) -> None:

@@ -39,7 +39,8 @@
     const words = input.value.trim();
     const all = words ? matches(words) : [];
     found.replaceChildren(...all.slice(0, MOST).map(item));
-    said.textContent = !words ? "" : all.length > MOST ? all.length + " found, the first " + MOST + " are:" : all.length + " found";
+    const cut = all.length > MOST ? ", the first " + MOST + " are:" : "";
+    said.textContent = words ? all.length + " found" + cut : "";
     return all;
   }
 
@@ -53,7 +54,8 @@
     if (!id) return;
     const at = document.getElementById(id);
     if (!at) {
-      if (/^[0-9a-f]{8}$/.test(id)) said.textContent = id + " isn't among the rows of this page: no delta changes it, or the page would be too long";
+      const why = " isn't among the rows of this page: no delta changes it, or the page would be too long";
+      if (/^[0-9a-f]{8}$/.test(id)) said.textContent = id + why;
       return;
     }
     open(at);

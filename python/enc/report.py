@@ -1,12 +1,13 @@
 """`python3 -m enc report`: one page of HTML about a base and its deltas, which any browser opens without a network.
 
-The page says what the library says: rows and bodies are taken from what it prints. Of a delta that is refused the library
-keeps nothing, so its rows are taken from its file, as `dump` takes them, and the page says so."""
+The page says what the library says: rows and bodies are taken from what it prints. Of a delta that is refused the
+library keeps nothing, so its rows are taken from its file, as `dump` takes them, and the page says so."""
 
 from __future__ import annotations
 
 import argparse
 import base64
+import functools
 import hashlib
 import importlib.util
 import os
@@ -24,8 +25,8 @@ from .module import Module
 from .rows import Entry, Lengths, Token
 from .tables import TABLES, Column
 
-ABOUT = """Saves one page about a base and its deltas, for any browser without a network: what each delta inserts and updates,
-each changed method with its body before and after, and of a refused delta the rule that it breaks."""
+ABOUT = """Saves one page about a base and its deltas, for any browser without a network: what each delta inserts and
+updates, each changed method with its body before and after, and of a refused delta the rule that it breaks."""
 
 HERE = Path(__file__).resolve().parent
 
@@ -65,7 +66,8 @@ class Names:
 
     def of(self, token: int) -> str:
         """The name of a token; nothing where it has none."""
-        return self._said(token, 0)[0]
+        name, signature = self._said(token, 0)
+        return name or (shown_blob(signature.hex()) if signature else "")
 
     def meaning(self, digits: str) -> Any:
         """A token's name and signature; nothing where it has neither."""
@@ -135,7 +137,7 @@ class Group(NamedTuple):
 
 
 class Head(NamedTuple):
-    """A generation: its number, what it was read from, its EncId, how many rows it inserts and updates, its own heaps."""
+    """A generation: its number, what it was read from, its EncId, how many rows it inserts and updates, its heaps."""
 
     number: int
     path: str
@@ -153,10 +155,15 @@ class Listed(NamedTuple):
     inserted: "Counter[int]"
 
 
+def shown_blob(digits: str) -> str:
+    """The digits of a blob, not too many."""
+    return f"[{digits}]" if len(digits) <= MOST_DIGITS else f"[{digits[:MOST_DIGITS]}…] ({len(digits) // 2:,} bytes)"
+
+
 def shown_cell(column: Column, cell: str) -> str:
     """A printed cell, not too long: blobs by their digits, texts by their characters."""
     if cell.startswith("["):
-        return cell if len(cell) <= MOST_DIGITS + 2 else f"{cell[: MOST_DIGITS + 1]}…] ({len(cell) // 2 - 1:,} bytes)"
+        return shown_blob(cell[1:-1])
     if cell.startswith('"') and len(cell) > MOST_TEXT:
         return f'{cell[:MOST_TEXT]}…" ({len(cell) - 2:,} characters)'
     return cell
@@ -182,7 +189,8 @@ def cells_of(token: Token, now: Printed, before: Optional[Printed]) -> List[Cell
 
 def moved_points(pairs: List[_sides.Pair]) -> bool:
     """Whether sequence points of equal lines differ."""
-    return any(pair.before and pair.now and pair.kind != "changed" and pair.before.points != pair.now.points for pair in pairs)
+    equal = [(pair.before, pair.now) for pair in pairs if pair.kind in ("same", "alike")]
+    return any(before and now and before.points != now.points for before, now in equal)
 
 
 class Page:
@@ -193,7 +201,7 @@ class Page:
         self.paths = paths
         self.names = Names(module)
         self.sources = sources
-        self.heads: List[Head] = []
+        self.heads: Dict[int, Head] = {}
         self.listed: Dict[int, Listed] = {}
         self.newest: Dict[int, int] = {}
         self.spent = 0
@@ -204,21 +212,21 @@ class Page:
     def gather(self) -> None:
         """Asks for the generations, and decides which rows are listed: each generation has its share."""
         left, last = MOST_ROWS, self.module.generation
-        for number in range(last + 1):
-            entries = self.module.entries(number) if number else []
-            self.heads.append(self._head(number, entries))
-            if number and last - number < MOST_GENERATIONS:
-                share = left // (last - number + 1)
-                counts = Counter(entry.token >> 24 for entry in entries)
-                inserted = Counter(entry.token >> 24 for entry in entries if entry.inserted)
-                self.listed[number] = Listed(_fair(entries, share), counts, inserted)
-                left -= len(self.listed[number].entries)
-                self.newest.update((entry.token, number) for entry in self.listed[number].entries)
+        self.heads[0] = self._head(0, [])
+        for number in range(max(1, last - MOST_GENERATIONS + 1), last + 1):
+            entries = self.module.entries(number)
+            self.heads[number] = self._head(number, entries)
+            counts = Counter(entry.token >> 24 for entry in entries)
+            inserted = Counter(entry.token >> 24 for entry in entries if entry.inserted)
+            self.listed[number] = Listed(_fair(entries, left // (last - number + 1)), counts, inserted)
+            left -= len(self.listed[number].entries)
+            self.newest.update((entry.token, number) for entry in self.listed[number].entries)
 
     def _head(self, number: int, entries: List[Entry]) -> Head:
         inserted = sum(1 for entry in entries if entry.inserted) if number else rows_of_the_base(self.module)
         enc_id = str(self.module.enc_id(number)) if number else ""
-        return Head(number, self.paths[number], enc_id, inserted, len(entries) - inserted if number else 0, self.module.lengths(number))
+        updated = len(entries) - inserted if number else 0
+        return Head(number, self.paths[number], enc_id, inserted, updated, self.module.lengths(number))
 
     # Rows.
 
@@ -229,8 +237,8 @@ class Page:
 
     def _item(self, number: int, entry: Entry, texts: Tuple[str, str]) -> Item:
         now, before = texts
-        short = self.spent > MOST_ROW_BYTES
-        cells = [] if short else cells_of(entry.token, printed(first_lines(now)), printed(first_lines(before)) if before else None)
+        old = printed(first_lines(before)) if before else None
+        cells = [] if self.spent > MOST_ROW_BYTES else cells_of(entry.token, printed(first_lines(now)), old)
         is_newest = self.newest.get(entry.token) == number
         return Item(str(entry.token), entry.inserted, is_newest, self.names.of(entry.token), cells)
 
@@ -244,7 +252,7 @@ class Page:
         return Method(item, pairs, counts, bool(before.lines), moved_points(pairs), list(named), now.cut + before.cut)
 
     def _shown_method(self, number: int, entry: Entry, share: int) -> Any:
-        """A method as it is on the page: whole, or where that is too long the lines that differ, or without its body."""
+        """A method as it is on the page: whole, or where that is too long what differs, or without its body."""
         now, before = self._texts(number, entry)
         method = self._method(number, entry, (now, before))
         for pairs in (method.pairs, _sides.near(method.pairs)):
@@ -262,7 +270,7 @@ class Page:
             if table != _METHOD:
                 made = self._macros.row(number, self._item(number, entry, self._texts(number, entry)), self.link)
             elif share > 0:
-                made = self._shown_method(number, entry, max(share // (len(entries) - i), min(share, 60_000)))
+                made = self._shown_method(number, entry, max(share // (len(entries) - i), min(share, 12_000)))
             else:
                 made = self._macros.short(number, self._item(number, entry, ("", ""))._replace(cells=[]))
             share -= len(made)
@@ -351,12 +359,13 @@ def digest(text: str) -> str:
     return "sha256-" + base64.b64encode(hashlib.sha256(text.encode()).digest()).decode()
 
 
+@functools.lru_cache(None)
 def environment() -> Any:
     """Jinja's environment: all that isn't marked as safe is escaped."""
     import jinja2
 
-    loader = jinja2.FileSystemLoader(HERE)
-    made = jinja2.Environment(loader=loader, autoescape=True, trim_blocks=True, lstrip_blocks=True, undefined=jinja2.StrictUndefined)
+    blocks = {"trim_blocks": True, "lstrip_blocks": True, "undefined": jinja2.StrictUndefined}
+    made = jinja2.Environment(loader=jinja2.FileSystemLoader(HERE), autoescape=True, **blocks)
     made.filters["number"] = lambda number: f"{number:,}"
     made.filters["cut"] = cut
     return made
@@ -368,8 +377,8 @@ def rendered(**known: Any) -> str:
     made = environment()
     page = known.get("page")
     groups = page.groups(made.get_template("report_parts.html.jinja").module) if page else {}
-    hashes = (digest(style), digest(script))
-    text: str = made.get_template("report.html.jinja").render(groups=groups, style=style, script=script, hashes=hashes, **known)
+    inline = {"style": style, "script": script, "hashes": (digest(style), digest(script))}
+    text: str = made.get_template("report.html.jinja").render(groups=groups, **inline, **known)
     return text
 
 
@@ -383,7 +392,7 @@ class Request(NamedTuple):
 
 
 def load(request: Request, module: Module) -> Tuple[int, Optional[Tuple[bytes, Refused]]]:
-    """Adds the deltas, up to the first that is refused: how many were added, and the refused one's metadata and refusal."""
+    """Adds the deltas, up to the first that is refused: how many were added, the refused one's metadata and refusal."""
     for number, path in enumerate(request.deltas):
         files = _files.delta_files(path, None, None)
         try:
@@ -407,7 +416,7 @@ def page_of(request: Request) -> Tuple[str, Optional[Refused]]:
         page = Page(module, [request.base, *request.deltas], Sources(request.sources))
         page.gather()
         refusal = _refusal_page.of_delta(page, taken, *failed) if failed else None
-        plot = plot_of(page.heads[1:][-MOST_GENERATIONS:], failed is not None)
+        plot = plot_of([page.heads[number] for number in page.listed], failed is not None)
         return rendered(**about, page=page, plot=plot, refusal=refusal, taken=taken), failed[1] if failed else None
 
 
@@ -433,7 +442,7 @@ def parser() -> argparse.ArgumentParser:
     made.add_argument("base", metavar="BASE", help="the base, with .dll or without")
     made.add_argument("deltas", metavar="DELTA", nargs="*", help="what the files of a delta begin with, or one of them")
     made.add_argument("-o", dest="out", metavar="FILE", required=True, help="where the page is saved")
-    made.add_argument("--source", metavar="DIR", action="append", default=[], help="a folder with sources; may be repeated")
+    made.add_argument("--source", metavar="DIR", action="append", default=[], help="a folder with sources")
     return made
 
 

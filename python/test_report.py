@@ -1,0 +1,448 @@
+"""Tests of `python3 -m enc report`. Usage: python3 python/test_report.py LIBENC.so ENC [--pictures DIR] [WORDS..]
+
+Pages are made of the examples, of hostile names and of changed deltas, and read as HTML. Where Chromium is they are
+opened in it: searched, folded, followed, printed, seen wide, narrow and dark. `./test` runs this."""
+
+import base64
+import contextlib
+import hashlib
+import io
+import json
+import os
+import random
+import re
+import shutil
+import struct
+import subprocess
+import sys
+import tempfile
+import unittest
+from html.parser import HTMLParser
+from pathlib import Path
+
+HERE = Path(__file__).resolve().parent
+ROOT = HERE.parent
+sys.path.insert(0, str(HERE))
+sys.path.insert(0, str(ROOT / "examples" / "reports"))
+sys.dont_write_bytecode = True
+
+import browser  # noqa: E402
+import make  # noqa: E402
+from enc import _library, _sides, report  # noqa: E402
+from enc.__main__ import main as program  # noqa: E402
+from enc._sources import Sources  # noqa: E402
+
+ENC = str(ROOT / "dist" / "enc")
+PICTURES = ""
+BANK = [str(ROOT / "examples/bank" / name) for name in ("bank", "bank1", "bank2")]
+PAGES = ("worked", "bank", "refused")
+VOID = {"meta", "br", "link", "input", "img", "hr"}
+HOSTILE = (
+    "<script>alert(1)</script>",
+    "\"'><img src=x onerror=alert(1)>",
+    "</style></script><!--",
+    "{{ 7 * 7 }}{% raw %}",
+    "javascript:alert(1)",
+    "a\u202eb\u2066c",
+    "&lt;b&gt; &amp;",
+)
+
+
+class Read(HTMLParser):
+    """A page that is read: its tags with their attributes, its ids, its headings, its links, what isn't closed."""
+
+    def __init__(self, text):
+        super().__init__(convert_charrefs=True)
+        self.tags, self.open, self.faults, self.ids, self.texts = [], [], [], [], {"style": "", "script": ""}
+        self.feed(text)
+        self.close()
+        self.faults += [f"{name} isn't closed" for name in self.open]
+
+    def handle_starttag(self, name, attributes):
+        self.tags.append((name, dict(attributes)))
+        self.ids += [value for key, value in attributes if key == "id"]
+        if name not in VOID:
+            self.open.append(name)
+
+    def handle_startendtag(self, name, attributes):
+        self.tags.append((name, dict(attributes)))
+        self.ids += [value for key, value in attributes if key == "id"]
+
+    def handle_endtag(self, name):
+        if not self.open or self.open.pop() != name:
+            self.faults.append(f"{name} is closed out of order at {self.getpos()}")
+
+    def handle_data(self, text):
+        if self.open and self.open[-1] in self.texts:
+            self.texts[self.open[-1]] += text
+
+    def named(self, name):
+        return [attributes for tag, attributes in self.tags if tag == name]
+
+
+def policy_of(read):
+    """The content policy of a page."""
+    return next(tag["content"] for tag in read.named("meta") if tag.get("http-equiv") == "Content-Security-Policy")
+
+
+def digest(text):
+    return "sha256-" + base64.b64encode(hashlib.sha256(text.encode()).digest()).decode()
+
+
+def asked(*words):
+    """The status of the command, and what it prints."""
+    out = io.StringIO()
+    with contextlib.redirect_stdout(out), contextlib.redirect_stderr(out):
+        status = program(["report", *words])
+    return status, out.getvalue()
+
+
+class Case(unittest.TestCase):
+    def setUp(self):
+        self.folder = tempfile.mkdtemp()
+        self.addCleanup(shutil.rmtree, self.folder)
+        self.page = os.path.join(self.folder, "page.html")
+
+    def made(self, *words, status=0):
+        """A page, read."""
+        ended, said = asked(*words, "-o", self.page)
+        self.assertEqual(ended, status, said)
+        text = Path(self.page).read_text(encoding="utf-8")
+        return text, self.sound(text)
+
+    def has(self, text, words):
+        self.assertTrue(words in text, f"the page doesn't say {words}")
+
+    def sound(self, text):
+        """A page that is read, and keeps what a page has to keep."""
+        read = Read(text)
+        self.assertEqual(read.faults, [])
+        self.assertEqual(len(read.ids), len(set(read.ids)), "an id stands twice")
+        for name, attributes in read.tags:
+            for key, value in attributes.items():
+                self.assertFalse(key.startswith("on") or key in ("style", "src", "srcset", "action"), attributes)
+                if key == "href":
+                    self.assertTrue(value.startswith("#") and value[1:] in read.ids, value)
+        self.assertFalse({name for name, _ in read.tags} & {"link", "img", "iframe", "object", "embed", "base", "form"})
+        self.headings(read)
+        self.policy(read)
+        return read
+
+    def headings(self, read):
+        levels = [int(name[1]) for name, _ in read.tags if re.fullmatch("h[1-6]", name)]
+        self.assertEqual(levels.count(1), 1)
+        self.assertTrue(all(after <= before + 1 for before, after in zip(levels, levels[1:])), levels)
+        self.assertEqual(len(read.named("table")), len(read.named("caption")))
+        self.assertTrue(all(head.get("scope") in ("row", "col") for head in read.named("th")))
+        self.assertEqual(read.named("html")[0]["lang"], "en")
+        self.assertTrue(any(tag.get("name") == "viewport" for tag in read.named("meta")))
+
+    def policy(self, read):
+        policy = policy_of(read)
+        self.assertNotIn("unsafe", policy)
+        self.assertIn(f"style-src '{digest(read.texts['style'])}'", policy)
+        self.assertIn(f"script-src '{digest(read.texts['script'])}'", policy)
+        self.assertEqual((len(read.named("style")), len(read.named("script"))), (1, 1))
+
+
+class Pages(Case):
+    def test_examples_are_those_that_are_made(self):
+        with contextlib.redirect_stdout(io.StringIO()):
+            make.make(Path(self.folder))
+        for name in PAGES:
+            text = Path(self.folder, name + ".html").read_text(encoding="utf-8")
+            self.assertEqual(text, (ROOT / f"examples/reports/{name}.html").read_text(encoding="utf-8"), name)
+            self.sound(text)
+
+    def test_bodies_before_and_after(self):
+        text, read = self.made(*BANK, "--source", str(ROOT / "examples/bank"))
+        self.has(text, "1 line removed, 3 added, 7 as before")
+        self.has(text, "18 PrintDeposits();")
+        for name in ("06000003", "g1-06000003", "g2-06000003", "g2-08000001", "04000002"):
+            self.assertIn(name, read.ids)
+
+    def test_refusals(self):
+        text, _ = self.made(BANK[0], BANK[1], BANK[1], BANK[2], status=1)
+        self.has(text, "its Generation isn&#39;t the next")
+        self.has(text, "1 delta stands behind it")
+        text, _ = self.made(str(ROOT / "examples/k1.meta"), status=1)
+        self.has(text, "Rule F6")
+        text, _ = self.made(str(ROOT / "examples/k"), BANK[1], status=1)
+        self.has(text, "The Mvid of the base is")
+
+    def test_statuses(self):
+        self.assertEqual(asked(BANK[0], "nothing", "-o", self.page), (6, "missing nothing.meta\n"))
+        self.assertEqual(asked(BANK[0], "--source", "nothing", "-o", self.page), (6, "missing nothing\n"))
+        self.assertEqual(asked(BANK[0], "-o", self.folder)[0], 4)
+        self.assertFalse(os.path.exists(self.page))
+
+    def test_no_deltas(self):
+        text, _ = self.made(BANK[0])
+        self.has(text, "bank and 0 deltas")
+
+    def test_what_is_too_long_is_left_out(self):
+        for name in ("MOST_BYTES", "MOST_ROWS", "MOST_ROW_BYTES", "MOST_GENERATIONS"):
+            self.addCleanup(setattr, report, name, getattr(report, name))
+        report.MOST_GENERATIONS = 1
+        self.has(self.made(*BANK)[0], "Not shown: the first 1 of 2 deltas")
+        report.MOST_GENERATIONS, report.MOST_BYTES = 400, 20
+        self.has(self.made(*BANK)[0], "Its body isn't shown")
+        report.MOST_ROWS, report.MOST_ROW_BYTES = 6, 0
+        text, _ = self.made(*BANK)
+        self.has(text, "more rows of MemberRef aren't listed")
+
+    def test_changed_deltas(self):
+        """Deltas with a changed byte: each makes a sound page, mostly of a refusal."""
+        chance, codes = random.Random(1), set()
+        metadata = Path(BANK[2] + ".meta").read_bytes()
+        for end in ("il", "pdb"):
+            shutil.copy(f"{BANK[2]}.{end}", f"{self.folder}/changed.{end}")
+        for _ in range(80):
+            changed = bytearray(metadata)
+            changed[chance.randrange(len(changed))] = chance.choice((0, 1, 2, 0x7F, 0xFF, chance.randrange(256)))
+            Path(self.folder, "changed.meta").write_bytes(changed)
+            status, said = asked(BANK[0], BANK[1], f"{self.folder}/changed", "-o", self.page)
+            self.assertIn(status, (0, 1), said)
+            self.sound(Path(self.page).read_text(encoding="utf-8"))
+            codes.update(re.findall(r"refused \S+ (\w+)", said))
+        self.assertGreater(len(codes), 8, codes)
+
+
+class Hostile(Case):
+    def chain(self, edits, document="/x.cs"):
+        """A delta of an edit list over examples/k, its files named m and d."""
+        shutil.copy(ROOT / "examples/k.dll", f"{self.folder}/m.dll")
+        documents = [{"name": document, "language": "3f5162f8-07c6-11d3-9053-00c04fa302a1", "source": "x"}]
+        listed = {"encId": "11111111-2222-3333-4444-555555555555", "edits": edits, "documents": documents}
+        Path(self.folder, "e.json").write_text(json.dumps(listed))
+        done = subprocess.run([ENC, "write", "m", "e.json", "d"], cwd=self.folder, capture_output=True, text=True)
+        self.assertEqual(done.returncode, 0, done.stdout + done.stderr)
+        return f"{self.folder}/m", f"{self.folder}/d"
+
+    def edits(self, names):
+        body = {"max": 8, "code": [*[["ldstr", name] for name in names], *[["pop"]] * len(names), ["ret"]]}
+        point = {"at": 0, "document": 1, "from": [1, 2], "to": [3, 4]}
+        found = [{"do": "body", "method": "06000001", "code": body, "points": [point]}]
+        for i, name in enumerate(names):
+            found.append({"do": "add", "table": "TypeRef", "cells": ["23000001", name, f"N{i}"]})
+            method = {"do": "add", "table": "MethodDef", "owner": "02000002", "cells": [0, 22, name, "000001"]}
+            found.append({**method, "code": body})
+        return found
+
+    def test_hostile_names(self):
+        chain = self.chain(self.edits(HOSTILE), "/<script>alert(2)</script>")
+        text, read = self.made(*chain)
+        self.assertEqual(len(read.named("script")), 1)
+        for name in HOSTILE[:3]:
+            self.assertNotIn(name, text)
+        self.assertNotIn("\u202e", text)
+        self.has(text, "&lt;script&gt;alert(1)&lt;/script&gt;")
+        self.has(text, "{{ 7 * 7 }}")
+        self.has(text, "alert(2)")
+
+    def test_bytes_that_are_no_text(self):
+        chain = self.chain(self.edits(["SURROGATE"]))
+        metadata = Path(chain[1] + ".meta").read_bytes()
+        Path(chain[1] + ".meta").write_bytes(metadata.replace(b"SURROGATE", b"\xed\xa0\x80\xff\x01<b>&"))
+        text, _ = self.made(*chain)
+        self.has(text, "\\udced\\udca0\\udc80\\udcff\\x01&lt;b&gt;&amp;")
+
+    def test_long_texts(self):
+        edits = self.edits(["<" * 16_000_000])[1:2] + self.edits(["&" * 8_000_000])[:1]
+        chain = self.chain(edits, "/" + "d" * 100_000)
+        text, _ = self.made(*chain)
+        self.assertLess(len(text), 60_000)
+        self.has(text, "(16,000,000 characters)")
+
+    def test_hostile_file_names(self):
+        for end in ("dll", "pdb"):
+            shutil.copy(f"{BANK[0]}.{end}", f"{self.folder}/<b>&\"'.{end}")
+        os.chdir(self.folder)
+        self.addCleanup(os.chdir, ROOT)
+        text, _ = self.made("<b>&\"'")
+        self.has(text, "<h1>&lt;b&gt;&amp;&#34;&#39; and 0 deltas</h1>")
+
+
+class Parts(Case):
+    def pairs(self, before, now):
+        sides = [_sides.side_of("06000001 MethodDef\n" + text, lambda token: "name") for text in (before, now)]
+        return [pair.kind for pair in _sides.pairs_of(sides[0].lines, sides[1].lines)]
+
+    def test_lines_that_are_the_same(self):
+        before = "  IL_0000 br IL_0002\n  IL_0002 call 0a000001\n  IL_0003 ret\n"
+        self.assertEqual(self.pairs(before, before), ["same"] * 3)
+        self.assertEqual(self.pairs(before, before.replace("0a000001", "0a000002")), ["same", "alike", "same"])
+        self.assertEqual(self.pairs(before, before.replace("br IL_0002", "br IL_0003")), ["changed", "same", "same"])
+        moved = "  IL_0000 nop\n  IL_0001 br IL_0003\n  IL_0003 call 0a000001\n  IL_0004 ret\n"
+        self.assertEqual(self.pairs(before, moved), ["changed", "same", "same", "same"])
+
+    def test_numbers_and_texts_are_no_tokens(self):
+        text = 'x\n  IL_0000 ldc.i4 12345678\n  IL_0005 ldstr "0a000001"\n  IL_000a call 0a000001\n'
+        self.assertEqual([line.token for line in _sides.side_of(text, lambda token: "").lines], ["", "", "0a000001"])
+
+    def test_sources_stay_in_their_folder(self):
+        inner = Path(self.folder, "in")
+        inner.mkdir()
+        Path(self.folder, "out.cs").write_text("secret\n")
+        Path(inner, "a.cs").write_text("one\ntwo\n")
+        Path(inner, "a.1.cs").write_text("first\n")
+        os.symlink(Path(self.folder, "out.cs"), inner / "link.cs")
+        sources = Sources([str(inner)])
+        self.assertEqual(sources.line("/x/a.cs", 2, 3, True), "two")
+        self.assertEqual(sources.line("C:\\x\\a.cs", 1, 1, True), "first")
+        self.assertIsNone(sources.line("/x/a.cs", 2, 3, False))
+        self.assertIsNone(sources.line("../out.cs", 1, 3, True))
+        self.assertIsNone(sources.line("/link.cs", 1, 3, True))
+        self.assertIsNone(sources.line("/a\\x00.cs", 1, 3, True))
+
+
+# The least contrast of all texts that are seen, by WCAG 2.
+CONTRAST = """(() => {
+  const parts = (text) => text.match(/[\\d.]+/g).map(Number);
+  const linear = (v) => v <= 0.03928 ? v / 12.92 : ((v + 0.055) / 1.055) ** 2.4;
+  const light = (c) => [0.2126, 0.7152, 0.0722].reduce((sum, part, i) => sum + part * linear(c[i] / 255), 0);
+  const ground = (at) => {
+    for (; at; at = at.parentElement) {
+      const c = parts(getComputedStyle(at).backgroundColor);
+      if (c[3] !== 0) return c;
+    }
+    return [255, 255, 255];
+  };
+  let least = [99, ""];
+  for (const at of document.body.querySelectorAll("*")) {
+    const says = [...at.childNodes].some((n) => n.nodeType === 3 && n.data.trim());
+    if (!says || at.closest("script, svg") || !at.checkVisibility()) continue;
+    const a = light(parts(getComputedStyle(at).color)), b = light(ground(at));
+    const ratio = (Math.max(a, b) + 0.05) / (Math.min(a, b) + 0.05);
+    if (ratio < least[0]) least = [ratio, at.outerHTML.slice(0, 100)];
+  }
+  return least;
+})()"""
+
+
+@unittest.skipUnless(browser.program(), "no chromium here")
+class InChromium(Case):
+    @classmethod
+    def setUpClass(cls):
+        cls.browser = browser.Browser()
+        cls.addClassCleanup(cls.browser.close)
+
+    def opened(self, name, *place, width=1280, height=900, dark=False):
+        self.browser.screen(width, height, dark)
+        self.browser.requests.clear()
+        self.browser.open("about:blank")
+        self.browser.open((ROOT / f"examples/reports/{name}.html").as_uri() + "".join(place))
+        self.assertEqual([url for url in self.browser.requests if not url.startswith(("file:", "about:"))], [])
+        self.assertEqual(self.browser.complaints, [])
+        return self.browser.ask
+
+    def test_search(self):
+        ask = self.opened("bank")
+        box = "const box = document.getElementById('query');"
+        typed = "(() => { " + box + " box.value = '%s'; box.dispatchEvent(new Event('input')); })()"
+        ask(typed % "print")
+        self.assertEqual(ask("document.getElementById('said').textContent"), "3 found")
+        self.assertIn("06000003 Account.Print", ask("document.getElementById('found').textContent"))
+        ask(typed % "0400")
+        self.assertIn("04000002 Account.deposits", ask("document.getElementById('found').textContent"))
+        ask("document.getElementById('query').dispatchEvent(new KeyboardEvent('keydown', {key: 'Enter'}))")
+        self.assertEqual(ask("location.hash"), "#g2-04000002")
+        ask(typed % "nothing of this name")
+        self.assertEqual(ask("document.getElementById('said').textContent"), "0 found")
+
+    def test_folds(self):
+        ask = self.opened("bank")
+        opened = "document.querySelectorAll('main details[open]').length"
+        every = ask("document.querySelectorAll('main details').length")
+        ask("document.getElementById('fold').click()")
+        self.assertEqual(ask(opened), 0)
+        ask("document.getElementById('open').click()")
+        self.assertEqual(ask(opened), every)
+
+    def test_links_are_followed(self):
+        ask = self.opened("bank")
+        ask("document.getElementById('fold').click()")
+        changed = "addEventListener('hashchange', () => setTimeout(done, 50));"
+        ask("new Promise((done) => { " + changed + " location.hash = '#06000003'; })")
+        self.assertTrue(ask("document.getElementById('g2-06000003').open"))
+        self.assertFalse(ask("document.getElementById('g1-06000003').open"))
+        self.assertEqual(ask("document.activeElement.id"), "g2-06000003")
+        top = "const top = document.getElementById('%s').getBoundingClientRect().top;"
+        seen = "(() => { " + top + " return top >= 0 && top < innerHeight; })()"
+        self.assertTrue(ask(seen % "g2-06000003"))
+        ask = self.opened("bank", "#g1-0a000007")
+        self.assertTrue(ask(seen % "g1-0a000007"))
+        ask = self.opened("bank", "#06000099")
+        self.assertIn("isn't among the rows", ask("document.getElementById('said').textContent"))
+
+    def test_pictures(self):
+        folder = PICTURES or self.folder
+        for name in PAGES:
+            for kind, width, height in (("wide", 1280, 1000), ("narrow", 390, 844), ("dark", 1280, 1000)):
+                dark = kind == "dark"
+                ask = self.opened(name, width=width, height=height, dark=dark)
+                path = f"{folder}/{name}-{kind}.png"
+                self.browser.picture(path)
+                head = Path(path).read_bytes()
+                self.assertEqual(struct.unpack(">II", head[16:24]), (width, height))
+                self.assertGreater(len(head), 20_000)
+                paper = ask("getComputedStyle(document.body).backgroundColor")
+                self.assertEqual(paper, "rgb(21, 24, 28)" if dark else "rgb(255, 255, 255)")
+                least = ask(CONTRAST)
+                self.assertGreaterEqual(least[0], 4.5, (name, kind, least[1]))
+
+    def test_narrow_pages_stay_within(self):
+        for name in PAGES:
+            ask = self.opened(name, width=320, height=600)
+            self.assertLessEqual(ask("document.documentElement.scrollWidth"), 320, name)
+
+    def test_print(self):
+        ask = self.opened("bank")
+        ask("document.getElementById('fold').click()")
+        folded = self.browser.call("Page.printToPDF", preferCSSPageSize=True)["data"]
+        self.assertEqual(ask("document.querySelectorAll('main details[open]').length"), 0)
+        ask("document.getElementById('open').click()")
+        whole = self.browser.call("Page.printToPDF", preferCSSPageSize=True)["data"]
+        self.assertGreater(len(folded), 0.8 * len(whole))
+
+    def test_without_scripts(self):
+        self.browser.call("Emulation.setScriptExecutionDisabled", value=True)
+        self.addCleanup(self.browser.call, "Emulation.setScriptExecutionDisabled", value=False)
+        ask = self.opened("bank")
+        self.assertTrue(ask("document.getElementById('find').hidden"))
+        self.assertTrue(ask("document.getElementById('g2-06000003').checkVisibility()"))
+
+    def test_what_a_screen_reader_gets(self):
+        self.opened("bank")
+        nodes = self.browser.call("Accessibility.getFullAXTree")["nodes"]
+        roles = [node["role"]["value"] for node in nodes if not node.get("ignored")]
+        for role in ("main", "search", "searchbox", "heading", "table", "columnheader", "rowheader", "region", "image"):
+            self.assertIn(role, roles + ["image" if role == "img" else role for role in roles])
+        said = [node.get("name", {}).get("value", "") for node in nodes]
+        self.assertTrue(any("removed:" in words for words in said))
+        self.assertIn("Find a token or a name", said)
+
+
+def main(words):
+    """Runs the tests; the words before those of unittest are the library, the program, and where pictures go."""
+    global ENC, PICTURES
+    if words and not words[0].startswith("-"):
+        os.environ["ENC_LIBRARY"] = os.path.abspath(words.pop(0))
+    if words and not words[0].startswith("-"):
+        ENC = os.path.abspath(words.pop(0))
+    if words[:1] == ["--pictures"]:
+        PICTURES = os.path.abspath(words[1])
+        os.makedirs(PICTURES, exist_ok=True)
+        words = words[2:]
+    os.chdir(ROOT)
+    unittest.main(module=sys.modules[__name__], argv=["test_report.py", *words])
+
+
+if __name__ == "__main__":
+    try:
+        _library.Library.call  # the package is there
+        import jinja2  # noqa: F401
+    except ImportError:
+        print("skipped: the report (no jinja2 here)")
+        sys.exit(0)
+    main(sys.argv[1:])
