@@ -276,6 +276,13 @@ class Parts(Case):
         moved = "  IL_0000 nop\n  IL_0001 br IL_0003\n  IL_0003 call 0a000001\n  IL_0004 ret\n"
         self.assertEqual(self.pairs(before, moved), ["changed", "same", "same", "same"])
 
+    def test_clauses(self):
+        ranges = "IL_0000-IL_0001 IL_0001-IL_0001"
+        text = f"x\n  IL_0000 ret\n  catch {ranges} 01000002\n  finally {ranges}\n"
+        lines = _sides.side_of(text, lambda token: "").lines
+        self.assertEqual([(line.word, line.token) for line in lines], [("ret", ""), ("catch", "01000002"), ("finally", "")])
+        self.assertEqual(self.pairs(text[2:], text[2:].replace("01000002", "01000003")), ["same", "alike", "same"])
+
     def test_numbers_and_texts_are_no_tokens(self):
         text = 'x\n  IL_0000 ldc.i4 12345678\n  IL_0005 ldstr "0a000001"\n  IL_000a call 0a000001\n'
         self.assertEqual([line.token for line in _sides.side_of(text, lambda token: "").lines], ["", "", "0a000001"])

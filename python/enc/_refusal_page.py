@@ -113,6 +113,8 @@ def _placed(page: Any, made: Refusal, found: _raw.Raw) -> Refusal:
         return made._replace(notes=[*made.notes, f"It is about the points of {Names(page.module).beside(method)}."])
     if not token.row:
         return made._replace(notes=[*made.notes, _table_note(found, token)])
+    if made.code in ("E6", "E8", "E9", "E11"):
+        made = made._replace(notes=[*made.notes, _listed_note(page, found, token)])
     return _row(page, made, found, (token, cell.group(2) or ""))
 
 
@@ -120,6 +122,15 @@ def _table_note(found: _raw.Raw, token: Token) -> str:
     rows = len(found.rows.get(token >> 24, []))
     tokens = sum(1 for listed in found.map() if listed >> 24 == token >> 24)
     return f"Its file has {rows:,} rows of {token.table}, and {tokens:,} tokens of it in EncMap."
+
+
+def _listed_note(page: Any, found: _raw.Raw, token: Token) -> str:
+    """How often a token is listed, and how many rows its table had."""
+    maps = found.map().count(token)
+    codes = [function_name(function) for other, function in found.log() if other == token]
+    listed = f"{len(codes):,} times in EncLog ({', '.join(codes[:8])})" if codes else "not in EncLog"
+    rows = page.module.count(token >> 24)
+    return f"It stands {maps:,} times in EncMap and {listed}. {token.table} had {rows:,} rows before."
 
 
 def _log(page: Any, found: _raw.Raw, number: int) -> List[Entry]:

@@ -39,6 +39,8 @@ MOST_GENERATIONS = 400
 MOST_TEXT = 120
 MOST_DIGITS = 48
 
+# The columns that say what a row without an owner is about.
+_ABOVE = ("Class", "Method", "Parent", "Field", "Owner")
 _METHOD = 0x06
 _OWNED = (0x04, 0x06, 0x08, 0x14, 0x17)
 
@@ -86,7 +88,7 @@ class Names:
             return cut(self._module.name(token)), ""
         row = self._module[token]
         columns = row.columns
-        above = row.owner or columns.get("Class") or columns.get("Method")
+        above = row.owner or next((columns[name] for name in _ABOVE if name in columns), None)
         outer = self._said(above, depth + 1)[0] if isinstance(above, Token) else ""
         own = cut(str(columns.get("Name", "")))
         signature = columns.get("Signature", columns.get("Type", columns.get("Instantiation", "")))
