@@ -1074,11 +1074,32 @@ namespace Enc
         }
     }
 
+    /// <summary>What happened in a session.</summary>
+    public enum EncEventKind : uint
+    {
+        /// <summary>A task began: Task, Method.</summary>
+        Spawned = 1,
+        /// <summary>A method was entered: Task, Method.</summary>
+        Entered = 2,
+        /// <summary>A method was left: Task, Method.</summary>
+        Left = 3,
+        /// <summary>A line was reached: Task, Method; Detail is the line.</summary>
+        Line = 4,
+        /// <summary>A delta was applied: Detail is the generation.</summary>
+        Applied = 5,
+        /// <summary>A delta was refused: Detail is the letter of the rule times 256, and its number.</summary>
+        DeltaRefused = 6,
+        /// <summary>A task trapped: Task; Detail is the number of the trap.</summary>
+        TaskTrapped = 7,
+        /// <summary>A task ended: Task.</summary>
+        TaskEnded = 8
+    }
+
     /// <summary>Something that happened in a session.</summary>
     public struct EncEvent
     {
-        /// <summary>Its kind, as library/enc.h numbers them.</summary>
-        public uint Kind;
+        /// <summary>Its kind, which says what the other fields have.</summary>
+        public EncEventKind Kind;
         /// <summary>The task; 0 where there is none.</summary>
         public uint Task;
         /// <summary>The token of the method; 0 where there is none.</summary>
