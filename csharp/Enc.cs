@@ -8,6 +8,8 @@
 // for another thread than the one that opened the handle, so a call from another one throws, unless AnyThread is set.
 // The finalizer runs on a thread of its own: it doesn't close a handle but leaves it to the thread that opened it,
 // which closes it when it opens the next one. Dispose closes at once.
+#pragma warning disable 0649 // fields that only the library assigns
+#pragma warning disable 8600, 8601, 8602, 8603, 8604, 8618, 8625 // C# 7 has no references that can't be null
 using System;
 using System.Collections.Generic;
 using System.IO;
@@ -1088,12 +1090,15 @@ namespace Enc
     }
 
     /// <summary>A machine over a module: tasks make steps, and deltas are applied between them (docs/scripts.md).
-    /// Events that nobody took are kept here without a limit. A task that isn't there throws an EncException with
-    /// status Absent.</summary>
+    /// A task that isn't there throws an EncException with status Absent.</summary>
     public sealed class EncSession : EncHandle
     {
         readonly List<EncEvent> kept = new List<EncEvent>();
         readonly uint limit;
+
+        /// <summary>Whether events are kept here without a limit until they are taken. It begins as true; where it is
+        /// false, Events tells only those that the library still has.</summary>
+        public bool KeepsEvents { get; set; } = true;
 
         EncSession(uint limit) : base(new Keeper(Native.SessionClose))
         {
@@ -1238,6 +1243,7 @@ namespace Enc
         {
             var room = new Room<EncEvent>(64);
             uint status = room.Asked(() => Native.Events(ref Ptr, room.Items, room.Length, ref room.Size));
+            if (!KeepsEvents) kept.Clear();
             if (status == 0) kept.AddRange(room.Taken());
             return status;
         }
