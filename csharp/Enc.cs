@@ -493,8 +493,8 @@ namespace Enc
             return null;
         }
 
-        /// <summary>Reads NAME, or NAME.dll where NAME doesn't end so, and the .pdb beside it where there is one.
-        /// </summary>
+        /// <summary>Reads NAME, or NAME.dll where NAME doesn't end in .dll or .exe, and the .pdb beside it where there
+        /// is one.</summary>
         public static EncModule Load(string name)
         {
             return Open(Files.Image(name), Files.Pdb(name));
@@ -1121,8 +1121,8 @@ namespace Enc
             return session;
         }
 
-        /// <summary>Reads NAME, or NAME.dll where NAME doesn't end so, and the .pdb beside it where there is one.
-        /// </summary>
+        /// <summary>Reads NAME, or NAME.dll where NAME doesn't end in .dll or .exe, and the .pdb beside it where there
+        /// is one.</summary>
         public static EncSession Load(string name)
         {
             return Open(Files.Image(name), Files.Pdb(name));
@@ -1393,19 +1393,20 @@ namespace Enc
         // How long a file is that is saved, at a guess: a longer one is made twice.
         internal const int Guess = 1 << 16;
 
-        static string Stem(string name)
+        static bool IsWhole(string name)
         {
-            return name.EndsWith(".dll") ? name.Substring(0, name.Length - 4) : name;
+            return name.EndsWith(".dll") || name.EndsWith(".exe");
         }
 
         internal static byte[] Image(string name)
         {
-            return File.ReadAllBytes(Stem(name) + ".dll");
+            return File.ReadAllBytes(IsWhole(name) ? name : name + ".dll");
         }
 
         internal static byte[] Pdb(string name)
         {
-            return File.Exists(Stem(name) + ".pdb") ? File.ReadAllBytes(Stem(name) + ".pdb") : null;
+            string pdb = IsWhole(name) ? Path.ChangeExtension(name, ".pdb") : name + ".pdb";
+            return File.Exists(pdb) ? File.ReadAllBytes(pdb) : null;
         }
     }
 

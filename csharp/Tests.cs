@@ -448,9 +448,7 @@ sealed class Calls
             return;
         }
         Is("a body then", Convert.ToBase64String(at.Body(method).Code), Convert.ToBase64String(then.Body(method).Code));
-        Is("points then", string.Join(" ", at.Points(method)), string.Join(" ", then.Points(method)));
-        Is("documents then", string.Join(" ", at.Points(method).Select(p => p.Document + p.Offset)),
-           string.Join(" ", then.Points(method).Select(p => p.Document + p.Offset)));
+        Is("points then", at.Points(method).SequenceEqual(then.Points(method)), true);
     }
 
     void MayRemap()
