@@ -558,8 +558,9 @@ namespace Enc
             Room<byte> image = new Room<byte>(Files.Guess), pdb = new Room<byte>(Files.Guess);
             var moves = new Room<EncPair>(64);
             Accept(Judged("", why => Native.Compact(ref Ptr, image.Items, image.Length, ref image.Size,
-                                                    pdb.Items, pdb.Length, ref pdb.Size, ref why.Numbers,
-                                                    moves.Items, moves.Length, ref moves.Size), image, pdb, moves));
+                                                    pdb.Items, pdb.Length, ref pdb.Size,
+                                                    moves.Items, moves.Length, ref moves.Size, ref why.Numbers),
+                          image, pdb, moves));
             return new EncSaved { Image = image.Taken(), Pdb = pdb.Taken(), Moves = moves.Taken() };
         }
 
@@ -1456,11 +1457,12 @@ namespace Enc
         }
 
         [DllImport(Name, EntryPoint = "enc_words")]
-        internal static extern uint Words(ref Refusal refusal, [Out] byte[] buffer, UIntPtr length, ref UIntPtr size);
+        internal static extern uint Words(ref Refusal refusal, [Out] byte[] buffer, UIntPtr length,
+            ref UIntPtr size);
 
         [DllImport(Name, EntryPoint = "enc_open")]
-        internal static extern uint Open(ref IntPtr module, byte[] image, UIntPtr imageLength, byte[] pdb, UIntPtr
-            pdbLength, ref Refusal refusal);
+        internal static extern uint Open(ref IntPtr module, byte[] image, UIntPtr imageLength, byte[] pdb,
+            UIntPtr pdbLength, ref Refusal refusal);
 
         [DllImport(Name, EntryPoint = "enc_apply")]
         internal static extern uint Apply(ref IntPtr module, byte[] metadata, UIntPtr metadataLength, byte[] il,
@@ -1474,23 +1476,23 @@ namespace Enc
             UIntPtr ilLength, byte[] pdb, UIntPtr pdbLength, ref Refusal refusal);
 
         [DllImport(Name, EntryPoint = "enc_save")]
-        internal static extern uint Save(ref IntPtr module, [Out] byte[] image, UIntPtr imageLength, ref UIntPtr
-            imageSize, [Out] byte[] pdb, UIntPtr pdbLength, ref UIntPtr pdbSize, ref Refusal refusal);
+        internal static extern uint Save(ref IntPtr module, [Out] byte[] image, UIntPtr imageLength,
+            ref UIntPtr imageSize, [Out] byte[] pdb, UIntPtr pdbLength, ref UIntPtr pdbSize, ref Refusal refusal);
 
         [DllImport(Name, EntryPoint = "enc_compact")]
-        internal static extern uint Compact(ref IntPtr module, [Out] byte[] image, UIntPtr imageLength, ref
-            UIntPtr imageSize, [Out] byte[] pdb, UIntPtr pdbLength, ref UIntPtr pdbSize, ref Refusal refusal, [Out]
-            EncPair[] moves, UIntPtr movesLength, ref UIntPtr movesSize);
+        internal static extern uint Compact(ref IntPtr module, [Out] byte[] image, UIntPtr imageLength,
+            ref UIntPtr imageSize, [Out] byte[] pdb, UIntPtr pdbLength, ref UIntPtr pdbSize, [Out] EncPair[] moves,
+            UIntPtr movesLength, ref UIntPtr movesSize, ref Refusal refusal);
 
         [DllImport(Name, EntryPoint = "enc_merge")]
-        internal static extern uint Merge(ref IntPtr module, [Out] byte[] metadata, UIntPtr metadataLength, ref
-            UIntPtr metadataSize, [Out] byte[] il, UIntPtr ilLength, ref UIntPtr ilSize, [Out] byte[] pdb, UIntPtr
-            pdbLength, ref UIntPtr pdbSize, ref Refusal refusal);
+        internal static extern uint Merge(ref IntPtr module, [Out] byte[] metadata, UIntPtr metadataLength,
+            ref UIntPtr metadataSize, [Out] byte[] il, UIntPtr ilLength, ref UIntPtr ilSize, [Out] byte[] pdb,
+            UIntPtr pdbLength, ref UIntPtr pdbSize, ref Refusal refusal);
 
         [DllImport(Name, EntryPoint = "enc_write")]
-        internal static extern uint Write(ref IntPtr module, byte[] json, UIntPtr jsonLength, [Out] byte[]
-            metadata, UIntPtr metadataLength, ref UIntPtr metadataSize, [Out] byte[] il, UIntPtr ilLength, ref UIntPtr
-            ilSize, [Out] byte[] pdb, UIntPtr pdbLength, ref UIntPtr pdbSize, ref Refusal refusal);
+        internal static extern uint Write(ref IntPtr module, byte[] json, UIntPtr jsonLength, [Out] byte[] metadata,
+            UIntPtr metadataLength, ref UIntPtr metadataSize, [Out] byte[] il, UIntPtr ilLength, ref UIntPtr ilSize,
+            [Out] byte[] pdb, UIntPtr pdbLength, ref UIntPtr pdbSize, ref Refusal refusal);
 
         [DllImport(Name, EntryPoint = "enc_generations")]
         internal static extern uint Generations(ref IntPtr module, ref uint count);
@@ -1524,72 +1526,72 @@ namespace Enc
             byte[] name, UIntPtr nameLength, ref uint token);
 
         [DllImport(Name, EntryPoint = "enc_find_member")]
-        internal static extern uint FindMember(ref IntPtr module, uint owner, byte table, byte[] name, UIntPtr
-            nameLength, [Out] uint[] buffer, UIntPtr length, ref UIntPtr size);
+        internal static extern uint FindMember(ref IntPtr module, uint owner, byte table, byte[] name,
+            UIntPtr nameLength, [Out] uint[] buffer, UIntPtr length, ref UIntPtr size);
 
         [DllImport(Name, EntryPoint = "enc_kids")]
-        internal static extern uint Kids(ref IntPtr module, uint token, byte table, [Out] uint[] buffer, UIntPtr
-            length, ref UIntPtr size);
+        internal static extern uint Kids(ref IntPtr module, uint token, byte table, [Out] uint[] buffer,
+            UIntPtr length, ref UIntPtr size);
 
         [DllImport(Name, EntryPoint = "enc_id")]
         internal static extern uint Id(ref IntPtr module, uint generation, [Out] byte[] buffer, UIntPtr length,
             ref UIntPtr size);
 
         [DllImport(Name, EntryPoint = "enc_text")]
-        internal static extern uint Text(ref IntPtr module, uint token, byte column, [Out] byte[] buffer, UIntPtr
-            length, ref UIntPtr size);
+        internal static extern uint Text(ref IntPtr module, uint token, byte column, [Out] byte[] buffer,
+            UIntPtr length, ref UIntPtr size);
 
         [DllImport(Name, EntryPoint = "enc_blob")]
-        internal static extern uint Blob(ref IntPtr module, uint token, byte column, [Out] byte[] buffer, UIntPtr
-            length, ref UIntPtr size);
+        internal static extern uint Blob(ref IntPtr module, uint token, byte column, [Out] byte[] buffer,
+            UIntPtr length, ref UIntPtr size);
 
         [DllImport(Name, EntryPoint = "enc_guid")]
-        internal static extern uint Guid(ref IntPtr module, uint token, byte column, [Out] byte[] buffer, UIntPtr
-            length, ref UIntPtr size);
+        internal static extern uint Guid(ref IntPtr module, uint token, byte column, [Out] byte[] buffer,
+            UIntPtr length, ref UIntPtr size);
 
         [DllImport(Name, EntryPoint = "enc_row")]
-        internal static extern uint Row(ref IntPtr module, uint token, [Out] byte[] buffer, UIntPtr length, ref
-            UIntPtr size);
+        internal static extern uint Row(ref IntPtr module, uint token, [Out] byte[] buffer, UIntPtr length,
+            ref UIntPtr size);
 
         [DllImport(Name, EntryPoint = "enc_row_at")]
         internal static extern uint RowAt(ref IntPtr module, uint generation, uint token, [Out] byte[] buffer,
             UIntPtr length, ref UIntPtr size);
 
         [DllImport(Name, EntryPoint = "enc_code")]
-        internal static extern uint Code(ref IntPtr module, uint method, [Out] byte[] buffer, UIntPtr length, ref
-            UIntPtr size, ref Head head);
+        internal static extern uint Code(ref IntPtr module, uint method, [Out] byte[] buffer, UIntPtr length,
+            ref UIntPtr size, ref Head head);
 
         [DllImport(Name, EntryPoint = "enc_code_at")]
         internal static extern uint CodeAt(ref IntPtr module, uint generation, uint method, [Out] byte[] buffer,
             UIntPtr length, ref UIntPtr size, ref Head head);
 
         [DllImport(Name, EntryPoint = "enc_clauses")]
-        internal static extern uint Clauses(ref IntPtr module, uint method, [Out] EncClause[] buffer, UIntPtr
-            length, ref UIntPtr size);
+        internal static extern uint Clauses(ref IntPtr module, uint method, [Out] EncClause[] buffer, UIntPtr length,
+            ref UIntPtr size);
 
         [DllImport(Name, EntryPoint = "enc_user_text")]
         internal static extern uint UserText(ref IntPtr module, uint offset, [Out] byte[] buffer, UIntPtr length,
             ref UIntPtr size);
 
         [DllImport(Name, EntryPoint = "enc_entries")]
-        internal static extern uint Entries(ref IntPtr module, uint generation, [Out] EncEntry[] buffer, UIntPtr
-            length, ref UIntPtr size);
+        internal static extern uint Entries(ref IntPtr module, uint generation, [Out] EncEntry[] buffer,
+            UIntPtr length, ref UIntPtr size);
 
         [DllImport(Name, EntryPoint = "enc_points")]
         internal static extern uint Points(ref IntPtr module, uint method, [Out] Point[] buffer, UIntPtr length,
             ref UIntPtr size);
 
         [DllImport(Name, EntryPoint = "enc_points_at")]
-        internal static extern uint PointsAt(ref IntPtr module, uint generation, uint method, [Out] Point[]
-            buffer, UIntPtr length, ref UIntPtr size);
+        internal static extern uint PointsAt(ref IntPtr module, uint generation, uint method, [Out] Point[] buffer,
+            UIntPtr length, ref UIntPtr size);
 
         [DllImport(Name, EntryPoint = "enc_document")]
         internal static extern uint Document(ref IntPtr module, uint method, uint number, [Out] byte[] buffer,
             UIntPtr length, ref UIntPtr size);
 
         [DllImport(Name, EntryPoint = "enc_document_at")]
-        internal static extern uint DocumentAt(ref IntPtr module, uint generation, uint method, uint number, [Out]
-            byte[] buffer, UIntPtr length, ref UIntPtr size);
+        internal static extern uint DocumentAt(ref IntPtr module, uint generation, uint method, uint number,
+            [Out] byte[] buffer, UIntPtr length, ref UIntPtr size);
 
         [DllImport(Name, EntryPoint = "enc_may_remap")]
         internal static extern uint MayRemap(ref IntPtr module, uint method, uint generation, uint offset,
@@ -1616,28 +1618,27 @@ namespace Enc
         internal static extern uint Task(ref IntPtr session, uint task, ref EncStepped stepped);
 
         [DllImport(Name, EntryPoint = "enc_remap")]
-        internal static extern uint Remap(ref IntPtr session, uint task, EncPair[] map, UIntPtr length, ref
-            EncRemapped remapped);
+        internal static extern uint Remap(ref IntPtr session, uint task, EncPair[] map, UIntPtr length,
+            ref EncRemapped remapped);
 
         [DllImport(Name, EntryPoint = "enc_state")]
-        internal static extern uint State(ref IntPtr session, [Out] byte[] buffer, UIntPtr length, ref UIntPtr
-            size);
+        internal static extern uint State(ref IntPtr session, [Out] byte[] buffer, UIntPtr length, ref UIntPtr size);
 
         [DllImport(Name, EntryPoint = "enc_frames")]
         internal static extern uint Frames(ref IntPtr session, uint task, [Out] EncFrame[] buffer, UIntPtr length,
             ref UIntPtr size);
 
         [DllImport(Name, EntryPoint = "enc_values")]
-        internal static extern uint Values(ref IntPtr session, uint task, uint frame, uint part, [Out] EncValue[]
-            buffer, UIntPtr length, ref UIntPtr size);
+        internal static extern uint Values(ref IntPtr session, uint task, uint frame, uint part,
+            [Out] EncValue[] buffer, UIntPtr length, ref UIntPtr size);
 
         [DllImport(Name, EntryPoint = "enc_events")]
-        internal static extern uint Events(ref IntPtr session, [Out] EncEvent[] buffer, UIntPtr length, ref
-            UIntPtr size);
+        internal static extern uint Events(ref IntPtr session, [Out] EncEvent[] buffer, UIntPtr length,
+            ref UIntPtr size);
 
         [DllImport(Name, EntryPoint = "enc_output")]
-        internal static extern uint Output(ref IntPtr session, [Out] byte[] buffer, UIntPtr length, ref UIntPtr
-            size);
+        internal static extern uint Output(ref IntPtr session, [Out] byte[] buffer, UIntPtr length,
+            ref UIntPtr size);
     }
 
     /// <summary>What rules say, in the words of docs/rules.md, docs/edits.md and docs/scripts.md.</summary>
@@ -1785,7 +1786,7 @@ namespace Enc
             { "J2 0",
                 "the list isn't as above: the object itself, encId, documents, or edits isn't an array" },
             { "J2",
-                "otherwise: n is the first edit, counted from 1, that isn't as above" },
+                "the first edit, counted from 1, that isn't as above" },
             { "edit E4 0",
                 "the EncId is nil, or was used before" },
             { "edit E5 0",
