@@ -75,11 +75,10 @@ sealed class Shown
         this.token = token;
     }
 
-    public void Print()
+    public override string ToString()
     {
         string[] lines = module.Row(token).TrimEnd('\n').Split('\n');
-        Console.WriteLine(First(lines[0]));
-        foreach (string line in lines.Skip(1)) Console.WriteLine(Line(line));
+        return First(lines[0]) + "\n" + string.Concat(lines.Skip(1).Select(line => Line(line) + "\n"));
     }
 
     string First(string line)
@@ -282,6 +281,7 @@ sealed class Calls
         Declared();
         Refusals();
         Names();
+        Own();
         LookUps();
         Handles();
         Where("enc_row_at", Earlier);
@@ -347,9 +347,34 @@ sealed class Calls
             Is("of a member of another module", module.Name(0x0A000006), "System.String.Concat");
             Is("of an assembly", module.Name(0x20000001), "bank");
             Is("of no row", module.Name(0x06000063), null);
-            foreach (uint token in Chains.Tokens(module).Where(t => t >> 24 == 4 || t >> 24 == 6))
+        }
+        using (EncModule module = Chains.Open(new[] { folder + "k", folder + "k1", folder + "s2" }))
+        {
+            Is("a property", module.Find("Counter.Count"), 0x17000001u);
+            Is("an event", module.Name(0x14000001), "Counter.Changed");
+            AreTokens("a method's parameter", module.FindMembers(0x06000005, 8, "value"), 0x08000001);
+        }
+    }
+
+    // A module that the compiler has just made: Enc.cs itself. Its rows are made from what other calls say, and what
+    // has a name is found by it.
+    void Own()
+    {
+        using (EncModule module = EncModule.Load(folder + "Enc"))
+        {
+            Is("nested", module.Name(module.Find("Enc.Native/Refusal")), "Enc.Native/Refusal");
+            Is("and by +", module.Find("Enc.Native+Refusal"), module.Find("Enc.Native/Refusal"));
+            Is("a member of one", module.Name(module.Find("Enc.Native/Refusal.Letter")), "Enc.Native/Refusal.Letter");
+            foreach (uint token in Chains.Tokens(module))
+                Is("row " + token.ToString("x8"), new Shown(module, token).ToString(), module.Row(token));
+            foreach (uint token in Chains.Tokens(module).Where(IsFound))
                 Is("found by its name", module.FindAll(module.Name(token)).Contains(token), true);
         }
+    }
+
+    static bool IsFound(uint token)
+    {
+        return new uint[] { 0x02, 0x04, 0x06, 0x14, 0x17 }.Contains(token >> 24);
     }
 
     void LookUps()
@@ -592,7 +617,7 @@ static class Tests
                 return 0;
             case "show":
                 using (EncModule module = Chains.Open(words.Skip(1)))
-                    foreach (uint token in Chains.Tokens(module)) new Shown(module, token).Print();
+                    foreach (uint token in Chains.Tokens(module)) Console.Write(new Shown(module, token));
                 return 0;
             case "program": Structs.Program(words[1]); return 0;
             case "sizes": Structs.Sizes(words[1]); return 0;
