@@ -8,6 +8,8 @@
 // for another thread than the one that opened the handle, so a call from another one throws, unless AnyThread is set.
 // The finalizer runs on a thread of its own: it doesn't close a handle but leaves it to the thread that opened it,
 // which closes it when it opens the next one. Dispose closes at once.
+#pragma warning disable 0649 // fields that only the library assigns
+#pragma warning disable 8600, 8601, 8602, 8603, 8604, 8618, 8625 // C# 7 has no references that can't be null
 using System;
 using System.Collections.Generic;
 using System.IO;
@@ -491,8 +493,8 @@ namespace Enc
             return null;
         }
 
-        /// <summary>Reads NAME, or NAME.dll where NAME doesn't end so, and the .pdb beside it where there is one.
-        /// </summary>
+        /// <summary>Reads NAME, or NAME.dll where NAME doesn't end in .dll or .exe, and the .pdb beside it where there
+        /// is one.</summary>
         public static EncModule Load(string name)
         {
             return Open(Files.Image(name), Files.Pdb(name));
@@ -556,8 +558,9 @@ namespace Enc
             Room<byte> image = new Room<byte>(Files.Guess), pdb = new Room<byte>(Files.Guess);
             var moves = new Room<EncPair>(64);
             Accept(Judged("", why => Native.Compact(ref Ptr, image.Items, image.Length, ref image.Size,
-                                                    pdb.Items, pdb.Length, ref pdb.Size, ref why.Numbers,
-                                                    moves.Items, moves.Length, ref moves.Size), image, pdb, moves));
+                                                    pdb.Items, pdb.Length, ref pdb.Size,
+                                                    moves.Items, moves.Length, ref moves.Size, ref why.Numbers),
+                          image, pdb, moves));
             return new EncSaved { Image = image.Taken(), Pdb = pdb.Taken(), Moves = moves.Taken() };
         }
 
@@ -1109,12 +1112,15 @@ namespace Enc
     }
 
     /// <summary>A machine over a module: tasks make steps, and deltas are applied between them (docs/scripts.md).
-    /// Events that nobody took are kept here without a limit. A task that isn't there throws an EncException with
-    /// status Absent.</summary>
+    /// A task that isn't there throws an EncException with status Absent.</summary>
     public sealed class EncSession : EncHandle
     {
         readonly List<EncEvent> kept = new List<EncEvent>();
         readonly uint limit;
+
+        /// <summary>Whether events are kept here without a limit until they are taken. It begins as true; where it is
+        /// false, Events tells only those that the library still has.</summary>
+        public bool KeepsEvents { get; set; } = true;
 
         EncSession(uint limit) : base(new Keeper(Native.SessionClose))
         {
@@ -1137,8 +1143,8 @@ namespace Enc
             return session;
         }
 
-        /// <summary>Reads NAME, or NAME.dll where NAME doesn't end so, and the .pdb beside it where there is one.
-        /// </summary>
+        /// <summary>Reads NAME, or NAME.dll where NAME doesn't end in .dll or .exe, and the .pdb beside it where there
+        /// is one.</summary>
         public static EncSession Load(string name)
         {
             return Open(Files.Image(name), Files.Pdb(name));
@@ -1259,6 +1265,7 @@ namespace Enc
         {
             var room = new Room<EncEvent>(64);
             uint status = room.Asked(() => Native.Events(ref Ptr, room.Items, room.Length, ref room.Size));
+            if (!KeepsEvents) kept.Clear();
             if (status == 0) kept.AddRange(room.Taken());
             return status;
         }
@@ -1408,19 +1415,20 @@ namespace Enc
         // How long a file is that is saved, at a guess: a longer one is made twice.
         internal const int Guess = 1 << 16;
 
-        static string Stem(string name)
+        static bool IsWhole(string name)
         {
-            return name.EndsWith(".dll") ? name.Substring(0, name.Length - 4) : name;
+            return name.EndsWith(".dll") || name.EndsWith(".exe");
         }
 
         internal static byte[] Image(string name)
         {
-            return File.ReadAllBytes(Stem(name) + ".dll");
+            return File.ReadAllBytes(IsWhole(name) ? name : name + ".dll");
         }
 
         internal static byte[] Pdb(string name)
         {
-            return File.Exists(Stem(name) + ".pdb") ? File.ReadAllBytes(Stem(name) + ".pdb") : null;
+            string pdb = IsWhole(name) ? Path.ChangeExtension(name, ".pdb") : name + ".pdb";
+            return File.Exists(pdb) ? File.ReadAllBytes(pdb) : null;
         }
     }
 
@@ -1470,11 +1478,12 @@ namespace Enc
         }
 
         [DllImport(Name, EntryPoint = "enc_words")]
-        internal static extern uint Words(ref Refusal refusal, [Out] byte[] buffer, UIntPtr length, ref UIntPtr size);
+        internal static extern uint Words(ref Refusal refusal, [Out] byte[] buffer, UIntPtr length,
+            ref UIntPtr size);
 
         [DllImport(Name, EntryPoint = "enc_open")]
-        internal static extern uint Open(ref IntPtr module, byte[] image, UIntPtr imageLength, byte[] pdb, UIntPtr
-            pdbLength, ref Refusal refusal);
+        internal static extern uint Open(ref IntPtr module, byte[] image, UIntPtr imageLength, byte[] pdb,
+            UIntPtr pdbLength, ref Refusal refusal);
 
         [DllImport(Name, EntryPoint = "enc_apply")]
         internal static extern uint Apply(ref IntPtr module, byte[] metadata, UIntPtr metadataLength, byte[] il,
@@ -1488,23 +1497,23 @@ namespace Enc
             UIntPtr ilLength, byte[] pdb, UIntPtr pdbLength, ref Refusal refusal);
 
         [DllImport(Name, EntryPoint = "enc_save")]
-        internal static extern uint Save(ref IntPtr module, [Out] byte[] image, UIntPtr imageLength, ref UIntPtr
-            imageSize, [Out] byte[] pdb, UIntPtr pdbLength, ref UIntPtr pdbSize, ref Refusal refusal);
+        internal static extern uint Save(ref IntPtr module, [Out] byte[] image, UIntPtr imageLength,
+            ref UIntPtr imageSize, [Out] byte[] pdb, UIntPtr pdbLength, ref UIntPtr pdbSize, ref Refusal refusal);
 
         [DllImport(Name, EntryPoint = "enc_compact")]
-        internal static extern uint Compact(ref IntPtr module, [Out] byte[] image, UIntPtr imageLength, ref
-            UIntPtr imageSize, [Out] byte[] pdb, UIntPtr pdbLength, ref UIntPtr pdbSize, ref Refusal refusal, [Out]
-            EncPair[] moves, UIntPtr movesLength, ref UIntPtr movesSize);
+        internal static extern uint Compact(ref IntPtr module, [Out] byte[] image, UIntPtr imageLength,
+            ref UIntPtr imageSize, [Out] byte[] pdb, UIntPtr pdbLength, ref UIntPtr pdbSize, [Out] EncPair[] moves,
+            UIntPtr movesLength, ref UIntPtr movesSize, ref Refusal refusal);
 
         [DllImport(Name, EntryPoint = "enc_merge")]
-        internal static extern uint Merge(ref IntPtr module, [Out] byte[] metadata, UIntPtr metadataLength, ref
-            UIntPtr metadataSize, [Out] byte[] il, UIntPtr ilLength, ref UIntPtr ilSize, [Out] byte[] pdb, UIntPtr
-            pdbLength, ref UIntPtr pdbSize, ref Refusal refusal);
+        internal static extern uint Merge(ref IntPtr module, [Out] byte[] metadata, UIntPtr metadataLength,
+            ref UIntPtr metadataSize, [Out] byte[] il, UIntPtr ilLength, ref UIntPtr ilSize, [Out] byte[] pdb,
+            UIntPtr pdbLength, ref UIntPtr pdbSize, ref Refusal refusal);
 
         [DllImport(Name, EntryPoint = "enc_write")]
-        internal static extern uint Write(ref IntPtr module, byte[] json, UIntPtr jsonLength, [Out] byte[]
-            metadata, UIntPtr metadataLength, ref UIntPtr metadataSize, [Out] byte[] il, UIntPtr ilLength, ref UIntPtr
-            ilSize, [Out] byte[] pdb, UIntPtr pdbLength, ref UIntPtr pdbSize, ref Refusal refusal);
+        internal static extern uint Write(ref IntPtr module, byte[] json, UIntPtr jsonLength, [Out] byte[] metadata,
+            UIntPtr metadataLength, ref UIntPtr metadataSize, [Out] byte[] il, UIntPtr ilLength, ref UIntPtr ilSize,
+            [Out] byte[] pdb, UIntPtr pdbLength, ref UIntPtr pdbSize, ref Refusal refusal);
 
         [DllImport(Name, EntryPoint = "enc_generations")]
         internal static extern uint Generations(ref IntPtr module, ref uint count);
@@ -1538,72 +1547,72 @@ namespace Enc
             byte[] name, UIntPtr nameLength, ref uint token);
 
         [DllImport(Name, EntryPoint = "enc_find_member")]
-        internal static extern uint FindMember(ref IntPtr module, uint owner, byte table, byte[] name, UIntPtr
-            nameLength, [Out] uint[] buffer, UIntPtr length, ref UIntPtr size);
+        internal static extern uint FindMember(ref IntPtr module, uint owner, byte table, byte[] name,
+            UIntPtr nameLength, [Out] uint[] buffer, UIntPtr length, ref UIntPtr size);
 
         [DllImport(Name, EntryPoint = "enc_kids")]
-        internal static extern uint Kids(ref IntPtr module, uint token, byte table, [Out] uint[] buffer, UIntPtr
-            length, ref UIntPtr size);
+        internal static extern uint Kids(ref IntPtr module, uint token, byte table, [Out] uint[] buffer,
+            UIntPtr length, ref UIntPtr size);
 
         [DllImport(Name, EntryPoint = "enc_id")]
         internal static extern uint Id(ref IntPtr module, uint generation, [Out] byte[] buffer, UIntPtr length,
             ref UIntPtr size);
 
         [DllImport(Name, EntryPoint = "enc_text")]
-        internal static extern uint Text(ref IntPtr module, uint token, byte column, [Out] byte[] buffer, UIntPtr
-            length, ref UIntPtr size);
+        internal static extern uint Text(ref IntPtr module, uint token, byte column, [Out] byte[] buffer,
+            UIntPtr length, ref UIntPtr size);
 
         [DllImport(Name, EntryPoint = "enc_blob")]
-        internal static extern uint Blob(ref IntPtr module, uint token, byte column, [Out] byte[] buffer, UIntPtr
-            length, ref UIntPtr size);
+        internal static extern uint Blob(ref IntPtr module, uint token, byte column, [Out] byte[] buffer,
+            UIntPtr length, ref UIntPtr size);
 
         [DllImport(Name, EntryPoint = "enc_guid")]
-        internal static extern uint Guid(ref IntPtr module, uint token, byte column, [Out] byte[] buffer, UIntPtr
-            length, ref UIntPtr size);
+        internal static extern uint Guid(ref IntPtr module, uint token, byte column, [Out] byte[] buffer,
+            UIntPtr length, ref UIntPtr size);
 
         [DllImport(Name, EntryPoint = "enc_row")]
-        internal static extern uint Row(ref IntPtr module, uint token, [Out] byte[] buffer, UIntPtr length, ref
-            UIntPtr size);
+        internal static extern uint Row(ref IntPtr module, uint token, [Out] byte[] buffer, UIntPtr length,
+            ref UIntPtr size);
 
         [DllImport(Name, EntryPoint = "enc_row_at")]
         internal static extern uint RowAt(ref IntPtr module, uint generation, uint token, [Out] byte[] buffer,
             UIntPtr length, ref UIntPtr size);
 
         [DllImport(Name, EntryPoint = "enc_code")]
-        internal static extern uint Code(ref IntPtr module, uint method, [Out] byte[] buffer, UIntPtr length, ref
-            UIntPtr size, ref Head head);
+        internal static extern uint Code(ref IntPtr module, uint method, [Out] byte[] buffer, UIntPtr length,
+            ref UIntPtr size, ref Head head);
 
         [DllImport(Name, EntryPoint = "enc_code_at")]
         internal static extern uint CodeAt(ref IntPtr module, uint generation, uint method, [Out] byte[] buffer,
             UIntPtr length, ref UIntPtr size, ref Head head);
 
         [DllImport(Name, EntryPoint = "enc_clauses")]
-        internal static extern uint Clauses(ref IntPtr module, uint method, [Out] EncClause[] buffer, UIntPtr
-            length, ref UIntPtr size);
+        internal static extern uint Clauses(ref IntPtr module, uint method, [Out] EncClause[] buffer, UIntPtr length,
+            ref UIntPtr size);
 
         [DllImport(Name, EntryPoint = "enc_user_text")]
         internal static extern uint UserText(ref IntPtr module, uint offset, [Out] byte[] buffer, UIntPtr length,
             ref UIntPtr size);
 
         [DllImport(Name, EntryPoint = "enc_entries")]
-        internal static extern uint Entries(ref IntPtr module, uint generation, [Out] EncEntry[] buffer, UIntPtr
-            length, ref UIntPtr size);
+        internal static extern uint Entries(ref IntPtr module, uint generation, [Out] EncEntry[] buffer,
+            UIntPtr length, ref UIntPtr size);
 
         [DllImport(Name, EntryPoint = "enc_points")]
         internal static extern uint Points(ref IntPtr module, uint method, [Out] Point[] buffer, UIntPtr length,
             ref UIntPtr size);
 
         [DllImport(Name, EntryPoint = "enc_points_at")]
-        internal static extern uint PointsAt(ref IntPtr module, uint generation, uint method, [Out] Point[]
-            buffer, UIntPtr length, ref UIntPtr size);
+        internal static extern uint PointsAt(ref IntPtr module, uint generation, uint method, [Out] Point[] buffer,
+            UIntPtr length, ref UIntPtr size);
 
         [DllImport(Name, EntryPoint = "enc_document")]
         internal static extern uint Document(ref IntPtr module, uint method, uint number, [Out] byte[] buffer,
             UIntPtr length, ref UIntPtr size);
 
         [DllImport(Name, EntryPoint = "enc_document_at")]
-        internal static extern uint DocumentAt(ref IntPtr module, uint generation, uint method, uint number, [Out]
-            byte[] buffer, UIntPtr length, ref UIntPtr size);
+        internal static extern uint DocumentAt(ref IntPtr module, uint generation, uint method, uint number,
+            [Out] byte[] buffer, UIntPtr length, ref UIntPtr size);
 
         [DllImport(Name, EntryPoint = "enc_may_remap")]
         internal static extern uint MayRemap(ref IntPtr module, uint method, uint generation, uint offset,
@@ -1630,28 +1639,27 @@ namespace Enc
         internal static extern uint Task(ref IntPtr session, uint task, ref EncStepped stepped);
 
         [DllImport(Name, EntryPoint = "enc_remap")]
-        internal static extern uint Remap(ref IntPtr session, uint task, EncPair[] map, UIntPtr length, ref
-            EncRemapped remapped);
+        internal static extern uint Remap(ref IntPtr session, uint task, EncPair[] map, UIntPtr length,
+            ref EncRemapped remapped);
 
         [DllImport(Name, EntryPoint = "enc_state")]
-        internal static extern uint State(ref IntPtr session, [Out] byte[] buffer, UIntPtr length, ref UIntPtr
-            size);
+        internal static extern uint State(ref IntPtr session, [Out] byte[] buffer, UIntPtr length, ref UIntPtr size);
 
         [DllImport(Name, EntryPoint = "enc_frames")]
         internal static extern uint Frames(ref IntPtr session, uint task, [Out] EncFrame[] buffer, UIntPtr length,
             ref UIntPtr size);
 
         [DllImport(Name, EntryPoint = "enc_values")]
-        internal static extern uint Values(ref IntPtr session, uint task, uint frame, uint part, [Out] EncValue[]
-            buffer, UIntPtr length, ref UIntPtr size);
+        internal static extern uint Values(ref IntPtr session, uint task, uint frame, uint part,
+            [Out] EncValue[] buffer, UIntPtr length, ref UIntPtr size);
 
         [DllImport(Name, EntryPoint = "enc_events")]
-        internal static extern uint Events(ref IntPtr session, [Out] EncEvent[] buffer, UIntPtr length, ref
-            UIntPtr size);
+        internal static extern uint Events(ref IntPtr session, [Out] EncEvent[] buffer, UIntPtr length,
+            ref UIntPtr size);
 
         [DllImport(Name, EntryPoint = "enc_output")]
-        internal static extern uint Output(ref IntPtr session, [Out] byte[] buffer, UIntPtr length, ref UIntPtr
-            size);
+        internal static extern uint Output(ref IntPtr session, [Out] byte[] buffer, UIntPtr length,
+            ref UIntPtr size);
     }
 
     /// <summary>What rules say, in the words of docs/rules.md, docs/edits.md and docs/scripts.md.</summary>
@@ -1799,7 +1807,7 @@ namespace Enc
             { "J2 0",
                 "the list isn't as above: the object itself, encId, documents, or edits isn't an array" },
             { "J2",
-                "otherwise: n is the first edit, counted from 1, that isn't as above" },
+                "the first edit, counted from 1, that isn't as above" },
             { "edit E4 0",
                 "the EncId is nil, or was used before" },
             { "edit E5 0",

@@ -3,7 +3,8 @@
 // Tests.exe tokens BASE DELTA ..  the token of each row
 // Tests.exe show BASE DELTA ..    each row as enc show does, made from what the other calls say of it
 // Tests.exe program, sizes        a C program that prints the structs of enc.h, and the same as Enc.cs has them
-// Tests.exe calls FOLDER          asks calls over the examples in a folder; the last line says how many
+// Tests.exe files BASE DELTA ..   writes saved, compact and merged files, and prints the tokens that moved
+// Tests.exe calls FOLDER HEADER   asks calls over the examples in a folder; the last line says how many
 using System;
 using System.Collections.Generic;
 using System.IO;
@@ -74,11 +75,10 @@ sealed class Shown
         this.token = token;
     }
 
-    public void Print()
+    public override string ToString()
     {
         string[] lines = module.Row(token).TrimEnd('\n').Split('\n');
-        Console.WriteLine(First(lines[0]));
-        foreach (string line in lines.Skip(1)) Console.WriteLine(Line(line));
+        return First(lines[0]) + "\n" + string.Concat(lines.Skip(1).Select(line => Line(line) + "\n"));
     }
 
     string First(string line)
@@ -217,11 +217,14 @@ static class Structs
 sealed class Calls
 {
     readonly string folder;
+    readonly HashSet<string> declared;
     int asked, wrong;
 
-    public Calls(string folder)
+    public Calls(string folder, string header)
     {
         this.folder = folder + "/";
+        MatchCollection calls = Regex.Matches(File.ReadAllText(header), @"(?m)^uint32_t (\w+)\(");
+        declared = new HashSet<string>(calls.Cast<Match>().Select(call => call.Groups[1].Value));
     }
 
     void Is(string what, object got, object wanted)
@@ -247,11 +250,20 @@ sealed class Calls
         Is(what, "nothing", wanted);
     }
 
-    // Runs a part that needs calls which a library may not have yet.
-    void Where(string what, Action part)
+    // Runs a part that needs a call, which a library may lack whose header doesn't declare it.
+    void Where(string call, Action part)
     {
-        try { part(); }
-        catch (EntryPointNotFoundException) { Console.WriteLine("not in this library: " + what); }
+        if (declared.Contains(call)) part();
+        else Console.WriteLine("not in this library: " + call);
+    }
+
+    // Each call that the header declares is one of Enc.cs.
+    void Declared()
+    {
+        var known = typeof(Native).GetMethods(BindingFlags.Static | BindingFlags.NonPublic)
+            .SelectMany(call => call.GetCustomAttributes(typeof(DllImportAttribute), false))
+            .Select(import => ((DllImportAttribute)import).EntryPoint);
+        Is("calls that Enc.cs lacks", string.Join(" ", declared.Except(known)), "");
     }
 
     EncDelta Delta(string name)
@@ -266,14 +278,16 @@ sealed class Calls
 
     public int Run()
     {
+        Declared();
         Refusals();
         Names();
+        Own();
         LookUps();
         Handles();
-        Where("enc_row_at, enc_code_at, enc_points_at, enc_document_at", Earlier);
+        Where("enc_row_at", Earlier);
         Where("enc_may_remap", MayRemap);
         Where("enc_check", Checks);
-        Where("enc_save, enc_compact", Saves);
+        Where("enc_save", Saves);
         Where("enc_merge", Merges);
         Where("enc_write", Writes);
         Where("enc_session_open", Sessions);
@@ -333,9 +347,34 @@ sealed class Calls
             Is("of a member of another module", module.Name(0x0A000006), "System.String.Concat");
             Is("of an assembly", module.Name(0x20000001), "bank");
             Is("of no row", module.Name(0x06000063), null);
-            foreach (uint token in Chains.Tokens(module).Where(t => t >> 24 == 4 || t >> 24 == 6))
+        }
+        using (EncModule module = Chains.Open(new[] { folder + "k", folder + "k1", folder + "s2" }))
+        {
+            Is("a property", module.Find("Counter.Count"), 0x17000001u);
+            Is("an event", module.Name(0x14000001), "Counter.Changed");
+            AreTokens("a method's parameter", module.FindMembers(0x06000005, 8, "value"), 0x08000001);
+        }
+    }
+
+    // A module that the compiler has just made: Enc.cs itself. Its rows are made from what other calls say, and what
+    // has a name is found by it.
+    void Own()
+    {
+        using (EncModule module = EncModule.Load(folder + "Enc"))
+        {
+            Is("nested", module.Name(module.Find("Enc.Native/Refusal")), "Enc.Native/Refusal");
+            Is("and by +", module.Find("Enc.Native+Refusal"), module.Find("Enc.Native/Refusal"));
+            Is("a member of one", module.Name(module.Find("Enc.Native/Refusal.Letter")), "Enc.Native/Refusal.Letter");
+            foreach (uint token in Chains.Tokens(module))
+                Is("row " + token.ToString("x8"), new Shown(module, token).ToString(), module.Row(token));
+            foreach (uint token in Chains.Tokens(module).Where(IsFound))
                 Is("found by its name", module.FindAll(module.Name(token)).Contains(token), true);
         }
+    }
+
+    static bool IsFound(uint token)
+    {
+        return new uint[] { 0x02, 0x04, 0x06, 0x14, 0x17 }.Contains(token >> 24);
     }
 
     void LookUps()
@@ -405,14 +444,14 @@ sealed class Calls
         var opener = new Thread(() =>
         {
             for (int i = 0; i < 20; i++) Forget();
-            for (int i = 0; i < 50 && Desk.Mine.Left < 10; i++) { GC.Collect(); GC.WaitForPendingFinalizers(); }
+            for (int i = 0; i < 200 && Desk.Mine.Left == 0; i++) Collect();
             before = Desk.Mine.Left;
             EncModule.Load(folder + "bank").Dispose();
             after = Desk.Mine.Left;
         });
         opener.Start();
         opener.Join();
-        Is("the finalizer leaves handles to their thread", before >= 10, true);
+        Is("the finalizer leaves handles to their thread", before > 0, true);
         Is("which closes them", after, 0);
         EncModule elsewhere = EncModule.Load(folder + "bank");
         var disposing = new Thread(elsewhere.Dispose);
@@ -421,6 +460,13 @@ sealed class Calls
         Is("so does Dispose elsewhere", Desk.Mine.Left, 1);
         EncModule.Load(folder + "bank").Dispose();
         Is("and it is closed", Desk.Mine.Left, 0);
+    }
+
+    static void Collect()
+    {
+        GC.Collect();
+        GC.WaitForPendingFinalizers();
+        Thread.Sleep(10);
     }
 
     void Forget()
@@ -448,9 +494,7 @@ sealed class Calls
             return;
         }
         Is("a body then", Convert.ToBase64String(at.Body(method).Code), Convert.ToBase64String(then.Body(method).Code));
-        Is("points then", string.Join(" ", at.Points(method)), string.Join(" ", then.Points(method)));
-        Is("documents then", string.Join(" ", at.Points(method).Select(p => p.Document + p.Offset)),
-           string.Join(" ", then.Points(method).Select(p => p.Document + p.Offset)));
+        Is("points then", at.Points(method).SequenceEqual(then.Points(method)), true);
     }
 
     void MayRemap()
@@ -551,6 +595,15 @@ sealed class Calls
 
 static class Tests
 {
+    static void Written(EncModule module)
+    {
+        module.Save().Save("saved");
+        EncSaved compact = module.Compact();
+        compact.Save("compact");
+        foreach (EncPair move in compact.Moves) Console.WriteLine("moved {0:x8} {1:x8}", move.From, move.To);
+        module.Merge().Save("merged");
+    }
+
     static int Main(string[] words)
     {
         switch (words[0])
@@ -564,11 +617,14 @@ static class Tests
                 return 0;
             case "show":
                 using (EncModule module = Chains.Open(words.Skip(1)))
-                    foreach (uint token in Chains.Tokens(module)) new Shown(module, token).Print();
+                    foreach (uint token in Chains.Tokens(module)) Console.Write(new Shown(module, token));
                 return 0;
             case "program": Structs.Program(words[1]); return 0;
             case "sizes": Structs.Sizes(words[1]); return 0;
-            default: return new Calls(words[1]).Run();
+            case "files":
+                using (EncModule module = Chains.Open(words.Skip(1))) Written(module);
+                return 0;
+            default: return new Calls(words[1], words[2]).Run();
         }
     }
 }

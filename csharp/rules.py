@@ -53,7 +53,8 @@ def of_edits():
     for heading, cells in rows("edits.md"):
         form = re.match("(J[12]) (json|0|n)$", cells[0])
         if form:
-            words[form.group(1) + (" 0" if form.group(2) == "0" else "")] = plain(cells[1])
+            said = plain(cells[1]).removeprefix("otherwise: n is ")
+            words[form.group(1) + (" 0" if form.group(2) == "0" else "")] = said
         elif re.match("E[0-9]+$", cells[0]):
             words["edit " + cells[0] + (" 0" if cells[1] == "0" else "")] = plain(cells[2])
     return words

@@ -18,6 +18,7 @@ sealed class HotReloadHost : IDisposable
     {
         module = EncModule.Load(name);
         session = EncSession.Load(name);
+        session.KeepsEvents = false;
         this.folder = folder;
     }
 
