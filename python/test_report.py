@@ -186,7 +186,7 @@ class Pages(Case):
         report.MOST_GENERATIONS = 1
         self.has(self.made(*BANK)[0], "Not shown: the first 1 of 2 deltas")
         report.MOST_GENERATIONS, report.MOST_BYTES = 400, 20
-        self.has(self.made(*BANK)[0], "Its body isn't shown")
+        self.has(self.made(*BANK)[0], "3 of them aren't shown with their bodies")
         report.MOST_ROWS, report.MOST_ROW_BYTES = 6, 0
         text, _ = self.made(*BANK)
         self.has(text, "more rows of MemberRef aren't listed")
@@ -280,7 +280,8 @@ class Parts(Case):
         ranges = "IL_0000-IL_0001 IL_0001-IL_0001"
         text = f"x\n  IL_0000 ret\n  catch {ranges} 01000002\n  finally {ranges}\n"
         lines = _sides.side_of(text, lambda token: "").lines
-        self.assertEqual([(line.word, line.token) for line in lines], [("ret", ""), ("catch", "01000002"), ("finally", "")])
+        found = [(line.word, line.token) for line in lines]
+        self.assertEqual(found, [("ret", ""), ("catch", "01000002"), ("finally", "")])
         self.assertEqual(self.pairs(text[2:], text[2:].replace("01000002", "01000003")), ["same", "alike", "same"])
 
     def test_numbers_and_texts_are_no_tokens(self):

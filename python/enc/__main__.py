@@ -9,6 +9,7 @@ from typing import List, Optional
 
 from .dump import Wanted, dump
 from .report import command as report_command
+from .report import parser as report_parser
 from .tables import table
 
 ABOUT = """Prints the rows of a module after deltas, in tables, with the names of tokens: the whole, one generation
@@ -40,6 +41,7 @@ def run(words: List[str]) -> int:
     """Does what the words say, and tells the status: those of the program `enc`."""
     if words[:1] not in (["dump"], ["report"]):
         parser().print_usage()
+        report_parser().print_usage()
         return 2
     try:
         if words[0] == "report":

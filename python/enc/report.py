@@ -34,6 +34,11 @@ HERE = Path(__file__).resolve().parent
 MOST_BYTES = 4_700_000
 MOST_ROWS = 6000
 MOST_ROW_BYTES = 1_500_000
+# How long a method is at least, which is kept free for all that are listed.
+METHOD_BYTES = 240
+# How long a line of a body is at least, and a method with its body.
+LINE_BYTES = 50
+LEAST_BYTES = 1500
 MOST_GENERATIONS = 400
 # How long a text and a list of digits are shown.
 MOST_TEXT = 120
@@ -136,6 +141,7 @@ class Group(NamedTuple):
     items: List[Any]
     columns: List[str]
     is_methods: bool
+    cut: int
 
 
 class Head(NamedTuple):
@@ -206,7 +212,7 @@ class Page:
         self.heads: Dict[int, Head] = {}
         self.listed: Dict[int, Listed] = {}
         self.newest: Dict[int, int] = {}
-        self.spent = 0
+        self.spent = self._reserved = 0
         self._macros: Any = None
 
     # What is listed.
@@ -240,9 +246,14 @@ class Page:
     def _item(self, number: int, entry: Entry, texts: Tuple[str, str]) -> Item:
         now, before = texts
         old = printed(first_lines(before)) if before else None
-        cells = [] if self.spent > MOST_ROW_BYTES else cells_of(entry.token, printed(first_lines(now)), old)
+        is_short = self._is_full() and entry.token >> 24 != _METHOD
+        cells = [] if is_short else cells_of(entry.token, printed(first_lines(now)), old)
         is_newest = self.newest.get(entry.token) == number
         return Item(str(entry.token), entry.inserted, is_newest, self.names.of(entry.token), cells)
+
+    def _is_full(self) -> bool:
+        """Whether the columns of the rows that are listed are as long as they may be."""
+        return self.spent > self._reserved + MOST_ROW_BYTES
 
     def _method(self, number: int, entry: Entry, texts: Tuple[str, str]) -> Method:
         sides = [_sides.side_of(text, self.names.meaning) for text in texts]
@@ -253,40 +264,56 @@ class Page:
         counts = _sides.counts_of(pairs)
         return Method(item, pairs, counts, bool(before.lines), moved_points(pairs), list(named), now.cut + before.cut)
 
-    def _shown_method(self, number: int, entry: Entry, share: int) -> Any:
-        """A method as it is on the page: whole, or where that is too long what differs, or without its body."""
+    def _whole_method(self, number: int, entry: Entry, most: int) -> Any:
+        """A method with its body: all of it, where that is longer than `most` what differs, None where that is too."""
         now, before = self._texts(number, entry)
         method = self._method(number, entry, (now, before))
         for pairs in (method.pairs, _sides.near(method.pairs)):
+            if LINE_BYTES * sum((pair.before is not None) + (pair.now is not None) for pair in pairs) > most:
+                continue
             lines = Lined(self.sources, (before, now), self.newest.get(entry.token) == number)
             shown = self._macros.method(number, method._replace(pairs=pairs), lines, self.link)
-            if len(shown) <= share:
+            if len(shown) <= most:
                 return shown
-        return self._macros.short(number, method.item)
+        return None
+
+    def _methods(self, number: int, entries: List[Entry], share: int) -> Tuple[List[Any], int]:
+        """The methods of a generation as they are on the page, and how many of them are without their bodies."""
+        items, cut_off = [], 0
+        for i, entry in enumerate(entries):
+            most = max(share // (len(entries) - i), min(share, 12_000)) + METHOD_BYTES
+            made = self._whole_method(number, entry, most) if share > LEAST_BYTES else None
+            if made is None:
+                cut_off += 1
+                made = self._macros.short(number, self._item(number, entry, ("", "")))
+            share -= len(made) - METHOD_BYTES
+            self.spent += len(made) - METHOD_BYTES
+            items.append(made)
+        return items, cut_off
+
+    def _rows(self, number: int, entries: List[Entry]) -> List[Any]:
+        """The rows of another table as they are on the page."""
+        items = []
+        for entry in entries:
+            items.append(self._macros.row(number, self._item(number, entry, self._texts(number, entry)), self.link))
+            self.spent += len(items[-1])
+        return items
 
     def _group(self, number: int, table: int, share: int) -> Group:
         listed = self.listed[number]
         entries = [entry for entry in listed.entries if entry.token >> 24 == table]
-        items: List[Any] = []
-        for i, entry in enumerate(entries):
-            if table != _METHOD:
-                made = self._macros.row(number, self._item(number, entry, self._texts(number, entry)), self.link)
-            elif share > 0:
-                made = self._shown_method(number, entry, max(share // (len(entries) - i), min(share, 12_000)))
-            else:
-                made = self._macros.short(number, self._item(number, entry, ("", ""))._replace(cells=[]))
-            share -= len(made)
-            self.spent += len(made)
-            items.append(made)
+        is_methods = table == _METHOD
+        items, cut_off = self._methods(number, entries, share) if is_methods else (self._rows(number, entries), 0)
         columns = [column.name for column in TABLES[table].columns if column.kind != "run"]
-        if table in _OWNED:
-            columns.append("owner")
-        name = TABLES[table].name
-        return Group(name, listed.counts[table], listed.inserted[table], items, columns, table == _METHOD)
+        columns += ["owner"] if table in _OWNED else []
+        counts = (listed.counts[table], listed.inserted[table])
+        return Group(TABLES[table].name, *counts, items, columns, is_methods, cut_off)
 
     def groups(self, macros: Any) -> Dict[int, List[Group]]:
         """What the page says of each generation: first the rows of all, and then the methods in what room is left."""
         self._macros = macros
+        listed = [entry.token >> 24 for one in self.listed.values() for entry in one.entries]
+        self.spent = self._reserved = METHOD_BYTES * listed.count(_METHOD)
         found: Dict[int, Dict[int, Group]] = {number: {} for number in self.listed}
         for methods in (False, True):
             for i, number in enumerate(self.listed):
