@@ -1,5 +1,5 @@
 -- A base alone is kept, and so is what comes with a delta that is accepted.
-use Rattle.std.proofs.Common.{◌≡◌, ℕ, ◌+◌, Bool, true, false, List, ◌∷◌, Option, Some, None, Ok, refl, ap, arith}
+use Rattle.std.proofs.Common.{◌≡◌, ℕ, suc, Bool, true, false, List, ◌∷◌, Option, Some, None, Ok, refl, ap, arith}
 use Rattle.std.specs.Prelude.{◌&&◌}
 use Rattle.std.proofs.lemmas.Bool.Decides.{nat_tests}
 use Rattle.enc_rows.specs.Source.{Source}
@@ -44,5 +44,5 @@ pub followed_kept : (s : State) (meta il : List ℕ) (bytes : Option (List ℕ))
 followed_kept s meta il bytes a within go short read delta is kept = record {
   within = within s.base s.deltas (delta_of meta il) bytes a read is s.pdb s.debugs kept.within;
   go = more_go s.short (is_short_delta meta il) a _ s.deltas s.debugs (go (chain_after s) (delta_of meta il) bytes a is) (short_delta meta il a short delta) kept.go;
-  paired = ap (λ n. n + 1) kept.paired;
+  paired = ap suc kept.paired;
 }

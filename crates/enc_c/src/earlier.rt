@@ -135,7 +135,10 @@ impl Held {
             view: &self.agg,
             points: &self.debug,
         };
-        match may_remap(alloc, &old, &newest, at, pairs) {
+        let asked = may_remap(alloc, &old, &newest, at, pairs);
+        let Edition { view: _, points: _ } = old;
+        let Edition { view: _, points: _ } = newest;
+        match asked {
             Ok(broken) => rule_told(broken),
             Err(AllocError) => Err(Status::Memory),
         }

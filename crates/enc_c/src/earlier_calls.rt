@@ -43,6 +43,7 @@ pub extern "C" fn enc_row_at(
 }
 
 /// Copies the code that a method's body had after the first so many deltas, and tells what stands before it.
+#[tactic(auto, unfolding(crate::specs::Earlier::TellsBodyAt))]
 #[unsafe(no_mangle)]
 pub extern "C" fn enc_code_at(
     alloc: Global,
