@@ -8,12 +8,12 @@ ghost use Rattle.enc_pdb_delta.specs.Stated.{points_lie_within};
 ghost use Rattle.enc_jobs.specs.Edits.{edits_said};
 ghost use Rattle.enc_words.specs.Lines.{saved_line as line_of_saved};
 ghost use Rattle.enc_words.specs.Words.{texts};
-ghost use Rattle.enc_top.specs.Verdict.{dll, meta, il, pdb, list_in_file, edits_on, write_on};
+ghost use Rattle.enc_top.specs.Verdict.{dll, meta, il, pdb, list_in_file, edits_on, text_on, write_on};
 ghost use Rattle.enc_top.specs.Plans.{IsPlanOf, saves_of};
 ghost use Rattle.enc_top.specs.Stops.{Comes, IfPlan, StopsQuietly};
-ghost use Rattle.enc_top.specs.Loads.{followed};
+ghost use Rattle.enc_top.specs.Loads.{followed, texted as text_accepted};
 
-use crate::commands::accept::accept_text;
+use crate::commands::accept::{Texted, accept_text};
 use crate::judge::Judged;
 use crate::load::name_of;
 use crate::plan::{Outcome, Plan, Save};
@@ -105,6 +105,17 @@ fn written(
     }
 }
 
+/// The plan of the text of an edit list after a base with its deltas.
+fn of_text(alloc: Global, name: &str, out: &str, texted: &Texted) -> Result<Plan, Stop>
+    ensures plan { IfPlan result (IsPlanOf (text_on name.now out.now (text_accepted texted.now))) }
+    ensures told { IfPlan result (λ plan. plan.outcome ≢ Outcome.Usage) }
+    ensures kept { IfPlan result (λ plan. (plan.outcome ≡ Outcome.Accepted) ⊎ (plan.saves.items ≡ [])) }
+    ensures no_fault { ¬ (IsErrOf result Stop.Failed) }
+{
+    let list = read_list(alloc, name, &texted.text)?;
+    written(alloc, name, out, &texted.judged, &list)
+}
+
 /// The plan of `write`. Nothing is saved before the delta is whole.
 pub fn write<S: Store>(
     alloc: Global,
@@ -121,6 +132,5 @@ pub fn write<S: Store>(
     ensures kept { IfPlan result (λ plan. (plan.outcome ≡ Outcome.Accepted) ⊎ (plan.saves.items ≡ [])) }
 {
     let texted = accept_text(alloc, base, edits, deltas, store)?;
-    let list = read_list(alloc, edits, &texted.text)?;
-    written(alloc, edits, out, &texted.judged, &list)
+    of_text(alloc, edits, out, &texted)
 }

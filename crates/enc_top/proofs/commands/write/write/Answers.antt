@@ -8,4 +8,4 @@ use Rattle.enc_top.proofs.commands.write.write.Goals as goal
 pub returns-clause-plan : goal.returns-clause-plan
 returns-clause-plan g c =
     if_some (g.S.Store.told c.args.store.now) (λ files. accept_text files c.args.base.now c.args.edits.now (texts c.args.deltas.now) ≡ Ok (texted c.in_ok-texted.texted)) _ c.in_ok-texted.ensures.step
-    (λ files is. rw (is, rw c.deref.ensures.value at c.in_ok-list.ensures.step) c.written.ensures.plan)
+    (λ files is. rw is c.of_text.ensures.plan)
