@@ -33,11 +33,7 @@ pub extern "C" fn enc_row_at(
     let Some(held) = take(handle, alloc) else {
         return Status::Closed.number();
     };
-    let status = copy_items(
-        held.row_at(alloc, generation, Token::of(row)),
-        buffer,
-        size,
-    );
+    let status = copy_items(held.row_at(alloc, generation, Token::of(row)), buffer, size);
     put(handle, alloc, held);
     status
 }
