@@ -88,8 +88,10 @@ StepsOf status (Some r) new told told_new task count =
 
 -- a delta: it is applied, or refused, which is an event too
 abbrev pub JudgesIn : ℕ → Option Recorded → RefusalNumbers → RefusalNumbers → DeltaContents → Recorded → Result Accepted Refusal → Type 0
-JudgesIn status new refusal refusal_new files r (Ok a) = (status ≡ number_of_status Done) × (new ≡ Some (apply_recorded files r)) × (refusal_new ≡ refusal)
-JudgesIn status new refusal refusal_new files r (Err e) = (status ≡ number_of_status Refused) × (new ≡ Some (apply_recorded files r)) × (refusal_new ≡ numbers_of e)
+JudgesIn status new refusal refusal_new files r (Ok a) =
+    (status ≡ number_of_status Done) × (new ≡ Some (apply_recorded files r)) × (refusal_new ≡ refusal)
+JudgesIn status new refusal refusal_new files r (Err e) =
+    (status ≡ number_of_status Refused) × (new ≡ Some (apply_recorded files r)) × (refusal_new ≡ numbers_of e)
 
 abbrev pub delta_given : List ℕ → List ℕ → List ℕ → DeltaContents
 delta_given meta il pdb = record { metadata = meta; code = il; debug = given_bytes pdb }
