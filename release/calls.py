@@ -1,4 +1,4 @@
-"""release/calls.py LIBENC.so: calls of the C library as C makes them, over the example base and delta: what each answers. `./test`
+"""release/calls.py LIBENC.so: calls of the C library as C makes them, over the example bases and deltas: what each answers. `./test`
 runs it. The last line is how many were asked; the status is 1 where one answered something else, which is told."""
 import ctypes
 import os
@@ -21,9 +21,71 @@ class Place(ctypes.Structure):
     _fields_ = [("generation", u32), ("position", u32)]
 
 
+class Stepped(ctypes.Structure):
+    _fields_ = [(n, u32) for n in ("ran", "state", "trap")]
+
+
+class Pair(ctypes.Structure):
+    _fields_ = [("start", u32), ("to", u32)]
+
+
+class Remapped(ctypes.Structure):
+    _fields_ = [(n, u32) for n in ("rule", "method", "start", "to")]
+
+
+class Frame(ctypes.Structure):
+    _fields_ = [(n, u32) for n in ("method", "generation", "offset", "line", "arguments", "locals", "stack")]
+
+
+class Value(ctypes.Structure):
+    _fields_ = [("kind", u32), ("object", u32), ("number", ctypes.c_int64)]
+
+
+class Event(ctypes.Structure):
+    _fields_ = [(n, u32) for n in ("kind", "task", "method", "detail")]
+
+
 def read(name):
     with open(os.path.join(EXAMPLES, name), "rb") as file:
         return file.read()
+
+
+def ask_session(enc, is_so):
+    """What examples/scripts/remap.json does, and the calls that fail on the way."""
+    session, refusal, stepped, remapped = ctypes.c_void_p(), Refusal(), Stepped(), Remapped()
+    at, why, told, size, task = (ctypes.byref(x) for x in (session, refusal, stepped, size_t(), u32()))
+    bytes_of = lambda name: (lambda b: (b, size_t(len(b))))(read("bank/" + name))
+    opened = lambda limit: enc.enc_session_open(at, *bytes_of("bank.dll"), *bytes_of("bank.pdb"), u32(limit), why)
+    applied = lambda n: enc.enc_session_apply(at, *bytes_of(f"bank{n}.meta"), *bytes_of(f"bank{n}.il"), *bytes_of(f"bank{n}.pdb"), why)
+    step = lambda number, count: (enc.enc_step(at, u32(number), u32(count), told), stepped.ran, stepped.state)
+    is_so("a step of a closed session", step(1, 1)[0], 7)
+    is_so("a session", opened(200), 0)
+    is_so("the session once more", opened(200), 8)
+    is_so("a task with a constructor", enc.enc_spawn(at, u32(0x06000001), task), 11)
+    is_so("a task", (enc.enc_spawn(at, u32(0x06000004), task), task._obj.value), (0, 1))
+    is_so("a step of no task", step(2, 1)[0], 10)
+    is_so("more steps than there is room for", step(1, 50)[0], 9)
+    is_so("36 steps", step(1, 36), (0, 36, 0))
+    is_so("the second delta first", (applied(2), refusal.letter, refusal.rule), (1, ord("E"), 2))
+    is_so("both deltas", (applied(1), applied(2)), (0, 0))
+    frames, values = (Frame * 2)(), (Value * 2)()
+    dated = lambda: (enc.enc_frames(at, u32(1), frames, size_t(2), size), *((f.method, f.generation, f.offset, f.line) for f in frames))
+    is_so("two frames", dated(), (0, (0x06000004, 0, 28, 27), (0x06000002, 0, 15, 10)))
+    is_so("arguments", (enc.enc_values(at, u32(1), u32(1), u32(0), values, size_t(2), size), values[0].kind, values[1].number), (0, 3, 2))
+    pairs = (Pair * 2)((1, 1), (15, 15))
+    is_so("a remap", (enc.enc_remap(at, u32(1), pairs, size_t(2), ctypes.byref(remapped)), remapped.rule, remapped.start, remapped.to), (0, 0, 15, 15))
+    is_so("the frame behind it", dated(), (0, (0x06000004, 0, 28, 27), (0x06000002, 2, 15, 11)))
+    events = (Event * 30)()
+    is_so("a short buffer of events", (enc.enc_events(at, events, size_t(29), size), size._obj.value), (9, 30))
+    is_so("all events", (enc.enc_events(at, events, size_t(30), size), events[0].kind, events[29].kind, events[29].detail), (0, 1, 5, 2))
+    is_so("no event more", (enc.enc_events(at, events, size_t(30), size), size._obj.value), (0, 0))
+    is_so("the rest of the steps", step(1, 49), (0, 28, 1))
+    is_so("a step of a task that has ended", step(1, 1), (0, 0, 1))
+    text = ctypes.create_string_buffer(200)
+    is_so("the lines", (enc.enc_output(at, text, size_t(200), size), text.value.split(b"\n")[1:4:2], text.value.split(b"\n")[-2]),
+          (0, [b'task 1 writes "40\\x0a"', b'task 1 writes "42\\x0a"'], b"task 1 ended"))
+    is_so("no line more", (enc.enc_output(at, text, size_t(200), size), size._obj.value), (0, 0))
+    is_so("closing a session", (enc.enc_session_close(at), enc.enc_session_close(at)), (0, 7))
 
 
 def main(library):
@@ -106,6 +168,7 @@ def main(library):
     refusal, words = Refusal(letter=ord("E"), rule=16, place=10, table=6, row=1), ctypes.create_string_buffer(17)
     is_so("the words of a refusal", (enc.enc_words(ctypes.byref(refusal), words, size_t(17), ctypes.byref(size)), words.raw), (0, b"E16 06000001.RVA\n"))
     is_so("the words of none", enc.enc_words(ctypes.byref(Refusal()), words, size_t(17), ctypes.byref(size)), 11)
+    ask_session(enc, is_so)
     print(f"{asked} calls asked, {wrong} of them answered something else")
     return 1 if wrong else 0
 

@@ -1,7 +1,7 @@
 -- What a spawn and steps of an open session come to.
-use Rattle.std.proofs.Common.{◌≡◌, ℕ, ◌+◌, ◌*◌, Bool, true, false, List, ◌++◌, length, map, Option, Some, None, Ok, Err, inl, refl, sym, ap, ◌∙◌, add-one}
+use Rattle.std.proofs.Common.{◌≡◌, ℕ, ◌+◌, ◌*◌, true, false, List, ◌++◌, length, map, Option, Some, None, inl, refl, sym, ap, ◌∙◌, add-one}
 use Rattle.std.proofs.lemmas.List.{map-append}
-use Rattle.std.specs.Prelude.{is_some, nat_le}
+use Rattle.std.specs.Prelude.{nat_le}
 use Rattle.enc_base.specs.declared.token.Token.{Token}
 use Rattle.enc_frames.specs.Machine.{PlainCode}
 use Rattle.enc_vm.specs.Looks.{state_in}

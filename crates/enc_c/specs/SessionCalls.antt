@@ -1,5 +1,5 @@
 -- What the calls on a session come to.
-use Rattle.std.specs.Prelude.{◌≡◌, ◌⊎◌, ◌<◌, ◌+◌, ◌*◌, ℕ, List, [], ◌∷◌, ◌++◌, length, map, nat_le, is_some, Bool, true, false, Option, Some, None, option_map, Result, Ok, Err, zero, suc, if◌then◌else◌}
+use Rattle.std.specs.Prelude.{◌≡◌, ◌⊎◌, ◌<◌, ◌+◌, ◌*◌, ℕ, List, [], ◌∷◌, ◌++◌, length, map, nat_le, is_some, Bool, true, false, Option, Some, None, Result, Ok, Err, zero, suc, if◌then◌else◌}
 use Rattle.enc_base.specs.declared.refusal.Refusal.{Refusal}
 use Rattle.enc_base.specs.declared.token.Token.{Token}
 use Rattle.enc_checker.specs.Check.{Accepted}
@@ -9,7 +9,6 @@ use Rattle.enc_vm.specs.Looks.{frames_in, state_in}
 use Rattle.enc_vm.specs.Step.{Spawning, begun, too_many, no_method, spawn_in}
 use Rattle.enc_vm.specs.declared.ends.StepEnd.TheVariants as end
 use Rattle.enc_vm.specs.declared.ends.TaskState.{TaskState}
-use Rattle.enc_watch.specs.declared.event.Event.{Event}
 use Rattle.enc_session.specs.Recording.{Recorded, recorded_base, spawn_recorded, Stepping, steps_recorded, apply_recorded, remapped_in, remap_recorded, facts_in, values_in}
 use Rattle.enc_session.specs.Session.{world_of, DeltaContents, judged_after}
 use Rattle.enc_session.specs.States.{state_text}
@@ -89,8 +88,10 @@ StepsOf status (Some r) new told told_new task count =
 
 -- a delta: it is applied, or refused, which is an event too
 abbrev pub JudgesIn : ℕ → Option Recorded → RefusalNumbers → RefusalNumbers → DeltaContents → Recorded → Result Accepted Refusal → Type 0
-JudgesIn status new refusal refusal_new files r (Ok a) = (status ≡ number_of_status Done) × (new ≡ Some (apply_recorded files r)) × (refusal_new ≡ refusal)
-JudgesIn status new refusal refusal_new files r (Err e) = (status ≡ number_of_status Refused) × (new ≡ Some (apply_recorded files r)) × (refusal_new ≡ numbers_of e)
+JudgesIn status new refusal refusal_new files r (Ok a) =
+    (status ≡ number_of_status Done) × (new ≡ Some (apply_recorded files r)) × (refusal_new ≡ refusal)
+JudgesIn status new refusal refusal_new files r (Err e) =
+    (status ≡ number_of_status Refused) × (new ≡ Some (apply_recorded files r)) × (refusal_new ≡ numbers_of e)
 
 abbrev pub delta_given : List ℕ → List ℕ → List ℕ → DeltaContents
 delta_given meta il pdb = record { metadata = meta; code = il; debug = given_bytes pdb }

@@ -1,5 +1,5 @@
 -- What C sees of a session, by numbers.
-use Rattle.std.specs.Prelude.{ℕ, ◌+◌, ◌*◌, ◌-◌, ◌^◌, ℤ, min, List, [], ◌∷◌, ◌++◌, map, nat_lt, Option, Some, None, zero, suc, if◌then◌else◌}
+use Rattle.std.specs.Prelude.{ℕ, ◌+◌, ◌*◌, ◌-◌, ◌^◌, ℤ, min, List, map, nat_lt, Option, Some, None, zero, suc, if◌then◌else◌}
 use Rattle.enc_base.specs.Token.{number_of}
 use Rattle.enc_base.specs.declared.token.Token.{Token}
 use Rattle.enc_objects.specs.declared.trap.Trap.{Trap}

@@ -16,5 +16,6 @@ mod Generations
 mod Dated
 mod Lined
 mod DatesKept
+mod DatesMean
 mod Recorded
 mod Stepping

@@ -1,6 +1,8 @@
 -- The bodies that a delta brings, with their sequence points.
-use Rattle.std.specs.Prelude.{◌≡◌, ℕ, false, List, [], map, Option, None, Ok, unwrap_or}
+use Rattle.std.specs.Prelude.{◌≡◌, ℕ, false, List, [], map, Option, None, Ok, unwrap_or, IsTrue}
+use Rattle.std.specs.List.{list_any}
 use Rattle.enc_agg.specs.Extend.{extended}
+use Rattle.enc_base.specs.Token.{is_token}
 use Rattle.enc_base.specs.declared.token.Token.{Token}
 use Rattle.enc_checker.specs.Check.{new_code, new_bodies, accepted, judged}
 use Rattle.enc_delta.specs.Delta.{listed}
@@ -11,9 +13,12 @@ use Rattle.enc_meta.specs.Joined.{joined_user}
 use Rattle.enc_opcodes.specs.Body.{Code}
 use Rattle.enc_plain.specs.Chain.{Chain}
 use Rattle.enc_plain.specs.Debug.{PlainPdb}
+use Rattle.enc_plain.specs.Module.{has_row}
 use Rattle.enc_plain.specs.Sound.{IsSound}
 use Rattle.enc_ppdb.specs.PdbChain.{delta_row, points_at, pdb_changed}
+use Rattle.enc_remap.specs.Remap.{newest_code}
 use Rattle.enc_rows.specs.Source.{Source}
+use Rattle.enc_schema.specs.Tables.{method_def}
 use Rattle.enc_versions.specs.Commit.{NewVersion}
 use Rattle.enc_versions.specs.Laws.{Meant, AreNewIn}
 
@@ -48,3 +53,11 @@ abbrev pub AcceptedRowsAreChanged : Type 0
 AcceptedRowsAreChanged =
     (c : Chain) (d : Source) → WasRead d → first_meta c d ≡ None → IsSound c.plain
     → IsChangedBy c.plain (extended c d).plain (listed d)
+
+-- a delta that brings a method no body leaves the body and the points that it has now: so the newest generation that brought it one says which body it has
+abbrev pub OtherBodiesStay : Type 0
+OtherBodiesStay =
+    (c : Chain) (d : Source) (pdb : Option Source) (bytes : Option (List ℕ)) (debug : PlainPdb) (method : Token)
+    → WasRead d → judged c (Ok d) bytes ≡ Ok (accepted d pdb) → IsSound c.plain
+    → method.table ≡ method_def → IsTrue (has_row c.plain method) → list_any (is_token method) (new_bodies d) ≡ false
+    → newest_code (extended c d).plain (pdb_changed debug (record { pdb = pdb; changed = new_bodies d })) method ≡ newest_code c.plain debug method
