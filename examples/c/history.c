@@ -16,7 +16,7 @@ static struct file load(const char *folder, const char *name, const char *end)
     FILE *in = fopen(path, "rb");
     if (in == NULL) return file;
     for (size_t room = 1 << 16, read;; room *= 2) {
-        file.bytes = realloc(file.bytes, room);
+        file.bytes = (uint8_t *)realloc(file.bytes, room);
         if (file.bytes == NULL) exit(3);
         read = fread(file.bytes + file.length, 1, room - file.length, in);
         file.length += read;

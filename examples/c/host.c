@@ -16,7 +16,7 @@ static file load(const char *folder, const char *name, const char *ending) {
     fseek(in, 0, SEEK_END);
     f.length = (size_t)ftell(in);
     rewind(in);
-    f.at = malloc(f.length + 1);
+    f.at = (uint8_t *)malloc(f.length + 1);
     if (f.at == NULL || fread(f.at, 1, f.length, in) != f.length) exit(4);
     fclose(in);
     return f;
@@ -41,7 +41,7 @@ static void say_changed(enc_handle *module, uint32_t generation) {
             if (enc_locate(module, token, &place) != ENC_DONE || place.generation != generation) continue;
             size_t size = 0;
             enc_row(module, token, NULL, 0, &size);
-            uint8_t *text = malloc(size);
+            uint8_t *text = (uint8_t *)malloc(size);
             if (text == NULL || enc_row(module, token, text, size, &size) != ENC_DONE) exit(3);
             fwrite(text, 1, size, stdout);
             free(text);

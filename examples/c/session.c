@@ -1,5 +1,5 @@
 /* A session: runs commands on a module as `enc run` runs a script, and prints the same lines. Usage: session BASE COMMAND ..
- *   spawn TOKEN, step TASK COUNT, apply DELTA, state, frames TASK
+ *   spawn TOKEN, step TASK COUNT, apply DELTA, remap TASK FROM:TO,.., state, frames TASK
  * The last prints what a debugger asks for: the frames of a task, each with the generation that gave its body. See docs/library.md. */
 #include <stdio.h>
 #include <stdlib.h>
@@ -70,6 +70,22 @@ static void step(uint32_t task, uint32_t count)
     printf("task %u ran %u\n", task, stepped.ran);
 }
 
+static void remap(uint32_t task, const char *map)
+{
+    static enc_pair pairs[1 << 16];
+    size_t count = 0;
+    for (char *rest = (char *)map; *rest != 0; rest += *rest == ',') {
+        pairs[count].from = (uint32_t)strtoul(rest, &rest, 10);
+        pairs[count++].to = (uint32_t)strtoul(rest + 1, &rest, 10);
+    }
+    enc_remapped moved;
+    uint32_t status = enc_remap(&session, task, pairs, count, &moved);
+    if (status == ENC_ABSENT) { printf("task %u absent\n", task); return; }
+    must(status);
+    if (moved.rule != 0) printf("task %u remap refused Q%u\n", task, moved.rule);
+    else printf("task %u remapped %08x IL_%04x IL_%04x\n", task, moved.method, moved.from, moved.to);
+}
+
 static void put_frames(uint32_t task)
 {
     enc_frame *frames = (enc_frame *)text;
@@ -98,6 +114,9 @@ int main(int count, char **words)
         } else if (strcmp(*word, "apply") == 0) {
             apply(word[1]);
             word += 2;
+        } else if (strcmp(*word, "remap") == 0) {
+            remap((uint32_t)atoi(word[1]), word[2]);
+            word += 3;
         } else if (strcmp(*word, "state") == 0) {
             size_t size = 0;
             must(enc_state(&session, text, sizeof text, &size));
