@@ -290,7 +290,7 @@ class Page:
         """The methods of a generation as they are on the page, and how many of them are without their bodies."""
         items, cut_off = [], 0
         for i, entry in enumerate(entries):
-            most = max(share // (len(entries) - i), min(share, 12_000)) + METHOD_BYTES
+            most = max(share // (len(entries) - i), share // 3, min(share, 12_000)) + METHOD_BYTES
             made = self._whole_method(number, entry, most) if share > LEAST_BYTES else None
             if made is None:
                 cut_off += 1
