@@ -43,6 +43,8 @@ MOST_GENERATIONS = 400
 # How long a text and a list of digits are shown.
 MOST_TEXT = 120
 MOST_DIGITS = 48
+# How many other changes of a method are named.
+MOST_OTHERS = 12
 
 # The columns that say what a row without an owner is about.
 _ABOVE = ("Class", "Method", "Parent", "Field", "Owner")
@@ -121,7 +123,8 @@ class Item(NamedTuple):
 
 
 class Method(NamedTuple):
-    """A method that a generation inserts or updates: its row, and its body before and behind."""
+    """A method that a generation inserts or updates: its row, its body before and after, and which other generations
+    change it."""
 
     item: Item
     pairs: List[_sides.Pair]
@@ -130,6 +133,7 @@ class Method(NamedTuple):
     moved: bool
     documents: List[str]
     cut: int
+    others: List[int]
 
 
 class Group(NamedTuple):
@@ -212,6 +216,7 @@ class Page:
         self.heads: Dict[int, Head] = {}
         self.listed: Dict[int, Listed] = {}
         self.newest: Dict[int, int] = {}
+        self.changes: Dict[int, List[int]] = {}
         self.spent = self._reserved = 0
         self._macros: Any = None
 
@@ -228,7 +233,9 @@ class Page:
             inserted = Counter(entry.token >> 24 for entry in entries if entry.inserted)
             self.listed[number] = Listed(_fair(entries, left // (last - number + 1)), counts, inserted)
             left -= len(self.listed[number].entries)
-            self.newest.update((entry.token, number) for entry in self.listed[number].entries)
+            for entry in self.listed[number].entries:
+                self.newest[entry.token] = number
+                self.changes.setdefault(entry.token, []).append(number)
 
     def _head(self, number: int, entries: List[Entry]) -> Head:
         inserted = sum(1 for entry in entries if entry.inserted) if number else rows_of_the_base(self.module)
@@ -262,7 +269,9 @@ class Page:
         named = {point.document: 0 for side in sides for line in side.lines for point in line.points if point.document}
         item = self._item(number, entry, texts)
         counts = _sides.counts_of(pairs)
-        return Method(item, pairs, counts, bool(before.lines), moved_points(pairs), list(named), now.cut + before.cut)
+        moved, cut_off = moved_points(pairs), now.cut + before.cut
+        others = [other for other in self.changes[entry.token] if other != number][-MOST_OTHERS:]
+        return Method(item, pairs, counts, bool(before.lines), moved, list(named), cut_off, others)
 
     def _whole_method(self, number: int, entry: Entry, most: int) -> Any:
         """A method with its body: all of it, where that is longer than `most` what differs, None where that is too."""
@@ -281,7 +290,7 @@ class Page:
         """The methods of a generation as they are on the page, and how many of them are without their bodies."""
         items, cut_off = [], 0
         for i, entry in enumerate(entries):
-            most = max(share // (len(entries) - i), min(share, 12_000)) + METHOD_BYTES
+            most = max(share // (len(entries) - i), share // 3, min(share, 12_000)) + METHOD_BYTES
             made = self._whole_method(number, entry, most) if share > LEAST_BYTES else None
             if made is None:
                 cut_off += 1
