@@ -28,15 +28,18 @@ typedef void *enc_handle;
  * ENC_SHORT, nothing is written but the refusal at ENC_REFUSED. */
 enum {
     ENC_DONE = 0,    /* all is done */
-    ENC_REFUSED = 1, /* the files break a rule, which `refusal` names with its place */
+    ENC_REFUSED = 1, /* what is given breaks a rule, or what would be written a limit: `refusal` names it with its place */
     ENC_MEMORY = 3,  /* there is no memory */
     ENC_CLOSED = 7,  /* the handle is closed */
     ENC_OPEN = 8,    /* the handle is open already */
-    ENC_SHORT = 9,   /* the buffer is too short: nothing is copied, and `size` has what is needed */
+    ENC_SHORT = 9,   /* a buffer is too short: nothing is copied, and each `size` has what is needed */
     ENC_ABSENT = 10, /* there is no such row, entry, body or document; a stream that is no heap has no entry */
     ENC_UNLIKE = 11, /* the column, the table or the row isn't of the kind that is asked for, or the numbers name no
                       * stream or no refusal */
-    ENC_LATER = 12   /* there is no such generation */
+    ENC_LATER = 12,  /* there is no such generation */
+    ENC_LIMIT = 13,  /* a stated limit is passed: `enc_merge` where a delta's metadata or code has more than 2^26 bytes,
+                      * `enc_spawn` where there are 64 tasks */
+    ENC_FEW = 14     /* `enc_merge` where there are fewer than two deltas */
 };
 
 /* The kinds of places of a refusal. */
@@ -53,7 +56,10 @@ enum {
     ENC_AT_ROW = 9,      /* table, row */
     ENC_AT_CELL = 10,    /* table, row, column */
     ENC_AT_OWNER = 11,   /* table, row: of the child */
-    ENC_AT_LOG = 12      /* entry */
+    ENC_AT_LOG = 12,     /* entry */
+    ENC_AT_JSON = 13,    /* the text of an edit list */
+    ENC_AT_EDIT = 14,    /* entry: the edit, or 0 for the list as a whole */
+    ENC_AT_IMAGE = 15    /* the image that would be written */
 };
 
 /* Streams. Those up to ENC_GUIDS are heaps. For the others `enc_locate_heap` answers ENC_ABSENT, and for a
@@ -69,16 +75,18 @@ enum {
     ENC_JTD = 7
 };
 
-/* The first rule that files break, and where. What the place doesn't have is 0. */
+/* The first rule that is broken, and where. What the place doesn't have is 0. Letters: F and E of files, E at
+ * ENC_AT_EDIT of edits, J of the text of an edit list, L4 of a limit of what would be written (ENC_AT_STREAM or
+ * ENC_AT_IMAGE), G1 of a row that lies too deep in others to be merged (ENC_AT_ROW). */
 typedef struct {
-    uint8_t letter; /* 'F' or 'E' */
+    uint8_t letter; /* 'F', 'E', 'J', 'L' or 'G' */
     uint8_t rule;
     uint8_t place;
     uint8_t stream;
     uint8_t table;
     uint8_t column; /* from 0 in the order of ECMA-335 II.22 */
     uint32_t row;   /* from 1 */
-    uint32_t entry; /* of EncLog, from 1 */
+    uint32_t entry; /* of EncLog, or the number of an edit, from 1 */
 } enc_refusal;
 
 /* Where a row or an entry of a heap stands: its generation, 0 for the base, and its position there:
@@ -106,12 +114,53 @@ typedef struct {
     uint32_t end_column;
 } enc_point;
 
+/* A pair of a map for `enc_may_remap` and `enc_remap`: where a frame stands in its body, and where it is to stand in the
+ * newest one. */
+typedef struct {
+    uint32_t from;
+    uint32_t to;
+} enc_pair;
+
+/* An exception clause; its code goes from the first offset to one past the last byte. */
+typedef struct {
+    uint32_t kind; /* 0 for exceptions of a class, 1 for those that a filter takes, 2 finally, 4 fault */
+    uint32_t try_begin;
+    uint32_t try_end;
+    uint32_t handler_begin;
+    uint32_t handler_end;
+    uint32_t extra; /* the token of the class, or the offset of the filter; 0 of the others */
+} enc_clause;
+
+/* A token of a generation's EncMap. */
+typedef struct {
+    uint32_t token;
+    uint32_t inserted; /* 1 of a row that the generation inserts, 0 of one that it updates */
+} enc_entry;
+
+/* How many bytes of #Strings, #US and #Blob count in a generation's own file, and how many whole entries
+ * its #GUID has. */
+typedef struct {
+    uint32_t strings;
+    uint32_t users;
+    uint32_t blobs;
+    uint32_t guids;
+} enc_heap_lengths;
+/* A row that moves: the numbers of its token and of the one that it becomes. */
+typedef struct {
+    uint32_t from;
+    uint32_t to;
+} enc_move;
+
 /* Judges a base, with its Portable PDB where that has bytes, and opens a closed handle. */
 uint32_t enc_open(enc_handle *handle, const uint8_t *bytes, size_t length, const uint8_t *pdb, size_t pdb_length, enc_refusal *refusal);
 
 /* Judges a delta after those before it, with its PDB where that has bytes, and adds it. Where it isn't
  * added, the handle stays as it was. */
 uint32_t enc_apply(enc_handle *handle, const uint8_t *metadata, size_t metadata_length, const uint8_t *il, size_t il_length,
+                   const uint8_t *pdb, size_t pdb_length, enc_refusal *refusal);
+
+/* Judges a delta as `enc_apply` does, and adds nothing. */
+uint32_t enc_check(enc_handle *handle, const uint8_t *metadata, size_t metadata_length, const uint8_t *il, size_t il_length,
                    const uint8_t *pdb, size_t pdb_length, enc_refusal *refusal);
 
 /* Closes a handle and frees what it held; ENC_CLOSED where it was closed before. */
@@ -134,6 +183,15 @@ uint32_t enc_token(enc_handle *handle, uint32_t token, uint8_t column, uint32_t 
 /* The owner of a row of Field, MethodDef, Param, Event or Property. */
 uint32_t enc_owner(enc_handle *handle, uint32_t token, uint32_t *owner);
 
+/* How long a generation's own heaps are, and how many rows a table had after the first so many deltas. */
+uint32_t enc_lengths(enc_handle *handle, uint32_t generation, enc_heap_lengths *lengths);
+uint32_t enc_count_at(enc_handle *handle, uint32_t generation, uint8_t table, uint32_t *count);
+
+/* The type with these names, in UTF-8; nested in another, or in none where that is 0. Of several it is the first. It
+ * goes over the rows of TypeDef, or over those of NestedClass. */
+uint32_t enc_find_type(enc_handle *handle, uint32_t enclosing, const uint8_t *space, size_t space_length, const uint8_t *name,
+                       size_t name_length, uint32_t *token);
+
 /* The calls below copy into a buffer of `length` items and tell how many there are in `size`. */
 
 /* The rows of a row's children in a child table. */
@@ -153,12 +211,195 @@ uint32_t enc_row(enc_handle *handle, uint32_t token, uint8_t *buffer, size_t len
 /* The code of a method's newest body, without its header, and what that says. */
 uint32_t enc_code(enc_handle *handle, uint32_t method, uint8_t *buffer, size_t length, size_t *size, enc_code_head *head);
 
+/* The exception clauses of a method's body. */
+uint32_t enc_clauses(enc_handle *handle, uint32_t method, enc_clause *buffer, size_t length, size_t *size);
+
+/* The bytes of the UTF-16 units of the user text at an offset of the joined heap, as `ldstr` names it (without 70 in the
+ * top byte). */
+uint32_t enc_user_text(enc_handle *handle, uint32_t offset, uint8_t *buffer, size_t length, size_t *size);
+
+/* The tokens of a generation's EncMap but the Module's, in its order; the base has none. */
+uint32_t enc_entries(enc_handle *handle, uint32_t generation, enc_entry *buffer, size_t length, size_t *size);
+
+/* The rows of Field, MethodDef, Param, Event or Property with this name that belong to a row: to a type (its events and
+ * properties too), to a method, or to a row of EventMap or PropertyMap. It goes over the children of that row alone, and
+ * for the events and properties of a type over their map. */
+uint32_t enc_find_member(enc_handle *handle, uint32_t owner, uint8_t table, const uint8_t *name, size_t name_length,
+                         uint32_t *buffer, size_t length, size_t *size);
+
 /* The sequence points of a method, and the name of a document that one of them has. */
 uint32_t enc_points(enc_handle *handle, uint32_t method, enc_point *buffer, size_t length, size_t *size);
 uint32_t enc_document(enc_handle *handle, uint32_t method, uint32_t number, uint8_t *buffer, size_t length, size_t *size);
 
+/* What was after the first `generation` deltas, though more were applied since: the row as `enc show` printed it then, the
+ * code, the points and a document of a method. ENC_LATER where there is no such generation. A look-up takes the time of
+ * one now, and some more that is logarithmic in the number of generations. */
+uint32_t enc_row_at(enc_handle *handle, uint32_t generation, uint32_t token, uint8_t *buffer, size_t length, size_t *size);
+uint32_t enc_code_at(enc_handle *handle, uint32_t generation, uint32_t method, uint8_t *buffer, size_t length, size_t *size,
+                     enc_code_head *head);
+uint32_t enc_points_at(enc_handle *handle, uint32_t generation, uint32_t method, enc_point *buffer, size_t length, size_t *size);
+uint32_t enc_document_at(enc_handle *handle, uint32_t generation, uint32_t method, uint32_t number, uint8_t *buffer,
+                         size_t length, size_t *size);
+
+/* For a host with frames of its own: whether a frame of a method may go on in the method's newest body. It has the body that
+ * the method had after the first `generation` deltas and stands at an offset of it; the map leads from offsets to offsets.
+ * `rule` is 0 where it may, and else the first that is broken (docs/scripts.md has them as Q3 to Q7):
+ * 3 no visible point stands at its offset; 4 no pair leads from there; 5 where it leads no instruction with a visible point
+ * begins; 6 the local variables aren't those of the old body and perhaps more, or the interpreter doesn't run the new one;
+ * 7 a handler begins where it leads. Its stack and its running handlers are the host's matter. */
+uint32_t enc_may_remap(enc_handle *handle, uint32_t method, uint32_t generation, uint32_t offset, const enc_pair *map,
+                       size_t length, uint32_t *rule);
+/* The calls below write files into buffers, each with its size. Where one of the buffers is too short none is
+ * written, and all sizes are told. The handle stays as it is. They do their work again each time: ask for the
+ * sizes first, or give room enough. */
+
+/* The one module that has all edits, and its PDB. ENC_REFUSED with L4 where one passes a limit. */
+uint32_t enc_save(enc_handle *handle, uint8_t *image, size_t image_length, size_t *image_size,
+                  uint8_t *pdb, size_t pdb_length, size_t *pdb_size, enc_refusal *refusal);
+
+/* The same with its rows in the order of an ordinary module (ECMA-335 II.22), and the rows that move, by rising
+ * tokens `from`. */
+uint32_t enc_compact(enc_handle *handle, uint8_t *image, size_t image_length, size_t *image_size,
+                     uint8_t *pdb, size_t pdb_length, size_t *pdb_size,
+                     enc_move *moves, size_t moves_length, size_t *moves_size, enc_refusal *refusal);
+
+/* One delta that stands for the last two: its metadata, its code and its PDB. ENC_FEW, or ENC_LIMIT; or
+ * ENC_REFUSED with L4 where its PDB passes its limit, or with G1 where a reference lies too deep in others. */
+uint32_t enc_merge(enc_handle *handle, uint8_t *metadata, size_t metadata_length, size_t *metadata_size,
+                   uint8_t *il, size_t il_length, size_t *il_size,
+                   uint8_t *pdb, size_t pdb_length, size_t *pdb_size, enc_refusal *refusal);
+
+/* The delta of an edit list, which is JSON (docs/edits.md): ENC_REFUSED with J1 where it is none, with J2 and the
+ * edit that isn't of the form, or with the rule of edits that one breaks. */
+uint32_t enc_write(enc_handle *handle, const uint8_t *json, size_t json_length,
+                   uint8_t *metadata, size_t metadata_length, size_t *metadata_size,
+                   uint8_t *il, size_t il_length, size_t *il_size,
+                   uint8_t *pdb, size_t pdb_length, size_t *pdb_size, enc_refusal *refusal);
+
 /* The words of a refusal as the program prints them, with the end of the line: `E16 06000001\n`. */
 uint32_t enc_words(const enc_refusal *refusal, uint8_t *buffer, size_t length, size_t *size);
+
+/* A session: tasks that make steps over a base while deltas are applied to it. It is closed where it is NULL, and is
+ * no enc_handle: what is said of handles above holds for it too. Each call enters the newest body of its method, and a
+ * frame that is under way goes on in the body with which it began, or that of its last remap. */
+typedef void *enc_session;
+
+/* How many steps ran, and how it stands with the task. */
+typedef struct {
+    uint32_t ran;   /* one that trapped isn't counted, and one with which the task ended is */
+    uint32_t state; /* ENC_RUNNING, ENC_ENDED or ENC_TRAPPED */
+    uint32_t trap;  /* 1 to 14 for X1 to X14 where it trapped, and else 0 */
+} enc_stepped;
+
+enum {
+    ENC_RUNNING = 0,
+    ENC_ENDED = 1,
+    ENC_TRAPPED = 2
+};
+
+/* What came of a remap. */
+typedef struct {
+    uint32_t rule; /* 0 where the frame was moved, and else the first of Q1 to Q7 that is broken; then the rest is 0 */
+    uint32_t method;
+    uint32_t from;
+    uint32_t to;
+} enc_remapped;
+
+/* A frame of a task. */
+typedef struct {
+    uint32_t method;     /* its token */
+    uint32_t generation; /* that brought the body with which it began, or that of its last remap; 0 for the base */
+    uint32_t offset;     /* of its next instruction, in bytes */
+    uint32_t line;       /* the start line of its body's last point that isn't hidden at or before the offset, or 0 */
+    uint32_t arguments;  /* how many it has */
+    uint32_t locals;
+    uint32_t stack;
+} enc_frame;
+
+/* What a frame holds. */
+enum {
+    ENC_ARGUMENTS = 0,
+    ENC_LOCALS = 1,
+    ENC_STACK = 2 /* from the bottom up */
+};
+
+/* A value. */
+typedef struct {
+    uint32_t kind;
+    uint32_t object; /* the number of the object, from 1, and else 0 */
+    int64_t number;  /* the integer, and else 0 */
+} enc_value;
+
+enum {
+    ENC_INT32 = 0,
+    ENC_INT64 = 1,
+    ENC_NULL = 2,
+    ENC_OBJECT = 3
+};
+
+/* An event. What its kind doesn't have is 0. */
+typedef struct {
+    uint32_t kind;
+    uint32_t task;   /* from 1 */
+    uint32_t method; /* its token */
+    uint32_t detail;
+} enc_event;
+
+enum {
+    ENC_SPAWNED = 1,       /* task, method */
+    ENC_ENTERED = 2,       /* task, method */
+    ENC_LEFT = 3,          /* task, method */
+    ENC_LINE = 4,          /* task, method; detail is the line */
+    ENC_APPLIED = 5,       /* detail is the generation */
+    ENC_DELTA_REFUSED = 6, /* detail is the letter of the rule times 256, and its number */
+    ENC_TASK_TRAPPED = 7,  /* task; detail is the number of the trap */
+    ENC_TASK_ENDED = 8     /* task */
+};
+
+/* Judges a base, with its PDB where that has bytes, and opens a closed session: no task, and no event. There can be
+ * `limit` events that `enc_events` has not taken; memory for them is taken here. A call that might pass the limit
+ * returns ENC_SHORT before it does anything: a spawn tells at most 3 events, a step at most 4, a delta 1. */
+uint32_t enc_session_open(enc_session *session, const uint8_t *bytes, size_t length, const uint8_t *pdb, size_t pdb_length,
+                          uint32_t limit, enc_refusal *refusal);
+
+/* Closes a session and frees what it held; ENC_CLOSED where it was closed before. */
+uint32_t enc_session_close(enc_session *session);
+
+/* Begins a task with a method, and tells its number, from 1. ENC_LIMIT where there are 64 tasks; ENC_UNLIKE where the
+ * method isn't a static one without parameters, or the interpreter doesn't run it or its type's constructor. */
+uint32_t enc_spawn(enc_session *session, uint32_t method, uint32_t *task);
+
+/* Makes at most `count` steps of a task, until it ends or traps. ENC_ABSENT where no task has the number, and then
+ * ENC_SHORT where 4 * count events more might pass the limit. At ENC_MEMORY `stepped` is written too: the steps that
+ * it counts were made and stand, and are fewer than `count`. In all other cases of ENC_MEMORY nothing has changed. */
+uint32_t enc_step(enc_session *session, uint32_t task, uint32_t count, enc_stepped *stepped);
+
+/* Judges a delta after those before it, with its PDB where that has bytes, and applies it. Where it is refused, that is
+ * an event, and all else stays as it was. */
+uint32_t enc_session_apply(enc_session *session, const uint8_t *metadata, size_t metadata_length, const uint8_t *il,
+                           size_t il_length, const uint8_t *pdb, size_t pdb_length, enc_refusal *refusal);
+
+/* Has the innermost frame of a task go on in the newest body of its method, where the map leads from its offset. */
+uint32_t enc_remap(enc_session *session, uint32_t task, const enc_pair *map, size_t length, enc_remapped *remapped);
+
+/* The state of all tasks and objects, as a script's `state` prints it. */
+uint32_t enc_state(enc_session *session, uint8_t *buffer, size_t length, size_t *size);
+
+/* How it stands with a task; `ran` is 0. ENC_ABSENT where no task has the number. */
+uint32_t enc_task(enc_session *session, uint32_t task, enc_stepped *stepped);
+
+/* The frames of a task, from the outermost; none of a task that has ended. ENC_ABSENT where no task has the number. */
+uint32_t enc_frames(enc_session *session, uint32_t task, enc_frame *buffer, size_t length, size_t *size);
+
+/* The arguments, locals or stack of a frame, which is counted from 0 for the outermost. ENC_UNLIKE where `which` is
+ * none of them, and then ENC_ABSENT where there is no such task or frame. */
+uint32_t enc_values(enc_session *session, uint32_t task, uint32_t frame, uint32_t which, enc_value *buffer, size_t length,
+                    size_t *size);
+
+/* All events, and all lines that steps wrote or with which tasks ended or trapped, since the last call that returned
+ * ENC_DONE. At ENC_SHORT all of them stay: none is lost. */
+uint32_t enc_events(enc_session *session, enc_event *buffer, size_t length, size_t *size);
+uint32_t enc_output(enc_session *session, uint8_t *buffer, size_t length, size_t *size);
 
 #ifdef __cplusplus
 }

@@ -25,7 +25,10 @@ sealed class HotReloadHost : IDisposable
     // The next delta that nobody has seen; null where there is none.
     string Next()
     {
-        return Directory.GetFiles(folder, "*.meta").OrderBy(f => f, StringComparer.Ordinal).FirstOrDefault(seen.Add);
+        IEnumerable<string> left = Directory.GetFiles(folder, "*.meta").Where(f => !seen.Contains(f));
+        string next = left.OrderBy(f => f, StringComparer.Ordinal).FirstOrDefault();
+        if (next != null) seen.Add(next);
+        return next;
     }
 
     // Judges it twice, for the machine and for the names: both say the same.
