@@ -63,16 +63,20 @@ static void show(enc_handle *module, enc_handle *plain, uint32_t g, uint32_t tok
     size_t a = 0, b = 0;
     enc_code_head head = {0, 0, 0}, other = {0, 0, 0};
     uint32_t status = enc_row_at(module, g, token, then, sizeof then, &b);
-    compare(enc_row(plain, token, now, sizeof now, &a), status, a, b, 1);
+    uint32_t wanted = enc_row(plain, token, now, sizeof now, &a);
+    compare(wanted, status, a, b, 1);
     if (status == ENC_DONE) fwrite(then, 1, b, stdout);
     status = enc_code_at(module, g, token, then, sizeof then, &b, &other);
-    compare(enc_code(plain, token, now, sizeof now, &a, &head), status, a, b, 1);
+    wanted = enc_code(plain, token, now, sizeof now, &a, &head);
+    compare(wanted, status, a, b, 1);
     if (memcmp(&head, &other, sizeof head) != 0) exit(1);
     status = enc_points_at(module, g, token, (enc_point *)then, sizeof then / sizeof(enc_point), &b);
-    compare(enc_points(plain, token, (enc_point *)now, sizeof now / sizeof(enc_point), &a), status, a, b, sizeof(enc_point));
+    wanted = enc_points(plain, token, (enc_point *)now, sizeof now / sizeof(enc_point), &a);
+    compare(wanted, status, a, b, sizeof(enc_point));
     uint32_t document = status == ENC_DONE && b > 0 ? ((enc_point *)then)->document : 1;
     status = enc_document_at(module, g, token, document, then, sizeof then, &b);
-    compare(enc_document(plain, token, document, now, sizeof now, &a), status, a, b, 1);
+    wanted = enc_document(plain, token, document, now, sizeof now, &a);
+    compare(wanted, status, a, b, 1);
 }
 
 int main(int count, char **words)
