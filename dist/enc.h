@@ -28,7 +28,7 @@ typedef void *enc_handle;
  * ENC_SHORT, nothing is written but the refusal at ENC_REFUSED. */
 enum {
     ENC_DONE = 0,    /* all is done */
-    ENC_REFUSED = 1, /* what is given breaks a rule, or what would be written a limit: `refusal` names it with its place */
+    ENC_REFUSED = 1, /* what is given breaks a rule, or what would be written a limit: `refusal` has it and the place */
     ENC_MEMORY = 3,  /* there is no memory */
     ENC_CLOSED = 7,  /* the handle is closed */
     ENC_OPEN = 8,    /* the handle is open already */
@@ -114,8 +114,8 @@ typedef struct {
     uint32_t end_column;
 } enc_point;
 
-/* A pair of a map for `enc_may_remap` and `enc_remap`: where a frame stands in its body, and where it is to stand in the
- * newest one. */
+/* A pair of a map for `enc_may_remap` and `enc_remap`: where a frame stands in its body, and where it is to stand in
+ * the newest one. */
 typedef struct {
     uint32_t from;
     uint32_t to;
@@ -152,16 +152,17 @@ typedef struct {
 } enc_move;
 
 /* Judges a base, with its Portable PDB where that has bytes, and opens a closed handle. */
-uint32_t enc_open(enc_handle *handle, const uint8_t *bytes, size_t length, const uint8_t *pdb, size_t pdb_length, enc_refusal *refusal);
+uint32_t enc_open(enc_handle *handle, const uint8_t *bytes, size_t length, const uint8_t *pdb, size_t pdb_length,
+                  enc_refusal *refusal);
 
 /* Judges a delta after those before it, with its PDB where that has bytes, and adds it. Where it isn't
  * added, the handle stays as it was. */
-uint32_t enc_apply(enc_handle *handle, const uint8_t *metadata, size_t metadata_length, const uint8_t *il, size_t il_length,
-                   const uint8_t *pdb, size_t pdb_length, enc_refusal *refusal);
+uint32_t enc_apply(enc_handle *handle, const uint8_t *metadata, size_t metadata_length, const uint8_t *il,
+                   size_t il_length, const uint8_t *pdb, size_t pdb_length, enc_refusal *refusal);
 
 /* Judges a delta as `enc_apply` does, and adds nothing. */
-uint32_t enc_check(enc_handle *handle, const uint8_t *metadata, size_t metadata_length, const uint8_t *il, size_t il_length,
-                   const uint8_t *pdb, size_t pdb_length, enc_refusal *refusal);
+uint32_t enc_check(enc_handle *handle, const uint8_t *metadata, size_t metadata_length, const uint8_t *il,
+                   size_t il_length, const uint8_t *pdb, size_t pdb_length, enc_refusal *refusal);
 
 /* Closes a handle and frees what it held; ENC_CLOSED where it was closed before. */
 uint32_t enc_close(enc_handle *handle);
@@ -189,8 +190,8 @@ uint32_t enc_count_at(enc_handle *handle, uint32_t generation, uint8_t table, ui
 
 /* The type with these names, in UTF-8; nested in another, or in none where that is 0. Of several it is the first. It
  * goes over the rows of TypeDef, or over those of NestedClass. */
-uint32_t enc_find_type(enc_handle *handle, uint32_t enclosing, const uint8_t *space, size_t space_length, const uint8_t *name,
-                       size_t name_length, uint32_t *token);
+uint32_t enc_find_type(enc_handle *handle, uint32_t enclosing, const uint8_t *space, size_t space_length,
+                       const uint8_t *name, size_t name_length, uint32_t *token);
 
 /* The calls below copy into a buffer of `length` items and tell how many there are in `size`. */
 
@@ -209,44 +210,48 @@ uint32_t enc_guid(enc_handle *handle, uint32_t token, uint8_t column, uint8_t *b
 uint32_t enc_row(enc_handle *handle, uint32_t token, uint8_t *buffer, size_t length, size_t *size);
 
 /* The code of a method's newest body, without its header, and what that says. */
-uint32_t enc_code(enc_handle *handle, uint32_t method, uint8_t *buffer, size_t length, size_t *size, enc_code_head *head);
+uint32_t enc_code(enc_handle *handle, uint32_t method, uint8_t *buffer, size_t length, size_t *size,
+                  enc_code_head *head);
 
 /* The exception clauses of a method's body. */
 uint32_t enc_clauses(enc_handle *handle, uint32_t method, enc_clause *buffer, size_t length, size_t *size);
 
-/* The bytes of the UTF-16 units of the user text at an offset of the joined heap, as `ldstr` names it (without 70 in the
- * top byte). */
+/* The bytes of the UTF-16 units of the user text at an offset of the joined heap, as `ldstr` names it (without 70 in
+ * the top byte). */
 uint32_t enc_user_text(enc_handle *handle, uint32_t offset, uint8_t *buffer, size_t length, size_t *size);
 
 /* The tokens of a generation's EncMap but the Module's, in its order; the base has none. */
 uint32_t enc_entries(enc_handle *handle, uint32_t generation, enc_entry *buffer, size_t length, size_t *size);
 
 /* The rows of Field, MethodDef, Param, Event or Property with this name that belong to a row: to a type (its events and
- * properties too), to a method, or to a row of EventMap or PropertyMap. It goes over the children of that row alone, and
- * for the events and properties of a type over their map. */
+ * properties too), to a method, or to a row of EventMap or PropertyMap. It goes over the children of that row alone,
+ * and for the events and properties of a type over their map. */
 uint32_t enc_find_member(enc_handle *handle, uint32_t owner, uint8_t table, const uint8_t *name, size_t name_length,
                          uint32_t *buffer, size_t length, size_t *size);
 
 /* The sequence points of a method, and the name of a document that one of them has. */
 uint32_t enc_points(enc_handle *handle, uint32_t method, enc_point *buffer, size_t length, size_t *size);
-uint32_t enc_document(enc_handle *handle, uint32_t method, uint32_t number, uint8_t *buffer, size_t length, size_t *size);
+uint32_t enc_document(enc_handle *handle, uint32_t method, uint32_t number, uint8_t *buffer, size_t length,
+                      size_t *size);
 
-/* What was after the first `generation` deltas, though more were applied since: the row as `enc show` printed it then, the
- * code, the points and a document of a method. ENC_LATER where there is no such generation. A look-up takes the time of
- * one now, and some more that is logarithmic in the number of generations. */
-uint32_t enc_row_at(enc_handle *handle, uint32_t generation, uint32_t token, uint8_t *buffer, size_t length, size_t *size);
-uint32_t enc_code_at(enc_handle *handle, uint32_t generation, uint32_t method, uint8_t *buffer, size_t length, size_t *size,
-                     enc_code_head *head);
-uint32_t enc_points_at(enc_handle *handle, uint32_t generation, uint32_t method, enc_point *buffer, size_t length, size_t *size);
+/* What was after the first `generation` deltas, though more were applied since: the row as `enc show` printed it then,
+ * the code, the points and a document of a method. ENC_LATER where there is no such generation. A look-up takes the
+ * time of one now, and some more that is logarithmic in the number of generations. */
+uint32_t enc_row_at(enc_handle *handle, uint32_t generation, uint32_t token, uint8_t *buffer, size_t length,
+                    size_t *size);
+uint32_t enc_code_at(enc_handle *handle, uint32_t generation, uint32_t method, uint8_t *buffer, size_t length,
+                     size_t *size, enc_code_head *head);
+uint32_t enc_points_at(enc_handle *handle, uint32_t generation, uint32_t method, enc_point *buffer, size_t length,
+                       size_t *size);
 uint32_t enc_document_at(enc_handle *handle, uint32_t generation, uint32_t method, uint32_t number, uint8_t *buffer,
                          size_t length, size_t *size);
 
-/* For a host with frames of its own: whether a frame of a method may go on in the method's newest body. It has the body that
- * the method had after the first `generation` deltas and stands at an offset of it; the map leads from offsets to offsets.
- * `rule` is 0 where it may, and else the first that is broken (docs/scripts.md has them as Q3 to Q7):
- * 3 no visible point stands at its offset; 4 no pair leads from there; 5 where it leads no instruction with a visible point
- * begins; 6 the local variables aren't those of the old body and perhaps more, or the interpreter doesn't run the new one;
- * 7 a handler begins where it leads. Its stack and its running handlers are the host's matter. */
+/* For a host with frames of its own: whether a frame of a method may go on in the method's newest body. It has the body
+ * that the method had after the first `generation` deltas and stands at an offset of it; the map leads from offsets to
+ * offsets. `rule` is 0 where it may, and else the first that is broken (docs/scripts.md has them as Q3 to Q7): 3 no
+ * visible point stands at its offset; 4 no pair leads from there; 5 where it leads no instruction with a visible point
+ * begins; 6 the local variables aren't those of the old body and perhaps more, or the interpreter doesn't run the new
+ * one; 7 a handler begins where it leads. Its stack and its running handlers are the host's matter. */
 uint32_t enc_may_remap(enc_handle *handle, uint32_t method, uint32_t generation, uint32_t offset, const enc_pair *map,
                        size_t length, uint32_t *rule);
 /* The calls below write files into buffers, each with its size. Where one of the buffers is too short none is
@@ -359,8 +364,8 @@ enum {
 /* Judges a base, with its PDB where that has bytes, and opens a closed session: no task, and no event. There can be
  * `limit` events that `enc_events` has not taken; memory for them is taken here. A call that might pass the limit
  * returns ENC_SHORT before it does anything: a spawn tells at most 3 events, a step at most 4, a delta 1. */
-uint32_t enc_session_open(enc_session *session, const uint8_t *bytes, size_t length, const uint8_t *pdb, size_t pdb_length,
-                          uint32_t limit, enc_refusal *refusal);
+uint32_t enc_session_open(enc_session *session, const uint8_t *bytes, size_t length, const uint8_t *pdb,
+                          size_t pdb_length, uint32_t limit, enc_refusal *refusal);
 
 /* Closes a session and frees what it held; ENC_CLOSED where it was closed before. */
 uint32_t enc_session_close(enc_session *session);
@@ -393,8 +398,8 @@ uint32_t enc_frames(enc_session *session, uint32_t task, enc_frame *buffer, size
 
 /* The arguments, locals or stack of a frame, which is counted from 0 for the outermost. ENC_UNLIKE where `which` is
  * none of them, and then ENC_ABSENT where there is no such task or frame. */
-uint32_t enc_values(enc_session *session, uint32_t task, uint32_t frame, uint32_t which, enc_value *buffer, size_t length,
-                    size_t *size);
+uint32_t enc_values(enc_session *session, uint32_t task, uint32_t frame, uint32_t which, enc_value *buffer,
+                    size_t length, size_t *size);
 
 /* All events, and all lines that steps wrote or with which tasks ended or trapped, since the last call that returned
  * ENC_DONE. At ENC_SHORT all of them stay: none is lost. */
