@@ -55,12 +55,14 @@ static void apply(const char *name)
 static void step(uint32_t task, uint32_t count)
 {
     enc_stepped stepped = {0, 0, 0};
+    uint32_t known = enc_task(&session, task, &stepped);
+    if (known == ENC_ABSENT) { printf("task %u absent\n", task); return; }
+    must(known);
+    if (stepped.state != ENC_RUNNING) { printf("task %u idle\n", task); return; }
     for (uint32_t left = count; left > 0;) {
         uint32_t some = left < 1000 ? left : 1000;
         enc_stepped part = {0, 0, 0};
-        uint32_t status = enc_step(&session, task, some, &part);
-        if (status == ENC_ABSENT) { printf("task %u absent\n", task); return; }
-        must(status);
+        must(enc_step(&session, task, some, &part));
         size_t events = 0;
         must(enc_events(&session, (enc_event *)text, sizeof text / sizeof(enc_event), &events));
         put_output();
