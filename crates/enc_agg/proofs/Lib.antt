@@ -34,3 +34,4 @@ pub mod BodyPlaces
 pub mod BlobPlaces
 pub mod Next
 pub mod Following
+pub mod StoredCode

@@ -9,3 +9,4 @@ pub mod Places
 pub mod Earlier
 pub mod Prepared
 pub mod Next
+pub mod Stored

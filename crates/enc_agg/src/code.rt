@@ -5,6 +5,7 @@ ghost use Rattle.enc_plain.specs.Cell.{body};
 ghost use Rattle.enc_plain.specs.Module.{has_row, cell_of};
 ghost use Rattle.enc_schema.specs.Tables.{method_def};
 ghost use Rattle.enc_agg.specs.Seen.{module_of_all, users_of_all, body_with, place_of_all};
+ghost use Rattle.enc_agg.specs.Stored.{code_stored};
 
 use crate::added::{body_in, number};
 use crate::aggregate::Aggregate;
@@ -25,11 +26,13 @@ pub fn place_of_all(generation: u32, place: u32) -> u64
 }
 
 impl Aggregate {
-    /// The parts of a method's body, None where it has none. They mean its body by the user texts of
-    /// all, and by more of them; each text that they name is there.
-    pub(crate) fn code_of(&self, method: Token) -> Option<CodeRef<'_>>
+    /// The parts of a method's body as they stand in the newest file that has it, None where the method
+    /// has none. They mean its body by the user texts of all, and by more of them; each text that they
+    /// name is there.
+    pub fn code_of(&self, method: Token) -> Option<CodeRef<'_>>
         requires row { IsTrue (has_row (module_of_all self.now) method) }
         requires table { method.table ≡ method_def }
+        ensures stored { option_map code_seen result ≡ code_stored self.now.base self.now.deltas method }
         ensures body { (texts : ℕ → Option (List ℕ)) → KeepsTexts (users_of_all self.now) texts → cell_of (module_of_all self.now) method 0 ≡ Some (body (option_map (λ c. body_of texts (code_seen c)) result)) }
         ensures texts { IfSome result (λ c. IsTrue (texts_are_there (users_of_all self.now) c.code.now)) }
         ensures few { IfSome result (λ c. length c.code.now < 2 ^ 32) }

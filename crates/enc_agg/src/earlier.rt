@@ -1,13 +1,17 @@
 //! An aggregate as it was after its first deltas, as a view of the module that they mean.
-ghost use Rattle.std.specs.Prelude.{◌≡◌, ℕ, ◌<◌, ◌≤◌, Some, None, IfOk, IsTrue, length, option_map, reverse, slice_get, refl};
+ghost use Rattle.std.specs.Prelude.{◌≡◌, ℕ, ◌<◌, ◌≤◌, ◌^◌, Some, None, IfOk, IfSome, IsTrue, length, option_map, reverse, slice_get, refl};
+ghost use Rattle.enc_opcodes.specs.Body.{body_of, code_seen, texts_are_there};
 ghost use Rattle.enc_schema.specs.Children.{is_child_table, owner_table};
-ghost use Rattle.enc_plain.specs.Module.{kids_of};
+ghost use Rattle.enc_schema.specs.Tables.{method_def};
+ghost use Rattle.enc_plain.specs.Cell.{body};
+ghost use Rattle.enc_plain.specs.Module.{cell_of, has_row, kids_of};
 ghost use Rattle.enc_plain.specs.Sound.{IsSound};
 ghost use Rattle.enc_places.specs.Places.{KeepsPlaces};
 ghost use Rattle.enc_agg.specs.Earlier.{earlier_of};
 ghost use Rattle.enc_agg.specs.Place.{place_of};
 ghost use Rattle.enc_agg.specs.Places.{every_place};
 ghost use Rattle.enc_agg.specs.Seen.{sources, found_in, found_seen, module_of_all, chain_of_all, users_of_all, body_of_all, blob_of_all};
+ghost use Rattle.enc_agg.specs.Stored.{code_stored};
 
 use crate::added::{Added, Found, body_in, count_in, id_in, lengths_in, number};
 use crate::aggregate::Aggregate;
@@ -99,6 +103,28 @@ impl Earlier<'_> {
                 row: token.row,
             },
         }
+    }
+
+    /// The parts of a method's body as they stood in the newest file that had it, None where the method
+    /// had none. They mean its body by the user texts of these generations, each of which is there.
+    pub fn code_of(&self, method: Token) -> Option<CodeRef<'_>>
+        requires row { IsTrue (has_row (module_of_all self.now) method) }
+        requires table { method.table ≡ method_def }
+        ensures stored { option_map code_seen result ≡ code_stored self.now.base self.now.deltas method }
+        ensures body { cell_of (module_of_all self.now) method 0 ≡ Some (body (option_map (λ c. body_of (users_of_all self.now) (code_seen c)) result)) }
+        ensures texts { IfSome result (λ c. IsTrue (texts_are_there (users_of_all self.now) c.code.now)) }
+        ensures few { IfSome result (λ c. length c.code.now < 2 ^ 32) }
+        ensures short { IfSome result (λ c. length c.sections.now < 2 ^ 32) }
+    {
+        let Some(found) = find(self.added, self.places, method) else {
+            return self.image.body(method);
+        };
+        let place = number(
+            found.upto,
+            row_found(method.table, found.row),
+            METHOD_DEF_RVA,
+        );
+        body_in(found.upto, place)
     }
 
     /// How many of a row's children in a child table were there: searched for by halves, since those
@@ -194,15 +220,7 @@ impl ModuleView for Earlier<'_> {
     }
 
     fn code(&self, method: Token) -> Option<CodeRef<'_>> {
-        let Some(found) = find(self.added, self.places, method) else {
-            return self.image.body(method);
-        };
-        let place = number(
-            found.upto,
-            row_found(method.table, found.row),
-            METHOD_DEF_RVA,
-        );
-        body_in(found.upto, place)
+        self.code_of(method)
     }
 
     fn code_place(&self, method: Token) -> u64 {

@@ -26,6 +26,11 @@ abbrev pub body_lent : (ℕ → Option (List ℕ)) → Result CodeRef Status →
 body_lent users (Ok c) = Ok (body_of users (code_seen c))
 body_lent users (Err s) = Err s
 
+-- the code of a method: the body that it means, with these user texts, and the code as it stands in its file
+abbrev pub LendsCode : (ℕ → Option (List ℕ)) → Option Code → Result CodeRef Status → Result Body Status → Type 0
+LendsCode users stored (Ok c) said = (said ≡ Ok (body_of users (code_seen c))) × (stored ≡ Some (code_seen c))
+LendsCode users stored (Err s) said = said ≡ Err s
+
 -- what stands before the code: the most values on the stack, the row of the local signature, 0 where there is none, and whether locals begin as zeros
 abbrev pub head_of : Code → CodeHead
 head_of c = record { stack = c.max; locals = c.locals.row; init = if c.init then 1 else 0 }
@@ -36,9 +41,9 @@ CopiesCode number old new before count head head_new (Ok c) = IsCopiedOut number
 CopiesCode number old new before count head head_new (Err s) =
     (number ≡ number_of_status s) × (new ≡ old) × (count ≡ before) × (head_new ≡ head)
 
--- so it is of the code that means the body
-abbrev pub TellsBody : (ℕ → Option (List ℕ)) → ℕ → List ℕ → List ℕ → ℕ → ℕ → CodeHead → CodeHead → Result Body Status → Type 0
-TellsBody users number old new before count head head_new (Ok b) =
-    (c : Code) × (b ≡ body_of users c) × IsCopiedOut number old new count c.code × (head_new ≡ head_of c)
-TellsBody users number old new before count head head_new (Err s) =
+-- so it is of the code that stands for the method, where it has one; it means the body
+abbrev pub TellsBody : (ℕ → Option (List ℕ)) → Option Code → ℕ → List ℕ → List ℕ → ℕ → ℕ → CodeHead → CodeHead → Result Body Status → Type 0
+TellsBody users stored number old new before count head head_new (Ok b) =
+    (c : Code) × (stored ≡ Some c) × (b ≡ body_of users c) × IsCopiedOut number old new count c.code × (head_new ≡ head_of c)
+TellsBody users stored number old new before count head head_new (Err s) =
     (number ≡ number_of_status s) × (new ≡ old) × (count ≡ before) × (head_new ≡ head)

@@ -2,6 +2,7 @@
 use Rattle.std.specs.Prelude.{ℕ, ◌-◌, ◌⊎◌, List, drop, length, Option, Some, None, Result, Ok, Err}
 use Rattle.enc_base.specs.declared.token.Token.{Token}
 use Rattle.enc_meta.specs.Joined.{joined_user}
+use Rattle.enc_agg.specs.Stored.{code_stored}
 use Rattle.enc_opcodes.specs.Body.{Body}
 use Rattle.enc_remap.specs.Asked.{may_remap}
 use Rattle.enc_remap.specs.declared.asked.Standing.{Standing}
@@ -38,9 +39,10 @@ asked_document_at s g t number = of_generation s g (asked_document (state_at g s
 
 -- the body is told of an open handle, by the user texts of the first so many generations
 unfoldable pub TellsBodyAt : Option State → ℕ → Token → ℕ → List ℕ → List ℕ → ℕ → ℕ → CodeHead → CodeHead → Type 0
-TellsBodyAt None g t number old new before count head head_new = TellsBody (λ (offset : ℕ). None) number old new before count head head_new (Err Closed)
+TellsBodyAt None g t number old new before count head head_new = TellsBody (λ (offset : ℕ). None) None number old new before count head head_new (Err Closed)
 TellsBodyAt (Some s) g t number old new before count head head_new =
-    TellsBody (joined_user (chain_after (state_at g s)).heaps) number old new before count head head_new (asked_body_at s g t)
+    TellsBody (joined_user (chain_after (state_at g s)).heaps) (code_stored (state_at g s).base (state_at g s).deltas t) number old new before count head head_new
+    (asked_body_at s g t)
 
 -- the number of the first rule that a move breaks, 0 where it breaks none; a method without a body has no frames
 abbrev pub rule_told : Option (Option ℕ) → Result ℕ Status

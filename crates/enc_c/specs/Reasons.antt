@@ -1,9 +1,16 @@
 -- Why something is refused, by numbers, and its words.
-use Rattle.std.specs.Prelude.{◌≡◌, ℕ, ◌==◌, ◌&&◌, if◌then◌else◌, List, ◌∷◌, [], ◌++◌, codes, decimal}
+use Rattle.std.specs.Prelude.{◌≡◌, ℕ, ◌==◌, Bool, true, false, not, ◌&&◌, ◌||◌, nat_le, nat_lt, if◌then◌else◌, List, ◌∷◌, [], ◌++◌, codes, decimal, length}
 use Rattle.std.specs.Prelude.{Option, Some, None, option_map, Result, Ok, Err}
+use Rattle.enc_base.specs.declared.refusal.Code.{Code}
+use Rattle.enc_base.specs.declared.refusal.Code.TheVariants.{F, E}
+use Rattle.enc_base.specs.declared.refusal.Place.{Place}
+use Rattle.enc_base.specs.declared.refusal.Place.TheVariants as place
 use Rattle.enc_base.specs.declared.refusal.Refusal.{Refusal}
 use Rattle.enc_base.specs.declared.refusal.StreamName.{StreamName}
 use Rattle.enc_jobs.specs.declared.fault.JobFault.TheVariants as fault
+use Rattle.enc_schema.specs.Children.{is_child_table}
+use Rattle.enc_schema.specs.Schema.{columns_in}
+use Rattle.enc_schema.specs.Tables as tables
 use Rattle.enc_text.specs.Text.{refused_line, token_text}
 use Rattle.enc_words.specs.Lines.{broken_line, deep_line, fault_text, limit_line, limit_text, unlisted_line}
 use Rattle.enc_words.specs.declared.limits.Limit.TheVariants as limit
@@ -77,9 +84,37 @@ line_of_reason name (Deep t) = deep_line name t
 abbrev pub WordsStandInLines : Type 0
 WordsStandInLines = (name : List ℕ) (r : Reason) → line_of_reason name r ≡ codes "refused " ++ name ++ 0x20 ∷ words_of_reason r
 
+-- the rules of files: F1 to F12, and E1 to E24
+abbrev pub is_rule : Code → Bool
+is_rule (F n) = nat_le 1 n && nat_le n 12
+is_rule (E n) = nat_le 1 n && nat_le n 24
+
+-- the rules of edits
+abbrev pub is_edit_rule : ℕ → Bool
+is_edit_rule n = n == 4 || n == 5 || n == 6 || n == 10 || n == 12 || n == 13 || n == 16 || nat_le 18 n && nat_le n 24
+
+-- the rules that tell a token as EncMap or EncLog has it, also of a table that there isn't
+abbrev pub tells_any_token : Code → Bool
+tells_any_token (F n) = false
+tells_any_token (E n) = n == 6 || n == 7 || n == 9
+
+-- a place that the tables of the schema have
+abbrev pub is_place : Code → Place → Bool
+is_place code (place.Row t) = not (length (columns_in t.table) == 0) || tells_any_token code
+is_place code (place.Cell t column) = nat_lt column (length (columns_in t.table))
+is_place code (place.Owner t) = is_child_table t.table
+is_place code _ = true
+
+-- a reason that there is: a rule, and a place of the schema
+abbrev pub is_reason : Reason → Bool
+is_reason (File e) = is_rule e.code && is_place e.code e.place
+is_reason (Edit rule n) = is_edit_rule rule
+is_reason (Deep t) = t.table == tables.type_ref || t.table == tables.type_spec
+is_reason _ = true
+
 -- the words of a reason, where there is one
 abbrev pub words_told : Option Reason → Result (List ℕ) Status
-words_told (Some r) = Ok (words_of_reason r)
+words_told (Some r) = if is_reason r then Ok (words_of_reason r) else Err Unlike
 words_told None = Err Unlike
 
 -- the words of the reason that numbers say

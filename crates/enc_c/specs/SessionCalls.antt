@@ -15,7 +15,7 @@ use Rattle.enc_session.specs.States.{state_text}
 use Rattle.enc_session.specs.declared.looks.FrameFacts.{FrameFacts}
 use Rattle.enc_session.specs.declared.looks.FramePart.{FramePart}
 use Rattle.enc_c.specs.Copied.{IsCopiedOut}
-use Rattle.enc_c.specs.Outcomes.{Stays}
+use Rattle.enc_c.specs.Outcomes.{ChangesOrStays, Stays}
 use Rattle.enc_c.specs.Refusals.{numbers_of}
 use Rattle.enc_c.specs.SessionNumbers.{stepped_numbers, event_numbers, frame_numbers, value_numbers, part_by, remapped_numbers}
 use Rattle.enc_c.specs.State.{State, given_bytes}
@@ -27,12 +27,26 @@ use Rattle.enc_c.specs.declared.session_numbers.RemappedNumbers.{RemappedNumbers
 use Rattle.enc_c.specs.declared.session_numbers.SteppedNumbers.{SteppedNumbers}
 use Rattle.enc_c.specs.declared.session_numbers.ValueNumbers.{ValueNumbers}
 use Rattle.enc_c.specs.declared.status.Status.{Status}
-use Rattle.enc_c.specs.declared.status.Status.TheVariants.{Done, Refused, Memory, Closed, Short, Absent, Unlike, Limit}
+use Rattle.enc_c.specs.declared.status.Status.TheVariants.{Done, Refused, Memory, Closed, Open, Short, Absent, Unlike, Limit, Few}
 
 -- a session over a base that was opened: no deltas, and nothing recorded
 abbrev pub session_over : Result State Refusal → ℕ → Result Recorded Refusal
 session_over (Ok s) limit = Ok (recorded_base s.base s.pdb limit)
 session_over (Err e) limit = Err e
+
+-- how many events so many steps tell at most
+abbrev pub events_of_steps : ℕ → ℕ
+events_of_steps count = 4 * count
+
+-- a closed session is opened where its limit lets it make a step
+abbrev pub OpensWith : Bool → ℕ → Option Recorded → RefusalNumbers → RefusalNumbers → Result Recorded Refusal → Type 0
+OpensWith true status new refusal refusal_new said = ChangesOrStays status None new refusal refusal_new said
+OpensWith false status new refusal refusal_new said = Stays Few status None new refusal refusal_new
+
+-- a session that is open stays as it is
+abbrev pub OpensSession : ℕ → Option Recorded → Option Recorded → RefusalNumbers → RefusalNumbers → ℕ → Result Recorded Refusal → Type 0
+OpensSession status None new refusal refusal_new limit said = OpensWith (nat_le (events_of_steps 1) limit) status new refusal refusal_new said
+OpensSession status (Some r) new refusal refusal_new limit said = Stays Open status (Some r) new refusal refusal_new
 
 -- a session is changed, and a value is told; or the status says why not, and all stays
 abbrev pub ChangesAndTells : {A : Type 0} → ℕ → Option Recorded → Option Recorded → A → A → Result (A × Recorded) Status → Type 0
@@ -47,6 +61,10 @@ ChangesOrRunsOut status old new told told_new said =
 -- a call is made where there is room for so many events more, and else the status says that there is none
 abbrev pub with_event_room : {A : Type 0} → ℕ → Recorded → Result A Status → Result A Status
 with_event_room more r answer = if nat_le (length r.events + more) r.limit then answer else Err Short
+
+-- a call is made where the limit has room for so many events, were all taken, and else the status says that it is passed
+abbrev pub within_event_limit : {A : Type 0} → ℕ → Recorded → Result A Status → Result A Status
+within_event_limit more r answer = if nat_le more r.limit then answer else Err Limit
 
 -- a spawn: the number of the task, and the session behind it
 abbrev pub spawn_told : Token → Recorded → Spawning PlainCode → Result (ℕ × Recorded) Status
@@ -69,7 +87,9 @@ abbrev pub stepping_told : ℕ → Stepping → SteppedNumbers × Recorded
 stepping_told task x = told_behind task x.ran x.session
 
 unfoldable pub asked_steps : ℕ → ℕ → Recorded → Result (SteppedNumbers × Recorded) Status
-asked_steps task count r = of_task task r (with_event_room (4 * count) r (Ok (stepping_told task (steps_recorded task count r))))
+asked_steps task count r =
+    of_task task r (within_event_limit (events_of_steps count) r (with_event_room (events_of_steps count) r
+    (Ok (stepping_told task (steps_recorded task count r)))))
 
 -- memory ran out behind fewer steps, each of which ran: those stand, and are told
 pub record HaveRunOut (status task count : ℕ) (r : Recorded) (new : Option Recorded) (told : SteppedNumbers) : Type 0 where

@@ -4,11 +4,12 @@ ghost use Rattle.enc_meta.specs.Joined.{joined_user};
 ghost use Rattle.enc_c.specs.State.{chain_after, module_after};
 ghost use Rattle.enc_c.specs.Cells.{asked_number, asked_text, asked_blob, asked_guid, asked_token, lent};
 ghost use Rattle.enc_c.specs.Family.{asked_owner, asked_kids, OrMemory, items_listed};
-ghost use Rattle.enc_c.specs.Code.{asked_body, body_lent};
+ghost use Rattle.enc_agg.specs.Stored.{code_stored};
+ghost use Rattle.enc_c.specs.Code.{asked_body, LendsCode};
 ghost use Rattle.enc_c.specs.Asked.{told_by_number, asked_generations, asked_id, asked_count, row_place, asked_place, told_heap_place, told_heap_place_by, asked_heap_place, asked_row, unlike_method, asked_points, asked_document};
 
 use crate::cells::{blob, guid, number, text, token};
-use crate::code::code;
+use crate::code::method_row;
 use crate::family::{kids, owner};
 use crate::held::Held;
 use crate::points::{PointNumbers, document_name, points};
@@ -162,11 +163,18 @@ impl Held {
         }
     }
 
-    /// The body of a method.
+    /// The body of a method, as it stands in the newest file that has it.
+    #[tactic(auto, unfolding(crate::specs::Code::asked_body))]
     pub fn code(&self, method: Token) -> Result<CodeRef<'_>, Status>
-        ensures { body_lent (joined_user (chain_after self.now).heaps) result ≡ asked_body (module_after self.now) method }
+        ensures { LendsCode (joined_user (chain_after self.now).heaps) (code_stored self.now.base self.now.deltas method) result (asked_body (module_after self.now) method) }
     {
-        code(&self.agg, method)
+        match method_row(&self.agg, method) {
+            Err(status) => Err(status),
+            Ok(()) => match self.agg.code_of(method) {
+                Some(code) => Ok(code),
+                None => Err(Status::Absent),
+            },
+        }
     }
 
     /// Why nothing is said of a token; None where it is a method of the module.

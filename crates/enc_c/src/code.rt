@@ -1,6 +1,8 @@
 //! The body of a method, over any view of a module.
-ghost use Rattle.std.specs.Prelude.{◌≡◌};
-ghost use Rattle.enc_c.specs.Code.{asked_body, body_lent, CopiesCode, TellsBody};
+ghost use Rattle.std.specs.Prelude.{◌≡◌, Err, IfErr, IfOk, IsTrue};
+ghost use Rattle.enc_schema.specs.Tables.{method_def};
+ghost use Rattle.enc_plain.specs.Module.{has_row};
+ghost use Rattle.enc_c.specs.Code.{asked_body, body_lent, CopiesCode};
 
 use crate::copy::copy_out;
 use crate::status::Status;
@@ -21,10 +23,12 @@ pub struct CodeHead {
     pub init: u32,
 }
 
-/// The body of a method.
+/// Whether a token is a method of the module: `Absent` where it is no row, and `Unlike` where it is one of another table.
 #[tactic(auto, unfolding(crate::specs::Code::asked_body))]
-pub fn code<V: ModuleView>(view: &V, method: Token) -> Result<CodeRef<'_>, Status>
-    ensures { body_lent (V.users view.now) result ≡ asked_body (V.meaning view.now) method }
+pub fn method_row<V: ModuleView>(view: &V, method: Token) -> Result<(), Status>
+    ensures row { IfOk result (λ u. IsTrue (has_row (V.meaning view.now) method)) }
+    ensures table { IfOk result (λ u. method.table ≡ method_def) }
+    ensures none { IfErr result (λ s. asked_body (V.meaning view.now) method ≡ Err s) }
 {
     if !is_row(view, method) {
         return Err(Status::Absent);
@@ -32,9 +36,20 @@ pub fn code<V: ModuleView>(view: &V, method: Token) -> Result<CodeRef<'_>, Statu
     if method.table != METHOD_DEF {
         return Err(Status::Unlike);
     }
-    match view.code(method) {
-        Some(code) => Ok(code),
-        None => Err(Status::Absent),
+    Ok(())
+}
+
+/// The body of a method.
+#[tactic(auto, unfolding(crate::specs::Code::asked_body))]
+pub fn code<V: ModuleView>(view: &V, method: Token) -> Result<CodeRef<'_>, Status>
+    ensures { body_lent (V.users view.now) result ≡ asked_body (V.meaning view.now) method }
+{
+    match method_row(view, method) {
+        Err(status) => Err(status),
+        Ok(()) => match view.code(method) {
+            Some(code) => Ok(code),
+            None => Err(Status::Absent),
+        },
     }
 }
 

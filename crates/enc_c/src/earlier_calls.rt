@@ -1,19 +1,24 @@
 //! The calls that ask of an earlier generation.
 ghost use Rattle.std.specs.Prelude.{◌≡◌};
 ghost use Rattle.enc_base.specs.Token.{token_of};
+ghost use Rattle.enc_agg.specs.Seen.{module_of_all, users_of_all};
+ghost use Rattle.enc_agg.specs.Stored.{code_stored};
 ghost use Rattle.enc_c.specs.Asked.{of_open};
+ghost use Rattle.enc_c.specs.Code.{asked_body, LendsCode};
 ghost use Rattle.enc_c.specs.Copied.{CopiesOrStays};
 ghost use Rattle.enc_c.specs.SessionNumbers.{pairs_of};
 ghost use Rattle.enc_c.specs.Earlier.{TellsBodyAt, TellsOrStays, asked_document_at, asked_points_at, asked_move, asked_row_at};
 
-use crate::code::{CodeHead, code, copy_code};
+use crate::code::{CodeHead, copy_code, method_row};
 use crate::copy::copy_items;
 use crate::handle::{Handle, put, take};
 use crate::held::Held;
 use crate::points::PointNumbers;
 use crate::session_numbers::PairNumbers;
 use crate::status::{Status, tell};
+use enc_agg::Earlier;
 use enc_base::Token;
+use enc_opcodes::CodeRef;
 use enc_remap::Standing;
 use std::alloc::Global;
 
@@ -77,7 +82,21 @@ fn copy_code_at(
         return Status::Later.number();
     }
     let view = held.agg.at(generation);
-    copy_code(code(&view, method), buffer, size, head)
+    copy_code(code_in(&view, method), buffer, size, head)
+}
+
+/// The body that a method had, as it stood in the newest file that had it.
+#[tactic(auto, unfolding(crate::specs::Code::asked_body))]
+fn code_in<'a>(view: &'a Earlier<'_>, method: Token) -> Result<CodeRef<'a>, Status>
+    ensures { LendsCode (users_of_all view.now) (code_stored view.now.base view.now.deltas method) result (asked_body (module_of_all view.now) method) }
+{
+    match method_row(view, method) {
+        Err(status) => Err(status),
+        Ok(()) => match view.code_of(method) {
+            Some(code) => Ok(code),
+            None => Err(Status::Absent),
+        },
+    }
 }
 
 /// Copies the sequence points that a method had after the first so many deltas.

@@ -1,12 +1,14 @@
 //! Why something is refused, by numbers, as C sees it, and its words.
 ghost use Rattle.std.specs.Prelude.{◌≡◌, [], drop, IfOk};
-ghost use Rattle.enc_c.specs.Reasons.{numbers_with, numbers_of_reason, json_by, limit_by, deep_by, reason_by, line_of_reason, words_of_reason, words_by};
+ghost use Rattle.enc_c.specs.Reasons.{numbers_with, numbers_of_reason, json_by, limit_by, deep_by, reason_by, line_of_reason, words_of_reason, words_by, is_rule, is_edit_rule, tells_any_token, is_place, is_reason};
 ghost use Rattle.enc_c.specs.Family.{OrMemory, items_listed};
 
 use crate::refusal::{RefusalNumbers, number_of_stream, numbers_of, refusal_by, stream_by};
 use crate::status::Status;
-use enc_base::{Refusal, StreamName, Token};
+use enc_base::{Code, Place, Refusal, StreamName, Token};
 use enc_jobs::JobFault;
+use enc_schema::tables::{TYPE_REF, TYPE_SPEC};
+use enc_schema::{columns_of, is_child_table};
 use enc_text::refused_line;
 use enc_words::{Limit, broken_line, deep_line, limit_line, unlisted_line};
 use std::alloc::{AllocError, Global};
@@ -122,6 +124,66 @@ pub fn reason_by(numbers: RefusalNumbers) -> Option<Reason>
     }
 }
 
+/// Whether there is a rule of files with this letter and number.
+fn is_rule(code: Code) -> bool
+    ensures { result ≡ is_rule code }
+{
+    match code {
+        Code::F(number) => 1 <= number && number <= 12,
+        Code::E(number) => 1 <= number && number <= 24,
+    }
+}
+
+/// Whether there is a rule of edits with this number.
+fn is_edit_rule(number: u8) -> bool
+    ensures { result ≡ is_edit_rule number }
+{
+    if 18 <= number {
+        return number <= 24;
+    }
+    number == 4
+        || number == 5
+        || number == 6
+        || number == 10
+        || number == 12
+        || number == 13
+        || number == 16
+}
+
+/// Whether a rule tells a token as EncMap or EncLog has it, also of a table that there isn't.
+fn tells_any_token(code: Code) -> bool
+    ensures { result ≡ tells_any_token code }
+{
+    match code {
+        Code::F(_) => false,
+        Code::E(number) => number == 6 || number == 7 || number == 9,
+    }
+}
+
+/// Whether a rule's place is one that the tables of the schema have.
+fn is_place(code: Code, place: Place) -> bool
+    ensures { result ≡ is_place code place }
+{
+    match place {
+        Place::Row(token) => columns_of(token.table).len() != 0 || tells_any_token(code),
+        Place::Cell(token, column) => (column as usize) < columns_of(token.table).len(),
+        Place::Owner(token) => is_child_table(token.table),
+        _ => true,
+    }
+}
+
+/// Whether there is such a reason: a rule, and a place of the schema.
+fn is_reason(reason: Reason) -> bool
+    ensures { result ≡ is_reason reason }
+{
+    match reason {
+        Reason::File(refusal) => is_rule(refusal.code) && is_place(refusal.code, refusal.place),
+        Reason::Edit(rule, _) => is_edit_rule(rule),
+        Reason::Deep(token) => token.table == TYPE_REF || token.table == TYPE_SPEC,
+        _ => true,
+    }
+}
+
 /// The line that the program prints of a reason, where the file's name is empty.
 fn line(alloc: Global, reason: Reason) -> Result<Vec<u8>, AllocError>
     ensures { IfOk result (λ l. l.items ≡ line_of_reason [] reason) }
@@ -156,13 +218,16 @@ fn words(alloc: Global, reason: Reason) -> Result<Vec<u8>, AllocError>
     behind(alloc, &line)
 }
 
-/// The words of the reason that numbers say.
+/// The words of the reason that numbers say; `Unlike` where there is no such reason.
 pub fn words_by(alloc: Global, numbers: RefusalNumbers) -> Result<Vec<u8>, Status>
     ensures { OrMemory (items_listed result) (words_by numbers) }
 {
     let Some(reason) = reason_by(numbers) else {
         return Err(Status::Unlike);
     };
+    if !is_reason(reason) {
+        return Err(Status::Unlike);
+    }
     match words(alloc, reason) {
         Ok(words) => Ok(words),
         Err(AllocError) => Err(Status::Memory),

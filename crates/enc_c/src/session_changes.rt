@@ -64,6 +64,9 @@ fn steps(recording: &mut Recording, task: u32, count: u32, stepped: &mut Stepped
     let Some(_) = recording.status(task) else {
         return Status::Absent.number();
     };
+    if !recording.may_hold_steps(count) {
+        return Status::Limit.number();
+    }
     if !recording.has_room_for_steps(count) {
         return Status::Short.number();
     }

@@ -1,7 +1,7 @@
 //! The calls that open and close a session.
 ghost use Rattle.std.specs.Prelude.{◌≡◌, None, Ok, OnErr, OnOk, Some, is_some, if◌then◌else◌};
-ghost use Rattle.enc_c.specs.Outcomes.{ChangesOrStays, Opens, ReadsState, bytes_held};
-ghost use Rattle.enc_c.specs.SessionCalls.{session_over};
+ghost use Rattle.enc_c.specs.Outcomes.{ChangesOrStays, ReadsState, bytes_held};
+ghost use Rattle.enc_c.specs.SessionCalls.{OpensSession, session_over};
 ghost use Rattle.enc_c.specs.State.{begun_state, given_bytes, opened_state, state_with_pdb};
 ghost use Rattle.enc_c.specs.Status.{number_of_status};
 
@@ -15,6 +15,9 @@ use enc_image::Image;
 use enc_ppdb::Pdb;
 use enc_session::Recording;
 use std::alloc::{AllocError, Global};
+
+/// The most events that a step tells.
+const EVENTS_OF_A_STEP: u32 = 4;
 
 /// A session over a base, with its PDB, where it has one.
 fn begin(alloc: Global, image: Image, pdb: Option<Pdb>, limit: u32) -> Result<Recording, ReadFault>
@@ -89,7 +92,7 @@ fn open_closed(
 }
 
 /// Judges a base, with its PDB, where that has bytes, and opens a session over it, in which there can be so many
-/// events that nobody has taken.
+/// events that nobody has taken. `Few` where these are fewer than a step may tell: such a session could make none.
 #[unsafe(no_mangle)]
 pub extern "C" fn enc_session_open(
     alloc: Global,
@@ -99,13 +102,14 @@ pub extern "C" fn enc_session_open(
     limit: u32,
     refusal: &mut RefusalNumbers,
 ) -> u32
-    ensures { Opens result session.old.held session.new.held refusal.old refusal.new (session_over (opened_state bytes.now (given_bytes pdb.now)) limit) }
+    ensures { OpensSession result session.old.held session.new.held refusal.old refusal.new limit (session_over (opened_state bytes.now (given_bytes pdb.now)) limit) }
 {
     match take_session(session, alloc) {
         Some(held) => {
             put_session(session, alloc, held);
             Status::Open.number()
         }
+        None if limit < EVENTS_OF_A_STEP => Status::Few.number(),
         None => open_closed(alloc, session, bytes, pdb, limit, refusal),
     }
 }

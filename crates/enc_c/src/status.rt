@@ -15,7 +15,7 @@ pub enum Status {
     Closed,
     /// The handle is open.
     Open,
-    /// The buffer is too short.
+    /// The buffer is too short, or the events that nobody has taken leave no room.
     Short,
     /// There is no such row, entry or body.
     Absent,
@@ -25,7 +25,7 @@ pub enum Status {
     Later,
     /// A stated limit would be passed.
     Limit,
-    /// There are fewer than two deltas.
+    /// There are fewer than two deltas, or a session would have room for fewer events than a step may tell.
     Few,
 }
 

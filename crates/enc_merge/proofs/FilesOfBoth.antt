@@ -11,9 +11,9 @@ pub files_stand : MetadataIsRead → MergedFollows → MergedMeans → MergedIsN
 files_stand are_read follow mean named h p x d first second older are shallow debugs goes gone files =
     let may = may_merge h x are shallow in
     let r = are_read h x d.meta are shallow files.meta in
-    let s = r.0 in
-    let says = r.1.1 in
-    let read = ap (delta_of d.meta) files.il ∙ r.1.0 in
+    let s = r.source in
+    let says = r.says in
+    let read = ap (delta_of d.meta) files.il ∙ r.read in
     record {
       source = s;
       symbols = files.pdb.source;
@@ -23,5 +23,9 @@ files_stand are_read follow mean named h p x d first second older are shallow de
       debug = λ method. same_debug h p x d.pdb first second older s are debugs goes gone files.pdb says method;
       enc_id = named x.chain x.first x.second s may says;
       lists = says.tokens;
+      heaps = says.heaps;
+      il = files.il;
+      log = says.log;
+      numbers = r.numbers;
       several = λ k t at. several_nil h p x d.pdb first second older s are debugs goes gone files.pdb says k t at;
     }

@@ -39,10 +39,11 @@ use Rattle.enc_written.specs.Holds.{token_numbers}
 use Rattle.enc_written.proofs.ReadBack.{IsDeltaReadAs, counted_is_read}
 use Rattle.enc_written.proofs.WrittenSays.{is_low, log_says, map_says, token_back}
 use Rattle.enc_depth.specs.Depth.{IsShallow}
-use Rattle.enc_merged.specs.Held.{RowHeld, heaps_with_merged, il_merged, reading_merged}
+use Rattle.enc_merged.specs.Held.{RowHeld, heaps_with_merged, il_merged, number_of_both, reading_merged}
 use Rattle.enc_merged.specs.Merged.{SaysMerged, SaysRowMerged, after_both, has_tokens, heaps_merged, is_in_either, is_in_map}
 use Rattle.enc_merged.proofs.Among.{lists, number_there, self}
 use Rattle.enc_merged.proofs.Counts.{held, order_of}
+use Rattle.enc_merge.specs.Merges.{HasNumbersOfBoth}
 use Rattle.enc_merge.specs.Writing.{AreLast, AreOfEither, AreRowsHeld, AreBothTables, Both, MetadataIsRead, chain_of_both, heaps_put, tokens_of}
 use Rattle.enc_merge.proofs.LastTwo.{may_merge}
 use Rattle.enc_merge.proofs.NewestRows.{place_any}
@@ -272,7 +273,7 @@ body_says x numbers rows s u is f method =
     let n : ℕ = slice_index f.numbers 0 in
     let get : slice_get f.numbers 0 ≡ Some n = get_within f.numbers 0 low in
     let raw : raw_in s (own_row s u) 0 ≡ n = f.raw 0 n get in
-    elim ((f.held.each 0 Num32 n first get).body own) [
+    elim ((f.held.each 0 Num32 n first get).held.body own) [
       | inl none ↦ inl (raw ∙ none)
       | inr good ↦ inr (
           ap (λ k. code_is_good (rows_before (chain_of_both x)) (joined_user (x.chain.heaps ++ s.heaps ∷ [])) (code_loaded s.loaded k)) raw
@@ -295,8 +296,18 @@ says_row x numbers rows s u is held has there =
     ∙ ap (λ n. cell_with (reading_after x.chain s) (own_row s u) i column.0 n) (f.raw i (slice_index f.numbers i) get)
     ∙ ap (λ (r : Reading). cell_with r (own_row s u) i column.0 (slice_index f.numbers i)) (same_reading x numbers rows s is)
     ∙ same_cell x.chain x.first x.second u (own_row s u) i column.0 (slice_index f.numbers i) refl
-    ∙ (f.held.each i column.0 (slice_index f.numbers i) column.1 get).says k kind in
+    ∙ (f.held.each i column.0 (slice_index f.numbers i) column.1 get).held.says k kind in
     record { cells = cell; body = λ method. body_says x numbers rows s u is f method }
+
+-- its numbers are those of both
+are_of_both : (x : Both) (numbers : List ℕ) (rows : List (List (List ℕ))) (s : Source) (u : Token) (i : ℕ) (column : Column) → IsRead x numbers rows s
+    → AreBothTables x numbers rows → has_tokens u.table ≡ true → is_in_map s u ≡ true → column_in u.table i ≡ Some column
+    → raw_in s (own_row s u) i ≡ number_of_both x.chain x.first x.second u i column
+are_of_both x numbers rows s u i column is held has there at =
+    let f = found x numbers rows s u is held has there in
+    let low : i < length f.numbers = let l = low_index (columns_in u.table) i column at in let m = f.held.count in omega (arith, l, m) in
+    let get : slice_get f.numbers i ≡ Some (slice_index f.numbers i) = get_within f.numbers i low in
+    f.raw i (slice_index f.numbers i) get ∙ (f.held.each i column (slice_index f.numbers i) at get).moved
 
 -- the Module row
 module_number : (x : Both) (rows : List (List (List ℕ))) (s : Source) (row : List ℕ) (i : ℕ) → IsDeltaReadAs (heaps_merged x.chain x.first x.second) rows (il_merged x.first x.second) s → AreRows rows
@@ -332,7 +343,8 @@ counts_in h x numbers rows s are tokens held read table has = elim (cases_lt tab
 
 -- all together
 says_all : (h : History) (x : Both) (numbers : List ℕ) (rows : List (List (List ℕ))) (s : Source) → AreLast h x → IsShallow (chain_of_both x).plain → AreOfEither x.first x.second numbers → AreBothTables x numbers rows
-    → AreRows rows → IsDeltaReadAs (heaps_merged x.chain x.first x.second) rows (il_merged x.first x.second) s → SaysMerged x.chain x.first x.second s
+    → AreRows rows → IsDeltaReadAs (heaps_merged x.chain x.first x.second) rows (il_merged x.first x.second) s
+    → SaysMerged x.chain x.first x.second s × HasNumbersOfBoth x.chain x.first x.second s
 unfolding listed
 says_all h x numbers rows s are_last shallow tokens held are read =
     let c = x.chain in
@@ -350,7 +362,8 @@ says_all h x numbers rows s are_last shallow tokens held are read =
     let row = held.single.0 in
     let there = held.single.1.0 in
     let module_ = held.single.1.1 in
-    record {
+    let table_of : (u : Token) → is_in_map s u ≡ true → has_tokens u.table ≡ true = λ u listed_u. (token_table h x u are_last (sym (same u) ∙ listed_u)).has in
+    (record {
       generation = module_number x rows s row 0 read are there (omega arith) ∙ module_.generation;
       mvid = own_is x rows s 2 (slice_index row 2) read (module_number x rows s row 2 read are there (omega arith)) ∙ module_.mvid;
       base = own_is x rows s 4 (slice_index row 4) read (module_number x rows s row 4 read are there (omega arith)) ∙ module_.base;
@@ -361,12 +374,13 @@ says_all h x numbers rows s are_last shallow tokens held are read =
       rises = up;
       tokens = same;
       counts = λ table has. counts_in h x numbers rows s are_last tokens held read table has ∙ ap (λ ts. length (of_table table ts)) (sym listed_is);
-      rows = λ u listed_u. says_row x numbers rows s u is held (token_table h x u are_last (sym (same u) ∙ listed_u)).has listed_u;
-    }
+      rows = λ u listed_u. says_row x numbers rows s u is held (table_of u listed_u) listed_u;
+    }, λ u i column listed_u at. are_of_both x numbers rows s u i column is held (table_of u listed_u) listed_u at)
 
 pub metadata_is_read : MetadataIsRead
 metadata_is_read h x bytes are_last shallow m =
     let one : count_at m.rows 0 ≡ 1 = ap (λ rs. length rs) m.held.single.1.0 in
     let r = counted_is_read (heaps_put x) m.rows (il_merged x.first x.second) m.are m.fit one (λ t past. past_none h x m.numbers m.rows t are_last m.tokens m.held past) m.size in
     let read = subst (λ (k : Counted). IsDeltaReadAs k m.rows (il_merged x.first x.second) r.0) (counted_put x) r.2 in
-    (r.0, (ap (λ b. delta_of b (il_merged x.first x.second)) m.root ∙ r.1, says_all h x m.numbers m.rows r.0 are_last shallow m.tokens m.held m.are read))
+    let all = says_all h x m.numbers m.rows r.0 are_last shallow m.tokens m.held m.are read in
+    record { source = r.0; read = ap (λ b. delta_of b (il_merged x.first x.second)) m.root ∙ r.1; says = all.0; numbers = all.1 }

@@ -21,7 +21,7 @@ use Rattle.enc_depth.specs.Depth.{IsShallow}
 use Rattle.enc_agg.specs.Place.{place_of, place_or}
 use Rattle.enc_agg.specs.Seen.{History}
 use Rattle.enc_ppdb.proofs.Positions.{position_any}
-use Rattle.enc_merged.specs.Held.{NumberHeld, NumbersAreHeld, RowHeld, in_column, number_moved, place_moved, shift_of, text_moved}
+use Rattle.enc_merged.specs.Held.{IsNumberOfBoth, NumberHeld, NumbersAreHeld, RowHeld, in_column, number_moved, number_of_both, place_moved, shift_of, text_moved}
 use Rattle.enc_merged.specs.Merged.{is_in_either, is_in_map}
 use Rattle.enc_merge.specs.Writing.{AreLast, Both, FrontHeld, IsNewest, chain_of_both}
 use Rattle.enc_merge.specs.declared.rows.Newest.{Newest}
@@ -175,17 +175,38 @@ body_fits h x u n i column k are newest there is held =
     let word : nat_lt (place_moved n.shift k) (2 ^ 32) ≡ true = rw (body_column u.table i column is there) at fit in
     low_place n.shift k (newest_shift h x u n are newest) (grind (arith, nat_tests, word))
 
-pub body_held : (x : Both) (u : Token) (i : ℕ) (column : Column) (shift k y : ℕ) → is_body u.table i ≡ true → HeldAs x u i column shift k → y ≡ place_moved shift k → NumberHeld x.chain x.first x.second u i column y
-body_held x u i column shift k y is held made =
-    subst (NumberHeld x.chain x.first x.second u i column) (moved_body (chain_of_both x).heaps shift u.table i column k is ∙ sym made) held
+-- the number of both is that of the newest row, moved
+number_newest : (x : Both) (u : Token) (n : Newest) (i : ℕ) (column : Column) → IsNewest x u n
+    → number_of_both x.chain x.first x.second u i column ≡ number_moved (chain_of_both x).heaps n.shift u.table i column (raw_in n.delta.now n.row i)
+unfolding number_of_both
+number_newest x u n i column newest = by (is_in_map x.second u) refl
+  where
+    by : (b : Bool) → is_in_map x.second u ≡ b
+        → number_of_both x.chain x.first x.second u i column ≡ number_moved (chain_of_both x).heaps n.shift u.table i column (raw_in n.delta.now n.row i)
+    by true e = let k = newest.second e in rw (e, k.0, k.1.0, k.1.1) refl
+    by false e = let k = newest.first e in rw (e, k.0, k.1.0, k.1.1) refl
 
-pub text_held : (x : Both) (u : Token) (i : ℕ) (column : Column) (shift k y : ℕ) → is_body u.table i ≡ false → column ≡ Text → HeldAs x u i column shift k
-    → y ≡ text_moved (joined_text (chain_of_both x).heaps k) k → NumberHeld x.chain x.first x.second u i column y
-text_held x u i column shift k y is text held made =
-    subst (NumberHeld x.chain x.first x.second u i column) (moved_text (chain_of_both x).heaps shift u.table i column k is text ∙ sym made) held
+made_of : (x : Both) (u : Token) (n : Newest) (i : ℕ) (column : Column) (k y : ℕ) → IsNewest x u n → k ≡ raw_in n.delta.now n.row i → HeldAs x u i column n.shift k
+    → number_moved (chain_of_both x).heaps n.shift u.table i column k ≡ y → IsNumberOfBoth x.chain x.first x.second u i column y
+made_of x u n i column k y newest raw held is = record {
+  held = subst (NumberHeld x.chain x.first x.second u i column) is held;
+  moved = sym is ∙ ap (number_moved (chain_of_both x).heaps n.shift u.table i column) raw ∙ sym (number_newest x u n i column newest);
+}
 
-pub other_held : (x : Both) (u : Token) (i : ℕ) (column : Column) (shift k : ℕ) → is_body u.table i ≡ false → (column ≡ Text → ⊥) → HeldAs x u i column shift k → NumberHeld x.chain x.first x.second u i column k
-other_held x u i column shift k is other held = subst (NumberHeld x.chain x.first x.second u i column) (moved_other (chain_of_both x).heaps shift u.table i column k is other) held
+pub body_held : (x : Both) (u : Token) (n : Newest) (i : ℕ) (column : Column) (k y : ℕ) → IsNewest x u n → k ≡ raw_in n.delta.now n.row i → is_body u.table i ≡ true
+    → HeldAs x u i column n.shift k → y ≡ place_moved n.shift k → IsNumberOfBoth x.chain x.first x.second u i column y
+body_held x u n i column k y newest raw is held made =
+    made_of x u n i column k y newest raw held (moved_body (chain_of_both x).heaps n.shift u.table i column k is ∙ sym made)
+
+pub text_held : (x : Both) (u : Token) (n : Newest) (i : ℕ) (column : Column) (k y : ℕ) → IsNewest x u n → k ≡ raw_in n.delta.now n.row i → is_body u.table i ≡ false
+    → column ≡ Text → HeldAs x u i column n.shift k → y ≡ text_moved (joined_text (chain_of_both x).heaps k) k → IsNumberOfBoth x.chain x.first x.second u i column y
+text_held x u n i column k y newest raw is text held made =
+    made_of x u n i column k y newest raw held (moved_text (chain_of_both x).heaps n.shift u.table i column k is text ∙ sym made)
+
+pub other_held : (x : Both) (u : Token) (n : Newest) (i : ℕ) (column : Column) (k : ℕ) → IsNewest x u n → k ≡ raw_in n.delta.now n.row i → is_body u.table i ≡ false
+    → (column ≡ Text → ⊥) → HeldAs x u i column n.shift k → IsNumberOfBoth x.chain x.first x.second u i column k
+other_held x u n i column k newest raw is other held =
+    made_of x u n i column k k newest raw held (moved_other (chain_of_both x).heaps n.shift u.table i column k is other)
 
 pub number_held : (h : History) (x : Both) (u : Token) (n : Newest) (i : ℕ) (column : Column) (k : ℕ) → NumbersAreHeld → AreLast h x → IsShallow (chain_of_both x).plain → is_in_either x.first x.second u ≡ true
     → IsNewest x u n → column_in u.table i ≡ Some column → k ≡ raw_in n.delta.now n.row i → HeldAs x u i column n.shift k
@@ -209,7 +230,7 @@ same_column : (t i : ℕ) (c d : Column) → column_in t i ≡ Some c → column
 same_column t i c d e f = let g = sym e ∙ f in cc
 
 pub more_held : (x : Both) (u : Token) (i : ℕ) (numbers new : List ℕ) (column : Column) (y : ℕ) → FrontHeld x u i numbers → column_in u.table i ≡ Some column
-    → NumberHeld x.chain x.first x.second u i column y → new ≡ numbers ++ y ∷ [] → FrontHeld x u (i + 1) new
+    → IsNumberOfBoth x.chain x.first x.second u i column y → new ≡ numbers ++ y ∷ [] → FrontHeld x u (i + 1) new
 more_held x u i numbers new column y so_far here says is =
     subst (λ xs. FrontHeld x u (i + 1) xs) (sym is) (record {
       count = length-append numbers (y ∷ []) ∙ ap (λ n. n + 1) so_far.count;
@@ -218,8 +239,8 @@ more_held x u i numbers new column y so_far here says is =
             let k : j ≡ i = last ∙ so_far.count in
             let v : y ≡ n = last_here numbers y n (subst (λ m. slice_get (numbers ++ y ∷ []) m ≡ Some n) last get) in
             let e : column ≡ d = same_column u.table i column d here (subst (λ m. column_in u.table m ≡ Some d) k at) in
-            subst (λ m. NumberHeld x.chain x.first x.second u m d n) (sym k)
-            (subst (λ a. NumberHeld x.chain x.first x.second u i d a) v (subst (λ b. NumberHeld x.chain x.first x.second u i b y) e says))
+            subst (λ m. IsNumberOfBoth x.chain x.first x.second u m d n) (sym k)
+            (subst (λ a. IsNumberOfBoth x.chain x.first x.second u i d a) v (subst (λ b. IsNumberOfBoth x.chain x.first x.second u i b y) e says))
         | inr before ↦ so_far.each j d n at (last_get numbers y n j get before)
       ];
     })

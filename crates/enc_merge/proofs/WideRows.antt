@@ -53,7 +53,7 @@ column_fits counts (Run t) n h = h
 
 -- the rows that tokens stand for
 row_fits : (x : Both) (counts : List ℕ) (u : Token) (r : List ℕ) → RowHeld x.chain x.first x.second u r → row_indices_fit (wide_shape counts) (columns_in u.table) r ≡ true
-row_fits x counts u r held = each_fits (wide_shape counts) (columns_in u.table) r held.count (λ i column n at get. column_fits counts column n (held.each i column n at get).fit)
+row_fits x counts u r held = each_fits (wide_shape counts) (columns_in u.table) r held.count (λ i column n at get. column_fits counts column n (held.each i column n at get).held.fit)
 
 rows_fit : (x : Both) (counts : List ℕ) (table : ℕ) (tokens : List Token) (rows : List (List ℕ)) → list_all (λ (t : Token). t.table == table) tokens ≡ true → AreRowsHeld x tokens rows
     → list_all (row_indices_fit (wide_shape counts) (columns_in table)) rows ≡ true

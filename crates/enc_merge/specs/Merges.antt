@@ -3,14 +3,17 @@ use Rattle.std.specs.Prelude.{◌≡◌, ◌≤◌, ℕ, ◌+◌, ◌^◌, true,
 use Rattle.enc_base.specs.Token.{nth_row}
 use Rattle.enc_base.specs.declared.refusal.Refusal.{Refusal}
 use Rattle.enc_base.specs.declared.token.Token.{Token}
-use Rattle.enc_rows.specs.Source.{Source}
+use Rattle.enc_rows.specs.Source.{Source, raw_in}
 use Rattle.enc_rows.specs.Sums.{below}
 use Rattle.enc_schema.specs.Columns as columns
+use Rattle.enc_schema.specs.Schema.{column_in}
+use Rattle.enc_schema.specs.declared.column.Column.{Column}
 use Rattle.enc_schema.specs.Tables as tables
 use Rattle.enc_plain.specs.Chain.{Chain, rows_before}
 use Rattle.enc_plain.specs.Debug.{PlainPdb}
-use Rattle.enc_delta.specs.Delta.{delta_of}
-use Rattle.enc_delta.specs.Rules.{own_guid}
+use Rattle.enc_delta.specs.Delta.{delta_of, log_in}
+use Rattle.enc_delta.specs.Rows.{own_row}
+use Rattle.enc_delta.specs.Rules.{counted, own_guid}
 use Rattle.enc_agg.specs.Extend.{chain_with, extended}
 use Rattle.enc_agg.specs.Seen.{History}
 use Rattle.enc_ppdb.specs.Fault.{named_tokens}
@@ -20,8 +23,8 @@ use Rattle.enc_ppdb.specs.Written.{IsNilOverSeveral, document_told, most_pdb_wei
 use Rattle.enc_checker.specs.Check.{Accepted, accepted, code_sizes, judged, new_bodies}
 use Rattle.enc_checker.specs.Within.{debug_of_accepted}
 use Rattle.enc_depth.specs.Depth.{first_deep}
-use Rattle.enc_merged.specs.Held.{il_of}
-use Rattle.enc_merged.specs.Merged.{after_both, is_in_either, is_in_map}
+use Rattle.enc_merged.specs.Held.{il_merged, il_of, number_of_both}
+use Rattle.enc_merged.specs.Merged.{after_both, heaps_merged, is_in_either, is_in_map}
 use Rattle.enc_writer.specs.declared.bytes.DeltaBytes.{DeltaBytes}
 use Rattle.enc_merge.specs.Points.{debug_of_rows}
 use Rattle.enc_merge.specs.declared.fault.MergeFault.{MergeFault}
@@ -35,8 +38,15 @@ methods_listed c a b = filter (is_in_either a b) (map (nth_row tables.method_def
 unfoldable pub weight_of_both : Chain → Source → Source → PlainPdb → ℕ
 weight_of_both c a b p = pdb_weight (debug_of_rows (methods_listed c a b) p) (length (methods_listed c a b))
 
+-- each number of a row is that of the newest row of its token: an empty text has 0, a body of the second moves behind those of the first, and no other moves
+abbrev pub HasNumbersOfBoth : Chain → Source → Source → Source → Type 0
+HasNumbersOfBoth c a b s =
+    (u : Token) (i : ℕ) (column : Column) → is_in_map s u ≡ true → column_in u.table i ≡ Some column
+    → raw_in s (own_row s u) i ≡ number_of_both c a b u i column
+
 -- the files of a delta stand for two that follow a chain: they are accepted after it; the chain with them has the module and the plain PDB of the chain with
--- both, and the EncId of the second; their EncMap lists exactly what one of the two lists; a method whose points have several documents has Document nil
+-- both, and the EncId of the second; their EncMap lists exactly what one of the two lists; a method whose points have several documents has Document nil. Their
+-- heaps are those of the two joined, and so is their IL, the first one's filled to four; the log has the pairs of the first and then of the second
 pub record StandsForBoth (c : Chain) (a b : Source) (before after : PlainPdb) (d : DeltaBytes) : Type 0 where
   pub source : Source
   pub symbols : Source
@@ -45,6 +55,10 @@ pub record StandsForBoth (c : Chain) (a b : Source) (before after : PlainPdb) (d
   pub debug : (method : Token) → pdb_changed before (debug_of_accepted (accepted source (Some symbols))) method ≡ after method
   pub enc_id : (extended c source).ids ≡ c.ids ++ own_guid (extended c a) b columns.module_enc_id ∷ []
   pub lists : (u : Token) → is_in_map source u ≡ is_in_either a b u
+  pub heaps : source.heaps ≡ heaps_merged c a b
+  pub il : d.il ≡ il_merged a b
+  pub log : log_in source ≡ counted (log_in a) ++ counted (log_in b)
+  pub numbers : HasNumbersOfBoth c a b source
   pub several : (k : ℕ) (t : Token) → slice_get (named_tokens symbols) k ≡ Some t
       → IsNilOverSeveral (debug_at (Some (symbols, nth_row tables.method_debug_information k))).points (document_told symbols k)
 

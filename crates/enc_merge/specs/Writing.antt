@@ -23,7 +23,7 @@ use Rattle.enc_agg.specs.Extend.{chain_with, extended}
 use Rattle.enc_agg.specs.Follows.{Follows}
 use Rattle.enc_agg.specs.Seen.{History}
 use Rattle.enc_depth.specs.Depth.{IsShallow}
-use Rattle.enc_merged.specs.Held.{HaveShortCode, NumberHeld, RowHeld, heaps_with_merged, il_merged, shift_of}
+use Rattle.enc_merged.specs.Held.{HaveShortCode, IsNumberOfBoth, RowHeld, heaps_with_merged, il_merged, shift_of}
 use Rattle.enc_merged.specs.Merged.{SaysMerged, after_both, guids_joined, has_tokens, is_in_map}
 use Rattle.enc_written.specs.Holds.{entry_numbers}
 use Rattle.enc_ppdb.specs.PdbChain.{DebugDelta, PdbHistory, is_named_by, pdb_with}
@@ -31,7 +31,7 @@ use Rattle.enc_ppdb.specs.Written.{most_pdb_weight}
 use Rattle.enc_pdb_delta.specs.Methods.{SaysMethods}
 use Rattle.enc_checker.specs.Check.{new_code}
 use Rattle.enc_writer.specs.declared.bytes.DeltaBytes.{DeltaBytes}
-use Rattle.enc_merge.specs.Merges.{GoesWith, StandsForBoth, methods_listed}
+use Rattle.enc_merge.specs.Merges.{GoesWith, HasNumbersOfBoth, StandsForBoth, methods_listed}
 use Rattle.enc_merge.specs.Points.{debug_of_rows}
 use Rattle.enc_merge.specs.declared.fault.MergeFault.{MergeFault}
 use Rattle.enc_merge.specs.declared.fault.MergeFault.TheVariants.{Memory, TooLarge, Deep}
@@ -104,11 +104,11 @@ pub record IsNewest (x : Both) (u : Token) (n : Newest) : Type 0 where
   pub second : is_in_map x.second u ≡ true → (n.delta.now ≡ x.second) × ((n.row ≡ own_row x.second u) × (n.shift ≡ shift_of x.first))
   pub first : is_in_map x.second u ≡ false → (n.delta.now ≡ x.first) × ((n.row ≡ own_row x.first u) × (n.shift ≡ 0))
 
--- the first numbers of a row say the cells of a token
+-- the first numbers of a row are those of both for a token
 pub record FrontHeld (x : Both) (u : Token) (i : ℕ) (numbers : List ℕ) : Type 0 where
   pub count : length numbers ≡ i
   pub each : (j : ℕ) (column : Column) (n : ℕ) → column_in u.table j ≡ Some column → slice_get numbers j ≡ Some n
-      → NumberHeld x.chain x.first x.second u j column n
+      → IsNumberOfBoth x.chain x.first x.second u j column n
 
 -- rows of other tables than one stay
 abbrev pub StayBut : ℕ → List (List (List ℕ)) → List (List (List ℕ)) → Type 0
@@ -130,10 +130,15 @@ pub record IsMetadataOfBoth (x : Both) (bytes : List ℕ) : Type 0 where
   pub size : root_size true (stream_of rows true (heap_bits rows)) (heaps_put x) < 2 ^ 32
   pub root : bytes ≡ root_written true true (stream_of rows true (heap_bits rows)) (heaps_put x)
 
--- it is read with the merged code as a delta that says what the two say
+-- it is read with the merged code as a delta that says what the two say, by the numbers of both
+pub record IsReadAsBoth (x : Both) (bytes : List ℕ) : Type 0 where
+  pub source : Source
+  pub read : delta_of bytes (il_merged x.first x.second) ≡ Ok source
+  pub says : SaysMerged x.chain x.first x.second source
+  pub numbers : HasNumbersOfBoth x.chain x.first x.second source
+
 abbrev pub MetadataIsRead : Type 0
-MetadataIsRead = (h : History) (x : Both) (bytes : List ℕ) → AreLast h x → IsShallow (chain_of_both x).plain → IsMetadataOfBoth x bytes
-    → (s : Source) × ((delta_of bytes (il_merged x.first x.second) ≡ Ok s) × SaysMerged x.chain x.first x.second s)
+MetadataIsRead = (h : History) (x : Both) (bytes : List ℕ) → AreLast h x → IsShallow (chain_of_both x).plain → IsMetadataOfBoth x bytes → IsReadAsBoth x bytes
 
 -- one of the two changes what is known of a method: it has a new body in it, or its PDB has a row for it
 unfoldable pub changes_debug : Both → PdbHistory → Token → Bool

@@ -5,7 +5,7 @@ ghost use Rattle.enc_meta.specs.Joined.{joined_text};
 ghost use Rattle.enc_plain.specs.Cell.{is_body};
 ghost use Rattle.enc_rows.specs.Written.{rows_at};
 ghost use Rattle.enc_schema.specs.Schema.{column_in};
-ghost use Rattle.enc_merged.specs.Held.{NumberHeld, RowHeld, place_moved, text_moved};
+ghost use Rattle.enc_merged.specs.Held.{IsNumberOfBoth, RowHeld, place_moved, text_moved};
 ghost use Rattle.enc_merged.specs.Merged.{has_tokens, is_in_either};
 ghost use Rattle.enc_merge.specs.Writing.{AreOfEither, AreTokensHeld, FrontHeld, IsNewest, chain_of_both, tokens_of};
 
@@ -87,7 +87,7 @@ fn number(last: &Last<'_>, token: Token, newest: Newest<'_>, i: u8, column: Colu
     requires newest { IsNewest last.now token newest }
     requires shallow { IsShallow (chain_of_both last.now).plain }
     requires column { column_in token.table i ≡ Some column }
-    ensures { NumberHeld last.now.chain last.now.first last.now.second token i column result }
+    ensures { IsNumberOfBoth last.now.chain last.now.first last.now.second token i column result }
 {
     numbers_are_held_law();
     let agg = last.agg;

@@ -75,10 +75,21 @@ in_column heaps column x = x
 unfoldable pub number_moved : List Counted → ℕ → ℕ → ℕ → Column → ℕ → ℕ
 number_moved heaps shift table i column x = if is_body table i then place_moved shift x else in_column heaps column x
 
--- the numbers of a row say the cells of a token, one for each column
+-- the number in a column of a token's newest row, moved: that of the second one's row, and where the second has none that of the first one's
+unfoldable pub number_of_both : Chain → Source → Source → Token → ℕ → Column → ℕ
+number_of_both c a b u i column =
+    if is_in_map b u then number_moved (after_both c a b).heaps (shift_of a) u.table i column (raw_in b (own_row b u) i)
+    else number_moved (after_both c a b).heaps 0 u.table i column (raw_in a (own_row a u) i)
+
+-- it is that number, and says the cell
+pub record IsNumberOfBoth (c : Chain) (a b : Source) (u : Token) (i : ℕ) (column : Column) (x : ℕ) : Type 0 where
+  pub held : NumberHeld c a b u i column x
+  pub moved : x ≡ number_of_both c a b u i column
+
+-- the numbers of a row are those of both for a token, one for each column
 pub record RowHeld (c : Chain) (a b : Source) (u : Token) (numbers : List ℕ) : Type 0 where
   pub count : length numbers ≡ length (columns_in u.table)
-  pub each : (i : ℕ) (column : Column) (x : ℕ) → column_in u.table i ≡ Some column → slice_get numbers i ≡ Some x → NumberHeld c a b u i column x
+  pub each : (i : ℕ) (column : Column) (x : ℕ) → column_in u.table i ≡ Some column → slice_get numbers i ≡ Some x → IsNumberOfBoth c a b u i column x
 
 -- the code of the two isn't too long to be numbered
 abbrev pub HaveShortCode : Source → Source → Type 0

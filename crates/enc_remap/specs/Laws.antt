@@ -6,6 +6,8 @@ use Rattle.enc_opcodes.specs.Instruction.{instructions_of}
 use Rattle.enc_plain.specs.Module.{Module}
 use Rattle.enc_plain.specs.Sound.{IsSound}
 use Rattle.enc_schema.specs.Tables.{method_def}
+use Rattle.enc_plain.specs.Debug.{PlainPdb}
+use Rattle.enc_versions.specs.StandFor.{AreVersionsOf}
 use Rattle.enc_versions.specs.Version.{Version, newest_of}
 use Rattle.enc_vm.specs.CallsSeen.{AreBodiesOf}
 use Rattle.enc_vm.specs.Moves.{IsBeginIn}
@@ -16,3 +18,9 @@ NewestMayBeMovedTo =
     (users : ℕ → Option (List ℕ)) (m : Module) (methods : List (Option Version)) (t : Token) (v : Version) (offset : ℕ) → IsSound m
     → AreBodiesOf users m methods → t.table ≡ method_def → newest_of methods t ≡ Some v → is_instruction_start (instructions_of v.code.code) offset ≡ true
     → IsBeginIn v offset
+
+-- newest bodies of a module stand for it with some PDB
+abbrev pub StandWithSomePdb : Type 0
+StandWithSomePdb =
+    (users : ℕ → Option (List ℕ)) (m : Module) (methods : List (Option Version)) → AreBodiesOf users m methods
+    → (debug : PlainPdb) × AreVersionsOf users m debug methods

@@ -25,7 +25,7 @@ IsPlainRemap users m methods task pairs result new old =
     (debug : PlainPdb) → AreVersionsOf users m debug methods
     → IsRemap result (state_meant users new) (state_meant users old) (remap_in m debug task pairs (state_meant users old))
 
--- for the contracts of private functions: frames that hold versions, whose bodies have these user texts
+-- frames that hold versions, whose bodies have these user texts
 abbrev pub version_codes : (ℕ → Option (List ℕ)) → List (Option Version) → Codes Version
 version_codes users methods = record { meant = code_meant users; newest = newest_of methods }
 

@@ -10,6 +10,6 @@ mod moving;
 mod remapped;
 
 pub use asked::{Edition, Standing, may_remap};
-pub use laws::newest_law;
+pub use laws::{newest_law, some_pdb_law};
 pub use moving::remap;
 pub use remapped::Remapped;

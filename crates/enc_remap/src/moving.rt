@@ -110,8 +110,9 @@ fn remap_version<V: ModuleView>(
 ///    first of those of the newest;
 /// 7. a handler runs in the frame, or one of the newest body has that offset.
 ///
-/// Its time is logarithmic in the number of points, and linear in the map, in the clauses and in the local variables.
-/// Without memory nothing changes.
+/// So it is of the machine whose frames hold versions, and of the plain machine of each PDB for which the versions stand,
+/// of which `some_pdb_law` says that there is one. Its time is logarithmic in the number of points, and linear in the
+/// map, in the clauses and in the local variables. Without memory nothing changes.
 #[tactic(auto, using(crate::proofs::Meant::plain_remap))]
 pub fn remap<V: ModuleView>(
     alloc: Global,
@@ -123,6 +124,7 @@ pub fn remap<V: ModuleView>(
 ) -> Result<Remapped, AllocError>
     requires sound { IsSound (V.meaning view.now) }
     requires versions { AreBodiesOf (V.users view.now) (V.meaning view.now) versions.now.methods }
+    ensures remap { IsRemap result machine.new machine.old (remap_with (version_codes (V.users view.now) versions.now.methods) (V.meaning view.now) task map.now machine.old) }
     ensures plain { IsPlainRemap (V.users view.now) (V.meaning view.now) versions.now.methods task map.now result machine.new machine.old }
     ensures texts { IsTrue (machine_texts (V.users view.now) machine.old) → IsTrue (machine_texts (V.users view.now) machine.new) }
 {

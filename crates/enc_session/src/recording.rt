@@ -145,6 +145,13 @@ impl Recording {
         self.events.len() as u64 + 4 * u64::from(count) <= u64::from(self.limit)
     }
 
+    /// Whether there would be room for the events of so many steps, were all events taken.
+    pub fn may_hold_steps(&self, count: u32) -> bool
+        ensures { result ≡ nat_le (4 * count) self.now.limit }
+    {
+        4 * u64::from(count) <= u64::from(self.limit)
+    }
+
     /// A new task, as a `Session`'s; its events are at most 3.
     pub fn spawn(&mut self, method: Token) -> Result<SpawnEnd, AllocError>
         requires { length self.old.events + 3 ≤ self.old.limit }

@@ -1,18 +1,11 @@
 use enc_base::Token;
-use enc_edits::{ArgValue, BodyValue, Cell, Edit, EditList, InstrList, PointList};
+use enc_edits::{ArgValue, BodyValue, Edit, EditList, InstrList, PointList};
 use enc_jobs::*;
 use enc_opcodes::Clause;
 use enc_seqpoints::Point;
-use std::alloc::{AllocError, Global};
+use std::alloc::Global;
 use std::process::Abort;
 use std::test::Fail;
-
-/// The EncId of the lists here, as it is stored.
-const ID: [u8; 16] = [1, 2, 3, 4, 5, 6, 7, 8, 9, 10, 11, 12, 13, 14, 15, 16];
-
-/// A list that replaces one body.
-const WORKED: &str =
-    r#"{"encId":"04030201-0605-0807-090a-0b0c0d0e0f10","edits":[{"do":"body","method":"06000001","code":{"max":8,"code":[["ldstr","new"],["call","0a000001"],["ret"]]}}]}"#;
 
 /// A body with an operand of each kind, a clause of each kind, and points.
 const EACH: &str = r#"{"encId":"04030201-0605-0807-090A-0B0C0D0E0F10",
@@ -81,40 +74,6 @@ fn list_of(rt: &impl Abort, alloc: Global, text: &str) -> EditList {
         Ok(list) => list,
         Err(_) => panic!(rt; "not read"),
     }
-}
-
-#[test]
-fn a_body_is_replaced(rt: HostRuntime) -> Result<(), Fail> {
-    let list = list_of(&rt, rt.alloc(), WORKED);
-    assert!(rt; list.enc_id == ID);
-    assert_eq!(rt; list.edits.len(), 1);
-    assert_eq!(rt; list.documents.len(), 0);
-    let Some(
-        Edit::Body {
-            method,
-            code,
-            points,
-        },
-    ) = list.edits.get(0)
-    else {
-        panic!(rt; "no body");
-    };
-    assert_eq!(rt; *method, Token { table: 6, row: 1 });
-    assert_eq!(rt; points.len(), 0);
-    assert_eq!(rt; code.max, 8);
-    assert!(rt; !code.init);
-    assert_eq!(rt; code.locals, Token { table: 0, row: 0 });
-    assert_eq!(rt; code.clauses.len(), 0);
-    expect_code(
-        &rt,
-        &code.code,
-        &[
-            (0x72, Said::User(&[0x6e, 0x65, 0x77])),
-            (0x28, Said::Token(0x0a, 1)),
-            (0x2a, Said::Nothing),
-        ],
-    );
-    Ok(())
 }
 
 #[test]
@@ -212,52 +171,5 @@ fn clauses_and_points_are_read(rt: HostRuntime) -> Result<(), Fail> {
     assert!(rt; document.name.as_slice() == b"a.cs".as_slice());
     assert!(rt; document.source.as_slice() == b"x".as_slice());
     assert_eq!(rt; document.language[0], 0xf8);
-    Ok(())
-}
-
-#[test]
-fn rows_are_added(rt: HostRuntime) -> Result<(), Fail> {
-    let list = list_of(
-        &rt,
-        rt.alloc(),
-        r#"{"encId":"{04030201-0605-0807-090a-0b0c0d0e0f10}","edits":[
-{"do":"add","table":"MethodDef","owner":"02000002","cells":[0,6,"M","0001"],"points":[]},
-{"do":"add","table":"CustomDebugInformation","cells":["06000001","04030201-0605-0807-090a-0b0c0d0e0f10","Ff"]}]}"#,
-    );
-    let Some(
-        Edit::Add {
-            table,
-            owner,
-            cells,
-            code,
-            points,
-        },
-    ) = list.edits.get(0)
-    else {
-        panic!(rt; "no row");
-    };
-    assert_eq!(rt; *table, 6);
-    assert_eq!(rt; *owner, Token { table: 2, row: 2 });
-    assert!(rt; code.is_none());
-    assert_eq!(rt; points.len(), 0);
-    assert_eq!(rt; cells.len(), 4);
-    assert!(rt; matches!(cells.get(1), Some(Cell::Num(6))));
-    assert!(rt; matches!(cells.get(2), Some(Cell::Text(t)) if t.as_slice() == b"M".as_slice()));
-    assert!(rt; matches!(cells.get(3), Some(Cell::Blob(b)) if b.as_slice() == [0, 1].as_slice()));
-    let Some(
-        Edit::Add {
-            table,
-            owner,
-            cells,
-            ..
-        },
-    ) = list.edits.get(1)
-    else {
-        panic!(rt; "no row");
-    };
-    assert_eq!(rt; *table, 0x37);
-    assert_eq!(rt; *owner, Token { table: 0, row: 0 });
-    assert!(rt; matches!(cells.get(0), Some(Cell::Refer(t)) if t.table == 6 && t.row == 1));
-    assert!(rt; matches!(cells.get(1), Some(Cell::Guid(g)) if *g == ID));
     Ok(())
 }

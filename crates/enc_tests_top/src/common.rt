@@ -34,20 +34,6 @@ pub(crate) const SCRIPT: &str = "s.json";
 /// The delta's code.
 pub(crate) const D1_IL: &str = "00000000";
 
-/// The printed TypeRef of the base, and the one that the delta adds.
-pub(crate) const OBJECT_LINE: &str =
-    "01000001 TypeRef ResolutionScope=23000001 TypeName=\"Object\" TypeNamespace=\"System\" @0.1\n";
-
-pub(crate) const STRING_LINE: &str =
-    "01000002 TypeRef ResolutionScope=23000001 TypeName=\"String\" TypeNamespace=\"System\" @1.1\n";
-
-/// The listing of the base and the delta.
-pub(crate) const D1_LIST: &str = concat!(
-    "generation 0 rows 3 strings 30 users 0 blobs 0 guids 1\n",
-    "generation 1 04030201-0605-0807-090a-0b0c0d0e0f10 rows 1 strings 8 users 0 blobs 0 guids 2\n",
-    "  01000002 insert 1.1 newest 1.1\n",
-);
-
 pub(crate) fn texts(alloc: Global, words: &[&str]) -> Result<Vec<String>, AllocError> {
     let mut all = Vec::new(alloc);
     for word in words {
@@ -87,21 +73,10 @@ pub(crate) fn answers(
     for (name, bytes) in files {
         store.set_file(name, bytes)?;
     }
-    answers_over(rt, &mut store, words, status, output)
-}
-
-/// The words over this store print the text and have the status.
-pub(crate) fn answers_over(
-    rt: &(impl Abort + AllocGlobal),
-    store: &mut MemStore,
-    words: &[&str],
-    status: u8,
-    output: &str,
-) -> Result<(), Fail> {
     let alloc = rt.alloc();
     let mut sink = MemSink::begin(alloc);
     let words = texts(alloc, words)?;
-    let seen = run_tool(alloc, &words, store, &mut sink, Vec::new(alloc));
+    let seen = run_tool(alloc, &words, &mut store, &mut sink, Vec::new(alloc));
     assert_eq!(rt; sink.bytes(), output.as_bytes());
     assert_eq!(rt; seen, status);
     Ok(())

@@ -23,7 +23,7 @@ returns-then-is_body c =
     let are : AreLast h x = subst (AreLast h) c.last.view_is c.last.invariant in
     let held = number_held h x c.args.token c.args.newest c.args.i c.args.column c.cell-number.result c.numbers_are_held_law.ensures are c.requires.shallow c.requires.token
     c.requires.newest c.requires.column c.cell-number.ensures in
-    body_held x c.args.token c.args.i c.args.column c.args.newest.shift c.cell-number.result c.moved.result (sym c.is_body.ensures ∙ c.if-is_body.true) held c.moved.ensures
+    body_held x c.args.token c.args.newest c.args.i c.args.column c.cell-number.result c.moved.result c.requires.newest c.cell-number.ensures (sym c.is_body.ensures ∙ c.if-is_body.true) held c.moved.ensures
 
 pub returns-in-Text : goal.returns-in-Text
 returns-in-Text c =
@@ -33,7 +33,7 @@ returns-in-Text c =
     let held = number_held h x c.args.token c.args.newest c.args.i c.args.column c.cell-number.result c.numbers_are_held_law.ensures are c.requires.shallow c.requires.token
     c.requires.newest c.requires.column c.cell-number.ensures in
     let k = c.cell-number.result in
-    text_held x c.args.token c.args.i c.args.column c.args.newest.shift k c.text_number.result (sym c.is_body.ensures ∙ c.if-is_body.false) c.in-Text.is held
+    text_held x c.args.token c.args.newest c.args.i c.args.column k c.text_number.result c.requires.newest c.cell-number.ensures (sym c.is_body.ensures ∙ c.if-is_body.false) c.in-Text.is held
     (c.text_number.ensures ∙ ap (λ (d : Chain). text_moved (joined_text d.heaps k) k) (chain_is h x are))
 
 pub returns-in_default : goal.returns-in_default
@@ -43,4 +43,4 @@ returns-in_default c =
     let are : AreLast h x = subst (AreLast h) c.last.view_is c.last.invariant in
     let held = number_held h x c.args.token c.args.newest c.args.i c.args.column c.cell-number.result c.numbers_are_held_law.ensures are c.requires.shallow c.requires.token
     c.requires.newest c.requires.column c.cell-number.ensures in
-    other_held x c.args.token c.args.i c.args.column c.args.newest.shift c.cell-number.result (sym c.is_body.ensures ∙ c.if-is_body.false) c.in_default.not-Text held
+    other_held x c.args.token c.args.newest c.args.i c.args.column c.cell-number.result c.requires.newest c.cell-number.ensures (sym c.is_body.ensures ∙ c.if-is_body.false) c.in_default.not-Text held

@@ -1,5 +1,6 @@
 use Rattle.enc_agg.proofs.Asked.{base_row, base_body, base_texts, the_found, body_found, texts_found}
-use Rattle.enc_agg.proofs.earlier.EarlierModuleView.code.Goals as goal
+use Rattle.enc_agg.proofs.StoredCode.{stored_in_base, stored_in_delta}
+use Rattle.enc_agg.proofs.earlier.Earlier.code_of.Goals as goal
 
 pub body-requires-clause-row : goal.body-requires-clause-row
 body-requires-clause-row c = base_row c.self.inside.image.now _ c.args.method c.self.invariant.deltas _ c.find.ensures
@@ -32,4 +33,15 @@ returns-clause-texts c =
     let found = the_found c.self.inside.image.now _ c.args.method c.self.invariant.deltas _ c.in-Some.found c.find.ensures
     c.in-Some.is in
     rw (← c.self.view_is) (texts_found c.self.inside.image.now _ _ c.args.method _ _ _ found c.requires.table
+    (rw c.row_found.ensures at c.number-place.ensures) c.body_in.ensures.code)
+
+pub returns-in_default-clause-stored : goal.returns-in_default-clause-stored
+returns-in_default-clause-stored c =
+    rw (← c.self.view_is)
+    (stored_in_base c.self.inside.image.now _ c.args.method c.body.result c.find.result c.find.ensures c.in_default.is c.body.ensures.code)
+
+pub returns-clause-stored : goal.returns-clause-stored
+returns-clause-stored c =
+    rw (← c.self.view_is)
+    (stored_in_delta c.self.inside.image.now _ c.args.method _ c.body_in.result c.find.result c.in-Some.found c.find.ensures c.in-Some.is
     (rw c.row_found.ensures at c.number-place.ensures) c.body_in.ensures.code)
