@@ -40,20 +40,27 @@ pub task_absent : (task count number : ℕ) (r : Recorded) (told : SteppedNumber
 unfolding asked_steps
 task_absent task count number r told none is = rw none (is, refl, refl)
 
--- the events might pass the limit
-pub steps_short : (task count number : ℕ) (r : Recorded) (told : SteppedNumbers) (s : TaskState) → state_in r.machine task ≡ Some s
-    → nat_le (length r.events + 4 * count) r.limit ≡ false → number ≡ number_of_status Short
+-- the events might pass the limit, were all taken
+pub steps_past : (task count number : ℕ) (r : Recorded) (told : SteppedNumbers) (s : TaskState) → state_in r.machine task ≡ Some s
+    → nat_le (4 * count) r.limit ≡ false → number ≡ number_of_status Limit
     → ChangesAndTells number (Some r) (Some r) told told (asked_steps task count r)
 unfolding asked_steps
-steps_short task count number r told s there room is = rw (there, room) (is, refl, refl)
+steps_past task count number r told s there past is = rw (there, past) (is, refl, refl)
+
+-- the events might pass the limit beside those that nobody has taken
+pub steps_short : (task count number : ℕ) (r : Recorded) (told : SteppedNumbers) (s : TaskState) → state_in r.machine task ≡ Some s
+    → nat_le (4 * count) r.limit ≡ true → nat_le (length r.events + 4 * count) r.limit ≡ false → number ≡ number_of_status Short
+    → ChangesAndTells number (Some r) (Some r) told told (asked_steps task count r)
+unfolding asked_steps
+steps_short task count number r told s there holds room is = rw (there, holds, room) (is, refl, refl)
 
 -- steps were made
 pub steps_done : (task count number ran : ℕ) (how : StepEnd) (r new : Recorded) (old told : SteppedNumbers) (s : TaskState) → state_in r.machine task ≡ Some s
-    → nat_le (length r.events + 4 * count) r.limit ≡ true → steps_recorded task count r ≡ record { ran = ran; end = how; session = new }
+    → nat_le (4 * count) r.limit ≡ true → nat_le (length r.events + 4 * count) r.limit ≡ true → steps_recorded task count r ≡ record { ran = ran; end = how; session = new }
     → number ≡ number_of_status Done → told ≡ stepped_numbers ran (state_in new.machine task)
     → ChangesAndTells number (Some r) (Some new) old told (asked_steps task count r)
 unfolding asked_steps
-steps_done task count number ran how r new old told s there room made is told_is = rw (there, room, made) (is, refl, told_is)
+steps_done task count number ran how r new old told s there holds room made is told_is = rw (there, holds, room, made) (is, refl, told_is)
 
 -- a frame more
 pub frames_more : (r : Recorded) (task i : ℕ) (frame : Option FrameFacts) (now new : List FrameNumbers) → frame ≡ facts_in r task i
