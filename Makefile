@@ -4,7 +4,10 @@
 PREFIX = /usr/local
 VERSION := $(shell cat VERSION)
 INSTALL = install
-to = $(DESTDIR)$(PREFIX)
+# words for the shell and for the text that sed puts in, whatever stands in them, such as a space
+quoted = '$(subst ','\'',$(1))'
+escaped = $(subst &,\&,$(subst |,\|,$(subst \,\\,$(1))))
+to = $(call quoted,$(DESTDIR)$(PREFIX))
 deb = out/enc_$(VERSION)_amd64.deb
 nupkg = out/Enc.$(VERSION).nupkg
 
@@ -12,20 +15,19 @@ nupkg = out/Enc.$(VERSION).nupkg
 all:
 	@echo "nothing has to be built: dist/ holds the release. make install, make uninstall, make deb, make nuget"
 
-out/enc.pc: release/enc.pc.in VERSION
-	mkdir -p out
-	sed -e 's|@PREFIX@|$(PREFIX)|' -e 's|@VERSION@|$(VERSION)|' release/enc.pc.in >$@
-
 out/enc.1.gz: release/enc.1.in VERSION
 	mkdir -p out
 	sed -e 's|@VERSION@|$(VERSION)|' release/enc.1.in | gzip -9n >$@
 
-install: out/enc.pc out/enc.1.gz
+# enc.pc is written where it is installed, so that it has the PREFIX of this call
+install: out/enc.1.gz
 	$(INSTALL) -D -m 755 dist/enc $(to)/bin/enc
 	$(INSTALL) -D -m 644 dist/libenc.so $(to)/lib/libenc.so
 	$(INSTALL) -D -m 644 dist/libenc.a $(to)/lib/libenc.a
 	$(INSTALL) -D -m 644 dist/enc.h $(to)/include/enc.h
-	$(INSTALL) -D -m 644 out/enc.pc $(to)/lib/pkgconfig/enc.pc
+	$(INSTALL) -D -m 644 release/enc.pc.in $(to)/lib/pkgconfig/enc.pc
+	sed -e $(call quoted,s|@PREFIX@|$(call escaped,$(PREFIX))|) -e 's|@VERSION@|$(VERSION)|' \
+		release/enc.pc.in >$(to)/lib/pkgconfig/enc.pc
 	$(INSTALL) -D -m 644 out/enc.1.gz $(to)/share/man/man1/enc.1.gz
 	$(INSTALL) -D -m 644 release/enc.bash $(to)/share/bash-completion/completions/enc
 
@@ -36,7 +38,6 @@ uninstall:
 
 deb: $(deb)
 $(deb): dist/SOURCES release/deb release/enc.1.in release/enc.pc.in VERSION LICENSE
-	rm -f out/enc.pc
 	release/deb $(VERSION) $@
 
 nuget: $(nupkg)
@@ -45,4 +46,4 @@ $(nupkg): dist/libenc.so release/nuget csharp/Enc.nuspec csharp/Enc.cs docs/csha
 
 clean:
 	rm -rf out/nuget
-	rm -f out/enc.pc out/enc.1.gz out/*.deb out/*.nupkg
+	rm -f out/enc.1.gz out/*.deb out/*.nupkg

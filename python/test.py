@@ -4,19 +4,23 @@ Rows, names and files are compared with what the program ENC (dist/enc) says and
 What the library has no call for is skipped. `./test` runs this."""
 
 import contextlib
+import copy
 import doctest
 import importlib
 import io
 import json
 import os
+import pickle
 import random
 import re
 import shutil
+import struct
 import subprocess
 import sys
 import tempfile
 import threading
 import unittest
+import unittest.mock
 from pathlib import Path
 
 HERE = Path(__file__).resolve().parent
@@ -255,6 +259,39 @@ class Rows(unittest.TestCase):
         with self.assertRaises(ValueError):
             module["6000002"]
 
+    def test_what_is_no_token(self):
+        module = enc.Module("examples/bank/bank")
+        self.assertEqual(module["0A000001"].token, 0x0A000001)
+        arabic = "".join(chr(0x660 + int(digit)) for digit in "06000002")
+        texts = (arabic, "0x600002", "06_00002", " 6000002", "6000002\n", "+6000002", "-6000002", "0600000g", "", "6")
+        for text in texts:
+            for act in (enc.Token, module.__getitem__, module.__contains__, module.body, module.name):
+                self.assertRaises(ValueError, act, text)
+        for other in (1.5, 1.0, None, b"06000002", [1]):
+            for act in (enc.Token, module.__getitem__, module.place, module.text, module.name):
+                self.assertRaises(TypeError, act, other)
+            self.assertNotIn(other, module)
+        for number in (-1, 1 << 32):
+            self.assertRaises(ValueError, enc.Token, number)
+        self.assertRaises(TypeError, module.at, 0.5)
+        self.assertRaises(TypeError, module.user_text, 1.5)
+        self.assertRaises(TypeError, module.count, 1.5)
+
+    def test_iteration_gives_the_tokens(self):
+        for _, _, module in self.each_chain():
+            self.assertEqual(list(module), every_token(module))
+            self.assertTrue(all(token in module for token in module))
+        if has("enc_row_at"):
+            self.assertEqual(list(opened(*CHAINS[0]).at(0)), every_token(enc.Module(CHAINS[0][0])))
+
+    def test_rows_in_sets(self):
+        module, again = opened(*CHAINS[0]), opened(*CHAINS[0])
+        rows = [module[token] for token in module]
+        self.assertEqual([hash(row) for row in rows], [hash(again[token]) for token in again])
+        self.assertEqual(len({*rows, *(again[token] for token in again)}), len(rows))
+        older = enc.Module(CHAINS[0][0])["06000002"]
+        self.assertEqual({older: 0, module["06000002"]: 1}[older], int(older == module["06000002"]))
+
     @needs("enc_find_type", "enc_find_member")
     def test_each_name_is_found(self):
         for _, _, module in self.each_chain():
@@ -436,6 +473,22 @@ class Deltas(Folder):
         thread.join()
         self.assertEqual(len(raised), 1)
 
+    def test_what_owns_a_handle_is_not_copied(self):
+        owners = [enc.Module("examples/k"), enc.Module("examples/k").at(0)]
+        if has("enc_session_open"):
+            owners.append(Session("examples/k"))
+        for owner in [*owners, owners[0]._handle]:
+            for act in (copy.copy, copy.deepcopy, pickle.dumps, lambda one: copy.deepcopy([one])):
+                self.assertRaises(TypeError, act, owner)
+        self.assertEqual((owners[0].count("MethodDef"), owners[1].count("MethodDef")), (2, 2))
+        if has("enc_session_open"):
+            self.assertEqual(owners[2].events(), [])
+
+    def test_a_view_keeps_its_module(self):
+        view = enc.Module("examples/k").at(0)
+        self.assertEqual(view.count("MethodDef"), 2)
+        self.assertEqual(view.name("06000001"), enc.Module("examples/k").name("06000001"))
+
     def test_a_call_that_the_library_has_not(self):
         with self.assertRaises(AttributeError):
             _library.CALLS["enc_nothing"] = ()
@@ -545,6 +598,38 @@ class Dump(Folder):
         status, text = printed("dump", "examples/k", self.path("z"))
         self.assertEqual(status, 1)
         self.assertIn("  it can't be read: its headers don't stand whole in it\n", text)
+
+    @needs("enc_lengths", "enc_entries")
+    def test_a_refused_delta_whose_heaps_begin_nowhere(self):
+        whole = _files.read("examples/bank/bank1.meta")
+        row, text = struct.pack("<HIIII", 1, 262, 2, 3, 0), b"Concat\0Print\0"
+        mvid = enc.Module("examples/bank/bank")["00000001"].Mvid.bytes_le
+        changed = {
+            "E1": whole.replace(mvid, bytes(range(16))),
+            "E2": _files.read("examples/bank/bank2.meta"),
+            "E3": whole.replace(row, struct.pack("<HIIII", 1, 262, 2, 3, 3)),
+            "E4": whole.replace(row, struct.pack("<HIIII", 1, 262, 2, 0, 0)),
+            "E5": whole.replace(text, text[:-1] + b"x"),
+            "F2": whole.replace(b"#GUID\0", b"#Blob\0"),
+        }
+        self.copy("examples/bank/bank2.il", "d.il")
+        for code, part in changed.items():
+            Path(self.path("d.meta")).write_bytes(part)
+            status, shown = printed("dump", "examples/bank/bank", self.path("d"), "--generation", "1")
+            self.assertEqual((status, shown.splitlines()[-2].split()[2]), (1, code))
+            named = re.findall(r"=#(?:Strings|Blob):[0-9a-f]+ [\"[]\S*", shown)
+            begins = re.findall(r"^#(?:Strings|US|Blob): \d+ bytes( from [0-9a-f]+)? in ", shown, re.M)
+            if code == "E4":
+                self.assertIn('=#Strings:106 "bank.exe"', named)
+                self.assertEqual(begins, [" from 000000ea", " from 00000014", " from 00000058"])
+                self.assertIn(" Mvid=#GUID:2 ea3cd342-9548-453b-b96f-3247a4b4f44c EncId=#GUID:0 ", shown)
+                self.assertNotIn("isn't known", shown)
+            else:
+                self.assertEqual((named, set(begins)), ([], {""}), code)
+                self.assertIn(f"\n  {code}: where its heaps begin isn't known: ", shown)
+                self.assertIn('\n  00000001 "mscorlib"\n', shown)
+            if code == "E1":
+                self.assertIn("Mvid=#GUID:2 03020100-0504-0706-0809-0a0b0c0d0e0f ", shown)
 
     def test_statuses(self):
         self.assertEqual(printed("dump", "examples/n"), (6, "missing examples/n.dll\n"))
@@ -693,6 +778,14 @@ class Sessions(unittest.TestCase):
 
 class Installed(Folder):
     """The wheel, and an install without a network."""
+
+    def test_without_jinja_a_local_path_is_named(self):
+        given, said = self.path("page.html"), io.StringIO()
+        with unittest.mock.patch("importlib.util.find_spec", return_value=None), contextlib.redirect_stderr(said):
+            self.assertEqual(program(["report", "examples/k", "-o", given]), 4)
+        self.assertIn("pip install './python[report]'", said.getvalue())
+        self.assertNotIn("enc[report]", said.getvalue())
+        self.assertFalse(os.path.exists(given))
 
     def test_the_wheel(self):
         name = backend.build_wheel(self.folder)

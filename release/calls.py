@@ -1,7 +1,9 @@
 """release/calls.py LIBENC.so: calls of the C library as C makes them, over the example bases and deltas: what each answers. `./test`
 runs it. The last line is how many were asked; the status is 1 where one answered something else, which is told."""
 import ctypes
+import json
 import os
+import re
 import sys
 
 EXAMPLES = os.path.join(os.path.dirname(os.path.abspath(__file__)), "..", "examples")
@@ -90,6 +92,114 @@ def ask_session(enc, is_so):
     is_so("closing a session", (enc.enc_session_close(at), enc.enc_session_close(at)), (0, 7))
 
 
+def listed():
+    """The calls that docs/library.md says to answer 10, and those that it says to answer 11."""
+    with open(os.path.join(EXAMPLES, "..", "docs", "library.md"), encoding="utf-8") as file:
+        table = file.read().partition("## Which call answers 10 and 11\n")[2].partition("\n\n## ")[0]
+    rows = [line.split("|")[1:4] for line in table.splitlines() if line.startswith("| `")]
+    said = lambda i: (call for row in rows if row[i].strip() for call in re.findall("enc_[a-z_]+", row[0]))
+    return [sorted(said(1)), sorted(said(2))]
+
+
+ABSTRACT = b"""{"encId": "11111111-2222-3333-4444-555555555555", "edits": [
+    {"do": "add", "table": "TypeDef", "cells": [129, "Bare", "", "01000001"]},
+    {"do": "add", "table": "MethodDef", "owner": "02000003", "cells": [0, 1478, "Bare", "200001"]}]}"""
+
+
+def ask_statuses(enc, is_so):
+    """The statuses 10 and 11 of each call, as docs/library.md lists them, of a module with a method without a body."""
+    handle, session, refusal = ctypes.c_void_p(), ctypes.c_void_p(), Refusal()
+    stepped, place, head = Stepped(), Place(), (u32 * 3)()
+    at, of_session, why, count, size = (ctypes.byref(x) for x in (handle, session, refusal, u32(), size_t()))
+    base, pair = read("k.dll"), (Pair * 1)((0, 0))
+    buffers = [(u8 * 4096)() for _ in range(3)]
+    part = lambda b: (b, size_t(4096 // 64), size)
+    files = [p for b in buffers for p in (b, size_t(4096), ctypes.byref(size_t()))]
+    is_so("k opened", enc.enc_open(at, base, size_t(len(base)), None, size_t(0), why), 0)
+    is_so("a type with a method without a body", enc.enc_write(at, ABSTRACT, size_t(len(ABSTRACT)), *files, why), 0)
+    given = [p for b, s in zip(buffers, files[2::3]) for p in (b, s._obj)]
+    is_so("it applied", enc.enc_apply(at, *given, why), 0)
+    opened = enc.enc_session_open(of_session, base, size_t(len(base)), None, size_t(0), u32(99), why)
+    is_so("k as a session", opened, 0)
+    is_so("its task", enc.enc_spawn(of_session, u32(0x06000002), count), 0)
+    field, method, bare, none = (u32(x) for x in (0x02000002, 0x06000001, 0x06000003, 0x06000063))
+    cells, zero = ("number", "token", "text", "blob", "guid"), (u32(0), u8(0))
+    ways = {
+        **{f"enc_{name}": [(none, u8(0)), (method, u8(9))] for name in cells},
+        "enc_locate": [(none,)],
+        "enc_row": [(none,)],
+        "enc_locate_heap": [(u32(0), u32(1 << 30)), (u32(5), u32(0)), (u32(8), u32(0))],
+        "enc_owner": [(none,), (u32(1),)],
+        "enc_kids": [(none, u8(8)), (field, u8(8)), (method, u8(6))],
+        "enc_code": [(none,), (bare,), (field,)],
+        "enc_clauses": [(none,), (bare,), (field,)],
+        "enc_points": [(none,), (field,)],
+        "enc_document": [(none, u32(1)), (method, u32(1)), (field, u32(1))],
+        "enc_user_text": [(u32(1 << 20),)],
+        "enc_find_type": [(field, b"", size_t(0), b"Nothing", size_t(7))],
+        "enc_find_member": [(none, u8(8), b"", size_t(0)), (method, u8(6), b"", size_t(0))],
+        "enc_may_remap": [(token, u32(1), u32(0), pair, size_t(1)) for token in (none, bare, field)],
+        "enc_spawn": [(none,), (field,)],
+        "enc_step": [(u32(2), u32(1))],
+        "enc_task": [(u32(2),)],
+        "enc_frames": [(u32(2),)],
+        "enc_values": [(u32(2), u32(0), u32(0)), (u32(1), u32(9), u32(0)), (u32(2), u32(0), u32(3))],
+    }
+    told = {"enc_locate": place, "enc_locate_heap": place, "enc_step": stepped, "enc_task": stepped}
+    numbers = {"enc_number", "enc_token", "enc_owner", "enc_find_type", "enc_may_remap", "enc_spawn"}
+    statuses = {10: {}, 11: {"enc_words": 1}}
+    for name, asked in ways.items():
+        first = of_session if name in ("enc_spawn", "enc_step", "enc_task", "enc_frames", "enc_values") else at
+        end = (ctypes.byref(told[name]),) if name in told else (count,) if name in numbers else part(buffers[0])
+        for words in asked:
+            status = getattr(enc, name)(first, *words, *end, *((ctypes.byref(head),) if name == "enc_code" else ()))
+            statuses.setdefault(status, {})[name] = 1
+    answered = [sorted(statuses.pop(status)) for status in (10, 11)]
+    is_so("the calls that answer 10 and 11, as docs/library.md lists them", answered, listed())
+    is_so("other statuses", statuses, {})
+    points = enc.enc_points(at, bare, *part(buffers[0]))
+    is_so("the points of a method without a body", (points, size._obj.value), (0, 0))
+    for table in (0x30, 0x70, 0xC8):
+        count._obj.value = 1
+        is_so(f"rows of no table, {table:02x}", (enc.enc_count(at, u8(table), count), count._obj.value), (0, 0))
+    for outer in (0, 0x01000000, 0x06000000, 0xFF000000):
+        found = enc.enc_find_type(at, u32(outer), b"", size_t(0), b"Bare", size_t(4), count)
+        is_so(f"a type in none, {outer:08x}", (found, count._obj.value), (0, 0x02000003))
+    size._obj.value = 0
+    short = enc.enc_code(at, method, None, size_t(0), size, ctypes.byref(head))
+    is_so("the head where the code has no room", (short, size._obj.value > 0, head[0]), (9, True, 8))
+    is_so("closing both", (enc.enc_close(at), enc.enc_session_close(of_session)), (0, 0))
+
+
+def body_of(number, code, clauses):
+    """An edit list that replaces the body of k's first method, with a point at each instruction, a line for each."""
+    points = [{"at": i, "document": 1, "from": [i + 1, 1], "to": [i + 1, 2]} for i in range(len(code))]
+    document = {"name": "/k.cs", "language": "3f5162f8-07c6-11d3-9053-00c04fa302a1", "source": ""}
+    edit = {"do": "body", "method": "06000001", "code": {"max": 1, "code": code, "clauses": clauses}, "points": points}
+    encid = f"11111111-2222-3333-4444-55555555555{number}"
+    return json.dumps({"encId": encid, "documents": [document], "edits": [edit]}).encode()
+
+
+def ask_handlers(enc, is_so):
+    """Rule 7 of enc_may_remap: where a map leads lies in a handler, at its beginning or behind that."""
+    handle, refusal, rule = ctypes.c_void_p(), Refusal(), u32()
+    at, why = ctypes.byref(handle), ctypes.byref(refusal)
+    base, buffers, sizes = read("k.dll"), [(u8 * 4096)() for _ in range(3)], [size_t() for _ in range(3)]
+    files = [part for b, s in zip(buffers, sizes) for part in (b, size_t(4096), ctypes.byref(s))]
+    is_so("k opened", enc.enc_open(at, base, size_t(len(base)), None, size_t(0), why), 0)
+    guarded = [["nop"], ["leave.s", 5], ["nop"], ["nop"], ["endfinally"], ["ret"]]
+    finally_ = {"kind": "finally", "try": [0, 2], "handler": [2, 5]}
+    for text in (body_of(1, [["nop"], ["ret"]], []), body_of(2, guarded, [finally_])):
+        is_so("a body written", enc.enc_write(at, text, size_t(len(text)), *files, why), 0)
+        given = [part for b, s in zip(buffers, sizes) for part in (b, s)]
+        is_so("it applied", enc.enc_apply(at, *given, why), 0)
+    for to, wanted in ((0, 0), (1, 0), (2, 5), (3, 7), (4, 7), (5, 7), (6, 0)):
+        pair = (Pair * 1)((0, to))
+        status = enc.enc_may_remap(at, u32(0x06000001), u32(1), u32(0), pair, size_t(1), ctypes.byref(rule))
+        is_so(f"a frame moved to offset {to} of a body with a handler from 3 to 6", (status, rule.value), (0, wanted))
+    is_so("closing", enc.enc_close(at), 0)
+
+
 def main(library):
     enc = ctypes.CDLL(library)
     handle, refusal, count, size = ctypes.c_void_p(), Refusal(), u32(), size_t()
@@ -176,6 +286,8 @@ def main(library):
     is_so("the words of places that there aren't", (said("E", 16, 9, 0x77), said("F", 7, 10, 1, 3), said("F", 7, 11, 1), said("G", 1, 9, 6)), (11, 11, 11, 11))
     is_so("the words of a token of no table in EncMap", (said("E", 6, 9, 0x77), words.raw[:12]), (0, b"E6 77000001\n"))
     ask_session(enc, is_so)
+    ask_statuses(enc, is_so)
+    ask_handlers(enc, is_so)
     print(f"{asked} calls asked, {wrong} of them answered something else")
     return 1 if wrong else 0
 

@@ -7,6 +7,7 @@ where it is used, and not before.
 from __future__ import annotations
 
 import ctypes
+import operator
 import os
 import threading
 from pathlib import Path
@@ -233,7 +234,8 @@ def library() -> Library:
 
 
 def number(value: int) -> int:
-    """A number of 32 bits; a ValueError of another one, which ctypes would cut."""
+    """A number of 32 bits; a ValueError of another one, which ctypes would cut, and a TypeError of what is none."""
+    value = operator.index(value)
     if not 0 <= value < 1 << 32:
         raise ValueError(f"{value} isn't a number of 32 bits")
     return value
@@ -283,7 +285,15 @@ class Buffer:
         return self.items[: self.size.value]
 
 
-class Handle:
+class Uncopied:
+    """What owns a handle, or leads to one: a TypeError where it is copied or pickled, since the copy would close the
+    handle of both."""
+
+    def __reduce_ex__(self, protocol: Any) -> NoReturn:
+        raise TypeError(f"{self!r} can't be copied or pickled: it owns a handle of the library")
+
+
+class Handle(Uncopied):
     """An open handle. It is used on the thread that opened it alone, as the library asks."""
 
     def __init__(self, library: Library, closing: str, about: str) -> None:

@@ -10,7 +10,7 @@ from typing import Any, Dict, List, NamedTuple, Optional, Tuple
 from . import _raw
 from ._printed import printed
 from ._refused import Refused
-from .dump import Names, before, function_name, raw_cell
+from .dump import Names, begins_of, function_name, raw_cell
 from .rows import Token
 from .tables import TABLES, Column
 
@@ -27,6 +27,9 @@ _ABOUT: Dict[str, Tuple[str, ...]] = {
     "E20": ("Name", "Signature", "Type"),
     "E23": ("RVA",),
 }
+
+
+_UNPLACED = "Where its heaps begin isn't known, so offsets of texts and blobs stand alone."
 
 
 class Cell(NamedTuple):
@@ -157,7 +160,8 @@ def _row(page: Any, made: Refusal, found: _raw.Raw, place: Tuple[Token, str]) ->
     module, names = page.module, Names(page.module)
     is_new = token not in module
     old = {} if is_new else printed(module.text(token)).cells
-    begins = before(module, module.generations)
+    begins = begins_of(module, made.code)
+    notes = made.notes if begins else [*made.notes, _UNPLACED]
     marked = (column,) if column else _ABOUT.get(made.code, ())
     shown = []
     for i, of in enumerate(TABLES[token >> 24].columns):
@@ -165,7 +169,8 @@ def _row(page: Any, made: Refusal, found: _raw.Raw, place: Tuple[Token, str]) ->
             continue
         now = raw_cell(found, of, cells[i], begins, names).partition("=")[2] if cells else ""
         shown.append(Cell(of.name, now, _old(of, old, names), of.name in marked))
-    return made._replace(row=str(token), row_name=names.of(token), is_new=is_new, cells=shown)
+    about = {"row": str(token), "row_name": names.of(token), "notes": notes}
+    return made._replace(is_new=is_new, cells=shown, **about)
 
 
 def _old(column: Column, cells: Dict[str, str], names: Names) -> str:

@@ -203,13 +203,14 @@ def function_name(function: int) -> str:
 
 
 def before(module: Module, generation: int) -> Dict[str, int]:
-    """Where the heaps of a generation begin in the joined ones."""
+    """Where the heaps of a generation begin in the joined ones; of `#GUID` how many entries those before it have, which
+    its own heap repeats or has as zeros."""
     lengths = [module.lengths(earlier) for earlier in range(generation)]
     return {
         "#Strings": sum(length.strings for length in lengths),
         "#US": sum(length.users for length in lengths),
         "#Blob": sum(length.blobs for length in lengths),
-        "#GUID": 0,
+        "#GUID": max((length.guids for length in lengths), default=0),
     }
 
 
@@ -228,11 +229,24 @@ def entry_text(heap: str, part: bytes) -> str:
     return str(uuid.UUID(bytes_le=part)) if heap == "#GUID" else f"[{part.hex()}]"
 
 
-def heap_lines(about: str, streams: Dict[str, bytes], begins: Dict[str, int]) -> Iterator[str]:
-    """The entries of a file's own heaps, by their offsets in the joined ones."""
-    for heap, begin in begins.items():
-        own = streams.get(heap, b"")
-        length = f"{len(own)} bytes" + ("" if heap == "#GUID" else f" from {begin:08x}")
+# Rules that a delta breaks before or because it doesn't follow: where its heaps begin in the joined ones isn't known.
+UNPLACED = ("F1", "F2", "F6", "E1", "E2", "E3", "E5")
+UNPLACED_WORDS = (
+    "where its heaps begin isn't known: offsets stand alone, its heaps are shown from 0, and names beside tokens are "
+    "those of the module before it"
+)
+
+
+def begins_of(module: Module, code: str) -> Optional[Dict[str, int]]:
+    """Where the heaps of a delta begin in the joined ones that a rule refuses; None where that isn't known."""
+    return None if code in UNPLACED else before(module, module.generations)
+
+
+def heap_lines(about: str, streams: Dict[str, bytes], begins: Optional[Dict[str, int]]) -> Iterator[str]:
+    """The entries of a file's own heaps, by their offsets in the joined ones, or else by their own."""
+    for heap in ("#Strings", "#US", "#Blob", "#GUID"):
+        own, begin = streams.get(heap, b""), begins[heap] if begins and heap != "#GUID" else 0
+        length = f"{len(own)} bytes" + (f" from {begin:08x}" if begins and heap != "#GUID" else "")
         yield f"{heap}: {length} in {about}"
         for at, part in _raw.entries(heap, own):
             if part:
@@ -253,12 +267,22 @@ def own_entry(found: _raw.Raw, heap: str, at: int) -> Optional[bytes]:
     return own[start:end] if end <= len(own) else None
 
 
-def raw_cell(found: _raw.Raw, column: Column, number: int, begins: Dict[str, int], names: Names) -> str:
-    """A cell as a delta's file has it; of an offset what stands there, where that is in the delta's own heap."""
+def own_part(found: _raw.Raw, heap: str, number: int, begins: Optional[Dict[str, int]]) -> Optional[bytes]:
+    """What a number of the joined heaps stands for, where it is in a delta's own heap, and it is known where that
+    begins."""
+    if heap == "#GUID":
+        part = own_entry(found, heap, number) if not begins or number > begins[heap] else None
+        return part if part and any(part) else None
+    return own_entry(found, heap, number - begins[heap]) if begins else None
+
+
+def raw_cell(found: _raw.Raw, column: Column, number: int, begins: Optional[Dict[str, int]], names: Names) -> str:
+    """A cell as a delta's file has it; of an offset what stands there, where that is in the delta's own heap and it is
+    known where that begins. Of `#GUID`, whose entries have the same numbers in every file, it need not be known."""
     heaps = {"text": "#Strings", "blob": "#Blob", "guid": "#GUID"}
     if column.kind in heaps:
         heap = heaps[column.kind]
-        part = own_entry(found, heap, number - begins[heap])
+        part = own_part(found, heap, number, begins)
         text = f" {entry_text(heap, part)}" if part is not None and number else ""
         return f"{column.name}={heap}:{number:x}{text}"
     token = _raw.decoded(column, number)
@@ -277,7 +301,9 @@ def failed_lines(chain: Chain, failed: Failed, wanted: Wanted) -> Iterator[str]:
     except ValueError as error:
         yield f"  it can't be read: {error}"
         return
-    begins = before(module, module.generations)
+    begins = begins_of(module, failed.refused.code)
+    if begins is None:
+        yield f"  {failed.refused.code}: {UNPLACED_WORDS}"
     tokens = found.map()
     for number, rows in found.rows.items():
         if number in (_LOG, _MAP) or not wanted.has(number):

@@ -5,6 +5,7 @@ from __future__ import annotations
 
 import ctypes
 import json
+import operator
 import os
 import re
 import uuid
@@ -73,11 +74,13 @@ class Saved(NamedTuple):
     pdb: bytes
 
 
-class View:
+class View(_library.Uncopied):
     """A module as it is at a generation: what both `Module` and `module.at(generation)` answer.
 
     Tokens may be given as numbers, as eight digits, as `Token` or as the `Row` itself. A row that isn't there is a
-    LookupError."""
+    LookupError, a text that is no eight digits a ValueError, and a float or another type a TypeError. As of a dict
+    whose keys are the tokens, `token in view` asks for a row, `view[token]` gives it, and iteration gives the tokens
+    of all rows."""
 
     _handle: Handle
     _at: Optional[int]
@@ -164,6 +167,14 @@ class View:
             return False
         token = token_of(which)
         return 0 < token.row and token >> 24 < _TABLE_COUNT and token.row <= self.count(token >> 24)
+
+    def __iter__(self) -> Iterator[Token]:
+        """The tokens of all rows, table by table.
+
+        >>> len(list(bank)), next(iter(bank)), Token("06000003") in list(bank)
+        (39, Token('00000001'), True)
+        """
+        return (token for number in range(_TABLE_COUNT) for token in self.tokens(number))
 
     def _printed_row(self, token: Token, row: _printed.Printed, text: str) -> Row:
         children = tuple(Token(child) for kind in row.children.values() for child in kind)
@@ -326,10 +337,11 @@ def _printed_value(column: Column, row: _printed.Printed) -> Value:
 
 class AtGeneration(View):
     """A module as it was after its first deltas; `module.at(generation)` makes it. It answers what `View` has: rows,
-    counts, names, bodies and points."""
+    counts, names, bodies and points. It keeps its module open, unless that is closed by `close` or `with`."""
 
-    def __init__(self, handle: Handle, generation: int) -> None:
-        self._handle = handle
+    def __init__(self, module: "Module", generation: int) -> None:
+        self._module = module
+        self._handle = module._handle
         self._at = generation
         self._nested = None
 
@@ -450,10 +462,10 @@ class Module(View):
     def at(self, generation: int) -> AtGeneration:
         """The module as it was at a generation, 0 for the base."""
         self._known(generation)
-        return AtGeneration(self._handle, generation)
+        return AtGeneration(self, generation)
 
     def _known(self, generation: int) -> None:
-        if not 0 <= generation < self.generations:
+        if not 0 <= operator.index(generation) < self.generations:
             raise LookupError(f"there is no generation {generation}")
 
     def enc_id(self, generation: int) -> uuid.UUID:

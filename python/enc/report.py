@@ -488,6 +488,7 @@ def command(words: List[str]) -> int:
     """Does what the words behind `report` say, and tells the status."""
     given = parser().parse_intermixed_args(words)
     if importlib.util.find_spec("jinja2") is None:
-        print("enc report needs jinja2: pip install 'enc[report]', or Debian's python3-jinja2", file=sys.stderr)
+        about = "Debian's python3-jinja2, or in a checkout: pip install './python[report]'"
+        print(f"enc report needs jinja2: {about}", file=sys.stderr)
         return 4
     return report(Request(given.base, given.deltas, given.out, given.source))

@@ -2,14 +2,20 @@
 
 from __future__ import annotations
 
+import operator
+import re
 import uuid
 from typing import Any, Callable, Dict, Iterator, List, NamedTuple, Optional, Tuple, Union
 
 from .tables import TABLES, table
 
 
+_DIGITS = re.compile("[0-9A-Fa-f]{8}")
+
+
 class Token(int):
     """A token: the table in the top byte, the row in the three below. It is a number, and prints as eight digits.
+    It is made of a number or of eight digits, 0 to 9 and a to f of either case: a ValueError of another text.
 
     >>> token = Token("06000003")
     >>> token, token.table, token.row
@@ -22,9 +28,10 @@ class Token(int):
 
     def __new__(cls, token: "int | str") -> "Token":
         if isinstance(token, str):
-            if len(token) != 8:
+            if not _DIGITS.fullmatch(token):
                 raise ValueError(f"a token has eight hexadecimal digits: {token}")
             token = int(token, 16)
+        token = operator.index(token)
         if not 0 <= token < 1 << 32:
             raise ValueError(f"a token has 32 bits: {token}")
         return super().__new__(cls, token)
@@ -131,7 +138,10 @@ class Row:
     is the tokens of the run. `RVA` of a method is whether it has a body, `RVA` of FieldRVA the bytes of the field.
 
     `token`, `table` (a name), `place`, `owner` (of a field, method, parameter, event or property) and `children` are
-    there for every row, and `text` is the row as `enc show` prints it."""
+    there for every row, and `text` is the row as `enc show` prints it.
+
+    Rows are equal where their tokens, columns, owners and children are; their places may differ. A row may stand in a
+    set, or be a key of a dict."""
 
     def __init__(
         self,
@@ -182,7 +192,8 @@ class Row:
         mine = (self.token, self.columns, self.owner, self.children)
         return mine == (other.token, other.columns, other.owner, other.children)
 
-    __hash__ = None  # type: ignore[assignment]
+    def __hash__(self) -> int:
+        return hash(self.token)
 
     def __repr__(self) -> str:
         return f"<{self.table} {self.token} @{self.place}>"

@@ -98,7 +98,7 @@ class Remapped(NamedTuple):
     after: int
 
 
-class Session:
+class Session(_library.Uncopied):
     """Tasks over a base and the deltas that are applied on the way.
 
     The base is given as to `Module`. `limit` is how many events the library keeps at a time, 4 at least; none is

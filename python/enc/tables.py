@@ -110,6 +110,8 @@ def table(which: "int | str") -> Table:
         if 0 <= which < len(TABLES):
             return TABLES[which]
         raise LookupError(f"there is no table {which:02x}")
+    if not isinstance(which, str):
+        raise TypeError(f"a table is a number or a name: {which!r}")
     if which.lower() in _BY_NAME:
         return _BY_NAME[which.lower()]
     if len(which) == 2 and all(digit in "0123456789abcdefABCDEF" for digit in which):
