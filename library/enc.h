@@ -42,8 +42,10 @@ enum {
                       * stream or no refusal; docs/library.md lists which call answers it for what */
     ENC_LATER = 12,  /* there is no such generation */
     ENC_LIMIT = 13,  /* a stated limit is passed: `enc_merge` where a delta's metadata or code has more than 2^26 bytes,
-                      * `enc_spawn` where there are 64 tasks */
-    ENC_FEW = 14     /* `enc_merge` where there are fewer than two deltas */
+                      * `enc_spawn` where there are 64 tasks, `enc_step` where 4 * count is more than the session's
+                      * limit, so that taking the events doesn't help */
+    ENC_FEW = 14     /* there are too few: deltas for `enc_merge`, which takes two, or events in the limit of
+                      * `enc_session_open`, which must let a step tell its 4 */
 };
 
 /* The kinds of places of a refusal. */
@@ -290,7 +292,10 @@ uint32_t enc_write(enc_handle *handle, const uint8_t *json, size_t json_length,
                    uint8_t *il, size_t il_length, size_t *il_size,
                    uint8_t *pdb, size_t pdb_length, size_t *pdb_size, enc_refusal *refusal);
 
-/* The words of a refusal as the program prints them, with the end of the line: `E16 06000001\n`. */
+/* The words of a refusal as the program prints them, with the end of the line: `E16 06000001\n`. ENC_UNLIKE where there
+ * is no such rule (F1 to F12, E1 to E24, the rules of docs/edits.md, J1, J2, L4, G1), no such kind of place, or no such
+ * place: a table that there isn't (but of E6, E7 and E9, which tell tokens as EncMap and EncLog have them), a column past
+ * the table's, an owner of a table without owners, or G1 of another row than a TypeRef or a TypeSpec. */
 uint32_t enc_words(const enc_refusal *refusal, uint8_t *buffer, size_t length, size_t *size);
 
 /* A session: tasks that make steps over a base while deltas are applied to it. It is closed where it is NULL, and is
@@ -371,8 +376,9 @@ enum {
 };
 
 /* Judges a base, with its PDB where that has bytes, and opens a closed session: no task, and no event. There can be
- * `limit` events that `enc_events` has not taken; memory for them is taken here. A call that might pass the limit
- * returns ENC_SHORT before it does anything: a spawn tells at most 3 events, a step at most 4, a delta 1. */
+ * `limit` events that `enc_events` has not taken; memory for them is taken here. Nothing is judged where that is less
+ * than 4: ENC_FEW, behind ENC_OPEN. A call that might pass the limit returns ENC_SHORT before it does anything: a spawn
+ * tells at most 3 events, a step at most 4, a delta 1. */
 uint32_t enc_session_open(enc_session *session, const uint8_t *bytes, size_t length, const uint8_t *pdb,
                           size_t pdb_length, uint32_t limit, enc_refusal *refusal);
 
@@ -384,7 +390,8 @@ uint32_t enc_session_close(enc_session *session);
 uint32_t enc_spawn(enc_session *session, uint32_t method, uint32_t *task);
 
 /* Makes at most `count` steps of a task, until it ends or traps. ENC_ABSENT where no task has the number, and then
- * ENC_SHORT where 4 * count events more might pass the limit. At ENC_MEMORY `stepped` is written too: the steps that
+ * ENC_LIMIT where 4 * count is more than the session's limit, and then ENC_SHORT where 4 * count events more might pass
+ * it beside those that wait: take these and call again. At ENC_MEMORY `stepped` is written too: the steps that
  * it counts were made and stand, and are fewer than `count`. In all other cases of ENC_MEMORY nothing has changed. */
 uint32_t enc_step(enc_session *session, uint32_t task, uint32_t count, enc_stepped *stepped);
 
