@@ -294,8 +294,8 @@ uint32_t enc_write(enc_handle *handle, const uint8_t *json, size_t json_length,
 
 /* The words of a refusal as the program prints them, with the end of the line: `E16 06000001\n`. ENC_UNLIKE where there
  * is no such rule (F1 to F12, E1 to E24, the rules of docs/edits.md, J1, J2, L4, G1), no such kind of place, or no such
- * place: a table that there isn't (but of E6, E7 and E9, which tell tokens as EncMap and EncLog have them), a column past
- * the table's, an owner of a table without owners, or G1 of another row than a TypeRef or a TypeSpec. */
+ * place: a table that there isn't (but of E6, E7 and E9, which tell tokens as EncMap and EncLog have them), a column
+ * past the table's, an owner of a table without owners, or G1 of another row than a TypeRef or a TypeSpec. */
 uint32_t enc_words(const enc_refusal *refusal, uint8_t *buffer, size_t length, size_t *size);
 
 /* A session: tasks that make steps over a base while deltas are applied to it. It is closed where it is NULL, and is
