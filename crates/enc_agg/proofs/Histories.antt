@@ -100,7 +100,7 @@ pub record IsFound (b : Source) (added : List Added) (u : Token) (upto : List Ad
 pub some_first : {X : Type 0} (p q : X × ℕ) → Some p ≡ Some q → p.0 ≡ q.0
 some_first p q h = ap (λ o. (unwrap_or o p).0) h
 
-some_second : {X : Type 0} (p q : X × ℕ) → Some p ≡ Some q → p.1 ≡ q.1
+pub some_second : {X : Type 0} (p q : X × ℕ) → Some p ≡ Some q → p.1 ≡ q.1
 some_second p q h = ap (λ o. (unwrap_or o p).1) h
 
 found_step : (b : Source) (a : Added) (older : List Added) (u : Token) (o : Option ℕ) (upto : List Added) (k : ℕ) → cells_fault b ≡ None → AllAdded b (a ∷ older) → place_in (listed a.delta) u ≡ o → found_or (a ∷ older) o (found_in older u) ≡ Some (upto, k) → (found_in older u ≡ Some (upto, k) → IsFound b older u upto k) → IsFound b (a ∷ older) u upto k

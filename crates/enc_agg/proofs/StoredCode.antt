@@ -1,5 +1,5 @@
 -- The code that stands for a method is that of the newest delta that lists it.
-use Rattle.std.proofs.Common.{◌≡◌, ℕ, List, [], ◌∷◌, Option, Some, None, absurd, refl, sym, ap, ◌∙◌}
+use Rattle.std.proofs.Common.{◌≡◌, ℕ, List, [], ◌∷◌, Option, Some, None, refl, sym, ap, ◌∙◌}
 use Rattle.std.specs.Prelude.{option_map}
 use Rattle.enc_base.specs.declared.token.Token.{Token}
 use Rattle.enc_opcodes.specs.Body.{Code, code_seen}
@@ -9,6 +9,7 @@ use Rattle.enc_delta.specs.Delta.{listed, place_in}
 use Rattle.enc_agg.specs.declared.added.Added.{Added}
 use Rattle.enc_agg.specs.declared.added.Found.{Found}
 use Rattle.enc_agg.specs.Seen.{sources, found_or, found_in, found_seen, newest_number, code_in}
+use Rattle.enc_agg.proofs.Histories.{some_first, some_second}
 use Rattle.enc_agg.specs.Stored.{code_of_row, code_or, code_stored}
 
 -- where none lists it
@@ -31,8 +32,8 @@ one_step : (a : Added) (older upto : List Added) (table k : ℕ) (p : Option ℕ
     → (o ≡ Some (upto, k) → before ≡ newest_code upto table k) → found_or (a ∷ older) p o ≡ Some (upto, k) → code_or a.delta table p before ≡ newest_code upto table k
 one_step a older upto table k None o before rest is = rest is
 one_step a older upto table k (Some row) o before rest is =
-    let first : a ∷ older ≡ upto = cc in
-    let second : row ≡ k = cc in
+    let first : a ∷ older ≡ upto = some_first (a ∷ older, row) (upto, k) is in
+    let second : row ≡ k = some_second (a ∷ older, row) (upto, k) is in
     ap (λ (l : List Added). newest_code l table row) first ∙ ap (newest_code upto table) second
 
 one_lists : (b : Source) (added upto : List Added) (u : Token) (k : ℕ) → found_in added u ≡ Some (upto, k) → code_stored b (sources added) u ≡ newest_code upto u.table k
