@@ -1,3 +1,4 @@
 pub mod Outside
+pub mod Beside
 pub mod Memory
 pub mod Log

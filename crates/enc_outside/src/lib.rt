@@ -6,6 +6,7 @@ mod count;
 mod files;
 mod memory;
 mod output;
+mod replace;
 mod sink;
 mod store;
 mod sure;

@@ -8,6 +8,7 @@ use enc_top::run_tool;
 use enc_watch::{Cover, Trace, Watcher};
 use std::alloc::{AllocError, Global};
 use std::env;
+use std::io::ErrorKind;
 use std::process::ExitCode;
 
 /// The words behind the program's name. None where memory ran out or a word isn't UTF-8.
@@ -61,8 +62,18 @@ fn tell_file(rt: &HostRuntime, fault: &FileFault) {
     };
 }
 
-/// Tells people on standard error why it ends with a status of 2 or more, where more than the output is known. No clause
-/// speaks of it.
+/// Tells which files were read before a save replaced them, on standard error: who meant another name learns it.
+fn tell_replaced(rt: &HostRuntime, store: &FileStore<HostRuntime>) {
+    for name in store.replaced() {
+        let _ = eprintln!(rt;
+            "enc: {}: replaced, and it was one of the files that were read",
+            name
+        );
+    }
+}
+
+/// Tells people on standard error why it ends with a status of 2 or more, where more than the output is known: nothing
+/// where the reader of a pipe has read enough. No clause speaks of it.
 fn explain(
     rt: &HostRuntime,
     status: u8,
@@ -82,7 +93,9 @@ fn explain(
             }
         }
         5 => {
-            if let Some(cause) = out.last_fault() {
+            if let Some(cause) = out.last_fault()
+                && cause.kind() != ErrorKind::BrokenPipe
+            {
                 let _ = eprintln!(rt; "enc: standard output: {}", cause);
             }
         }
@@ -103,6 +116,7 @@ fn status_here(rt: HostRuntime, words: Option<Vec<String>>) -> Result<u8, AllocE
     let mut out = OutSink::begin(rt);
     let had_words = words.is_some();
     let status = status_of(alloc, words, &mut store, &mut out, watchers);
+    tell_replaced(&rt, &store);
     if had_words {
         explain(&rt, status, &store, &out);
     }
