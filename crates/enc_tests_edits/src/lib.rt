@@ -1,13 +1,8 @@
-//! What the crates of deltas, edit lists, requests, plain modules and PDBs answer, each asked by its public calls: values from outside.
+//! What edit lists say, and the hash of a source, asked by public calls: values from outside. Texts that are no list, and what
+//! lists come to, the stored run of `enc_cases` tells.
 #![tactic(auto)]
 
 #[cfg(test)]
-mod delta;
-#[cfg(test)]
-mod edits;
-#[cfg(test)]
 mod jobs;
-#[cfg(test)]
-mod plain;
 #[cfg(test)]
 mod ppdb;

@@ -1,12 +1,8 @@
-//! What the crates of edit lists' rules, of newest bodies and of watchers answer, and where bodies stand, asked by
-//! their public calls: values from outside.
+//! What the crates of edit lists' rules and of watchers answer, asked by their public calls: a heap at its limit, and a
+//! watcher of one's own.
 #![tactic(auto)]
 
-#[cfg(test)]
-mod places;
 #[cfg(test)]
 mod profiler;
 #[cfg(test)]
 mod rules;
-#[cfg(test)]
-mod versions;
