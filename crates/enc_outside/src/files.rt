@@ -67,8 +67,9 @@ impl<R: Files + AllocGlobal> FileStore<R> {
         self.last.as_ref()
     }
 
-    /// The names that were saved over files that this store had loaded, under whatever name: a file is known by its device
-    /// and its number there. For people to read: no clause speaks of it, and what there was no memory for is left out.
+    /// The names that were saved over files that this store had loaded, under whatever name: a file is known by its
+    /// device and its number there. For people to read: no clause speaks of it, and what there was no memory for is
+    /// left out.
     pub fn replaced(&self) -> &[String] {
         self.replaced.as_slice()
     }
@@ -132,15 +133,16 @@ impl<R: Files + AllocGlobal> Store for FileStore<R> {
         }
     }
 
-    /// Writes a new file in the same folder, `.NAME.enc-0` or with the next number that is free, and gives it the name, so
-    /// that neither a fault nor the end of the process leaves a part of the bytes under the name. At a fault the new file
-    /// is removed; a process that is killed may leave it. A file that is replaced hands on its owner, its group and its
-    /// permissions, but no access lists or other attributes; its other hard links keep the old bytes. A link stays, and
-    /// the file that it leads to is replaced.
+    /// Writes a new file in the same folder, `.NAME.enc-0` or with the next number that is free, and gives it the name,
+    /// so that neither a fault nor the end of the process leaves a part of the bytes under the name. At a fault the new
+    /// file is removed; a process that is killed may leave it. A file that is replaced hands on its owner, its group
+    /// and its permissions, but no access lists or other attributes; its other hard links keep the old bytes. A link
+    /// stays, and the file that it leads to is replaced.
     ///
-    /// Written in place, so that a fault may leave a part, is what is no regular file, as a device or a pipe, what a link
-    /// leads to that leads nowhere, and a file that can be written but where no new file may take its name: in a folder
-    /// without the right to write, with an owner who can't be kept, or mounted by itself.
+    /// Written in place, so that a fault may leave a part, is what is no regular file, as a device or a pipe, what a
+    /// link leads to that leads nowhere, and a file that can be written but where no new file may take its name: in a
+    /// folder without the right to write or with no room for so long a name, with an owner who can't be kept, or
+    /// mounted by itself.
     ///
     /// `Memory` comes only before the file is touched.
     fn save(&mut self, name: &str, bytes: &[u8]) -> Result<(), SaveError>

@@ -141,7 +141,8 @@ fn take_regular<R: Files + AllocGlobal>(
     }
 }
 
-/// Writes a new file in the same folder, and gives it this name, which is no link. Where it fails, there is no new file.
+/// Writes a new file in the same folder, and gives it this name, which is no link. Where it fails, there is no new
+/// file.
 fn take_name<R: Files + AllocGlobal>(
     rt: &R,
     path: &str,
@@ -159,8 +160,8 @@ fn take_name<R: Files + AllocGlobal>(
     taking
 }
 
-/// A new file in the folder of this path. One that is to replace another is nobody else's to read until it has the other's
-/// permissions.
+/// A new file in the folder of this path. One that is to replace another is nobody else's to read until it has the
+/// other's permissions.
 fn new_file<R: Files + AllocGlobal>(
     rt: &R,
     path: &str,
