@@ -362,20 +362,22 @@ says_all h x numbers rows s are_last shallow tokens held are read =
     let row = held.single.0 in
     let there = held.single.1.0 in
     let module_ = held.single.1.1 in
-    let table_of : (u : Token) → is_in_map s u ≡ true → has_tokens u.table ≡ true = λ u listed_u. (token_table h x u are_last (sym (same u) ∙ listed_u)).has in
-    (record {
-      generation = module_number x rows s row 0 read are there (omega arith) ∙ module_.generation;
-      mvid = own_is x rows s 2 (slice_index row 2) read (module_number x rows s row 2 read are there (omega arith)) ∙ module_.mvid;
-      base = own_is x rows s 4 (slice_index row 4) read (module_number x rows s row 4 read are there (omega arith)) ∙ module_.base;
-      enc_id = own_is x rows s 3 (slice_index row 3) read (module_number x rows s row 3 read are there (omega arith)) ∙ module_.enc_id;
-      heaps = read.heaps;
-      log = log_says heaps rows il s (counted (log_in x.first) ++ counted (log_in x.second)) read held.log
-          (both_low (counted (log_in x.first)) (counted (log_in x.second)) (counted_low x.first) (counted_low x.second));
-      rises = up;
-      tokens = same;
-      counts = λ table has. counts_in h x numbers rows s are_last tokens held read table has ∙ ap (λ ts. length (of_table table ts)) (sym listed_is);
-      rows = λ u listed_u. says_row x numbers rows s u is held (table_of u listed_u) listed_u;
-    }, λ u i column listed_u at. are_of_both x numbers rows s u i column is held (table_of u listed_u) listed_u at)
+    let table_of : (u : Token) → is_in_map s u ≡ true → has_tokens u.table ≡ true = λ u listed_u. (token_table h x u are_last (sym (same u) ∙ listed_u)).has in (
+      record {
+        generation = module_number x rows s row 0 read are there (omega arith) ∙ module_.generation;
+        mvid = own_is x rows s 2 (slice_index row 2) read (module_number x rows s row 2 read are there (omega arith)) ∙ module_.mvid;
+        base = own_is x rows s 4 (slice_index row 4) read (module_number x rows s row 4 read are there (omega arith)) ∙ module_.base;
+        enc_id = own_is x rows s 3 (slice_index row 3) read (module_number x rows s row 3 read are there (omega arith)) ∙ module_.enc_id;
+        heaps = read.heaps;
+        log = log_says heaps rows il s (counted (log_in x.first) ++ counted (log_in x.second)) read held.log
+            (both_low (counted (log_in x.first)) (counted (log_in x.second)) (counted_low x.first) (counted_low x.second));
+        rises = up;
+        tokens = same;
+        counts = λ table has. counts_in h x numbers rows s are_last tokens held read table has ∙ ap (λ ts. length (of_table table ts)) (sym listed_is);
+        rows = λ u listed_u. says_row x numbers rows s u is held (table_of u listed_u) listed_u;
+      },
+      λ u i column listed_u at. are_of_both x numbers rows s u i column is held (table_of u listed_u) listed_u at,
+    )
 
 pub metadata_is_read : MetadataIsRead
 metadata_is_read h x bytes are_last shallow m =
