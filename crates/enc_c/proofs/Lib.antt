@@ -1,3 +1,4 @@
+mod CodeLent
 -- The lemmas of this crate.
 pub mod RefusalNumbers
 pub mod Items
