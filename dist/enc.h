@@ -24,22 +24,28 @@ extern "C" {
 /* A module: closed where it is NULL, and else a base with the deltas that follow it. */
 typedef void *enc_handle;
 
-/* What a call comes to. 0, 1 and 3 are those of the program `enc`. Where it isn't ENC_DONE or
- * ENC_SHORT, nothing is written but the refusal at ENC_REFUSED. */
+/* What a call comes to. 0, 1 and 3 are those of the program `enc`. Written is, at ENC_DONE, what was asked for; at
+ * ENC_REFUSED the refusal; at ENC_SHORT of a call that copies each `size`, and of `enc_code` and `enc_code_at` the
+ * head; at ENC_MEMORY of `enc_step` what ran; and nothing else. */
 enum {
     ENC_DONE = 0,    /* all is done */
     ENC_REFUSED = 1, /* what is given breaks a rule, or what would be written a limit: `refusal` has it and the place */
     ENC_MEMORY = 3,  /* there is no memory */
     ENC_CLOSED = 7,  /* the handle is closed */
     ENC_OPEN = 8,    /* the handle is open already */
-    ENC_SHORT = 9,   /* a buffer is too short: nothing is copied, and each `size` has what is needed */
-    ENC_ABSENT = 10, /* there is no such row, entry, body or document; a stream that is no heap has no entry */
+    ENC_SHORT = 9,   /* a buffer is too short: nothing is copied, and each `size` has what is needed. Of `enc_spawn`,
+                      * `enc_step` and `enc_session_apply`, which have no buffer: there might be more events than the
+                      * session's limit, and nothing is done */
+    ENC_ABSENT = 10, /* there is no such row, type, entry, body, document, task or frame; a stream that is no heap has
+                      * no entry */
     ENC_UNLIKE = 11, /* the column, the table or the row isn't of the kind that is asked for, or the numbers name no
-                      * stream or no refusal */
+                      * stream or no refusal; docs/library.md lists which call answers it for what */
     ENC_LATER = 12,  /* there is no such generation */
     ENC_LIMIT = 13,  /* a stated limit is passed: `enc_merge` where a delta's metadata or code has more than 2^26 bytes,
-                      * `enc_spawn` where there are 64 tasks */
-    ENC_FEW = 14     /* `enc_merge` where there are fewer than two deltas */
+                      * `enc_spawn` where there are 64 tasks, `enc_step` where 4 * count is more than the session's
+                      * limit, so that taking the events doesn't help */
+    ENC_FEW = 14     /* there are too few: deltas for `enc_merge`, which takes two, or events in the limit of
+                      * `enc_session_open`, which must let a step tell its 4 */
 };
 
 /* The kinds of places of a refusal. */
@@ -151,7 +157,8 @@ typedef struct {
     uint32_t to;
 } enc_move;
 
-/* Judges a base, with its Portable PDB where that has bytes, and opens a closed handle. */
+/* Judges a base, with its Portable PDB where that has bytes, and opens a closed handle. A PDB of length 0 is none.
+ * Here and below no length is judged: L1 and L2, which the program asks of files, aren't asked. */
 uint32_t enc_open(enc_handle *handle, const uint8_t *bytes, size_t length, const uint8_t *pdb, size_t pdb_length,
                   enc_refusal *refusal);
 
@@ -169,7 +176,7 @@ uint32_t enc_close(enc_handle *handle);
 
 /* Tokens are numbers as in IL: the table in the top byte, the row in the three below. */
 
-/* How many generations there are, the base among them; how many rows a table has. */
+/* How many generations there are, the base among them; how many rows a table has, 0 of a number that is no table. */
 uint32_t enc_generations(enc_handle *handle, uint32_t *count);
 uint32_t enc_count(enc_handle *handle, uint8_t table, uint32_t *count);
 
@@ -188,8 +195,8 @@ uint32_t enc_owner(enc_handle *handle, uint32_t token, uint32_t *owner);
 uint32_t enc_lengths(enc_handle *handle, uint32_t generation, enc_heap_lengths *lengths);
 uint32_t enc_count_at(enc_handle *handle, uint32_t generation, uint8_t table, uint32_t *count);
 
-/* The type with these names, in UTF-8; nested in another, or in none where that is 0. Of several it is the first. It
- * goes over the rows of TypeDef, or over those of NestedClass. */
+/* The type with these names, in UTF-8; nested in another, or in none where the token of that has row 0, of whatever
+ * table. Of several it is the first. It goes over the rows of TypeDef, or over those of NestedClass. */
 uint32_t enc_find_type(enc_handle *handle, uint32_t enclosing, const uint8_t *space, size_t space_length,
                        const uint8_t *name, size_t name_length, uint32_t *token);
 
@@ -209,11 +216,11 @@ uint32_t enc_guid(enc_handle *handle, uint32_t token, uint8_t column, uint8_t *b
 /* The row as `enc show` prints it. */
 uint32_t enc_row(enc_handle *handle, uint32_t token, uint8_t *buffer, size_t length, size_t *size);
 
-/* The code of a method's newest body, without its header, and what that says. */
+/* The code of a method's newest body, without its header, and what that says. ENC_ABSENT of a method without one. */
 uint32_t enc_code(enc_handle *handle, uint32_t method, uint8_t *buffer, size_t length, size_t *size,
                   enc_code_head *head);
 
-/* The exception clauses of a method's body. */
+/* The exception clauses of a method's newest body. ENC_ABSENT of a method without one. */
 uint32_t enc_clauses(enc_handle *handle, uint32_t method, enc_clause *buffer, size_t length, size_t *size);
 
 /* The bytes of the UTF-16 units of the user text at an offset of the joined heap, as `ldstr` names it (without 70 in
@@ -229,7 +236,8 @@ uint32_t enc_entries(enc_handle *handle, uint32_t generation, enc_entry *buffer,
 uint32_t enc_find_member(enc_handle *handle, uint32_t owner, uint8_t table, const uint8_t *name, size_t name_length,
                          uint32_t *buffer, size_t length, size_t *size);
 
-/* The sequence points of a method, and the name of a document that one of them has. */
+/* The sequence points of a method, and the name of a document that one of them has. Where no PDB has any of the method,
+ * it has none, with a body or without: ENC_DONE, and `size` 0. */
 uint32_t enc_points(enc_handle *handle, uint32_t method, enc_point *buffer, size_t length, size_t *size);
 uint32_t enc_document(enc_handle *handle, uint32_t method, uint32_t number, uint8_t *buffer, size_t length,
                       size_t *size);
@@ -251,12 +259,15 @@ uint32_t enc_document_at(enc_handle *handle, uint32_t generation, uint32_t metho
  * offsets. `rule` is 0 where it may, and else the first that is broken (docs/scripts.md has them as Q3 to Q7): 3 no
  * visible point stands at its offset; 4 no pair leads from there; 5 where it leads no instruction with a visible point
  * begins; 6 the local variables aren't those of the old body and perhaps more, or the interpreter doesn't run the new
- * one; 7 a handler begins where it leads. Its stack and its running handlers are the host's matter. */
+ * one; 7 where it leads lies in a handler of the newest body. Its stack and its running handlers are the host's
+ * matter. ENC_ABSENT where the method had no body then. */
 uint32_t enc_may_remap(enc_handle *handle, uint32_t method, uint32_t generation, uint32_t offset, const enc_pair *map,
                        size_t length, uint32_t *rule);
+
 /* The calls below write files into buffers, each with its size. Where one of the buffers is too short none is
- * written, and all sizes are told. The handle stays as it is. They do their work again each time: ask for the
- * sizes first, or give room enough. */
+ * written, and all sizes are told. The handle stays as it is. They do their work again each time, and it isn't proved
+ * that two calls make files of one size: give room enough, or ask again as long as it is ENC_SHORT (docs/library.md
+ * has the loop). */
 
 /* The one module that has all edits, and its PDB. ENC_REFUSED with L4 where one passes a limit. */
 uint32_t enc_save(enc_handle *handle, uint8_t *image, size_t image_length, size_t *image_size,
@@ -281,7 +292,10 @@ uint32_t enc_write(enc_handle *handle, const uint8_t *json, size_t json_length,
                    uint8_t *il, size_t il_length, size_t *il_size,
                    uint8_t *pdb, size_t pdb_length, size_t *pdb_size, enc_refusal *refusal);
 
-/* The words of a refusal as the program prints them, with the end of the line: `E16 06000001\n`. */
+/* The words of a refusal as the program prints them, with the end of the line: `E16 06000001\n`. ENC_UNLIKE where there
+ * is no such rule (F1 to F12, E1 to E24, the rules of docs/edits.md, J1, J2, L4, G1), no such kind of place, or no such
+ * place: a table that there isn't (but of E6, E7 and E9, which tell tokens as EncMap and EncLog have them), a column
+ * past the table's, an owner of a table without owners, or G1 of another row than a TypeRef or a TypeSpec. */
 uint32_t enc_words(const enc_refusal *refusal, uint8_t *buffer, size_t length, size_t *size);
 
 /* A session: tasks that make steps over a base while deltas are applied to it. It is closed where it is NULL, and is
@@ -362,8 +376,9 @@ enum {
 };
 
 /* Judges a base, with its PDB where that has bytes, and opens a closed session: no task, and no event. There can be
- * `limit` events that `enc_events` has not taken; memory for them is taken here. A call that might pass the limit
- * returns ENC_SHORT before it does anything: a spawn tells at most 3 events, a step at most 4, a delta 1. */
+ * `limit` events that `enc_events` has not taken; memory for them is taken here. Nothing is judged where that is less
+ * than 4: ENC_FEW, behind ENC_OPEN. A call that might pass the limit returns ENC_SHORT before it does anything: a spawn
+ * tells at most 3 events, a step at most 4, a delta 1. */
 uint32_t enc_session_open(enc_session *session, const uint8_t *bytes, size_t length, const uint8_t *pdb,
                           size_t pdb_length, uint32_t limit, enc_refusal *refusal);
 
@@ -375,7 +390,8 @@ uint32_t enc_session_close(enc_session *session);
 uint32_t enc_spawn(enc_session *session, uint32_t method, uint32_t *task);
 
 /* Makes at most `count` steps of a task, until it ends or traps. ENC_ABSENT where no task has the number, and then
- * ENC_SHORT where 4 * count events more might pass the limit. At ENC_MEMORY `stepped` is written too: the steps that
+ * ENC_LIMIT where 4 * count is more than the session's limit, and then ENC_SHORT where 4 * count events more might pass
+ * it beside those that wait: take these and call again. At ENC_MEMORY `stepped` is written too: the steps that
  * it counts were made and stand, and are fewer than `count`. In all other cases of ENC_MEMORY nothing has changed. */
 uint32_t enc_step(enc_session *session, uint32_t task, uint32_t count, enc_stepped *stepped);
 
