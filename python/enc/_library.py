@@ -263,16 +263,26 @@ def fail(status: int, about: str) -> NoReturn:
 
 
 class Buffer:
-    """A buffer that a call fills, and how many items it would take."""
+    """A buffer that a call fills, and how many items it would take; 0 until a call tells it."""
 
     def __init__(self, item: Any, length: int) -> None:
         self.item = item
         self.size = size_t()
-        self.resize(length)
+        self._make(length)
 
-    def resize(self, length: int) -> None:
+    @classmethod
+    def of(cls, item: Any) -> "Buffer":
+        """A small one: for bytes where the item is c_char."""
+        return cls(item, 256 if item is ctypes.c_char else 16)
+
+    def _make(self, length: int) -> None:
         self.length = length
         self.items = (self.item * length)()
+
+    def grow(self) -> None:
+        """Makes room for what the last call would take. Until the next one nothing is taken."""
+        length, self.size.value = self.size.value, 0
+        self._make(length)
 
     def arguments(self) -> Tuple[Any, ...]:
         return (self.items, size_t(self.length), ctypes.byref(self.size))
@@ -282,7 +292,7 @@ class Buffer:
 
     def taken(self) -> Any:
         """The items that a call wrote: bytes, or a list of numbers or structs."""
-        return self.items[: self.size.value]
+        return self.items[: 0 if self.is_short() else self.size.value]
 
 
 class Uncopied:
@@ -294,20 +304,23 @@ class Uncopied:
 
 
 class Handle(Uncopied):
-    """An open handle. It is used on the thread that opened it alone, as the library asks."""
+    """An open handle, for any thread: each call holds `lock`, so that threads take turns, as the library asks.
+
+    `with handle.lock:` holds it for several calls, which then tell one state. The thread that holds it may take it
+    again, so a signal's handler, which Python runs between two calls, may ask too."""
 
     def __init__(self, library: Library, closing: str, about: str) -> None:
         self.library = library
         self.about = about
-        self._closing = closing
+        self.lock = threading.RLock()
+        self._closing = library.call(closing)
         self._pointer = ctypes.c_void_p()
-        self._thread = threading.get_ident()
 
     def call(self, name: str, *arguments: Any) -> int:
-        """The status of a call; a RuntimeError on another thread."""
-        if threading.get_ident() != self._thread:
-            raise RuntimeError(f"{self.about} was opened on another thread, and is used there alone")
-        status: int = self.library.call(name)(ctypes.byref(self._pointer), *arguments)
+        """The status of a call."""
+        call = self.library.call(name)
+        with self.lock:
+            status: int = call(ctypes.byref(self._pointer), *arguments)
         return status
 
     def fill(self, name: str, before: Sequence[Any], buffers: Sequence[Buffer], after: Sequence[Any] = ()) -> int:
@@ -321,7 +334,7 @@ class Handle(Uncopied):
                 return status
             for buffer in buffers:
                 if buffer.is_short():
-                    buffer.resize(buffer.size.value)
+                    buffer.grow()
 
     def one(self, about: str, name: str, *arguments: Any) -> int:
         """The number that a call tells."""
@@ -341,21 +354,16 @@ class Handle(Uncopied):
 
     def copied(self, about: str, name: str, item: Any, *arguments: Any) -> Any:
         """What a call copies: bytes for an item c_char, else a list."""
-        buffer = Buffer(item, 256 if item is ctypes.c_char else 16)
+        buffer = Buffer.of(item)
         status = self.fill(name, arguments, [buffer])
         if status != DONE:
             fail(status, about)
         return buffer.taken()
 
     def close(self) -> None:
-        """Closes it; a closed one stays closed."""
-        if self._pointer.value is not None:
-            self.call(self._closing)
-
-    def drop(self) -> None:
-        """Closes it where this is its thread; for `__del__`, which any thread may run."""
-        if threading.get_ident() == self._thread:
-            self.close()
+        """Closes it, behind a call that is under way; a closed one stays closed."""
+        with self.lock:
+            self._closing(ctypes.byref(self._pointer))
 
 
 def given(parts: Iterable[Optional[bytes]]) -> List[Any]:

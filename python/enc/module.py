@@ -84,7 +84,12 @@ class View(_library.Uncopied):
 
     _handle: Handle
     _at: Optional[int]
-    _nested: Optional[Dict[Token, Token]]
+    # The enclosing types of nested ones, and how many generations there were when they were looked up.
+    _nested: Tuple[int, Dict[Token, Token]] = (0, {})
+
+    def _generations(self) -> int:
+        """How many generations its rows are of."""
+        return self._handle.one("the number of generations", "enc_generations") if self._at is None else self._at + 1
 
     def _call(self, name: str) -> Tuple[str, Tuple[Any, ...]]:
         """The call of this name at this generation, and what it takes first."""
@@ -122,7 +127,8 @@ class View(_library.Uncopied):
         >>> [row.TypeName for row in bank.types()]
         ['<Module>', 'Account', 'Bank']
         """
-        return list(self.rows("TypeDef"))
+        with self._handle.lock:
+            return list(self.rows("TypeDef"))
 
     def methods(self) -> List[Row]:
         """The rows of MethodDef.
@@ -135,7 +141,8 @@ class View(_library.Uncopied):
         06000004 Main 0.4
         06000005 PrintDeposits 2.3
         """
-        return list(self.rows("MethodDef"))
+        with self._handle.lock:
+            return list(self.rows("MethodDef"))
 
     def text(self, which: Which) -> str:
         """A row as `enc show` prints it.
@@ -191,8 +198,8 @@ class View(_library.Uncopied):
         >>> bank.name("08000001")
         'Account.Deposit.amount'
         """
-        token = token_of(which)
-        return self._name_of(self[token], 0)
+        with self._handle.lock:
+            return self._name_of(self[which], 0)
 
     def _name_of(self, row: Row, depth: int) -> str:
         """The name of a row; `depth` ends what leads back into itself."""
@@ -223,10 +230,12 @@ class View(_library.Uncopied):
         return scope if scope.table == row.table and scope.row else None
 
     def _nesting(self) -> Dict[Token, Token]:
-        """The enclosing type of each nested one, looked up once."""
-        if self._nested is None:
-            self._nested = {row.NestedClass: row.EnclosingClass for row in self.rows(_NESTED)}
-        return self._nested
+        """The enclosing type of each nested one, looked up once for each generation."""
+        generations = self._generations()
+        if self._nested[0] != generations:
+            pairs = {row.NestedClass: row.EnclosingClass for row in self.rows(_NESTED)}
+            self._nested = (generations, pairs)
+        return self._nested[1]
 
     def signature(self, which: Which) -> bytes:
         """The bytes of the signature of a field, method, property, MemberRef, StandAloneSig or TypeSpec.
@@ -263,12 +272,13 @@ class View(_library.Uncopied):
         (8, None, False, 30, [])
         """
         token = token_of(method)
-        found = self._code(token)
-        if found is None:
-            raise LookupError(f"{token} has no body")
-        code, head = found
-        local = Token(0x11 << 24 | head.locals) if head.locals else None
-        return Body(head.stack, local, head.init != 0, code, self._clauses(token))
+        with self._handle.lock:
+            found = self._code(token)
+            if found is None:
+                raise LookupError(f"{token} has no body")
+            code, head = found
+            local = Token(0x11 << 24 | head.locals) if head.locals else None
+            return Body(head.stack, local, head.init != 0, code, self._clauses(token))
 
     def _clauses(self, method: Token) -> List[Clause]:
         return [clause_of(*clause) for clause in _printed.printed(self.text(method)).clauses]
@@ -281,8 +291,9 @@ class View(_library.Uncopied):
         """
         token = token_of(method)
         name, at = self._call("enc_points")
-        found = self._handle.copied(f"the points of {token}", name, _library.PointNumbers, *at, u32(token))
-        names = {point.document: self._document(token, point.document) for point in found if not point.hidden}
+        with self._handle.lock:
+            found = self._handle.copied(f"the points of {token}", name, _library.PointNumbers, *at, u32(token))
+            names = {point.document: self._document(token, point.document) for point in found if not point.hidden}
         return [_point(point, names.get(point.document)) for point in found]
 
     def _document(self, method: Token, number: int) -> Optional[str]:
@@ -343,7 +354,6 @@ class AtGeneration(View):
         self._module = module
         self._handle = module._handle
         self._at = generation
-        self._nested = None
 
     @property
     def generation(self) -> int:
@@ -369,13 +379,12 @@ class Module(View):
     Traceback (most recent call last):
     enc._refused.Refused: F3 headers: MZ, PE\\0\\0 or the magic of PE32 or PE32+ isn't there, ...
 
-    A module is used on the thread that opened it alone."""
+    Any thread may ask it, apply to it and close it: threads take turns, and each answer is of one state."""
 
     def __init__(self, base: Source, pdb: Optional[Source] = None) -> None:
         files = _files.base_files(base, pdb)
         self._at = None
         self._handle = Handle(_library.library(), "enc_close", f"the module {files.names[0] or 'of bytes'}")
-        self._nested = None
         self._size = len(files.first) + len(files.pdb)
         refusal = _library.RefusalNumbers()
         status = self._handle.call("enc_open", *_library.given((files.first, files.pdb)), ctypes.byref(refusal))
@@ -400,7 +409,7 @@ class Module(View):
 
     def __del__(self) -> None:
         if "_handle" in self.__dict__:
-            self._handle.drop()
+            self._handle.close()
 
     def __repr__(self) -> str:
         return f"<{self._handle.about}>"
@@ -429,10 +438,10 @@ class Module(View):
         enc._refused.Refused: E2 00000001: its Generation isn't the next
         """
         files = _files.delta_files(meta, il, pdb)
-        self._judge("enc_apply", files)
-        self._nested = None
-        self._size += sum(len(part) for part in files[:3])
-        return self.generation
+        with self._handle.lock:
+            self._judge("enc_apply", files)
+            self._size += sum(len(part) for part in files[:3])
+            return self.generation
 
     def check(self, meta: "Source | Delta", il: Optional[Source] = None, pdb: Optional[Source] = None) -> None:
         """Raises `Refused` where `apply` would; adds nothing."""
@@ -452,7 +461,7 @@ class Module(View):
         >>> bank.generations
         3
         """
-        return self._handle.one("the number of generations", "enc_generations")
+        return self._generations()
 
     @property
     def generation(self) -> int:
@@ -539,17 +548,20 @@ class Module(View):
         LookupError: the row 02000009: there is none
         """
         token = token_of(which)
-        place = self.place(token)
-        columns = {column.name: self._value(token, i, column) for i, column in enumerate(columns_of(token))}
+        with self._handle.lock:
+            place, generation = self.place(token), self.generation
+            columns = {column.name: self._value(token, i, column) for i, column in enumerate(columns_of(token))}
+            owner = self._owner(token)
         runs = [columns[column.name] for column in columns_of(token) if column.kind == "run"]
         children = tuple(child for run in runs if isinstance(run, tuple) for child in run)
-        return Row(token, place, columns, self._owner(token), children, self._text_at(token, self.generation))
+        return Row(token, place, columns, owner, children, self._text_at(token, generation))
 
     def _text_at(self, token: Token, generation: int) -> Any:
         """What prints a row as it is now, also after later deltas."""
 
         def text() -> str:
-            return (self if self.generation == generation else self.at(generation)).text(token)
+            with self._handle.lock:
+                return (self if self.generation == generation else self.at(generation)).text(token)
 
         return text
 
@@ -622,6 +634,10 @@ class Module(View):
         >>> bank.find_all("Account.balance"), bank.find_all("Account.nothing")
         ([Token('04000001')], [])
         """
+        with self._handle.lock:
+            return self._named(name)
+
+    def _named(self, name: str) -> List[Token]:
         *outer, last = re.split("[/+]", name)
         enclosing = 0
         for part in outer:

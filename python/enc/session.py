@@ -8,7 +8,7 @@ from typing import Any, Iterable, List, NamedTuple, Optional, Tuple, Type
 
 from . import _files, _library
 from ._files import Delta, Source
-from ._library import DONE, LIMIT, REFUSED, SHORT, UNLIKE, Handle, Limit, number, u32
+from ._library import DONE, LIMIT, REFUSED, SHORT, UNLIKE, Buffer, Handle, Limit, number, u32
 from ._refused import RemapRefused
 from .module import Which, pairs_of, refused_of, text_of
 from .rows import Token, token_of
@@ -102,15 +102,17 @@ class Session(_library.Uncopied):
     """Tasks over a base and the deltas that are applied on the way.
 
     The base is given as to `Module`. `limit` is how many events the library keeps at a time, 4 at least; none is
-    lost, since this class takes them out whenever there are many. A session is used on the thread that opened it
-    alone."""
+    lost, since this class takes them out whenever there are many. Any thread may use a session, as a `Module`."""
 
     def __init__(self, base: Source, pdb: Optional[Source] = None, limit: int = 1 << 16) -> None:
         if not _STEP_EVENTS <= limit < 1 << 32:
             raise ValueError(f"a limit of {limit} events: it is {_STEP_EVENTS} at least")
         files = _files.base_files(base, pdb)
         self._limit = limit
-        self._events: List[Event] = []
+        # What was taken out of the library. A buffer stands here before its call, so that what that takes is kept
+        # though a signal ends what Python does behind it.
+        self._events: List[Buffer] = []
+        self._lines: List[Buffer] = []
         self._handle = Handle(_library.library(), "enc_session_close", f"the session {files.names[0] or 'of bytes'}")
         refusal = _library.RefusalNumbers()
         arguments = _library.given((files.first, files.pdb))
@@ -133,7 +135,7 @@ class Session(_library.Uncopied):
 
     def __del__(self) -> None:
         if "_handle" in self.__dict__:
-            self._handle.drop()
+            self._handle.close()
 
     def __repr__(self) -> str:
         return f"<{self._handle.about}>"
@@ -144,11 +146,19 @@ class Session(_library.Uncopied):
 
     def _call(self, name: str, *arguments: Any) -> int:
         """The status of a call that adds events: where there is no room for them, they are taken out first."""
-        status = self._handle.call(name, *arguments)
-        if status == SHORT:
-            self._take_events()
+        with self._handle.lock:
             status = self._handle.call(name, *arguments)
-        return status
+            if status == SHORT:
+                self._take(self._events, "enc_events", _library.EventNumbers)
+                status = self._handle.call(name, *arguments)
+            return status
+
+    def _take(self, buffers: List[Buffer], name: str, item: Any) -> None:
+        """Takes what a call takes out of the library for good, behind what was taken before."""
+        buffers.append(Buffer.of(item))
+        status = self._handle.fill(name, (), buffers[-1:])
+        if status != DONE:
+            _library.fail(status, f"what {name} takes")
 
     # What changes it.
 
@@ -233,17 +243,19 @@ class Session(_library.Uncopied):
 
     def events(self) -> List[Event]:
         """What happened since this was asked last."""
-        self._take_events()
-        events, self._events = self._events, []
-        return events
-
-    def _take_events(self) -> None:
-        found = self._handle.copied("the events", "enc_events", _library.EventNumbers)
-        self._events += [_event(event) for event in found]
+        with self._handle.lock:
+            self._take(self._events, "enc_events", _library.EventNumbers)
+            events = [_event(event) for buffer in self._events for event in buffer.taken()]
+            self._events.clear()
+            return events
 
     def output(self) -> List[str]:
         """The lines that tasks wrote since this was asked last, such as `task 1 writes "old\\x0a"`, `task 1 ended`."""
-        return text_of(self._handle.copied("the output", "enc_output", ctypes.c_char)).splitlines()
+        with self._handle.lock:
+            self._take(self._lines, "enc_output", ctypes.c_char)
+            text = text_of(b"".join(buffer.taken() for buffer in self._lines))
+            self._lines.clear()
+            return text.splitlines()
 
 
 def _stepped(numbers: Any) -> Stepped:
