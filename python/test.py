@@ -27,6 +27,8 @@ sys.dont_write_bytecode = True
 import backend
 import make_rules
 import testing
+from test_language import Docstrings, Missing, Types  # noqa: F401
+from test_language import Rows as ByNumber  # noqa: F401
 from test_threads import Signals, Threads  # noqa: F401
 from testing import CHAINS, HERE, ROOT, Folder, every_token, has, needs, opened, printed, program, told
 
@@ -719,7 +721,8 @@ class Installed(Folder):
 def load_tests(loader, tests, pattern):
     """The tests, and the docstrings."""
     bank = opened(*CHAINS[0])
-    for name in ("", ".module", ".session", ".rows", ".tables", "._files", "._printed", "._refused"):
+    for path in sorted((HERE / "enc").glob("*.py")):
+        name = "" if path.stem == "__init__" else f".{path.stem}"
         module = importlib.import_module("enc" + name)
         extra = {"bank": bank} if name else {}
         tests.addTests(doctest.DocTestSuite(module, extraglobs=extra, optionflags=doctest.ELLIPSIS))

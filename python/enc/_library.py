@@ -13,6 +13,8 @@ import threading
 from pathlib import Path
 from typing import Any, Dict, Iterable, List, NoReturn, Optional, Sequence, Tuple, Type
 
+from ._missing import NotFound
+
 u8, u32, i64, size_t = ctypes.c_uint8, ctypes.c_uint32, ctypes.c_int64, ctypes.c_size_t
 
 DONE, REFUSED, MEMORY, CLOSED, OPEN, SHORT, ABSENT, UNLIKE, LATER, LIMIT, FEW = 0, 1, 3, 7, 8, 9, 10, 11, 12, 13, 14
@@ -252,7 +254,7 @@ def fail(status: int, about: str) -> NoReturn:
     if status == CLOSED:
         raise ValueError(f"{about}: it is closed")
     if status in (ABSENT, LATER):
-        raise LookupError(f"{about}: there is none")
+        raise NotFound(f"{about}: there is none")
     if status == UNLIKE:
         raise ValueError(f"{about}: it isn't of that kind")
     if status == LIMIT:
