@@ -19,14 +19,13 @@ import subprocess
 import sys
 import tempfile
 import unittest
-import unittest.mock
 from pathlib import Path
 
 sys.dont_write_bytecode = True
 
-import backend
 import make_rules
 import testing
+from test_installed import Archives, Installed  # noqa: F401
 from test_language import Docstrings, Missing, Types  # noqa: F401
 from test_language import Rows as ByNumber  # noqa: F401
 from test_threads import Signals, Threads  # noqa: F401
@@ -37,6 +36,7 @@ from enc import _files, _library, _printed, _raw
 from enc.session import Session
 
 
+@unittest.skipUnless((ROOT / "crates").is_dir(), "no checkout here")
 class Header(Folder):
     """The package and what it was made from agree."""
 
@@ -681,41 +681,6 @@ class Sessions(unittest.TestCase):
                     session.step(wrong)
             with self.assertRaises(ValueError):
                 session.spawn("06000002")
-
-
-class Installed(Folder):
-    """The wheel, and an install without a network."""
-
-    def test_without_jinja_a_local_path_is_named(self):
-        given, said = self.path("page.html"), io.StringIO()
-        with unittest.mock.patch("importlib.util.find_spec", return_value=None), contextlib.redirect_stderr(said):
-            self.assertEqual(program(["report", "examples/k", "-o", given]), 4)
-        self.assertIn("pip install './python[report]'", said.getvalue())
-        self.assertNotIn("enc[report]", said.getvalue())
-        self.assertFalse(os.path.exists(given))
-
-    def test_the_wheel(self):
-        name = backend.build_wheel(self.folder)
-        self.assertTrue(name.endswith("-py3-none-linux_x86_64.whl"))
-        with backend.zipfile.ZipFile(self.path(name)) as wheel:
-            names = wheel.namelist()
-            self.assertEqual(wheel.read("enc/libenc.so"), _files.read(_library.library_path()))
-            self.assertEqual(wheel.read("enc/py.typed"), b"")
-        modules = {f"enc/{path.name}" for path in (HERE / "enc").glob("*.py")}
-        self.assertLessEqual(modules, set(names))
-
-    def test_pip(self):
-        if subprocess.run([sys.executable, "-m", "pip", "--version"], capture_output=True).returncode:
-            self.skipTest("no pip here")
-        words = ["--no-build-isolation", "--no-index", "--no-compile", "--quiet", "--target", self.path("to")]
-        pip = [sys.executable, "-m", "pip", "--disable-pip-version-check", "--no-input", "install", *words, str(HERE)]
-        made = subprocess.run(pip, capture_output=True, text=True)
-        self.assertEqual(made.returncode, 0, made.stderr)
-        around = {name: value for name, value in os.environ.items() if name != "ENC_LIBRARY"}
-        around["PYTHONPATH"] = self.path("to")
-        asked = "import enc; module = enc.Module('examples/k'); print(enc.__file__, module.apply('examples/k1'))"
-        got = subprocess.run([sys.executable, "-c", asked], env=around, capture_output=True, text=True)
-        self.assertEqual(got.stdout.split(), [self.path("to/enc/__init__.py"), "1"], got.stderr)
 
 
 def load_tests(loader, tests, pattern):
