@@ -54,8 +54,9 @@ class Installed(Folder):
         self.assertEqual(made.returncode, 0, made.stderr)
         around = {name: value for name, value in os.environ.items() if name != "ENC_LIBRARY"}
         around["PYTHONPATH"] = self.path("to")
-        asked = "import enc; module = enc.Module('examples/k'); print(enc.__file__, module.apply('examples/k1'))"
-        got = subprocess.run([sys.executable, "-c", asked], env=around, capture_output=True, text=True)
+        asked = "import enc, sys; module = enc.Module(sys.argv[1]); print(enc.__file__, module.apply(sys.argv[2]))"
+        words = [sys.executable, "-c", asked, str(ROOT / "examples/k"), str(ROOT / "examples/k1")]
+        got = subprocess.run(words, env=around, cwd=self.folder, capture_output=True, text=True)
         self.assertEqual(got.stdout.split(), [self.path("to/enc/__init__.py"), "1"], got.stderr)
 
 
