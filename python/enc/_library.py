@@ -213,7 +213,7 @@ class Library:
 
 
 def library_path() -> str:
-    """`ENC_LIBRARY`, else the library in the package, else `dist/libenc.so` of a checkout."""
+    """`ENC_LIBRARY`, else the library in the package, else `dist/libenc.so` of a checkout, else the system's."""
     named = os.environ.get("ENC_LIBRARY")
     if named:
         return named
@@ -221,8 +221,11 @@ def library_path() -> str:
     for path in (package / "libenc.so", package.parent.parent / "dist" / "libenc.so"):
         if path.is_file():
             return str(path)
-    raise OSError("there is no libenc.so in the package enc or in dist/ of a checkout, and ENC_LIBRARY names none")
+    return INSTALLED
 
+
+# The library of a system, by the name that its loader knows: that of Debian's package libenc0.
+INSTALLED = "libenc.so.0"
 
 _libraries: Dict[str, Library] = {}
 
@@ -231,7 +234,10 @@ def library() -> Library:
     """The library that is in use, loaded once."""
     path = library_path()
     if path not in _libraries:
-        _libraries[path] = Library(path)
+        try:
+            _libraries[path] = Library(path)
+        except OSError as error:
+            raise OSError(f"{error}: ENC_LIBRARY may name a libenc.so") from None
     return _libraries[path]
 
 
