@@ -58,6 +58,26 @@ def switching():
         sys.setswitchinterval(before)
 
 
+@contextlib.contextmanager
+def behind_call(handle, count, act):
+    """Does something behind so many calls of a handle, while what asked for them goes on."""
+    call, left = handle.call, [count]
+
+    def calling(name, *arguments):
+        status = call(name, *arguments)
+        left[0] -= 1
+        if left[0] == 0:
+            handle.call = call
+            act()
+        return status
+
+    handle.call = calling
+    try:
+        yield
+    finally:
+        handle.call = call
+
+
 class Threads(unittest.TestCase):
     """A module, a session, views and rows are usable from any thread."""
 
@@ -156,6 +176,24 @@ class Threads(unittest.TestCase):
         self.assertLessEqual(seen, parts)
         self.assertEqual(len(known), 3)
 
+    def test_a_delta_that_comes_between_two_calls_waits(self):
+        def told(module, token):
+            row = module[token]
+            return row.place, row.columns, row.children, row.text, [module.name(one) for one in row.children]
+
+        for token in ("06000002", "06000003", "02000002"):
+            known = [told(opened(BANK, DELTAS[:count]), token) for count in (1, 2)]
+            for count in (1, 2, 3, 5, 8, 13):
+                module = opened(BANK, DELTAS[:1])
+                thread = threading.Thread(target=module.apply, args=(DELTAS[1],))
+                with behind_call(module._handle, count, lambda thread=thread: (thread.start(), thread.join(0.02))):
+                    row = module[token]
+                    got = row.place, row.columns, row.children, row.text
+                if thread.ident is not None:
+                    thread.join(30)
+                self.assertIn(got, [one[:4] for one in known])
+                self.assertEqual(told(module, token), known[module.generation - 1])
+
     def test_nothing_is_leaked_when_threads_end(self):
         def leave():
             modules = [opened(BANK, DELTAS) for _ in range(20)]
@@ -235,22 +273,15 @@ class Signals(unittest.TestCase):
 
     def stopped_after(self, handle, count, act):
         """Does something, which ends behind a call of the library, as a signal ends it that came during that."""
-        call, left = handle.call, [count]
 
-        def stopping(name, *arguments):
-            status = call(name, *arguments)
-            left[0] -= 1
-            if left[0] == 0:
-                raise Stopped
-            return status
+        def stop():
+            raise Stopped
 
-        handle.call = stopping
         try:
-            act()
+            with behind_call(handle, count, stop):
+                act()
         except Stopped:
             return True
-        finally:
-            del handle.call
         return False
 
     def is_whole(self, module, base, deltas):
