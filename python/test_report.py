@@ -1,7 +1,8 @@
 """Tests of `python3 -m enc report`. Usage: python3 python/test_report.py LIBENC.so ENC [--pictures DIR] [WORDS..]
 
 Pages are made of the examples, of hostile names and of changed deltas, and read as HTML. Where Chromium is they are
-opened in it: searched, folded, followed, printed, seen wide, narrow and dark. `./test` runs this."""
+opened in it: searched, folded, followed, printed, seen wide, narrow and dark. Where Mono's mscorlib is, 64 deltas over
+it are shown. `./test` runs this."""
 
 import base64
 import contextlib
@@ -28,15 +29,18 @@ sys.dont_write_bytecode = True
 
 import browser  # noqa: E402
 import make  # noqa: E402
-from enc import _library, _sides, report  # noqa: E402
+import enc  # noqa: E402
+from enc import _library, _report_facts, _report_pack, _sides, report  # noqa: E402
 from enc.__main__ import main as program  # noqa: E402
+from enc._report_names import Names, Spelled  # noqa: E402
 from enc._sources import Sources  # noqa: E402
 
 ENC = str(ROOT / "dist" / "enc")
 PICTURES = ""
 BANK = [str(ROOT / "examples/bank" / name) for name in ("bank", "bank1", "bank2")]
 PAGES = ("worked", "bank", "refused")
-VOID = {"meta", "br", "link", "input", "img", "hr"}
+MSCORLIB = "/usr/lib/mono/4.5/mscorlib.dll"
+VOID = {"meta", "br", "wbr", "link", "input", "img", "hr"}
 HOSTILE = (
     "<script>alert(1)</script>",
     "\"'><img src=x onerror=alert(1)>",
@@ -53,9 +57,10 @@ class Read(HTMLParser):
 
     def __init__(self, text):
         super().__init__(convert_charrefs=True)
-        self.tags, self.open, self.faults, self.ids, self.texts = [], [], [], [], {"style": "", "script": ""}
+        self.tags, self.open, self.faults, self.ids, self.texts = [], [], [], [], {"style": "", "script": "", "data": "null"}
         self.feed(text)
         self.close()
+        self.data = json.loads(self.texts["data"][4:] or "null")
         self.faults += [f"{name} isn't closed" for name in self.open]
 
     def handle_starttag(self, name, attributes):
@@ -74,10 +79,19 @@ class Read(HTMLParser):
 
     def handle_data(self, text):
         if self.open and self.open[-1] in self.texts:
-            self.texts[self.open[-1]] += text
+            name = "data" if self.tags[-1] == ("script", {"type": "application/json", "id": "data"}) else self.open[-1]
+            self.texts[name] += text
 
     def named(self, name):
         return [attributes for tag, attributes in self.tags if tag == name]
+
+    def places(self):
+        """What links may lead to: ids, and the changes that the script draws."""
+        drawn = [f"g{change['g']}-{change['t']}" for change in self.data["changes"]] if self.data else []
+        return {*self.ids, *drawn}
+
+    def scripts(self):
+        return [attributes for attributes in self.named("script") if attributes.get("type") != "application/json"]
 
 
 def policy_of(read):
@@ -87,6 +101,18 @@ def policy_of(read):
 
 def digest(text):
     return "sha256-" + base64.b64encode(hashlib.sha256(text.encode()).digest()).decode()
+
+
+def written(folder, base, lists, documents=()):
+    """A chain of the deltas of edit lists over a base: the paths of its files without their endings."""
+    module, paths = enc.Module(base), [base]
+    for i, edits in enumerate(lists, 1):
+        listed = {"encId": f"{i:08x}-2222-3333-4444-555555555555", "edits": edits, "documents": list(documents)}
+        delta = module.write(listed)
+        paths.append(f"{folder}/w{i}")
+        delta.save(paths[-1])
+        module.apply(delta)
+    return paths
 
 
 def asked(*words):
@@ -122,7 +148,7 @@ class Case(unittest.TestCase):
             for key, value in attributes.items():
                 self.assertFalse(key.startswith("on") or key in ("style", "src", "srcset", "action"), attributes)
                 if key == "href":
-                    self.assertTrue(value.startswith("#") and value[1:] in read.ids, value)
+                    self.assertTrue(value.startswith("#") and value[1:] in read.places(), value)
         self.assertFalse({name for name, _ in read.tags} & {"link", "img", "iframe", "object", "embed", "base", "form"})
         self.headings(read)
         self.policy(read)
@@ -142,7 +168,7 @@ class Case(unittest.TestCase):
         self.assertNotIn("unsafe", policy)
         self.assertIn(f"style-src '{digest(read.texts['style'])}'", policy)
         self.assertIn(f"script-src '{digest(read.texts['script'])}'", policy)
-        self.assertEqual((len(read.named("style")), len(read.named("script"))), (1, 1))
+        self.assertEqual((len(read.named("style")), len(read.scripts())), (1, 1))
 
 
 class Pages(Case):
@@ -156,10 +182,12 @@ class Pages(Case):
 
     def test_bodies_before_and_after(self):
         text, read = self.made(*BANK, "--source", str(ROOT / "examples/bank"))
-        self.has(text, "1 line removed, 3 added, 7 as before")
-        self.has(text, "18 PrintDeposits();")
-        for name in ("06000003", "g1-06000003", "g2-06000003", "g2-08000001", "04000002"):
-            self.assertIn(name, read.ids)
+        changes = {(change["g"], change["t"]): change for change in read.data["changes"]}
+        self.assertEqual(changes[1, "06000003"]["c"], [1, 3, 2])
+        self.assertEqual(changes[2, "06000003"]["src"]["c"], [0, 1])
+        self.has(text, "+ 18         PrintDeposits();")
+        self.has(text, "- IL_0001 ldstr &#34;balance:&#34;")
+        self.assertEqual([row[0] for group in read.data["rows"]["2"] for row in group["rows"]][-1], "23000003")
 
     def test_refusals(self):
         text, _ = self.made(BANK[0], BANK[1], BANK[1], BANK[2], status=1)
@@ -168,7 +196,7 @@ class Pages(Case):
         text, _ = self.made(str(ROOT / "examples/k1.meta"), status=1)
         self.has(text, "Rule F6")
         text, _ = self.made(str(ROOT / "examples/k"), BANK[1], status=1)
-        self.has(text, "The Mvid of the base is")
+        self.has(text, "Give the very base that the delta was made from")
 
     def test_statuses(self):
         self.assertEqual(asked(BANK[0], "nothing", "-o", self.page), (6, "missing nothing.meta\n"))
@@ -179,17 +207,34 @@ class Pages(Case):
     def test_no_deltas(self):
         text, _ = self.made(BANK[0])
         self.has(text, "bank and 0 deltas")
+        self.has(text, "The base is valid; no deltas were given.")
+
+    def limited(self, module, **limits):
+        for name, limit in limits.items():
+            self.addCleanup(setattr, module, name, getattr(module, name))
+            setattr(module, name, limit)
 
     def test_what_is_too_long_is_left_out(self):
-        for name in ("MOST_BYTES", "MOST_ROWS", "MOST_ROW_BYTES", "MOST_GENERATIONS"):
-            self.addCleanup(setattr, report, name, getattr(report, name))
-        report.MOST_GENERATIONS = 1
+        self.limited(_report_facts, MOST_GENERATIONS=1)
         self.has(self.made(*BANK)[0], "Not shown: the first 1 of 2 deltas")
-        report.MOST_GENERATIONS, report.MOST_BYTES = 400, 20
-        self.has(self.made(*BANK)[0], "3 of them aren't shown with their bodies")
-        report.MOST_ROWS, report.MOST_ROW_BYTES = 6, 0
-        text, _ = self.made(*BANK)
-        self.has(text, "more rows of MemberRef aren't listed")
+        self.limited(_report_facts, MOST_GENERATIONS=400, MOST_ROWS=6)
+        self.limited(_report_pack, MOST_BYTES=20, MOST_ROW_BYTES=0)
+        text, read = self.made(*BANK)
+        self.has(text, "4 methods are shown without the body" if len(read.data["changes"]) == 4 else "without the body")
+        self.assertTrue(any(group["count"] > len(group["rows"]) for group in read.data["rows"]["2"]))
+
+    def test_what_is_near_a_change_stays(self):
+        with tempfile.TemporaryDirectory() as folder:
+            code = [["nop"]] * 900
+            body = {"max": 8, "code": [*code, ["ldstr", "a"], ["pop"], *code, ["ret"]]}
+            first = [{"do": "body", "method": "06000001", "code": body}]
+            second = [{"do": "body", "method": "06000001", "code": {**body, "code": [*code, ["ldstr", "b"], *body["code"][901:]]}}]
+            chain = written(folder, str(ROOT / "examples/k"), [first, second])
+            self.limited(_report_pack, MOST_BYTES=5000)
+            _, read = self.made(*chain)
+        last = read.data["changes"][1]
+        self.assertEqual(last["p"][:5], "g898:")
+        self.assertEqual(last["c"][:2], [1, 1])
 
     def test_changed_deltas(self):
         """Deltas with a changed byte: each makes a sound page, mostly of a refusal."""
@@ -230,28 +275,29 @@ class Hostile(Case):
         return found
 
     def test_hostile_names(self):
-        chain = self.chain(self.edits(HOSTILE), "/<script>alert(2)</script>")
+        chain = self.chain(self.edits(HOSTILE), "/<i>alert(2)")
         text, read = self.made(*chain)
-        self.assertEqual(len(read.named("script")), 1)
+        self.assertEqual(len(read.scripts()), 1)
         for name in HOSTILE[:3]:
             self.assertNotIn(name, text)
         self.assertNotIn("\u202e", text)
         self.has(text, "&lt;script&gt;alert(1)&lt;/script&gt;")
+        self.has(text, "\\u003cscript>alert(1)\\u003c/script>")
         self.has(text, "{{ 7 * 7 }}")
-        self.has(text, "alert(2)")
+        self.has(text, "&lt;i&gt;alert(2)")
 
     def test_bytes_that_are_no_text(self):
         chain = self.chain(self.edits(["SURROGATE"]))
         metadata = Path(chain[1] + ".meta").read_bytes()
         Path(chain[1] + ".meta").write_bytes(metadata.replace(b"SURROGATE", b"\xed\xa0\x80\xff\x01<b>&"))
         text, _ = self.made(*chain)
-        self.has(text, "\\udced\\udca0\\udc80\\udcff\\x01&lt;b&gt;&amp;")
+        self.has(text, "\\\\udced\\\\udca0\\\\udc80\\\\udcff\\\\x01\\u003cb>\\u0026")
 
     def test_long_texts(self):
         edits = self.edits(["<" * 16_000_000])[1:2] + self.edits(["&" * 8_000_000])[:1]
         chain = self.chain(edits, "/" + "d" * 100_000)
         text, _ = self.made(*chain)
-        self.assertLess(len(text), 60_000)
+        self.assertLess(len(text), 90_000)
         self.has(text, "(16,000,000 characters)")
 
     def test_hostile_file_names(self):
@@ -264,29 +310,41 @@ class Hostile(Case):
 
 
 class Parts(Case):
+    MEANINGS = _sides.Meanings(lambda token: Spelled("name", "name", "name"), lambda token: [], {})
+
+    def lines(self, text):
+        return _sides.side_of(text, self.MEANINGS._replace(known={})).lines
+
     def pairs(self, before, now):
-        sides = [_sides.side_of("06000001 MethodDef\n" + text, lambda token: "name") for text in (before, now)]
-        return [pair.kind for pair in _sides.pairs_of(sides[0].lines, sides[1].lines)]
+        sides = [self.lines("06000001 MethodDef\n" + text) for text in (before, now)]
+        return [pair.kind for pair in _sides.pairs_of(*sides)]
 
     def test_lines_that_are_the_same(self):
         before = "  IL_0000 br IL_0002\n  IL_0002 call 0a000001\n  IL_0003 ret\n"
         self.assertEqual(self.pairs(before, before), ["same"] * 3)
         self.assertEqual(self.pairs(before, before.replace("0a000001", "0a000002")), ["same", "alike", "same"])
         self.assertEqual(self.pairs(before, before.replace("br IL_0002", "br IL_0003")), ["changed", "same", "same"])
+        self.assertEqual(self.pairs(before, before.replace("br ", "br.s ")), ["alike", "same", "same"])
         moved = "  IL_0000 nop\n  IL_0001 br IL_0003\n  IL_0003 call 0a000001\n  IL_0004 ret\n"
-        self.assertEqual(self.pairs(before, moved), ["changed", "same", "same", "same"])
+        self.assertEqual(self.pairs(before, moved), ["added", "same", "same", "same"])
+
+    def test_lines_that_are_alike_in_part(self):
+        before = "  IL_0000 ldc.i4.1\n  IL_0001 pop\n  IL_0002 ret\n"
+        now = "  IL_0000 ldc.i4.2\n  IL_0001 stloc.0\n  IL_0002 ret\n"
+        self.assertEqual(self.pairs(before, now), ["changed", "beside", "same"])
 
     def test_clauses(self):
         ranges = "IL_0000-IL_0001 IL_0001-IL_0001"
         text = f"x\n  IL_0000 ret\n  catch {ranges} 01000002\n  finally {ranges}\n"
-        lines = _sides.side_of(text, lambda token: "").lines
-        found = [(line.word, line.token) for line in lines]
-        self.assertEqual(found, [("ret", ""), ("catch", "01000002"), ("finally", "")])
+        found = [(line.word, line.token) for line in self.lines(text)]
+        self.assertEqual(found, [("ret", ""), (".try", "01000002"), (".try", "")])
         self.assertEqual(self.pairs(text[2:], text[2:].replace("01000002", "01000003")), ["same", "alike", "same"])
 
     def test_numbers_and_texts_are_no_tokens(self):
         text = 'x\n  IL_0000 ldc.i4 12345678\n  IL_0005 ldstr "0a000001"\n  IL_000a call 0a000001\n'
-        self.assertEqual([line.token for line in _sides.side_of(text, lambda token: "").lines], ["", "", "0a000001"])
+        self.assertEqual([line.token for line in self.lines(text)], ["", "", "0a000001"])
+        text = 'x\n  IL_0000 ldstr "caf\\xc3\\xa9 \\x22"\n  IL_0005 ldc.r8 000000000000f83f\n'
+        self.assertEqual([line.text for line in self.lines(text)], ['"café ""', "1.5"])
 
     def test_sources_stay_in_their_folder(self):
         inner = Path(self.folder, "in")
@@ -329,43 +387,62 @@ CONTRAST = """(() => {
 
 
 @unittest.skipUnless(browser.program(), "no chromium here")
-class InChromium(Case):
+class Opened(Case):
+    """Pages in one Chromium."""
+
     @classmethod
     def setUpClass(cls):
         cls.browser = browser.Browser()
         cls.addClassCleanup(cls.browser.close)
 
-    def opened(self, name, *place, width=1280, height=900, dark=False):
-        self.browser.screen(width, height, dark)
+    def opened(self, name, *place, width=1280, height=900, dark=False, media=""):
+        """The page of an example, or that which the test has made (no name); asks it."""
+        path = ROOT / f"examples/reports/{name}.html" if name else Path(self.page)
+        self.browser.screen(width, height, dark, media)
         self.browser.requests.clear()
+        self.browser.complaints.clear()
         self.browser.open("about:blank")
-        self.browser.open((ROOT / f"examples/reports/{name}.html").as_uri() + "".join(place))
+        self.browser.open(path.as_uri() + "".join(place))
         self.assertEqual([url for url in self.browser.requests if not url.startswith(("file:", "about:"))], [])
         self.assertEqual(self.browser.complaints, [])
         return self.browser.ask
 
+    def pressed(self, key):
+        self.browser.call("Input.dispatchKeyEvent", type="keyDown", key=key, text=key)
+        self.browser.call("Input.dispatchKeyEvent", type="keyUp", key=key)
+        self.wait()
+
+    def wait(self):
+        """Lets the page draw."""
+        self.browser.ask("new Promise((done) => setTimeout(done, 60))")
+
+
+class InChromium(Opened):
+    def typed(self, words):
+        box = "const box = document.getElementById('query');"
+        self.browser.ask("(() => { " + box + f" box.value = '{words}'; box.dispatchEvent(new Event('input')); }})()")
+
     def test_search(self):
         ask = self.opened("bank")
-        box = "const box = document.getElementById('query');"
-        typed = "(() => { " + box + " box.value = '%s'; box.dispatchEvent(new Event('input')); })()"
-        ask(typed % "print")
+        self.typed("print")
         self.assertEqual(ask("document.getElementById('said').textContent"), "3 found")
         self.assertIn("06000003 Account.Print", ask("document.getElementById('found').textContent"))
-        ask(typed % "0400")
+        self.typed("0400")
         self.assertIn("04000002 Account.deposits", ask("document.getElementById('found').textContent"))
         ask("document.getElementById('query').dispatchEvent(new KeyboardEvent('keydown', {key: 'Enter'}))")
         self.assertEqual(ask("location.hash"), "#g2-04000002")
-        ask(typed % "nothing of this name")
+        self.typed("nothing of this name")
         self.assertEqual(ask("document.getElementById('said').textContent"), "0 found")
 
     def test_folds(self):
         ask = self.opened("bank")
-        opened = "document.querySelectorAll('main details[open]').length"
-        every = ask("document.querySelectorAll('main details').length")
+        opened = "document.querySelectorAll('#methods ~ details[open], #methods ~ details .card[open]').length"
+        every = ask("document.querySelectorAll('#methods ~ details, #methods ~ details .card').length")
         ask("document.getElementById('fold').click()")
         self.assertEqual(ask(opened), 0)
         ask("document.getElementById('open').click()")
         self.assertEqual(ask(opened), every)
+        self.assertEqual(every, 6)
 
     def test_links_are_followed(self):
         ask = self.opened("bank")
@@ -389,6 +466,7 @@ class InChromium(Case):
             for kind, width, height in (("wide", 1280, 1000), ("narrow", 390, 844), ("dark", 1280, 1000)):
                 dark = kind == "dark"
                 ask = self.opened(name, width=width, height=height, dark=dark)
+                ask("document.getElementById('metadata').open = true")
                 path = f"{folder}/{name}-{kind}.png"
                 self.browser.picture(path)
                 head = Path(path).read_bytes()
@@ -401,24 +479,19 @@ class InChromium(Case):
 
     def test_narrow_pages_stay_within(self):
         for name in PAGES:
-            ask = self.opened(name, width=320, height=600)
-            self.assertLessEqual(ask("document.documentElement.scrollWidth"), 320, name)
-
-    def test_print(self):
-        ask = self.opened("bank")
-        ask("document.getElementById('fold').click()")
-        folded = self.browser.call("Page.printToPDF", preferCSSPageSize=True)["data"]
-        self.assertEqual(ask("document.querySelectorAll('main details[open]').length"), 0)
-        ask("document.getElementById('open').click()")
-        whole = self.browser.call("Page.printToPDF", preferCSSPageSize=True)["data"]
-        self.assertGreater(len(folded), 0.8 * len(whole))
+            for width in (320, 390):
+                ask = self.opened(name, width=width, height=600)
+                ask("document.querySelectorAll('details').forEach((part) => { part.open = true; })")
+                self.assertLessEqual(ask("document.documentElement.scrollWidth"), width, name)
+                self.assertLessEqual(ask("document.body.scrollWidth"), width, name)
 
     def test_without_scripts(self):
         self.browser.call("Emulation.setScriptExecutionDisabled", value=True)
         self.addCleanup(self.browser.call, "Emulation.setScriptExecutionDisabled", value=False)
         ask = self.opened("bank")
         self.assertTrue(ask("document.getElementById('find').hidden"))
-        self.assertTrue(ask("document.getElementById('g2-06000003').checkVisibility()"))
+        self.assertIn("+ 18         PrintDeposits();", ask("document.getElementById('g2').innerText"))
+        self.assertIn("+ IL_0021 call Account.PrintDeposits()", ask("document.getElementById('g2').innerText"))
 
     def test_what_a_screen_reader_gets(self):
         self.opened("bank")
@@ -428,7 +501,54 @@ class InChromium(Case):
             self.assertIn(role, roles + ["image" if role == "img" else role for role in roles])
         said = [node.get("name", {}).get("value", "") for node in nodes]
         self.assertTrue(any("removed:" in words for words in said))
+        self.assertTrue(any("the same by another token:" in words for words in said))
         self.assertIn("Find a token or a name", said)
+
+
+class Points(Opened):
+    """What a reader wants of a page, point by point."""
+
+    def top(self, chosen):
+        """How far below the window's top an element stands."""
+        return self.browser.ask(f"document.querySelector({json.dumps(chosen)}).getBoundingClientRect().top")
+
+    def texts(self, chosen):
+        """The texts of elements, with single spaces."""
+        found = f"[...document.querySelectorAll({json.dumps(chosen)})]"
+        return self.browser.ask(found + ".map((at) => at.textContent.replace(/\\s+/g, ' ').trim())")
+
+    # 1. The summary.
+
+    def test_1_summary_stands_on_top(self):
+        self.opened("bank")
+        self.assertEqual(self.texts("#summary"), ["2 methods changed, 1 added"])
+        self.assertLess(self.top("#summary"), 150)
+        self.assertLess(self.top("table.summary tbody tr:last-child"), 400)
+        self.assertLess(self.top("#g1-06000003"), 900)
+        self.assertEqual(self.texts("table.summary:not(.others) tbody tr"), [
+            "public void Account.Deposit(int) +6 −0 changed generation 2 Bank.cs:9–12",
+            "public void Account.Print() +3 −1 changed generation 1 Bank.cs:13–16",
+            "+2 −0 changed generation 2 Bank.cs:15–19",
+            "private void Account.PrintDeposits() +7 −0 added generation 2 Bank.cs:22–25",
+        ])  # fmt: skip
+
+    def test_1_each_method_is_linked(self):
+        ask = self.opened("bank")
+        links = ask("[...document.querySelectorAll('table.summary tbody a')].map((at) => at.getAttribute('href'))")
+        self.assertEqual(links, ["#g2-06000002", "#g1-06000003", "#g2-06000003", "#g2-06000005"])
+        ask("document.querySelectorAll('table.summary tbody a')[2].click()")
+        self.wait()
+        self.assertEqual(ask("document.activeElement.id"), "g2-06000003")
+
+    def test_1_other_members_and_references(self):
+        ask = self.opened("bank")
+        self.assertEqual(self.texts("table.others tbody tr"), ["private int Account.deposits added generation 2 field"])
+        self.assertGreater(self.top("table.others"), self.top("table.summary"))
+        self.assertFalse(ask("document.getElementById('metadata').open"))
+        self.assertNotIn("0a000006", ask("document.getElementById('main').innerText"))
+        ask("document.getElementById('metadata').open = true; document.getElementById('m1').open = true;")
+        self.wait()
+        self.assertIn("0a000006", ask("document.getElementById('m1').innerText"))
 
 
 def has(call):
