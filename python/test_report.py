@@ -115,6 +115,46 @@ def written(folder, base, lists, documents=()):
     return paths
 
 
+class Anew:
+    """Edit lists over examples/k, each of which emits its references anew: a TypeSpec `List<int>.Enumerator`, members
+    of it, a MethodSpec, a signature of locals, and a body of 06000001 that uses them."""
+
+    def __init__(self):
+        self.counts = {"TypeRef": 2, "TypeSpec": 0, "MemberRef": 1, "MethodSpec": 0, "StandAloneSig": 0}
+        self.numbers = {"TypeRef": 1, "TypeSpec": 0x1B, "MemberRef": 0x0A, "MethodSpec": 0x2B, "StandAloneSig": 0x11}
+        self.edits = []
+
+    def add(self, table, *cells):
+        """Adds a row, and tells its token."""
+        self.counts[table] += 1
+        self.edits.append({"do": "add", "table": table, "cells": list(cells)})
+        return f"{self.numbers[table]:02x}{self.counts[table]:06x}"
+
+    def references(self):
+        """The rows of references, anew: the tokens that the body uses."""
+        outer = self.add("TypeRef", "23000001", "List`1", "System.Collections.Generic")
+        inner = self.add("TypeRef", outer, "Enumerator", "")
+        array = self.add("TypeRef", "23000001", "Array", "System")
+        coded = f"{int(inner, 16) % 0x1000000 << 2 | 1:02x}"
+        spec = self.add("TypeSpec", f"1511{coded}0108")
+        move = self.add("MemberRef", spec, "MoveNext", "200002")
+        empty = self.add("MemberRef", array, "Empty", "1001001d1e00")
+        one = self.add("MethodSpec", empty, "0a0108")
+        local = self.add("StandAloneSig", f"07021511{coded}01080e")
+        return move, one, local
+
+    def list(self, begin=(), number=7, branch="br.s"):
+        """The edits of a delta: its body begins with some instructions, and loads a number."""
+        self.edits = []
+        move, one, local = self.references()
+        here = len(begin)
+        code = [*begin, ["ldloca.s", 0], ["call", move], ["brtrue.s", here + 5], ["call", one], ["pop"]]
+        code += [*[["nop"]] * 20, ["ldstr", "café"], ["pop"], ["ldc.i4.s", number], ["pop"]]
+        code += [[branch, len(code) + 1], ["ret"]]
+        body = {"max": 8, "init": True, "locals": local, "code": code}
+        return [*self.edits, {"do": "body", "method": "06000001", "code": body}]
+
+
 def asked(*words):
     """The status of the command, and what it prints."""
     out = io.StringIO()
@@ -549,6 +589,91 @@ class Points(Opened):
         ask("document.getElementById('metadata').open = true; document.getElementById('m1').open = true;")
         self.wait()
         self.assertIn("0a000006", ask("document.getElementById('m1').innerText"))
+
+    # 2. No false change.
+
+    def chain(self, *lists):
+        """A page of the deltas of edit lists, opened."""
+        _, read = self.made(*written(self.folder, str(ROOT / "examples/k"), lists))
+        return self.opened("") if browser.program() else None, read.data["changes"]
+
+    def test_2_tokens_emitted_anew_are_no_change(self):
+        anew = Anew()
+        ask, changes = self.chain(anew.list(), anew.list(), anew.list(branch="br"))
+        self.assertEqual([change["s"] for change in changes], ["changed", "same", "same"])
+        self.assertEqual([change["c"][:2] for change in changes[1:]], [[0, 0], [0, 0]])
+        self.assertEqual(self.texts("#summary"), ["1 method changed"])
+        self.assertEqual(self.texts("#g2-06000001 .counts"), [])
+        self.assertEqual(ask("document.querySelectorAll('#g2-06000001 .d, #g2-06000001 .a').length"), 0)
+
+    def test_2_branches_lead_to_instructions(self):
+        anew = Anew()
+        _, changes = self.chain(anew.list(), anew.list(begin=(["nop"], ["nop"])))
+        self.assertEqual(changes[1]["c"][:2], [0, 2])
+
+    def test_2_a_switch_shows_alike_lines(self):
+        anew = Anew()
+        ask, _ = self.chain(anew.list(), anew.list())
+        alike = "[...document.querySelectorAll('#g2-06000001 tr.alike')].map((row) => row.textContent)"
+        self.assertEqual(ask(alike), [])
+        ask("document.getElementById('alike').click()")
+        shown = ask(alike)
+        self.assertEqual(len(shown), 3, shown)
+        self.assertTrue(any("0a000002" in row and "0a000004" in row for row in shown), shown)
+        self.assertIn("≈", ask("getComputedStyle(document.querySelector('tr.alike .x'), '::before').content"))
+        ask("document.getElementById('alike').click()")
+        self.assertEqual(ask(alike), [])
+
+    def test_2_what_differs_within_a_line_is_marked(self):
+        anew = Anew()
+        self.chain(anew.list(), anew.list(number=8))
+        self.assertEqual(self.texts("#g2-06000001 mark"), ["7", "8"])
+        self.opened("bank")
+        self.assertIn("String.Concat(", " ".join(self.texts("#g1-06000003 .source td.a mark")))
+
+    def test_2_source_is_the_main_diff(self):
+        ask = self.opened("bank")
+        self.assertEqual(self.texts("#g1-06000003 table caption"), ["C#: 1 line added, 1 removed", "IL: 3 lines added, 1 removed"])
+        self.assertLess(self.top("#g1-06000003 table.source"), self.top("#g1-06000003 table.il:not(.source)"))
+        self.assertEqual(self.texts("#g2-06000003 .source .a"), ["18 PrintDeposits();"])
+        self.assertEqual(ask("document.querySelectorAll('#g2-06000003 .source .d').length"), 0)
+
+    # 3. The diff.
+
+    def test_3_equal_lines_are_folded(self):
+        anew = Anew()
+        ask, _ = self.chain(anew.list(), anew.list(number=8))
+        rows = "document.querySelectorAll('#g2-06000001 tbody tr').length"
+        self.assertEqual(self.texts("#g2-06000001 .gap"), ["⋯ 28 equal lines"])
+        self.assertEqual(ask(rows), 1 + 3 + 1 + 3)
+        ask("document.querySelector('#g2-06000001 .gap button').click()")
+        self.assertEqual((ask(rows), self.texts("#g2-06000001 .gap")), (35, []))
+
+    def test_3_names_texts_and_flags(self):
+        ask, changes = self.chain(Anew().list())
+        ask("document.querySelectorAll('.gap button').forEach((at) => at.click())")
+        shown = " | ".join(self.texts("#g1-06000001 td.a"))
+        for words in ("call List<int>.Enumerator.MoveNext()", "call Array.Empty<int>()", 'ldstr "café"',
+                      ".local 0 List<int>.Enumerator", ".local 1 string"):  # fmt: skip
+            self.assertIn(words, shown)
+        self.assertEqual(self.texts("table.summary th[scope=row]"), ["public static void P.Say()"])
+        title = ask("[...document.querySelectorAll('.x')].find((at) => at.textContent.includes('MoveNext')).title")
+        self.assertEqual(title, "System.Collections.Generic.List<int>.Enumerator.MoveNext()")
+
+    def test_3_bytes_by_a_switch(self):
+        ask = self.opened("bank")
+        self.assertEqual(self.texts("#g2-06000005 .il small"), [])
+        ask("document.getElementById('bytes').click()")
+        self.assertIn("0a00000a · 28 0a 00 00 0a", self.texts("#g2-06000005 .il small"))
+        self.assertIn("Flags 0081", self.texts("#g2-06000005 .facts div"))
+
+    def test_3_names_of_generic_members(self):
+        if not os.path.exists(MSCORLIB):
+            self.skipTest("no mscorlib here")
+        names = Names(enc.Module(MSCORLIB))
+        found = names.of(0x2B000001).short, str(names.declared(enc.Token(0x06000007)))
+        self.assertEqual(found[0], "MemoryMarshal.GetReference<byte>(Span<byte>)")
+        self.assertTrue(found[1].startswith("internal static TSafeHandle Interop.CheckIo<TSafeHandle>(TSafeHandle, "))
 
 
 def has(call):

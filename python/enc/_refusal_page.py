@@ -185,10 +185,17 @@ def _row(page: Asked, made: Refusal, found: _raw.Raw, place: Tuple[Token, str]) 
     for i, of in enumerate(TABLES[token >> 24].columns):
         if of.kind == "run" and of.name != column:
             continue
-        now = raw_cell(found, of, cells[i], begins, names).partition("=")[2] if cells else ""
+        now = _now(raw_cell(found, of, cells[i], begins, names).partition("=")[2], of) if cells else ""
         was = _old(of, old, names)
         shown.append(Cell(of.name, _with_words(token, of, now), _with_words(token, of, was), of.name in marked))
     return made._replace(row=str(token), row_name=names.of(token), is_new=is_new, cells=shown)
+
+
+def _now(text: str, column: Column) -> str:
+    """A cell as the file has it, without where in a heap it stands if that can be read."""
+    if column.kind == "body":
+        return f"a body at {text} of the .il" if int(text, 16) else "no body"
+    return re.sub(r"^#\w+:[0-9a-f]+ (?=.)", "", text)
 
 
 def _with_words(token: Token, column: Column, digits: str) -> str:

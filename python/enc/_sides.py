@@ -254,11 +254,11 @@ def _likeness(line: Line) -> Any:
 
 
 def is_similar(before: Any, now: Any) -> bool:
-    """Whether two lines that differ are shown as one that has changed: instructions of a family, lines of source that
-    have half of their words in common."""
+    """Whether two lines that differ are shown as one that has changed: instructions of a family, lines of source with
+    words in common, at least half of those of the shorter one."""
     if isinstance(before, str) or isinstance(now, str):
         return bool(before == now)
-    return 2 * len(before & now) >= max(len(before), len(now)) > 0
+    return 2 * len(before & now) >= max(2, min(len(before), len(now)))
 
 
 def _matched(before: List[Line], now: List[Line]) -> List[Tuple[int, int]]:

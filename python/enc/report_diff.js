@@ -173,7 +173,7 @@ function rowPart(row, sides) {
   if (sides === 1) return make("tr", {}, cell("", row.after));
   if (row.kind === "same") return make("tr", {}, cell("", row.before), cell("", row.after));
   if (row.kind === "alike") {
-    const signs = SHOWN.alike ? [row.before.token, row.after.token] : ["", ""];
+    const signs = SHOWN.alike && !SHOWN.bytes ? [row.before.token, row.after.token] : ["", ""];
     return make("tr", { class: "alike" }, cell("e", row.before, null, signs[0]), cell("e", row.after, null, signs[1]));
   }
   const parts = row.kind === "changed" ? bothParts(row.before, row.after) : [null, null];
