@@ -18,6 +18,7 @@ import subprocess
 import sys
 import tempfile
 import unittest
+import xml.etree.ElementTree
 from html.parser import HTMLParser
 from pathlib import Path
 
@@ -163,6 +164,26 @@ def asked(*words):
     return status, out.getvalue()
 
 
+def fits(value, schema, whole):
+    """Asserts that a value is as a JSON schema says, by the words of it that docs/report.md uses."""
+    if "$ref" in schema:
+        return fits(value, whole["$defs"][schema["$ref"].rpartition("/")[2]], whole)
+    kinds = {"object": dict, "array": list, "string": str, "integer": int, "boolean": bool, "null": type(None)}
+    wanted = schema.get("type", [])
+    wanted = [wanted] if isinstance(wanted, str) else wanted
+    assert not wanted or any(type(value) is kinds[kind] for kind in wanted), (value, schema)
+    assert value in schema.get("enum", [value]), (value, schema)
+    if isinstance(value, dict):
+        known = schema.get("properties", {})
+        assert set(schema.get("required", [])) <= set(value), (set(value), schema)
+        more = schema.get("additionalProperties", True)
+        assert more is not False or set(value) <= set(known), (set(value), schema)
+        for key, part in value.items():
+            fits(part, known.get(key, more if isinstance(more, dict) else {}), whole)
+    for part in value if isinstance(value, list) else []:
+        fits(part, schema.get("items", {}), whole)
+
+
 class Case(unittest.TestCase):
     def setUp(self):
         self.folder = tempfile.mkdtemp()
@@ -243,6 +264,46 @@ class Pages(Case):
         self.assertEqual(asked(BANK[0], "--source", "nothing", "-o", self.page), (6, "missing nothing\n"))
         self.assertEqual(asked(BANK[0], "-o", self.folder)[0], 4)
         self.assertFalse(os.path.exists(self.page))
+
+    def test_title(self):
+        text, _ = self.made(*BANK, "--title", "Bank <of> Rome")
+        self.has(text, "<h1>Bank &lt;of&gt; Rome</h1>")
+        self.has(text, "<title>Bank &lt;of&gt; Rome</title>")
+
+    def test_open(self):
+        opened = []
+        self.addCleanup(setattr, report.webbrowser, "open", report.webbrowser.open)
+        report.webbrowser.open = lambda uri: opened.append(uri) or True
+        self.made(*BANK, "--open")
+        self.assertEqual(opened, [Path(self.page).resolve().as_uri()])
+        self.made(*BANK)
+        self.assertEqual(len(opened), 1)
+
+    def test_json_keeps_its_schema(self):
+        page = (ROOT / "docs/report.md").read_text(encoding="utf-8")
+        schema = json.loads(re.search(r"```json\n(.*?)```", page, re.DOTALL).group(1))
+        source = ("--source", str(ROOT / "examples/bank"))
+        for words, status in (((*BANK, *source), 0), ((BANK[0], BANK[1], BANK[1]), 1), ((ROOT / "examples/k1.meta",), 1)):
+            ended, said = asked(*map(str, words), "--json")
+            self.assertEqual(ended, status)
+            fits(json.loads(said), schema, schema)
+        with self.assertRaises(AssertionError):
+            fits({"title": "x"}, schema, schema)
+
+    def test_json_has_the_same_facts(self):
+        self.assertEqual(asked(*BANK, "--json", "-o", self.page)[1], f"saved {self.page}\n")
+        facts = json.loads(Path(self.page).read_text())
+        _, read = self.made(*BANK)
+        self.assertEqual((facts["methodsChanged"], facts["methodsAdded"], facts["accepted"]), (2, 1, True))
+        shown = [(change["g"], change["t"], change["c"][0], change["c"][1]) for change in read.data["changes"]]
+        told = [(one["generation"], one["token"], one["il"]["removed"], one["il"]["added"]) for one in facts["methods"]]
+        self.assertEqual(told, shown)
+        self.assertEqual(facts["methods"][0]["declaration"], "public void Account.Print()")
+
+    def test_without_a_place(self):
+        with self.assertRaises(SystemExit) as ended:
+            asked(*BANK)
+        self.assertEqual(ended.exception.code, 2)
 
     def test_no_deltas(self):
         text, _ = self.made(BANK[0])
@@ -674,6 +735,268 @@ class Points(Opened):
         found = names.of(0x2B000001).short, str(names.declared(enc.Token(0x06000007)))
         self.assertEqual(found[0], "MemoryMarshal.GetReference<byte>(Span<byte>)")
         self.assertTrue(found[1].startswith("internal static TSafeHandle Interop.CheckIo<TSafeHandle>(TSafeHandle, "))
+
+    # 5. What is refused.
+
+    def test_5_expected_beside_found(self):
+        self.opened("refused")
+        self.assertEqual(self.texts("#expected dd"), ["Flags 0086, public"])
+        self.assertEqual(self.texts("#found-there dd"), ["Flags 0096, public static"])
+        self.assertIn("Undo this edit", self.texts("#todo dd")[0])
+        for chosen in ("#expected", "#found-there", "#todo"):
+            self.assertLess(self.top(chosen), 320)
+        self.assertEqual(self.texts("tr.place"), ["▶ the rule is about this: Flags 0086, public 0096, public static"])
+
+    def test_5_deltas_before_it_are_shown_as_usual(self):
+        ask = self.opened("refused")
+        self.assertEqual(self.texts("#summary"), ["1 method changed"])
+        self.assertTrue(ask("document.getElementById('g1-06000003').open"))
+        self.assertEqual(self.texts(".box.refused .head"), ["2: static"])
+
+    def test_5_each_rule_has_advice(self):
+        from enc._report_advice import advice
+        from enc.rules import RULES
+
+        for code in {code for code, _, _ in RULES if not code.startswith(("L4", "G"))}:
+            self.assertTrue(advice(code).expected and advice(code).todo, code)
+
+    def test_5_values_of_the_chain(self):
+        self.made(BANK[0], BANK[1], BANK[1], status=1)
+        self.opened("")
+        self.assertEqual(self.texts("#expected dd"), ["Generation 0002, generation 2"])
+        self.assertEqual(self.texts("#found-there dd"), ["Generation 0001"])
+        self.made(str(ROOT / "examples/k"), BANK[1], status=1)
+        self.opened("")
+        self.assertRegex(self.texts("#expected dd")[0], "^Mvid [0-9a-f-]{36}$")
+
+    def test_5_a_base_without_deltas(self):
+        self.made(BANK[0])
+        self.opened("")
+        self.assertEqual(self.texts("header p"), ["accepted The base is valid; no deltas were given."])
+
+    # 6. Ways.
+
+    def test_6_the_list_at_the_side_stays(self):
+        ask = self.opened("bank")
+        ask("scrollTo(0, 1500)")
+        self.assertEqual(ask("scrollY"), 1500)
+        self.assertEqual(self.top(".side"), 0)
+        self.assertIn("Account.Print()", self.texts(".side .contents li li"))
+        self.assertLess(ask("document.querySelector('.side').getBoundingClientRect().right"), 320)
+
+    def test_6_keys(self):
+        ask = self.opened("bank")
+        self.pressed("/")
+        self.assertEqual(ask("document.activeElement.id"), "query")
+        self.pressed("n")
+        self.assertEqual(ask("document.getElementById('query').value + location.hash"), "n")
+        ask("document.activeElement.blur()")
+        for key, place in (("n", "g1-06000003"), ("n", "g2-06000002"), ("p", "g1-06000003")):
+            self.pressed(key)
+            self.assertEqual(ask("document.activeElement.id"), place)
+        self.pressed("?")
+        self.assertTrue(ask("document.getElementById('keys').open"))
+        ask("document.getElementById('close').click()")
+        self.assertFalse(ask("document.getElementById('keys').open"))
+
+    def test_6_the_legend_stands_before_the_first_diff(self):
+        ask = self.opened("bank")
+        order = "document.getElementById('legend').compareDocumentPosition(document.querySelector('table.il')) & 4"
+        self.assertEqual(ask(order), 4)
+        for words in ("a line that is gone", "one that has come", "the same by another token", "equal lines"):
+            self.assertIn(words, self.texts("#legend")[0])
+
+    def test_6_headings_follow_each_other(self):
+        for name in PAGES:
+            ask = self.opened(name)
+            ask("document.querySelectorAll('details').forEach((part) => { part.open = true; })")
+            self.wait()
+            found = "[...document.querySelectorAll('#main :is(h1, h2, h3, h4, h5, h6)')]"
+            levels = ask(found + ".map((at) => Number(at.localName[1]))")
+            self.assertEqual((levels[0], levels.count(1)), (1, 1))
+            self.assertTrue(all(after <= before + 1 for before, after in zip(levels, levels[1:])), levels)
+            self.assertIn(4, levels)
+
+    # How many elements before the first card take the focus.
+    STOPS = """(() => {
+      const all = 'a[href], button, input, summary, [tabindex]';
+      const first = document.querySelector('.card, .generation');
+      return [...document.querySelectorAll(all)].filter((at) => at.tabIndex >= 0 && at.checkVisibility()
+        && at.compareDocumentPosition(first) & 4).length;
+    })()"""
+
+    def test_6_few_tab_stops_before_the_first_method(self):
+        self.assertLess(self.opened("bank")(self.STOPS), 30)
+
+    def test_6_no_path_of_the_machine(self):
+        for words, status in (((*BANK, "--source", str(ROOT / "examples/bank")), 0), ((BANK[0], BANK[2]), 1)):
+            text, _ = self.made(*words, status=status)
+            for part in (str(ROOT), self.folder, "/src/", os.path.expanduser("~") + "/"):
+                self.assertNotIn(part, text)
+            self.has(self.made(*words, "--paths", status=status)[0], str(ROOT / "examples/bank/bank2"))
+        self.has(self.made(*BANK, "--paths")[0], "/src/Bank.cs")
+
+    def test_6_tables_scroll_visibly_when_narrow(self):
+        for name in PAGES:
+            ask = self.opened(name, width=390, height=844)
+            ask("document.querySelectorAll('details').forEach((part) => { part.open = true; })")
+            self.wait()
+            self.assertLessEqual(ask("Math.max(document.documentElement.scrollWidth, document.body.scrollWidth)"), 390)
+            wide = "[...document.querySelectorAll('.scroll')].filter((at) => at.scrollWidth > at.clientWidth)"
+            self.assertGreater(ask(wide + ".length"), 0)
+            styles = ask(wide + ".map((at) => [getComputedStyle(at).overflowX, getComputedStyle(at).backgroundImage])")
+            for overflow, image in styles:
+                self.assertEqual((overflow, image.count("linear-gradient")), ("auto", 4))
+            self.assertTrue(ask(wide + ".every((at) => at.tabIndex === 0)"))
+
+    # The words of print that stand in two lines.
+    BROKEN = """(() => {
+      const broken = [];
+      const walker = document.createTreeWalker(document.getElementById('main'), NodeFilter.SHOW_TEXT);
+      for (let node = walker.nextNode(); node; node = walker.nextNode()) {
+        if (!node.parentElement.checkVisibility() || node.parentElement.closest('svg, .hidden')) continue;
+        for (const match of node.data.matchAll(/\\w+/g)) {
+          const range = document.createRange();
+          range.setStart(node, match.index);
+          range.setEnd(node, match.index + match[0].length);
+          const tops = new Set([...range.getClientRects()].filter((box) => box.width).map((box) => Math.round(box.top)));
+          if (tops.size > 1) broken.push(match[0]);
+        }
+      }
+      return broken;
+    })()"""
+
+    def test_6_print_has_the_summary_and_what_is_open(self):
+        ask = self.opened("bank", width=720, height=1000, media="print")
+        ask("document.getElementById('g1-06000003').open = false")
+        self.assertTrue(ask("document.querySelector('table.summary').checkVisibility()"))
+        self.assertTrue(ask("document.querySelector('#g2-06000002 .il').checkVisibility()"))
+        for chosen in ("#g1-06000003", "#metadata", ".side", "#switches"):
+            self.assertEqual(ask(f"getComputedStyle(document.querySelector('{chosen}')).display"), "none", chosen)
+        self.assertEqual(ask(self.BROKEN), [])
+        self.assertLessEqual(ask("document.documentElement.scrollWidth"), 720)
+        printed = self.browser.call("Page.printToPDF", preferCSSPageSize=True)["data"]
+        self.assertTrue(base64.b64decode(printed).startswith(b"%PDF"))
+
+    # 7. Pictures.
+
+    def test_7_the_plot_of_few_deltas(self):
+        ask = self.opened("bank")
+        bars = "[...document.querySelectorAll('svg .bar.%s')].map((at) => Number(at.getAttribute('width')))"
+        self.assertEqual((len(ask(bars % "inserted")), len(ask(bars % "updated"))), (2, 2))
+        inserted, updated = ask(bars % "inserted"), ask(bars % "updated")
+        self.assertAlmostEqual(inserted[0] / inserted[1], 6 / 8, 2)
+        self.assertAlmostEqual(updated[0] / updated[1], 1 / 3, 2)
+        self.assertIn("6 inserted, 1 updated", self.texts("svg text"))
+        self.assertEqual(ask("document.querySelectorAll('svg .heap').length"), 0)
+        self.assertNotIn("#Strings", " ".join(self.texts("svg text")))
+
+    def test_7_captions_stand_below(self):
+        ask = self.opened("bank")
+        boxes = ask("[...document.querySelectorAll('figure')].map((at) => [at.getBoundingClientRect().bottom, "
+                    "at.nextElementSibling.className, at.nextElementSibling.getBoundingClientRect().top])")  # fmt: skip
+        self.assertEqual([kind for _, kind, _ in boxes], ["caption", "caption"])
+        self.assertTrue(all(bottom <= top for bottom, _, top in boxes), boxes)
+
+    def test_7_the_picture_of_the_chain(self):
+        self.opened("bank")
+        self.assertEqual(self.texts(".box .head"), ["bank", "1: bank1", "2: bank2"])
+        self.assertIn("2 methods changed", self.texts(".box text"))
+        made = (ROOT / "docs/chain.svg").read_text()
+        self.assertEqual(made, make.chain())
+        self.assertTrue(xml.etree.ElementTree.fromstring(made).tag.endswith("svg"))
+
+
+@unittest.skipUnless(os.path.exists(MSCORLIB), "no mscorlib here")
+class Large(Opened):
+    """64 deltas over Mono's mscorlib, each with 40 replaced bodies and 5 new methods."""
+
+    @classmethod
+    def setUpClass(cls):
+        super().setUpClass()
+        folder = tempfile.mkdtemp()
+        cls.addClassCleanup(shutil.rmtree, folder)
+        cls.large = f"{folder}/large.html"
+        chance = random.Random(1)
+        module = enc.Module(MSCORLIB)
+        methods = [token for token in module.tokens("MethodDef")[::3] if module.has_body(token)]
+        lists = [cls.edits(chance, methods, number) for number in range(1, 65)]
+        status, said = asked(*written(folder, MSCORLIB, lists), "-o", cls.large)
+        assert status == 0, said
+
+    @staticmethod
+    def body(chance, number):
+        """A body of 10 to 78 instructions."""
+        code = []
+        for k in range(chance.randrange(5, 40)):
+            code += [["ldstr", f"line {k} of {number}"] if k % 3 else ["ldc.i4", k], ["pop"]]
+        return {"max": 8, "code": [*code, ["ret"]]}
+
+    @classmethod
+    def edits(cls, chance, methods, number):
+        chosen = chance.sample(methods, 40)
+        found = [{"do": "body", "method": str(token), "code": cls.body(chance, number)} for token in chosen]
+        for k in range(5):
+            cells = [0, 0x16, f"Added{number}_{k}", "000001"]
+            method = {"do": "add", "table": "MethodDef", "owner": "02000002", "cells": cells}
+            found.append({**method, "code": cls.body(chance, number)})
+        return found
+
+    def test_4_all_bodies_within_the_limits(self):
+        text = Path(self.large).read_text(encoding="utf-8")
+        self.assertLessEqual(len(text.encode()), 5_000_000)
+        read = self.sound(text)
+        self.assertEqual(len(read.data["changes"]), 2880)
+        self.assertTrue(all("p" in change for change in read.data["changes"]))
+        self.page = self.large
+        loads = []
+        for _ in range(3):
+            ask = self.opened("")
+            loads.append(ask("performance.getEntriesByType('navigation')[0].loadEventEnd"))
+            if loads[-1] < 1000:
+                break
+        self.assertLess(min(loads), 1000)
+        self.assertLess(ask("document.querySelectorAll('*').length"), 20_000)
+        self.assertLess(ask(Points.STOPS), 100)
+
+    def test_4_the_grid_of_methods_by_generations(self):
+        self.page = self.large
+        ask = self.opened("")
+        heads = ask("[...document.querySelectorAll('table.grid thead th')].map((at) => at.textContent)")
+        self.assertEqual(heads, ["Method", *map(str, range(1, 65))])
+        self.assertEqual(ask("document.querySelectorAll('table.grid tbody tr').length"), 25)
+        self.assertEqual(ask("document.querySelectorAll('#metadata[open]').length"), 0)
+        counts = ask("[...document.querySelectorAll('table.grid tbody tr')].map((row) => row.querySelectorAll('a').length)")
+        self.assertEqual(counts, sorted(counts, reverse=True))
+        ask("document.querySelector('#grid-more button').click()")
+        self.assertEqual(ask("document.querySelectorAll('table.grid tbody tr').length"), 225)
+        self.assertLess(ask("document.querySelectorAll('*').length"), 20_000)
+
+    def test_4_bodies_are_drawn_when_opened(self):
+        self.page = self.large
+        ask = self.opened("")
+        self.assertEqual(ask("document.querySelectorAll('table.il, .card').length"), 0)
+        place = ask("document.querySelector('table.grid tbody a').getAttribute('href').slice(1)")
+        ask("document.querySelector('table.grid tbody a').click()")
+        self.wait()
+        self.assertEqual(ask("document.activeElement.id"), place)
+        self.assertEqual(ask("document.querySelectorAll('.card').length"), 45)
+        self.assertEqual(ask("document.querySelectorAll('table.il').length"), 1)
+        self.assertGreater(ask("document.querySelectorAll('table.il tbody tr').length"), 9)
+
+    def test_4_arrows_move_in_the_grid(self):
+        self.page = self.large
+        ask = self.opened("")
+        self.assertEqual(ask("[...document.querySelectorAll('table.grid tbody a')].filter((at) => at.tabIndex === 0).length"), 1)
+        ask("document.querySelector('table.grid tbody a').focus()")
+        self.browser.call("Input.dispatchKeyEvent", type="keyDown", key="ArrowDown")
+        self.assertEqual(ask("document.activeElement.closest('tr').rowIndex"), 2)
+
+    def test_4_narrow_and_the_plot_of_many(self):
+        self.page = self.large
+        ask = self.opened("", width=390, height=844)
+        self.assertLessEqual(ask("document.documentElement.scrollWidth"), 390)
+        self.assertGreater(ask("document.querySelectorAll('svg .heap').length"), 60)
 
 
 def has(call):

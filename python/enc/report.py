@@ -161,6 +161,13 @@ def rendered(known: Known) -> str:
     return text
 
 
+def chain_picture(module: Module, paths: List[str]) -> str:
+    """The picture of a module's chain as a file of its own; `paths` are those of the base and the deltas."""
+    facts, _ = gathered(module, paths, Sources([]), False)
+    made: str = environment().get_template("report_chain.svg.html.jinja").render(chain=chain_of(facts, None), alone=True)
+    return made.strip() + "\n"
+
+
 class Request(NamedTuple):
     """What is asked for: the files of a chain, where the page is saved (None: to standard output), where sources are,
     the title, whether JSON is saved in place of a page, whether folders are named, whether a browser is opened."""

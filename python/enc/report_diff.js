@@ -25,10 +25,10 @@ function place(generation, token) {
   return "g" + generation + "-" + token;
 }
 
-// A token as a link to its newest change, or as it is.
-function tokenPart(token, words) {
+// What is said of a token as a link to its newest change, or as it is.
+function tokenParts(token, words) {
   const at = DATA.newest[token];
-  return at === undefined ? words : make("a", { href: "#" + place(at, token) }, words);
+  return at === undefined ? words : [make("a", { href: "#" + place(at, token) }, ...words)];
 }
 
 function hex(number, digits) {
@@ -88,6 +88,11 @@ function rowsOf(body) {
   return rows;
 }
 
+// A text that may break behind its dots, commas and brackets, and so needn't within a word.
+function breakable(words) {
+  return words.split(/(?<=[.,(<\[])(?=\S)/).flatMap((part, i) => (i ? [make("wbr"), part] : [part]));
+}
+
 // A line as pieces: of these those are compared that differ within it.
 function pieces(line) {
   return (line.word ? line.word + " " + line.text : line.text).match(/\w+|\s+|[^\w\s]/g) || [];
@@ -120,7 +125,7 @@ function markedParts(words, kept) {
     let end = i;
     while (end < words.length && (kept.has(end) === is || (!is && /^\s+$/.test(words[end])))) end++;
     const said = words.slice(i, end).join("");
-    parts.push(is ? said : make("mark", {}, said));
+    parts.push(...(is ? breakable(said) : [make("mark", {}, ...breakable(said))]));
     i = end;
   }
   return parts;
@@ -144,14 +149,14 @@ function pointParts(line) {
     if (point.length === 1) return make("q", {}, "// hidden");
     const said = point[5] < 0 ? "" : " " + text(point[5]);
     const where = "line " + point[1] + ", column " + point[2] + ", to " + point[3] + ", " + point[4];
-    return make("q", { title: where }, "// " + point[1] + said);
+    return make("q", { title: where }, ...breakable("// " + point[1] + said));
   });
 }
 
 // What stands in a cell.
 function cellParts(line, parts) {
-  const said = parts || (line.word ? [line.word + " ", line.token && DATA.newest[line.token] !== undefined
-    ? tokenPart(line.token, line.text) : line.text] : [line.text]);
+  const words = breakable(line.text);
+  const said = parts || (line.word ? [line.word + " ", ...tokenParts(line.token, words)] : words);
   const label = line.label ? [make("i", {}, line.label), " "] : [];
   const found = [...pointParts(line), make("span", { class: "x", title: line.full }, ...label, ...said)];
   if (SHOWN.bytes && (line.token || line.bytes)) {

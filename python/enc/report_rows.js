@@ -50,9 +50,8 @@ function drawGeneration(part) {
 
 // A value of a row, with the name of its token.
 function valuePart(words) {
-  const isToken = DATA.names[words] !== undefined;
-  return isToken ? [make("code", {}, tokenPart(words, words)), " " + text(DATA.names[words])]
-    : [make("code", {}, tokenPart(words, words))];
+  const code = make("code", {}, ...tokenParts(words, [words]));
+  return DATA.names[words] === undefined ? [code] : [code, " " + text(DATA.names[words])];
 }
 
 function valueCell(value) {
@@ -109,11 +108,6 @@ function gridCell(change) {
   const said = "generation " + change.g + ": " + words + ", +" + change.c[1] + " −" + change.c[0];
   const link = make("a", { href: "#" + place(change.g, change.t), tabindex: "-1", title: said, "aria-label": said }, sign);
   return make("td", { role: "gridcell", class: change.s }, link);
-}
-
-// A name that may break behind its dots and brackets.
-function breakable(name) {
-  return name.split(/(?<=[.(,])/).flatMap((part, i) => (i ? [make("wbr"), part] : [part]));
 }
 
 function gridRow(method, generations) {
