@@ -5,9 +5,11 @@ from __future__ import annotations
 
 from typing import Any, List, NamedTuple, Sequence
 
+from ._report_text import some
+
 # Below so many deltas each has a bar of its own with its numbers, and heaps aren't shown.
 MANY = 10
-_LEFT, _HIGH, _STEP, _ROW, _WIDE = 110, 34, 48, 26, 420
+_LEFT, _HIGH, _STEP, _ROW, _WIDE = 100, 34, 48, 26, 420
 
 
 class Bar(NamedTuple):
@@ -108,5 +110,7 @@ def plot_of(heads: Sequence[Any]) -> Any:
         return None
     made = _few(heads) if len(heads) < MANY else _many(heads)
     inserted, updated = sum(head.inserted for head in heads), sum(head.updated for head in heads)
-    words = f"{len(heads):,} deltas insert {inserted:,} rows and update {updated:,}."
+    one = len(heads) == 1
+    rows = f"{'inserts' if one else 'insert'} {some(inserted, 'row')} and {'updates' if one else 'update'} {updated:,}"
+    words = f"{some(len(heads), 'delta')} {rows}."
     return made._replace(words=words)

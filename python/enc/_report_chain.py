@@ -70,7 +70,9 @@ def chain_of(facts: Facts, refusal: Optional[Any]) -> Any:
     if refusal is not None:
         lines = ["refused", f"by rule {refusal.code}"]
         boxes.append(("refused", f"{refusal.number}: {refusal.path}", lines, "refusal"))
-    made = [Box(2 + i * (_WIDE + _GAP), kind, _short(name), lines, href) for i, (kind, name, lines, href) in enumerate(boxes)]
+    made = []
+    for i, (kind, name, lines, href) in enumerate(boxes):
+        made.append(Box(2 + i * (_WIDE + _GAP), kind, _short(name), lines, href))
     words = f"{some(len(numbers), 'delta')} {'follows' if len(numbers) == 1 else 'follow'} {facts.heads[0].path}"
     words += ", and one is refused." if refusal is not None else "."
     return Chain(made[-1].x + _WIDE + 2, _HIGH + 4, made, words)

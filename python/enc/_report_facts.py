@@ -27,7 +27,7 @@ MOST_CODES = 1000
 
 METHOD = 0x06
 REFERENCES = ("TypeRef", "MemberRef", "TypeSpec", "MethodSpec", "StandAloneSig", "AssemblyRef", "ModuleRef")
-_QUIET = (*REFERENCES, "Module", "Param", "EventMap", "PropertyMap", "NestedClass", "MethodSemantics", "EncLog", "EncMap")
+_QUIET = (*REFERENCES, "Module", "Param", "EventMap", "PropertyMap", "NestedClass", "MethodSemantics")
 KINDS = {
     "TypeDef": "type", "InterfaceImpl": "interface", "CustomAttribute": "attribute", "GenericParam": "type parameter",
     "GenericParamConstraint": "constraint", "Param": "parameter", "ClassLayout": "layout", "ImplMap": "import",
@@ -51,11 +51,6 @@ class Item(NamedTuple):
     inserted: bool
     name: str
     cells: List[Cell]
-
-    @property
-    def differs(self) -> bool:
-        """Whether it is new, or a column of it has changed."""
-        return self.inserted or any(cell.before for cell in self.cells)
 
 
 class Span(NamedTuple):
@@ -128,7 +123,9 @@ class Group(NamedTuple):
 
 
 class Facts(NamedTuple):
-    """What is known of a chain: its heads, its methods, other members, and rows by generation."""
+    """What is known of a chain: its heads, its methods, other members, rows by generation, and the newest generation of
+    each listed row; how many methods are changed, added and emitted anew with the same code; how many deltas and
+    changes of methods aren't listed; and for tokens those that stood for the same before."""
 
     heads: Dict[int, Head]
     changes: List[Change]
@@ -139,6 +136,7 @@ class Facts(NamedTuple):
     added: int
     same: int
     unlisted: int
+    missing: int
     twins: Dict[str, str]
 
 
@@ -238,8 +236,9 @@ class Gathering:
             states.setdefault(change.item.token, set()).add(change.state)
         same = {token for token, found in states.items() if found <= {"same", "moved"} and token not in added}
         unlisted = self.module.generation - len(self._listed)
-        counts = (len(updated - added - same), len(added), len(same))
-        return Facts(heads, changes, others, groups, self._newest, *counts, unlisted, self._twins)
+        counts = (len(updated - added - same), len(added), len(same), unlisted)
+        every = sum(1 for entries in self._entries.values() for entry in entries if entry.token >> 24 == METHOD)
+        return Facts(heads, changes, others, groups, self._newest, *counts, every - len(changes), self._twins)
 
     # What is listed.
 
@@ -305,8 +304,21 @@ class Gathering:
         for number, made in groups.items():
             for group in made:
                 for item in group.items:
-                    if item.differs and (group.table not in _QUIET or (group.table == "Param" and not item.inserted)):
+                    is_shown = group.table not in _QUIET or (group.table == "Param" and not item.inserted)
+                    if is_shown and self._differs(item):
                         yield self._other(number, group.table, item)
+
+    def _differs(self, item: Item) -> bool:
+        """Whether a row is new, or a column of it means something else. The library accepts another signature only
+        where it is alike, and so means the same."""
+        if item.inserted:
+            return True
+        cells = [cell for cell in item.cells if cell.before and cell.name not in ("Signature", "Type", "Instantiation")]
+        return any(not cell.token or not self._same(cell.before_token, cell.token) for cell in cells)
+
+    def _same(self, before: str, now: str) -> bool:
+        """Whether two tokens mean the same."""
+        return self.names.of(Token(before)).exact == self.names.of(Token(now)).exact
 
     def _other(self, number: int, table: str, item: Item) -> Other:
         kind = KINDS.get(table, table.lower())
@@ -317,7 +329,8 @@ class Gathering:
                 flags = {"Flags": cell.before}, {"Flags": cell.now}
                 before, now = (self.names.declared(item.token, of) for of in flags)
             if cell.before and (cell.name != "Flags" or before == now):
-                notes.append(f"{cell.name} {self._said(cell.before, cell.before_token)} → {self._said(cell.now, cell.token)}")
+                was, is_now = self._said(cell.before, cell.before_token), self._said(cell.now, cell.token)
+                notes.append(f"{cell.name} {was} → {is_now}")
         return Other(number, item.token, kind, item.inserted, now, before if before != now else None, notes)
 
     def _said(self, text: str, token: str) -> str:
@@ -346,10 +359,11 @@ class Gathering:
         declared = self.names.declared(entry.token, printed(first_lines(texts[1])).cells)
         dates = tuple(generation_of(text) for text in texts)
         newest = self._newest[entry.token] == number
+        state = _state(item, pairs, self._differs(item))
         spans = (span_of(before, self._shown), span_of(now, self._shown))
         self._remember_twins(pairs)
         return Change(
-            number, item, declared, _state(item, pairs), pairs, counts, self._codes(number, entry), spans,
+            number, item, declared, state, pairs, counts, self._codes(number, entry), spans,
             self._source((before, now), dates, newest), self._shown_lines((before, now), dates, newest),
             [other for other in self._where[entry.token] if other != number], before.cut + now.cut,
         )  # fmt: skip
@@ -412,13 +426,13 @@ def _source_line(number: int, text: str) -> Line:
     return Line(str(number), "", cut(text.rstrip().expandtabs(4), 300), "", "", (), text.rstrip(), [])
 
 
-def _state(item: Item, pairs: List[Pair]) -> str:
+def _state(item: Item, pairs: List[Pair], differs: bool) -> str:
     """What has happened to a method."""
     if item.inserted:
         return "added"
     if not pairs:
         return "none"
-    if any(pair.kind not in ("same", "alike") for pair in pairs) or any(cell.before for cell in item.cells):
+    if differs or any(pair.kind not in ("same", "alike") for pair in pairs):
         return "changed"
     return "moved" if moved_points(pairs) else "same"
 

@@ -89,7 +89,7 @@ def _refusal(refusal: Optional[Refusal]) -> Optional[Dict[str, Any]]:
 
 def facts_of(title: str, facts: Optional[Facts], refusal: Optional[Refusal]) -> Dict[str, Any]:
     """The facts as a value of JSON; `facts` is None where the base is refused."""
-    known = facts or Facts({}, [], [], {}, {}, 0, 0, 0, 0, {})
+    known = facts or Facts({}, [], [], {}, {}, 0, 0, 0, 0, 0, {})
     rows = [row for number, groups in known.groups.items() for row in _rows(number, groups)]
     return {
         "title": title,

@@ -66,6 +66,11 @@ def _bounded(way: Sequence[str]) -> Spelled:
     return Spelled(cut(short, _MOST_LENGTH), cut(full, _MOST_LENGTH), exact)
 
 
+def _number(value: Any) -> int:
+    """A number in a column; 0 where the row has no such."""
+    return value if isinstance(value, int) else 0
+
+
 def _arity(name: str) -> Tuple[str, int]:
     """The name of a generic type without what its compiler wrote behind it, and how many parameters it says."""
     bare, tick, digits = name.rpartition("`")
@@ -111,7 +116,7 @@ class Names:
     def declared(self, token: Token, cells: Optional[Dict[str, str]] = None) -> Declared:
         """A row as C# would declare it; `cells` are its columns as they are printed at a generation."""
         row = self.row(token)
-        flags = int(cells["Flags"], 16) if cells and "Flags" in cells else int(row.columns.get("Flags", 0))  # type: ignore[arg-type]
+        flags = int(cells["Flags"], 16) if cells and "Flags" in cells else _number(row.columns.get("Flags"))
         makers = {"MethodDef": self._method, "Field": self._field, "Property": self._property, "TypeDef": self._type}
         maker = makers.get(token.table)
         if maker is None:

@@ -5,6 +5,7 @@
   const said = document.getElementById("said");
   const keys = document.getElementById("keys");
   const MOST = 50;
+  const MOST_DRAWN = 300;
   let rows = null;
 
   // What can be found: token, name, generation.
@@ -76,7 +77,6 @@
       return;
     }
     open(at);
-    if (at.querySelector("summary") && at.localName === "details") at.querySelector("summary").tabIndex = 0;
     document.querySelectorAll(".at").forEach((other) => other.classList.remove("at"));
     at.classList.add("at");
     at.tabIndex = -1;
@@ -101,7 +101,8 @@
 
   function pressed(event) {
     const at = event.target;
-    if (event.ctrlKey || event.metaKey || event.altKey || /^(INPUT|TEXTAREA|SELECT)$/.test(at.tagName) || keys.open) return;
+    if (event.ctrlKey || event.metaKey || event.altKey || keys.open) return;
+    if (at.localName === "input" && at.type !== "checkbox") return;
     const acts = { "/": () => { input.focus(); input.select(); }, n: () => step(1), p: () => step(-1),
       "?": () => keys.showModal() };
     if (!acts[event.key]) return;
@@ -109,12 +110,17 @@
     acts[event.key]();
   }
 
+  // Opens or folds the generations and their methods; of many methods the bodies stay folded.
   function all(wanted) {
-    for (const part of document.querySelectorAll("main details:not(#metadata):not(.rows-of)")) {
+    for (const part of document.querySelectorAll(".generation")) {
       part.open = wanted;
       if (wanted) drawn(part);
     }
-    if (wanted) for (const card of document.querySelectorAll(".card:not([open])")) { card.open = true; draw(card); }
+    if (wanted && DATA.changes.length > MOST_DRAWN) return;
+    for (const card of document.querySelectorAll(".card")) {
+      card.open = wanted;
+      draw(card);
+    }
   }
 
   // A switch draws all open cards again.

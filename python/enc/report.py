@@ -101,8 +101,8 @@ def rows_of(changes: List[Change]) -> List[Row]:
     states = ("changed", "none", "added", "moved", "same")
 
     def order(row: Row) -> Tuple[int, str]:
-        first = "added" if row.changes[0].state == "added" else min((one.state for one in row.changes), key=states.index)
-        return states.index(first), row.declared.name
+        found = [one.state for one in row.changes]
+        return states.index("added" if "added" in found else min(found, key=states.index)), row.declared.name
 
     return sorted(found.values(), key=order)
 
@@ -116,8 +116,8 @@ def plain_of(facts: Facts) -> Dict[int, str]:
         lines: List[str] = []
         for change in facts.changes:
             if change.generation == number:
-                lines += [f"{change.item.token} {change.declared}", *texts(change.source.pairs if change.source else [])]
-                lines += [*texts(change.pairs), ""]
+                source = change.source.pairs if change.source else []
+                lines += [f"{change.item.token} {change.declared}", *texts(source), *texts(change.pairs), ""]
         for group in facts.groups[number]:
             lines += [f"{group.table}: {one.token} {one.name}" for one in group.items]
         found[number] = "\n".join(lines)
@@ -164,7 +164,8 @@ def rendered(known: Known) -> str:
 def chain_picture(module: Module, paths: List[str]) -> str:
     """The picture of a module's chain as a file of its own; `paths` are those of the base and the deltas."""
     facts, _ = gathered(module, paths, Sources([]), False)
-    made: str = environment().get_template("report_chain.svg.html.jinja").render(chain=chain_of(facts, None), alone=True)
+    picture = environment().get_template("report_chain.svg.html.jinja")
+    made: str = picture.render(chain=chain_of(facts, None), alone=True)
     return made.strip() + "\n"
 
 
@@ -269,5 +270,5 @@ def command(words: List[str]) -> int:
     if not given.json and importlib.util.find_spec("jinja2") is None:
         print("enc report needs jinja2: pip install 'enc[report]', or Debian's python3-jinja2", file=sys.stderr)
         return 4
-    wanted = Request(given.base, given.deltas, given.out, given.source, given.title, given.json, given.paths, given.open)
-    return report(wanted)
+    chain = (given.base, given.deltas, given.out, given.source)
+    return report(Request(*chain, given.title, given.json, given.paths, given.open))

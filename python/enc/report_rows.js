@@ -2,7 +2,7 @@
 const STATES = { added: ["+", "added"], changed: ["●", "changed"], same: ["≈", "emitted anew, the same"],
   moved: ["≈", "emitted anew, at other lines"], none: ["●", "changed; it has no body"] };
 const MOST_GRID = 25;
-const MOST_OPEN = 60;
+const MOST_OPEN = 50;
 
 function tag(inserted) {
   return make("span", { class: inserted ? "tag new" : "tag" }, inserted ? "added" : "changed");
@@ -106,13 +106,14 @@ function gridCell(change) {
   if (!change) return make("td", { role: "gridcell" });
   const [sign, words] = STATES[change.s];
   const said = "generation " + change.g + ": " + words + ", +" + change.c[1] + " −" + change.c[0];
-  const link = make("a", { href: "#" + place(change.g, change.t), tabindex: "-1", title: said, "aria-label": said }, sign);
-  return make("td", { role: "gridcell", class: change.s }, link);
+  const about = { href: "#" + place(change.g, change.t), tabindex: "-1", title: said, "aria-label": said };
+  return make("td", { role: "gridcell", class: change.s }, make("a", about, sign));
 }
 
 function gridRow(method, generations) {
   const cells = generations.map((number) => gridCell(method.changes.get(number)));
-  return make("tr", { role: "row" }, make("th", { scope: "row", role: "rowheader" }, ...breakable(method.name)), ...cells);
+  const head = make("th", { scope: "row", role: "rowheader" }, ...breakable(method.name));
+  return make("tr", { role: "row" }, head, ...cells);
 }
 
 // Arrows go from mark to mark of the grid: within a row, or to the next row that has one.
@@ -138,8 +139,9 @@ function drawGrid(box, most) {
     make("a", { href: "#g" + number, tabindex: "-1" }, String(number))));
   const head = make("tr", { role: "row" }, make("th", { scope: "col", role: "columnheader" }, "Method"), ...heads);
   const rows = methods.slice(0, most).map((method) => gridRow(method, generations));
-  const table = make("table", { role: "grid", class: "grid" }, make("caption", { class: "hidden" }, "Methods by generations"),
-    make("thead", {}, head), make("tbody", {}, ...rows));
+  const caption = make("caption", { class: "hidden" }, "Methods by generations");
+  const parts = [caption, make("thead", {}, head), make("tbody", {}, ...rows)];
+  const table = make("table", { role: "grid", class: "grid" }, ...parts);
   box.replaceChildren(table);
   const marks = Array.from(table.querySelectorAll("tbody a"));
   if (marks.length) marks[0].tabIndex = 0;
