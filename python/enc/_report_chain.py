@@ -35,8 +35,10 @@ def _short(name: str) -> str:
     return name if len(name) <= 20 else name[:19] + "…"
 
 
-def _said(facts: Facts, number: int) -> List[str]:
-    """What a delta does to methods and other members."""
+def said_of(facts: Facts, number: int) -> List[str]:
+    """What a delta does to methods and other members, in at most two texts.
+
+    It counts the changes that are listed."""
     states: Dict[str, int] = {}
     for change in facts.changes:
         if change.generation == number:
@@ -66,7 +68,7 @@ def chain_of(facts: Facts, refusal: Optional[Any]) -> Any:
         if number is None:
             boxes.append(("more", f"{len(numbers) - len(shown) + 1:,} more", ["deltas"], ""))
         else:
-            boxes.append(("delta", f"{number}: {facts.heads[number].path}", _said(facts, number), f"g{number}"))
+            boxes.append(("delta", f"{number}: {facts.heads[number].path}", said_of(facts, number), f"g{number}"))
     if refusal is not None:
         lines = ["refused", f"by rule {refusal.code}"]
         boxes.append(("refused", f"{refusal.number}: {refusal.path}", lines, "refusal"))

@@ -20,7 +20,7 @@ from typing import Any, Dict, List, NamedTuple, Optional, Tuple
 from . import _files, _refusal_page
 from ._plot import plot_of
 from ._refused import Refused
-from ._report_chain import chain_of
+from ._report_chain import chain_of, said_of
 from ._report_facts import Change, Facts, gathered
 from ._report_json import facts_of
 from ._report_names import Names
@@ -133,7 +133,9 @@ def _links(facts: Facts, rows: List[Row]) -> List[Tuple[str, str]]:
         return [(f"g{row.changes[-1].generation}-{row.changes[-1].item.token}", row.declared.name) for row in rows]
     numbers = [number for number in facts.groups]
     often = -(-len(numbers) // MOST_LINKS) if numbers else 1
-    return [(f"g{number}", f"Generation {number}") for number in numbers[::often]]
+    runs = [numbers[i : i + often] for i in range(0, len(numbers), often)]
+    names = [f"Generations {run[0]} to {run[-1]}" if len(run) > 1 else f"Generation {run[0]}" for run in runs]
+    return [(f"g{run[0]}", name) for run, name in zip(runs, names)]
 
 
 def _of_facts(known: Known) -> Dict[str, Any]:
@@ -146,6 +148,7 @@ def _of_facts(known: Known) -> Dict[str, Any]:
     made = packed(facts, known.names)
     return {
         "facts": facts, "rows": rows, "is_grid": is_grid, "links": _links(facts, rows), "plain": plain_of(facts),
+        "said": {number: ", ".join(said_of(facts, number)) for number in facts.groups},
         "plot": plot_of([head for head in facts.heads.values() if head.number]),
         "chain": chain_of(facts, known.refusal), "data": made.text, "without": made.without,
         "others": facts.others[:MOST_OTHERS], "unopened": len(facts.changes) > MOST_LISTED,

@@ -90,7 +90,7 @@ function rowsOf(body) {
 
 // A text that may break behind its dots, commas and brackets, and so needn't within a word.
 function breakable(words) {
-  return words.split(/(?<=[.,(<\[])(?=\S)/).flatMap((part, i) => (i ? [make("wbr"), part] : [part]));
+  return words.split(/(?<=[.,(])(?=[^\s)])/).flatMap((part, i) => (i ? [make("wbr"), part] : [part]));
 }
 
 // A line as pieces: of these those are compared that differ within it.

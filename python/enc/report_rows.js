@@ -19,7 +19,7 @@ function countPart(change) {
 // A method's card; its body is drawn when it is opened.
 function cardPart(change) {
   const words = make("span", { class: "soft" }, text(change.h));
-  const name = make("span", { class: "name" }, text(change.n));
+  const name = make("span", { class: "name" }, ...breakable(text(change.n)));
   const mark = change.s === "added" || change.s === "changed" ? tag(change.s === "added") : "";
   const head = make("summary", {}, make("h4", {}, words, " ", name), " ", mark, " ", countPart(change));
   const made = make("details", { class: "card", id: place(change.g, change.t) }, head, make("div", { class: "body" }));
@@ -92,14 +92,16 @@ function drawRows(part) {
   tables.append(...DATA.rows[number].flatMap((group) => groupPart(number, group)));
 }
 
-// The methods of the grid, the most changed first, each with its changes by generation.
+// The methods of the grid, each with its changes by generation: the most changed first, then by generation and name.
 function methodsOf() {
   const found = new Map();
   for (const change of DATA.changes) {
     if (!found.has(change.t)) found.set(change.t, { name: text(change.n), changes: new Map() });
     found.get(change.t).changes.set(change.g, change);
   }
-  return Array.from(found.values()).sort((a, b) => b.changes.size - a.changes.size || (a.name < b.name ? -1 : 1));
+  const first = (method) => Math.min(...method.changes.keys());
+  const order = (a, b) => b.changes.size - a.changes.size || first(a) - first(b) || (a.name < b.name ? -1 : 1);
+  return Array.from(found.values()).sort(order);
 }
 
 function gridCell(change) {
