@@ -675,6 +675,15 @@ class Points(Opened):
         self.assertEqual(self.texts("#g2-06000001 .counts"), [])
         self.assertEqual(ask("document.querySelectorAll('#g2-06000001 .d, #g2-06000001 .a').length"), 0)
 
+    def test_2_other_assemblies_are_changes(self):
+        rows = [("AssemblyRef", [4, 0, 0, 0, 0, "", "other", "", ""]), ("TypeRef", ["23000002", "Console", "System"])]
+        rows.append(("MemberRef", ["01000003", "WriteLine", "0001010e"]))
+        added = [{"do": "add", "table": table, "cells": cells} for table, cells in rows]
+        code = {"max": 8, "code": [["ldstr", "old"], ["call", "0a000002"], ["ret"]]}
+        _, changes = self.chain([*added, {"do": "body", "method": "06000001", "code": code}])
+        self.assertEqual(changes[0]["c"], [1, 1, 0])
+        self.assertEqual(self.texts("#g1-06000001 .il mark"), ["mscorlib", "other"])
+
     def test_2_branches_lead_to_instructions(self):
         anew = Anew()
         _, changes = self.chain(anew.list(), anew.list(begin=(["nop"], ["nop"])))
@@ -744,6 +753,20 @@ class Points(Opened):
         found = names.of(0x2B000001).short, str(names.declared(enc.Token(0x06000007)))
         self.assertEqual(found[0], "MemoryMarshal.GetReference<byte>(Span<byte>)")
         self.assertTrue(found[1].startswith("internal static TSafeHandle Interop.CheckIo<TSafeHandle>(TSafeHandle, "))
+
+    def test_hostile_names_stay_text(self):
+        hostile = Hostile("test_hostile_names")
+        hostile.folder, hostile.page = self.folder, self.page
+        self.made(*hostile.chain(hostile.edits(HOSTILE), "/<i>alert(2)"), "--title", HOSTILE[0])
+        ask = self.opened("")
+        ask("document.getElementById('bytes').click()")
+        ask("document.querySelectorAll('details').forEach((part) => { part.open = true; })")
+        self.wait()
+        self.assertEqual(ask("document.querySelectorAll('img, main script, main i:not(.x i)').length"), 0)
+        shown = ask("document.getElementById('main').innerText")
+        for name in HOSTILE[:5]:
+            self.assertIn(name, shown)
+        self.assertEqual((self.browser.complaints, self.texts("h1")), ([], [HOSTILE[0]]))
 
     # 5. What is refused.
 
@@ -906,6 +929,14 @@ class Points(Opened):
                     "at.nextElementSibling.className, at.nextElementSibling.getBoundingClientRect().top])")  # fmt: skip
         self.assertEqual([kind for _, kind, _ in boxes], ["caption", "caption"])
         self.assertTrue(all(bottom <= top for bottom, _, top in boxes), boxes)
+
+    def test_7_pictures_of_the_docs_are_small(self):
+        page = (ROOT / "docs/report.md").read_text(encoding="utf-8")
+        found = re.findall(r"!\[[^]]+\]\(([\w.-]+)\)", page)
+        names = ["chain.svg", "report-dark.png", "report-narrow.png", "report-print.png", "report.png"]
+        self.assertEqual(sorted(found), names)
+        for name in names:
+            self.assertLess((ROOT / "docs" / name).stat().st_size, 150_000)
 
     def test_7_the_picture_of_the_chain(self):
         self.opened("bank")

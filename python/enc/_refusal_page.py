@@ -106,12 +106,12 @@ def _compared(module: Any, made: Refusal) -> Refusal:
     marked = [cell for cell in made.cells if cell.marked]
     last = module.generation
     wanted = {
-        "E1": lambda: str(module["00000001"].Mvid),
-        "E2": lambda: f"{last + 1:04x}, generation {last + 1:,}",
-        "E3": lambda: f"{module.enc_id(last)}, the EncId of generation {last:,}",
+        "E1": str(module["00000001"].Mvid),
+        "E2": f"{last + 1:04x}, generation {last + 1:,}",
+        "E3": f"{module.enc_id(last)}, the EncId of generation {last:,}",
     }
     if marked and made.code in wanted:
-        cells = [cell._replace(before=wanted[made.code]()) if cell.marked else cell for cell in made.cells]
+        cells = [cell._replace(before=wanted[made.code]) if cell.marked else cell for cell in made.cells]
         marked = [cell for cell in cells if cell.marked]
         made = made._replace(cells=cells)
     if len(marked) != 1:

@@ -117,7 +117,7 @@ class Group(NamedTuple):
     """The rows of a table in a generation: how many there are, how many are new, those that are listed."""
 
     table: str
-    count: int
+    total: int
     inserted: int
     items: List[Item]
 
@@ -447,8 +447,13 @@ def generation_of(text: str) -> int:
     return printed(first_lines(text)).place[0] if text else 0
 
 
+def shown_path(with_folders: bool) -> Callable[[str], str]:
+    """How the path of a file is shown."""
+    return (lambda path: path) if with_folders else file_name
+
+
 def gathered(module: Module, paths: List[str], sources: Sources, with_folders: bool) -> Tuple[Facts, Names]:
     """The facts of a module that has taken deltas, and its names; `paths` are those of the base and the deltas. Names
     of files are shown without their folders unless they are asked for."""
-    gathering = Gathering(module, paths, sources, str if with_folders else file_name)
+    gathering = Gathering(module, paths, sources, shown_path(with_folders))
     return gathering.facts(), gathering.names

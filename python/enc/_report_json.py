@@ -75,8 +75,8 @@ def _rows(number: int, groups: List[Group]) -> List[Dict[str, Any]]:
     for group in groups:
         for item in group.items:
             cells = {cell.name: [cell.before, cell.now] if cell.before else [cell.now] for cell in item.cells}
-            made = {"token": str(item.token), "generation": number, "table": group.table, "inserted": item.inserted}
-            found.append({**made, "name": item.name, "columns": cells})
+            about = {"token": str(item.token), "generation": number, "table": group.table}
+            found.append({**about, "inserted": item.inserted, "name": item.name, "columns": cells})
     return found
 
 

@@ -66,6 +66,11 @@ def _bounded(way: Sequence[str]) -> Spelled:
     return Spelled(cut(short, _MOST_LENGTH), cut(full, _MOST_LENGTH), exact)
 
 
+def _shown(name: str, way: int) -> str:
+    """A name as it is shown; an exact one is never shortened."""
+    return name if way == EXACT else cut(name)
+
+
 def _number(value: Any) -> int:
     """A number in a column; 0 where the row has no such."""
     return value if isinstance(value, int) else 0
@@ -158,7 +163,7 @@ class Names:
         name = str(row.Name)
         if name in (".ctor", ".cctor"):
             outer = self.of(row.owner).full if row.owner else ""
-            own = self._chain(row.owner)[1][-1][0] if row.owner else name
+            own = cut(self._chain(row.owner)[1][-1][0]) if row.owner else name
             words = "static" if name == ".cctor" else method_words(flags)
             return Declared(words, f"{outer}.{own}{self._parameters(found, scope, SHORT)}")
         words = f"{method_words(flags)} {self._type_text(found.returns, scope, SHORT)}"
@@ -216,9 +221,10 @@ class Names:
     def _plain(self, row: Row) -> Sequence[str]:
         """A row by its name behind that of what it is about."""
         columns = row.columns
-        above = row.owner or next((columns[name] for name in _ABOVE if name in columns), None)
+        named: List[Any] = [columns[name] for name in _ABOVE if name in columns]
+        above = row.owner or (named[0] if named else None)
         if row.owner and row.table in ("Property", "Event"):
-            above = self.row(row.owner).columns.get("Parent")
+            above = self.row(row.owner).Parent
         outer = self.of(above) if isinstance(above, Token) else _NOTHING
         own = cut(str(columns.get("Name", "")))
         blob = self._blob(row.token)
@@ -239,8 +245,8 @@ class Names:
         space = ""
         while self.has(token) and len(names) < 50:
             row = self.row(token)
-            space = cut(str(row.TypeNamespace)) if row.TypeNamespace else ""
-            names.append(_arity(cut(str(row.TypeName))))
+            space = str(row.TypeNamespace)
+            names.append(_arity(str(row.TypeName)))
             outer = self._outer(row)
             if outer is None:
                 break
@@ -270,9 +276,9 @@ class Names:
         for name, count in names:
             own, given = (given[:count], given[count:]) if total == len(arguments) else ([], given)
             shown = own or ([""] * count if total != len(arguments) else [])
-            parts.append(name + (f"<{', '.join(own)}>" if own else f"<{',' * (count - 1)}>" if shown else ""))
+            parts.append(_shown(name, way) + (f"<{', '.join(own)}>" if own else f"<{',' * (count - 1)}>" if shown else ""))
         text = ".".join(parts) + (f"<{', '.join(given)}>" if given else "")
-        text = f"{space}.{text}" if space and way != SHORT else text
+        text = f"{_shown(space, way)}.{text}" if space and way != SHORT else text
         return f"[{self._scope_name(token)}]{text}" if way == EXACT else text
 
     def _scope_name(self, token: Token) -> str:
@@ -299,8 +305,8 @@ class Names:
         if node.kind == "token":
             return self.of(node.value)[way]
         if node.kind in ("var", "mvar"):
-            known = scope.types if node.kind == "var" else scope.methods
-            return known[node.value][way] if node.value < len(known) else _UNKNOWN[node.kind] + str(node.value)
+            known, number = scope.types if node.kind == "var" else scope.methods, int(node.value)
+            return known[number][way] if number < len(known) else f"{_UNKNOWN[node.kind]}{number}"
         if node.kind == "function":
             return self._function_text(node.value, scope, way)
         return self._around(node, scope, way)
@@ -312,14 +318,18 @@ class Names:
             return self._type_name(node.parts[0].value, arguments, way)
         inner = self._type_text(node.parts[0], scope, way)
         if node.kind == "modified":
-            return f"{inner} modified by {self.of(node.value).exact}" if way == EXACT else inner
+            required, token = node.value
+            said = f"{inner} {'must' if required else 'may'} be known as {self.of(token).exact}"
+            return said if way == EXACT else inner
         if node.kind == "array":
-            return f"{inner}[{',' * (node.value - 1)}]"
+            rank, bounds = node.value
+            return f"{inner}[{',' * (rank - 1)}{bounds if way == EXACT and any(bounds) else ''}]"
         return {"pointer": "{}*", "byref": "ref {}", "vector": "{}[]", "pinned": "pinned {}"}[node.kind].format(inner)
 
     def _function_text(self, found: Signature, scope: _Scope, way: int) -> str:
         parts = [*found.parameters, found.returns]
-        return "delegate*<" + ", ".join(self._type_text(part, scope, way) for part in parts) + ">"
+        inner = "<" + ", ".join(self._type_text(part, scope, way) for part in parts) + ">"
+        return f"delegate* {found.convention:02x}{inner}" if way == EXACT else "delegate*" + inner
 
     # Members.
 
@@ -354,7 +364,7 @@ class Names:
         """The name of a method or a MemberRef, behind that of its type."""
         above = row.owner if row.table == "MethodDef" else row.Class
         outer = self.of(above)[way] if above else ""
-        own = cut(str(row.Name))
+        own = _shown(str(row.Name), way)
         generic = self._parameters_of(row.token) if row.table == "MethodDef" else []
         own += f"<{', '.join(generic)}>" if generic else ""
         return f"{outer}.{own}" if outer and outer != "<Module>" else own

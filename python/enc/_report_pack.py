@@ -107,7 +107,7 @@ class Packing:
     def _group(self, group: Group) -> Any:
         columns = [column for column in table(group.table).columns if column.kind != "run"]
         names = [column.name for column in columns] + (["owner"] if group.table in _OWNED else [])
-        return {"table": group.table, "count": group.count, "inserted": group.inserted, "columns": names,
+        return {"table": group.table, "count": group.total, "inserted": group.inserted, "columns": names,
                 "rows": [self._row(item) for item in group.items]}  # fmt: skip
 
     def _row(self, item: Any) -> Any:
@@ -191,9 +191,9 @@ class Packing:
         """The lines of both sides, how they stand beside each other, and the sequence points."""
         made["p"] = _runs(pairs, change.pairs)
         for i, (lines, points) in enumerate((("b", "bp"), ("a", "ap"))):
-            own = [pair[1 + i] for pair in change.pairs if pair[1 + i] is not None]
+            own = _lines_of(change.pairs, 1 + i)
             lengths = {id(own[k]): length for k, length in _lengths(own, change.codes[i]).items()}
-            shown = [pair[1 + i] for pair in pairs if not isinstance(pair, int) and pair[1 + i] is not None]
+            shown = _lines_of(pairs, 1 + i)
             made[lines] = [self._line(line, lengths.get(id(line), 0)) for line in shown]
             found = [self._point(k, point, change, i) for k, line in enumerate(shown) for point in line.points]
             if found:
@@ -213,15 +213,24 @@ class Packing:
         made: Dict[str, Any] = {"d": self._text(source.document), "p": _runs(source.pairs, source.pairs)}
         made["c"] = list(source.counts[:2])
         for i, name in ((1, "b"), (2, "a")):
-            lines = [pair[i] for pair in source.pairs if pair[i] is not None]
+            lines = _lines_of(source.pairs, i)
             made[name] = [self._line(line, 1) for line in lines]
             made[name + "0"] = int(lines[0].label) if lines else 0
         return made
 
 
+def _lines_of(pairs: List[Any], side: int) -> List[Line]:
+    """The lines of a side; 1 is before, 2 now."""
+    return [pair[side] for pair in pairs if not isinstance(pair, int) and pair[side] is not None]
+
+
 def _offset(pair: Optional[Pair], side: int) -> int:
-    line = pair[side] if pair else None
+    line: Any = pair[side] if pair else None
     return int(line.label[3:], 16) if line is not None and line.label.startswith("IL_") else -1
+
+
+def _kind(pair: Any) -> str:
+    return "gap" if isinstance(pair, int) else str(pair.kind)
 
 
 def _runs(pairs: List[Any], whole: List[Pair]) -> str:
@@ -229,7 +238,7 @@ def _runs(pairs: List[Any], whole: List[Pair]) -> str:
     out, and the offsets behind it."""
     parts: List[str] = []
     at = 0
-    for kind, run in groupby(pairs, lambda pair: "gap" if isinstance(pair, int) else pair.kind):
+    for kind, run in groupby(pairs, _kind):
         found = list(run)
         if kind == "gap":
             at += found[0]

@@ -24,7 +24,8 @@ class Node(NamedTuple):
 
     `kind` is `simple` (`value` is its name), `token` (a Token), `var` or `mvar` (a number), `of` (the first part is a
     generic type, the others are its arguments), `pointer`, `byref`, `vector`, `pinned` (one part), `array` (one part;
-    its rank), `modified` (one part; the token of the modifier), `function` (a Signature)."""
+    its rank and its bounds), `modified` (one part; whether it is required, and the token of the modifier), `function`
+    (a Signature)."""
 
     kind: str
     value: Any
@@ -94,17 +95,15 @@ class Reader:
         if kind in (0x13, 0x1E):
             return Node("var" if kind == 0x13 else "mvar", self.number())
         if kind in (0x1F, 0x20):
-            return Node("modified", self.token(), (self.type(),))
+            return Node("modified", (kind == 0x1F, self.token()), (self.type(),))
         return self._long(kind)
 
     def _long(self, kind: int) -> Node:
         if kind == 0x14:
             inner = self.type()
             rank = self.number()
-            for _ in range(2):
-                for _ in range(self.number()):
-                    self.number()
-            return Node("array", rank, (inner,))
+            bounds = [[self.number() for _ in range(self.number())] for _ in range(2)]
+            return Node("array", (rank, bounds), (inner,))
         if kind == 0x15:
             self.byte()
             generic = Node("token", self.token())

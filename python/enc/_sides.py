@@ -8,7 +8,7 @@ from __future__ import annotations
 import re
 import struct
 from difflib import SequenceMatcher
-from typing import Any, Callable, Dict, Iterator, List, NamedTuple, Sequence, Tuple
+from typing import Any, Callable, Dict, Iterator, List, NamedTuple, Sequence, Set, Tuple
 
 from ._report_names import Spelled
 from ._report_text import cut, unescaped
@@ -170,7 +170,8 @@ def _made(line: str, meanings: Meanings) -> List[Line]:
     """The lines of a printed one."""
     il = _IL.match(line)
     if il:
-        return [_known_instruction(*il.groups(""), meanings)]  # type: ignore[arg-type]
+        label, word, rest = il.groups("")
+        return [_known_instruction(label, word, rest, meanings)]
     body = _BODY.match(line)
     if body:
         return _head(body, meanings)
@@ -285,6 +286,14 @@ def _matched(before: List[Line], now: List[Line]) -> List[Tuple[int, int]]:
     return found
 
 
+def _told_apart(before: Line, now: Line) -> Tuple[Line, Line]:
+    """Two lines that differ; where they would read alike with namespaces too, with what they exactly mean."""
+    if (before.text, before.full) != (now.text, now.full) or before.key == now.key or not before.token:
+        return before, now
+    exact = [cut(str(line.key[1]), MOST_OPERAND) for line in (before, now)]
+    return before._replace(full=exact[0]), now._replace(full=exact[1])
+
+
 def _block(before: List[Line], now: List[Line]) -> Iterator[Pair]:
     """Lines between equal ones: those that are similar beside each other, and the others."""
     i = j = 0
@@ -294,7 +303,7 @@ def _block(before: List[Line], now: List[Line]) -> Iterator[Pair]:
         yield from (Pair("removed", line, None) for line in before[i + both : k])
         yield from (Pair("added", None, line) for line in now[j + both : m])
         if k < len(before):
-            yield Pair("changed", before[k], now[m])
+            yield Pair("changed", *_told_apart(before[k], now[m]))
         i, j = k + 1, m + 1
 
 
@@ -324,7 +333,7 @@ def counts_of(pairs: List[Pair]) -> Counts:
 
 def near(pairs: List[Pair], around: int = 3) -> List[Any]:
     """The pairs that differ and those around them; between them how many equal ones stand there."""
-    kept = set()
+    kept: Set[int] = set()
     for i, pair in enumerate(pairs):
         if pair.kind not in ("same", "alike"):
             kept.update(range(i - around, i + around + 1))

@@ -21,7 +21,7 @@ from . import _files, _refusal_page
 from ._plot import plot_of
 from ._refused import Refused
 from ._report_chain import chain_of, said_of
-from ._report_facts import Change, Facts, gathered
+from ._report_facts import Change, Facts, gathered, shown_path
 from ._report_json import facts_of
 from ._report_names import Names
 from ._report_pack import packed
@@ -203,7 +203,7 @@ def known_of(request: Request, module: Module, title: str) -> Tuple[Known, Optio
     taken, failed = load(request, module)
     paths = [request.base, *request.deltas]
     facts, names = gathered(module, paths, Sources(request.sources), request.paths)
-    asked = _refusal_page.Asked(module, paths, str if request.paths else file_name)
+    asked = _refusal_page.Asked(module, paths, shown_path(request.paths))
     refusal = _refusal_page.of_delta(asked, taken, *failed) if failed else None
     return Known(title, len(request.deltas), taken, facts, names, refusal), failed[1] if failed else None
 
@@ -221,7 +221,7 @@ def made_of(request: Request) -> Tuple[str, Optional[Refused]]:
     try:
         module = Module(request.base)
     except Refused as refused:
-        said = _refusal_page.of_base(refused, str if request.paths else file_name)
+        said = _refusal_page.of_base(refused, shown_path(request.paths))
         return formed(request, Known(title, len(request.deltas), 0, None, None, said)), refused
     with module:
         known, failed = known_of(request, module, title)
