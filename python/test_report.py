@@ -6,7 +6,9 @@ it are shown. `./test` runs this."""
 
 import base64
 import contextlib
+import doctest
 import hashlib
+import importlib
 import io
 import json
 import os
@@ -40,6 +42,7 @@ ENC = str(ROOT / "dist" / "enc")
 PICTURES = ""
 BANK = [str(ROOT / "examples/bank" / name) for name in ("bank", "bank1", "bank2")]
 PAGES = ("worked", "bank", "refused")
+EMPTY = {"max": 8, "code": [["ret"]]}
 MSCORLIB = "/usr/lib/mono/4.5/mscorlib.dll"
 VOID = {"meta", "br", "wbr", "link", "input", "img", "hr"}
 HOSTILE = (
@@ -455,6 +458,12 @@ class Parts(Case):
         text = 'x\n  IL_0000 ldstr "caf\\xc3\\xa9 \\x22"\n  IL_0005 ldc.r8 000000000000f83f\n'
         self.assertEqual([line.text for line in self.lines(text)], ['"café ""', "1.5"])
 
+    def test_samples(self):
+        for name in ("advice", "flags", "pack", "signatures", "text"):
+            tried = doctest.testmod(importlib.import_module(f"enc._report_{name}"))
+            self.assertGreater(tried.attempted, 0, name)
+            self.assertEqual(tried.failed, 0, name)
+
     def test_sources_stay_in_their_folder(self):
         inner = Path(self.folder, "in")
         inner.mkdir()
@@ -659,6 +668,15 @@ class Points(Opened):
         self.wait()
         self.assertIn("0a000006", ask("document.getElementById('m1').innerText"))
 
+    def test_1_attributes_and_interfaces(self):
+        maker = {"do": "add", "table": "MemberRef", "cells": ["01000003", ".ctor", "200001"]}
+        kind = {"do": "add", "table": "TypeRef", "cells": ["23000001", "ObsoleteAttribute", "System"]}
+        mark = {"do": "add", "table": "CustomAttribute", "cells": ["06000001", "0a000002", "01000000"]}
+        ask, _ = self.chain([kind, maker, mark])
+        rows = self.texts("table.others tbody tr")
+        self.assertEqual(rows, ["[ObsoleteAttribute] P.Say() added generation 1 attribute"])
+        self.assertEqual(self.texts("#summary"), ["No method changed"])
+
     # 2. No false change.
 
     def chain(self, *lists):
@@ -859,6 +877,18 @@ class Points(Opened):
 
     def test_6_few_tab_stops_before_the_first_method(self):
         self.assertLess(self.opened("bank")(self.STOPS), 30)
+
+    def test_6_many_methods_in_the_table(self):
+        added = []
+        for i in range(45):
+            cells = [0, 22, f"Added{i}" + "LongNameWithoutABreak" * (i % 5), "000001"]
+            added.append({"do": "add", "table": "MethodDef", "owner": "02000002", "cells": cells, "code": EMPTY})
+        ask, _ = self.chain(added)
+        self.assertEqual(self.texts("#summary"), ["45 methods added"])
+        self.assertEqual(ask("document.querySelectorAll('table.summary tbody tr').length"), 45)
+        self.assertLess(ask(self.STOPS), 100)
+        ask = self.opened("", width=390, height=844)
+        self.assertLessEqual(ask("Math.max(document.documentElement.scrollWidth, document.body.scrollWidth)"), 390)
 
     def test_6_no_path_of_the_machine(self):
         for words, status in (((*BANK, "--source", str(ROOT / "examples/bank")), 0), ((BANK[0], BANK[2]), 1)):

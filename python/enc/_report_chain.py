@@ -68,7 +68,8 @@ def chain_of(facts: Facts, refusal: Optional[Any]) -> Any:
         if number is None:
             boxes.append(("more", f"{len(numbers) - len(shown) + 1:,} more", ["deltas"], ""))
         else:
-            boxes.append(("delta", f"{number}: {facts.heads[number].path}", said_of(facts, number), f"g{number}"))
+            place = f"g{number}" if facts.changes else ""
+            boxes.append(("delta", f"{number}: {facts.heads[number].path}", said_of(facts, number), place))
     if refusal is not None:
         lines = ["refused", f"by rule {refusal.code}"]
         boxes.append(("refused", f"{refusal.number}: {refusal.path}", lines, "refusal"))

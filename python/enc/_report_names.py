@@ -122,7 +122,10 @@ class Names:
         """A row as C# would declare it; `cells` are its columns as they are printed at a generation."""
         row = self.row(token)
         flags = int(cells["Flags"], 16) if cells and "Flags" in cells else _number(row.columns.get("Flags"))
-        makers = {"MethodDef": self._method, "Field": self._field, "Property": self._property, "TypeDef": self._type}
+        makers = {
+            "MethodDef": self._method, "Field": self._field, "Property": self._property, "TypeDef": self._type,
+            "CustomAttribute": self._attribute, "InterfaceImpl": self._interface,
+        }  # fmt: skip
         maker = makers.get(token.table)
         if maker is None:
             words = {"Event": "event"}.get(token.table, "")
@@ -180,6 +183,16 @@ class Names:
     def _type(self, row: Row, flags: int) -> Declared:
         base = self.of(row.Extends).full if row.Extends.row else ""
         return Declared(type_words(flags, base), self.of(row.token).full)
+
+    def _attribute(self, row: Row, flags: int) -> Declared:
+        """An attribute by the class of its constructor, and what it is about."""
+        maker = self.row(row.Type) if self.has(row.Type) else row
+        outer = maker.owner or maker.columns.get("Class")
+        name = self.of(outer).short if isinstance(outer, Token) else "?"
+        return Declared(f"[{name}]", self.of(row.Parent).full)
+
+    def _interface(self, row: Row, flags: int) -> Declared:
+        return Declared("", f"{self.of(row.Class).full} : {self.of(row.Interface).full}")
 
     # Tokens.
 
@@ -276,7 +289,8 @@ class Names:
         for name, count in names:
             own, given = (given[:count], given[count:]) if total == len(arguments) else ([], given)
             shown = own or ([""] * count if total != len(arguments) else [])
-            parts.append(_shown(name, way) + (f"<{', '.join(own)}>" if own else f"<{',' * (count - 1)}>" if shown else ""))
+            inner = f"<{', '.join(own)}>" if own else f"<{',' * (count - 1)}>" if shown else ""
+            parts.append(_shown(name, way) + inner)
         text = ".".join(parts) + (f"<{', '.join(given)}>" if given else "")
         text = f"{_shown(space, way)}.{text}" if space and way != SHORT else text
         return f"[{self._scope_name(token)}]{text}" if way == EXACT else text

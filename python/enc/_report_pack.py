@@ -149,7 +149,8 @@ class Packing:
     def _bounded(self, change: Change, most: int) -> Any:
         """A method with its body: all of it, where that is too long what differs, None where that is too."""
         marks = len(self._texts.values), len(self._lines.values)
-        for pairs in (change.pairs, _sides.near(change.pairs)):
+        for shorten in (list, _sides.near):
+            pairs = shorten(change.pairs)
             before = self._texts.length + self._lines.length
             made = self._change(change, pairs)
             length = len(json.dumps(made))
