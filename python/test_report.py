@@ -819,6 +819,13 @@ class Points(Opened):
         self.opened("")
         self.assertRegex(self.texts("#expected dd")[0], "^Mvid [0-9a-f-]{36}$")
 
+    def test_5_a_refused_base(self):
+        self.made(str(ROOT / "examples/k1.meta"), status=1)
+        self.opened("")
+        self.assertEqual(self.texts("#expected dd"), ["one row of Module, and whole tables"])
+        self.pressed("n")
+        self.assertEqual(self.browser.complaints, [])
+
     def test_5_a_base_without_deltas(self):
         self.made(BANK[0])
         self.opened("")

@@ -23,7 +23,7 @@ MOST_ROWS = 6000
 MOST_GENERATIONS = 400
 # How long a method's source may be that is compared, and of how many methods the bytes of code are shown.
 MOST_SOURCE = 400
-MOST_CODES = 1000
+MOST_CODES = 3000
 
 METHOD = 0x06
 REFERENCES = ("TypeRef", "MemberRef", "TypeSpec", "MethodSpec", "StandAloneSig", "AssemblyRef", "ModuleRef")

@@ -8,7 +8,7 @@ from __future__ import annotations
 import base64
 import json
 from itertools import groupby
-from typing import Any, Dict, List, NamedTuple, Optional, Sequence
+from typing import Any, Callable, Dict, List, NamedTuple, Optional, Sequence
 
 from . import _sides
 from ._report_facts import MOST_CODES, Change, Facts, Group, Source
@@ -149,7 +149,8 @@ class Packing:
     def _bounded(self, change: Change, most: int) -> Any:
         """A method with its body: all of it, where that is too long what differs, None where that is too."""
         marks = len(self._texts.values), len(self._lines.values)
-        for shorten in (list, _sides.near):
+        ways: List[Callable[[List[Pair]], List[Any]]] = [list, _sides.near]
+        for shorten in ways:
             pairs = shorten(change.pairs)
             before = self._texts.length + self._lines.length
             made = self._change(change, pairs)
