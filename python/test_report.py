@@ -1019,6 +1019,18 @@ class Large(Opened):
             found.append({**method, "code": cls.body(chance, number)})
         return found
 
+    def spent(self):
+        """How many seconds the thread of pages has worked, however busy the machine is."""
+        metrics = self.browser.call("Performance.getMetrics")["metrics"]
+        return next(one["value"] for one in metrics if one["name"] == "TaskDuration")
+
+    def timed(self):
+        """What asks the page, and how many seconds of its own it takes to open."""
+        self.browser.call("Performance.enable", timeDomain="threadTicks")
+        self.browser.open("about:blank")
+        before = self.spent()
+        return self.opened(""), self.spent() - before
+
     def test_4_all_bodies_within_the_limits(self):
         text = Path(self.large).read_text(encoding="utf-8")
         self.assertLessEqual(len(text.encode()), 5_000_000)
@@ -1026,13 +1038,10 @@ class Large(Opened):
         self.assertEqual(len(read.data["changes"]), 2880)
         self.assertTrue(all("p" in change for change in read.data["changes"]))
         self.page = self.large
-        loads = []
-        for _ in range(3):
-            ask = self.opened("")
-            loads.append(ask("performance.getEntriesByType('navigation')[0].loadEventEnd"))
-            if loads[-1] < 1000:
-                break
-        self.assertLess(min(loads), 1000)
+        ask, own = self.timed()
+        self.assertLess(own, 1)
+        if os.getloadavg()[0] < 2:
+            self.assertLess(ask("performance.getEntriesByType('navigation')[0].loadEventEnd"), 1000)
         self.assertLess(ask("document.querySelectorAll('*').length"), 20_000)
         self.assertLess(ask(Points.STOPS), 100)
 
