@@ -4,18 +4,17 @@
 // The library answers what it is proved to answer (docs/library.md). This file isn't proved: it passes numbers and
 // bytes on, and makes exceptions of statuses. Its structs are those of library/enc.h, which a test compares.
 //
-// Who may call when. The library asks for one call at a time on a handle, so each call takes a lock. It isn't proved
-// for another thread than the one that opened the handle, so a call from another one throws, unless AnyThread is set.
-// The finalizer runs on a thread of its own: it doesn't close a handle but leaves it to the thread that opened it,
-// which closes it when it opens the next one. Dispose closes at once.
+// Who may call when. The library asks for one call at a time on a handle: each member takes the handle's lock, so any
+// thread may call, and what one member tells is of one generation. It isn't proved that a handle may go from thread to
+// thread; docs/csharp.md says what speaks for it. The finalizer, on its own thread, closes what nobody disposed.
 #pragma warning disable 0649 // fields that only the library assigns
 #pragma warning disable 8600, 8601, 8602, 8603, 8604, 8618, 8625 // C# 7 has no references that can't be null
 using System;
 using System.Collections.Generic;
+using System.Diagnostics;
 using System.IO;
 using System.Runtime.InteropServices;
 using System.Text;
-using System.Threading;
 
 namespace Enc
 {
@@ -115,14 +114,14 @@ namespace Enc
             Status = status;
         }
 
-        // The exception of a status that isn't Done and isn't Refused.
-        internal static Exception Of(uint status)
+        // The exception of a status that isn't Done and isn't Refused, of what was asked for.
+        internal static Exception Of(uint status, About about = default(About))
         {
             switch ((EncStatus)status)
             {
                 case EncStatus.Memory: return new OutOfMemoryException();
                 case EncStatus.Closed: return new ObjectDisposedException("Enc");
-                default: return new EncException((EncStatus)status, Said((EncStatus)status));
+                default: return new EncException((EncStatus)status, about + Said((EncStatus)status));
             }
         }
 
@@ -139,6 +138,28 @@ namespace Enc
                 default: return "the library answers " + (uint)status;
             }
         }
+    }
+
+    // What was asked for: a row, a column of one, a generation, a task; in front of what is said of it.
+    struct About
+    {
+        readonly string form;
+        readonly uint number;
+        readonly int column;
+
+        About(string form, uint number, int column = 0)
+        {
+            this.form = form;
+            this.number = number;
+            this.column = column;
+        }
+
+        internal static About Row(uint token) => new About("{0:x8}: ", token);
+        internal static About Cell(uint token, int column) => new About("column {1} of {0:x8}: ", token, column);
+        internal static About Generation(uint number) => new About("generation {0}: ", number);
+        internal static About Task(uint number) => new About("task {0}: ", number);
+
+        public override string ToString() => form == null ? "" : string.Format(form, number, column);
     }
 
     /// <summary>Files that break a rule: which, where, and what the rule says.</summary>
@@ -164,6 +185,7 @@ namespace Enc
     }
 
     /// <summary>The first rule that files break, and the first place where they do.</summary>
+    [DebuggerDisplay("{ToString(),nq}: {Words,nq}")]
     public sealed class EncRefusal
     {
         readonly Native.Refusal numbers;
@@ -214,7 +236,8 @@ namespace Enc
     }
 
     /// <summary>Where a row or an entry of a heap stands.</summary>
-    public struct EncPlace
+    [DebuggerDisplay("{ToString(),nq}")]
+    public struct EncPlace : IEquatable<EncPlace>
     {
         /// <summary>The generation, 0 for the base.</summary>
         public uint Generation;
@@ -226,10 +249,22 @@ namespace Enc
         {
             return Generation + "." + Position;
         }
+
+        (uint, uint) Key => (Generation, Position);
+
+        /// <summary>Whether all of it is equal.</summary>
+        public bool Equals(EncPlace other) => Key.Equals(other.Key);
+
+        /// <summary>Whether the other is one too, and all of it is equal.</summary>
+        public override bool Equals(object other) => other is EncPlace && Equals((EncPlace)other);
+
+        /// <summary>Equal where all of it is equal.</summary>
+        public override int GetHashCode() => Key.GetHashCode();
     }
 
     /// <summary>A sequence point of a method.</summary>
-    public struct EncPoint
+    [DebuggerDisplay("{ToString(),nq}")]
+    public struct EncPoint : IEquatable<EncPoint>
     {
         /// <summary>The offset in the code.</summary>
         public uint Offset;
@@ -245,6 +280,22 @@ namespace Enc
         public uint EndLine;
         /// <summary>The column behind its end.</summary>
         public uint EndColumn;
+
+        (uint, string, bool, (uint, uint, uint, uint)) Key =>
+            (Offset, Document, IsHidden, (StartLine, StartColumn, EndLine, EndColumn));
+
+        /// <summary>Whether all of it is equal.</summary>
+        public bool Equals(EncPoint other) => Key.Equals(other.Key);
+
+        /// <summary>Whether the other is one too, and all of it is equal.</summary>
+        public override bool Equals(object other) => other is EncPoint && Equals((EncPoint)other);
+
+        /// <summary>Equal where all of it is equal.</summary>
+        public override int GetHashCode() => Key.GetHashCode();
+
+        /// <summary>As the program enc prints it: IL_0001 hidden, or IL_0001 "Bank.cs" 9:5-9:20.</summary>
+        public override string ToString() => IsHidden ? $"IL_{Offset:x4} hidden"
+            : $"IL_{Offset:x4} \"{Document}\" {StartLine}:{StartColumn}-{EndLine}:{EndColumn}";
     }
 
     /// <summary>What an exception clause takes.</summary>
@@ -261,7 +312,8 @@ namespace Enc
     }
 
     /// <summary>An exception clause. Its ranges go from the first offset to one past the last byte.</summary>
-    public struct EncClause
+    [DebuggerDisplay("{ToString(),nq}")]
+    public struct EncClause : IEquatable<EncClause>
     {
         /// <summary>What it takes.</summary>
         public EncClauseKind Kind;
@@ -275,6 +327,23 @@ namespace Enc
         public uint HandlerEnd;
         /// <summary>The token of the class, or the offset of the filter; 0 of the others.</summary>
         public uint Extra;
+
+        (EncClauseKind, uint, uint, uint, uint, uint) Key => (Kind, TryBegin, TryEnd, HandlerBegin, HandlerEnd, Extra);
+
+        /// <summary>Whether all of it is equal.</summary>
+        public bool Equals(EncClause other) => Key.Equals(other.Key);
+
+        /// <summary>Whether the other is one too, and all of it is equal.</summary>
+        public override bool Equals(object other) => other is EncClause && Equals((EncClause)other);
+
+        /// <summary>Equal where all of it is equal.</summary>
+        public override int GetHashCode() => Key.GetHashCode();
+
+        /// <summary>Its kind, its ranges, and what it catches: catch IL_0001-IL_000c
+        /// IL_000c-IL_0014 01000005.</summary>
+        public override string ToString() => $"{Kind.ToString().ToLowerInvariant()} IL_{TryBegin:x4}-IL_{TryEnd:x4} "
+            + $"IL_{HandlerBegin:x4}-IL_{HandlerEnd:x4}"
+            + (Kind == EncClauseKind.Catch ? $" {Extra:x8}" : Kind == EncClauseKind.Filter ? $" IL_{Extra:x4}" : "");
     }
 
     /// <summary>The body of a method.</summary>
@@ -293,7 +362,8 @@ namespace Enc
     }
 
     /// <summary>A token of a generation's EncMap.</summary>
-    public struct EncEntry
+    [DebuggerDisplay("{ToString(),nq}")]
+    public struct EncEntry : IEquatable<EncEntry>
     {
         /// <summary>The token.</summary>
         public uint Token;
@@ -301,10 +371,25 @@ namespace Enc
 
         /// <summary>Whether the generation inserts the row; else it updates it.</summary>
         public bool IsInserted => inserted != 0;
+
+        (uint, uint) Key => (Token, inserted);
+
+        /// <summary>Whether all of it is equal.</summary>
+        public bool Equals(EncEntry other) => Key.Equals(other.Key);
+
+        /// <summary>Whether the other is one too, and all of it is equal.</summary>
+        public override bool Equals(object other) => other is EncEntry && Equals((EncEntry)other);
+
+        /// <summary>Equal where all of it is equal.</summary>
+        public override int GetHashCode() => Key.GetHashCode();
+
+        /// <summary>As enc list prints it: 06000003 update.</summary>
+        public override string ToString() => $"{Token:x8} {(IsInserted ? "insert" : "update")}";
     }
 
     /// <summary>How long a generation's own heaps are.</summary>
-    public struct EncLengths
+    [DebuggerDisplay("{ToString(),nq}")]
+    public struct EncLengths : IEquatable<EncLengths>
     {
         /// <summary>Bytes of #Strings.</summary>
         public uint Strings;
@@ -314,10 +399,25 @@ namespace Enc
         public uint Blobs;
         /// <summary>Whole entries of #GUID.</summary>
         public uint Guids;
+
+        (uint, uint, uint, uint) Key => (Strings, Users, Blobs, Guids);
+
+        /// <summary>Whether all of it is equal.</summary>
+        public bool Equals(EncLengths other) => Key.Equals(other.Key);
+
+        /// <summary>Whether the other is one too, and all of it is equal.</summary>
+        public override bool Equals(object other) => other is EncLengths && Equals((EncLengths)other);
+
+        /// <summary>Equal where all of it is equal.</summary>
+        public override int GetHashCode() => Key.GetHashCode();
+
+        /// <summary>As enc list prints it: strings 64 users 40 blobs 32 guids 3.</summary>
+        public override string ToString() => $"strings {Strings} users {Users} blobs {Blobs} guids {Guids}";
     }
 
     /// <summary>A pair of offsets of a remap, or of tokens that Compact moved.</summary>
-    public struct EncPair
+    [DebuggerDisplay("{ToString(),nq}")]
+    public struct EncPair : IEquatable<EncPair>
     {
         /// <summary>Where it was.</summary>
         public uint From;
@@ -330,6 +430,20 @@ namespace Enc
             From = from;
             To = to;
         }
+
+        (uint, uint) Key => (From, To);
+
+        /// <summary>Whether all of it is equal.</summary>
+        public bool Equals(EncPair other) => Key.Equals(other.Key);
+
+        /// <summary>Whether the other is one too, and all of it is equal.</summary>
+        public override bool Equals(object other) => other is EncPair && Equals((EncPair)other);
+
+        /// <summary>Equal where all of it is equal.</summary>
+        public override int GetHashCode() => Key.GetHashCode();
+
+        /// <summary>Both, as eight digits: 06000003 06000005.</summary>
+        public override string ToString() => $"{From:x8} {To:x8}";
     }
 
     /// <summary>The three files of a delta.</summary>
@@ -401,47 +515,45 @@ namespace Enc
         // Where the library keeps its pointer.
         internal ref IntPtr Ptr => ref keeper.Ptr;
 
-        /// <summary>Whether threads other than the one that opened it may call, one at a time. It begins as false,
-        /// and such a call throws InvalidOperationException: the library isn't proved for it, only tried.</summary>
-        public bool AnyThread
-        {
-            get => keeper.AnyThread;
-            set => keeper.AnyThread = value;
-        }
-
-        /// <summary>Frees what it held; every later call throws ObjectDisposedException. On another thread than the
-        /// one that opened it, it is freed when that thread opens the next one.</summary>
+        /// <summary>Frees what it held, behind a call that runs; every later call throws ObjectDisposedException.
+        /// </summary>
         public void Dispose()
         {
             keeper.Dispose();
         }
 
         // Asks, and throws unless it is done.
-        internal void Must(Func<uint> ask)
+        internal void Must(Func<uint> ask, About about = default(About))
         {
             uint status = keeper.Call(ask);
-            if (status != 0) throw EncException.Of(status);
+            if (status != 0) throw EncException.Of(status, about);
         }
 
         // Asks: false where there is no such thing.
-        internal bool Told(Func<uint> ask)
+        internal bool Told(Func<uint> ask, About about = default(About))
         {
             uint status = keeper.Call(ask);
-            if (status != 0 && status != (uint)EncStatus.Absent) throw EncException.Of(status);
+            if (status != 0 && status != (uint)EncStatus.Absent) throw EncException.Of(status, about);
             return status == 0;
         }
 
         // The items that a call copies; null where there is no such thing.
-        internal T[] Copied<T>(Func<Room<T>, uint> copy)
+        internal T[] Copied<T>(Func<Room<T>, uint> copy, About about = default(About))
         {
             var room = new Room<T>(64);
-            return Told(() => room.Asked(() => copy(room))) ? room.Taken() : null;
+            return Told(() => room.Asked(() => copy(room)), about) ? room.Taken() : null;
         }
 
         // The same of what has to be there.
-        internal T[] CopiedAll<T>(Func<Room<T>, uint> copy)
+        internal T[] CopiedAll<T>(Func<Room<T>, uint> copy, About about = default(About))
         {
-            return Copied(copy) ?? throw EncException.Of((uint)EncStatus.Absent);
+            return Copied(copy, about) ?? throw EncException.Of((uint)EncStatus.Absent, about);
+        }
+
+        // Several calls while no other thread makes one.
+        internal T Together<T>(Func<T> asks)
+        {
+            lock (keeper.Gate) return asks();
         }
 
         // Asks what may be refused, with rooms that are made larger where they are too short; null where it is done.
@@ -451,6 +563,14 @@ namespace Enc
             uint status = keeper.Call(() => Room.Asked(() => ask(why), rooms));
             if (status == (uint)EncStatus.Refused) return new EncRefusal(why.Numbers, asked);
             if (status != 0) throw EncException.Of(status);
+            return null;
+        }
+
+        // What was opened; nothing of what was refused.
+        internal static T Opened<T>(T made, EncRefusal refusal) where T : EncHandle
+        {
+            if (refusal == null) return made;
+            made.Dispose();
             return null;
         }
 
@@ -464,6 +584,7 @@ namespace Enc
     /// <summary>A module: a base with the deltas that follow it and their PDBs. Tokens are numbers as in IL, 0 is
     /// nil, and columns count from 0 in the order of ECMA-335 II.22. What isn't there is null or throws an
     /// EncException with status Absent, as each member says; what is of another kind throws one with Unlike.</summary>
+    [DebuggerDisplay("{ToString(),nq}")]
     public sealed class EncModule : EncHandle
     {
         const uint types = 0x02, fields = 0x04, methods = 0x06, events = 0x14, properties = 0x17, nested = 0x29;
@@ -475,22 +596,20 @@ namespace Enc
         /// <exception cref="EncRefusedException">It breaks a rule.</exception>
         public static EncModule Open(byte[] image, byte[] pdb = null)
         {
-            EncModule module = TryOpen(image, pdb, out EncRefusal refusal);
+            TryOpen(image, pdb, out EncModule module, out EncRefusal refusal);
             Accept(refusal);
             return module;
         }
 
-        /// <summary>The same; null, and the refusal, where it breaks a rule.</summary>
-        public static EncModule TryOpen(byte[] image, byte[] pdb, out EncRefusal refusal)
+        /// <summary>The same: false, no module and the refusal, where it breaks a rule.</summary>
+        public static bool TryOpen(byte[] image, byte[] pdb, out EncModule module, out EncRefusal refusal)
         {
             if (image == null) throw new ArgumentNullException(nameof(image));
-            Desk.Mine.Tidy();
-            var module = new EncModule();
-            refusal = module.Judged("", why => Native.Open(ref module.Ptr, image, Size.Of(image), pdb, Size.Of(pdb),
-                                                           ref why.Numbers));
-            if (refusal == null) return module;
-            module.Dispose();
-            return null;
+            var made = new EncModule();
+            refusal = made.Judged("", why => Native.Open(ref made.Ptr, image, Size.Of(image), pdb, Size.Of(pdb),
+                                                         ref why.Numbers));
+            module = Opened(made, refusal);
+            return refusal == null;
         }
 
         /// <summary>Reads NAME, or NAME.dll where NAME doesn't end in .dll or .exe, and the .pdb beside it where there
@@ -525,9 +644,12 @@ namespace Enc
         {
             if (delta == null) throw new ArgumentNullException(nameof(delta));
             byte[] meta = delta.Metadata, il = delta.Il, pdb = delta.Pdb;
-            refusal = Judged("", why => Native.Apply(ref Ptr, meta, Size.Of(meta), il, Size.Of(il), pdb, Size.Of(pdb),
-                                                     ref why.Numbers));
-            enclosing = null;
+            refusal = Together(() =>
+            {
+                enclosing = null;
+                return Judged("", why => Native.Apply(ref Ptr, meta, Size.Of(meta), il, Size.Of(il), pdb,
+                                                      Size.Of(pdb), ref why.Numbers));
+            });
             return refusal == null;
         }
 
@@ -605,6 +727,12 @@ namespace Enc
             }
         }
 
+        /// <summary>How many deltas it has, or that it is closed.</summary>
+        public override string ToString()
+        {
+            return keeper.IsClosed ? "EncModule, closed" : "EncModule with " + (Generations - 1) + " deltas";
+        }
+
         /// <summary>How many rows a table has.</summary>
         public uint Count(byte table)
         {
@@ -631,7 +759,7 @@ namespace Enc
         public EncPlace Locate(uint token)
         {
             var place = new EncPlace();
-            Must(() => Native.Locate(ref Ptr, token, ref place));
+            Must(() => Native.Locate(ref Ptr, token, ref place), About.Row(token));
             return place;
         }
 
@@ -647,7 +775,7 @@ namespace Enc
         public uint Number(uint token, byte column)
         {
             uint number = 0;
-            Must(() => Native.Number(ref Ptr, token, column, ref number));
+            Must(() => Native.Number(ref Ptr, token, column, ref number), About.Cell(token, column));
             return number;
         }
 
@@ -655,26 +783,29 @@ namespace Enc
         public uint Token(uint token, byte column)
         {
             uint found = 0;
-            Must(() => Native.Token(ref Ptr, token, column, ref found));
+            Must(() => Native.Token(ref Ptr, token, column, ref found), About.Cell(token, column));
             return found;
         }
 
         /// <summary>The text in a column.</summary>
         public string Text(uint token, byte column)
         {
-            return Size.Utf8(CopiedAll<byte>(b => Native.Text(ref Ptr, token, column, b.Items, b.Length, ref b.Size)));
+            return Size.Utf8(CopiedAll<byte>(b => Native.Text(ref Ptr, token, column, b.Items, b.Length, ref b.Size),
+                                             About.Cell(token, column)));
         }
 
         /// <summary>The bytes of the blob in a column.</summary>
         public byte[] Blob(uint token, byte column)
         {
-            return CopiedAll<byte>(b => Native.Blob(ref Ptr, token, column, b.Items, b.Length, ref b.Size));
+            return CopiedAll<byte>(b => Native.Blob(ref Ptr, token, column, b.Items, b.Length, ref b.Size),
+                                   About.Cell(token, column));
         }
 
         /// <summary>The GUID in a column; all zeros where it is nil.</summary>
         public Guid Guid(uint token, byte column)
         {
-            byte[] bytes = CopiedAll<byte>(b => Native.Guid(ref Ptr, token, column, b.Items, b.Length, ref b.Size));
+            byte[] bytes = CopiedAll<byte>(b => Native.Guid(ref Ptr, token, column, b.Items, b.Length, ref b.Size),
+                                           About.Cell(token, column));
             return bytes.Length == 16 ? new Guid(bytes) : System.Guid.Empty;
         }
 
@@ -682,14 +813,15 @@ namespace Enc
         public uint Owner(uint token)
         {
             uint owner = 0;
-            Must(() => Native.Owner(ref Ptr, token, ref owner));
+            Must(() => Native.Owner(ref Ptr, token, ref owner), About.Row(token));
             return owner;
         }
 
         /// <summary>The tokens that a row owns in such a table, in order of attachment.</summary>
         public uint[] Children(uint token, byte table)
         {
-            uint[] rows = CopiedAll<uint>(b => Native.Kids(ref Ptr, token, table, b.Items, b.Length, ref b.Size));
+            uint[] rows = CopiedAll<uint>(b => Native.Kids(ref Ptr, token, table, b.Items, b.Length, ref b.Size),
+                                          About.Row(token));
             return Tokens(table, rows);
         }
 
@@ -702,8 +834,14 @@ namespace Enc
         /// <summary>The newest body of a method; null where it has none.</summary>
         public EncBody Body(uint method)
         {
+            return Together(() => BodyOf(method));
+        }
+
+        EncBody BodyOf(uint method)
+        {
             var head = new Native.Head();
-            byte[] code = Copied<byte>(b => Native.Code(ref Ptr, method, b.Items, b.Length, ref b.Size, ref head));
+            byte[] code = Copied<byte>(b => Native.Code(ref Ptr, method, b.Items, b.Length, ref b.Size, ref head),
+                                       About.Row(method));
             if (code == null) return null;
             var clauses = Copied<EncClause>(b => Native.Clauses(ref Ptr, method, b.Items, b.Length, ref b.Size));
             return head.Body(code, clauses);
@@ -713,7 +851,13 @@ namespace Enc
         /// </summary>
         public EncPoint[] Points(uint method)
         {
-            var points = CopiedAll<Native.Point>(b => Native.Points(ref Ptr, method, b.Items, b.Length, ref b.Size));
+            return Together(() => PointsOf(method));
+        }
+
+        EncPoint[] PointsOf(uint method)
+        {
+            var points = CopiedAll<Native.Point>(b => Native.Points(ref Ptr, method, b.Items, b.Length, ref b.Size),
+                                                 About.Row(method));
             return Native.Point.Named(points, number =>
                 Copied<byte>(b => Native.Document(ref Ptr, method, number, b.Items, b.Length, ref b.Size)));
         }
@@ -730,20 +874,22 @@ namespace Enc
         /// <summary>The EncId of a generation, all zeros for the base.</summary>
         public Guid Id(uint generation)
         {
-            return new Guid(CopiedAll<byte>(b => Native.Id(ref Ptr, generation, b.Items, b.Length, ref b.Size)));
+            return new Guid(CopiedAll<byte>(b => Native.Id(ref Ptr, generation, b.Items, b.Length, ref b.Size),
+                                            About.Generation(generation)));
         }
 
         /// <summary>The tokens of a generation's EncMap in its order; the base has none.</summary>
         public EncEntry[] Entries(uint generation)
         {
-            return CopiedAll<EncEntry>(b => Native.Entries(ref Ptr, generation, b.Items, b.Length, ref b.Size));
+            return CopiedAll<EncEntry>(b => Native.Entries(ref Ptr, generation, b.Items, b.Length, ref b.Size),
+                                       About.Generation(generation));
         }
 
         /// <summary>How long a generation's own heaps are.</summary>
         public EncLengths Lengths(uint generation)
         {
             var lengths = new EncLengths();
-            Must(() => Native.Lengths(ref Ptr, generation, ref lengths));
+            Must(() => Native.Lengths(ref Ptr, generation, ref lengths), About.Generation(generation));
             return lengths;
         }
 
@@ -764,6 +910,11 @@ namespace Enc
         /// <summary>The tokens with a name: that of a type, as Space.Type or Space.Type/Nested (or with +), or else
         /// those of the fields, methods, properties and events Space.Type.Member, in this order.</summary>
         public uint[] FindAll(string name)
+        {
+            return Together(() => AllNamed(name));
+        }
+
+        uint[] AllNamed(string name)
         {
             uint type = FindType(name);
             if (type != 0) return new[] { type };
@@ -804,7 +955,8 @@ namespace Enc
         {
             byte[] said = Encoding.UTF8.GetBytes(name);
             return Tokens(table, CopiedAll<uint>(b => Native.FindMember(ref Ptr, owner, table, said, Size.Of(said),
-                                                                        b.Items, b.Length, ref b.Size)));
+                                                                        b.Items, b.Length, ref b.Size),
+                                          About.Row(owner)));
         }
 
         uint[] Members(uint type, string name)
@@ -824,7 +976,7 @@ namespace Enc
         /// and else its own; null where there is no such row, or it has no name.</summary>
         public string Name(uint token)
         {
-            return Has(token) ? Named(token, 100) : null;
+            return Together(() => Has(token) ? Named(token, 100) : null);
         }
 
         // A name that goes through no more scopes than a depth; of rows that lead back into themselves it ends there.
@@ -906,7 +1058,7 @@ namespace Enc
 
         internal EncGeneration(EncModule module, uint number)
         {
-            if (number >= module.Generations) throw EncException.Of((uint)EncStatus.Later);
+            if (number >= module.Generations) throw EncException.Of((uint)EncStatus.Later, About.Generation(number));
             this.module = module;
             Number = number;
         }
@@ -959,7 +1111,8 @@ namespace Enc
         public string MayRemap(uint method, uint offset, params EncPair[] map)
         {
             uint rule = 0;
-            module.Must(() => Native.MayRemap(ref module.Ptr, method, Number, offset, map, Size.Of(map), ref rule));
+            module.Must(() => Native.MayRemap(ref module.Ptr, method, Number, offset, map, Size.Of(map), ref rule),
+                        About.Row(method));
             return rule == 0 ? null : "Q" + rule;
         }
     }
@@ -976,7 +1129,8 @@ namespace Enc
     }
 
     /// <summary>How it stands with a task, and how many steps it made.</summary>
-    public struct EncStepped
+    [DebuggerDisplay("{ToString(),nq}")]
+    public struct EncStepped : IEquatable<EncStepped>
     {
         /// <summary>How many steps were made; one that trapped isn't counted.</summary>
         public uint Ran;
@@ -990,10 +1144,22 @@ namespace Enc
         {
             return State.ToString().ToLowerInvariant() + (State == EncTaskState.Trapped ? " X" + Trap : "");
         }
+
+        (uint, EncTaskState, uint) Key => (Ran, State, Trap);
+
+        /// <summary>Whether all of it is equal.</summary>
+        public bool Equals(EncStepped other) => Key.Equals(other.Key);
+
+        /// <summary>Whether the other is one too, and all of it is equal.</summary>
+        public override bool Equals(object other) => other is EncStepped && Equals((EncStepped)other);
+
+        /// <summary>Equal where all of it is equal.</summary>
+        public override int GetHashCode() => Key.GetHashCode();
     }
 
     /// <summary>What a remap came to.</summary>
-    public struct EncRemapped
+    [DebuggerDisplay("{ToString(),nq}")]
+    public struct EncRemapped : IEquatable<EncRemapped>
     {
         /// <summary>0 where the frame was moved; else the number of the rule that was broken, from 1.</summary>
         public uint Number;
@@ -1009,10 +1175,25 @@ namespace Enc
 
         /// <summary>The rule that was broken, as Q3, whose words EncRules.Words gives; null where none was.</summary>
         public string Rule => IsMoved ? null : "Q" + Number;
+
+        (uint, uint, uint, uint) Key => (Number, Method, From, To);
+
+        /// <summary>Whether all of it is equal.</summary>
+        public bool Equals(EncRemapped other) => Key.Equals(other.Key);
+
+        /// <summary>Whether the other is one too, and all of it is equal.</summary>
+        public override bool Equals(object other) => other is EncRemapped && Equals((EncRemapped)other);
+
+        /// <summary>Equal where all of it is equal.</summary>
+        public override int GetHashCode() => Key.GetHashCode();
+
+        /// <summary>The rule that was broken, or what was moved: 06000003 IL_0001 IL_000f.</summary>
+        public override string ToString() => Rule ?? $"{Method:x8} IL_{From:x4} IL_{To:x4}";
     }
 
     /// <summary>A frame of a task.</summary>
-    public struct EncFrame
+    [DebuggerDisplay("{ToString(),nq}")]
+    public struct EncFrame : IEquatable<EncFrame>
     {
         /// <summary>Its method.</summary>
         public uint Method;
@@ -1028,6 +1209,21 @@ namespace Enc
         public uint Locals;
         /// <summary>How many values on its stack.</summary>
         public uint Stack;
+
+        (uint, uint, uint, uint, uint, uint, uint) Key => (Method, Generation, Offset, Line, Arguments, Locals, Stack);
+
+        /// <summary>Whether all of it is equal.</summary>
+        public bool Equals(EncFrame other) => Key.Equals(other.Key);
+
+        /// <summary>Whether the other is one too, and all of it is equal.</summary>
+        public override bool Equals(object other) => other is EncFrame && Equals((EncFrame)other);
+
+        /// <summary>Equal where all of it is equal.</summary>
+        public override int GetHashCode() => Key.GetHashCode();
+
+        /// <summary>Its method, where it stands and its body's generation: 06000003 IL_000f line 10
+        /// generation 1.</summary>
+        public override string ToString() => $"{Method:x8} IL_{Offset:x4} line {Line} generation {Generation}";
     }
 
     /// <summary>Which values of a frame are asked for.</summary>
@@ -1055,7 +1251,8 @@ namespace Enc
     }
 
     /// <summary>A value of a frame.</summary>
-    public struct EncValue
+    [DebuggerDisplay("{ToString(),nq}")]
+    public struct EncValue : IEquatable<EncValue>
     {
         /// <summary>Its kind.</summary>
         public EncValueKind Kind;
@@ -1075,6 +1272,17 @@ namespace Enc
                 default: return "#" + Object;
             }
         }
+
+        (EncValueKind, uint, long) Key => (Kind, Object, Number);
+
+        /// <summary>Whether all of it is equal.</summary>
+        public bool Equals(EncValue other) => Key.Equals(other.Key);
+
+        /// <summary>Whether the other is one too, and all of it is equal.</summary>
+        public override bool Equals(object other) => other is EncValue && Equals((EncValue)other);
+
+        /// <summary>Equal where all of it is equal.</summary>
+        public override int GetHashCode() => Key.GetHashCode();
     }
 
     /// <summary>What happened in a session.</summary>
@@ -1099,7 +1307,8 @@ namespace Enc
     }
 
     /// <summary>Something that happened in a session.</summary>
-    public struct EncEvent
+    [DebuggerDisplay("{ToString(),nq}")]
+    public struct EncEvent : IEquatable<EncEvent>
     {
         /// <summary>Its kind, which says what the other fields have.</summary>
         public EncEventKind Kind;
@@ -1109,6 +1318,28 @@ namespace Enc
         public uint Method;
         /// <summary>The line, the generation, the rule or the trap; 0 where there is none.</summary>
         public uint Detail;
+
+        (EncEventKind, uint, uint, uint) Key => (Kind, Task, Method, Detail);
+
+        /// <summary>Whether all of it is equal.</summary>
+        public bool Equals(EncEvent other) => Key.Equals(other.Key);
+
+        /// <summary>Whether the other is one too, and all of it is equal.</summary>
+        public override bool Equals(object other) => other is EncEvent && Equals((EncEvent)other);
+
+        /// <summary>Equal where all of it is equal.</summary>
+        public override int GetHashCode() => Key.GetHashCode();
+
+        /// <summary>As a trace in a script prints it: line 1 06000003 16.</summary>
+        public override string ToString() => Name + Numbered(Task) + (Method == 0 ? "" : $" {Method:x8}") + Told;
+
+        string Name => Kind == EncEventKind.DeltaRefused ? "refused"
+            : Kind.ToString().Replace("Task", "").ToLowerInvariant();
+
+        string Told => Kind == EncEventKind.DeltaRefused ? $" {(char)(Detail >> 8)}{Detail & 0xFF}"
+            : Kind == EncEventKind.TaskTrapped ? $" X{Detail}" : Numbered(Detail);
+
+        static string Numbered(uint number) => number == 0 ? "" : " " + number;
     }
 
     /// <summary>A machine over a module: tasks make steps, and deltas are applied between them (docs/scripts.md).
@@ -1132,15 +1363,22 @@ namespace Enc
         /// <exception cref="EncRefusedException">It breaks a rule.</exception>
         public static EncSession Open(byte[] image, byte[] pdb = null, uint limit = 65536)
         {
-            if (image == null) throw new ArgumentNullException(nameof(image));
-            if (limit < 4) throw new ArgumentOutOfRangeException(nameof(limit));
-            Desk.Mine.Tidy();
-            var session = new EncSession(limit);
-            EncRefusal refusal = session.Judged("", why => Native.SessionOpen(
-                ref session.Ptr, image, Size.Of(image), pdb, Size.Of(pdb), limit, ref why.Numbers));
-            if (refusal != null) session.Dispose();
+            TryOpen(image, pdb, limit, out EncSession session, out EncRefusal refusal);
             Accept(refusal);
             return session;
+        }
+
+        /// <summary>The same: false, no session and the refusal, where it breaks a rule.</summary>
+        public static bool TryOpen(byte[] image, byte[] pdb, uint limit, out EncSession session,
+            out EncRefusal refusal)
+        {
+            if (image == null) throw new ArgumentNullException(nameof(image));
+            if (limit < 4) throw new ArgumentOutOfRangeException(nameof(limit));
+            var made = new EncSession(limit);
+            refusal = made.Judged("", why => Native.SessionOpen(ref made.Ptr, image, Size.Of(image), pdb,
+                                                                Size.Of(pdb), limit, ref why.Numbers));
+            session = Opened(made, refusal);
+            return refusal == null;
         }
 
         /// <summary>Reads NAME, or NAME.dll where NAME doesn't end in .dll or .exe, and the .pdb beside it where there
@@ -1155,7 +1393,7 @@ namespace Enc
         public uint Spawn(uint method)
         {
             uint task = 0;
-            Recorded(() => Native.Spawn(ref Ptr, method, ref task));
+            Recorded(() => Native.Spawn(ref Ptr, method, ref task), About.Row(method));
             return task;
         }
 
@@ -1167,7 +1405,7 @@ namespace Enc
             {
                 uint some = Math.Min(count, limit / 4);
                 var now = new EncStepped();
-                Recorded(() => Native.Step(ref Ptr, task, some, ref now));
+                Recorded(() => Native.Step(ref Ptr, task, some, ref now), About.Task(task));
                 now.Ran += all.Ran;
                 all = now;
                 count -= some;
@@ -1179,7 +1417,7 @@ namespace Enc
         public EncStepped Task(uint task)
         {
             var stands = new EncStepped();
-            Must(() => Native.Task(ref Ptr, task, ref stands));
+            Must(() => Native.Task(ref Ptr, task, ref stands), About.Task(task));
             stands.Ran = 0;
             return stands;
         }
@@ -1208,30 +1446,34 @@ namespace Enc
         public EncRemapped Remap(uint task, params EncPair[] map)
         {
             var remapped = new EncRemapped();
-            Must(() => Native.Remap(ref Ptr, task, map, Size.Of(map), ref remapped));
+            Must(() => Native.Remap(ref Ptr, task, map, Size.Of(map), ref remapped), About.Task(task));
             return remapped;
         }
 
         /// <summary>The frames of a task, from the outermost.</summary>
         public EncFrame[] Frames(uint task)
         {
-            return CopiedAll<EncFrame>(b => Native.Frames(ref Ptr, task, b.Items, b.Length, ref b.Size));
+            return CopiedAll<EncFrame>(b => Native.Frames(ref Ptr, task, b.Items, b.Length, ref b.Size),
+                                      About.Task(task));
         }
 
         /// <summary>Values of a frame; frames count from 0, the outermost.</summary>
         public EncValue[] Values(uint task, uint frame, EncPart part)
         {
             return CopiedAll<EncValue>(b => Native.Values(ref Ptr, task, frame, (uint)part, b.Items, b.Length,
-                                                          ref b.Size));
+                                                          ref b.Size), About.Task(task));
         }
 
         /// <summary>The events since the last call of this.</summary>
         public EncEvent[] Events()
         {
-            Must(Take);
-            EncEvent[] all = kept.ToArray();
-            kept.Clear();
-            return all;
+            return Together(() =>
+            {
+                Must(Take);
+                EncEvent[] all = kept.ToArray();
+                kept.Clear();
+                return all;
+            });
         }
 
         /// <summary>What tasks wrote since the last call of this, a line for each text: task 1 writes "..".</summary>
@@ -1246,9 +1488,9 @@ namespace Enc
             return Size.Utf8(CopiedAll<byte>(b => Native.State(ref Ptr, b.Items, b.Length, ref b.Size)));
         }
 
-        void Recorded(Func<uint> ask)
+        void Recorded(Func<uint> ask, About about)
         {
-            Must(() => WithRoom(ask));
+            Must(() => WithRoom(ask), about);
         }
 
         // Asks; where the events might pass the limit, takes them over first, and asks once more.
@@ -1276,10 +1518,8 @@ namespace Enc
     {
         internal delegate uint Closing(ref IntPtr handle);
 
-        readonly object gate = new object();
-        readonly Desk desk = Desk.Mine;
+        internal readonly object Gate = new object();
         readonly Closing close;
-        internal volatile bool AnyThread;
 
         internal Keeper(Closing close) : base(IntPtr.Zero, true)
         {
@@ -1290,14 +1530,11 @@ namespace Enc
 
         public override bool IsInvalid => handle == IntPtr.Zero;
 
-        bool IsHere => AnyThread || desk == Desk.Mine;
-
         internal uint Call(Func<uint> ask)
         {
-            lock (gate)
+            lock (Gate)
             {
                 if (IsClosed) throw EncException.Of((uint)EncStatus.Closed);
-                if (!IsHere) throw new InvalidOperationException("another thread opened it, and AnyThread isn't set");
                 return ask();
             }
         }
@@ -1305,46 +1542,12 @@ namespace Enc
         // It waits for a call that runs, which has taken the pointer out.
         protected override void Dispose(bool disposing)
         {
-            lock (gate) base.Dispose(disposing);
+            lock (Gate) base.Dispose(disposing);
         }
 
         protected override bool ReleaseHandle()
         {
-            if (IsHere) return close(ref handle) == 0;
-            desk.Leave(handle, close);
-            return true;
-        }
-    }
-
-    // What other threads, the finalizer's among them, leave for a thread to close.
-    sealed class Desk
-    {
-        [ThreadStatic] static Desk mine;
-        readonly List<KeyValuePair<IntPtr, Keeper.Closing>> left = new List<KeyValuePair<IntPtr, Keeper.Closing>>();
-
-        internal static Desk Mine => mine ?? (mine = new Desk());
-
-        internal int Left
-        {
-            get { lock (left) return left.Count; }
-        }
-
-        internal void Leave(IntPtr handle, Keeper.Closing close)
-        {
-            lock (left) left.Add(new KeyValuePair<IntPtr, Keeper.Closing>(handle, close));
-        }
-
-        internal void Tidy()
-        {
-            lock (left)
-            {
-                foreach (KeyValuePair<IntPtr, Keeper.Closing> one in left)
-                {
-                    IntPtr handle = one.Key;
-                    one.Value(ref handle);
-                }
-                left.Clear();
-            }
+            return close(ref handle) == 0;
         }
     }
 

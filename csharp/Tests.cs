@@ -14,6 +14,7 @@ using System.Runtime.InteropServices;
 using System.Text;
 using System.Text.RegularExpressions;
 using System.Threading;
+using System.Threading.Tasks;
 using Enc;
 
 static class Chains
@@ -284,6 +285,7 @@ sealed class Calls
         Own();
         LookUps();
         Handles();
+        Values();
         Where("enc_row_at", Earlier);
         Where("enc_may_remap", MayRemap);
         Where("enc_check", Checks);
@@ -298,7 +300,12 @@ sealed class Calls
     void Refusals()
     {
         EncRefusal refusal;
-        Is("no base", EncModule.TryOpen(new byte[3], null, out refusal), null);
+        Is("no base", EncModule.TryOpen(new byte[3], null, out EncModule none, out refusal), false);
+        Is("nothing is opened", none, null);
+        byte[] image = File.ReadAllBytes(folder + "bank.dll");
+        Is("a base", EncModule.TryOpen(image, null, out EncModule opened, out EncRefusal not), true);
+        Is("it is opened", opened.Generations + " " + (not == null), "1 True");
+        opened.Dispose();
         Is("its rule", refusal.ToString(), "F3 headers");
         Is("its kind", refusal.Kind, EncPlaceKind.Headers);
         Throws("no base", "Refused", () => EncModule.Open(new byte[0]));
@@ -406,22 +413,31 @@ sealed class Calls
     void Handles()
     {
         EncModule module = Bank();
-        string elsewhere = null;
-        var other = new Thread(() => elsewhere = Thrown(() => module.Count(6)));
-        other.Start();
-        other.Join();
-        Is("another thread", elsewhere, "InvalidOperationException");
-        module.AnyThread = true;
+        uint elsewhere = 0;
+        OnThread(() => elsewhere = module.Count(6));
+        Is("another thread", elsewhere, 5u);
         var counts = new uint[4];
         var threads = counts.Select((c, i) => new Thread(() => counts[i] = Often(module))).ToArray();
         foreach (Thread thread in threads) thread.Start();
         foreach (Thread thread in threads) thread.Join();
-        Is("any thread", counts.All(count => count == 1000), true);
-        module.Dispose();
-        module.Dispose();
+        Is("threads at once", counts.All(count => count == 1000), true);
+        Is("tasks", Task.WhenAll(Enumerable.Range(0, 20).Select(i => Awaited(module))).Result.Sum(n => n), 100L);
+        Is("its text", module.ToString(), "EncModule with 2 deltas");
+        OnThread(module.Dispose);
+        OnThread(module.Dispose);
         Throws("a closed one", "ObjectDisposedException", () => module.Count(6));
+        Is("its text", module.ToString(), "EncModule, closed");
+        Closing();
         for (int i = 0; i < 200; i++) EncModule.Load(folder + "bank").Dispose();
-        Left();
+        Forgotten();
+        OneGeneration();
+    }
+
+    static void OnThread(ThreadStart act)
+    {
+        var thread = new Thread(act);
+        thread.Start();
+        thread.Join();
     }
 
     static uint Often(EncModule module)
@@ -431,47 +447,131 @@ sealed class Calls
         return right;
     }
 
-    static string Thrown(Action ask)
+    // What goes on behind an await may be on another thread.
+    static async Task<long> Awaited(EncModule module)
     {
-        try { ask(); return "nothing"; }
+        long all = 0;
+        for (uint row = 1; row <= 5; row++)
+        {
+            await Task.Delay(1);
+            all += module.Has(0x06000000 | row) ? 1 : 0;
+        }
+        return all;
+    }
+
+    // One thread closes while others ask: each ends with that.
+    void Closing()
+    {
+        EncModule module = Bank();
+        var ended = new string[4];
+        var threads = ended.Select((e, i) => new Thread(() => ended[i] = Asked(module))).ToArray();
+        foreach (Thread thread in threads) thread.Start();
+        Thread.Sleep(20);
+        module.Dispose();
+        foreach (Thread thread in threads) thread.Join();
+        Is("closing while others ask", string.Join(" ", ended.Distinct()), "ObjectDisposedException");
+    }
+
+    static string Asked(EncModule module)
+    {
+        try
+        {
+            while (true)
+                if (module.Points(0x06000002).Length == 0) return "no points";
+        }
         catch (Exception e) { return e.GetType().Name; }
     }
 
-    // What nobody disposes is left to this thread, which closes it at the next one that it opens.
-    void Left()
+    static long Memory()
     {
-        int before = 0, after = -1;
-        var opener = new Thread(() =>
+        return long.Parse(File.ReadAllText("/proc/self/statm").Split(' ')[1]) * 4096;
+    }
+
+    // What nobody disposed is closed by the finalizer, also that of threads that ended.
+    void Forgotten()
+    {
+        OnThread(() => Forget(100));
+        Collect();
+        long before = Memory();
+        for (int i = 0; i < 20; i++)
         {
-            for (int i = 0; i < 20; i++) Forget();
-            for (int i = 0; i < 200 && Desk.Mine.Left == 0; i++) Collect();
-            before = Desk.Mine.Left;
-            EncModule.Load(folder + "bank").Dispose();
-            after = Desk.Mine.Left;
-        });
-        opener.Start();
-        opener.Join();
-        Is("the finalizer leaves handles to their thread", before > 0, true);
-        Is("which closes them", after, 0);
-        EncModule elsewhere = EncModule.Load(folder + "bank");
-        var disposing = new Thread(elsewhere.Dispose);
-        disposing.Start();
-        disposing.Join();
-        Is("so does Dispose elsewhere", Desk.Mine.Left, 1);
-        EncModule.Load(folder + "bank").Dispose();
-        Is("and it is closed", Desk.Mine.Left, 0);
+            OnThread(() => Forget(100));
+            Collect();
+        }
+        Is("the memory of 2,000 that were forgotten", Memory() - before < 16 << 20, true);
     }
 
     static void Collect()
     {
         GC.Collect();
         GC.WaitForPendingFinalizers();
-        Thread.Sleep(10);
     }
 
-    void Forget()
+    void Forget(int count)
     {
-        EncModule.Load(folder + "bank");
+        for (int i = 0; i < count; i++) EncModule.Load(folder + "bank");
+    }
+
+    // While another thread applies deltas, a body and its points are of one generation.
+    void OneGeneration()
+    {
+        var known = new HashSet<string>();
+        string[] names = { "bank", "bank1", "bank2" };
+        for (int count = 0; count < 3; count++)
+            using (EncModule module = Chains.Open(names.Take(count + 1).Select(name => folder + name)))
+                known.Add(Lines(module));
+        var seen = new HashSet<string>();
+        for (int i = 0; i < 20; i++)
+            using (EncModule module = EncModule.Load(folder + "bank"))
+            {
+                bool going = true;
+                var thread = new Thread(() => { while (Volatile.Read(ref going)) seen.Add(Lines(module)); });
+                thread.Start();
+                module.Apply(Delta("bank1"));
+                module.Apply(Delta("bank2"));
+                Volatile.Write(ref going, false);
+                thread.Join();
+            }
+        Is("lines of no generation", seen.Except(known).Count(), 0);
+    }
+
+    static string Lines(EncModule module)
+    {
+        return string.Join(" ", module.Points(0x06000003));
+    }
+
+    // Texts and equality of what calls answer, and messages that say of what.
+    void Values()
+    {
+        using (EncModule module = Bank())
+        {
+            var point = module.Points(0x06000003)[0];
+            Is("a point", point.ToString(), "IL_0000 \"/src/Bank.cs\" 15:5-15:6");
+            Is("an entry", module.Entries(2)[2].ToString(), "04000002 insert");
+            Is("lengths", module.Lengths(0).ToString(), "strings 234 users 20 blobs 88 guids 1");
+            Is("a pair", new EncPair(1, 0x06000003).ToString(), "00000001 06000003");
+            Is("equal points", point, module.Points(0x06000003)[0]);
+            Is("other points", point.Equals(module.Points(0x06000003)[1]), false);
+            EncPoint[] points = module.Points(0x06000003);
+            Is("points in a set", new HashSet<EncPoint>(points.Concat(module.Points(0x06000003))).Count, points.Length);
+            Is("another type", module.Locate(0x06000003).Equals(module.Lengths(0)), false);
+            Is("equal places", module.Locate(0x06000003), new EncPlace { Generation = 2, Position = 2 });
+            Says("column 1 of 06000063: there is no such row", () => module.Number(0x06000063, 1));
+            Says("column 3 of 06000002: what is asked for is of another kind", () => module.Number(0x06000002, 3));
+            Says("column 9 of 06000002: ", () => module.Text(0x06000002, 9));
+            Says("06000063: there is no such row", () => module.Locate(0x06000063));
+            Says("02000002: what is asked for is of another kind", () => module.Points(0x02000002));
+            Says("generation 3: there is no such generation", () => module.Entries(3));
+            Says("generation 7: there is no such generation", () => module.At(7));
+        }
+    }
+
+    void Says(string wanted, Action ask)
+    {
+        string told = "nothing";
+        try { ask(); }
+        catch (EncException e) { told = e.Message; }
+        Is("what an exception says", told.StartsWith(wanted) ? wanted : told, wanted);
     }
 
     void Earlier()
@@ -587,6 +687,14 @@ sealed class Calls
             EncEvent[] events = session.Events();
             Is("none is lost", events.Length > 20, true);
             Is("taken", session.Events().Length, 0);
+            Is("the first event", events[0].ToString(), "spawned 1 06000004");
+            Is("a line", events.First(one => one.Kind == EncEventKind.Line).ToString(), "line 1 06000004 22");
+            Is("the last", events.Last().ToString(), "ended 1");
+            Is("an applied one", events.First(one => one.Kind == EncEventKind.Applied).ToString(), "applied 1");
+            var none = new EncEvent { Kind = EncEventKind.DeltaRefused, Detail = 0x4502 };
+            Is("a refused one", none.ToString(), "refused E2");
+            Is("equal frames", frames[0], frames.ToArray()[0]);
+            Is("a frame", frames[0].ToString().StartsWith("06000004 IL_"), true);
             Throws("no task", "Absent", () => session.Frames(9));
             Throws("not to be spawned", "Unlike", () => session.Spawn(0x06000002));
         }

@@ -1,9 +1,11 @@
 """Builds the wheel of the package enc: it is Python and one library, so nothing but the standard library is needed.
 
-`pip install ./python` calls this by pyproject.toml. The wheel is of this platform, `py3-none-linux_x86_64`, and
-carries `libenc.so`: the one that ENC_LIBRARY names, else that in enc/, else that of dist/."""
+`pip install ./python` calls this by pyproject.toml. The wheel carries `libenc.so`: the one that ENC_LIBRARY names,
+else that in enc/, else that of dist/. It is `py3-none-manylinux2014_x86_64` where the library asks for no glibc later
+than 2.17, and else `py3-none-linux_x86_64`. What METADATA says is that of pyproject.toml, which a test compares."""
 
 import base64
+import gzip
 import hashlib
 import io
 import os
@@ -13,7 +15,28 @@ import zipfile
 from pathlib import Path
 
 HERE = Path(__file__).resolve().parent
-TAG = "py3-none-linux_x86_64"
+# The oldest glibc that manylinux2014 has (PEP 599).
+GLIBC = (2, 17)
+CLASSIFIERS = (
+    "Development Status :: 4 - Beta",
+    "Intended Audience :: Developers",
+    "License :: OSI Approved :: MIT License",
+    "Operating System :: POSIX :: Linux",
+    "Programming Language :: C#",
+    "Programming Language :: Python :: 3",
+    "Programming Language :: Python :: 3 :: Only",
+    "Programming Language :: Python :: Implementation :: CPython",
+    "Topic :: Software Development :: Debuggers",
+    "Topic :: Software Development :: Disassemblers",
+    "Typing :: Typed",
+)
+# The project has no address yet: this is the one place for it, with pyproject.toml.
+URLS = (("Homepage", "https://wazhupen.invalid/"), ("Documentation", "https://wazhupen.invalid/docs/python.md"))
+AUTHOR = ("The Wazhupen authors", "wazhupen@wazhupen.invalid")
+# What an archive of sources has beside the package.
+BESIDE = ("backend.py", "make_columns.py", "make_rules.py", "pyproject.toml", "README.md")
+TESTS = ("test.py", "test_installed.py", "test_language.py", "test_threads.py", "testing.py")
+EXAMPLES = ("*.dll", "*.meta", "*.il", "bank/*", "edits/*", "scripts/*", "python/bank.py")
 # What a wheel says of its files' date, so that two wheels of the same files are the same.
 DATE = (2026, 1, 1, 0, 0, 0)
 
@@ -32,6 +55,18 @@ def library():
     raise SystemExit("there is no libenc.so: it is in dist/ of a release, and ENC_LIBRARY may name one")
 
 
+def tag():
+    """The tag of a wheel with this library, by the versions of glibc that it asks for."""
+    asked = re.findall(rb"GLIBC_(\d+)\.(\d+)", library())
+    newest = max(tuple(map(int, version)) for version in asked)
+    return f"py3-none-{'manylinux2014' if newest <= GLIBC else 'linux'}_x86_64"
+
+
+def above(name):
+    """A file of the project that stands above this folder in a checkout, and in it in an archive of sources."""
+    return next(path for path in (HERE / name, HERE.parent / name) if path.exists())
+
+
 def sources():
     """The files of the package, by their names in a wheel."""
     data = [HERE / "enc" / "py.typed", *sorted((HERE / "enc").glob("report*.[cjh]*"))]
@@ -46,18 +81,25 @@ def metadata():
         "Name: enc",
         f"Version: {version()}",
         "Summary: .NET modules and the Edit and Continue deltas that follow them",
+        f"Author: {AUTHOR[0]}",
+        f"Author-email: {AUTHOR[1]}",
         "License: MIT",
+        "Keywords: edit-and-continue,hot-reload,metadata,pdb,debugger,profiler",
+        *(f"Project-URL: {name}, {address}" for name, address in URLS),
+        *(f"Classifier: {classifier}" for classifier in CLASSIFIERS),
         "Requires-Python: >=3.8",
         "Provides-Extra: report",
         "Requires-Dist: jinja2>=3; extra == 'report'",
+        "Description-Content-Type: text/markdown",
         "",
+        (HERE / "README.md").read_text(encoding="utf-8"),
     ]
     return "\n".join(lines).encode()
 
 
 def wheel_file():
     """The file WHEEL: it isn't pure, since it carries a library."""
-    return f"Wheel-Version: 1.0\nGenerator: enc\nRoot-Is-Purelib: false\nTag: {TAG}\n".encode()
+    return f"Wheel-Version: 1.0\nGenerator: enc\nRoot-Is-Purelib: false\nTag: {tag()}\n".encode()
 
 
 def recorded(files, name):
@@ -77,13 +119,11 @@ def put(archive, name, part):
 def wheel_of(files, folder):
     """Writes a wheel with these files, and tells its name."""
     about = f"enc-{version()}.dist-info"
-    license = HERE.parent / "LICENSE"
     files = {**files, f"{about}/METADATA": metadata(), f"{about}/WHEEL": wheel_file()}
-    if license.is_file():
-        files[f"{about}/LICENSE"] = license.read_bytes()
+    files[f"{about}/LICENSE"] = above("LICENSE").read_bytes()
     record = f"{about}/RECORD"
     files[record] = ("".join(recorded(files, name) for name in files) + f"{record},,\n").encode()
-    name = f"enc-{version()}-{TAG}.whl"
+    name = f"enc-{version()}-{tag()}.whl"
     with zipfile.ZipFile(Path(folder) / name, "w") as archive:
         for path, part in files.items():
             put(archive, path, part)
@@ -101,13 +141,17 @@ def build_editable(wheel_directory, config_settings=None, metadata_directory=Non
 
 
 def build_sdist(sdist_directory, config_settings=None):
-    """An archive of what a wheel is made of, the library with it."""
+    """An archive of what a wheel is made of, the library with it, and of the tests with the examples."""
     stem = f"enc-{version()}"
     files = {**sources(), "enc/libenc.so": library(), "PKG-INFO": metadata()}
-    for name in ("backend.py", "pyproject.toml"):
+    files["LICENSE"] = above("LICENSE").read_bytes()
+    examples = above("examples")
+    for name in BESIDE + TESTS:
         files[name] = (HERE / name).read_bytes()
+    for path in sorted(path for form in EXAMPLES for path in examples.glob(form)):
+        files[f"examples/{path.relative_to(examples)}"] = path.read_bytes()
     work = Path(sdist_directory) / f"{stem}.tar.gz"
-    with tarfile.open(work, "w:gz") as archive:
+    with gzip.GzipFile(work, "wb", mtime=0) as packed, tarfile.open(fileobj=packed, mode="w") as archive:
         for name, part in files.items():
             add(archive, f"{stem}/{name}", part)
     return work.name

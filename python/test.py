@@ -18,99 +18,25 @@ import struct
 import subprocess
 import sys
 import tempfile
-import threading
 import unittest
-import unittest.mock
 from pathlib import Path
 
-HERE = Path(__file__).resolve().parent
-ROOT = HERE.parent
-sys.path.insert(0, str(HERE))
 sys.dont_write_bytecode = True
 
-import backend  # noqa: E402
-import make_rules  # noqa: E402
+import make_rules
+import testing
+from test_installed import Archives, Installed  # noqa: F401
+from test_language import Docstrings, Missing, Types  # noqa: F401
+from test_language import Rows as ByNumber  # noqa: F401
+from test_threads import Signals, Threads  # noqa: F401
+from testing import CHAINS, HERE, ROOT, Folder, every_token, has, needs, opened, printed, program, told
 
-import enc  # noqa: E402
-from enc import _files, _library, _printed, _raw  # noqa: E402
-from enc.__main__ import main as program  # noqa: E402
-from enc.session import Session  # noqa: E402
-
-ENC = str(ROOT / "dist" / "enc")
-CHAINS = (
-    ("examples/bank/bank", ["examples/bank/bank1", "examples/bank/bank2"]),
-    ("examples/k", ["examples/k1"]),
-    ("examples/m", ["examples/d1"]),
-)
+import enc
+from enc import _files, _library, _printed, _raw
+from enc.session import Session
 
 
-def has(*calls):
-    """Whether the library has these calls."""
-    try:
-        for call in calls:
-            _library.library().call(call)
-    except AttributeError:
-        return False
-    return True
-
-
-def needs(*calls):
-    """A test of calls that an older library doesn't have."""
-
-    def guard(test):
-        def guarded(self, *arguments):
-            missing = [call for call in calls if not has(call)]
-            if missing:
-                self.skipTest(f"no {' '.join(missing)} in this library")
-            test(self, *arguments)
-
-        guarded.__name__ = test.__name__
-        return guarded
-
-    return guard
-
-
-def opened(base, deltas):
-    """A module with its deltas."""
-    module = enc.Module(base)
-    for delta in deltas:
-        module.apply(delta)
-    return module
-
-
-def told(*words):
-    """What the program enc prints."""
-    return subprocess.run([ENC, *words], capture_output=True, text=True).stdout
-
-
-def printed(*words):
-    """What `python3 -m enc` prints, and its status."""
-    out = io.StringIO()
-    with contextlib.redirect_stdout(out):
-        status = program(list(words))
-    return status, out.getvalue()
-
-
-def every_token(module):
-    """The tokens of all rows."""
-    return [token for table in enc.TABLES for token in module.tokens(table.number)]
-
-
-class Folder(unittest.TestCase):
-    """A test with a folder of its own."""
-
-    def setUp(self):
-        self.folder = tempfile.mkdtemp()
-        self.addCleanup(shutil.rmtree, self.folder)
-
-    def path(self, name):
-        return os.path.join(self.folder, name)
-
-    def copy(self, source, name):
-        shutil.copy(source, self.path(name))
-        return self.path(name)
-
-
+@unittest.skipUnless((ROOT / "crates").is_dir(), "no checkout here")
 class Header(Folder):
     """The package and what it was made from agree."""
 
@@ -459,20 +385,6 @@ class Deltas(Folder):
         with self.assertRaises(ValueError):
             module.count("MethodDef")
 
-    def test_another_thread(self):
-        module, raised = enc.Module("examples/k"), []
-
-        def ask():
-            try:
-                module.count("MethodDef")
-            except RuntimeError as error:
-                raised.append(error)
-
-        thread = threading.Thread(target=ask)
-        thread.start()
-        thread.join()
-        self.assertEqual(len(raised), 1)
-
     def test_what_owns_a_handle_is_not_copied(self):
         owners = [enc.Module("examples/k"), enc.Module("examples/k").at(0)]
         if has("enc_session_open"):
@@ -483,11 +395,6 @@ class Deltas(Folder):
         self.assertEqual((owners[0].count("MethodDef"), owners[1].count("MethodDef")), (2, 2))
         if has("enc_session_open"):
             self.assertEqual(owners[2].events(), [])
-
-    def test_a_view_keeps_its_module(self):
-        view = enc.Module("examples/k").at(0)
-        self.assertEqual(view.count("MethodDef"), 2)
-        self.assertEqual(view.name("06000001"), enc.Module("examples/k").name("06000001"))
 
     def test_a_call_that_the_library_has_not(self):
         with self.assertRaises(AttributeError):
@@ -776,45 +683,11 @@ class Sessions(unittest.TestCase):
                 session.spawn("06000002")
 
 
-class Installed(Folder):
-    """The wheel, and an install without a network."""
-
-    def test_without_jinja_a_local_path_is_named(self):
-        given, said = self.path("page.html"), io.StringIO()
-        with unittest.mock.patch("importlib.util.find_spec", return_value=None), contextlib.redirect_stderr(said):
-            self.assertEqual(program(["report", "examples/k", "-o", given]), 4)
-        self.assertIn("pip install './python[report]'", said.getvalue())
-        self.assertNotIn("enc[report]", said.getvalue())
-        self.assertFalse(os.path.exists(given))
-
-    def test_the_wheel(self):
-        name = backend.build_wheel(self.folder)
-        self.assertTrue(name.endswith("-py3-none-linux_x86_64.whl"))
-        with backend.zipfile.ZipFile(self.path(name)) as wheel:
-            names = wheel.namelist()
-            self.assertEqual(wheel.read("enc/libenc.so"), _files.read(_library.library_path()))
-            self.assertEqual(wheel.read("enc/py.typed"), b"")
-        modules = {f"enc/{path.name}" for path in (HERE / "enc").glob("*.py")}
-        self.assertLessEqual(modules, set(names))
-
-    def test_pip(self):
-        if subprocess.run([sys.executable, "-m", "pip", "--version"], capture_output=True).returncode:
-            self.skipTest("no pip here")
-        words = ["--no-build-isolation", "--no-index", "--no-compile", "--quiet", "--target", self.path("to")]
-        pip = [sys.executable, "-m", "pip", "--disable-pip-version-check", "--no-input", "install", *words, str(HERE)]
-        made = subprocess.run(pip, capture_output=True, text=True)
-        self.assertEqual(made.returncode, 0, made.stderr)
-        around = {name: value for name, value in os.environ.items() if name != "ENC_LIBRARY"}
-        around["PYTHONPATH"] = self.path("to")
-        asked = "import enc; module = enc.Module('examples/k'); print(enc.__file__, module.apply('examples/k1'))"
-        got = subprocess.run([sys.executable, "-c", asked], env=around, capture_output=True, text=True)
-        self.assertEqual(got.stdout.split(), [self.path("to/enc/__init__.py"), "1"], got.stderr)
-
-
 def load_tests(loader, tests, pattern):
     """The tests, and the docstrings."""
     bank = opened(*CHAINS[0])
-    for name in ("", ".module", ".session", ".rows", ".tables", "._files", "._printed", "._refused"):
+    for path in sorted((HERE / "enc").glob("*.py")):
+        name = "" if path.stem == "__init__" else f".{path.stem}"
         module = importlib.import_module("enc" + name)
         extra = {"bank": bank} if name else {}
         tests.addTests(doctest.DocTestSuite(module, extraglobs=extra, optionflags=doctest.ELLIPSIS))
@@ -827,8 +700,7 @@ def main(words):
         return 2
     os.environ["ENC_LIBRARY"] = os.path.abspath(words[0])
     if len(words) > 1:
-        global ENC
-        ENC = os.path.abspath(words[1])
+        testing.ENC = os.path.abspath(words[1])
     os.chdir(ROOT)
     made = unittest.main(argv=["test.py", *words[2:]], exit=False, verbosity=1)
     return 0 if made.result.wasSuccessful() else 1

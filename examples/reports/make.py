@@ -1,5 +1,6 @@
 #!/usr/bin/env python3
-"""Makes the three pages of this folder again. Usage: make.py [FOLDER]; without one the pages here are written anew."""
+"""Makes the three pages of this folder again. Usage: make.py [FOLDER]; without one the pages here are written anew, and
+docs/chain.svg."""
 
 import os
 import shutil
@@ -11,7 +12,9 @@ HERE = Path(__file__).resolve().parent
 ROOT = HERE.parent.parent
 sys.path.insert(0, str(ROOT / "python"))
 
+from enc import Module  # noqa: E402
 from enc.__main__ import main  # noqa: E402
+from enc.report import chain_picture  # noqa: E402
 
 # Where the flags of `Deposit` stand in bank2.meta.
 FLAGS = 242
@@ -39,5 +42,16 @@ def make(folder):
         os.chdir(ROOT)
 
 
+def chain():
+    """The picture of the chain of `examples/bank`."""
+    paths = [str(ROOT / f"examples/bank/{name}") for name in ("bank", "bank1", "bank2")]
+    with Module(paths[0]) as module:
+        for path in paths[1:]:
+            module.apply(path)
+        return chain_picture(module, paths)
+
+
 if __name__ == "__main__":
     make(Path(sys.argv[1]).resolve() if len(sys.argv) > 1 else HERE)
+    if len(sys.argv) == 1:
+        (ROOT / "docs/chain.svg").write_text(chain())

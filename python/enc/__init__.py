@@ -21,6 +21,7 @@ In the examples of the docstrings `bank` is this module, with both deltas.
 
 from ._files import Delta
 from ._library import Limit
+from ._missing import Ambiguous, NoColumn, NoRow, NotFound
 from ._refused import Refused, RemapRefused, rule_words
 from .module import AtGeneration, Compacted, Module, Saved, View
 from .rows import Body, Clause, Entry, Lengths, Move, Place, Point, Row, Token, Value
@@ -30,6 +31,7 @@ from .tables import TABLES, Column, Table, table
 __version__ = "0.9.0"
 
 __all__ = [
+    "Ambiguous",
     "AtGeneration",
     "Body",
     "Clause",
@@ -43,6 +45,9 @@ __all__ = [
     "Limit",
     "Module",
     "Move",
+    "NoColumn",
+    "NoRow",
+    "NotFound",
     "Place",
     "Point",
     "Refused",

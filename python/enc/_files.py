@@ -42,7 +42,7 @@ class Delta(NamedTuple):
     pdb: bytes
 
     def save(self, path: Path) -> None:
-        """Saves `PATH.meta`, `PATH.il` and `PATH.pdb`."""
+        """Saves `PATH.meta`, `PATH.il` and `PATH.pdb`. Raises OSError where they can't be saved."""
         for ending, part in zip(FAMILIES[0], self):
             write(os.fspath(path) + ending, part)
 

@@ -13,6 +13,8 @@ import threading
 from pathlib import Path
 from typing import Any, Dict, Iterable, List, NoReturn, Optional, Sequence, Tuple, Type
 
+from ._missing import NotFound
+
 u8, u32, i64, size_t = ctypes.c_uint8, ctypes.c_uint32, ctypes.c_int64, ctypes.c_size_t
 
 DONE, REFUSED, MEMORY, CLOSED, OPEN, SHORT, ABSENT, UNLIKE, LATER, LIMIT, FEW = 0, 1, 3, 7, 8, 9, 10, 11, 12, 13, 14
@@ -211,7 +213,7 @@ class Library:
 
 
 def library_path() -> str:
-    """`ENC_LIBRARY`, else the library in the package, else `dist/libenc.so` of a checkout."""
+    """`ENC_LIBRARY`, else the library in the package, else `dist/libenc.so` of a checkout, else the system's."""
     named = os.environ.get("ENC_LIBRARY")
     if named:
         return named
@@ -219,8 +221,11 @@ def library_path() -> str:
     for path in (package / "libenc.so", package.parent.parent / "dist" / "libenc.so"):
         if path.is_file():
             return str(path)
-    raise OSError("there is no libenc.so in the package enc or in dist/ of a checkout, and ENC_LIBRARY names none")
+    return INSTALLED
 
+
+# The library of a system, by the name that its loader knows: that of Debian's package libenc0.
+INSTALLED = "libenc.so.0"
 
 _libraries: Dict[str, Library] = {}
 
@@ -229,7 +234,10 @@ def library() -> Library:
     """The library that is in use, loaded once."""
     path = library_path()
     if path not in _libraries:
-        _libraries[path] = Library(path)
+        try:
+            _libraries[path] = Library(path)
+        except OSError as error:
+            raise OSError(f"{error}: ENC_LIBRARY may name a libenc.so") from None
     return _libraries[path]
 
 
@@ -252,7 +260,7 @@ def fail(status: int, about: str) -> NoReturn:
     if status == CLOSED:
         raise ValueError(f"{about}: it is closed")
     if status in (ABSENT, LATER):
-        raise LookupError(f"{about}: there is none")
+        raise NotFound(f"{about}: there is none")
     if status == UNLIKE:
         raise ValueError(f"{about}: it isn't of that kind")
     if status == LIMIT:
@@ -263,16 +271,26 @@ def fail(status: int, about: str) -> NoReturn:
 
 
 class Buffer:
-    """A buffer that a call fills, and how many items it would take."""
+    """A buffer that a call fills, and how many items it would take; 0 until a call tells it."""
 
     def __init__(self, item: Any, length: int) -> None:
         self.item = item
         self.size = size_t()
-        self.resize(length)
+        self._make(length)
 
-    def resize(self, length: int) -> None:
+    @classmethod
+    def of(cls, item: Any) -> "Buffer":
+        """A small one: for bytes where the item is c_char."""
+        return cls(item, 256 if item is ctypes.c_char else 16)
+
+    def _make(self, length: int) -> None:
         self.length = length
         self.items = (self.item * length)()
+
+    def grow(self) -> None:
+        """Makes room for what the last call would take. Until the next one nothing is taken."""
+        length, self.size.value = self.size.value, 0
+        self._make(length)
 
     def arguments(self) -> Tuple[Any, ...]:
         return (self.items, size_t(self.length), ctypes.byref(self.size))
@@ -282,7 +300,7 @@ class Buffer:
 
     def taken(self) -> Any:
         """The items that a call wrote: bytes, or a list of numbers or structs."""
-        return self.items[: self.size.value]
+        return self.items[: 0 if self.is_short() else self.size.value]
 
 
 class Uncopied:
@@ -294,20 +312,23 @@ class Uncopied:
 
 
 class Handle(Uncopied):
-    """An open handle. It is used on the thread that opened it alone, as the library asks."""
+    """An open handle, for any thread: each call holds `lock`, so that threads take turns, as the library asks.
+
+    `with handle.lock:` holds it for several calls, which then tell one state. The thread that holds it may take it
+    again, so a signal's handler, which Python runs between two calls, may ask too."""
 
     def __init__(self, library: Library, closing: str, about: str) -> None:
         self.library = library
         self.about = about
-        self._closing = closing
+        self.lock = threading.RLock()
+        self._closing = library.call(closing)
         self._pointer = ctypes.c_void_p()
-        self._thread = threading.get_ident()
 
     def call(self, name: str, *arguments: Any) -> int:
-        """The status of a call; a RuntimeError on another thread."""
-        if threading.get_ident() != self._thread:
-            raise RuntimeError(f"{self.about} was opened on another thread, and is used there alone")
-        status: int = self.library.call(name)(ctypes.byref(self._pointer), *arguments)
+        """The status of a call."""
+        call = self.library.call(name)
+        with self.lock:
+            status: int = call(ctypes.byref(self._pointer), *arguments)
         return status
 
     def fill(self, name: str, before: Sequence[Any], buffers: Sequence[Buffer], after: Sequence[Any] = ()) -> int:
@@ -321,7 +342,7 @@ class Handle(Uncopied):
                 return status
             for buffer in buffers:
                 if buffer.is_short():
-                    buffer.resize(buffer.size.value)
+                    buffer.grow()
 
     def one(self, about: str, name: str, *arguments: Any) -> int:
         """The number that a call tells."""
@@ -341,21 +362,16 @@ class Handle(Uncopied):
 
     def copied(self, about: str, name: str, item: Any, *arguments: Any) -> Any:
         """What a call copies: bytes for an item c_char, else a list."""
-        buffer = Buffer(item, 256 if item is ctypes.c_char else 16)
+        buffer = Buffer.of(item)
         status = self.fill(name, arguments, [buffer])
         if status != DONE:
             fail(status, about)
         return buffer.taken()
 
     def close(self) -> None:
-        """Closes it; a closed one stays closed."""
-        if self._pointer.value is not None:
-            self.call(self._closing)
-
-    def drop(self) -> None:
-        """Closes it where this is its thread; for `__del__`, which any thread may run."""
-        if threading.get_ident() == self._thread:
-            self.close()
+        """Closes it, behind a call that is under way; a closed one stays closed."""
+        with self.lock:
+            self._closing(ctypes.byref(self._pointer))
 
 
 def given(parts: Iterable[Optional[bytes]]) -> List[Any]:

@@ -5,11 +5,13 @@ The library keeps nothing of a refused delta, so this is taken from its file as 
 from __future__ import annotations
 
 import re
-from typing import Any, Dict, List, NamedTuple, Optional, Tuple
+from typing import Any, Callable, Dict, List, NamedTuple, Optional, Tuple
 
 from . import _raw
 from ._printed import printed
 from ._refused import Refused
+from ._report_advice import advice
+from ._report_flags import field_words, method_words
 from .dump import Names, begins_of, function_name, raw_cell
 from .rows import Token
 from .tables import TABLES, Column
@@ -51,7 +53,8 @@ class Entry(NamedTuple):
 
 
 class Refusal(NamedTuple):
-    """A refusal: the file, the rule and its words, the place, and what stands there."""
+    """A refusal: the file, the rule and its words, the place, what is expected there and found, what to do, and what
+    stands there."""
 
     number: int
     path: str
@@ -59,6 +62,9 @@ class Refusal(NamedTuple):
     code: str
     place: str
     rule: str
+    expected: str
+    found: str
+    todo: str
     row: str
     row_name: str
     is_new: bool
@@ -68,41 +74,57 @@ class Refusal(NamedTuple):
     not_asked: int
 
 
-def _made(refused: Refused, number: int, path: str) -> Refusal:
-    return Refusal(
-        number, path, refused.file or path, refused.code, refused.place, refused.rule, "", "", False, [], [], [], 0
-    )
+class Asked(NamedTuple):
+    """What a refusal is asked about: the module with the deltas before it, the shown names of the base and all deltas,
+    and how the name of a file is shown."""
+
+    module: Any
+    paths: List[str]
+    shown: Callable[[str], str]
 
 
-def of_base(refused: Refused) -> Refusal:
+def _made(refused: Refused, number: int, path: str, shown: Callable[[str], str]) -> Refusal:
+    said = advice(refused.code)
+    head = (number, shown(path), shown(refused.file or path), refused.code, refused.place, refused.rule)
+    return Refusal(*head, said.expected, "", said.todo, "", "", False, [], [], [], 0)
+
+
+def of_base(refused: Refused, shown: Callable[[str], str]) -> Refusal:
     """The refusal of a base, or of its PDB."""
-    return _made(refused, 0, refused.file or "")
+    return _made(refused, 0, refused.file or "", shown)
 
 
-def of_delta(page: Any, taken: int, metadata: bytes, refused: Refused) -> Refusal:
+def of_delta(asked: Asked, taken: int, metadata: bytes, refused: Refused) -> Refusal:
     """The refusal of the delta that follows so many; those behind it aren't asked."""
-    made = _made(refused, taken + 1, page.paths[taken + 1])
-    made = made._replace(not_asked=len(page.paths) - taken - 2, notes=_wanted(page, refused))
+    made = _made(refused, taken + 1, asked.paths[taken + 1], asked.shown)
+    made = made._replace(not_asked=len(asked.paths) - taken - 2)
     try:
-        return _placed(page, made, _raw.raw(metadata))
+        return _compared(asked.module, _placed(asked, made, _raw.raw(metadata)))
     except ValueError as error:
         return made._replace(notes=[*made.notes, f"What stands there can't be shown: {error}."])
 
 
-def _wanted(page: Any, refused: Refused) -> List[str]:
-    """What the first rules ask for."""
-    module = page.module
+def _compared(module: Any, made: Refusal) -> Refusal:
+    """With what is expected and what is found, where that is a value."""
+    marked = [cell for cell in made.cells if cell.marked]
     last = module.generation
-    if refused.code == "E1":
-        return [f"The Mvid of the base is {module['00000001'].Mvid}."]
-    if refused.code == "E2":
-        return [f"The next Generation is {last + 1}."]
-    if refused.code == "E3":
-        return [f"The EncId of generation {last} is {module.enc_id(last)}."]
-    return []
+    wanted = {
+        "E1": str(module["00000001"].Mvid),
+        "E2": f"{last + 1:04x}, generation {last + 1:,}",
+        "E3": f"{module.enc_id(last)}, the EncId of generation {last:,}",
+    }
+    if marked and made.code in wanted:
+        cells = [cell._replace(before=wanted[made.code]) if cell.marked else cell for cell in made.cells]
+        marked = [cell for cell in cells if cell.marked]
+        made = made._replace(cells=cells)
+    if len(marked) != 1:
+        entry = "".join(f"entry {one.number}: {one.token} {one.words}" for one in made.log if one.marked)
+        return made._replace(found=entry or "".join(made.notes[-1:]))
+    expected = f"{marked[0].name} {marked[0].before}" if marked[0].before else made.expected
+    return made._replace(expected=expected, found=f"{marked[0].name} {marked[0].now}")
 
 
-def _placed(page: Any, made: Refusal, found: _raw.Raw) -> Refusal:
+def _placed(page: Asked, made: Refusal, found: _raw.Raw) -> Refusal:
     """With what stands at the place."""
     log = re.fullmatch(r"log (\d+)", made.place)
     if log:
@@ -127,7 +149,7 @@ def _table_note(found: _raw.Raw, token: Token) -> str:
     return f"Its file has {rows:,} rows of {token.table}, and {tokens:,} tokens of it in EncMap."
 
 
-def _listed_note(page: Any, found: _raw.Raw, token: Token) -> str:
+def _listed_note(page: Asked, found: _raw.Raw, token: Token) -> str:
     """How often a token is listed, and how many rows its table had."""
     maps = found.map().count(token)
     codes = [function_name(function) for other, function in found.log() if other == token]
@@ -136,7 +158,7 @@ def _listed_note(page: Any, found: _raw.Raw, token: Token) -> str:
     return f"It stands {maps:,} times in EncMap and {listed}. {token.table} had {rows:,} rows before."
 
 
-def _log(page: Any, found: _raw.Raw, number: int) -> List[Entry]:
+def _log(page: Asked, found: _raw.Raw, number: int) -> List[Entry]:
     """The entries of EncLog around one."""
     names = Names(page.module)
     entries = list(enumerate(found.log(), 1))[max(0, number - 4) : number + 3]
@@ -153,7 +175,7 @@ def _raw_row(found: _raw.Raw, token: Token) -> Optional[Tuple[int, ...]]:
     return rows[at] if at < len(rows) else None
 
 
-def _row(page: Any, made: Refusal, found: _raw.Raw, place: Tuple[Token, str]) -> Refusal:
+def _row(page: Asked, made: Refusal, found: _raw.Raw, place: Tuple[Token, str]) -> Refusal:
     """The row at the place: as the file has it, and as it was before."""
     token, column = place
     cells = _raw_row(found, token)
@@ -167,10 +189,25 @@ def _row(page: Any, made: Refusal, found: _raw.Raw, place: Tuple[Token, str]) ->
     for i, of in enumerate(TABLES[token >> 24].columns):
         if of.kind == "run" and of.name != column:
             continue
-        now = raw_cell(found, of, cells[i], begins, names).partition("=")[2] if cells else ""
-        shown.append(Cell(of.name, now, _old(of, old, names), of.name in marked))
+        now = _now(raw_cell(found, of, cells[i], begins, names).partition("=")[2], of) if cells else ""
+        was = _old(of, old, names)
+        shown.append(Cell(of.name, _with_words(token, of, now), _with_words(token, of, was), of.name in marked))
     about = {"row": str(token), "row_name": names.of(token), "notes": notes}
     return made._replace(is_new=is_new, cells=shown, **about)
+
+
+def _now(text: str, column: Column) -> str:
+    """A cell as the file has it, without where in a heap it stands if that can be read."""
+    if column.kind == "body":
+        return f"a body at {text} of the .il" if int(text, 16) else "no body"
+    return re.sub(r"^#\w+:[0-9a-f]+ (?=.)", "", text)
+
+
+def _with_words(token: Token, column: Column, digits: str) -> str:
+    """The flags of a method or a field with what they say."""
+    makers = {"MethodDef": method_words, "Field": field_words}
+    maker = makers.get(token.table) if column.name == "Flags" and digits else None
+    return f"{digits}, {maker(int(digits, 16)) or 'no words'}" if maker else digits
 
 
 def _old(column: Column, cells: Dict[str, str], names: Names) -> str:

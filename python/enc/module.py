@@ -10,12 +10,28 @@ import os
 import re
 import uuid
 from types import TracebackType
-from typing import Any, Dict, Iterable, Iterator, List, NamedTuple, Optional, Sequence, Tuple, Type, Union
+from typing import (
+    Any,
+    Dict,
+    Iterable,
+    Iterator,
+    List,
+    NamedTuple,
+    Optional,
+    Sequence,
+    Tuple,
+    Type,
+    TypeVar,
+    Union,
+    overload,
+)
 
 from . import _files, _library, _printed
 from ._files import Delta, Path, Source
 from ._library import ABSENT, DONE, REFUSED, Buffer, Handle, number, u8, u32
+from ._missing import Ambiguous, NoRow, NotFound, listed, near
 from ._refused import Refused, rule_words
+from .columns import ROWS, MethodDef, TypeDef
 from .rows import (
     Body,
     Clause,
@@ -33,6 +49,7 @@ from .rows import (
 from .tables import Column, table
 
 Which = Union[Token, Row, int, str]
+_Row = TypeVar("_Row", bound=Row)
 
 _KINDS = ("catch", "filter", "finally", "fault")
 _KIDS = {"Field": "fields", "MethodDef": "methods", "Param": "params", "Event": "events", "Property": "properties"}
@@ -77,14 +94,21 @@ class Saved(NamedTuple):
 class View(_library.Uncopied):
     """A module as it is at a generation: what both `Module` and `module.at(generation)` answer.
 
-    Tokens may be given as numbers, as eight digits, as `Token` or as the `Row` itself. A row that isn't there is a
-    LookupError, a text that is no eight digits a ValueError, and a float or another type a TypeError. As of a dict
-    whose keys are the tokens, `token in view` asks for a row, `view[token]` gives it, and iteration gives the tokens
-    of all rows."""
+    Tokens may be given as numbers, as eight digits, as `Token` or as the `Row` itself. As of a dict whose keys are the
+    tokens, `token in view` asks for a row, `view[token]` gives it, and iteration gives the tokens of all rows.
+
+    Whatever is asked for by a token raises `NoRow` where there is no such row, ValueError of a text that is no eight
+    digits, and TypeError of a float or another type. Each question raises ValueError where the module is closed, and
+    MemoryError where memory runs out."""
 
     _handle: Handle
     _at: Optional[int]
-    _nested: Optional[Dict[Token, Token]]
+    # The enclosing types of nested ones, and how many generations there were when they were looked up.
+    _nested: Tuple[int, Dict[Token, Token]] = (0, {})
+
+    def _generations(self) -> int:
+        """How many generations its rows are of."""
+        return self._handle.one("the number of generations", "enc_generations") if self._at is None else self._at + 1
 
     def _call(self, name: str) -> Tuple[str, Tuple[Any, ...]]:
         """The call of this name at this generation, and what it takes first."""
@@ -95,6 +119,8 @@ class View(_library.Uncopied):
 
         >>> bank.count("MethodDef")
         5
+
+        Raises `NotFound` where there is no such table.
         """
         name, at = self._call("enc_count")
         return self._handle.one(f"the count of {which}", name, *at, u8(table(which).number))
@@ -104,27 +130,42 @@ class View(_library.Uncopied):
 
         >>> bank.tokens("Field")
         [Token('04000001'), Token('04000002')]
+
+        Raises `NotFound` where there is no such table.
         """
         first = table(which).number << 24
         return [Token(first + row) for row in range(1, self.count(which) + 1)]
 
-    def rows(self, which: "int | str") -> Iterator[Row]:
-        """The rows of a table.
+    @overload
+    def rows(self, which: "int | str") -> Iterator[Row]: ...
+
+    @overload
+    def rows(self, which: Type[_Row]) -> Iterator[_Row]: ...
+
+    def rows(self, which: "int | str | Type[Row]") -> Iterator[Row]:
+        """The rows of a table: by its name, its number, or the class of its rows in `enc.columns`.
 
         >>> [row.Name for row in bank.rows("Field")]
         ['balance', 'deposits']
-        """
-        return (self[token] for token in self.tokens(which))
+        >>> import enc.columns
+        >>> [row.Signature.hex() for row in bank.rows(enc.columns.Field)]
+        ['0608', '0608']
 
-    def types(self) -> List[Row]:
+        Raises `NotFound` where there is no such table.
+        """
+        named = which.__name__ if isinstance(which, type) else which
+        return (self[token] for token in self.tokens(named))
+
+    def types(self) -> List[TypeDef]:
         """The rows of TypeDef.
 
         >>> [row.TypeName for row in bank.types()]
         ['<Module>', 'Account', 'Bank']
         """
-        return list(self.rows("TypeDef"))
+        with self._handle.lock:
+            return list(self.rows(TypeDef))
 
-    def methods(self) -> List[Row]:
+    def methods(self) -> List[MethodDef]:
         """The rows of MethodDef.
 
         >>> for method in bank.methods():
@@ -135,7 +176,8 @@ class View(_library.Uncopied):
         06000004 Main 0.4
         06000005 PrintDeposits 2.3
         """
-        return list(self.rows("MethodDef"))
+        with self._handle.lock:
+            return list(self.rows(MethodDef))
 
     def text(self, which: Which) -> str:
         """A row as `enc show` prints it.
@@ -143,11 +185,25 @@ class View(_library.Uncopied):
         >>> print(bank.text("04000001"), end="")
         04000001 Field Flags=0001 Name="balance" Signature=[0608] @0.1
           owner 02000002
+
+        Raises `NoRow`.
         """
         token = token_of(which)
         name, at = self._call("enc_row")
-        text: bytes = self._handle.copied(f"the row {token}", name, ctypes.c_char, *at, u32(token))
+        try:
+            text: bytes = self._handle.copied(f"the row {token}", name, ctypes.c_char, *at, u32(token))
+        except NotFound:
+            raise self._no_row(token) from None
         return text.decode("ascii")
+
+    def _no_row(self, token: Token) -> NoRow:
+        """What says that there is no row of a token."""
+        if token >> 24 >= _TABLE_COUNT:
+            return NoRow(f"there is no row {token}: tables are 00 to {_TABLE_COUNT - 1:02x}")
+        rows = self.count(token >> 24)
+        first = token >> 24 << 24
+        has = f"has {rows} rows, {Token(first + 1)} to {Token(first + rows)}" if rows > 1 else f"has {rows} row"
+        return NoRow(f"there is no row {token}: {token.table} {has if rows else 'has no rows'}")
 
     def __getitem__(self, which: Which) -> Row:
         """The row of a token.
@@ -155,14 +211,15 @@ class View(_library.Uncopied):
         >>> row = bank["06000003"]
         >>> row.table, row.Name, row.owner, row.place
         ('MethodDef', 'Print', Token('02000002'), Place(generation=2, position=2))
+
+        Raises `NoRow`.
         """
         token = token_of(which)
-        columns_of(token)
         text = self.text(token)
         return self._printed_row(token, _printed.printed(text), text)
 
     def __contains__(self, which: object) -> bool:
-        """Whether there is a row of a token."""
+        """Whether there is a row of a token. Raises ValueError of a text that is no eight digits."""
         if not isinstance(which, (int, str, Row)):
             return False
         token = token_of(which)
@@ -180,7 +237,7 @@ class View(_library.Uncopied):
         children = tuple(Token(child) for kind in row.children.values() for child in kind)
         columns = {column.name: _printed_value(column, row) for column in columns_of(token)}
         owner = Token(row.owner) if row.owner else None
-        return Row(token, Place(*row.place), columns, owner, children, lambda: text)
+        return ROWS[token >> 24](token, Place(*row.place), columns, owner, children, lambda: text)
 
     def name(self, which: Which) -> str:
         """The name of a row with its namespace, types that it is nested in (`/`) and its type. A row without a name
@@ -190,9 +247,11 @@ class View(_library.Uncopied):
         ('Account.Print', 'System.Console', 'System.Console.WriteLine')
         >>> bank.name("08000001")
         'Account.Deposit.amount'
+
+        Raises `NoRow`.
         """
-        token = token_of(which)
-        return self._name_of(self[token], 0)
+        with self._handle.lock:
+            return self._name_of(self[which], 0)
 
     def _name_of(self, row: Row, depth: int) -> str:
         """The name of a row; `depth` ends what leads back into itself."""
@@ -223,16 +282,20 @@ class View(_library.Uncopied):
         return scope if scope.table == row.table and scope.row else None
 
     def _nesting(self) -> Dict[Token, Token]:
-        """The enclosing type of each nested one, looked up once."""
-        if self._nested is None:
-            self._nested = {row.NestedClass: row.EnclosingClass for row in self.rows(_NESTED)}
-        return self._nested
+        """The enclosing type of each nested one, looked up once for each generation."""
+        generations = self._generations()
+        if self._nested[0] != generations:
+            pairs = {row.NestedClass: row.EnclosingClass for row in self.rows(_NESTED)}
+            self._nested = (generations, pairs)
+        return self._nested[1]
 
     def signature(self, which: Which) -> bytes:
         """The bytes of the signature of a field, method, property, MemberRef, StandAloneSig or TypeSpec.
 
         >>> bank.signature("06000002").hex()
         '20010108'
+
+        Raises `NoRow`, and ValueError where its table has no signatures.
         """
         row = self[which]
         for name in ("Signature", "Type", "Instantiation"):
@@ -242,8 +305,15 @@ class View(_library.Uncopied):
         raise ValueError(f"{row.table} has no signature")
 
     def has_body(self, which: Which) -> bool:
-        """Whether a method has a body."""
-        return self._code(token_of(which)) is not None
+        """Whether a method has a body. Raises `NoRow`, and ValueError where it is no method."""
+        token = token_of(which)
+        return self._code(token) is not None or self._none_of(token)
+
+    def _none_of(self, token: Token) -> bool:
+        """False where there is a row; `NoRow` where there is none."""
+        if token not in self:
+            raise self._no_row(token)
+        return False
 
     def _code(self, method: Token) -> Optional[Tuple[bytes, _library.CodeHead]]:
         name, at = self._call("enc_code")
@@ -256,19 +326,23 @@ class View(_library.Uncopied):
         return buffer.taken(), head
 
     def body(self, method: Which) -> Body:
-        """The body of a method; a LookupError where it has none.
+        """The body of a method.
 
         >>> body = bank.body("06000002")
         >>> body.stack, body.locals, body.init, len(body.code), body.clauses
         (8, None, False, 30, [])
+
+        Raises `NotFound` where it has none, `NoRow`, and ValueError where it is no method.
         """
         token = token_of(method)
-        found = self._code(token)
-        if found is None:
-            raise LookupError(f"{token} has no body")
-        code, head = found
-        local = Token(0x11 << 24 | head.locals) if head.locals else None
-        return Body(head.stack, local, head.init != 0, code, self._clauses(token))
+        with self._handle.lock:
+            found = self._code(token)
+            if found is None:
+                self._none_of(token)
+                raise NotFound(f"{token} has no body")
+            code, head = found
+            local = Token(0x11 << 24 | head.locals) if head.locals else None
+            return Body(head.stack, local, head.init != 0, code, self._clauses(token))
 
     def _clauses(self, method: Token) -> List[Clause]:
         return [clause_of(*clause) for clause in _printed.printed(self.text(method)).clauses]
@@ -278,11 +352,15 @@ class View(_library.Uncopied):
 
         >>> [(point.offset, point.document, point.start_line) for point in bank.points("06000004")][:2]
         [(0, '/src/Bank.cs', 22), (1, '/src/Bank.cs', 23)]
+
+        Raises `NoRow`, and ValueError where it is no method.
         """
         token = token_of(method)
         name, at = self._call("enc_points")
-        found = self._handle.copied(f"the points of {token}", name, _library.PointNumbers, *at, u32(token))
-        names = {point.document: self._document(token, point.document) for point in found if not point.hidden}
+        with self._handle.lock:
+            self._none_of(token)
+            found = self._handle.copied(f"the points of {token}", name, _library.PointNumbers, *at, u32(token))
+            names = {point.document: self._document(token, point.document) for point in found if not point.hidden}
         return [_point(point, names.get(point.document)) for point in found]
 
     def _document(self, method: Token, number: int) -> Optional[str]:
@@ -343,7 +421,6 @@ class AtGeneration(View):
         self._module = module
         self._handle = module._handle
         self._at = generation
-        self._nested = None
 
     @property
     def generation(self) -> int:
@@ -358,7 +435,9 @@ class Module(View):
     """A base and the deltas that follow it.
 
     `base` is a path, with `.dll` or without, or the bytes of a module. A PDB of the same name beside it is taken
-    where there is one; `pdb` is another one, and `b""` is none. A base that breaks a rule raises `Refused`.
+    where there is one; `pdb` is another one, and `b""` is none.
+
+    Raises `Refused` where it breaks a rule, OSError where a file can't be read, MemoryError.
 
     >>> with Module("examples/bank/bank") as module:
     ...     module.apply("examples/bank/bank1")
@@ -369,13 +448,12 @@ class Module(View):
     Traceback (most recent call last):
     enc._refused.Refused: F3 headers: MZ, PE\\0\\0 or the magic of PE32 or PE32+ isn't there, ...
 
-    A module is used on the thread that opened it alone."""
+    Any thread may ask it, apply to it and close it: threads take turns, and each answer is of one state."""
 
     def __init__(self, base: Source, pdb: Optional[Source] = None) -> None:
         files = _files.base_files(base, pdb)
         self._at = None
         self._handle = Handle(_library.library(), "enc_close", f"the module {files.names[0] or 'of bytes'}")
-        self._nested = None
         self._size = len(files.first) + len(files.pdb)
         refusal = _library.RefusalNumbers()
         status = self._handle.call("enc_open", *_library.given((files.first, files.pdb)), ctypes.byref(refusal))
@@ -400,7 +478,7 @@ class Module(View):
 
     def __del__(self) -> None:
         if "_handle" in self.__dict__:
-            self._handle.drop()
+            self._handle.close()
 
     def __repr__(self) -> str:
         return f"<{self._handle.about}>"
@@ -412,7 +490,7 @@ class Module(View):
     # Deltas.
 
     def apply(self, meta: "Source | Delta", il: Optional[Source] = None, pdb: Optional[Source] = None) -> int:
-        """Adds a delta, and tells its generation. A delta that breaks a rule raises `Refused`, and nothing is added.
+        """Adds a delta, and tells its generation.
 
         `apply(path)` takes the files whose names begin with the path: `.meta`, `.il` and `.pdb`, else `.dmeta`,
         `.dil` and `.dpdb` as hotreload-delta-gen names them; a path of one of them will do. The PDB may be absent.
@@ -427,15 +505,18 @@ class Module(View):
         >>> module.apply("examples/bank/bank2")
         Traceback (most recent call last):
         enc._refused.Refused: E2 00000001: its Generation isn't the next
+
+        Raises `Refused`, OSError where a file can't be read, TypeError of bytes without their IL, ValueError where the
+        module is closed, MemoryError; then nothing is added.
         """
         files = _files.delta_files(meta, il, pdb)
-        self._judge("enc_apply", files)
-        self._nested = None
-        self._size += sum(len(part) for part in files[:3])
-        return self.generation
+        with self._handle.lock:
+            self._judge("enc_apply", files)
+            self._size += sum(len(part) for part in files[:3])
+            return self.generation
 
     def check(self, meta: "Source | Delta", il: Optional[Source] = None, pdb: Optional[Source] = None) -> None:
-        """Raises `Refused` where `apply` would; adds nothing."""
+        """Raises what `apply` would, and adds nothing."""
         self._judge("enc_check", _files.delta_files(meta, il, pdb))
 
     def _judge(self, name: str, files: _files.Files) -> None:
@@ -452,7 +533,7 @@ class Module(View):
         >>> bank.generations
         3
         """
-        return self._handle.one("the number of generations", "enc_generations")
+        return self._generations()
 
     @property
     def generation(self) -> int:
@@ -460,19 +541,30 @@ class Module(View):
         return self.generations - 1
 
     def at(self, generation: int) -> AtGeneration:
-        """The module as it was at a generation, 0 for the base."""
+        """The module as it was at a generation, 0 for the base.
+
+        >>> bank.at(1).name("06000003"), bank.at(0).count("MethodDef")
+        ('Account.Print', 4)
+        >>> bank.at(3)
+        Traceback (most recent call last):
+        enc.NotFound: there is no generation 3: there are 3, from 0
+
+        Raises `NotFound` where there is no such generation."""
         self._known(generation)
         return AtGeneration(self, generation)
 
     def _known(self, generation: int) -> None:
-        if not 0 <= operator.index(generation) < self.generations:
-            raise LookupError(f"there is no generation {generation}")
+        there = self.generations
+        if not 0 <= operator.index(generation) < there:
+            raise NotFound(f"there is no generation {generation}: there are {there}, from 0")
 
     def enc_id(self, generation: int) -> uuid.UUID:
         """The EncId of a generation, nil for the base.
 
         >>> bank.enc_id(1)
         UUID('6ee46faf-d977-00c3-7d5f-707c7a6d5dfd')
+
+        Raises `NotFound` where there is no such generation.
         """
         self._known(generation)
         found: bytes = self._handle.copied(f"the EncId of {generation}", "enc_id", ctypes.c_char, u32(generation))
@@ -483,6 +575,8 @@ class Module(View):
 
         >>> bank.entries(2)[2:4]
         [Entry(token=Token('04000002'), inserted=True), Entry(token=Token('06000002'), inserted=False)]
+
+        Raises `NotFound` where there is no such generation.
         """
         self._known(generation)
         about = f"the entries of {generation}"
@@ -494,6 +588,8 @@ class Module(View):
 
         >>> bank.lengths(0)
         Lengths(strings=234, users=20, blobs=88, guids=1)
+
+        Raises `NotFound` where there is no such generation.
         """
         self._known(generation)
         found = self._handle.told(f"the heaps of {generation}", "enc_lengths", _library.HeapLengths, u32(generation))
@@ -506,9 +602,14 @@ class Module(View):
 
         >>> bank.place("06000003")
         Place(generation=2, position=2)
+
+        Raises `NoRow`.
         """
         token = token_of(which)
-        found = self._handle.told(f"the row {token}", "enc_locate", _library.PlaceNumbers, u32(token))
+        try:
+            found = self._handle.told(f"the row {token}", "enc_locate", _library.PlaceNumbers, u32(token))
+        except NotFound:
+            raise self._no_row(token) from None
         return Place(found.generation, found.position)
 
     def place_in_heap(self, heap: str, offset: int) -> Place:
@@ -517,6 +618,8 @@ class Module(View):
 
         >>> bank.place_in_heap("#Strings", 240)
         Place(generation=1, position=6)
+
+        Raises `NotFound` where it stands in none, ValueError where there is no such heap.
         """
         names = ("#Strings", "#US", "#Blob", "#GUID")
         if heap not in names:
@@ -536,20 +639,25 @@ class Module(View):
         ['Flags', 'TypeName', 'TypeNamespace', 'Extends', 'FieldList', 'MethodList']
         >>> bank["02000009"]
         Traceback (most recent call last):
-        LookupError: the row 02000009: there is none
+        enc.NoRow: there is no row 02000009: TypeDef has 3 rows, 02000001 to 02000003
+
+        Raises `NoRow`.
         """
         token = token_of(which)
-        place = self.place(token)
-        columns = {column.name: self._value(token, i, column) for i, column in enumerate(columns_of(token))}
+        with self._handle.lock:
+            place, generation = self.place(token), self.generation
+            columns = {column.name: self._value(token, i, column) for i, column in enumerate(columns_of(token))}
+            owner = self._owner(token)
         runs = [columns[column.name] for column in columns_of(token) if column.kind == "run"]
         children = tuple(child for run in runs if isinstance(run, tuple) for child in run)
-        return Row(token, place, columns, self._owner(token), children, self._text_at(token, self.generation))
+        return ROWS[token >> 24](token, place, columns, owner, children, self._text_at(token, generation))
 
     def _text_at(self, token: Token, generation: int) -> Any:
         """What prints a row as it is now, also after later deltas."""
 
         def text() -> str:
-            return (self if self.generation == generation else self.at(generation)).text(token)
+            with self._handle.lock:
+                return (self if self.generation == generation else self.at(generation)).text(token)
 
         return text
 
@@ -589,6 +697,8 @@ class Module(View):
 
         >>> bank.user_text(0x70000001)
         'balance:'
+
+        Raises `NotFound` where none begins there.
         """
         about = f"the user text {number(offset):08x}"
         units: bytes = self._handle.copied(about, "enc_user_text", ctypes.c_char, u32(offset & 0xFFFFFF))
@@ -597,7 +707,7 @@ class Module(View):
     # Names.
 
     def find(self, name: str) -> Token:
-        """The row with this name; a LookupError where none has it, or several.
+        """The row with this name.
 
         A name is that of a type (`Namespace.Type`, nested `Outer/Inner`, or `Outer+Inner`), or that of a type and a
         method, field, property or event (`Namespace.Type.Member`, `Namespace.Type..ctor`). Of types with equal names
@@ -607,14 +717,44 @@ class Module(View):
         (Token('06000003'), Token('06000001'), Token('02000002'))
         >>> bank.find("Account.Withdraw")
         Traceback (most recent call last):
-        LookupError: nothing has the name Account.Withdraw
+        enc.NotFound: nothing has the name Account.Withdraw: Account has balance, deposits, .ctor, Deposit, Print, ...
+        >>> bank.find("Account.deposit")
+        Traceback (most recent call last):
+        enc.NotFound: nothing has the name Account.deposit: did you mean Account.Deposit or Account.deposits or ...
+
+        Raises `NotFound` where none has it, `Ambiguous` where several have it.
         """
-        found = self.find_all(name)
-        if not found:
-            raise LookupError(f"nothing has the name {name}")
+        with self._handle.lock:
+            found = self.find_all(name)
+            if not found:
+                raise self._no_name(name)
         if len(found) > 1:
-            raise LookupError(f"{len(found)} rows have the name {name}: {' '.join(map(str, found))}")
+            raise Ambiguous(f"{len(found)} rows have the name {name}: {' '.join(map(str, found))}", found)
         return found[0]
+
+    def _no_name(self, name: str) -> NotFound:
+        """What says that nothing has a name: with names of the type's members that come near, or of types."""
+        words, dot = f"nothing has the name {name}", name.rstrip(".").rfind(".")
+        outer = self.find_all(name[:dot])[:1] if dot > 0 else []
+        if not outer or outer[0].table != "TypeDef":
+            return NotFound(words, near(name, self._type_names()))
+        members = [text for text in (self._own_name(child) for child in self[outer[0]].children) if text]
+        found = near(name[dot + 1 :], members)
+        if found:
+            return NotFound(words, [name[: dot + 1] + member for member in found])
+        return NotFound(f"{words}: {name[:dot]} has {listed(members)}" if members else words)
+
+    def _own_name(self, token: Token, column: str = "Name") -> str:
+        names = [one.name for one in columns_of(token)]
+        found = self._value(token, names.index(column), columns_of(token)[names.index(column)])
+        return found if isinstance(found, str) else ""
+
+    def _type_names(self) -> List[str]:
+        pairs = (
+            (self._own_name(token, "TypeNamespace"), self._own_name(token, "TypeName"))
+            for token in self.tokens("TypeDef")
+        )
+        return [f"{space}.{name}" if space else name for space, name in pairs]
 
     def find_all(self, name: str) -> List[Token]:
         """The rows with this name, such as all overloads of a method.
@@ -622,6 +762,10 @@ class Module(View):
         >>> bank.find_all("Account.balance"), bank.find_all("Account.nothing")
         ([Token('04000001')], [])
         """
+        with self._handle.lock:
+            return self._named(name)
+
+    def _named(self, name: str) -> List[Token]:
         *outer, last = re.split("[/+]", name)
         enclosing = 0
         for part in outer:
@@ -663,7 +807,7 @@ class Module(View):
     ) -> Optional[str]:
         """Whether a frame of a method that stands at an offset of its body of a generation may go on in the newest
         body, by a map of offsets: None where it may, else the rule of docs/scripts.md that it breaks (`Q3` to
-        `Q7`)."""
+        `Q7`). Raises `NotFound` where there is no such generation, or the method had no body then."""
         pairs = pairs_of(map)
         self._known(generation)
         before = (u32(token_of(method)), u32(generation), u32(number(offset)), pairs, len(pairs))
@@ -681,21 +825,23 @@ class Module(View):
         return [buffer.taken() for buffer in buffers]
 
     def saved(self) -> Saved:
-        """The one module with all edits and its PDB, as bytes; `Refused` (L4) where it would be too large."""
+        """The one module with all edits and its PDB, as bytes. Raises `Refused` (L4) where it would be too large."""
         return Saved(*self._several("enc_save", (), (ctypes.c_char,) * 2, "save"))
 
     def save(self, path: Path) -> None:
-        """Saves the one module with all edits, and its PDB, as `enc apply` does: `PATH.dll` and `PATH.pdb`."""
+        """Saves the one module with all edits, and its PDB, as `enc apply` does: `PATH.dll` and `PATH.pdb`. Raises
+        `Refused` as `saved`, and OSError where they can't be saved."""
         self._put(path, self.saved())
 
     def compacted(self) -> Compacted:
-        """The same as an ordinary module, its PDB, and the tokens that moved."""
+        """The same as an ordinary module, its PDB, and the tokens that moved. Raises `Refused` as `saved`."""
         kinds = (ctypes.c_char, ctypes.c_char, _library.MoveNumbers)
         image, pdb, moves = self._several("enc_compact", (), kinds, "compact")
         return Compacted(image, pdb, [Move(Token(move.before), Token(move.after)) for move in moves])
 
     def compact(self, path: Path) -> List[Move]:
-        """Saves the same as an ordinary module, as `enc compact` does, and tells which tokens moved."""
+        """Saves the same as an ordinary module, as `enc compact` does, and tells which tokens moved. Raises what `save`
+        does."""
         made = self.compacted()
         self._put(path, Saved(made.image, made.pdb))
         return made.moves
@@ -706,13 +852,13 @@ class Module(View):
         _files.write(path + ".pdb", made.pdb)
 
     def merge(self) -> Delta:
-        """One delta that stands for the last two; a ValueError where there are fewer, `Refused` where it can't be
-        made."""
+        """One delta that stands for the last two. Raises ValueError where there are fewer, `Refused` where it can't be
+        made, `Limit` where one of them is too long."""
         return Delta(*self._several("enc_merge", (), (ctypes.c_char,) * 3, "merge"))
 
     def write(self, edits: "str | bytes | Dict[str, Any]") -> Delta:
-        """The delta of an edit list (docs/edits.md), as JSON or as the dict that it says; `Refused` where it can't
-        be made. Nothing is added: `module.apply(module.write(edits))` does that."""
+        """The delta of an edit list (docs/edits.md), as JSON or as the dict that it says. Nothing is added:
+        `module.apply(module.write(edits))` does that. Raises `Refused` where it can't be made."""
         if not isinstance(edits, (str, bytes)):
             edits = json.dumps(edits)
         part = edits.encode("utf-8", "surrogatepass") if isinstance(edits, str) else edits

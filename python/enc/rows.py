@@ -5,17 +5,33 @@ from __future__ import annotations
 import operator
 import re
 import uuid
-from typing import Any, Callable, Dict, Iterator, List, NamedTuple, Optional, Tuple, Union
+from typing import (
+    Any,
+    Callable,
+    Dict,
+    ItemsView,
+    Iterator,
+    KeysView,
+    List,
+    NamedTuple,
+    Optional,
+    Tuple,
+    Union,
+    ValuesView,
+    overload,
+)
 
+from ._missing import NoColumn, missing
 from .tables import TABLES, table
-
 
 _DIGITS = re.compile("[0-9A-Fa-f]{8}")
 
 
 class Token(int):
     """A token: the table in the top byte, the row in the three below. It is a number, and prints as eight digits.
-    It is made of a number or of eight digits, 0 to 9 and a to f of either case: a ValueError of another text.
+    It is made of a number or of eight digits, 0 to 9 and a to f of either case.
+
+    Raises ValueError of another text and of a number of more than 32 bits, TypeError of another type.
 
     >>> token = Token("06000003")
     >>> token, token.table, token.row
@@ -131,17 +147,34 @@ Value = Union[int, str, bytes, bool, uuid.UUID, Token, Tuple[Token, ...]]
 
 
 class Row:
-    """A row of a module as it was when it was asked for: its columns by their names in ECMA-335 II.22.
+    """A row of a module as it was when it was asked for: its columns by their names in ECMA-335 II.22, or by their
+    numbers from 0.
 
-    `row.Name` and `row["Name"]` are the value in a column; iteration gives the names. A number is an int, a text a
-    str, a blob bytes, a GUID a UUID, an index a Token (00000000 is nil). A column that begins a run (`MethodList`)
-    is the tokens of the run. `RVA` of a method is whether it has a body, `RVA` of FieldRVA the bytes of the field.
+    `row.Name`, `row["Name"]` and `row[3]` are the value in a column, `row[1:3]` those of several; iteration gives the
+    names, and `keys`, `values`, `items` and `dict(row)` are as of a dict. A number is an int, a text a str, a blob
+    bytes, a GUID a UUID, an index a Token (00000000 is nil). A column that begins a run (`MethodList`) is the tokens
+    of the run. `RVA` of a method is whether it has a body, `RVA` of FieldRVA the bytes of the field. The rows of each
+    table are of a class in `enc.columns` that has the types of its columns.
 
     `token`, `table` (a name), `place`, `owner` (of a field, method, parameter, event or property) and `children` are
-    there for every row, and `text` is the row as `enc show` prints it.
+    there for every row, and `text` is the row as `enc show` prints it. A row keeps its module.
 
     Rows are equal where their tokens, columns, owners and children are; their places may differ. A row may stand in a
-    set, or be a key of a dict."""
+    set, or be a key of a dict.
+
+    >>> row = bank["06000003"]
+    >>> row.Name, row["Name"], row[3], row[-1], row[1:4]
+    ('Print', 'Print', 'Print', (), (0, 134, 'Print'))
+    >>> list(row)[:3], len(row), "Name" in row, dict(row)["Flags"]
+    (['RVA', 'ImplFlags', 'Flags'], 6, True, 134)
+    >>> row["name"]
+    Traceback (most recent call last):
+    enc.NoColumn: MethodDef has no column name: did you mean Name?
+    >>> row[6]
+    Traceback (most recent call last):
+    enc.NoColumn: MethodDef has no column 6: it has 6, from 0
+
+    `row[..]` raises `NoColumn`, `row.Nothing` AttributeError, and `text` ValueError where the module is closed."""
 
     def __init__(
         self,
@@ -165,17 +198,48 @@ class Row:
         """The row as `enc show` prints it, with its body and its sequence points."""
         return self._text()
 
-    def __getitem__(self, name: str) -> Value:
-        try:
-            return self.columns[name]
-        except KeyError:
-            raise LookupError(f"{self.table} has no column {name}") from None
+    @overload
+    def __getitem__(self, which: "int | str") -> Value: ...
+
+    @overload
+    def __getitem__(self, which: slice) -> Tuple[Value, ...]: ...
+
+    def __getitem__(self, which: "int | str | slice") -> "Value | Tuple[Value, ...]":
+        if isinstance(which, slice):
+            return tuple(self.columns.values())[which]
+        if not isinstance(which, str):
+            return self._at(operator.index(which))
+        if which not in self.columns:
+            raise NoColumn(*self._missing(which))
+        return self.columns[which]
+
+    def _at(self, which: int) -> Value:
+        if not -len(self) <= which < len(self):
+            raise NoColumn(f"{self.table} has no column {which}: it has {len(self)}, from 0")
+        return tuple(self.columns.values())[which]
+
+    def _missing(self, name: str) -> Tuple[str, List[str]]:
+        return missing(f"{self.table} has no column {name}", name, list(self.columns), "it has")
 
     def __getattr__(self, name: str) -> Any:
         columns = self.__dict__.get("columns", {})
         if name in columns:
             return columns[name]
-        raise AttributeError(f"{self.__dict__.get('table')} has no column {name}")
+        if name.startswith("_") or "columns" not in self.__dict__:
+            raise AttributeError(name)
+        raise AttributeError(str(NoColumn(*self._missing(name))))
+
+    def keys(self) -> KeysView[str]:
+        """The names of the columns."""
+        return self.columns.keys()
+
+    def values(self) -> ValuesView[Value]:
+        """The values in the columns."""
+        return self.columns.values()
+
+    def items(self) -> ItemsView[str, Value]:
+        """Names and values."""
+        return self.columns.items()
 
     def __iter__(self) -> Iterator[str]:
         return iter(self.columns)
@@ -207,5 +271,5 @@ def token_of(which: "Token | Row | int | str") -> Token:
 
 
 def columns_of(token: Token) -> Any:
-    """The columns of a token's table; a LookupError where there is no such table."""
+    """The columns of a token's table; `NotFound` where there is no such table."""
     return table(token >> 24).columns

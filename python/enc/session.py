@@ -8,7 +8,8 @@ from typing import Any, Iterable, List, NamedTuple, Optional, Tuple, Type
 
 from . import _files, _library
 from ._files import Delta, Source
-from ._library import DONE, LIMIT, REFUSED, SHORT, UNLIKE, Handle, Limit, number, u32
+from ._library import ABSENT, DONE, LIMIT, REFUSED, SHORT, UNLIKE, Buffer, Handle, Limit, number, u32
+from ._missing import NotFound
 from ._refused import RemapRefused
 from .module import Which, pairs_of, refused_of, text_of
 from .rows import Token, token_of
@@ -102,15 +103,29 @@ class Session(_library.Uncopied):
     """Tasks over a base and the deltas that are applied on the way.
 
     The base is given as to `Module`. `limit` is how many events the library keeps at a time, 4 at least; none is
-    lost, since this class takes them out whenever there are many. A session is used on the thread that opened it
-    alone."""
+    lost, since this class takes them out whenever there are many. Any thread may use a session, as a `Module`.
+
+    Raises `Refused` where the base breaks a rule, OSError where a file can't be read, ValueError of a limit that is
+    too small. What a session is asked raises ValueError where it is closed, and MemoryError where memory runs out.
+
+    >>> session = Session("examples/bank/bank")
+    >>> task = session.spawn("06000004")
+    >>> session.step(task, 1000).state, session.output()[:2]
+    ('ended', ['task 1 writes "balance:\\\\x0a"', 'task 1 writes "40\\\\x0a"'])
+    >>> session.step(2)
+    Traceback (most recent call last):
+    enc.NotFound: there is no task 2: there is 1
+    """
 
     def __init__(self, base: Source, pdb: Optional[Source] = None, limit: int = 1 << 16) -> None:
         if not _STEP_EVENTS <= limit < 1 << 32:
             raise ValueError(f"a limit of {limit} events: it is {_STEP_EVENTS} at least")
         files = _files.base_files(base, pdb)
         self._limit = limit
-        self._events: List[Event] = []
+        # What was taken out of the library. A buffer stands here before its call, so that what that takes is kept
+        # though a signal ends what Python does behind it.
+        self._events: List[Buffer] = []
+        self._lines: List[Buffer] = []
         self._handle = Handle(_library.library(), "enc_session_close", f"the session {files.names[0] or 'of bytes'}")
         refusal = _library.RefusalNumbers()
         arguments = _library.given((files.first, files.pdb))
@@ -133,7 +148,7 @@ class Session(_library.Uncopied):
 
     def __del__(self) -> None:
         if "_handle" in self.__dict__:
-            self._handle.drop()
+            self._handle.close()
 
     def __repr__(self) -> str:
         return f"<{self._handle.about}>"
@@ -144,17 +159,25 @@ class Session(_library.Uncopied):
 
     def _call(self, name: str, *arguments: Any) -> int:
         """The status of a call that adds events: where there is no room for them, they are taken out first."""
-        status = self._handle.call(name, *arguments)
-        if status == SHORT:
-            self._take_events()
+        with self._handle.lock:
             status = self._handle.call(name, *arguments)
-        return status
+            if status == SHORT:
+                self._take(self._events, "enc_events", _library.EventNumbers)
+                status = self._handle.call(name, *arguments)
+            return status
+
+    def _take(self, buffers: List[Buffer], name: str, item: Any) -> None:
+        """Takes what a call takes out of the library for good, behind what was taken before."""
+        buffers.append(Buffer.of(item))
+        status = self._handle.fill(name, (), buffers[-1:])
+        if status != DONE:
+            _library.fail(status, f"what {name} takes")
 
     # What changes it.
 
     def spawn(self, method: Which) -> int:
-        """Starts a task with a static method without parameters, and tells its number, from 1. `Limit` where there
-        are 64, a ValueError where a task can't begin with the method."""
+        """Starts a task with a static method without parameters, and tells its number, from 1. Raises `Limit` where
+        there are 64, ValueError where a task can't begin with the method, `NotFound` where there is no such row."""
         token, task = token_of(method), u32()
         status = self._call("enc_spawn", u32(token), ctypes.byref(task))
         if status == LIMIT:
@@ -166,8 +189,8 @@ class Session(_library.Uncopied):
         return task.value
 
     def step(self, task: int, count: int = 1) -> Stepped:
-        """Makes so many steps of a task, or fewer where it ends or traps. A LookupError where no task has the
-        number."""
+        """Makes so many steps of a task, or fewer where it ends or traps. Raises `NotFound` where no task has the
+        number, ValueError of a number below 0."""
         if count < 0:
             raise ValueError(f"{count} steps")
         ran = 0
@@ -181,12 +204,14 @@ class Session(_library.Uncopied):
     def _step(self, task: int, count: int) -> Stepped:
         numbers = _library.SteppedNumbers()
         status = self._call("enc_step", u32(number(task)), u32(count), ctypes.byref(numbers))
+        if status == ABSENT:
+            raise self._no_task(task)
         if status != DONE:
             _library.fail(status, f"the task {task}")
         return _stepped(numbers)
 
     def apply(self, meta: "Source | Delta", il: Optional[Source] = None, pdb: Optional[Source] = None) -> None:
-        """Applies a delta, given as to `Module.apply`. A refused one raises `Refused` and changes nothing."""
+        """Applies a delta, given as to `Module.apply`. Raises what that does; a refused one changes nothing."""
         files = _files.delta_files(meta, il, pdb)
         refusal = _library.RefusalNumbers()
         status = self._call("enc_session_apply", *_library.given(files[:3]), ctypes.byref(refusal))
@@ -194,7 +219,7 @@ class Session(_library.Uncopied):
 
     def remap(self, task: int, map: Iterable[Tuple[int, int]]) -> Remapped:
         """Lets the innermost frame of a task go on in the newest body of its method, at the offset to which the map
-        leads. `RemapRefused` where it may not, with the rule (Q1 to Q7), and then nothing changes."""
+        leads. Raises `RemapRefused` where it may not, with the rule (Q1 to Q7), and then nothing changes."""
         pairs, numbers = pairs_of(map), _library.RemappedNumbers()
         status = self._call("enc_remap", u32(number(task)), pairs, len(pairs), ctypes.byref(numbers))
         if status != DONE:
@@ -207,24 +232,45 @@ class Session(_library.Uncopied):
     # What it tells.
 
     def task(self, task: int) -> Stepped:
-        """How it stands with a task; `ran` is 0."""
-        found = self._handle.told(f"the task {task}", "enc_task", _library.SteppedNumbers, u32(number(task)))
+        """How it stands with a task; `ran` is 0. Raises `NotFound` where no task has the number."""
+        try:
+            found = self._handle.told(f"the task {task}", "enc_task", _library.SteppedNumbers, u32(number(task)))
+        except NotFound:
+            raise self._no_task(task) from None
         return _stepped(found)._replace(ran=0)
 
+    def _no_task(self, task: int) -> NotFound:
+        """What says that no task has a number."""
+        there, numbers = 0, _library.SteppedNumbers()
+        while self._handle.call("enc_task", u32(there + 1), ctypes.byref(numbers)) == DONE:
+            there += 1
+        has = {0: "there is none", 1: "there is 1"}.get(there, f"there are {there}, from 1")
+        return NotFound(f"there is no task {task}: {has}")
+
     def frames(self, task: int) -> List[Frame]:
-        """The frames of a task, from the outermost."""
-        found = self._handle.copied(f"the task {task}", "enc_frames", _library.FrameNumbers, u32(number(task)))
+        """The frames of a task, from the outermost. Raises `NotFound` where no task has the number."""
+        try:
+            found = self._handle.copied(f"the task {task}", "enc_frames", _library.FrameNumbers, u32(number(task)))
+        except NotFound:
+            raise self._no_task(task) from None
         return [
             Frame(Token(f.method), f.generation, f.offset, f.line, f.arguments, f.locals, f.stack) for f in found
         ]
 
     def values(self, task: int, frame: int, which: str) -> List[Slot]:
-        """The `arguments`, the `locals` or the `stack` (from the bottom) of a frame, counted from 0, the outermost."""
+        """The `arguments`, the `locals` or the `stack` (from the bottom) of a frame, counted from 0, the outermost.
+
+        Raises `NotFound` where there is no such task or frame, ValueError of another word."""
         if which not in PARTS:
             raise ValueError(f"a frame has {', '.join(PARTS)}, and no {which}")
         about = f"the frame {frame} of the task {task}"
         arguments = (u32(number(task)), u32(number(frame)), u32(PARTS.index(which)))
-        found = self._handle.copied(about, "enc_values", _library.ValueNumbers, *arguments)
+        with self._handle.lock:
+            try:
+                found = self._handle.copied(about, "enc_values", _library.ValueNumbers, *arguments)
+            except NotFound:
+                there = len(self.frames(task))
+                raise NotFound(f"the task {task} has no frame {frame}: it has {there}, from 0") from None
         return [_slot(value) for value in found]
 
     def state(self) -> str:
@@ -233,17 +279,19 @@ class Session(_library.Uncopied):
 
     def events(self) -> List[Event]:
         """What happened since this was asked last."""
-        self._take_events()
-        events, self._events = self._events, []
-        return events
-
-    def _take_events(self) -> None:
-        found = self._handle.copied("the events", "enc_events", _library.EventNumbers)
-        self._events += [_event(event) for event in found]
+        with self._handle.lock:
+            self._take(self._events, "enc_events", _library.EventNumbers)
+            events = [_event(event) for buffer in self._events for event in buffer.taken()]
+            self._events.clear()
+            return events
 
     def output(self) -> List[str]:
         """The lines that tasks wrote since this was asked last, such as `task 1 writes "old\\x0a"`, `task 1 ended`."""
-        return text_of(self._handle.copied("the output", "enc_output", ctypes.c_char)).splitlines()
+        with self._handle.lock:
+            self._take(self._lines, "enc_output", ctypes.c_char)
+            text = text_of(b"".join(buffer.taken() for buffer in self._lines))
+            self._lines.clear()
+            return text.splitlines()
 
 
 def _stepped(numbers: Any) -> Stepped:

@@ -4,6 +4,8 @@ from __future__ import annotations
 
 from typing import Dict, List, NamedTuple, Tuple
 
+from ._missing import NotFound, missing
+
 
 class Column(NamedTuple):
     """A column: its name, what it holds, and for an index or a run the table that it is about.
@@ -104,16 +106,21 @@ def table(which: "int | str") -> Table:
     ['Token', 'FuncCode']
     >>> table("Method")
     Traceback (most recent call last):
-    LookupError: there is no table Method
+    enc.NotFound: there is no table Method: did you mean MethodPtr or MethodDef or MethodSpec?
+    >>> table(0x2d)
+    Traceback (most recent call last):
+    enc.NotFound: there is no table 2d: they are 00 to 2c
+
+    Raises `NotFound` of another number or name, TypeError of another type.
     """
     if isinstance(which, int):
         if 0 <= which < len(TABLES):
             return TABLES[which]
-        raise LookupError(f"there is no table {which:02x}")
+        raise NotFound(f"there is no table {which:02x}: they are 00 to {len(TABLES) - 1:02x}")
     if not isinstance(which, str):
         raise TypeError(f"a table is a number or a name: {which!r}")
     if which.lower() in _BY_NAME:
         return _BY_NAME[which.lower()]
     if len(which) == 2 and all(digit in "0123456789abcdefABCDEF" for digit in which):
         return table(int(which, 16))
-    raise LookupError(f"there is no table {which}")
+    raise NotFound(*missing(f"there is no table {which}", which, [one.name for one in TABLES], "they are"))

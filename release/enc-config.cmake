@@ -1,0 +1,20 @@
+# What CMake asks for: find_package(enc) gives the targets enc::enc, the shared library, and enc::static.
+get_filename_component(_enc_lib "${CMAKE_CURRENT_LIST_DIR}/../.." ABSOLUTE)
+find_path(enc_INCLUDE_DIR enc.h HINTS "${_enc_lib}/../include" "${_enc_lib}/../../include" NO_DEFAULT_PATH)
+if(NOT enc_INCLUDE_DIR OR NOT EXISTS "${_enc_lib}/libenc.so")
+  set(enc_FOUND FALSE)
+  set(enc_NOT_FOUND_MESSAGE "enc.h or libenc.so isn't beside ${CMAKE_CURRENT_LIST_DIR}")
+  return()
+endif()
+foreach(_enc_kind shared static)
+  string(REPLACE "shared" "enc" _enc_name "${_enc_kind}")
+  if(NOT TARGET enc::${_enc_name})
+    string(TOUPPER "${_enc_kind}" _enc_upper)
+    string(REPLACE "shared" "so" _enc_end "${_enc_kind}")
+    string(REPLACE "static" "a" _enc_end "${_enc_end}")
+    add_library(enc::${_enc_name} ${_enc_upper} IMPORTED)
+    set_target_properties(enc::${_enc_name} PROPERTIES
+      IMPORTED_LOCATION "${_enc_lib}/libenc.${_enc_end}"
+      INTERFACE_INCLUDE_DIRECTORIES "${enc_INCLUDE_DIR}")
+  endif()
+endforeach()
