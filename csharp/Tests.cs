@@ -327,7 +327,8 @@ sealed class Calls
             module.Apply(next.Metadata, next.Il, next.Pdb);
             Is("generations", module.Generations, 3u);
         }
-        Is("words of an owner", new EncRefusal(new Native.Refusal { Letter = 0x46, Rule = 7, Place = 11 }, "").Words,
+        var owner = new Native.Refusal { Letter = 0x46, Rule = 7, Place = 11, Table = 6, Row = 1 };
+        Is("words of an owner", new EncRefusal(owner, "").Words,
            "a field, method, parameter, property or event that the runs don't name exactly once");
         Is("words of a remap", EncRules.Words("Q2"), "something is on the frame's stack");
         Is("words of a trap", EncRules.Words("X4"), "a value of another kind");
