@@ -262,7 +262,7 @@ class Pages(Case):
         text, _ = self.made(BANK[0], BANK[2], status=1)
         self.has(text, "Where its heaps begin isn&#39;t known")
         self.has(text, "<code>#Strings:146</code>")
-        self.has(text, "<code>#GUID:4 ea3cd342-9548-453b-b96f-3247a4b4f44c</code>")
+        self.has(text, "<code>ea3cd342-9548-453b-b96f-3247a4b4f44c</code>")
         text, _ = self.made(str(ROOT / "examples/k1.meta"), status=1)
         self.has(text, "Rule F6")
         text, _ = self.made(str(ROOT / "examples/k"), BANK[1], status=1)
