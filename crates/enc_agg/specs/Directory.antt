@@ -48,7 +48,8 @@ pub record IsBare (x : Directory) : Type 0 where
 abbrev pub HasPlaces : List Added → Directory → Type 0
 HasPlaces added x = (u : Token) → value_at x.places (row_key u) ≡ option_map place_seen (found_in added u)
 
--- of some children the first are known elsewhere; how many there are, where there are more, and the others by their places
+-- of some children the first are known elsewhere; how many there are, where there are more, and the others by their
+-- places
 pub record IsHeld (kids : List ℕ) (first : ℕ) (count : Option ℕ) (kid : ℕ → Option ℕ) : Type 0 where
   pub low : first ≤ length kids
   pub many : unwrap_or count first ≡ length kids
@@ -70,15 +71,18 @@ with_kept first count kid = first ++ kids_kept kid (length first) (unwrap_or cou
 
 -- child rows past those of an earlier chain have their owners
 pub record AreOwned (before after : Chain) (owner : Token → Option Token) : Type 0 where
-  pub old : (u : Token) → IsTrue (is_child_table u.table) → u.row ≤ length (rows_in before.plain u.table) → owner u ≡ None
-  pub new : (u : Token) → IsTrue (is_child_table u.table) → length (rows_in before.plain u.table) < u.row → u.row ≤ length (rows_in after.plain u.table)
+  pub old : (u : Token) → IsTrue (is_child_table u.table) → u.row ≤ length (rows_in before.plain u.table)
+      → owner u ≡ None
+  pub new : (u : Token) → IsTrue (is_child_table u.table) → length (rows_in before.plain u.table) < u.row
+      → u.row ≤ length (rows_in after.plain u.table)
       → owner u ≡ owner_of after.plain u
 
 -- the children past those in an earlier chain are held
 abbrev pub AreHeld : Chain → Chain → (Key → Option ℕ) → (Key → Option ℕ) → Type 0
 AreHeld before after count kid =
     (u : Token) (t : ℕ) → IsTrue (is_child_table t) → u.table ≡ owner_table t
-    → IsHeld (kids_of after.plain u t) (length (kids_of before.plain u t)) (count (kids_key t u 0)) (λ i. kid (kids_key t u i))
+    → IsHeld (kids_of after.plain u t) (length (kids_of before.plain u t)) (count (kids_key t u 0))
+    (λ i. kid (kids_key t u i))
 
 -- what is kept of the deltas, the newest first
 pub record IsDirectory (base : Source) (added : List Added) (x : Directory) : Type 0 where
@@ -87,14 +91,17 @@ pub record IsDirectory (base : Source) (added : List Added) (x : Directory) : Ty
   pub kids : AreHeld (chain_with base []) (chain_with base (sources added)) (value_at x.counts) (value_at x.kids)
 
 -- what a delta brings after a chain, by its keys
-pub record IsOfDelta (c : Chain) (d : Source) (place : Key → Option RowPlace) (owner : Key → Option Token) (count kid : Key → Option ℕ) : Type 0 where
-  pub places : (u : Token) → place (row_key u) ≡ option_map (λ (k : ℕ). record { generation = length c.ids + 1; row = k }) (place_in (listed d) u)
+pub record IsOfDelta (c : Chain) (d : Source) (place : Key → Option RowPlace) (owner : Key → Option Token)
+    (count kid : Key → Option ℕ) : Type 0 where
+  pub places : (u : Token) → place (row_key u)
+      ≡ option_map (λ (k : ℕ). record { generation = length c.ids + 1; row = k }) (place_in (listed d) u)
   pub owners : AreOwned c (extended c d) (λ u. owner (row_key u))
   pub kids : AreHeld c (extended c d) count kid
 
 -- entries bring it, and a directory of the delta alone has it
 abbrev pub AreBrought : Chain → Source → Entries → Type 0
-AreBrought c d e = IsOfDelta c d (latest e.places.items) (latest e.owners.items) (latest e.counts.items) (latest e.kids.items)
+AreBrought c d e = IsOfDelta c d (latest e.places.items) (latest e.owners.items) (latest e.counts.items)
+    (latest e.kids.items)
 
 abbrev pub IsOwn : Chain → Source → Directory → Type 0
 IsOwn c d x = IsOfDelta c d (value_at x.places) (value_at x.owners) (value_at x.counts) (value_at x.kids)

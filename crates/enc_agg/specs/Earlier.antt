@@ -23,11 +23,14 @@ pub record ComeFirst (first all : List ℕ) (last : ℕ) : Type 0 where
   pub low : (i x : ℕ) → i < length first → slice_get all i ≡ Some x → x ≤ last
   pub high : (i x : ℕ) → length first ≤ i → slice_get all i ≡ Some x → last < x
 
--- a later module has the rows of an earlier one, with the owners that they had; the rows of one's children come first, and the others are new
+-- a later module has the rows of an earlier one, with the owners that they had; the rows of one's children come
+-- first, and the others are new
 pub record StayChildren (before after : Module) : Type 0 where
   pub rows : (u : Token) → IsTrue (has_row before u) → IsTrue (has_row after u)
-  pub owners : (u : Token) → IsTrue (is_child_table u.table) → IsTrue (has_row before u) → owner_of after u ≡ owner_of before u
-  pub kids : (u : Token) (t : ℕ) → IsTrue (is_child_table t) → ComeFirst (kids_of before u t) (kids_of after u t) (length (rows_in before t))
+  pub owners : (u : Token) → IsTrue (is_child_table u.table) → IsTrue (has_row before u)
+      → owner_of after u ≡ owner_of before u
+  pub kids : (u : Token) (t : ℕ) → IsTrue (is_child_table t)
+      → ComeFirst (kids_of before u t) (kids_of after u t) (length (rows_in before t))
 
 -- the first deltas of an aggregate, the newest first, with what is kept of all
 pub record IsEarlier (base : Source) (added : List Added) (x : Places) (whole : History) : Type 0 where

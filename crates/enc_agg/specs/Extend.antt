@@ -14,9 +14,14 @@ use Rattle.enc_delta.specs.Pairs.{attached_of}
 unfoldable pub changes_of : Chain → Source → List Change
 changes_of c s = map (λ (t : Token). record { token = t; cells = cells_after c s (own_row s t) }) (listed s)
 
--- the chain with the delta: its rows put into the plain module and then its children attached, its EncId and its heaps behind those before
+-- the chain with the delta: its rows put into the plain module and then its children attached, its EncId and its
+-- heaps behind those before
 unfoldable pub extended : Chain → Source → Chain
-extended c s = record { plain = attach_all (apply c.plain (changes_of c s)) (attached_of s); ids = c.ids ++ own_guid c s 3 ∷ []; heaps = heaps_after c s }
+extended c s = record {
+  plain = attach_all (apply c.plain (changes_of c s)) (attached_of s);
+  ids = c.ids ++ own_guid c s 3 ∷ [];
+  heaps = heaps_after c s;
+}
 
 -- a base with deltas, the newest first: each extends the chain of those before it
 unfoldable pub chain_with : Source → List Source → Chain

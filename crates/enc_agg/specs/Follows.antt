@@ -10,7 +10,8 @@ use Rattle.enc_delta.specs.Seen.{WasRead}
 use Rattle.enc_plain.specs.Sound.{IsSound}
 use Rattle.enc_agg.specs.Extend.{chain_with}
 
--- the delta's lists, tables, indices and offsets break no rule, and its tokens are such by their numbers: so its rows and children land in the module
+-- the delta's lists, tables, indices and offsets break no rule, and its tokens are such by their numbers: so its
+-- rows and children land in the module
 pub record Lands (c : Chain) (s : Source) : Type 0 where
   pub early : first_of (upto 14 rules) c s ≡ None
   pub tables : IsTrue (list_all (λ (t : Token). nat_lt t.table 0x100) (listed s))

@@ -18,7 +18,8 @@ abbrev pub place_or : ℕ → Option ℕ → RowPlace → RowPlace
 place_or generation (Some row) before = record { generation = generation; row = row }
 place_or generation None before = before
 
--- where a token stands after deltas, the newest first: in the newest whose EncMap lists it, at its position there among its table's tokens
+-- where a token stands after deltas, the newest first: in the newest whose EncMap lists it, at its position there
+-- among its table's tokens
 unfoldable pub place_of : List Source → Token → RowPlace
 place_of [] token = base_place token
 place_of (d ∷ older) token = place_or (length (d ∷ older)) (place_in (listed d) token) (place_of older token)
@@ -39,7 +40,8 @@ unfoldable pub guid_place : List (List ℕ) → ℕ → Option HeapPlace
 guid_place heaps zero = None
 guid_place [] (suc k) = None
 guid_place (heap ∷ heaps) (suc k) =
-    if nat_le (16 * suc k) (length heap) then Some (record { generation = 0; offset = suc k }) else option_map later (guid_place heaps (suc k))
+    if nat_le (16 * suc k) (length heap) then Some (record { generation = 0; offset = suc k })
+    else option_map later (guid_place heaps (suc k))
 
 -- the place of an offset of a joined heap, or of an entry of `#GUID`; other streams have no places
 abbrev pub place_in_heaps : List Counted → StreamName → ℕ → Option HeapPlace

@@ -8,7 +8,8 @@ use Rattle.enc_delta.specs.Delta.{listed, place_in}
 
 -- the place of a token in a generation whose map has these
 abbrev pub place_listed : ℕ → List Token → Token → Option RowPlace
-place_listed generation tokens u = option_map (λ (k : ℕ). record { generation = generation; row = k }) (place_in tokens u)
+place_listed generation tokens u =
+    option_map (λ (k : ℕ). record { generation = generation; row = k }) (place_in tokens u)
 
 -- the places of a token in deltas, the newest first, that list it: the oldest place first
 unfoldable pub every_place : List Source → Token → List RowPlace

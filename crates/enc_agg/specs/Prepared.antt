@@ -13,7 +13,8 @@ use Rattle.enc_agg.specs.Seen.{sources, IsAdded, IsAggregate}
 use Rattle.enc_agg.specs.Directory.{IsDirectory, AreBrought, IsOwn}
 use Rattle.enc_agg.specs.Places.{every_place, place_listed}
 
--- the deltas follow the base, the directory and the places are those of them, and the module is sound after each of them
+-- the deltas follow the base, the directory and the places are those of them, and the module is sound after each of
+-- them
 pub record IsWhole (base : Source) (added : List Added) (x : Directory) (p : Places) : Type 0 where
   pub deltas : IsAggregate base added
   pub directory : IsDirectory base added x

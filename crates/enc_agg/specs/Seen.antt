@@ -100,7 +100,8 @@ abbrev pub file_of : History → ℕ → Option Source
 file_of h zero = Some h.base
 file_of h (suc n) = delta_at h.deltas (suc n)
 
--- the number of a place among those of all files: the generation stands above 32 bits for the place in that generation's file, of which 0 is none
+-- the number of a place among those of all files: the generation stands above 32 bits for the place in that
+-- generation's file, of which 0 is none
 abbrev pub place_of_all : ℕ → ℕ → ℕ
 place_of_all generation n = if n == 0 then 0 else generation * 2 ^ 32 + n
 
@@ -114,9 +115,11 @@ body_of_all h = body_with (users_of_all h) h
 
 -- the place of an offset in a generation's own heap
 abbrev pub own_place : List ℕ → ℕ → ℕ → Option HeapPlace
-own_place heap generation offset = if nat_lt offset (length heap) then Some (record { generation = generation; offset = offset }) else None
+own_place heap generation offset =
+    if nat_lt offset (length heap) then Some (record { generation = generation; offset = offset }) else None
 
 -- and of entry k of its `#GUID`
 abbrev pub own_guid_place : List ℕ → ℕ → ℕ → Option HeapPlace
 own_guid_place heap generation zero = None
-own_guid_place heap generation (suc k) = if nat_le (16 * suc k) (length heap) then Some (record { generation = generation; offset = suc k }) else None
+own_guid_place heap generation (suc k) =
+    if nat_le (16 * suc k) (length heap) then Some (record { generation = generation; offset = suc k }) else None

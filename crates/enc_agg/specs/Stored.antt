@@ -16,7 +16,9 @@ abbrev pub code_or : Source → ℕ → Option ℕ → Option Code → Option Co
 code_or d table (Some row) before = code_of_row d table row
 code_or d table None before = before
 
--- the code that stands for a method after deltas, the newest first: that of the newest whose EncMap lists it, and else the base's
+-- the code that stands for a method after deltas, the newest first: that of the newest whose EncMap lists it, and
+-- else the base's
 unfoldable pub code_stored : Source → List Source → Token → Option Code
 code_stored base [] method = code_of_row base method.table method.row
-code_stored base (d ∷ older) method = code_or d method.table (place_in (listed d) method) (code_stored base older method)
+code_stored base (d ∷ older) method =
+    code_or d method.table (place_in (listed d) method) (code_stored base older method)

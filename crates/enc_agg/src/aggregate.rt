@@ -51,7 +51,11 @@ impl Model for Aggregate {
 
     ghost Value = { History };
 
-    ghost view = { λ a. record { base = a.image; deltas = sources (reverse a.added.items); room = vec_capacity a.added - vec_len a.added } };
+    ghost view = { λ a. record {
+      base = a.image;
+      deltas = sources (reverse a.added.items);
+      room = vec_capacity a.added - vec_len a.added;
+    } };
 
     ghost invariant = { λ a. IsWhole a.image (reverse a.added.items) a.directory a.places };
 }
@@ -74,8 +78,10 @@ fn count_after(image: &Image, added: &[Added], delta: &Delta, more: &[usize; 256
     requires sound { cells_fault image.now ≡ None }
     requires added { AllAdded image.now (reverse added.now) }
     requires follows { Follows (chain_with image.now (sources (reverse added.now))) delta.now }
-    requires more { (t : ℕ) → t < 256 → slice_index more.now t ≡ inserts (chain_with image.now (sources (reverse added.now))) (listed delta.now) t }
-    ensures { result ≡ length (rows_in (extended (chain_with image.now (sources (reverse added.now))) delta.now).plain table) }
+    requires more { (t : ℕ) → t < 256
+        → slice_index more.now t ≡ inserts (chain_with image.now (sources (reverse added.now))) (listed delta.now) t }
+    ensures { result ≡ length (rows_in
+        (extended (chain_with image.now (sources (reverse added.now))) delta.now).plain table) }
 {
     let _ = delta;
     let before = count_in(image, added, table);
@@ -91,8 +97,10 @@ fn counts_after(image: &Image, added: &[Added], delta: &Delta, more: &[usize; 25
     requires sound { cells_fault image.now ≡ None }
     requires added { AllAdded image.now (reverse added.now) }
     requires follows { Follows (chain_with image.now (sources (reverse added.now))) delta.now }
-    requires more { (t : ℕ) → t < 256 → slice_index more.now t ≡ inserts (chain_with image.now (sources (reverse added.now))) (listed delta.now) t }
-    ensures { (t : ℕ) → t < 64 → slice_index result.rows t ≡ length (rows_in (extended (chain_with image.now (sources (reverse added.now))) delta.now).plain t) }
+    requires more { (t : ℕ) → t < 256
+        → slice_index more.now t ≡ inserts (chain_with image.now (sources (reverse added.now))) (listed delta.now) t }
+    ensures { (t : ℕ) → t < 64 → slice_index result.rows t
+        ≡ length (rows_in (extended (chain_with image.now (sources (reverse added.now))) delta.now).plain t) }
 {
     let mut rows = [0; 64];
     for t in 0..64_u8 {
@@ -198,7 +206,8 @@ impl Aggregate {
         ensures base { self.new.base ≡ self.old.base }
         ensures deltas { self.new.deltas ≡ ready.delta ∷ self.old.deltas }
         ensures room { self.new.room + 1 ≡ self.old.room }
-        ensures texts { (offset : ℕ) (units : List ℕ) → joined_user (chain_of_all self.old).heaps offset ≡ Some units → joined_user (chain_of_all self.new).heaps offset ≡ Some units }
+        ensures texts { (offset : ℕ) (units : List ℕ) → joined_user (chain_of_all self.old).heaps offset ≡ Some units
+            → joined_user (chain_of_all self.new).heaps offset ≡ Some units }
         ensures history { self.new ≡ with_delta self.old ready.delta }
         ensures chain { chain_of_all self.new ≡ extended (chain_of_all self.old) ready.delta }
     {
@@ -242,7 +251,8 @@ impl Aggregate {
     /// Where a row stands: in the newest generation whose map has its token, else in the base. None
     /// where the module lacks it.
     pub fn locate<L: Ledger>(&self, token: Token, steps: &mut Steps<L>) -> Option<RowPlace>
-        ensures place { result ≡ (if has_row (module_of_all self.now) token then Some (place_of self.now.deltas token) else None) }
+        ensures place { result ≡ (if has_row (module_of_all self.now) token then Some (place_of self.now.deltas token)
+            else None) }
         ensures steps { steps.new ≡ steps.old }
     {
         let _ = steps;
@@ -272,7 +282,8 @@ impl Aggregate {
     /// The number of rows of a table up to a generation.
     pub fn count_at(&self, generation: u32, table: u8) -> u32
         requires { generation ≤ length self.now.deltas }
-        ensures { result ≡ length (rows_in (chain_with self.now.base (drop (length self.now.deltas - generation) self.now.deltas)).plain table) }
+        ensures { result ≡ length (rows_in
+            (chain_with self.now.base (drop (length self.now.deltas - generation) self.now.deltas)).plain table) }
     {
         count_in(&self.image, &self.added[..generation as usize], table)
     }
@@ -289,7 +300,8 @@ impl Aggregate {
     /// whole entries its `#GUID` has.
     pub fn heap_lengths(&self, generation: u32) -> HeapLengths
         requires { generation ≤ length self.now.deltas }
-        ensures { Some result ≡ option_map (λ (h : Counted). lengths_of h) (slice_get (chain_of_all self.now).heaps generation) }
+        ensures { Some result ≡ option_map (λ (h : Counted). lengths_of h)
+            (slice_get (chain_of_all self.now).heaps generation) }
     {
         match generation.checked_sub(1) {
             None => self.image.lengths(),

@@ -33,7 +33,9 @@ impl Aggregate {
         requires row { IsTrue (has_row (module_of_all self.now) method) }
         requires table { method.table ≡ method_def }
         ensures stored { option_map code_seen result ≡ code_stored self.now.base self.now.deltas method }
-        ensures body { (texts : ℕ → Option (List ℕ)) → KeepsTexts (users_of_all self.now) texts → cell_of (module_of_all self.now) method 0 ≡ Some (body (option_map (λ c. body_of texts (code_seen c)) result)) }
+        ensures body { (texts : ℕ → Option (List ℕ)) → KeepsTexts (users_of_all self.now) texts
+            → cell_of (module_of_all self.now) method 0
+            ≡ Some (body (option_map (λ c. body_of texts (code_seen c)) result)) }
         ensures texts { IfSome result (λ c. IsTrue (texts_are_there (users_of_all self.now) c.code.now)) }
         ensures few { IfSome result (λ c. length c.code.now < 2 ^ 32) }
         ensures short { IfSome result (λ c. length c.sections.now < 2 ^ 32) }
@@ -53,7 +55,8 @@ impl Aggregate {
     pub(crate) fn place_of_code(&self, method: Token) -> u64
         requires row { IsTrue (has_row (module_of_all self.now) method) }
         requires table { method.table ≡ method_def }
-        ensures body { (texts : ℕ → Option (List ℕ)) → KeepsTexts (users_of_all self.now) texts → cell_of (module_of_all self.now) method 0 ≡ Some (body (body_with texts self.now result)) }
+        ensures body { (texts : ℕ → Option (List ℕ)) → KeepsTexts (users_of_all self.now) texts
+            → cell_of (module_of_all self.now) method 0 ≡ Some (body (body_with texts self.now result)) }
         ensures some { (texts : ℕ → Option (List ℕ)) → is_some (body_with texts self.now result) ≡ not (result == 0) }
     {
         let Some(found) = find(&self.added, &self.directory, method) else {

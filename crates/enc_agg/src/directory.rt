@@ -96,10 +96,14 @@ impl Directory {
 
     /// Puts in what a delta brings. It takes no memory.
     pub fn add(&mut self, entries: Entries)
-        ensures places { (q : TheKey) → value_at self.new.places q ≡ either (latest entries.places.items q) (value_at self.old.places q) }
-        ensures owners { (q : TheKey) → value_at self.new.owners q ≡ either (latest entries.owners.items q) (value_at self.old.owners q) }
-        ensures counts { (q : TheKey) → value_at self.new.counts q ≡ either (latest entries.counts.items q) (value_at self.old.counts q) }
-        ensures kids { (q : TheKey) → value_at self.new.kids q ≡ either (latest entries.kids.items q) (value_at self.old.kids q) }
+        ensures places { (q : TheKey) →
+            value_at self.new.places q ≡ either (latest entries.places.items q) (value_at self.old.places q) }
+        ensures owners { (q : TheKey) →
+            value_at self.new.owners q ≡ either (latest entries.owners.items q) (value_at self.old.owners q) }
+        ensures counts { (q : TheKey) →
+            value_at self.new.counts q ≡ either (latest entries.counts.items q) (value_at self.old.counts q) }
+        ensures kids { (q : TheKey) → value_at self.new.kids q
+            ≡ either (latest entries.kids.items q) (value_at self.old.kids q) }
     {
         self.places.put_all(entries.places);
         self.owners.put_all(entries.owners);
@@ -137,7 +141,8 @@ impl Directory {
 
     /// Appends the children that a row gained to those that it had.
     pub fn push_kids(&self, rows: &mut Vec<u32>, owner: Token, table: u8) -> Result<(), AllocError>
-        ensures { IfOk result (λ _. rows.new.items ≡ with_kept rows.old.items (value_at self.now.counts (kids_key table owner 0)) (λ i. value_at self.now.kids (kids_key table owner i))) }
+        ensures { IfOk result (λ _. rows.new.items ≡ with_kept rows.old.items (value_at self.now.counts
+            (kids_key table owner 0)) (λ i. value_at self.now.kids (kids_key table owner i))) }
     {
         let Some(count) = self.count(owner, table) else {
             return Ok(());

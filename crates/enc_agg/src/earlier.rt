@@ -53,7 +53,8 @@ impl<'a> Model for Earlier<'a> {
 
 /// The deltas up to the newest that lists a token, and the token's position there.
 fn find<'a>(added: &'a [Added], places: &Places, token: Token) -> Option<Found<'a>>
-    requires { KeepsPlaces (every_place (sources (reverse added.now))) (length (sources (reverse added.now))) places.now }
+    requires { KeepsPlaces (every_place (sources (reverse added.now)))
+        (length (sources (reverse added.now))) places.now }
     ensures { option_map found_seen result ≡ found_in (reverse added.now) token }
 {
     match places.last_upto(token, added.len()) {
@@ -111,7 +112,8 @@ impl Earlier<'_> {
         requires row { IsTrue (has_row (module_of_all self.now) method) }
         requires table { method.table ≡ method_def }
         ensures stored { option_map code_seen result ≡ code_stored self.now.base self.now.deltas method }
-        ensures body { cell_of (module_of_all self.now) method 0 ≡ Some (body (option_map (λ c. body_of (users_of_all self.now) (code_seen c)) result)) }
+        ensures body { cell_of (module_of_all self.now) method 0
+            ≡ Some (body (option_map (λ c. body_of (users_of_all self.now) (code_seen c)) result)) }
         ensures texts { IfSome result (λ c. IsTrue (texts_are_there (users_of_all self.now) c.code.now)) }
         ensures few { IfSome result (λ c. length c.code.now < 2 ^ 32) }
         ensures short { IfSome result (λ c. length c.sections.now < 2 ^ 32) }

@@ -38,7 +38,8 @@ fn places_of<L: Ledger>(
 ) -> Result<Kept<RowPlace>, AllocError>
     requires tokens { tokens.now ≡ listed delta.now }
     ensures same { IfOk result IsSame }
-    ensures places { IfOk result (λ l. (u : TheToken) → latest l.entries.items (row_key u) ≡ option_map (λ (k : ℕ). record { generation = generation; row = k }) (place_in (listed delta.now) u)) }
+    ensures places { IfOk result (λ l. (u : TheToken) → latest l.entries.items (row_key u)
+        ≡ option_map (λ (k : ℕ). record { generation = generation; row = k }) (place_in (listed delta.now) u)) }
     ensures steps { steps.new ≤ steps.old + length tokens.now }
 {
     let mut places = Kept::new(alloc);
@@ -67,9 +68,15 @@ impl Gained {
         requires few { others + 1 < 2 ^ 32 }
         requires same { AreAsOwn self.old }
         ensures same { IfOk result (λ _. AreAsOwn self.new) }
-        ensures owners { IfOk result (λ _. (q : TheKey) → latest self.new.owners.entries.items q ≡ either (if is_key (row_key pair.child) q then Some pair.owner else None) (latest self.old.owners.entries.items q)) }
-        ensures counts { IfOk result (λ _. (q : TheKey) → latest self.new.counts.entries.items q ≡ either (if is_key (kids_key pair.child.table pair.owner 0) q then Some (others + 1) else None) (latest self.old.counts.entries.items q)) }
-        ensures kids { IfOk result (λ _. (q : TheKey) → latest self.new.kids.entries.items q ≡ either (if is_key (kids_key pair.child.table pair.owner others) q then Some pair.child.row else None) (latest self.old.kids.entries.items q)) }
+        ensures owners { IfOk result (λ _. (q : TheKey) → latest self.new.owners.entries.items q
+            ≡ either (if is_key (row_key pair.child) q then Some pair.owner else None)
+            (latest self.old.owners.entries.items q)) }
+        ensures counts { IfOk result (λ _. (q : TheKey) → latest self.new.counts.entries.items q
+            ≡ either (if is_key (kids_key pair.child.table pair.owner 0) q then Some (others + 1) else None)
+            (latest self.old.counts.entries.items q)) }
+        ensures kids { IfOk result (λ _. (q : TheKey) → latest self.new.kids.entries.items q
+            ≡ either (if is_key (kids_key pair.child.table pair.owner others) q then Some pair.child.row else None)
+            (latest self.old.kids.entries.items q)) }
     {
         let count = kids_key(pair.child.table, pair.owner, 0);
         let kid = kids_key(pair.child.table, pair.owner, others);
@@ -85,7 +92,8 @@ fn count_so_far(aggregate: &Aggregate, so_far: &Index<u32>, owner: Token, table:
     requires row { 0 < owner.row }
     requires table { IsTrue (is_child_table table) }
     requires owners { owner.table ≡ owner_table table }
-    ensures { result ≡ unwrap_or (value_at so_far.now (kids_key table owner 0)) (length (kids_of (module_of_all aggregate.now) owner table)) }
+    ensures { result ≡ unwrap_or (value_at so_far.now (kids_key table owner 0))
+        (length (kids_of (module_of_all aggregate.now) owner table)) }
 {
     match so_far.get(kids_key(table, owner, 0)) {
         Some(count) => *count,
@@ -103,8 +111,10 @@ fn gained_by(
     requires follows { Follows (chain_of_all aggregate.now) delta.now }
     requires pairs { map pair_seen pairs.now ≡ attached_of delta.now }
     ensures same { IfOk result AreAsOwn }
-    ensures owners { IfOk result (λ g. AreOwned (chain_of_all aggregate.now) (extended (chain_of_all aggregate.now) delta.now) (λ u. latest g.owners.entries.items (row_key u))) }
-    ensures kids { IfOk result (λ g. AreHeld (chain_of_all aggregate.now) (extended (chain_of_all aggregate.now) delta.now) (latest g.counts.entries.items) (latest g.kids.entries.items)) }
+    ensures owners { IfOk result (λ g. AreOwned (chain_of_all aggregate.now)
+        (extended (chain_of_all aggregate.now) delta.now) (λ u. latest g.owners.entries.items (row_key u))) }
+    ensures kids { IfOk result (λ g. AreHeld (chain_of_all aggregate.now) (extended
+        (chain_of_all aggregate.now) delta.now) (latest g.counts.entries.items) (latest g.kids.entries.items)) }
 {
     let _ = delta;
     aggregate.has_owners();
@@ -138,8 +148,18 @@ fn entries_with_own(
     listings: Listings,
 ) -> Brought
     ensures listings { result.listings ≡ listings }
-    ensures entries { result.entries ≡ record { places = places.entries; owners = owners.entries; counts = counts.entries; kids = kids.entries } }
-    ensures own { result.own ≡ record { places = places.own; owners = owners.own; counts = counts.own; kids = kids.own } }
+    ensures entries { result.entries ≡ record {
+      places = places.entries;
+      owners = owners.entries;
+      counts = counts.entries;
+      kids = kids.entries;
+    } }
+    ensures own { result.own ≡ record {
+      places = places.own;
+      owners = owners.own;
+      counts = counts.own;
+      kids = kids.own;
+    } }
 {
     Brought {
         entries: Entries {
@@ -170,7 +190,8 @@ pub fn brought_by<L: Ledger>(
     requires tokens { tokens.now ≡ listed delta.now }
     ensures entries { IfOk result (λ b. AreBrought (chain_of_all aggregate.now) delta.now b.entries) }
     ensures own { IfOk result (λ b. IsOwn (chain_of_all aggregate.now) delta.now b.own) }
-    ensures listings { IfOk result (λ b. AreListings (every_place aggregate.now.deltas) (place_listed (suc (length aggregate.now.deltas)) (listed delta.now)) b.listings) }
+    ensures listings { IfOk result (λ b. AreListings (every_place aggregate.now.deltas)
+        (place_listed (suc (length aggregate.now.deltas)) (listed delta.now)) b.listings) }
     ensures steps { steps.new ≤ steps.old + length tokens.now }
 {
     let places = places_of(alloc, delta, tokens, aggregate.generations(), steps)?;

@@ -63,7 +63,8 @@ fn upto<'a>(image: &Image, added: &'a [Added], measure: Measure, n: u32) -> &'a 
     ensures front { result.now ≡ take (length result.now) added.now }
     ensures few { length result.now ≤ length added.now }
     ensures begun { HaveBegun measure n (reverse result.now) }
-    ensures past { (i : ℕ) → length result.now ≤ i → i < length added.now → n < slice_index (starts measure added.now) i }
+    ensures past { (i : ℕ) → length result.now ≤ i → i < length added.now
+        → n < slice_index (starts measure added.now) i }
 {
     let _ = image;
     &added[..begun(added, measure, n)]
@@ -132,7 +133,8 @@ fn own_place(heaps: &Heaps<'_>, heap: Heap, generation: u32, offset: u32) -> Opt
 /// Where an offset of a joined heap stands. None where it is past the heap.
 pub fn heap_place_in(image: &Image, added: &[Added], heap: Heap, offset: u32) -> Option<HeapPlace>
     requires { AllAdded image.now (reverse added.now) }
-    ensures { result ≡ heap_place (map (bytes_in heap) (chain_with image.now (sources (reverse added.now))).heaps) offset }
+    ensures { result ≡ heap_place (map (bytes_in heap) (chain_with image.now (sources (reverse added.now))).heaps)
+        offset }
 {
     let upto = upto(image, added, Measure::Bytes(heap), offset);
     let Some((last, _)) = newest(upto) else {
@@ -159,7 +161,8 @@ fn own_guid_place(heaps: &Heaps<'_>, generation: u32, k: u32) -> Option<HeapPlac
 /// has.
 pub fn guid_place_in(image: &Image, added: &[Added], k: u32) -> Option<HeapPlace>
     requires { AllAdded image.now (reverse added.now) }
-    ensures { result ≡ guid_place (map (λ (h : Counted). h.guids) (chain_with image.now (sources (reverse added.now))).heaps) k }
+    ensures { result ≡ guid_place (map (λ (h : Counted). h.guids)
+        (chain_with image.now (sources (reverse added.now))).heaps) k }
 {
     let Some(number) = k.checked_sub(1) else {
         return None;

@@ -33,7 +33,8 @@ impl<V: Copy + Drop> Kept<V> {
     pub fn push(&mut self, alloc: Global, key: Key, value: V) -> Result<(), AllocError>
         requires same { IsSame self.old }
         ensures same { IfOk result (λ _. IsSame self.new) }
-        ensures entries { IfOk result (λ _. (q : TheKey) → latest self.new.entries.items q ≡ either (if is_key key q then Some value else None) (latest self.old.entries.items q)) }
+        ensures entries { IfOk result (λ _. (q : TheKey) → latest self.new.entries.items q
+            ≡ either (if is_key key q then Some value else None) (latest self.old.entries.items q)) }
     {
         let entry = Entry::new(alloc, key, value)?;
         push_entry(&mut self.entries, alloc, key, value)?;

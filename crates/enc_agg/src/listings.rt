@@ -41,8 +41,10 @@ impl Aggregate {
         tokens: &[Token],
         own: &Index<RowPlace>,
     ) -> Result<Listings, AllocError>
-        requires { (u : TheToken) → value_at own.now (row_key u) ≡ place_listed (suc (length self.now.deltas)) tokens.now u }
-        ensures { IfOk result (AreListings (every_place self.now.deltas) (place_listed (suc (length self.now.deltas)) tokens.now)) }
+        requires { (u : TheToken) → value_at own.now (row_key u)
+            ≡ place_listed (suc (length self.now.deltas)) tokens.now u }
+        ensures { IfOk result (AreListings (every_place self.now.deltas)
+            (place_listed (suc (length self.now.deltas)) tokens.now)) }
     {
         let listings = listings_behind(alloc, &self.places, tokens, own)?;
         Ok(listings)

@@ -70,3 +70,5 @@ none_left (i ∷ code) (suc k) h = none_left code k (omega arith)
 pub assembled_all : (offset : List ℕ → ℕ) (code : List InstrValue) (at k : ℕ) (out whole : List ℕ) → length code ≤ k → out ++ code_bytes offset at (drop k code) ≡ whole → out ≡ whole
 unfolding code_bytes
 assembled_all offset code at k out whole end bytes = sym (append-nil out) ∙ (rw (none_left code k end) at bytes)
+
+pub ruleset code_steps = (code_more, length_more, fits_at, small_at, kept_at)

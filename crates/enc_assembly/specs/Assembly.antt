@@ -29,7 +29,8 @@ distance end t = (t + (2 ^ 32 - end)) % 2 ^ 32
 abbrev pub switch_bytes : ℕ → List ℕ → List ℕ
 switch_bytes end ts = to_le_bytes w32 (length ts) ++ flat_map (λ t. to_le_bytes w32 (distance end t)) ts
 
--- the operand of an instruction that ends at a place; a user text is named by a token of table 70 with its offset (III.1.9)
+-- the operand of an instruction that ends at a place; a user text is named by a token of table 70 with its offset
+-- (III.1.9)
 unfoldable pub arg_bytes : (List ℕ → ℕ) → ℕ → Operand → ArgValue → List ℕ
 arg_bytes offset end operand.I8 (arg.Num n) = to_le_bytes w8 (cast_unsigned w8 n)
 arg_bytes offset end operand.U8 (arg.Num n) = to_le_bytes w8 (cast_unsigned w8 n)
@@ -52,7 +53,8 @@ instr_bytes offset end i = op_bytes i.op ++ arg_bytes offset end i.op.operand i.
 unfoldable pub code_bytes : (List ℕ → ℕ) → ℕ → List InstrValue → List ℕ
 code_bytes offset at [] = []
 code_bytes offset at (i ∷ rest) =
-    instr_bytes offset (at + instruction_size (instr_meant i)) i ++ code_bytes offset (at + instruction_size (instr_meant i)) rest
+    instr_bytes offset (at + instruction_size (instr_meant i)) i ++ code_bytes offset
+    (at + instruction_size (instr_meant i)) rest
 
 -- what the code says, with user texts by their offsets
 abbrev pub arg_named : (List ℕ → ℕ) → ArgValue → Argument ℕ
@@ -69,9 +71,11 @@ instr_named offset i = record { op = i.op; arg = arg_named offset i.arg }
 
 unfoldable pub placed_named : (List ℕ → ℕ) → ℕ → List InstrValue → List (ℕ × Instruction ℕ)
 placed_named offset at [] = []
-placed_named offset at (i ∷ rest) = (at, instr_named offset i) ∷ placed_named offset (at + instruction_size (instr_meant i)) rest
+placed_named offset at (i ∷ rest) =
+    (at, instr_named offset i) ∷ placed_named offset (at + instruction_size (instr_meant i)) rest
 
--- the numbers of an argument fit the bytes that they have: targets four, tokens one for the table and three for the row, offsets of user texts three
+-- the numbers of an argument fit the bytes that they have: targets four, tokens one for the table and three for the
+-- row, offsets of user texts three
 abbrev pub token_is_small : Token → Bool
 token_is_small t = nat_lt t.table 0x100 && nat_lt t.row 0x1000000
 
@@ -89,7 +93,8 @@ are_small offset code = list_all (λ (i : InstrValue). arg_is_small offset i.arg
 -- code that was assembled is read as its instructions, and ends with the last
 abbrev pub AssembledIsRead : Type 0
 AssembledIsRead = (offset : List ℕ → ℕ) (code : List InstrValue)
-    → list_all instr_fits code ≡ true → branches_reach 0 code ≡ true → are_small offset code ≡ true → length_of_code code < 2 ^ 32
+    → list_all instr_fits code ≡ true → branches_reach 0 code ≡ true → are_small offset code ≡ true
+    → length_of_code code < 2 ^ 32
     → (instructions_of (code_bytes offset 0 code) ≡ placed_named offset 0 code)
     × (end_of (code_bytes offset 0 code) 0 ≡ length_of_code code)
     × (length (code_bytes offset 0 code) ≡ length_of_code code)

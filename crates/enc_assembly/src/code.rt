@@ -22,7 +22,7 @@ fn instr_at(code: &[InstrValue], k: usize) -> &InstrValue
 
 /// The code of instructions that stand one behind the other from 0 on. Their user texts are in the heap
 /// already, whose offsets they are named by. The time is linear in what is written.
-#[tactic(auto, using(crate::proofs::Steps::code_more, crate::proofs::Steps::length_more, crate::proofs::Steps::fits_at, crate::proofs::Steps::small_at, crate::proofs::Steps::kept_at))]
+#[tactic(auto, using(crate::proofs::Steps::code_steps))]
 pub fn assemble(
     alloc: Global,
     code: &[InstrValue],

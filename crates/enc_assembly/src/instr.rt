@@ -88,7 +88,8 @@ fn user_offset(heaps: &mut HeapBuilder, units: &[u16]) -> Result<u32, AllocError
 fn push_user(heaps: &mut HeapBuilder, units: &Units, out: &mut Vec<u8>) -> Result<(), AllocError>
     requires kept { is_kept heaps.old.users (unit_bytes units.now) ≡ true }
     requires low { user_offset heaps.old (unit_bytes units.now) < 2 ^ 24 }
-    ensures bytes { OnOk result (out.new.items ≡ out.old.items ++ to_le_bytes w32 (0x70000000 + user_offset heaps.old (unit_bytes units.now))) }
+    ensures bytes { OnOk result (out.new.items
+        ≡ out.old.items ++ to_le_bytes w32 (0x70000000 + user_offset heaps.old (unit_bytes units.now))) }
     ensures same { heaps.new ≡ heaps.old }
 {
     let offset = user_offset(heaps, units.as_slice())?;
@@ -120,7 +121,8 @@ fn push_arg(
     requires size { operand_size instr.now.op.operand (arg_meant instr.now.arg) < 2 ^ 32 }
     requires small { IsTrue (arg_is_small (user_offset heaps.old) instr.now.arg) }
     requires kept { IsTrue (text_is_kept heaps.old instr.now.arg) }
-    ensures bytes { OnOk result (out.new.items ≡ out.old.items ++ arg_bytes (user_offset heaps.old) end instr.now.op.operand instr.now.arg) }
+    ensures bytes { OnOk result (out.new.items
+        ≡ out.old.items ++ arg_bytes (user_offset heaps.old) end instr.now.op.operand instr.now.arg) }
     ensures same { heaps.new ≡ heaps.old }
 {
     match &instr.arg {

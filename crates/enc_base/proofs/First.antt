@@ -57,3 +57,5 @@ first_means rule (suc n) = rw (first_suc rule n) (one_more rule n _ (rule n) (fi
 -- no answer below n, none at any place below
 pub silent : {A : Type 0} (rule : ℕ → Option A) (n k : ℕ) → first_below rule n ≡ None → k < n → rule k ≡ None
 silent rule n k none lt = (rw none at (first_means rule n)) k lt
+
+pub ruleset first_steps = (first_none, first_found, first_more)

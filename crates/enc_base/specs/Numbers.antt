@@ -5,7 +5,8 @@ use Rattle.std.specs.Int.{Width, byte_len, from_le_bytes, w32, cast_signed}
 
 -- the little-endian number of this width at a place, where it stands whole there
 abbrev pub little_endian_at : Width → List ℕ → ℕ → Option ℕ
-little_endian_at w bytes at = if nat_le (at + byte_len w) (length bytes) then Some (from_le_bytes w (drop at bytes)) else None
+little_endian_at w bytes at = if nat_le (at + byte_len w) (length bytes) then Some (from_le_bytes w (drop at bytes))
+    else None
 
 -- the least multiple of 4 that isn't less
 unfoldable pub padded : ℕ → ℕ
@@ -39,15 +40,18 @@ in_four a _ = None
 -- the compressed number at the front, and how many bytes spell it
 abbrev pub compressed : List ℕ → Option (ℕ × ℕ)
 compressed [] = None
-compressed (a ∷ rest) = if nat_lt a 0x80 then Some (a, 1) else if nat_lt a 0xC0 then in_two a rest else if nat_lt a 0xE0 then in_four a rest else None
+compressed (a ∷ rest) = if nat_lt a 0x80 then Some (a, 1) else if nat_lt a 0xC0 then in_two a rest else if nat_lt a 0xE0
+    then in_four a rest else None
 
 -- the compressed number at a place, and the place behind it
 abbrev pub compressed_at : List ℕ → ℕ → Option (ℕ × ℕ)
-compressed_at bytes at = if nat_le at (length bytes) then option_map (λ (x : ℕ × ℕ). (x.0, at + x.1)) (compressed (drop at bytes)) else None
+compressed_at bytes at = if nat_le at (length bytes)
+    then option_map (λ (x : ℕ × ℕ). (x.0, at + x.1)) (compressed (drop at bytes)) else None
 
 -- what is spelled is read, whatever follows it
 abbrev pub CompressedIsRead : Type 0
-CompressedIsRead = (front rest : List ℕ) (n : ℕ) → IsCompressed front n → compressed (front ++ rest) ≡ Some (n, length front)
+CompressedIsRead = (front rest : List ℕ) (n : ℕ) → IsCompressed front n
+    → compressed (front ++ rest) ≡ Some (n, length front)
 
 -- what is read is spelled
 abbrev pub ReadIsCompressed : Type 0
@@ -57,7 +61,8 @@ ReadIsCompressed = (bytes : List ℕ) → IfSome (compressed bytes) (λ (x : ℕ
 abbrev pub half_of : ℕ → ℕ
 half_of len = if len == 1 then 0x40 else if len == 2 then 0x2000 else 0x10000000
 
--- the signed number whose value bits, in two's complement and rotated left by one, these are: the lowest bit is the sign (II.23.2)
+-- the signed number whose value bits, in two's complement and rotated left by one, these are: the lowest bit is the
+-- sign (II.23.2)
 abbrev pub unrotated : ℕ → ℕ → ℕ
 unrotated half n = if n % 2 == 0 then n / 2 else n / 2 + (2 ^ 32 - half)
 
@@ -70,7 +75,8 @@ signed bytes = option_map (λ (x : ℕ × ℕ). (signed_of (half_of x.1) x.0, x.
 
 -- the compressed signed number at a place, and the place behind it
 abbrev pub signed_at : List ℕ → ℕ → Option (ℤ × ℕ)
-signed_at bytes at = if nat_le at (length bytes) then option_map (λ (x : ℤ × ℕ). (x.0, at + x.1)) (signed (drop at bytes)) else None
+signed_at bytes at = if nat_le at (length bytes)
+    then option_map (λ (x : ℤ × ℕ). (x.0, at + x.1)) (signed (drop at bytes)) else None
 
 -- a number in one byte, in two and in four
 abbrev pub one_byte : ℕ → List ℕ
@@ -96,7 +102,8 @@ rotated half bits = if nat_lt bits half then bits * 2 else (bits - (2 ^ 32 - hal
 
 -- the shortest spelling of the signed number whose 32 bits these are
 abbrev pub spelled_signed : ℕ → List ℕ
-spelled_signed bits = if is_within 0x40 bits then one_byte (rotated 0x40 bits) else if is_within 0x2000 bits then two_bytes (rotated 0x2000 bits)
+spelled_signed bits = if is_within 0x40 bits then one_byte (rotated 0x40 bits) else if is_within 0x2000 bits
+    then two_bytes (rotated 0x2000 bits)
     else four_bytes (rotated 0x10000000 bits)
 
 -- each number is a byte

@@ -13,7 +13,8 @@ first_below rule (suc n) = or_else (first_below rule n) (rule n)
 
 -- an answer is the rule's at some place with none before it; no answer, no place that has one
 abbrev pub IsFirst : {A : Type 0} → (ℕ → Option A) → ℕ → Option A → Type 0
-IsFirst rule n answer = MatchOption answer ((k : ℕ) → k < n → rule k ≡ None) (λ x. (k : ℕ) × (k < n) × (rule k ≡ Some x) × ((j : ℕ) → j < k → rule j ≡ None))
+IsFirst rule n answer = MatchOption answer ((k : ℕ) → k < n → rule k ≡ None)
+    (λ x. (k : ℕ) × (k < n) × (rule k ≡ Some x) × ((j : ℕ) → j < k → rule j ≡ None))
 
 abbrev pub MeansFirst : Type 0 → Type 0
 MeansFirst A = (rule : ℕ → Option A) (n : ℕ) → IsFirst rule n (first_below rule n)

@@ -222,7 +222,8 @@ fn rotated(half: u32, bits: u32) -> u32
 /// II.23.2). Without memory nothing is appended.
 pub fn push_signed(value: i32, out: &mut Vec<u8>) -> Result<(), AllocError>
     requires { IsTrue (is_within 0x10000000 (cast_unsigned w32 value)) }
-    ensures { out.new.items ≡ (if is_ok result then out.old.items ++ spelled_signed (cast_unsigned w32 value) else out.old.items) }
+    ensures { out.new.items ≡ (if is_ok result then out.old.items ++ spelled_signed (cast_unsigned w32 value)
+        else out.old.items) }
 {
     let bits = value.cast_unsigned();
     if is_within(0x40, bits) {

@@ -69,7 +69,8 @@ asked_row s t = of_row (module_after s) t (Ok (row_text_of (module_after s) (pdb
 
 -- why nothing is said of a token: it is no row, or no method
 abbrev pub unlike_method : State → Token → Option Status
-unlike_method s t = if has_row (module_after s) t then (if t.table == tables.method_def then None else Some Unlike) else Some Absent
+unlike_method s t = if has_row (module_after s) t then (if t.table == tables.method_def then None else Some Unlike)
+    else Some Absent
 
 abbrev pub unless_unlike : {A : Type 0} → Option Status → Result A Status → Result A Status
 unless_unlike None answer = answer
@@ -81,9 +82,11 @@ asked_points s t = unless_unlike (unlike_method s t) (Ok (points_numbers (points
 
 -- the name of the document that a number of its points means
 unfoldable pub asked_document : State → Token → ℕ → Result (List ℕ) Status
-asked_document s t number = unless_unlike (unlike_method s t) (name_told (documents_at (known_at s.pdb s.debugs t) number))
+asked_document s t number = unless_unlike (unlike_method s t)
+    (name_told (documents_at (known_at s.pdb s.debugs t) number))
 
 -- the points and the documents that are told of a method are those of the plain PDB
 abbrev pub PointsAreThePdbs : Type 0
 PointsAreThePdbs =
-    (s : State) (t : Token) → debug_of (documents_at (known_at s.pdb s.debugs t)) (points_at (known_at s.pdb s.debugs t)) ≡ pdb_after s t
+    (s : State) (t : Token) → debug_of (documents_at (known_at s.pdb s.debugs t))
+    (points_at (known_at s.pdb s.debugs t)) ≡ pdb_after s t

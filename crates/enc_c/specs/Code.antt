@@ -31,19 +31,23 @@ abbrev pub LendsCode : (ℕ → Option (List ℕ)) → Option Code → Result Co
 LendsCode users stored (Ok c) said = (said ≡ Ok (body_of users (code_seen c))) × (stored ≡ Some (code_seen c))
 LendsCode users stored (Err s) said = said ≡ Err s
 
--- what stands before the code: the most values on the stack, the row of the local signature, 0 where there is none, and whether locals begin as zeros
+-- what stands before the code: the most values on the stack, the row of the local signature, 0 where there is none,
+-- and whether locals begin as zeros
 abbrev pub head_of : Code → CodeHead
 head_of c = record { stack = c.max; locals = c.locals.row; init = if c.init then 1 else 0 }
 
 -- the code is copied, and its head is told; or the status says why there is none, and then nothing is written
 abbrev pub CopiesCode : ℕ → List ℕ → List ℕ → ℕ → ℕ → CodeHead → CodeHead → Result CodeRef Status → Type 0
-CopiesCode number old new before count head head_new (Ok c) = IsCopiedOut number old new count c.code.now × (head_new ≡ head_of (code_seen c))
+CopiesCode number old new before count head head_new (Ok c) =
+    IsCopiedOut number old new count c.code.now × (head_new ≡ head_of (code_seen c))
 CopiesCode number old new before count head head_new (Err s) =
     (number ≡ number_of_status s) × (new ≡ old) × (count ≡ before) × (head_new ≡ head)
 
 -- so it is of the code that stands for the method, where it has one; it means the body
-abbrev pub TellsBody : (ℕ → Option (List ℕ)) → Option Code → ℕ → List ℕ → List ℕ → ℕ → ℕ → CodeHead → CodeHead → Result Body Status → Type 0
+abbrev pub TellsBody : (ℕ → Option (List ℕ)) → Option Code → ℕ → List ℕ → List ℕ → ℕ → ℕ → CodeHead → CodeHead
+    → Result Body Status → Type 0
 TellsBody users stored number old new before count head head_new (Ok b) =
-    (c : Code) × (stored ≡ Some c) × (b ≡ body_of users c) × IsCopiedOut number old new count c.code × (head_new ≡ head_of c)
+    (c : Code) × (stored ≡ Some c) × (b ≡ body_of users c) × IsCopiedOut number old new count c.code
+    × (head_new ≡ head_of c)
 TellsBody users stored number old new before count head head_new (Err s) =
     (number ≡ number_of_status s) × (new ≡ old) × (count ≡ before) × (head_new ≡ head)

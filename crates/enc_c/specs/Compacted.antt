@@ -16,7 +16,8 @@ use Rattle.enc_c.specs.State.{State, module_after, pdb_after}
 use Rattle.enc_c.specs.Status.{number_of_status}
 
 -- nothing is told of three buffers and a refusal but a status
-pub record TellsOfThree {A : Type 0} (s : Status) (status : ℕ) (a b : Buffer ℕ) (c : Buffer A) (old new : RefusalNumbers) : Type 0 where
+pub record TellsOfThree {A : Type 0} (s : Status) (status : ℕ) (a b : Buffer ℕ) (c : Buffer A)
+    (old new : RefusalNumbers) : Type 0 where
   pub status_is : status ≡ number_of_status s
   pub first : IsUntouched a
   pub second : IsUntouched b
@@ -24,7 +25,8 @@ pub record TellsOfThree {A : Type 0} (s : Status) (status : ℕ) (a b : Buffer �
   pub refusal : new ≡ old
 
 -- or a refusal alone
-pub record RefusesThree {A : Type 0} (status : ℕ) (a b : Buffer ℕ) (c : Buffer A) (new numbers : RefusalNumbers) : Type 0 where
+pub record RefusesThree {A : Type 0} (status : ℕ) (a b : Buffer ℕ) (c : Buffer A)
+    (new numbers : RefusalNumbers) : Type 0 where
   pub status_is : status ≡ number_of_status Refused
   pub first : IsUntouched a
   pub second : IsUntouched b
@@ -32,7 +34,8 @@ pub record RefusesThree {A : Type 0} (status : ℕ) (a b : Buffer ℕ) (c : Buff
   pub refusal : new ≡ numbers
 
 -- an ordinary module and its plain PDB are written into two buffers, and the rows that move into the third
-pub record WritesOrdinary (status : ℕ) (m : Module) (p : PlainPdb) (a b : Buffer ℕ) (c : Buffer MoveNumbers) : Type 0 where
+pub record WritesOrdinary (status : ℕ) (m : Module) (p : PlainPdb) (a b : Buffer ℕ)
+    (c : Buffer MoveNumbers) : Type 0 where
   pub image : List ℕ
   pub symbols : List ℕ
   pub written : RewritesTo (module_moved m) (pdb_moved m p) image symbols
@@ -41,16 +44,21 @@ pub record WritesOrdinary (status : ℕ) (m : Module) (p : PlainPdb) (a b : Buff
 
 -- so it is where they pass no limit, and else the first limit is told
 abbrev pub CompactsUnless :
-    ℕ → Module → PlainPdb → Buffer ℕ → Buffer ℕ → Buffer MoveNumbers → RefusalNumbers → RefusalNumbers → Option Passed → Type 0
+    ℕ → Module → PlainPdb → Buffer ℕ → Buffer ℕ → Buffer MoveNumbers → RefusalNumbers → RefusalNumbers → Option Passed
+    → Type 0
 CompactsUnless status m p a b c old new None = WritesOrdinary status m p a b c × (new ≡ old)
-CompactsUnless status m p a b c old new (Some passed) = RefusesThree status a b c new (numbers_of_reason (reason_of_limit passed))
+CompactsUnless status m p a b c old new (Some passed) =
+    RefusesThree status a b c new (numbers_of_reason (reason_of_limit passed))
 
 -- so it is, or there is no memory
-abbrev pub CompactsModule : ℕ → Module → PlainPdb → Buffer ℕ → Buffer ℕ → Buffer MoveNumbers → RefusalNumbers → RefusalNumbers → Type 0
+abbrev pub CompactsModule : ℕ → Module → PlainPdb → Buffer ℕ → Buffer ℕ → Buffer MoveNumbers → RefusalNumbers
+    → RefusalNumbers → Type 0
 CompactsModule status m p a b c old new =
-    CompactsUnless status m p a b c old new (rewrite_limit (module_moved m) (pdb_moved m p)) ⊎ TellsOfThree Memory status a b c old new
+    CompactsUnless status m p a b c old new
+    (rewrite_limit (module_moved m) (pdb_moved m p)) ⊎ TellsOfThree Memory status a b c old new
 
 -- the module and the PDB after all deltas of an open handle
-abbrev pub Compacts : ℕ → Option State → Buffer ℕ → Buffer ℕ → Buffer MoveNumbers → RefusalNumbers → RefusalNumbers → Type 0
+abbrev pub Compacts : ℕ → Option State → Buffer ℕ → Buffer ℕ → Buffer MoveNumbers → RefusalNumbers → RefusalNumbers
+    → Type 0
 Compacts status None a b c old new = TellsOfThree Closed status a b c old new
 Compacts status (Some s) a b c old new = CompactsModule status (module_after s) (pdb_after s) a b c old new

@@ -24,4 +24,5 @@ Copies number old new before count (Err s) = (number ≡ number_of_status s) × 
 
 -- so it is, or there is no memory
 abbrev pub CopiesOrStays : {A : Type 0} → ℕ → List A → List A → ℕ → ℕ → Result (List A) Status → Type 0
-CopiesOrStays number old new before count said = Copies number old new before count said ⊎ Copies number old new before count (Err Memory)
+CopiesOrStays number old new before count said =
+    Copies number old new before count said ⊎ Copies number old new before count (Err Memory)

@@ -31,7 +31,8 @@ use Rattle.enc_c.specs.Saved.{Buffer, CopiesThree}
 use Rattle.enc_c.specs.State.{State, chain_after, pdb_after}
 use Rattle.enc_c.specs.Status.{number_of_status}
 
--- why two deltas that follow a chain aren't merged: the PDB would be too heavy, or else a reference lies too deep in others
+-- why two deltas that follow a chain aren't merged: the PDB would be too heavy, or else a reference lies too deep in
+-- others
 unfoldable pub unmerged_two : Chain → Source → Source → PlainPdb → Option Unwritten
 unmerged_two c a b after =
     if nat_lt most_pdb_weight (weight_of_both c a b after) then Some (Because (Heap Pdb))
@@ -41,7 +42,8 @@ unmerged_two c a b after =
 abbrev pub unmerged_last : Bool → Source → List Source → PlainPdb → Option Unwritten
 unmerged_last short base [] after = Some (Only Few)
 unmerged_last short base (b ∷ []) after = Some (Only Few)
-unmerged_last short base (b ∷ a ∷ older) after = if short then unmerged_two (chain_with base older) a b after else Some (Only Limit)
+unmerged_last short base (b ∷ a ∷ older) after =
+    if short then unmerged_two (chain_with base older) a b after else Some (Only Limit)
 
 -- so it is of a state
 unfoldable pub unmerged : State → Option Unwritten
@@ -49,7 +51,8 @@ unmerged s = unmerged_last s.short s.base s.deltas (pdb_after s)
 
 -- the files of a delta stand for the last two
 abbrev pub StandsForTwo : State → List Source → DeltaBytes → Type 0
-StandsForTwo s (b ∷ a ∷ older) d = StandsForBoth (chain_with s.base older) a b (pdb_with s.pdb (drop 2 s.debugs)) (pdb_after s) d
+StandsForTwo s (b ∷ a ∷ older) d =
+    StandsForBoth (chain_with s.base older) a b (pdb_with s.pdb (drop 2 s.debugs)) (pdb_after s) d
 StandsForTwo s deltas d = ⊥
 
 -- for the last two of a state
@@ -85,7 +88,8 @@ StandsForList c (Err fault) d = ⊥
 abbrev pub StandsForText : List ℕ → State → DeltaBytes → Type 0
 StandsForText text s d = StandsForList (chain_after s) (edits_said text) d
 
--- a delta is given that stands for what is asked, where nothing is told against it, and else that is told; or there is no memory
+-- a delta is given that stands for what is asked, where nothing is told against it, and else that is told; or there
+-- is no memory
 abbrev pub GivesDelta : Result DeltaBytes Unwritten → (DeltaBytes → Type 0) → Option Unwritten → Type 0
 GivesDelta (Ok d) Stands why = (why ≡ None) × Stands d
 GivesDelta (Err u) Stands why = (why ≡ Some u) ⊎ (u ≡ Only Memory)

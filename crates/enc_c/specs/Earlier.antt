@@ -22,7 +22,13 @@ first_of_all g xs = drop (length xs - g) xs
 
 -- what an open handle meant after its first so many deltas
 abbrev pub state_at : ℕ → State → State
-state_at g s = record { base = s.base; deltas = first_of_all g s.deltas; pdb = s.pdb; debugs = first_of_all g s.debugs; short = s.short }
+state_at g s = record {
+  base = s.base;
+  deltas = first_of_all g s.deltas;
+  pdb = s.pdb;
+  debugs = first_of_all g s.debugs;
+  short = s.short;
+}
 
 -- a row, the body, the points, a document of a method, as they were then
 abbrev pub asked_row_at : State → ℕ → Token → Result (List ℕ) Status
@@ -39,9 +45,11 @@ asked_document_at s g t number = of_generation s g (asked_document (state_at g s
 
 -- the body is told of an open handle, by the user texts of the first so many generations
 unfoldable pub TellsBodyAt : Option State → ℕ → Token → ℕ → List ℕ → List ℕ → ℕ → ℕ → CodeHead → CodeHead → Type 0
-TellsBodyAt None g t number old new before count head head_new = TellsBody (λ (offset : ℕ). None) None number old new before count head head_new (Err Closed)
+TellsBodyAt None g t number old new before count head head_new =
+    TellsBody (λ (offset : ℕ). None) None number old new before count head head_new (Err Closed)
 TellsBodyAt (Some s) g t number old new before count head head_new =
-    TellsBody (joined_user (chain_after (state_at g s)).heaps) (code_stored (state_at g s).base (state_at g s).deltas t) number old new before count head head_new
+    TellsBody (joined_user (chain_after (state_at g s)).heaps)
+    (code_stored (state_at g s).base (state_at g s).deltas t) number old new before count head head_new
     (asked_body_at s g t)
 
 -- the number of the first rule that a move breaks, 0 where it breaks none; a method without a body has no frames
@@ -54,7 +62,8 @@ rule_told (Some (Some rule)) = Ok rule
 unfoldable pub asked_move : State → ℕ → Token → ℕ → List (ℕ × ℕ) → Result ℕ Status
 asked_move s g t offset pairs =
     of_generation s g (unless_unlike (unlike_method (state_at g s) t)
-    (rule_told (may_remap (module_after (state_at g s)) (pdb_after (state_at g s)) (module_after s) (pdb_after s) (record { method = t; offset = offset }) pairs)))
+    (rule_told (may_remap (module_after (state_at g s)) (pdb_after (state_at g s)) (module_after s) (pdb_after s)
+    (record { method = t; offset = offset }) pairs)))
 
 -- a value is told, or there is no memory
 abbrev pub TellsOrStays : {A : Type 0} → ℕ → A → A → Result A Status → Type 0

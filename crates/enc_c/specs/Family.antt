@@ -18,7 +18,8 @@ asked_owner m t = of_row m t (if is_child_table t.table then owner_told (owner_o
 
 -- the rows of a row's children in a child table of its table
 unfoldable pub asked_kids : Module → Token → ℕ → Result (List ℕ) Status
-asked_kids m t table = of_row m t (if is_child_table table && t.table == owner_table table then Ok (kids_of m t table) else Err Unlike)
+asked_kids m t table = of_row m t (if is_child_table table && t.table == owner_table table then Ok (kids_of m t table)
+    else Err Unlike)
 
 -- an answer, or that there is no memory for it
 abbrev pub OrMemory : {A : Type 0} → Result A Status → Result A Status → Type 0

@@ -32,7 +32,8 @@ TellsVerdict status refusal refusal_new (Err e) = (status ≡ number_of_status R
 
 -- so it is, or there is no memory
 abbrev pub Judges : ℕ → RefusalNumbers → RefusalNumbers → Result State Refusal → Type 0
-Judges status refusal refusal_new said = TellsVerdict status refusal refusal_new said ⊎ TellsStatus Memory status refusal refusal_new
+Judges status refusal refusal_new said =
+    TellsVerdict status refusal refusal_new said ⊎ TellsStatus Memory status refusal refusal_new
 
 -- so it is after the state of an open handle
 abbrev pub JudgesFiles : ℕ → Option State → RefusalNumbers → RefusalNumbers → (State → Result State Refusal) → Type 0

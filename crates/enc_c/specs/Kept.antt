@@ -13,7 +13,8 @@ abbrev pub AllGoIf : Bool → List Source → List DebugDelta → Type 0
 AllGoIf true deltas debugs = AllGo deltas debugs
 AllGoIf false deltas debugs = Unit {0}
 
--- the PDBs know methods of the module alone, and what they say goes with the deltas, where these are short; for each delta there is what its PDB says
+-- the PDBs know methods of the module alone, and what they say goes with the deltas, where these are short; for each
+-- delta there is what its PDB says
 pub record IsKept (s : State) : Type 0 where
   pub within : KnowsWithin (pdb_after s) (row_count (module_after s) tables.method_def)
   pub go : AllGoIf s.short s.deltas s.debugs

@@ -22,11 +22,13 @@ asked_type m enclosing namespace name = told_if_there (type_named m enclosing na
 -- rows of the first table have children in the second, or are types, which have Event and Property by way of maps
 abbrev pub may_have : ℕ → ℕ → Bool
 may_have owners table =
-    is_child_table table && (owners == owner_table table || (owners == tables.type_def && (table == tables.event || table == tables.property)))
+    is_child_table table && (owners == owner_table table
+    || (owners == tables.type_def && (table == tables.event || table == tables.property)))
 
 -- the rows of a child table with a name that belong to a row, in order of attachment
 unfoldable pub asked_members : Module → Token → ℕ → List ℕ → Result (List ℕ) Status
-asked_members m owner table name = of_row m owner (if may_have owner.table table then Ok (members_named m owner table name) else Err Unlike)
+asked_members m owner table name =
+    of_row m owner (if may_have owner.table table then Ok (members_named m owner table name) else Err Unlike)
 
 -- the bytes of the units of the user text at an offset
 unfoldable pub asked_user : (ℕ → Option (List ℕ)) → ℕ → Result (List ℕ) Status

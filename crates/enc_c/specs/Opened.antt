@@ -8,8 +8,11 @@ use Rattle.enc_c.specs.declared.status.Status.TheVariants.{Closed}
 use Rattle.enc_c.specs.Code.{asked_body, TellsBody}
 use Rattle.enc_c.specs.State.{State, chain_after, module_after}
 
--- the code stands in the newest file that lists the method, and the user texts that it names are those of all generations
+-- the code stands in the newest file that lists the method, and the user texts that it names are those of all
+-- generations
 abbrev pub TellsBodyOf : Option State → Token → ℕ → List ℕ → List ℕ → ℕ → ℕ → CodeHead → CodeHead → Type 0
-TellsBodyOf None t number old new before count head head_new = TellsBody (λ offset. None) None number old new before count head head_new (Err Closed)
+TellsBodyOf None t number old new before count head head_new =
+    TellsBody (λ offset. None) None number old new before count head head_new (Err Closed)
 TellsBodyOf (Some s) t number old new before count head head_new =
-    TellsBody (joined_user (chain_after s).heaps) (code_stored s.base s.deltas t) number old new before count head head_new (asked_body (module_after s) t)
+    TellsBody (joined_user (chain_after s).heaps)
+    (code_stored s.base s.deltas t) number old new before count head head_new (asked_body (module_after s) t)

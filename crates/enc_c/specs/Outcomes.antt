@@ -37,12 +37,16 @@ abbrev pub Stays : {S : Type 0} → Status → ℕ → Option S → Option S →
 Stays s status old new refusal refusal_new = (status ≡ number_of_status s) × (new ≡ old) × (refusal_new ≡ refusal)
 
 -- the handle has the new state; or the files are refused, and it stays as it was
-abbrev pub Changes : {S : Type 0} → ℕ → Option S → Option S → RefusalNumbers → RefusalNumbers → Result S Refusal → Type 0
-Changes status old new refusal refusal_new (Ok s) = (status ≡ number_of_status Done) × (new ≡ Some s) × (refusal_new ≡ refusal)
-Changes status old new refusal refusal_new (Err e) = (status ≡ number_of_status Refused) × (new ≡ old) × (refusal_new ≡ numbers_of e)
+abbrev pub Changes : {S : Type 0} → ℕ → Option S → Option S → RefusalNumbers → RefusalNumbers → Result S Refusal
+    → Type 0
+Changes status old new refusal refusal_new (Ok s) =
+    (status ≡ number_of_status Done) × (new ≡ Some s) × (refusal_new ≡ refusal)
+Changes status old new refusal refusal_new (Err e) =
+    (status ≡ number_of_status Refused) × (new ≡ old) × (refusal_new ≡ numbers_of e)
 
 -- so it is, or there is no memory
-abbrev pub ChangesOrStays : {S : Type 0} → ℕ → Option S → Option S → RefusalNumbers → RefusalNumbers → Result S Refusal → Type 0
+abbrev pub ChangesOrStays : {S : Type 0} → ℕ → Option S → Option S → RefusalNumbers → RefusalNumbers → Result S Refusal
+    → Type 0
 ChangesOrStays status old new refusal refusal_new said =
     Changes status old new refusal refusal_new said ⊎ Stays Memory status old new refusal refusal_new
 
@@ -52,6 +56,8 @@ Opens status None new refusal refusal_new said = ChangesOrStays status None new 
 Opens status (Some s) new refusal refusal_new said = Stays Open status (Some s) new refusal refusal_new
 
 -- a handle that is closed stays so, and one that is open has what follows its state, or stays as it is
-abbrev pub Applies : {S : Type 0} → ℕ → Option S → Option S → RefusalNumbers → RefusalNumbers → (S → Result S Refusal) → Type 0
+abbrev pub Applies : {S : Type 0} → ℕ → Option S → Option S → RefusalNumbers → RefusalNumbers → (S → Result S Refusal)
+    → Type 0
 Applies status None new refusal refusal_new answer = Stays Closed status None new refusal refusal_new
-Applies status (Some s) new refusal refusal_new answer = ChangesOrStays status (Some s) new refusal refusal_new (answer s)
+Applies status (Some s) new refusal refusal_new answer =
+    ChangesOrStays status (Some s) new refusal refusal_new (answer s)

@@ -10,9 +10,25 @@ use Rattle.enc_c.specs.declared.points.PointNumbers.{PointNumbers}
 -- a point that is hidden has lines and columns 0
 abbrev pub numbers_in : ℕ → ℕ → Option (ℕ × ℕ × ℕ × ℕ) → PointNumbers
 numbers_in offset document None =
-    record { offset = offset; document = document; hidden = 1; start_line = 0; start_column = 0; end_line = 0; end_column = 0 }
+    record {
+      offset = offset;
+      document = document;
+      hidden = 1;
+      start_line = 0;
+      start_column = 0;
+      end_line = 0;
+      end_column = 0;
+    }
 numbers_in offset document (Some l) =
-    record { offset = offset; document = document; hidden = 0; start_line = l.0; start_column = l.1; end_line = l.2; end_column = l.3 }
+    record {
+      offset = offset;
+      document = document;
+      hidden = 0;
+      start_line = l.0;
+      start_column = l.1;
+      end_line = l.2;
+      end_column = l.3;
+    }
 
 abbrev pub point_numbers : Point → PointNumbers
 point_numbers p = numbers_in p.offset p.document p.lines

@@ -24,7 +24,16 @@ use Rattle.enc_c.specs.Refusals.{number_of_stream, numbers_of, refusal_by, strea
 -- a letter, a rule, the kind of a place, and the numbers that it has; the others are 0
 abbrev pub numbers_with : ℕ → ℕ → ℕ → ℕ → ℕ → ℕ → ℕ → RefusalNumbers
 numbers_with letter rule place stream table row entry =
-    record { letter = letter; rule = rule; place = place; stream = stream; table = table; column = 0; row = row; entry = entry }
+    record {
+      letter = letter;
+      rule = rule;
+      place = place;
+      stream = stream;
+      table = table;
+      column = 0;
+      row = row;
+      entry = entry;
+    }
 
 -- the numbers of a reason: of a rule of a file, of J1 and J2, of a rule of edits, of L4 and of G1
 unfoldable pub numbers_of_reason : Reason → RefusalNumbers
@@ -38,7 +47,8 @@ numbers_of_reason (Deep t) = numbers_with 0x47 1 9 0 t.table t.row 0
 
 -- what numbers say of a text
 abbrev pub json_by : RefusalNumbers → Option Reason
-json_by n = if n.rule == 1 && n.place == 13 then Some Json else if n.rule == 2 && n.place == 14 then Some (Element n.entry) else None
+json_by n = if n.rule == 1 && n.place == 13 then Some Json else if n.rule == 2
+    && n.place == 14 then Some (Element n.entry) else None
 
 -- of a limit
 abbrev pub limit_by : RefusalNumbers → Option Reason
@@ -54,7 +64,8 @@ deep_by n = if n.rule == 1 && n.place == 9 then Some (Deep (record { table = n.t
 unfoldable pub reason_by : RefusalNumbers → Option Reason
 reason_by n =
     if n.letter == 0x4a then json_by n else if n.letter == 0x4c then limit_by n else if n.letter == 0x47 then deep_by n
-    else if n.letter == 0x45 && n.place == 14 then Some (Edit n.rule n.entry) else option_map (λ (e : Refusal). File e) (refusal_by n)
+    else if n.letter == 0x45 && n.place == 14 then Some (Edit n.rule n.entry)
+    else option_map (λ (e : Refusal). File e) (refusal_by n)
 
 -- what the numbers of a reason say is that reason
 abbrev pub NumbersAreTheReasons : Type 0
@@ -82,7 +93,8 @@ line_of_reason name (Deep t) = deep_line name t
 
 -- its words are what stands there behind the name
 abbrev pub WordsStandInLines : Type 0
-WordsStandInLines = (name : List ℕ) (r : Reason) → line_of_reason name r ≡ codes "refused " ++ name ++ 0x20 ∷ words_of_reason r
+WordsStandInLines = (name : List ℕ) (r : Reason)
+    → line_of_reason name r ≡ codes "refused " ++ name ++ 0x20 ∷ words_of_reason r
 
 -- the rules of files: F1 to F12, and E1 to E24
 abbrev pub is_rule : Code → Bool

@@ -33,7 +33,16 @@ number_of_stream stream.Jtd = 7
 -- a place by its kind, and the numbers that it has; the others are 0
 abbrev pub placed_numbers : Code → ℕ → ℕ → ℕ → ℕ → ℕ → ℕ → RefusalNumbers
 placed_numbers code place stream table column row entry =
-    record { letter = letter_of code; rule = rule_of code; place = place; stream = stream; table = table; column = column; row = row; entry = entry }
+    record {
+      letter = letter_of code;
+      rule = rule_of code;
+      place = place;
+      stream = stream;
+      table = table;
+      column = column;
+      row = row;
+      entry = entry;
+    }
 
 abbrev pub numbers_at : Code → Place → RefusalNumbers
 numbers_at code place.Root = placed_numbers code 0 0 0 0 0 0
@@ -59,16 +68,22 @@ code_by letter rule = if letter == 0x46 then Some (F rule) else if letter == 0x4
 
 abbrev pub stream_by : ℕ → Option StreamName
 stream_by n =
-    if n == 0 then Some stream.Strings else if n == 1 then Some stream.Users else if n == 2 then Some stream.Blobs else if n == 3 then Some stream.Guids
-    else if n == 4 then Some stream.Compressed else if n == 5 then Some stream.Uncompressed else if n == 6 then Some stream.Pdb
+    if n == 0 then Some stream.Strings else if n == 1 then Some stream.Users else if n == 2 then Some stream.Blobs
+    else if n == 3 then Some stream.Guids
+    else if n == 4 then Some stream.Compressed else if n == 5 then Some stream.Uncompressed else if n == 6
+    then Some stream.Pdb
     else if n == 7 then Some stream.Jtd else None
 
 abbrev pub place_by : RefusalNumbers → Option Place
 place_by n =
-    if n.place == 0 then Some place.Root else if n.place == 1 then option_map (λ (name : StreamName). place.Stream name) (stream_by n.stream)
-    else if n.place == 2 then Some place.Headers else if n.place == 3 then Some place.Cli else if n.place == 4 then Some place.Metadata
-    else if n.place == 5 then Some place.Resources else if n.place == 6 then Some place.Debug else if n.place == 7 then Some place.Tables
-    else if n.place == 8 then Some place.Pdb else if n.place == 9 then Some (place.Row (record { table = n.table; row = n.row }))
+    if n.place == 0 then Some place.Root else if n.place == 1
+    then option_map (λ (name : StreamName). place.Stream name) (stream_by n.stream)
+    else if n.place == 2 then Some place.Headers else if n.place == 3 then Some place.Cli else if n.place == 4
+    then Some place.Metadata
+    else if n.place == 5 then Some place.Resources else if n.place == 6 then Some place.Debug else if n.place == 7
+    then Some place.Tables
+    else if n.place == 8 then Some place.Pdb else if n.place == 9
+    then Some (place.Row (record { table = n.table; row = n.row }))
     else if n.place == 10 then Some (place.Cell (record { table = n.table; row = n.row }) n.column)
     else if n.place == 11 then Some (place.Owner (record { table = n.table; row = n.row }))
     else if n.place == 12 then Some (place.Log n.entry) else None

@@ -65,7 +65,8 @@ pub record CopiesTwo (status : ℕ) (a b : Buffer ℕ) (x y : List ℕ) : Type 0
   pub second : IsFilled (both_room x y a.old b.old) y b
 
 -- so it is of three
-pub record CopiesThree {A : Type 0} (status : ℕ) (a b : Buffer ℕ) (c : Buffer A) (x y : List ℕ) (z : List A) : Type 0 where
+pub record CopiesThree {A : Type 0} (status : ℕ) (a b : Buffer ℕ) (c : Buffer A) (x y : List ℕ)
+    (z : List A) : Type 0 where
   pub status_is : status ≡ number_of_status (status_if (all_room x y z a.old b.old c.old))
   pub first : IsFilled (all_room x y z a.old b.old c.old) x a
   pub second : IsFilled (all_room x y z a.old b.old c.old) y b
@@ -79,7 +80,8 @@ reason_of_limit too_heavy = Image
 -- a module that isn't written by a status, and its limit by numbers
 abbrev pub TellsUnwritten : ℕ → RefusalNumbers → RefusalNumbers → RewriteFault → Type 0
 TellsUnwritten status old new fault.Memory = (status ≡ number_of_status Memory) × (new ≡ old)
-TellsUnwritten status old new (fault.TooLarge heap) = (status ≡ number_of_status Refused) × (new ≡ numbers_of_reason (Heap heap))
+TellsUnwritten status old new (fault.TooLarge heap) =
+    (status ≡ number_of_status Refused) × (new ≡ numbers_of_reason (Heap heap))
 TellsUnwritten status old new fault.Image = (status ≡ number_of_status Refused) × (new ≡ numbers_of_reason Image)
 
 -- a module and its plain PDB are written into two buffers
@@ -97,14 +99,17 @@ pub record TellsOfTwo (s : Status) (status : ℕ) (a b : Buffer ℕ) (old new : 
   pub refusal : new ≡ old
 
 -- a module and its PDB are written where they pass no limit, and else the first limit is told
-abbrev pub SavesUnless : ℕ → Module → PlainPdb → Buffer ℕ → Buffer ℕ → RefusalNumbers → RefusalNumbers → Option Passed → Type 0
+abbrev pub SavesUnless : ℕ → Module → PlainPdb → Buffer ℕ → Buffer ℕ → RefusalNumbers → RefusalNumbers → Option Passed
+    → Type 0
 SavesUnless status m p a b old new None = WritesModule status m p a b × (new ≡ old)
 SavesUnless status m p a b old new (Some passed) =
-    (status ≡ number_of_status Refused) × IsUntouched a × IsUntouched b × (new ≡ numbers_of_reason (reason_of_limit passed))
+    (status ≡ number_of_status Refused) × IsUntouched a × IsUntouched b
+    × (new ≡ numbers_of_reason (reason_of_limit passed))
 
 -- so it is, or there is no memory
 abbrev pub SavesModule : ℕ → Module → PlainPdb → Buffer ℕ → Buffer ℕ → RefusalNumbers → RefusalNumbers → Type 0
-SavesModule status m p a b old new = SavesUnless status m p a b old new (rewrite_limit m p) ⊎ TellsOfTwo Memory status a b old new
+SavesModule status m p a b old new =
+    SavesUnless status m p a b old new (rewrite_limit m p) ⊎ TellsOfTwo Memory status a b old new
 
 -- the module and the PDB after all deltas of an open handle
 abbrev pub Saves : ℕ → Option State → Buffer ℕ → Buffer ℕ → RefusalNumbers → RefusalNumbers → Type 0

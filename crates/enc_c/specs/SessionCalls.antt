@@ -44,17 +44,22 @@ OpensWith true status new refusal refusal_new said = ChangesOrStays status None 
 OpensWith false status new refusal refusal_new said = Stays Few status None new refusal refusal_new
 
 -- a session that is open stays as it is
-abbrev pub OpensSession : ℕ → Option Recorded → Option Recorded → RefusalNumbers → RefusalNumbers → ℕ → Result Recorded Refusal → Type 0
-OpensSession status None new refusal refusal_new limit said = OpensWith (nat_le (events_of_steps 1) limit) status new refusal refusal_new said
+abbrev pub OpensSession : ℕ → Option Recorded → Option Recorded → RefusalNumbers → RefusalNumbers → ℕ
+    → Result Recorded Refusal → Type 0
+OpensSession status None new refusal refusal_new limit said =
+    OpensWith (nat_le (events_of_steps 1) limit) status new refusal refusal_new said
 OpensSession status (Some r) new refusal refusal_new limit said = Stays Open status (Some r) new refusal refusal_new
 
 -- a session is changed, and a value is told; or the status says why not, and all stays
-abbrev pub ChangesAndTells : {A : Type 0} → ℕ → Option Recorded → Option Recorded → A → A → Result (A × Recorded) Status → Type 0
-ChangesAndTells status old new told told_new (Ok x) = (status ≡ number_of_status Done) × (new ≡ Some x.1) × (told_new ≡ x.0)
+abbrev pub ChangesAndTells : {A : Type 0} → ℕ → Option Recorded → Option Recorded → A → A → Result (A × Recorded) Status
+    → Type 0
+ChangesAndTells status old new told told_new (Ok x) =
+    (status ≡ number_of_status Done) × (new ≡ Some x.1) × (told_new ≡ x.0)
 ChangesAndTells status old new told told_new (Err s) = (status ≡ number_of_status s) × (new ≡ old) × (told_new ≡ told)
 
 -- so it is, or there is no memory
-abbrev pub ChangesOrRunsOut : {A : Type 0} → ℕ → Option Recorded → Option Recorded → A → A → Result (A × Recorded) Status → Type 0
+abbrev pub ChangesOrRunsOut : {A : Type 0} → ℕ → Option Recorded → Option Recorded → A → A
+    → Result (A × Recorded) Status → Type 0
 ChangesOrRunsOut status old new told told_new said =
     ChangesAndTells status old new told told_new said ⊎ ChangesAndTells status old new told told_new (Err Memory)
 
@@ -62,7 +67,8 @@ ChangesOrRunsOut status old new told told_new said =
 abbrev pub with_event_room : {A : Type 0} → ℕ → Recorded → Result A Status → Result A Status
 with_event_room more r answer = if nat_le (length r.events + more) r.limit then answer else Err Short
 
--- a call is made where the limit has room for so many events, were all taken, and else the status says that it is passed
+-- a call is made where the limit has room for so many events, were all taken, and else the status says that it is
+-- passed
 abbrev pub within_event_limit : {A : Type 0} → ℕ → Recorded → Result A Status → Result A Status
 within_event_limit more r answer = if nat_le more r.limit then answer else Err Limit
 
@@ -92,7 +98,8 @@ asked_steps task count r =
     (Ok (stepping_told task (steps_recorded task count r)))))
 
 -- memory ran out behind fewer steps, each of which ran: those stand, and are told
-pub record HaveRunOut (status task count : ℕ) (r : Recorded) (new : Option Recorded) (told : SteppedNumbers) : Type 0 where
+pub record HaveRunOut (status task count : ℕ) (r : Recorded) (new : Option Recorded)
+    (told : SteppedNumbers) : Type 0 where
   pub status_is : status ≡ number_of_status Memory
   pub session : Recorded
   pub fewer : told.ran < count
@@ -104,10 +111,12 @@ pub record HaveRunOut (status task count : ℕ) (r : Recorded) (new : Option Rec
 abbrev pub StepsOf : ℕ → Option Recorded → Option Recorded → SteppedNumbers → SteppedNumbers → ℕ → ℕ → Type 0
 StepsOf status None new told told_new task count = ChangesAndTells status None new told told_new (Err Closed)
 StepsOf status (Some r) new told told_new task count =
-    ChangesAndTells status (Some r) new told told_new (asked_steps task count r) ⊎ HaveRunOut status task count r new told_new
+    ChangesAndTells status (Some r) new told told_new
+    (asked_steps task count r) ⊎ HaveRunOut status task count r new told_new
 
 -- a delta: it is applied, or refused, which is an event too
-abbrev pub JudgesIn : ℕ → Option Recorded → RefusalNumbers → RefusalNumbers → DeltaContents → Recorded → Result Accepted Refusal → Type 0
+abbrev pub JudgesIn : ℕ → Option Recorded → RefusalNumbers → RefusalNumbers → DeltaContents → Recorded
+    → Result Accepted Refusal → Type 0
 JudgesIn status new refusal refusal_new files r (Ok a) =
     (status ≡ number_of_status Done) × (new ≡ Some (apply_recorded files r)) × (refusal_new ≡ refusal)
 JudgesIn status new refusal refusal_new files r (Err e) =
@@ -118,12 +127,14 @@ delta_given meta il pdb = record { metadata = meta; code = il; debug = given_byt
 
 abbrev pub AppliesIf : Bool → ℕ → Option Recorded → RefusalNumbers → RefusalNumbers → DeltaContents → Recorded → Type 0
 AppliesIf true status new refusal refusal_new files r =
-    JudgesIn status new refusal refusal_new files r (judged_after r.followed files) ⊎ Stays Memory status (Some r) new refusal refusal_new
+    JudgesIn status new refusal refusal_new files r (judged_after r.followed files) ⊎ Stays Memory status
+    (Some r) new refusal refusal_new
 AppliesIf false status new refusal refusal_new files r = Stays Short status (Some r) new refusal refusal_new
 
 abbrev pub AppliesIn : ℕ → Option Recorded → Option Recorded → RefusalNumbers → RefusalNumbers → DeltaContents → Type 0
 AppliesIn status None new refusal refusal_new files = Stays Closed status None new refusal refusal_new
-AppliesIn status (Some r) new refusal refusal_new files = AppliesIf (nat_le (length r.events + 1) r.limit) status new refusal refusal_new files r
+AppliesIn status (Some r) new refusal refusal_new files =
+    AppliesIf (nat_le (length r.events + 1) r.limit) status new refusal refusal_new files r
 
 -- a remap of the innermost frame of a task
 unfoldable pub asked_remap : ℕ → List (ℕ × ℕ) → Recorded → Result (RemappedNumbers × Recorded) Status

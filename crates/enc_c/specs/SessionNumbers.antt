@@ -52,12 +52,16 @@ stepped_numbers ran (Some (state.Trapped x)) = record { ran = ran; state = 2; tr
 
 -- an event by its kind, its task, its method, and its line, generation, rule or trap; what it doesn't have is 0
 abbrev pub event_numbers : Event → EventNumbers
-event_numbers (event.Spawned task method) = record { kind = 1; task = task; method = token_as_number method; detail = 0 }
-event_numbers (event.Entered task method) = record { kind = 2; task = task; method = token_as_number method; detail = 0 }
+event_numbers (event.Spawned task method) =
+    record { kind = 1; task = task; method = token_as_number method; detail = 0 }
+event_numbers (event.Entered task method) =
+    record { kind = 2; task = task; method = token_as_number method; detail = 0 }
 event_numbers (event.Left task method) = record { kind = 3; task = task; method = token_as_number method; detail = 0 }
-event_numbers (event.Line task method line) = record { kind = 4; task = task; method = token_as_number method; detail = line }
+event_numbers (event.Line task method line) =
+    record { kind = 4; task = task; method = token_as_number method; detail = line }
 event_numbers (event.Applied generation) = record { kind = 5; task = 0; method = 0; detail = generation }
-event_numbers (event.Refused code) = record { kind = 6; task = 0; method = 0; detail = letter_of code * 0x100 + rule_of code }
+event_numbers (event.Refused code) =
+    record { kind = 6; task = 0; method = 0; detail = letter_of code * 0x100 + rule_of code }
 event_numbers (event.Trapped task x) = record { kind = 7; task = task; method = 0; detail = trap_number x }
 event_numbers (event.Ended task) = record { kind = 8; task = task; method = 0; detail = 0 }
 

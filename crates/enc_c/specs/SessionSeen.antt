@@ -12,7 +12,8 @@ use Rattle.enc_c.specs.SessionNumbers.{token_as_number}
 use Rattle.enc_c.specs.declared.session_numbers.RemappedNumbers.{RemappedNumbers}
 
 abbrev pub remapped_told : Remapped → RemappedNumbers
-remapped_told (remapped.Moved method from to) = record { rule = 0; method = token_as_number method; from = from; to = to }
+remapped_told (remapped.Moved method from to) =
+    record { rule = 0; method = token_as_number method; from = from; to = to }
 remapped_told (remapped.Refused number) = record { rule = number; method = 0; from = 0; to = 0 }
 
 -- a delta was applied, or refused

@@ -13,7 +13,8 @@ use Rattle.enc_ppdb.specs.Fault.{pdb_of}
 use Rattle.enc_ppdb.specs.PdbChain.{DebugDelta, pdb_with}
 use Rattle.enc_checker.specs.Check.{Accepted, judged, new_bodies}
 
--- a base and its PDB, where it has one, and the deltas with what they say of methods, the newest first; and whether all deltas are short enough to be merged
+-- a base and its PDB, where it has one, and the deltas with what they say of methods, the newest first; and whether
+-- all deltas are short enough to be merged
 pub record State : Type 0 where
   pub base : Source
   pub deltas : List Source
@@ -47,7 +48,8 @@ begun_state_with base (Err e) = Err e
 -- a base with its PDB, which is read with as many methods as the base has
 abbrev pub state_with_pdb : Source → Option (List ℕ) → Result State Refusal
 state_with_pdb base None = Ok (begun_state base None)
-state_with_pdb base (Some bytes) = begun_state_with base (pdb_of bytes (length (rows_in (chain_of_base base).plain tables.method_def)))
+state_with_pdb base (Some bytes) =
+    begun_state_with base (pdb_of bytes (length (rows_in (chain_of_base base).plain tables.method_def)))
 
 abbrev pub opened_state_with : Result Source Refusal → Option (List ℕ) → Result State Refusal
 opened_state_with (Ok base) pdb = state_with_pdb base pdb
@@ -80,4 +82,5 @@ followed_state_if s short (Err e) = Err e
 
 -- what the files of a delta come to, after those before it
 unfoldable pub applied_state : State → List ℕ → List ℕ → Option (List ℕ) → Result State Refusal
-applied_state s meta il pdb = followed_state_if s (is_short_delta meta il) (judged (chain_after s) (delta_of meta il) pdb)
+applied_state s meta il pdb = followed_state_if s (is_short_delta meta il)
+    (judged (chain_after s) (delta_of meta il) pdb)

@@ -166,7 +166,8 @@ impl Held {
     /// The body of a method, as it stands in the newest file that has it.
     #[tactic(auto, unfolding(crate::specs::Code::asked_body))]
     pub fn code(&self, method: Token) -> Result<CodeRef<'_>, Status>
-        ensures { LendsCode (joined_user (chain_after self.now).heaps) (code_stored self.now.base self.now.deltas method) result (asked_body (module_after self.now) method) }
+        ensures { LendsCode (joined_user (chain_after self.now).heaps)
+            (code_stored self.now.base self.now.deltas method) result (asked_body (module_after self.now) method) }
     {
         match method_row(&self.agg, method) {
             Err(status) => Err(status),

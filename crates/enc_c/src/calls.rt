@@ -50,7 +50,8 @@ pub extern "C" fn enc_locate(
     place: &mut PlaceNumbers,
 ) -> u32
     ensures kept { handle.new.held ≡ handle.old.held }
-    ensures answer { TellsValue result place.old place.new (of_open handle.old.held (λ s. asked_place s (token_of row))) }
+    ensures answer { TellsValue result place.old place.new
+        (of_open handle.old.held (λ s. asked_place s (token_of row))) }
 {
     let Some(held) = take(handle, alloc) else {
         return Status::Closed.number();
@@ -70,7 +71,8 @@ pub extern "C" fn enc_locate_heap(
     place: &mut PlaceNumbers,
 ) -> u32
     ensures kept { handle.new.held ≡ handle.old.held }
-    ensures answer { TellsValue result place.old place.new (of_open handle.old.held (λ s. asked_heap_place s heap offset)) }
+    ensures answer { TellsValue result place.old place.new
+        (of_open handle.old.held (λ s. asked_heap_place s heap offset)) }
 {
     let Some(held) = take(handle, alloc) else {
         return Status::Closed.number();
@@ -90,7 +92,8 @@ pub extern "C" fn enc_number(
     number: &mut u32,
 ) -> u32
     ensures kept { handle.new.held ≡ handle.old.held }
-    ensures answer { TellsValue result number.old number.new (of_open handle.old.held (λ s. asked_number (module_after s) (token_of row) column)) }
+    ensures answer { TellsValue result number.old number.new
+        (of_open handle.old.held (λ s. asked_number (module_after s) (token_of row) column)) }
 {
     let Some(held) = take(handle, alloc) else {
         return Status::Closed.number();
@@ -110,7 +113,8 @@ pub extern "C" fn enc_token(
     token: &mut u32,
 ) -> u32
     ensures kept { handle.new.held ≡ handle.old.held }
-    ensures answer { TellsValue result token.old token.new (of_open handle.old.held (λ s. told_by_number (asked_token (module_after s) (token_of row) column))) }
+    ensures answer { TellsValue result token.old token.new
+        (of_open handle.old.held (λ s. told_by_number (asked_token (module_after s) (token_of row) column))) }
 {
     let Some(held) = take(handle, alloc) else {
         return Status::Closed.number();
@@ -124,7 +128,8 @@ pub extern "C" fn enc_token(
 #[unsafe(no_mangle)]
 pub extern "C" fn enc_owner(alloc: Global, handle: &mut Handle, row: u32, owner: &mut u32) -> u32
     ensures kept { handle.new.held ≡ handle.old.held }
-    ensures answer { TellsValue result owner.old owner.new (of_open handle.old.held (λ s. told_by_number (asked_owner (module_after s) (token_of row)))) }
+    ensures answer { TellsValue result owner.old owner.new
+        (of_open handle.old.held (λ s. told_by_number (asked_owner (module_after s) (token_of row)))) }
 {
     let Some(held) = take(handle, alloc) else {
         return Status::Closed.number();

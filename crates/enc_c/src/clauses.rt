@@ -68,7 +68,8 @@ fn numbers_of(clause: Clause) -> ClauseNumbers
 
 /// Appends the clauses of a section.
 fn push_section(section: &SectionRef<'_>, out: &mut Vec<ClauseNumbers>) -> Result<(), AllocError>
-    ensures { IfOk result (λ _. out.new.items ≡ out.old.items ++ map clause_numbers (map handler_meant (clauses_in section.now.fat section.now.count section.now.clauses.now))) }
+    ensures { IfOk result (λ _. out.new.items ≡ out.old.items ++ map clause_numbers
+        (map handler_meant (clauses_in section.now.fat section.now.count section.now.clauses.now))) }
 {
     let mut rest = section.clauses;
     for i in 0..section.count {
@@ -81,7 +82,8 @@ fn push_section(section: &SectionRef<'_>, out: &mut Vec<ClauseNumbers>) -> Resul
 /// Appends the clauses of these sections, which stand whole.
 fn push_sections(sections: &[u8], out: &mut Vec<ClauseNumbers>) -> Result<(), AllocError>
     requires { IsTrue (is_some (all_sections sections.now)) }
-    ensures { IfOk result (λ _. out.new.items ≡ out.old.items ++ map clause_numbers (map handler_meant (clauses_of sections.now))) }
+    ensures { IfOk result (λ _. out.new.items
+        ≡ out.old.items ++ map clause_numbers (map handler_meant (clauses_of sections.now))) }
 {
     let mut rest = sections;
     while let Some((section, behind)) = section_front(rest) {

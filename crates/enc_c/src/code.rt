@@ -23,7 +23,8 @@ pub struct CodeHead {
     pub init: u32,
 }
 
-/// Whether a token is a method of the module: `Absent` where it is no row, and `Unlike` where it is one of another table.
+/// Whether a token is a method of the module: `Absent` where it is no row, and `Unlike` where it is one of another
+/// table.
 #[tactic(auto, unfolding(crate::specs::Code::asked_body))]
 pub fn method_row<V: ModuleView>(view: &V, method: Token) -> Result<(), Status>
     ensures row { IfOk result (λ u. IsTrue (has_row (V.meaning view.now) method)) }

@@ -107,7 +107,8 @@ pub extern "C" fn enc_compact(
 ) -> u32
     ensures kept { handle.new.held ≡ handle.old.held }
     ensures answer { Compacts result handle.old.held (buffer_of image.old image.new image_size.old image_size.new)
-        (buffer_of pdb.old pdb.new pdb_size.old pdb_size.new) (buffer_of moves.old moves.new moves_size.old moves_size.new) refusal.old refusal.new }
+        (buffer_of pdb.old pdb.new pdb_size.old pdb_size.new)
+        (buffer_of moves.old moves.new moves_size.old moves_size.new) refusal.old refusal.new }
 {
     let Some(held) = take(handle, alloc) else {
         return Status::Closed.number();

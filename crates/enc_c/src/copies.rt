@@ -29,7 +29,8 @@ pub extern "C" fn enc_id(
     size: &mut usize,
 ) -> u32
     ensures kept { handle.new.held ≡ handle.old.held }
-    ensures answer { Copies result buffer.old buffer.new size.old size.new (of_open handle.old.held (λ s. asked_id (chain_after s) generation)) }
+    ensures answer { Copies result buffer.old buffer.new size.old size.new
+        (of_open handle.old.held (λ s. asked_id (chain_after s) generation)) }
 {
     let Some(held) = take(handle, alloc) else {
         return Status::Closed.number();
@@ -50,7 +51,8 @@ pub extern "C" fn enc_text(
     size: &mut usize,
 ) -> u32
     ensures kept { handle.new.held ≡ handle.old.held }
-    ensures answer { Copies result buffer.old buffer.new size.old size.new (of_open handle.old.held (λ s. asked_text (module_after s) (token_of row) column)) }
+    ensures answer { Copies result buffer.old buffer.new size.old size.new
+        (of_open handle.old.held (λ s. asked_text (module_after s) (token_of row) column)) }
 {
     let Some(held) = take(handle, alloc) else {
         return Status::Closed.number();
@@ -71,7 +73,8 @@ pub extern "C" fn enc_blob(
     size: &mut usize,
 ) -> u32
     ensures kept { handle.new.held ≡ handle.old.held }
-    ensures answer { Copies result buffer.old buffer.new size.old size.new (of_open handle.old.held (λ s. asked_blob (module_after s) (token_of row) column)) }
+    ensures answer { Copies result buffer.old buffer.new size.old size.new
+        (of_open handle.old.held (λ s. asked_blob (module_after s) (token_of row) column)) }
 {
     let Some(held) = take(handle, alloc) else {
         return Status::Closed.number();
@@ -92,7 +95,8 @@ pub extern "C" fn enc_guid(
     size: &mut usize,
 ) -> u32
     ensures kept { handle.new.held ≡ handle.old.held }
-    ensures answer { Copies result buffer.old buffer.new size.old size.new (of_open handle.old.held (λ s. asked_guid (module_after s) (token_of row) column)) }
+    ensures answer { Copies result buffer.old buffer.new size.old size.new
+        (of_open handle.old.held (λ s. asked_guid (module_after s) (token_of row) column)) }
 {
     let Some(held) = take(handle, alloc) else {
         return Status::Closed.number();
@@ -113,7 +117,8 @@ pub extern "C" fn enc_kids(
     size: &mut usize,
 ) -> u32
     ensures kept { handle.new.held ≡ handle.old.held }
-    ensures answer { CopiesOrStays result buffer.old buffer.new size.old size.new (of_open handle.old.held (λ s. asked_kids (module_after s) (token_of row) table)) }
+    ensures answer { CopiesOrStays result buffer.old buffer.new size.old size.new
+        (of_open handle.old.held (λ s. asked_kids (module_after s) (token_of row) table)) }
 {
     let Some(held) = take(handle, alloc) else {
         return Status::Closed.number();
@@ -133,7 +138,8 @@ pub extern "C" fn enc_row(
     size: &mut usize,
 ) -> u32
     ensures kept { handle.new.held ≡ handle.old.held }
-    ensures answer { CopiesOrStays result buffer.old buffer.new size.old size.new (of_open handle.old.held (λ s. asked_row s (token_of row))) }
+    ensures answer { CopiesOrStays result buffer.old buffer.new size.old size.new
+        (of_open handle.old.held (λ s. asked_row s (token_of row))) }
 {
     let Some(held) = take(handle, alloc) else {
         return Status::Closed.number();
@@ -153,7 +159,8 @@ pub extern "C" fn enc_points(
     size: &mut usize,
 ) -> u32
     ensures kept { handle.new.held ≡ handle.old.held }
-    ensures answer { CopiesOrStays result buffer.old buffer.new size.old size.new (of_open handle.old.held (λ s. asked_points s (token_of method))) }
+    ensures answer { CopiesOrStays result buffer.old buffer.new size.old size.new
+        (of_open handle.old.held (λ s. asked_points s (token_of method))) }
 {
     let Some(held) = take(handle, alloc) else {
         return Status::Closed.number();
@@ -174,7 +181,8 @@ pub extern "C" fn enc_document(
     size: &mut usize,
 ) -> u32
     ensures kept { handle.new.held ≡ handle.old.held }
-    ensures answer { CopiesOrStays result buffer.old buffer.new size.old size.new (of_open handle.old.held (λ s. asked_document s (token_of method) number)) }
+    ensures answer { CopiesOrStays result buffer.old buffer.new size.old size.new
+        (of_open handle.old.held (λ s. asked_document s (token_of method) number)) }
 {
     let Some(held) = take(handle, alloc) else {
         return Status::Closed.number();
@@ -199,7 +207,8 @@ pub extern "C" fn enc_code(
     head: &mut CodeHead,
 ) -> u32
     ensures kept { handle.new.held ≡ handle.old.held }
-    ensures answer { TellsBodyOf handle.old.held (token_of method) result buffer.old buffer.new size.old size.new head.old head.new }
+    ensures answer { TellsBodyOf handle.old.held
+        (token_of method) result buffer.old buffer.new size.old size.new head.old head.new }
 {
     let Some(held) = take(handle, alloc) else {
         return Status::Closed.number();

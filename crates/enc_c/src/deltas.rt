@@ -122,8 +122,10 @@ pub extern "C" fn enc_merge(
     refusal: &mut RefusalNumbers,
 ) -> u32
     ensures kept { handle.new.held ≡ handle.old.held }
-    ensures answer { Delivers (delivery result (buffer_of meta.old meta.new meta_size.old meta_size.new) (buffer_of il.old il.new il_size.old il_size.new)
-        (buffer_of pdb.old pdb.new pdb_size.old pdb_size.new) refusal.old refusal.new) handle.old.held StandsForLast unmerged }
+    ensures answer { Delivers (delivery result (buffer_of meta.old meta.new meta_size.old meta_size.new)
+        (buffer_of il.old il.new il_size.old il_size.new)
+        (buffer_of pdb.old pdb.new pdb_size.old pdb_size.new) refusal.old refusal.new) handle.old.held StandsForLast
+        unmerged }
 {
     let Some(held) = take(handle, alloc) else {
         return Status::Closed.number();
@@ -156,8 +158,10 @@ pub extern "C" fn enc_write(
     refusal: &mut RefusalNumbers,
 ) -> u32
     ensures kept { handle.new.held ≡ handle.old.held }
-    ensures answer { Delivers (delivery result (buffer_of meta.old meta.new meta_size.old meta_size.new) (buffer_of il.old il.new il_size.old il_size.new)
-        (buffer_of pdb.old pdb.new pdb_size.old pdb_size.new) refusal.old refusal.new) handle.old.held (StandsForText json.now) (unwritten json.now) }
+    ensures answer { Delivers (delivery result (buffer_of meta.old meta.new meta_size.old meta_size.new)
+        (buffer_of il.old il.new il_size.old il_size.new)
+        (buffer_of pdb.old pdb.new pdb_size.old pdb_size.new) refusal.old refusal.new) handle.old.held
+        (StandsForText json.now) (unwritten json.now) }
 {
     let Some(held) = take(handle, alloc) else {
         return Status::Closed.number();

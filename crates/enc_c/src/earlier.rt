@@ -34,7 +34,8 @@ fn rule_told(broken: Option<Option<u8>>) -> Result<u32, Status>
 
 /// A status, where a token names no method of a module.
 fn unlike_in(view: &Earlier<'_>, token: Token) -> Option<Status>
-    ensures { result ≡ (if has_row (module_of_all view.now) token then (if token.table == method_def then None else Some Status.Unlike) else Some Status.Absent) }
+    ensures { result ≡ (if has_row (module_of_all view.now) token
+        then (if token.table == method_def then None else Some Status.Unlike) else Some Status.Absent) }
 {
     if !is_row(view, token) {
         return Some(Status::Absent);
@@ -109,7 +110,8 @@ impl Held {
     }
 
     /// Whether a frame of a method, which has the method's body of the first so many deltas and stands at an offset,
-    /// may go on in the newest body where a map leads: the number of the first of Q3 to Q7 that is broken, 0 where none is.
+    /// may go on in the newest body where a map leads: the number of the first of Q3 to Q7 that is broken, 0
+    /// where none is.
     #[tactic(auto, unfolding(crate::specs::Earlier::asked_move))]
     fn rule_of(
         &self,

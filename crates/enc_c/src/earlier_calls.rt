@@ -33,7 +33,8 @@ pub extern "C" fn enc_row_at(
     size: &mut usize,
 ) -> u32
     ensures kept { handle.new.held ≡ handle.old.held }
-    ensures answer { CopiesOrStays result buffer.old buffer.new size.old size.new (of_open handle.old.held (λ s. asked_row_at s generation (token_of row))) }
+    ensures answer { CopiesOrStays result buffer.old buffer.new size.old size.new
+        (of_open handle.old.held (λ s. asked_row_at s generation (token_of row))) }
 {
     let Some(held) = take(handle, alloc) else {
         return Status::Closed.number();
@@ -56,7 +57,8 @@ pub extern "C" fn enc_code_at(
     head: &mut CodeHead,
 ) -> u32
     ensures kept { handle.new.held ≡ handle.old.held }
-    ensures answer { TellsBodyAt handle.old.held generation (token_of method) result buffer.old buffer.new size.old size.new head.old head.new }
+    ensures answer { TellsBodyAt handle.old.held generation
+        (token_of method) result buffer.old buffer.new size.old size.new head.old head.new }
 {
     let Some(held) = take(handle, alloc) else {
         return Status::Closed.number();
@@ -76,7 +78,8 @@ fn copy_code_at(
     size: &mut usize,
     head: &mut CodeHead,
 ) -> u32
-    ensures { TellsBodyAt (Some held.now) generation method result buffer.old buffer.new size.old size.new head.old head.new }
+    ensures { TellsBodyAt (Some held.now) generation method result buffer.old buffer.new size.old size.new head.old
+        head.new }
 {
     if !held.has_generation(generation) {
         return Status::Later.number();
@@ -88,7 +91,8 @@ fn copy_code_at(
 /// The body that a method had, as it stood in the newest file that had it.
 #[tactic(auto, unfolding(crate::specs::Code::asked_body))]
 fn code_in<'a>(view: &'a Earlier<'_>, method: Token) -> Result<CodeRef<'a>, Status>
-    ensures { LendsCode (users_of_all view.now) (code_stored view.now.base view.now.deltas method) result (asked_body (module_of_all view.now) method) }
+    ensures { LendsCode (users_of_all view.now) (code_stored view.now.base view.now.deltas method) result
+        (asked_body (module_of_all view.now) method) }
 {
     match method_row(view, method) {
         Err(status) => Err(status),
@@ -110,7 +114,8 @@ pub extern "C" fn enc_points_at(
     size: &mut usize,
 ) -> u32
     ensures kept { handle.new.held ≡ handle.old.held }
-    ensures answer { CopiesOrStays result buffer.old buffer.new size.old size.new (of_open handle.old.held (λ s. asked_points_at s generation (token_of method))) }
+    ensures answer { CopiesOrStays result buffer.old buffer.new size.old size.new
+        (of_open handle.old.held (λ s. asked_points_at s generation (token_of method))) }
 {
     let Some(held) = take(handle, alloc) else {
         return Status::Closed.number();
@@ -136,7 +141,8 @@ pub extern "C" fn enc_document_at(
     size: &mut usize,
 ) -> u32
     ensures kept { handle.new.held ≡ handle.old.held }
-    ensures answer { CopiesOrStays result buffer.old buffer.new size.old size.new (of_open handle.old.held (λ s. asked_document_at s generation (token_of method) number)) }
+    ensures answer { CopiesOrStays result buffer.old buffer.new size.old size.new
+        (of_open handle.old.held (λ s. asked_document_at s generation (token_of method) number)) }
 {
     let Some(held) = take(handle, alloc) else {
         return Status::Closed.number();
@@ -163,7 +169,8 @@ pub extern "C" fn enc_may_remap(
     rule: &mut u32,
 ) -> u32
     ensures kept { handle.new.held ≡ handle.old.held }
-    ensures answer { TellsOrStays result rule.old rule.new (of_open handle.old.held (λ s. asked_move s generation (token_of method) offset (pairs_of map.now))) }
+    ensures answer { TellsOrStays result rule.old rule.new
+        (of_open handle.old.held (λ s. asked_move s generation (token_of method) offset (pairs_of map.now))) }
 {
     let Some(held) = take(handle, alloc) else {
         return Status::Closed.number();

@@ -16,8 +16,10 @@ fn write_front<T: Copy>(items: &[T], buffer: &mut [T])
 /// Copies two files, or none where a buffer is too short.
 pub fn copy_two(first: &[u8], second: &[u8], to_first: &mut [u8], to_second: &mut [u8]) -> u32
     ensures status { result ≡ number_of_status (status_if (both_room first.now second.now to_first.old to_second.old)) }
-    ensures first { to_first.new ≡ written_if (both_room first.now second.now to_first.old to_second.old) first.now to_first.old }
-    ensures second { to_second.new ≡ written_if (both_room first.now second.now to_first.old to_second.old) second.now to_second.old }
+    ensures first { to_first.new ≡ written_if
+        (both_room first.now second.now to_first.old to_second.old) first.now to_first.old }
+    ensures second { to_second.new
+        ≡ written_if (both_room first.now second.now to_first.old to_second.old) second.now to_second.old }
 {
     if first.len() > to_first.len() || second.len() > to_second.len() {
         return Status::Short.number();
@@ -41,13 +43,17 @@ pub fn copy_three<T: Copy>(
     to_second: &mut [u8],
     to_third: &mut [T],
 ) -> u32
-    ensures status { result ≡ number_of_status (status_if (all_room files.entry.first.now files.entry.second.now files.entry.third.now
+    ensures status { result ≡ number_of_status
+        (status_if (all_room files.entry.first.now files.entry.second.now files.entry.third.now
         to_first.old to_second.old to_third.old)) }
-    ensures first { to_first.new ≡ written_if (all_room files.entry.first.now files.entry.second.now files.entry.third.now
+    ensures first { to_first.new ≡ written_if
+        (all_room files.entry.first.now files.entry.second.now files.entry.third.now
         to_first.old to_second.old to_third.old) files.entry.first.now to_first.old }
-    ensures second { to_second.new ≡ written_if (all_room files.entry.first.now files.entry.second.now files.entry.third.now
+    ensures second { to_second.new
+        ≡ written_if (all_room files.entry.first.now files.entry.second.now files.entry.third.now
         to_first.old to_second.old to_third.old) files.entry.second.now to_second.old }
-    ensures third { to_third.new ≡ written_if (all_room files.entry.first.now files.entry.second.now files.entry.third.now
+    ensures third { to_third.new ≡ written_if
+        (all_room files.entry.first.now files.entry.second.now files.entry.third.now
         to_first.old to_second.old to_third.old) files.entry.third.now to_third.old }
 {
     let Three {

@@ -43,9 +43,21 @@ impl Model for Held {
 
     ghost Value = { State };
 
-    ghost view = { λ h. record { base = h.agg.base; deltas = h.agg.deltas; pdb = h.debug.base; debugs = h.debug.deltas; short = h.short } };
+    ghost view = { λ h. record {
+      base = h.agg.base;
+      deltas = h.agg.deltas;
+      pdb = h.debug.base;
+      debugs = h.debug.deltas;
+      short = h.short;
+    } };
 
-    ghost invariant = { λ h. IsKept (record { base = h.agg.base; deltas = h.agg.deltas; pdb = h.debug.base; debugs = h.debug.deltas; short = h.short }) };
+    ghost invariant = { λ h. IsKept (record {
+      base = h.agg.base;
+      deltas = h.agg.deltas;
+      pdb = h.debug.base;
+      debugs = h.debug.deltas;
+      short = h.short;
+    }) };
 }
 
 /// Adds a delta that breaks no rule; the steps are counted in a ledger of their own.
@@ -124,7 +136,8 @@ impl Held {
     fn add(&mut self, alloc: Global, checked: Checked, short: bool) -> Result<(), AllocError>
         requires rules { first_meta (chain_after self.old) checked.delta ≡ None }
         requires kept { IsKept (followed_state self.old short (accepted checked.delta checked.pdb)) }
-        ensures added { IfOk result (λ u. self.new ≡ followed_state self.old short (accepted checked.delta checked.pdb)) }
+        ensures added { IfOk result (λ u. self.new
+            ≡ followed_state self.old short (accepted checked.delta checked.pdb)) }
         ensures kept { OnErr result (self.new ≡ self.old) }
     {
         let Checked { delta, pdb } = checked;
@@ -141,7 +154,8 @@ impl Held {
     /// `Refused` names the first rule that they break. Where it isn't added, nothing changes.
     #[tactic(auto, unfolding(crate::specs::State::applied_state))]
     pub fn apply(&mut self, alloc: Global, files: Files) -> Result<(), ReadFault>
-        ensures { Becomes self.old self.new result (applied_state self.old files.meta.items files.il.items (bytes_held files.pdb)) }
+        ensures { Becomes self.old self.new result
+            (applied_state self.old files.meta.items files.il.items (bytes_held files.pdb)) }
     {
         within_law();
         goes_law();

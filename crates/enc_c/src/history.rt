@@ -68,7 +68,8 @@ fn entries_of(
     requires low { 0 < generation }
     requires high { generation ≤ length agg.now.deltas }
     requires rows { IsTrue (list_all (λ (t : TheToken). nat_lt t.row 0x1000000) tokens.now) }
-    ensures { IfOk result (λ e. e.items ≡ map (entry_by_numbers (before_generation agg.now.base agg.now.deltas generation)) tokens.now) }
+    ensures { IfOk result (λ e. e.items
+        ≡ map (entry_by_numbers (before_generation agg.now.base agg.now.deltas generation)) tokens.now) }
 {
     let mut entries = Vec::new(alloc);
     for i in 0..tokens.len() {

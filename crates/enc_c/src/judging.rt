@@ -29,7 +29,8 @@ impl Held {
 
 /// Judges the files of a delta after what an open handle holds.
 fn judge(alloc: Global, held: &Held, files: Files, refusal: &mut RefusalNumbers) -> u32
-    ensures { Judges result refusal.old refusal.new (applied_state held.now files.meta.items files.il.items (bytes_held files.pdb)) }
+    ensures { Judges result refusal.old refusal.new
+        (applied_state held.now files.meta.items files.il.items (bytes_held files.pdb)) }
 {
     match held.judge(alloc, files) {
         Ok(()) => Status::Done.number(),
@@ -49,7 +50,8 @@ pub extern "C" fn enc_check(
     refusal: &mut RefusalNumbers,
 ) -> u32
     ensures kept { handle.new.held ≡ handle.old.held }
-    ensures answer { JudgesFiles result handle.old.held refusal.old refusal.new (λ s. applied_state s meta.now il.now (given_bytes pdb.now)) }
+    ensures answer { JudgesFiles result handle.old.held refusal.old refusal.new
+        (λ s. applied_state s meta.now il.now (given_bytes pdb.now)) }
 {
     let Some(held) = take(handle, alloc) else {
         return Status::Closed.number();

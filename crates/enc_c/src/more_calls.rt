@@ -23,7 +23,8 @@ pub extern "C" fn enc_lengths(
     lengths: &mut LengthNumbers,
 ) -> u32
     ensures kept { handle.new.held ≡ handle.old.held }
-    ensures answer { TellsValue result lengths.old lengths.new (of_open handle.old.held (λ s. asked_lengths s generation)) }
+    ensures answer { TellsValue result lengths.old lengths.new
+        (of_open handle.old.held (λ s. asked_lengths s generation)) }
 {
     let Some(held) = take(handle, alloc) else {
         return Status::Closed.number();
@@ -43,7 +44,8 @@ pub extern "C" fn enc_count_at(
     count: &mut u32,
 ) -> u32
     ensures kept { handle.new.held ≡ handle.old.held }
-    ensures answer { TellsValue result count.old count.new (of_open handle.old.held (λ s. asked_count_at s generation table)) }
+    ensures answer { TellsValue result count.old count.new
+        (of_open handle.old.held (λ s. asked_count_at s generation table)) }
 {
     let Some(held) = take(handle, alloc) else {
         return Status::Closed.number();
@@ -64,7 +66,8 @@ pub extern "C" fn enc_find_type(
     token: &mut u32,
 ) -> u32
     ensures kept { handle.new.held ≡ handle.old.held }
-    ensures answer { TellsValue result token.old token.new (of_open handle.old.held (λ s. told_by_number (asked_type (module_after s) (token_of enclosing) namespace.now name.now))) }
+    ensures answer { TellsValue result token.old token.new (of_open handle.old.held
+        (λ s. told_by_number (asked_type (module_after s) (token_of enclosing) namespace.now name.now))) }
 {
     let Some(held) = take(handle, alloc) else {
         return Status::Closed.number();

@@ -28,7 +28,8 @@ pub extern "C" fn enc_clauses(
     size: &mut usize,
 ) -> u32
     ensures kept { handle.new.held ≡ handle.old.held }
-    ensures answer { CopiesOrStays result buffer.old buffer.new size.old size.new (of_open handle.old.held (λ s. asked_clauses (module_after s) (token_of method))) }
+    ensures answer { CopiesOrStays result buffer.old buffer.new size.old size.new
+        (of_open handle.old.held (λ s. asked_clauses (module_after s) (token_of method))) }
 {
     let Some(held) = take(handle, alloc) else {
         return Status::Closed.number();
@@ -48,7 +49,8 @@ pub extern "C" fn enc_user_text(
     size: &mut usize,
 ) -> u32
     ensures kept { handle.new.held ≡ handle.old.held }
-    ensures answer { Copies result buffer.old buffer.new size.old size.new (of_open handle.old.held (λ s. asked_user (joined_user (chain_after s).heaps) offset)) }
+    ensures answer { Copies result buffer.old buffer.new size.old size.new
+        (of_open handle.old.held (λ s. asked_user (joined_user (chain_after s).heaps) offset)) }
 {
     let Some(held) = take(handle, alloc) else {
         return Status::Closed.number();
@@ -68,7 +70,8 @@ pub extern "C" fn enc_entries(
     size: &mut usize,
 ) -> u32
     ensures kept { handle.new.held ≡ handle.old.held }
-    ensures answer { CopiesOrStays result buffer.old buffer.new size.old size.new (of_open handle.old.held (λ s. asked_entries s generation)) }
+    ensures answer { CopiesOrStays result buffer.old buffer.new size.old size.new
+        (of_open handle.old.held (λ s. asked_entries s generation)) }
 {
     let Some(held) = take(handle, alloc) else {
         return Status::Closed.number();
@@ -90,7 +93,8 @@ pub extern "C" fn enc_find_member(
     size: &mut usize,
 ) -> u32
     ensures kept { handle.new.held ≡ handle.old.held }
-    ensures answer { CopiesOrStays result buffer.old buffer.new size.old size.new (of_open handle.old.held (λ s. asked_members (module_after s) (token_of owner) table name.now)) }
+    ensures answer { CopiesOrStays result buffer.old buffer.new size.old size.new
+        (of_open handle.old.held (λ s. asked_members (module_after s) (token_of owner) table name.now)) }
 {
     let Some(held) = take(handle, alloc) else {
         return Status::Closed.number();

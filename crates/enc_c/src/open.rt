@@ -67,7 +67,8 @@ fn open_closed(
     refusal: &mut RefusalNumbers,
 ) -> u32
     requires { handle.old.held ≡ None }
-    ensures { ChangesOrStays result handle.old.held handle.new.held refusal.old refusal.new (opened_state bytes.now (given_bytes pdb.now)) }
+    ensures { ChangesOrStays result handle.old.held handle.new.held refusal.old refusal.new
+        (opened_state bytes.now (given_bytes pdb.now)) }
 {
     match read(alloc, bytes, pdb) {
         Ok(held) => match hold(alloc, handle, held) {
@@ -87,7 +88,8 @@ pub extern "C" fn enc_open(
     pdb: &[u8],
     refusal: &mut RefusalNumbers,
 ) -> u32
-    ensures { Opens result handle.old.held handle.new.held refusal.old refusal.new (opened_state bytes.now (given_bytes pdb.now)) }
+    ensures { Opens result handle.old.held handle.new.held refusal.old refusal.new
+        (opened_state bytes.now (given_bytes pdb.now)) }
 {
     match take(handle, alloc) {
         Some(held) => {
@@ -120,7 +122,8 @@ fn apply(
     pdb: &[u8],
     refusal: &mut RefusalNumbers,
 ) -> u32
-    ensures { ChangesOrStays result (Some held.old) (Some held.new) refusal.old refusal.new (applied_state held.old meta.now il.now (given_bytes pdb.now)) }
+    ensures { ChangesOrStays result (Some held.old) (Some held.new) refusal.old refusal.new
+        (applied_state held.old meta.now il.now (given_bytes pdb.now)) }
 {
     let Ok(files) = files_of(alloc, meta, il, pdb) else {
         return Status::Memory.number();
@@ -141,7 +144,8 @@ pub extern "C" fn enc_apply(
     pdb: &[u8],
     refusal: &mut RefusalNumbers,
 ) -> u32
-    ensures { Applies result handle.old.held handle.new.held refusal.old refusal.new (λ s. applied_state s meta.now il.now (given_bytes pdb.now)) }
+    ensures { Applies result handle.old.held handle.new.held refusal.old refusal.new
+        (λ s. applied_state s meta.now il.now (given_bytes pdb.now)) }
 {
     let Some(held) = take(handle, alloc) else {
         return Status::Closed.number();
@@ -156,7 +160,8 @@ pub extern "C" fn enc_apply(
 #[unsafe(no_mangle)]
 pub extern "C" fn enc_close(alloc: Global, handle: &mut Handle) -> u32
     ensures closed { handle.new.held ≡ None }
-    ensures status { result ≡ (if is_some handle.old.held then number_of_status Status.Done else number_of_status Status.Closed) }
+    ensures status { result ≡ (if is_some handle.old.held then number_of_status Status.Done
+        else number_of_status Status.Closed) }
 {
     match take(handle, alloc) {
         Some(_) => Status::Done.number(),

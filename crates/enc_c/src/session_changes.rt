@@ -22,7 +22,8 @@ use std::alloc::{AllocError, Global};
 /// A new task, and its number.
 #[tactic(auto, unfolding(crate::specs::SessionCalls::asked_spawn))]
 fn spawn(recording: &mut Recording, method: Token, task: &mut u32) -> u32
-    ensures { ChangesOrRunsOut result (Some recording.old) (Some recording.new) task.old task.new (asked_spawn method recording.old) }
+    ensures { ChangesOrRunsOut result (Some recording.old) (Some recording.new) task.old task.new
+        (asked_spawn method recording.old) }
 {
     if !recording.has_room(3) {
         return Status::Short.number();
@@ -46,7 +47,8 @@ pub extern "C" fn enc_spawn(
     method: u32,
     task: &mut u32,
 ) -> u32
-    ensures { ChangesOrRunsOut result session.old.held session.new.held task.old task.new (of_open session.old.held (asked_spawn (token_of method))) }
+    ensures { ChangesOrRunsOut result session.old.held session.new.held task.old task.new
+        (of_open session.old.held (asked_spawn (token_of method))) }
 {
     let Some(held) = take_session(session, alloc) else {
         return Status::Closed.number();
@@ -120,7 +122,8 @@ fn apply(
     pdb: &[u8],
     refusal: &mut RefusalNumbers,
 ) -> u32
-    ensures { AppliesIn result (Some recording.old) (Some recording.new) refusal.old refusal.new (delta_given meta.now il.now pdb.now) }
+    ensures { AppliesIn result (Some recording.old) (Some recording.new) refusal.old refusal.new
+        (delta_given meta.now il.now pdb.now) }
 {
     if !recording.has_room(1) {
         return Status::Short.number();
@@ -144,7 +147,8 @@ pub extern "C" fn enc_session_apply(
     pdb: &[u8],
     refusal: &mut RefusalNumbers,
 ) -> u32
-    ensures { AppliesIn result session.old.held session.new.held refusal.old refusal.new (delta_given meta.now il.now pdb.now) }
+    ensures { AppliesIn result session.old.held session.new.held refusal.old refusal.new
+        (delta_given meta.now il.now pdb.now) }
 {
     let Some(held) = take_session(session, alloc) else {
         return Status::Closed.number();
@@ -175,7 +179,8 @@ fn remap(
     map: &[PairNumbers],
     remapped: &mut RemappedNumbers,
 ) -> u32
-    ensures { ChangesOrRunsOut result (Some recording.old) (Some recording.new) remapped.old remapped.new (asked_remap task (pairs_of map.now) recording.old) }
+    ensures { ChangesOrRunsOut result (Some recording.old) (Some recording.new) remapped.old remapped.new
+        (asked_remap task (pairs_of map.now) recording.old) }
 {
     let Ok(pairs) = list_pairs(alloc, map) else {
         return Status::Memory.number();
@@ -199,7 +204,8 @@ pub extern "C" fn enc_remap(
     map: &[PairNumbers],
     remapped: &mut RemappedNumbers,
 ) -> u32
-    ensures { ChangesOrRunsOut result session.old.held session.new.held remapped.old remapped.new (of_open session.old.held (asked_remap task (pairs_of map.now))) }
+    ensures { ChangesOrRunsOut result session.old.held session.new.held remapped.old remapped.new
+        (of_open session.old.held (asked_remap task (pairs_of map.now))) }
 {
     let Some(held) = take_session(session, alloc) else {
         return Status::Closed.number();

@@ -40,7 +40,8 @@ pub extern "C" fn enc_state(
     size: &mut usize,
 ) -> u32
     ensures kept { session.new.held ≡ session.old.held }
-    ensures answer { CopiesOrStays result buffer.old buffer.new size.old size.new (of_open session.old.held asked_state) }
+    ensures answer { CopiesOrStays result buffer.old buffer.new size.old size.new
+        (of_open session.old.held asked_state) }
 {
     let Some(held) = take_session(session, alloc) else {
         return Status::Closed.number();
@@ -98,7 +99,8 @@ fn list_frames(
     recording: &Recording,
     task: u32,
 ) -> Result<Vec<FrameNumbers>, AllocError>
-    ensures { IfOk result (λ v. v.items ≡ map frame_numbers (facts_below recording.now task (length (frames_in recording.now.machine task)))) }
+    ensures { IfOk result (λ v. v.items
+        ≡ map frame_numbers (facts_below recording.now task (length (frames_in recording.now.machine task)))) }
 {
     let mut frames = Vec::new(alloc);
     for i in 0..recording.frames(task) {
@@ -131,7 +133,8 @@ pub extern "C" fn enc_frames(
     size: &mut usize,
 ) -> u32
     ensures kept { session.new.held ≡ session.old.held }
-    ensures answer { CopiesOrStays result buffer.old buffer.new size.old size.new (of_open session.old.held (asked_frames task)) }
+    ensures answer { CopiesOrStays result buffer.old buffer.new size.old size.new
+        (of_open session.old.held (asked_frames task)) }
 {
     let Some(held) = take_session(session, alloc) else {
         return Status::Closed.number();
@@ -187,7 +190,8 @@ pub extern "C" fn enc_values(
     size: &mut usize,
 ) -> u32
     ensures kept { session.new.held ≡ session.old.held }
-    ensures answer { CopiesOrStays result buffer.old buffer.new size.old size.new (of_open session.old.held (asked_values task frame which)) }
+    ensures answer { CopiesOrStays result buffer.old buffer.new size.old size.new
+        (of_open session.old.held (asked_values task frame which)) }
 {
     let Some(held) = take_session(session, alloc) else {
         return Status::Closed.number();

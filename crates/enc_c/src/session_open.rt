@@ -80,7 +80,8 @@ fn open_closed(
     refusal: &mut RefusalNumbers,
 ) -> u32
     requires { session.old.held ≡ None }
-    ensures { ChangesOrStays result session.old.held session.new.held refusal.old refusal.new (session_over (opened_state bytes.now (given_bytes pdb.now)) limit) }
+    ensures { ChangesOrStays result session.old.held session.new.held refusal.old refusal.new
+        (session_over (opened_state bytes.now (given_bytes pdb.now)) limit) }
 {
     match read(alloc, bytes, pdb, limit) {
         Ok(recording) => match hold(alloc, session, recording) {
@@ -102,7 +103,8 @@ pub extern "C" fn enc_session_open(
     limit: u32,
     refusal: &mut RefusalNumbers,
 ) -> u32
-    ensures { OpensSession result session.old.held session.new.held refusal.old refusal.new limit (session_over (opened_state bytes.now (given_bytes pdb.now)) limit) }
+    ensures { OpensSession result session.old.held session.new.held refusal.old refusal.new limit
+        (session_over (opened_state bytes.now (given_bytes pdb.now)) limit) }
 {
     match take_session(session, alloc) {
         Some(held) => {
@@ -118,7 +120,8 @@ pub extern "C" fn enc_session_open(
 #[unsafe(no_mangle)]
 pub extern "C" fn enc_session_close(alloc: Global, session: &mut SessionHandle) -> u32
     ensures closed { session.new.held ≡ None }
-    ensures status { result ≡ (if is_some session.old.held then number_of_status Status.Done else number_of_status Status.Closed) }
+    ensures status { result ≡ (if is_some session.old.held then number_of_status Status.Done
+        else number_of_status Status.Closed) }
 {
     match take_session(session, alloc) {
         Some(_) => Status::Done.number(),

@@ -40,7 +40,8 @@ impl<'a> Whole<'a> {
         })
     }
 
-    /// Whether a file is as it has to be, where the call of the store of this number failed: new if it was saved before, the old
+    /// Whether a file is as it has to be, where the call of the store of this number failed: new if it was
+    /// saved before, the old
     /// one or a first part of the new if this was its save, and else the old one.
     fn is_kept(&self, name: &str, failed: u64, found: Option<&[u8]>) -> bool {
         let old = self.before.file(name);

@@ -25,15 +25,18 @@ debug_of_accepted a = record { pdb = a.pdb; changed = new_bodies a.delta }
 -- the PDB of a base knows methods of the base alone; where there is none, nothing is known
 abbrev pub BaseKnowsWithin : Type 0
 BaseKnowsWithin =
-    ((base : Source) (bytes : List ℕ) (p : Source) → pdb_of bytes (length (rows_in (chain_of_base base).plain tables.method_def)) ≡ Ok p
+    ((base : Source) (bytes : List ℕ) (p : Source)
+    → pdb_of bytes (length (rows_in (chain_of_base base).plain tables.method_def)) ≡ Ok p
     → KnowsWithin (pdb_begun (Some p)) (method_count (chain_of_base base)))
     × ((methods : ℕ) → KnowsWithin (pdb_begun None) methods)
 
--- with a delta that was read from two files and is accepted after a chain, methods of the chain with the delta alone are known, where only those of the
+-- with a delta that was read from two files and is accepted after a chain, methods of the chain with the delta alone
+-- are known, where only those of the
 -- chain were known before
 abbrev pub DeltaKnowsWithin : Type 0
 DeltaKnowsWithin =
     (base : Source) (deltas : List Source) (d : Result Source Refusal) (bytes : Option (List ℕ)) (a : Accepted)
     → WasRead a.delta → judged (chain_with base deltas) d bytes ≡ Ok a
-    → (debug : Option Source) (debugs : List DebugDelta) → KnowsWithin (pdb_with debug debugs) (method_count (chain_with base deltas))
+    → (debug : Option Source) (debugs : List DebugDelta)
+    → KnowsWithin (pdb_with debug debugs) (method_count (chain_with base deltas))
     → KnowsWithin (pdb_with debug (debug_of_accepted a ∷ debugs)) (method_count (chain_with base (a.delta ∷ deltas)))

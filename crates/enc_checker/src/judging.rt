@@ -83,7 +83,8 @@ fn judge(
 /// then F12 of the PDB by itself, and E22 after the delta. A delta without a PDB breaks neither of
 /// these two. The aggregate isn't changed.
 pub fn check(alloc: Global, agg: &Aggregate, files: Files) -> Result<Checked, ReadFault>
-    ensures answer { Answers result (judged (chain_of_all agg.now) (delta_of files.meta.items files.il.items) (option_map (λ b. b.items) files.pdb)) }
+    ensures answer { Answers result (judged (chain_of_all agg.now) (delta_of files.meta.items files.il.items)
+        (option_map (λ b. b.items) files.pdb)) }
     ensures read { IfOk result (λ c. delta_of files.meta.items files.il.items ≡ Ok c.delta) }
     ensures rules { IfOk result (λ c. first_meta (chain_of_all agg.now) c.delta ≡ None) }
 {

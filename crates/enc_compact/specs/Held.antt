@@ -1,4 +1,5 @@
--- What a moved module holds beside the one that it lends: the bodies and the signatures that other bytes say once their tokens are moved.
+-- What a moved module holds beside the one that it lends: the bodies and the signatures that other bytes say once
+-- their tokens are moved.
 use Rattle.std.specs.Prelude.{◌≡◌, ℕ, zero, suc, ◌<◌, Bool, true, false, List, [], length, Option, Some, None, slice_get, unwrap_or}
 use Rattle.std.specs.BTreeMap.{BTreeMap, get}
 use Rattle.std.specs.Ordering.{nat_cmp}
@@ -23,7 +24,14 @@ number_in_slots slots (suc k) = unwrap_or (slice_get slots k) 0
 
 -- the body with its local signature moved alone
 abbrev pub with_locals : (Token → Token) → Body → Body
-with_locals f b = record { stack = b.stack; init = b.init; locals = f b.locals; size = b.size; code = b.code; handlers = b.handlers }
+with_locals f b = record {
+  stack = b.stack;
+  init = b.init;
+  locals = f b.locals;
+  size = b.size;
+  code = b.code;
+  handlers = b.handlers;
+}
 
 -- the parts of a body of which code and sections are held
 abbrev pub code_with : (Token → Token) → Body → Held → Code
@@ -36,7 +44,8 @@ pub record AreSlots (Says : ℕ → ℕ → Type 0) (slots : List ℕ) (many : �
 
 -- the numbers that are known of places: they tell what stands there
 abbrev pub AreSlotsKnown : {A : Type 0} → (ℕ → Option A) → (A → ℕ → Type 0) → BTreeMap ℕ ℕ → Type 0
-AreSlotsKnown {A} places Says known = (place slot : ℕ) (x : A) → get nat_cmp known place ≡ Some slot → places place ≡ Some x → Says x slot
+AreSlotsKnown {A} places Says known =
+    (place slot : ℕ) (x : A) → get nat_cmp known place ≡ Some slot → places place ≡ Some x → Says x slot
 
 -- what is held says the body with its tokens moved, and names the texts that are there
 pub record HoldsBody (f : Token → Token) (texts : ℕ → Option (List ℕ)) (b : Body) (h : Held) : Type 0 where
@@ -54,7 +63,8 @@ HeldSays f texts b None = with_locals f b ≡ body_moved f b
 HeldSays f texts b (Some h) = HoldsBody f texts b h
 
 -- the number of a method's body tells it, among so many that are held
-pub record SlotHolds (f : Token → Token) (texts : ℕ → Option (List ℕ)) (held : List Held) (b : Body) (slot : ℕ) : Type 0 where
+pub record SlotHolds (f : Token → Token) (texts : ℕ → Option (List ℕ)) (held : List Held) (b : Body)
+    (slot : ℕ) : Type 0 where
   pub low : slot < suc (length held)
   pub says : HeldSays f texts b (held_by held slot)
 
@@ -64,7 +74,8 @@ CellHolds f texts held cell slot = (b : Body) → cell ≡ Some (body (Some b)) 
 
 -- so do the numbers of so many methods, and of all
 abbrev pub AreHeldUpto : Module → (Token → Token) → (ℕ → Option (List ℕ)) → List Held → List ℕ → ℕ → Type 0
-AreHeldUpto m f texts held slots many = AreSlots (λ n slot. CellHolds f texts held (cell_of m (nth_row tables.method_def n) 0) slot) slots many
+AreHeldUpto m f texts held slots many =
+    AreSlots (λ n slot. CellHolds f texts held (cell_of m (nth_row tables.method_def n) 0) slot) slots many
 
 abbrev pub AreBodiesHeld : Module → (Token → Token) → (ℕ → Option (List ℕ)) → List Held → List ℕ → Type 0
 AreBodiesHeld m f texts held slots = AreHeldUpto m f texts held slots (row_count m tables.method_def)
@@ -78,12 +89,15 @@ pub record SlotSays (f : Token → Token) (table : ℕ) (held : List (List ℕ))
   pub low : slot < suc (length held)
   pub says : bytes_by held bytes slot ≡ signature_moved f table bytes
 
--- so do the numbers of so many rows of a table, by its column of signatures, and of all its rows, where it has such a column
+-- so do the numbers of so many rows of a table, by its column of signatures, and of all its rows, where it has such
+-- a column
 abbrev pub AreSaidUpto : Module → (Token → Token) → ℕ → ℕ → List (List ℕ) → List ℕ → ℕ → Type 0
-AreSaidUpto m f table column held slots many = AreSlots (λ n slot. SlotSays f table held (bytes_at (cells_of m) (nth_row table n) column) slot) slots many
+AreSaidUpto m f table column held slots many =
+    AreSlots (λ n slot. SlotSays f table held (bytes_at (cells_of m) (nth_row table n) column) slot) slots many
 
 abbrev pub AreSignaturesHeld : Module → (Token → Token) → ℕ → List (List ℕ) → List ℕ → Type 0
-AreSignaturesHeld m f table held slots = (column : ℕ) → signature_column table ≡ Some column → AreSaidUpto m f table column held slots (row_count m table)
+AreSignaturesHeld m f table held slots =
+    (column : ℕ) → signature_column table ≡ Some column → AreSaidUpto m f table column held slots (row_count m table)
 
 -- the signatures of a table that are held, with the numbers of its rows
 pub record HeldOf : Type 0 where
@@ -110,7 +124,8 @@ abbrev pub blob_seen : List HeldOf → Token → ℕ → List ℕ → List ℕ
 blob_seen all t column bytes = blob_held (held_at all t.table) t.row bytes (holds_signatures t.table column)
 
 -- what a moved module holds fits the module that it lends
-pub record HoldsMoved (m : Module) (texts : ℕ → Option (List ℕ)) (orders : Orders) (held : List Held) (slots : List ℕ) (all : List HeldOf) : Type 0 where
+pub record HoldsMoved (m : Module) (texts : ℕ → Option (List ℕ)) (orders : Orders) (held : List Held) (slots : List ℕ)
+    (all : List HeldOf) : Type 0 where
   pub sound : IsSound m
   pub order : orders ≡ new_order m
   pub bodies : AreBodiesHeld m (moved_by (new_order m)) texts held slots

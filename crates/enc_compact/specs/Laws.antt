@@ -23,4 +23,5 @@ MovedKnowsWithin = (m : Module) (p : PlainPdb) → IsSound m → KnowsWithin p (
 
 -- the children of all owners, by owner and attachment, are the rows in order
 abbrev pub MovedStandsInOrder : Type 0
-MovedStandsInOrder = (m : Module) (child : ℕ) → IsSound m → is_child_table child ≡ true → all_kids (module_moved m) child ≡ standing_rows (module_moved m) child
+MovedStandsInOrder = (m : Module) (child : ℕ) → IsSound m → is_child_table child ≡ true
+    → all_kids (module_moved m) child ≡ standing_rows (module_moved m) child

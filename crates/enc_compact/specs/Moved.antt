@@ -1,4 +1,5 @@
--- A module whose rows go to other places of their tables, and each token with its row (ECMA-335 II.22). No offset and no heap is part of it.
+-- A module whose rows go to other places of their tables, and each token with its row (ECMA-335 II.22). No offset
+-- and no heap is part of it.
 use Rattle.std.specs.Prelude.{◌≡◌, ℕ, zero, suc, ◌+◌, Bool, true, false, ◌&&◌, ◌==◌, List, [], ◌∷◌, map, flat_map, filter, Option, Some, None, option_map, unwrap_or, if◌then◌else◌}
 use Rattle.std.specs.List.Sorted.{IsPermutation}
 use Rattle.std.specs.Option.{option_map_or}
@@ -76,7 +77,8 @@ entry_moved f m = if has_row m (token_of m.entry) then number_of (f (token_of m.
 -- the module whose tables have their rows in these orders
 unfoldable pub module_with : Orders → Module → Module
 module_with orders m = record {
-  tables = map (λ table. rows_moved (moved_by orders) table (orders table) (rows_in m table)) (below tables.table_count);
+  tables = map (λ table. rows_moved (moved_by orders) table (orders table) (rows_in m table))
+      (below tables.table_count);
   resources = m.resources;
   entry = entry_moved (moved_by orders) m;
 }
@@ -111,8 +113,10 @@ is_layout_of m type row =
 
 -- the layouts of one type stay in their order, so that the first of them stays the first
 pub record KeepLayouts (m : Module) (orders : Orders) : Type 0 where
-  pub each : (type : ℕ) → filter (is_layout_of m type) (orders tables.class_layout) ≡ filter (is_layout_of m type) (standing_rows m tables.class_layout)
+  pub each : (type : ℕ) → filter (is_layout_of m type) (orders tables.class_layout)
+      ≡ filter (is_layout_of m type) (standing_rows m tables.class_layout)
 
 -- a sound module is sound in whatever orders its rows stand, as long as the layouts of one type keep theirs
 abbrev pub OrdersKeepSound : Type 0
-OrdersKeepSound = (m : Module) (orders : Orders) → AreOrders m orders → KeepLayouts m orders → IsSound m → IsSound (module_with orders m)
+OrdersKeepSound = (m : Module) (orders : Orders) → AreOrders m orders → KeepLayouts m orders → IsSound m
+    → IsSound (module_with orders m)

@@ -68,3 +68,7 @@ more_rows q items after x all good more = rw more (all_more q items x all good)
 
 pub more_few : {X : Type 0} (n : ℕ) (items after : List X) (x : X) → length items ≡ n → after ≡ items ++ x ∷ [] → length after ≡ n + 1
 more_few n items after x few more = rw more (snoc_length items x ∙ ap (λ k. k + 1) few)
+
+pub ruleset map_steps = (map_none, map_more)
+
+pub ruleset tokens_steps = (tokens_none, tokens_kept, tokens_left)

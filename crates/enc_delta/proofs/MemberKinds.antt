@@ -52,3 +52,5 @@ signature_two t h other = elim (two t h other) [ inl e ↦ rw e refl | inr e ↦
 pub signature_four : (t : ℕ) → t ≡ 0x06 → unwrap_or (signature_column t) 0 ≡ 4
 unfolding signature_column
 signature_four t e = rw e refl
+
+pub ruleset signature_steps = (signature_kind, signature_two, signature_four)

@@ -111,3 +111,5 @@ bytes_old c s t i none = rw (old_is c s t none) refl
 pub token_old : (c : Chain) (s : Source) (t : Token) (i : ℕ) → place_in (listed s) t ≡ None → token_at (rows_after c s) t i ≡ token_at (cells_of c.plain) t i
 unfolding token_at
 token_old c s t i none = rw (old_is c s t none) refl
+
+pub ruleset own_rows_steps = (index_own, coded_own, token_old)

@@ -1,4 +1,5 @@
--- For the contracts of private functions: how the cells of a delta's rows are gone over: which columns a rule speaks of, and where a table's tokens begin.
+-- For the contracts of private functions: how the cells of a delta's rows are gone over: which columns a rule speaks
+-- of, and where a table's tokens begin.
 use Rattle.std.specs.Prelude.{ℕ, Bool, true, ◌==◌, List, [], ◌∷◌}
 use Rattle.enc_base.specs.declared.token.Token.{Token}
 use Rattle.enc_schema.specs.declared.column.Column.{Column}

@@ -25,15 +25,18 @@ use Rattle.enc_delta.specs.Twins.{Asked, twin_fault}
 use Rattle.enc_schema.specs.Tables as tables
 use Rattle.enc_schema.specs.Columns as columns
 
--- the columns in which an update may say something else: the flags and the name of a parameter (II.22.33), and those of a custom attribute (II.22.10)
+-- the columns in which an update may say something else: the flags and the name of a parameter (II.22.33), and those
+-- of a custom attribute (II.22.10)
 abbrev pub may_differ : ℕ → ℕ → Bool
-may_differ table i = table == tables.param && (i == columns.param_flags || i == columns.param_name) || table == tables.custom_attribute
+may_differ table i = table == tables.param && (i == columns.param_flags || i == columns.param_name)
+    || table == tables.custom_attribute
 
 -- the column holds the signature of its table
 abbrev pub is_signature_column : ℕ → ℕ → Bool
 is_signature_column table i = unwrap_or (signature_column table) 0xFF == i
 
--- a cell says what it said: numbers, texts and blobs are equal, tokens and signatures alike. A body may change (II.22.26); no update has a GUID or the bytes
+-- a cell says what it said: numbers, texts and blobs are equal, tokens and signatures alike. A body may change
+-- (II.22.26); no update has a GUID or the bytes
 -- of a field
 abbrev pub cell_is_kept : Rows → Rows → Token → ℕ → Option Kind → Bool
 cell_is_kept old new t i (Some numbers) = number_at old t i == number_at new t i
@@ -46,7 +49,8 @@ cell_is_kept old new t i _ = true
 
 -- E15: an updated row says something else in a column that may not differ
 unfoldable pub altered_at : Chain → Source → Token → ℕ → Option Place
-altered_at c s t i = broken (not (may_differ t.table i) && not (cell_is_kept (rows_of_chain c) (rows_after c s) t i (kind_in t.table i))) (place.Cell t i)
+altered_at c s t i = broken (not (may_differ t.table i)
+    && not (cell_is_kept (rows_of_chain c) (rows_after c s) t i (kind_in t.table i))) (place.Cell t i)
 
 unfoldable pub altered_in : Chain → Source → Token → Option Place
 altered_in c s t = if is_insert c t then None else first_below (altered_at c s t) (length (columns_in t.table))
@@ -66,7 +70,8 @@ least_child breaks s = at_token (least (map (λ (a : Attached). number_of a.chil
 abbrev pub has_layout : Rows → Token → Bool
 has_layout rows t = not (number_at rows t columns.type_def_flags / 8 % 4 == 0)
 
--- a field that isn't static (flag 10, II.23.1.5) comes to a type that was there and has a layout or is a value type, by these rows
+-- a field that isn't static (flag 10, II.23.1.5) comes to a type that was there and has a layout or is a value type,
+-- by these rows
 unfoldable pub is_out_of_layout : Chain → Rows → Attached → Bool
 is_out_of_layout c rows a =
     a.child.table == tables.field && a.owner.table == tables.type_def && not (is_insert c a.owner)
@@ -80,7 +85,8 @@ breaks_layout c s a = is_out_of_layout c (rows_after c s) a
 unfoldable pub field_out_of_layout : Chain → Source → Option Place
 field_out_of_layout c s = least_child (breaks_layout c s) s
 
--- a virtual method (flag 40, II.23.1.10) comes to an interface (flag 20, II.23.1.15) that was there, or one that is abstract too (flag 400) to any type that
+-- a virtual method (flag 40, II.23.1.10) comes to an interface (flag 20, II.23.1.15) that was there, or one that is
+-- abstract too (flag 400) to any type that
 -- was there
 unfoldable pub has_no_slot : Chain → Rows → Attached → Bool
 has_no_slot c rows a =
@@ -100,7 +106,8 @@ method_without_slot c s = least_child (breaks_slots c s) s
 abbrev pub name_column : ℕ → ℕ
 name_column table = if table == tables.method_def then columns.method_def_name else columns.field_name
 
--- fields and methods of which the low three bits of the flags are 0 are known to the compiler alone (II.23.1.5, II.23.1.10) and don't count; properties and
+-- fields and methods of which the low three bits of the flags are 0 are known to the compiler alone (II.23.1.5,
+-- II.23.1.10) and don't count; properties and
 -- events do
 unfoldable pub is_member : Rows → Token → Bool
 is_member rows t =
@@ -117,7 +124,11 @@ same_signature rows t u =
     (bytes_at rows u (unwrap_or (signature_column t.table) 0))
 
 abbrev pub asked_of : Rows → Asked
-asked_of rows = record { counts = is_member rows; name = λ t. bytes_at rows t (name_column t.table); alike = same_signature rows }
+asked_of rows = record {
+  counts = is_member rows;
+  name = λ t. bytes_at rows t (name_column t.table);
+  alike = same_signature rows;
+}
 
 -- E20: a new field, method, property or event with a sibling of equal name and, but for an event, alike signature
 unfoldable pub twin_member : Chain → Source → Option Place
@@ -125,7 +136,8 @@ twin_member c s = twin_fault (asked_of (rows_after c s)) c.plain (attached_of s)
 
 -- E21: a signature isn't one, by the rows after
 unfoldable pub bad_signature_at : Chain → Source → Token → ℕ → Option Place
-bad_signature_at c s t i = broken (not (is_signature (rows_with c (listed s)) t.table (bytes_at (rows_after c s) t i))) (place.Cell t i)
+bad_signature_at c s t i = broken (not (is_signature (rows_with c (listed s)) t.table (bytes_at (rows_after c s) t i)))
+    (place.Cell t i)
 
 unfoldable pub bad_signature_in : Chain → Source → Token → Option Place
 bad_signature_in c s t = option_and_then (bad_signature_at c s t) (signature_column t.table)
@@ -139,7 +151,8 @@ own_code s t = code_loaded s.loaded (raw_in s (own_row s t) 0)
 
 -- a local signature is nil, or one of StandAloneSig that begins as one of locals (II.23.2.6)
 abbrev pub are_locals : Rows → Token → Bool
-are_locals rows t = t.row == 0 || t.table == tables.stand_alone_sig && begins_locals (bytes_at rows t columns.stand_alone_sig_signature)
+are_locals rows t = t.row == 0 || t.table == tables.stand_alone_sig
+    && begins_locals (bytes_at rows t columns.stand_alone_sig_signature)
 
 -- the local signature of a body, if there is one
 abbrev pub locals_begin : Rows → Option Code → Bool
@@ -148,7 +161,8 @@ locals_begin rows (Some c) = are_locals rows c.locals
 
 -- E23: a method's local signature that isn't one of locals
 unfoldable pub bad_locals_in : Chain → Source → Token → Option Place
-bad_locals_in c s t = broken (t.table == tables.method_def && not (locals_begin (rows_after c s) (own_code s t))) (place.Row t)
+bad_locals_in c s t = broken (t.table == tables.method_def && not (locals_begin (rows_after c s) (own_code s t)))
+    (place.Row t)
 
 unfoldable pub bad_locals : Chain → Source → Option Place
 bad_locals c s = first_below (of_nth (bad_locals_in c s) s) (length (listed s))

@@ -63,7 +63,8 @@ rules =
     ∷ (24, too_many)
     ∷ []
 
--- the rules up to a number: those up to 14 speak of the delta's lists, tables, indices and offsets, those behind of what its rows say
+-- the rules up to a number: those up to 14 speak of the delta's lists, tables, indices and offsets, those behind of
+-- what its rows say
 abbrev pub upto : ℕ → List (ℕ × Rule) → List (ℕ × Rule)
 upto n [] = []
 upto n (r ∷ rs) = if nat_le r.0 n then r ∷ upto n rs else []

@@ -1,4 +1,5 @@
--- For the contracts of private functions: what of a delta was judged already and is good, so that it isn't judged again.
+-- For the contracts of private functions: what of a delta was judged already and is good, so that it isn't judged
+-- again.
 use Rattle.std.specs.Prelude.{ℕ, Bool, unwrap_or, []}
 use Rattle.std.specs.BTreeSet.{BTreeSet}
 use Rattle.enc_base.specs.Passed.{AllPass}
@@ -13,11 +14,13 @@ use Rattle.enc_delta.specs.Changes.{locals_begin}
 
 -- a signature of a table stands at an offset of the joined `#Blob`
 abbrev pub is_joined_signature : Joined → ℕ → ℕ → Bool
-is_joined_signature j table offset = is_signature (rows_with j.chain (listed j.delta)) table (unwrap_or (joined_blob (heaps_after j.chain j.delta) offset) [])
+is_joined_signature j table offset = is_signature (rows_with j.chain (listed j.delta)) table
+    (unwrap_or (joined_blob (heaps_after j.chain j.delta) offset) [])
 
 -- a good body stands at a place of the delta's code
 abbrev pub is_delta_body : Joined → ℕ → Bool
-is_delta_body j place = code_is_good (rows_with j.chain (listed j.delta)) (users_after j.chain j.delta) (code_loaded j.delta.loaded place)
+is_delta_body j place = code_is_good (rows_with j.chain (listed j.delta)) (users_after j.chain j.delta)
+    (code_loaded j.delta.loaded place)
 
 -- the local signature of the body there, if one is there, is one
 abbrev pub has_locals_at : Joined → ℕ → Bool

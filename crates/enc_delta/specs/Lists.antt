@@ -1,4 +1,5 @@
--- For the contracts of private functions: what the rules on whole lists are told of the tokens and entries that they are given.
+-- For the contracts of private functions: what the rules on whole lists are told of the tokens and entries that they
+-- are given.
 use Rattle.std.specs.Prelude.{ℕ, ◌+◌, Bool, false, ◌&&◌, ◌==◌, List, [], ◌∷◌, Option, Some, None, IsTrue, nat_lt, nat_le, slice_index, find}
 use Rattle.std.specs.List.{list_all}
 use Rattle.enc_base.specs.declared.token.Token.{Token}
@@ -23,7 +24,8 @@ parents c tokens =
 
 -- the same as `has_parent`, by these counts
 abbrev pub parent_in : List ℕ → Entry → Bool
-parent_in rows e = e.token.table == parent_table e.code && nat_le 1 e.token.row && nat_le e.token.row (slice_index rows e.code)
+parent_in rows e = e.token.table == parent_table e.code && nat_le 1 e.token.row
+    && nat_le e.token.row (slice_index rows e.code)
 
 -- an entry is there, has code 0 and this row
 abbrev pub next_is : ℕ → ℕ → Option Entry → Bool
@@ -32,4 +34,5 @@ next_is table row (Some e) = e.code == 0 && e.token.table == table && e.token.ro
 
 -- an Add entry has its parent and its child, where n Add entries of its code stand before it
 abbrev pub is_pair : Chain → List ℕ → ℕ → List Entry → Entry → Bool
-is_pair c rows n behind e = parent_in rows e && next_is (child_table e.code) (rows_before c (child_table e.code) + n + 1) (find counts behind)
+is_pair c rows n behind e = parent_in rows e
+    && next_is (child_table e.code) (rows_before c (child_table e.code) + n + 1) (find counts behind)

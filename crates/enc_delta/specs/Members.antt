@@ -1,4 +1,5 @@
--- For the contracts of private functions: how twins are looked for: among the members of all owners, by numbers that twins have in common.
+-- For the contracts of private functions: how twins are looked for: among the members of all owners, by numbers that
+-- twins have in common.
 use Rattle.std.specs.Prelude.{◌≡◌, ℕ, zero, suc, ◌+◌, ◌-◌, ◌<◌, Bool, true, false, not, ◌&&◌, ◌||◌, ◌==◌, nat_lt, List, [], ◌∷◌, ◌++◌, length, slice_index_or, Option, Some, None, if◌then◌else◌, IsTrue}
 use Rattle.std.specs.List.{list_any, list_all}
 use Rattle.enc_base.specs.Token.{is_token, number_of}
@@ -49,7 +50,8 @@ is_twin_beside q a k = is_beside a k && is_twin_row q a k.child.row
 
 -- the tables of members: Field, MethodDef, Event, Property (ECMA-335 II.22.15, II.22.26, II.22.13, II.22.34)
 abbrev pub is_member_table : ℕ → Bool
-is_member_table table = table == tables.field || table == tables.method_def || table == tables.event || table == tables.property
+is_member_table table = table == tables.field || table == tables.method_def || table == tables.event
+    || table == tables.property
 
 -- those that count are rows of these
 abbrev pub AreInMemberTables : Asked → Type 0
@@ -57,7 +59,8 @@ AreInMemberTables q = (t : Token) → q.counts t ≡ true → is_member_table t.
 
 -- members with alike signatures have one key
 abbrev pub AlikeHaveOneKey : Asked → (Token → ℕ) → Type 0
-AlikeHaveOneKey q keys = (t u : Token) → q.counts t ≡ true → q.counts u ≡ true → t.table ≡ u.table → q.alike t u ≡ true → keys t ≡ keys u
+AlikeHaveOneKey q keys = (t u : Token) → q.counts t ≡ true → q.counts u ≡ true → t.table ≡ u.table → q.alike t u ≡ true
+    → keys t ≡ keys u
 
 -- what the numbers of the members of a pair's owner in its child's table begin with
 unfoldable pub owner_key : Pair → Mix
@@ -80,7 +83,14 @@ abbrev pub keyed_by_signature : Asked → (Token → ℕ) → Keyed → Keyed
 keyed_by_signature q keys e = record { key = twin_key q keys e.pair; pair = e.pair; is_new = e.is_new }
 
 abbrev pub no_keyed : Keyed
-no_keyed = record { key = 0; pair = record { owner = record { table = 0; row = 0 }; child = record { table = 0; row = 0 } }; is_new = false }
+no_keyed = record {
+  key = 0;
+  pair = record {
+    owner = record { table = 0; row = 0 };
+    child = record { table = 0; row = 0 };
+  };
+  is_new = false;
+}
 
 -- the k-th of some members
 abbrev pub keyed_at : List Keyed → ℕ → Keyed
@@ -103,11 +113,13 @@ has_neighbour entries k =
 -- of the first n members those whose neighbour has the same key, told by their signatures too
 unfoldable pub near_told : Asked → (Token → ℕ) → List Keyed → ℕ → List Keyed
 near_told q keys entries zero = []
-near_told q keys entries (suc n) = near_told q keys entries n ++ (if has_neighbour entries n then keyed_by_signature q keys (keyed_at entries n) ∷ [] else [])
+near_told q keys entries (suc n) = near_told q keys entries n
+    ++ (if has_neighbour entries n then keyed_by_signature q keys (keyed_at entries n) ∷ [] else [])
 
 -- the member doesn't count, or has another key than its pair, or is new and past the rows that there can be
 abbrev pub is_other : Asked → (Pair → ℕ) → Keyed → Bool
-is_other q key e = not (q.counts e.pair.child && e.key == key e.pair && (not e.is_new || nat_lt e.pair.child.row 0x1000000))
+is_other q key e = not (q.counts e.pair.child && e.key == key e.pair
+    && (not e.is_new || nat_lt e.pair.child.row 0x1000000))
 
 -- all count, each with its pair's key
 abbrev pub AreKeyed : Asked → (Pair → ℕ) → List Keyed → Type 0
@@ -130,7 +142,8 @@ keyed_number e = number_of e.pair.child
 -- a twin of the k-th stands behind it, or none does; and the same before it
 abbrev pub IsTwinBehind : Asked → List Keyed → ℕ → Bool → Type 0
 IsTwinBehind q entries k true = has_twin_among q entries (keyed_at entries k) ≡ true
-IsTwinBehind q entries k false = (l : ℕ) → k < l → l < length entries → is_twin_of q (keyed_at entries k) (keyed_at entries l) ≡ false
+IsTwinBehind q entries k false =
+    (l : ℕ) → k < l → l < length entries → is_twin_of q (keyed_at entries k) (keyed_at entries l) ≡ false
 
 abbrev pub IsTwinBefore : Asked → List Keyed → ℕ → Bool → Type 0
 IsTwinBefore q entries k true = has_twin_among q entries (keyed_at entries k) ≡ true
@@ -148,13 +161,15 @@ row_passes a p k = is_beside a k && p k.child.row
 abbrev pub AreAdded : Module → List Pair → List Pair → List Pair → Type 0
 AreAdded m before pairs all =
     (a : Pair) (p : ℕ → Bool) → is_child_table a.child.table ≡ true
-    → list_any (row_passes a p) all ≡ (list_any (row_passes a p) before || (list_any (is_beside a) pairs && list_any p (kids_of m a.owner a.child.table)))
+    → list_any (row_passes a p) all ≡ (list_any (row_passes a p) before
+    || (list_any (is_beside a) pairs && list_any p (kids_of m a.owner a.child.table)))
 
 -- the old members beside those of some pairs whose children count
 abbrev pub AreOld : Asked → Module → List Pair → List Pair → Type 0
 AreOld q m pairs old =
     (a : Pair) (p : ℕ → Bool) → is_child_table a.child.table ≡ true
-    → list_any (row_passes a p) old ≡ (list_any (λ k. q.counts k.child && is_beside a k) pairs && list_any p (kids_of m a.owner a.child.table))
+    → list_any (row_passes a p) old
+    ≡ (list_any (λ k. q.counts k.child && is_beside a k) pairs && list_any p (kids_of m a.owner a.child.table))
 
 -- each owner and child is a token by its number
 abbrev pub ArePairs : List Pair → Type 0

@@ -11,7 +11,8 @@ use Rattle.enc_schema.specs.Columns as columns
 pub one_key : (rows : Rows) → AlikeHaveOneKey (asked_of rows) (member_key rows)
 unfolding is_member same_signature
 one_key rows t u counts _ same alike =
-    members_one rows t u (not (number_at rows t columns.field_flags % 8 == 0)) (not (number_at rows t columns.method_def_flags % 8 == 0)) counts same alike
+    members_one rows t u (not (number_at rows t columns.field_flags % 8 == 0))
+    (not (number_at rows t columns.method_def_flags % 8 == 0)) counts same alike
 
 -- a table is one of four, whatever else is asked of two of them
 without : (a f b m c d : Bool) → (a && f || b && m || c || d) ≡ true → (a || b || c || d) ≡ true

@@ -10,7 +10,8 @@ use Rattle.enc_delta.specs.Rules.{is_add, counted}
 abbrev pub pairs_in : List Entry → List Attached
 pairs_in [] = []
 pairs_in (e ∷ []) = []
-pairs_in (e ∷ f ∷ es) = if is_add e.code then record { owner = e.token; child = f.token } ∷ pairs_in (f ∷ es) else pairs_in (f ∷ es)
+pairs_in (e ∷ f ∷ es) = if is_add e.code then record { owner = e.token; child = f.token } ∷ pairs_in (f ∷ es)
+    else pairs_in (f ∷ es)
 
 -- the Add entries of EncLog; those of the Module's token are passed over
 unfoldable pub attached_of : Source → List Attached

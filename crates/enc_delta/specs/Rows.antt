@@ -16,7 +16,8 @@ use Rattle.enc_delta.specs.Rules.{reading_after}
 
 -- the cell in a column of a delta's row, read in all heaps up to the delta's, and in its own code
 unfoldable pub cell_after : Chain → Source → Token → ℕ → Option Cell
-cell_after c s row i = option_and_then (λ (column : Column). cell_with (reading_after c s) row i column (raw_in s row i)) (column_in row.table i)
+cell_after c s row i = option_and_then
+    (λ (column : Column). cell_with (reading_after c s) row i column (raw_in s row i)) (column_in row.table i)
 
 -- the cells of a delta's row
 abbrev pub cells_after : Chain → Source → Token → List Cell
@@ -28,7 +29,8 @@ own_row s token = record { table = token.table; row = unwrap_or (place_in (liste
 
 -- the cells that the delta's row gives a token of EncMap
 abbrev pub own_cells : Chain → Source → Token → Option (List Cell)
-own_cells c s token = option_map (λ k. cells_after c s (record { table = token.table; row = k })) (place_in (listed s) token)
+own_cells c s token = option_map (λ k. cells_after c s (record { table = token.table; row = k }))
+    (place_in (listed s) token)
 
 -- the rows before a delta
 abbrev pub rows_of_chain : Chain → Rows

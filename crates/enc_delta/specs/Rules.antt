@@ -39,19 +39,23 @@ abbrev pub broken : Bool → Place → Option Place
 broken true p = Some p
 broken false p = None
 
--- E1 to E4: the base's Mvid, the next generation, the last EncId as EncBaseId, and an EncId that isn't nil and wasn't used
+-- E1 to E4: the base's Mvid, the next generation, the last EncId as EncBaseId, and an EncId that isn't nil and
+-- wasn't used
 unfoldable pub other_module : Chain → Source → Option Place
 other_module c s = broken (not (bytes_eq (own_guid c s columns.module_mvid) (mvid_of c))) (place.Row module_token)
 
 unfoldable pub not_next : Chain → Source → Option Place
-not_next c s = broken (not (raw_in s module_token columns.module_generation == length c.ids + 1)) (place.Row module_token)
+not_next c s = broken (not (raw_in s module_token columns.module_generation == length c.ids + 1))
+    (place.Row module_token)
 
 unfoldable pub other_base : Chain → Source → Option Place
-other_base c s = broken (not (bytes_eq (own_guid c s columns.module_enc_base_id) (id_of c (length c.ids)))) (place.Row module_token)
+other_base c s = broken (not (bytes_eq (own_guid c s columns.module_enc_base_id) (id_of c (length c.ids))))
+    (place.Row module_token)
 
 unfoldable pub id_taken : Chain → Source → Option Place
 id_taken c s =
-    broken (bytes_eq (own_guid c s columns.module_enc_id) nil_guid || list_any (λ id. bytes_eq id (own_guid c s columns.module_enc_id)) c.ids)
+    broken (bytes_eq (own_guid c s columns.module_enc_id) nil_guid
+    || list_any (λ id. bytes_eq id (own_guid c s columns.module_enc_id)) c.ids)
     (place.Row module_token)
 
 -- the last byte, 0 where there is none
@@ -60,7 +64,8 @@ last_byte heap = slice_index heap (length heap - 1)
 
 -- E5: a joined heap passes its limit; `#Strings` has a last byte other than 0; `#GUID` has fewer entries than before
 unfoldable pub strings_break : Chain → Source → Bool
-strings_break c s = nat_lt (2 ^ 29) (joined_length (map (λ (h : Counted). h.strings) (heaps_after c s))) || not (last_byte s.heaps.strings == 0)
+strings_break c s = nat_lt (2 ^ 29) (joined_length (map (λ (h : Counted). h.strings) (heaps_after c s)))
+    || not (last_byte s.heaps.strings == 0)
 
 unfoldable pub users_break : Chain → Source → Bool
 users_break c s = nat_lt (2 ^ 24) (joined_length (map (λ (h : Counted). h.users) (heaps_after c s)))
@@ -69,7 +74,8 @@ unfoldable pub blobs_break : Chain → Source → Bool
 blobs_break c s = nat_lt (2 ^ 29) (joined_length (map (λ (h : Counted). h.blobs) (heaps_after c s)))
 
 unfoldable pub guids_break : Chain → Source → Bool
-guids_break c s = nat_lt (2 ^ 29) (16 * guid_entries (heaps_after c s)) || nat_lt (length s.heaps.guids / 16) (guid_entries c.heaps)
+guids_break c s = nat_lt (2 ^ 29) (16 * guid_entries (heaps_after c s))
+    || nat_lt (length s.heaps.guids / 16) (guid_entries c.heaps)
 
 unfoldable pub heap_fault : Chain → Source → Option Place
 heap_fault c s =
@@ -100,11 +106,13 @@ late_fault tokens = at_token (least (late (map number_of tokens)))
 
 -- EncLog, EncMap and Module have no rows that tokens stand for
 abbrev pub rows_for : Source → ℕ → ℕ
-rows_for s table = if list_any (λ t. t == table) (tables.«module» ∷ tables.enc_log ∷ tables.enc_map ∷ []) then 0 else rows_of s.layout table
+rows_for s table = if list_any (λ t. t == table) (tables.«module» ∷ tables.enc_log ∷ tables.enc_map ∷ []) then 0
+    else rows_of s.layout table
 
 -- E7: a table's rows and its tokens differ in number
 unfoldable pub uneven_at : Source → ℕ → Option Place
-uneven_at s table = broken (not (rows_for s table == length (of_table table (listed s)))) (place.Row (record { table = table; row = 0 }))
+uneven_at s table = broken (not (rows_for s table == length (of_table table (listed s))))
+    (place.Row (record { table = table; row = 0 }))
 
 unfoldable pub uneven_table : Source → Option Place
 uneven_table s = first_below (uneven_at s) 0x100
@@ -119,7 +127,8 @@ inserts c tokens table = count_by (λ (t : Token). t.table == table && is_insert
 
 -- E8: an insert isn't the next row
 unfoldable pub insert_fault_of : Chain → List Token → Token → Option Place
-insert_fault_of c before t = broken (is_insert c t && not (t.row == rows_before c t.table + inserts c before t.table + 1)) (place.Row t)
+insert_fault_of c before t = broken (is_insert c t
+    && not (t.row == rows_before c t.table + inserts c before t.table + 1)) (place.Row t)
 
 unfoldable pub insert_fault_at : Chain → List Token → ℕ → Option Place
 insert_fault_at c tokens k = option_and_then (insert_fault_of c (take k tokens)) (slice_get tokens k)
@@ -155,17 +164,20 @@ rows_with c tokens table = rows_before c table + inserts c tokens table
 
 -- the tables of parent and child of an Add entry: methods, fields, parameters, properties, events
 abbrev pub parent_table : ℕ → ℕ
-parent_table code = slice_index (0 ∷ tables.type_def ∷ tables.type_def ∷ tables.method_def ∷ tables.property_map ∷ tables.event_map ∷ []) code
+parent_table code = slice_index
+    (0 ∷ tables.type_def ∷ tables.type_def ∷ tables.method_def ∷ tables.property_map ∷ tables.event_map ∷ []) code
 
 abbrev pub child_table : ℕ → ℕ
-child_table code = slice_index (0 ∷ tables.method_def ∷ tables.field ∷ tables.param ∷ tables.property ∷ tables.event ∷ []) code
+child_table code = slice_index
+    (0 ∷ tables.method_def ∷ tables.field ∷ tables.param ∷ tables.property ∷ tables.event ∷ []) code
 
 abbrev pub is_add : ℕ → Bool
 is_add code = nat_le 1 code && nat_le code 5
 
 -- the parent is a row after the delta
 unfoldable pub has_parent : Chain → List Token → Entry → Bool
-has_parent c tokens e = e.token.table == parent_table e.code && nat_le 1 e.token.row && nat_le e.token.row (rows_with c tokens e.token.table)
+has_parent c tokens e = e.token.table == parent_table e.code && nat_le 1 e.token.row
+    && nat_le e.token.row (rows_with c tokens e.token.table)
 
 -- how many of the entries are Add entries with this code
 abbrev pub adds : List Entry → ℕ → ℕ
@@ -174,16 +186,19 @@ adds log code = count_by (λ (e : Entry). counts e && e.code == code) log
 -- the entry that follows is code 0 with the next new row of the child's table
 unfoldable pub follows : Chain → List Entry → ℕ → Option Entry → Bool
 follows c before code None = false
-follows c before code (Some e) = e.code == 0 && e.token.table == child_table code && e.token.row == rows_before c (child_table code) + adds before code + 1
+follows c before code (Some e) = e.code == 0 && e.token.table == child_table code
+    && e.token.row == rows_before c (child_table code) + adds before code + 1
 
 -- E10: a code past 5, or an Add entry without its parent or its child
 unfoldable pub log_fault_of : Chain → List Token → List Entry → List Entry → ℕ → Entry → Option Place
 log_fault_of c tokens before behind k e =
-    broken (counts e && (nat_lt 5 e.code || is_add e.code && not (has_parent c tokens e && follows c before e.code (find counts behind))))
+    broken (counts e && (nat_lt 5 e.code || is_add e.code
+    && not (has_parent c tokens e && follows c before e.code (find counts behind))))
     (place.Log (k + 1))
 
 unfoldable pub log_fault_at : Chain → List Token → List Entry → ℕ → Option Place
-log_fault_at c tokens log k = option_and_then (log_fault_of c tokens (take k log) (drop (k + 1) log) k) (slice_get log k)
+log_fault_at c tokens log k = option_and_then (log_fault_of c tokens (take k log) (drop (k + 1) log) k)
+    (slice_get log k)
 
 unfoldable pub log_fault : Chain → List Token → List Entry → Option Place
 log_fault c tokens log = first_below (log_fault_at c tokens log) (length log)
@@ -200,7 +215,8 @@ new_row c table r = record { table = table; row = rows_before c table + r + 1 }
 
 -- E11: a new row of a table of children hasn't exactly one Add entry
 unfoldable pub child_fault_at : Chain → List Entry → ℕ → ℕ → Option Place
-child_fault_at c log table r = broken (not (count_by (is_token (new_row c table r)) (children (counted log)) == 1)) (place.Row (new_row c table r))
+child_fault_at c log table r =
+    broken (not (count_by (is_token (new_row c table r)) (children (counted log)) == 1)) (place.Row (new_row c table r))
 
 unfoldable pub child_fault_in : Chain → List Token → List Entry → ℕ → Option Place
 child_fault_in c tokens log table = first_below (child_fault_at c log table) (inserts c tokens table)
@@ -216,15 +232,21 @@ child_fault c tokens log =
 abbrev pub may_change : ℕ → Bool
 may_change table =
     list_any (λ t. t == table)
-    (tables.«module» ∷ tables.type_ref ∷ tables.type_def ∷ tables.field ∷ tables.method_def ∷ tables.param ∷ tables.interface_impl
-    ∷ tables.member_ref ∷ tables.constant ∷ tables.custom_attribute ∷ tables.field_marshal ∷ tables.decl_security ∷ tables.class_layout
-    ∷ tables.field_layout ∷ tables.stand_alone_sig ∷ tables.event_map ∷ tables.event ∷ tables.property_map ∷ tables.property
-    ∷ tables.method_semantics ∷ tables.method_impl ∷ tables.module_ref ∷ tables.type_spec ∷ tables.impl_map ∷ tables.enc_log ∷ tables.enc_map
-    ∷ tables.assembly_ref ∷ tables.nested_class ∷ tables.generic_param ∷ tables.method_spec ∷ tables.generic_param_constraint ∷ [])
+    (tables.«module» ∷ tables.type_ref ∷ tables.type_def ∷ tables.field ∷ tables.method_def ∷ tables.param
+    ∷ tables.interface_impl
+    ∷ tables.member_ref ∷ tables.constant ∷ tables.custom_attribute ∷ tables.field_marshal ∷ tables.decl_security
+    ∷ tables.class_layout
+    ∷ tables.field_layout ∷ tables.stand_alone_sig ∷ tables.event_map ∷ tables.event ∷ tables.property_map
+    ∷ tables.property
+    ∷ tables.method_semantics ∷ tables.method_impl ∷ tables.module_ref ∷ tables.type_spec ∷ tables.impl_map
+    ∷ tables.enc_log ∷ tables.enc_map
+    ∷ tables.assembly_ref ∷ tables.nested_class ∷ tables.generic_param ∷ tables.method_spec
+    ∷ tables.generic_param_constraint ∷ [])
 
 -- E12: rows in another table
 unfoldable pub closed_at : Source → ℕ → Option Place
-closed_at s table = broken (nat_lt 0 (rows_of s.layout table) && not (may_change table)) (place.Row (record { table = table; row = 0 }))
+closed_at s table = broken (nat_lt 0 (rows_of s.layout table) && not (may_change table))
+    (place.Row (record { table = table; row = 0 }))
 
 unfoldable pub closed_table : Source → Option Place
 closed_table s = first_below (closed_at s) 0x100
@@ -233,7 +255,8 @@ closed_table s = first_below (closed_at s) 0x100
 abbrev pub users_after : Chain → Source → ℕ → Option (List ℕ)
 users_after c s = joined_user (heaps_after c s)
 
--- by what the numbers of the delta's rows are read: the joined heaps, the rows after, and the delta's code. A delta has no rows of FieldRVA
+-- by what the numbers of the delta's rows are read: the joined heaps, the rows after, and the delta's code. A delta
+-- has no rows of FieldRVA
 unfoldable pub reading_after : Chain → Source → Reading
 reading_after c s = record {
   text = joined_text (heaps_after c s);
@@ -254,7 +277,8 @@ abbrev pub cell_breaks : Chain → Source → (Column → Bool) → Token → �
 cell_breaks c s asks row i column = asks column && not (is_some (cell_read (reading_after c s) column (raw_in s row i)))
 
 unfoldable pub cell_fault : Chain → Source → (Column → Bool) → Token → Token → ℕ → Option Place
-cell_fault c s asks token row i = option_and_then (λ (column : Column). broken (cell_breaks c s asks row i column) (place.Cell token i)) (column_in row.table i)
+cell_fault c s asks token row i = option_and_then
+    (λ (column : Column). broken (cell_breaks c s asks row i column) (place.Cell token i)) (column_in row.table i)
 
 unfoldable pub row_fault : Chain → Source → (Column → Bool) → ℕ → ℕ → Option Place
 row_fault c s asks table r =
@@ -276,17 +300,20 @@ unfoldable pub too_many_in : Chain → Source → ℕ → Option Place
 too_many_in c s table = broken (nat_lt 0xFFFFFF (rows_with c (listed s) table)) (place.Row module_token)
 
 unfoldable pub too_many : Chain → Source → Option Place
-too_many c s = or_else (broken (nat_lt 65535 (length c.ids + 1)) (place.Row module_token)) (first_below (too_many_in c s) tables.table_count)
+too_many c s = or_else (broken (nat_lt 65535 (length c.ids + 1)) (place.Row module_token))
+    (first_below (too_many_in c s) tables.table_count)
 
 -- the method of a row has no place for a body, or a good one in the delta's code
 unfoldable pub body_stands : Chain → Source → ℕ → Bool
 body_stands c s r =
-    body_is_good (rows_with c (listed s)) (users_after c s) s.loaded (raw_in s (nth_row tables.method_def r) columns.method_def_rva)
+    body_is_good (rows_with c (listed s)) (users_after c s) s.loaded
+    (raw_in s (nth_row tables.method_def r) columns.method_def_rva)
     (raw_in s (nth_row tables.method_def r) columns.method_def_impl_flags)
 
 -- E16: a body isn't good
 unfoldable pub broken_body_at : Chain → Source → ℕ → Option Place
-broken_body_at c s r = option_and_then (λ (t : Token). broken (not (body_stands c s r)) (place.Row t)) (slice_get (of_table tables.method_def (listed s)) r)
+broken_body_at c s r = option_and_then (λ (t : Token). broken (not (body_stands c s r)) (place.Row t))
+    (slice_get (of_table tables.method_def (listed s)) r)
 
 unfoldable pub broken_body : Chain → Source → Option Place
 broken_body c s = first_below (broken_body_at c s) (rows_of s.layout tables.method_def)
@@ -300,7 +327,8 @@ has_body _ = false
 unfoldable pub lost_body_at : Chain → Source → ℕ → Option Place
 lost_body_at c s r =
     option_and_then (λ (t : Token).
-    broken (raw_in s (nth_row tables.method_def r) columns.method_def_rva == 0 && has_body (cell_of c.plain t columns.method_def_rva)) (place.Row t))
+    broken (raw_in s (nth_row tables.method_def r) columns.method_def_rva == 0
+    && has_body (cell_of c.plain t columns.method_def_rva)) (place.Row t))
     (slice_get (of_table tables.method_def (listed s)) r)
 
 unfoldable pub lost_body : Chain → Source → Option Place

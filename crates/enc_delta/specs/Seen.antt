@@ -27,7 +27,8 @@ pub record IsDeltaOpened (bytes : List ℕ) (o : Opened) : Type 0 where
 
 -- each token of EncMap has a greater number than those before it
 abbrev pub IsRising : Source → Type 0
-IsRising s = (i j : ℕ) → i < j → j < rows_of s.layout tables.enc_map → number_of (map_token s i) < number_of (map_token s j)
+IsRising s = (i j : ℕ) → i < j → j < rows_of s.layout tables.enc_map
+    → number_of (map_token s i) < number_of (map_token s j)
 
 -- it was read from the bytes of two files
 pub record WasRead (s : Source) : Type 0 where

@@ -1,4 +1,5 @@
--- For the contracts of private functions: what the answer of some rules says, and the parts of their list that are asked by one function each.
+-- For the contracts of private functions: what the answer of some rules says, and the parts of their list that are
+-- asked by one function each.
 use Rattle.std.specs.Prelude.{◌≡◌, take, drop, Option, Some, None, Result, Ok, Err}
 use Rattle.enc_base.specs.declared.refusal.Refusal.{Refusal}
 use Rattle.enc_rows.specs.Source.{Source}

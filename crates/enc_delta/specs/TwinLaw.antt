@@ -23,7 +23,8 @@ child_number a = number_of a.child
 -- no child has a twin, or the least that has one is named
 abbrev pub NamesTwin : Asked → Module → List Attached → Option Place → Type 0
 NamesTwin q m pairs None = NonePasses (has_twin q m pairs) pairs
-NamesTwin q m pairs (Some p) = (a : Attached) × IsLeastOf child_number (has_twin q m pairs) pairs a × (a.child.row < 2 ^ 24 → p ≡ place.Row a.child)
+NamesTwin q m pairs (Some p) = (a : Attached) × IsLeastOf child_number (has_twin q m pairs) pairs a
+    × (a.child.row < 2 ^ 24 → p ≡ place.Row a.child)
 
 abbrev pub NamesLeastTwin : Type 0
 NamesLeastTwin = (q : Asked) (m : Module) (pairs : List Attached) → NamesTwin q m pairs (twin_fault q m pairs)

@@ -25,7 +25,8 @@ is_twin q t u = not (t.row == u.row) && q.counts u && bytes_eq (q.name t) (q.nam
 -- the attached child counts, and a member of its owner is its twin
 unfoldable pub has_twin : Asked → Module → List Attached → Attached → Bool
 has_twin q m pairs a =
-    q.counts a.child && list_any (λ row. is_twin q a.child (record { table = a.child.table; row = row })) (members m pairs a.owner a.child.table)
+    q.counts a.child && list_any (λ row. is_twin q a.child (record { table = a.child.table; row = row }))
+    (members m pairs a.owner a.child.table)
 
 -- the least attached child that has a twin
 unfoldable pub twin_fault : Asked → Module → List Attached → Option Place

@@ -28,7 +28,8 @@ fn is_whole<C: ChainView>(
     code: &CodeRef<'_>,
 ) -> Result<bool, AllocError>
     requires few { length code.now.code.now < 2 ^ 32 }
-    ensures { IfOk result (λ good. good ≡ code_is_good (rows_with context.now.chain (listed context.now.delta)) (users_after context.now.chain context.now.delta) (Some (code_seen code.now))) }
+    ensures { IfOk result (λ good. good ≡ code_is_good (rows_with context.now.chain (listed context.now.delta))
+        (users_after context.now.chain context.now.delta) (Some (code_seen code.now))) }
 {
     is_good_body(alloc, code, context.counts(), context)
 }
@@ -79,7 +80,8 @@ fn is_good<C: ChainView>(
     known: &mut BTreeSet<u32>,
 ) -> Result<bool, AllocError>
     requires known { AreDeltaBodies context.now known.old }
-    ensures good { IfOk result (λ good. good ≡ body_is_good (rows_with context.now.chain (listed context.now.delta)) (users_after context.now.chain context.now.delta) context.now.delta.loaded place flags) }
+    ensures good { IfOk result (λ good. good ≡ body_is_good (rows_with context.now.chain (listed context.now.delta))
+        (users_after context.now.chain context.now.delta) context.now.delta.loaded place flags) }
     ensures known { OnOk result (AreDeltaBodies context.now known.new) }
 {
     if place == 0 {
@@ -119,7 +121,7 @@ fn broken_body_at<C: ChainView>(
 /// The first method whose body isn't good. It goes over the methods once and reads each body once,
 /// whatever the number of methods that share it. It takes memory for a mark for each byte of one
 /// body's code at a time, for its targets and texts, and for the places of the bodies.
-#[tactic(auto, using(enc_base::proofs::First::first_none, enc_base::proofs::First::first_found, enc_base::proofs::First::first_more), unfolding(crate::specs::Rules::broken_body))]
+#[tactic(auto, using(enc_base::proofs::First::first_steps), unfolding(crate::specs::Rules::broken_body))]
 pub fn broken_body<C: ChainView>(
     alloc: Global,
     context: &Context<'_, C>,
@@ -170,7 +172,7 @@ fn lost_body_at<C: ChainView>(context: &Context<'_, C>, r: u32, token: Token) ->
 }
 
 /// The first method with no place for a body where it had one. It goes over the methods once.
-#[tactic(auto, using(enc_base::proofs::First::first_none, enc_base::proofs::First::first_found, enc_base::proofs::First::first_more), unfolding(crate::specs::Rules::lost_body))]
+#[tactic(auto, using(enc_base::proofs::First::first_steps), unfolding(crate::specs::Rules::lost_body))]
 pub fn lost_body<C: ChainView>(context: &Context<'_, C>) -> Option<Place>
     ensures { result ≡ lost_body context.now.chain context.now.delta }
 {

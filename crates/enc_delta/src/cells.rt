@@ -84,14 +84,15 @@ fn cell_fault<C: ChainView>(
 }
 
 /// The first cell of a row that breaks the rule.
-#[tactic(auto, using(enc_base::proofs::First::first_none, enc_base::proofs::First::first_found, enc_base::proofs::First::first_more))]
+#[tactic(auto, using(enc_base::proofs::First::first_steps))]
 fn cells_fault<C: ChainView>(
     context: &Context<'_, C>,
     rule: CellRule,
     token: Token,
     row: Token,
 ) -> Option<Place>
-    ensures { result ≡ first_below (cell_fault context.now.chain context.now.delta (speaks rule) token row) (length (columns_in row.table)) }
+    ensures { result ≡ first_below (cell_fault context.now.chain context.now.delta (speaks rule) token row)
+        (length (columns_in row.table)) }
 {
     for i in 0..columns_of(row.table).len() {
         match cell_fault(context, rule, token, row, i as u8) {
@@ -135,7 +136,7 @@ pub fn next_of(tokens: &[Token], table: u8) -> &[Token]
 }
 
 /// The first cell of a table that breaks the rule.
-#[tactic(auto, using(enc_base::proofs::First::first_none, enc_base::proofs::First::first_found, enc_base::proofs::First::first_more), unfolding(crate::specs::Rules::table_fault))]
+#[tactic(auto, using(enc_base::proofs::First::first_steps), unfolding(crate::specs::Rules::table_fault))]
 fn table_fault<C: ChainView>(context: &Context<'_, C>, rule: CellRule, table: u8) -> Option<Place>
     ensures { result ≡ table_fault context.now.chain context.now.delta (speaks rule) table }
 {
@@ -154,7 +155,7 @@ fn table_fault<C: ChainView>(context: &Context<'_, C>, rule: CellRule, table: u8
 }
 
 /// The first cell that breaks the rule.
-#[tactic(auto, using(enc_base::proofs::First::first_none, enc_base::proofs::First::first_found, enc_base::proofs::First::first_more))]
+#[tactic(auto, using(enc_base::proofs::First::first_steps))]
 fn first_fault<C: ChainView>(context: &Context<'_, C>, rule: CellRule) -> Option<Place>
     ensures { result ≡ first_below (table_fault context.now.chain context.now.delta (speaks rule)) table_count }
 {
@@ -197,7 +198,7 @@ fn too_many_in<C: ChainView>(context: &Context<'_, C>, table: u8) -> Option<Plac
 }
 
 /// There are more deltas than Generation can count, or more rows than a token can name.
-#[tactic(auto, using(enc_base::proofs::First::first_none, enc_base::proofs::First::first_found, enc_base::proofs::First::first_more), unfolding(crate::specs::Rules::too_many))]
+#[tactic(auto, using(enc_base::proofs::First::first_steps), unfolding(crate::specs::Rules::too_many))]
 pub fn too_many<C: ChainView>(context: &Context<'_, C>) -> Option<Place>
     ensures { result ≡ too_many context.now.chain context.now.delta }
 {

@@ -88,7 +88,8 @@ impl<C: ChainView> Context<'_, C> {
 
     /// How many rows each table has after the delta.
     pub fn counts(&self) -> &Counts
-        ensures { (t : ℕ) → t < 64 → slice_index result.now.rows t ≡ rows_with self.now.chain (listed self.now.delta) t }
+        ensures { (t : ℕ) → t < 64 → slice_index result.now.rows t
+            ≡ rows_with self.now.chain (listed self.now.delta) t }
     {
         &self.known.counts
     }
@@ -193,7 +194,8 @@ impl<C: ChainView> Context<'_, C> {
 
     /// The place of a blob at an offset of the joined `#Blob`, None where the offset isn't good.
     fn own_place(&self, offset: u32) -> Option<u64>
-        ensures { AreStoredAt (joined_blobs self.now) result (unwrap_or (joined_blob (heaps_after self.now.chain self.now.delta) offset) []) }
+        ensures { AreStoredAt (joined_blobs self.now) result
+            (unwrap_or (joined_blob (heaps_after self.now.chain self.now.delta) offset) []) }
     {
         if !self.has_blob(offset) {
             return None;
@@ -284,7 +286,7 @@ impl<C: ChainView> CellView for Context<'_, C> {
         }
     }
 
-    #[tactic(auto, using(crate::proofs::OwnRows::index_own, crate::proofs::OwnRows::coded_own, crate::proofs::OwnRows::token_old))]
+    #[tactic(auto, using(crate::proofs::OwnRows::own_rows_steps))]
     fn token(&self, row: Token, column: u8) -> Token {
         let Some(place) = self.place(row) else {
             return self.old.token(row, column);

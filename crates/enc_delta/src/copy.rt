@@ -21,7 +21,7 @@ pub fn is_module(token: Token) -> bool
 }
 
 /// The entries of EncLog.
-#[tactic(auto, using(crate::proofs::Listed::map_none, crate::proofs::Listed::map_more), unfolding(crate::specs::Delta::log_in))]
+#[tactic(auto, using(crate::proofs::Listed::map_steps), unfolding(crate::specs::Delta::log_in))]
 pub fn log_of(delta: &Delta, alloc: Global) -> Result<Vec<Entry>, AllocError>
     ensures entries { IfOk result (λ l. l.items ≡ log_in delta.now) }
     ensures rows { IfOk result (λ l. IsTrue (list_all (λ (e : TheEntry). nat_lt e.token.row 0x1000000) l.items)) }
@@ -36,7 +36,7 @@ pub fn log_of(delta: &Delta, alloc: Global) -> Result<Vec<Entry>, AllocError>
 
 impl Delta {
     /// The tokens of EncMap but the Module's, in the map's order.
-    #[tactic(auto, using(crate::proofs::Listed::tokens_none, crate::proofs::Listed::tokens_kept, crate::proofs::Listed::tokens_left), unfolding(crate::specs::Delta::listed, crate::specs::Delta::map_in))]
+    #[tactic(auto, using(crate::proofs::Listed::tokens_steps), unfolding(crate::specs::Delta::listed, crate::specs::Delta::map_in))]
     pub fn tokens(&self, alloc: Global) -> Result<Vec<Token>, AllocError>
         ensures tokens { IfOk result (λ l. l.items ≡ listed self.now) }
         ensures rows { IfOk result (λ l. IsTrue (list_all (λ (t : TheToken). nat_lt t.row 0x1000000) l.items)) }
@@ -54,7 +54,7 @@ impl Delta {
     }
 
     /// The tokens of EncMap but the Module's, in the map's order. A step for each token of the map.
-    #[tactic(auto, using(crate::proofs::Listed::tokens_none, crate::proofs::Listed::tokens_kept, crate::proofs::Listed::tokens_left), unfolding(crate::specs::Delta::listed, crate::specs::Delta::map_in))]
+    #[tactic(auto, using(crate::proofs::Listed::tokens_steps), unfolding(crate::specs::Delta::listed, crate::specs::Delta::map_in))]
     pub fn tokens_counted<L: Ledger>(
         &self,
         alloc: Global,

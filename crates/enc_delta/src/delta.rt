@@ -46,7 +46,8 @@ impl Model for Delta {
 
     ghost view = { λ d. delta_source d.meta.items d.il.items d.root d.tables };
 
-    ghost invariant = { λ d. IsRead d.meta.items d.il.items (record { root = d.root; ends = d.ends; tables = d.tables }) d.rises };
+    ghost invariant = { λ d. IsRead d.meta.items d.il.items
+        (record { root = d.root; ends = d.ends; tables = d.tables }) d.rises };
 }
 
 /// The delta whose parts were read from these bytes.

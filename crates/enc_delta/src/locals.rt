@@ -98,7 +98,7 @@ fn bad_locals_in<C: ChainView>(
 
 /// The first method whose local signature isn't one of locals. It reads each body once, whatever the
 /// number of methods that share it, and takes memory for the places of the bodies.
-#[tactic(auto, using(enc_base::proofs::First::first_none, enc_base::proofs::First::first_found, enc_base::proofs::First::first_more), unfolding(crate::specs::Changes::bad_locals))]
+#[tactic(auto, using(enc_base::proofs::First::first_steps), unfolding(crate::specs::Changes::bad_locals))]
 pub fn bad_locals<C: ChainView>(
     alloc: Global,
     context: &Context<'_, C>,

@@ -52,7 +52,8 @@ fn is_laid_out<R: CellView>(rows: &R, owner: Token) -> bool
 
 /// The pair gives a child of a table to a type that was there.
 fn gives_to_old<C: ChainView>(chain: &C, pair: Pair, table: u8) -> bool
-    ensures given { result ≡ (pair.child.table == table && pair.owner.table == type_def && not (is_insert (C.chain chain.now) pair.owner)) }
+    ensures given { result ≡ (pair.child.table == table && pair.owner.table == type_def
+        && not (is_insert (C.chain chain.now) pair.owner)) }
     ensures child { IsTrue result → pair.child.table ≡ table }
     ensures owner { IsTrue result → pair.owner.table ≡ type_def }
 {
@@ -71,7 +72,7 @@ pub fn is_out_of_layout<C: ChainView, R: CellView>(chain: &C, rows: &R, pair: Pa
 
 /// A virtual method for an interface that a chain has, or one that is abstract too for any type that it
 /// has, by these rows.
-#[tactic(auto, using(enc_plain::proofs::ColumnKinds::method_flags, enc_plain::proofs::ColumnKinds::type_flags), unfolding(crate::specs::Changes::has_no_slot))]
+#[tactic(auto, using(enc_plain::proofs::ColumnKinds::flags_cases), unfolding(crate::specs::Changes::has_no_slot))]
 pub fn has_no_slot<C: ChainView, R: CellView>(chain: &C, rows: &R, pair: Pair) -> bool
     ensures { result ≡ has_no_slot (C.chain chain.now) (R.rows rows.now) (pair_seen pair) }
 {
@@ -141,7 +142,7 @@ fn name_column(table: u8) -> u8
 }
 
 /// The column of the signature of fields, methods or properties.
-#[tactic(auto, using(crate::proofs::MemberKinds::signature_kind, enc_plain::proofs::ColumnKinds::method_signature, crate::proofs::MemberKinds::signature_two, crate::proofs::MemberKinds::signature_four))]
+#[tactic(auto, using(crate::proofs::MemberKinds::signature_steps, enc_plain::proofs::ColumnKinds::method_signature))]
 fn signature_at(table: u8) -> u8
     requires { IsTrue (has_signature table) }
     ensures column { result ≡ unwrap_or (signature_column table) 0 }
@@ -180,7 +181,8 @@ fn are_alike<R: CellView>(
     requires table { member.table ≡ other.table }
     requires kind { kind_in member.table column ≡ Some blobs }
     requires known { AreKnownAlike (R.rows rows.now) (R.stored rows.now) known.old }
-    ensures alike { result ≡ signatures_alike (R.rows rows.now) member.table (bytes_at (R.rows rows.now) member column) (bytes_at (R.rows rows.now) other column) }
+    ensures alike { result ≡ signatures_alike (R.rows rows.now) member.table (bytes_at (R.rows rows.now) member column)
+        (bytes_at (R.rows rows.now) other column) }
     ensures known { AreKnownAlike (R.rows rows.now) (R.stored rows.now) known.new }
 {
     let left = PlacedBlob {
@@ -262,7 +264,9 @@ impl<'a, R: CellView> Model for Signatures<'a, R> {
 
     ghost view = { λ s. s.keys };
 
-    ghost invariant = { λ s. AreKnownAlike (R.rows s.keys) (R.stored s.keys) s.fields × AreKnownAlike (R.rows s.keys) (R.stored s.keys) s.methods × AreKnownAlike (R.rows s.keys) (R.stored s.keys) s.properties };
+    ghost invariant = { λ s. AreKnownAlike (R.rows s.keys) (R.stored s.keys) s.fields
+        × AreKnownAlike (R.rows s.keys) (R.stored s.keys) s.methods
+        × AreKnownAlike (R.rows s.keys) (R.stored s.keys) s.properties };
 }
 
 impl<'a, R: CellView> Signatures<'a, R> {
@@ -303,7 +307,7 @@ impl<R: CellView> Members for Signatures<'_, R> {
 
     ghost one = { λ r. one_key (R.rows r) };
 
-    #[tactic(auto, using(enc_plain::proofs::ColumnKinds::field_flags, enc_plain::proofs::ColumnKinds::method_flags), unfolding(crate::specs::Changes::is_member))]
+    #[tactic(auto, using(enc_plain::proofs::ColumnKinds::flags_steps), unfolding(crate::specs::Changes::is_member))]
     fn counts(&self, member: Token) -> bool {
         let rows = self.keys.rows();
         match member.table {
@@ -342,7 +346,8 @@ pub fn twin_among<C: ChainView, R: CellView>(
     pairs: &[Pair],
 ) -> Result<Option<Place>, AllocError>
     requires { ArePairs pairs.now }
-    ensures { IfOk result (λ p. p ≡ twin_fault (asked_of (R.rows rows.now)) (C.chain chain.now).plain (map pair_seen pairs.now)) }
+    ensures { IfOk result (λ p. p ≡ twin_fault (asked_of (R.rows rows.now)) (C.chain chain.now).plain
+        (map pair_seen pairs.now)) }
 {
     let mut members = Signatures::new(alloc, rows);
     twin_fault(alloc, chain, &mut members, pairs)

@@ -58,7 +58,9 @@ pub fn add_named<M: Members>(
     pairs: &[Pair],
     is_new: bool,
 ) -> Result<(), AllocError>
-    ensures named { IfOk result (λ _. entries.new.items ≡ entries.old.items ++ map (keyed_by_name (M.asked members.now) is_new) (filter (λ (k : Pair). (M.asked members.now).counts k.child) pairs.now)) }
+    ensures named { IfOk result (λ _. entries.new.items ≡ entries.old.items ++ map
+        (keyed_by_name (M.asked members.now) is_new)
+        (filter (λ (k : Pair). (M.asked members.now).counts k.child) pairs.now)) }
     ensures children { IfOk result (λ _. AreChildren (M.asked members.now) pairs.now) }
 {
     for k in 0..pairs.len() {
@@ -173,7 +175,8 @@ pub fn shared<M: Members>(
     entries: &[Keyed],
 ) -> Result<Vec<Keyed>, AllocError>
     requires { AreKeyed (M.asked members.now) (name_key (M.asked members.now)) entries.now }
-    ensures { IfOk result (λ l. l.items ≡ near_told (M.asked members.now) (M.keys members.now) entries.now (length entries.now)) }
+    ensures { IfOk result (λ l. l.items ≡ near_told (M.asked members.now) (M.keys members.now) entries.now
+        (length entries.now)) }
 {
     let mut kept = Vec::new(alloc);
     for k in 0..entries.len() {

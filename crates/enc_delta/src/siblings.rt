@@ -43,7 +43,8 @@ fn counting<M: Members>(alloc: Global, members: &M, pairs: &[Pair]) -> Result<Ve
 
 /// The pairs whose children count, those of one owner and one table in a row.
 fn grouped<M: Members>(alloc: Global, members: &M, pairs: &[Pair]) -> Result<Vec<Pair>, AllocError>
-    ensures { IfOk result (λ l. (f : Pair → Bool) → list_any f l.items ≡ list_any (λ (k : Pair). (M.asked members.now).counts k.child && f k) pairs.now) }
+    ensures { IfOk result (λ l. (f : Pair → Bool)
+        → list_any f l.items ≡ list_any (λ (k : Pair). (M.asked members.now).counts k.child && f k) pairs.now) }
 {
     let mut kept = counting(alloc, members, pairs)?;
     kept.sort_unstable_by_key(|pair| (pair.owner, pair.child.table));
@@ -92,7 +93,8 @@ fn add_old<C: ChainView>(
     all: &mut Vec<Pair>,
     pair: Pair,
 ) -> Result<(), AllocError>
-    ensures { IfOk result (λ _. all.new.items ≡ all.old.items ++ map (row_beside pair) (old_rows (C.chain chain.now).plain pair)) }
+    ensures { IfOk result (λ _. all.new.items
+        ≡ all.old.items ++ map (row_beside pair) (old_rows (C.chain chain.now).plain pair)) }
 {
     let rows = old_rows(alloc, chain, pair)?;
     add_rows(all, pair, &rows)

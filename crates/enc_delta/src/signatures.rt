@@ -84,7 +84,8 @@ fn is_row_signature<C: ChainView>(
 ) -> Result<bool, AllocError>
     requires column { kind_in token.table column ≡ Some blobs }
     requires known { AreJoinedSignatures context.now known.old }
-    ensures good { IfOk result (λ good. good ≡ is_signature (rows_with context.now.chain (listed context.now.delta)) token.table (bytes_at (joined_rows context.now) token column)) }
+    ensures good { IfOk result (λ good. good ≡ is_signature (rows_with context.now.chain (listed context.now.delta))
+        token.table (bytes_at (joined_rows context.now) token column)) }
     ensures known { OnOk result (AreJoinedSignatures context.now known.new) }
 {
     match context.delta.place(token) {
@@ -121,7 +122,7 @@ fn bad_signature_in<C: ChainView>(
 
 /// The first signature that isn't one. It reads each signature of a table once, whatever the number of
 /// rows that share it, and takes memory for the offsets of one table's.
-#[tactic(auto, using(enc_base::proofs::First::first_none, enc_base::proofs::First::first_found, enc_base::proofs::First::first_more), unfolding(crate::specs::Changes::bad_signature))]
+#[tactic(auto, using(enc_base::proofs::First::first_steps), unfolding(crate::specs::Changes::bad_signature))]
 pub fn bad_signature<C: ChainView>(
     alloc: Global,
     context: &Context<'_, C>,

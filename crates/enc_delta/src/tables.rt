@@ -48,7 +48,7 @@ fn uneven_at(delta: &Delta, counts: &[usize; 256], table: u8) -> Option<Place>
 }
 
 /// The first table whose rows and tokens differ in number.
-#[tactic(auto, using(enc_base::proofs::First::first_none, enc_base::proofs::First::first_found, enc_base::proofs::First::first_more), unfolding(crate::specs::Rules::uneven_table))]
+#[tactic(auto, using(enc_base::proofs::First::first_steps), unfolding(crate::specs::Rules::uneven_table))]
 fn first_uneven(delta: &Delta, tokens: &[Token]) -> Option<Place>
     requires { tokens.now ≡ listed delta.now }
     ensures { result ≡ uneven_table delta.now }
@@ -104,7 +104,7 @@ fn closed_at(delta: &Delta, table: u8) -> Option<Place>
 }
 
 /// The first table with rows that a delta may not have.
-#[tactic(auto, using(enc_base::proofs::First::first_none, enc_base::proofs::First::first_found, enc_base::proofs::First::first_more), unfolding(crate::specs::Rules::closed_table))]
+#[tactic(auto, using(enc_base::proofs::First::first_steps), unfolding(crate::specs::Rules::closed_table))]
 fn first_closed(delta: &Delta) -> Option<Place>
     ensures { result ≡ closed_table delta.now }
 {

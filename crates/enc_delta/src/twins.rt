@@ -163,7 +163,8 @@ fn is_new_twin<M: Members>(members: &mut M, entries: &[Keyed], k: usize) -> bool
 fn least_twin<M: Members>(members: &mut M, entries: &[Keyed]) -> Option<u32>
     requires keyed { AreKeyed (M.asked members.old) (twin_key (M.asked members.old) (M.keys members.old)) entries.now }
     requires sorted { IsNonDecreasingBy (λ (e : Keyed). e.key) entries.now }
-    ensures twin { result ≡ least (map keyed_number (filter (is_new_twin (M.asked members.old) entries.now) entries.now)) }
+    ensures twin { result ≡ least (map keyed_number
+        (filter (is_new_twin (M.asked members.old) entries.now) entries.now)) }
     ensures kept { members.new ≡ members.old }
 {
     let mut best: Option<u32> = None;
@@ -184,7 +185,8 @@ pub fn twin_fault<C: ChainView, M: Members>(
     pairs: &[Pair],
 ) -> Result<Option<Place>, AllocError>
     requires rows { ArePairs pairs.now }
-    ensures { IfOk result (λ p. p ≡ twin_fault (M.asked members.old) (C.chain chain.now).plain (map pair_seen pairs.now)) }
+    ensures { IfOk result (λ p. p ≡ twin_fault (M.asked members.old) (C.chain chain.now).plain
+        (map pair_seen pairs.now)) }
 {
     let old = old_members(alloc, chain, members, pairs)?;
     let mut new = Vec::new(alloc);

@@ -50,7 +50,8 @@ fn is_blob_kept<C: ChainView>(
     requires kind { kind_in token.table column ≡ Some blobs }
     requires known { AreKnownAlike (joined_rows context.now) (joined_blobs context.now) known.old }
     ensures known { AreKnownAlike (joined_rows context.now) (joined_blobs context.now) known.new }
-    ensures kept { result ≡ cell_is_kept (rows_of_chain context.now.chain) (joined_rows context.now) token column (Some blobs) }
+    ensures kept { result ≡ cell_is_kept (rows_of_chain context.now.chain) (joined_rows context.now) token column
+        (Some blobs) }
 {
     let old = PlacedBlob {
         place: context.old_place(token, column),
@@ -80,7 +81,8 @@ fn is_kept<C: ChainView>(
     requires column { column_in token.table i ≡ Some column }
     requires place { (is_body token.table i || is_field token.table i) ≡ false }
     requires known { AreKnownAlike (joined_rows context.now) (joined_blobs context.now) known.old }
-    ensures kept { result ≡ cell_is_kept (rows_of_chain context.now.chain) (joined_rows context.now) token i (kind_of column) }
+    ensures kept { result ≡ cell_is_kept (rows_of_chain context.now.chain) (joined_rows context.now) token i
+        (kind_of column) }
     ensures known { AreKnownAlike (joined_rows context.now) (joined_blobs context.now) known.new }
 {
     match column {
@@ -122,7 +124,7 @@ fn altered_at<C: ChainView>(
 }
 
 /// The first such cell of a row.
-#[tactic(auto, using(enc_base::proofs::First::first_none, enc_base::proofs::First::first_found, enc_base::proofs::First::first_more))]
+#[tactic(auto, using(enc_base::proofs::First::first_steps))]
 fn altered_in_cells<C: ChainView>(
     context: &Context<'_, C>,
     known: &mut KnownAlike,
@@ -130,7 +132,8 @@ fn altered_in_cells<C: ChainView>(
 ) -> Option<Place>
     requires { AreKnownAlike (joined_rows context.now) (joined_blobs context.now) known.old }
     ensures known { AreKnownAlike (joined_rows context.now) (joined_blobs context.now) known.new }
-    ensures place { result ≡ first_below (altered_at context.now.chain context.now.delta token) (length (columns_in token.table)) }
+    ensures place { result ≡ first_below (altered_at context.now.chain context.now.delta token)
+        (length (columns_in token.table)) }
 {
     for i in 0..columns_of(token.table).len() {
         match altered_at(context, known, token, i as u8) {
@@ -161,7 +164,7 @@ fn altered_in<C: ChainView>(
 /// The first cell of an updated row that says something else. It takes memory for what is known of
 /// likeness and of blobs, and for the pairs of tokens of one signature at a time; without it, they are judged
 /// again.
-#[tactic(auto, using(enc_base::proofs::First::first_none, enc_base::proofs::First::first_found, enc_base::proofs::First::first_more), unfolding(crate::specs::Changes::altered_cell))]
+#[tactic(auto, using(enc_base::proofs::First::first_steps), unfolding(crate::specs::Changes::altered_cell))]
 pub fn altered_cell<C: ChainView>(alloc: Global, context: &Context<'_, C>) -> Option<Place>
     ensures { result ≡ altered_cell context.now.chain context.now.delta }
 {

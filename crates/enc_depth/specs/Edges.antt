@@ -34,11 +34,13 @@ AreFew (more e t n k r) = (length (trees k) < 2 ^ 30) × (AreFew k) × (AreFew r
 -- the greatest depth that counts from these at a place, 0 where none does
 abbrev pub greatest : (Token → ℕ) → ℕ → List Edge → ℕ
 greatest depth place [] = 0
-greatest depth place (e ∷ es) = if e.place == place then max (1 + depth e.token) (greatest depth place es) else greatest depth place es
+greatest depth place (e ∷ es) =
+    if e.place == place then max (1 + depth e.token) (greatest depth place es) else greatest depth place es
 
 -- the rows by their places: those of TypeRef, and behind them those of TypeSpec
 abbrev pub row_at_place : Module → ℕ → Token
-row_at_place m k = if nat_lt k (row_count m tables.type_ref) then nth_row tables.type_ref k else nth_row tables.type_spec (k - row_count m tables.type_ref)
+row_at_place m k = if nat_lt k (row_count m tables.type_ref) then nth_row tables.type_ref k
+    else nth_row tables.type_spec (k - row_count m tables.type_ref)
 
 -- the depth of a TypeRef or a TypeSpec by those of the tokens from which it counts
 unfoldable pub depth_from : Rows → (Token → ℕ) → Token → ℕ
@@ -87,8 +89,10 @@ pub record AreNext (edges : List Edge) (refs : ℕ) (depths next : List ℕ) : T
 -- the same list but for one place, where the greater stands
 pub record IsRaised (place depth : ℕ) (old new : List ℕ) : Type 0 where
   pub count : length new ≡ length old
-  pub each : (k : ℕ) → k < length old → slice_index new k ≡ (if place == k then max depth (slice_index old k) else slice_index old k)
+  pub each : (k : ℕ) → k < length old
+      → slice_index new k ≡ (if place == k then max depth (slice_index old k) else slice_index old k)
 
 -- the n-th row of a table, n from 0, where its depth isn't below 100
 unfoldable pub deep_row : List ℕ → ℕ → ℕ → ℕ → Option Token
-deep_row depths first table n = if nat_lt (slice_index depths (first + n)) most_depth then None else Some (nth_row table n)
+deep_row depths first table n =
+    if nat_lt (slice_index depths (first + n)) most_depth then None else Some (nth_row table n)

@@ -1,4 +1,5 @@
--- What lasts when a module is edited by updates that say the same by alike references, and its references don't lie too deep.
+-- What lasts when a module is edited by updates that say the same by alike references, and its references don't lie
+-- too deep.
 use Rattle.std.specs.Prelude.{◌≡◌, ℕ, true, false}
 use Rattle.enc_base.specs.declared.token.Token.{Token}
 use Rattle.enc_delta.specs.Changes.{asked_of, cell_is_kept, has_no_slot, is_out_of_layout, may_differ}
@@ -12,7 +13,8 @@ use Rattle.enc_plain.specs.Sound.{IsSound}
 use Rattle.enc_schema.specs.Children.{is_child_table}
 use Rattle.enc_depth.specs.Depth.{IsShallow}
 
--- each row that was there is there, and says in each column what it said: equal numbers and texts, alike tokens and signatures by the rows after. Only where
+-- each row that was there is there, and says in each column what it said: equal numbers and texts, alike tokens and
+-- signatures by the rows after. Only where
 -- an update may say something else it may differ
 pub record KeepsRows (m n : Module) : Type 0 where
   pub there : (t : Token) → has_row m t ≡ true → has_row n t ≡ true
@@ -33,13 +35,15 @@ KeptTwice = (l m n : Module) → IsSound l → KeepsRows l m → Lasts m n → K
 -- two members that were there are twins after where they were before
 abbrev pub TwinsLast : Type 0
 TwinsLast =
-    (m n : Module) → Lasts m n → (t u : Token) → has_row m t ≡ true → has_row m u ≡ true → t.table ≡ u.table → is_child_table t.table ≡ true
+    (m n : Module) → Lasts m n → (t u : Token) → has_row m t ≡ true → has_row m u ≡ true → t.table ≡ u.table
+    → is_child_table t.table ≡ true
     → is_twin (asked_of (cells_of n)) t u ≡ is_twin (asked_of (cells_of m)) t u
 
 -- a twin of a member that counts has that member as its twin
 abbrev pub TwinsAreMutual : Type 0
 TwinsAreMutual =
-    (rows : Rows) (t u : Token) → t.table ≡ u.table → (asked_of rows).counts t ≡ true → is_twin (asked_of rows) t u ≡ true
+    (rows : Rows) (t u : Token) → t.table ≡ u.table → (asked_of rows).counts t ≡ true
+    → is_twin (asked_of rows) t u ≡ true
     → is_twin (asked_of rows) u t ≡ true
 
 -- a field that came to a type has its place after where it had it before, and a method its slot

@@ -127,3 +127,5 @@ pub nth_end : (d : DispatchParts) (path : List Token) (i k : ℕ) (t : Token) �
 nth_end d path i k t low e =
     let w = stands d path i k t low e in
     (drop_tail path i t (climb_in d (k - 1) w.0.base) (e ∙ climb_next d k t w.0 w.2 w.1)).1
+
+pub ruleset nth_steps = (nth_start, nth_step, nth_end)

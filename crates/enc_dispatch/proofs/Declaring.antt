@@ -59,3 +59,5 @@ pub no_owner : (m : Module) (method : Token) → IsSound m → method.table ≡ 
 no_owner m method sound table absent =
     let is = method_is method table in
     ap (owner_of m) is ∙ row_unowned m method.row sound (ap (has_row m) (sym is) ∙ absent)
+
+pub ruleset declaring_steps = (owner_type, no_owner)

@@ -70,3 +70,5 @@ pub nth_end : (m : Module) (path : List Token) (i k : ℕ) (t : Token) → i < l
 nth_end m path i k t low e =
     let w = stands m path i k t low e in
     (drop_tail path i t (climb m (k - 1) (class_base m t)) (e ∙ left_class m k t w.1 w.0)).1
+
+pub ruleset nth_steps = (nth_start, nth_step, nth_end)

@@ -106,3 +106,5 @@ no_kids m class absent = by_table (class.table == 0x02) absent
 pub no_methods : (m : Module) (test : Token → Bool) (class : Token) → is_class m class ≡ false → first_method m test class ≡ None
 unfolding first_method
 no_methods m test class absent = rw (no_kids m class absent) refl
+
+pub ruleset class_steps = (class_none, class_some)

@@ -1,4 +1,5 @@
--- For the contracts of private functions: how the first methods of slots are found, by keys that methods of one slot have in common.
+-- For the contracts of private functions: how the first methods of slots are found, by keys that methods of one slot
+-- have in common.
 use Rattle.std.specs.Prelude.{◌≡◌, ℕ, zero, suc, Bool, false, Option, Some, None, ◌+◌, ◌-◌, ◌%◌, ◌/◌, ◌^◌, ◌&&◌, ◌==◌, List, length, if◌then◌else◌}
 use Rattle.enc_base.specs.Token.{nth_row}
 use Rattle.enc_base.specs.declared.token.Token.{Token}
@@ -26,7 +27,8 @@ is_slot n (Some k) = k == n
 
 -- the n-th method is the first of its slot and has this key, n from 0
 unfoldable pub is_first_of : Rows → ℕ → ℕ → Bool
-is_first_of rows key n = is_slot (n + 1) (slot_in rows (nth_row tables.method_def n)) && slot_key rows (nth_row tables.method_def n) == key
+is_first_of rows key n = is_slot (n + 1) (slot_in rows (nth_row tables.method_def n))
+    && slot_key rows (nth_row tables.method_def n) == key
 
 -- the row of the last of such methods among the first so many
 unfoldable pub newest_first : Rows → ℕ → ℕ → Option ℕ
@@ -37,12 +39,14 @@ newest_first rows key (suc n) = if is_first_of rows key n then Some (n + 1) else
 unfoldable pub alike_first : Rows → ℕ → Token → ℕ → Option ℕ
 alike_first rows key method zero = None
 alike_first rows key method (suc n) =
-    if is_first_of rows key n && shares_slot rows (nth_row tables.method_def n) method then Some (n + 1) else alike_first rows key method n
+    if is_first_of rows key n && shares_slot rows (nth_row tables.method_def n) method then Some (n + 1)
+    else alike_first rows key method n
 
 -- the same from a row on downward
 unfoldable pub alike_from : Rows → ℕ → Token → Option ℕ → Option ℕ
 alike_from rows key method None = None
-alike_from rows key method (Some row) = if shares_slot rows (method_at row) method then Some row else alike_first rows key method (row - 1)
+alike_from rows key method (Some row) =
+    if shares_slot rows (method_at row) method then Some row else alike_first rows key method (row - 1)
 
 -- what the newest first method with a key stands by
 abbrev pub bucket_key : ℕ → Key
@@ -58,7 +62,8 @@ head_over below above key = either (stored_head above key) (stored_head below ke
 -- the newest first method of each key, and behind each method the one that was so before it
 pub record AreBuckets (rows : Rows) (head : ℕ → Option ℕ) (links : List (Option ℕ)) : Type 0 where
   pub heads : (key : ℕ) → head key ≡ newest_first rows key (length links)
-  pub next : EachPart (λ (n : ℕ) (o : Option ℕ). o ≡ newest_first rows (slot_key rows (nth_row tables.method_def n)) n) links
+  pub next : EachPart (λ (n : ℕ) (o : Option ℕ). o ≡ newest_first rows (slot_key rows (nth_row tables.method_def n)) n)
+      links
 
 -- the slot of the n-th method, n from 0
 abbrev pub IsSlotOf : Rows → ℕ → ℕ → Type 0

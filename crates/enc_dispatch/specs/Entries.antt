@@ -1,4 +1,5 @@
--- For the contracts of private functions: values that wait to be put into an index, the first of each key, where the index has none.
+-- For the contracts of private functions: values that wait to be put into an index, the first of each key, where the
+-- index has none.
 use Rattle.std.specs.Prelude.{List, [], ◌∷◌, Option, Some, None}
 use Rattle.enc_base.specs.Order.{or_else}
 use Rattle.enc_index.specs.declared.index.Entry.{Entry}

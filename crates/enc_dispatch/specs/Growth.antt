@@ -48,7 +48,8 @@ later_answer rule read more = first_below (λ k. rule (read + k)) more
 abbrev pub IsOwnUpTo : Module → List MethodPart → Wanted → Index OwnMethod → ℕ → Type 0
 IsOwnUpTo m methods wanted own read =
     (more : List MethodPart) (c s : ℕ)
-    → or_else (value_at own (own_key c s)) (own_among m (methods ++ more) wanted s (later_kids m read c)) ≡ own_in_class m (methods ++ more) wanted s c
+    → or_else (value_at own (own_key c s)) (own_among m (methods ++ more) wanted s (later_kids m read c))
+    ≡ own_in_class m (methods ++ more) wanted s c
 
 -- the index stands for the first so many rows of the tables that it reads
 pub record StandsUpTo (d : DispatchParts) (m : Module) (read : RowsRead) : Type 0 where
@@ -58,8 +59,10 @@ pub record StandsUpTo (d : DispatchParts) (m : Module) (read : RowsRead) : Type 
   pub methods : EachPart (IsMethodPart m) d.methods
   pub own : IsOwnUpTo m d.methods Virtual d.own read.methods
   pub met : IsOwnUpTo m d.methods Public d.met read.methods
-  pub impls : (class declaration : ℕ) → value_at d.impls (impl_key class declaration) ≡ first_below (impl_for m class declaration) read.impls
-  pub interfaces : (class : ℕ) (i : Token) → value_at d.interfaces (interface_key class i) ≡ first_below (says_interface m (class_at class) i) read.interfaces
+  pub impls : (class declaration : ℕ)
+      → value_at d.impls (impl_key class declaration) ≡ first_below (impl_for m class declaration) read.impls
+  pub interfaces : (class : ℕ) (i : Token) →
+      value_at d.interfaces (interface_key class i) ≡ first_below (says_interface m (class_at class) i) read.interfaces
   pub links : length d.links ≡ read.methods
   pub buckets : AreBuckets (cells_of m) (stored_head d.heads) d.links
 
@@ -87,10 +90,12 @@ pub record IsGrowth (d : DispatchParts) (g : Growth) (m : Module) (read : RowsRe
   pub methods : EachLater (IsMethodPart m) read.methods g.methods.items
   pub own : (c s : ℕ)
       → earliest g.own.items (own_key c s)
-      ≡ where_none (value_at d.own (own_key c s)) (own_among m (d.methods ++ g.methods.items) Virtual s (later_kids m read.methods c))
+      ≡ where_none (value_at d.own (own_key c s))
+      (own_among m (d.methods ++ g.methods.items) Virtual s (later_kids m read.methods c))
   pub met : (c s : ℕ)
       → earliest g.met.items (own_key c s)
-      ≡ where_none (value_at d.met (own_key c s)) (own_among m (d.methods ++ g.methods.items) Public s (later_kids m read.methods c))
+      ≡ where_none (value_at d.met (own_key c s))
+      (own_among m (d.methods ++ g.methods.items) Public s (later_kids m read.methods c))
   pub impls : (class declaration : ℕ)
       → earliest g.impls.items (impl_key class declaration)
       ≡ where_none (value_at d.impls (impl_key class declaration))
@@ -98,9 +103,11 @@ pub record IsGrowth (d : DispatchParts) (g : Growth) (m : Module) (read : RowsRe
   pub interfaces : (class : ℕ) (i : Token)
       → earliest g.interfaces.items (interface_key class i)
       ≡ where_none (value_at d.interfaces (interface_key class i))
-      (later_answer (says_interface m (class_at class) i) read.interfaces (row_count m tables.interface_impl - read.interfaces))
+      (later_answer (says_interface m (class_at class) i) read.interfaces
+      (row_count m tables.interface_impl - read.interfaces))
   pub links : read.methods + length g.links.items ≡ row_count m tables.method_def
-  pub buckets : AreBuckets (cells_of m) (λ key. either (latest g.heads.items (bucket_key key)) (stored_head d.heads key)) (d.links ++ g.links.items)
+  pub buckets : AreBuckets (cells_of m)
+      (λ key. either (latest g.heads.items (bucket_key key)) (stored_head d.heads key)) (d.links ++ g.links.items)
 
 -- there is room for what comes, and no more classes than an index may have
 unfoldable pub has_room_for : DispatchParts → Growth → Bool
@@ -117,7 +124,8 @@ pub record HasGrown (d : DispatchParts) (g : Growth) (new : DispatchParts) : Typ
   pub own : (q : Key) → value_at new.own q ≡ either (earliest g.own.items q) (value_at d.own q)
   pub met : (q : Key) → value_at new.met q ≡ either (earliest g.met.items q) (value_at d.met q)
   pub impls : (q : Key) → value_at new.impls q ≡ either (earliest g.impls.items q) (value_at d.impls q)
-  pub interfaces : (q : Key) → value_at new.interfaces q ≡ either (earliest g.interfaces.items q) (value_at d.interfaces q)
+  pub interfaces : (q : Key) → value_at new.interfaces q
+      ≡ either (earliest g.interfaces.items q) (value_at d.interfaces q)
   pub heads : (q : Key) → value_at new.heads q ≡ either (latest g.heads.items q) (value_at d.heads q)
   pub links : new.links ≡ d.links ++ g.links.items
 

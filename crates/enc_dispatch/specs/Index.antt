@@ -23,15 +23,20 @@ pub record StandsForModule (d : DispatchParts) (m : Module) : Type 0 where
   pub method_count : length d.methods ≡ row_count m tables.method_def
   pub methods : EachPart (IsMethodPart m) d.methods
   pub own : (class row : ℕ) (p : MethodPart) → IsTrue (has_row m (class_at class)) → nth_part d.methods row ≡ Some p
-      → value_at d.own (own_key class p.slot) ≡ option_map (own_part m) (first_method m (takes_slot m (method_at row)) (class_at class))
+      → value_at d.own (own_key class p.slot)
+      ≡ option_map (own_part m) (first_method m (takes_slot m (method_at row)) (class_at class))
   pub met : (class row : ℕ) (p : MethodPart) → IsTrue (has_row m (class_at class)) → nth_part d.methods row ≡ Some p
-      → value_at d.met (own_key class p.slot) ≡ option_map (own_part m) (first_method m (meets m (method_at row)) (class_at class))
+      → value_at d.met (own_key class p.slot)
+      ≡ option_map (own_part m) (first_method m (meets m (method_at row)) (class_at class))
   pub own_all : AreAllOwn m d.methods Virtual d.own
   pub met_all : AreAllOwn m d.methods Public d.met
   pub impls : (class declaration : ℕ)
-      → value_at d.impls (impl_key class declaration) ≡ first_below (impl_for m class declaration) (row_count m tables.method_impl)
-  pub bodies : (class declaration : ℕ) (p : ImplPart) → value_at d.impls (impl_key class declaration) ≡ Some p → IsTrue (has_row m (method_at p.body))
+      → value_at d.impls (impl_key class declaration)
+      ≡ first_below (impl_for m class declaration) (row_count m tables.method_impl)
+  pub bodies : (class declaration : ℕ) (p : ImplPart) → value_at d.impls (impl_key class declaration) ≡ Some p
+      → IsTrue (has_row m (method_at p.body))
   pub interfaces : (class : ℕ) (interface : Token)
-      → value_at d.interfaces (interface_key class interface) ≡ first_below (says_interface m (class_at class) interface) (row_count m tables.interface_impl)
+      → value_at d.interfaces (interface_key class interface)
+      ≡ first_below (says_interface m (class_at class) interface) (row_count m tables.interface_impl)
   pub links : length d.links ≡ row_count m tables.method_def
   pub buckets : AreBuckets (cells_of m) (stored_head d.heads) d.links

@@ -30,18 +30,21 @@ most_compared = 0x400
 unfoldable pub keeps_signature : Module → Module → Token → Bool
 keeps_signature m n t =
     bytes_eq (signature_of m t) (signature_of n t)
-    || (nat_le (length (signature_of m t)) most_compared && signatures_alike (cells_of n) tables.method_def (signature_of m t) (signature_of n t))
+    || (nat_le (length (signature_of m t)) most_compared
+    && signatures_alike (cells_of n) tables.method_def (signature_of m t) (signature_of n t))
 
 -- of a method its flags, name and signature are read, of a class its flags and what it extends
 unfoldable pub keeps_method : Module → Module → Token → Bool
-keeps_method m n t = keeps_number m n t columns.method_def_flags && keeps_bytes m n t columns.method_def_name && keeps_signature m n t
+keeps_method m n t = keeps_number m n t columns.method_def_flags && keeps_bytes m n t columns.method_def_name
+    && keeps_signature m n t
 
 unfoldable pub keeps_class : Module → Module → Token → Bool
 keeps_class m n t = keeps_number m n t columns.type_def_flags && keeps_token m n t columns.type_def_extends
 
 -- TypeRef, AssemblyRef, ModuleRef and TypeSpec: what a signature may name, and what stands around it
 abbrev pub is_read_by_likeness : ℕ → Bool
-is_read_by_likeness t = t == tables.type_ref || t == tables.assembly_ref || t == tables.module_ref || t == tables.type_spec
+is_read_by_likeness t = t == tables.type_ref || t == tables.assembly_ref || t == tables.module_ref
+    || t == tables.type_spec
 
 -- the other tables that are read
 abbrev pub is_read : ℕ → Bool

@@ -8,7 +8,8 @@ use Rattle.enc_dispatch.specs.Walks.{same_slot}
 
 -- methods have one slot just where their names are equal and their signatures alike
 abbrev pub SlotsTellMethods : Type 0
-SlotsTellMethods = (m : Module) (a b : Token) (s t : ℕ) → slot_of m a ≡ Some s → slot_of m b ≡ Some t → (s == t) ≡ same_slot m a b
+SlotsTellMethods = (m : Module) (a b : Token) (s t : ℕ) → slot_of m a ≡ Some s → slot_of m b ≡ Some t
+    → (s == t) ≡ same_slot m a b
 
 -- each class is on its own path
 abbrev pub EachClassExtendsItself : Type 0

@@ -27,11 +27,13 @@ row_part m row = own_part m (method_at row)
 
 -- a row, where it is of a slot
 unfoldable pub own_one : Module → List MethodPart → Wanted → ℕ → ℕ → Option OwnMethod
-own_one m methods wanted slot row = if is_slot slot (wanted_slot m methods wanted row) then Some (row_part m row) else None
+own_one m methods wanted slot row =
+    if is_slot slot (wanted_slot m methods wanted row) then Some (row_part m row) else None
 
 -- the first of some rows that is of a slot
 unfoldable pub own_among : Module → List MethodPart → Wanted → ℕ → List ℕ → Option OwnMethod
-own_among m methods wanted slot rows = option_map (row_part m) (slice_get (filter (λ (row : ℕ). is_slot slot (wanted_slot m methods wanted row)) rows) 0)
+own_among m methods wanted slot rows =
+    option_map (row_part m) (slice_get (filter (λ (row : ℕ). is_slot slot (wanted_slot m methods wanted row)) rows) 0)
 
 -- what is of one class
 abbrev pub in_class : ℕ → ℕ → Option OwnMethod → Option OwnMethod
@@ -39,7 +41,8 @@ in_class class c o = if class == c then o else None
 
 -- the first method of a slot that a class has
 abbrev pub own_in_class : Module → List MethodPart → Wanted → ℕ → ℕ → Option OwnMethod
-own_in_class m methods wanted slot class = own_among m methods wanted slot (kids_of m (class_at class) tables.method_def)
+own_in_class m methods wanted slot class =
+    own_among m methods wanted slot (kids_of m (class_at class) tables.method_def)
 
 -- an index has the first wanted method of each class and slot, and no other
 abbrev pub AreAllOwn : Module → List MethodPart → Wanted → Index OwnMethod → Type 0

@@ -35,7 +35,8 @@ is_on_path class path = list_any (λ (c : Token). is_token c class) path
 -- the classes of a path before one of them; None where it isn't on the path
 unfoldable pub before_class : Token → List Token → Option (List Token)
 before_class base [] = None
-before_class base (c ∷ rest) = if is_token c base then Some [] else option_map (λ (before : List Token). c ∷ before) (before_class base rest)
+before_class base (c ∷ rest) =
+    if is_token c base then Some [] else option_map (λ (before : List Token). c ∷ before) (before_class base rest)
 
 -- a row of InterfaceImpl says that a class has an interface (II.22.23)
 unfoldable pub says_interface : Module → Token → Token → ℕ → Option Token
@@ -47,7 +48,8 @@ says_interface m class interface k =
 
 -- some row says so
 unfoldable pub has_interface : Module → Token → Token → Bool
-has_interface m class interface = is_some (first_below (says_interface m class interface) (row_count m tables.interface_impl))
+has_interface m class interface =
+    is_some (first_below (says_interface m class interface) (row_count m tables.interface_impl))
 
 -- a class of the path has the interface
 abbrev pub implements : Module → Token → Token → Bool

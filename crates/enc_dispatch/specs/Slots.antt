@@ -13,7 +13,8 @@ use Rattle.enc_schema.specs.Tables as tables
 unfoldable pub shares_slot : Rows → Token → Token → Bool
 shares_slot rows a b =
     bytes_eq (bytes_at rows a columns.method_def_name) (bytes_at rows b columns.method_def_name)
-    && signatures_alike rows tables.method_def (bytes_at rows a columns.method_def_signature) (bytes_at rows b columns.method_def_signature)
+    && signatures_alike rows tables.method_def (bytes_at rows a columns.method_def_signature)
+    (bytes_at rows b columns.method_def_signature)
 
 -- the n-th method shares a method's slot, n from 0
 unfoldable pub shares_at : Rows → Token → ℕ → Option ℕ

@@ -21,9 +21,12 @@ pub record Room : Type 0 where
   pub methods : ℕ
   pub links : ℕ
 
--- of each class what it extends and whether it is an interface; of each method its type and its slot; by class and slot the first virtual method
--- and the first public one; by class and declaration the first row of MethodImpl; by class and interface that it has it;
--- by key the newest first method of a slot, and behind each method the one that was so before it; and how much room there is
+-- of each class what it extends and whether it is an interface; of each method its type and its slot; by class and
+-- slot the first virtual method
+-- and the first public one; by class and declaration the first row of MethodImpl; by class and interface that it has
+-- it;
+-- by key the newest first method of a slot, and behind each method the one that was so before it; and how much room
+-- there is
 pub record DispatchParts : Type 0 where
   pub classes : List ClassPart
   pub methods : List MethodPart
@@ -68,7 +71,8 @@ interface_key class interface = record { table = interface.table; row = class; p
 -- a row of MethodImpl that gives a class a MethodDef for a declaration, with its number from 0
 unfoldable pub impl_for : Module → ℕ → ℕ → ℕ → Option ImplPart
 impl_for m class declaration k =
-    if is_token (impl_class m k) (class_at class) && (impl_body m k).table == tables.method_def && is_token (impl_declaration m k) (method_at declaration)
+    if is_token (impl_class m k) (class_at class) && (impl_body m k).table == tables.method_def
+    && is_token (impl_declaration m k) (method_at declaration)
     then Some (record { number = k; body = (impl_body m k).row })
     else None
 

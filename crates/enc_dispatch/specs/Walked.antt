@@ -69,14 +69,16 @@ row_of_own p = p.row
 -- what a class's rows of MethodImpl give for either of two methods
 unfoldable pub impl_in : DispatchParts → Token → ℕ → ℕ → Option ℕ
 impl_in d class declared current =
-    option_map body_row (earlier_impl (value_at d.impls (impl_key class.row declared)) (value_at d.impls (impl_key class.row current)))
+    option_map body_row (earlier_impl (value_at d.impls (impl_key class.row declared))
+    (value_at d.impls (impl_key class.row current)))
 
 abbrev pub own_turn_in : ℕ → Option OwnMethod → Option ℕ
 own_turn_in current None = Some current
 own_turn_in current (Some own) = if own.is_new_slot then None else Some own.row
 
 unfoldable pub turn_in : DispatchParts → ℕ → ℕ → ℕ → Token → Option ℕ
-turn_in d slot declared current class = or_else (impl_in d class declared current) (own_turn_in current (value_at d.own (own_key class.row slot)))
+turn_in d slot declared current class =
+    or_else (impl_in d class declared current) (own_turn_in current (value_at d.own (own_key class.row slot)))
 
 abbrev pub go_on_in : ℕ → (ℕ → ℕ) → Option ℕ → ℕ
 go_on_in current rest None = current
@@ -84,7 +86,8 @@ go_on_in current rest (Some next) = rest next
 
 unfoldable pub walk_down_in : DispatchParts → ℕ → ℕ → List Token → ℕ → ℕ
 walk_down_in d slot declared [] current = current
-walk_down_in d slot declared (class ∷ rest) current = go_on_in current (walk_down_in d slot declared rest) (turn_in d slot declared current class)
+walk_down_in d slot declared (class ∷ rest) current =
+    go_on_in current (walk_down_in d slot declared rest) (turn_in d slot declared current class)
 
 -- the slot of a method's row
 abbrev pub slot_at : List MethodPart → ℕ → Option ℕ
@@ -101,30 +104,36 @@ class_walk_in d path declaring declared slot =
     option_map (λ (n : ℕ). walk_down_in d slot declared (reverse (take n path)) declared) (place_on declaring path)
 
 unfoldable pub class_target_in : DispatchParts → Token → Token → ℕ → Option ℕ
-class_target_in d class declaring declared = option_and_then (class_walk_in d (path_in d class) declaring declared) (slot_at d.methods declared)
+class_target_in d class declaring declared =
+    option_and_then (class_walk_in d (path_in d class) declaring declared) (slot_at d.methods declared)
 
 unfoldable pub from_interface_in : DispatchParts → Token → List Token → List Token
 from_interface_in d interface [] = []
-from_interface_in d interface (class ∷ rest) = if has_interface_in d class interface then class ∷ rest else from_interface_in d interface rest
+from_interface_in d interface (class ∷ rest) =
+    if has_interface_in d class interface then class ∷ rest else from_interface_in d interface rest
 
 unfoldable pub given_by_in : DispatchParts → ℕ → ℕ → Token → Option ℕ
-given_by_in d slot declared class = or_else (impl_in d class declared declared) (option_map row_of_own (value_at d.met (own_key class.row slot)))
+given_by_in d slot declared class =
+    or_else (impl_in d class declared declared) (option_map row_of_own (value_at d.met (own_key class.row slot)))
 
 abbrev pub with_class_row : Token → Option ℕ → Option (Token × ℕ)
 with_class_row class given = option_map (λ (row : ℕ). (class, row)) given
 
 unfoldable pub first_given_in : DispatchParts → ℕ → ℕ → List Token → Option (Token × ℕ)
 first_given_in d slot declared [] = None
-first_given_in d slot declared (class ∷ rest) = or_else (with_class_row class (given_by_in d slot declared class)) (first_given_in d slot declared rest)
+first_given_in d slot declared (class ∷ rest) =
+    or_else (with_class_row class (given_by_in d slot declared class)) (first_given_in d slot declared rest)
 
 unfoldable pub interface_target_in : DispatchParts → Token → Token → ℕ → ℕ → Option ℕ
 interface_target_in d class interface declared slot =
-    option_and_then (λ (g : Token × ℕ). class_target_in d class g.0 g.1) (first_given_in d slot declared (from_interface_in d interface (path_in d class)))
+    option_and_then (λ (g : Token × ℕ). class_target_in d class g.0 g.1)
+    (first_given_in d slot declared (from_interface_in d interface (path_in d class)))
 
 -- by the part of the method
 unfoldable pub target_by_in : DispatchParts → Token → ℕ → MethodPart → Option ℕ
 target_by_in d class declared p =
-    if is_interface_part (class_part d p.owner) then interface_target_in d class p.owner declared p.slot else class_target_in d class p.owner declared
+    if is_interface_part (class_part d p.owner) then interface_target_in d class p.owner declared p.slot
+    else class_target_in d class p.owner declared
 
 unfoldable pub target_in : DispatchParts → Token → Token → Option Token
 target_in d class method =

@@ -69,4 +69,5 @@ meets m declared method = is_public m method && takes_slot m declared method
 
 -- the first of a class's methods, in order of attachment, that passes a test
 unfoldable pub first_method : Module → (Token → Bool) → Token → Option Token
-first_method m test class = option_map method_at (slice_get (filter (λ (row : ℕ). test (method_at row)) (kids_of m class tables.method_def)) 0)
+first_method m test class = option_map method_at
+    (slice_get (filter (λ (row : ℕ). test (method_at row)) (kids_of m class tables.method_def)) 0)

@@ -44,9 +44,30 @@ impl Model for Dispatch {
 
     ghost Value = { DispatchParts };
 
-    ghost coded = { Prim.hlevel (codes, (tree.the_row own_method.the_row).coded, (tree.the_row impl_part.the_row).coded, (tree.the_row token.the_row).coded, (tree.the_row u32-field.row).coded) };
+    ghost coded = { Prim.hlevel (
+      codes,
+      (tree.the_row own_method.the_row).coded,
+      (tree.the_row impl_part.the_row).coded,
+      (tree.the_row token.the_row).coded,
+      (tree.the_row u32-field.row).coded,
+    ) };
 
-    ghost view = { λ d. record { classes = d.classes.items; methods = d.methods.items; own = d.own; met = d.met; impls = d.impls; interfaces = d.interfaces; heads = d.slots.heads; links = d.slots.next.items; room = record { classes = vec_capacity d.classes; methods = vec_capacity d.methods; links = vec_capacity d.slots.next } } };
+    ghost view = { λ d. record {
+      classes = d.classes.items;
+      methods = d.methods.items;
+      own = d.own;
+      met = d.met;
+      impls = d.impls;
+      interfaces = d.interfaces;
+      heads = d.slots.heads;
+      links = d.slots.next.items;
+      room =
+          record {
+            classes = vec_capacity d.classes;
+            methods = vec_capacity d.methods;
+            links = vec_capacity d.slots.next;
+          };
+    } };
 
     ghost invariant = { λ d. length d.classes.items < 2 ^ 24 };
 }
@@ -92,7 +113,8 @@ impl Dispatch {
     /// the declaring one.
     #[tactic(auto, using(crate::proofs::Reached::target_is))]
     pub fn target(&self, class: Token, method: Token) -> Option<Token>
-        ensures { (m : Module) → StandsForModule self.now m → IsTrue (has_row m class) → IsTrue (has_row m method) → result ≡ target_of m class method }
+        ensures { (m : Module) → StandsForModule self.now m → IsTrue (has_row m class) → IsTrue (has_row m method)
+            → result ≡ target_of m class method }
     {
         self.found_target(class, method)
     }
@@ -110,7 +132,8 @@ impl Dispatch {
     /// an interface asks (ECMA-335 II.22.23). It takes no memory.
     #[tactic(auto, using(crate::proofs::Meant::implements_is))]
     pub fn implements(&self, class: Token, interface: Token) -> bool
-        ensures { (m : Module) → StandsForModule self.now m → IsTrue (has_row m class) → IsTrue (has_row m interface) → result ≡ implements m class interface }
+        ensures { (m : Module) → StandsForModule self.now m → IsTrue (has_row m class) → IsTrue (has_row m interface)
+            → result ≡ implements m class interface }
     {
         self.has_interface_on_path(class, interface)
     }

@@ -18,7 +18,9 @@ pub(crate) fn push_first<P: Drop>(
     key: Key,
     value: P,
 ) -> Result<(), AllocError>
-    ensures { IfOk result (λ _. (q : TheKey) → earliest entries.new.items q ≡ or_else (earliest entries.old.items q) (where_none (value_at index.now q) (if is_key key q then Some value else None))) }
+    ensures { IfOk result (λ _. (q : TheKey) → earliest entries.new.items q
+        ≡ or_else (earliest entries.old.items q)
+        (where_none (value_at index.now q) (if is_key key q then Some value else None))) }
 {
     if index.get(key).is_some() {
         return Ok(());

@@ -49,7 +49,8 @@ fn path<V: ModuleView>(view: &V, class: Token) -> Climb
 /// What is left behind the class where a climb stands, None where it has no class more.
 #[tactic(auto, using(crate::proofs::PathSteps::left_steps))]
 pub(crate) fn behind<V: ModuleView>(view: &V, climb: Climb) -> Option<Climb>
-    ensures path { left_of (V.meaning view.now) climb ≡ path_with climb.class (option_map (left_of (V.meaning view.now)) result) }
+    ensures path { left_of (V.meaning view.now) climb
+        ≡ path_with climb.class (option_map (left_of (V.meaning view.now)) result) }
     ensures less { IfSome result (λ c. c.left < climb.left) }
 {
     if climb.left == 0 {
@@ -85,9 +86,10 @@ fn says_interface<V: ModuleView>(view: &V, class: Token, interface: Token, n: u3
 }
 
 /// The interface, where the first row of InterfaceImpl that says so is there.
-#[tactic(auto, using(enc_base::proofs::First::first_none, enc_base::proofs::First::first_found, enc_base::proofs::First::first_more))]
+#[tactic(auto, using(enc_base::proofs::First::first_steps))]
 fn said_interface<V: ModuleView>(view: &V, class: Token, interface: Token) -> Option<Token>
-    ensures { result ≡ first_below (says_interface (V.meaning view.now) class interface) (row_count (V.meaning view.now) interface_impl) }
+    ensures { result ≡ first_below (says_interface (V.meaning view.now) class interface)
+        (row_count (V.meaning view.now) interface_impl) }
 {
     for n in 0..view.count(INTERFACE_IMPL) {
         match says_interface(view, class, interface, n) {
@@ -108,7 +110,8 @@ fn has_interface<V: ModuleView>(view: &V, class: Token, interface: Token) -> boo
 
 /// The climb where it first stands at a class that has the interface, or else at the end.
 pub(crate) fn from_interface<V: ModuleView>(view: &V, class: Token, interface: Token) -> Climb
-    ensures { left_of (V.meaning view.now) result ≡ from_interface (V.meaning view.now) interface (path_of (V.meaning view.now) class) }
+    ensures { left_of (V.meaning view.now) result
+        ≡ from_interface (V.meaning view.now) interface (path_of (V.meaning view.now) class) }
 {
     let mut climb = path(view, class);
     while let Some(rest) = behind(view, climb) {
@@ -138,7 +141,7 @@ pub(crate) fn place_on_path<V: ModuleView>(view: &V, class: Token, base: Token) 
 }
 
 /// The n-th class of a path, from 0: it is climbed to anew.
-#[tactic(auto, using(crate::proofs::PathSteps::nth_start, crate::proofs::PathSteps::nth_step, crate::proofs::PathSteps::nth_end))]
+#[tactic(auto, using(crate::proofs::PathSteps::nth_steps))]
 pub(crate) fn nth_class<V: ModuleView>(view: &V, class: Token, n: u32) -> Token
     requires { n < length (path_of (V.meaning view.now) class) }
     ensures { slice_get (path_of (V.meaning view.now) class) n ≡ Some result }

@@ -13,7 +13,7 @@ use enc_schema::tables::METHOD_DEF;
 /// each that the walk comes to is climbed to anew, and goes over the rows of MethodImpl and the class's
 /// methods; for a method of an interface each goes over the rows of InterfaceImpl too.
 /// `Dispatch::target` answers the same from an index.
-#[tactic(auto, unfolding(crate::specs::Target::target_of), using(crate::proofs::Declaring::owner_type, crate::proofs::Declaring::no_owner))]
+#[tactic(auto, unfolding(crate::specs::Target::target_of), using(crate::proofs::Declaring::declaring_steps))]
 pub fn target<V: ModuleView>(view: &V, class: Token, method: Token) -> Option<Token>
     requires sound { IsSound (V.meaning view.now) }
     ensures { result ≡ target_of (V.meaning view.now) class method }

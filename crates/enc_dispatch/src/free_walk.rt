@@ -47,7 +47,7 @@ fn impl_at<V: ModuleView>(
 }
 
 /// What a class's rows of MethodImpl give for either of two methods (ECMA-335 II.22.27).
-#[tactic(auto, using(enc_base::proofs::First::first_none, enc_base::proofs::First::first_found, enc_base::proofs::First::first_more), unfolding(crate::specs::Walks::impl_of))]
+#[tactic(auto, using(enc_base::proofs::First::first_steps), unfolding(crate::specs::Walks::impl_of))]
 fn impl_of<V: ModuleView>(view: &V, class: Token, declared: Token, current: Token) -> Option<Token>
     ensures given { result ≡ impl_of (V.meaning view.now) class declared current }
     ensures table { IfSome result (λ body. body.table ≡ method_def) }
@@ -154,7 +154,8 @@ fn turn<V: ModuleView>(view: &V, declared: Token, current: Token, class: Token) 
 fn walk_down<V: ModuleView>(view: &V, class: Token, count: u32, declared: Token) -> Token
     requires count { count ≤ length (path_of (V.meaning view.now) class) }
     requires declared { declared.table ≡ method_def }
-    ensures { result ≡ walk_down (V.meaning view.now) declared (reverse (take count (path_of (V.meaning view.now) class))) declared }
+    ensures { result ≡ walk_down (V.meaning view.now) declared
+        (reverse (take count (path_of (V.meaning view.now) class))) declared }
 {
     let mut current = declared;
     let mut left = count;
@@ -170,7 +171,7 @@ fn walk_down<V: ModuleView>(view: &V, class: Token, count: u32, declared: Token)
 }
 
 /// The class walk, None where the declaring class isn't on the path (ECMA-335 I.8.10.4).
-#[tactic(auto, using(crate::proofs::WalkSteps::class_none, crate::proofs::WalkSteps::class_some, crate::proofs::Climbs::place_within))]
+#[tactic(auto, using(crate::proofs::WalkSteps::class_steps, crate::proofs::Climbs::place_within))]
 fn class_target<V: ModuleView>(
     view: &V,
     class: Token,

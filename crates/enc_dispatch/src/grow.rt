@@ -91,7 +91,8 @@ impl Dispatch {
     #[tactic(auto, unfolding(crate::specs::Growth::has_room_for))]
     pub(crate) fn make_room(&mut self, growth: &Growth) -> Result<(), AllocError>
         ensures kept { self.new ≡ with_room self.new.room self.old }
-        ensures room { IfOk result (λ _. length self.old.classes + length growth.now.classes.items < 2 ^ 24 → IsTrue (has_room_for self.new growth.now)) }
+        ensures room { IfOk result (λ _. length self.old.classes + length growth.now.classes.items < 2 ^ 24
+            → IsTrue (has_room_for self.new growth.now)) }
     {
         self.classes.reserve(growth.classes.len())?;
         self.methods.reserve(growth.methods.len())?;

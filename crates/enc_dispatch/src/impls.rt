@@ -36,7 +36,9 @@ fn push_impl<V: ModuleView>(
     impls: &mut Vec<Entry<ImplPart>>,
 ) -> Result<(), AllocError>
     requires { n < 2 ^ 24 }
-    ensures { IfOk result (λ _. (class declaration : ℕ) → earliest impls.new.items (impl_key class declaration) ≡ or_else (earliest impls.old.items (impl_key class declaration)) (where_none (value_at index.now (impl_key class declaration)) (impl_for (V.meaning view.now) class declaration n))) }
+    ensures { IfOk result (λ _. (class declaration : ℕ) → earliest impls.new.items (impl_key class declaration)
+        ≡ or_else (earliest impls.old.items (impl_key class declaration)) (where_none
+        (value_at index.now (impl_key class declaration)) (impl_for (V.meaning view.now) class declaration n))) }
 {
     let rows = Viewed { view };
     let row = Token {
@@ -72,7 +74,9 @@ pub(crate) fn impls_of<V: ModuleView>(
     index: &Index<ImplPart>,
 ) -> Result<Vec<Entry<ImplPart>>, AllocError>
     requires { read ≤ row_count (V.meaning view.now) method_impl }
-    ensures { IfOk result (λ impls. (class declaration : ℕ) → earliest impls.items (impl_key class declaration) ≡ where_none (value_at index.now (impl_key class declaration)) (later_answer (impl_for (V.meaning view.now) class declaration) read (row_count (V.meaning view.now) method_impl - read))) }
+    ensures { IfOk result (λ impls. (class declaration : ℕ) → earliest impls.items (impl_key class declaration)
+        ≡ where_none (value_at index.now (impl_key class declaration)) (later_answer
+        (impl_for (V.meaning view.now) class declaration) read (row_count (V.meaning view.now) method_impl - read))) }
 {
     let mut impls = Vec::new(alloc);
     for k in 0..view.count(METHOD_IMPL) - read {

@@ -29,7 +29,9 @@ fn push_interface<V: ModuleView>(
     interfaces: &mut Vec<Entry<Token>>,
 ) -> Result<(), AllocError>
     requires { n < 2 ^ 24 }
-    ensures { IfOk result (λ _. (class : ℕ) (i : TheToken) → earliest interfaces.new.items (interface_key class i) ≡ or_else (earliest interfaces.old.items (interface_key class i)) (where_none (value_at index.now (interface_key class i)) (says_interface (V.meaning view.now) (class_at class) i n))) }
+    ensures { IfOk result (λ _. (class : ℕ) (i : TheToken) → earliest interfaces.new.items (interface_key class i)
+        ≡ or_else (earliest interfaces.old.items (interface_key class i)) (where_none
+        (value_at index.now (interface_key class i)) (says_interface (V.meaning view.now) (class_at class) i n))) }
 {
     let rows = Viewed { view };
     let row = Token {
@@ -55,7 +57,10 @@ pub(crate) fn interfaces_of<V: ModuleView>(
     index: &Index<Token>,
 ) -> Result<Vec<Entry<Token>>, AllocError>
     requires { read ≤ row_count (V.meaning view.now) interface_impl }
-    ensures { IfOk result (λ interfaces. (class : ℕ) (i : TheToken) → earliest interfaces.items (interface_key class i) ≡ where_none (value_at index.now (interface_key class i)) (later_answer (says_interface (V.meaning view.now) (class_at class) i) read (row_count (V.meaning view.now) interface_impl - read))) }
+    ensures { IfOk result (λ interfaces. (class : ℕ) (i : TheToken) → earliest interfaces.items (interface_key class i)
+        ≡ where_none (value_at index.now (interface_key class i)) (later_answer
+        (says_interface (V.meaning view.now) (class_at class) i) read
+        (row_count (V.meaning view.now) interface_impl - read))) }
 {
     let mut interfaces = Vec::new(alloc);
     for k in 0..view.count(INTERFACE_IMPL) - read {

@@ -36,7 +36,8 @@ fn slots_of<R: CellView>(
     ensures count { IfOk result (λ s. length s.items ≡ count) }
     ensures slots { IfOk result (λ s. EachLater (IsSlotOf (R.rows rows.now)) read s.items) }
     ensures links { IfOk result (λ _. length slots.new.next.items ≡ count) }
-    ensures buckets { IfOk result (λ _. AreBuckets (R.rows rows.now) (head_over below.now.heads slots.new.heads) (below.now.next.items ++ slots.new.next.items)) }
+    ensures buckets { IfOk result (λ _. AreBuckets (R.rows rows.now) (head_over below.now.heads slots.new.heads)
+        (below.now.next.items ++ slots.new.next.items)) }
     ensures entries { IfOk result (λ _. (q : TheKey) → latest slots.new.entries.items q ≡ value_at slots.new.heads q) }
 {
     let mut names = MethodNames::new(alloc, rows);
@@ -88,12 +89,14 @@ pub(crate) fn methods_of<V: ModuleView>(
     requires owned { read + length owners.now ≡ row_count (V.meaning view.now) method_def }
     requires below { length below.now.next.items ≡ read }
     requires none { slots.old.next.items ≡ [] }
-    requires buckets { AreBuckets (cells_of (V.meaning view.now)) (head_over below.now.heads slots.old.heads) below.now.next.items }
+    requires buckets { AreBuckets (cells_of (V.meaning view.now))
+        (head_over below.now.heads slots.old.heads) below.now.next.items }
     requires entries { (q : TheKey) → latest slots.old.entries.items q ≡ value_at slots.old.heads q }
     ensures count { IfOk result (λ p. read + length p.items ≡ row_count (V.meaning view.now) method_def) }
     ensures methods { IfOk result (λ p. EachLater (IsMethodPart (V.meaning view.now)) read p.items) }
     ensures links { IfOk result (λ _. read + length slots.new.next.items ≡ row_count (V.meaning view.now) method_def) }
-    ensures buckets { IfOk result (λ _. AreBuckets (cells_of (V.meaning view.now)) (head_over below.now.heads slots.new.heads) (below.now.next.items ++ slots.new.next.items)) }
+    ensures buckets { IfOk result (λ _. AreBuckets (cells_of (V.meaning view.now))
+        (head_over below.now.heads slots.new.heads) (below.now.next.items ++ slots.new.next.items)) }
     ensures entries { IfOk result (λ _. (q : TheKey) → latest slots.new.entries.items q ≡ value_at slots.new.heads q) }
 {
     let rows = Viewed { view };

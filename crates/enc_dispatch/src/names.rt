@@ -61,7 +61,8 @@ impl<'a, R: CellView> MethodNames<'a, R> {
     fn are_alike(&mut self, a: Token, b: Token) -> bool
         requires a { a.table ≡ method_def }
         requires b { b.table ≡ method_def }
-        ensures alike { result ≡ signatures_alike (R.rows self.old) method_def (bytes_at (R.rows self.old) a 4) (bytes_at (R.rows self.old) b 4) }
+        ensures alike { result ≡ signatures_alike (R.rows self.old) method_def (bytes_at (R.rows self.old) a 4)
+            (bytes_at (R.rows self.old) b 4) }
         ensures kept { self.new ≡ self.old }
     {
         let rows = self.keys.rows();

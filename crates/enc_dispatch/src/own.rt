@@ -118,7 +118,10 @@ fn push_own<V: ModuleView>(
     index: &Index<OwnMethod>,
     own: &mut Vec<Entry<OwnMethod>>,
 ) -> Result<(), AllocError>
-    ensures { IfOk result (λ _. (c s : ℕ) → earliest own.new.items (own_key c s) ≡ or_else (earliest own.old.items (own_key c s)) (where_none (value_at index.now (own_key c s)) (in_class class c (own_one (V.meaning view.now) (methods.now.first.now ++ methods.now.more.now) wanted s row)))) }
+    ensures { IfOk result (λ _. (c s : ℕ) → earliest own.new.items (own_key c s)
+        ≡ or_else (earliest own.old.items (own_key c s)) (where_none (value_at index.now (own_key c s))
+        (in_class class c (own_one (V.meaning view.now)
+        (methods.now.first.now ++ methods.now.more.now) wanted s row)))) }
 {
     let Some(slot) = wanted_slot(view, methods, wanted, row) else {
         return Ok(());
@@ -139,7 +142,10 @@ fn push_kids<V: ModuleView>(
     index: &Index<OwnMethod>,
     own: &mut Vec<Entry<OwnMethod>>,
 ) -> Result<(), AllocError>
-    ensures { IfOk result (λ _. (c s : ℕ) → earliest own.new.items (own_key c s) ≡ or_else (earliest own.old.items (own_key c s)) (where_none (value_at index.now (own_key c s)) (in_class class c (own_among (V.meaning view.now) (methods.now.first.now ++ methods.now.more.now) wanted s kids.now)))) }
+    ensures { IfOk result (λ _. (c s : ℕ) → earliest own.new.items (own_key c s)
+        ≡ or_else (earliest own.old.items (own_key c s)) (where_none (value_at index.now (own_key c s))
+        (in_class class c (own_among (V.meaning view.now)
+        (methods.now.first.now ++ methods.now.more.now) wanted s kids.now)))) }
 {
     for i in 0..kids.len() {
         push_own(alloc, view, methods, wanted, class, kids[i], index, own)?;
@@ -201,7 +207,9 @@ pub(crate) fn own_of<V: ModuleView>(
     index: &Index<OwnMethod>,
 ) -> Result<Vec<Entry<OwnMethod>>, AllocError>
     requires { AreOwners (V.meaning view.now) read owners.now }
-    ensures { IfOk result (λ own. (c s : ℕ) → earliest own.items (own_key c s) ≡ where_none (value_at index.now (own_key c s)) (own_among (V.meaning view.now) (methods.now.first.now ++ methods.now.more.now) wanted s (later_kids (V.meaning view.now) read c))) }
+    ensures { IfOk result (λ own. (c s : ℕ) → earliest own.items (own_key c s)
+        ≡ where_none (value_at index.now (own_key c s)) (own_among (V.meaning view.now)
+        (methods.now.first.now ++ methods.now.more.now) wanted s (later_kids (V.meaning view.now) read c))) }
 {
     let mut own = Vec::new(alloc);
     for i in 0..owners.len() {

@@ -14,9 +14,11 @@ use std::alloc::{AllocError, Global};
 
 /// Puts a class at the places of its methods, given by their rows.
 fn put_class(owners: &mut Vec<u32>, kids: &[u32], class: u32)
-    requires { (i : ℕ) → i < length kids.now → (0 < get_or kids.now i 0) × (get_or kids.now i 0 ≤ length owners.old.items) }
+    requires { (i : ℕ) → i < length kids.now
+        → (0 < get_or kids.now i 0) × (get_or kids.now i 0 ≤ length owners.old.items) }
     ensures len { length owners.new.items ≡ length owners.old.items }
-    ensures each { (n : ℕ) → n < length owners.old.items → get_or owners.new.items n 0 ≡ (if list_any (λ (k : ℕ). k == n + 1) kids.now then class else get_or owners.old.items n 0) }
+    ensures each { (n : ℕ) → n < length owners.old.items → get_or owners.new.items n 0
+        ≡ (if list_any (λ (k : ℕ). k == n + 1) kids.now then class else get_or owners.old.items n 0) }
 {
     for i in 0..kids.len() {
         owners[kids[i] as usize - 1] = class;

@@ -152,7 +152,7 @@ impl Dispatch {
     }
 
     /// The n-th class of a path, from 0: it is climbed to anew.
-    #[tactic(auto, using(crate::proofs::Climbs::nth_start, crate::proofs::Climbs::nth_step, crate::proofs::Climbs::nth_end))]
+    #[tactic(auto, using(crate::proofs::Climbs::nth_steps))]
     pub(crate) fn nth_class(&self, class: Token, n: u32) -> Token
         requires { n < length (path_in self.now class) }
         ensures { slice_get (path_in self.now class) n ≡ Some result }

@@ -109,8 +109,10 @@ impl MoreSlots {
         method: Token,
     ) -> Option<u32>
         requires table { method.table ≡ method_def }
-        requires buckets { AreBuckets (R.rows names.old) (head_over below.now.heads self.now.heads) (below.now.next.items ++ self.now.next.items) }
-        ensures first { result ≡ alike_first (R.rows names.old) key method (length (below.now.next.items ++ self.now.next.items)) }
+        requires buckets { AreBuckets (R.rows names.old) (head_over below.now.heads self.now.heads)
+            (below.now.next.items ++ self.now.next.items) }
+        ensures first { result ≡ alike_first (R.rows names.old) key method
+            (length (below.now.next.items ++ self.now.next.items)) }
         ensures names { names.new ≡ names.old }
     {
         let mut at = self.head(below, key);
@@ -127,7 +129,8 @@ impl MoreSlots {
     fn add(&mut self, below: &Slots, key: u64) -> Result<(), AllocError>
         ensures heads { self.new.heads ≡ self.old.heads }
         ensures entries { self.new.entries.items ≡ self.old.entries.items }
-        ensures next { IfOk result (λ _. self.new.next.items ≡ self.old.next.items ++ head_over below.now.heads self.old.heads key ∷ []) }
+        ensures next { IfOk result (λ _. self.new.next.items
+            ≡ self.old.next.items ++ head_over below.now.heads self.old.heads key ∷ []) }
     {
         let head = self.head(below, key);
         self.next.push(head)?;
@@ -144,9 +147,12 @@ impl MoreSlots {
         row: u32,
     ) -> Result<(), AllocError>
         requires { (q : TheKey) → latest self.old.entries.items q ≡ value_at self.old.heads q }
-        ensures heads { IfOk result (λ _. (q : TheKey) → value_at self.new.heads q ≡ either (if is_key (bucket_key key) q then Some row else None) (value_at self.old.heads q)) }
-        ensures entries { IfOk result (λ _. (q : TheKey) → latest self.new.entries.items q ≡ value_at self.new.heads q) }
-        ensures next { IfOk result (λ _. self.new.next.items ≡ self.old.next.items ++ head_over below.now.heads self.old.heads key ∷ []) }
+        ensures heads { IfOk result (λ _. (q : TheKey) → value_at self.new.heads q
+            ≡ either (if is_key (bucket_key key) q then Some row else None) (value_at self.old.heads q)) }
+        ensures entries { IfOk result (λ _. (q : TheKey)
+            → latest self.new.entries.items q ≡ value_at self.new.heads q) }
+        ensures next { IfOk result (λ _. self.new.next.items
+            ≡ self.old.next.items ++ head_over below.now.heads self.old.heads key ∷ []) }
     {
         self.add(below, key)?;
         push_entry(&mut self.entries, alloc, bucket_key(key), row)?;
@@ -165,11 +171,14 @@ impl MoreSlots {
     ) -> Result<u32, AllocError>
         requires few { n < 2 ^ 24 }
         requires size { length (below.now.next.items ++ self.old.next.items) ≡ n }
-        requires buckets { AreBuckets (R.rows names.old) (head_over below.now.heads self.old.heads) (below.now.next.items ++ self.old.next.items) }
+        requires buckets { AreBuckets (R.rows names.old) (head_over below.now.heads self.old.heads)
+            (below.now.next.items ++ self.old.next.items) }
         requires entries { (q : TheKey) → latest self.old.entries.items q ≡ value_at self.old.heads q }
         ensures slot { IfOk result (λ s. slot_in (R.rows names.old) (nth_row method_def n) ≡ Some s) }
-        ensures buckets { IfOk result (λ _. AreBuckets (R.rows names.old) (head_over below.now.heads self.new.heads) (below.now.next.items ++ self.new.next.items)) }
-        ensures entries { IfOk result (λ _. (q : TheKey) → latest self.new.entries.items q ≡ value_at self.new.heads q) }
+        ensures buckets { IfOk result (λ _. AreBuckets (R.rows names.old) (head_over below.now.heads self.new.heads)
+            (below.now.next.items ++ self.new.next.items)) }
+        ensures entries { IfOk result (λ _. (q : TheKey)
+            → latest self.new.entries.items q ≡ value_at self.new.heads q) }
         ensures size { IfOk result (λ _. length self.new.next.items ≡ length self.old.next.items + 1) }
         ensures names { names.new ≡ names.old }
     {

@@ -59,7 +59,8 @@ impl Dispatch {
     /// class. Each is climbed to anew, so that the walk takes no memory.
     fn walk_down(&self, class: Token, count: u32, slot: u32, declared: u32) -> u32
         requires { count ≤ length (path_in self.now class) }
-        ensures { result ≡ walk_down_in self.now slot declared (reverse (take count (path_in self.now class))) declared }
+        ensures { result ≡ walk_down_in self.now slot declared
+            (reverse (take count (path_in self.now class))) declared }
     {
         let mut current = declared;
         let mut left = count;

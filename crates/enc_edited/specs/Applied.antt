@@ -1,4 +1,5 @@
--- When an edit list can be applied to a module that no file holds: it breaks no rule but those on its EncId, on heaps and on the number of deltas.
+-- When an edit list can be applied to a module that no file holds: it breaks no rule but those on its EncId, on
+-- heaps and on the number of deltas.
 use Rattle.std.specs.Prelude.{◌≡◌, ℕ, false, not, ◌==◌, List, [], length, filter, None}
 use Rattle.enc_base.specs.Order.{first_below}
 use Rattle.enc_plain.specs.Chain.{Chain}
@@ -18,7 +19,8 @@ alone m = record { plain = m; ids = []; heaps = [] }
 abbrev pub rules_of_rows : List (ℕ × EditRule)
 rules_of_rows = filter (λ (r : ℕ × EditRule). not (r.0 == 5)) edit_rules
 
--- the list breaks no rule on rows, bodies and points, and the user texts of the bodies afterwards have room in one `#US`
+-- the list breaks no rule on rows, bodies and points, and the user texts of the bodies afterwards have room in one
+-- `#US`
 pub record MayApply (m : Module) (l : EditList) : Type 0 where
   pub few : there_are_too_many (alone m) l ≡ false
   pub rules : first_below (first_at rules_of_rows (alone m) l) (length l.edits) ≡ None

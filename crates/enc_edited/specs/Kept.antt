@@ -9,4 +9,5 @@ use Rattle.enc_rules.specs.First.{first_edit}
 
 -- after a chain with a sound module, a list of the form that breaks no rule makes one
 abbrev pub ListsKeepSound : Type 0
-ListsKeepSound = (c : Chain) (l : EditList) → list_fits l ≡ true → first_edit c l ≡ None → IsSound c.plain → IsSound (edited c.plain l.edits)
+ListsKeepSound = (c : Chain) (l : EditList) → list_fits l ≡ true → first_edit c l ≡ None → IsSound c.plain
+    → IsSound (edited c.plain l.edits)

@@ -27,11 +27,14 @@ code_is_held code = list_all (λ (i : InstrValue). argument_is_held i.arg) code
 
 -- and so are those of a body
 abbrev pub body_is_held : BodyValue → Bool
-body_is_held b = nat_lt b.max (2 ^ 16) && nat_lt b.locals.table 0x100 && code_is_held b.code && list_all clause_fits b.clauses
+body_is_held b = nat_lt b.max (2 ^ 16) && nat_lt b.locals.table 0x100 && code_is_held b.code
+    && list_all clause_fits b.clauses
 
--- a body has the form of one, its branches reach their targets, and it takes less than 2^32 bytes at most: its code, 64 for its header and 28 for each clause
+-- a body has the form of one, its branches reach their targets, and it takes less than 2^32 bytes at most: its code,
+-- 64 for its header and 28 for each clause
 unfoldable pub body_assembles : BodyValue → Bool
-body_assembles b = body_fits b && branches_reach 0 b.code && nat_lt (length_of_code b.code + 64 + 28 * length b.clauses) (2 ^ 32)
+body_assembles b = body_fits b && branches_reach 0 b.code
+    && nat_lt (length_of_code b.code + 64 + 28 * length b.clauses) (2 ^ 32)
 
 abbrev pub assembles_if : Option BodyValue → Bool
 assembles_if None = true

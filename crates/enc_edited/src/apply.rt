@@ -54,7 +54,8 @@ fn change(
     requires there { k < length added.now }
     requires few { (t : ℕ) → count_after (alone «module».now.plain) added.now t < 2 ^ 24 }
     requires stand { list_all edit_assembles added.now ≡ true }
-    ensures { OnOk result (apply (with_tables tables.new.items) (changes_from «module».now.plain added.now (k + 1)) ≡ apply (with_tables tables.old.items) (changes_from «module».now.plain added.now k)) }
+    ensures { OnOk result (apply (with_tables tables.new.items) (changes_from «module».now.plain added.now (k + 1))
+        ≡ apply (with_tables tables.old.items) (changes_from «module».now.plain added.now k)) }
 {
     let row = row_at(module, added, k);
     let edits = added.edits();
@@ -71,7 +72,8 @@ fn changed(
 ) -> Result<Vec<PlainTable>, AllocError>
     requires few { (t : ℕ) → count_after (alone «module».now.plain) added.now t < 2 ^ 24 }
     requires stand { list_all edit_assembles added.now ≡ true }
-    ensures { IfOk result (λ t. with_tables t.items ≡ apply «module».now.plain (changes_from «module».now.plain added.now 0)) }
+    ensures { IfOk result (λ t. with_tables t.items
+        ≡ apply «module».now.plain (changes_from «module».now.plain added.now 0)) }
 {
     let mut tables = module.copied(alloc)?;
     for k in 0..added.edits().len() {
@@ -82,7 +84,8 @@ fn changed(
 
 /// Attaches the child that an edit gives to its owner, if it gives one.
 fn attach_child(edit: &Edit, child: Token, tables: &mut Vec<PlainTable>) -> Result<(), AllocError>
-    ensures { OnOk result (with_tables tables.new.items ≡ attach_all (with_tables tables.old.items) (attached_by edit.now child)) }
+    ensures { OnOk result (with_tables tables.new.items
+        ≡ attach_all (with_tables tables.old.items) (attached_by edit.now child)) }
 {
     let Edit::Add { table, owner, .. } = edit else {
         return Ok(());
@@ -100,7 +103,8 @@ fn attach_children(
     tables: &mut Vec<PlainTable>,
 ) -> Result<(), AllocError>
     requires few { (t : ℕ) → count_after (alone «module».now.plain) added.now t < 2 ^ 24 }
-    ensures { OnOk result (with_tables tables.new.items ≡ attach_all (with_tables tables.old.items) (attached_from «module».now.plain added.now 0)) }
+    ensures { OnOk result (with_tables tables.new.items
+        ≡ attach_all (with_tables tables.old.items) (attached_from «module».now.plain added.now 0)) }
 {
     let edits = added.edits();
     for k in 0..edits.len() {

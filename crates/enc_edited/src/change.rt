@@ -227,7 +227,8 @@ pub(crate) fn put(
     row: Token,
     cells: Vec<Held>,
 ) -> Result<(), AllocError>
-    ensures { OnOk result (with_tables tables.new.items ≡ put (with_tables tables.old.items) (record { token = row; cells = cells.items })) }
+    ensures { OnOk result (with_tables tables.new.items
+        ≡ put (with_tables tables.old.items) (record { token = row; cells = cells.items })) }
 {
     let n = row.table as usize;
     if n < tables.len() {
@@ -243,7 +244,8 @@ pub(crate) fn attach(
     owner: Token,
     child: Token,
 ) -> Result<(), AllocError>
-    ensures { OnOk result (with_tables tables.new.items ≡ attach (with_tables tables.old.items) (record { owner = owner; child = child })) }
+    ensures { OnOk result (with_tables tables.new.items
+        ≡ attach (with_tables tables.old.items) (record { owner = owner; child = child })) }
 {
     let n = owner.table as usize;
     if n < tables.len() {

@@ -190,7 +190,8 @@ fn encoded_rows(
 ) -> Result<Vec<HeldCode>, AllocError>
     requires starts { heaps.old.starts ≡ no_starts }
     requires sound { (n : ℕ) (r : TheRow) → slice_get rows.now n ≡ Some r → CanBeEncodedIf heaps.old (body_of_row r) }
-    ensures means { IfOk result (λ codes. map (option_map (body_of (texts_of heaps.old))) codes.items ≡ map body_of_row rows.now) }
+    ensures means { IfOk result (λ codes. map (option_map (body_of (texts_of heaps.old))) codes.items
+        ≡ map body_of_row rows.now) }
     ensures texts { IfOk result (λ codes. list_all (has_texts (texts_of heaps.old)) codes.items ≡ true) }
     ensures same { heaps.new ≡ heaps.old }
 {

@@ -340,7 +340,8 @@ impl PlainModule {
     fn held_code(&self, method: Token) -> &HeldCode
         requires row { IsTrue (has_row self.now.plain method) }
         requires table { method.table ≡ method_def }
-        ensures cell { cell_of self.now.plain method 0 ≡ Some (body (option_map (body_of (user_at self.now.users)) result.now)) }
+        ensures cell { cell_of self.now.plain method 0
+            ≡ Some (body (option_map (body_of (user_at self.now.users)) result.now)) }
         ensures texts { has_texts (user_at self.now.users) result.now ≡ true }
     {
         match code_at(&self.codes, method.row as usize - 1) {
@@ -353,7 +354,8 @@ impl PlainModule {
     fn method_code(&self, method: Token) -> Option<CodeRef<'_>>
         requires row { IsTrue (has_row self.now.plain method) }
         requires table { method.table ≡ method_def }
-        ensures cell { cell_of self.now.plain method 0 ≡ Some (body (option_map (λ c. body_of (user_at self.now.users) (code_seen c)) result)) }
+        ensures cell { cell_of self.now.plain method 0
+            ≡ Some (body (option_map (λ c. body_of (user_at self.now.users) (code_seen c)) result)) }
         ensures few { IfSome result (λ c. length c.code.now < 2 ^ 32) }
         ensures short { IfSome result (λ c. length c.sections.now < 2 ^ 32) }
         ensures texts { IfSome result (λ c. IsTrue (texts_are_there (user_at self.now.users) c.code.now)) }

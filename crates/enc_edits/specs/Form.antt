@@ -80,7 +80,8 @@ arg_fits _ _ = false
 abbrev pub instr_fits : InstrValue → Bool
 instr_fits i = is_op i.op && arg_fits i.op.operand i.arg
 
--- a clause catches a class, or has a filter, or stands for any end of its code, or for one by an exception (ECMA-335 II.25.4.6)
+-- a clause catches a class, or has a filter, or stands for any end of its code, or for one by an exception (ECMA-335
+-- II.25.4.6)
 abbrev pub clause_is_stated : Clause → Bool
 clause_is_stated c = c.kind == 0 || c.kind == 1 || c.kind == 2 || c.kind == 4
 
@@ -105,7 +106,8 @@ abbrev pub is_known_table : ℕ → Bool
 is_known_table table = nat_lt 0 (length (columns_in table))
 
 unfoldable pub edit_fits : Edit → Bool
-edit_fits (Add table owner cells code points) = is_known_table table && owner_fits table owner && cells_fit (stated_columns table) cells
+edit_fits (Add table owner cells code points) =
+    is_known_table table && owner_fits table owner && cells_fit (stated_columns table) cells
     && code_fits table code points
 edit_fits (Body method code points) = body_fits code
 

@@ -28,4 +28,5 @@ argument_reaches end _ _ = true
 unfoldable pub branches_reach : ℕ → List InstrValue → Bool
 branches_reach at [] = true
 branches_reach at (i ∷ rest) =
-    argument_reaches (at + instruction_size (instr_meant i)) i.op.operand i.arg && branches_reach (at + instruction_size (instr_meant i)) rest
+    argument_reaches (at + instruction_size (instr_meant i)) i.op.operand i.arg
+    && branches_reach (at + instruction_size (instr_meant i)) rest

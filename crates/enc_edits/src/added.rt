@@ -45,7 +45,8 @@ fn no_places(alloc: Global) -> Result<Vec<ListOf<usize>>, AllocError>
 /// Puts a place behind those of a table.
 fn push_place(places: &mut Vec<ListOf<usize>>, table: u8, at: usize) -> Result<(), AllocError>
     requires { length places.old.items ≡ 256 }
-    ensures put { IfOk result (λ _. places.new.items ≡ set places.old.items table (get_or places.old.items table [] ++ at ∷ [])) }
+    ensures put { IfOk result (λ _. places.new.items
+        ≡ set places.old.items table (get_or places.old.items table [] ++ at ∷ [])) }
     ensures few { table < 256 }
 {
     places[table as usize].push(at)
@@ -54,7 +55,8 @@ fn push_place(places: &mut Vec<ListOf<usize>>, table: u8, at: usize) -> Result<(
 /// Puts the place of an edit behind those that add rows to its table.
 fn put_place(places: &mut Vec<ListOf<usize>>, edit: &Edit, at: usize) -> Result<(), AllocError>
     requires { length places.old.items ≡ 256 }
-    ensures { IfOk result (λ _. (before : List TheEdit) → length before ≡ at → ArePlaces places.old.items before → ArePlaces places.new.items (before ++ edit.now ∷ [])) }
+    ensures { IfOk result (λ _. (before : List TheEdit) → length before ≡ at → ArePlaces places.old.items before
+        → ArePlaces places.new.items (before ++ edit.now ∷ [])) }
 {
     match edit {
         Edit::Add { table, .. } => {

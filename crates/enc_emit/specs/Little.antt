@@ -11,7 +11,8 @@ pub record AreNear (starts : HeapLengths) : Type 0 where
   pub guids : starts.guids ≤ 1000
 
 pub record IsLittle (p : Parts) : Type 0 where
-  pub small : (k : ℕ) → IsTrue (list_all (λ (row : List ℕ). list_all (λ (n : ℕ). nat_lt n 0x100) row) (rows_at p.rows k))
+  pub small : (k : ℕ) → IsTrue (list_all (λ (row : List ℕ). list_all (λ (n : ℕ). nat_lt n 0x100) row)
+      (rows_at p.rows k))
   pub few : (k : ℕ) → count_at p.rows k ≤ 8
   pub near : AreNear p.heaps.starts
   pub users : p.heaps.users ≡ []

@@ -23,17 +23,21 @@ pub record Parts : Type 0 where
 abbrev pub in_fours : List ℕ → List ℕ
 in_fours bytes = bytes ++ replicate (padded (length bytes) - length bytes) 0
 
--- a stream's header: where it begins in the root, its size, and its name with zeros up to a multiple of four, at least one (II.24.2.2)
+-- a stream's header: where it begins in the root, its size, and its name with zeros up to a multiple of four, at
+-- least one (II.24.2.2)
 unfoldable pub stream_header_written : List ℕ → ℕ → ℕ → List ℕ
-stream_header_written name start size = to_le_bytes w32 start ++ to_le_bytes w32 size ++ name ++ replicate (padded (length name + 1) - length name) 0
+stream_header_written name start size =
+    to_le_bytes w32 start ++ to_le_bytes w32 size ++ name ++ replicate (padded (length name + 1) - length name) 0
 
 -- the version's text, in twelve bytes
 abbrev pub version : List ℕ
 version = codes "v4.0.30319" ++ replicate 2 0
 
--- the root's header up to the streams' headers: the magic, version 1.1, the version's length and text, and so many streams (II.24.2.1)
+-- the root's header up to the streams' headers: the magic, version 1.1, the version's length and text, and so many
+-- streams (II.24.2.1)
 unfoldable pub front_written : ℕ → List ℕ
-front_written count = codes "BSJB" ++ to_le_bytes w16 1 ++ to_le_bytes w16 1 ++ to_le_bytes w32 0 ++ to_le_bytes w32 12 ++ version ++ to_le_bytes w16 0
+front_written count = codes "BSJB" ++ to_le_bytes w16 1 ++ to_le_bytes w16 1 ++ to_le_bytes w32 0 ++ to_le_bytes w32 12
+    ++ version ++ to_le_bytes w16 0
     ++ to_le_bytes w16 count
 
 -- a stream beside the five that every root has: its name and its bytes
@@ -49,7 +53,8 @@ jtd_streams jtd = if jtd then record { name = codes "#JTD"; bytes = [] } ∷ [] 
 abbrev pub pdb_streams : List ℕ → List Further
 pdb_streams pdb = record { name = codes "#Pdb"; bytes = pdb } ∷ []
 
--- where the streams begin: behind the header's 32 bytes, the 76 of the headers of the five, and those of the further ones
+-- where the streams begin: behind the header's 32 bytes, the 76 of the headers of the five, and those of the further
+-- ones
 abbrev pub streams_begin : List Further → ℕ
 streams_begin [] = 108
 streams_begin (f ∷ more) = streams_begin more + (8 + padded (length f.name + 1))
@@ -93,11 +98,13 @@ five_headers_written start uncompressed stream h =
 abbrev pub further_headers_written : ℕ → List Further → List ℕ
 further_headers_written start [] = []
 further_headers_written start (f ∷ more) =
-    stream_header_written f.name start (length f.bytes) ++ further_headers_written (start + padded (length f.bytes)) more
+    stream_header_written f.name start (length f.bytes) ++ further_headers_written
+    (start + padded (length f.bytes)) more
 
 -- the bytes of the five, and of the further ones
 unfoldable pub five_written : List ℕ → Counted → List ℕ
-five_written stream h = in_fours stream ++ in_fours h.strings ++ in_fours h.users ++ in_fours h.guids ++ in_fours h.blobs
+five_written stream h = in_fours stream ++ in_fours h.strings ++ in_fours h.users ++ in_fours h.guids
+    ++ in_fours h.blobs
 
 abbrev pub further_written : List Further → List ℕ
 further_written [] = []
@@ -132,7 +139,8 @@ pdb_root_size pdb stream h = size_with_further (pdb_streams pdb) stream h
 
 -- a Ptr table has rows
 unfoldable pub has_ptr_rows : List (List (List ℕ)) → Bool
-has_ptr_rows rows = list_any (λ table. nat_lt 0 (count_at rows table)) (field_ptr ∷ method_ptr ∷ param_ptr ∷ event_ptr ∷ property_ptr ∷ [])
+has_ptr_rows rows = list_any (λ table. nat_lt 0 (count_at rows table))
+    (field_ptr ∷ method_ptr ∷ param_ptr ∷ event_ptr ∷ property_ptr ∷ [])
 
 -- all indices take four bytes, as a stream `#JTD` says
 abbrev pub has_jtd : RootForm → Bool
@@ -148,7 +156,8 @@ is_delta _ = false
 -- the root of a form; the tables of a delta, and those with Ptr rows, are in the uncompressed form
 unfoldable pub root_built : Parts → RootForm → List ℕ
 root_built p form =
-    root_written (has_jtd form) (is_delta form || has_ptr_rows p.rows) (stream_of p.rows (has_jtd form) (heap_bits p.rows)) (heaps_built p.heaps)
+    root_written (has_jtd form) (is_delta form || has_ptr_rows p.rows)
+    (stream_of p.rows (has_jtd form) (heap_bits p.rows)) (heaps_built p.heaps)
 
 -- how long it is, by whether its indices are wide
 abbrev pub built_size : Parts → Bool → ℕ
@@ -156,13 +165,15 @@ built_size p wide = root_size wide (stream_of p.rows wide (heap_bits p.rows)) (h
 
 -- the root with `#Pdb`: narrow indices, and the uncompressed form only where there are Ptr rows, as no PDB has
 unfoldable pub pdb_root_built : Parts → List ℕ → List ℕ
-pdb_root_built p pdb = pdb_root_written pdb (has_ptr_rows p.rows) (stream_of p.rows false (heap_bits p.rows)) (heaps_built p.heaps)
+pdb_root_built p pdb = pdb_root_written pdb (has_ptr_rows p.rows) (stream_of p.rows false (heap_bits p.rows))
+    (heaps_built p.heaps)
 
 abbrev pub pdb_built_size : Parts → List ℕ → ℕ
 pdb_built_size p pdb = pdb_root_size pdb (stream_of p.rows false (heap_bits p.rows)) (heaps_built p.heaps)
 
 -- a root with these streams
-pub record HoldsStreams (bytes : List ℕ) (jtd uncompressed : Bool) (stream : List ℕ) (h : Counted) (root : Root) : Type 0 where
+pub record HoldsStreams (bytes : List ℕ) (jtd uncompressed : Bool) (stream : List ℕ) (h : Counted)
+    (root : Root) : Type 0 where
   pub tables : part bytes root.tables ≡ stream
   pub form : root.uncompressed ≡ uncompressed
   pub wide : root.jtd ≡ jtd
@@ -170,7 +181,8 @@ pub record HoldsStreams (bytes : List ℕ) (jtd uncompressed : Bool) (stream : L
 
 -- a root that was written is read back, where every byte of its texts counts
 abbrev pub RootIsRead : Type 0
-RootIsRead = (jtd uncompressed : Bool) (stream : List ℕ) (h : Counted) → root_size jtd stream h < 2 ^ 32 → counted_strings h.strings ≡ h.strings
+RootIsRead = (jtd uncompressed : Bool) (stream : List ℕ) (h : Counted) → root_size jtd stream h < 2 ^ 32
+    → counted_strings h.strings ≡ h.strings
     → (root : Root) × (root_of (root_written jtd uncompressed stream h) ≡ Ok root)
     × HoldsStreams (root_written jtd uncompressed stream h) jtd uncompressed stream h root
 
@@ -190,7 +202,8 @@ HoldsPdb bytes pdb root = (span : Span) × (root.pdb ≡ Some span) × (part byt
 
 -- a root with `#Pdb` that was written is read back, with these very bytes
 abbrev pub PdbRootIsRead : Type 0
-PdbRootIsRead = (pdb : List ℕ) (uncompressed : Bool) (stream : List ℕ) (h : Counted) → pdb_root_size pdb stream h < 2 ^ 32
+PdbRootIsRead = (pdb : List ℕ) (uncompressed : Bool) (stream : List ℕ) (h : Counted)
+    → pdb_root_size pdb stream h < 2 ^ 32
     → counted_strings h.strings ≡ h.strings
     → (root : Root) × (root_of (pdb_root_written pdb uncompressed stream h) ≡ Ok root)
     × HoldsStreams (pdb_root_written pdb uncompressed stream h) false uncompressed stream h root

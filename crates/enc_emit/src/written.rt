@@ -77,7 +77,8 @@ fn push_five_headers(
     out: &mut Vec<u8>,
 ) -> Result<(), AllocError>
     requires { end_of_five start stream.now (heap_bytes_seen heaps.now) < 2 ^ 32 }
-    ensures { OnOk result (out.new.items ≡ out.old.items ++ five_headers_written start uncompressed stream.now (heap_bytes_seen heaps.now)) }
+    ensures { OnOk result (out.new.items ≡ out.old.items ++ five_headers_written start uncompressed stream.now
+        (heap_bytes_seen heaps.now)) }
 {
     let strings = start + padded(stream.len());
     let users = strings + padded(heaps.strings.len());
@@ -146,8 +147,10 @@ fn root_of_six(
     heaps: &HeapBytes,
 ) -> Result<Vec<u8>, AllocError>
     requires name { length name.now ≡ 4 }
-    requires size { size_with_further (record { name = name.now; bytes = bytes.now } ∷ []) stream.now (heap_bytes_seen heaps.now) < 2 ^ 32 }
-    ensures { IfOk result (λ v. v.items ≡ root_with_further (record { name = name.now; bytes = bytes.now } ∷ []) uncompressed stream.now (heap_bytes_seen heaps.now)) }
+    requires size { size_with_further (record { name = name.now; bytes = bytes.now } ∷ []) stream.now
+        (heap_bytes_seen heaps.now) < 2 ^ 32 }
+    ensures { IfOk result (λ v. v.items ≡ root_with_further
+        (record { name = name.now; bytes = bytes.now } ∷ []) uncompressed stream.now (heap_bytes_seen heaps.now)) }
 {
     let mut out = Vec::new(alloc);
     push_front(6, &mut out)?;
@@ -187,7 +190,8 @@ pub(crate) fn pdb_root_bytes(
     heaps: &HeapBytes,
 ) -> Result<Vec<u8>, AllocError>
     requires { pdb_root_size pdb.now stream.now (heap_bytes_seen heaps.now) < 2 ^ 32 }
-    ensures { IfOk result (λ v. v.items ≡ pdb_root_written pdb.now uncompressed stream.now (heap_bytes_seen heaps.now)) }
+    ensures { IfOk result (λ v. v.items ≡ pdb_root_written pdb.now uncompressed stream.now
+        (heap_bytes_seen heaps.now)) }
 {
     root_of_six(alloc, "#Pdb".as_bytes(), pdb, uncompressed, stream, heaps)
 }

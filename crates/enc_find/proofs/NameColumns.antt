@@ -50,3 +50,11 @@ property_parent t e = rw e refl
 pub property_name : (t : ℕ) → t ≡ 0x17 → kind_in t 1 ≡ Some texts
 unfolding columns_in
 property_name t e = rw e refl
+
+pub ruleset name_cases = (field_name, method_name, param_name, event_name, property_name)
+
+pub ruleset parent_cases = (event_parent, property_parent)
+
+pub ruleset type_steps = (type_name, type_space)
+
+pub ruleset class_cases = (nested_class, enclosing_class)

@@ -23,9 +23,11 @@ is_outermost m t = t.table == tables.type_def && nat_lt (number_at (cells_of m) 
 -- the n-th type, n from 0, where it has these names and isn't nested
 unfoldable pub outermost_at : Module → List ℕ → List ℕ → ℕ → Option Token
 outermost_at m namespace name n =
-    if has_names m namespace name (nth_row tables.type_def n) && is_outermost m (nth_row tables.type_def n) then Some (nth_row tables.type_def n) else None
+    if has_names m namespace name (nth_row tables.type_def n) && is_outermost m (nth_row tables.type_def n)
+    then Some (nth_row tables.type_def n) else None
 
--- the type that the n-th row of NestedClass, n from 0, says to be nested in another, where it has these names (II.22.32)
+-- the type that the n-th row of NestedClass, n from 0, says to be nested in another, where it has these names
+-- (II.22.32)
 unfoldable pub nested_at : Module → Token → List ℕ → List ℕ → ℕ → Option Token
 nested_at m enclosing namespace name n =
     if is_token (token_at (cells_of m) (nth_row tables.nested_class n) 1) enclosing

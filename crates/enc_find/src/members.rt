@@ -29,7 +29,7 @@ struct Wanted<'a> {
 }
 
 /// Whether a row has the name.
-#[tactic(auto, using(crate::proofs::NameColumns::field_name, crate::proofs::NameColumns::method_name, crate::proofs::NameColumns::param_name, crate::proofs::NameColumns::event_name, crate::proofs::NameColumns::property_name), unfolding(crate::specs::Members::is_called))]
+#[tactic(auto, using(crate::proofs::NameColumns::name_cases), unfolding(crate::specs::Members::is_called))]
 fn is_called<V: ModuleView>(view: &V, wanted: Wanted<'_>, row: u32) -> bool
     requires { IsTrue (is_child_table wanted.table) }
     ensures { result ≡ is_called (V.meaning view.now) wanted.entry.table wanted.entry.name.now row }
@@ -54,7 +54,8 @@ fn push_named<V: ModuleView>(
     found: &mut Vec<u32>,
 ) -> Result<(), AllocError>
     requires { IsTrue (is_child_table wanted.table) }
-    ensures { IfOk result (λ _. found.new.items ≡ found.old.items ++ filter (is_called (V.meaning view.now) wanted.entry.table wanted.entry.name.now) rows.now) }
+    ensures { IfOk result (λ _. found.new.items ≡ found.old.items ++ filter
+        (is_called (V.meaning view.now) wanted.entry.table wanted.entry.name.now) rows.now) }
 {
     for row in rows {
         if is_called(view, wanted, *row) {
@@ -75,7 +76,8 @@ fn push_kids<V: ModuleView>(
 ) -> Result<(), AllocError>
     requires table { IsTrue (is_child_table wanted.table) }
     requires owner { owner.table ≡ table_of_owners wanted.table }
-    ensures { IfOk result (λ _. found.new.items ≡ found.old.items ++ kids_named (V.meaning view.now) wanted.entry.table wanted.entry.name.now owner) }
+    ensures { IfOk result (λ _. found.new.items
+        ≡ found.old.items ++ kids_named (V.meaning view.now) wanted.entry.table wanted.entry.name.now owner) }
 {
     if !is_row(view, owner) {
         return Ok(());
@@ -85,7 +87,7 @@ fn push_kids<V: ModuleView>(
 }
 
 /// Appends the events or properties of a type that have the name and stand behind the n-th row of their map, n from 0.
-#[tactic(auto, using(crate::proofs::NameColumns::event_parent, crate::proofs::NameColumns::property_parent), unfolding(crate::specs::Members::named_behind))]
+#[tactic(auto, using(crate::proofs::NameColumns::parent_cases), unfolding(crate::specs::Members::named_behind))]
 fn push_behind<V: ModuleView>(
     alloc: Global,
     view: &V,
@@ -96,7 +98,8 @@ fn push_behind<V: ModuleView>(
 ) -> Result<(), AllocError>
     requires table { IsTrue (owned_by wanted.table) }
     requires few { n < 2 ^ 24 }
-    ensures { IfOk result (λ _. found.new.items ≡ found.old.items ++ named_behind (V.meaning view.now) wanted.entry.table wanted.entry.name.now owned n) }
+    ensures { IfOk result (λ _. found.new.items
+        ≡ found.old.items ++ named_behind (V.meaning view.now) wanted.entry.table wanted.entry.name.now owned n) }
 {
     let rows = Viewed { view };
     let row = Token {
@@ -118,7 +121,8 @@ fn mapped<V: ModuleView>(
     owned: Token,
 ) -> Result<Vec<u32>, AllocError>
     requires { IsTrue (owned_by wanted.table) }
-    ensures { IfOk result (λ f. f.items ≡ named_upto (V.meaning view.now) wanted.entry.table wanted.entry.name.now owned (row_count (V.meaning view.now) (table_of_owners wanted.entry.table))) }
+    ensures { IfOk result (λ f. f.items ≡ named_upto (V.meaning view.now) wanted.entry.table wanted.entry.name.now owned
+        (row_count (V.meaning view.now) (table_of_owners wanted.entry.table))) }
 {
     let mut found = Vec::new(alloc);
     for n in 0..view.count(owner_table(wanted.table)) {
@@ -136,7 +140,8 @@ fn kids_named<V: ModuleView>(
 ) -> Result<Vec<u32>, AllocError>
     requires table { IsTrue (is_child_table wanted.table) }
     requires owner { owner.table ≡ table_of_owners wanted.table }
-    ensures { IfOk result (λ f. f.items ≡ kids_named (V.meaning view.now) wanted.entry.table wanted.entry.name.now owner) }
+    ensures { IfOk result (λ f. f.items
+        ≡ kids_named (V.meaning view.now) wanted.entry.table wanted.entry.name.now owner) }
 {
     let mut found = Vec::new(alloc);
     push_kids(alloc, view, wanted, owner, &mut found)?;

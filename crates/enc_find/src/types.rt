@@ -31,7 +31,7 @@ fn rows_are_few<V: ModuleView>(view: &V, token: Token)
 }
 
 /// Whether a type of the module has these names.
-#[tactic(auto, using(crate::proofs::NameColumns::type_name, crate::proofs::NameColumns::type_space), unfolding(crate::specs::Types::has_names))]
+#[tactic(auto, using(crate::proofs::NameColumns::type_steps), unfolding(crate::specs::Types::has_names))]
 fn has_names<V: ModuleView>(view: &V, token: Token, namespace: &[u8], name: &[u8]) -> bool
     ensures names { result ≡ has_names (V.meaning view.now) namespace.now name.now token }
     ensures few { IsTrue result → token.row < 2 ^ 24 }
@@ -76,7 +76,7 @@ fn outermost_at<V: ModuleView>(view: &V, n: u32, namespace: &[u8], name: &[u8]) 
 }
 
 /// The type that the n-th row of NestedClass, n from 0, says to be nested in another, where it has these names.
-#[tactic(auto, using(crate::proofs::NameColumns::nested_class, crate::proofs::NameColumns::enclosing_class), unfolding(crate::specs::Types::nested_at))]
+#[tactic(auto, using(crate::proofs::NameColumns::class_cases), unfolding(crate::specs::Types::nested_at))]
 fn nested_at<V: ModuleView>(
     view: &V,
     n: u32,
@@ -105,9 +105,10 @@ fn nested_at<V: ModuleView>(
 }
 
 /// The first type with these names that isn't nested.
-#[tactic(auto, using(enc_base::proofs::First::first_none, enc_base::proofs::First::first_found, enc_base::proofs::First::first_more))]
+#[tactic(auto, using(enc_base::proofs::First::first_steps))]
 fn outermost<V: ModuleView>(view: &V, namespace: &[u8], name: &[u8]) -> Option<Token>
-    ensures found { result ≡ first_below (outermost_at (V.meaning view.now) namespace.now name.now) (row_count (V.meaning view.now) type_def) }
+    ensures found { result ≡ first_below (outermost_at (V.meaning view.now) namespace.now name.now)
+        (row_count (V.meaning view.now) type_def) }
     ensures few { IfSome result (λ t. t.row < 2 ^ 24) }
 {
     for n in 0..view.count(TYPE_DEF) {
@@ -120,9 +121,10 @@ fn outermost<V: ModuleView>(view: &V, namespace: &[u8], name: &[u8]) -> Option<T
 }
 
 /// The first type with these names that is nested in another.
-#[tactic(auto, using(enc_base::proofs::First::first_none, enc_base::proofs::First::first_found, enc_base::proofs::First::first_more))]
+#[tactic(auto, using(enc_base::proofs::First::first_steps))]
 fn nested<V: ModuleView>(view: &V, enclosing: Token, namespace: &[u8], name: &[u8]) -> Option<Token>
-    ensures found { result ≡ first_below (nested_at (V.meaning view.now) enclosing namespace.now name.now) (row_count (V.meaning view.now) nested_class) }
+    ensures found { result ≡ first_below (nested_at (V.meaning view.now) enclosing namespace.now name.now)
+        (row_count (V.meaning view.now) nested_class) }
     ensures few { IfSome result (λ t. t.row < 2 ^ 24) }
 {
     for n in 0..view.count(NESTED_CLASS) {

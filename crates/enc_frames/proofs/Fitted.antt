@@ -58,3 +58,5 @@ unfolding arguments
 taken_is n len xs e there =
     ap (λ (l : List Value). Ok l) (upper_whole n len xs e there)
     ∙ sym (ap (λ (b : Bool). if b then Ok (reverse (take n (reverse xs))) else Err X3) (is_within n (length (reverse xs)) (omega (arith, e, there, length-reverse xs))))
+
+pub ruleset fitted_steps = (fits_on, trap_there, too_few, all_fit)

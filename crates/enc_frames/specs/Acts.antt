@@ -1,4 +1,5 @@
--- What each instruction is for, by its code and its argument (ECMA-335 III.1.2.1); instructions that the interpreter doesn't run are for nothing.
+-- What each instruction is for, by its code and its argument (ECMA-335 III.1.2.1); instructions that the interpreter
+-- doesn't run are for nothing.
 use Rattle.std.specs.Prelude.{ℕ, ◌-◌, ℤ, pos, ◌-ℤ◌, Bool, true, false, ◌&&◌, ◌||◌, Option, Some, None, option_map, nat_le, nat_lt, ◌==◌, if◌then◌else◌}
 use Rattle.std.specs.Int.{w32, cast_signed}
 use Rattle.enc_base.specs.declared.token.Token.{Token}
@@ -63,7 +64,8 @@ bare_act code =
     else if code == 0xDC then Some act.EndFinally
     else element_act code
 
--- those with a number: of an argument, of a local variable, or the number that is loaded, as four bytes or eight hold it
+-- those with a number: of an argument, of a local variable, or the number that is loaded, as four bytes or eight
+-- hold it
 -- (III.3.37 to III.3.43, III.3.61 to III.3.63)
 unfoldable pub numbered_act : ℕ → ℤ → Option Act
 numbered_act code n =

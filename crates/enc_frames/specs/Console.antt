@@ -48,7 +48,8 @@ line_end = 0x0A ∷ []
 -- a new text goes on the stack in place of what was taken
 abbrev pub put_text : {C : Type 0} → ℕ → List ℕ → List Value → Shared → Thread C → Result (Made C) Trap
 put_text next units rest s t =
-    new_in (Text units) (length units) s.store >>= λ n. Ok (made_with (record s { store = n.0 }) t (moved_on next (Obj n.1 ∷ rest) t.top) nothing_shown)
+    new_in (Text units) (length units) s.store >>= λ n. Ok
+    (made_with (record s { store = n.0 }) t (moved_on next (Obj n.1 ∷ rest) t.top) nothing_shown)
 
 abbrev pub value_put : {C : Type 0} → ℕ → Value → List Value → Shared → Thread C → Made C
 value_put next v rest s t = made_with s t (moved_on next (v ∷ rest) t.top) nothing_shown
@@ -75,23 +76,29 @@ run_outside outside.NewObject asked next s t = run_constructor asked next s t
 run_outside outside.NewException asked next s t = run_constructor asked next s t
 run_outside outside.WriteLine asked next s t = Ok (made_with s t (moved_on next t.top.stack t.top) (writing line_end))
 run_outside outside.WriteLineText asked next s t =
-    upper t.top.stack >>= λ p. text s.store p >>= λ o. Ok (made_with s t (moved_on next (drop 1 t.top.stack) t.top) (writing (or_empty o ++ line_end)))
+    upper t.top.stack >>= λ p. text s.store p >>= λ o. Ok
+    (made_with s t (moved_on next (drop 1 t.top.stack) t.top) (writing (or_empty o ++ line_end)))
 run_outside outside.WriteLineNumber asked next s t =
-    upper t.top.stack >>= λ p. word_of_value p >>= λ n. Ok (made_with s t (moved_on next (drop 1 t.top.stack) t.top) (writing (digits_of_number n ++ line_end)))
+    upper t.top.stack >>= λ p. word_of_value p >>= λ n. Ok
+    (made_with s t (moved_on next (drop 1 t.top.stack) t.top) (writing (digits_of_number n ++ line_end)))
 run_outside outside.WriteText asked next s t =
-    upper t.top.stack >>= λ p. text s.store p >>= λ o. Ok (made_with s t (moved_on next (drop 1 t.top.stack) t.top) (writing (or_empty o)))
+    upper t.top.stack >>= λ p. text s.store p >>= λ o. Ok
+    (made_with s t (moved_on next (drop 1 t.top.stack) t.top) (writing (or_empty o)))
 run_outside outside.ConcatTwo asked next s t =
-    upper_two t.top.stack >>= λ p. text s.store p.0 >>= λ a. text s.store p.1 >>= λ b. put_text next (or_empty a ++ or_empty b) (drop 2 t.top.stack) s t
+    upper_two t.top.stack >>= λ p. text s.store p.0 >>= λ a. text s.store p.1 >>= λ b. put_text next
+    (or_empty a ++ or_empty b) (drop 2 t.top.stack) s t
 run_outside outside.ConcatThree asked next s t =
     upper_three t.top.stack >>= λ p. text s.store p.0 >>= λ a. text s.store p.1 >>= λ b. text s.store p.2 >>= λ c.
     put_text next (or_empty a ++ or_empty b ++ or_empty c) (drop 3 t.top.stack) s t
 run_outside outside.AreEqual asked next s t =
-    upper_two t.top.stack >>= λ p. text s.store p.0 >>= λ a. text s.store p.1 >>= λ b. Ok (value_put next (truth (texts_equal a b)) (drop 2 t.top.stack) s t)
+    upper_two t.top.stack >>= λ p. text s.store p.0 >>= λ a. text s.store p.1 >>= λ b. Ok
+    (value_put next (truth (texts_equal a b)) (drop 2 t.top.stack) s t)
 run_outside outside.TextLength asked next s t =
     upper t.top.stack >>= λ p. text s.store p >>= λ o. or_trap X5 o >>= λ units.
     Ok (value_put next (I4 (cast_signed w32 (length units % 2 ^ 32))) (drop 1 t.top.stack) s t)
 run_outside outside.TextUnit asked next s t =
-    upper_two t.top.stack >>= λ p. text s.store p.0 >>= λ o. word_of_value p.1 >>= λ n. or_trap X5 o >>= λ units. unit_at units n >>= λ u.
+    upper_two t.top.stack >>= λ p. text s.store p.0 >>= λ o. word_of_value p.1 >>= λ n. or_trap X5 o >>= λ units.
+    unit_at units n >>= λ u.
     Ok (value_put next (I4 (pos u)) (drop 2 t.top.stack) s t)
 
 -- call, callvirt of a member outside
@@ -108,4 +115,5 @@ unfoldable pub new_outside : {C : Type 0} → World C → ℕ → Token → Shar
 new_outside w next member s t =
     or_trap X2 (outside_of w.plain member) >>= λ o. ask X2 (is_outside_constructor o) >>= λ _.
     new_in (Instance (token_at (cells_of w.plain) member columns.member_ref_class)) 0 s.store >>= λ n.
-    load ((w.body t.top.code).stack) next (Obj n.1) t.top >>= λ f. Ok (made_with (record s { store = n.0 }) t f nothing_shown)
+    load ((w.body t.top.code).stack) next (Obj n.1) t.top >>= λ f. Ok
+    (made_with (record s { store = n.0 }) t f nothing_shown)

@@ -31,10 +31,12 @@ made_writing touched t store f wrote = made_with (shared_by store touched) t f (
 -- a new object of a type goes on the stack, which may hold so many values
 abbrev pub object_loaded : {C : Type 0} → ℕ → ℕ → Token → Shared → Thread C → Result (Made C) Trap
 object_loaded max next class s t =
-    new_in (Instance class) 0 s.store >>= λ n. load max next (Obj n.1) t.top >>= λ f. Ok (made_with (record s { store = n.0 }) t f nothing_shown)
+    new_in (Instance class) 0 s.store >>= λ n. load max next (Obj n.1) t.top >>= λ f. Ok
+    (made_with (record s { store = n.0 }) t f nothing_shown)
 
 -- it makes what is defined, or traps where that does, and then changes nothing; without memory it changes nothing
-abbrev pub MakesWriting : {C : Type 0} → Result (Option (List ℕ)) Stop → Store → Store → Frame C → List Token → Thread C → Result (Made C) Trap
+abbrev pub MakesWriting : {C : Type 0} → Result (Option (List ℕ)) Stop → Store → Store → Frame C → List Token → Thread C
+    → Result (Made C) Trap
     → Type 0
 MakesWriting (Ok wrote) new old f touched t said = said ≡ Ok (made_writing touched t new f wrote)
 MakesWriting (Err (stop.Trap trap)) new old f touched t said = (said ≡ Err trap) × (new ≡ old) × (f ≡ t.top)

@@ -37,6 +37,7 @@ object_act w next object.Length s f = array_length next s f
 object_act w next (object.LoadElement k) s f = load_element k next s f
 object_act w next (object.LoadElementOf type) s f = or_trap X2 (type_kind w.plain type) >>= λ k. load_element k next s f
 object_act w next (object.StoreElement k) s f = store_element k next s f
-object_act w next (object.StoreElementOf type) s f = or_trap X2 (type_kind w.plain type) >>= λ k. store_element k next s f
+object_act w next (object.StoreElementOf type) s f =
+    or_trap X2 (type_kind w.plain type) >>= λ k. store_element k next s f
 object_act w next (object.Cast type) s f = cast_to w.plain next type s f
 object_act w next (object.IsInstance type) s f = instance_or_null w.plain next type s f

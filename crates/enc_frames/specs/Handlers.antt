@@ -51,7 +51,8 @@ handler_begun r f = record f { running = r ∷ f.running }
 
 unfoldable pub start : {C : Type 0} → List Handler → ℕ → ℕ → Reason → Frame C → Frame C
 start clauses clause origin reason f =
-    handler_begun (record { clause = clause; origin = origin; reason = reason }) (gone_to clauses ((handler_range clauses clause).0) f)
+    handler_begun (record { clause = clause; origin = origin; reason = reason })
+    (gone_to clauses ((handler_range clauses clause).0) f)
 
 -- a frame on its way to an offset: the next finally clause begins, and where there is none the frame is there
 abbrev pub left_by : {C : Type 0} → List Handler → ℕ → ℕ → Option ℕ → Frame C → Frame C
@@ -74,19 +75,24 @@ ends_search m f = is_named_as m (codes ".cctor") f.method
 
 -- the clause of a frame that takes an object thrown at this offset, behind the frame's number from the outermost
 abbrev pub caught_by : {C : Type 0} → World C → Thrown → ℕ → Frame C → ℕ → Option (ℕ × ℕ)
-caught_by w t site f n = option_map (λ (clause : ℕ). (n, clause)) (catch_among w.plain (w.body f.code).stack (w.body f.code).handlers site t)
+caught_by w t site f n = option_map (λ (clause : ℕ). (n, clause))
+    (catch_among w.plain (w.body f.code).stack (w.body f.code).handlers site t)
 
--- the same of frames from the nearest outward, each by the instruction before its next; none behind a type's constructor
+-- the same of frames from the nearest outward, each by the instruction before its next; none behind a type's
+-- constructor
 unfoldable pub outer_taker : {C : Type 0} → World C → Thrown → List (Frame C) → Option (ℕ × ℕ)
 outer_taker w t [] = None
-outer_taker w t (f ∷ below) = or_else (caught_by w t (f.offset - 1) f (length below)) (if ends_search w.plain f then None else outer_taker w t below)
+outer_taker w t (f ∷ below) = or_else (caught_by w t (f.offset - 1) f (length below))
+    (if ends_search w.plain f then None else outer_taker w t below)
 
 -- and of the innermost frame and those below it
 abbrev pub taker : {C : Type 0} → World C → Thrown → Frame C → List (Frame C) → Option (ℕ × ℕ)
-taker w t f below = or_else (caught_by w t f.offset f (length below)) (if ends_search w.plain f then None else outer_taker w t below)
+taker w t f below = or_else (caught_by w t f.offset f (length below))
+    (if ends_search w.plain f then None else outer_taker w t below)
 
 abbrev pub flight_to : ℕ → ℕ → ℕ × ℕ → Flight
-flight_to object origin target = record { object = object; frame = target.0; clause = target.1; origin = origin; tried = None }
+flight_to object origin target =
+    record { object = object; frame = target.0; clause = target.1; origin = origin; tried = None }
 
 -- throw: the object is on its way, and nothing else has changed (III.4.31)
 unfoldable pub throw_object : {C : Type 0} → World C → Store → Thread C → Result (Thread C) Trap
@@ -98,7 +104,8 @@ throw_object w s t =
 -- the handler that ends where endfinally stands
 abbrev pub ending_handler : List Handler → ℕ → List Running → Option (Running × List Running)
 ending_handler clauses offset [] = None
-ending_handler clauses offset (r ∷ rest) = if is_in_range (handler_range clauses r.clause) offset then Some (r, rest) else None
+ending_handler clauses offset (r ∷ rest) =
+    if is_in_range (handler_range clauses r.clause) offset then Some (r, rest) else None
 
 -- endfinally: the way out goes on (III.3.35)
 abbrev pub resumed_by : {C : Type 0} → List Handler → Thread C → Running → Reason → Frame C → Thread C
@@ -126,13 +133,18 @@ pub record Flown (C : Type 0) : Type 0 where
 -- the handler of a clause begins
 abbrev pub handled : {C : Type 0} → List Handler → Thread C → Flight → ℕ → Flown C
 handled clauses t flight clause = record {
-  thread = Some (record t { top = start clauses clause flight.origin (reason.Flight (record flight { tried = Some clause })) t.top; flight = None });
+  thread = Some (record t {
+    top = start clauses clause flight.origin
+        (reason.Flight (record flight { tried = Some clause })) t.top;
+    flight = None;
+  });
   left = None;
 }
 
 -- or the object is taken, which alone is on the stack then
 abbrev pub taken_in : {C : Type 0} → List Handler → ℕ → ℕ → Frame C → Frame C
-taken_in clauses clause object f = record (gone_to clauses ((handler_range clauses clause).0) f) { stack = Obj object ∷ [] }
+taken_in clauses clause object f =
+    record (gone_to clauses ((handler_range clauses clause).0) f) { stack = Obj object ∷ [] }
 
 abbrev pub object_taken : {C : Type 0} → List Handler → Thread C → Flight → Flown C
 object_taken clauses t flight = record {
@@ -144,7 +156,11 @@ object_taken clauses t flight = record {
 abbrev pub left_on : {C : Type 0} → Thread C → Flight → List (Frame C) → Flown C
 left_on t flight [] = record { thread = None; left = Some t.top.method }
 left_on t flight (f ∷ below) = record {
-  thread = Some (record { top = f; below = below; flight = Some (record flight { origin = f.offset - 1; tried = None }) });
+  thread = Some (record {
+    top = f;
+    below = below;
+    flight = Some (record flight { origin = f.offset - 1; tried = None });
+  });
   left = Some t.top.method;
 }
 

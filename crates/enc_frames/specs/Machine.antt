@@ -18,7 +18,8 @@ pub record PlainCode : Type 0 where
   pub body : Body
   pub points : List (ℕ × Option (ℕ × ℕ × ℕ × ℕ))
 
--- what a step sees: the module, what the codes of frames say, their body and their points, and the code that a method has now, where the interpreter runs it
+-- what a step sees: the module, what the codes of frames say, their body and their points, and the code that a
+-- method has now, where the interpreter runs it
 pub record World (C : Type 0) : Type 0 where
   pub plain : Module
   pub body : C → Body
@@ -27,13 +28,15 @@ pub record World (C : Type 0) : Type 0 where
 
 -- the code of a method by a module and a PDB, where the interpreter runs it
 abbrev pub code_now : Module → PlainPdb → Token → Option PlainCode
-code_now m debug method = option_map (λ (b : Body). record { body = b; points = (lines_known (debug method)).points }) (run_body m method)
+code_now m debug method = option_map (λ (b : Body). record { body = b; points = (lines_known (debug method)).points })
+    (run_body m method)
 
 -- what the plain machine sees: one module and one PDB, and codes that are the bodies themselves
 unfoldable pub plain_world : Module → PlainPdb → World PlainCode
 plain_world m debug = record { plain = m; body = λ c. c.body; points = λ c. c.points; now = code_now m debug }
 
--- a call that is under way: its method, the code that it keeps, with which it began or to which it was moved last, the offset of the next instruction, its
+-- a call that is under way: its method, the code that it keeps, with which it began or to which it was moved last,
+-- the offset of the next instruction, its
 -- arguments, local variables and stack, the top first, and the handlers that it runs, the last begun first
 pub record Frame (C : Type 0) : Type 0 where
   pub method : Token
@@ -44,7 +47,8 @@ pub record Frame (C : Type 0) : Type 0 where
   pub stack : List Value
   pub running : List Running
 
--- the frames of a task that goes on: the innermost, those below it from the nearest, and the object that is on its way to a handler, if any
+-- the frames of a task that goes on: the innermost, those below it from the nearest, and the object that is on its
+-- way to a handler, if any
 pub record Thread (C : Type 0) : Type 0 where
   pub top : Frame C
   pub below : List (Frame C)
@@ -86,10 +90,22 @@ code_meant users v = record { body = body_of users v.code; points = (lines_read 
 -- and so frames, threads, tasks and machines that hold versions
 abbrev pub frame_meant : (ℕ → Option (List ℕ)) → Frame Version → Frame PlainCode
 frame_meant users f =
-    record { method = f.method; code = code_meant users f.code; offset = f.offset; args = f.args; locals = f.locals; stack = f.stack; running = f.running }
+    record {
+      method = f.method;
+      code = code_meant users f.code;
+      offset = f.offset;
+      args = f.args;
+      locals = f.locals;
+      stack = f.stack;
+      running = f.running;
+    }
 
 abbrev pub thread_meant : (ℕ → Option (List ℕ)) → Thread Version → Thread PlainCode
-thread_meant users t = record { top = frame_meant users t.top; below = map (frame_meant users) t.below; flight = t.flight }
+thread_meant users t = record {
+  top = frame_meant users t.top;
+  below = map (frame_meant users) t.below;
+  flight = t.flight;
+}
 
 abbrev pub task_meant : (ℕ → Option (List ℕ)) → Task Version → Task PlainCode
 task_meant users (going t) = going (thread_meant users t)

@@ -34,7 +34,8 @@ new_in c parts s = if is_full s parts then Err X12 else Ok (with_object c s, nex
 
 -- ldstr (III.4.16)
 unfoldable pub load_text : {C : Type 0} → ℕ → ℕ → List ℕ → Store → Frame C → Stored C
-load_text max next units s f = new_in (Text units) (length units) s >>= λ n. load max next (Obj n.1) f >>= λ g. Ok (n.0, g)
+load_text max next units s f =
+    new_in (Text units) (length units) s >>= λ n. load max next (Obj n.1) f >>= λ g. Ok (n.0, g)
 
 -- the kind of a field that an instruction names
 unfoldable pub named_field : Module → Token → Result Kind Trap
@@ -47,24 +48,36 @@ not_null o = or_trap X5 o
 -- ldfld, stfld of a field of a kind (III.4.10, III.4.28)
 unfoldable pub load_field_of : {C : Type 0} → Kind → ℕ → Token → Store → Frame C → Stored C
 load_field_of k next t s f =
-    upper f.stack >>= λ p. reference p >>= λ r. not_null r >>= λ id. Ok (s, moved_on next (field_in s id t k ∷ (drop 1 f.stack)) f)
+    upper f.stack >>= λ p. reference p >>= λ r. not_null r >>= λ id. Ok (
+      s,
+      moved_on next (field_in s id t k ∷ (drop 1 f.stack)) f,
+    )
 
 unfoldable pub store_field_of : {C : Type 0} → Kind → ℕ → Token → Store → Frame C → Stored C
 store_field_of k next t s f =
-    upper_two f.stack >>= λ p. reference p.0 >>= λ r. fit k p.1 >>= λ v. not_null r >>= λ id. Ok (with_field id t v s, moved_on next (drop 2 f.stack) f)
+    upper_two f.stack >>= λ p. reference p.0 >>= λ r. fit k p.1 >>= λ v. not_null r >>= λ id. Ok (
+      with_field id t v s,
+      moved_on next (drop 2 f.stack) f,
+    )
 
 -- ldsfld, stsfld, where the type was touched (III.4.14, III.4.30)
 unfoldable pub load_static : {C : Type 0} → Kind → ℕ → ℕ → Token → Store → Frame C → Stored C
 load_static k max next t s f = load max next (static_in s t k) f >>= λ g. Ok (s, g)
 
 unfoldable pub store_static : {C : Type 0} → Kind → ℕ → Token → Store → Frame C → Stored C
-store_static k next t s f = upper f.stack >>= λ p. fit k p >>= λ v. Ok (with_static t v s, moved_on next (drop 1 f.stack) f)
+store_static k next t s f = upper f.stack >>= λ p. fit k p >>= λ v. Ok (
+  with_static t v s,
+  moved_on next (drop 1 f.stack) f,
+)
 
 -- newarr of elements of a kind (III.4.20)
 unfoldable pub new_array_of_kind : {C : Type 0} → Kind → ℕ → Store → Frame C → Stored C
 new_array_of_kind k next s f =
     upper f.stack >>= λ p. word_of_value p >>= λ n. ask X7 (not (int_lt n (pos 0))) >>= λ _.
-    new_in (new_array_of k (unsigned_abs n)) (unsigned_abs n) s >>= λ o. Ok (o.0, moved_on next (Obj o.1 ∷ (drop 1 f.stack)) f)
+    new_in (new_array_of k (unsigned_abs n)) (unsigned_abs n) s >>= λ o. Ok (
+      o.0,
+      moved_on next (Obj o.1 ∷ (drop 1 f.stack)) f,
+    )
 
 -- an array by the shape of an object
 abbrev pub array_by_shape : ℕ → Option Shape → Option (Option ArrayOf)
@@ -110,7 +123,8 @@ index_in a n = if int_lt n (pos 0) || not (nat_lt (unsigned_abs n) a.count) then
 -- ldelem: extended by the sign of the instruction's kind (III.4.7, III.4.8)
 unfoldable pub load_element : {C : Type 0} → Kind → ℕ → Store → Frame C → Stored C
 load_element k next s f =
-    upper_two f.stack >>= λ p. array_of k s p.0 >>= λ o. word_of_value p.1 >>= λ n. or_trap X5 o >>= λ (a : ArrayOf). index_in a n >>= λ i.
+    upper_two f.stack >>= λ p. array_of k s p.0 >>= λ o. word_of_value p.1 >>= λ n. or_trap X5 o >>= λ (a : ArrayOf).
+    index_in a n >>= λ i.
     or_trap X8 (element_in s a.id i) >>= λ v. fit k v >>= λ w. Ok (s, moved_on next (w ∷ (drop 2 f.stack)) f)
 
 -- stelem: cut to the kind of the array (III.4.25, III.4.26)
@@ -120,16 +134,19 @@ element_kind k (Some a) = a.kind
 
 unfoldable pub store_element : {C : Type 0} → Kind → ℕ → Store → Frame C → Stored C
 store_element k next s f =
-    upper_three f.stack >>= λ p. array_of k s p.0 >>= λ o. word_of_value p.1 >>= λ n. fit (element_kind k o) p.2 >>= λ v. or_trap X5 o >>= λ (a : ArrayOf).
+    upper_three f.stack >>= λ p. array_of k s p.0 >>= λ o. word_of_value p.1 >>= λ n. fit
+    (element_kind k o) p.2 >>= λ v. or_trap X5 o >>= λ (a : ArrayOf).
     index_in a n >>= λ i. Ok (with_element a.id i v s, moved_on next (drop 3 f.stack) f)
 
 -- a type that a cast can ask for: a TypeDef, System.Object, System.String
 unfoldable pub is_cast_type : Module → Token → Bool
 is_cast_type m t = is_class m t || is_of_system m (codes "Object") t || is_of_system m (codes "String") t
 
--- an object of this shape is of the type: rows of InterfaceImpl and the path of Extends speak of a TypeDef alone (I.8.7.1)
+-- an object of this shape is of the type: rows of InterfaceImpl and the path of Extends speak of a TypeDef alone
+-- (I.8.7.1)
 unfoldable pub is_instance_of : Module → Token → Shape → Bool
-is_instance_of m t (shape.Object class) = is_of_system m (codes "Object") t || is_class m t && (extends m class t || implements m class t)
+is_instance_of m t (shape.Object class) =
+    is_of_system m (codes "Object") t || is_class m t && (extends m class t || implements m class t)
 is_instance_of m t (shape.Text n) = is_of_system m (codes "Object") t || is_of_system m (codes "String") t
 is_instance_of m t (shape.Array k n) = is_of_system m (codes "Object") t
 
@@ -145,7 +162,8 @@ is_null_or_of m t s (Some id) = shape_is_of m t (shape_in s id)
 -- castclass (III.4.3)
 unfoldable pub cast_to : {C : Type 0} → Module → ℕ → Token → Store → Frame C → Stored C
 cast_to m next t s f =
-    ask X2 (is_cast_type m t) >>= λ _. upper f.stack >>= λ p. reference p >>= λ r. ask X9 (is_null_or_of m t s r) >>= λ _. Ok (s, moved_on next f.stack f)
+    ask X2 (is_cast_type m t) >>= λ _. upper f.stack >>= λ p. reference p >>= λ r. ask X9
+    (is_null_or_of m t s r) >>= λ _. Ok (s, moved_on next f.stack f)
 
 -- isinst (III.4.6)
 unfoldable pub instance_or_null : {C : Type 0} → Module → ℕ → Token → Store → Frame C → Stored C

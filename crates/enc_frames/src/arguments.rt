@@ -55,7 +55,7 @@ fn with_value(mut values: Vec<Value>, value: Value) -> Result<Vec<Value>, AllocE
 
 /// Values as places of these kinds hold them, one for each. X3 where there are fewer, X4 at the first of a
 /// wrong kind.
-#[tactic(auto, using(crate::proofs::Fitted::fits_on, crate::proofs::Fitted::trap_there, crate::proofs::Fitted::too_few, crate::proofs::Fitted::all_fit), unfolding(crate::specs::Values::fit_all))]
+#[tactic(auto, using(crate::proofs::Fitted::fitted_steps), unfolding(crate::specs::Values::fit_all))]
 fn fit_all(alloc: Global, kinds: &[Kind], values: &[Value]) -> Result<Vec<Value>, Stop>
     ensures { GivesItems result (fit_all kinds.now values.now) }
 {

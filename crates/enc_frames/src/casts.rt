@@ -109,7 +109,10 @@ pub(crate) fn cast_to<V: ModuleView>(
     token: Token,
 ) -> Result<(), Stop>
     requires stands { StandsForModule dispatch.now (V.meaning view.now) }
-    ensures { Does result (objects.now, frame.new) (objects.now, frame.old) (cast_to (V.meaning view.now) next token objects.now frame.old) }
+    ensures { Does result (objects.now, frame.new) (
+      objects.now,
+      frame.old,
+    ) (cast_to (V.meaning view.now) next token objects.now frame.old) }
 {
     if !is_cast_type(view, token) {
         return Err(Stop::Trap(Trap::X2));
@@ -141,7 +144,10 @@ pub(crate) fn instance_or_null<V: ModuleView>(
     token: Token,
 ) -> Result<(), Stop>
     requires stands { StandsForModule dispatch.now (V.meaning view.now) }
-    ensures { Does result (objects.now, frame.new) (objects.now, frame.old) (instance_or_null (V.meaning view.now) next token objects.now frame.old) }
+    ensures { Does result (objects.now, frame.new) (
+      objects.now,
+      frame.old,
+    ) (instance_or_null (V.meaning view.now) next token objects.now frame.old) }
 {
     if !is_cast_type(view, token) {
         return Err(Stop::Trap(Trap::X2));

@@ -32,7 +32,8 @@ impl Frame {
 impl Callers {
     /// The frame, counted from the outermost, and its clause that take an object thrown below the innermost.
     pub fn taker<V: ModuleView>(&self, view: &V, thrown: Thrown) -> Option<(usize, u32)>
-        ensures { (users : ℕ → Option (List ℕ)) (methods : List (Option Version)) → result ≡ outer_taker (version_world users (V.meaning view.now) methods) thrown self.now }
+        ensures { (users : ℕ → Option (List ℕ)) (methods : List (Option Version))
+            → result ≡ outer_taker (version_world users (V.meaning view.now) methods) thrown self.now }
     {
         let mut left = self.items.len();
         while left > 0 {

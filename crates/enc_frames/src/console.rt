@@ -30,7 +30,8 @@ pub type Written = Result<Option<Units>, Stop>;
 impl Frame {
     /// A constructor outside, which does nothing with its object. X5 where that may not be null and is.
     fn run_constructor(&mut self, asked: bool, next: u32) -> Written
-        ensures { (s : Store) → MakesWriting result s s self.new [] (frame_alone self.old) (run_constructor asked next (shared_by s []) (frame_alone self.old)) }
+        ensures { (s : Store) → MakesWriting result s s self.new [] (frame_alone self.old)
+            (run_constructor asked next (shared_by s []) (frame_alone self.old)) }
     {
         let value = self.stack.upper()?;
         let object = reference(value)?;
@@ -45,7 +46,8 @@ impl Frame {
     /// `Console.WriteLine()`.
     #[tactic(auto, unfolding(crate::specs::Console::run_outside))]
     fn write_line(&mut self, alloc: Global, next: u32) -> Written
-        ensures { (s : Store) → MakesWriting result s s self.new [] (frame_alone self.old) (run_outside outside.WriteLine false next (shared_by s []) (frame_alone self.old)) }
+        ensures { (s : Store) → MakesWriting result s s self.new [] (frame_alone self.old)
+            (run_outside outside.WriteLine false next (shared_by s []) (frame_alone self.old)) }
     {
         let line = ended(Units::begin(alloc))?;
         self.offset = next;
@@ -55,7 +57,8 @@ impl Frame {
     /// `Console.WriteLine(int)`.
     #[tactic(auto, unfolding(crate::specs::Console::run_outside))]
     fn write_number(&mut self, alloc: Global, next: u32) -> Written
-        ensures { (s : Store) → MakesWriting result s s self.new [] (frame_alone self.old) (run_outside outside.WriteLineNumber false next (shared_by s []) (frame_alone self.old)) }
+        ensures { (s : Store) → MakesWriting result s s self.new [] (frame_alone self.old)
+            (run_outside outside.WriteLineNumber false next (shared_by s []) (frame_alone self.old)) }
     {
         let value = self.stack.upper()?;
         let number = word(value)?;
@@ -69,7 +72,8 @@ impl Frame {
     /// `Console.WriteLine(string)`.
     #[tactic(auto, unfolding(crate::specs::Console::run_outside))]
     fn write_text_line(&mut self, alloc: Global, objects: &Objects, next: u32) -> Written
-        ensures { MakesWriting result objects.now objects.now self.new [] (frame_alone self.old) (run_outside outside.WriteLineText false next (shared_by objects.now []) (frame_alone self.old)) }
+        ensures { MakesWriting result objects.now objects.now self.new [] (frame_alone self.old)
+            (run_outside outside.WriteLineText false next (shared_by objects.now []) (frame_alone self.old)) }
     {
         let value = self.stack.upper()?;
         let text = text(objects, value)?;
@@ -83,7 +87,8 @@ impl Frame {
     /// `Console.Write(string)`.
     #[tactic(auto, unfolding(crate::specs::Console::run_outside))]
     fn write_text(&mut self, alloc: Global, objects: &Objects, next: u32) -> Written
-        ensures { MakesWriting result objects.now objects.now self.new [] (frame_alone self.old) (run_outside outside.WriteText false next (shared_by objects.now []) (frame_alone self.old)) }
+        ensures { MakesWriting result objects.now objects.now self.new [] (frame_alone self.old)
+            (run_outside outside.WriteText false next (shared_by objects.now []) (frame_alone self.old)) }
     {
         let value = self.stack.upper()?;
         let text = text(objects, value)?;
@@ -96,7 +101,8 @@ impl Frame {
     /// `String.Concat(string, string)`.
     #[tactic(auto, unfolding(crate::specs::Console::run_outside))]
     fn join_two(&mut self, alloc: Global, objects: &mut Objects, next: u32) -> Written
-        ensures { MakesWriting result objects.new objects.old self.new [] (frame_alone self.old) (run_outside outside.ConcatTwo false next (shared_by objects.old []) (frame_alone self.old)) }
+        ensures { MakesWriting result objects.new objects.old self.new [] (frame_alone self.old)
+            (run_outside outside.ConcatTwo false next (shared_by objects.old []) (frame_alone self.old)) }
     {
         let (a, b) = self.stack.upper_two()?;
         let a = text(objects, a)?;
@@ -111,7 +117,8 @@ impl Frame {
     /// `String.Concat(string, string, string)`.
     #[tactic(auto, unfolding(crate::specs::Console::run_outside))]
     fn join_three(&mut self, alloc: Global, objects: &mut Objects, next: u32) -> Written
-        ensures { MakesWriting result objects.new objects.old self.new [] (frame_alone self.old) (run_outside outside.ConcatThree false next (shared_by objects.old []) (frame_alone self.old)) }
+        ensures { MakesWriting result objects.new objects.old self.new [] (frame_alone self.old)
+            (run_outside outside.ConcatThree false next (shared_by objects.old []) (frame_alone self.old)) }
     {
         let (a, b, c) = self.stack.upper_three()?;
         let a = text(objects, a)?;
@@ -128,7 +135,8 @@ impl Frame {
     /// `String.op_Equality(string, string)`.
     #[tactic(auto, unfolding(crate::specs::Console::run_outside))]
     fn compare_texts(&mut self, objects: &Objects, next: u32) -> Written
-        ensures { MakesWriting result objects.now objects.now self.new [] (frame_alone self.old) (run_outside outside.AreEqual false next (shared_by objects.now []) (frame_alone self.old)) }
+        ensures { MakesWriting result objects.now objects.now self.new [] (frame_alone self.old)
+            (run_outside outside.AreEqual false next (shared_by objects.now []) (frame_alone self.old)) }
     {
         let (a, b) = self.stack.upper_two()?;
         let a = text(objects, a)?;
@@ -142,7 +150,8 @@ impl Frame {
     /// `String.get_Length()`.
     #[tactic(auto, unfolding(crate::specs::Console::run_outside))]
     fn text_length(&mut self, objects: &Objects, next: u32) -> Written
-        ensures { MakesWriting result objects.now objects.now self.new [] (frame_alone self.old) (run_outside outside.TextLength false next (shared_by objects.now []) (frame_alone self.old)) }
+        ensures { MakesWriting result objects.now objects.now self.new [] (frame_alone self.old)
+            (run_outside outside.TextLength false next (shared_by objects.now []) (frame_alone self.old)) }
     {
         let value = self.stack.upper()?;
         let Some(units) = text(objects, value)? else {
@@ -157,7 +166,8 @@ impl Frame {
     /// `String.get_Chars(int)`.
     #[tactic(auto, unfolding(crate::specs::Console::run_outside))]
     fn text_unit(&mut self, objects: &Objects, next: u32) -> Written
-        ensures { MakesWriting result objects.now objects.now self.new [] (frame_alone self.old) (run_outside outside.TextUnit false next (shared_by objects.now []) (frame_alone self.old)) }
+        ensures { MakesWriting result objects.now objects.now self.new [] (frame_alone self.old)
+            (run_outside outside.TextUnit false next (shared_by objects.now []) (frame_alone self.old)) }
     {
         let (value, index) = self.stack.upper_two()?;
         let text = text(objects, value)?;
@@ -181,7 +191,8 @@ impl Frame {
         asked: bool,
         next: u32,
     ) -> Written
-        ensures { MakesWriting result objects.new objects.old self.new [] (frame_alone self.old) (run_outside member asked next (shared_by objects.old []) (frame_alone self.old)) }
+        ensures { MakesWriting result objects.new objects.old self.new [] (frame_alone self.old)
+            (run_outside member asked next (shared_by objects.old []) (frame_alone self.old)) }
     {
         match member {
             Outside::NewObject | Outside::NewException => self.run_constructor(asked, next),
@@ -210,7 +221,9 @@ pub fn call_outside<V: ModuleView>(
     next: u32,
     member: Token,
 ) -> Written
-    ensures { MakesWriting result objects.new objects.old frame.new [] (frame_alone frame.old) (call_outside (version_world (V.users view.now) (V.meaning view.now) []) asked next member (shared_by objects.old []) (frame_alone frame.old)) }
+    ensures { MakesWriting result objects.new objects.old frame.new [] (frame_alone frame.old)
+        (call_outside (version_world (V.users view.now) (V.meaning view.now) []) asked next member
+        (shared_by objects.old []) (frame_alone frame.old)) }
 {
     match outside_of(view, member) {
         None => Err(Stop::Trap(Trap::X2)),
@@ -238,7 +251,8 @@ fn class_of<V: ModuleView>(view: &V, member: Token) -> Token
 /// A new object of a type goes on the stack.
 #[tactic(auto, unfolding(crate::specs::Straight::load))]
 fn load_object(objects: &mut Objects, frame: &mut Frame, next: u32, class: Token) -> Written
-    ensures { MakesWriting result objects.new objects.old frame.new [] (frame_alone frame.old) (object_loaded frame.old.code.code.max next class (shared_by objects.old []) (frame_alone frame.old)) }
+    ensures { MakesWriting result objects.new objects.old frame.new [] (frame_alone frame.old)
+        (object_loaded frame.old.code.code.max next class (shared_by objects.old []) (frame_alone frame.old)) }
 {
     if objects.is_full(0) {
         return Err(Stop::Trap(Trap::X12));
@@ -269,7 +283,9 @@ pub fn new_outside<V: ModuleView>(
     next: u32,
     member: Token,
 ) -> Written
-    ensures { MakesWriting result objects.new objects.old frame.new [] (frame_alone frame.old) (new_outside (version_world (V.users view.now) (V.meaning view.now) []) next member (shared_by objects.old []) (frame_alone frame.old)) }
+    ensures { MakesWriting result objects.new objects.old frame.new [] (frame_alone frame.old)
+        (new_outside (version_world (V.users view.now) (V.meaning view.now) []) next member (shared_by objects.old [])
+        (frame_alone frame.old)) }
 {
     let Some(outside) = outside_of(view, member) else {
         return Err(Stop::Trap(Trap::X2));

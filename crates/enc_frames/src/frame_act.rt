@@ -30,7 +30,9 @@ impl Frame {
         next: u32,
         act: FrameAct,
     ) -> Result<(), Stop>
-        ensures { (users : ℕ → Option (List ℕ)) (methods : List (Option Version)) → Does result self.new self.old (frame_act (version_world users (V.meaning view.now) methods) next act self.old) }
+        ensures { (users : ℕ → Option (List ℕ)) (methods : List (Option Version))
+            → Does result self.new self.old
+            (frame_act (version_world users (V.meaning view.now) methods) next act self.old) }
     {
         match act {
             FrameAct::Nothing => self.go_on(next),

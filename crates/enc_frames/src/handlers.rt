@@ -154,7 +154,8 @@ impl Frame {
     /// The handler of a clause begins.
     #[tactic(auto, unfolding(crate::specs::Handlers::start, crate::specs::Handlers::gone_to))]
     pub fn start(&mut self, alloc: Global, handler: Running) -> Result<(), Stop>
-        ensures { Does result self.new self.old (Ok (start (own_clauses self.old) handler.clause handler.origin handler.reason self.old)) }
+        ensures { Does result self.new self.old
+            (Ok (start (own_clauses self.old) handler.clause handler.origin handler.reason self.old)) }
     {
         let code = self.body();
         let begin = handler_range(&code, handler.clause).0;

@@ -33,7 +33,10 @@ pub fn load_text(
     next: u32,
     units: &[u16],
 ) -> Result<(), Stop>
-    ensures { Does result (objects.new, frame.new) (objects.old, frame.old) (load_text frame.old.code.code.max next units.now objects.old frame.old) }
+    ensures { Does result (objects.new, frame.new) (
+      objects.old,
+      frame.old,
+    ) (load_text frame.old.code.code.max next units.now objects.old frame.old) }
 {
     if objects.is_full(units.len()) {
         return Err(Stop::Trap(Trap::X12));
@@ -64,7 +67,10 @@ pub(crate) fn load_field(
     next: u32,
     field: Token,
 ) -> Result<(), Stop>
-    ensures { Does result (objects.now, frame.new) (objects.now, frame.old) (load_field_of kind next field objects.now frame.old) }
+    ensures { Does result (objects.now, frame.new) (
+      objects.now,
+      frame.old,
+    ) (load_field_of kind next field objects.now frame.old) }
 {
     let value = frame.stack.upper()?;
     let Some(id) = reference(value)? else {
@@ -85,7 +91,10 @@ pub(crate) fn store_field(
     next: u32,
     field: Token,
 ) -> Result<(), Stop>
-    ensures { Does result (objects.new, frame.new) (objects.old, frame.old) (store_field_of kind next field objects.old frame.old) }
+    ensures { Does result (objects.new, frame.new) (
+      objects.old,
+      frame.old,
+    ) (store_field_of kind next field objects.old frame.old) }
 {
     let (object, value) = frame.stack.upper_two()?;
     let id = reference(object)?;
@@ -108,7 +117,10 @@ pub fn load_static(
     next: u32,
     field: Token,
 ) -> Result<(), Stop>
-    ensures { Does result (objects.now, frame.new) (objects.now, frame.old) (load_static kind frame.old.code.code.max next field objects.now frame.old) }
+    ensures { Does result (objects.now, frame.new) (
+      objects.now,
+      frame.old,
+    ) (load_static kind frame.old.code.code.max next field objects.now frame.old) }
 {
     let value = objects.get_static(field, kind);
     frame.load(next, value)
@@ -123,7 +135,10 @@ pub fn store_static(
     next: u32,
     field: Token,
 ) -> Result<(), Stop>
-    ensures { Does result (objects.new, frame.new) (objects.old, frame.old) (store_static kind next field objects.old frame.old) }
+    ensures { Does result (objects.new, frame.new) (
+      objects.old,
+      frame.old,
+    ) (store_static kind next field objects.old frame.old) }
 {
     let value = frame.stack.upper()?;
     let value = fit(kind, value)?;
@@ -141,7 +156,10 @@ pub(crate) fn new_array(
     kind: Kind,
     next: u32,
 ) -> Result<(), Stop>
-    ensures { Does result (objects.new, frame.new) (objects.old, frame.old) (new_array_of_kind kind next objects.old frame.old) }
+    ensures { Does result (objects.new, frame.new) (
+      objects.old,
+      frame.old,
+    ) (new_array_of_kind kind next objects.old frame.old) }
 {
     let value = frame.stack.upper()?;
     let count = word(value)?;
@@ -239,7 +257,10 @@ pub(crate) fn load_element(
     kind: Kind,
     next: u32,
 ) -> Result<(), Stop>
-    ensures { Does result (objects.now, frame.new) (objects.now, frame.old) (load_element kind next objects.now frame.old) }
+    ensures { Does result (objects.now, frame.new) (
+      objects.now,
+      frame.old,
+    ) (load_element kind next objects.now frame.old) }
 {
     let (array, index) = frame.stack.upper_two()?;
     let array = array_of(objects, kind, array)?;
@@ -275,7 +296,10 @@ pub(crate) fn store_element(
     kind: Kind,
     next: u32,
 ) -> Result<(), Stop>
-    ensures { Does result (objects.new, frame.new) (objects.old, frame.old) (store_element kind next objects.old frame.old) }
+    ensures { Does result (objects.new, frame.new) (
+      objects.old,
+      frame.old,
+    ) (store_element kind next objects.old frame.old) }
 {
     let (array, index, value) = frame.stack.upper_three()?;
     let array = array_of(objects, kind, array)?;

@@ -46,7 +46,8 @@ impl Frame {
 impl Frame {
     /// The handler that ends where it stands, None where none does.
     pub fn ending(&self) -> Option<Running>
-        ensures { option_map (λ r. (r, without_first self.now.running)) result ≡ ending_handler (own_clauses self.now) self.now.offset self.now.running }
+        ensures { option_map (λ r. (r, without_first self.now.running)) result
+            ≡ ending_handler (own_clauses self.now) self.now.offset self.now.running }
     {
         let handler = self.running.last()?;
         let range = handler_range(&self.body(), handler.clause);
@@ -65,7 +66,9 @@ impl Frame {
 
     /// The last handler begun ends, and the way out by `leave` goes on behind it. Without memory nothing changes.
     pub fn resume(&mut self, alloc: Global, handler: Running, goal: u32) -> Result<(), Stop>
-        ensures { Does result self.new self.old (Ok (left_by (own_clauses self.old) handler.origin goal (next_among (own_clauses self.old) (Some handler.clause) handler.origin (TheWay.Leave goal)) (record self.old { running = without_first self.old.running }))) }
+        ensures { Does result self.new self.old (Ok (left_by (own_clauses self.old) handler.origin goal
+            (next_among (own_clauses self.old) (Some handler.clause) handler.origin (TheWay.Leave goal))
+            (record self.old { running = without_first self.old.running }))) }
     {
         let next = next_handler(
             &self.body(),

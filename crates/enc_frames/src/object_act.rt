@@ -41,7 +41,10 @@ fn load_named<V: ModuleView>(
     next: u32,
     field: Token,
 ) -> Result<(), Stop>
-    ensures { Does result (objects.now, frame.new) (objects.now, frame.old) (by_field (V.meaning view.now) field (λ k. load_field_of k next field objects.now frame.old)) }
+    ensures { Does result (objects.now, frame.new) (
+      objects.now,
+      frame.old,
+    ) (by_field (V.meaning view.now) field (λ k. load_field_of k next field objects.now frame.old)) }
 {
     match named_field(view, field) {
         Err(trap) => Err(Stop::Trap(trap)),
@@ -57,7 +60,10 @@ fn store_named<V: ModuleView>(
     next: u32,
     field: Token,
 ) -> Result<(), Stop>
-    ensures { Does result (objects.new, frame.new) (objects.old, frame.old) (by_field (V.meaning view.now) field (λ k. store_field_of k next field objects.old frame.old)) }
+    ensures { Does result (objects.new, frame.new) (
+      objects.old,
+      frame.old,
+    ) (by_field (V.meaning view.now) field (λ k. store_field_of k next field objects.old frame.old)) }
 {
     match named_field(view, field) {
         Err(trap) => Err(Stop::Trap(trap)),
@@ -73,7 +79,10 @@ fn new_array_of<V: ModuleView>(
     next: u32,
     element: Token,
 ) -> Result<(), Stop>
-    ensures { Does result (objects.new, frame.new) (objects.old, frame.old) (by_type (V.meaning view.now) element (λ k. new_array_of_kind k next objects.old frame.old)) }
+    ensures { Does result (objects.new, frame.new) (
+      objects.old,
+      frame.old,
+    ) (by_type (V.meaning view.now) element (λ k. new_array_of_kind k next objects.old frame.old)) }
 {
     match named_kind(view, element) {
         Err(trap) => Err(Stop::Trap(trap)),
@@ -89,7 +98,10 @@ fn load_element_of<V: ModuleView>(
     next: u32,
     element: Token,
 ) -> Result<(), Stop>
-    ensures { Does result (objects.now, frame.new) (objects.now, frame.old) (by_type (V.meaning view.now) element (λ k. load_of k next objects.now frame.old)) }
+    ensures { Does result (objects.now, frame.new) (
+      objects.now,
+      frame.old,
+    ) (by_type (V.meaning view.now) element (λ k. load_of k next objects.now frame.old)) }
 {
     match named_kind(view, element) {
         Err(trap) => Err(Stop::Trap(trap)),
@@ -105,7 +117,10 @@ fn store_element_of<V: ModuleView>(
     next: u32,
     element: Token,
 ) -> Result<(), Stop>
-    ensures { Does result (objects.new, frame.new) (objects.old, frame.old) (by_type (V.meaning view.now) element (λ k. store_of k next objects.old frame.old)) }
+    ensures { Does result (objects.new, frame.new) (
+      objects.old,
+      frame.old,
+    ) (by_type (V.meaning view.now) element (λ k. store_of k next objects.old frame.old)) }
 {
     match named_kind(view, element) {
         Err(trap) => Err(Stop::Trap(trap)),
@@ -124,7 +139,11 @@ pub fn act_on_objects<V: ModuleView>(
     act: ObjectAct,
 ) -> Result<(), Stop>
     requires stands { StandsForModule dispatch.now (V.meaning view.now) }
-    ensures { (users : ℕ → Option (List ℕ)) (methods : List (Option Version)) → Does result (objects.new, frame.new) (objects.old, frame.old) (object_act (version_world users (V.meaning view.now) methods) next act objects.old frame.old) }
+    ensures { (users : ℕ → Option (List ℕ)) (methods : List (Option Version))
+        → Does result (objects.new, frame.new) (
+          objects.old,
+          frame.old,
+        ) (object_act (version_world users (V.meaning view.now) methods) next act objects.old frame.old) }
 {
     match act {
         ObjectAct::LoadField(field) => load_named(view, objects, frame, next, field),

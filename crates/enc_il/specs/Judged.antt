@@ -31,9 +31,11 @@ names_a_row count o _ = true
 
 -- code that is whole instructions is read as these, one behind the other
 abbrev pub ReadIsChain : Type 0
-ReadIsChain = (code : List ℕ) → end_of code 0 ≡ length code → IsChain (instr_in code) (length code) 0 (instructions_of code)
+ReadIsChain = (code : List ℕ) → end_of code 0 ≡ length code
+    → IsChain (instr_in code) (length code) 0 (instructions_of code)
 
 -- and what stands one behind the other, up to the end of the code, is what is read
 abbrev pub ChainIsRead : Type 0
-ChainIsRead = (code : List ℕ) (all : List (ℕ × Instruction ℕ)) → IsChain (instr_in code) (length code) 0 all → (all ≡ instructions_of code)
+ChainIsRead = (code : List ℕ) (all : List (ℕ × Instruction ℕ)) → IsChain (instr_in code) (length code) 0 all
+    → (all ≡ instructions_of code)
     × (end_of code 0 ≡ length code)

@@ -30,7 +30,8 @@ size_bytes n = n % 0x100 ∷ n / 0x100 % 0x100 ∷ n / 0x10000 ∷ []
 
 -- a fat section of clauses; another may follow it (II.25.4.5)
 unfoldable pub data_section_written : Bool → List Clause → List ℕ
-data_section_written more clauses = (if more then 0xC1 else 0x41) ∷ (size_bytes (4 + 24 * length clauses) ++ flat_map clause_bytes clauses)
+data_section_written more clauses =
+    (if more then 0xC1 else 0x41) ∷ (size_bytes (4 + 24 * length clauses) ++ flat_map clause_bytes clauses)
 
 -- sections with all clauses, each with as many as it takes; each takes one, so there are at most as many as clauses
 unfoldable pub sections_for : ℕ → List Clause → List ℕ
@@ -81,7 +82,8 @@ place_for n c clauses = if is_tiny c clauses then n else padded n
 
 -- the bytes with a body behind them
 unfoldable pub with_body : List ℕ → Code → List Clause → List ℕ
-with_body bytes c clauses = bytes ++ replicate (place_for (length bytes) c clauses - length bytes) 0 ++ body_written c clauses
+with_body bytes c clauses = bytes ++ replicate (place_for (length bytes) c clauses - length bytes) 0
+    ++ body_written c clauses
 
 -- a body that is written: its numbers fit their bytes, and so does the length of its sections
 pub record IsWritable (c : Code) (clauses : List Clause) : Type 0 where
@@ -93,19 +95,29 @@ pub record IsWritable (c : Code) (clauses : List Clause) : Type 0 where
 
 -- a clause whose numbers fit four bytes
 abbrev pub clause_fits : Clause → Bool
-clause_fits c = nat_lt c.kind (2 ^ 32) && nat_lt c.tries.0 (2 ^ 32) && nat_lt c.tries.1 (2 ^ 32) && nat_lt c.handler.0 (2 ^ 32)
+clause_fits c = nat_lt c.kind (2 ^ 32) && nat_lt c.tries.0 (2 ^ 32) && nat_lt c.tries.1 (2 ^ 32)
+    && nat_lt c.handler.0 (2 ^ 32)
     && nat_lt c.handler.1 (2 ^ 32) && nat_lt c.extra (2 ^ 32)
 
 -- the body as it is read back: with its own sections, and its local signature nil where that names no row
 abbrev pub code_again : Code → List Clause → Code
-code_again c clauses = record { max = c.max; init = c.init; locals = nil_or c.locals; code = c.code; sections = sections_written clauses }
+code_again c clauses = record {
+  max = c.max;
+  init = c.init;
+  locals = nil_or c.locals;
+  code = c.code;
+  sections = sections_written clauses;
+}
 
--- a written body is read back, whatever stands before and behind it, at any place of an image that keeps the multiples of four
+-- a written body is read back, whatever stands before and behind it, at any place of an image that keeps the
+-- multiples of four
 abbrev pub BodyIsRead : Type 0
 BodyIsRead = (bytes rest : List ℕ) (c : Code) (clauses : List Clause) (first : ℕ) → IsWritable c clauses → first % 4 ≡ 0
-    → body_at (with_body bytes c clauses ++ rest) (place_for (length bytes) c clauses) (first + place_for (length bytes) c clauses)
+    → body_at (with_body bytes c clauses ++ rest) (place_for (length bytes) c clauses)
+    (first + place_for (length bytes) c clauses)
     ≡ Some (code_again c clauses)
 
 -- and its clauses are those that were written
 abbrev pub ClausesAreRead : Type 0
-ClausesAreRead = (clauses : List Clause) → IsTrue (list_all clause_fits clauses) → clauses_of (sections_written clauses) ≡ clauses
+ClausesAreRead = (clauses : List Clause) → IsTrue (list_all clause_fits clauses)
+    → clauses_of (sections_written clauses) ≡ clauses

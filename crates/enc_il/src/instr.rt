@@ -41,7 +41,10 @@ fn any_at(code: &[u8], offset: u32) -> Option<(Instr<'_>, u32)>
 /// another stands there, or none.
 #[tactic(auto, unfolding(enc_opcodes::specs::Instruction::instr_in, enc_opcodes::specs::Instruction::op_in, enc_opcodes::specs::Instruction::arg_in))]
 fn bare_at(code: &[u8], offset: u32) -> Option<Op>
-    ensures bare { IfSome result (λ op. instr_in code.now offset ≡ Some (record { op = op; arg = nothing }, offset + 1)) }
+    ensures bare { IfSome result (λ op. instr_in code.now offset ≡ Some (
+      record { op = op; arg = nothing },
+      offset + 1,
+    )) }
     ensures known { IfSome result (λ op. IsTrue (is_op op)) }
     ensures within { IfSome result (λ op. offset < length code.now) }
 {

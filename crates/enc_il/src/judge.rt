@@ -98,7 +98,8 @@ fn are_good_in(counts: &Counts, marks: &[bool], size: usize, section: &SectionRe
 /// Whether all clauses of these sections are good, which stand whole.
 fn are_good_in_sections(counts: &Counts, marks: &[bool], size: usize, sections: &[u8]) -> bool
     requires { IsTrue (is_some (all_sections sections.now)) }
-    ensures { result ≡ list_all (is_good_clause (slice_index counts.now.rows) (mark_at marks.now) size) (clauses_of sections.now) }
+    ensures { result ≡ list_all (is_good_clause (slice_index counts.now.rows) (mark_at marks.now) size)
+        (clauses_of sections.now) }
 {
     let mut rest = sections;
     while let Some((section, behind)) = section_front(rest) {
@@ -115,7 +116,8 @@ fn are_good_in_sections(counts: &Counts, marks: &[bool], size: usize, sections: 
 
 /// Whether all clauses of a body are good. Sections of which one isn't whole have none.
 fn are_clauses_good(code: &CodeRef<'_>, counts: &Counts, marks: &[bool]) -> bool
-    ensures { result ≡ list_all (is_good_clause (slice_index counts.now.rows) (mark_at marks.now) (length code.now.code.now)) (clauses_of code.now.sections.now) }
+    ensures { result ≡ list_all (is_good_clause (slice_index counts.now.rows) (mark_at marks.now)
+        (length code.now.code.now)) (clauses_of code.now.sections.now) }
 {
     match behind_sections(code.sections) {
         None => true,
@@ -127,7 +129,8 @@ fn are_clauses_good(code: &CodeRef<'_>, counts: &Counts, marks: &[bool]) -> bool
 /// instructions begin.
 fn are_parts_good(code: &CodeRef<'_>, counts: &Counts, marks: &[bool], targets: &[u32]) -> bool
     ensures { result ≡ (list_all (mark_at marks.now) targets.now
-        && list_all (is_good_clause (slice_index counts.now.rows) (mark_at marks.now) (length code.now.code.now)) (clauses_of code.now.sections.now)
+        && list_all (is_good_clause (slice_index counts.now.rows) (mark_at marks.now) (length code.now.code.now))
+        (clauses_of code.now.sections.now)
         && are_good_locals (slice_index counts.now.rows) code.now.locals) }
 {
     are_starts(marks, targets)
@@ -144,7 +147,8 @@ fn users_of_good(
 ) -> Result<Option<Vec<u32>>, AllocError>
     requires few { length code.now.code.now < 2 ^ 32 }
     ensures good { IfOk result (λ o. is_some o ≡ is_good (slice_index counts.now.rows) (code_seen code.now)) }
-    ensures users { IfOk result (λ o. IfSome o (λ users. (texts : ℕ → Option (List ℕ)) → are_texts_there texts code.now.code.now ≡ are_texts texts users.items)) }
+    ensures users { IfOk result (λ o. IfSome o (λ users. (texts : ℕ → Option (List ℕ))
+        → are_texts_there texts code.now.code.now ≡ are_texts texts users.items)) }
 {
     let walk = walk_of(alloc, code, counts)?;
     if walk.end as usize != code.code.len() {
@@ -195,7 +199,8 @@ pub fn is_good_body<T: UserTexts>(
     texts: &T,
 ) -> Result<bool, AllocError>
     requires few { length code.now.code.now < 2 ^ 32 }
-    ensures { IfOk result (λ good. good ≡ (is_good (slice_index counts.now.rows) (code_seen code.now) && are_texts_there (T.texts texts.now) code.now.code.now)) }
+    ensures { IfOk result (λ good. good ≡ (is_good (slice_index counts.now.rows) (code_seen code.now)
+        && are_texts_there (T.texts texts.now) code.now.code.now)) }
 {
     match users_of_good(alloc, code, counts)? {
         Some(users) => Ok(are_texts(texts, users.as_slice())),

@@ -22,7 +22,8 @@ pub fn is_start(marks: &[bool], offset: u32) -> bool
 /// code, and a byte of memory for each of its bytes.
 pub fn starts_of(alloc: Global, code: &CodeRef<'_>) -> Result<Vec<bool>, AllocError>
     requires { length code.now.code.now < 2 ^ 32 }
-    ensures { IfOk result (λ marks. (t : ℕ) → mark_at marks.items t ≡ is_instruction_start (instructions_of code.now.code.now) t) }
+    ensures { IfOk result (λ marks. (t : ℕ)
+        → mark_at marks.items t ≡ is_instruction_start (instructions_of code.now.code.now) t) }
 {
     let mut marks = vec![in alloc; false; code.code.len()]?;
     let mut at = 0;

@@ -1,4 +1,5 @@
-//! One pass over the instructions of a code: where they begin, where they lead, and whether each of their tokens is a row.
+//! One pass over the instructions of a code: where they begin, where they lead, and whether each of their tokens is
+//! a row.
 ghost use Rattle.std.specs.Prelude.{◌≡◌, ℕ, ◌<◌, ◌^◌, ◌++◌, ◌&&◌, Bool, List, Option, length, slice_index, IfOk, OnOk};
 ghost use Rattle.std.specs.List.{list_all};
 ghost use Rattle.enc_opcodes.specs.Instruction.{all_reached, instructions_of, end_of};
@@ -112,10 +113,14 @@ pub(crate) fn walk_of(
     counts: &Counts,
 ) -> Result<Walk, AllocError>
     requires few { length code.now.code.now < 2 ^ 32 }
-    ensures marks { IfOk result (λ w. (t : ℕ) → mark_at w.marks.items t ≡ is_instruction_start (instructions_of code.now.code.now) t) }
+    ensures marks { IfOk result (λ w. (t : ℕ)
+        → mark_at w.marks.items t ≡ is_instruction_start (instructions_of code.now.code.now) t) }
     ensures end { IfOk result (λ w. w.end ≡ end_of code.now.code.now 0) }
-    ensures good { IfOk result (λ w. (starts : ℕ → Bool) → list_all (instruction_is_good (slice_index counts.now.rows) starts) (instructions_of code.now.code.now) ≡ (w.rows && list_all starts w.targets.items)) }
-    ensures users { IfOk result (λ w. (texts : ℕ → Option (List ℕ)) → are_texts_there texts code.now.code.now ≡ are_texts texts w.users.items) }
+    ensures good { IfOk result (λ w. (starts : ℕ → Bool) → list_all (instruction_is_good
+        (slice_index counts.now.rows) starts) (instructions_of code.now.code.now)
+        ≡ (w.rows && list_all starts w.targets.items)) }
+    ensures users { IfOk result (λ w. (texts : ℕ → Option (List ℕ))
+        → are_texts_there texts code.now.code.now ≡ are_texts texts w.users.items) }
 {
     let mut marks = vec![in alloc; false; code.code.len()]?;
     let mut targets = Vec::new(alloc);

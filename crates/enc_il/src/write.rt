@@ -12,7 +12,8 @@ use std::alloc::{AllocError, Global};
 
 /// Appends a range as a fat clause has it, by its start and its length.
 fn push_range(range: (u32, u32), out: &mut Vec<u8>) -> Result<(), AllocError>
-    ensures { OnOk result (out.new.items ≡ out.old.items ++ to_le_bytes w32 range.0 ++ to_le_bytes w32 (range_length range)) }
+    ensures { OnOk result (out.new.items ≡ out.old.items ++ to_le_bytes w32 range.0 ++ to_le_bytes w32
+        (range_length range)) }
 {
     push_word(range.0, out)?;
     push_word(range.1.wrapping_sub(range.0), out)
@@ -198,8 +199,10 @@ pub fn write_body(
     requires row { code.now.locals.row < 2 ^ 24 }
     requires size { length out.old.items + length code.now.code.now + 28 * length clauses.now + 32 < 2 ^ 32 }
     ensures written { OnOk result (out.new.items ≡ with_body out.old.items (code_seen code.now) clauses.now) }
-    ensures place { IfOk result (λ place. place ≡ place_behind (length out.old.items) (code_seen code.now) clauses.now) }
-    ensures few { OnOk result (length out.new.items < length out.old.items + length code.now.code.now + 28 * length clauses.now + 32) }
+    ensures place { IfOk result (λ place. place
+        ≡ place_behind (length out.old.items) (code_seen code.now) clauses.now) }
+    ensures few { OnOk result (length out.new.items
+        < length out.old.items + length code.now.code.now + 28 * length clauses.now + 32) }
     ensures err { OnErr result (out.new.items ≡ out.old.items) }
 {
     let size = out.len();

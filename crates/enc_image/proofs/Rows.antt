@@ -212,3 +212,5 @@ row_in_tables s token there =
 pub tables_there : (s : Source) → length (module_in s).tables ≡ 0x2D
 unfolding module_in
 tables_there s = length_below (table_rows s) 0x2D
+
+pub ruleset count_steps = (count_there, count_other, count_past)

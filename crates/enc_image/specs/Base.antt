@@ -66,7 +66,8 @@ extent_size s None = None
 unfoldable pub data_extent : Source → Token → Option Extent
 data_extent s row =
     if raw_in s row columns.field_rva_field == 0 then None
-    else extent_in (blob_or_none s (raw_in s (record { table = tables.field; row = raw_in s row columns.field_rva_field }) columns.field_signature))
+    else extent_in (blob_or_none s (raw_in s
+    (record { table = tables.field; row = raw_in s row columns.field_rva_field }) columns.field_signature))
 
 -- the bytes that such a row has at its RVA, where they are loaded
 unfoldable pub bytes_of_field : Source → Token → Option (List ℕ)
@@ -93,12 +94,14 @@ cell_for s c n = cell_read (reading_of s) c n
 
 -- the cell in a column of a row
 unfoldable pub cell_in : Source → Token → ℕ → Option Cell
-cell_in s token i = option_and_then (λ (c : Column). cell_with (reading_of s) token i c (raw_in s token i)) (column_in token.table i)
+cell_in s token i = option_and_then (λ (c : Column). cell_with (reading_of s) token i c (raw_in s token i))
+    (column_in token.table i)
 
 -- F8: the first offset that isn't good, by table, row and column
 unfoldable pub offset_fault_at : Source → Token → ℕ → Option Place
 offset_fault_at s token i =
-    option_and_then (λ (c : Column). if is_offset c && not (is_some (cell_for s c (raw_in s token i))) then Some (place.Cell token i) else None)
+    option_and_then (λ (c : Column). if is_offset c && not (is_some (cell_for s c (raw_in s token i)))
+    then Some (place.Cell token i) else None)
     (column_in token.table i)
 
 unfoldable pub offset_fault_in_row : Source → ℕ → ℕ → Option Place
@@ -113,10 +116,12 @@ offset_fault s = first_below (offset_fault_in s) tables.table_count
 -- F11: the first signature that isn't one of its kind, by the file's own rows (II.23.2)
 unfoldable pub signature_fault_at : Source → ℕ → ℕ → ℕ → Option Place
 signature_fault_at s table i r =
-    if is_signature (rows_of s.layout) table (blob_or_none s (raw_in s (nth_row table r) i)) then None else Some (place.Cell (nth_row table r) i)
+    if is_signature (rows_of s.layout) table (blob_or_none s (raw_in s (nth_row table r) i)) then None
+    else Some (place.Cell (nth_row table r) i)
 
 unfoldable pub signature_fault_in : Source → ℕ → Option Place
-signature_fault_in s table = option_and_then (λ i. first_below (signature_fault_at s table i) (rows_of s.layout table)) (signature_column table)
+signature_fault_in s table = option_and_then (λ i. first_below (signature_fault_at s table i) (rows_of s.layout table))
+    (signature_column table)
 
 unfoldable pub signature_fault : Source → Option Place
 signature_fault s = first_below (signature_fault_in s) tables.table_count
@@ -129,7 +134,8 @@ has_locals s (Some c) = c.locals.row == 0 || begins_locals (blob_or_none s (raw_
 -- F10: the first method with a place for its body, but none that is good there
 unfoldable pub body_fault_at : Source → ℕ → Option Place
 body_fault_at s r =
-    if body_is_good (rows_of s.layout) (users_of s) s.loaded (raw_in s (nth_row tables.method_def r) columns.method_def_rva)
+    if body_is_good (rows_of s.layout) (users_of s) s.loaded
+    (raw_in s (nth_row tables.method_def r) columns.method_def_rva)
     (raw_in s (nth_row tables.method_def r) columns.method_def_impl_flags)
     && has_locals s (code_loaded s.loaded (raw_in s (nth_row tables.method_def r) columns.method_def_rva))
     then None
@@ -138,10 +144,12 @@ body_fault_at s r =
 unfoldable pub body_fault : Source → Option Place
 body_fault s = first_below (body_fault_at s) (rows_of s.layout tables.method_def)
 
--- F5 of fields: the first row of FieldRVA with an RVA, but no bytes of its field's size there. It isn't asked of bare metadata
+-- F5 of fields: the first row of FieldRVA with an RVA, but no bytes of its field's size there. It isn't asked of
+-- bare metadata
 unfoldable pub field_fault_at : Source → ℕ → Option Place
 field_fault_at s r =
-    if raw_in s (nth_row tables.field_rva r) columns.field_rva_rva == 0 || is_some (bytes_of_field s (nth_row tables.field_rva r)) then None
+    if raw_in s (nth_row tables.field_rva r) columns.field_rva_rva == 0
+    || is_some (bytes_of_field s (nth_row tables.field_rva r)) then None
     else Some (place.Row (nth_row tables.field_rva r))
 
 unfoldable pub field_fault : Source → Option Place
@@ -174,7 +182,11 @@ table_rows s table = if is_part table then map (row_in s table) (below (rows_of 
 
 -- the plain module of a source
 unfoldable pub module_in : Source → Module
-module_in s = record { tables = map (table_rows s) (below tables.table_count); resources = s.resources; entry = s.entry }
+module_in s = record {
+  tables = map (table_rows s) (below tables.table_count);
+  resources = s.resources;
+  entry = s.entry;
+}
 
 -- a module's widths go by its own rows alone
 unfoldable pub no_counts : List ℕ

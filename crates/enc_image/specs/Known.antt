@@ -14,7 +14,8 @@ is_signature_at s table offset = is_signature (rows_of s.layout) table (blob_or_
 
 -- a good body stands at an RVA, and its local signature is one
 abbrev pub is_body_at : Source → ℕ → Bool
-is_body_at s rva = code_is_good (rows_of s.layout) (users_of s) (code_loaded s.loaded rva) && has_locals s (code_loaded s.loaded rva)
+is_body_at s rva = code_is_good (rows_of s.layout) (users_of s) (code_loaded s.loaded rva)
+    && has_locals s (code_loaded s.loaded rva)
 
 -- the offsets of signatures of a table
 abbrev pub AreSignatures : Source → ℕ → BTreeSet ℕ → Type 0

@@ -45,7 +45,8 @@ ReadsBase (Ok s) base = base ≡ Ok s
 ReadsBase (Err (Refused e)) base = base ≡ Err e
 ReadsBase (Err Memory) base = Unit {0}
 
--- the parts of an image's file were read from its bytes, as the ends of its texts and its sections were; each of its cells is good, and so the file
+-- the parts of an image's file were read from its bytes, as the ends of its texts and its sections were; each of its
+-- cells is good, and so the file
 -- is the base
 pub record IsImage (bytes : List ℕ) (o : Opened) (ends : TextEnds) (list : List Section) : Type 0 where
   pub file : AreBytes bytes

@@ -59,7 +59,9 @@ fn has_locals(cells: &Cells<'_>, code: &CodeRef<'_>) -> bool
 fn is_whole(alloc: Global, cells: &Cells<'_>, code: &CodeRef<'_>) -> Result<bool, AllocError>
     requires bytes { IsWithin (part cells.now.bytes.now cells.now.tables.now.span) cells.now.tables.now }
     requires few { length code.now.code.now < 2 ^ 32 }
-    ensures { IfOk result (λ good. good ≡ (code_is_good (rows_of cells.now.tables.now) (users_of (source_seen cells.now)) (Some (code_seen code.now)) && has_locals (source_seen cells.now) (Some (code_seen code.now)))) }
+    ensures { IfOk result (λ good. good ≡ (code_is_good (rows_of cells.now.tables.now)
+        (users_of (source_seen cells.now)) (Some (code_seen code.now))
+        && has_locals (source_seen cells.now) (Some (code_seen code.now)))) }
 {
     let texts = FileTexts {
         heaps: &cells.heaps,
@@ -115,7 +117,9 @@ fn is_good(
 ) -> Result<bool, AllocError>
     requires bytes { IsWithin (part cells.now.bytes.now cells.now.tables.now.span) cells.now.tables.now }
     requires known { AreBodies (source_seen cells.now) known.old }
-    ensures good { IfOk result (λ good. good ≡ (body_is_good (rows_of cells.now.tables.now) (users_of (source_seen cells.now)) (source_seen cells.now).loaded rva flags && has_locals (source_seen cells.now) (code_loaded (source_seen cells.now).loaded rva))) }
+    ensures good { IfOk result (λ good. good ≡ (body_is_good (rows_of cells.now.tables.now)
+        (users_of (source_seen cells.now)) (source_seen cells.now).loaded rva flags
+        && has_locals (source_seen cells.now) (code_loaded (source_seen cells.now).loaded rva))) }
     ensures known { OnOk result (AreBodies (source_seen cells.now) known.new) }
 {
     if rva == 0 {
@@ -159,7 +163,7 @@ fn body_fault_at(
 
 /// F10: the first method whose body isn't good. It reads each body once, whatever the number of
 /// methods that share it, and takes memory for one body at a time and for the RVAs.
-#[tactic(auto, using(enc_base::proofs::First::first_none, enc_base::proofs::First::first_found, enc_base::proofs::First::first_more), unfolding(crate::specs::Base::body_fault))]
+#[tactic(auto, using(enc_base::proofs::First::first_steps), unfolding(crate::specs::Base::body_fault))]
 pub fn body_fault(alloc: Global, cells: &Cells<'_>) -> Result<Option<Place>, AllocError>
     requires { IsWithin (part cells.now.bytes.now cells.now.tables.now.span) cells.now.tables.now }
     ensures { IfOk result (λ p. p ≡ body_fault (source_seen cells.now)) }

@@ -83,7 +83,7 @@ fn layout_size(cells: &Cells<'_>, owner: u32, r: u32) -> Option<u32>
 
 /// The size that the first row of ClassLayout with this row of TypeDef tells. It goes over them
 /// all.
-#[tactic(auto, using(enc_base::proofs::First::first_none, enc_base::proofs::First::first_found, enc_base::proofs::First::first_more), unfolding(crate::specs::Base::size_of_class))]
+#[tactic(auto, using(enc_base::proofs::First::first_steps), unfolding(crate::specs::Base::size_of_class))]
 fn size_of_class(cells: &Cells<'_>, owner: u32) -> Option<u32>
     requires { IsWithin (part cells.now.bytes.now cells.now.tables.now.span) cells.now.tables.now }
     ensures { result ≡ size_of_class (source_seen cells.now) owner }
@@ -138,7 +138,8 @@ pub fn field_bytes<'a>(cells: &Cells<'a>, row: Token) -> &'a [u8]
 /// The size at the place, where none stands there.
 fn keep_first(sizes: &mut Vec<Option<u32>>, owner: u32, size: u32)
     ensures length { length sizes.new.items ≡ length sizes.old.items }
-    ensures each { (t : ℕ) → t < length sizes.old.items → slice_index_or sizes.new.items t None ≡ or_else (slice_index_or sizes.old.items t None) (if owner == t then Some size else None) }
+    ensures each { (t : ℕ) → t < length sizes.old.items → slice_index_or sizes.new.items t None
+        ≡ or_else (slice_index_or sizes.old.items t None) (if owner == t then Some size else None) }
 {
     let at = owner as usize;
     if at < sizes.len() && sizes[at].is_none() {
@@ -151,7 +152,8 @@ fn keep_first(sizes: &mut Vec<Option<u32>>, owner: u32, size: u32)
 fn class_sizes(alloc: Global, cells: &Cells<'_>) -> Result<Vec<Option<u32>>, AllocError>
     requires { IsWithin (part cells.now.bytes.now cells.now.tables.now.span) cells.now.tables.now }
     ensures length { IfOk result (λ sizes. length sizes.items ≡ rows_of cells.now.tables.now type_def + 1) }
-    ensures each { IfOk result (λ sizes. (t : ℕ) → t < length sizes.items → slice_index_or sizes.items t None ≡ size_of_class (source_seen cells.now) t) }
+    ensures each { IfOk result (λ sizes. (t : ℕ) → t < length sizes.items
+        → slice_index_or sizes.items t None ≡ size_of_class (source_seen cells.now) t) }
 {
     let mut sizes = vec![in alloc; None; cells.tables.count(TYPE_DEF) as usize + 1]?;
     for r in 0..cells.tables.count(CLASS_LAYOUT) {
@@ -171,7 +173,8 @@ fn class_sizes(alloc: Global, cells: &Cells<'_>) -> Result<Vec<Option<u32>>, All
 /// The size of a type. One past the table is searched for.
 fn class_size(cells: &Cells<'_>, sizes: &[Option<u32>], owner: u32) -> Option<u32>
     requires bytes { IsWithin (part cells.now.bytes.now cells.now.tables.now.span) cells.now.tables.now }
-    requires sizes { (t : ℕ) → t < length sizes.now → slice_index_or sizes.now t None ≡ size_of_class (source_seen cells.now) t }
+    requires sizes { (t : ℕ) → t < length sizes.now
+        → slice_index_or sizes.now t None ≡ size_of_class (source_seen cells.now) t }
     ensures { result ≡ size_of_class (source_seen cells.now) owner }
 {
     if (owner as usize) < sizes.len() {
@@ -183,7 +186,8 @@ fn class_size(cells: &Cells<'_>, sizes: &[Option<u32>], owner: u32) -> Option<u3
 /// How many bytes a field has, by the sizes of the types.
 fn known_size(cells: &Cells<'_>, sizes: &[Option<u32>], extent: Option<Extent>) -> Option<u32>
     requires bytes { IsWithin (part cells.now.bytes.now cells.now.tables.now.span) cells.now.tables.now }
-    requires sizes { (t : ℕ) → t < length sizes.now → slice_index_or sizes.now t None ≡ size_of_class (source_seen cells.now) t }
+    requires sizes { (t : ℕ) → t < length sizes.now
+        → slice_index_or sizes.now t None ≡ size_of_class (source_seen cells.now) t }
     ensures { result ≡ extent_size (source_seen cells.now) extent }
 {
     match extent {
@@ -198,7 +202,8 @@ fn known_size(cells: &Cells<'_>, sizes: &[Option<u32>], extent: Option<Extent>) 
 #[tactic(auto, unfolding(crate::specs::Base::field_fault_at, crate::specs::Base::bytes_of_field))]
 fn field_fault_at(cells: &Cells<'_>, sizes: &[Option<u32>], r: u32) -> Option<Place>
     requires bytes { IsWithin (part cells.now.bytes.now cells.now.tables.now.span) cells.now.tables.now }
-    requires sizes { (t : ℕ) → t < length sizes.now → slice_index_or sizes.now t None ≡ size_of_class (source_seen cells.now) t }
+    requires sizes { (t : ℕ) → t < length sizes.now
+        → slice_index_or sizes.now t None ≡ size_of_class (source_seen cells.now) t }
     requires few { r < 2 ^ 24 }
     ensures { result ≡ field_fault_at (source_seen cells.now) r }
 {
@@ -217,10 +222,11 @@ fn field_fault_at(cells: &Cells<'_>, sizes: &[Option<u32>], r: u32) -> Option<Pl
 }
 
 /// The first such row, by the sizes of the types.
-#[tactic(auto, using(enc_base::proofs::First::first_none, enc_base::proofs::First::first_found, enc_base::proofs::First::first_more))]
+#[tactic(auto, using(enc_base::proofs::First::first_steps))]
 fn first_fault(cells: &Cells<'_>, sizes: &[Option<u32>]) -> Option<Place>
     requires bytes { IsWithin (part cells.now.bytes.now cells.now.tables.now.span) cells.now.tables.now }
-    requires sizes { (t : ℕ) → t < length sizes.now → slice_index_or sizes.now t None ≡ size_of_class (source_seen cells.now) t }
+    requires sizes { (t : ℕ) → t < length sizes.now
+        → slice_index_or sizes.now t None ≡ size_of_class (source_seen cells.now) t }
     ensures { result ≡ first_below (field_fault_at (source_seen cells.now)) (rows_of cells.now.tables.now field_rva) }
 {
     for r in 0..cells.tables.count(FIELD_RVA) {

@@ -35,7 +35,8 @@ impl Model for Image {
 
     ghost view = { λ i. source_from i.bytes.items i.container i.root i.tables };
 
-    ghost invariant = { λ i. IsImage i.bytes.items (record { container = i.container; root = i.root; tables = i.tables }) i.ends i.sections };
+    ghost invariant = { λ i. IsImage i.bytes.items
+        (record { container = i.container; root = i.root; tables = i.tables }) i.ends i.sections };
 }
 
 /// The image whose parts were read from these bytes, where none of its cells is refused.

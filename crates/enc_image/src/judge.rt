@@ -60,7 +60,7 @@ fn offset_fault_at(cells: &Cells<'_>, token: Token, i: u8) -> Option<Place>
 }
 
 /// The first such cell of a row.
-#[tactic(auto, using(enc_base::proofs::First::first_none, enc_base::proofs::First::first_found, enc_base::proofs::First::first_more), unfolding(crate::specs::Base::offset_fault_in_row))]
+#[tactic(auto, using(enc_base::proofs::First::first_steps), unfolding(crate::specs::Base::offset_fault_in_row))]
 fn offset_fault_in_row(cells: &Cells<'_>, table: u8, r: u32) -> Option<Place>
     requires bytes { IsWithin (part cells.now.bytes.now cells.now.tables.now.span) cells.now.tables.now }
     requires row { r < rows_of cells.now.tables.now table }
@@ -78,7 +78,7 @@ fn offset_fault_in_row(cells: &Cells<'_>, table: u8, r: u32) -> Option<Place>
 }
 
 /// The first such cell of a table.
-#[tactic(auto, using(enc_base::proofs::First::first_none, enc_base::proofs::First::first_found, enc_base::proofs::First::first_more), unfolding(crate::specs::Base::offset_fault_in))]
+#[tactic(auto, using(enc_base::proofs::First::first_steps), unfolding(crate::specs::Base::offset_fault_in))]
 fn offset_fault_in(cells: &Cells<'_>, table: u8) -> Option<Place>
     requires { IsWithin (part cells.now.bytes.now cells.now.tables.now.span) cells.now.tables.now }
     ensures { result ≡ offset_fault_in (source_seen cells.now) table }
@@ -93,7 +93,7 @@ fn offset_fault_in(cells: &Cells<'_>, table: u8) -> Option<Place>
 }
 
 /// F8: the first offset that isn't good.
-#[tactic(auto, using(enc_base::proofs::First::first_none, enc_base::proofs::First::first_found, enc_base::proofs::First::first_more), unfolding(crate::specs::Base::offset_fault))]
+#[tactic(auto, using(enc_base::proofs::First::first_steps), unfolding(crate::specs::Base::offset_fault))]
 fn offset_fault(cells: &Cells<'_>) -> Option<Place>
     requires { IsWithin (part cells.now.bytes.now cells.now.tables.now.span) cells.now.tables.now }
     ensures { result ≡ offset_fault (source_seen cells.now) }

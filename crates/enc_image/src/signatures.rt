@@ -76,7 +76,7 @@ fn signature_fault_at(
 }
 
 /// The first such place of a table with a column of signatures.
-#[tactic(auto, using(enc_base::proofs::First::first_none, enc_base::proofs::First::first_found, enc_base::proofs::First::first_more))]
+#[tactic(auto, using(enc_base::proofs::First::first_steps))]
 fn signature_fault_below(
     alloc: Global,
     cells: &Cells<'_>,
@@ -85,7 +85,8 @@ fn signature_fault_below(
 ) -> Result<Option<Place>, AllocError>
     requires bytes { IsWithin (part cells.now.bytes.now cells.now.tables.now.span) cells.now.tables.now }
     requires column { kind_in table column ≡ Some blobs }
-    ensures { IfOk result (λ p. p ≡ first_below (signature_fault_at (source_seen cells.now) table column) (rows_of cells.now.tables.now table)) }
+    ensures { IfOk result (λ p. p ≡ first_below (signature_fault_at (source_seen cells.now) table column)
+        (rows_of cells.now.tables.now table)) }
 {
     let mut known = BTreeSet::new(alloc);
     for r in 0..cells.tables.count(table) {
@@ -117,7 +118,7 @@ fn signature_fault_in(
 /// F11: the first signature that isn't one of its kind (ECMA-335 II.23.2). It reads each signature
 /// of a table once, whatever the number of rows that share it, and takes memory for the offsets of one
 /// table's.
-#[tactic(auto, using(enc_base::proofs::First::first_none, enc_base::proofs::First::first_found, enc_base::proofs::First::first_more), unfolding(crate::specs::Base::signature_fault))]
+#[tactic(auto, using(enc_base::proofs::First::first_steps), unfolding(crate::specs::Base::signature_fault))]
 pub fn signature_fault(alloc: Global, cells: &Cells<'_>) -> Result<Option<Place>, AllocError>
     requires { IsWithin (part cells.now.bytes.now cells.now.tables.now.span) cells.now.tables.now }
     ensures { IfOk result (λ p. p ≡ signature_fault (source_seen cells.now)) }

@@ -132,7 +132,7 @@ impl ModuleView for Image {
 
     ghost stored = { λ s. blob_at s.heaps.blobs };
 
-    #[tactic(auto, using(crate::proofs::Rows::count_there, crate::proofs::Rows::count_other, crate::proofs::Rows::count_past))]
+    #[tactic(auto, using(crate::proofs::Rows::count_steps))]
     fn count(&self, table: u8) -> u32 {
         if table < TABLE_COUNT && is_part(table) {
             self.tables.count(table)

@@ -12,4 +12,5 @@ abbrev pub digits_of : Key → Digits
 digits_of k = record { first = k.row; second = k.place }
 
 abbrev pub next_digits : Digits → Digits
-next_digits d = if d.first == 0 then record { first = d.second; second = 0 } else record { first = d.first / 2; second = d.second }
+next_digits d = if d.first == 0 then record { first = d.second; second = 0 }
+    else record { first = d.first / 2; second = d.second }

@@ -84,7 +84,8 @@ pub fn push_entry<V: Drop>(
     key: Key,
     value: V,
 ) -> Result<(), AllocError>
-    ensures { IfOk result (λ _. (q : TheKey) → latest entries.new.items q ≡ either (if is_key key q then Some value else None) (latest entries.old.items q)) }
+    ensures { IfOk result (λ _. (q : TheKey) →
+        latest entries.new.items q ≡ either (if is_key key q then Some value else None) (latest entries.old.items q)) }
 {
     let entry = Entry::new(alloc, key, value)?;
     entries.push(entry)?;

@@ -53,7 +53,8 @@ impl<V: Drop> Tree<V> {
     pub(crate) fn put(&mut self, leaf: Box<Fork<V>>, digits: Digits)
         requires { IsLeaf leaf.value }
         ensures own { at self.new leaf.value.key digits ≡ Some leaf.value.value }
-        ensures others { (q : TheKey) (d : TheDigits) → is_key leaf.value.key q ≡ false → at self.new q d ≡ at self.old q d }
+        ensures others { (q : TheKey) (d : TheDigits) → is_key leaf.value.key q ≡ false
+            → at self.new q d ≡ at self.old q d }
     {
         match self {
             Tree::Empty => *self = Tree::Fork(leaf),

@@ -47,7 +47,8 @@ filter_said offsets d = if has_only (codes "kind" ∷ codes "try" ∷ codes "han
 
 -- a clause with neither
 unfoldable pub plain_said : Offsets → ℕ → Data → Option Clause
-plain_said offsets kind d = if has_only (codes "kind" ∷ codes "try" ∷ codes "handler" ∷ []) d then clause_with offsets d kind 0 else None
+plain_said offsets kind d = if has_only (codes "kind" ∷ codes "try" ∷ codes "handler" ∷ []) d
+    then clause_with offsets d kind 0 else None
 
 -- a clause by the name of its kind, of which there are these four
 abbrev pub clause_of_kind : Offsets → Data → List ℕ → Option Clause

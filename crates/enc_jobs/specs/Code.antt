@@ -18,7 +18,8 @@ within_word n = if nat_lt n (2 ^ 32) then Some n else None
 
 -- where the instructions begin, and where the last ends; where their targets are doesn't matter
 unfoldable pub offsets_of : List InstrValue → Option Offsets
-offsets_of code = option_map (λ size. record { starts = map (λ x. x.0) (placed 0 code); size = size }) (within_word (length_of_code code))
+offsets_of code = option_map (λ size. record { starts = map (λ x. x.0) (placed 0 code); size = size })
+    (within_word (length_of_code code))
 
 -- an argument with the offsets of its targets for their indices
 unfoldable pub arg_placed : List ℕ → ArgValue → Option ArgValue

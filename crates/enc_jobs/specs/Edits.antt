@@ -37,7 +37,8 @@ table_named name = first_below (λ t. if has_this_name name (table_name_in t) th
 -- the keys of an edit that adds a row to a table
 unfoldable pub add_keys : ℕ → List (List ℕ)
 add_keys table =
-    if table == method_def then codes "do" ∷ codes "table" ∷ codes "cells" ∷ codes "owner" ∷ codes "code" ∷ codes "points" ∷ []
+    if table == method_def then codes "do" ∷ codes "table" ∷ codes "cells" ∷ codes "owner" ∷ codes "code"
+    ∷ codes "points" ∷ []
     else if is_child_table table then codes "do" ∷ codes "table" ∷ codes "cells" ∷ codes "owner" ∷ []
     else codes "do" ∷ codes "table" ∷ codes "cells" ∷ []
 
@@ -68,7 +69,8 @@ replace_said d = if has_only (codes "do" ∷ codes "method" ∷ codes "code" ∷
 
 -- an edit of one of the two kinds
 abbrev pub edit_of_kind : Data → List ℕ → Option Edit
-edit_of_kind d kind = if bytes_eq kind (codes "add") then add_said d else if bytes_eq kind (codes "body") then replace_said d else None
+edit_of_kind d kind = if bytes_eq kind (codes "add") then add_said d else if bytes_eq kind (codes "body")
+    then replace_said d else None
 
 -- an edit, its kind by its name
 unfoldable pub edit_said : Data → Option Edit

@@ -45,36 +45,44 @@ named_row table row = record { table = table; row = row }
 abbrev pub adds_plain_row : ℕ → List CellValue → Edit
 adds_plain_row table cells = Add table nil cells None []
 
--- a public static method of the type P, the second, with this name: it takes nothing and returns an int32 (ECMA-335 II.23.2.1)
+-- a public static method of the type P, the second, with this name: it takes nothing and returns an int32 (ECMA-335
+-- II.23.2.1)
 abbrev pub adds_method : List ℕ → ℕ → Edit
 adds_method name n =
-    Add method_def (named_row type_def 2) (cell.Num 0 ∷ cell.Num 0x16 ∷ cell.Text name ∷ cell.Blob (0 ∷ 0 ∷ 8 ∷ []) ∷ []) (Some (body_loading n)) []
+    Add method_def (named_row type_def 2)
+    (cell.Num 0 ∷ cell.Num 0x16 ∷ cell.Text name ∷ cell.Blob (0 ∷ 0 ∷ 8 ∷ []) ∷ []) (Some (body_loading n)) []
 
 -- the assembly `mscorlib` 4.0.0.0
 abbrev pub adds_mscorlib : Edit
 adds_mscorlib = adds_plain_row assembly_ref
-    (cell.Num 4 ∷ cell.Num 0 ∷ cell.Num 0 ∷ cell.Num 0 ∷ cell.Num 0 ∷ cell.Blob [] ∷ cell.Text (codes "mscorlib") ∷ cell.Text [] ∷ cell.Blob [] ∷ [])
+    (cell.Num 4 ∷ cell.Num 0 ∷ cell.Num 0 ∷ cell.Num 0 ∷ cell.Num 0 ∷ cell.Blob [] ∷ cell.Text (codes "mscorlib")
+    ∷ cell.Text [] ∷ cell.Blob [] ∷ [])
 
 -- its type System.Object
 abbrev pub adds_object : Edit
-adds_object = adds_plain_row type_ref (cell.Refer (named_row assembly_ref 1) ∷ cell.Text (codes "Object") ∷ cell.Text (codes "System") ∷ [])
+adds_object = adds_plain_row type_ref
+    (cell.Refer (named_row assembly_ref 1) ∷ cell.Text (codes "Object") ∷ cell.Text (codes "System") ∷ [])
 
 -- a type with these flags that extends another
 abbrev pub adds_type : ℕ → List ℕ → Token → Edit
-adds_type flags name parent = adds_plain_row type_def (cell.Num flags ∷ cell.Text name ∷ cell.Text [] ∷ cell.Refer parent ∷ [])
+adds_type flags name parent = adds_plain_row type_def
+    (cell.Num flags ∷ cell.Text name ∷ cell.Text [] ∷ cell.Refer parent ∷ [])
 
 -- the method M with a number, which it returns
 abbrev pub base_method : ℕ → Edit
 base_method k = adds_method (codes "M" ++ decimal k) k
 
--- the rows of the base but for that of Module, as edits: the assembly, its type, the types <Module> and P, and a thousand methods
+-- the rows of the base but for that of Module, as edits: the assembly, its type, the types <Module> and P, and a
+-- thousand methods
 unfoldable pub base_edits : List Edit
 base_edits =
-    adds_mscorlib ∷ adds_object ∷ adds_type 0 (codes "<Module>") nil ∷ adds_type 0x100001 (codes "P") (named_row type_ref 1) ∷ map base_method (below 1000)
+    adds_mscorlib ∷ adds_object ∷ adds_type 0 (codes "<Module>") nil ∷ adds_type 0x100001 (codes "P")
+    (named_row type_ref 1) ∷ map base_method (below 1000)
 
 -- the Mvid 33221100-5544-7766-8899-aabbccddeeff
 abbrev pub base_mvid : List ℕ
-base_mvid = 0x00 ∷ 0x11 ∷ 0x22 ∷ 0x33 ∷ 0x44 ∷ 0x55 ∷ 0x66 ∷ 0x77 ∷ 0x88 ∷ 0x99 ∷ 0xAA ∷ 0xBB ∷ 0xCC ∷ 0xDD ∷ 0xEE ∷ 0xFF ∷ []
+base_mvid = 0x00 ∷ 0x11 ∷ 0x22 ∷ 0x33 ∷ 0x44 ∷ 0x55 ∷ 0x66 ∷ 0x77 ∷ 0x88 ∷ 0x99 ∷ 0xAA ∷ 0xBB ∷ 0xCC ∷ 0xDD ∷ 0xEE
+    ∷ 0xFF ∷ []
 
 -- the base: the module `g.dll` with these rows
 unfoldable pub generated_base : Module
@@ -85,7 +93,8 @@ pub data Turn : Type 0 where
   adds : ℕ → Turn
   replaces : ℕ → ℕ → Turn
 
--- the turn that is drawn where there are so many methods: the state is that of its first draw, and each further draw makes a step
+-- the turn that is drawn where there are so many methods: the state is that of its first draw, and each further draw
+-- makes a step
 abbrev pub turn_drawn : ℕ → ℕ → Turn
 turn_drawn methods x =
     if drawn 4 x == 3 then adds (drawn 1000000 (next_state x))
@@ -116,7 +125,8 @@ name_added list turn = codes "A" ++ decimal list ++ codes "_" ++ decimal turn
 -- the edit of a turn behind others; none where one of them was about its method
 abbrev pub edit_of_turn : ℕ → List Turn → Turn → List Edit
 edit_of_turn list before (adds n) = adds_method (name_added list (length before + 1)) n ∷ []
-edit_of_turn list before (replaces row n) = if list_any (is_of_row row) before then [] else Replace (named_row method_def row) (body_loading n) [] ∷ []
+edit_of_turn list before (replaces row n) =
+    if list_any (is_of_row row) before then [] else Replace (named_row method_def row) (body_loading n) [] ∷ []
 
 -- the edits of turns behind others
 unfoldable pub edits_of_turns : ℕ → List Turn → List Turn → List Edit
@@ -125,7 +135,11 @@ edits_of_turns list before (t ∷ turns) = edit_of_turn list before t ++ edits_o
 
 -- the list with a number: its EncId is that number and fifteen bytes 1, and it has no documents
 abbrev pub list_of_turns : ℕ → List Turn → EditList
-list_of_turns list turns = record { enc_id = list ∷ replicate 15 1; edits = edits_of_turns list [] turns; documents = [] }
+list_of_turns list turns = record {
+  enc_id = list ∷ replicate 15 1;
+  edits = edits_of_turns list [] turns;
+  documents = [];
+}
 
 -- how many methods turns add
 abbrev pub is_adding : Turn → Bool
@@ -139,7 +153,8 @@ methods_added turns = length (filter is_adding turns)
 unfoldable pub lists_from : ℕ → ℕ → ℕ → ℕ → List EditList
 lists_from list zero methods x = []
 lists_from list (suc count) methods x =
-    list_of_turns list (turns_from methods 20 x) ∷ lists_from (list + 1) count (methods + methods_added (turns_from methods 20 x)) (state_after 20 x)
+    list_of_turns list (turns_from methods 20 x) ∷ lists_from (list + 1) count
+    (methods + methods_added (turns_from methods 20 x)) (state_after 20 x)
 
 -- the lists of a case
 abbrev pub generated_lists : ℕ → ℕ → List EditList

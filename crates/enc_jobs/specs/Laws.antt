@@ -53,20 +53,24 @@ targets_begin starts _ = true
 
 -- and so it is of each instruction that is read
 abbrev pub TargetsBegin : Type 0
-TargetsBegin = (d : Data) (c : Code) → code_said d ≡ Some c → list_all (λ (i : InstrValue). targets_begin c.offsets.starts i.arg) c.instrs ≡ true
+TargetsBegin = (d : Data) (c : Code) → code_said d ≡ Some c
+    → list_all (λ (i : InstrValue). targets_begin c.offsets.starts i.arg) c.instrs ≡ true
 
 -- each list of a case is of the form
 abbrev pub GeneratedFits : Type 0
-GeneratedFits = (start count j : ℕ) (l : EditList) → count ≤ 64 → slice_get (generated_lists start count) j ≡ Some l → list_fits l ≡ true
+GeneratedFits = (start count j : ℕ) (l : EditList) → count ≤ 64 → slice_get (generated_lists start count) j ≡ Some l
+    → list_fits l ≡ true
 
 -- each of its points stands in the code of its body
 abbrev pub GeneratedLie : Type 0
-GeneratedLie = (start count j : ℕ) (l : EditList) → slice_get (generated_lists start count) j ≡ Some l → list_all points_lie_within l.edits ≡ true
+GeneratedLie = (start count j : ℕ) (l : EditList) → slice_get (generated_lists start count) j ≡ Some l
+    → list_all points_lie_within l.edits ≡ true
 
 -- and it tells no point: a method of which nothing was known stays so, whatever methods its edits are about
 abbrev pub GeneratedTellsNothing : Type 0
 GeneratedTellsNothing = (start count j : ℕ) (l : EditList) (before : PlainPdb) (methods : List Token) (method : Token)
-    → slice_get (generated_lists start count) j ≡ Some l → before method ≡ unknown → pdb_edited before methods l method ≡ unknown
+    → slice_get (generated_lists start count) j ≡ Some l → before method ≡ unknown
+    → pdb_edited before methods l method ≡ unknown
 
 -- and it may be applied to the module that stands before it
 abbrev pub GeneratedMayApply : Type 0
@@ -84,7 +88,8 @@ pub record AreLittle (lists : ℕ) (h : HeapLengths) : Type 0 where
   pub blobs : h.blobs ≤ 2 ^ 20 + 2 ^ 13 * lists
   pub guids : h.guids ≤ 2 ^ 20 + 2 ^ 13 * lists
 
--- a chain of the generated base and deltas of these lists: its module is the base with the lists made directly, its EncIds are theirs, and its heaps are little
+-- a chain of the generated base and deltas of these lists: its module is the base with the lists made directly, its
+-- EncIds are theirs, and its heaps are little
 pub record IsDrawnChain (lists : List EditList) (c : Chain) : Type 0 where
   pub plain : c.plain ≡ edited_by generated_base lists
   pub ids : c.ids ≡ map (λ (l : EditList). l.enc_id) lists
@@ -92,12 +97,14 @@ pub record IsDrawnChain (lists : List EditList) (c : Chain) : Type 0 where
 
 -- no list of a case breaks a rule after those before it
 abbrev pub GeneratedObeys : Type 0
-GeneratedObeys = (start count j : ℕ) (l : EditList) (c : Chain) → count ≤ 64 → slice_get (generated_lists start count) j ≡ Some l
+GeneratedObeys = (start count j : ℕ) (l : EditList) (c : Chain) → count ≤ 64
+    → slice_get (generated_lists start count) j ≡ Some l
     → IsDrawnChain (take j (generated_lists start count)) c → first_edit c l ≡ None
 
 -- its delta's heaps, behind those of such a chain, are little
 abbrev pub GeneratedStaysLittle : Type 0
-GeneratedStaysLittle = (start count j : ℕ) (l : EditList) (c : Chain) → count ≤ 64 → slice_get (generated_lists start count) j ≡ Some l
+GeneratedStaysLittle = (start count j : ℕ) (l : EditList) (c : Chain) → count ≤ 64
+    → slice_get (generated_lists start count) j ≡ Some l
     → IsDrawnChain (take j (generated_lists start count)) c
     → AreLittle (j + 1) (joined_lengths (heaps_joined c.heaps (with_guid (heaps_with c l.edits l.edits) l.enc_id)))
 
@@ -113,7 +120,9 @@ names_a_delta _ = true
 
 -- a script that a text says isn't too long, and each name of a delta in it is one
 abbrev pub ScriptIsShort : Type 0
-ScriptIsShort = (text : List ℕ) (commands : List Command) → script_said text ≡ Ok commands → length commands ≤ most_commands
+ScriptIsShort = (text : List ℕ) (commands : List Command) → script_said text ≡ Ok commands
+    → length commands ≤ most_commands
 
 abbrev pub ScriptNamesDeltas : Type 0
-ScriptNamesDeltas = (text : List ℕ) (commands : List Command) → script_said text ≡ Ok commands → list_all names_a_delta commands ≡ true
+ScriptNamesDeltas = (text : List ℕ) (commands : List Command) → script_said text ≡ Ok commands
+    → list_all names_a_delta commands ≡ true

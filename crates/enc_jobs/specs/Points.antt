@@ -28,13 +28,15 @@ shown_said starts d = if has_only (codes "at" ∷ codes "document" ∷ codes "fr
 
 -- a point behind one of this document
 unfoldable pub point_said : List ℕ → ℕ → Data → Option Point
-point_said starts document d = if is_some (get (codes "hidden") d) then hidden_said starts document d else shown_said starts d
+point_said starts document d =
+    if is_some (get (codes "hidden") d) then hidden_said starts document d else shown_said starts d
 
 -- the points behind one of this document: each hidden one is of the document of the point before it
 unfoldable pub points_from : List ℕ → ℕ → List Data → Option (List Point)
 points_from starts document [] = Some []
 points_from starts document (d ∷ ds) =
-    option_and_then (λ (p : Point). option_map (λ ps. p ∷ ps) (points_from starts p.document ds)) (point_said starts document d)
+    option_and_then (λ (p : Point). option_map (λ ps. p ∷ ps) (points_from starts p.document ds))
+    (point_said starts document d)
 
 -- the points of a method, whose instructions begin here; the first may be a hidden one of document 1
 unfoldable pub points_said : List ℕ → Option Data → Option (List Point)

@@ -123,7 +123,8 @@ command_said d = (get (codes "do") d >>= as_str) >>= command_of_kind d
 -- the commands of an array, of which there may not be too many
 abbrev pub commands_of_items : Option (List Data) → Result (List Command) JobFault
 commands_of_items None = Err (J2 0)
-commands_of_items (Some items) = if nat_lt most_commands (length items) then Err L3 else read_in_turn command_said 1 items
+commands_of_items (Some items) =
+    if nat_lt most_commands (length items) then Err L3 else read_in_turn command_said 1 items
 
 -- a text that has no value is no JSON
 abbrev pub commands_of_value : Option Data → Result (List Command) JobFault

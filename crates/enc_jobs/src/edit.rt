@@ -31,7 +31,7 @@ fn has_this_name(name: &str, table: u8) -> bool
 }
 
 /// The table with a name.
-#[tactic(auto, using(enc_base::proofs::First::first_none, enc_base::proofs::First::first_more, enc_base::proofs::First::first_found), unfolding(crate::specs::Edits::table_named))]
+#[tactic(auto, using(enc_base::proofs::First::first_steps), unfolding(crate::specs::Edits::table_named))]
 fn table_of(name: &str) -> Option<u8>
     ensures { result ≡ table_named name.now }
 {

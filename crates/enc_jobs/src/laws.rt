@@ -31,7 +31,8 @@ pub fn generated_laws()
     ensures apply { GeneratedMayApply }
 {}
 
-/// A case is little: the base, whatever is drawn; and no list of it breaks a rule behind those before it, no heap of its
+/// A case is little: the base, whatever is drawn; and no list of it breaks a rule behind those before it, no heap
+/// of its
 /// deltas comes near a limit, and the module with the first of its lists can be written.
 pub fn case_laws()
     ensures base { BaseIsLittle }

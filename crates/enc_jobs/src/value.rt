@@ -19,7 +19,8 @@ use uuid::Uuid;
 /// The elements of an array.
 #[tactic(auto, using(crate::proofs::Values::elements_seen), unfolding(crate::specs::Json::elements_of))]
 pub fn elements(value: &Value) -> Result<&[Value], Refused>
-    ensures { ReadsAs (result_map_both (λ (s : Bor (List TheValue)). map view s.now) (λ e. e) result) (elements_of (view value.now)) }
+    ensures { ReadsAs (result_map_both (λ (s : Bor (List TheValue)). map view s.now) (λ e. e) result)
+        (elements_of (view value.now)) }
 {
     match value.as_array() {
         Some(items) => Ok(items.as_slice()),
@@ -37,7 +38,8 @@ fn is_one_of(names: &[&str], text: &str) -> bool
 /// Whether each key is among these.
 #[tactic(auto, using(crate::proofs::Values::keys_seen))]
 fn are_among(names: &[&str], members: &Map<String, Value>) -> bool
-    ensures { result ≡ list_all (is_one_of (map (λ (s : Bor (List ℕ)). s.now) names.now)) (keys_in (members_view members.now.entries)) }
+    ensures { result ≡ list_all (is_one_of (map (λ (s : Bor (List ℕ)). s.now) names.now))
+        (keys_in (members_view members.now.entries)) }
 {
     for key in members.keys() {
         if !is_one_of(names, key.as_str()) {
@@ -60,7 +62,8 @@ pub fn has_only(value: &Value, names: &[&str]) -> bool
 
 /// The value at a key.
 pub fn at_key<'v>(value: &'v Value, name: &str) -> Result<&'v Value, Refused>
-    ensures { ReadsAs (result_map_both (λ (v : Bor TheValue). view v.now) (λ e. e) result) (get name.now (view value.now)) }
+    ensures { ReadsAs (result_map_both (λ (v : Bor TheValue). view v.now) (λ e. e) result)
+        (get name.now (view value.now)) }
 {
     match value.get(name) {
         Some(found) => Ok(found),

@@ -8,7 +8,8 @@ use Rattle.enc_sigs.specs.Grammar.{is_coded, sig_in}
 use Rattle.enc_sigs.specs.Tree.{Tree, Forest, none, more, SigTree}
 use Rattle.enc_sigs.specs.declared.kind.SigKind.TheVariants as sigs
 
--- the kind of a type by its first byte: truth values, characters, integers, text, class, object, array of one dimension; all others have none
+-- the kind of a type by its first byte: truth values, characters, integers, text, class, object, array of one
+-- dimension; all others have none
 unfoldable pub kind_of_element : ℕ → Option Kind
 kind_of_element e =
     if e == 0x02 then Some kind.U1
@@ -57,7 +58,8 @@ gives_of t = if t.element == 0x01 then Some None else option_map Some (kind_of_t
 abbrev pub shape_of_parts : Bool → List Tree → Option CallShape
 shape_of_parts this [] = None
 shape_of_parts this (t ∷ params) =
-    option_and_then (λ gives. option_map (λ takes. record { this = this; gives = gives; takes = takes }) (answers_of kind_of_parameter params)) (gives_of t)
+    option_and_then (λ gives. option_map (λ takes. record { this = this; gives = gives; takes = takes })
+    (answers_of kind_of_parameter params)) (gives_of t)
 
 -- a method of the plain calling convention, without generic parameters, all of whose types have kinds
 unfoldable pub shape_of_tree : SigTree → Option CallShape
@@ -74,7 +76,8 @@ is_single _ = false
 
 -- a method without an object and without parameters, whatever it gives
 unfoldable pub takes_nothing : List ℕ → Bool
-takes_nothing blob = option_map_or (λ (s : SigTree). not (has_flag 0x20 s.kind) && is_single s.parts) (sig_in is_coded sigs.Method blob) false
+takes_nothing blob = option_map_or (λ (s : SigTree). not (has_flag 0x20 s.kind) && is_single s.parts)
+    (sig_in is_coded sigs.Method blob) false
 
 -- the kind of a field (II.23.2.4)
 abbrev pub kind_of_first : List Tree → Option Kind
@@ -86,4 +89,5 @@ field_kind_in blob = option_and_then (λ (s : SigTree). kind_of_first s.parts) (
 
 -- the kinds of local variables (II.23.2.6)
 unfoldable pub local_kinds_in : List ℕ → Option (List Kind)
-local_kinds_in blob = option_and_then (λ (s : SigTree). answers_of kind_of_tree s.parts) (sig_in is_coded sigs.Locals blob)
+local_kinds_in blob = option_and_then (λ (s : SigTree). answers_of kind_of_tree s.parts)
+    (sig_in is_coded sigs.Locals blob)

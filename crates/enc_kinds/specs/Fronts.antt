@@ -9,7 +9,8 @@ use Rattle.enc_kinds.specs.Elements.{kind_of_element}
 -- the kind of the type at the front
 unfoldable pub kind_front : Reader Kind
 kind_front bytes =
-    option_and_then (λ (p : ℕ × List ℕ). option_map (λ (k : Kind). (k, p.1)) (kind_of_element p.0)) (element_front (type_in is_coded bytes))
+    option_and_then (λ (p : ℕ × List ℕ). option_map (λ (k : Kind). (k, p.1)) (kind_of_element p.0))
+    (element_front (type_in is_coded bytes))
 
 -- what is behind the sentinel that may stand at the front (II.23.2.2)
 abbrev pub past_sentinel : List ℕ → List ℕ

@@ -24,7 +24,8 @@ field_kind m field = field_kind_in (bytes_at (cells_of m) field columns.field_si
 unfoldable pub local_kinds : Module → Token → Option (List Kind)
 local_kinds m locals =
     if locals.row == 0 then Some []
-    else if locals.table == tables.stand_alone_sig then local_kinds_in (bytes_at (cells_of m) locals columns.stand_alone_sig_signature)
+    else if locals.table == tables.stand_alone_sig
+    then local_kinds_in (bytes_at (cells_of m) locals columns.stand_alone_sig_signature)
     else None
 
 -- the method is static (II.23.1.10)
@@ -40,7 +41,8 @@ is_constructor m method = is_named_as m (codes ".ctor") method
 
 unfoldable pub is_type_constructor : Module → Token → Bool
 is_type_constructor m method =
-    is_named_as m (codes ".cctor") method && is_static_method m method && takes_nothing (bytes_at (cells_of m) method columns.method_def_signature)
+    is_named_as m (codes ".cctor") method && is_static_method m method
+    && takes_nothing (bytes_at (cells_of m) method columns.method_def_signature)
 
 -- a method by its row
 abbrev pub method_of_row : ℕ → Token
@@ -48,12 +50,14 @@ method_of_row row = record { table = tables.method_def; row = row }
 
 -- the first constructor of a type among rows of methods
 abbrev pub constructor_among : Module → List ℕ → Option Token
-constructor_among m rows = option_map method_of_row (slice_get (filter (λ (row : ℕ). is_type_constructor m (method_of_row row)) rows) 0)
+constructor_among m rows = option_map method_of_row
+    (slice_get (filter (λ (row : ℕ). is_type_constructor m (method_of_row row)) rows) 0)
 
 -- the first constructor of a type, in order of attachment
 unfoldable pub type_constructor : Module → Token → Option Token
 type_constructor m type =
-    option_map method_of_row (slice_get (filter (λ (row : ℕ). is_type_constructor m (method_of_row row)) (kids_of m type tables.method_def)) 0)
+    option_map method_of_row (slice_get
+    (filter (λ (row : ℕ). is_type_constructor m (method_of_row row)) (kids_of m type tables.method_def)) 0)
 
 -- the body of a method
 abbrev pub body_of_cell : Option Cell → Option Body

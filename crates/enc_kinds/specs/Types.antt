@@ -17,8 +17,14 @@ found name (x ∷ rest) = if bytes_eq name x.0 then Some x.1 else found name res
 -- the kinds of the types that the namespace System has under these names
 abbrev pub system_kinds : List (List ℕ × Kind)
 system_kinds =
-    (codes "Boolean", kind.U1) ∷ (codes "Char", kind.U2) ∷ (codes "SByte", kind.I1) ∷ (codes "Byte", kind.U1) ∷ (codes "Int16", kind.I2)
-    ∷ (codes "UInt16", kind.U2) ∷ (codes "Int32", kind.I4) ∷ (codes "UInt32", kind.U4) ∷ (codes "Int64", kind.I8) ∷ (codes "UInt64", kind.U8)
+    (codes "Boolean", kind.U1) ∷ (codes "Char", kind.U2) ∷ (codes "SByte", kind.I1) ∷ (
+      codes "Byte",
+      kind.U1,
+    ) ∷ (codes "Int16", kind.I2)
+    ∷ (codes "UInt16", kind.U2) ∷ (codes "Int32", kind.I4) ∷ (codes "UInt32", kind.U4) ∷ (
+      codes "Int64",
+      kind.I8,
+    ) ∷ (codes "UInt64", kind.U8)
     ∷ (codes "String", kind.Ref) ∷ (codes "Object", kind.Ref) ∷ []
 
 -- the kind of a TypeRef: by its name in the namespace System, whatever its scope
@@ -28,7 +34,8 @@ reference_kind m t =
     then found (bytes_at (cells_of m) t columns.type_ref_type_name) system_kinds
     else None
 
--- the kind of a type: a TypeDef is a class, unless it is a value type; another token than of TypeRef and TypeDef has none
+-- the kind of a type: a TypeDef is a class, unless it is a value type; another token than of TypeRef and TypeDef has
+-- none
 unfoldable pub type_kind : Module → Token → Option Kind
 type_kind m t =
     if t.table == tables.type_ref then reference_kind m t

@@ -34,7 +34,7 @@ static MEMBERS: [MemberRow; 11] = [
 
 /// Whether a row of MemberRef is this member: by the names of its parent, its name and its signature
 /// (ECMA-335 II.22.25).
-#[tactic(auto, using(enc_plain::proofs::ColumnKinds::member_class, enc_plain::proofs::ColumnKinds::member_name, enc_plain::proofs::ColumnKinds::member_signature), unfolding(crate::specs::Outside::is_system_member))]
+#[tactic(auto, using(enc_plain::proofs::ColumnKinds::member_steps), unfolding(crate::specs::Outside::is_system_member))]
 fn is_system_member<V: ModuleView>(view: &V, token: Token, row: &MemberRow) -> bool
     requires { token.table ≡ member_ref }
     ensures { result ≡ is_system_member (V.meaning view.now) token (member_seen row.now) }

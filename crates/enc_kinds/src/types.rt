@@ -44,7 +44,7 @@ fn found(name: &[u8], rows: &[SystemKind]) -> Option<Kind>
 
 /// The kind of a TypeRef by its name, where it is of the namespace System, whatever its scope (ECMA-335
 /// II.22.38).
-#[tactic(auto, using(enc_plain::proofs::ColumnKinds::reference_name, enc_plain::proofs::ColumnKinds::reference_space), unfolding(crate::specs::Types::reference_kind))]
+#[tactic(auto, using(enc_plain::proofs::ColumnKinds::reference_steps), unfolding(crate::specs::Types::reference_kind))]
 fn reference_kind<V: ModuleView>(view: &V, token: Token) -> Option<Kind>
     requires { token.table ≡ type_ref }
     ensures { result ≡ reference_kind (V.meaning view.now) token }

@@ -7,7 +7,8 @@ use Rattle.enc_schema.specs.Tables as tables
 
 -- the method that a row of MethodDef stands for: the n-th of some, n from 1; nil where there is none
 unfoldable pub nth_listed : List Token → Token → Token
-nth_listed methods t = if t.table == tables.method_def && not (t.row == 0) then unwrap_or (slice_get methods (t.row - 1)) nil else nil
+nth_listed methods t = if t.table == tables.method_def
+    && not (t.row == 0) then unwrap_or (slice_get methods (t.row - 1)) nil else nil
 
 -- the plain PDB by these rows
 abbrev pub debug_of_rows : List Token → PlainPdb → PlainPdb

@@ -71,7 +71,8 @@ heaps_put x = record {
 -- the numbers of the tokens that one of the two lists, rising
 pub record AreOfEither (first second : Source) (numbers : List ℕ) : Type 0 where
   pub rises : IsStrictlyIncreasing numbers
-  pub each : (n : ℕ) → stands_in numbers n ≡ (stands_in (map number_of (listed first)) n || stands_in (map number_of (listed second)) n)
+  pub each : (n : ℕ) → stands_in numbers n
+      ≡ (stands_in (map number_of (listed first)) n || stands_in (map number_of (listed second)) n)
 
 -- their tokens
 abbrev pub tokens_of : List ℕ → List Token
@@ -83,25 +84,32 @@ AreRowsHeld x [] [] = Unit {0}
 AreRowsHeld x (u ∷ tokens) (r ∷ rows) = RowHeld x.chain x.first x.second u r × AreRowsHeld x tokens rows
 AreRowsHeld x _ _ = ⊥
 
--- the numbers of the Module row: the first one's generation, and the numbers of the Mvid, of the second one's EncId and of the first one's EncBaseId
+-- the numbers of the Module row: the first one's generation, and the numbers of the Mvid, of the second one's EncId
+-- and of the first one's EncBaseId
 pub record IsModuleHeld (x : Both) (number : ℕ → ℕ) : Type 0 where
   pub generation : number columns.module_generation ≡ length x.chain.ids + 1
-  pub mvid : unwrap_or (joined_guid (heaps_with_merged x.chain x.first x.second) (number columns.module_mvid)) nil_guid ≡ mvid_of x.chain
-  pub enc_id : unwrap_or (joined_guid (heaps_with_merged x.chain x.first x.second) (number columns.module_enc_id)) nil_guid
+  pub mvid : unwrap_or (joined_guid (heaps_with_merged x.chain x.first x.second) (number columns.module_mvid)) nil_guid
+      ≡ mvid_of x.chain
+  pub enc_id : unwrap_or (joined_guid (heaps_with_merged x.chain x.first x.second) (number columns.module_enc_id))
+      nil_guid
       ≡ own_guid (extended x.chain x.first) x.second columns.module_enc_id
-  pub base : unwrap_or (joined_guid (heaps_with_merged x.chain x.first x.second) (number columns.module_enc_base_id)) nil_guid
+  pub base : unwrap_or (joined_guid (heaps_with_merged x.chain x.first x.second) (number columns.module_enc_base_id))
+      nil_guid
       ≡ id_of x.chain (length x.chain.ids)
 
 -- the rows of the merged delta
 pub record AreBothTables (x : Both) (numbers : List ℕ) (rows : List (List (List ℕ))) : Type 0 where
-  pub listed : (table : ℕ) → has_tokens table ≡ true → AreRowsHeld x (of_table table (tokens_of numbers)) (rows_at rows table)
+  pub listed : (table : ℕ) → has_tokens table ≡ true
+      → AreRowsHeld x (of_table table (tokens_of numbers)) (rows_at rows table)
   pub single : (row : List ℕ) × ((rows_at rows tables.«module» ≡ row ∷ []) × IsModuleHeld x (slice_index row))
   pub log : rows_at rows tables.enc_log ≡ map entry_numbers (counted (log_in x.first) ++ counted (log_in x.second))
   pub map_ : rows_at rows tables.enc_map ≡ map (λ (n : ℕ). n ∷ []) numbers
 
--- the newest row of a token: where the second lists it, its own row there, and the bodies move; else that of the first, whose bodies stay
+-- the newest row of a token: where the second lists it, its own row there, and the bodies move; else that of the
+-- first, whose bodies stay
 pub record IsNewest (x : Both) (u : Token) (n : Newest) : Type 0 where
-  pub second : is_in_map x.second u ≡ true → (n.delta.now ≡ x.second) × ((n.row ≡ own_row x.second u) × (n.shift ≡ shift_of x.first))
+  pub second : is_in_map x.second u ≡ true
+      → (n.delta.now ≡ x.second) × ((n.row ≡ own_row x.second u) × (n.shift ≡ shift_of x.first))
   pub first : is_in_map x.second u ≡ false → (n.delta.now ≡ x.first) × ((n.row ≡ own_row x.first u) × (n.shift ≡ 0))
 
 -- the first numbers of a row are those of both for a token
@@ -138,12 +146,14 @@ pub record IsReadAsBoth (x : Both) (bytes : List ℕ) : Type 0 where
   pub numbers : HasNumbersOfBoth x.chain x.first x.second source
 
 abbrev pub MetadataIsRead : Type 0
-MetadataIsRead = (h : History) (x : Both) (bytes : List ℕ) → AreLast h x → IsShallow (chain_of_both x).plain → IsMetadataOfBoth x bytes → IsReadAsBoth x bytes
+MetadataIsRead = (h : History) (x : Both) (bytes : List ℕ) → AreLast h x → IsShallow (chain_of_both x).plain
+    → IsMetadataOfBoth x bytes → IsReadAsBoth x bytes
 
 -- one of the two changes what is known of a method: it has a new body in it, or its PDB has a row for it
 unfoldable pub changes_debug : Both → PdbHistory → Token → Bool
 changes_debug x p m =
-    is_some (new_code x.second m) || is_some (new_code x.first m) || is_named_by (slice_get p.deltas 0) m || is_named_by (slice_get p.deltas 1) m
+    is_some (new_code x.second m) || is_some (new_code x.first m) || is_named_by (slice_get p.deltas 0) m
+    || is_named_by (slice_get p.deltas 1) m
 
 -- the PDB isn't too heavy, or it is; want of memory tells nothing
 abbrev pub TellsWeight : Result (Unit {0}) MergeFault → ℕ → Type 0
@@ -159,7 +169,8 @@ methods_changed x p = filter (changes_debug x p) (methods_listed x.chain x.first
 -- the PDB has a row for each of them, and says what is known of it
 abbrev pub IsPdbOfBoth : Both → PdbHistory → List ℕ → Type 0
 IsPdbOfBoth x p bytes =
-    SaysMethods (debug_of_rows (methods_changed x p) (pdb_with p.base p.deltas)) (map (λ (t : Token). t.row) (methods_changed x p)) bytes
+    SaysMethods (debug_of_rows (methods_changed x p) (pdb_with p.base p.deltas))
+    (map (λ (t : Token). t.row) (methods_changed x p)) bytes
 
 -- the files hold what the two say
 pub record IsFilesOfBoth (x : Both) (p : PdbHistory) (d : DeltaBytes) : Type 0 where
@@ -171,6 +182,7 @@ pub record IsFilesOfBoth (x : Both) (p : PdbHistory) (d : DeltaBytes) : Type 0 w
 abbrev pub FilesOfBothStand : Type 0
 FilesOfBothStand =
     (h : History) (p : PdbHistory) (x : Both) (d : DeltaBytes) (first second : DebugDelta) (older : List DebugDelta)
-    → AreLast h x → IsShallow (chain_of_both x).plain → p.deltas ≡ second ∷ first ∷ older → GoesWith x.second second → GoesWith x.first first
+    → AreLast h x → IsShallow (chain_of_both x).plain → p.deltas ≡ second ∷ first ∷ older → GoesWith x.second second
+    → GoesWith x.first first
     → IsFilesOfBoth x p d
     → StandsForBoth x.chain x.first x.second (pdb_with p.base older) (pdb_with p.base p.deltas) d

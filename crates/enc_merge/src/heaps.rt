@@ -14,7 +14,8 @@ use std::alloc::{AllocError, Global};
 
 /// The bytes of a heap of both, one behind the other.
 fn joined(alloc: Global, last: &Last<'_>, stream: StreamName) -> Result<Bytes, AllocError>
-    ensures { IfOk result (λ b. b ≡ stream_counted stream last.now.first.heaps ++ stream_counted stream last.now.second.heaps) }
+    ensures { IfOk result (λ b. b ≡ stream_counted stream last.now.first.heaps
+        ++ stream_counted stream last.now.second.heaps) }
 {
     let mut bytes = Vec::new(alloc);
     bytes.extend_from_slice(last.first_heap(stream))?;

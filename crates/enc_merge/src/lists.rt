@@ -54,7 +54,8 @@ fn push_number(number: u32, tables: &mut TableBuilder) -> Result<(), AllocError>
 /// Adds EncMap.
 pub(crate) fn push_map(numbers: &[u32], tables: &mut TableBuilder) -> Result<(), AllocError>
     requires few { count_at tables.old enc_map + length numbers.now < 2 ^ 24 }
-    ensures pushed { OnOk result (rows_at tables.new enc_map ≡ rows_at tables.old enc_map ++ map (λ (n : ℕ). n ∷ []) numbers.now) }
+    ensures pushed { OnOk result (rows_at tables.new enc_map
+        ≡ rows_at tables.old enc_map ++ map (λ (n : ℕ). n ∷ []) numbers.now) }
     ensures others { OnOk result (StayBut enc_map tables.old tables.new) }
 {
     for k in 0..numbers.len() {
@@ -86,7 +87,8 @@ fn push_entry(entry: Entry, tables: &mut TableBuilder) -> Result<(), AllocError>
 fn push_if_counted(entry: Entry, tables: &mut TableBuilder) -> Result<(), AllocError>
     requires number { entry.token.row < 2 ^ 24 }
     requires few { count_at tables.old enc_log + length (counted (entry ∷ [])) < 2 ^ 24 }
-    ensures pushed { OnOk result (rows_at tables.new enc_log ≡ rows_at tables.old enc_log ++ map entry_numbers (counted (entry ∷ []))) }
+    ensures pushed { OnOk result (rows_at tables.new enc_log ≡ rows_at tables.old enc_log ++ map entry_numbers
+        (counted (entry ∷ []))) }
     ensures others { OnOk result (StayBut enc_log tables.old tables.new) }
 {
     if !counts(entry) {
@@ -98,7 +100,8 @@ fn push_if_counted(entry: Entry, tables: &mut TableBuilder) -> Result<(), AllocE
 /// Adds the entries of a delta's EncLog that count.
 fn push_entries(alloc: Global, delta: &Delta, tables: &mut TableBuilder) -> Result<(), AllocError>
     requires few { count_at tables.old enc_log + length (counted (log_in delta.now)) < 2 ^ 24 }
-    ensures pushed { OnOk result (rows_at tables.new enc_log ≡ rows_at tables.old enc_log ++ map entry_numbers (counted (log_in delta.now))) }
+    ensures pushed { OnOk result (rows_at tables.new enc_log ≡ rows_at tables.old enc_log ++ map entry_numbers
+        (counted (log_in delta.now))) }
     ensures others { OnOk result (StayBut enc_log tables.old tables.new) }
 {
     let log = log_of(delta, alloc)?;
@@ -115,8 +118,10 @@ pub(crate) fn push_log(
     second: &Delta,
     tables: &mut TableBuilder,
 ) -> Result<(), AllocError>
-    requires few { count_at tables.old enc_log + length (counted (log_in first.now)) + length (counted (log_in second.now)) < 2 ^ 24 }
-    ensures pushed { OnOk result (rows_at tables.new enc_log ≡ rows_at tables.old enc_log ++ map entry_numbers (counted (log_in first.now) ++ counted (log_in second.now))) }
+    requires few { count_at tables.old enc_log + length (counted (log_in first.now)) + length
+        (counted (log_in second.now)) < 2 ^ 24 }
+    ensures pushed { OnOk result (rows_at tables.new enc_log ≡ rows_at tables.old enc_log ++ map entry_numbers
+        (counted (log_in first.now) ++ counted (log_in second.now))) }
     ensures others { OnOk result (StayBut enc_log tables.old tables.new) }
 {
     push_entries(alloc, first, tables)?;

@@ -35,7 +35,8 @@ fn files_of(
     requires numbers { AreOfEither last.now.first last.now.second numbers.now }
     requires methods { methods.now ≡ methods_listed last.now.chain last.now.first last.now.second }
     requires shallow { IsShallow (chain_of_both last.now).plain }
-    requires light { nat_lt most_pdb_weight (weight_of_both last.now.chain last.now.first last.now.second (pdb_with points.now.base points.now.deltas)) ≡ false }
+    requires light { nat_lt most_pdb_weight (weight_of_both last.now.chain last.now.first last.now.second
+        (pdb_with points.now.base points.now.deltas)) ≡ false }
     ensures { IfOk result (λ d. IsFilesOfBoth last.now points.now d) }
 {
     let meta = metadata_merged(alloc, last, numbers)?;

@@ -22,7 +22,8 @@ const MODULE_ROW: Token = Token {
 
 /// The number of a GUID of a delta's Module row; 0, which is nil, where it can't be read.
 fn guid_number(delta: &Delta, column: u8) -> u32
-    ensures { result ≡ (if nat_lt (length delta.now.heaps.guids / 16) (raw_in delta.now module_token column) then 0 else raw_in delta.now module_token column) }
+    ensures { result ≡ (if nat_lt (length delta.now.heaps.guids / 16) (raw_in delta.now module_token column) then 0
+        else raw_in delta.now module_token column) }
 {
     let number = delta.cell(MODULE_ROW, column);
     if number > delta.lengths().guids {
@@ -36,7 +37,8 @@ fn guid_number(delta: &Delta, column: u8) -> u32
 #[tactic(auto, using(crate::proofs::ModuleNumbers::some_columns, crate::proofs::ModuleNumbers::five_columns))]
 pub(crate) fn push_module(last: &Last<'_>, tables: &mut TableBuilder) -> Result<(), AllocError>
     requires none { rows_at tables.old «module» ≡ [] }
-    ensures single { OnOk result ((row : List ℕ) × ((rows_at tables.new «module» ≡ row ∷ []) × IsModuleHeld last.now (slice_index row))) }
+    ensures single { OnOk result ((row : List ℕ)
+        × ((rows_at tables.new «module» ≡ row ∷ []) × IsModuleHeld last.now (slice_index row))) }
     ensures others { OnOk result (StayBut «module» tables.old tables.new) }
 {
     last.aggregate();

@@ -27,7 +27,8 @@ pub(crate) fn weigh(
     methods: &[Token],
 ) -> Result<(), MergeFault>
     requires { methods.now ≡ methods_listed last.now.chain last.now.first last.now.second }
-    ensures { TellsWeight result (weight_of_both last.now.chain last.now.first last.now.second (pdb_with points.now.base points.now.deltas)) }
+    ensures { TellsWeight result (weight_of_both last.now.chain last.now.first last.now.second
+        (pdb_with points.now.base points.now.deltas)) }
 {
     last.aggregate();
     points.sound();
@@ -60,7 +61,8 @@ pub(crate) fn pdb_merged(
     methods: &[Token],
 ) -> Result<Vec<u8>, AllocError>
     requires methods { methods.now ≡ methods_listed last.now.chain last.now.first last.now.second }
-    requires light { nat_lt most_pdb_weight (weight_of_both last.now.chain last.now.first last.now.second (pdb_with points.now.base points.now.deltas)) ≡ false }
+    requires light { nat_lt most_pdb_weight (weight_of_both last.now.chain last.now.first last.now.second
+        (pdb_with points.now.base points.now.deltas)) ≡ false }
     ensures { IfOk result (λ v. IsPdbOfBoth last.now points.now v.items) }
 {
     last.aggregate();

@@ -1,4 +1,5 @@
--- The numbers in the rows of the merged delta: those of the newest row of each token, moved to where texts and bodies stand now.
+-- The numbers in the rows of the merged delta: those of the newest row of each token, moved to where texts and
+-- bodies stand now.
 use Rattle.std.specs.Prelude.{◌≡◌, ◌⊎◌, ◌≤◌, ℕ, zero, suc, ◌+◌, ◌^◌, true, false, List, [], ◌∷◌, ◌++◌, length, Option, Some, if◌then◌else◌, slice_get}
 use Rattle.enc_base.specs.Numbers.{padded}
 use Rattle.enc_base.specs.declared.token.Token.{Token}
@@ -51,10 +52,13 @@ reading_merged c a b = record {
   field = λ row. [];
 }
 
--- a number says the cell that a token has after both; where it is a body's place, it is 0 or a good body stands there; and it fits its column
+-- a number says the cell that a token has after both; where it is a body's place, it is 0 or a good body stands
+-- there; and it fits its column
 pub record NumberHeld (c : Chain) (a b : Source) (u : Token) (i : ℕ) (column : Column) (x : ℕ) : Type 0 where
-  pub says : (k : Kind) → kind_in u.table i ≡ Some k → cell_with (reading_merged c a b) u i column x ≡ cell_of (after_both c a b).plain u i
-  pub body : is_body u.table i ≡ true → (x ≡ 0) ⊎ (code_is_good (rows_before (after_both c a b)) (joined_user (heaps_with_merged c a b)) (code_loaded (loaded_code (il_merged a b)) x) ≡ true)
+  pub says : (k : Kind) → kind_in u.table i ≡ Some k
+      → cell_with (reading_merged c a b) u i column x ≡ cell_of (after_both c a b).plain u i
+  pub body : is_body u.table i ≡ true → (x ≡ 0) ⊎ (code_is_good (rows_before (after_both c a b))
+      (joined_user (heaps_with_merged c a b)) (code_loaded (loaded_code (il_merged a b)) x) ≡ true)
   pub fit : number_fits column x ≡ true
 
 -- the number of a text: 0 where it is empty, as a zero at the end of the joined texts may not count
@@ -75,7 +79,8 @@ in_column heaps column x = x
 unfoldable pub number_moved : List Counted → ℕ → ℕ → ℕ → Column → ℕ → ℕ
 number_moved heaps shift table i column x = if is_body table i then place_moved shift x else in_column heaps column x
 
--- the number in a column of a token's newest row, moved: that of the second one's row, and where the second has none that of the first one's
+-- the number in a column of a token's newest row, moved: that of the second one's row, and where the second has none
+-- that of the first one's
 unfoldable pub number_of_both : Chain → Source → Source → Token → ℕ → Column → ℕ
 number_of_both c a b u i column =
     if is_in_map b u then number_moved (after_both c a b).heaps (shift_of a) u.table i column (raw_in b (own_row b u) i)
@@ -89,16 +94,20 @@ pub record IsNumberOfBoth (c : Chain) (a b : Source) (u : Token) (i : ℕ) (colu
 -- the numbers of a row are those of both for a token, one for each column
 pub record RowHeld (c : Chain) (a b : Source) (u : Token) (numbers : List ℕ) : Type 0 where
   pub count : length numbers ≡ length (columns_in u.table)
-  pub each : (i : ℕ) (column : Column) (x : ℕ) → column_in u.table i ≡ Some column → slice_get numbers i ≡ Some x → IsNumberOfBoth c a b u i column x
+  pub each : (i : ℕ) (column : Column) (x : ℕ) → column_in u.table i ≡ Some column → slice_get numbers i ≡ Some x
+      → IsNumberOfBoth c a b u i column x
 
 -- the code of the two isn't too long to be numbered
 abbrev pub HaveShortCode : Source → Source → Type 0
 HaveShortCode a b = length (il_of a) + length (il_of b) ≤ 2 ^ 27
 
--- the moved numbers of the second one's row for a token say its cells, and where the second has none those of the first one's
+-- the moved numbers of the second one's row for a token say its cells, and where the second has none those of the
+-- first one's
 abbrev pub NumbersAreHeld : Type 0
 NumbersAreHeld =
-    (c : Chain) (a b : Source) (u : Token) (i : ℕ) (column : Column) → MayMerge c a b → HaveShortCode a b → column_in u.table i ≡ Some column
-    → (is_in_map b u ≡ true → NumberHeld c a b u i column (number_moved (after_both c a b).heaps (shift_of a) u.table i column (raw_in b (own_row b u) i)))
+    (c : Chain) (a b : Source) (u : Token) (i : ℕ) (column : Column) → MayMerge c a b → HaveShortCode a b
+    → column_in u.table i ≡ Some column
+    → (is_in_map b u ≡ true → NumberHeld c a b u i column
+    (number_moved (after_both c a b).heaps (shift_of a) u.table i column (raw_in b (own_row b u) i)))
     × (is_in_map b u ≡ false → is_in_map a u ≡ true
     → NumberHeld c a b u i column (number_moved (after_both c a b).heaps 0 u.table i column (raw_in a (own_row a u) i)))

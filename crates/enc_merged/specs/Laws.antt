@@ -22,15 +22,19 @@ MergedFollows = (c : Chain) (a b s : Source) → MayMerge c a b → SaysMerged c
 
 -- the rows by which its updates and members are judged are those of the module after both
 abbrev pub RowsAreOfBoth : Type 0
-RowsAreOfBoth = (c : Chain) (a b s : Source) (u : Token) → MayMerge c a b → SaysMerged c a b s → rows_after c s u ≡ cells_of (after_both c a b).plain u
+RowsAreOfBoth = (c : Chain) (a b s : Source) (u : Token) → MayMerge c a b → SaysMerged c a b s
+    → rows_after c s u ≡ cells_of (after_both c a b).plain u
 
 -- its new children are those of the first and then those of the second
 abbrev pub PairsAreOfBoth : Type 0
-PairsAreOfBoth = (c : Chain) (a b s : Source) → MayMerge c a b → SaysMerged c a b s → attached_of s ≡ attached_of a ++ attached_of b
+PairsAreOfBoth = (c : Chain) (a b s : Source) → MayMerge c a b → SaysMerged c a b s
+    → attached_of s ≡ attached_of a ++ attached_of b
 
 -- it makes the module that the two make, and its EncId is the second's
 abbrev pub MergedMeans : Type 0
-MergedMeans = (c : Chain) (a b s : Source) → MayMerge c a b → SaysMerged c a b s → (extended c s).plain ≡ (after_both c a b).plain
+MergedMeans = (c : Chain) (a b s : Source) → MayMerge c a b → SaysMerged c a b s
+    → (extended c s).plain ≡ (after_both c a b).plain
 
 abbrev pub MergedIsNamed : Type 0
-MergedIsNamed = (c : Chain) (a b s : Source) → MayMerge c a b → SaysMerged c a b s → (extended c s).ids ≡ c.ids ++ own_guid (extended c a) b columns.module_enc_id ∷ []
+MergedIsNamed = (c : Chain) (a b s : Source) → MayMerge c a b → SaysMerged c a b s
+    → (extended c s).ids ≡ c.ids ++ own_guid (extended c a) b columns.module_enc_id ∷ []

@@ -28,7 +28,8 @@ use Rattle.enc_depth.specs.Depth.{IsShallow}
 abbrev pub after_both : Chain → Source → Source → Chain
 after_both c a b = extended (extended c a) b
 
--- two deltas that were read from files follow a chain whose module is sound, one after the other, and in the module after both no reference lies too deep
+-- two deltas that were read from files follow a chain whose module is sound, one after the other, and in the module
+-- after both no reference lies too deep
 pub record MayMerge (c : Chain) (a b : Source) : Type 0 where
   pub sound : IsSound c.plain
   pub first_read : WasRead a
@@ -47,9 +48,11 @@ is_in_either a b u = is_in_map a u || is_in_map b u
 
 -- the entries of the joined `#GUID`, each from the first generation that has it
 unfoldable pub guids_joined : List Counted → List ℕ
-guids_joined heaps = flat_map (λ k. unwrap_or (first_guid (map (λ (h : Counted). h.guids) heaps) k) []) (below (guid_entries heaps))
+guids_joined heaps = flat_map (λ k. unwrap_or (first_guid (map (λ (h : Counted). h.guids) heaps) k) [])
+    (below (guid_entries heaps))
 
--- the heaps of the merged delta: those of the two one behind the other, of `#Strings` the bytes that count; and each entry of `#GUID` that the chain has
+-- the heaps of the merged delta: those of the two one behind the other, of `#Strings` the bytes that count; and each
+-- entry of `#GUID` that the chain has
 unfoldable pub heaps_merged : Chain → Source → Source → Counted
 heaps_merged c a b = record {
   strings = counted_strings (a.heaps.strings ++ b.heaps.strings);
@@ -64,7 +67,8 @@ has_tokens table = not (table == tables.«module» || table == tables.enc_log ||
 
 -- the row of a token says the cells that it has after both deltas; a method has place 0, or a good body stands there
 pub record SaysRowMerged (c : Chain) (a b s : Source) (u : Token) : Type 0 where
-  pub cells : (i : ℕ) (k : Kind) → kind_in u.table i ≡ Some k → cell_after c s (own_row s u) i ≡ cell_of (after_both c a b).plain u i
+  pub cells : (i : ℕ) (k : Kind) → kind_in u.table i ≡ Some k
+      → cell_after c s (own_row s u) i ≡ cell_of (after_both c a b).plain u i
   pub body : (u.table == tables.method_def) ≡ true
       → (raw_in s (own_row s u) columns.method_def_rva ≡ 0)
       ⊎ (code_is_good (rows_before (after_both c a b)) (joined_user (c.heaps ++ s.heaps ∷ []))

@@ -1,4 +1,5 @@
-//! The rules of a delta's metadata, each kept by a delta that stands for two that break none: contracts of functions that do nothing.
+//! The rules of a delta's metadata, each kept by a delta that stands for two that break none: contracts of
+//! functions that do nothing.
 ghost use Rattle.enc_delta.specs.Rules.{other_module, not_next, other_base, id_taken, heap_fault, uneven_table, closed_table, bad_index, bad_offset, broken_body, lost_body, too_many};
 ghost use Rattle.enc_delta.specs.Judged.{late_token, skipped_row, unmatched_token, bad_entry, unowned_child};
 ghost use Rattle.enc_delta.specs.Changes.{altered_cell, field_out_of_layout, method_without_slot, twin_member, bad_signature, bad_locals};

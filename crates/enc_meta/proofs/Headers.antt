@@ -186,3 +186,5 @@ fault_found bytes first n at count next size h o before here less some none is f
 pub ruleset span_steps = (read_none, read_more, read_stops, span_none, span_found, span_more)
 
 pub ruleset fault_steps = (read_none, read_more, read_stops, fault_here, fault_found, first_none, first_more)
+
+pub ruleset read_steps = (read_none, read_more, read_stops)

@@ -1,11 +1,13 @@
--- Heaps that are written: the distinct values of each in the order of their first use, and the bytes that hold them (ECMA-335 II.24.2.3 to II.24.2.5).
+-- Heaps that are written: the distinct values of each in the order of their first use, and the bytes that hold them
+-- (ECMA-335 II.24.2.3 to II.24.2.5).
 use Rattle.std.specs.Prelude.{ℕ, ◌+◌, ◌*◌, ◌/◌, ◌%◌, ◌^◌, ◌≤◌, max, Bool, false, not, ◌&&◌, ◌||◌, List, [], ◌∷◌, ◌++◌, length, flat_map, replicate, sum_by, bytes_eq, nat_lt, nat_le, ◌==◌, if◌then◌else◌}
 use Rattle.std.specs.List.{list_any}
 use Rattle.enc_base.specs.Numbers.{spelled, is_empty}
 use Rattle.enc_meta.specs.Heaps.{Counted, nil_guid}
 use Rattle.enc_meta.specs.declared.heaps.HeapLengths.{HeapLengths}
 
--- where the heaps begin in the joined ones, and the distinct values of each that aren't empty; a user text is the bytes of its units
+-- where the heaps begin in the joined ones, and the distinct values of each that aren't empty; a user text is the
+-- bytes of its units
 pub record Built : Type 0 where
   pub starts : HeapLengths
   pub texts : List (List ℕ)
@@ -44,7 +46,8 @@ blob_bytes b = spelled (length b) ++ b
 
 -- a unit asks for the mark: it has a high byte, or is 01 to 08, 0E to 1F, 27, 2D or 7F (II.24.2.4)
 unfoldable pub asks_mark : ℕ → ℕ → Bool
-asks_mark low high = not (high == 0) || (nat_le 0x01 low && nat_le low 0x08) || (nat_le 0x0E low && nat_le low 0x1F) || low == 0x27 || low == 0x2D
+asks_mark low high = not (high == 0) || (nat_le 0x01 low && nat_le low 0x08) || (nat_le 0x0E low && nat_le low 0x1F)
+    || low == 0x27 || low == 0x2D
     || low == 0x7F
 
 abbrev pub any_asks_mark : List ℕ → Bool
@@ -64,7 +67,8 @@ unfoldable pub place_among : (List ℕ → List ℕ) → ℕ → List (List ℕ)
 place_among encode at [] v = at
 place_among encode at (w ∷ rest) v = if bytes_eq w v then at else place_among encode (at + length (encode w)) rest v
 
--- a value's offset in a heap that begins at a joined offset: 0 for the empty one, else behind one zero and the values before it
+-- a value's offset in a heap that begins at a joined offset: 0 for the empty one, else behind one zero and the
+-- values before it
 unfoldable pub offset_in : (List ℕ → List ℕ) → ℕ → List (List ℕ) → List ℕ → ℕ
 offset_in encode start values v = if is_empty v then 0 else place_among encode (start + 1) values v
 
@@ -86,13 +90,31 @@ abbrev pub blob_offset : Built → List ℕ → ℕ
 blob_offset b v = offset_in blob_bytes b.starts.blobs b.blobs v
 
 abbrev pub with_text : Built → List ℕ → Built
-with_text b v = record { starts = b.starts; texts = with_value b.texts v; users = b.users; blobs = b.blobs; guids = b.guids }
+with_text b v = record {
+  starts = b.starts;
+  texts = with_value b.texts v;
+  users = b.users;
+  blobs = b.blobs;
+  guids = b.guids;
+}
 
 abbrev pub with_user : Built → List ℕ → Built
-with_user b v = record { starts = b.starts; texts = b.texts; users = with_value b.users v; blobs = b.blobs; guids = b.guids }
+with_user b v = record {
+  starts = b.starts;
+  texts = b.texts;
+  users = with_value b.users v;
+  blobs = b.blobs;
+  guids = b.guids;
+}
 
 abbrev pub with_blob : Built → List ℕ → Built
-with_blob b v = record { starts = b.starts; texts = b.texts; users = b.users; blobs = with_value b.blobs v; guids = b.guids }
+with_blob b v = record {
+  starts = b.starts;
+  texts = b.texts;
+  users = b.users;
+  blobs = with_value b.blobs v;
+  guids = b.guids;
+}
 
 -- a joined heap passes its limit with a value that takes a place of its own
 unfoldable pub passes : (List ℕ → List ℕ) → ℕ → ℕ → List (List ℕ) → List ℕ → Bool
@@ -116,7 +138,13 @@ unfoldable pub with_entry : List (List ℕ) → List ℕ → List (List ℕ)
 with_entry guids g = if is_guid_kept guids g then guids else guids ++ g ∷ []
 
 abbrev pub with_guid : Built → List ℕ → Built
-with_guid b g = record { starts = b.starts; texts = b.texts; users = b.users; blobs = b.blobs; guids = with_entry b.guids g }
+with_guid b g = record {
+  starts = b.starts;
+  texts = b.texts;
+  users = b.users;
+  blobs = b.blobs;
+  guids = with_entry b.guids g;
+}
 
 -- how many entries stand before this one, and all where it isn't there
 abbrev pub entries_before : List (List ℕ) → List ℕ → ℕ
@@ -153,7 +181,8 @@ heaps_built b = record {
 -- how long the four joined heaps are together
 unfoldable pub joined_size : Built → ℕ
 joined_size b =
-    joined_end text_bytes b.starts.strings b.texts + joined_end user_bytes b.starts.users b.users + joined_end blob_bytes b.starts.blobs b.blobs
+    joined_end text_bytes b.starts.strings b.texts + joined_end user_bytes b.starts.users b.users + joined_end
+    blob_bytes b.starts.blobs b.blobs
     + 16 * (b.starts.guids + length b.guids)
 
 -- no joined heap is longer than its limit, but where it was before

@@ -26,19 +26,23 @@ abbrev pub heaps_joined : List Counted → Built → List Counted
 heaps_joined before b = before ++ heaps_built b ∷ []
 
 abbrev pub TextsAreRead : Type 0
-TextsAreRead = (before : List Counted) (b : Built) (v : List ℕ) → IsGood b → ArePast before b.starts → IsTrue (is_kept b.texts v)
+TextsAreRead = (before : List Counted) (b : Built) (v : List ℕ) → IsGood b → ArePast before b.starts
+    → IsTrue (is_kept b.texts v)
     → joined_text (heaps_joined before b) (text_offset b v) ≡ Some v
 
 abbrev pub UsersAreRead : Type 0
-UsersAreRead = (before : List Counted) (b : Built) (v : List ℕ) → IsGood b → ArePast before b.starts → IsTrue (is_kept b.users v)
+UsersAreRead = (before : List Counted) (b : Built) (v : List ℕ) → IsGood b → ArePast before b.starts
+    → IsTrue (is_kept b.users v)
     → joined_user (heaps_joined before b) (user_offset b v) ≡ Some v
 
 abbrev pub BlobsAreRead : Type 0
-BlobsAreRead = (before : List Counted) (b : Built) (v : List ℕ) → IsGood b → ArePast before b.starts → IsTrue (is_kept b.blobs v)
+BlobsAreRead = (before : List Counted) (b : Built) (v : List ℕ) → IsGood b → ArePast before b.starts
+    → IsTrue (is_kept b.blobs v)
     → joined_blob (heaps_joined before b) (blob_offset b v) ≡ Some v
 
 abbrev pub GuidsAreRead : Type 0
-GuidsAreRead = (before : List Counted) (b : Built) (g : List ℕ) → IsGood b → ArePast before b.starts → IsTrue (is_guid_kept b.guids g)
+GuidsAreRead = (before : List Counted) (b : Built) (g : List ℕ) → IsGood b → ArePast before b.starts
+    → IsTrue (is_guid_kept b.guids g)
     → joined_guid (heaps_joined before b) (guid_number b g) ≡ Some g
 
 -- every byte of the built texts counts
@@ -51,18 +55,23 @@ OffsetsStay = (encode : List ℕ → List ℕ) (start : ℕ) (values : List (Lis
     → offset_in encode start (with_value values w) v ≡ offset_in encode start values v
 
 abbrev pub NumbersStay : Type 0
-NumbersStay = (b : Built) (g h : List ℕ) → IsTrue (is_guid_kept b.guids g) → guid_number (with_guid b h) g ≡ guid_number b g
+NumbersStay = (b : Built) (g h : List ℕ) → IsTrue (is_guid_kept b.guids g)
+    → guid_number (with_guid b h) g ≡ guid_number b g
 
 -- different values have different offsets
 abbrev pub OffsetsTell : Type 0
-OffsetsTell = (b : Built) (v w : List ℕ) → IsGood b → IsTrue (is_kept b.texts v) → IsTrue (is_kept b.texts w) → text_offset b v ≡ text_offset b w → v ≡ w
+OffsetsTell = (b : Built) (v w : List ℕ) → IsGood b → IsTrue (is_kept b.texts v) → IsTrue (is_kept b.texts w)
+    → text_offset b v ≡ text_offset b w → v ≡ w
 
 abbrev pub UserOffsetsTell : Type 0
-UserOffsetsTell = (b : Built) (v w : List ℕ) → IsGood b → IsTrue (is_kept b.users v) → IsTrue (is_kept b.users w) → user_offset b v ≡ user_offset b w → v ≡ w
+UserOffsetsTell = (b : Built) (v w : List ℕ) → IsGood b → IsTrue (is_kept b.users v) → IsTrue (is_kept b.users w)
+    → user_offset b v ≡ user_offset b w → v ≡ w
 
 abbrev pub BlobOffsetsTell : Type 0
-BlobOffsetsTell = (b : Built) (v w : List ℕ) → IsGood b → IsTrue (is_kept b.blobs v) → IsTrue (is_kept b.blobs w) → blob_offset b v ≡ blob_offset b w → v ≡ w
+BlobOffsetsTell = (b : Built) (v w : List ℕ) → IsGood b → IsTrue (is_kept b.blobs v) → IsTrue (is_kept b.blobs w)
+    → blob_offset b v ≡ blob_offset b w → v ≡ w
 
 abbrev pub GuidNumbersTell : Type 0
-GuidNumbersTell = (b : Built) (g h : List ℕ) → IsGood b → IsTrue (is_guid_kept b.guids g) → IsTrue (is_guid_kept b.guids h)
+GuidNumbersTell = (b : Built) (g h : List ℕ) → IsGood b → IsTrue (is_guid_kept b.guids g)
+    → IsTrue (is_guid_kept b.guids h)
     → guid_number b g ≡ guid_number b h → g ≡ h

@@ -57,7 +57,12 @@ pub record AreAtMost (size : ℕ) (heaps : Counted) : Type 0 where
 
 -- the bytes that count, and of the sixteens the whole ones
 abbrev pub lengths_of : Counted → HeapLengths
-lengths_of heaps = record { strings = length heaps.strings; users = length heaps.users; blobs = length heaps.blobs; guids = length heaps.guids / 16 }
+lengths_of heaps = record {
+  strings = length heaps.strings;
+  users = length heaps.users;
+  blobs = length heaps.blobs;
+  guids = length heaps.guids / 16;
+}
 
 -- the text that begins at an offset, without its zero (II.24.2.3)
 unfoldable pub text_entry : List ℕ → ℕ → Option (List ℕ)

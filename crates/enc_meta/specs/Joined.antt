@@ -6,7 +6,8 @@ use Rattle.enc_meta.specs.declared.heaps.HeapLengths.{HeapLengths}
 -- the entry at an offset that counts from the front of the first heap; it lies whole in the heap in which it begins
 unfoldable pub entry_in : (List ℕ → ℕ → Option (List ℕ)) → List (List ℕ) → ℕ → Option (List ℕ)
 entry_in entry [] offset = None
-entry_in entry (heap ∷ heaps) offset = if nat_lt offset (length heap) then entry heap offset else entry_in entry heaps (offset - length heap)
+entry_in entry (heap ∷ heaps) offset =
+    if nat_lt offset (length heap) then entry heap offset else entry_in entry heaps (offset - length heap)
 
 -- offset 0 of the joined heaps is the empty entry
 unfoldable pub joined_entry : (List ℕ → ℕ → Option (List ℕ)) → List (List ℕ) → ℕ → Option (List ℕ)

@@ -1,4 +1,5 @@
--- The metadata root: its header, its streams, and the first thing that is wrong with them (ECMA-335 II.24.2.1, II.24.2.2).
+-- The metadata root: its header, its streams, and the first thing that is wrong with them (ECMA-335 II.24.2.1,
+-- II.24.2.2).
 use Rattle.std.specs.Prelude.{◌≤◌, IfSome, ℕ, zero, suc, ◌+◌, ◌%◌, Bool, true, false, ◌&&◌, ◌||◌, List, [], ◌∷◌, ◌++◌, length, take, drop, Option, Some, None, option_map, option_and_then, unwrap_or, Result, Ok, Err, nat_lt, nat_le, ◌==◌, if◌then◌else◌, codes, find, slice_get, bytes_eq}
 use Rattle.std.specs.List.{list_any}
 use Rattle.std.specs.Int.{w16, w32}
@@ -26,7 +27,8 @@ abbrev pub before_zero : List ℕ → Option (List ℕ)
 before_zero [] = None
 before_zero (b ∷ rest) = if b == 0 then Some [] else option_map (λ t. b ∷ t) (before_zero rest)
 
--- the name at a place: at most 32 bytes with its zero, and the zeros up to a multiple of 4 stand in the root too; and the place behind it
+-- the name at a place: at most 32 bytes with its zero, and the zeros up to a multiple of 4 stand in the root too;
+-- and the place behind it
 unfoldable pub name_at : List ℕ → ℕ → Option (List ℕ × ℕ)
 name_at bytes at = do
   text ← before_zero (take 32 (drop at bytes))
@@ -85,7 +87,8 @@ known text =
 unfoldable pub has_stream : List ℕ → List Header → Bool
 has_stream text all = list_any (λ (h : Header). bytes_eq h.name text) all
 
--- behind these headers, the header has a known name that stands among them already, or a known name and a range outside the root
+-- behind these headers, the header has a known name that stands among them already, or a known name and a range
+-- outside the root
 unfoldable pub fault_of : ℕ → List Header → Header → Option StreamName
 fault_of size before h = do
   which ← known h.name
@@ -97,11 +100,13 @@ fault_at size all k = option_and_then (fault_of size (take k all)) (slice_get al
 
 -- exactly one of `#~` and `#-` is there
 unfoldable pub has_one_table_stream : List Header → Bool
-has_one_table_stream all = if has_stream (codes "#~") all then (if has_stream (codes "#-") all then false else true) else has_stream (codes "#-") all
+has_one_table_stream all = if has_stream (codes "#~") all then (if has_stream (codes "#-") all then false else true)
+    else has_stream (codes "#-") all
 
 -- the first stream that is refused, in the order of the headers, and then as `#~` the table stream
 unfoldable pub stream_fault : ℕ → List Header → Option StreamName
-stream_fault size all = or_else (first_below (fault_at size all) (length all)) (if has_one_table_stream all then None else Some name.Compressed)
+stream_fault size all = or_else (first_below (fault_at size all) (length all)) (if has_one_table_stream all then None
+    else Some name.Compressed)
 
 -- where the stream of this name stands, nowhere where there is none
 unfoldable pub span_of : List ℕ → List Header → Option Span

@@ -78,7 +78,8 @@ impl Pool {
     /// The offset of a value that takes no place: 0 for the empty one, else its own where it is there.
     #[tactic(auto, unfolding(crate::specs::Built::is_kept, crate::specs::Built::offset_in))]
     fn kept(&self, value: &[u8]) -> Option<u32>
-        ensures found { IfSome result (λ offset. (is_kept self.now.values value.now ≡ true) × (offset ≡ pooled_offset self.now value.now)) }
+        ensures found { IfSome result (λ offset. (is_kept self.now.values value.now ≡ true)
+            × (offset ≡ pooled_offset self.now value.now)) }
         ensures none { IfNone result (is_kept self.now.values value.now ≡ false) }
     {
         match value {

@@ -43,7 +43,7 @@ fn version_len(bytes: &[u8]) -> Option<u32>
 }
 
 /// So many headers stand whole, one behind the other, from a place.
-#[tactic(auto, using(crate::proofs::Headers::read_none, crate::proofs::Headers::read_more, crate::proofs::Headers::read_stops))]
+#[tactic(auto, using(crate::proofs::Headers::read_steps))]
 fn are_whole(bytes: &[u8], first: usize, count: usize) -> bool
     ensures { result ≡ is_some (headers bytes.now first count) }
 {

@@ -39,7 +39,8 @@ body_moved f b = record {
   handlers = map (handler_moved f) b.handlers;
 }
 
--- the parts of a body mean, with whatever user texts, what those of another mean with its tokens moved, and name the same texts
+-- the parts of a body mean, with whatever user texts, what those of another mean with its tokens moved, and name the
+-- same texts
 pub record MeansMoved (f : Token → Token) (old new : Code) : Type 0 where
   pub means : (texts : ℕ → Option (List ℕ)) → body_of texts new ≡ body_moved f (body_of texts old)
   pub texts : (texts : ℕ → Option (List ℕ)) → texts_are_there texts new.code ≡ texts_are_there texts old.code

@@ -11,4 +11,10 @@ pub record Held : Type 0 where
 -- a body with this local signature, and with what is held in place of its own code and sections, where something is
 abbrev pub held_code : Option Held → Code → Token → Code
 held_code None c locals = record { max = c.max; init = c.init; locals = locals; code = c.code; sections = c.sections }
-held_code (Some h) c locals = record { max = c.max; init = c.init; locals = locals; code = h.code; sections = h.sections }
+held_code (Some h) c locals = record {
+  max = c.max;
+  init = c.init;
+  locals = locals;
+  code = h.code;
+  sections = h.sections;
+}

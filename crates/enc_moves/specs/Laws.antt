@@ -9,7 +9,8 @@ use Rattle.enc_moves.specs.Body.{body_moved}
 
 -- a sound body stays sound where tokens that are named go to such, and local signatures that are good too
 abbrev pub MovedStaysSound : Type 0
-MovedStaysSound = (f : Token → Token) (count : ℕ → ℕ) (b : Body) → ((t : Token) → is_named count t ≡ true → is_named count (f t) ≡ true)
+MovedStaysSound = (f : Token → Token) (count : ℕ → ℕ) (b : Body)
+    → ((t : Token) → is_named count t ≡ true → is_named count (f t) ≡ true)
     → ((t : Token) → locals_are_good count t ≡ true → locals_are_good count (f t) ≡ true) → body_is_sound count b ≡ true
     → body_is_sound count (body_moved f b) ≡ true
 

@@ -20,13 +20,15 @@ use Rattle.enc_objects.specs.Values.{binary_of, unary_of}
 -- the instructions from `add` on, in the order of their codes
 abbrev pub from_add : List Binary
 from_add =
-    Calculates Add ∷ Calculates Sub ∷ Calculates Mul ∷ Calculates Div ∷ Calculates DivUn ∷ Calculates Rem ∷ Calculates RemUn ∷ Calculates And ∷
+    Calculates Add ∷ Calculates Sub ∷ Calculates Mul ∷ Calculates Div ∷ Calculates DivUn ∷ Calculates Rem
+    ∷ Calculates RemUn ∷ Calculates And ∷
     Calculates Or ∷ Calculates Xor
     ∷ Shifts Shl ∷ Shifts Shr ∷ Shifts ShrUn ∷ []
 
 -- from `add.ovf` on
 abbrev pub from_add_ovf : List Binary
-from_add_ovf = Calculates AddOvf ∷ Calculates AddOvfUn ∷ Calculates MulOvf ∷ Calculates MulOvfUn ∷ Calculates SubOvf ∷ Calculates SubOvfUn ∷ []
+from_add_ovf = Calculates AddOvf ∷ Calculates AddOvfUn ∷ Calculates MulOvf ∷ Calculates MulOvfUn ∷ Calculates SubOvf
+    ∷ Calculates SubOvfUn ∷ []
 
 -- from `ceq` on
 abbrev pub from_ceq : List Binary
@@ -43,13 +45,15 @@ from_conv_u4 = Conv kind.U4 ∷ Conv kind.U8 ∷ []
 -- from `conv.ovf.i1.un` to `conv.ovf.u8.un`
 abbrev pub from_conv_ovf_i1_un : List Unary
 from_conv_ovf_i1_un =
-    ConvOvfUn kind.I1 ∷ ConvOvfUn kind.I2 ∷ ConvOvfUn kind.I4 ∷ ConvOvfUn kind.I8 ∷ ConvOvfUn kind.U1 ∷ ConvOvfUn kind.U2 ∷ ConvOvfUn kind.U4 ∷
+    ConvOvfUn kind.I1 ∷ ConvOvfUn kind.I2 ∷ ConvOvfUn kind.I4 ∷ ConvOvfUn kind.I8 ∷ ConvOvfUn kind.U1
+    ∷ ConvOvfUn kind.U2 ∷ ConvOvfUn kind.U4 ∷
     ConvOvfUn kind.U8 ∷ []
 
 -- from `conv.ovf.i1` to `conv.ovf.u8`
 abbrev pub from_conv_ovf_i1 : List Unary
 from_conv_ovf_i1 =
-    ConvOvf kind.I1 ∷ ConvOvf kind.U1 ∷ ConvOvf kind.I2 ∷ ConvOvf kind.U2 ∷ ConvOvf kind.I4 ∷ ConvOvf kind.U4 ∷ ConvOvf kind.I8 ∷ ConvOvf kind.U8 ∷ []
+    ConvOvf kind.I1 ∷ ConvOvf kind.U1 ∷ ConvOvf kind.I2 ∷ ConvOvf kind.U2 ∷ ConvOvf kind.I4 ∷ ConvOvf kind.U4
+    ∷ ConvOvf kind.I8 ∷ ConvOvf kind.U8 ∷ []
 
 -- `conv.u2` and `conv.u1`
 abbrev pub from_conv_u2 : List Unary
@@ -61,7 +65,8 @@ in_run first run code = if nat_le first code then slice_get run (code - first) e
 
 -- the operation on two values with this code
 unfoldable pub binary_at : ℕ → Option Binary
-binary_at code = or_else (in_run 0x58 from_add code) (or_else (in_run 0xD6 from_add_ovf code) (in_run 0xFE01 from_ceq code))
+binary_at code = or_else (in_run 0x58 from_add code)
+    (or_else (in_run 0xD6 from_add_ovf code) (in_run 0xFE01 from_ceq code))
 
 -- the operation on one value with this code
 unfoldable pub unary_at : ℕ → Option Unary

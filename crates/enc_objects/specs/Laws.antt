@@ -38,7 +38,8 @@ NumbersOfKindsStay = (k : Kind) (z : ℤ) → IsTrue (is_of k z) → cut k z ≡
 -- the names of the instructions on two values
 abbrev pub binary_names : List (List ℕ)
 binary_names =
-    codes "add" ∷ codes "sub" ∷ codes "mul" ∷ codes "div" ∷ codes "div.un" ∷ codes "rem" ∷ codes "rem.un" ∷ codes "and" ∷ codes "or" ∷ codes "xor"
+    codes "add" ∷ codes "sub" ∷ codes "mul" ∷ codes "div" ∷ codes "div.un" ∷ codes "rem" ∷ codes "rem.un" ∷ codes "and"
+    ∷ codes "or" ∷ codes "xor"
     ∷ codes "shl" ∷ codes "shr" ∷ codes "shr.un"
     ∷ codes "add.ovf" ∷ codes "add.ovf.un" ∷ codes "mul.ovf" ∷ codes "mul.ovf.un" ∷ codes "sub.ovf" ∷ codes "sub.ovf.un"
     ∷ codes "ceq" ∷ codes "cgt" ∷ codes "cgt.un" ∷ codes "clt" ∷ codes "clt.un" ∷ []
@@ -57,7 +58,8 @@ unary_names =
 -- the instructions of these names do what stands at their codes
 abbrev pub BinaryAreNamed : Type 0
 BinaryAreNamed =
-    map (λ (name : List ℕ). option_and_then binary_in (op_named name)) binary_names ≡ map (λ (o : Binary). Some o) (from_add ++ from_add_ovf ++ from_ceq)
+    map (λ (name : List ℕ). option_and_then binary_in (op_named name)) binary_names
+    ≡ map (λ (o : Binary). Some o) (from_add ++ from_add_ovf ++ from_ceq)
 
 abbrev pub UnaryAreNamed : Type 0
 UnaryAreNamed = map (λ (name : List ℕ). option_and_then unary_in (op_named name)) unary_names
@@ -69,16 +71,19 @@ field_value s id field = value_for field (fields_in s id)
 
 -- a field that is set has the value
 abbrev pub FieldsAreSet : Type 0
-FieldsAreSet = (s : Store) (id : ℕ) (field : Token) (value : Value) → IsTrue (has_object s id) → field_value (with_field id field value s) id field ≡ Some value
+FieldsAreSet = (s : Store) (id : ℕ) (field : Token) (value : Value) → IsTrue (has_object s id)
+    → field_value (with_field id field value s) id field ≡ Some value
 
 -- and every other field has what it had
 abbrev pub OtherFieldsStay : Type 0
-OtherFieldsStay = (s : Store) (id other : ℕ) (field asked : Token) (value : Value) → (other == id && is_token asked field) ≡ false
+OtherFieldsStay = (s : Store) (id other : ℕ) (field asked : Token) (value : Value)
+    → (other == id && is_token asked field) ≡ false
     → field_value (with_field id field value s) other asked ≡ field_value s other asked
 
 -- the same of statics
 abbrev pub StaticsAreSet : Type 0
-StaticsAreSet = (s : Store) (field : Token) (value : Value) → value_for field (with_static field value s).statics ≡ Some value
+StaticsAreSet = (s : Store) (field : Token) (value : Value)
+    → value_for field (with_static field value s).statics ≡ Some value
 
 abbrev pub OtherStaticsStay : Type 0
 OtherStaticsStay =
@@ -87,7 +92,8 @@ OtherStaticsStay =
 
 -- and of elements that are there
 abbrev pub ElementsAreSet : Type 0
-ElementsAreSet = (s : Store) (id i : ℕ) (value : Value) → IsTrue (is_some (element_in s id i)) → element_in (with_element id i value s) id i ≡ Some value
+ElementsAreSet = (s : Store) (id i : ℕ) (value : Value) → IsTrue (is_some (element_in s id i))
+    → element_in (with_element id i value s) id i ≡ Some value
 
 abbrev pub OtherElementsStay : Type 0
 OtherElementsStay =
@@ -97,19 +103,23 @@ OtherElementsStay =
 -- fields, elements and statics don't meddle with each other, nor with what objects are
 abbrev pub PartsStayApart : Type 0
 PartsStayApart = (s : Store) (id : ℕ) (field : Token) (value : Value) (i : ℕ)
-    → (map (λ (o : Object). o.content) (with_field id field value s).objects ≡ map (λ (o : Object). o.content) s.objects)
+    → (map (λ (o : Object). o.content) (with_field id field value s).objects
+    ≡ map (λ (o : Object). o.content) s.objects)
     × ((with_field id field value s).statics ≡ s.statics)
     × (map (λ (o : Object). o.fields) (with_element id i value s).objects ≡ map (λ (o : Object). o.fields) s.objects)
     × ((with_element id i value s).statics ≡ s.statics)
 
 -- a new object is there, has its content and no field, and every object before it is as it was
 abbrev pub NewObjectsAreThere : Type 0
-NewObjectsAreThere = (s : Store) (c : Content) → object_at (with_object c s) (next_object s) ≡ Some (record { content = c; fields = [] })
+NewObjectsAreThere = (s : Store) (c : Content)
+    → object_at (with_object c s) (next_object s) ≡ Some (record { content = c; fields = [] })
 
 abbrev pub OldObjectsStay : Type 0
-OldObjectsStay = (s : Store) (c : Content) (id : ℕ) → IsTrue (has_object s id) → object_at (with_object c s) id ≡ object_at s id
+OldObjectsStay = (s : Store) (c : Content) (id : ℕ) → IsTrue (has_object s id)
+    → object_at (with_object c s) id ≡ object_at s id
 
 -- the same objects are there after a value is set
 abbrev pub ObjectsStayThere : Type 0
 ObjectsStayThere = (s : Store) (id other : ℕ) (field : Token) (value : Value) (i : ℕ)
-    → (has_object (with_field id field value s) other ≡ has_object s other) × (has_object (with_element id i value s) other ≡ has_object s other)
+    → (has_object (with_field id field value s) other ≡ has_object s other)
+    × (has_object (with_element id i value s) other ≡ has_object s other)

@@ -32,7 +32,8 @@ has_object s id = is_some (object_at s id)
 
 -- the store with another object of that number
 abbrev pub with_changed : ℕ → (Object → Object) → Store → Store
-with_changed id change s = unwrap_or (option_map (λ (o : Object). record s { objects = slice_set s.objects (id - 1) (change o) }) (object_at s id)) s
+with_changed id change s = unwrap_or
+    (option_map (λ (o : Object). record s { objects = slice_set s.objects (id - 1) (change o) }) (object_at s id)) s
 
 -- the elements of an array and the units of a text
 abbrev pub part_count : Content → ℕ

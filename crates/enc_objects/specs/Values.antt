@@ -91,9 +91,11 @@ abbrev pub without_sign : Size → ℤ → ℕ
 without_sign Four z = modulo 32 z
 without_sign Eight z = modulo 64 z
 
--- a quotient or remainder with a sign: none by zero, and none where the quotient isn't of the size, that of the least integer by -1 (III.3.31, III.3.55)
+-- a quotient or remainder with a sign: none by zero, and none where the quotient isn't of the size, that of the
+-- least integer by -1 (III.3.31, III.3.55)
 abbrev pub divided : Size → ℤ → ℤ → ℤ → Result Value Trap
-divided s x y z = if int_eq y (pos 0) then Err X6 else if is_of (signed_kind s) (int_div x y) then Ok (held (signed_kind s) z) else Err X7
+divided s x y z = if int_eq y (pos 0) then Err X6 else if is_of (signed_kind s) (int_div x y)
+    then Ok (held (signed_kind s) z) else Err X7
 
 -- and without a sign: none by zero
 abbrev pub divided_unsigned : Size → ℕ → ℕ → Result Value Trap
@@ -118,7 +120,8 @@ calculated arithmetic.MulOvfUn s x y = checked (unsigned_kind s) (pos (without_s
 calculated arithmetic.SubOvf s x y = checked (signed_kind s) (x -ℤ y)
 calculated arithmetic.SubOvfUn s x y = checked (unsigned_kind s) (pos (without_sign s x) -ℤ pos (without_sign s y))
 
--- an integer whose bits moved by so many places: to the left, to the right with its sign (rounded down), to the right with zeros (III.3.58 to III.3.60)
+-- an integer whose bits moved by so many places: to the left, to the right with its sign (rounded down), to the
+-- right with zeros (III.3.58 to III.3.60)
 unfoldable pub shifted : Shift → Size → ℤ → ℕ → Value
 shifted shift.Shl s x n = held (signed_kind s) (x *ℤ pos (2 ^ n))
 shifted shift.Shr s x n = held (signed_kind s) (int_shr x n)

@@ -1,4 +1,5 @@
-//! The interpreter's values, what instructions on values alone give, and the store of objects (ECMA-335 I.8, III.1.1, III.3).
+//! The interpreter's values, what instructions on values alone give, and the store of objects (ECMA-335 I.8,
+//! III.1.1, III.3).
 #![tactic(auto)]
 
 mod arithmetic;

@@ -59,7 +59,8 @@ impl Model for Objects {
 
     ghost view = { λ o. record { objects = o.objects.items; statics = o.statics } };
 
-    ghost invariant = { λ o. (length o.objects.items ≤ most_objects) × (o.parts ≤ most_parts) × (o.parts ≡ parts_held o.objects.items) };
+    ghost invariant = { λ o. (length o.objects.items ≤ most_objects) × (o.parts ≤ most_parts)
+        × (o.parts ≡ parts_held o.objects.items) };
 }
 
 impl Objects {

@@ -14,7 +14,8 @@ use Rattle.enc_opcodes.specs.declared.code.CodeRef.{CodeRef}
 use Rattle.enc_opcodes.specs.Instruction.{Argument, nothing, number, target, targets, token, text, raw, Instruction, ◌>>=◌, range_at, instructions_of, end_of}
 use Rattle.enc_opcodes.specs.Clause.{Section, sections_in, clauses_of}
 
--- the parts of a body as they stand in a file: the most values on the stack, the init flag, the local signature, the code, the data sections
+-- the parts of a body as they stand in a file: the most values on the stack, the init flag, the local signature, the
+-- code, the data sections
 pub record Code : Type 0 where
   pub max : ℕ
   pub init : Bool
@@ -32,11 +33,13 @@ nil_or t = if t.row == 0 then nil else t
 -- a tiny header: the code's size in its upper six bits
 abbrev pub tiny_at : List ℕ → ℕ → ℕ → Option Code
 tiny_at bytes at size =
-    option_map (λ (code : List ℕ). record { max = 8; init = false; locals = nil; code = code; sections = [] }) (range_at bytes (at + 1) size)
+    option_map (λ (code : List ℕ). record { max = 8; init = false; locals = nil; code = code; sections = [] })
+    (range_at bytes (at + 1) size)
 
 -- the bytes of the sections at the front, up to the end of the last
 unfoldable pub sections_at : List ℕ → Option (List ℕ)
-sections_at bytes = option_map (λ (x : List Section × List ℕ). take (length bytes - length x.1) bytes) (sections_in (length bytes) bytes)
+sections_at bytes = option_map (λ (x : List Section × List ℕ). take (length bytes - length x.1) bytes)
+    (sections_in (length bytes) bytes)
 
 -- sections of fewer than 2^32 bytes, as code has by its size of four bytes; longer ones are none
 abbrev pub if_short : List ℕ → Option (List ℕ)
@@ -46,7 +49,8 @@ if_short sections = if nat_lt (length sections) (2 ^ 32) then Some sections else
 abbrev pub sections_behind : List ℕ → ℕ → Bool → Option (List ℕ)
 sections_behind bytes at more = if more then option_and_then if_short (sections_at (drop at bytes)) else Some []
 
--- a fat header of twelve bytes: flags and in their top four bits its size in fours, the most values on the stack, the code's size, the local signature
+-- a fat header of twelve bytes: flags and in their top four bits its size in fours, the most values on the stack,
+-- the code's size, the local signature
 unfoldable pub fat_at : List ℕ → ℕ → Option Code
 fat_at bytes at = do
   flags ← little_endian_at w16 bytes at
@@ -55,16 +59,25 @@ fat_at bytes at = do
   locals ← little_endian_at w32 bytes (at + 8)
   code ← range_at bytes (at + 12) size
   sections ← sections_behind bytes (at + 12 + padded size) (has_flag 8 flags)
-  if flags / 0x1000 == 3 then Some (record { max = max; init = has_flag 0x10 flags; locals = nil_or (token_of locals); code = code; sections = sections })
+  if flags / 0x1000 == 3 then Some (record {
+    max = max;
+    init = has_flag 0x10 flags;
+    locals = nil_or (token_of locals);
+    code = code;
+    sections = sections;
+  })
       else None
 
--- the body whose header stands at a place of the bytes, which is this place of the image or of the delta's code: a multiple of four for a fat one
+-- the body whose header stands at a place of the bytes, which is this place of the image or of the delta's code: a
+-- multiple of four for a fat one
 unfoldable pub body_at : List ℕ → ℕ → ℕ → Option Code
 body_at bytes at place = do
   first ← little_endian_at w8 bytes at
-  if first % 4 == 2 then tiny_at bytes at (first / 4) else if first % 4 == 3 && place % 4 == 0 then fat_at bytes at else None
+  if first % 4 == 2 then tiny_at bytes at (first / 4) else if first % 4 == 3 && place % 4 == 0 then fat_at bytes at
+      else None
 
--- what a clause is for: exceptions of a class, those that a filter takes, the end of the protected code in any case, or by an exception
+-- what a clause is for: exceptions of a class, those that a filter takes, the end of the protected code in any case,
+-- or by an exception
 pub data HandlerKind : Type 0 where
   catching : Token → HandlerKind
   filtering : ℕ → HandlerKind
@@ -77,7 +90,8 @@ pub record Handler : Type 0 where
   pub tries : ℕ × ℕ
   pub handler : ℕ × ℕ
 
--- a body: the most values on the stack, the init flag, the local signature, the code's size, the instructions with their offsets, and the clauses
+-- a body: the most values on the stack, the init flag, the local signature, the code's size, the instructions with
+-- their offsets, and the clauses
 pub record Body : Type 0 where
   pub stack : ℕ
   pub init : Bool
@@ -87,12 +101,14 @@ pub record Body : Type 0 where
   pub handlers : List Handler
 
 abbrev pub kind_meant : ℕ → ℕ → HandlerKind
-kind_meant kind extra = if kind == 4 then faulting else if kind == 2 then finishing else if kind == 1 then filtering extra else catching (token_of extra)
+kind_meant kind extra = if kind == 4 then faulting else if kind == 2 then finishing else if kind == 1
+    then filtering extra else catching (token_of extra)
 
 abbrev pub handler_meant : Clause → Handler
 handler_meant c = record { kind = kind_meant c.kind c.extra; tries = c.tries; handler = c.handler }
 
--- the argument with each user text by its units, none where there is no such text; texts are told by the bytes of their units
+-- the argument with each user text by its units, none where there is no such text; texts are told by the bytes of
+-- their units
 abbrev pub told : (ℕ → Option (List ℕ)) → Argument ℕ → Argument (List ℕ)
 told texts nothing = nothing
 told texts (number n) = number n
@@ -118,7 +134,8 @@ body_of texts c = record {
 
 -- the tables whose rows an instruction may name
 abbrev pub may_name : ℕ → Bool
-may_name table = list_any (λ t. t == table) (type_ref ∷ type_def ∷ field ∷ method_def ∷ member_ref ∷ stand_alone_sig ∷ type_spec ∷ method_spec ∷ [])
+may_name table = list_any (λ t. t == table)
+    (type_ref ∷ type_def ∷ field ∷ method_def ∷ member_ref ∷ stand_alone_sig ∷ type_spec ∷ method_spec ∷ [])
 
 -- a row of such a table, by the number of rows of each table
 unfoldable pub is_named : (ℕ → ℕ) → Token → Bool
@@ -147,21 +164,25 @@ abbrev pub range_is_good : (ℕ → Bool) → ℕ → ℕ × ℕ → Bool
 range_is_good starts size r = starts r.0 && nat_le r.0 r.1 && (starts r.1 || r.1 == size)
 
 abbrev pub extra_is_good : (ℕ → ℕ) → (ℕ → Bool) → ℕ → ℕ → Bool
-extra_is_good count starts kind extra = if kind == 0 then is_named count (token_of extra) else if kind == 1 then starts extra else kind == 2 || kind == 4
+extra_is_good count starts kind extra =
+    if kind == 0 then is_named count (token_of extra) else if kind == 1 then starts extra else kind == 2 || kind == 4
 
 unfoldable pub clause_is_good : (ℕ → ℕ) → (ℕ → Bool) → ℕ → Clause → Bool
-clause_is_good count starts size c = range_is_good starts size c.tries && range_is_good starts size c.handler && extra_is_good count starts c.kind c.extra
+clause_is_good count starts size c = range_is_good starts size c.tries && range_is_good starts size c.handler
+    && extra_is_good count starts c.kind c.extra
 
 -- the local signature is nil or a row of StandAloneSig
 unfoldable pub locals_are_good : (ℕ → ℕ) → Token → Bool
 locals_are_good count t = t.row == 0 || t.table == stand_alone_sig && nat_le t.row (count stand_alone_sig)
 
--- a body is good, by the numbers of rows and apart from heaps: its code is whole instructions, and each of them, each clause and the local signature are good
+-- a body is good, by the numbers of rows and apart from heaps: its code is whole instructions, and each of them,
+-- each clause and the local signature are good
 unfoldable pub is_good : (ℕ → ℕ) → Code → Bool
 is_good count c =
     end_of c.code 0 == length c.code
     && list_all (instruction_is_good count (is_instruction_start (instructions_of c.code))) (instructions_of c.code)
-    && list_all (clause_is_good count (is_instruction_start (instructions_of c.code)) (length c.code)) (clauses_of c.sections)
+    && list_all (clause_is_good count (is_instruction_start (instructions_of c.code)) (length c.code))
+    (clauses_of c.sections)
     && locals_are_good count c.locals
 
 -- the user text that an argument names is there

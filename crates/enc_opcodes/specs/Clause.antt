@@ -5,7 +5,8 @@ use Rattle.enc_base.specs.Numbers.{little_endian_at}
 use Rattle.enc_opcodes.specs.declared.code.Clause.{Clause}
 use Rattle.enc_opcodes.specs.Instruction.{◌>>=◌, range_at}
 
--- a data section: whether its clauses are the fat ones, whether another section follows it, how many clauses it has, and their bytes
+-- a data section: whether its clauses are the fat ones, whether another section follows it, how many clauses it has,
+-- and their bytes
 pub record Section : Type 0 where
   pub fat : Bool
   pub more : Bool
@@ -17,7 +18,8 @@ abbrev pub clause_size : Bool → ℕ
 clause_size true = 24
 clause_size false = 12
 
--- the clauses of a section are as many as its size has room for. A fat section's size is of three bytes, a small one's of one
+-- the clauses of a section are as many as its size has room for. A fat section's size is of three bytes, a small
+-- one's of one
 abbrev pub counted_in : Bool → ℕ → ℕ → ℕ → ℕ
 counted_in true a b c = ((c * 256 + b) * 256 + a) / 24
 counted_in false a b c = a / 12
@@ -25,7 +27,10 @@ counted_in false a b c = a / 12
 -- the section with these clauses, and the bytes behind them, which end the section whatever its size says
 abbrev pub with_clauses : Bool → Bool → ℕ → List ℕ → Option (Section × List ℕ)
 with_clauses fat more count rest =
-    option_map (λ (bytes : List ℕ). (record { fat = fat; more = more; count = count; clauses = bytes }, drop (clause_size fat * count) rest))
+    option_map (λ (bytes : List ℕ). (
+      record { fat = fat; more = more; count = count; clauses = bytes },
+      drop (clause_size fat * count) rest,
+    ))
     (range_at rest 0 (clause_size fat * count))
 
 -- the section behind a kind byte: 1, with 40 added where its clauses are fat and 80 where another section follows
@@ -37,14 +42,18 @@ section_of_kind kind a b c rest =
     else if kind == 0xC1 then with_clauses true true (counted_in true a b c) rest
     else None
 
--- the section at the front, and the bytes behind it. All sections are whole multiples of four bytes, so the next begins there
+-- the section at the front, and the bytes behind it. All sections are whole multiples of four bytes, so the next
+-- begins there
 unfoldable pub section_in : List ℕ → Option (Section × List ℕ)
 section_in (kind ∷ a ∷ b ∷ c ∷ rest) = section_of_kind kind a b c rest
 section_in _ = None
 
--- a section and those that follow, and the bytes behind the last: each takes four bytes and more, so there are at most as many as bytes
-abbrev pub section_followed : Section × List ℕ → (List ℕ → Option (List Section × List ℕ)) → Option (List Section × List ℕ)
-section_followed x next = if x.0.more then option_map (λ (y : List Section × List ℕ). (x.0 ∷ y.0, y.1)) (next x.1) else Some (x.0 ∷ [], x.1)
+-- a section and those that follow, and the bytes behind the last: each takes four bytes and more, so there are at
+-- most as many as bytes
+abbrev pub section_followed : Section × List ℕ → (List ℕ → Option (List Section × List ℕ))
+    → Option (List Section × List ℕ)
+section_followed x next = if x.0.more then option_map (λ (y : List Section × List ℕ). (x.0 ∷ y.0, y.1)) (next x.1)
+    else Some (x.0 ∷ [], x.1)
 
 unfoldable pub sections_in : ℕ → List ℕ → Option (List Section × List ℕ)
 sections_in zero bytes = None

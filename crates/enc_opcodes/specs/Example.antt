@@ -5,7 +5,8 @@ use Rattle.enc_opcodes.specs.declared.op.Operand.TheVariants.{None as Bare, Bran
 use Rattle.enc_opcodes.specs.Instruction.{nothing, target, text}
 use Rattle.enc_opcodes.specs.Body.{Body, catching, body_at, body_of}
 
--- flags 301b, two values, nine bytes of code, locals 11000001; ldstr 70000001, leave.s to the end, pop, ret; a section of one clause, of class 01000001
+-- flags 301b, two values, nine bytes of code, locals 11000001; ldstr 70000001, leave.s to the end, pop, ret; a
+-- section of one clause, of class 01000001
 abbrev pub body_example : List ℕ
 body_example =
     0x1b ∷ 0x30 ∷ 0x02 ∷ 0x00 ∷ 0x09 ∷ 0x00 ∷ 0x00 ∷ 0x00 ∷ 0x01 ∷ 0x00 ∷ 0x00 ∷ 0x11 ∷

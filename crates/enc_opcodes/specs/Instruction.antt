@@ -9,7 +9,8 @@ use Rattle.enc_opcodes.specs.declared.op.Operand.{Operand}
 use Rattle.enc_opcodes.specs.declared.op.Operand.TheVariants as operand
 use Rattle.enc_opcodes.specs.Opcodes.{op_at}
 
--- what an operand says: nothing, a number, a branch's target, those of a `switch`, a token, a user text (by its offset, or by its units), a float's bytes
+-- what an operand says: nothing, a number, a branch's target, those of a `switch`, a token, a user text (by its
+-- offset, or by its units), a float's bytes
 pub data Argument (T : Type 0) : Type 0 where
   nothing : Argument T
   number : ℤ → Argument T
@@ -38,7 +39,8 @@ widened n = if nat_lt n 0x80 then n else n + 0xFFFFFF00
 
 -- the sum of an offset and a signed distance of four bytes lies from 0 to 2^32 - 1
 abbrev pub is_reached : ℕ → ℕ → Bool
-is_reached end distance = if nat_lt distance 0x80000000 then nat_lt (end + distance) (2 ^ 32) else nat_le (2 ^ 32) (end + distance)
+is_reached end distance = if nat_lt distance 0x80000000 then nat_lt (end + distance) (2 ^ 32)
+    else nat_le (2 ^ 32) (end + distance)
 
 -- and is this, in four bytes
 abbrev pub reached : ℕ → ℕ → ℕ
@@ -83,8 +85,10 @@ arg_in operand.I32 code at = option_map (λ n. (number (cast_signed w32 n), at +
 arg_in operand.I64 code at = option_map (λ n. (number (cast_signed w64 n), at + 8)) (little_endian_at w64 code at)
 arg_in operand.R4 code at = option_map (λ bytes. (raw bytes, at + 4)) (range_at code at 4)
 arg_in operand.R8 code at = option_map (λ bytes. (raw bytes, at + 8)) (range_at code at 8)
-arg_in operand.Branch8 code at = option_map (λ t. (target t, at + 1)) (little_endian_at w8 code at >>= λ n. target_at (at + 1) (widened n))
-arg_in operand.Branch32 code at = option_map (λ t. (target t, at + 4)) (little_endian_at w32 code at >>= target_at (at + 4))
+arg_in operand.Branch8 code at =
+    option_map (λ t. (target t, at + 1)) (little_endian_at w8 code at >>= λ n. target_at (at + 1) (widened n))
+arg_in operand.Branch32 code at =
+    option_map (λ t. (target t, at + 4)) (little_endian_at w32 code at >>= target_at (at + 4))
 arg_in operand.Switch code at = switch_in code at
 arg_in operand.Token code at = option_map (λ n. (token (token_of n), at + 4)) (little_endian_at w32 code at)
 arg_in operand.User code at = option_map (λ n. (text_or_token n, at + 4)) (little_endian_at w32 code at)
@@ -93,7 +97,8 @@ arg_in operand.User code at = option_map (λ n. (text_or_token n, at + 4)) (litt
 unfoldable pub op_in : List ℕ → ℕ → Option (Op × ℕ)
 op_in code at = do
   first ← little_endian_at w8 code at
-  if first == 0xFE then option_and_then (λ second. option_map (λ op. (op, at + 2)) (op_at first second)) (little_endian_at w8 code (at + 1))
+  if first == 0xFE then option_and_then (λ second. option_map (λ op. (op, at + 2)) (op_at first second))
+      (little_endian_at w8 code (at + 1))
       else option_map (λ op. (op, at + 1)) (op_at first 0)
 
 -- the instruction at an offset, and the offset behind it, where one stands whole there
@@ -103,7 +108,8 @@ instr_in code at = do
   rest ← arg_in head.0.operand code head.1
   Some (record { op = head.0; arg = rest.0 }, rest.1)
 
--- what stands one behind the other from a place on, each with its own place, at most so many, until nothing stands there
+-- what stands one behind the other from a place on, each with its own place, at most so many, until nothing stands
+-- there
 abbrev pub chain_on : {A : Type 0} → ℕ → Option (A × ℕ) → (ℕ → List (ℕ × A)) → List (ℕ × A)
 chain_on at None next = []
 chain_on at (Some x) next = (at, x.0) ∷ next x.1

@@ -20,4 +20,5 @@ NamedAreFound = (name : List ℕ) (o : Op) → op_named name ≡ Some o → IsTr
 -- the target at a distance is its signed sum with the offset, and there is none where that isn't a number of four bytes
 abbrev pub TargetsAreSums : Type 0
 TargetsAreSums = (end distance : ℕ) → end < 2 ^ 32 → distance < 2 ^ 32
-    → MatchOption (target_at end distance) (¬ FitsUnsigned w32 (pos end +ℤ cast_signed w32 distance)) (λ t. pos t ≡ pos end +ℤ cast_signed w32 distance)
+    → MatchOption (target_at end distance) (¬ FitsUnsigned w32 (pos end +ℤ cast_signed w32 distance))
+    (λ t. pos t ≡ pos end +ℤ cast_signed w32 distance)

@@ -12,7 +12,8 @@ opcode_entry table i = option_and_then (λ (o : Option Entry). o) (slice_get tab
 
 -- the name and operand of the instruction with this code: its byte, or FE00 plus the byte behind FE
 unfoldable pub entry_of : ℕ → Option Entry
-entry_of code = if nat_lt code 0xFE00 then opcode_entry one_byte_opcodes code else opcode_entry two_byte_opcodes (code - 0xFE00)
+entry_of code = if nat_lt code 0xFE00 then opcode_entry one_byte_opcodes code
+    else opcode_entry two_byte_opcodes (code - 0xFE00)
 
 -- the instruction with this code
 abbrev pub with_code : ℕ → Entry → Op
@@ -68,7 +69,8 @@ is_op o = has_operand o.operand (entry_of o.byte)
 unfoldable pub first_named : List ℕ → ℕ → List (Option Entry) → Option Op
 first_named name code [] = None
 first_named name code (None ∷ rest) = first_named name (code + 1) rest
-first_named name code (Some e ∷ rest) = if bytes_eq e.0 name then Some (with_code code e) else first_named name (code + 1) rest
+first_named name code (Some e ∷ rest) =
+    if bytes_eq e.0 name then Some (with_code code e) else first_named name (code + 1) rest
 
 -- the instruction of this name
 unfoldable pub op_named : List ℕ → Option Op

@@ -1,4 +1,5 @@
--- When a body is good wherever it stands: by its instructions, its clauses and the numbers of rows alone (ECMA-335 II.25.4.6, III.1.7).
+-- When a body is good wherever it stands: by its instructions, its clauses and the numbers of rows alone (ECMA-335
+-- II.25.4.6, III.1.7).
 use Rattle.std.specs.Prelude.{ℕ, ◌+◌, ◌*◌, Bool, true, not, ◌&&◌, List, [], ◌∷◌, length, nat_le, ◌==◌, if◌then◌else◌}
 use Rattle.std.specs.List.{list_all, list_any}
 use Rattle.enc_opcodes.specs.declared.op.Operand.{Operand}
@@ -58,7 +59,8 @@ handler_kind_is_sound count begins finishing = true
 handler_kind_is_sound count begins faulting = true
 
 unfoldable pub handler_is_sound : (ℕ → ℕ) → (ℕ → Bool) → ℕ → Handler → Bool
-handler_is_sound count begins size h = range_is_good begins size h.tries && range_is_good begins size h.handler && handler_kind_is_sound count begins h.kind
+handler_is_sound count begins size h = range_is_good begins size h.tries && range_is_good begins size h.handler
+    && handler_kind_is_sound count begins h.kind
 
 -- a body is sound, by the numbers of rows
 unfoldable pub body_is_sound : (ℕ → ℕ) → Body → Bool

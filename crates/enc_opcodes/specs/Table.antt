@@ -1,4 +1,5 @@
--- The instructions by their codes: the name in the spelling of the standard, and what stands behind the code (ECMA-335 III.1.2.1, III.3, III.4).
+-- The instructions by their codes: the name in the spelling of the standard, and what stands behind the code
+-- (ECMA-335 III.1.2.1, III.3, III.4).
 use Rattle.std.specs.Prelude.{ℕ, List, [], ◌∷◌, Option, Some, None, codes}
 use Rattle.std.specs.Borrow.{Bor}
 use Rattle.enc_opcodes.specs.declared.op.Operand.{Operand}

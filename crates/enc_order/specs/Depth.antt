@@ -17,7 +17,8 @@ nested_class_enclosing_class = 1
 -- the EnclosingClass of a row of NestedClass, where its NestedClass is this row of TypeDef
 unfoldable pub enclosing_at : Module → ℕ → ℕ → Option ℕ
 enclosing_at m type k =
-    if is_token (token_at (cells_of m) (nth_row tables.nested_class k) nested_class_nested_class) (record { table = tables.type_def; row = type })
+    if is_token (token_at (cells_of m) (nth_row tables.nested_class k) nested_class_nested_class)
+    (record { table = tables.type_def; row = type })
     then Some (token_at (cells_of m) (nth_row tables.nested_class k) nested_class_enclosing_class).row
     else None
 

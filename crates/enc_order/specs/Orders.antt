@@ -1,4 +1,5 @@
--- The order in which the rows of an ordinary module stand: children behind one another in the order of their owners, and tables that loaders search by
+-- The order in which the rows of an ordinary module stand: children behind one another in the order of their owners,
+-- and tables that loaders search by
 -- halves in the order of their keys (ECMA-335 II.22, II.24.2.6).
 use Rattle.std.specs.Prelude.{ℕ, zero, suc, ◌+◌, ◌*◌, ◌^◌, not, ◌&&◌, ◌||◌, ◌==◌, List, [], ◌∷◌, map, flat_map, length, Bool, false, Option, Some, nat_lt}
 use Rattle.std.specs.Prelude.{slice_get, unwrap_or, if◌then◌else◌}
@@ -49,23 +50,28 @@ standing_rows m table = map (λ n. n + 1) (below (row_count m table))
 unfoldable pub kids_listed : Module → List ℕ → ℕ → List ℕ
 kids_listed m owners child = flat_map (λ row. kids_of m (record { table = owner_table child; row = row }) child) owners
 
--- TypeDef rows go by depth, so that each type stands behind the one around it (II.22.32); all others stay as they were before
+-- TypeDef rows go by depth, so that each type stands behind the one around it (II.22.32); all others stay as they
+-- were before
 unfoldable pub by_depth : Module → Orders → Orders
 by_depth m before table = if table == tables.type_def then sorted_by (depth m) (standing_rows m table) else before table
 
 -- Field, MethodDef, Event and Property rows go by their owners; the rows of the two maps stay
 abbrev pub goes_by_owner : ℕ → Bool
-goes_by_owner table = table == tables.field || table == tables.method_def || table == tables.event || table == tables.property
+goes_by_owner table = table == tables.field || table == tables.method_def || table == tables.event
+    || table == tables.property
 
 unfoldable pub by_owner : Module → Orders → Orders
 by_owner m before table = if goes_by_owner table then kids_listed m (before (owner_table table)) table else before table
 
 -- and so do Param rows
 unfoldable pub by_method : Module → Orders → Orders
-by_method m before table = if table == tables.param then kids_listed m (before tables.method_def) table else before table
+by_method m before table = if table == tables.param then kids_listed m (before tables.method_def) table
+    else before table
 
--- the key columns of the tables that go by keys (II.22): Class and Interface of InterfaceImpl; Parent of Constant, CustomAttribute, FieldMarshal,
--- DeclSecurity and ClassLayout; Field of FieldLayout and FieldRVA; Association of MethodSemantics; Class of MethodImpl; MemberForwarded of ImplMap;
+-- the key columns of the tables that go by keys (II.22): Class and Interface of InterfaceImpl; Parent of Constant,
+-- CustomAttribute, FieldMarshal,
+-- DeclSecurity and ClassLayout; Field of FieldLayout and FieldRVA; Association of MethodSemantics; Class of
+-- MethodImpl; MemberForwarded of ImplMap;
 -- NestedClass of NestedClass; Owner and Number of GenericParam; Owner of GenericParamConstraint
 unfoldable pub key_columns : ℕ → List ℕ
 key_columns table =
@@ -109,7 +115,8 @@ column_key orders m u i _ = 0
 -- the numbers of key columns as one, the first column's counting most
 unfoldable pub key_from : ℕ → Orders → Module → Token → List ℕ → ℕ
 key_from before orders m u [] = before
-key_from before orders m u (i ∷ columns) = key_from (before * 2 ^ 32 + column_key orders m u i (column_in u.table i)) orders m u columns
+key_from before orders m u (i ∷ columns) =
+    key_from (before * 2 ^ 32 + column_key orders m u i (column_in u.table i)) orders m u columns
 
 unfoldable pub order_key : Orders → Module → ℕ → ℕ → ℕ
 order_key orders m table row = key_from 0 orders m (record { table = table; row = row }) (key_columns table)

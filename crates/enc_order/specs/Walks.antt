@@ -35,7 +35,8 @@ one_step (Some type) = record { around = Some type; depth = 1 }
 -- for each type is listed the step to the type around it that the first rows of NestedClass tell
 pub record AreFirst (m : Module) (rows : ℕ) (walks : List Walk) : Type 0 where
   pub count : length walks ≡ row_count m tables.type_def
-  pub each : (i : ℕ) → i < row_count m tables.type_def → slice_get walks i ≡ Some (one_step (first_below (enclosing_at m (i + 1)) rows))
+  pub each : (i : ℕ) → i < row_count m tables.type_def
+      → slice_get walks i ≡ Some (one_step (first_below (enclosing_at m (i + 1)) rows))
 
 -- no step is noted for a type that is there
 abbrev pub has_ended : Option Walk → Bool
@@ -48,7 +49,8 @@ is_free walks (suc i) = has_ended (slice_get walks i)
 
 -- the step from one type to another noted where none is
 unfoldable pub noted : ℕ → ℕ → List Walk → List Walk
-noted nested enclosing walks = if is_free walks nested then slice_set walks (nested - 1) (record { around = Some enclosing; depth = 1 }) else walks
+noted nested enclosing walks =
+    if is_free walks nested then slice_set walks (nested - 1) (record { around = Some enclosing; depth = 1 }) else walks
 
 -- the walk from a type; from what is no type's row it has ended
 unfoldable pub walk_from : List Walk → ℕ → Walk
@@ -58,7 +60,8 @@ walk_from walks (suc i) = unwrap_or (slice_get walks i) ended
 -- a walk, and behind it the one from where it has come to
 abbrev pub going_on : List Walk → Walk → Option ℕ → Walk
 going_on walks walk None = walk
-going_on walks walk (Some type) = record { around = (walk_from walks type).around; depth = walk.depth + (walk_from walks type).depth }
+going_on walks walk (Some type) =
+    record { around = (walk_from walks type).around; depth = walk.depth + (walk_from walks type).depth }
 
 unfoldable pub doubled : List Walk → Walk → Walk
 doubled walks walk = going_on walks walk walk.around

@@ -13,7 +13,8 @@ pub record Counts : Type 0 where
 -- a code of the counts, by which proofs tell them apart
 abbrev pub counts_code : Coded Counts
 counts_code =
-    code_by (ℕ × (List ℕ × ℕ)) (coded× coded_ℕ (coded× (coded_list coded_ℕ) coded_ℕ)) (λ c. (c.calls, (c.failing, c.faults)))
+    code_by (ℕ × (List ℕ × ℕ)) (coded× coded_ℕ (coded× (coded_list coded_ℕ) coded_ℕ))
+    (λ c. (c.calls, (c.failing, c.faults)))
     (λ p. record { calls = p.0; failing = p.1.0; faults = p.1.1 }) (λ _. refl)
 
 -- the next call, counted from 1, is one of those that fail
@@ -40,7 +41,8 @@ pub record FilesInMemory : Type 0 where
 -- a code of such stores, by which proofs tell them apart
 abbrev pub memory_code : Coded FilesInMemory
 memory_code =
-    code_by (Files × Counts) (coded× files_code counts_code) (λ s. (s.files, s.counts)) (λ p. record { files = p.0; counts = p.1 }) (λ _. refl)
+    code_by (Files × Counts) (coded× files_code counts_code) (λ s. (s.files, s.counts))
+    (λ p. record { files = p.0; counts = p.1 }) (λ _. refl)
 
 -- a sink in memory: its bytes and its calls
 pub record BytesInMemory : Type 0 where

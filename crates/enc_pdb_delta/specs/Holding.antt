@@ -14,7 +14,8 @@ map_cells row = number_of (debug_token row) ∷ []
 
 -- the rows of all tables are as before, with more of EncMap
 abbrev pub MoreNamed : List (List (List ℕ)) → List (List (List ℕ)) → List (List ℕ) → Type 0
-MoreNamed old new more = (k : ℕ) → rows_at new k ≡ (if k == tables.enc_map then rows_at old k ++ more else rows_at old k)
+MoreNamed old new more = (k : ℕ)
+    → rows_at new k ≡ (if k == tables.enc_map then rows_at old k ++ more else rows_at old k)
 
 -- the rows say the documents and the methods of a plain PDB, EncMap names these by their rows, and there are no others
 pub record HoldPdbDelta (p : PlainPdb) (numbers : List ℕ) (h : Built) (rows : List (List (List ℕ))) : Type 0 where

@@ -16,9 +16,11 @@ use Rattle.enc_pdb_delta.specs.Written.{SaysEdits, method_named}
 
 -- where exactly the methods with a new body are told as such, it makes the plain PDB of the edits made directly
 abbrev pub PdbsAreEdited : Type 0
-PdbsAreEdited = (l : EditList) (methods changed : List Token) (bytes : List ℕ) (says : SaysEdits l methods bytes) (before : PlainPdb) (method : Token)
+PdbsAreEdited = (l : EditList) (methods changed : List Token) (bytes : List ℕ) (says : SaysEdits l methods bytes)
+    (before : PlainPdb) (method : Token)
     → list_any (is_token method) changed ≡ is_some (edit_giving methods l.edits method)
-    → pdb_changed before (record { pdb = Some says.source; changed = changed }) method ≡ pdb_edited before methods l method
+    → pdb_changed before (record { pdb = Some says.source; changed = changed }) method
+    ≡ pdb_edited before methods l method
 
 abbrev pub size_given : Option BodyValue → ℕ
 size_given None = 0
@@ -31,5 +33,7 @@ AreSizes sizes methods edits = (t : Token) (e : Edit)
 
 -- where each point stands in the code of its body, none of its rows is out of place
 abbrev pub NoneIsMisplaced : Type 0
-NoneIsMisplaced = (l : EditList) (methods : List Token) (bytes : List ℕ) (says : SaysEdits l methods bytes) (sizes : List (Token × ℕ))
-    → AreSizes sizes methods l.edits → list_all points_lie_within l.edits ≡ true → first_misplaced says.source sizes ≡ None
+NoneIsMisplaced = (l : EditList) (methods : List Token) (bytes : List ℕ) (says : SaysEdits l methods bytes)
+    (sizes : List (Token × ℕ))
+    → AreSizes sizes methods l.edits → list_all points_lie_within l.edits ≡ true
+    → first_misplaced says.source sizes ≡ None

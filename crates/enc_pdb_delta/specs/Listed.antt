@@ -1,4 +1,5 @@
--- For the contracts of private functions: the edits with points by the rows of their methods, and what the source of their points stands for.
+-- For the contracts of private functions: the edits with points by the rows of their methods, and what the source of
+-- their points stands for.
 use Rattle.std.specs.Prelude.{◌≡◌, ℕ, zero, suc, ◌+◌, ◌<◌, ◌≤◌, ◌^◌, ◌==◌, Bool, true, ◌&&◌, List, [], ◌∷◌, ◌++◌, length, map, Option, Some, None, is_ok, unwrap_or, option_and_then, nat_lt, if◌then◌else◌, slice_get, refl}
 use Rattle.std.specs.List.{list_all}
 use Rattle.std.specs.List.Sorted.{IsPermutation, IsStrictlyIncreasing}
@@ -83,7 +84,8 @@ row_said methods zero = method_points 0 []
 row_said methods (suc n) = unwrap_or (slice_get methods n) (method_points 0 [])
 
 unfoldable pub points_said_of : List MethodPoints → Token → MethodPoints
-points_said_of methods method = if method.table == tables.method_def then row_said methods method.row else method_points 0 []
+points_said_of methods method =
+    if method.table == tables.method_def then row_said methods method.row else method_points 0 []
 
 -- the document with a number, from 1
 abbrev pub numbered_document : List Document → ℕ → Option Document
@@ -95,13 +97,15 @@ unfoldable pub pdb_listed : ListedPdb → PlainPdb
 pdb_listed l method = debug_of (numbered_document l.documents) (points_said_of l.methods method)
 
 -- by the points and the documents that are lent
-pub listed_known : (l : ListedPdb) (method : Token) → debug_of (numbered_document l.documents) (points_said_of l.methods method) ≡ pdb_listed l method
+pub listed_known : (l : ListedPdb) (method : Token)
+    → debug_of (numbered_document l.documents) (points_said_of l.methods method) ≡ pdb_listed l method
 unfolding pdb_listed
 listed_known l method = refl
 
 -- what is meant of an edit list: what its edits with points say, in the order of the rows of their methods
 abbrev pub list_pdb : EditList → List MethodEdit → PlainPdb
-list_pdb l placed = pdb_listed (record { documents = map document_stated (documents_used placed l.documents); methods = said_at l.edits placed })
+list_pdb l placed = pdb_listed
+    (record { documents = map document_stated (documents_used placed l.documents); methods = said_at l.edits placed })
 
 -- a PDB can be written of what is meant of an edit list
 pub record IsPdbListed (l : EditList) (placed : List MethodEdit) : Type 0 where

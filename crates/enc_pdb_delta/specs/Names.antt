@@ -1,4 +1,5 @@
--- For the contracts of private functions: the names of documents in a root of their own (Portable PDB v1.0, Document Name Blob).
+-- For the contracts of private functions: the names of documents in a root of their own (Portable PDB v1.0, Document
+-- Name Blob).
 use Rattle.std.specs.Prelude.{◌≡◌, ℕ, ◌+◌, ◌≤◌, ◌^◌, Bool, true, List, [], length, map, sum_by, Option, Some, is_some, unwrap_or, option_and_then, Ok, slice_get}
 use Rattle.std.specs.List.{list_all}
 use Rattle.enc_meta.specs.Built.{Built, is_kept, blob_offset}
@@ -41,7 +42,8 @@ pub record SaysName (h : Built) (name : List ℕ) (offset : ℕ) : Type 0 where
 -- and so all of these
 pub record AreSaid (h : Built) (names : List (List ℕ)) (offsets : List ℕ) : Type 0 where
   pub many : length offsets ≡ length names
-  pub each : (k offset : ℕ) (name : List ℕ) → slice_get names k ≡ Some name → slice_get offsets k ≡ Some offset → SaysName h name offset
+  pub each : (k offset : ℕ) (name : List ℕ) → slice_get names k ≡ Some name → slice_get offsets k ≡ Some offset
+      → SaysName h name offset
 
 -- a PDB has room for these documents
 abbrev pub HaveRoom : List DocumentValue → Type 0

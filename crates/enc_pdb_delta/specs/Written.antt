@@ -23,14 +23,19 @@ gives_points (Some e) = has_points e
 abbrev pub method_named : Token → Token
 method_named t = record { table = tables.method_def; row = t.row }
 
--- the bytes are a PDB of a delta that isn't refused: it names exactly the methods whose edits have points, by rising rows, and says of each what its edit
+-- the bytes are a PDB of a delta that isn't refused: it names exactly the methods whose edits have points, by rising
+-- rows, and says of each what its edit
 -- does; a method whose points have several documents has Document nil
 pub record SaysEdits (l : EditList) (methods : List Token) (bytes : List ℕ) : Type 0 where
   pub source : Source
   pub read : pdb_delta_of bytes ≡ Ok source
-  pub rises : (k : ℕ) (t : Token) → slice_get (named_tokens source) k ≡ Some t → is_behind (take k (named_tokens source)) t ≡ false
-  pub named : (method : Token) → list_any (names_method method) (named_tokens source) ≡ gives_points (edit_giving methods l.edits method)
-  pub says : (k : ℕ) (t : Token) (e : Edit) → slice_get (named_tokens source) k ≡ Some t → edit_giving methods l.edits (method_named t) ≡ Some e
+  pub rises : (k : ℕ) (t : Token) → slice_get (named_tokens source) k ≡ Some t
+      → is_behind (take k (named_tokens source)) t ≡ false
+  pub named : (method : Token) →
+      list_any (names_method method) (named_tokens source) ≡ gives_points (edit_giving methods l.edits method)
+  pub says : (k : ℕ) (t : Token) (e : Edit) → slice_get (named_tokens source) k ≡ Some t
+      → edit_giving methods l.edits (method_named t) ≡ Some e
       → debug_at (Some (source, nth_row tables.method_debug_information k)) ≡ debug_stated l.documents e
-  pub several : (k : ℕ) (t : Token) (e : Edit) → slice_get (named_tokens source) k ≡ Some t → edit_giving methods l.edits (method_named t) ≡ Some e
+  pub several : (k : ℕ) (t : Token) (e : Edit) → slice_get (named_tokens source) k ≡ Some t
+      → edit_giving methods l.edits (method_named t) ≡ Some e
       → IsNilOverSeveral (debug_stated l.documents e).points (document_told source k)

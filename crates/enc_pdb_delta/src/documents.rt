@@ -31,7 +31,8 @@ impl<'a> Model for StatedDocuments<'a> {
 
     ghost view = { λ d. map document_stated d.documents.now };
 
-    ghost invariant = { λ d. (d.hashes.items ≡ map hash_of d.documents.now) × (d.names ≡ map name_stated d.documents.now) };
+    ghost invariant = { λ d. (d.hashes.items ≡ map hash_of d.documents.now)
+        × (d.names ≡ map name_stated d.documents.now) };
 }
 
 /// The hashes of the documents' sources.

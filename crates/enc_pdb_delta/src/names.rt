@@ -111,7 +111,8 @@ fn add_names(
 fn name_root(alloc: Global, heaps: HeapBuilder) -> Result<Vec<u8>, AllocError>
     requires { heaps.starts ≡ pdb_starts }
     ensures root { IfOk result (λ bytes. is_ok (root_of bytes.items) ≡ true) }
-    ensures heaps { IfOk result (λ bytes. (root : TheRoot) → root_of bytes.items ≡ Ok root → heaps_of bytes.items root ≡ heaps_built heaps) }
+    ensures heaps { IfOk result (λ bytes. (root : TheRoot) → root_of bytes.items ≡ Ok root
+        → heaps_of bytes.items root ≡ heaps_built heaps) }
 {
     heaps.laws();
     pdb_root_law();

@@ -33,7 +33,8 @@ abbrev pub is_type_17 : Option ℕ → Bool
 is_type_17 None = false
 is_type_17 (Some n) = n == 17
 
--- debug entry k, of 28 bytes, has type 17: an embedded Portable PDB (PE/COFF "Debug Directory", Portable PDB "Embedded Portable PDB Debug Directory Entry")
+-- debug entry k, of 28 bytes, has type 17: an embedded Portable PDB (PE/COFF "Debug Directory", Portable PDB
+-- "Embedded Portable PDB Debug Directory Entry")
 unfoldable pub is_embedded : List ℕ → ℕ → Bool
 is_embedded entries k = is_type_17 (little_endian_at w32 entries (28 * k + 12))
 
@@ -59,7 +60,13 @@ is_bare bytes = starts_with nat_eq bytes (codes "BSJB")
 
 -- the container of a bare file: all of it is the metadata root
 abbrev pub bare_container : ℕ → Container
-bare_container size = record { metadata = record { start = 0; len = size }; resources = nowhere; entry = 0; sections = nowhere; bare = true }
+bare_container size = record {
+  metadata = record { start = 0; len = size };
+  resources = nowhere;
+  entry = 0;
+  sections = nowhere;
+  bare = true;
+}
 
 -- the container of a file: bare metadata isn't judged
 unfoldable pub container_of : List ℕ → Result Container Refusal

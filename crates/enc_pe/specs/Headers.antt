@@ -10,7 +10,8 @@ use Rattle.enc_pe.specs.declared.directory.Directory.{Directory}
 use Rattle.enc_pe.specs.declared.headers.Headers.{Headers}
 use Rattle.enc_pe.specs.declared.cli.CliHeader.{CliHeader}
 
--- where the COFF header stands: the file begins with MZ and has at 0x3C the place of PE\0\0, behind which it is (II.25.2.1, II.25.2.2)
+-- where the COFF header stands: the file begins with MZ and has at 0x3C the place of PE\0\0, behind which it is
+-- (II.25.2.1, II.25.2.2)
 unfoldable pub coff_place : List ℕ → Option ℕ
 coff_place bytes = do
   magic ← little_endian_at w16 bytes 0
@@ -25,11 +26,13 @@ directory_at bytes at = do
   many ← little_endian_at w32 bytes (at + 4)
   Some (record { rva = first; size = many })
 
--- where the data directories begin in an optional header of this magic: PE32 (II.25.2.3.1), or PE32+ of the PE/COFF specification
+-- where the data directories begin in an optional header of this magic: PE32 (II.25.2.3.1), or PE32+ of the PE/COFF
+-- specification
 unfoldable pub directories_for : ℕ → Option ℕ
 directories_for magic = if magic == 0x10B then Some 96 else if magic == 0x20B then Some 112 else None
 
--- where the data directories begin in an optional header; their count stands in front of them and is at least 15 (II.25.2.3.2)
+-- where the data directories begin in an optional header; their count stands in front of them and is at least 15
+-- (II.25.2.3.2)
 unfoldable pub directories_in : List ℕ → Option ℕ
 directories_in optional = do
   magic ← little_endian_at w16 optional 0
@@ -48,9 +51,11 @@ unfoldable pub section_headers : List ℕ → ℕ → Option Span
 section_headers bytes coff = do
   count ← little_endian_at w16 bytes (coff + 2)
   size ← little_endian_at w16 bytes (coff + 16)
-  if nat_le (coff + 20 + size + 40 * count) (length bytes) then Some (record { start = coff + 20 + size; len = 40 * count }) else None
+  if nat_le (coff + 20 + size + 40 * count) (length bytes)
+      then Some (record { start = coff + 20 + size; len = 40 * count }) else None
 
--- the headers of an image; of the directories 6 is that of the debug entries and 14, the last of the fifteen, that of the CLI header (II.25.2)
+-- the headers of an image; of the directories 6 is that of the debug entries and 14, the last of the fifteen, that
+-- of the CLI header (II.25.2)
 unfoldable pub headers_of : List ℕ → Option Headers
 headers_of bytes = do
   coff ← coff_place bytes
@@ -73,4 +78,5 @@ cli_in header = do
 
 -- the CLI header of an image: its directory says at least 72 bytes, and 72 stand in a section (II.25.3.3)
 unfoldable pub cli_of : List ℕ → Headers → Option CliHeader
-cli_of bytes h = if nat_lt h.cli.size 72 then None else option_and_then (λ s. cli_in (part bytes s)) (span_at bytes h.sections h.cli.rva 72)
+cli_of bytes h = if nat_lt h.cli.size 72 then None
+    else option_and_then (λ s. cli_in (part bytes s)) (span_at bytes h.sections h.cli.rva 72)

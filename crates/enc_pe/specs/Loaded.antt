@@ -17,7 +17,9 @@ regions_of bytes headers = map (region_of bytes) (sections_of bytes headers)
 
 -- what is read at an RVA is what is loaded there
 abbrev pub RangesAreLoaded : Type 0
-RangesAreLoaded = (bytes : List ℕ) (c : Container) (first many : ℕ) → bytes_at_rva bytes c first many ≡ range_loaded (regions_of bytes c.sections) first many
+RangesAreLoaded = (bytes : List ℕ) (c : Container) (first many : ℕ)
+    → bytes_at_rva bytes c first many ≡ range_loaded (regions_of bytes c.sections) first many
 
 abbrev pub RestsAreLoaded : Type 0
-RestsAreLoaded = (bytes : List ℕ) (c : Container) (first : ℕ) → bytes_from_rva bytes c first ≡ rest_loaded (regions_of bytes c.sections) first
+RestsAreLoaded = (bytes : List ℕ) (c : Container) (first : ℕ)
+    → bytes_from_rva bytes c first ≡ rest_loaded (regions_of bytes c.sections) first

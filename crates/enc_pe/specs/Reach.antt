@@ -28,7 +28,8 @@ EndBy corners n = (i : ℕ) → i < length corners → (corner_at corners i).end
 
 -- a corner of the one list or of the other covers what one of the joined list does
 abbrev pub AreJoined : List Corner → List Corner → List Corner → Type 0
-AreJoined joined xs ys = (first behind : ℕ) → list_any (covers first behind) joined ≡ (list_any (covers first behind) xs || list_any (covers first behind) ys)
+AreJoined joined xs ys = (first behind : ℕ)
+    → list_any (covers first behind) joined ≡ (list_any (covers first behind) xs || list_any (covers first behind) ys)
 
 -- the range of a section
 unfoldable pub corner_of : Section → Corner

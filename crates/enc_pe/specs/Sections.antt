@@ -14,7 +14,8 @@ whole_at bytes at n = if nat_le (at + n) (length bytes) then Some (take n (drop 
 unfoldable pub inside : ℕ → Span → Span
 inside size s = record { start = min s.start size; len = min s.len (size - s.start) }
 
--- the section with this header: the RVA of its first byte, and what of its raw part stands in a file of this size (II.25.3)
+-- the section with this header: the RVA of its first byte, and what of its raw part stands in a file of this size
+-- (II.25.3)
 unfoldable pub section_with : ℕ → List ℕ → Option Section
 section_with size header = do
   first ← little_endian_at w32 header 12
@@ -47,7 +48,8 @@ holds first many s = nat_le s.rva first && nat_le (first - s.rva + many) s.raw.l
 -- where a range of RVAs stands in the file: in the first section that holds it whole
 unfoldable pub span_at : List ℕ → Span → ℕ → ℕ → Option Span
 span_at bytes headers first many =
-    option_map (λ (s : Section). record { start = s.raw.start + (first - s.rva); len = many }) (find (holds first many) (sections_of bytes headers))
+    option_map (λ (s : Section). record { start = s.raw.start + (first - s.rva); len = many })
+    (find (holds first many) (sections_of bytes headers))
 
 -- where the bytes from an RVA on stand: up to the end of the raw part of the first section that holds the byte there
 unfoldable pub span_from : List ℕ → Span → ℕ → Option Span

@@ -1,4 +1,5 @@
--- Images that are written: PE32 headers, and one section with the code, the CLI header, the managed resources and the metadata (ECMA-335 II.25).
+-- Images that are written: PE32 headers, and one section with the code, the CLI header, the managed resources and
+-- the metadata (ECMA-335 II.25).
 use Rattle.std.specs.Prelude.{◌≡◌, ℕ, ◌+◌, ◌-◌, ◌*◌, ◌/◌, ◌^◌, ◌≤◌, ◌<◌, Bool, true, false, List, [], ◌∷◌, ◌++◌, length, replicate, Result, Ok, Err, ◌==◌, if◌then◌else◌, codes}
 use Rattle.std.specs.Int.{w16, w32, to_le_bytes}
 use Rattle.enc_meta.specs.Heaps.{part}
@@ -29,7 +30,8 @@ half n = to_le_bytes w16 n
 abbrev pub word : ℕ → List ℕ
 word n = to_le_bytes w32 n
 
--- where the parts of the section begin: behind the code the CLI header of 72 bytes, then the resources, then the metadata, each at a multiple of four
+-- where the parts of the section begin: behind the code the CLI header of 72 bytes, then the resources, then the
+-- metadata, each at a multiple of four
 abbrev pub cli_place : List ℕ → ℕ
 cli_place code = rounded 4 (length code)
 
@@ -43,18 +45,22 @@ root_place code resources = resources_place code + rounded 4 (length resources)
 abbrev pub resources_rva : List ℕ → List ℕ → ℕ
 resources_rva code resources = if length resources == 0 then 0 else code_rva + resources_place code
 
--- a CLI header: runtime version 2.5, where the metadata is, ILONLY, the entry point, where the resources are, and no other directory (II.25.3.3)
+-- a CLI header: runtime version 2.5, where the metadata is, ILONLY, the entry point, where the resources are, and no
+-- other directory (II.25.3.3)
 unfoldable pub cli_header : ℕ → ℕ → ℕ → ℕ → ℕ → List ℕ
 cli_header metadata many entry resources few =
-    word 72 ++ half 2 ++ half 5 ++ word metadata ++ word many ++ word 1 ++ word entry ++ word resources ++ word few ++ replicate 40 0
+    word 72 ++ half 2 ++ half 5 ++ word metadata ++ word many ++ word 1 ++ word entry ++ word resources ++ word few
+    ++ replicate 40 0
 
 -- the CLI header of these parts
 abbrev pub cli_written : List ℕ → List ℕ → List ℕ → ℕ → List ℕ
-cli_written root code resources entry = cli_header (code_rva + root_place code resources) (length root) entry (resources_rva code resources) (length resources)
+cli_written root code resources entry = cli_header (code_rva + root_place code resources) (length root) entry
+    (resources_rva code resources) (length resources)
 
 -- the bytes of the section
 unfoldable pub section_written : List ℕ → List ℕ → List ℕ → ℕ → List ℕ
-section_written root code resources entry = filled_to 4 code ++ cli_written root code resources entry ++ filled_to 4 resources ++ root
+section_written root code resources entry =
+    filled_to 4 code ++ cli_written root code resources entry ++ filled_to 4 resources ++ root
 
 -- the size of the section, in the file with zeros up to a multiple of 512
 abbrev pub section_size : List ℕ → List ℕ → List ℕ → ℕ
@@ -87,14 +93,17 @@ unfoldable pub directories : ℕ → List ℕ
 directories cli = replicate 112 0 ++ word cli ++ word 72 ++ replicate 8 0
 
 abbrev pub optional_header : ℕ → ℕ → ℕ → List ℕ
-optional_header size raw cli = standard_fields raw ++ nt_fields (code_rva + rounded 0x2000 size) ++ directories (code_rva + cli)
+optional_header size raw cli =
+    standard_fields raw ++ nt_fields (code_rva + rounded 0x2000 size) ++ directories (code_rva + cli)
 
 -- the header of the one section: code that is read and run (II.25.3)
 unfoldable pub section_header : ℕ → ℕ → List ℕ
-section_header size raw = codes ".text" ++ replicate 3 0 ++ word size ++ word code_rva ++ word raw ++ word headers_size ++ replicate 12 0 ++ word 0x60000020
+section_header size raw = codes ".text" ++ replicate 3 0 ++ word size ++ word code_rva ++ word raw ++ word headers_size
+    ++ replicate 12 0 ++ word 0x60000020
 
 unfoldable pub headers_written : ℕ → ℕ → ℕ → List ℕ
-headers_written size raw cli = filled_to headers_size (dos_header ++ coff_header ++ optional_header size raw cli ++ section_header size raw)
+headers_written size raw cli =
+    filled_to headers_size (dos_header ++ coff_header ++ optional_header size raw cli ++ section_header size raw)
 
 -- the image
 unfoldable pub image_written : List ℕ → List ℕ → List ℕ → ℕ → List ℕ
@@ -126,5 +135,7 @@ pub record Holds (image root code kept : List ℕ) (start : ℕ) (c : Container)
 
 -- an image that was written is read back
 abbrev pub ImageIsRead : Type 0
-ImageIsRead = (root code resources : List ℕ) (entry : ℕ) → image_size root code resources ≤ most_bytes → entry < 2 ^ 32 → (c : Container)
-    × (container_of (image_written root code resources entry) ≡ Ok c) × Holds (image_written root code resources entry) root code resources entry c
+ImageIsRead = (root code resources : List ℕ) (entry : ℕ) → image_size root code resources ≤ most_bytes → entry < 2 ^ 32
+    → (c : Container)
+    × (container_of (image_written root code resources entry) ≡ Ok c)
+    × Holds (image_written root code resources entry) root code resources entry c

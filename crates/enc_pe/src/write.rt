@@ -212,7 +212,8 @@ fn push_cli_header(
     resources: (u32, u32),
     out: &mut Vec<u8>,
 ) -> Result<(), AllocError>
-    ensures { OnOk result (out.new.items ≡ out.old.items ++ cli_header metadata.0 metadata.1 entry resources.0 resources.1) }
+    ensures { OnOk result (out.new.items
+        ≡ out.old.items ++ cli_header metadata.0 metadata.1 entry resources.0 resources.1) }
 {
     let words = [
         72, // Cb

@@ -31,7 +31,8 @@ pub record BeginWith (first : List RowPlace) (generation count : ℕ) (kept : �
 
 -- the first places that are kept of each token are these, up to a generation, whatever others follow
 abbrev pub KeepsPlaces : (Token → List RowPlace) → ℕ → Places → Type 0
-KeepsPlaces first generation x = (u : Token) → BeginWith (first u) generation (places_kept x u) (λ i. value_at x.places (place_key u i))
+KeepsPlaces first generation x =
+    (u : Token) → BeginWith (first u) generation (places_kept x u) (λ i. value_at x.places (place_key u i))
 
 -- and there are no others
 pub record KeepsAllPlaces (every : Token → List RowPlace) (generation : ℕ) (x : Places) : Type 0 where
@@ -48,7 +49,8 @@ with_own every own u = every u ++ one_place (own u)
 
 -- tokens have these places, each behind those that it had, and how many they are then
 pub record AreListings (every : Token → List RowPlace) (own : Token → Option RowPlace) (l : Listings) : Type 0 where
-  pub counts : (u : Token) → latest l.counts.items (place_key u 0) ≡ option_map (λ (p : RowPlace). length (every u) + 1) (own u)
+  pub counts : (u : Token) → latest l.counts.items (place_key u 0) ≡ option_map (λ (p : RowPlace). length (every u) + 1)
+      (own u)
   pub last : (u : Token) → latest l.places.items (place_key u (length (every u))) ≡ own u
   pub others : (u : Token) (i : ℕ) → i < length (every u) → latest l.places.items (place_key u i) ≡ None
 
@@ -59,5 +61,7 @@ of_those tokens has u = if list_any (λ t. is_token t u) tokens then has u else 
 -- so it is of the places of these tokens alone
 abbrev pub AreOfThose : Places → List Token → (Token → Option RowPlace) → Listings → Type 0
 AreOfThose x tokens own l =
-    ((u : Token) → latest l.counts.items (place_key u 0) ≡ option_map (λ (p : RowPlace). places_kept x u + 1) (of_those tokens own u))
-    × ((u : Token) (i : ℕ) → latest l.places.items (place_key u i) ≡ (if places_kept x u == i then of_those tokens own u else None))
+    ((u : Token) → latest l.counts.items (place_key u 0) ≡ option_map (λ (p : RowPlace). places_kept x u + 1)
+    (of_those tokens own u))
+    × ((u : Token) (i : ℕ) → latest l.places.items (place_key u i)
+    ≡ (if places_kept x u == i then of_those tokens own u else None))

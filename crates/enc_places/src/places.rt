@@ -65,8 +65,11 @@ impl Listings {
         place: Option<RowPlace>,
     ) -> Result<(), AllocError>
         requires few { others + 1 < 2 ^ 32 }
-        ensures counts { IfOk result (λ _. (q : TheKey) → latest self.new.counts.items q ≡ either (if is_key (place_key token 0) q then option_map (λ (p : ThePlace). others + 1) place else None) (latest self.old.counts.items q)) }
-        ensures places { IfOk result (λ _. (q : TheKey) → latest self.new.places.items q ≡ either (if is_key (place_key token others) q then place else None) (latest self.old.places.items q)) }
+        ensures counts { IfOk result (λ _. (q : TheKey) → latest self.new.counts.items q
+            ≡ either (if is_key (place_key token 0) q then option_map (λ (p : ThePlace). others + 1) place else None)
+            (latest self.old.counts.items q)) }
+        ensures places { IfOk result (λ _. (q : TheKey) → latest self.new.places.items q
+            ≡ either (if is_key (place_key token others) q then place else None) (latest self.old.places.items q)) }
     {
         let Some(place) = place else {
             return Ok(());
@@ -91,8 +94,10 @@ impl Places {
 
     /// Puts in what a generation brings. It takes no memory.
     pub fn add(&mut self, listings: Listings)
-        ensures places { (q : TheKey) → value_at self.new.places q ≡ either (latest listings.places.items q) (value_at self.old.places q) }
-        ensures counts { (q : TheKey) → value_at self.new.counts q ≡ either (latest listings.counts.items q) (value_at self.old.counts q) }
+        ensures places { (q : TheKey) →
+            value_at self.new.places q ≡ either (latest listings.places.items q) (value_at self.old.places q) }
+        ensures counts { (q : TheKey) →
+            value_at self.new.counts q ≡ either (latest listings.counts.items q) (value_at self.old.counts q) }
     {
         self.places.put_all(listings.places);
         self.counts.put_all(listings.counts);
@@ -127,7 +132,8 @@ impl Places {
 
     /// How many of a token's places are up to a generation: searched for by halves.
     fn count_upto(&self, token: Token, generation: usize) -> u32
-        ensures { (first : List ThePlace) → BeginWith first generation (places_kept self.now token) (λ i. value_at self.now.places (place_key token i)) → result ≡ length first }
+        ensures { (first : List ThePlace) → BeginWith first generation (places_kept self.now token)
+            (λ i. value_at self.now.places (place_key token i)) → result ≡ length first }
     {
         let mut low = 0;
         let mut high = self.count(token);
@@ -146,7 +152,8 @@ impl Places {
     /// that are kept of it, up to that generation, the last. It looks at no more of them than their number has binary
     /// digits.
     pub fn last_upto(&self, token: Token, generation: usize) -> Option<RowPlace>
-        ensures { (first : List ThePlace) → BeginWith first generation (places_kept self.now token) (λ i. value_at self.now.places (place_key token i)) → result ≡ slice_get first (length first - 1) }
+        ensures { (first : List ThePlace) → BeginWith first generation (places_kept self.now token)
+            (λ i. value_at self.now.places (place_key token i)) → result ≡ slice_get first (length first - 1) }
     {
         let Some(last) = self.count_upto(token, generation).checked_sub(1) else {
             return None;

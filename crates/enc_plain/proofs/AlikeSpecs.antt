@@ -16,3 +16,5 @@ other_tokens rows a b other gone = rw (other, gone) refl
 pub alike_tokens : (rows : Rows) (a b : Token) → refs_alike rows 100 a b ≡ true → true ≡ tokens_alike rows a b
 unfolding tokens_alike
 alike_tokens rows a b h = rw h refl
+
+pub ruleset tokens_cases = (spec_tokens, other_tokens, alike_tokens)

@@ -54,3 +54,13 @@ method_name t e = rw e refl
 pub field_signature : (t : ℕ) → t ≡ 0x04 → kind_in t 2 ≡ Some blobs
 unfolding columns_in
 field_signature t e = rw e refl
+
+pub ruleset flags_cases = (method_flags, type_flags)
+
+pub ruleset flags_steps = (field_flags, method_flags)
+
+pub ruleset member_steps = (member_class, member_name, member_signature)
+
+pub ruleset reference_steps = (reference_name, reference_space)
+
+pub ruleset column_kinds_steps = (type_base, reference_name, reference_space)

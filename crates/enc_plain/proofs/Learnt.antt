@@ -92,3 +92,5 @@ inner_spec rows t e = key_other rows 100 t (omega arith) (ap (λ n. n == 0x01) e
 pub inner_other : (rows : Rows) (t : Token) → (t.table == 0x1B) ≡ false → key_of rows t ≡ ref_key rows 100 t
 unfolding key_of
 inner_other rows t e = rw e refl
+
+pub ruleset learnt_steps = (none_learnt, no_names, no_shape, no_signature)

@@ -1,4 +1,5 @@
--- Likeness: which tokens and signatures say the same though they are different. A compiler writes its references anew in each delta.
+-- Likeness: which tokens and signatures say the same though they are different. A compiler writes its references
+-- anew in each delta.
 use Rattle.std.specs.Prelude.{ℕ, zero, suc, Bool, ◌&&◌, ◌||◌, ◌==◌, List, is_some, bytes_eq, if◌then◌else◌}
 use Rattle.enc_base.specs.Token.{is_token}
 use Rattle.enc_base.specs.declared.token.Token.{Token}
@@ -31,7 +32,8 @@ type_refs_alike rows scopes a b =
 unfoldable pub assembly_refs_alike : Rows → Token → Token → Bool
 assembly_refs_alike rows a b =
     are_rows rows tables.assembly_ref a b
-    && same_number rows a b 0 && same_number rows a b 1 && same_number rows a b 2 && same_number rows a b 3 && same_number rows a b 4
+    && same_number rows a b 0 && same_number rows a b 1 && same_number rows a b 2 && same_number rows a b 3
+    && same_number rows a b 4
     && same_bytes rows a b 5 && same_bytes rows a b 6 && same_bytes rows a b 7 && same_bytes rows a b 8
 
 -- ModuleRefs with equal names (II.22.31)
@@ -41,7 +43,8 @@ module_refs_alike rows a b = are_rows rows tables.module_ref a b && same_bytes r
 -- equal tokens, and references alike by at most so many scopes one in the other; past that equal ones alone
 unfoldable pub refs_alike : Rows → ℕ → Token → Token → Bool
 refs_alike rows zero a b = is_token a b
-refs_alike rows (suc depth) a b = is_token a b || type_refs_alike rows (refs_alike rows depth) a b || assembly_refs_alike rows a b || module_refs_alike rows a b
+refs_alike rows (suc depth) a b = is_token a b || type_refs_alike rows (refs_alike rows depth) a b
+    || assembly_refs_alike rows a b || module_refs_alike rows a b
 
 -- what is alike inside the signature of a TypeSpec, where a TypeSpec is alike itself alone
 abbrev pub inner_alike : Rows → Token → Token → Bool
@@ -55,9 +58,11 @@ blobs_alike same table a b = bytes_eq a b || sigs_agree same (kind_in_table tabl
 unfoldable pub type_specs_alike : Rows → Token → Token → Bool
 type_specs_alike rows a b =
     are_rows rows tables.type_spec a b
-    && blobs_alike (inner_alike rows) tables.type_spec (bytes_at rows a columns.type_spec_signature) (bytes_at rows b columns.type_spec_signature)
+    && blobs_alike (inner_alike rows) tables.type_spec (bytes_at rows a columns.type_spec_signature)
+    (bytes_at rows b columns.type_spec_signature)
 
--- tokens are alike: equal, or references or TypeSpecs that are alike. Likeness ends at a depth of 100, where a scope, and a token in a TypeSpec, is one deeper
+-- tokens are alike: equal, or references or TypeSpecs that are alike. Likeness ends at a depth of 100, where a
+-- scope, and a token in a TypeSpec, is one deeper
 unfoldable pub tokens_alike : Rows → Token → Token → Bool
 tokens_alike rows a b = refs_alike rows 100 a b || type_specs_alike rows a b
 

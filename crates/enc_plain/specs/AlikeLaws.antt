@@ -13,7 +13,8 @@ EachIsAlikeItself = (rows : Rows) (t : Token) → tokens_alike rows t t ≡ true
 -- a TypeRef is alike none with another text in a column: name or namespace
 abbrev pub NoneIsAlikeByAnother : ℕ → Type 0
 NoneIsAlikeByAnother column =
-    (rows : Rows) (a b : Token) → a.table ≡ tables.type_ref → ¬ (bytes_at rows a column ≡ bytes_at rows b column) → tokens_alike rows a b ≡ false
+    (rows : Rows) (a b : Token) → a.table ≡ tables.type_ref → ¬ (bytes_at rows a column ≡ bytes_at rows b column)
+    → tokens_alike rows a b ≡ false
 
 -- a token that names no row is alike itself alone
 abbrev pub AbsentIsAlikeItselfAlone : Type 0

@@ -15,7 +15,8 @@ pub record Change : Type 0 where
 abbrev pub childless : ℕ → List Cell → Row
 childless table cells = record { cells = cells; kids = map (λ (child : ℕ). []) (runs_in table) }
 
--- the rows with these cells in the n-th, n from 0, which keeps its children, or in a new row where that is the next; further on nothing changes
+-- the rows with these cells in the n-th, n from 0, which keeps its children, or in a new row where that is the next;
+-- further on nothing changes
 abbrev pub put_row : ℕ → List Row → ℕ → List Cell → List Row
 put_row table [] zero cells = childless table cells ∷ []
 put_row table [] (suc n) cells = []
@@ -58,7 +59,10 @@ pub record Attached : Type 0 where
 
 -- the row with one child more, the last of its kind
 abbrev pub with_child : Token → Row → Row
-with_child child r = record { cells = r.cells; kids = change_at r.kids (run_index child.table) (λ ks. ks ++ child.row ∷ []) }
+with_child child r = record {
+  cells = r.cells;
+  kids = change_at r.kids (run_index child.table) (λ ks. ks ++ child.row ∷ []);
+}
 
 -- the module with a child attached to its owner
 unfoldable pub attach : Module → Attached → Module
@@ -75,4 +79,5 @@ attach_all m (a ∷ pairs) = attach_all (attach m a) pairs
 
 -- the children that a token's row gains in a child table, in order
 abbrev pub gained : List Attached → Token → ℕ → List ℕ
-gained pairs u child = map (λ (a : Attached). a.child.row) (filter (λ (a : Attached). is_token a.owner u && a.child.table == child) pairs)
+gained pairs u child = map (λ (a : Attached). a.child.row)
+    (filter (λ (a : Attached). is_token a.owner u && a.child.table == child) pairs)

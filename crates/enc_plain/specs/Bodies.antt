@@ -21,7 +21,9 @@ abbrev pub code_is_good : (ℕ → ℕ) → (ℕ → Option (List ℕ)) → Opti
 code_is_good count texts None = false
 code_is_good count texts (Some c) = is_good count c && texts_are_there texts c.code
 
--- a method has no place for a body, or it is of IL code, which the low two bits of ImplFlags tell (II.23.1.11), and its body is good
+-- a method has no place for a body, or it is of IL code, which the low two bits of ImplFlags tell (II.23.1.11), and
+-- its body is good
 unfoldable pub body_is_good : (ℕ → ℕ) → (ℕ → Option (List ℕ)) → List Region → ℕ → ℕ → Bool
 body_is_good count texts regions zero flags = true
-body_is_good count texts regions (suc n) flags = flags % 4 == 0 && code_is_good count texts (code_loaded regions (suc n))
+body_is_good count texts regions (suc n) flags =
+    flags % 4 == 0 && code_is_good count texts (code_loaded regions (suc n))

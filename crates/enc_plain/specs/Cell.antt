@@ -7,7 +7,8 @@ use Rattle.enc_schema.specs.declared.column.Column.TheVariants.{Num8, Num16, Num
 use Rattle.enc_schema.specs.Schema.{columns_in, column_in}
 use Rattle.enc_schema.specs.Tables as tables
 
--- a number; the bytes of a text, of a blob, of a GUID; a token, where nil names nothing; the body of a method, or that it has none; the initial bytes of a
+-- a number; the bytes of a text, of a blob, of a GUID; a token, where nil names nothing; the body of a method, or
+-- that it has none; the initial bytes of a
 -- field (ECMA-335 II.22)
 pub data Cell : Type 0 where
   number : ℕ → Cell
@@ -50,7 +51,8 @@ kind_of (Index table) = Some references
 kind_of (Coded kind) = Some references
 kind_of (Run table) = None
 
--- the columns whose numbers are places: that of a method's body (ECMA-335 II.22.26), and that of a field's bytes (II.22.18)
+-- the columns whose numbers are places: that of a method's body (ECMA-335 II.22.26), and that of a field's bytes
+-- (II.22.18)
 abbrev pub is_body : ℕ → ℕ → Bool
 is_body table i = table == tables.method_def && i == 0
 
@@ -59,7 +61,8 @@ is_field table i = table == tables.field_rva && i == 0
 
 -- the kind of cells in a table's column
 abbrev pub kind_in : ℕ → ℕ → Option Kind
-kind_in table i = if is_body table i then Some bodies else if is_field table i then Some fields else option_and_then kind_of (column_in table i)
+kind_in table i = if is_body table i then Some bodies else if is_field table i then Some fields
+    else option_and_then kind_of (column_in table i)
 
 -- how many columns of a table have cells; runs stand behind them
 abbrev pub cell_count : ℕ → ℕ

@@ -4,7 +4,8 @@ use Rattle.enc_meta.specs.Heaps.{Counted, nil_guid}
 use Rattle.enc_plain.specs.Cell.{Cell, guid}
 use Rattle.enc_plain.specs.Module.{Module, rows_in, cell_of}
 
--- the plain module after all deltas, the EncIds of the deltas in order, and the heaps of each generation from the base on
+-- the plain module after all deltas, the EncIds of the deltas in order, and the heaps of each generation from the
+-- base on
 pub record Chain : Type 0 where
   pub plain : Module
   pub ids : List (List ℕ)

@@ -1,4 +1,5 @@
--- The plain PDB: for each method its local signature and its sequence points, each with its document (Portable PDB v1.0).
+-- The plain PDB: for each method its local signature and its sequence points, each with its document (Portable PDB
+-- v1.0).
 use Rattle.std.specs.Prelude.{ℕ, List, [], map, Option}
 use Rattle.enc_base.specs.declared.token.Token.{Token}
 use Rattle.enc_seqpoints.specs.declared.point.Point.{Point}
@@ -11,7 +12,8 @@ pub record Document : Type 0 where
   pub hash : List ℕ
   pub language : List ℕ
 
--- a point: its offset in the code, its document, and its start line, start column, end line and end column, or that it is hidden
+-- a point: its offset in the code, its document, and its start line, start column, end line and end column, or that
+-- it is hidden
 pub record PlainPoint : Type 0 where
   pub offset : ℕ
   pub document : Option Document

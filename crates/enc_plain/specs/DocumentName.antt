@@ -6,14 +6,16 @@ use Rattle.enc_meta.specs.Heaps.{blob_at}
 -- a part of a document's name: the compressed offset of a blob
 unfoldable pub part_in : List ℕ → List ℕ → Option (List ℕ × List ℕ)
 part_in blobs bytes =
-    option_and_then (λ (number : ℕ × ℕ). option_map (λ (text : List ℕ). (text, drop number.1 bytes)) (blob_at blobs number.0)) (compressed bytes)
+    option_and_then (λ (number : ℕ × ℕ). option_map (λ (text : List ℕ). (text, drop number.1 bytes))
+    (blob_at blobs number.0)) (compressed bytes)
 
 -- the parts to the end of the bytes, of which there are no more than bytes
 unfoldable pub name_parts_in : List ℕ → ℕ → List ℕ → Option (List (List ℕ))
 name_parts_in blobs n [] = Some []
 name_parts_in blobs zero (x ∷ rest) = None
 name_parts_in blobs (suc n) (x ∷ rest) =
-    option_and_then (λ (p : List ℕ × List ℕ). option_map (λ (texts : List (List ℕ)). p.0 ∷ texts) (name_parts_in blobs n p.1))
+    option_and_then (λ (p : List ℕ × List ℕ). option_map (λ (texts : List (List ℕ)). p.0 ∷ texts)
+    (name_parts_in blobs n p.1))
     (part_in blobs (x ∷ rest))
 
 -- the texts with the separator between them; a separator of 0 is none
@@ -24,7 +26,8 @@ separator_bytes (suc n) = suc n ∷ []
 unfoldable pub name_joined : ℕ → List (List ℕ) → List ℕ
 name_joined separator [] = []
 name_joined separator (text ∷ []) = text
-name_joined separator (text ∷ next ∷ texts) = text ++ (separator_bytes separator ++ name_joined separator (next ∷ texts))
+name_joined separator (text ∷ next ∷ texts) =
+    text ++ (separator_bytes separator ++ name_joined separator (next ∷ texts))
 
 -- a document's name: a separator of one byte, and the parts
 unfoldable pub document_name_in : List ℕ → List ℕ → Option (List ℕ)

@@ -1,4 +1,5 @@
--- When changes fit a module: each row is one of its table or the next, and no token is changed twice. When children can be attached to it, each to a row of
+-- When changes fit a module: each row is one of its table or the next, and no token is changed twice. When children
+-- can be attached to it, each to a row of
 -- their owners' table.
 use Rattle.std.specs.Prelude.{◌≡◌, ℕ, ◌+◌, ◌<◌, ◌≤◌, Bool, true, false, List, [], ◌∷◌, length, Option, Some, None, if◌then◌else◌, slice_get}
 use Rattle.std.specs.List.{list_any}

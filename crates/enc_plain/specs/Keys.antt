@@ -1,4 +1,5 @@
--- Keys of tokens and signatures: mixes that alike ones have in common. They tell which are worth comparing; that keys are equal says nothing.
+-- Keys of tokens and signatures: mixes that alike ones have in common. They tell which are worth comparing; that
+-- keys are equal says nothing.
 use Rattle.std.specs.Prelude.{◌≡◌, ℕ, zero, suc, ◌+◌, ◌*◌, ◌^◌, Bool, true, false, nat_lt, ◌==◌, List, Option, Some, unwrap_or, if◌then◌else◌}
 use Rattle.enc_base.specs.declared.token.Token.{Token}
 use Rattle.enc_sigs.specs.Mix.{mix_of, mixed, mixed_both, mixed_ends, finished}
@@ -23,7 +24,8 @@ name_mix bytes = mixed_ends 0x800 (mix_of 0) bytes
 
 -- of a TypeRef's two names
 unfoldable pub names_key : Rows → Token → Mix
-names_key rows t = mixed_both (name_mix (bytes_at rows t columns.type_ref_type_name)) (name_mix (bytes_at rows t columns.type_ref_type_namespace))
+names_key rows t = mixed_both (name_mix (bytes_at rows t columns.type_ref_type_name))
+    (name_mix (bytes_at rows t columns.type_ref_type_namespace))
 
 -- of a TypeRef: its names, and the key of its scope
 unfoldable pub type_ref_key : Rows → Mix → Token → Mix
@@ -45,7 +47,8 @@ module_ref_key rows t = mixed_ends 0x800 (mix_of tables.module_ref) (bytes_at ro
 unfoldable pub ref_key : Rows → ℕ → Token → Mix
 ref_key rows zero t = token_key t
 ref_key rows (suc depth) t =
-    if t.table == tables.type_ref then scoped_key rows (nat_lt 96 (suc depth)) (ref_key rows depth (token_at rows t columns.type_ref_resolution_scope)) t
+    if t.table == tables.type_ref then scoped_key rows (nat_lt 96 (suc depth))
+    (ref_key rows depth (token_at rows t columns.type_ref_resolution_scope)) t
     else if t.table == tables.assembly_ref then assembly_ref_key rows t
     else if t.table == tables.module_ref then module_ref_key rows t
     else token_key t
@@ -68,12 +71,14 @@ signature_key rows table blob = finished (sig_shape (key_of rows) (kind_in_table
 
 -- of a member's signature; an event has none
 unfoldable pub member_key : Rows → Token → ℕ
-member_key rows t = if t.table == tables.event then 0 else signature_key rows t.table (bytes_at rows t (unwrap_or (signature_column t.table) 0))
+member_key rows t = if t.table == tables.event then 0
+    else signature_key rows t.table (bytes_at rows t (unwrap_or (signature_column t.table) 0))
 
 -- an index has none but what a function gives blobs: each by the table of its rows and by its place
 abbrev pub AreOfBlobs : {K : Type 0} → (ℕ → List ℕ → K) → (ℕ → Option (List ℕ)) → Index K → Type 0
 AreOfBlobs key stored index =
-    (q : Key) (k : _) (blob : List ℕ) → value_at index q ≡ Some k → stored (q.place * 2 ^ 32 + q.row) ≡ Some blob → k ≡ key q.table blob
+    (q : Key) (k : _) (blob : List ℕ) → value_at index q ≡ Some k → stored (q.place * 2 ^ 32 + q.row) ≡ Some blob
+    → k ≡ key q.table blob
 
 -- the keys of signatures, and the shapes of those of TypeSpecs
 abbrev pub AreSignatureKeys : Rows → (ℕ → Option (List ℕ)) → Index ℕ → Type 0

@@ -1,4 +1,5 @@
--- The plain module: for each table its rows, each a list of cells and its children (ECMA-335 II.22). It knows no heaps, no offsets, no files.
+-- The plain module: for each table its rows, each a list of cells and its children (ECMA-335 II.22). It knows no
+-- heaps, no offsets, no files.
 use Rattle.std.specs.Prelude.{ℕ, zero, suc, Bool, ◌&&◌, List, [], length, position, Option, Some, None, option_map, option_and_then, nat_lt, nat_le, ◌==◌, if◌then◌else◌, slice_get}
 use Rattle.std.specs.List.{list_any}
 use Rattle.enc_base.specs.Token.{nth_row}
@@ -12,7 +13,8 @@ pub record Row : Type 0 where
   pub cells : List Cell
   pub kids : List (List ℕ)
 
--- a module: the rows of each table, by the table's number, the bytes of its managed resources, and the number of its entry point (II.25.3.3)
+-- a module: the rows of each table, by the table's number, the bytes of its managed resources, and the number of its
+-- entry point (II.25.3.3)
 pub record Module : Type 0 where
   pub tables : List (List Row)
   pub resources : List ℕ
@@ -52,7 +54,8 @@ kids_with None child = []
 
 -- the children that a token's row owns in a child table, in order of attachment; in other tables there are none
 unfoldable pub kids_of : Module → Token → ℕ → List ℕ
-kids_of m owner child = if is_child_table child && owner.table == owner_table child then kids_with (row_of m owner) child else []
+kids_of m owner child = if is_child_table child && owner.table == owner_table child
+    then kids_with (row_of m owner) child else []
 
 -- the row has this child
 abbrev pub has_kid : Token → Row → Bool
@@ -60,4 +63,5 @@ has_kid child r = list_any (λ (k : ℕ). k == child.row) (kids_at r child.table
 
 -- the owner of a child row: the first row of its owners' table that has it
 unfoldable pub owner_of : Module → Token → Option Token
-owner_of m child = option_map (nth_row (owner_table child.table)) (position (has_kid child) (rows_in m (owner_table child.table)))
+owner_of m child = option_map (nth_row (owner_table child.table))
+    (position (has_kid child) (rows_in m (owner_table child.table)))

@@ -16,4 +16,5 @@ names_of rows row = (
 
 -- each row leads to one that has its names
 abbrev pub AreNamesakes : Rows → Namesakes → Type 0
-AreNamesakes rows known = (row next : ℕ) → get nat_cmp known.others row ≡ Some next → names_of rows row ≡ names_of rows next
+AreNamesakes rows known = (row next : ℕ) → get nat_cmp known.others row ≡ Some next
+    → names_of rows row ≡ names_of rows next

@@ -8,7 +8,8 @@ use Rattle.enc_schema.specs.declared.column.Column.TheVariants.{Num8, Num16, Num
 use Rattle.enc_schema.specs.Coding.{decoded}
 use Rattle.enc_plain.specs.Cell.{Cell, number, text, blob, guid, refer, body, field, is_body, is_field}
 
--- by what numbers are read: the entries at an offset of each heap, how many rows a table has, the body at a place, and the bytes of a field by its row of
+-- by what numbers are read: the entries at an offset of each heap, how many rows a table has, the body at a place,
+-- and the bytes of a field by its row of
 -- FieldRVA
 pub record Reading : Type 0 where
   pub text : ℕ → Option (List ℕ)
@@ -27,7 +28,8 @@ abbrev pub index_token : ℕ → ℕ → Token
 index_token table zero = nil
 index_token table (suc r) = record { table = table; row = suc r }
 
--- the cell that a column's number stands for: None where an offset isn't good, where an index is past its table or has a tag of no table, and for a run,
+-- the cell that a column's number stands for: None where an offset isn't good, where an index is past its table or
+-- has a tag of no table, and for a run,
 -- which has no cell
 unfoldable pub cell_read : Reading → Column → ℕ → Option Cell
 cell_read r Num8 n = Some (number n)
@@ -43,4 +45,5 @@ cell_read r (Run table) n = None
 -- the cell in a row's column
 unfoldable pub cell_with : Reading → Token → ℕ → Column → ℕ → Option Cell
 cell_with r row i column n =
-    if is_body row.table i then Some (body (r.code n)) else if is_field row.table i then Some (field (r.field row)) else cell_read r column n
+    if is_body row.table i then Some (body (r.code n)) else if is_field row.table i then Some (field (r.field row))
+    else cell_read r column n

@@ -5,7 +5,8 @@ use Rattle.enc_sigs.specs.declared.kind.SigKind.TheVariants as kind
 use Rattle.enc_sigs.specs.Grammar.{sig_in, is_counted}
 use Rattle.enc_schema.specs.Tables as tables
 
--- the column of a table that holds a signature: of Field, MethodDef, MemberRef, StandAloneSig, Property, TypeSpec and MethodSpec (II.22.15, 26, 25, 36, 34,
+-- the column of a table that holds a signature: of Field, MethodDef, MemberRef, StandAloneSig, Property, TypeSpec
+-- and MethodSpec (II.22.15, 26, 25, 36, 34,
 -- 39, 29)
 unfoldable pub signature_column : ℕ → Option ℕ
 signature_column table =

@@ -30,7 +30,8 @@ row_count m table = length (rows_in m table)
 abbrev pub is_part : ℕ → Bool
 is_part table =
     not (list_any (λ t. t == table)
-    (tables.field_ptr ∷ tables.method_ptr ∷ tables.param_ptr ∷ tables.event_ptr ∷ tables.property_ptr ∷ tables.enc_log ∷ tables.enc_map ∷ []))
+    (tables.field_ptr ∷ tables.method_ptr ∷ tables.param_ptr ∷ tables.event_ptr ∷ tables.property_ptr ∷ tables.enc_log
+    ∷ tables.enc_map ∷ []))
 
 -- a column can name rows of this table
 abbrev pub is_tables : ℕ → Option ℕ → Bool
@@ -54,9 +55,11 @@ number_fits _ n = nat_lt n (2 ^ 32)
 
 -- a local signature is the nil token, or the row of one of locals (II.23.2.6)
 abbrev pub locals_are_sound : Module → Token → Bool
-locals_are_sound m t = if t.row == 0 then is_token t nil else begins_locals (bytes_at (cells_of m) t columns.stand_alone_sig_signature)
+locals_are_sound m t = if t.row == 0 then is_token t nil
+    else begins_locals (bytes_at (cells_of m) t columns.stand_alone_sig_signature)
 
--- a body stands only where the low two bits of ImplFlags tell IL code (II.23.1.11), it is good, and so is its local signature
+-- a body stands only where the low two bits of ImplFlags tell IL code (II.23.1.11), it is good, and so is its local
+-- signature
 unfoldable pub method_is_sound : Module → Token → Body → Bool
 method_is_sound m method b =
     number_at (cells_of m) method columns.method_def_impl_flags % 4 == 0
@@ -66,7 +69,8 @@ method_is_sound m method b =
 -- the size that the first row of ClassLayout with this parent tells (II.22.8)
 unfoldable pub class_size_at : Module → ℕ → ℕ → Option ℕ
 class_size_at m type k =
-    if is_token (token_at (cells_of m) (nth_row tables.class_layout k) columns.class_layout_parent) (record { table = tables.type_def; row = type })
+    if is_token (token_at (cells_of m) (nth_row tables.class_layout k) columns.class_layout_parent)
+    (record { table = tables.type_def; row = type })
     then Some (number_at (cells_of m) (nth_row tables.class_layout k) columns.class_layout_class_size)
     else None
 
@@ -93,7 +97,8 @@ is_size n None = false
 unfoldable pub field_is_sound : Module → Token → List ℕ → Bool
 field_is_sound m row there = length there == 0 || is_size (length there) (size_of m (extent_of m row))
 
--- a number fits its column's width, a text has no zero, a blob is any bytes, a GUID has sixteen of them, and all else is as above
+-- a number fits its column's width, a text has no zero, a blob is any bytes, a GUID has sixteen of them, and all
+-- else is as above
 abbrev pub cell_is_sound : Module → Token → Column → Cell → Bool
 cell_is_sound m u column (number n) = number_fits column n
 cell_is_sound m u column (text there) = not (list_any (λ b. b == 0) there)
@@ -132,11 +137,13 @@ pub record HasOwners (m : Module) : Type 0 where
 -- each row has a cell in each of its columns that has one, of the column's kind
 pub record HasKinds (m : Module) : Type 0 where
   pub lengths : (t n : ℕ) (r : Row) → slice_get (rows_in m t) n ≡ Some r → length r.cells ≡ cell_count t
-  pub kinds : (u : Token) (i : ℕ) (k : Kind) → has_row m u ≡ true → kind_in u.table i ≡ Some k → option_map cell_kind (cell_of m u i) ≡ Some k
+  pub kinds : (u : Token) (i : ℕ) (k : Kind) → has_row m u ≡ true → kind_in u.table i ≡ Some k
+      → option_map cell_kind (cell_of m u i) ≡ Some k
 
 -- what a cell says fits its column
 pub record HasCells (m : Module) : Type 0 where
-  pub each : (u : Token) (i : ℕ) (column : Column) (c : Cell) → has_row m u ≡ true → column_in u.table i ≡ Some column → cell_of m u i ≡ Some c
+  pub each : (u : Token) (i : ℕ) (column : Column) (c : Cell) → has_row m u ≡ true → column_in u.table i ≡ Some column
+      → cell_of m u i ≡ Some c
       → cell_is_sound m u column c ≡ true
 
 -- each signature is one of its table's kind, by the module's own rows
@@ -144,7 +151,8 @@ pub record HasSignatures (m : Module) : Type 0 where
   pub each : (u : Token) (i : ℕ) → has_row m u ≡ true → signature_column u.table ≡ Some i
       → is_signature (row_count m) u.table (bytes_at (cells_of m) u i) ≡ true
 
--- the tables are a module's, with owners and children; each column has a cell of its kind, and what it says fits the column; each signature is one
+-- the tables are a module's, with owners and children; each column has a cell of its kind, and what it says fits the
+-- column; each signature is one
 pub record IsSound (m : Module) : Type 0 where
   pub owners : HasOwners m
   pub counts : HasCounts m

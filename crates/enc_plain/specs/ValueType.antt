@@ -9,6 +9,8 @@ use Rattle.enc_schema.specs.Columns as columns
 unfoldable pub is_value_type : Rows → Token → Bool
 is_value_type rows t =
     (token_at rows t columns.type_def_extends).table == tables.type_ref
-    && bytes_eq (bytes_at rows (token_at rows t columns.type_def_extends) columns.type_ref_type_namespace) (codes "System")
-    && (bytes_eq (bytes_at rows (token_at rows t columns.type_def_extends) columns.type_ref_type_name) (codes "ValueType")
+    && bytes_eq (bytes_at rows (token_at rows t columns.type_def_extends) columns.type_ref_type_namespace)
+    (codes "System")
+    && (bytes_eq (bytes_at rows (token_at rows t columns.type_def_extends) columns.type_ref_type_name)
+    (codes "ValueType")
     || bytes_eq (bytes_at rows (token_at rows t columns.type_def_extends) columns.type_ref_type_name) (codes "Enum"))

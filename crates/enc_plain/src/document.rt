@@ -25,7 +25,8 @@ impl<'a> Model for NameRef<'a> {
 
     ghost view = { λ n. unwrap_or (document_name_in n.heaps.blobs n.blob.now) [] };
 
-    ghost invariant = { λ n. (is_some (document_name_in n.heaps.blobs n.blob.now) ≡ true) × (length n.blob.now ≤ length n.heaps.blobs) };
+    ghost invariant = { λ n. (is_some (document_name_in n.heaps.blobs n.blob.now) ≡ true)
+        × (length n.blob.now ≤ length n.heaps.blobs) };
 }
 
 /// A document by its value: its name, the GUID of its hash algorithm, its hash, and the GUID of its
@@ -95,7 +96,8 @@ fn push_parts(
     out: &mut Vec<u8>,
 ) -> Result<(), AllocError>
     requires { is_some (name_parts_in heaps.now.blobs (length bytes.now) bytes.now) ≡ true }
-    ensures { OnOk result (out.new.items ≡ out.old.items ++ parts_said 0 separator (name_parts_in heaps.now.blobs (length bytes.now) bytes.now)) }
+    ensures { OnOk result (out.new.items
+        ≡ out.old.items ++ parts_said 0 separator (name_parts_in heaps.now.blobs (length bytes.now) bytes.now)) }
 {
     let mut rest = bytes;
     let mut before = 0;
@@ -162,7 +164,8 @@ fn byte_of(separator: u8, text: &[u8], i: usize) -> Option<u8>
 /// The byte at a place of what the parts to the end of the bytes say.
 fn parts_byte(heaps: &Heaps<'_>, separator: u8, bytes: &[u8], i: usize) -> Option<u8>
     requires { is_some (name_parts_in heaps.now.blobs (length bytes.now) bytes.now) ≡ true }
-    ensures { result ≡ slice_get (parts_said 0 separator (name_parts_in heaps.now.blobs (length bytes.now) bytes.now)) i }
+    ensures { result ≡ slice_get (parts_said 0 separator (name_parts_in heaps.now.blobs (length bytes.now) bytes.now))
+        i }
 {
     let mut rest = bytes;
     let mut before = 0;

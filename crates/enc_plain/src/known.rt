@@ -144,7 +144,8 @@ fn type_specs_known<R: CellView>(
     requires b { b.table ≡ type_spec }
     requires names { AreNamesakes (R.rows rows.now) names.old }
     requires specs { AreKnownSpecs (R.rows rows.now) (R.stored rows.now) specs.old }
-    ensures alike { result ≡ signatures_alike (R.rows rows.now) type_spec (bytes_at (R.rows rows.now) a 0) (bytes_at (R.rows rows.now) b 0) }
+    ensures alike { result ≡ signatures_alike (R.rows rows.now) type_spec (bytes_at (R.rows rows.now) a 0)
+        (bytes_at (R.rows rows.now) b 0) }
     ensures names { AreNamesakes (R.rows rows.now) names.new }
     ensures specs { AreKnownSpecs (R.rows rows.now) (R.stored rows.now) specs.new }
 {
@@ -161,7 +162,7 @@ fn type_specs_known<R: CellView>(
 }
 
 /// Whether tokens are alike, where equal names and alike TypeSpecs are remembered.
-#[tactic(auto, using(crate::proofs::AlikeSpecs::spec_tokens, crate::proofs::AlikeSpecs::other_tokens, crate::proofs::AlikeSpecs::alike_tokens))]
+#[tactic(auto, using(crate::proofs::AlikeSpecs::tokens_cases))]
 fn tokens_known<R: CellView>(
     rows: &R,
     names: &mut Namesakes,
@@ -207,7 +208,8 @@ fn alike_in_table_known<R: CellView>(
 
 /// Remembers a pair of tokens that is alike, where both are TypeRefs or both TypeSpecs.
 fn keep(known: &mut Pairs, a: Token, b: Token)
-    ensures alike { (rows : Rows) → AreAlikePairs rows known.old → alike_in_table rows known.old.table a b ≡ true → AreAlikePairs rows known.new }
+    ensures alike { (rows : Rows) → AreAlikePairs rows known.old → alike_in_table rows known.old.table a b ≡ true
+        → AreAlikePairs rows known.new }
     ensures table { known.new.table ≡ known.old.table }
 {
     if a.table == TYPE_REF && b.table == TYPE_REF {
@@ -305,7 +307,8 @@ fn known_or_alike<R: CellView>(rows: &R, known: &Pairs, a: Token, b: Token) -> b
 /// Whether signatures are alike, where pairs are known.
 fn signatures_with<R: CellView>(rows: &R, known: &Pairs, a: &[u8], b: &[u8]) -> bool
     requires { AreAlikePairs (R.rows rows.now) known.now }
-    ensures { result ≡ sigs_agree (alike_in_table (R.rows rows.now) known.now.table) (kind_in_table known.now.table a.now) a.now b.now }
+    ensures { result ≡ sigs_agree (alike_in_table (R.rows rows.now) known.now.table)
+        (kind_in_table known.now.table a.now) a.now b.now }
 {
     sigs_agree(kind_in_table(known.table(), a), a, b, |t, u| {
         known_or_alike(rows, known, t, u)
@@ -377,7 +380,8 @@ impl KnownAlike {
 
     /// Forgets what is known of the signatures of another table.
     fn turn_to(&mut self, table: u8)
-        ensures known { (rows : Rows) (stored : ℕ → Option (List ℕ)) → AreKnownAlike rows stored self.old → AreKnownAlike rows stored self.new }
+        ensures known { (rows : Rows) (stored : ℕ → Option (List ℕ)) → AreKnownAlike rows stored self.old
+            → AreKnownAlike rows stored self.new }
         ensures table { self.new.pairs.table ≡ table }
     {
         if self.pairs.table() != table {

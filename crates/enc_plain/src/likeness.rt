@@ -103,7 +103,8 @@ fn same_names_known<R: CellView>(rows: &R, known: &mut Namesakes, a: Token, b: T
 
 /// TypeRefs with equal names and namespaces (ECMA-335 II.22.38).
 fn are_namesakes<R: CellView>(rows: &R, a: Token, b: Token) -> bool
-    ensures names { result ≡ (are_rows (R.rows rows.now) type_ref a b && same_bytes (R.rows rows.now) a b 1 && same_bytes (R.rows rows.now) a b 2) }
+    ensures names { result ≡ (are_rows (R.rows rows.now) type_ref a b && same_bytes (R.rows rows.now) a b 1
+        && same_bytes (R.rows rows.now) a b 2) }
     ensures a { IsTrue result → a.table ≡ type_ref }
     ensures b { IsTrue result → b.table ≡ type_ref }
 {
@@ -113,7 +114,8 @@ fn are_namesakes<R: CellView>(rows: &R, a: Token, b: Token) -> bool
 /// The same, where equal names are remembered.
 fn are_namesakes_known<R: CellView>(rows: &R, known: &mut Namesakes, a: Token, b: Token) -> bool
     requires known { AreNamesakes (R.rows rows.now) known.old }
-    ensures names { result ≡ (are_rows (R.rows rows.now) type_ref a b && same_bytes (R.rows rows.now) a b 1 && same_bytes (R.rows rows.now) a b 2) }
+    ensures names { result ≡ (are_rows (R.rows rows.now) type_ref a b && same_bytes (R.rows rows.now) a b 1
+        && same_bytes (R.rows rows.now) a b 2) }
     ensures a { IsTrue result → a.table ≡ type_ref }
     ensures b { IsTrue result → b.table ≡ type_ref }
     ensures known { AreNamesakes (R.rows rows.now) known.new }
@@ -129,7 +131,9 @@ fn are_namesakes_known<R: CellView>(rows: &R, known: &mut Namesakes, a: Token, b
 fn same_version<R: CellView>(rows: &R, a: Token, b: Token) -> bool
     requires a { a.table ≡ assembly_ref }
     requires b { b.table ≡ assembly_ref }
-    ensures { result ≡ (same_number (R.rows rows.now) a b 0 && same_number (R.rows rows.now) a b 1 && same_number (R.rows rows.now) a b 2 && same_number (R.rows rows.now) a b 3 && same_number (R.rows rows.now) a b 4) }
+    ensures { result ≡ (same_number (R.rows rows.now) a b 0 && same_number (R.rows rows.now) a b 1
+        && same_number (R.rows rows.now) a b 2 && same_number (R.rows rows.now) a b 3
+        && same_number (R.rows rows.now) a b 4) }
 {
     same_number(rows, ASSEMBLY_REF, a, b, ASSEMBLY_REF_MAJOR_VERSION)
         && same_number(rows, ASSEMBLY_REF, a, b, ASSEMBLY_REF_MINOR_VERSION)

@@ -39,7 +39,8 @@ impl Namesakes {
 
     /// Lets a row lead to one that has its names. Without memory it is left as it was.
     fn lead(&mut self, row: u32, next: u32)
-        ensures { (rows : Rows) → AreNamesakes rows self.old → names_of rows row ≡ names_of rows next → AreNamesakes rows self.new }
+        ensures { (rows : Rows) → AreNamesakes rows self.old → names_of rows row ≡ names_of rows next
+            → AreNamesakes rows self.new }
     {
         match self.others.insert(row, next) {
             Ok(_) => {}
@@ -49,7 +50,8 @@ impl Namesakes {
 
     /// The row that a row leads to in one step or two. It leads there in one from now on.
     fn step(&mut self, row: u32) -> Option<u32>
-        ensures names { (rows : Rows) → AreNamesakes rows self.old → IfSome result (λ n. names_of rows row ≡ names_of rows n) }
+        ensures names { (rows : Rows) → AreNamesakes rows self.old
+            → IfSome result (λ n. names_of rows row ≡ names_of rows n) }
         ensures known { (rows : Rows) → AreNamesakes rows self.old → AreNamesakes rows self.new }
         ensures less { IfSome result (λ n. n < row) }
     {
@@ -75,7 +77,8 @@ impl Namesakes {
 
     /// Joins two rows that have the same names: the greater leads to the smaller one.
     pub(crate) fn join(&mut self, a: u32, b: u32)
-        ensures { (rows : Rows) → AreNamesakes rows self.old → names_of rows a ≡ names_of rows b → AreNamesakes rows self.new }
+        ensures { (rows : Rows) → AreNamesakes rows self.old → names_of rows a ≡ names_of rows b
+            → AreNamesakes rows self.new }
     {
         if a < b {
             self.lead(b, a);

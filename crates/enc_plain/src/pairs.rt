@@ -48,7 +48,8 @@ impl Pairs {
 
     /// The tokens are a pair of TypeRefs that is known.
     fn has_refs(&self, a: Token, b: Token) -> bool
-        ensures { (rows : Rows) → AreAlikePairs rows self.now → IsTrue result → alike_in_table rows self.now.table a b ≡ true }
+        ensures { (rows : Rows) → AreAlikePairs rows self.now → IsTrue result
+            → alike_in_table rows self.now.table a b ≡ true }
     {
         a.table == TYPE_REF
             && b.table == TYPE_REF
@@ -57,7 +58,8 @@ impl Pairs {
 
     /// The tokens are a pair of TypeSpecs that is known.
     fn has_specs(&self, a: Token, b: Token) -> bool
-        ensures { (rows : Rows) → AreAlikePairs rows self.now → IsTrue result → alike_in_table rows self.now.table a b ≡ true }
+        ensures { (rows : Rows) → AreAlikePairs rows self.now → IsTrue result
+            → alike_in_table rows self.now.table a b ≡ true }
     {
         a.table == TYPE_SPEC
             && b.table == TYPE_SPEC
@@ -66,7 +68,8 @@ impl Pairs {
 
     /// The tokens are a pair that is known.
     pub(crate) fn has(&self, a: Token, b: Token) -> bool
-        ensures { (rows : Rows) → AreAlikePairs rows self.now → IsTrue result → alike_in_table rows self.now.table a b ≡ true }
+        ensures { (rows : Rows) → AreAlikePairs rows self.now → IsTrue result
+            → alike_in_table rows self.now.table a b ≡ true }
     {
         self.has_refs(a, b) || self.has_specs(a, b)
     }
@@ -75,7 +78,8 @@ impl Pairs {
     pub(crate) fn add(&mut self, a: Token, b: Token)
         requires a { a.table ≡ type_ref }
         requires b { b.table ≡ type_ref }
-        ensures alike { (rows : Rows) → AreAlikePairs rows self.old → alike_in_table rows self.old.table a b ≡ true → AreAlikePairs rows self.new }
+        ensures alike { (rows : Rows) → AreAlikePairs rows self.old → alike_in_table rows self.old.table a b ≡ true
+            → AreAlikePairs rows self.new }
         ensures table { self.new.table ≡ self.old.table }
     {
         match self.numbers.insert(number_of(a.row, b.row)) {
@@ -88,7 +92,8 @@ impl Pairs {
     pub(crate) fn add_specs(&mut self, a: Token, b: Token)
         requires a { a.table ≡ type_spec }
         requires b { b.table ≡ type_spec }
-        ensures alike { (rows : Rows) → AreAlikePairs rows self.old → alike_in_table rows self.old.table a b ≡ true → AreAlikePairs rows self.new }
+        ensures alike { (rows : Rows) → AreAlikePairs rows self.old → alike_in_table rows self.old.table a b ≡ true
+            → AreAlikePairs rows self.new }
         ensures table { self.new.table ≡ self.old.table }
     {
         match self.specs.insert(number_of(a.row, b.row)) {

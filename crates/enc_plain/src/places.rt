@@ -15,8 +15,10 @@ pub struct Places {
 
 /// The number of a pair of places, None where one is none or past 32 bits.
 fn number_of(a: Option<u64>, b: Option<u64>) -> Option<u64>
-    ensures left { (stored : ℕ → Option (List ℕ)) (x : List ℕ) → AreStoredAt stored a x → IfSome result (λ n. stored (n / 2 ^ 32) ≡ Some x) }
-    ensures right { (stored : ℕ → Option (List ℕ)) (y : List ℕ) → AreStoredAt stored b y → IfSome result (λ n. stored (n % 2 ^ 32) ≡ Some y) }
+    ensures left { (stored : ℕ → Option (List ℕ)) (x : List ℕ) → AreStoredAt stored a x
+        → IfSome result (λ n. stored (n / 2 ^ 32) ≡ Some x) }
+    ensures right { (stored : ℕ → Option (List ℕ)) (y : List ℕ) → AreStoredAt stored b y
+        → IfSome result (λ n. stored (n % 2 ^ 32) ≡ Some y) }
 {
     let m = a?;
     let n = b?;
@@ -38,7 +40,9 @@ impl Places {
 
     /// The blobs at two places are known to go together.
     pub(crate) fn has(&self, a: Option<u64>, b: Option<u64>) -> bool
-        ensures { (rel : List ℕ → List ℕ → Bool) (stored : ℕ → Option (List ℕ)) (x y : List ℕ) → AreRelatedPlaces rel stored self.now → AreStoredAt stored a x → AreStoredAt stored b y → IsTrue result → rel x y ≡ true }
+        ensures { (rel : List ℕ → List ℕ → Bool) (stored : ℕ → Option (List ℕ)) (x y : List ℕ)
+            → AreRelatedPlaces rel stored self.now → AreStoredAt stored a x → AreStoredAt stored b y → IsTrue result
+            → rel x y ≡ true }
     {
         match number_of(a, b) {
             Some(n) => self.numbers.contains(&n),
@@ -48,7 +52,9 @@ impl Places {
 
     /// Remembers two places whose blobs go together. Without memory they aren't known afterwards.
     pub(crate) fn add(&mut self, a: Option<u64>, b: Option<u64>)
-        ensures { (rel : List ℕ → List ℕ → Bool) (stored : ℕ → Option (List ℕ)) (x y : List ℕ) → AreRelatedPlaces rel stored self.old → AreStoredAt stored a x → AreStoredAt stored b y → rel x y ≡ true → AreRelatedPlaces rel stored self.new }
+        ensures { (rel : List ℕ → List ℕ → Bool) (stored : ℕ → Option (List ℕ)) (x y : List ℕ)
+            → AreRelatedPlaces rel stored self.old → AreStoredAt stored a x → AreStoredAt stored b y → rel x y ≡ true
+            → AreRelatedPlaces rel stored self.new }
     {
         let Some(n) = number_of(a, b) else {
             return;

@@ -37,5 +37,6 @@ pub trait PointSource {
         ensures { placed self.now result ≡ documents self.now method number };
 
     // What is known of a method are those points with those documents.
-    ghost knows: { (s : Self) (method : TheToken) → debug_of (documents s method) (said s method) ≡ Self.debug s method };
+    ghost knows: { (s : Self) (method : TheToken)
+        → debug_of (documents s method) (said s method) ≡ Self.debug s method };
 }

@@ -41,7 +41,9 @@ impl<'a, R: CellView> Model for RefKeys<'a, R> {
 
     ghost view = { λ k. k.rows.now };
 
-    ghost invariant = { λ k. AreKeys (R.rows k.rows.now) k.index × AreNames (R.rows k.rows.now) k.names × AreSpecShapes (R.rows k.rows.now) (R.stored k.rows.now) k.specs × AreSignatureKeys (R.rows k.rows.now) (R.stored k.rows.now) k.signatures };
+    ghost invariant = { λ k. AreKeys (R.rows k.rows.now) k.index × AreNames (R.rows k.rows.now) k.names
+        × AreSpecShapes (R.rows k.rows.now) (R.stored k.rows.now) k.specs
+        × AreSignatureKeys (R.rows k.rows.now) (R.stored k.rows.now) k.signatures };
 }
 
 /// What a token's key stands by.
@@ -82,7 +84,7 @@ fn token_behind(blob: &[u8], at: usize) -> Option<Token>
 
 impl<'a, R: CellView> RefKeys<'a, R> {
     /// No key is learnt yet.
-    #[tactic(auto, using(crate::proofs::Learnt::none_learnt, crate::proofs::Learnt::no_names, crate::proofs::Learnt::no_shape, crate::proofs::Learnt::no_signature))]
+    #[tactic(auto, using(crate::proofs::Learnt::learnt_steps))]
     pub fn new(rows: &'a R) -> RefKeys<'a, R>
         ensures { result ≡ rows.now }
     {
@@ -170,7 +172,8 @@ impl<'a, R: CellView> RefKeys<'a, R> {
 
     /// The shape of the signature of a TypeSpec at a place, where it was learnt.
     fn learnt_shape(&self, place: Option<u64>) -> Option<Mix>
-        ensures { (blob : List ℕ) → AreStoredAt (R.stored self.now) place blob → IfSome result (λ k. k ≡ spec_shape (R.rows self.now) blob) }
+        ensures { (blob : List ℕ) → AreStoredAt (R.stored self.now) place blob
+            → IfSome result (λ k. k ≡ spec_shape (R.rows self.now) blob) }
     {
         let shape = self.specs.get(place_of_blob(TYPE_SPEC, place?))?;
         Some(*shape)
@@ -351,7 +354,8 @@ impl<'a, R: CellView> RefKeys<'a, R> {
 
     /// The key of the signature of a table at a place, where it was learnt.
     fn learnt_at(&self, table: u8, place: Option<u64>) -> Option<u64>
-        ensures { (blob : List ℕ) → AreStoredAt (R.stored self.now) place blob → IfSome result (λ k. k ≡ signature_key (R.rows self.now) table blob) }
+        ensures { (blob : List ℕ) → AreStoredAt (R.stored self.now) place blob
+            → IfSome result (λ k. k ≡ signature_key (R.rows self.now) table blob) }
     {
         let key = self.signatures.get(place_of_blob(table, place?))?;
         Some(*key)

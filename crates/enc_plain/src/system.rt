@@ -10,7 +10,7 @@ use enc_schema::tables::TYPE_REF;
 
 /// Whether the token is a TypeRef of the namespace System with this name, whatever its scope (ECMA-335
 /// II.22.38).
-#[tactic(auto, using(crate::proofs::ColumnKinds::reference_name, crate::proofs::ColumnKinds::reference_space), unfolding(crate::specs::System::is_of_system))]
+#[tactic(auto, using(crate::proofs::ColumnKinds::reference_steps), unfolding(crate::specs::System::is_of_system))]
 pub fn is_of_system<V: ModuleView>(view: &V, name: &[u8], token: Token) -> bool
     ensures { result ≡ is_of_system (V.meaning view.now) name.now token }
 {

@@ -10,7 +10,7 @@ use enc_schema::tables::TYPE_REF;
 
 /// Whether the type extends System.ValueType or System.Enum, whatever its scope (ECMA-335
 /// II.10.1.3).
-#[tactic(auto, using(crate::proofs::ColumnKinds::type_base, crate::proofs::ColumnKinds::reference_name, crate::proofs::ColumnKinds::reference_space), unfolding(crate::specs::ValueType::is_value_type))]
+#[tactic(auto, using(crate::proofs::ColumnKinds::column_kinds_steps), unfolding(crate::specs::ValueType::is_value_type))]
 pub fn is_value_type<R: CellView>(rows: &R, owner: Token) -> bool
     requires { owner.table ≡ type_def }
     ensures { result ≡ is_value_type (R.rows rows.now) owner }

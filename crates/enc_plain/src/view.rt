@@ -72,7 +72,8 @@ pub trait ModuleView {
     fn code(&self, method: Token) -> Option<CodeRef<'_>>
         requires row { IsTrue (has_row (meaning self.now) method) }
         requires table { method.table ≡ method_def }
-        ensures body { cell_of (meaning self.now) method 0 ≡ Some (body (option_map (λ c. body_of (users self.now) (code_seen c)) result)) }
+        ensures body { cell_of (meaning self.now) method 0
+            ≡ Some (body (option_map (λ c. body_of (users self.now) (code_seen c)) result)) }
         ensures texts { IfSome result (λ c. IsTrue (texts_are_there (users self.now) c.code.now)) }
         ensures few { IfSome result (λ c. length c.code.now < 2 ^ 32) }
         ensures short { IfSome result (λ c. length c.sections.now < 2 ^ 32) };

@@ -48,3 +48,5 @@ none_before n = grind (arith, nat_tests)
 pub any_before_end : {X : Type 0} (f : X → ℕ) (n : ℕ) (xs : List X) → list_any (λ x. nat_le n (f x)) xs ≡ nat_lt n (end_by f xs)
 any_before_end f n [] = rw (end_empty f) (none_before n)
 any_before_end f n (x ∷ xs) = rw (end_cons f x xs) (ap (λ b. nat_le n (f x) || b) (any_before_end f n xs) ∙ both_tests n (f x) (end_by f xs))
+
+pub ruleset end_steps = (end_none, end_more, end_all)

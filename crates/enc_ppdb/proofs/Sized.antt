@@ -82,3 +82,5 @@ sized_second methods sizes i e none = sized_get methods sizes i e ∙ none_of (�
 pub sized_both : (methods : List Token) (sizes : List ℕ) (i : ℕ) (m : Token) (n : ℕ) → length methods ≡ length sizes → slice_get methods i ≡ Some m → slice_get sizes i ≡ Some n → slice_get (sized methods sizes) i ≡ Some (m, n)
 sized_both methods sizes i m n e first second =
     sized_get methods sizes i e ∙ ap (option_and_then (λ (m : Token). option_map (λ (n : ℕ). (m, n)) (slice_get sizes i))) first ∙ ap (option_map (λ (n : ℕ). (m, n))) second
+
+pub ruleset sized_steps = (sized_first, sized_second, sized_both)

@@ -28,3 +28,5 @@ tokens_kept {X} p f n h = let e = with_kept {X = X} p f n in rw h at e
 
 pub tokens_left : {X : Type 0} (p : X → Bool) (f : ℕ → X) (n : ℕ) → p (f n) ≡ false → filter p (map f (below (n + 1))) ≡ filter p (map f (below n))
 tokens_left {X} p f n h = let e = with_kept {X = X} p f n in (rw h at e) ∙ append-nil _
+
+pub ruleset tokens_steps = (tokens_none, tokens_kept, tokens_left)

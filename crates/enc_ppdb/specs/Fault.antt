@@ -22,7 +22,8 @@ use Rattle.enc_ppdb.specs.Pdb.{pdb_source_of, name_of_document, points_of}
 unfoldable pub is_document : Source → Token → Bool
 is_document s row =
     is_some (name_of_document s row) && (is_some (guid_at s.heaps.guids (raw_in s row columns.document_hash_algorithm))
-    && (is_some (blob_at s.heaps.blobs (raw_in s row columns.document_hash)) && is_some (guid_at s.heaps.guids (raw_in s row columns.document_language))))
+    && (is_some (blob_at s.heaps.blobs (raw_in s row columns.document_hash))
+    && is_some (guid_at s.heaps.guids (raw_in s row columns.document_language))))
 
 -- the document of a point, and that of each, is one of so many rows
 abbrev pub is_there : ℕ → Point → Bool
@@ -48,7 +49,8 @@ unfoldable pub document_fault : Source → ℕ → Option Place
 document_fault s n = unless_good (is_document s (nth_row tables.document n)) (nth_row tables.document n)
 
 unfoldable pub method_fault : Source → ℕ → Option Place
-method_fault s n = unless_good (is_method s (nth_row tables.method_debug_information n)) (nth_row tables.method_debug_information n)
+method_fault s n = unless_good (is_method s (nth_row tables.method_debug_information n))
+    (nth_row tables.method_debug_information n)
 
 -- the first row of Document that isn't good, and else the first of MethodDebugInformation
 unfoldable pub documents_fault : Source → Option Place
@@ -75,9 +77,11 @@ judged_pdb fits (Some s) = if fits s then unless_fault s (first_row_fault s) els
 
 -- MethodDebugInformation has no row, or one for each method
 unfoldable pub fits_methods : ℕ → Source → Bool
-fits_methods methods s = rows_of s.layout tables.method_debug_information == 0 || rows_of s.layout tables.method_debug_information == methods
+fits_methods methods s = rows_of s.layout tables.method_debug_information == 0
+    || rows_of s.layout tables.method_debug_information == methods
 
--- the PDB of a module with so many methods, or F12: at the file where its root, its #Pdb or its table stream isn't good or MethodDebugInformation has
+-- the PDB of a module with so many methods, or F12: at the file where its root, its #Pdb or its table stream isn't
+-- good or MethodDebugInformation has
 -- rows of another number, else at the first row that isn't good
 unfoldable pub pdb_of : List ℕ → ℕ → Result Source Refusal
 pdb_of bytes methods = judged_pdb (fits_methods methods) (pdb_source_of bytes)
@@ -89,7 +93,8 @@ map_token_at s n = token_of (raw_in s (nth_row tables.enc_map n) columns.enc_map
 -- the tokens of MethodDebugInformation in EncMap, in order: the k-th names the method of the k-th row
 unfoldable pub named_tokens : Source → List Token
 named_tokens s =
-    filter (λ (t : Token). t.table == tables.method_debug_information) (map (map_token_at s) (below (rows_of s.layout tables.enc_map)))
+    filter (λ (t : Token). t.table == tables.method_debug_information)
+    (map (map_token_at s) (below (rows_of s.layout tables.enc_map)))
 
 -- a delta's EncMap names as many of its rows as there are
 unfoldable pub fits_map : Source → Bool

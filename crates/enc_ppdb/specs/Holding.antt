@@ -1,4 +1,5 @@
--- For the contracts of private functions: what is written of a plain PDB so far: its documents and its first methods, and what is known of its documents.
+-- For the contracts of private functions: what is written of a plain PDB so far: its documents and its first
+-- methods, and what is known of its documents.
 use Rattle.std.specs.Prelude.{◌≡◌, ℕ, suc, ◌+◌, ◌*◌, ◌≤◌, ◌==◌, Bool, true, false, not, ◌&&◌, List, [], ◌∷◌, ◌++◌, length, map, take, sum_by, position, bytes_eq, Option, Some, None, option_map, is_some, Result, Ok, Err, nat_lt, if◌then◌else◌, slice_get}
 use Rattle.std.specs.List.{list_all, list_any}
 use Rattle.std.specs.BTreeMap.{get, Updates}
@@ -21,11 +22,13 @@ use Rattle.enc_ppdb.specs.Written.{is_same, with_points, nth_method, documents_o
 
 -- the numbers of a document's values in heaps: its name's bytes, its algorithm, its hash and its language
 unfoldable pub document_key : Built → Document → List ℕ
-document_key h d = blob_offset h d.name ∷ guid_number h d.algorithm ∷ blob_offset h d.hash ∷ guid_number h d.language ∷ []
+document_key h d = blob_offset h d.name ∷ guid_number h d.algorithm ∷ blob_offset h d.hash ∷ guid_number h d.language
+    ∷ []
 
 -- heaps keep these values
 unfoldable pub keeps_values : Built → Document → Bool
-keeps_values h d = is_kept h.blobs d.name && (is_guid_kept h.guids d.algorithm && (is_kept h.blobs d.hash && is_guid_kept h.guids d.language))
+keeps_values h d = is_kept h.blobs d.name
+    && (is_guid_kept h.guids d.algorithm && (is_kept h.blobs d.hash && is_guid_kept h.guids d.language))
 
 -- the blob of a name whose bytes stand at an offset: no separator, and one part (Document Name Blob)
 unfoldable pub name_blob : ℕ → List ℕ
@@ -34,7 +37,8 @@ name_blob offset = 0 ∷ spelled offset
 -- a document's row in heaps that keep its values
 unfoldable pub document_cells : Built → Document → List ℕ
 document_cells h d =
-    blob_offset h (name_blob (blob_offset h d.name)) ∷ guid_number h d.algorithm ∷ blob_offset h d.hash ∷ guid_number h d.language ∷ []
+    blob_offset h (name_blob (blob_offset h d.name)) ∷ guid_number h d.algorithm ∷ blob_offset h d.hash
+    ∷ guid_number h d.language ∷ []
 
 -- heaps keep these values and the blob of the name
 unfoldable pub keeps_document : Built → Document → Bool
@@ -50,7 +54,8 @@ pub record Grown (h k : Built) : Type 0 where
   pub texts : k.texts ≡ h.texts
   pub users : k.users ≡ h.users
   pub blobs : (v : List ℕ) → is_kept h.blobs v ≡ true → (is_kept k.blobs v ≡ true) × (blob_offset k v ≡ blob_offset h v)
-  pub guids : (g : List ℕ) → is_guid_kept h.guids g ≡ true → (is_guid_kept k.guids g ≡ true) × (guid_number k g ≡ guid_number h g)
+  pub guids : (g : List ℕ) → is_guid_kept h.guids g ≡ true
+      → (is_guid_kept k.guids g ≡ true) × (guid_number k g ≡ guid_number h g)
 
 -- what is refused passes a limit; want of memory tells nothing
 abbrev pub RefusesPdb : {A : Type 0} → Result A BuildFault → Bool → Type 0
@@ -73,7 +78,8 @@ is_unknown w d = not (keeps_values w.heaps d && is_some (row_known w (document_k
 
 -- the rows of all tables are as before, with one more of Document
 abbrev pub OneDocument : List (List (List ℕ)) → List (List (List ℕ)) → List ℕ → Type 0
-OneDocument old new cells = (k : ℕ) → rows_at new k ≡ (if k == tables.document then rows_at old k ++ cells ∷ [] else rows_at old k)
+OneDocument old new cells = (k : ℕ)
+    → rows_at new k ≡ (if k == tables.document then rows_at old k ++ cells ∷ [] else rows_at old k)
 
 -- a document gets a row of its own
 pub record RowAdded (d : Document) (old new : Writer) (row : ℕ) : Type 0 where
@@ -107,7 +113,8 @@ documents_upto p n i = with_points (documents_of p n) (take i (nth_method p n).p
 
 -- the weight of so many methods and these documents
 unfoldable pub pdb_weight_of : PlainPdb → ℕ → List Document → ℕ
-pdb_weight_of p n documents = 65536 + sum_below (λ k. method_weight (nth_method p k)) n + sum_by document_weight documents
+pdb_weight_of p n documents = 65536 + sum_below
+    (λ k. method_weight (nth_method p k)) n + sum_by document_weight documents
 
 -- a point's document is one of these
 abbrev pub has_among : List Document → Option Document → Bool
@@ -128,26 +135,31 @@ pub record MethodHeld (h : Built) (documents : List Document) (d : MethodDebug) 
   pub several : IsNilOverSeveral d.points first
   pub among : have_rows documents d.points ≡ true
 
--- what is written of the first n methods, whose points have these documents, and what is known of documents: with its rows, a root and room for so many
+-- what is written of the first n methods, whose points have these documents, and what is known of documents: with
+-- its rows, a root and room for so many
 -- bytes more it is within the weight
-pub record IsPdbHeld (p : PlainPdb) (n room : ℕ) (placed : ℕ → Option Document) (documents : List Document) (w : Writer) : Type 0 where
+pub record IsPdbHeld (p : PlainPdb) (n room : ℕ) (placed : ℕ → Option Document) (documents : List Document)
+    (w : Writer) : Type 0 where
   pub starts : w.heaps.starts ≡ pdb_starts
   pub texts : w.heaps.texts ≡ []
   pub users : w.heaps.users ≡ []
   pub size : heaps_size w.heaps + 16 * length documents + 8 * n + room + 65002 ≤ w.weight
   pub rows : rows_at w.tables tables.document ≡ map (document_cells w.heaps) documents
   pub kept : list_all (keeps_document w.heaps) documents ≡ true
-  pub by_value : (key : List ℕ) → row_known w key ≡ option_map suc (position (bytes_eq key) (map (document_key w.heaps) documents))
+  pub by_value : (key : List ℕ) →
+      row_known w key ≡ option_map suc (position (bytes_eq key) (map (document_key w.heaps) documents))
   pub places : (place row : ℕ) → get nat_cmp w.places place ≡ Some row
       → (row_among documents (placed place) ≡ row) × (has_among documents (placed place) ≡ true)
   pub count : count_at w.tables tables.method_debug_information ≡ n
   pub method : (k : ℕ) (cells : List ℕ) → slice_get (rows_at w.tables tables.method_debug_information) k ≡ Some cells
       → MethodHeld w.heaps documents (nth_method p k) cells
-  pub others : (table : ℕ) → (table == tables.document) ≡ false → (table == tables.method_debug_information) ≡ false → count_at w.tables table ≡ 0
+  pub others : (table : ℕ) → (table == tables.document) ≡ false → (table == tables.method_debug_information) ≡ false
+      → count_at w.tables table ≡ 0
 
 -- the rows of all tables are as before, with one more of MethodDebugInformation
 abbrev pub OneMethod : List (List (List ℕ)) → List (List (List ℕ)) → List ℕ → Type 0
-OneMethod old new cells = (k : ℕ) → rows_at new k ≡ (if k == tables.method_debug_information then rows_at old k ++ cells ∷ [] else rows_at old k)
+OneMethod old new cells = (k : ℕ)
+    → rows_at new k ≡ (if k == tables.method_debug_information then rows_at old k ++ cells ∷ [] else rows_at old k)
 
 -- a method with these points gets its row
 pub record MethodGiven (locals : ℕ) (points : List Point) (old new : Writer) : Type 0 where
@@ -164,7 +176,8 @@ pub record MethodGiven (locals : ℕ) (points : List Point) (old new : Writer) :
   pub weight : new.weight ≡ old.weight
 
 -- what is written of the first n methods and weighed of the first m
-pub record IsWritten (p : PlainPdb) (n m room : ℕ) (placed : ℕ → Option Document) (documents : List Document) (w : Writer) : Type 0 where
+pub record IsWritten (p : PlainPdb) (n m room : ℕ) (placed : ℕ → Option Document) (documents : List Document)
+    (w : Writer) : Type 0 where
   pub held : IsPdbHeld p n room placed documents w
   pub weight : w.weight ≡ pdb_weight_of p m documents
   pub light : w.weight ≤ most_pdb_weight
@@ -176,7 +189,8 @@ WrittenUpto p placed n i w = IsWritten p n (n + 1) (method_weight (nth_method p 
 -- the row is that of the i-th point's document
 abbrev pub IsRowAt : PlainPdb → ℕ → ℕ → ℕ → Type 0
 IsRowAt p n i row = (q : PlainPoint) → slice_get (nth_method p n).points i ≡ Some q
-    → (row_among (documents_upto p n (i + 1)) q.document ≡ row) × (has_among (documents_upto p n (i + 1)) q.document ≡ true)
+    → (row_among (documents_upto p n (i + 1)) q.document ≡ row)
+    × (has_among (documents_upto p n (i + 1)) q.document ≡ true)
 
 -- the first i points, with the rows of their documents
 pub record AreNumbered (p : PlainPdb) (n i : ℕ) (rows : List Point) : Type 0 where

@@ -23,21 +23,25 @@ nothing_known : debug_at None ≡ unknown
 unfolding debug_at debug_of points_at
 nothing_known = refl
 
-knows_or : (place : Option (Source × Token)) (changed : Bool) (before : Option (Source × Token)) (known : MethodDebug) → debug_at before ≡ known
+knows_or : (place : Option (Source × Token)) (changed : Bool) (before : Option (Source × Token)) (known : MethodDebug)
+    → debug_at before ≡ known
     → debug_at (known_or place changed before) ≡ debug_or place (if changed then unknown else known)
 knows_or (Some place) changed before known e = refl
 knows_or None true before known e = nothing_known
 knows_or None false before known e = e
 
-by_place : (base : Option Source) (deltas : List DebugDelta) (method : Token) → debug_at (known_at base deltas method) ≡ pdb_with base deltas method
+by_place : (base : Option Source) (deltas : List DebugDelta) (method : Token)
+    → debug_at (known_at base deltas method) ≡ pdb_with base deltas method
 unfolding known_at pdb_begun pdb_changed pdb_with
 by_place base [] method = refl
 by_place base (d ∷ older) method =
-    knows_or (delta_row d.pdb method) (list_any (is_token method) d.changed) (known_at base older method) (pdb_with base older method)
+    knows_or (delta_row d.pdb method) (list_any (is_token method) d.changed) (known_at base older method)
+    (pdb_with base older method)
     (by_place base older method)
 
 -- what it says there is what is known of the method
 pub knows : (base : Option Source) (deltas : List DebugDelta) (method : Token)
-    → debug_of (documents_at (known_at base deltas method)) (points_at (known_at base deltas method)) ≡ pdb_with base deltas method
+    → debug_of (documents_at (known_at base deltas method)) (points_at (known_at base deltas method))
+    ≡ pdb_with base deltas method
 unfolding debug_at
 knows base deltas method = by_place base deltas method

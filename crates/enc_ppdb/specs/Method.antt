@@ -1,4 +1,5 @@
--- For the contracts of private functions: the row of a method that is written (Portable PDB v1.0, MethodDebugInformation Table).
+-- For the contracts of private functions: the row of a method that is written (Portable PDB v1.0,
+-- MethodDebugInformation Table).
 use Rattle.std.specs.Prelude.{ℕ, ◌==◌, List, [], ◌∷◌, if◌then◌else◌}
 use Rattle.std.specs.List.{list_all}
 use Rattle.enc_seqpoints.specs.declared.point.Point.{Point}

@@ -11,7 +11,8 @@ use Rattle.enc_ppdb.specs.Pdb.{points_of}
 use Rattle.enc_ppdb.specs.Fault.{named_tokens}
 use Rattle.enc_ppdb.specs.Points.{names_method}
 
--- the size of the code of the method that a token of MethodDebugInformation names, where it is one of the delta's methods with their code sizes
+-- the size of the code of the method that a token of MethodDebugInformation names, where it is one of the delta's
+-- methods with their code sizes
 unfoldable pub size_for : List (Token × ℕ) → Token → Option ℕ
 size_for [] token = None
 size_for (m ∷ methods) token = if names_method m.0 token then Some m.1 else size_for methods token
@@ -42,7 +43,8 @@ misplaced_if false token = None
 
 unfoldable pub misplaced_row : Source → List (Token × ℕ) → ℕ → Option ℕ
 misplaced_row s methods k =
-    option_and_then (λ (token : Token). misplaced_if (is_misplaced s methods k token) token) (slice_get (named_tokens s) k)
+    option_and_then (λ (token : Token). misplaced_if (is_misplaced s methods k token) token)
+    (slice_get (named_tokens s) k)
 
 -- the least of what a rule answers below n
 abbrev pub lesser_of : Option ℕ → Option ℕ → Option ℕ
@@ -58,6 +60,7 @@ least_below rule (suc n) = lesser_of (least_below rule n) (rule n)
 abbrev pub debug_token : ℕ → Token
 debug_token row = record { table = tables.method_debug_information; row = row }
 
--- the least token that doesn't go with the delta's methods, of which each stands with the size of its code, 0 where it has no body
+-- the least token that doesn't go with the delta's methods, of which each stands with the size of its code, 0 where
+-- it has no body
 unfoldable pub first_misplaced : Source → List (Token × ℕ) → Option Token
 first_misplaced s methods = option_map debug_token (least_below (misplaced_row s methods) (length (named_tokens s)))

@@ -25,12 +25,14 @@ document_of s row = record {
 -- the document with a number, where the file has it
 unfoldable pub document_at : Source → ℕ → Option Document
 document_at s n =
-    if nat_le 1 n && nat_le n (rows_of s.layout tables.document) then Some (document_of s (record { table = tables.document; row = n })) else None
+    if nat_le 1 n && nat_le n (rows_of s.layout tables.document)
+    then Some (document_of s (record { table = tables.document; row = n })) else None
 
 -- the row of a method in the PDB of a module: its own
 unfoldable pub row_of_method : Source → Token → Option Token
 row_of_method s method =
-    if method.table == tables.method_def && (nat_le 1 method.row && nat_le method.row (rows_of s.layout tables.method_debug_information))
+    if method.table == tables.method_def
+    && (nat_le 1 method.row && nat_le method.row (rows_of s.layout tables.method_debug_information))
     then Some (record { table = tables.method_debug_information; row = method.row })
     else None
 
@@ -69,7 +71,8 @@ debug_at place = debug_of (documents_at place) (points_at place)
 unfoldable pub pdb_begun : Option Source → PlainPdb
 pdb_begun pdb method = debug_at (base_row pdb method)
 
--- a method with a row in a delta's PDB has the points of that row, and one with a new body and no row has none; all others keep theirs
+-- a method with a row in a delta's PDB has the points of that row, and one with a new body and no row has none; all
+-- others keep theirs
 abbrev pub has_changed : List Token → Token → MethodDebug → MethodDebug
 has_changed changed method before = if list_any (is_token method) changed then unknown else before
 

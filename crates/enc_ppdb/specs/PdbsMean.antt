@@ -8,8 +8,11 @@ use Rattle.enc_plain.specs.SoundDebug.{IsSoundPdb, KnowsWithin}
 use Rattle.enc_rows.specs.Written.{AreRows, IndicesFit}
 use Rattle.enc_ppdb.specs.Written.{HoldPdb, pdb_stream, MeansPdb}
 
--- a PDB whose parts hold a sound plain PDB means it: its heaps are good, its rows are rows whose indices fit, and its root is shorter than 2^32 bytes
+-- a PDB whose parts hold a sound plain PDB means it: its heaps are good, its rows are rows whose indices fit, and
+-- its root is shorter than 2^32 bytes
 abbrev pub PdbsMean : Type 0
-PdbsMean = (p : PlainPdb) (methods entry : ℕ) (h : Built) (rows : List (List (List ℕ))) → IsSoundPdb p → KnowsWithin p methods → IsGood h → AreRows rows
-    → IndicesFit rows false → HoldPdb p methods h rows → pdb_built_size (record { heaps = h; rows = rows }) (pdb_stream entry) < 2 ^ 32
+PdbsMean = (p : PlainPdb) (methods entry : ℕ) (h : Built) (rows : List (List (List ℕ))) → IsSoundPdb p
+    → KnowsWithin p methods → IsGood h → AreRows rows
+    → IndicesFit rows false → HoldPdb p methods h rows
+    → pdb_built_size (record { heaps = h; rows = rows }) (pdb_stream entry) < 2 ^ 32
     → MeansPdb p methods (pdb_root_built (record { heaps = h; rows = rows }) (pdb_stream entry))

@@ -1,4 +1,5 @@
--- Which document stands at a place: its number in the file with a number, 0 for the base and from 1 for the deltas, the oldest first.
+-- Which document stands at a place: its number in the file with a number, 0 for the base and from 1 for the deltas,
+-- the oldest first.
 use Rattle.std.specs.Prelude.{ℕ, zero, suc, ◌+◌, ◌-◌, ◌/◌, ◌%◌, ◌^◌, ◌==◌, min, Bool, true, false, List, [], ◌∷◌, length, Option, None, is_some, option_and_then, if◌then◌else◌}
 use Rattle.std.specs.List.{list_any}
 use Rattle.enc_base.specs.Token.{is_token}
@@ -27,7 +28,8 @@ number_or false false own none before = before
 unfoldable pub file_number : Option Source → ℕ → List DebugDelta → Token → ℕ
 file_number base none [] method = if is_some (base_row base method) then 0 else none
 file_number base none (d ∷ older) method =
-    number_or (is_some (delta_row d.pdb method)) (list_any (is_token method) d.changed) (length older + 1) none (file_number base none older method)
+    number_or (is_some (delta_row d.pdb method)) (list_any (is_token method) d.changed) (length older + 1) none
+    (file_number base none older method)
 
 -- the document at a place
 unfoldable pub document_placed : Option Source → List DebugDelta → ℕ → Option Document

@@ -1,4 +1,5 @@
--- Which row of a delta's PDB stands for a method, and the points of that row (Portable PDB v1.0, MethodDebugInformation Table).
+-- Which row of a delta's PDB stands for a method, and the points of that row (Portable PDB v1.0,
+-- MethodDebugInformation Table).
 use Rattle.std.specs.Prelude.{◌≡◌, Bool, true, ◌&&◌, ◌==◌, position, Option, None, option_map, option_and_then}
 use Rattle.enc_base.specs.Token.{nth_row}
 use Rattle.enc_base.specs.declared.token.Token.{Token}
@@ -14,7 +15,8 @@ names_method method token = method.table == tables.method_def && token.row == me
 
 -- the row of a method: that of the first token that names it
 unfoldable pub row_for : Source → Token → Option Token
-row_for s method = option_map (nth_row tables.method_debug_information) (position (names_method method) (named_tokens s))
+row_for s method = option_map (nth_row tables.method_debug_information)
+    (position (names_method method) (named_tokens s))
 
 -- its local signature row and its points
 unfoldable pub delta_points : Source → Token → Option MethodPoints

@@ -77,7 +77,8 @@ good_end s n = if is_method s (nth_row tables.method_debug_information n) then S
 
 -- that of each row where all are good, and a refusal at the first that isn't; want of memory tells nothing
 abbrev pub GivesEnds : Source → Result (Vec ℕ Global) ReadFault → Type 0
-GivesEnds s (Ok v) = (methods_fault s ≡ None) × (v.items ≡ row_ends s (rows_of s.layout tables.method_debug_information))
+GivesEnds s (Ok v) = (methods_fault s ≡ None)
+    × (v.items ≡ row_ends s (rows_of s.layout tables.method_debug_information))
 GivesEnds s (Err (Refused e)) = option_map refused_at (methods_fault s) ≡ Some e
 GivesEnds s (Err Memory) = Unit {0}
 

@@ -14,4 +14,5 @@ pub record IsGoodPdb (s : Source) : Type 0 where
 
 -- with a delta that says this a sound plain PDB stays sound, whatever methods have a new body
 abbrev pub KeepsSound : Option Source → Type 0
-KeepsSound pdb = (before : PlainPdb) (changed : List Token) → IsSoundPdb before → IsSoundPdb (pdb_changed before (record { pdb = pdb; changed = changed }))
+KeepsSound pdb = (before : PlainPdb) (changed : List Token) → IsSoundPdb before
+    → IsSoundPdb (pdb_changed before (record { pdb = pdb; changed = changed }))

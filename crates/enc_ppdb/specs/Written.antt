@@ -26,7 +26,8 @@ use Rattle.enc_ppdb.specs.PdbChain.{pdb_begun}
 
 -- two documents have one value
 unfoldable pub is_same : Document → Document → Bool
-is_same a b = bytes_eq a.name b.name && (bytes_eq a.algorithm b.algorithm && (bytes_eq a.hash b.hash && bytes_eq a.language b.language))
+is_same a b = bytes_eq a.name b.name
+    && (bytes_eq a.algorithm b.algorithm && (bytes_eq a.hash b.hash && bytes_eq a.language b.language))
 
 -- the documents with one more, where it isn't among them
 unfoldable pub with_document : List Document → Document → List Document
@@ -69,7 +70,8 @@ method_weight d = 64 + 32 * length d.points
 
 -- the weight of a plain PDB with so many methods, a sum that what is written of it doesn't pass
 unfoldable pub pdb_weight : PlainPdb → ℕ → ℕ
-pdb_weight p methods = 65536 + sum_below (λ n. method_weight (nth_method p n)) methods + sum_by document_weight (documents_of p methods)
+pdb_weight p methods = 65536 + sum_below (λ n. method_weight (nth_method p n)) methods + sum_by document_weight
+    (documents_of p methods)
 
 -- the greatest weight that is written
 abbrev pub most_pdb_weight : ℕ
@@ -92,14 +94,16 @@ pdb_starts = record { strings = 0; users = 0; blobs = 0; guids = 0 }
 -- a row of Document says a document: its name, its hash algorithm, its hash and its language (Document Table)
 pub record DocumentSays (h : Counted) (d : Document) (cells : List ℕ) : Type 0 where
   pub count : length cells ≡ 4
-  pub name : (blob : List ℕ) × (blob_at h.blobs (slice_index cells 0) ≡ Some blob) × (document_name_in h.blobs blob ≡ Some d.name)
+  pub name : (blob : List ℕ) × (blob_at h.blobs (slice_index cells 0) ≡ Some blob)
+      × (document_name_in h.blobs blob ≡ Some d.name)
   pub algorithm : guid_at h.guids (slice_index cells 1) ≡ Some d.algorithm
   pub hash : blob_at h.blobs (slice_index cells 2) ≡ Some d.hash
   pub language : guid_at h.guids (slice_index cells 3) ≡ Some d.language
 
 -- where two of the points have different documents, the row of their method names none (MethodDebugInformation Table)
 abbrev pub IsNilOverSeveral : List PlainPoint → ℕ → Type 0
-IsNilOverSeveral points document = (i j : ℕ) (p q : PlainPoint) → slice_get points i ≡ Some p → slice_get points j ≡ Some q
+IsNilOverSeveral points document =
+    (i j : ℕ) (p q : PlainPoint) → slice_get points i ≡ Some p → slice_get points j ≡ Some q
     → (p.document ≡ q.document → ⊥) → document ≡ 0
 
 -- a row of MethodDebugInformation says a method's local signature row and its points, by documents of these rows
@@ -118,7 +122,8 @@ pub record HoldPdb (p : PlainPdb) (count : ℕ) (h : Built) (rows : List (List (
   pub methods : count_at rows tables.method_debug_information ≡ count
   pub method : (n : ℕ) (cells : List ℕ) → slice_get (rows_at rows tables.method_debug_information) n ≡ Some cells
       → MethodSays (heaps_built h) (documents_of p count) (nth_method p n) cells
-  pub others : (table : ℕ) → (table == tables.document) ≡ false → (table == tables.method_debug_information) ≡ false → count_at rows table ≡ 0
+  pub others : (table : ℕ) → (table == tables.document) ≡ false → (table == tables.method_debug_information) ≡ false
+      → count_at rows table ≡ 0
 
 -- the stream `#Pdb`: an id of zeros, the entry point, and no table of a module that is referred to (#Pdb Stream)
 unfoldable pub pdb_stream : ℕ → List ℕ
@@ -128,7 +133,8 @@ pdb_stream entry = replicate 20 0 ++ to_le_bytes w32 entry ++ replicate 8 0
 abbrev pub document_told : Source → ℕ → ℕ
 document_told s n = raw_in s (nth_row tables.method_debug_information n) columns.method_debug_information_document
 
--- the bytes are those of a PDB of so many methods that isn't refused, and what is known by it is the plain PDB; a method whose points have several documents
+-- the bytes are those of a PDB of so many methods that isn't refused, and what is known by it is the plain PDB; a
+-- method whose points have several documents
 -- has Document nil
 pub record MeansPdb (p : PlainPdb) (methods : ℕ) (bytes : List ℕ) : Type 0 where
   pub source : Source

@@ -51,7 +51,11 @@ impl Model for PdbChain {
 
     ghost Value = { PdbHistory };
 
-    ghost view = { λ c. record { base = c.base; deltas = reverse c.added.items; room = room_for (vec_capacity c.added) (vec_len c.added) } };
+    ghost view = { λ c. record {
+      base = c.base;
+      deltas = reverse c.added.items;
+      room = room_for (vec_capacity c.added) (vec_len c.added);
+    } };
 
     ghost invariant = { λ c. (length c.added.items + 1 < 2 ^ 32) × IsPdbWhole c.base (reverse c.added.items) c.places };
 }

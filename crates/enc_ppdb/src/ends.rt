@@ -11,7 +11,7 @@ use enc_seqpoints::Points;
 use std::alloc::{AllocError, Global};
 
 /// One past the greatest offset of some points, 0 where there are none.
-#[tactic(auto, using(crate::proofs::PointsEnd::end_none, crate::proofs::PointsEnd::end_more, crate::proofs::PointsEnd::end_all))]
+#[tactic(auto, using(crate::proofs::PointsEnd::end_steps))]
 fn end_of(points: &Points) -> u64
     ensures { result ≡ end_by (λ (p : ThePoint). p.offset) points.now.points }
 {

@@ -75,7 +75,7 @@ fn document_fault(file: &File, n: u32) -> Option<Place>
 }
 
 /// The first row of Document that isn't good.
-#[tactic(auto, using(enc_base::proofs::First::first_none, enc_base::proofs::First::first_found, enc_base::proofs::First::first_more), unfolding(crate::specs::Fault::documents_fault))]
+#[tactic(auto, using(enc_base::proofs::First::first_steps), unfolding(crate::specs::Fault::documents_fault))]
 pub(crate) fn documents_fault(file: &File) -> Option<Place>
     ensures { result ≡ documents_fault file.now }
 {
@@ -154,7 +154,7 @@ fn method_fault(alloc: Global, file: &File, n: u32) -> Result<Option<Place>, All
 }
 
 /// The first row of MethodDebugInformation that isn't good.
-#[tactic(auto, using(enc_base::proofs::First::first_none, enc_base::proofs::First::first_found, enc_base::proofs::First::first_more), unfolding(crate::specs::Fault::methods_fault))]
+#[tactic(auto, using(enc_base::proofs::First::first_steps), unfolding(crate::specs::Fault::methods_fault))]
 fn methods_fault(alloc: Global, file: &File) -> Result<Option<Place>, AllocError>
     ensures { IfOk result (λ place. place ≡ methods_fault file.now) }
 {

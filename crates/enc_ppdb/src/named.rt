@@ -20,7 +20,7 @@ fn token(file: &File, n: u32) -> Token
 }
 
 /// The tokens of MethodDebugInformation in EncMap, in order.
-#[tactic(auto, using(crate::proofs::TokensNamed::tokens_none, crate::proofs::TokensNamed::tokens_kept, crate::proofs::TokensNamed::tokens_left), unfolding(crate::specs::Fault::named_tokens))]
+#[tactic(auto, using(crate::proofs::TokensNamed::tokens_steps), unfolding(crate::specs::Fault::named_tokens))]
 pub(crate) fn named_of(alloc: Global, file: &File) -> Result<MethodList, AllocError>
     ensures { IfOk result (λ named. named ≡ named_tokens file.now) }
 {

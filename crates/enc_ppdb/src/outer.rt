@@ -16,7 +16,7 @@ fn is_there(bits: u64, table: u8) -> bool
 }
 
 /// How many tables below this one the bits have.
-#[tactic(auto, using(enc_rows::proofs::Below::sum_none, enc_rows::proofs::Below::sum_more), unfolding(enc_rows::specs::Layout::tables_below))]
+#[tactic(auto, using(enc_rows::proofs::Below::sum_steps), unfolding(enc_rows::specs::Layout::tables_below))]
 fn tables_before(bits: u64, table: u8) -> usize
     requires { table ≤ 64 }
     ensures count { result ≡ tables_below bits table }

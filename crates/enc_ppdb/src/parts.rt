@@ -115,7 +115,8 @@ fn push_method(
     requires spelled { is_ok (blob_of locals (one_document points.now) points.now) ≡ true }
     requires few { count_at writer.old.tables method_debug_information < 2 ^ 24 - 1 }
     ensures given { OnOk result (MethodGiven locals points.now writer.old writer.new) }
-    ensures refused { RefusesPdb result (nat_lt most_pdb_weight (heaps_size writer.old.heaps + (12 + 28 * length points.now))) }
+    ensures refused { RefusesPdb result
+        (nat_lt most_pdb_weight (heaps_size writer.old.heaps + (12 + 28 * length points.now))) }
 {
     let document = document_of(points);
     let blob = method_blob(alloc, locals, document, points)?;
@@ -146,7 +147,8 @@ fn document_row<P: PointSource>(
     requires so_far { WrittenUpto (P.debug source.now) (P.placed source.now) n i writer.old }
     ensures so_far { OnOk result (WrittenUpto (P.debug source.now) (P.placed source.now) n (i + 1) writer.new) }
     ensures row { IfOk result (λ row. IsRowAt (P.debug source.now) n i row) }
-    ensures refused { RefusesPdb result (nat_lt most_pdb_weight (pdb_weight_of (P.debug source.now) (n + 1) (documents_upto (P.debug source.now) n (i + 1)))) }
+    ensures refused { RefusesPdb result (nat_lt most_pdb_weight
+        (pdb_weight_of (P.debug source.now) (n + 1) (documents_upto (P.debug source.now) n (i + 1)))) }
 {
     let method = nth_row(METHOD_DEF, n);
     let number = points.point(i).document;
@@ -185,7 +187,8 @@ fn push_point<P: PointSource>(
     requires rows { AreNumbered (P.debug source.now) n i rows.old.items }
     ensures so_far { OnOk result (WrittenUpto (P.debug source.now) (P.placed source.now) n (i + 1) writer.new) }
     ensures rows { OnOk result (AreNumbered (P.debug source.now) n (i + 1) rows.new.items) }
-    ensures refused { RefusesPdb result (nat_lt most_pdb_weight (pdb_weight_of (P.debug source.now) (n + 1) (documents_of (P.debug source.now) (n + 1)))) }
+    ensures refused { RefusesPdb result (nat_lt most_pdb_weight
+        (pdb_weight_of (P.debug source.now) (n + 1) (documents_of (P.debug source.now) (n + 1)))) }
 {
     let point = points.point(i);
     let document = match document_row(alloc, source, n, points, i, writer) {
@@ -213,9 +216,11 @@ fn numbered<P: PointSource>(
     requires few { n < 2 ^ 24 - 1 }
     requires points { points.now ≡ P.said source.now (row_from method_def n) }
     requires so_far { WrittenUpto (P.debug source.now) (P.placed source.now) n 0 writer.old }
-    ensures so_far { OnOk result (WrittenUpto (P.debug source.now) (P.placed source.now) n (length points.now.points) writer.new) }
+    ensures so_far { OnOk result (WrittenUpto (P.debug source.now) (P.placed source.now) n
+        (length points.now.points) writer.new) }
     ensures rows { IfOk result (λ rows. AreNumbered (P.debug source.now) n (length points.now.points) rows.items) }
-    ensures refused { RefusesPdb result (nat_lt most_pdb_weight (pdb_weight_of (P.debug source.now) (n + 1) (documents_of (P.debug source.now) (n + 1)))) }
+    ensures refused { RefusesPdb result (nat_lt most_pdb_weight
+        (pdb_weight_of (P.debug source.now) (n + 1) (documents_of (P.debug source.now) (n + 1)))) }
 {
     let mut rows = Vec::new(alloc);
     for i in 0..points.len() {
@@ -236,9 +241,12 @@ fn add_method<P: PointSource>(
 ) -> Result<(), BuildFault>
     requires sound { IsSoundPdb (P.debug source.now) }
     requires few { n < 2 ^ 24 - 1 }
-    requires so_far { IsWritten (P.debug source.now) n n 0 (P.placed source.now) (documents_of (P.debug source.now) n) writer.old }
-    ensures so_far { OnOk result (IsWritten (P.debug source.now) (n + 1) (n + 1) 0 (P.placed source.now) (documents_of (P.debug source.now) (n + 1)) writer.new) }
-    ensures refused { RefusesPdb result (nat_lt most_pdb_weight (pdb_weight_of (P.debug source.now) (n + 1) (documents_of (P.debug source.now) (n + 1)))) }
+    requires so_far { IsWritten (P.debug source.now) n n 0 (P.placed source.now)
+        (documents_of (P.debug source.now) n) writer.old }
+    ensures so_far { OnOk result (IsWritten (P.debug source.now) (n + 1) (n + 1) 0 (P.placed source.now)
+        (documents_of (P.debug source.now) (n + 1)) writer.new) }
+    ensures refused { RefusesPdb result (nat_lt most_pdb_weight
+        (pdb_weight_of (P.debug source.now) (n + 1) (documents_of (P.debug source.now) (n + 1)))) }
 {
     let method = nth_row(METHOD_DEF, n);
     let points = source.points(alloc, method)?;
@@ -260,7 +268,8 @@ fn add_method<P: PointSource>(
 fn written<P: PointSource>(alloc: Global, source: &P, methods: u32) -> Result<Writer, BuildFault>
     requires sound { IsSoundPdb (P.debug source.now) }
     requires few { methods < 2 ^ 24 }
-    ensures so_far { IfOk result (λ w. IsWritten (P.debug source.now) methods methods 0 (P.placed source.now) (documents_of (P.debug source.now) methods) w) }
+    ensures so_far { IfOk result (λ w. IsWritten (P.debug source.now) methods methods 0 (P.placed source.now)
+        (documents_of (P.debug source.now) methods) w) }
     ensures refused { RefusesPdb result (nat_lt most_pdb_weight (pdb_weight (P.debug source.now) methods)) }
 {
     let mut writer = Writer::begin(alloc)?;
@@ -289,7 +298,8 @@ pub fn pdb_parts<P: PointSource>(
     ensures held { IfOk result (λ r. HoldPdb (P.debug source.now) methods r.heaps r.tables) }
     ensures fit { IfOk result (λ r. IndicesFit r.tables false) }
     ensures documents { IfOk result (λ r. count_at r.tables document_table < 2 ^ 23) }
-    ensures size { IfOk result (λ r. joined_size r.heaps + 16 * count_at r.tables document_table + 8 * methods + 65000 ≤ pdb_weight (P.debug source.now) methods) }
+    ensures size { IfOk result (λ r. joined_size r.heaps + 16 * count_at r.tables document_table + 8 * methods + 65000
+        ≤ pdb_weight (P.debug source.now) methods) }
     ensures tells { TellsPdb result (pdb_weight (P.debug source.now) methods) }
 {
     let writer = match written(alloc, source, methods) {

@@ -67,7 +67,7 @@ impl CodeSizes {
     }
 
     /// The i-th method, from 0, and the size of its code; None past the last.
-    #[tactic(auto, using(crate::proofs::Sized::sized_first, crate::proofs::Sized::sized_second, crate::proofs::Sized::sized_both))]
+    #[tactic(auto, using(crate::proofs::Sized::sized_steps))]
     pub fn get(&self, i: usize) -> Option<(Token, u32)>
         ensures { result ≡ slice_get self.now i }
     {

@@ -50,7 +50,8 @@ fn list_named(
     listings: &mut Listings,
 ) -> Result<(), AllocError>
     requires few { (u : TheToken) → places_kept places.now u + 1 < 2 ^ 32 }
-    ensures { IfOk result (λ _. (ts : List TheToken) → AreOfThose places.now ts (own_told generation) listings.old → AreOfThose places.now (ts ++ map method_named_by (named_tokens pdb.now)) (own_told generation) listings.new) }
+    ensures { IfOk result (λ _. (ts : List TheToken) → AreOfThose places.now ts (own_told generation) listings.old
+        → AreOfThose places.now (ts ++ map method_named_by (named_tokens pdb.now)) (own_told generation) listings.new) }
 {
     for k in 0..pdb.methods() {
         let method = pdb.method(k);
@@ -69,7 +70,8 @@ pub(crate) fn told(
     generation: u32,
 ) -> Result<Listings, AllocError>
     requires few { (u : TheToken) → places_kept places.now u + 1 < 2 ^ 32 }
-    ensures { IfOk result (AreOfThose places.now (told_methods (record { pdb = pdb.now; changed = changed.now })) (own_told generation)) }
+    ensures { IfOk result (AreOfThose places.now (told_methods (record { pdb = pdb.now; changed = changed.now }))
+        (own_told generation)) }
 {
     let mut listings = list_changed(alloc, places, changed, generation)?;
     let Some(pdb) = pdb else {

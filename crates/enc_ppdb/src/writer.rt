@@ -59,7 +59,8 @@ pub(crate) fn add_blob(heaps: &mut HeapBuilder, bytes: &[u8]) -> Result<u32, Bui
     ensures offset { IfOk result (λ offset. offset ≡ blob_offset heaps.new bytes.now) }
     ensures size { OnOk result (heaps_size heaps.new ≤ heaps_size heaps.old + (length bytes.now + 4)) }
     ensures same { OnOk result (is_kept heaps.old.blobs bytes.now ≡ true → heaps.new ≡ heaps.old) }
-    ensures refused { RefusesPdb result (passes_with heaps.old (is_kept heaps.old.blobs bytes.now) (length bytes.now + 4)) }
+    ensures refused { RefusesPdb result
+        (passes_with heaps.old (is_kept heaps.old.blobs bytes.now) (length bytes.now + 4)) }
 {
     match heaps.add_blob(bytes) {
         Ok(offset) => Ok(offset),
@@ -95,9 +96,11 @@ fn numbers_of(
     ensures grown { Grown heaps.old heaps.new }
     ensures kept { OnOk result (keeps_values heaps.new (document_seen document.now) ≡ true) }
     ensures numbers { IfOk result (λ numbers. numbers ≡ document_key heaps.new (document_seen document.now)) }
-    ensures size { OnOk result (heaps_size heaps.new ≤ heaps_size heaps.old + (40 + length name.now + length document.now.hash.now)) }
+    ensures size { OnOk result (heaps_size heaps.new
+        ≤ heaps_size heaps.old + (40 + length name.now + length document.now.hash.now)) }
     ensures same { OnOk result (keeps_values heaps.old (document_seen document.now) ≡ true → heaps.new ≡ heaps.old) }
-    ensures refused { RefusesPdb result (passes_with heaps.old (keeps_values heaps.old (document_seen document.now)) (40 + length name.now + length document.now.hash.now)) }
+    ensures refused { RefusesPdb result (passes_with heaps.old (keeps_values heaps.old (document_seen document.now))
+        (40 + length name.now + length document.now.hash.now)) }
 {
     let name = match add_blob(heaps, name) {
         Ok(offset) => offset,
@@ -154,7 +157,9 @@ fn push_document(
     requires few { count_at tables.old document_table < 2 ^ 24 - 1 }
     ensures grown { Grown heaps.old heaps.new }
     ensures kept { OnOk result (is_kept heaps.new.blobs (name_blob_of (slice_index numbers 0)) ≡ true) }
-    ensures rows { OnOk result (OneDocument tables.old tables.new (blob_offset heaps.new (name_blob_of (slice_index numbers 0)) ∷ slice_index numbers 1 ∷ slice_index numbers 2 ∷ slice_index numbers 3 ∷ [])) }
+    ensures rows { OnOk result (OneDocument tables.old tables.new (blob_offset heaps.new
+        (name_blob_of (slice_index numbers 0)) ∷ slice_index numbers 1 ∷ slice_index numbers 2 ∷ slice_index numbers 3
+        ∷ [])) }
     ensures number { IfOk result (λ row. row ≡ count_at tables.new document_table) }
     ensures size { OnOk result (heaps_size heaps.new ≤ heaps_size heaps.old + 9) }
     ensures refused { RefusesPdb result (nat_lt most_pdb_weight (heaps_size heaps.old + 9)) }
@@ -200,7 +205,8 @@ impl Writer {
         requires few { 96 * count_at self.old.tables document_table ≤ self.old.weight }
         ensures given { IfOk result (λ row. RowGiven (document_seen document.now) self.old self.new row) }
         ensures light { OnOk result (self.new.weight ≤ 2 ^ 29) }
-        ensures refused { RefusesPdb result (is_unknown self.old (document_seen document.now) && nat_lt most_pdb_weight (self.old.weight + document_weight (document_seen document.now))) }
+        ensures refused { RefusesPdb result (is_unknown self.old (document_seen document.now)
+            && nat_lt most_pdb_weight (self.old.weight + document_weight (document_seen document.now))) }
     {
         let mut name = Vec::new(alloc);
         document.name.push_to(&mut name)?;

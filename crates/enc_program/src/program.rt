@@ -30,7 +30,12 @@ pub fn status_of<S: Store, K: Sink>(
     ensures no_words { words ≡ None → result ≡ 3 }
     ensures no_store { words ≡ None → store.new ≡ store.old }
     ensures no_sink { words ≡ None → out.new ≡ out.old }
-    ensures served { IfSome words (λ w. IsServed (texts w.items) (map (λ w. record { kind = kind_of w; limit = limit w; heard = heard w }) watchers.items) result (course (S.told store.old) (S.told store.new) (S.faults store.old) (S.faults store.new)) (course (K.told out.old) (K.told out.new) (K.faults out.old) (K.faults out.new))) }
+    ensures served { IfSome words (λ w. IsServed (texts w.items) (map (λ w. record {
+      kind = kind_of w;
+      limit = limit w;
+      heard = heard w;
+    }) watchers.items) result (course (S.told store.old) (S.told store.new) (S.faults store.old)
+        (S.faults store.new)) (course (K.told out.old) (K.told out.new) (K.faults out.old) (K.faults out.new))) }
 {
     match words {
         None => 3,

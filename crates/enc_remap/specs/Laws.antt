@@ -15,8 +15,10 @@ use Rattle.enc_vm.specs.Moves.{IsBeginIn}
 -- a frame may be moved to each instruction of the newest body of a method
 abbrev pub NewestMayBeMovedTo : Type 0
 NewestMayBeMovedTo =
-    (users : ℕ → Option (List ℕ)) (m : Module) (methods : List (Option Version)) (t : Token) (v : Version) (offset : ℕ) → IsSound m
-    → AreBodiesOf users m methods → t.table ≡ method_def → newest_of methods t ≡ Some v → is_instruction_start (instructions_of v.code.code) offset ≡ true
+    (users : ℕ → Option (List ℕ)) (m : Module) (methods : List (Option Version)) (t : Token) (v : Version) (offset : ℕ)
+    → IsSound m
+    → AreBodiesOf users m methods → t.table ≡ method_def → newest_of methods t ≡ Some v
+    → is_instruction_start (instructions_of v.code.code) offset ≡ true
     → IsBeginIn v offset
 
 -- newest bodies of a module stand for it with some PDB

@@ -1,4 +1,5 @@
--- A frame under way goes on in the newest body of its method: when it may, and what becomes of it. A debugger asks for it behind an edit at a breakpoint.
+-- A frame under way goes on in the newest body of its method: when it may, and what becomes of it. A debugger asks
+-- for it behind an edit at a breakpoint.
 use Rattle.std.specs.Prelude.{◌≡◌, ℕ, Bool, false, not, ◌&&◌, List, [], ◌∷◌, ◌++◌, length, map, Option, Some, None, option_map, option_and_then, is_some, unwrap_or, ◌==◌, if◌then◌else◌}
 use Rattle.std.specs.List.{list_any}
 use Rattle.std.specs.Option.{option_map_or}
@@ -19,7 +20,8 @@ use Rattle.enc_vm.specs.Step.{task_at}
 
 -- the newest body of a method with its points, whether the interpreter runs it or not
 abbrev pub newest_code : Module → PlainPdb → Token → Option PlainCode
-newest_code m debug method = option_map (λ (b : Body). record { body = b; points = (lines_known (debug method)).points }) (method_body m method)
+newest_code m debug method = option_map
+    (λ (b : Body). record { body = b; points = (lines_known (debug method)).points }) (method_body m method)
 
 -- the offset is that of a point that isn't hidden (Portable PDB v1.0, sequence points)
 abbrev pub is_visible : PlainCode → ℕ → Bool
@@ -56,7 +58,8 @@ kinds_behind (k ∷ first) (j ∷ kinds) = if kind_number k == kind_number j the
 abbrev pub kinds_of : Module → PlainCode → List Kind
 kinds_of m c = unwrap_or (local_kinds m c.body.locals) []
 
--- what is asked: the module, a method, the code that a frame of it has, the method's newest one, the frame's offset, and the map
+-- what is asked: the module, a method, the code that a frame of it has, the method's newest one, the frame's offset,
+-- and the map
 pub record Move : Type 0 where
   pub plain : Module
   pub method : Token
@@ -70,13 +73,15 @@ abbrev pub goal : Move → Option ℕ
 goal x = led_from x.from x.pairs
 
 abbrev pub holds_there : (PlainCode → ℕ → Bool) → Move → Bool
-holds_there test x = option_map_or (λ (to : ℕ). option_map_or (λ (c : PlainCode). test c to) x.newest false) (goal x) false
+holds_there test x = option_map_or (λ (to : ℕ). option_map_or (λ (c : PlainCode). test c to) x.newest false)
+    (goal x) false
 
 -- the kinds of the local variables that the newest body has behind those of the frame's body, where these are the first
 abbrev pub new_kinds : Move → Option (List Kind)
 new_kinds x = option_and_then (λ (c : PlainCode). kinds_behind (kinds_of x.plain x.code) (kinds_of x.plain c)) x.newest
 
--- what Q3 to Q7 ask of a method, an offset and a map, without a frame's stack and handlers: the number of each, and whether it is broken
+-- what Q3 to Q7 ask of a method, an offset and a map, without a frame's stack and handlers: the number of each, and
+-- whether it is broken
 abbrev pub move_rules : Move → List (ℕ × Bool)
 move_rules x =
     (3, not (is_visible x.code x.from))
@@ -95,21 +100,27 @@ first_broken (r ∷ rest) = if r.1 then Some r.0 else first_broken rest
 abbrev pub MayMove : Move → Type 0
 MayMove x = first_broken (move_rules x) ≡ None
 
--- all that is asked of the frames of a task that goes on: no object is on its way, nothing is on the innermost frame's stack, the move may be, and no handler
+-- all that is asked of the frames of a task that goes on: no object is on its way, nothing is on the innermost
+-- frame's stack, the move may be, and no handler
 -- runs in the frame
 abbrev pub thread_rules : {C : Type 0} → Thread C → Move → List (ℕ × Bool)
 thread_rules t x =
-    (1, is_some t.flight) ∷ (2, not (length t.top.stack == 0)) ∷ move_rules x ++ (7, not (length t.top.running == 0)) ∷ []
+    (1, is_some t.flight) ∷ (2, not (length t.top.stack == 0)) ∷ move_rules x ++ (7, not (length t.top.running == 0))
+    ∷ []
 
--- what comes of it: a frame of a method was moved from an offset to another, or the number of the first rule that is broken, and nothing changes
+-- what comes of it: a frame of a method was moved from an offset to another, or the number of the first rule that is
+-- broken, and nothing changes
 pub data Remapping (C : Type 0) : Type 0 where
   moved : Token → ℕ → ℕ → MachineState C → Remapping C
   refused : ℕ → Remapping C
 
--- the innermost frame gets the newest code and the offset; its local variables stay, and the defaults of the new ones follow. Where no rule is broken, there
+-- the innermost frame gets the newest code and the offset; its local variables stay, and the defaults of the new
+-- ones follow. Where no rule is broken, there
 -- are all three
-abbrev pub remap_by : {C : Type 0} → ℕ → MachineState C → Frame C → Option ℕ → Option C → Option ℕ → Option (List Kind) → Remapping C
-remap_by n s f None (Some code) (Some to) (Some kinds) = moved f.method f.offset to (moved_top n code to (map default_of kinds) s)
+abbrev pub remap_by : {C : Type 0} → ℕ → MachineState C → Frame C → Option ℕ → Option C → Option ℕ → Option (List Kind)
+    → Remapping C
+remap_by n s f None (Some code) (Some to) (Some kinds) =
+    moved f.method f.offset to (moved_top n code to (map default_of kinds) s)
 remap_by n s f (Some number) code to kinds = refused number
 remap_by n s f None code to kinds = refused 5
 
@@ -128,11 +139,14 @@ move_of codes m pairs f = record {
   pairs = pairs;
 }
 
-abbrev pub remap_thread : {C : Type 0} → Codes C → Module → ℕ → List (ℕ × ℕ) → MachineState C → Thread C → Move → Remapping C
-remap_thread codes m n pairs s t x = remap_by n s t.top (first_broken (thread_rules t x)) (codes.newest t.top.method) (goal x) (new_kinds x)
+abbrev pub remap_thread : {C : Type 0} → Codes C → Module → ℕ → List (ℕ × ℕ) → MachineState C → Thread C → Move
+    → Remapping C
+remap_thread codes m n pairs s t x =
+    remap_by n s t.top (first_broken (thread_rules t x)) (codes.newest t.top.method) (goal x) (new_kinds x)
 
 -- the task goes on, or this is Q1 too
-abbrev pub remap_task : {C : Type 0} → Codes C → Module → ℕ → List (ℕ × ℕ) → MachineState C → Option (Task C) → Remapping C
+abbrev pub remap_task : {C : Type 0} → Codes C → Module → ℕ → List (ℕ × ℕ) → MachineState C → Option (Task C)
+    → Remapping C
 remap_task codes m n pairs s (Some (going t)) = remap_thread codes m n pairs s t (move_of codes m pairs t.top)
 remap_task codes m n pairs s (Some ended) = refused 1
 remap_task codes m n pairs s (Some (trapped x frames)) = refused 1

@@ -19,11 +19,13 @@ IsRemap (Ok (remapped.Refused number)) new old said = (said ≡ refused number) 
 IsRemap (Err e) new old said = new ≡ old
 
 -- the remap of the plain machine: of a module and each PDB that the newest versions stand for
-abbrev pub IsPlainRemap : (ℕ → Option (List ℕ)) → Module → List (Option Version) → ℕ → List (ℕ × ℕ) → Result Remapped AllocError → MachineState Version
+abbrev pub IsPlainRemap : (ℕ → Option (List ℕ)) → Module → List (Option Version) → ℕ → List (ℕ × ℕ)
+    → Result Remapped AllocError → MachineState Version
     → MachineState Version → Type 0
 IsPlainRemap users m methods task pairs result new old =
     (debug : PlainPdb) → AreVersionsOf users m debug methods
-    → IsRemap result (state_meant users new) (state_meant users old) (remap_in m debug task pairs (state_meant users old))
+    → IsRemap result (state_meant users new) (state_meant users old)
+    (remap_in m debug task pairs (state_meant users old))
 
 -- frames that hold versions, whose bodies have these user texts
 abbrev pub version_codes : (ℕ → Option (List ℕ)) → List (Option Version) → Codes Version

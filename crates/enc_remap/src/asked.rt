@@ -82,7 +82,8 @@ fn body_with_points<'a, V: ModuleView, P: PointSource>(
     method: Token,
 ) -> Result<Option<Stored<'a>>, AllocError>
     requires { method.table ≡ method_def }
-    ensures means { IfOk result (λ o. option_map (λ (s : _). code_meant (V.users edition.now.view.now) (version_seen s)) o ≡ newest_code (V.meaning edition.now.view.now) (P.debug edition.now.points.now) method) }
+    ensures means { IfOk result (λ o. option_map (λ (s : _). code_meant (V.users edition.now.view.now) (version_seen s))
+        o ≡ newest_code (V.meaning edition.now.view.now) (P.debug edition.now.points.now) method) }
     ensures few { IfOk result (λ o. IfSome o (λ (s : _). length s.code.code.now < 2 ^ 32)) }
     ensures short { IfOk result (λ o. IfSome o (λ (s : _). length s.code.sections.now < 2 ^ 32)) }
 {
@@ -104,10 +105,12 @@ fn first_broken_of<V: ModuleView>(
     newest: &Option<Stored<'_>>,
 ) -> Result<Option<u8>, AllocError>
     requires table { wish.now.at.method.table ≡ method_def }
-    requires body { option_map (λ (s : _). body_of (V.users view.now) (code_seen s.code)) newest.now ≡ method_body (V.meaning view.now) wish.now.at.method }
+    requires body { option_map (λ (s : _). body_of (V.users view.now) (code_seen s.code)) newest.now
+        ≡ method_body (V.meaning view.now) wish.now.at.method }
     requires few { IfSome newest.now (λ (s : _). length s.code.code.now < 2 ^ 32) }
     requires short { IfSome newest.now (λ (s : _). length s.code.sections.now < 2 ^ 32) }
-    ensures { (texts : ℕ → Option (List ℕ)) → IfOk result (λ n. n ≡ broken_of texts (V.users view.now) (V.meaning view.now) wish.now.at wish.now.pairs.now wish.now.old newest.now) }
+    ensures { (texts : ℕ → Option (List ℕ)) → IfOk result (λ n. n ≡ broken_of texts (V.users view.now)
+        (V.meaning view.now) wish.now.at wish.now.pairs.now wish.now.old newest.now) }
 {
     if !is_at_point(&wish.old.points, wish.at.offset) {
         return Ok(Some(3));
@@ -134,9 +137,11 @@ fn first_broken_of<V: ModuleView>(
     Ok(None)
 }
 
-/// Whether a frame of a method could go on in the method's newest body, where a map leads from its offset, if it has the
+/// Whether a frame of a method could go on in the method's newest body, where a map leads from its offset, if it
+/// has the
 /// body that the method has in an earlier module: the number of the first of these that is broken, None where it may.
-/// Its stack and its handlers are the host's matter, and so is whether its task goes on (`remap` asks for all of these).
+/// Its stack and its handlers are the host's matter, and so is whether its task goes on (`remap` asks for all of
+/// these).
 ///
 /// 3. no sequence point of the earlier body that isn't hidden stands at its offset;
 /// 4. no pair of the map leads from this offset;
@@ -157,7 +162,8 @@ pub fn may_remap<O: ModuleView, Q: PointSource, V: ModuleView, P: PointSource>(
     pairs: &[(u32, u32)],
 ) -> Result<Option<Option<u8>>, AllocError>
     requires { at.method.table ≡ method_def }
-    ensures { IfOk result (λ r. r ≡ rule_of_remap (O.meaning old.now.view.now) (Q.debug old.now.points.now) (V.meaning newest.now.view.now) (P.debug newest.now.points.now) at pairs.now) }
+    ensures { IfOk result (λ r. r ≡ rule_of_remap (O.meaning old.now.view.now) (Q.debug old.now.points.now)
+        (V.meaning newest.now.view.now) (P.debug newest.now.points.now) at pairs.now) }
 {
     let Some(old) = body_with_points(alloc, old, at.method)? else {
         return Ok(None);

@@ -72,7 +72,8 @@ fn newest<'a, V: ModuleView>(
     requires versions { AreBodiesOf (V.users view.now) (V.meaning view.now) versions.now.methods }
     requires table { method.table ≡ method_def }
     ensures newest { option_map (λ c. c.now.value) result ≡ newest_of versions.now.methods method }
-    ensures body { IfSome result (λ c. method_body (V.meaning view.now) method ≡ Some (body_of (V.users view.now) c.now.value.code)) }
+    ensures body { IfSome result (λ c. method_body (V.meaning view.now) method
+        ≡ Some (body_of (V.users view.now) c.now.value.code)) }
 {
     versions.newest(method)
 }
@@ -85,8 +86,11 @@ fn goal_of<'a, V: ModuleView>(
     pairs: &[(u32, u32)],
 ) -> Result<Goal<'a>, u8>
     requires { AreBodiesOf (V.users view.now) (V.meaning view.now) versions.now.methods }
-    ensures ok { IfOk result (λ g. IsGoal (move_of (version_codes (V.users view.now) versions.now.methods) (V.meaning view.now) pairs.now frame.now) (newest_of versions.now.methods frame.now.method) g.code.now.value g.to g.kinds) }
-    ensures err { IfErr result (λ n. first_broken (move_rules (move_of (version_codes (V.users view.now) versions.now.methods) (V.meaning view.now) pairs.now frame.now)) ≡ Some n) }
+    ensures ok { IfOk result (λ g. IsGoal (move_of (version_codes (V.users view.now) versions.now.methods)
+        (V.meaning view.now) pairs.now frame.now)
+        (newest_of versions.now.methods frame.now.method) g.code.now.value g.to g.kinds) }
+    ensures err { IfErr result (λ n. first_broken (move_rules (move_of
+        (version_codes (V.users view.now) versions.now.methods) (V.meaning view.now) pairs.now frame.now)) ≡ Some n) }
 {
     let old = frame.code().as_ref();
     if !old.is_at_point(frame.offset()) {
@@ -122,10 +126,13 @@ pub(crate) fn frame_goal<'a, V: ModuleView>(
     pairs: &[(u32, u32)],
 ) -> Result<Goal<'a>, u8>
     requires { AreBodiesOf (V.users view.now) (V.meaning view.now) versions.now.methods }
-    ensures ok { IfOk result (λ g. IsGoal (move_of (version_codes (V.users view.now) versions.now.methods) (V.meaning view.now) pairs.now frame.now) (newest_of versions.now.methods frame.now.method) g.code.now.value g.to g.kinds) }
+    ensures ok { IfOk result (λ g. IsGoal (move_of (version_codes (V.users view.now) versions.now.methods)
+        (V.meaning view.now) pairs.now frame.now)
+        (newest_of versions.now.methods frame.now.method) g.code.now.value g.to g.kinds) }
     ensures stack { IfOk result (λ _. length frame.now.stack ≡ 0) }
     ensures running { IfOk result (λ _. length frame.now.running ≡ 0) }
-    ensures err { IfErr result (λ n. first_broken (frame_rules frame.now (move_of (version_codes (V.users view.now) versions.now.methods) (V.meaning view.now) pairs.now frame.now)) ≡ Some n) }
+    ensures err { IfErr result (λ n. first_broken (frame_rules frame.now (move_of
+        (version_codes (V.users view.now) versions.now.methods) (V.meaning view.now) pairs.now frame.now)) ≡ Some n) }
 {
     if !frame.stack().is_empty() {
         return Err(2);

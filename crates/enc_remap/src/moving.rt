@@ -46,11 +46,14 @@ fn plan_of<'a, V: ModuleView>(
 ) -> Result<Plan<'a>, u8>
     requires sound { IsSound (V.meaning view.now) }
     requires versions { AreBodiesOf (V.users view.now) (V.meaning view.now) versions.now.methods }
-    ensures moved { IfOk result (λ p. remap_with (version_codes (V.users view.now) versions.now.methods) (V.meaning view.now) task pairs.now machine.now ≡ moved p.method p.from p.goal.to (moved_top task p.goal.code.now.value p.goal.to (map default_of p.goal.kinds) machine.now)) }
+    ensures moved { IfOk result (λ p. remap_with (version_codes (V.users view.now) versions.now.methods)
+        (V.meaning view.now) task pairs.now machine.now ≡ moved p.method p.from p.goal.to
+        (moved_top task p.goal.code.now.value p.goal.to (map default_of p.goal.kinds) machine.now)) }
     ensures idle { IfOk result (λ p. IsTrue (is_idle (task_at machine.now task))) }
     ensures begins { IfOk result (λ p. IsBeginIn p.goal.code.now.value p.goal.to) }
     ensures texts { IfOk result (λ p. IsTrue (version_texts (V.users view.now) p.goal.code.now.value)) }
-    ensures refused { IfErr result (λ n. remap_with (version_codes (V.users view.now) versions.now.methods) (V.meaning view.now) task pairs.now machine.now ≡ refused n) }
+    ensures refused { IfErr result (λ n. remap_with (version_codes (V.users view.now) versions.now.methods)
+        (V.meaning view.now) task pairs.now machine.now ≡ refused n) }
 {
     if !goes_on(machine, task) {
         return Err(1);
@@ -79,8 +82,10 @@ fn remap_version<V: ModuleView>(
 ) -> Result<Remapped, AllocError>
     requires sound { IsSound (V.meaning view.now) }
     requires versions { AreBodiesOf (V.users view.now) (V.meaning view.now) versions.now.methods }
-    ensures remap { IsRemap result machine.new machine.old (remap_with (version_codes (V.users view.now) versions.now.methods) (V.meaning view.now) task pairs.now machine.old) }
-    ensures texts { IsTrue (machine_texts (V.users view.now) machine.old) → IsTrue (machine_texts (V.users view.now) machine.new) }
+    ensures remap { IsRemap result machine.new machine.old (remap_with
+        (version_codes (V.users view.now) versions.now.methods) (V.meaning view.now) task pairs.now machine.old) }
+    ensures texts { IsTrue (machine_texts (V.users view.now) machine.old)
+        → IsTrue (machine_texts (V.users view.now) machine.new) }
 {
     let plan = match plan_of(machine, view, versions, task, pairs) {
         Err(number) => return Ok(Remapped::Refused(number)),
@@ -110,7 +115,8 @@ fn remap_version<V: ModuleView>(
 ///    first of those of the newest;
 /// 7. a handler runs in the frame, or one of the newest body has that offset.
 ///
-/// So it is of the machine whose frames hold versions, and of the plain machine of each PDB for which the versions stand,
+/// So it is of the machine whose frames hold versions, and of the plain machine of each PDB for which the versions
+/// stand,
 /// of which `some_pdb_law` says that there is one. Its time is logarithmic in the number of points, and linear in the
 /// map, in the clauses and in the local variables. Without memory nothing changes.
 #[tactic(auto, using(crate::proofs::Meant::plain_remap))]
@@ -124,9 +130,12 @@ pub fn remap<V: ModuleView>(
 ) -> Result<Remapped, AllocError>
     requires sound { IsSound (V.meaning view.now) }
     requires versions { AreBodiesOf (V.users view.now) (V.meaning view.now) versions.now.methods }
-    ensures remap { IsRemap result machine.new machine.old (remap_with (version_codes (V.users view.now) versions.now.methods) (V.meaning view.now) task map.now machine.old) }
-    ensures plain { IsPlainRemap (V.users view.now) (V.meaning view.now) versions.now.methods task map.now result machine.new machine.old }
-    ensures texts { IsTrue (machine_texts (V.users view.now) machine.old) → IsTrue (machine_texts (V.users view.now) machine.new) }
+    ensures remap { IsRemap result machine.new machine.old (remap_with
+        (version_codes (V.users view.now) versions.now.methods) (V.meaning view.now) task map.now machine.old) }
+    ensures plain { IsPlainRemap (V.users view.now)
+        (V.meaning view.now) versions.now.methods task map.now result machine.new machine.old }
+    ensures texts { IsTrue (machine_texts (V.users view.now) machine.old)
+        → IsTrue (machine_texts (V.users view.now) machine.new) }
 {
     remap_version(alloc, machine, view, versions, task, map.as_slice())
 }

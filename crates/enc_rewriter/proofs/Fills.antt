@@ -141,3 +141,5 @@ past_more r p h old f n m lt before is =
     let e : with_all p old (f n) ≡ with_all p h (flat_map f (below (n + 1))) = ap (λ k. with_all p k (f n)) before ∙ sym (further p h f n) in
     past_grows r p (with_all p h (flat_map f (below (n + 1)))) (with_all p h (flat_map f (below m))) (size_le p h f (n + 1) m (omega (arith, lt)))
     (subst (λ k. IsPast r p k) e is)
+
+pub ruleset fills_steps = (fill_none, fill_more, past_more)

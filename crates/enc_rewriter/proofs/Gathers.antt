@@ -230,3 +230,5 @@ guid_gathers p t i c e is there = sym (by_column p t i c e ∙ rw (is, there) re
 pub row_there : (m : Module) (t n : ℕ) → n < length (rows_in m t) → has_row m (record { table = t; row = n + 1 }) ≡ true
 unfolding has_row
 row_there m t n low = grind (arith, nat_tests)
+
+pub ruleset kind_cases = (text_kind, blob_kind, guid_kind, body_kind)

@@ -82,3 +82,5 @@ user_low h v within none kept =
     let low = offset_test user_bytes user_some h.starts.users h.users v (is_empty v) kept in
     let start : h.starts.users ≡ 0 = ap (λ (s : HeapLengths). s.users) none in
     omega (arith, low, within.users, start)
+
+pub ruleset user_steps = (user_kept, user_told, user_low)

@@ -114,3 +114,9 @@ ptr_few child rows kids i low few is =
     let long : count_at rows (ptr_of child) ≡ length (take i kids) = ap (λ (r : List (List ℕ)). length r) is ∙ length_of_one (take i kids) in
     let part : length (take i kids) ≡ i = length-take-le i kids (omega (arith, low)) in
     omega (arith, long, part, low, few)
+
+pub ruleset listed_cases = (none_listed, more_listed, all_listed)
+
+pub ruleset order_steps = (order_begins, order_goes_on, order_breaks, order_ends)
+
+pub ruleset kids_listed_steps = (none_of_one, more_of_one, all_of_one, ptr_columns)

@@ -137,3 +137,5 @@ no_heaps_begin h none = ap (λ (k : Built). k.starts) none
 
 pub begins_after : (p : Pass) (old new : Built) (vs : List (List ℕ)) → new ≡ with_all p old vs → old.starts ≡ no_starts → new.starts ≡ no_starts
 begins_after p old new vs is none = ap (λ (k : Built). k.starts) is ∙ starts_stay p old vs none
+
+pub ruleset limits_steps = (pass_ends, pass_past, starts_stay)

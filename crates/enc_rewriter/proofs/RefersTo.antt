@@ -181,3 +181,5 @@ there_by m k t false is there none =
 pub coded_there : (m : Module) (k : Coding) (t : Token) → is_reference m (Coded k) t ≡ true → ((v : ℕ) → decoded k v ≢ Some (named t)) → ⊥
 unfolding is_reference
 coded_there m k t there none = there_by m k t (is_token t nil) refl there none
+
+pub ruleset coded_steps = (coded_kind, coded_sound, coded_low)

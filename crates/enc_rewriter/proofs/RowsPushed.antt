@@ -136,3 +136,7 @@ few_before m h p u rows sound there so_far =
     let row = row_bounds m u there in
     let few = sound.counts.few u.table in
     omega (arith, row.0, row.1, few, so_far.count)
+
+pub ruleset rows_pushed_steps = (keep_others, others_more, no_others)
+
+pub ruleset push_row_steps = (some_columns, one_row, few_before, keep_others)

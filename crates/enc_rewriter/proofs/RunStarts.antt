@@ -177,3 +177,7 @@ unfolding runs_begin
 wide_runs m r child runs there =
     ap (list_any (λ n. nat_le 0x10000 n)) (run_list m r child runs there)
     ∙ any_mapped (λ n. nat_le 0x10000 n) (λ k. run_first m child (k + 1)) (below (row_count m (owner_table child)))
+
+pub ruleset run_starts_steps = (first_run, next_run, run_few, begin_none, begin_more)
+
+pub ruleset run_steps = (run_is, run_there)

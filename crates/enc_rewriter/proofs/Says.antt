@@ -86,3 +86,9 @@ guid_says m h v x e = ap (option_map guid) e
 
 pub number_says : (m : Module) (h : Counted) (c : Column) (x : ℕ) → kind_of c ≡ Some numbers → cell_read (reading_by m h) c x ≡ Some (number x)
 number_says m h c x k = number_for (reading_by m h) c x k
+
+pub ruleset text_steps = (text_kind, text_is_kept, text_says)
+
+pub ruleset blob_steps = (blob_kind, blob_is_kept, blob_says)
+
+pub ruleset guid_steps = (guid_kind, guid_is_kept, guid_says)

@@ -107,3 +107,9 @@ one_weighed m places old new k w n all cell is updates place weight found =
 pub weighed_is : (m : Module) (places : ℕ → Option Body) (known : BTreeMap ℕ ℕ) (k w n : ℕ) → AreWeighed places known → cell_of m (nth_row 0x06 n) 0 ≡ Some (body (places k)) → get nat_cmp known k ≡ Some w
     → w ≡ min most_weight (body_weight (cell_of m (nth_row 0x06 n) 0))
 weighed_is m places known k w n all cell is = all k w is ∙ ap (λ (o : Option Cell). min most_weight (body_weight o)) (sym cell)
+
+pub ruleset rows_steps = (rows_none, rows_more, rows_all)
+
+pub ruleset bodies_steps = (bodies_none, bodies_more, bodies_all)
+
+pub ruleset fields_steps = (fields_none, fields_more, fields_all)

@@ -1,4 +1,5 @@
--- Code whose user texts are named by other offsets: it means the same with the texts of those (ECMA-335 III.1.9, III.4.16).
+-- Code whose user texts are named by other offsets: it means the same with the texts of those (ECMA-335 III.1.9,
+-- III.4.16).
 use Rattle.std.specs.Prelude.{◌≡◌, ℕ, Bool, true, List, ◌+◌, ◌-◌, ◌<◌, ◌^◌, ◌++◌, length, map, take, drop, Option, Some}
 use Rattle.std.specs.List.{list_all}
 use Rattle.std.specs.Int.{w32, to_le_bytes}

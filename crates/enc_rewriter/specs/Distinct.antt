@@ -55,7 +55,8 @@ pub record AreBorrowed (p : Pass) (bytes : ℕ) (values : List (List ℕ)) : Typ
 -- a value is refused exactly where its heap would pass the limit with it; want of memory tells nothing
 abbrev pub RefusesIn : Result Unit BuildFault → BorrowedList → List ℕ → Type 0
 RefusesIn (Ok _) l v = passes (written_in l.pass) (heap_limit l.pass) 0 l.values v ≡ false
-RefusesIn (Err (TooLarge heap)) l v = (heap ≡ heap_of l.pass) × (passes (written_in l.pass) (heap_limit l.pass) 0 l.values v ≡ true)
+RefusesIn (Err (TooLarge heap)) l v =
+    (heap ≡ heap_of l.pass) × (passes (written_in l.pass) (heap_limit l.pass) 0 l.values v ≡ true)
 RefusesIn (Err Memory) l v = Unit {0}
 
 -- the heaps with these values in place of a pass's own

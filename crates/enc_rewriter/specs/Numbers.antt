@@ -1,4 +1,5 @@
--- The numbers in the columns of a module's rows that are written (ECMA-335 II.22, II.24.2.6): each says its cell by the heaps,
+-- The numbers in the columns of a module's rows that are written (ECMA-335 II.22, II.24.2.6): each says its cell by
+-- the heaps,
 -- by where bodies and fields are placed, and by the order of children.
 use Rattle.std.specs.Prelude.{◌≡◌, ℕ, ◌+◌, ◌-◌, ◌<◌, ◌≤◌, ◌&&◌, Bool, true, false, nat_lt, nat_le, ◌==◌, if◌then◌else◌}
 use Rattle.std.specs.Prelude.{List, [], ◌∷◌, length, map, flat_map, take, slice_get, slice_index, Some, None}
@@ -74,7 +75,8 @@ PlainNumberSays m h u i (Run child) x = x ≡ run_first m child u.row
 PlainNumberSays m h u i column x = cell_read (reading_by m h) column x ≡ cell_of m u i
 
 -- what a number says: the place of the row's body, that of its field's bytes, or as above
-pub record NumberSays (m : Module) (h : Counted) (p : Placed) (u : Token) (i : ℕ) (column : Column) (x : ℕ) : Type 0 where
+pub record NumberSays (m : Module) (h : Counted) (p : Placed) (u : Token) (i : ℕ) (column : Column)
+    (x : ℕ) : Type 0 where
   pub body : is_body u.table i ≡ true → x ≡ slice_index p.bodies (u.row - 1)
   pub field : is_field u.table i ≡ true → x ≡ slice_index p.fields (u.row - 1)
   pub plain : is_body u.table i ≡ false → is_field u.table i ≡ false → PlainNumberSays m h u i column x
@@ -82,7 +84,8 @@ pub record NumberSays (m : Module) (h : Counted) (p : Placed) (u : Token) (i : �
 -- so say the first so many numbers of a row, and all of them, one for each column
 pub record FrontSays (m : Module) (h : Counted) (p : Placed) (u : Token) (many : ℕ) (cells : List ℕ) : Type 0 where
   pub count : length cells ≡ many
-  pub each : (i : ℕ) (column : Column) (x : ℕ) → column_in u.table i ≡ Some column → slice_get cells i ≡ Some x → NumberSays m h p u i column x
+  pub each : (i : ℕ) (column : Column) (x : ℕ) → column_in u.table i ≡ Some column → slice_get cells i ≡ Some x
+      → NumberSays m h p u i column x
 
 abbrev pub RowSays : Module → Counted → Placed → Token → List ℕ → Type 0
 RowSays m h p u cells = FrontSays m h p u (length (columns_in u.table)) cells
@@ -118,14 +121,17 @@ pub record HoldRows (m : Module) (h : Counted) (p : Placed) (rows : List (List (
   pub log : rows_at rows tables.enc_log ≡ []
   pub map : rows_at rows tables.enc_map ≡ []
 
--- a run begins behind the last of so many children that their table's indices take two bytes, and its own number doesn't fit these
+-- a run begins behind the last of so many children that their table's indices take two bytes, and its own number
+-- doesn't fit these
 unfoldable pub has_wide_run : Module → ℕ → Bool
 has_wide_run m child =
-    nat_lt (row_count m child) 0x10000 && list_any (λ n. nat_le 0x10000 (run_first m child (n + 1))) (below (row_count m (owner_table child)))
+    nat_lt (row_count m child) 0x10000
+    && list_any (λ n. nat_le 0x10000 (run_first m child (n + 1))) (below (row_count m (owner_table child)))
 
 -- then all indices are wide
 unfoldable pub needs_jtd : Module → Bool
-needs_jtd m = list_any (has_wide_run m) (tables.field ∷ tables.method_def ∷ tables.param ∷ tables.event ∷ tables.property ∷ [])
+needs_jtd m = list_any (has_wide_run m)
+    (tables.field ∷ tables.method_def ∷ tables.param ∷ tables.event ∷ tables.property ∷ [])
 
 -- what the numbers of a module's rows are found by
 pub record AreReady (m : Module) (h : Built) (r : RunLists) (p : Placed) : Type 0 where
@@ -147,17 +153,21 @@ pub record TablesSay (m : Module) (h : Counted) (p : Placed) (upto : ℕ) (rows 
 -- the child tables in order
 abbrev pub nth_child : ℕ → ℕ
 nth_child k =
-    if k == 0 then tables.field else if k == 1 then tables.method_def else if k == 2 then tables.param else if k == 3 then tables.event else tables.property
+    if k == 0 then tables.field else if k == 1 then tables.method_def else if k == 2 then tables.param else if k == 3
+    then tables.event else tables.property
 
 abbrev pub child_order : ℕ → ℕ
 child_order child =
-    if child == tables.field then 0 else if child == tables.method_def then 1 else if child == tables.param then 2 else if child == tables.event then 3 else 4
+    if child == tables.field then 0 else if child == tables.method_def then 1 else if child == tables.param then 2
+    else if child == tables.event then 3 else 4
 
 abbrev pub is_ptr_table : ℕ → Bool
 is_ptr_table table =
-    list_any (λ t. t == table) (tables.field_ptr ∷ tables.method_ptr ∷ tables.param_ptr ∷ tables.event_ptr ∷ tables.property_ptr ∷ [])
+    list_any (λ t. t == table) (tables.field_ptr ∷ tables.method_ptr ∷ tables.param_ptr ∷ tables.event_ptr
+    ∷ tables.property_ptr ∷ [])
 
 -- the first so many Ptr tables have their rows, the others of them none, and all else is as it was
 pub record PtrsPushed (m : Module) (upto : ℕ) (old new : List (List (List ℕ))) : Type 0 where
-  pub ptrs : (child : ℕ) → is_child_table child ≡ true → rows_at new (ptr_of child) ≡ (if nat_lt (child_order child) upto then ptr_rows m child else [])
+  pub ptrs : (child : ℕ) → is_child_table child ≡ true
+      → rows_at new (ptr_of child) ≡ (if nat_lt (child_order child) upto then ptr_rows m child else [])
   pub others : (k : ℕ) → is_ptr_table k ≡ false → rows_at new k ≡ rows_at old k

@@ -1,4 +1,5 @@
--- Bodies and initial bytes of fields in the code of an image that is written, and where they stand in it (ECMA-335 II.22.18, II.22.26, II.25.4).
+-- Bodies and initial bytes of fields in the code of an image that is written, and where they stand in it (ECMA-335
+-- II.22.18, II.22.26, II.25.4).
 use Rattle.std.specs.Prelude.{◌≡◌, ℕ, ◌%◌, ◌<◌, ◌^◌, true, List, [], ◌∷◌, ◌++◌, length, Option, Some, slice_index}
 use Rattle.enc_base.specs.Token.{nth_row}
 use Rattle.enc_meta.specs.Regions.{Region, range_loaded}
@@ -23,7 +24,8 @@ loaded_with code behind = record { address = code_rva; bytes = code ++ behind } 
 
 -- the body of the n-th method is the one at its RVA, and good there, whatever stands behind the code
 pub record IsBodyPlaced (m : Module) (users : ℕ → Option (List ℕ)) (code : List ℕ) (n rva : ℕ) : Type 0 where
-  pub meant : (behind : List ℕ) → cell_of m (nth_row tables.method_def n) 0 ≡ Some (body (body_loaded (loaded_with code behind) users rva))
+  pub meant : (behind : List ℕ) →
+      cell_of m (nth_row tables.method_def n) 0 ≡ Some (body (body_loaded (loaded_with code behind) users rva))
   pub good : (behind : List ℕ)
       → body_is_good (row_count m) users (loaded_with code behind) rva
       (number_at (cells_of m) (nth_row tables.method_def n) columns.method_def_impl_flags) ≡ true
@@ -40,7 +42,8 @@ pub record IsPlaced (m : Module) (users : ℕ → Option (List ℕ)) (p : Placed
   pub methods : length p.bodies ≡ row_count m tables.method_def
   pub rows : length p.fields ≡ row_count m tables.field_rva
   pub bodies : (n : ℕ) → n < row_count m tables.method_def → IsBodyPlaced m users p.code n (slice_index p.bodies n)
-  pub fields : (n : ℕ) (there : List ℕ) → n < row_count m tables.field_rva → cell_of m (nth_row tables.field_rva n) 0 ≡ Some (field there)
+  pub fields : (n : ℕ) (there : List ℕ) → n < row_count m tables.field_rva
+      → cell_of m (nth_row tables.field_rva n) 0 ≡ Some (field there)
       → IsFieldPlaced p.code there (slice_index p.fields n)
   pub body_words : (n : ℕ) → slice_index p.bodies n < 2 ^ 32
   pub field_words : (n : ℕ) → slice_index p.fields n < 2 ^ 32

@@ -29,7 +29,8 @@ use Rattle.enc_ppdb.specs.Written.{WritesPdb}
 use Rattle.enc_rewriter.specs.Weight.{module_weight}
 use Rattle.enc_rewriter.specs.Placed.{Placed, IsPlaced}
 
--- the parts of an image hold a module: its heaps are good and stand behind no others, bodies and fields are placed, and the rows say the module's
+-- the parts of an image hold a module: its heaps are good and stand behind no others, bodies and fields are placed,
+-- and the rows say the module's
 pub record HoldModule (m : Module) (h : Built) (p : Placed) (rows : List (List (List ℕ))) : Type 0 where
   pub begins : h.starts ≡ no_starts
   pub good : IsGood h
@@ -55,17 +56,20 @@ pub record FitsImage (m : Module) (h : Built) (p : Placed) (rows : List (List (L
   pub image : image_size (root_of_parts m h rows) p.code m.resources ≤ most_bytes
   pub entry : m.entry < 2 ^ 32
 
--- the bytes are those of a base that isn't refused and whose plain module is this one; the initial bytes of its fields stand at multiples of eight
+-- the bytes are those of a base that isn't refused and whose plain module is this one; the initial bytes of its
+-- fields stand at multiples of eight
 pub record MeansModule (m : Module) (bytes : List ℕ) : Type 0 where
   pub source : Source
   pub read : base_of bytes ≡ Ok source
   pub means : module_in source ≡ m
-  pub aligned : (n : ℕ) → n < row_count m tables.field_rva → raw_in source (nth_row tables.field_rva n) columns.field_rva_rva % 8 ≡ 0
+  pub aligned : (n : ℕ) → n < row_count m tables.field_rva
+      → raw_in source (nth_row tables.field_rva n) columns.field_rva_rva % 8 ≡ 0
 
 -- the children of all owners, by owner and attachment, are the rows in order, in each child table
 unfoldable pub stands_in_order : Module → Bool
 stands_in_order m =
-    list_all (λ child. is_in_row_order (all_kids m child)) (tables.field ∷ tables.method_def ∷ tables.param ∷ tables.event ∷ tables.property ∷ [])
+    list_all (λ child. is_in_row_order (all_kids m child))
+    (tables.field ∷ tables.method_def ∷ tables.param ∷ tables.event ∷ tables.property ∷ [])
 
 -- the bytes are those of an image whose table stream is `#~`, and no Ptr table has rows in it
 pub record IsPlainImage (bytes : List ℕ) : Type 0 where
@@ -78,7 +82,8 @@ pub record IsPlainImage (bytes : List ℕ) : Type 0 where
   pub read : base_of bytes ≡ Ok source
   pub ptrs : (child : ℕ) → is_child_table child ≡ true → rows_of source.layout (ptr_of child) ≡ 0
 
--- what is written of a module and a plain PDB: an image that means the module, is no longer than its weight, and has neither `#-` nor Ptr rows where its
+-- what is written of a module and a plain PDB: an image that means the module, is no longer than its weight, and has
+-- neither `#-` nor Ptr rows where its
 -- children stand in order, and a PDB that means the plain PDB and tells the module's entry point
 pub record RewritesTo (m : Module) (p : PlainPdb) (image pdb : List ℕ) : Type 0 where
   pub image_is : MeansModule m image
@@ -88,5 +93,6 @@ pub record RewritesTo (m : Module) (p : PlainPdb) (image pdb : List ℕ) : Type 
 
 -- an image whose parts hold a sound module means it
 abbrev pub ImagesMean : Type 0
-ImagesMean = (m : Module) (h : Built) (p : Placed) (rows : List (List (List ℕ))) → IsSound m → HoldModule m h p rows → FitsImage m h p rows
+ImagesMean = (m : Module) (h : Built) (p : Placed) (rows : List (List (List ℕ))) → IsSound m → HoldModule m h p rows
+    → FitsImage m h p rows
     → MeansModule m (image_of_parts m h p rows)

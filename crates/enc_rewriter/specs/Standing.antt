@@ -31,7 +31,12 @@ is_known kind = kind == 0 || kind == 1 || kind == 2 || kind == 4
 
 -- a clause of another kind catches a class, as one of kind 0
 abbrev pub known_as : Clause → Clause
-known_as c = record { kind = if is_known c.kind then c.kind else 0; tries = c.tries; handler = c.handler; extra = c.extra }
+known_as c = record {
+  kind = if is_known c.kind then c.kind else 0;
+  tries = c.tries;
+  handler = c.handler;
+  extra = c.extra;
+}
 
 -- bytes of such a weight: a body's sections take a few more than their clauses weigh, four for each 699050 clauses
 abbrev pub Weighs : ℕ → ℕ → Type 0
@@ -50,7 +55,8 @@ row_weights_before m n = sum_below (λ t. row_count m t * row_weight t) n
 
 -- what is known of places: the weight of the body there, or the limit where it isn't less
 abbrev pub AreWeighed : (ℕ → Option Body) → BTreeMap ℕ ℕ → Type 0
-AreWeighed places known = (place weight : ℕ) → get nat_cmp known place ≡ Some weight → weight ≡ min most_weight (body_weight (Some (body (places place))))
+AreWeighed places known = (place weight : ℕ) → get nat_cmp known place ≡ Some weight
+    → weight ≡ min most_weight (body_weight (Some (body (places place))))
 
 -- what is known of places: the user texts of the body there are kept
 abbrev pub are_kept_at : (ℕ → Option Body) → Built → ℕ → Bool
@@ -65,7 +71,8 @@ AreBodiesPlaced m users code rvas n = (k : ℕ) → k < n → IsBodyPlaced m use
 
 -- the bytes of a row of FieldRVA stand at the RVA
 abbrev pub IsFieldCellPlaced : Module → List ℕ → ℕ → ℕ → Type 0
-IsFieldCellPlaced m code n rva = (there : List ℕ) → cell_of m (nth_row tables.field_rva n) 0 ≡ Some (field there) → IsFieldPlaced code there rva
+IsFieldCellPlaced m code n rva =
+    (there : List ℕ) → cell_of m (nth_row tables.field_rva n) 0 ≡ Some (field there) → IsFieldPlaced code there rva
 
 -- those of so many rows do
 abbrev pub AreFieldsPlaced : Module → List ℕ → List ℕ → ℕ → Type 0
@@ -77,5 +84,6 @@ fields_before m n = sum_below (λ k. field_weight (cell_of m (nth_row tables.fie
 
 -- what is known of places: all methods with the body of a known place have it at its RVA
 abbrev pub AreKnown : Module → (ℕ → Option (List ℕ)) → (ℕ → Option Body) → List ℕ → BTreeMap ℕ ℕ → Type 0
-AreKnown m users places code known = (place rva n : ℕ) → get nat_cmp known place ≡ Some rva → n < row_count m tables.method_def
+AreKnown m users places code known =
+    (place rva n : ℕ) → get nat_cmp known place ≡ Some rva → n < row_count m tables.method_def
     → cell_of m (nth_row tables.method_def n) 0 ≡ Some (body (places place)) → IsBodyPlaced m users code n rva

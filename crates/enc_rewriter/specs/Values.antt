@@ -93,7 +93,8 @@ no_heaps = none_from no_starts
 unfoldable pub heaps_for : Module → Built
 heaps_for m =
     with_all pass.Guids
-    (with_all pass.Blobs (with_all pass.Users (with_all pass.Texts no_heaps (all_values pass.Texts m)) (all_values pass.Users m)) (all_values pass.Blobs m))
+    (with_all pass.Blobs (with_all pass.Users (with_all pass.Texts no_heaps (all_values pass.Texts m))
+    (all_values pass.Users m)) (all_values pass.Blobs m))
     (all_values pass.Guids m)
 
 -- how long the heap of a pass is
@@ -159,4 +160,5 @@ is_kept_by pass.Guids h v = is_guid_kept h.guids v
 -- so have all values of a module, in heaps that stand behind no others
 pub record KeepValues (m : Module) (h : Built) : Type 0 where
   pub starts : h.starts ≡ no_starts
-  pub each : (p : Pass) (u : Token) (i : ℕ) → has_row m u ≡ true → i < length (columns_in u.table) → list_all (is_kept_by p h) (values_at p m u i) ≡ true
+  pub each : (p : Pass) (u : Token) (i : ℕ) → has_row m u ≡ true → i < length (columns_in u.table)
+      → list_all (is_kept_by p h) (values_at p m u i) ≡ true

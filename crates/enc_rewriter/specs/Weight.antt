@@ -35,7 +35,8 @@ body_weight (Some (body (Some b))) = 32 + b.size + 24 * length b.handlers
 body_weight _ = 0
 
 unfoldable pub bodies_weight : Module → ℕ
-bodies_weight m = sum_below (λ n. body_weight (cell_of m (nth_row tables.method_def n) 0)) (row_count m tables.method_def)
+bodies_weight m = sum_below (λ n. body_weight (cell_of m (nth_row tables.method_def n) 0))
+    (row_count m tables.method_def)
 
 -- the bytes of a field, and 8
 abbrev pub field_weight : Option Cell → ℕ
@@ -43,11 +44,13 @@ field_weight (Some (field there)) = 8 + length there
 field_weight _ = 0
 
 unfoldable pub fields_weight : Module → ℕ
-fields_weight m = sum_below (λ n. field_weight (cell_of m (nth_row tables.field_rva n) 0)) (row_count m tables.field_rva)
+fields_weight m = sum_below (λ n. field_weight (cell_of m (nth_row tables.field_rva n) 0))
+    (row_count m tables.field_rva)
 
 -- the weight of a module that is written with these heaps
 unfoldable pub module_weight : Module → Built → ℕ
-module_weight m h = 65536 + rows_weight m + heaps_weight h + bodies_weight m + fields_weight m + (8 + length m.resources)
+module_weight m h = 65536 + rows_weight m + heaps_weight h + bodies_weight m + fields_weight m +
+    (8 + length m.resources)
 
 -- the greatest weight that is written
 abbrev pub most_weight : ℕ

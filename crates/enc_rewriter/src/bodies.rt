@@ -56,7 +56,8 @@ fn known(clause: Clause) -> Clause
 /// Appends a section's clauses.
 fn push_clauses(section: &SectionRef<'_>, all: &mut Vec<Clause>) -> Result<(), AllocError>
     requires fit { IsTrue (list_all clause_fits all.old.items) }
-    ensures all { OnOk result (all.new.items ≡ all.old.items ++ map known_as (clauses_in section.now.fat section.now.count section.now.clauses.now)) }
+    ensures all { OnOk result (all.new.items
+        ≡ all.old.items ++ map known_as (clauses_in section.now.fat section.now.count section.now.clauses.now)) }
     ensures fit { OnOk result (IsTrue (list_all clause_fits all.new.items)) }
 {
     let mut rest = section.clauses;
@@ -116,17 +117,22 @@ pub(crate) fn push_body<V: ModuleView>(
     heaps: &mut HeapBuilder,
     out: &mut Vec<u8>,
 ) -> Result<u32, AllocError>
-    requires sound { body_is_sound (row_count (V.meaning view.now)) (body_of (V.users view.now) (code_seen body.now)) ≡ true }
+    requires sound { body_is_sound (row_count (V.meaning view.now)) (body_of (V.users view.now) (code_seen body.now))
+        ≡ true }
     requires nil { nil_or body.now.locals ≡ body.now.locals }
     requires rows { body.now.locals.row < 2 ^ 24 }
     requires starts { heaps.old.starts ≡ no_starts }
-    requires kept { list_all (is_kept heaps.old.users) (texts_named (body_of (V.users view.now) (code_seen body.now)).code) ≡ true }
+    requires kept { list_all (is_kept heaps.old.users)
+        (texts_named (body_of (V.users view.now) (code_seen body.now)).code) ≡ true }
     requires few { length body.now.code.now < 2 ^ 32 }
     requires near { length out.old.items < 2 ^ 31 + 4096 }
-    requires room { length out.old.items + length body.now.code.now + 28 * length (clauses_of body.now.sections.now) + 32 < 2 ^ 32 }
-    ensures stands { IfOk result (λ rva. StandsAt (row_count (V.meaning view.now)) (user_at (heaps_built heaps.old).users) out.new.items rva (body_of (V.users view.now) (code_seen body.now))) }
+    requires room { length out.old.items + length body.now.code.now + 28 * length
+        (clauses_of body.now.sections.now) + 32 < 2 ^ 32 }
+    ensures stands { IfOk result (λ rva. StandsAt (row_count (V.meaning view.now))
+        (user_at (heaps_built heaps.old).users) out.new.items rva (body_of (V.users view.now) (code_seen body.now))) }
     ensures grows { OnOk result ((rest : List ℕ) × (out.new.items ≡ out.old.items ++ rest)) }
-    ensures size { OnOk result (4194300 * length out.new.items ≤ 4194300 * length out.old.items + 4194301 * weight_of (body_of (V.users view.now) (code_seen body.now))) }
+    ensures size { OnOk result (4194300 * length out.new.items ≤ 4194300 * length out.old.items + 4194301 * weight_of
+        (body_of (V.users view.now) (code_seen body.now))) }
     ensures same { heaps.new ≡ heaps.old }
 {
     bytes_law(body.code);
@@ -167,7 +173,8 @@ fn push_method<V: ModuleView>(
     requires row { n < row_count (V.meaning view.now) method_def }
     requires light { bodies_weight (V.meaning view.now) < 2 ^ 31 }
     requires weighs { Weighs (bodies_before (V.meaning view.now) n) (length out.old.items) }
-    ensures placed { IfOk result (λ rva. IsBodyPlaced (V.meaning view.now) (user_at (heaps_built heaps.old).users) out.new.items n rva) }
+    ensures placed { IfOk result (λ rva. IsBodyPlaced (V.meaning view.now)
+        (user_at (heaps_built heaps.old).users) out.new.items n rva) }
     ensures grows { OnOk result ((rest : List ℕ) × (out.new.items ≡ out.old.items ++ rest)) }
     ensures weighs { OnOk result (Weighs (bodies_before (V.meaning view.now) (n + 1)) (length out.new.items)) }
     ensures same { heaps.new ≡ heaps.old }
@@ -197,11 +204,14 @@ fn place_method<V: ModuleView>(
     requires row { n < row_count (V.meaning view.now) method_def }
     requires light { bodies_weight (V.meaning view.now) < 2 ^ 31 }
     requires weighs { Weighs (bodies_before (V.meaning view.now) n) (length out.old.items) }
-    requires known { AreKnown (V.meaning view.now) (user_at (heaps_built heaps.old).users) (V.places view.now) out.old.items known.old }
-    ensures placed { IfOk result (λ rva. IsBodyPlaced (V.meaning view.now) (user_at (heaps_built heaps.old).users) out.new.items n rva) }
+    requires known { AreKnown (V.meaning view.now) (user_at (heaps_built heaps.old).users)
+        (V.places view.now) out.old.items known.old }
+    ensures placed { IfOk result (λ rva. IsBodyPlaced (V.meaning view.now)
+        (user_at (heaps_built heaps.old).users) out.new.items n rva) }
     ensures grows { OnOk result ((rest : List ℕ) × (out.new.items ≡ out.old.items ++ rest)) }
     ensures weighs { OnOk result (Weighs (bodies_before (V.meaning view.now) (n + 1)) (length out.new.items)) }
-    ensures known { OnOk result (AreKnown (V.meaning view.now) (user_at (heaps_built heaps.old).users) (V.places view.now) out.new.items known.new) }
+    ensures known { OnOk result (AreKnown (V.meaning view.now) (user_at (heaps_built heaps.old).users)
+        (V.places view.now) out.new.items known.new) }
     ensures same { heaps.new ≡ heaps.old }
 {
     let place = view.code_place(Token {
@@ -234,7 +244,8 @@ pub(crate) fn place_bodies<V: ModuleView>(
     requires light { bodies_weight (V.meaning view.now) < 2 ^ 31 }
     requires first { out.old.items ≡ [] }
     ensures count { IfOk result (λ v. length v.items ≡ row_count (V.meaning view.now) method_def) }
-    ensures placed { IfOk result (λ v. AreBodiesPlaced (V.meaning view.now) (user_at (heaps_built heaps.old).users) out.new.items v.items (row_count (V.meaning view.now) method_def)) }
+    ensures placed { IfOk result (λ v. AreBodiesPlaced (V.meaning view.now)
+        (user_at (heaps_built heaps.old).users) out.new.items v.items (row_count (V.meaning view.now) method_def)) }
     ensures weighs { OnOk result (Weighs (bodies_weight (V.meaning view.now)) (length out.new.items)) }
     ensures same { heaps.new ≡ heaps.old }
 {

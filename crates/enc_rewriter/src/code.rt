@@ -40,7 +40,8 @@ fn push_named(
     requires order { at + 4 < end }
     requires within { end ≤ length code.now }
     requires low { offset < 2 ^ 24 }
-    ensures { OnOk result (out.new.items ≡ (out.old.items ++ take (end - 4 - at) (drop at code.now)) ++ to_le_bytes w32 (0x70000000 + offset)) }
+    ensures { OnOk result (out.new.items ≡ (out.old.items ++ take (end - 4 - at) (drop at code.now)) ++ to_le_bytes w32
+        (0x70000000 + offset)) }
 {
     push_plain(code, at, end - 4, out)?;
     push_word(0x7000_0000 + offset, out)
@@ -61,7 +62,8 @@ fn push_text<V: ModuleView>(
     requires order { at + 4 < end }
     requires within { end ≤ length code.now }
     requires kept { is_kept heaps.old.users (units_told (V.users view.now offset)) ≡ true }
-    ensures named { OnOk result (IsNamed (V.users view.now) (user_at (heaps_built heaps.old).users) code.now at end offset out.old.items out.new.items) }
+    ensures named { OnOk result (IsNamed (V.users view.now)
+        (user_at (heaps_built heaps.old).users) code.now at end offset out.old.items out.new.items) }
     ensures same { heaps.new ≡ heaps.old }
 {
     match user_offset(heaps, units_at(view, offset)) {
@@ -83,9 +85,12 @@ fn push_instr<V: ModuleView>(
 ) -> Result<(), AllocError>
     requires starts { heaps.old.starts ≡ no_starts }
     requires read { instr_in code.now.code.now at ≡ Some (instr_seen (instr.now, end)) }
-    requires kept { list_all (is_kept heaps.old.users) (text_named (told (V.users view.now) (arg_seen end instr.now.arg))) ≡ true }
-    requires copied { IsCopied (V.users view.now) (user_at (heaps_built heaps.old).users) code.now.code.now out.old.items at }
-    ensures copied { OnOk result (IsCopied (V.users view.now) (user_at (heaps_built heaps.old).users) code.now.code.now out.new.items end) }
+    requires kept { list_all (is_kept heaps.old.users)
+        (text_named (told (V.users view.now) (arg_seen end instr.now.arg))) ≡ true }
+    requires copied { IsCopied (V.users view.now)
+        (user_at (heaps_built heaps.old).users) code.now.code.now out.old.items at }
+    ensures copied { OnOk result (IsCopied (V.users view.now)
+        (user_at (heaps_built heaps.old).users) code.now.code.now out.new.items end) }
     ensures same { heaps.new ≡ heaps.old }
 {
     match instr.arg {
@@ -104,8 +109,10 @@ pub(crate) fn patched<V: ModuleView>(
     requires few { length code.now.code.now < 2 ^ 32 }
     requires starts { heaps.old.starts ≡ no_starts }
     requires whole { end_of code.now.code.now 0 ≡ length code.now.code.now }
-    requires kept { list_all (is_kept heaps.old.users) (texts_named (body_of (V.users view.now) (code_seen code.now)).code) ≡ true }
-    ensures says { IfOk result (λ v. SaysSame (V.users view.now) (user_at (heaps_built heaps.old).users) code.now.code.now v.items 0) }
+    requires kept { list_all (is_kept heaps.old.users)
+        (texts_named (body_of (V.users view.now) (code_seen code.now)).code) ≡ true }
+    ensures says { IfOk result (λ v. SaysSame (V.users view.now)
+        (user_at (heaps_built heaps.old).users) code.now.code.now v.items 0) }
     ensures size { IfOk result (λ v. length v.items ≡ length code.now.code.now) }
     ensures same { heaps.new ≡ heaps.old }
 {

@@ -32,10 +32,12 @@ fn push_bytes(bytes: &[u8], out: &mut Vec<u8>) -> Result<u32, AllocError>
 fn push_field<V: ModuleView>(view: &V, n: u32, out: &mut Vec<u8>) -> Result<u32, AllocError>
     requires few { n < 2 ^ 24 }
     requires row { n < row_count (V.meaning view.now) field_rva }
-    requires room { length out.old.items + fields_weight (V.meaning view.now) < 2 ^ 31 + 8192 + fields_before (V.meaning view.now) n }
+    requires room { length out.old.items + fields_weight (V.meaning view.now)
+        < 2 ^ 31 + 8192 + fields_before (V.meaning view.now) n }
     ensures placed { IfOk result (λ rva. IsFieldCellPlaced (V.meaning view.now) out.new.items n rva) }
     ensures grows { OnOk result ((rest : List ℕ) × (out.new.items ≡ out.old.items ++ rest)) }
-    ensures size { OnOk result (length out.new.items + fields_before (V.meaning view.now) n ≤ length out.old.items + fields_before (V.meaning view.now) (n + 1)) }
+    ensures size { OnOk result (length out.new.items + fields_before (V.meaning view.now) n
+        ≤ length out.old.items + fields_before (V.meaning view.now) (n + 1)) }
 {
     let bytes = view.field_bytes(Token {
         table: FIELD_RVA,
@@ -55,7 +57,8 @@ pub(crate) fn place_fields<V: ModuleView>(
 ) -> Result<Vec<u32>, AllocError>
     requires room { length out.old.items + fields_weight (V.meaning view.now) < 2 ^ 31 + 8192 }
     ensures count { IfOk result (λ v. length v.items ≡ row_count (V.meaning view.now) field_rva) }
-    ensures placed { IfOk result (λ v. AreFieldsPlaced (V.meaning view.now) out.new.items v.items (row_count (V.meaning view.now) field_rva)) }
+    ensures placed { IfOk result (λ v. AreFieldsPlaced (V.meaning view.now) out.new.items v.items
+        (row_count (V.meaning view.now) field_rva)) }
     ensures grows { OnOk result ((rest : List ℕ) × (out.new.items ≡ out.old.items ++ rest)) }
     ensures size { OnOk result (length out.new.items ≤ length out.old.items + fields_weight (V.meaning view.now)) }
 {

@@ -12,7 +12,7 @@ use std::collections::BTreeSet;
 
 /// Adds what all rows have for a heap. `TooLarge` exactly where the heap of distinct values passes
 /// its limit.
-#[tactic(auto, using(crate::proofs::Limits::pass_ends, crate::proofs::Limits::pass_past, crate::proofs::Limits::starts_stay))]
+#[tactic(auto, using(crate::proofs::Limits::limits_steps))]
 fn add_pass<'a, V: ModuleView>(
     alloc: Global,
     view: &'a V,

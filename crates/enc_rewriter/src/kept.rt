@@ -26,7 +26,7 @@ pub(crate) fn text_offset(heaps: &mut HeapBuilder, text: &[u8]) -> Result<u32, A
 }
 
 /// The offset of a user text that is there, by its units.
-#[tactic(auto, using(crate::proofs::KeptValues::user_kept, crate::proofs::KeptValues::user_told, crate::proofs::KeptValues::user_low))]
+#[tactic(auto, using(crate::proofs::KeptValues::user_steps))]
 pub(crate) fn user_offset(heaps: &mut HeapBuilder, units: &[u8]) -> Result<u32, AllocError>
     requires starts { heaps.old.starts ≡ no_starts }
     requires even { length units.now % 2 ≡ 0 }

@@ -25,7 +25,7 @@ use enc_schema::tables::{FIELD_RVA, METHOD_DEF};
 use std::alloc::AllocError;
 
 /// The offset of the text in a column.
-#[tactic(auto, using(crate::proofs::Says::text_kind, crate::proofs::Says::text_is_kept, crate::proofs::Says::text_says))]
+#[tactic(auto, using(crate::proofs::Says::text_steps))]
 fn text_number<V: ModuleView>(
     view: &V,
     heaps: &mut HeapBuilder,
@@ -36,7 +36,8 @@ fn text_number<V: ModuleView>(
     requires kept { KeepValues (V.meaning view.now) heaps.old }
     requires row { IsTrue (has_row (V.meaning view.now) row) }
     requires column { column_in row.table i ≡ Some Text }
-    ensures says { IfOk result (λ x. cell_read (reading_by (V.meaning view.now) (heaps_built heaps.old)) Text x ≡ cell_of (V.meaning view.now) row i) }
+    ensures says { IfOk result (λ x. cell_read (reading_by (V.meaning view.now) (heaps_built heaps.old)) Text x
+        ≡ cell_of (V.meaning view.now) row i) }
     ensures same { heaps.new ≡ heaps.old }
 {
     let offset = text_offset(heaps, text_in(view, row, i))?;
@@ -44,7 +45,7 @@ fn text_number<V: ModuleView>(
 }
 
 /// The offset of the blob in a column.
-#[tactic(auto, using(crate::proofs::Says::blob_kind, crate::proofs::Says::blob_is_kept, crate::proofs::Says::blob_says))]
+#[tactic(auto, using(crate::proofs::Says::blob_steps))]
 fn blob_number<V: ModuleView>(
     view: &V,
     heaps: &mut HeapBuilder,
@@ -55,7 +56,8 @@ fn blob_number<V: ModuleView>(
     requires kept { KeepValues (V.meaning view.now) heaps.old }
     requires row { IsTrue (has_row (V.meaning view.now) row) }
     requires column { column_in row.table i ≡ Some Blob }
-    ensures says { IfOk result (λ x. cell_read (reading_by (V.meaning view.now) (heaps_built heaps.old)) Blob x ≡ cell_of (V.meaning view.now) row i) }
+    ensures says { IfOk result (λ x. cell_read (reading_by (V.meaning view.now) (heaps_built heaps.old)) Blob x
+        ≡ cell_of (V.meaning view.now) row i) }
     ensures same { heaps.new ≡ heaps.old }
 {
     let offset = blob_offset(heaps, view.blob(row, i))?;
@@ -63,7 +65,7 @@ fn blob_number<V: ModuleView>(
 }
 
 /// The number of the GUID in a column.
-#[tactic(auto, using(crate::proofs::Says::guid_kind, crate::proofs::Says::guid_is_kept, crate::proofs::Says::guid_says))]
+#[tactic(auto, using(crate::proofs::Says::guid_steps))]
 fn guid_number_in<V: ModuleView>(
     view: &V,
     heaps: &mut HeapBuilder,
@@ -74,7 +76,8 @@ fn guid_number_in<V: ModuleView>(
     requires kept { KeepValues (V.meaning view.now) heaps.old }
     requires row { IsTrue (has_row (V.meaning view.now) row) }
     requires column { column_in row.table i ≡ Some Guid }
-    ensures says { IfOk result (λ x. cell_read (reading_by (V.meaning view.now) (heaps_built heaps.old)) Guid x ≡ cell_of (V.meaning view.now) row i) }
+    ensures says { IfOk result (λ x. cell_read (reading_by (V.meaning view.now) (heaps_built heaps.old)) Guid x
+        ≡ cell_of (V.meaning view.now) row i) }
     ensures same { heaps.new ≡ heaps.old }
 {
     let number = guid_number(heaps, view.guid(row, i))?;
@@ -89,7 +92,8 @@ fn number_in<V: ModuleView>(view: &V, row: Token, i: u8, column: Column) -> u32
     requires kind { kind_of column ≡ Some numbers }
     requires body { is_body row.table i ≡ false }
     requires field { is_field row.table i ≡ false }
-    ensures { (h : Counted) → cell_read (reading_by (V.meaning view.now) h) column result ≡ cell_of (V.meaning view.now) row i }
+    ensures { (h : Counted) → cell_read (reading_by (V.meaning view.now) h) column result
+        ≡ cell_of (V.meaning view.now) row i }
 {
     view.num(row, i)
 }
@@ -144,7 +148,8 @@ pub(crate) fn number_at<V: ModuleView>(
     requires fields { length placed.now.fields ≡ row_count (V.meaning view.now) field_rva }
     requires row { IsTrue (has_row (V.meaning view.now) row) }
     requires column { column_in row.table i ≡ Some column }
-    ensures says { IfOk result (λ x. NumberSays (V.meaning view.now) (heaps_built heaps.old) placed.now row i column x) }
+    ensures says { IfOk result (λ x. NumberSays (V.meaning view.now)
+        (heaps_built heaps.old) placed.now row i column x) }
     ensures same { heaps.new ≡ heaps.old }
 {
     if row.table == METHOD_DEF && i == 0 {

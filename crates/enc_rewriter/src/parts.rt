@@ -53,7 +53,8 @@ pub(crate) fn parts_with<V: ModuleView>(
     requires weight { bodies_weight (V.meaning view.now) + fields_weight (V.meaning view.now) < 2 ^ 31 }
     ensures held { IfOk result (λ p. HoldModule (V.meaning view.now) p.heaps p.placed p.tables) }
     ensures heaps { IfOk result (λ p. p.heaps ≡ heaps) }
-    ensures code { IfOk result (λ p. length p.placed.code ≤ bodies_weight (V.meaning view.now) + fields_weight (V.meaning view.now) + 4096) }
+    ensures code { IfOk result (λ p. length p.placed.code ≤ bodies_weight (V.meaning view.now) + fields_weight
+        (V.meaning view.now) + 4096) }
     ensures form { IfOk result (λ p. p.form ≡ root_form (V.meaning view.now)) }
 {
     let mut heaps = heaps;

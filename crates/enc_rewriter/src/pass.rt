@@ -49,7 +49,8 @@ fn add_body<'a, V: ModuleView>(
 ) -> Result<(), BuildFault>
     requires row { IsTrue (has_row (V.meaning view.now) method) }
     requires table { method.table ≡ method_def }
-    ensures filled { OnOk result (heaps.new ≡ with_all Users heaps.old (values_at Users (V.meaning view.now) method 0)) }
+    ensures filled { OnOk result (heaps.new
+        ≡ with_all Users heaps.old (values_at Users (V.meaning view.now) method 0)) }
     ensures past { IsPast result Users (with_all Users heaps.old (values_at Users (V.meaning view.now) method 0)) }
 {
     match view.code(method) {
@@ -69,7 +70,8 @@ fn add_users<'a, V: ModuleView>(
     requires row { IsTrue (has_row (V.meaning view.now) method) }
     requires table { method.table ≡ method_def }
     requires seen { AreGathered (V.places view.now) heaps.old seen.old }
-    ensures filled { OnOk result (heaps.new ≡ with_all Users heaps.old (values_at Users (V.meaning view.now) method 0)) }
+    ensures filled { OnOk result (heaps.new
+        ≡ with_all Users heaps.old (values_at Users (V.meaning view.now) method 0)) }
     ensures past { IsPast result Users (with_all Users heaps.old (values_at Users (V.meaning view.now) method 0)) }
     ensures seen { OnOk result (AreGathered (V.places view.now) heaps.new seen.new) }
 {
@@ -102,7 +104,7 @@ fn gathers(pass: Pass, table: u8, i: u8, column: Column) -> bool
 }
 
 /// Adds what a row's column has for a heap, where its pass gathers it.
-#[tactic(auto, using(crate::proofs::Gathers::text_kind, crate::proofs::Gathers::blob_kind, crate::proofs::Gathers::guid_kind, crate::proofs::Gathers::body_kind, crate::proofs::Seen::seen_still), unfolding(crate::specs::Values::values_at))]
+#[tactic(auto, using(crate::proofs::Gathers::kind_cases, crate::proofs::Seen::seen_still), unfolding(crate::specs::Values::values_at))]
 fn add_gathered<'a, V: ModuleView>(
     view: &'a V,
     pass: Pass,
@@ -153,7 +155,7 @@ fn add_cell<'a, V: ModuleView>(
 }
 
 /// Adds what a row has for a heap.
-#[tactic(auto, using(crate::proofs::Fills::fill_none, crate::proofs::Fills::fill_more, crate::proofs::Fills::past_more), unfolding(crate::specs::Values::values_of_row))]
+#[tactic(auto, using(crate::proofs::Fills::fills_steps), unfolding(crate::specs::Values::values_of_row))]
 fn add_row<'a, V: ModuleView>(
     view: &'a V,
     pass: Pass,
@@ -179,7 +181,7 @@ fn add_row<'a, V: ModuleView>(
 }
 
 /// Adds what a table's rows have for a heap.
-#[tactic(auto, using(crate::proofs::Fills::fill_none, crate::proofs::Fills::fill_more, crate::proofs::Fills::past_more, crate::proofs::Gathers::row_there), unfolding(crate::specs::Values::values_of_table))]
+#[tactic(auto, using(crate::proofs::Fills::fills_steps, crate::proofs::Gathers::row_there), unfolding(crate::specs::Values::values_of_table))]
 fn add_table<'a, V: ModuleView>(
     view: &'a V,
     pass: Pass,
@@ -189,7 +191,8 @@ fn add_table<'a, V: ModuleView>(
 ) -> Result<(), BuildFault>
     requires sound { IsSound (V.meaning view.now) }
     requires seen { AreGathered (V.places view.now) heaps.old seen.old }
-    ensures filled { OnOk result (heaps.new ≡ with_all pass heaps.old (values_of_table pass (V.meaning view.now) table)) }
+    ensures filled { OnOk result (heaps.new
+        ≡ with_all pass heaps.old (values_of_table pass (V.meaning view.now) table)) }
     ensures past { IsPast result pass (with_all pass heaps.old (values_of_table pass (V.meaning view.now) table)) }
     ensures seen { OnOk result (AreGathered (V.places view.now) heaps.new seen.new) }
 {
@@ -204,7 +207,7 @@ fn add_table<'a, V: ModuleView>(
 
 /// Adds what all rows have for a heap, by table, row and column. `TooLarge` exactly where the heap
 /// of distinct values passes its limit, with its name.
-#[tactic(auto, using(crate::proofs::Fills::fill_none, crate::proofs::Fills::fill_more, crate::proofs::Fills::past_more), unfolding(crate::specs::Values::all_values))]
+#[tactic(auto, using(crate::proofs::Fills::fills_steps), unfolding(crate::specs::Values::all_values))]
 pub(crate) fn add_values<'a, V: ModuleView>(
     view: &'a V,
     pass: Pass,

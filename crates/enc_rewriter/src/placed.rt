@@ -79,7 +79,8 @@ pub(crate) fn placed_code<V: ModuleView>(
     requires kept { KeepValues (V.meaning view.now) heaps.old }
     requires weight { bodies_weight (V.meaning view.now) + fields_weight (V.meaning view.now) < 2 ^ 31 }
     ensures placed { IfOk result (λ p. IsPlaced (V.meaning view.now) (user_at (heaps_built heaps.old).users) p) }
-    ensures size { IfOk result (λ p. length p.code ≤ bodies_weight (V.meaning view.now) + fields_weight (V.meaning view.now) + 4096) }
+    ensures size { IfOk result (λ p. length p.code ≤ bodies_weight (V.meaning view.now) + fields_weight
+        (V.meaning view.now) + 4096) }
     ensures same { heaps.new ≡ heaps.old }
 {
     let mut code = Vec::new(alloc);

@@ -26,14 +26,15 @@ fn kids_of<V: ModuleView>(
     requires child { IsTrue (is_child_table child) }
     requires row { n < row_count (V.meaning view.now) (table_of_owners child) }
     requires few { n < 2 ^ 24 }
-    ensures { IfOk result (λ kids. kids.items ≡ kids_of (V.meaning view.now) (nth_row (table_of_owners child) n) child) }
+    ensures { IfOk result (λ kids. kids.items
+        ≡ kids_of (V.meaning view.now) (nth_row (table_of_owners child) n) child) }
 {
     let table = owner_table(child);
     view.kid_rows(alloc, Token { table, row: n + 1 }, child)
 }
 
 /// The children of all owners in a child table, one owner behind the other.
-#[tactic(auto, using(crate::proofs::KidsListed::none_listed, crate::proofs::KidsListed::more_listed, crate::proofs::KidsListed::all_listed))]
+#[tactic(auto, using(crate::proofs::KidsListed::listed_cases))]
 fn child_list<V: ModuleView>(alloc: Global, view: &V, child: u8) -> Result<Vec<u32>, AllocError>
     requires { IsTrue (is_child_table child) }
     ensures { IfOk result (λ kids. kids.items ≡ all_kids (V.meaning view.now) child) }
@@ -47,7 +48,7 @@ fn child_list<V: ModuleView>(alloc: Global, view: &V, child: u8) -> Result<Vec<u
 }
 
 /// Whether children stand in the order of their rows.
-#[tactic(auto, using(crate::proofs::KidsListed::order_begins, crate::proofs::KidsListed::order_goes_on, crate::proofs::KidsListed::order_breaks, crate::proofs::KidsListed::order_ends))]
+#[tactic(auto, using(crate::proofs::KidsListed::order_steps))]
 fn is_in_row_order(kids: &[u32]) -> bool
     ensures { result ≡ are_in_row_order kids.now }
 {
@@ -60,7 +61,7 @@ fn is_in_row_order(kids: &[u32]) -> bool
 }
 
 /// Adds a row of a Ptr table for each child.
-#[tactic(auto, using(crate::proofs::KidsListed::none_of_one, crate::proofs::KidsListed::more_of_one, crate::proofs::KidsListed::all_of_one, crate::proofs::KidsListed::ptr_columns, crate::proofs::RowsPushed::keep_others, crate::proofs::RowsPushed::others_more, crate::proofs::RowsPushed::no_others))]
+#[tactic(auto, using(crate::proofs::KidsListed::kids_listed_steps, crate::proofs::RowsPushed::rows_pushed_steps))]
 fn push_kids(child: u8, kids: &[u32], tables: &mut TableBuilder) -> Result<(), AllocError>
     requires child { IsTrue (is_child_table child) }
     requires none { rows_at tables.old (ptr_of child) ≡ [] }

@@ -31,13 +31,14 @@ pub(crate) fn index_number<V: ModuleView>(view: &V, row: Token, i: u8, table: u8
     requires sound { IsSound (V.meaning view.now) }
     requires row { IsTrue (has_row (V.meaning view.now) row) }
     requires column { column_in row.table i ≡ Some (Index table) }
-    ensures { (h : Counted) → cell_read (reading_by (V.meaning view.now) h) (Index table) result ≡ cell_of (V.meaning view.now) row i }
+    ensures { (h : Counted) → cell_read (reading_by (V.meaning view.now) h) (Index table) result
+        ≡ cell_of (V.meaning view.now) row i }
 {
     index_token(view, row, i, table).row
 }
 
 /// The token in a column of a coded index.
-#[tactic(auto, using(crate::proofs::RefersTo::coded_kind, crate::proofs::RefersTo::coded_sound, crate::proofs::RefersTo::coded_low))]
+#[tactic(auto, using(crate::proofs::RefersTo::coded_steps))]
 fn coded_token<V: ModuleView>(view: &V, row: Token, i: u8, kind: Coding) -> Token
     requires sound { IsSound (V.meaning view.now) }
     requires row { IsTrue (has_row (V.meaning view.now) row) }
@@ -55,7 +56,8 @@ pub(crate) fn coded_number<V: ModuleView>(view: &V, row: Token, i: u8, kind: Cod
     requires sound { IsSound (V.meaning view.now) }
     requires row { IsTrue (has_row (V.meaning view.now) row) }
     requires column { column_in row.table i ≡ Some (Coded kind) }
-    ensures { (h : Counted) → cell_read (reading_by (V.meaning view.now) h) (Coded kind) result ≡ cell_of (V.meaning view.now) row i }
+    ensures { (h : Counted) → cell_read (reading_by (V.meaning view.now) h) (Coded kind) result
+        ≡ cell_of (V.meaning view.now) row i }
 {
     match encode_coded(kind, coded_token(view, row, i, kind)) {
         Some(number) => number,

@@ -35,7 +35,8 @@ fn push_number<V: ModuleView>(
     requires row { IsTrue (has_row (V.meaning view.now) row) }
     requires column { column_in row.table i ≡ Some column }
     requires so_far { FrontSays (V.meaning view.now) (heaps_built heaps.old) placed.now row i cells.old.items }
-    ensures says { OnOk result (FrontSays (V.meaning view.now) (heaps_built heaps.old) placed.now row (i + 1) cells.new.items) }
+    ensures says { OnOk result (FrontSays (V.meaning view.now) (heaps_built heaps.old) placed.now row
+        (i + 1) cells.new.items) }
     ensures same { heaps.new ≡ heaps.old }
 {
     let number = number_at(view, heaps, runs, placed, row, i, column)?;
@@ -55,7 +56,8 @@ fn row_numbers<V: ModuleView>(
 ) -> Result<Vec<u32>, AllocError>
     requires ready { AreReady (V.meaning view.now) heaps.old runs.now placed.now }
     requires row { IsTrue (has_row (V.meaning view.now) row) }
-    ensures says { IfOk result (λ cells. RowSays (V.meaning view.now) (heaps_built heaps.old) placed.now row cells.items) }
+    ensures says { IfOk result (λ cells. RowSays (V.meaning view.now)
+        (heaps_built heaps.old) placed.now row cells.items) }
     ensures same { heaps.new ≡ heaps.old }
 {
     let columns = columns_of(row.table);
@@ -69,7 +71,7 @@ fn row_numbers<V: ModuleView>(
 }
 
 /// Adds the next row of a table.
-#[tactic(auto, using(crate::proofs::RowsPushed::some_columns, crate::proofs::RowsPushed::one_row, crate::proofs::RowsPushed::few_before, crate::proofs::RowsPushed::keep_others))]
+#[tactic(auto, using(crate::proofs::RowsPushed::push_row_steps))]
 fn push_row<V: ModuleView>(
     alloc: Global,
     view: &V,
@@ -81,8 +83,10 @@ fn push_row<V: ModuleView>(
 ) -> Result<(), AllocError>
     requires ready { AreReady (V.meaning view.now) heaps.old runs.now placed.now }
     requires row { IsTrue (has_row (V.meaning view.now) row) }
-    requires so_far { RowsSay (V.meaning view.now) (heaps_built heaps.old) placed.now row.table (row.row - 1) (rows_at tables.old row.table) }
-    ensures says { OnOk result (RowsSay (V.meaning view.now) (heaps_built heaps.old) placed.now row.table row.row (rows_at tables.new row.table)) }
+    requires so_far { RowsSay (V.meaning view.now) (heaps_built heaps.old) placed.now row.table (row.row - 1)
+        (rows_at tables.old row.table) }
+    ensures says { OnOk result (RowsSay (V.meaning view.now) (heaps_built heaps.old) placed.now row.table row.row
+        (rows_at tables.new row.table)) }
     ensures others { OnOk result (KeepOthers row.table tables.old tables.new) }
     ensures same { heaps.new ≡ heaps.old }
 {
@@ -104,7 +108,8 @@ fn push_table<V: ModuleView>(
 ) -> Result<(), AllocError>
     requires ready { AreReady (V.meaning view.now) heaps.old runs.now placed.now }
     requires none { rows_at tables.old table ≡ [] }
-    ensures says { OnOk result (TableSays (V.meaning view.now) (heaps_built heaps.old) placed.now table (rows_at tables.new table)) }
+    ensures says { OnOk result (TableSays (V.meaning view.now) (heaps_built heaps.old) placed.now table
+        (rows_at tables.new table)) }
     ensures others { OnOk result (KeepOthers table tables.old tables.new) }
     ensures same { heaps.new ≡ heaps.old }
 {

@@ -29,7 +29,7 @@ fn kids_of<V: ModuleView>(view: &V, child: u8, n: u32) -> u32
 }
 
 /// Where the run of each owner's row begins in a child table.
-#[tactic(auto, using(crate::proofs::RunStarts::first_run, crate::proofs::RunStarts::next_run, crate::proofs::RunStarts::run_few, crate::proofs::RunStarts::begin_none, crate::proofs::RunStarts::begin_more))]
+#[tactic(auto, using(crate::proofs::RunStarts::run_starts_steps))]
 pub(crate) fn run_starts<V: ModuleView>(
     alloc: Global,
     view: &V,
@@ -37,7 +37,8 @@ pub(crate) fn run_starts<V: ModuleView>(
 ) -> Result<Vec<u32>, AllocError>
     requires sound { IsSound (V.meaning view.now) }
     requires child { IsTrue (is_child_table child) }
-    ensures { IfOk result (λ starts. starts.items ≡ runs_begin (V.meaning view.now) child (row_count (V.meaning view.now) (table_of_owners child))) }
+    ensures { IfOk result (λ starts. starts.items
+        ≡ runs_begin (V.meaning view.now) child (row_count (V.meaning view.now) (table_of_owners child))) }
 {
     let mut starts = Vec::new(alloc);
     let mut first = 1;
@@ -133,7 +134,7 @@ pub(crate) fn needs_jtd<V: ModuleView>(view: &V, runs: &Runs) -> bool
 }
 
 /// Where the run of a row begins in a child table.
-#[tactic(auto, using(crate::proofs::RunStarts::run_is, crate::proofs::RunStarts::run_there, enc_plain::proofs::KindsOf::row_bounds))]
+#[tactic(auto, using(crate::proofs::RunStarts::run_steps, enc_plain::proofs::KindsOf::row_bounds))]
 pub(crate) fn run_number<V: ModuleView>(view: &V, runs: &Runs, row: Token, i: u8, child: u8) -> u32
     requires runs { AreRuns (V.meaning view.now) runs.now }
     requires row { IsTrue (has_row (V.meaning view.now) row) }

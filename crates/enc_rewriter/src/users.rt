@@ -43,8 +43,10 @@ fn add_argument<'a, V: ModuleView>(
     arg: &Arg<'_>,
     heaps: &mut ModuleValues<'a>,
 ) -> Result<(), BuildFault>
-    ensures filled { (end : ℕ) → OnOk result (heaps.new ≡ with_all Users heaps.old (text_named (told (V.users view.now) (arg_seen end arg.now)))) }
-    ensures past { (end : ℕ) → IsPast result Users (with_all Users heaps.old (text_named (told (V.users view.now) (arg_seen end arg.now)))) }
+    ensures filled { (end : ℕ) → OnOk result
+        (heaps.new ≡ with_all Users heaps.old (text_named (told (V.users view.now) (arg_seen end arg.now)))) }
+    ensures past { (end : ℕ) → IsPast result Users
+        (with_all Users heaps.old (text_named (told (V.users view.now) (arg_seen end arg.now)))) }
 {
     match *arg {
         Arg::User(offset) => heaps.add_units(units_at(view, offset)),
@@ -59,8 +61,10 @@ pub(crate) fn add_named<'a, V: ModuleView>(
     heaps: &mut ModuleValues<'a>,
 ) -> Result<(), BuildFault>
     requires few { length code.now.code.now < 2 ^ 32 }
-    ensures filled { OnOk result (heaps.new ≡ with_all Users heaps.old (texts_named (body_of (V.users view.now) (code_seen code.now)).code)) }
-    ensures past { IsPast result Users (with_all Users heaps.old (texts_named (body_of (V.users view.now) (code_seen code.now)).code)) }
+    ensures filled { OnOk result (heaps.new
+        ≡ with_all Users heaps.old (texts_named (body_of (V.users view.now) (code_seen code.now)).code)) }
+    ensures past { IsPast result Users
+        (with_all Users heaps.old (texts_named (body_of (V.users view.now) (code_seen code.now)).code)) }
 {
     let mut at = 0;
     while let Some((instr, end)) = instr_at(code, at) {

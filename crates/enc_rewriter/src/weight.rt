@@ -68,7 +68,7 @@ fn row_weight(table: u8) -> u64
 }
 
 /// The weight of all rows.
-#[tactic(auto, using(crate::proofs::Weights::rows_none, crate::proofs::Weights::rows_more, crate::proofs::Weights::rows_all))]
+#[tactic(auto, using(crate::proofs::Weights::rows_steps))]
 fn rows_weight<V: ModuleView>(view: &V) -> u64
     requires { IsSound (V.meaning view.now) }
     ensures weight { result ≡ weight_of_rows (V.meaning view.now) }
@@ -135,7 +135,8 @@ fn known_weight<V: ModuleView>(
     requires few { n < 2 ^ 24 }
     requires row { n < row_count (V.meaning view.now) method_def }
     requires known { AreWeighed (V.places view.now) known.old }
-    ensures weight { IfOk result (λ w. w ≡ min most_weight (weight_of_body (cell_of (V.meaning view.now) (nth_row method_def n) 0))) }
+    ensures weight { IfOk result (λ w. w
+        ≡ min most_weight (weight_of_body (cell_of (V.meaning view.now) (nth_row method_def n) 0))) }
     ensures known { OnOk result (AreWeighed (V.places view.now) known.new) }
 {
     let place = view.code_place(Token {
@@ -153,7 +154,7 @@ fn known_weight<V: ModuleView>(
 }
 
 /// The weight of all bodies.
-#[tactic(auto, using(crate::proofs::Weights::bodies_none, crate::proofs::Weights::bodies_more, crate::proofs::Weights::bodies_all))]
+#[tactic(auto, using(crate::proofs::Weights::bodies_steps))]
 fn bodies_weight<V: ModuleView>(alloc: Global, view: &V) -> Result<u64, AllocError>
     requires { IsSound (V.meaning view.now) }
     ensures { IfOk result (λ w. w ≡ min most_weight (weight_of_bodies (V.meaning view.now))) }
@@ -181,7 +182,7 @@ fn field_weight<V: ModuleView>(view: &V, n: u32) -> u64
 }
 
 /// The weight of the initial bytes of all fields.
-#[tactic(auto, using(crate::proofs::Weights::fields_none, crate::proofs::Weights::fields_more, crate::proofs::Weights::fields_all))]
+#[tactic(auto, using(crate::proofs::Weights::fields_steps))]
 fn fields_weight<V: ModuleView>(view: &V) -> u64
     requires { IsSound (V.meaning view.now) }
     ensures { result ≡ min most_weight (weight_of_fields (V.meaning view.now)) }

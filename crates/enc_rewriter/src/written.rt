@@ -89,7 +89,8 @@ fn pdb_of<V: ModuleView, P: PointSource>(
     requires sound { IsSound (V.meaning view.now) }
     requires debug { IsSoundPdb (P.debug points.now) }
     requires within { KnowsWithin (P.debug points.now) (row_count (V.meaning view.now) method_def) }
-    ensures written { IfOk result (λ v. WritesPdb (P.debug points.now) (row_count (V.meaning view.now) method_def) (V.meaning view.now).entry v.items) }
+    ensures written { IfOk result (λ v. WritesPdb (P.debug points.now) (row_count (V.meaning view.now) method_def)
+        (V.meaning view.now).entry v.items) }
     ensures tells { TellsLimit result (pdb_limit (V.meaning view.now) (P.debug points.now)) }
 {
     match write_pdb(alloc, points, view.count(METHOD_DEF), view.entry()) {

@@ -114,3 +114,7 @@ stays_true p n (suc d) h =
 -- one that passes is enough
 pub any_true : (p : ℕ → Bool) (n m : ℕ) → n < m → p n ≡ true → list_any p (below m) ≡ true
 any_true p n m lt h = let e : m ≡ n + 1 + (m - (n + 1)) = omega arith in rw e (stays_true p n (m - (n + 1)) h)
+
+pub ruleset sum_steps = (sum_none, sum_more)
+
+pub ruleset any_steps = (any_none, any_more, any_true)

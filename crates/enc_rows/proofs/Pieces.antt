@@ -29,3 +29,5 @@ pieces_more f n =
 pub pieces_behind : (f : ℕ → List ℕ) (n : ℕ) (out so_far new : List ℕ) → so_far ≡ out ++ flat_map f (below n) → new ≡ so_far ++ f n → new ≡ out ++ flat_map f (below (n + 1))
 pieces_behind f n out so_far new before after =
     behind out (flat_map f (below n)) (f n) so_far new before after ∙ ap (λ xs. out ++ xs) (sym (pieces_more f n))
+
+pub ruleset pieces_steps = (pieces_none, pieces_behind)

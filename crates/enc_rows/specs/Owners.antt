@@ -9,12 +9,14 @@ use Rattle.enc_rows.specs.declared.owners.Owners.TheVariants as owners
 
 -- where the n-th owner's run begins, and the place behind the last one where there is no such owner
 abbrev pub run_bound : TableStream → ℕ → ℕ → ℕ
-run_bound s child n = if nat_lt n (rows_of s.layout (owner_table child)) then run_start s (owner_table child) (run_column child) n
+run_bound s child n = if nat_lt n (rows_of s.layout (owner_table child))
+    then run_start s (owner_table child) (run_column child) n
     else run_rows s.layout child + 1
 
 -- how often the places from the first one up to the end name a row
 unfoldable pub times_from : TableStream → ℕ → ℕ → ℕ → ℕ → ℕ
-times_from s child first end row = count_by (λ (r : ℕ). r == row) (flat_map (named_at s child) (range_with_len first (end - first)))
+times_from s child first end row =
+    count_by (λ (r : ℕ). r == row) (flat_map (named_at s child) (range_with_len first (end - first)))
 
 -- none, one, or many, which is 2
 abbrev pub few : ℕ → ℕ
@@ -34,4 +36,5 @@ names_once (owners.Counted times) n = slice_index times.items n == 1
 
 -- so it is by the runs, for each row of a table that has owners
 pub record TellsOwners (s : TableStream) (table : ℕ) (o : Owners) : Type 0 where
-  pub each : (n : ℕ) → n < rows_of s.layout table → (is_child_table table && not (times_named s table (n + 1) == 1)) ≡ not (names_once o n)
+  pub each : (n : ℕ) → n < rows_of s.layout table
+      → (is_child_table table && not (times_named s table (n + 1) == 1)) ≡ not (names_once o n)

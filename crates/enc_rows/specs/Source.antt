@@ -5,7 +5,8 @@ use Rattle.enc_meta.specs.Heaps.{Counted}
 use Rattle.enc_meta.specs.Regions.{Region}
 use Rattle.enc_rows.specs.Layout.{Layout, raw_cell}
 
--- the table stream, its layout, the heaps, what is loaded at which addresses, and of an image its managed resources and its entry point
+-- the table stream, its layout, the heaps, what is loaded at which addresses, and of an image its managed resources
+-- and its entry point
 pub record Source : Type 0 where
   pub stream : List ℕ
   pub layout : Layout

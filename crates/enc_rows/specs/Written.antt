@@ -119,17 +119,24 @@ pub record AllFit (all : List (List (List ℕ))) (jtd : Bool) (flags : ℕ) : Ty
 
 -- how the stream is laid out
 abbrev pub layout_written : List (List (List ℕ)) → Span → Bool → ℕ → Layout
-layout_written all span jtd flags = record { span = span; counts = counts_of all; shape = shape_of all jtd flags; first = rows_begin (valid_of all) flags }
+layout_written all span jtd flags = record {
+  span = span;
+  counts = counts_of all;
+  shape = shape_of all jtd flags;
+  first = rows_begin (valid_of all) flags;
+}
 
 -- the stream is read back, where the form allows its tables
 abbrev pub StreamIsRead : Type 0
-StreamIsRead = (all : List (List (List ℕ))) (span : Span) (form : Form) (jtd : Bool) (flags : ℕ) → AreRows all → flags < 0x100
+StreamIsRead = (all : List (List (List ℕ))) (span : Span) (form : Form) (jtd : Bool) (flags : ℕ) → AreRows all
+    → flags < 0x100
     → IsTrue (form_allows form (valid_of all) (counts_of all))
     → layout_of (stream_of all jtd flags) span form jtd (replicate 64 0) ≡ Some (layout_written all span jtd flags)
 
 -- and so is every number
 abbrev pub CellsAreRead : Type 0
-CellsAreRead = (all : List (List (List ℕ))) (span : Span) (jtd : Bool) (flags : ℕ) (table n i : ℕ) (cells : List ℕ) (x : ℕ) → AreRows all
+CellsAreRead = (all : List (List (List ℕ))) (span : Span) (jtd : Bool) (flags : ℕ) (table n i : ℕ) (cells : List ℕ)
+    (x : ℕ) → AreRows all
     → AllFit all jtd flags → flags < 0x100 → slice_get (rows_at all table) n ≡ Some cells → slice_get cells i ≡ Some x
     → raw_cell (stream_of all jtd flags) (layout_written all span jtd flags) (nth_row table n) i ≡ Some x
 
@@ -146,8 +153,10 @@ row_indices_fit s (column ∷ columns) (n ∷ cells) = index_fits s column n && 
 row_indices_fit s _ _ = false
 
 pub record IndicesFit (all : List (List (List ℕ))) (jtd : Bool) : Type 0 where
-  pub each : (table : ℕ) → IsTrue (list_all (row_indices_fit (shape_of all jtd 0) (columns_in table)) (rows_at all table))
+  pub each : (table : ℕ) → IsTrue
+      (list_all (row_indices_fit (shape_of all jtd 0) (columns_in table)) (rows_at all table))
 
 -- then all numbers of four bytes fit with the heap bits that they ask for
 abbrev pub HeapBitsFit : Type 0
-HeapBitsFit = (all : List (List (List ℕ))) (jtd : Bool) → AreRows all → IndicesFit all jtd → AllFit all jtd (heap_bits all)
+HeapBitsFit = (all : List (List (List ℕ))) (jtd : Bool) → AreRows all → IndicesFit all jtd
+    → AllFit all jtd (heap_bits all)

@@ -58,7 +58,8 @@ impl TableBuilder {
         requires table { IsTrue (nat_lt 0 (length (columns_in table))) }
         requires cells { length cells.now ≡ length (columns_in table) }
         requires few { count_at self.old table < 2 ^ 24 - 1 }
-        ensures pushed { OnOk result ((k : ℕ) → rows_at self.new k ≡ (if k == table then rows_at self.old k ++ cells.now ∷ [] else rows_at self.old k)) }
+        ensures pushed { OnOk result ((k : ℕ)
+            → rows_at self.new k ≡ (if k == table then rows_at self.old k ++ cells.now ∷ [] else rows_at self.old k)) }
         ensures err { OnErr result ((k : ℕ) → rows_at self.new k ≡ rows_at self.old k) }
     {
         let alloc = self.alloc;

@@ -24,8 +24,10 @@ fn run_of(tables: &Tables, bytes: &[u8], child: u8, n: u32) -> Run
     requires bytes { IsWithin (part bytes.now tables.now.span) tables.now }
     requires child { IsTrue (is_child_table child) }
     requires row { n < rows_of tables.now (table_of_owners child) }
-    ensures first { result.first ≡ run_start (table_stream bytes.now tables.now) (table_of_owners child) (column_of_runs child) n }
-    ensures end { result.end ≡ run_end (table_stream bytes.now tables.now) (table_of_owners child) (column_of_runs child) child n }
+    ensures first { result.first ≡ run_start (table_stream bytes.now tables.now) (table_of_owners child)
+        (column_of_runs child) n }
+    ensures end { result.end ≡ run_end (table_stream bytes.now tables.now) (table_of_owners child)
+        (column_of_runs child) child n }
 {
     let owners = owner_table(child);
     let column = run_column(child);
@@ -102,7 +104,8 @@ fn is_pointed(tables: &Tables, bytes: &[u8], child: u8, run: Run, row: u32) -> b
     requires child { IsTrue (is_child_table child) }
     requires ptr { IsTrue (goes_by_ptr tables.now child) }
     requires row { 0 < row }
-    ensures { result ≡ list_any (λ (k : ℕ). k == row) (rows_named (table_stream bytes.now tables.now) child run.first run.end) }
+    ensures { result ≡ list_any (λ (k : ℕ). k == row)
+        (rows_named (table_stream bytes.now tables.now) child run.first run.end) }
 {
     for p in run.first..run.end {
         if pointed(tables, bytes, child, p) == row {
@@ -123,7 +126,8 @@ fn push_pointed(
     requires bytes { IsWithin (part bytes.now tables.now.span) tables.now }
     requires child { IsTrue (is_child_table child) }
     requires ptr { IsTrue (goes_by_ptr tables.now child) }
-    ensures { OnOk result (out.new.items ≡ out.old.items ++ rows_named (table_stream bytes.now tables.now) child run.first run.end) }
+    ensures { OnOk result (out.new.items
+        ≡ out.old.items ++ rows_named (table_stream bytes.now tables.now) child run.first run.end) }
 {
     for p in run.first..run.end {
         let row = pointed(tables, bytes, child, p);
@@ -153,7 +157,8 @@ impl Tables {
         requires bytes { IsWithin (part bytes.now self.now.span) self.now }
         requires child { IsTrue (is_child_table child) }
         requires row { n < rows_of self.now (table_of_owners child) }
-        ensures { result ≡ length (children_of (table_stream bytes.now self.now) (table_of_owners child) (column_of_runs child) child n) }
+        ensures { result ≡ length (children_of (table_stream bytes.now self.now) (table_of_owners child)
+            (column_of_runs child) child n) }
     {
         let run = run_of(self, bytes, child, n);
         if goes_by_ptr(self, child) {
@@ -168,7 +173,8 @@ impl Tables {
         requires bytes { IsWithin (part bytes.now self.now.span) self.now }
         requires child { IsTrue (is_child_table child) }
         requires row { n < rows_of self.now (table_of_owners child) }
-        ensures { result ≡ slice_get (children_of (table_stream bytes.now self.now) (table_of_owners child) (column_of_runs child) child n) i }
+        ensures { result ≡ slice_get (children_of (table_stream bytes.now self.now) (table_of_owners child)
+            (column_of_runs child) child n) i }
     {
         let run = run_of(self, bytes, child, n);
         if goes_by_ptr(self, child) {
@@ -188,7 +194,8 @@ impl Tables {
         requires child { IsTrue (is_child_table child) }
         requires owner { n < rows_of self.now (table_of_owners child) }
         requires row { 0 < row }
-        ensures { result ≡ list_any (λ (k : ℕ). k == row) (children_of (table_stream bytes.now self.now) (table_of_owners child) (column_of_runs child) child n) }
+        ensures { result ≡ list_any (λ (k : ℕ). k == row)
+            (children_of (table_stream bytes.now self.now) (table_of_owners child) (column_of_runs child) child n) }
     {
         let run = run_of(self, bytes, child, n);
         if goes_by_ptr(self, child) {
@@ -208,7 +215,8 @@ impl Tables {
         requires bytes { IsWithin (part bytes.now self.now.span) self.now }
         requires child { IsTrue (is_child_table child) }
         requires row { n < rows_of self.now (table_of_owners child) }
-        ensures { IfOk result (λ rows. rows.items ≡ children_of (table_stream bytes.now self.now) (table_of_owners child) (column_of_runs child) child n) }
+        ensures { IfOk result (λ rows. rows.items
+            ≡ children_of (table_stream bytes.now self.now) (table_of_owners child) (column_of_runs child) child n) }
     {
         let mut rows = Vec::new(alloc);
         self.push_children(bytes, child, n, &mut rows)?;
@@ -227,7 +235,8 @@ impl Tables {
         requires bytes { IsWithin (part bytes.now self.now.span) self.now }
         requires child { IsTrue (is_child_table child) }
         requires row { n < rows_of self.now (table_of_owners child) }
-        ensures { OnOk result (out.new.items ≡ out.old.items ++ children_of (table_stream bytes.now self.now) (table_of_owners child) (column_of_runs child) child n) }
+        ensures { OnOk result (out.new.items ≡ out.old.items ++ children_of (table_stream bytes.now self.now)
+            (table_of_owners child) (column_of_runs child) child n) }
     {
         let run = run_of(self, bytes, child, n);
         if goes_by_ptr(self, child) {

@@ -101,7 +101,7 @@ fn index_fault_at(tables: &Tables, bytes: &[u8], table: u8, n: u32, i: u8) -> Op
 }
 
 /// The first cell of a row whose index is bad.
-#[tactic(auto, using(enc_base::proofs::First::first_none, enc_base::proofs::First::first_found, enc_base::proofs::First::first_more))]
+#[tactic(auto, using(enc_base::proofs::First::first_steps))]
 fn columns_fault(tables: &Tables, bytes: &[u8], table: u8, n: u32) -> Option<Place>
     requires bytes { IsWithin (part bytes.now tables.now.span) tables.now }
     requires row { n < rows_of tables.now table }
@@ -139,7 +139,7 @@ fn row_fault(tables: &Tables, bytes: &[u8], owners: &Owners, table: u8, n: u32) 
 }
 
 /// The first fault of a table's rows.
-#[tactic(auto, using(enc_base::proofs::First::first_none, enc_base::proofs::First::first_found, enc_base::proofs::First::first_more), unfolding(crate::specs::Fault::index_fault_in))]
+#[tactic(auto, using(enc_base::proofs::First::first_steps), unfolding(crate::specs::Fault::index_fault_in))]
 fn rows_fault(tables: &Tables, bytes: &[u8], owners: &Owners, table: u8) -> Option<Place>
     requires bytes { IsWithin (part bytes.now tables.now.span) tables.now }
     requires owners { TellsOwners (table_stream bytes.now tables.now) table owners.now }
@@ -175,7 +175,7 @@ impl Tables {
     /// place behind the last row, and behind the columns of a row that has an owner the row, where
     /// the runs don't name it exactly once. `bytes` are those from which the tables were read. It
     /// takes a time linear in their rows, and memory only where there are Ptr tables.
-    #[tactic(auto, using(enc_base::proofs::First::first_none, enc_base::proofs::First::first_found, enc_base::proofs::First::first_more), unfolding(crate::specs::Fault::index_fault))]
+    #[tactic(auto, using(enc_base::proofs::First::first_steps), unfolding(crate::specs::Fault::index_fault))]
     pub fn first_bad_index(&self, alloc: Global, bytes: &[u8]) -> Result<Option<Place>, AllocError>
         requires bytes { IsWithin (part bytes.now self.now.span) self.now }
         ensures { IfOk result (λ place. place ≡ index_fault (table_stream bytes.now self.now)) }

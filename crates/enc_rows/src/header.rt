@@ -19,7 +19,7 @@ pub fn is_there(valid: u64, table: u8) -> bool
 }
 
 /// How many tables below this one the stream has.
-#[tactic(auto, using(crate::proofs::Below::sum_none, crate::proofs::Below::sum_more), unfolding(crate::specs::Layout::tables_below))]
+#[tactic(auto, using(crate::proofs::Below::sum_steps), unfolding(crate::specs::Layout::tables_below))]
 pub fn tables_before(valid: u64, table: u8) -> usize
     requires { table ≤ 64 }
     ensures count { result ≡ tables_below valid table }

@@ -68,7 +68,8 @@ fn first_start(tables: &Tables, bytes: &[u8], child: u8) -> u32
 /// One more of the row, where there is such a row: its place holds 0, 1 or, for many, 2.
 fn add_one(times: &mut Vec<u8>, row: u32)
     ensures length { length times.new.items ≡ length times.old.items }
-    ensures each { (n : ℕ) → n < length times.old.items → slice_index times.new.items n ≡ (if row == n + 1 then one_more (slice_index times.old.items n) else slice_index times.old.items n) }
+    ensures each { (n : ℕ) → n < length times.old.items → slice_index times.new.items n
+        ≡ (if row == n + 1 then one_more (slice_index times.old.items n) else slice_index times.old.items n) }
 {
     if row == 0 {
         return;
@@ -92,7 +93,9 @@ fn times_of(
     requires ptr { IsTrue (goes_by_ptr tables.now child) }
     requires some { 0 < first }
     requires limit { first ≤ run_room tables.now child + 1 }
-    ensures { IfOk result (λ times. (n : ℕ) → n < rows_of tables.now child → slice_index times.items n ≡ few (times_from (table_stream bytes.now tables.now) child first (run_room tables.now child + 1) (n + 1))) }
+    ensures { IfOk result (λ times. (n : ℕ) → n < rows_of tables.now child
+        → slice_index times.items n ≡ few
+        (times_from (table_stream bytes.now tables.now) child first (run_room tables.now child + 1) (n + 1))) }
 {
     let mut times = vec![in alloc; 0u8; tables.count(child) as usize]?;
     let through = ptr_table(child);

@@ -38,7 +38,8 @@ impl Model for Tables {
 
     ghost view = { λ t. record { span = t.span; counts = t.counts.rows; shape = t.widths; first = t.first } };
 
-    ghost invariant = { λ t. IsLaidOut (record { span = t.span; counts = t.counts.rows; shape = t.widths; first = t.first }) t.starts };
+    ghost invariant = { λ t. IsLaidOut
+        (record { span = t.span; counts = t.counts.rows; shape = t.widths; first = t.first }) t.starts };
 }
 
 /// The bytes of all rows of a table.
@@ -51,11 +52,13 @@ fn bytes_of(counts: &Counts, widths: &Widths, table: u8) -> usize
 }
 
 /// Where the tables begin one behind the other.
-#[tactic(auto, using(crate::proofs::Below::sum_none, crate::proofs::Below::sum_more), unfolding(crate::specs::Layout::table_start))]
+#[tactic(auto, using(crate::proofs::Below::sum_steps), unfolding(crate::specs::Layout::table_start))]
 fn starts_of(span: Span, counts: &Counts, widths: &Widths, first: usize) -> Starts
     requires { first ≤ 284 }
-    ensures of { (k : ℕ) → k < 64 → slice_index result.of k ≡ table_start (record { span = span; counts = counts.now.rows; shape = widths.now; first = first }) k }
-    ensures end { result.end ≡ table_start (record { span = span; counts = counts.now.rows; shape = widths.now; first = first }) 64 }
+    ensures of { (k : ℕ) → k < 64 → slice_index result.of k
+        ≡ table_start (record { span = span; counts = counts.now.rows; shape = widths.now; first = first }) k }
+    ensures end { result.end ≡ table_start
+        (record { span = span; counts = counts.now.rows; shape = widths.now; first = first }) 64 }
 {
     let _ = span;
     let mut of = [0; 64];
@@ -115,7 +118,8 @@ impl Tables {
         requires row { IsTrue (stream_has_row self.now token) }
         requires near { table_start self.now 64 < 2 ^ 63 }
         ensures place { result ≡ cell_place self.now token column }
-        ensures within { IfSome (column_in token.table column) (λ c. result + space_of self.now.shape c ≤ table_start self.now 64) }
+        ensures within { IfSome (column_in token.table column)
+            (λ c. result + space_of self.now.shape c ≤ table_start self.now 64) }
     {
         self.starts[token.table as usize]
             + (token.row as usize - 1) * self.widths.row(token.table) as usize
@@ -211,7 +215,8 @@ fn whole(
     jtd: bool,
     outer: &Counts,
 ) -> Option<Tables>
-    ensures layout { result ≡ whole_layout stream.now form valid (laid_out stream.now span valid flags jtd outer.now.rows) }
+    ensures layout { result ≡ whole_layout stream.now form valid
+        (laid_out stream.now span valid flags jtd outer.now.rows) }
     ensures within { IfSome result (λ l. IsWithin stream.now l × (l.span ≡ span)) }
 {
     let counts = counts_of(stream, valid);

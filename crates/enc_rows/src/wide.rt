@@ -56,7 +56,7 @@ fn table_is_wide(bit: u8, columns: &[Column], rows: &[Row]) -> bool
 }
 
 /// Whether some table has such a row.
-#[tactic(auto, using(crate::proofs::Below::any_none, crate::proofs::Below::any_more, crate::proofs::Below::any_true), unfolding(crate::specs::Written::is_wide))]
+#[tactic(auto, using(crate::proofs::Below::any_steps), unfolding(crate::specs::Written::is_wide))]
 fn is_wide(bit: u8, tables: &[TableRows]) -> bool
     requires { AreRows tables.now }
     ensures { result ≡ is_wide tables.now bit }

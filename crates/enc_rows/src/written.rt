@@ -54,7 +54,7 @@ fn bit_of(tables: &[TableRows], table: u8) -> u64
 }
 
 /// The bits of the tables that are there.
-#[tactic(auto, using(crate::proofs::Below::sum_none, crate::proofs::Below::sum_more), unfolding(crate::specs::Written::valid_of))]
+#[tactic(auto, using(crate::proofs::Below::sum_steps), unfolding(crate::specs::Written::valid_of))]
 fn valid_of(tables: &[TableRows]) -> u64
     ensures { result ≡ valid_of tables.now }
 {
@@ -160,7 +160,7 @@ fn push_rows(
 }
 
 /// Appends the rows of all tables, table by table.
-#[tactic(auto, using(crate::proofs::Pieces::pieces_none, crate::proofs::Pieces::pieces_behind), unfolding(crate::specs::Written::table_written))]
+#[tactic(auto, using(crate::proofs::Pieces::pieces_steps), unfolding(crate::specs::Written::table_written))]
 fn push_tables(widths: &Widths, tables: &[TableRows], out: &mut Vec<u8>) -> Result<(), AllocError>
     requires { (table : ℕ) → IsTrue (list_all (row_fits widths.now (columns_in table)) (rows_at tables.now table)) }
     ensures { OnOk result (out.new.items ≡ out.old.items ++ flat_map (table_written tables.now widths.now) (below 64)) }

@@ -149,3 +149,5 @@ coded_by kind t None true is low some none = absurd (let w = some_code kind t lo
 pub coded_names : (kind : Coding) (t : Token) (o : Option ℕ) → 0 < t.row → IfSome o (λ v. decoded kind v ≡ Some (named t)) → IfNone o ((v : ℕ) → decoded kind v ≢ Some (named t))
     → is_some o ≡ list_any (is_tables t.table) (tables_of kind)
 coded_names kind t o low some none = coded_by kind t o _ refl low some none
+
+pub ruleset names_steps = (names_start, names_skip, names_done)

@@ -44,7 +44,8 @@ cells_stated table cells code =
 
 -- the row that an edit behind others is about: the next of its table, or the method whose body it replaces
 abbrev pub row_edited : Module → List Edit → Edit → Token
-row_edited m before (Add table owner cells code points) = record { table = table; row = row_count m table + rows_added before table + 1 }
+row_edited m before (Add table owner cells code points) =
+    record { table = table; row = row_count m table + rows_added before table + 1 }
 row_edited m before (Replace method code points) = method
 
 -- the same of each edit behind others
@@ -69,11 +70,13 @@ cells_edited m (Replace method code points) = cells_with (body_stated code) (unw
 -- the cells that edits behind others give their rows
 unfoldable pub changes_behind : Module → List Edit → List Edit → List Change
 changes_behind m before [] = []
-changes_behind m before (e ∷ rest) = record { token = row_edited m before e; cells = cells_edited m e } ∷ changes_behind m (before ++ e ∷ []) rest
+changes_behind m before (e ∷ rest) =
+    record { token = row_edited m before e; cells = cells_edited m e } ∷ changes_behind m (before ++ e ∷ []) rest
 
 -- the child that an edit gives its owner
 abbrev pub attached_by : Edit → Token → List Attached
-attached_by (Add table owner cells code points) child = if is_child_table table then record { owner = owner; child = child } ∷ [] else []
+attached_by (Add table owner cells code points) child =
+    if is_child_table table then record { owner = owner; child = child } ∷ [] else []
 attached_by (Replace method code points) child = []
 
 unfoldable pub attached_behind : Module → List Edit → List Edit → List Attached

@@ -17,7 +17,8 @@ use Rattle.enc_rules.specs.declared.context.Known.{Known}
 use Rattle.enc_rules.specs.Edited.{rows_edited, attached_in}
 use Rattle.enc_rules.specs.Listed.{AfterList, count_after, rows_listed}
 
--- what is known is that of this chain and this list, which has the form of one, and no table has more than 2^24 - 1 rows after it
+-- what is known is that of this chain and this list, which has the form of one, and no table has more than 2^24 - 1
+-- rows after it
 pub record KnowsList (c : Chain) (l : EditList) (k : Known) : Type 0 where
   pub form : list_fits l ≡ true
   pub rows : k.rows.items ≡ rows_edited c.plain l.edits
@@ -29,7 +30,8 @@ pub record KnowsList (c : Chain) (l : EditList) (k : Known) : Type 0 where
 
 -- the value that an added row states for a column
 abbrev pub stated_in : ℕ → List CellValue → ℕ → Option CellValue
-stated_in table cells i = if begins_with_rva table then (if i == 0 then None else slice_get cells (i - 1)) else slice_get cells i
+stated_in table cells i = if begins_with_rva table then (if i == 0 then None else slice_get cells (i - 1))
+    else slice_get cells i
 
 abbrev pub stated_of : Edit → ℕ → Option CellValue
 stated_of (Add table owner cells code points) i = stated_in table cells i
@@ -57,9 +59,11 @@ cell_key t i = t.row * 2 ^ 16 + t.table * 2 ^ 8 + i
 abbrev pub numbered_bytes : Rows → ℕ → Option (List ℕ)
 numbered_bytes rows n = Some (bytes_at rows (record { table = n / 2 ^ 8 % 2 ^ 8; row = n / 2 ^ 16 }) (n % 2 ^ 8))
 
--- the blobs of a list's rows: those of the chain at their places, and the others behind 2^63 by the numbers of their cells
+-- the blobs of a list's rows: those of the chain at their places, and the others behind 2^63 by the numbers of their
+-- cells
 unfoldable pub blobs_listed : AfterList → ℕ → Option (List ℕ)
-blobs_listed j n = if nat_lt n (2 ^ 63) then joined_blob j.chain.heaps n else numbered_bytes (rows_listed j.chain j.list.edits) (n - 2 ^ 63)
+blobs_listed j n = if nat_lt n (2 ^ 63) then joined_blob j.chain.heaps n
+    else numbered_bytes (rows_listed j.chain j.list.edits) (n - 2 ^ 63)
 
 abbrev pub listed_rows : AfterList → Rows
 listed_rows j = rows_listed j.chain j.list.edits

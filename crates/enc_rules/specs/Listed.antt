@@ -23,9 +23,11 @@ pub record AfterList : Type 0 where
 unfoldable pub count_after : Chain → List Edit → ℕ → ℕ
 count_after c edits table = rows_before c table + rows_added edits table
 
--- the edit that adds a row: of those that add to its table the one with as many before it as new rows stand before this one
+-- the edit that adds a row: of those that add to its table the one with as many before it as new rows stand before
+-- this one
 unfoldable pub edit_of : Chain → List Edit → Token → Option Edit
-edit_of c edits t = if nat_lt (rows_before c t.table) t.row then slice_get (adding edits t.table) (t.row - rows_before c t.table - 1) else None
+edit_of c edits t = if nat_lt (rows_before c t.table) t.row
+    then slice_get (adding edits t.table) (t.row - rows_before c t.table - 1) else None
 
 -- the cells of the row that an edit adds
 abbrev pub cells_added : Edit → List Cell

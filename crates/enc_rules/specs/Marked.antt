@@ -22,6 +22,8 @@ value_is_sound count begins i = argument_is_sound count begins i.op.operand (arg
 abbrev pub clause_is_sound : (ℕ → ℕ) → (ℕ → Bool) → ℕ → Clause → Bool
 clause_is_sound count begins size c = handler_is_sound count begins size (handler_meant c)
 
--- an edit gives a body to what isn't a method of IL code, or one that isn't good, or with which the code takes so much room
+-- an edit gives a body to what isn't a method of IL code, or one that isn't good, or with which the code takes so
+-- much room
 abbrev pub body_breaks : (ℕ → ℕ) → Rows → ℕ → Edit → Token → Bool
-body_breaks count rows room e t = gives_body e && (not (is_il rows t) || not (body_is_missing_or_stands count (body_given e)) || nat_le (2 ^ 32) room)
+body_breaks count rows room e t =
+    gives_body e && (not (is_il rows t) || not (body_is_missing_or_stands count (body_given e)) || nat_le (2 ^ 32) room)

@@ -50,7 +50,8 @@ at_edit rule c l k = of_edit rule (slice_get l.edits k) (slice_get (rows_edited 
 unfoldable pub id_is_taken : Chain → EditList → Bool
 id_is_taken c l = bytes_eq l.enc_id nil_guid || list_any (λ id. bytes_eq id l.enc_id) c.ids
 
--- E24: more than 65,535 deltas, or 2^24 - 1 rows of a table after, or entries of EncLog, of which an edit has one and one more where its row has an owner
+-- E24: more than 65,535 deltas, or 2^24 - 1 rows of a table after, or entries of EncLog, of which an edit has one
+-- and one more where its row has an owner
 abbrev pub has_owner : Edit → Bool
 has_owner (Add table owner cells code points) = is_child_table table
 has_owner (Replace method code points) = false
@@ -78,14 +79,17 @@ abbrev pub users_in_body : Option BodyValue → List (List ℕ)
 users_in_body None = []
 users_in_body (Some b) = flat_map (λ (i : InstrValue). users_in_argument i.arg) b.code
 
--- the values that an edit brings for each heap: those of its row, which for a method whose body is replaced are its name and signature, and of its body
+-- the values that an edit brings for each heap: those of its row, which for a method whose body is replaced are its
+-- name and signature, and of its body
 abbrev pub texts_of_edit : Rows → Edit → List (List ℕ)
 texts_of_edit rows (Add table owner cells code points) = flat_map texts_in_cell cells
-texts_of_edit rows (Replace method code points) = if method.table == tables.method_def then bytes_at rows method columns.method_def_name ∷ [] else []
+texts_of_edit rows (Replace method code points) =
+    if method.table == tables.method_def then bytes_at rows method columns.method_def_name ∷ [] else []
 
 abbrev pub blobs_of_edit : Rows → Edit → List (List ℕ)
 blobs_of_edit rows (Add table owner cells code points) = flat_map blobs_in_cell cells
-blobs_of_edit rows (Replace method code points) = if method.table == tables.method_def then bytes_at rows method columns.method_def_signature ∷ [] else []
+blobs_of_edit rows (Replace method code points) =
+    if method.table == tables.method_def then bytes_at rows method columns.method_def_signature ∷ [] else []
 
 abbrev pub users_of_edit : Edit → List (List ℕ)
 users_of_edit e = users_in_body (body_given e)
@@ -105,7 +109,8 @@ with_blobs h (v ∷ values) = with_blobs (with_blob h v) values
 
 -- the heaps behind a chain's with what edits bring
 unfoldable pub heaps_after_edit : Rows → Built → Edit → Built
-heaps_after_edit rows h e = with_blobs (with_users (with_texts h (texts_of_edit rows e)) (users_of_edit e)) (blobs_of_edit rows e)
+heaps_after_edit rows h e = with_blobs (with_users (with_texts h (texts_of_edit rows e)) (users_of_edit e))
+    (blobs_of_edit rows e)
 
 unfoldable pub with_edits : Rows → Built → List Edit → Built
 with_edits rows h [] = h
@@ -123,7 +128,8 @@ passes_limits h =
 
 -- E5 of the list as a whole: a heap passes its limit before any edit, `#GUID` with the new EncId
 unfoldable pub heaps_are_full : Chain → EditList → Bool
-heaps_are_full c l = passes_limits (none_from (joined_lengths c.heaps)) || nat_lt (2 ^ 29) (16 * ((joined_lengths c.heaps).guids + 1))
+heaps_are_full c l = passes_limits (none_from (joined_lengths c.heaps))
+    || nat_lt (2 ^ 29) (16 * ((joined_lengths c.heaps).guids + 1))
 
 -- E5: a heap passes its limit with what the edits up to this one bring
 unfoldable pub heap_passes : Chain → EditList → ℕ → Bool
@@ -138,7 +144,8 @@ abbrev pub is_row_of : (ℕ → ℕ) → ℕ → Token → Bool
 is_row_of count table t = t.table == table && nat_le 1 t.row && nat_le t.row (count table)
 
 abbrev pub owner_breaks : (ℕ → ℕ) → Edit → Bool
-owner_breaks count (Add table owner cells code points) = is_child_table table && not (is_row_of count (owner_table table) owner)
+owner_breaks count (Add table owner cells code points) =
+    is_child_table table && not (is_row_of count (owner_table table) owner)
 owner_breaks count (Replace method code points) = false
 
 unfoldable pub owner_is_missing : Chain → EditList → ℕ → Bool
@@ -216,9 +223,11 @@ field_is_out_of_layout c l k = at_edit (of_child (is_out_of_layout c (rows_liste
 unfoldable pub method_has_no_slot : Chain → EditList → ℕ → Bool
 method_has_no_slot c l k = at_edit (of_child (has_no_slot c (rows_listed c l.edits))) c l k
 
--- E20: a new member with a sibling of equal name and, but for an event, alike signature, in the module after the whole list
+-- E20: a new member with a sibling of equal name and, but for an event, alike signature, in the module after the
+-- whole list
 unfoldable pub member_has_twin : Chain → EditList → ℕ → Bool
-member_has_twin c l k = at_edit (of_child (has_twin (asked_of (rows_listed c l.edits)) c.plain (attached_in c.plain l.edits))) c l k
+member_has_twin c l k = at_edit
+    (of_child (has_twin (asked_of (rows_listed c l.edits)) c.plain (attached_in c.plain l.edits))) c l k
 
 -- E21: a new row's signature isn't one, by the rows after
 abbrev pub signature_breaks : (ℕ → ℕ) → Rows → Token → Option ℕ → Bool
@@ -226,7 +235,8 @@ signature_breaks count rows t None = false
 signature_breaks count rows t (Some i) = not (is_signature count t.table (bytes_at rows t i))
 
 abbrev pub new_signature_breaks : (ℕ → ℕ) → Rows → Edit → Token → Bool
-new_signature_breaks count rows (Add table owner cells code points) t = signature_breaks count rows t (signature_column table)
+new_signature_breaks count rows (Add table owner cells code points) t =
+    signature_breaks count rows t (signature_column table)
 new_signature_breaks count rows (Replace method code points) t = false
 
 unfoldable pub signature_is_bad : Chain → EditList → ℕ → Bool
@@ -247,14 +257,16 @@ has_document documents p = nat_le 1 p.document && nat_le p.document documents
 abbrev pub has_points : Edit → Bool
 has_points e = nat_lt 0 (length (points_given e))
 
--- the bytes that the PDB takes at most: of an edit with points 64 and 32 for each of them, of a document 128 and its name
+-- the bytes that the PDB takes at most: of an edit with points 64 and 32 for each of them, of a document 128 and its
+-- name
 abbrev pub room_of_points : Edit → ℕ
 room_of_points e = if has_points e then 64 + 32 * length (points_given e) else 0
 
 abbrev pub room_of_document : DocumentValue → ℕ
 room_of_document d = 128 + length d.name
 
--- E22: points that can't be spelled (Portable PDB v1.0, Sequence Points Blob), a document that isn't there, or a PDB of more than 2^29 bytes with these
+-- E22: points that can't be spelled (Portable PDB v1.0, Sequence Points Blob), a document that isn't there, or a PDB
+-- of more than 2^29 bytes with these
 unfoldable pub points_are_bad : Chain → EditList → ℕ → Bool
 points_are_bad c l k = at_edit
     (λ e t. has_points e

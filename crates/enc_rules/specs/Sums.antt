@@ -10,7 +10,8 @@ use Rattle.enc_rules.specs.Rules.{has_points, has_document}
 abbrev pub most_room : ℕ
 most_room = 2 ^ 40
 
--- an edit has points that can't be spelled, or that name none of so many documents, or with which the PDB takes so much room
+-- an edit has points that can't be spelled, or that name none of so many documents, or with which the PDB takes so
+-- much room
 abbrev pub points_break : ℕ → ℕ → Edit → Bool
 points_break documents room e =
     has_points e

@@ -30,7 +30,8 @@ adds_child child c l k = at_edit (adds_row child) c l k
 
 -- a member of a table has a twin
 abbrev pub is_twin_in : ℕ → Chain → EditList → Attached → Bool
-is_twin_in table c l a = a.child.table == table && has_twin (asked_of (rows_listed c l.edits)) c.plain (attached_in c.plain l.edits) a
+is_twin_in table c l a = a.child.table == table
+    && has_twin (asked_of (rows_listed c l.edits)) c.plain (attached_in c.plain l.edits) a
 
 unfoldable pub has_twin_in : ℕ → Chain → EditList → ℕ → Bool
 has_twin_in table c l k = at_edit (of_child (is_twin_in table c l)) c l k

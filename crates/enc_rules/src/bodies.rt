@@ -242,7 +242,8 @@ fn body_breaks<C: ChainView>(
     room: u64,
 ) -> Result<bool, AllocError>
     requires { min most_room (room_of_edit edit.now) ≤ room }
-    ensures { IfOk result (λ bad. bad ≡ body_breaks (listed_counts context.now) (listed_rows context.now) room edit.now row) }
+    ensures { IfOk result (λ bad. bad
+        ≡ body_breaks (listed_counts context.now) (listed_rows context.now) room edit.now row) }
 {
     let Some(body) = body_given(edit) else {
         return Ok(false);
@@ -254,14 +255,16 @@ fn body_breaks<C: ChainView>(
     Ok(!given_stands(alloc, context, body, size)?)
 }
 
-/// The first edit whose body isn't good, or whose method isn't IL, or with which the delta's code gets too long. It takes
+/// The first edit whose body isn't good, or whose method isn't IL, or with which the delta's code gets too long. It
+/// takes
 /// memory for a mark for each byte of one body's code at a time.
 #[tactic(auto, using(crate::proofs::EditAt::such_none))]
 pub fn body_is_broken<C: ChainView>(
     alloc: Global,
     context: &Context<'_, C>,
 ) -> Result<Option<u32>, AllocError>
-    ensures first { IfOk result (λ k. k ≡ first_such (body_is_broken context.now.chain context.now.list) (length context.now.list.edits)) }
+    ensures first { IfOk result (λ k. k ≡ first_such (body_is_broken context.now.chain context.now.list)
+        (length context.now.list.edits)) }
     ensures few { IfOk result (λ k. IfSome k (λ n. n < 2 ^ 24)) }
 {
     let edits = context.edits();

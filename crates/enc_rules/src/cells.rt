@@ -74,7 +74,7 @@ fn value_at(cells: &[Cell], i: usize) -> Option<&Cell>
 }
 
 /// One of the cells for these columns but runs names no row.
-#[tactic(auto, using(crate::proofs::TokensNamed::names_start, crate::proofs::TokensNamed::names_skip, crate::proofs::TokensNamed::names_done))]
+#[tactic(auto, using(crate::proofs::TokensNamed::names_steps))]
 fn cells_break<C: ChainView>(context: &Context<'_, C>, columns: &[Column], cells: &[Cell]) -> bool
     ensures { result ≡ cells_break (listed_counts context.now) (filter is_stated columns.now) cells.now }
 {
@@ -121,7 +121,8 @@ fn token_breaks<C: ChainView>(context: &Context<'_, C>, edit: &Edit) -> bool
 
 /// The first edit that names a row that isn't there.
 pub fn token_is_missing<C: ChainView>(context: &Context<'_, C>) -> Option<u32>
-    ensures first { result ≡ first_such (token_is_missing context.now.chain context.now.list) (length context.now.list.edits) }
+    ensures first { result ≡ first_such (token_is_missing context.now.chain context.now.list)
+        (length context.now.list.edits) }
     ensures few { IfSome result (λ n. n < 2 ^ 24) }
 {
     let edits = context.edits();

@@ -29,7 +29,8 @@ fn first_of_edits<C: ChainView>(
 ) -> Result<Option<(u8, u32)>, AllocError>
     requires sound { IsSound context.now.chain.plain }
     requires room { heaps_are_full context.now.chain context.now.list ≡ false }
-    ensures { IfOk result (λ r. r ≡ first_below (first_at edit_rules context.now.chain context.now.list) (length context.now.list.edits)) }
+    ensures { IfOk result (λ r. r ≡ first_below (first_at edit_rules context.now.chain context.now.list)
+        (length context.now.list.edits)) }
 {
     let first = sooner(None, 5, heap_passes(alloc, context)?);
     let first = sooner(first, 6, row_is_edited_twice(alloc, context)?);

@@ -116,7 +116,8 @@ fn add_argument(heaps: &mut HeapBuilder, instr: &InstrValue) -> Result<(), Build
 
 /// Adds the user texts of instructions.
 fn add_arguments(heaps: &mut HeapBuilder, code: &[InstrValue]) -> Result<(), BuildFault>
-    ensures { Fills result heaps.new (with_users heaps.old (flat_map (λ (i : TheInstr). users_in_argument i.arg) code.now)) }
+    ensures { Fills result heaps.new
+        (with_users heaps.old (flat_map (λ (i : TheInstr). users_in_argument i.arg) code.now)) }
 {
     let mut rest = code;
     while let [instr, tail @ ..] = rest {
@@ -219,7 +220,8 @@ pub fn heap_passes<C: ChainView>(
 ) -> Result<Option<u32>, AllocError>
     requires sound { IsSound context.now.chain.plain }
     requires room { heaps_are_full context.now.chain context.now.list ≡ false }
-    ensures first { IfOk result (λ k. k ≡ first_such (heap_passes context.now.chain context.now.list) (length context.now.list.edits)) }
+    ensures first { IfOk result (λ k. k ≡ first_such (heap_passes context.now.chain context.now.list)
+        (length context.now.list.edits)) }
     ensures few { IfOk result (λ k. IfSome k (λ n. n < 2 ^ 24)) }
 {
     let mut heaps = HeapBuilder::begin(alloc, context.old.view.lengths())?;

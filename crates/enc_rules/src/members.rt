@@ -36,7 +36,8 @@ fn field_breaks<C: ChainView>(context: &Context<'_, C>, edit: &Edit, row: Token)
 /// The first edit that adds a field to a type that was there and has no place for it.
 #[tactic(auto, using(crate::proofs::EditAt::such_none))]
 pub fn field_is_out_of_layout<C: ChainView>(context: &Context<'_, C>) -> Option<u32>
-    ensures first { result ≡ first_such (field_is_out_of_layout context.now.chain context.now.list) (length context.now.list.edits) }
+    ensures first { result ≡ first_such (field_is_out_of_layout context.now.chain context.now.list)
+        (length context.now.list.edits) }
     ensures few { IfSome result (λ n. n < 2 ^ 24) }
 {
     let edits = context.edits();
@@ -67,7 +68,8 @@ fn method_breaks<C: ChainView>(context: &Context<'_, C>, edit: &Edit, row: Token
 /// The first edit that adds a method to a type that was there and has no place for it.
 #[tactic(auto, using(crate::proofs::EditAt::such_none))]
 pub fn method_has_no_slot<C: ChainView>(context: &Context<'_, C>) -> Option<u32>
-    ensures first { result ≡ first_such (method_has_no_slot context.now.chain context.now.list) (length context.now.list.edits) }
+    ensures first { result ≡ first_such (method_has_no_slot context.now.chain context.now.list)
+        (length context.now.list.edits) }
     ensures few { IfSome result (λ n. n < 2 ^ 24) }
 {
     let edits = context.edits();
@@ -93,7 +95,8 @@ fn adds_row(child: Token, edit: &Edit, row: Token) -> bool
 /// The first edit that adds this row.
 #[tactic(auto, using(crate::proofs::EditAt::such_none))]
 fn edit_of<C: ChainView>(context: &Context<'_, C>, child: Token) -> Option<u32>
-    ensures first { result ≡ first_such (adds_child child context.now.chain context.now.list) (length context.now.list.edits) }
+    ensures first { result ≡ first_such (adds_child child context.now.chain context.now.list)
+        (length context.now.list.edits) }
     ensures few { IfSome result (λ n. n < 2 ^ 24) }
 {
     let edits = context.edits();
@@ -119,7 +122,8 @@ fn row_of_place(place: Place) -> Token
 /// The pairs with a child of a table.
 fn pairs_in(alloc: Global, pairs: &[Pair], table: u8) -> Result<Vec<Pair>, AllocError>
     requires { ArePairs pairs.now }
-    ensures pairs { IfOk result (λ p. map pair_seen p.items ≡ filter (λ (a : Attached). a.child.table == table) (map pair_seen pairs.now)) }
+    ensures pairs { IfOk result (λ p. map pair_seen p.items ≡ filter (λ (a : Attached). a.child.table == table)
+        (map pair_seen pairs.now)) }
     ensures rows { IfOk result (λ p. ArePairs p.items) }
 {
     let mut chosen = Vec::new(alloc);
@@ -139,7 +143,8 @@ fn first_in<C: ChainView>(
     context: &Context<'_, C>,
     table: u8,
 ) -> Result<Option<u32>, AllocError>
-    ensures first { IfOk result (λ k. k ≡ first_such (has_twin_in table context.now.chain context.now.list) (length context.now.list.edits)) }
+    ensures first { IfOk result (λ k. k ≡ first_such (has_twin_in table context.now.chain context.now.list)
+        (length context.now.list.edits)) }
     ensures few { IfOk result (λ k. IfSome k (λ n. n < 2 ^ 24)) }
 {
     let pairs = pairs_in(alloc, context.pairs(), table)?;
@@ -177,7 +182,8 @@ pub fn member_has_twin<C: ChainView>(
     alloc: Global,
     context: &Context<'_, C>,
 ) -> Result<Option<u32>, AllocError>
-    ensures first { IfOk result (λ k. k ≡ first_such (member_has_twin context.now.chain context.now.list) (length context.now.list.edits)) }
+    ensures first { IfOk result (λ k. k ≡ first_such (member_has_twin context.now.chain context.now.list)
+        (length context.now.list.edits)) }
     ensures few { IfOk result (λ k. IfSome k (λ n. n < 2 ^ 24)) }
 {
     let fields = first_in(alloc, context, FIELD)?;

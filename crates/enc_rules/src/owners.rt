@@ -24,9 +24,10 @@ fn owner_breaks<C: ChainView>(context: &Context<'_, C>, edit: &Edit) -> bool
 }
 
 /// The first edit that adds a row whose owner isn't there.
-#[tactic(auto, using(enc_base::proofs::First::first_none, enc_base::proofs::First::first_found, enc_base::proofs::First::first_more))]
+#[tactic(auto, using(enc_base::proofs::First::first_steps))]
 pub fn owner_is_missing<C: ChainView>(context: &Context<'_, C>) -> Option<u32>
-    ensures first { result ≡ first_such (owner_is_missing context.now.chain context.now.list) (length context.now.list.edits) }
+    ensures first { result ≡ first_such (owner_is_missing context.now.chain context.now.list)
+        (length context.now.list.edits) }
     ensures few { IfSome result (λ n. n < 2 ^ 24) }
 {
     let edits = context.edits();
@@ -51,9 +52,10 @@ fn table_breaks(edit: &Edit) -> bool
 }
 
 /// The first edit that adds a row to a table that may not get one.
-#[tactic(auto, using(enc_base::proofs::First::first_none, enc_base::proofs::First::first_found, enc_base::proofs::First::first_more))]
+#[tactic(auto, using(enc_base::proofs::First::first_steps))]
 pub fn table_is_closed<C: ChainView>(context: &Context<'_, C>) -> Option<u32>
-    ensures first { result ≡ first_such (table_is_closed context.now.chain context.now.list) (length context.now.list.edits) }
+    ensures first { result ≡ first_such (table_is_closed context.now.chain context.now.list)
+        (length context.now.list.edits) }
     ensures few { IfSome result (λ n. n < 2 ^ 24) }
 {
     let edits = context.edits();

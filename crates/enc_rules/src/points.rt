@@ -102,7 +102,8 @@ pub fn points_are_bad<C: ChainView>(
     alloc: Global,
     context: &Context<'_, C>,
 ) -> Result<Option<u32>, AllocError>
-    ensures first { IfOk result (λ k. k ≡ first_such (points_are_bad context.now.chain context.now.list) (length context.now.list.edits)) }
+    ensures first { IfOk result (λ k. k ≡ first_such (points_are_bad context.now.chain context.now.list)
+        (length context.now.list.edits)) }
     ensures few { IfOk result (λ k. IfSome k (λ n. n < 2 ^ 24)) }
 {
     let edits = context.edits();

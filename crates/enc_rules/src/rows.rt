@@ -23,7 +23,8 @@ use std::collections::BTreeSet;
 fn row_at<C: ChainView>(chain: &C, added: &Added<'_>, k: usize) -> Token
     requires there { k < length added.now }
     requires few { (t : ℕ) → count_after (C.chain chain.now) added.now t < 2 ^ 24 }
-    ensures { option_map (row_edited (C.chain chain.now).plain (take k added.now)) (slice_get added.now k) ≡ Some result }
+    ensures { option_map (row_edited (C.chain chain.now).plain (take k added.now)) (slice_get added.now k)
+        ≡ Some result }
 {
     let edits = added.edits();
     let rank = added.rank_at(k);
@@ -55,7 +56,8 @@ fn rows_of<C: ChainView>(
 
 /// Puts the child that an edit gives its owner, if it gives one, behind others.
 fn push_pair(pairs: &mut Vec<Pair>, edit: &Edit, child: Token) -> Result<(), AllocError>
-    ensures { IfOk result (λ _. map pair_seen pairs.new.items ≡ map pair_seen pairs.old.items ++ attached_by edit.now child) }
+    ensures { IfOk result (λ _. map pair_seen pairs.new.items
+        ≡ map pair_seen pairs.old.items ++ attached_by edit.now child) }
 {
     let Edit::Add { table, owner, .. } = edit else {
         return Ok(());
@@ -153,7 +155,8 @@ pub fn row_is_edited_twice<C: ChainView>(
     alloc: Global,
     context: &Context<'_, C>,
 ) -> Result<Option<u32>, AllocError>
-    ensures first { IfOk result (λ k. k ≡ first_such (row_is_edited_twice context.now.chain context.now.list) (length context.now.list.edits)) }
+    ensures first { IfOk result (λ k. k ≡ first_such (row_is_edited_twice context.now.chain context.now.list)
+        (length context.now.list.edits)) }
     ensures few { IfOk result (λ k. IfSome k (λ n. n < 2 ^ 24)) }
 {
     let mut known = BTreeSet::new(alloc);

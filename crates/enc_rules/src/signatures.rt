@@ -32,7 +32,8 @@ fn signature_breaks<C: ChainView>(context: &Context<'_, C>, edit: &Edit, row: To
 /// The first edit that adds a row whose signature isn't one.
 #[tactic(auto, using(crate::proofs::EditAt::such_none))]
 pub fn signature_is_bad<C: ChainView>(context: &Context<'_, C>) -> Option<u32>
-    ensures first { result ≡ first_such (signature_is_bad context.now.chain context.now.list) (length context.now.list.edits) }
+    ensures first { result ≡ first_such (signature_is_bad context.now.chain context.now.list)
+        (length context.now.list.edits) }
     ensures few { IfSome result (λ n. n < 2 ^ 24) }
 {
     let edits = context.edits();
@@ -88,7 +89,8 @@ fn locals_break<C: ChainView>(context: &Context<'_, C>, edit: &Edit) -> bool
 /// The first edit whose body has a local signature that isn't one of locals.
 #[tactic(auto, using(crate::proofs::EditAt::such_none))]
 pub fn locals_are_bad<C: ChainView>(context: &Context<'_, C>) -> Option<u32>
-    ensures first { result ≡ first_such (locals_are_bad context.now.chain context.now.list) (length context.now.list.edits) }
+    ensures first { result ≡ first_such (locals_are_bad context.now.chain context.now.list)
+        (length context.now.list.edits) }
     ensures few { IfSome result (λ n. n < 2 ^ 24) }
 {
     let edits = context.edits();

@@ -42,9 +42,10 @@ fn is_long<C: ChainView>(chain: &C, added: &Added<'_>, table: u8) -> bool
 }
 
 /// A table has more than 2^24 - 1 rows after the list.
-#[tactic(auto, using(enc_rows::proofs::Below::any_none, enc_rows::proofs::Below::any_more, enc_rows::proofs::Below::any_true))]
+#[tactic(auto, using(enc_rows::proofs::Below::any_steps))]
 fn has_many_rows<C: ChainView>(chain: &C, added: &Added<'_>) -> bool
-    ensures { result ≡ list_any (λ table. nat_lt 0xFFFFFF (count_after (C.chain chain.now) added.now table)) (below 64) }
+    ensures { result ≡ list_any (λ table. nat_lt 0xFFFFFF (count_after (C.chain chain.now) added.now table))
+        (below 64) }
 {
     for table in 0..64u8 {
         if is_long(chain, added, table) {

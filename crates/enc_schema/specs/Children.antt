@@ -1,4 +1,5 @@
--- Which tables hold children, which tables own them, and by which columns (ECMA-335 II.22.37, II.22.26, II.22.12, II.22.35).
+-- Which tables hold children, which tables own them, and by which columns (ECMA-335 II.22.37, II.22.26, II.22.12,
+-- II.22.35).
 use Rattle.std.specs.Prelude.{ℕ, Bool, List, [], ◌∷◌, nat_lt, ◌==◌, if◌then◌else◌}
 use Rattle.enc_schema.specs.Columns.{type_def_field_list, type_def_method_list, method_def_param_list, event_map_event_list, property_map_property_list}
 use Rattle.enc_schema.specs.Tables.{type_def, field_ptr, field, method_ptr, method_def, param_ptr, param, event_map, event_ptr, event, property_map, property_ptr, property}

@@ -30,7 +30,8 @@ tables_of Implementation = map Some (file ∷ assembly_ref ∷ exported_type ∷
 tables_of CustomAttributeType = None ∷ None ∷ Some method_def ∷ Some member_ref ∷ []
 tables_of ResolutionScope = map Some («module» ∷ module_ref ∷ assembly_ref ∷ type_ref ∷ [])
 tables_of TypeOrMethodDef = map Some (type_def ∷ method_def ∷ [])
-tables_of HasCustomDebugInformation = map Some (attributed ++ document ∷ local_scope ∷ local_variable ∷ local_constant ∷ import_scope ∷ [])
+tables_of HasCustomDebugInformation =
+    map Some (attributed ++ document ∷ local_scope ∷ local_variable ∷ local_constant ∷ import_scope ∷ [])
 
 -- whether all of the tables pass the test
 abbrev pub each_table : (ℕ → Bool) → List (Option ℕ) → Bool
@@ -61,7 +62,8 @@ table_with kind tag = option_and_then (λ (t : Option ℕ). t) (slice_get (table
 unfoldable pub decoded : Coding → ℕ → Option Token
 decoded kind value =
     if value / 2 ^ tag_bits kind == 0 then Some nil
-    else option_map (λ (t : ℕ). record { table = t; row = value / 2 ^ tag_bits kind }) (table_with kind (value % 2 ^ tag_bits kind))
+    else option_map (λ (t : ℕ). record { table = t; row = value / 2 ^ tag_bits kind })
+    (table_with kind (value % 2 ^ tag_bits kind))
 
 -- the row that a token names: with row 0 it is nil, whatever its table
 abbrev pub named : Token → Token

@@ -46,7 +46,8 @@ TagsFit = (kind : Coding) → length (tables_of kind) ≤ 2 ^ tag_bits kind
 
 -- each child table has a column of runs in its owners' table
 abbrev pub RunsHaveColumns : Type 0
-RunsHaveColumns = (child : ℕ) → is_child_table child ≡ true → column_in (owner_table child) (run_column child) ≡ Some (Run child)
+RunsHaveColumns = (child : ℕ) → is_child_table child ≡ true
+    → column_in (owner_table child) (run_column child) ≡ Some (Run child)
 
 -- the child table of a column of runs
 abbrev pub child_in : Column → List ℕ

@@ -7,11 +7,13 @@ abbrev pub names : List (List (List ℕ))
 names =
     (codes "Module" ∷ codes "Generation" ∷ codes "Name" ∷ codes "Mvid" ∷ codes "EncId" ∷ codes "EncBaseId" ∷ []) ∷
     (codes "TypeRef" ∷ codes "ResolutionScope" ∷ codes "TypeName" ∷ codes "TypeNamespace" ∷ []) ∷
-    (codes "TypeDef" ∷ codes "Flags" ∷ codes "TypeName" ∷ codes "TypeNamespace" ∷ codes "Extends" ∷ codes "FieldList" ∷ codes "MethodList" ∷ []) ∷
+    (codes "TypeDef" ∷ codes "Flags" ∷ codes "TypeName" ∷ codes "TypeNamespace" ∷ codes "Extends" ∷ codes "FieldList"
+    ∷ codes "MethodList" ∷ []) ∷
     (codes "FieldPtr" ∷ codes "Field" ∷ []) ∷
     (codes "Field" ∷ codes "Flags" ∷ codes "Name" ∷ codes "Signature" ∷ []) ∷
     (codes "MethodPtr" ∷ codes "Method" ∷ []) ∷
-    (codes "MethodDef" ∷ codes "RVA" ∷ codes "ImplFlags" ∷ codes "Flags" ∷ codes "Name" ∷ codes "Signature" ∷ codes "ParamList" ∷ []) ∷
+    (codes "MethodDef" ∷ codes "RVA" ∷ codes "ImplFlags" ∷ codes "Flags" ∷ codes "Name" ∷ codes "Signature"
+    ∷ codes "ParamList" ∷ []) ∷
     (codes "ParamPtr" ∷ codes "Param" ∷ []) ∷
     (codes "Param" ∷ codes "Flags" ∷ codes "Sequence" ∷ codes "Name" ∷ []) ∷
     (codes "InterfaceImpl" ∷ codes "Class" ∷ codes "Interface" ∷ []) ∷
@@ -37,16 +39,20 @@ names =
     (codes "FieldRVA" ∷ codes "RVA" ∷ codes "Field" ∷ []) ∷
     (codes "EncLog" ∷ codes "Token" ∷ codes "FuncCode" ∷ []) ∷
     (codes "EncMap" ∷ codes "Token" ∷ []) ∷
-    (codes "Assembly" ∷ codes "HashAlgId" ∷ codes "MajorVersion" ∷ codes "MinorVersion" ∷ codes "BuildNumber" ∷ codes "RevisionNumber" ∷ codes "Flags"
+    (codes "Assembly" ∷ codes "HashAlgId" ∷ codes "MajorVersion" ∷ codes "MinorVersion" ∷ codes "BuildNumber"
+    ∷ codes "RevisionNumber" ∷ codes "Flags"
     ∷ codes "PublicKey" ∷ codes "Name" ∷ codes "Culture" ∷ []) ∷
     (codes "AssemblyProcessor" ∷ codes "Processor" ∷ []) ∷
     (codes "AssemblyOS" ∷ codes "OSPlatformId" ∷ codes "OSMajorVersion" ∷ codes "OSMinorVersion" ∷ []) ∷
-    (codes "AssemblyRef" ∷ codes "MajorVersion" ∷ codes "MinorVersion" ∷ codes "BuildNumber" ∷ codes "RevisionNumber" ∷ codes "Flags"
+    (codes "AssemblyRef" ∷ codes "MajorVersion" ∷ codes "MinorVersion" ∷ codes "BuildNumber" ∷ codes "RevisionNumber"
+    ∷ codes "Flags"
     ∷ codes "PublicKeyOrToken" ∷ codes "Name" ∷ codes "Culture" ∷ codes "HashValue" ∷ []) ∷
     (codes "AssemblyRefProcessor" ∷ codes "Processor" ∷ codes "AssemblyRef" ∷ []) ∷
-    (codes "AssemblyRefOS" ∷ codes "OSPlatformId" ∷ codes "OSMajorVersion" ∷ codes "OSMinorVersion" ∷ codes "AssemblyRef" ∷ []) ∷
+    (codes "AssemblyRefOS" ∷ codes "OSPlatformId" ∷ codes "OSMajorVersion" ∷ codes "OSMinorVersion"
+    ∷ codes "AssemblyRef" ∷ []) ∷
     (codes "File" ∷ codes "Flags" ∷ codes "Name" ∷ codes "HashValue" ∷ []) ∷
-    (codes "ExportedType" ∷ codes "Flags" ∷ codes "TypeDefId" ∷ codes "TypeName" ∷ codes "TypeNamespace" ∷ codes "Implementation" ∷ []) ∷
+    (codes "ExportedType" ∷ codes "Flags" ∷ codes "TypeDefId" ∷ codes "TypeName" ∷ codes "TypeNamespace"
+    ∷ codes "Implementation" ∷ []) ∷
     (codes "ManifestResource" ∷ codes "Offset" ∷ codes "Flags" ∷ codes "Name" ∷ codes "Implementation" ∷ []) ∷
     (codes "NestedClass" ∷ codes "NestedClass" ∷ codes "EnclosingClass" ∷ []) ∷
     (codes "GenericParam" ∷ codes "Number" ∷ codes "Flags" ∷ codes "Owner" ∷ codes "Name" ∷ []) ∷
@@ -57,7 +63,8 @@ names =
     [] ∷
     (codes "Document" ∷ codes "Name" ∷ codes "HashAlgorithm" ∷ codes "Hash" ∷ codes "Language" ∷ []) ∷
     (codes "MethodDebugInformation" ∷ codes "Document" ∷ codes "SequencePoints" ∷ []) ∷
-    (codes "LocalScope" ∷ codes "Method" ∷ codes "ImportScope" ∷ codes "VariableList" ∷ codes "ConstantList" ∷ codes "StartOffset" ∷ codes "Length" ∷ []) ∷
+    (codes "LocalScope" ∷ codes "Method" ∷ codes "ImportScope" ∷ codes "VariableList" ∷ codes "ConstantList"
+    ∷ codes "StartOffset" ∷ codes "Length" ∷ []) ∷
     (codes "LocalVariable" ∷ codes "Attributes" ∷ codes "Index" ∷ codes "Name" ∷ []) ∷
     (codes "LocalConstant" ∷ codes "Name" ∷ codes "Signature" ∷ []) ∷
     (codes "ImportScope" ∷ codes "Parent" ∷ codes "Imports" ∷ []) ∷

@@ -34,7 +34,8 @@ index_width s table = if s.jtd then 4 else narrow (nat_lt (row_count_of s table)
 
 -- a row of several tables: two bytes where each has so few rows that the tag fits beside
 unfoldable pub coded_width : Shape → Coding → ℕ
-coded_width s kind = if s.jtd then 4 else narrow (each_table (λ (table : ℕ). nat_lt (row_count_of s table) (2 ^ (16 - tag_bits kind))) (tables_of kind))
+coded_width s kind = if s.jtd then 4
+    else narrow (each_table (λ (table : ℕ). nat_lt (row_count_of s table) (2 ^ (16 - tag_bits kind))) (tables_of kind))
 
 -- the bytes of a column's number
 abbrev pub width_of : Shape → Column → ℕ
@@ -62,8 +63,10 @@ column_start s table i = sum_by (space_of s) (take i (columns_in table))
 
 -- every coding, in the order of the enum
 abbrev pub codings : List Coding
-codings = TypeDefOrRef ∷ HasConstant ∷ HasCustomAttribute ∷ HasFieldMarshal ∷ HasDeclSecurity ∷ MemberRefParent ∷ HasSemantics ∷ MethodDefOrRef
-    ∷ MemberForwarded ∷ Implementation ∷ CustomAttributeType ∷ ResolutionScope ∷ TypeOrMethodDef ∷ HasCustomDebugInformation ∷ []
+codings = TypeDefOrRef ∷ HasConstant ∷ HasCustomAttribute ∷ HasFieldMarshal ∷ HasDeclSecurity ∷ MemberRefParent
+    ∷ HasSemantics ∷ MethodDefOrRef
+    ∷ MemberForwarded ∷ Implementation ∷ CustomAttributeType ∷ ResolutionScope ∷ TypeOrMethodDef
+    ∷ HasCustomDebugInformation ∷ []
 
 -- the widths of all codings, and of all tables' rows
 unfoldable pub coded_widths : Shape → List ℕ

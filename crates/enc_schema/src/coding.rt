@@ -153,7 +153,8 @@ pub fn decode_coded(kind: Coding, value: u32) -> Option<Token>
 
 /// The first tag that is of this table.
 fn tag_in(tables: &[Option<u8>], table: u8) -> Option<usize>
-    ensures some { IfSome result (λ tag. (tag < length tables.now) × (slice_index_or tables.now tag None ≡ Some table)) }
+    ensures some { IfSome result (λ tag. (tag < length tables.now)
+        × (slice_index_or tables.now tag None ≡ Some table)) }
     ensures none { IfNone result ((tag : ℕ) → slice_index_or tables.now tag None ≢ Some table) }
 {
     for (tag, of) in tables.iter().enumerate() {

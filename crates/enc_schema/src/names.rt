@@ -143,7 +143,8 @@ static NAMES: [&[&str]; 56] = [
 
 /// The list at the place, and none of its things where there is no such place.
 fn entry<'a>(lists: &[&'a [&'static str]], i: usize) -> &'a [&'static str]
-    ensures { map (λ (s : Bor (List ℕ)). s.now) result.now ≡ list_at (map (λ (l : Bor (List (Bor (List ℕ)))). map (λ (s : Bor (List ℕ)). s.now) l.now) lists.now) i }
+    ensures { map (λ (s : Bor (List ℕ)). s.now) result.now
+        ≡ list_at (map (λ (l : Bor (List (Bor (List ℕ)))). map (λ (s : Bor (List ℕ)). s.now) l.now) lists.now) i }
 {
     if i < lists.len() { lists[i] } else { &[] }
 }
@@ -158,7 +159,8 @@ fn names_of(table: u8) -> &'static [&'static str]
 
 /// The name at the place.
 fn name_at(names: &[&'static str], i: usize) -> Option<&'static str>
-    ensures { option_map (λ (s : Bor (List ℕ)). s.now) result ≡ slice_get (map (λ (s : Bor (List ℕ)). s.now) names.now) i }
+    ensures { option_map (λ (s : Bor (List ℕ)). s.now) result
+        ≡ slice_get (map (λ (s : Bor (List ℕ)). s.now) names.now) i }
 {
     if i < names.len() {
         Some(names[i])

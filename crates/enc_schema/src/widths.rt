@@ -296,7 +296,8 @@ impl Widths {
     #[tactic(auto, unfolding(crate::specs::Widths::column_start))]
     pub fn start(&self, table: u8, column: u8) -> u32
         ensures start { result ≡ column_start self.now table column }
-        ensures within { IfSome (column_in table column) (λ c. result + space_of self.now c ≤ row_width self.now table) }
+        ensures within { IfSome (column_in table column)
+            (λ c. result + space_of self.now c ≤ row_width self.now table) }
         ensures few { result ≤ 36 }
     {
         u32::from(

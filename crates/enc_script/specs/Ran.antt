@@ -30,8 +30,10 @@ pub record HasRan (commands : List Bool → PlainRun → Ran) (new old : PlainRu
   pub ran : (more : List Bool) → commands (deaf ++ more) old ≡ record { run = new; text = text; deaf = more }
 
 -- and steps
-pub record HaveStepped (steps : List Bool → PlainSession → StepsMade) (count : ℕ) (new old : PlainSession) (now before : List ℕ) : Type 0 where
+pub record HaveStepped (steps : List Bool → PlainSession → StepsMade) (count : ℕ) (new old : PlainSession)
+    (now before : List ℕ) : Type 0 where
   pub deaf : List Bool
   pub text : List ℕ
   pub appended : now ≡ before ++ text
-  pub stepped : (more : List Bool) → steps (deaf ++ more) old ≡ record { count = count; passed = record { session = new; text = text; deaf = more } }
+  pub stepped : (more : List Bool)
+      → steps (deaf ++ more) old ≡ record { count = count; passed = record { session = new; text = text; deaf = more } }

@@ -25,7 +25,11 @@ pub record NamedFiles : Type 0 where
   pub files : DeltaContents
 
 abbrev pub named_delta : NamedDelta → NamedFiles
-named_delta d = record { metadata_name = string_bytes d.metadata_name; debug_name = string_bytes d.debug_name; files = files_in d.files }
+named_delta d = record {
+  metadata_name = string_bytes d.metadata_name;
+  debug_name = string_bytes d.debug_name;
+  files = files_in d.files;
+}
 
 -- the first whose metadata's file has a name, and so those of a delta's name
 unfoldable pub first_with_file : List ℕ → List NamedFiles → Option NamedFiles
@@ -48,7 +52,11 @@ pub record Ran : Type 0 where
 
 -- by what an event comes to, with the command's own line first
 abbrev pub ran_with : List ℕ → List Watching → Happened → Ran
-ran_with line handed p = record { run = record { session = p.session; handed = handed }; text = line ++ p.text; deaf = p.deaf }
+ran_with line handed p = record {
+  run = record { session = p.session; handed = handed };
+  text = line ++ p.text;
+  deaf = p.deaf;
+}
 
 -- a command that only says something
 abbrev pub says : List ℕ → List Bool → PlainRun → Ran
@@ -57,7 +65,8 @@ says line deaf r = record { run = r; text = line; deaf = deaf }
 -- a spawn
 abbrev pub spawn_ran : Token → List Bool → PlainRun → Ran
 spawn_ran method deaf r =
-    ran_with (spawn_line method (spawn_in (world_of r.session.followed) method r.session.machine)) r.handed (spawn_passed method deaf r.session)
+    ran_with (spawn_line method (spawn_in (world_of r.session.followed) method r.session.machine)) r.handed
+    (spawn_passed method deaf r.session)
 
 -- steps of a task: how many were made, and what they came to; a step that trapped isn't counted
 pub record StepsMade : Type 0 where
@@ -68,7 +77,10 @@ abbrev pub no_steps : List Bool → PlainSession → StepsMade
 no_steps deaf s = record { count = 0; passed = record { session = s; text = []; deaf = deaf } }
 
 abbrev pub steps_behind : Happened → StepsMade → StepsMade
-steps_behind p x = record { count = x.count + 1; passed = record { session = x.passed.session; text = p.text ++ x.passed.text; deaf = x.passed.deaf } }
+steps_behind p x = record {
+  count = x.count + 1;
+  passed = record { session = x.passed.session; text = p.text ++ x.passed.text; deaf = x.passed.deaf };
+}
 
 -- by the turn and what it came to, and by the steps behind it where the task goes on
 abbrev pub steps_by : MachineTurn PlainCode → Happened → StepsMade → StepsMade
@@ -109,7 +121,8 @@ apply_line name d (Refused e) = refused_line (refused_file d e) e
 abbrev pub apply_ran : List ℕ → Option NamedFiles → List Bool → PlainRun → Ran
 apply_ran name None deaf r = says [] deaf r
 apply_ran name (Some d) deaf r =
-    ran_with (apply_line name d (applied_as (judged_after r.session.followed d.files) r.session.followed)) r.handed (apply_passed d.files deaf r.session)
+    ran_with (apply_line name d (applied_as (judged_after r.session.followed d.files) r.session.followed)) r.handed
+    (apply_passed d.files deaf r.session)
 
 -- an attach: the first that was handed in of the kind
 abbrev pub attach_ran : WatchKind → Option Watching → List Bool → PlainRun → Ran
@@ -124,19 +137,22 @@ detach_ran number None deaf r = says (number_absent_line number) deaf r
 detach_ran number (Some s) deaf r =
     says (detached_line number ++ seat_report s) deaf
     (record {
-      session = with_seated (record { seats = without number r.session.seated.seats; given = r.session.seated.given }) r.session;
+      session = with_seated (record { seats = without number r.session.seated.seats; given = r.session.seated.given })
+          r.session;
       handed = r.handed;
     })
 
 -- a remap: its line, and no watcher hears of it
 abbrev pub remap_ran : ℕ → List (ℕ × ℕ) → List Bool → PlainRun → Ran
-remap_ran task pairs deaf r = ran_with (remap_line task (remap_of task pairs r.session)) r.handed (remap_passed task pairs deaf r.session)
+remap_ran task pairs deaf r = ran_with (remap_line task (remap_of task pairs r.session)) r.handed
+    (remap_passed task pairs deaf r.session)
 
 -- a command
 unfoldable pub command_ran : List NamedFiles → Command → List Bool → PlainRun → Ran
 command_ran deltas (Spawn method) deaf r = spawn_ran method deaf r
 command_ran deltas (Step task count) deaf r =
-    steps_ran task (machine_turn (world_of r.session.followed) task r.session.machine) (steps_of task count deaf r.session) deaf r
+    steps_ran task (machine_turn (world_of r.session.followed) task r.session.machine)
+    (steps_of task count deaf r.session) deaf r
 command_ran deltas (Apply name) deaf r = apply_ran name (files_of name deltas) deaf r
 command_ran deltas (Attach k) deaf r = attach_ran k (first_of_kind k r.handed) deaf r
 command_ran deltas (Detach number) deaf r = detach_ran number (seat_at number r.session.seated.seats) deaf r
@@ -150,11 +166,19 @@ ran_behind text x = record { run = x.run; text = text ++ x.text; deaf = x.deaf }
 unfoldable pub commands_ran : List NamedFiles → List Command → List Bool → PlainRun → Ran
 commands_ran deltas [] deaf r = says [] deaf r
 commands_ran deltas (c ∷ cs) deaf r =
-    ran_behind (command_ran deltas c deaf r).text (commands_ran deltas cs (command_ran deltas c deaf r).deaf (command_ran deltas c deaf r).run)
+    ran_behind (command_ran deltas c deaf r).text
+    (commands_ran deltas cs (command_ran deltas c deaf r).deaf (command_ran deltas c deaf r).run)
 
 -- a run at its begin
 abbrev pub begun_with : Followed → List Watching → PlainRun
-begun_with f handed = record { session = record { followed = f; machine = at_rest; seated = record { seats = []; given = 0 } }; handed = handed }
+begun_with f handed = record {
+  session = record {
+    followed = f;
+    machine = at_rest;
+    seated = record { seats = []; given = 0 };
+  };
+  handed = handed;
+}
 
 -- all that a script prints: the lines of its commands, and at the end the reports of the watchers that are attached
 abbrev pub with_reports : Ran → List ℕ
@@ -164,12 +188,14 @@ unfoldable pub run_text : List Bool → List NamedFiles → List Watching → Fo
 run_text deaf deltas handed f script = with_reports (commands_ran deltas script deaf (begun_with f handed))
 
 -- what may be printed: of each hearing it is free only whether it finds memory
-pub record IsRunText (deltas : List NamedFiles) (handed : List Watching) (f : Followed) (script : List Command) (text : List ℕ) : Type 0 where
+pub record IsRunText (deltas : List NamedFiles) (handed : List Watching) (f : Followed) (script : List Command)
+    (text : List ℕ) : Type 0 where
   pub deaf : List Bool
   pub is : text ≡ run_text deaf deltas handed f script
 
 -- and it was appended
-pub record RunWasAppended (deltas : List NamedFiles) (handed : List Watching) (f : Followed) (script : List Command) (now before : List ℕ) : Type 0 where
+pub record RunWasAppended (deltas : List NamedFiles) (handed : List Watching) (f : Followed) (script : List Command)
+    (now before : List ℕ) : Type 0 where
   pub text : List ℕ
   pub appended : now ≡ before ++ text
   pub is : IsRunText deltas handed f script text

@@ -43,7 +43,8 @@ pub(crate) fn files_of<'a>(
     deltas: &'a [NamedDelta],
     name: &[u8],
 ) -> Result<Option<&'a NamedDelta>, AllocError>
-    ensures { IfOk result (λ d. option_map (λ x. named_delta x.now) d ≡ files_of name.now (map named_delta deltas.now)) }
+    ensures { IfOk result (λ d. option_map (λ x. named_delta x.now) d
+        ≡ files_of name.now (map named_delta deltas.now)) }
 {
     let file = metadata_name(alloc, name)?;
     Ok(first_of(deltas, &file))

@@ -175,7 +175,8 @@ fn push_refusal(
     refusal: Refusal,
     out: &mut Vec<u8>,
 ) -> Result<(), AllocError>
-    ensures { OnOk result (out.new.items ≡ out.old.items ++ refused_line (refused_file (named_delta delta.now) refusal) refusal) }
+    ensures { OnOk result (out.new.items
+        ≡ out.old.items ++ refused_line (refused_file (named_delta delta.now) refusal) refusal) }
 {
     let line = if is_of_pdb(refusal.code) {
         refused_line(alloc, delta.debug_name.as_str(), refusal)?

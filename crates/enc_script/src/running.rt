@@ -46,7 +46,8 @@ impl<W: Watcher> Running<W> {
         pdb: Option<Pdb>,
         watchers: Vec<W>,
     ) -> Result<Running<W>, AllocError>
-        ensures { IfOk result (λ r. r ≡ begun_with (record { base = image; deltas = []; debug = pdb; debugs = [] }) (map (λ w. record { kind = W.kind_of w; limit = W.limit w; heard = W.heard w }) watchers.items)) }
+        ensures { IfOk result (λ r. r ≡ begun_with (record { base = image; deltas = []; debug = pdb; debugs = [] })
+            (map (λ w. record { kind = W.kind_of w; limit = W.limit w; heard = W.heard w }) watchers.items)) }
     {
         Ok(Running {
             session: Session::begin(alloc, image, pdb)?,
@@ -68,7 +69,9 @@ impl<W: Watcher> Running<W> {
 
     /// Steps of a task, and how many were made.
     fn steps(&mut self, task: u32, count: u32, out: &mut Vec<u8>) -> Result<(), AllocError>
-        ensures ran { OnOk result (HasRan (λ deaf r. steps_ran task (machine_turn (world_of r.session.followed) task r.session.machine) (steps_of task count deaf r.session) deaf r) self.new self.old out.new.items out.old.items) }
+        ensures ran { OnOk result (HasRan (λ deaf r. steps_ran task (machine_turn
+            (world_of r.session.followed) task r.session.machine) (steps_of task count deaf r.session) deaf r) self.new
+            self.old out.new.items out.old.items) }
         ensures given { OnOk result (self.new.session.seated.given ≡ self.old.session.seated.given) }
     {
         match self.session.status(task) {
@@ -89,7 +92,8 @@ impl<W: Watcher> Running<W> {
         delta: &NamedDelta,
         out: &mut Vec<u8>,
     ) -> Result<(), AllocError>
-        ensures ran { OnOk result (HasRan (apply_ran name.now (Some (named_delta delta.now))) self.new self.old out.new.items out.old.items) }
+        ensures ran { OnOk result (HasRan
+            (apply_ran name.now (Some (named_delta delta.now))) self.new self.old out.new.items out.old.items) }
         ensures given { OnOk result (self.new.session.seated.given ≡ self.old.session.seated.given) }
     {
         let mut gone = Vec::new(self.alloc);
@@ -106,7 +110,8 @@ impl<W: Watcher> Running<W> {
         name: &[u8],
         out: &mut Vec<u8>,
     ) -> Result<(), AllocError>
-        ensures ran { OnOk result (HasRan (apply_ran name.now (files_of name.now (map named_delta deltas.now))) self.new self.old out.new.items out.old.items) }
+        ensures ran { OnOk result (HasRan (apply_ran name.now (files_of name.now (map named_delta deltas.now))) self.new
+            self.old out.new.items out.old.items) }
         ensures given { OnOk result (self.new.session.seated.given ≡ self.old.session.seated.given) }
     {
         match files_of(self.alloc, deltas, name)? {
@@ -118,7 +123,8 @@ impl<W: Watcher> Running<W> {
     /// Attaches the first watcher that was handed in of a kind.
     fn attach(&mut self, kind: WatchKind, out: &mut Vec<u8>) -> Result<(), AllocError>
         requires { self.old.session.seated.given + 1 < 2 ^ 32 }
-        ensures ran { OnOk result (HasRan (λ deaf r. attach_ran kind (first_of_kind kind r.handed) deaf r) self.new self.old out.new.items out.old.items) }
+        ensures ran { OnOk result (HasRan (λ deaf r. attach_ran kind (first_of_kind kind r.handed) deaf r) self.new
+            self.old out.new.items out.old.items) }
         ensures given { OnOk result (self.new.session.seated.given ≤ self.old.session.seated.given + 1) }
     {
         let Some(watcher) = self.handed.take(kind) else {
@@ -132,7 +138,8 @@ impl<W: Watcher> Running<W> {
 
     /// Detaches the watcher with a number, and prints its report.
     fn detach(&mut self, number: u32, out: &mut Vec<u8>) -> Result<(), AllocError>
-        ensures ran { OnOk result (HasRan (λ deaf r. detach_ran number (seat_at number r.session.seated.seats) deaf r) self.new self.old out.new.items out.old.items) }
+        ensures ran { OnOk result (HasRan (λ deaf r. detach_ran number (seat_at number r.session.seated.seats) deaf r)
+            self.new self.old out.new.items out.old.items) }
         ensures given { OnOk result (self.new.session.seated.given ≡ self.old.session.seated.given) }
     {
         let Some(watcher) = self.session.detach(number) else {
@@ -163,7 +170,8 @@ impl<W: Watcher> Running<W> {
         out: &mut Vec<u8>,
     ) -> Result<(), AllocError>
         requires { self.old.session.seated.given + 1 < 2 ^ 32 }
-        ensures ran { OnOk result (HasRan (command_ran (map named_delta deltas.now) command.now) self.new self.old out.new.items out.old.items) }
+        ensures ran { OnOk result (HasRan
+            (command_ran (map named_delta deltas.now) command.now) self.new self.old out.new.items out.old.items) }
         ensures given { OnOk result (self.new.session.seated.given ≤ self.old.session.seated.given + 1) }
     {
         match command {

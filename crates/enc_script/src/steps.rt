@@ -16,7 +16,8 @@ pub(crate) fn make_steps<W: Watcher>(
     count: u32,
     out: &mut Vec<u8>,
 ) -> Result<u32, AllocError>
-    ensures stepped { IfOk result (λ made. HaveStepped (steps_of task count) made session.new session.old out.new.items out.old.items) }
+    ensures stepped { IfOk result (λ made. HaveStepped
+        (steps_of task count) made session.new session.old out.new.items out.old.items) }
     ensures given { session.new.seated.given ≡ session.old.seated.given }
 {
     let mut made = 0;

@@ -19,7 +19,8 @@ fn run_commands<W: Watcher>(
     out: &mut Vec<u8>,
 ) -> Result<(), AllocError>
     requires { running.old.session.seated.given + length script.now < 2 ^ 32 }
-    ensures { OnOk result (HasRan (commands_ran (map named_delta deltas.now) script.now) running.new running.old out.new.items out.old.items) }
+    ensures { OnOk result (HasRan (commands_ran (map named_delta deltas.now) script.now) running.new running.old
+        out.new.items out.old.items) }
 {
     for command in script {
         running.command(deltas, command, out)?;
@@ -28,7 +29,8 @@ fn run_commands<W: Watcher>(
 }
 
 /// Runs a script over a base, its PDB, where it has one, the deltas that the script names, and watchers that it may
-/// attach, and appends what it prints: the lines of its commands, and the reports of the watchers that are attached at the
+/// attach, and appends what it prints: the lines of its commands, and the reports of the watchers that are attached
+/// at the
 /// end. A delta that isn't accepted is a line, and changes nothing. Of each hearing it is free only whether the watcher
 /// found memory for it.
 pub fn run<W: Watcher>(
@@ -41,7 +43,9 @@ pub fn run<W: Watcher>(
     out: &mut Vec<u8>,
 ) -> Result<(), AllocError>
     requires { length script.now < 2 ^ 32 }
-    ensures { OnOk result (RunWasAppended (map named_delta deltas.now) (map (λ w. record { kind = W.kind_of w; limit = W.limit w; heard = W.heard w }) watchers.items) (record { base = image; deltas = []; debug = pdb; debugs = [] }) script.now out.new.items out.old.items) }
+    ensures { OnOk result (RunWasAppended (map named_delta deltas.now) (map
+        (λ w. record { kind = W.kind_of w; limit = W.limit w; heard = W.heard w }) watchers.items)
+        (record { base = image; deltas = []; debug = pdb; debugs = [] }) script.now out.new.items out.old.items) }
 {
     let mut running = Running::begin(alloc, image, pdb, watchers)?;
     run_commands(&mut running, deltas, script, out)?;

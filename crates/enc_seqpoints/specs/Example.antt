@@ -4,7 +4,8 @@ use Rattle.enc_seqpoints.specs.declared.point.Point.{Point}
 use Rattle.enc_seqpoints.specs.Grammar.{points_in, method_points}
 use Rattle.enc_seqpoints.specs.Spelling.{blob_of}
 
--- no local signature; document 1; a hidden point at 0; document 2; a point 5 further, 1 line high, to 3 columns before its start, from 10:9; and
+-- no local signature; document 1; a hidden point at 0; document 2; a point 5 further, 1 line high, to 3 columns
+-- before its start, from 10:9; and
 -- one 4 further, 5 columns wide, 1 line below and at the same column
 abbrev pub example : List ℕ
 example =

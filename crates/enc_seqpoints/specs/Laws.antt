@@ -6,7 +6,8 @@ use Rattle.enc_seqpoints.specs.Spelling.{blob_of}
 
 -- what is written reads back
 abbrev pub PointsReadBack : Type 0
-PointsReadBack = (locals document : ℕ) (points : List Point) (bytes : List ℕ) → locals < 2 ^ 29 → blob_of locals document points ≡ Ok bytes
+PointsReadBack = (locals document : ℕ) (points : List Point) (bytes : List ℕ) → locals < 2 ^ 29
+    → blob_of locals document points ≡ Ok bytes
     → points_in document bytes ≡ Some (method_points locals points)
 
 -- what is read can be written

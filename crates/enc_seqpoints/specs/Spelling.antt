@@ -1,4 +1,5 @@
--- How a method's sequence points are spelled, each number as short as it can be (Portable PDB v1.0, Sequence Points Blob).
+-- How a method's sequence points are spelled, each number as short as it can be (Portable PDB v1.0, Sequence Points
+-- Blob).
 use Rattle.std.specs.Prelude.{ℕ, ◌+◌, ◌-◌, Bool, true, ◌&&◌, ◌||◌, List, [], ◌∷◌, ◌++◌, Option, Some, None, is_some, Result, Ok, Err, nat_lt, nat_le, ◌==◌, if◌then◌else◌}
 use Rattle.enc_base.specs.Numbers.{spelled, spelled_signed}
 use Rattle.enc_seqpoints.specs.declared.point.Point.{Point}
@@ -83,22 +84,26 @@ preceded n front (Err i) = Err (n + i)
 -- the records of these points, or the index of the first that can't be spelled
 unfoldable pub records_of : Base → List Point → Result (List ℕ) ℕ
 records_of b [] = Ok []
-records_of b (p ∷ points) = if is_writable b p then preceded 1 (point_bytes b p) (records_of (after b (Sequence p)) points) else Err 0
+records_of b (p ∷ points) = if is_writable b p
+    then preceded 1 (point_bytes b p) (records_of (after b (Sequence p)) points) else Err 0
 
 -- a nil Document leaves it to the blob to say the first point's document; where no point can need it, row 1 is said
 abbrev pub said_first : List Point → ℕ
 said_first [] = 1
 said_first (p ∷ points) = if is_row p.document then p.document else 1
 
--- the document that holds at first: that of the Document column, and where this is nil the one that the blob says (InitialDocument)
+-- the document that holds at first: that of the Document column, and where this is nil the one that the blob says
+-- (InitialDocument)
 unfoldable pub first_document : ℕ → List Point → ℕ
 first_document document points = if document == 0 then said_first points else document
 
--- the local signature row, and the document that holds at first where the Document column is nil (LocalSignature, InitialDocument)
+-- the local signature row, and the document that holds at first where the Document column is nil (LocalSignature,
+-- InitialDocument)
 unfoldable pub header_bytes : ℕ → ℕ → ℕ → List ℕ
 header_bytes locals document first = spelled_number locals ++ (if document == 0 then spelled_number first else [])
 
 -- the blob of a method with this local signature row, this row in its Document column, 0 for nil, and these points
 unfoldable pub blob_of : ℕ → ℕ → List Point → Result (List ℕ) ℕ
 blob_of locals document points =
-    preceded 0 (header_bytes locals document (first_document document points)) (records_of (opened (first_document document points)) points)
+    preceded 0 (header_bytes locals document (first_document document points))
+    (records_of (opened (first_document document points)) points)

@@ -46,7 +46,8 @@ abbrev pub AcceptedBodiesAreNew : Type 0
 AcceptedBodiesAreNew =
     (c : Chain) (d : Source) (pdb : Option Source) (bytes : Option (List ℕ)) (debug : PlainPdb)
     → WasRead d → judged c (Ok d) bytes ≡ Ok (accepted d pdb) → IsSound c.plain
-    → AreNewIn (new_versions d pdb) (meant_by c debug) (meant_by (extended c d) (pdb_changed debug (record { pdb = pdb; changed = new_bodies d })))
+    → AreNewIn (new_versions d pdb) (meant_by c debug)
+    (meant_by (extended c d) (pdb_changed debug (record { pdb = pdb; changed = new_bodies d })))
 
 -- and its module comes of the one before by the rows that the delta lists
 abbrev pub AcceptedRowsAreChanged : Type 0
@@ -54,10 +55,12 @@ AcceptedRowsAreChanged =
     (c : Chain) (d : Source) → WasRead d → first_meta c d ≡ None → IsSound c.plain
     → IsChangedBy c.plain (extended c d).plain (listed d)
 
--- a delta that brings a method no body leaves the body and the points that it has now: so the newest generation that brought it one says which body it has
+-- a delta that brings a method no body leaves the body and the points that it has now: so the newest generation that
+-- brought it one says which body it has
 abbrev pub OtherBodiesStay : Type 0
 OtherBodiesStay =
     (c : Chain) (d : Source) (pdb : Option Source) (bytes : Option (List ℕ)) (debug : PlainPdb) (method : Token)
     → WasRead d → judged c (Ok d) bytes ≡ Ok (accepted d pdb) → IsSound c.plain
     → method.table ≡ method_def → IsTrue (has_row c.plain method) → list_any (is_token method) (new_bodies d) ≡ false
-    → newest_code (extended c d).plain (pdb_changed debug (record { pdb = pdb; changed = new_bodies d })) method ≡ newest_code c.plain debug method
+    → newest_code (extended c d).plain (pdb_changed debug (record { pdb = pdb; changed = new_bodies d })) method
+    ≡ newest_code c.plain debug method

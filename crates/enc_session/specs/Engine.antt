@@ -1,4 +1,5 @@
--- For the contracts of private functions: what is kept of a session but its watchers, when its parts stand for each other, and what was made ready of a delta.
+-- For the contracts of private functions: what is kept of a session but its watchers, when its parts stand for each
+-- other, and what was made ready of a delta.
 use Rattle.std.specs.Prelude.{◌≡◌, ◌<◌, ◌≤◌, ℕ, List, Option, None, Ok, IsTrue}
 use Rattle.enc_agg.specs.Extend.{extended}
 use Rattle.enc_agg.specs.Prepared.{IsPrepared}
@@ -34,7 +35,8 @@ followed_in p = record { base = p.agg.base; deltas = p.agg.deltas; debug = p.deb
 -- the index stands for the module, and the newest bodies for the module and its PDB
 pub record AreParts (p : Parts) : Type 0 where
   pub index : StandsForModule p.dispatch (module_of_all p.agg)
-  pub bodies : AreVersionsOf (users_of_all p.agg) (module_of_all p.agg) (pdb_with p.debug.base p.debug.deltas) p.versions.methods
+  pub bodies : AreVersionsOf (users_of_all p.agg) (module_of_all p.agg)
+      (pdb_with p.debug.base p.debug.deltas) p.versions.methods
 
 -- and each user text is there that the code of a frame names, so that each frame goes on in its own body
 pub record IsEngine (p : Parts) (s : MachineState Version) : Type 0 where
@@ -72,4 +74,5 @@ pub record SayTheSame (new old : Parts) : Type 0 where
   pub debug_base : new.debug.base ≡ old.debug.base
   pub debug_deltas : new.debug.deltas ≡ old.debug.deltas
   pub methods : new.versions.methods ≡ old.versions.methods
-  pub index : StandsForModule old.dispatch (module_of_all old.agg) → StandsForModule new.dispatch (module_of_all old.agg)
+  pub index : StandsForModule old.dispatch (module_of_all old.agg)
+      → StandsForModule new.dispatch (module_of_all old.agg)

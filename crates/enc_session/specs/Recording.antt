@@ -1,4 +1,5 @@
--- A session that is recorded: its events and its text until they are taken, and the date of each frame, which is the generation that brought its body.
+-- A session that is recorded: its events and its text until they are taken, and the date of each frame, which is the
+-- generation that brought its body.
 use Rattle.std.specs.Prelude.{◌≡◌, ◌<◌, ◌+◌, ◌-◌, ℕ, zero, suc, List, [], ◌∷◌, ◌++◌, length, map, take, drop, reverse, get_or, slice_set, nat_le, Option, None, option_map, unwrap_or, Result, Ok, Err, if◌then◌else◌}
 use Rattle.std.specs.List.{list_any}
 use Rattle.std.specs.declared.alloc.AllocError.{AllocError}
@@ -23,7 +24,8 @@ use Rattle.enc_session.specs.declared.looks.FrameFacts.{FrameFacts}
 use Rattle.enc_session.specs.declared.looks.FramePart.{FramePart}
 use Rattle.enc_session.specs.declared.looks.FramePart.TheVariants.{Arguments, Locals, Stack}
 
--- the base with its deltas, the machine, the events and the text that nobody has taken, the dates of each task's frames, the innermost first, and how many
+-- the base with its deltas, the machine, the events and the text that nobody has taken, the dates of each task's
+-- frames, the innermost first, and how many
 -- events there may be
 pub record Recorded : Type 0 where
   pub followed : Followed
@@ -47,19 +49,23 @@ recorded_base base debug limit = record {
 -- the newest of some deltas that brought a method a body, by its generation, 0 where none did
 unfoldable pub body_generation : List Source → Token → ℕ
 body_generation [] method = 0
-body_generation (d ∷ older) method = if list_any (is_token method) (new_bodies d) then length older + 1 else body_generation older method
+body_generation (d ∷ older) method =
+    if list_any (is_token method) (new_bodies d) then length older + 1 else body_generation older method
 
--- the dates of frames, the innermost first, by those that there were: frames that are more are new, and where they are fewer, as many are gone from the front
+-- the dates of frames, the innermost first, by those that there were: frames that are more are new, and where they
+-- are fewer, as many are gone from the front
 unfoldable pub redated : {C : Type 0} → (Token → ℕ) → List (Frame C) → List ℕ → List ℕ
 redated date frames dates =
-    map (λ (f : Frame _). date f.method) (take (length frames - length dates) frames) ++ drop (length dates - length frames) dates
+    map (λ (f : Frame _). date f.method) (take (length frames - length dates) frames) ++ drop
+    (length dates - length frames) dates
 
 -- those of the frames of the task with a number, from 1
 abbrev pub dates_of : List (List ℕ) → ℕ → List ℕ
 dates_of dates task = get_or dates (task - 1) []
 
 abbrev pub redated_in : Followed → MachineState PlainCode → ℕ → List (List ℕ) → List (List ℕ)
-redated_in f m task dates = slice_set dates (task - 1) (redated (body_generation f.deltas) (frames_in m task) (dates_of dates task))
+redated_in f m task dates = slice_set dates (task - 1)
+    (redated (body_generation f.deltas) (frames_in m task) (dates_of dates task))
 
 -- each task has a date for each of its frames, and no other
 abbrev pub AreDated : MachineState PlainCode → List (List ℕ) → Type 0
@@ -71,7 +77,8 @@ with_first_date date [] = []
 with_first_date date (d ∷ dates) = date ∷ dates
 
 abbrev pub moved_date : Followed → Token → ℕ → List (List ℕ) → List (List ℕ)
-moved_date f method task dates = slice_set dates (task - 1) (with_first_date (body_generation f.deltas method) (dates_of dates task))
+moved_date f method task dates =
+    slice_set dates (task - 1) (with_first_date (body_generation f.deltas method) (dates_of dates task))
 
 -- a spawn: where there is no new task, nothing happened
 abbrev pub spawn_recorded_by : Token → Spawning PlainCode → Recorded → Recorded
@@ -100,7 +107,8 @@ turn_recorded task (went how u line shown) r = record r {
 unfoldable pub step_recorded : ℕ → Recorded → Recorded
 step_recorded task r = turn_recorded task (machine_turn (world_of r.followed) task r.machine) r
 
--- at most so many steps of a task: how many ran, the last of the task among them and none that trapped, what the last came to, and the session behind it
+-- at most so many steps of a task: how many ran, the last of the task among them and none that trapped, what the
+-- last came to, and the session behind it
 pub record Stepping : Type 0 where
   pub ran : ℕ
   pub end : StepEnd
@@ -120,12 +128,16 @@ stepping_by (went (stopped x) u line shown) r more = record { ran = 0; end = end
 unfoldable pub steps_recorded : ℕ → ℕ → Recorded → Stepping
 steps_recorded task zero r = record { ran = 0; end = end.Ran; session = r }
 steps_recorded task (suc n) r =
-    stepping_by (machine_turn (world_of r.followed) task r.machine) (step_recorded task r) (steps_recorded task n (step_recorded task r))
+    stepping_by (machine_turn (world_of r.followed) task r.machine) (step_recorded task r)
+    (steps_recorded task n (step_recorded task r))
 
--- so many steps were asked for, so many ran, and how the last ended; without memory those that ran stand, and there is one that was asked for and not made
+-- so many steps were asked for, so many ran, and how the last ended; without memory those that ran stand, and there
+-- is one that was asked for and not made
 abbrev pub HasStepped : Result StepEnd AllocError → ℕ → ℕ → ℕ → Recorded → Recorded → Type 0
-HasStepped (Ok how) made task count old new = steps_recorded task count old ≡ record { ran = made; end = how; session = new }
-HasStepped (Err e) made task count old new = (made < count) × (steps_recorded task made old ≡ record { ran = made; end = end.Ran; session = new })
+HasStepped (Ok how) made task count old new =
+    steps_recorded task count old ≡ record { ran = made; end = how; session = new }
+HasStepped (Err e) made task count old new =
+    (made < count) × (steps_recorded task made old ≡ record { ran = made; end = end.Ran; session = new })
 
 -- a delta: it is applied, or refused
 abbrev pub judged_recorded : Result Accepted Refusal → Recorded → Recorded
@@ -142,7 +154,8 @@ abbrev pub remapped_in : ℕ → List (ℕ × ℕ) → Recorded → Remapping Pl
 remapped_in task pairs r = remap_in (plain_of r.followed) (debug_after r.followed) task pairs r.machine
 
 abbrev pub remap_recorded_by : ℕ → Remapping PlainCode → Recorded → Recorded
-remap_recorded_by task (moved method from to u) r = record r { machine = u; dates = moved_date r.followed method task r.dates }
+remap_recorded_by task (moved method from to u) r =
+    record r { machine = u; dates = moved_date r.followed method task r.dates }
 remap_recorded_by task (refused number) r = r
 
 unfoldable pub remap_recorded : ℕ → List (ℕ × ℕ) → Recorded → Recorded
@@ -171,7 +184,8 @@ facts_with date points f = record {
 -- the i-th frame of a task, from 0 for the outermost, by its own points
 unfoldable pub facts_in : Recorded → ℕ → ℕ → Option FrameFacts
 facts_in r task i =
-    option_map (λ (f : Frame PlainCode). facts_with (get_or (reverse (dates_of r.dates task)) i 0) f.code.points f) (frame_in r.machine task i)
+    option_map (λ (f : Frame PlainCode). facts_with (get_or (reverse (dates_of r.dates task)) i 0) f.code.points f)
+    (frame_in r.machine task i)
 
 -- what a frame holds, its stack from the bottom up
 abbrev pub held_in : {C : Type 0} → FramePart → Frame C → List Value

@@ -47,7 +47,11 @@ nothing_passed deaf s = record { session = s; text = []; deaf = deaf }
 -- what the watchers made of events, behind some text
 abbrev pub heard_in : PlainSession → List ℕ → Heard → Happened
 heard_in s text h = record {
-  session = record { followed = s.followed; machine = s.machine; seated = record { seats = h.seats; given = s.seated.given } };
+  session = record {
+    followed = s.followed;
+    machine = s.machine;
+    seated = record { seats = h.seats; given = s.seated.given };
+  };
   text = text ++ h.text;
   deaf = h.deaf;
 }
@@ -88,7 +92,8 @@ step_lines task how u shown = written_line task shown.wrote ++ ending_line task 
 abbrev pub innermost_method : {C : Type 0} → MachineState C → ℕ → Option Token
 innermost_method s task = option_map (λ (f : Frame _). f.method) (innermost_in s task)
 
--- the events of a step, in order: the line that the innermost frame came to, by its own points, a frame entered or left, and how the step ended
+-- the events of a step, in order: the line that the innermost frame came to, by its own points, a frame entered or
+-- left, and how the step ended
 abbrev pub line_events : ℕ → Option Token → Option ℕ → List Event
 line_events task (Some method) (Some line) = event.Line task method line ∷ []
 line_events task _ _ = []
@@ -108,14 +113,16 @@ ending_events task (stopped x) = event.Trapped task x ∷ []
 
 unfoldable pub step_events : ℕ → Option Token → Ending → Option ℕ → Shown → List Event
 step_events task method how line shown =
-    line_events task method line ++ entered_events task shown.entered ++ left_events task shown.left ++ ending_events task how
+    line_events task method line ++ entered_events task shown.entered ++ left_events task shown.left
+    ++ ending_events task how
 
 -- a step
 abbrev pub turn_passed : ℕ → MachineTurn PlainCode → List Bool → PlainSession → Happened
 turn_passed task absent deaf s = nothing_passed deaf s
 turn_passed task idle deaf s = nothing_passed deaf s
 turn_passed task (went how u line shown) deaf s =
-    passed_with (step_events task (innermost_method s.machine task) how line shown) (step_lines task how u shown) deaf (with_machine u s)
+    passed_with (step_events task (innermost_method s.machine task) how line shown) (step_lines task how u shown) deaf
+    (with_machine u s)
 
 unfoldable pub step_passed : ℕ → List Bool → PlainSession → Happened
 step_passed task deaf s = turn_passed task (machine_turn (world_of s.followed) task s.machine) deaf s
@@ -156,7 +163,8 @@ applied_event (Refused e) = event.Refused e.code
 
 abbrev pub apply_by : Result Accepted Refusal → List Bool → PlainSession → Happened
 apply_by said deaf s =
-    passed_with (applied_event (applied_as said s.followed) ∷ []) [] deaf (with_followed (followed_after said s.followed) s)
+    passed_with (applied_event (applied_as said s.followed) ∷ []) [] deaf
+    (with_followed (followed_after said s.followed) s)
 
 unfoldable pub apply_passed : DeltaContents → List Bool → PlainSession → Happened
 apply_passed files deaf s = apply_by (judged_after s.followed files) deaf s
@@ -178,7 +186,8 @@ remapped_as (moved method from to u) = remapped.Moved method from to
 remapped_as (refused number) = remapped.Refused number
 
 -- it passed, and what it prints was appended: of each hearing it is free only whether it found memory
-pub record HasPassed (event : List Bool → PlainSession → Happened) (new old : PlainSession) (now before : List ℕ) : Type 0 where
+pub record HasPassed (event : List Bool → PlainSession → Happened) (new old : PlainSession)
+    (now before : List ℕ) : Type 0 where
   pub deaf : List Bool
   pub text : List ℕ
   pub appended : now ≡ before ++ text

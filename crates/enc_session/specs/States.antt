@@ -1,4 +1,5 @@
--- The state of a machine as text: its tasks with their frames, its objects, the statics that were set, and the types that were touched.
+-- The state of a machine as text: its tasks with their frames, its objects, the statics that were set, and the types
+-- that were touched.
 use Rattle.std.specs.Prelude.{ℕ, ◌+◌, List, [], ◌∷◌, ◌++◌, reverse, Option, Some, None, codes, decimal, flat_map}
 use Rattle.std.specs.Fmt.{signed_decimal}
 use Rattle.enc_base.specs.declared.token.Token.{Token}
@@ -103,5 +104,6 @@ touched_line t = codes "touched " ++ token_text t ++ 0x0a ∷ []
 -- the whole
 unfoldable pub state_text : {C : Type 0} → MachineState C → List ℕ
 state_text s =
-    codes "state" ++ 0x0a ∷ [] ++ tasks_text 1 s.tasks ++ objects_text 1 s.shared.store.objects ++ flat_map static_line s.shared.store.statics
+    codes "state" ++ 0x0a ∷ [] ++ tasks_text 1 s.tasks ++ objects_text 1 s.shared.store.objects
+    ++ flat_map static_line s.shared.store.statics
     ++ flat_map touched_line s.shared.touched ++ codes "end" ++ 0x0a ∷ []

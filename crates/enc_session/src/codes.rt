@@ -46,7 +46,10 @@ fn entry_of(
     code: &CodeRef<'_>,
     points: Points,
 ) -> Result<CodeEntry, AllocError>
-    ensures version { IfOk result (λ e. version_in e ≡ record { method = method; version = record { code = code_seen code.now; points = points } }) }
+    ensures version { IfOk result (λ e. version_in e ≡ record {
+      method = method;
+      version = record { code = code_seen code.now; points = points };
+    }) }
     ensures len { IfOk result (λ e. length e.code ≡ length code.now.code.now) }
 {
     Ok(CodeEntry {

@@ -73,7 +73,8 @@ impl Dates {
 fn push_new(engine: &Engine, newest: &Newest, task: u32, items: &mut Vec<u32>)
     requires few { length items.old.items ≤ 1024 }
     requires room { 1024 ≤ vec_capacity items.old }
-    ensures items { items.new.items ≡ items.old.items ++ dates_behind (generation_at newest.now) (frames_in engine.now.machine task) (length items.old.items) }
+    ensures items { items.new.items ≡ items.old.items ++ dates_behind (generation_at newest.now)
+        (frames_in engine.now.machine task) (length items.old.items) }
     ensures room { 1024 ≤ vec_capacity items.new }
 {
     for i in items.len() as u32..engine.depth(task) {
@@ -84,7 +85,8 @@ fn push_new(engine: &Engine, newest: &Newest, task: u32, items: &mut Vec<u32>)
 /// The date of the newest body of the method of the i-th frame of a task, from 0 for the outermost; 0 where it has no
 /// such frame.
 fn date_of(engine: &Engine, newest: &Newest, task: u32, i: u32) -> u32
-    ensures { result ≡ unwrap_or (option_map (λ f. generation_at newest.now f.method) (frame_in engine.now.machine task i)) 0 }
+    ensures { result ≡ unwrap_or (option_map (λ f. generation_at newest.now f.method)
+        (frame_in engine.now.machine task i)) 0 }
 {
     match engine.method_at(task, i) {
         None => 0,

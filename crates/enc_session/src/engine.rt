@@ -50,7 +50,15 @@ impl Model for Engine {
 impl Engine {
     /// A base and its PDB, where it has one, and a machine at rest.
     pub(crate) fn begin(alloc: Global, image: Image, pdb: Option<Pdb>) -> Result<Engine, AllocError>
-        ensures { IfOk result (λ c. c ≡ record { followed = record { base = image; deltas = []; debug = pdb; debugs = [] }; machine = at_rest }) }
+        ensures { IfOk result (λ c. c ≡ record {
+          followed = record {
+            base = image;
+            deltas = [];
+            debug = pdb;
+            debugs = [];
+          };
+          machine = at_rest;
+        }) }
     {
         let parts = Parts::begin(alloc, image, pdb)?;
         Ok(Engine {
@@ -62,7 +70,8 @@ impl Engine {
 
     /// A new task that begins with the newest body of a method, as the plain machine's does.
     pub(crate) fn spawn(&mut self, method: Token) -> Result<SpawnEnd, AllocError>
-        ensures spawned { IsSpawn result self.new.machine self.old.machine (spawn_in (world_of self.old.followed) method self.old.machine) }
+        ensures spawned { IsSpawn result self.new.machine self.old.machine
+            (spawn_in (world_of self.old.followed) method self.old.machine) }
         ensures followed { self.new.followed ≡ self.old.followed }
     {
         self.parts.agg.sound();
@@ -72,7 +81,8 @@ impl Engine {
 
     /// A step of a task, as the plain machine's.
     pub(crate) fn step(&mut self, task: u32, seen: &mut Seen) -> Result<StepEnd, AllocError>
-        ensures turn { IsTurn result seen.new self.new.machine self.old.machine (machine_turn (world_of self.old.followed) task self.old.machine) }
+        ensures turn { IsTurn result seen.new self.new.machine self.old.machine
+            (machine_turn (world_of self.old.followed) task self.old.machine) }
         ensures seen { KeepsSeen result seen.new seen.old }
         ensures followed { self.new.followed ≡ self.old.followed }
     {
@@ -88,7 +98,8 @@ impl Engine {
 
     /// A task's innermost frame goes on in the newest body of its method, as the plain machine's.
     pub(crate) fn remap(&mut self, task: u32, map: &PairList) -> Result<Remapped, AllocError>
-        ensures remapped { IsRemap result self.new.machine self.old.machine (remap_in (plain_of self.old.followed) (debug_after self.old.followed) task map.now self.old.machine) }
+        ensures remapped { IsRemap result self.new.machine self.old.machine
+            (remap_in (plain_of self.old.followed) (debug_after self.old.followed) task map.now self.old.machine) }
         ensures followed { self.new.followed ≡ self.old.followed }
     {
         self.parts.agg.sound();
@@ -162,8 +173,13 @@ impl Engine {
 
     /// Adds a delta that breaks no rule.
     pub(crate) fn follow(&mut self, checked: Checked) -> Result<(), AllocError>
-        requires { IsAcceptedAfter (chain_with self.old.followed.base self.old.followed.deltas) checked.delta checked.pdb }
-        ensures ok { OnOk result (self.new ≡ record { followed = followed_by self.old.followed (accepted checked.delta checked.pdb); machine = self.old.machine }) }
+        requires { IsAcceptedAfter (chain_with self.old.followed.base self.old.followed.deltas) checked.delta
+            checked.pdb }
+        ensures ok { OnOk result (self.new ≡ record {
+          followed = followed_by self.old.followed
+              (accepted checked.delta checked.pdb);
+          machine = self.old.machine;
+        }) }
         ensures err { OnErr result (self.new ≡ self.old) }
     {
         text_law();
@@ -182,7 +198,8 @@ impl Engine {
     /// Judges the files of a delta after the deltas before them.
     pub(crate) fn judge(&self, files: Files) -> Result<Checked, ReadFault>
         ensures answer { Answers result (judged_after self.now.followed (files_in files)) }
-        ensures follows { IfOk result (λ c. IsAcceptedAfter (chain_with self.now.followed.base self.now.followed.deltas) c.delta c.pdb) }
+        ensures follows { IfOk result (λ c. IsAcceptedAfter
+            (chain_with self.now.followed.base self.now.followed.deltas) c.delta c.pdb) }
     {
         match check(self.alloc, &self.parts.agg, files) {
             Err(fault) => Err(fault),
@@ -196,8 +213,13 @@ impl Engine {
     /// The files of a delta: they are applied where they break no rule after the deltas before them, and else
     /// refused. Refused files and want of memory change nothing.
     pub(crate) fn apply(&mut self, files: Files) -> Result<Applied, AllocError>
-        ensures applied { IfOk result (λ a. a ≡ applied_as (judged_after self.old.followed (files_in files)) self.old.followed) }
-        ensures ok { OnOk result (self.new ≡ record { followed = followed_after (judged_after self.old.followed (files_in files)) self.old.followed; machine = self.old.machine }) }
+        ensures applied { IfOk result (λ a. a
+            ≡ applied_as (judged_after self.old.followed (files_in files)) self.old.followed) }
+        ensures ok { OnOk result (self.new ≡ record {
+          followed = followed_after
+              (judged_after self.old.followed (files_in files)) self.old.followed;
+          machine = self.old.machine;
+        }) }
         ensures err { OnErr result (self.new ≡ self.old) }
     {
         match self.judge(files) {

@@ -7,7 +7,8 @@ pub fn codes_law()
     ensures { AcceptedBodiesAreNew }
 {}
 
-/// The module with an accepted delta comes of the module before it by the rows that the delta lists: each other row says
+/// The module with an accepted delta comes of the module before it by the rows that the delta lists: each other row
+/// says
 /// what it said, and new children stand behind those that were there.
 pub fn changed_law()
     ensures { AcceptedRowsAreChanged }

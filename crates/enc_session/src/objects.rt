@@ -66,7 +66,8 @@ fn push_instance(
     class: Token,
     out: &mut Vec<u8>,
 ) -> Result<(), AllocError>
-    ensures { OnOk result (out.new.items ≡ out.old.items ++ (codes "class " ++ token_text class ++ fields_text (fields_in objects.now id))) }
+    ensures { OnOk result (out.new.items
+        ≡ out.old.items ++ (codes "class " ++ token_text class ++ fields_text (fields_in objects.now id))) }
 {
     push_str(out, "class ")?;
     push_token(out, class)?;
@@ -82,7 +83,8 @@ fn push_array(
     kind: Kind,
     out: &mut Vec<u8>,
 ) -> Result<(), AllocError>
-    ensures { OnOk result (out.new.items ≡ out.old.items ++ (codes "array " ++ bracketed_values (array_kind_text kind) (unwrap_or (elements_held objects.now id) []))) }
+    ensures { OnOk result (out.new.items ≡ out.old.items
+        ++ (codes "array " ++ bracketed_values (array_kind_text kind) (unwrap_or (elements_held objects.now id) []))) }
 {
     push_str(out, "array ")?;
     push_bracketed(
@@ -95,7 +97,8 @@ fn push_array(
 
 /// Appends what a text is, by the units of the object of a number.
 fn push_text(alloc: Global, objects: &Objects, id: u32, out: &mut Vec<u8>) -> Result<(), AllocError>
-    ensures { OnOk result (out.new.items ≡ out.old.items ++ (codes "text " ++ quoted (utf8_of (unwrap_or (units_held objects.now id) [])))) }
+    ensures { OnOk result (out.new.items
+        ≡ out.old.items ++ (codes "text " ++ quoted (utf8_of (unwrap_or (units_held objects.now id) [])))) }
 {
     push_str(out, "text ")?;
     push_units(alloc, objects.units(id).unwrap_or(&[]), out)

@@ -74,9 +74,11 @@ fn index_ready(
 ) -> Result<NewDispatch, AllocError>
     requires ready { IsPrepared agg.now.base agg.now.deltas ready.now }
     requires stands { StandsForModule dispatch.old (module_of_all agg.now) }
-    requires changed { IsChangedBy (module_of_all agg.now) (extended (chain_of_all agg.now) ready.now.delta).plain changed.now }
+    requires changed { IsChangedBy (module_of_all agg.now)
+        (extended (chain_of_all agg.now) ready.now.delta).plain changed.now }
     ensures kept { dispatch.new ≡ with_room dispatch.new.room dispatch.old }
-    ensures ready { IfOk result (λ n. IsPreparedFor dispatch.new n (extended (chain_of_all agg.now) ready.now.delta).plain) }
+    ensures ready { IfOk result (λ n. IsPreparedFor dispatch.new n
+        (extended (chain_of_all agg.now) ready.now.delta).plain) }
 {
     let after = agg.after(ready);
     agg.sound();
@@ -87,7 +89,8 @@ fn index_ready(
 impl Parts {
     /// A base and its PDB, where it has one.
     pub(crate) fn begin(alloc: Global, image: Image, pdb: Option<Pdb>) -> Result<Parts, AllocError>
-        ensures followed { IfOk result (λ p. followed_in p ≡ record { base = image; deltas = []; debug = pdb; debugs = [] }) }
+        ensures followed { IfOk result
+            (λ p. followed_in p ≡ record { base = image; deltas = []; debug = pdb; debugs = [] }) }
         ensures parts { IfOk result AreParts }
     {
         let agg = Aggregate::begin(alloc, image)?;
@@ -140,7 +143,8 @@ impl Parts {
         requires parts { AreParts self.old }
         requires follows { IsAcceptedAfter (chain_of_all self.old.agg) prepared.ready.delta prepared.pdb }
         requires ready { IsDeltaReady self.old prepared.ready.delta prepared.pdb prepared }
-        ensures followed { followed_in self.new ≡ followed_by (followed_in self.old) (accepted prepared.ready.delta prepared.pdb) }
+        ensures followed { followed_in self.new
+            ≡ followed_by (followed_in self.old) (accepted prepared.ready.delta prepared.pdb) }
         ensures parts { AreParts self.new }
         ensures texts { KeepsTexts (users_of_all self.old.agg) (users_of_all self.new.agg) }
     {

@@ -51,9 +51,17 @@ impl Model for Recording {
 
     ghost Value = { Recorded };
 
-    ghost view = { λ r. record { followed = r.engine.followed; machine = r.engine.machine; events = r.events.items; text = r.text.items; dates = r.dates.items; limit = r.limit } };
+    ghost view = { λ r. record {
+      followed = r.engine.followed;
+      machine = r.engine.machine;
+      events = r.events.items;
+      text = r.text.items;
+      dates = r.dates.items;
+      limit = r.limit;
+    } };
 
-    ghost invariant = { λ r. HaveRoomTo r.limit r.events × AreGenerationsOf r.engine.followed.deltas r.newest × AreDated r.engine.machine r.dates.items };
+    ghost invariant = { λ r. HaveRoomTo r.limit r.events × AreGenerationsOf r.engine.followed.deltas r.newest
+        × AreDated r.engine.machine r.dates.items };
 }
 
 /// How many steps ran, and how the last one ended.
@@ -78,7 +86,8 @@ fn push_events(events: &[Event], all: &mut Vec<Event>)
 
 /// The dates of a task's frames as they are now.
 fn settle(dates: &mut Vec<Dates>, engine: &Engine, newest: &Newest, task: u32)
-    ensures { dates.new.items ≡ slice_set dates.old.items (task - 1) (redated (generation_at newest.now) (frames_in engine.now.machine task) (dates_of dates.old.items task)) }
+    ensures { dates.new.items ≡ slice_set dates.old.items (task - 1)
+        (redated (generation_at newest.now) (frames_in engine.now.machine task) (dates_of dates.old.items task)) }
 {
     let i = (task as usize).saturating_sub(1);
     if let Some(dates) = dates.get_mut(i) {
@@ -88,7 +97,8 @@ fn settle(dates: &mut Vec<Dates>, engine: &Engine, newest: &Newest, task: u32)
 
 /// The innermost frame of a task has another date.
 fn move_date(dates: &mut Vec<Dates>, task: u32, date: u32)
-    ensures { dates.new.items ≡ slice_set dates.old.items (task - 1) (with_first_date date (dates_of dates.old.items task)) }
+    ensures { dates.new.items ≡ slice_set dates.old.items (task - 1)
+        (with_first_date date (dates_of dates.old.items task)) }
 {
     let i = (task as usize).saturating_sub(1);
     if let Some(dates) = dates.get_mut(i) {
@@ -155,7 +165,8 @@ impl Recording {
     /// A new task, as a `Session`'s; its events are at most 3.
     pub fn spawn(&mut self, method: Token) -> Result<SpawnEnd, AllocError>
         requires { length self.old.events + 3 ≤ self.old.limit }
-        ensures spawned { IsSpawn result self.new.machine self.old.machine (spawn_in (world_of self.old.followed) method self.old.machine) }
+        ensures spawned { IsSpawn result self.new.machine self.old.machine
+            (spawn_in (world_of self.old.followed) method self.old.machine) }
         ensures recorded { OnOk result (self.new ≡ spawn_recorded method self.old) }
         ensures few { length self.new.events ≤ length self.old.events + 3 }
         ensures err { OnErr result (self.new ≡ self.old) }
@@ -176,7 +187,8 @@ impl Recording {
     /// A step of a task, as a `Session`'s; its events are at most 4.
     pub fn step(&mut self, task: u32) -> Result<StepEnd, AllocError>
         requires { length self.old.events + 4 ≤ self.old.limit }
-        ensures end { IfOk result (λ end. end ≡ turn_end (machine_turn (world_of self.old.followed) task self.old.machine)) }
+        ensures end { IfOk result (λ end. end
+            ≡ turn_end (machine_turn (world_of self.old.followed) task self.old.machine)) }
         ensures recorded { OnOk result (self.new ≡ step_recorded task self.old) }
         ensures few { length self.new.events ≤ length self.old.events + 4 }
         ensures limit { self.new.limit ≡ self.old.limit }
@@ -241,7 +253,8 @@ impl Recording {
     /// A delta that breaks no rule is applied.
     fn follow(&mut self, checked: Checked) -> Result<Applied, AllocError>
         requires room { length self.old.events + 1 ≤ self.old.limit }
-        requires follows { IsAcceptedAfter (chain_with self.old.followed.base self.old.followed.deltas) checked.delta checked.pdb }
+        requires follows { IsAcceptedAfter
+            (chain_with self.old.followed.base self.old.followed.deltas) checked.delta checked.pdb }
         ensures applied { IfOk result (λ a. a ≡ Generation (length self.old.followed.deltas + 1)) }
         ensures recorded { OnOk result (self.new ≡ judged_recorded (Ok (accepted checked.delta checked.pdb)) self.old) }
         ensures err { OnErr result (self.new ≡ self.old) }
@@ -259,7 +272,8 @@ impl Recording {
     /// The files of a delta, as a `Session`'s; that they are applied or refused is 1 event.
     pub fn apply(&mut self, files: Files) -> Result<Applied, AllocError>
         requires { length self.old.events + 1 ≤ self.old.limit }
-        ensures applied { IfOk result (λ a. a ≡ applied_as (judged_after self.old.followed (files_in files)) self.old.followed) }
+        ensures applied { IfOk result (λ a. a
+            ≡ applied_as (judged_after self.old.followed (files_in files)) self.old.followed) }
         ensures recorded { OnOk result (self.new ≡ apply_recorded (files_in files) self.old) }
         ensures err { OnErr result (self.new ≡ self.old) }
     {

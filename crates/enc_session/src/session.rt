@@ -31,7 +31,8 @@ pub(crate) const STEP_ROOM: usize = 66;
 /// edited directly: a call enters the newest body of its method, and a frame that is under way goes on in the body, the
 /// texts and the sequence points with which it began, or those of its last remap.
 ///
-/// What a call appends to `out` are the lines of that event, and those of watchers that didn't hear it: such a watcher is
+/// What a call appends to `out` are the lines of that event, and those of watchers that didn't hear it: such a
+/// watcher is
 /// gone, and the event stands all the same. Without memory the session, its watchers and `out` stay as they are.
 #[derive(Drop)]
 pub struct Session<W: Watcher> {
@@ -57,7 +58,8 @@ pub(crate) fn push_step_lines(
     out: &mut Vec<u8>,
 )
     requires { vec_len out.old + (12 * length (unwrap_or seen.now.wrote []) + 66) ≤ vec_capacity out.old }
-    ensures text { out.new.items ≡ out.old.items ++ step_lines task (ending_told end) engine.now.machine (shown_in seen.now) }
+    ensures text { out.new.items ≡ out.old.items ++ step_lines task (ending_told end) engine.now.machine
+        (shown_in seen.now) }
     ensures len { vec_len out.new ≤ vec_len out.old + (12 * length (unwrap_or seen.now.wrote []) + 66) }
     ensures capacity { vec_capacity out.old ≤ vec_capacity out.new }
 {
@@ -75,7 +77,16 @@ pub(crate) fn push_step_lines(
 impl<W: Watcher> Session<W> {
     /// A base and its PDB, where it has one: no task, no watcher.
     pub fn begin(alloc: Global, image: Image, pdb: Option<Pdb>) -> Result<Session<W>, AllocError>
-        ensures { IfOk result (λ s. s ≡ record { followed = record { base = image; deltas = []; debug = pdb; debugs = [] }; machine = at_rest; seated = record { seats = []; given = 0 } }) }
+        ensures { IfOk result (λ s. s ≡ record {
+          followed = record {
+            base = image;
+            deltas = [];
+            debug = pdb;
+            debugs = [];
+          };
+          machine = at_rest;
+          seated = record { seats = []; given = 0 };
+        }) }
     {
         Ok(Session {
             engine: Engine::begin(alloc, image, pdb)?,
@@ -87,7 +98,11 @@ impl<W: Watcher> Session<W> {
     pub fn attach(&mut self, watcher: W) -> Result<u32, W>
         requires { self.old.seated.given + 1 < 2 ^ 32 }
         ensures number { IfOk result (λ number. number ≡ self.old.seated.given + 1) }
-        ensures ok { OnOk result (self.new ≡ with_seated (attached (record { kind = W.kind_of watcher; limit = W.limit watcher; heard = W.heard watcher }) self.old.seated) self.old) }
+        ensures ok { OnOk result (self.new ≡ with_seated (attached (record {
+          kind = W.kind_of watcher;
+          limit = W.limit watcher;
+          heard = W.heard watcher;
+        }) self.old.seated) self.old) }
         ensures back { IfErr result (λ back. back ≡ watcher) }
         ensures err { OnErr result (self.new ≡ self.old) }
     {
@@ -96,8 +111,10 @@ impl<W: Watcher> Session<W> {
 
     /// Detaches the watcher with a number and hands it back; None exactly where none has it. It hears nothing more.
     pub fn detach(&mut self, number: u32) -> Option<W>
-        ensures taken { option_map (λ w. record { kind = W.kind_of w; limit = W.limit w; heard = W.heard w }) result ≡ option_map (λ (s : Seat). s.watching) (seat_at number self.old.seated.seats) }
-        ensures left { self.new ≡ with_seated (record { seats = without number self.old.seated.seats; given = self.old.seated.given }) self.old }
+        ensures taken { option_map (λ w. record { kind = W.kind_of w; limit = W.limit w; heard = W.heard w }) result
+            ≡ option_map (λ (s : Seat). s.watching) (seat_at number self.old.seated.seats) }
+        ensures left { self.new ≡ with_seated
+            (record { seats = without number self.old.seated.seats; given = self.old.seated.given }) self.old }
     {
         self.audience.detach(number)
     }
@@ -127,7 +144,8 @@ impl<W: Watcher> Session<W> {
     /// else `Method` where the method is no static one without parameters, or where the interpreter doesn't run it or
     /// the constructor of its type.
     pub fn spawn(&mut self, method: Token, out: &mut Vec<u8>) -> Result<SpawnEnd, AllocError>
-        ensures spawned { IsSpawn result self.new.machine self.old.machine (spawn_in (world_of self.old.followed) method self.old.machine) }
+        ensures spawned { IsSpawn result self.new.machine self.old.machine
+            (spawn_in (world_of self.old.followed) method self.old.machine) }
         ensures passed { OnOk result (HasPassed (spawn_passed method) self.new self.old out.new.items out.old.items) }
         ensures given { self.new.seated.given ≡ self.old.seated.given }
         ensures err { OnErr result (self.new ≡ self.old) }
@@ -144,7 +162,8 @@ impl<W: Watcher> Session<W> {
 
     /// A step of a task: `Absent` where no task has the number, `Idle` where it has ended or trapped.
     pub fn step(&mut self, task: u32, out: &mut Vec<u8>) -> Result<StepEnd, AllocError>
-        ensures end { IfOk result (λ end. end ≡ turn_end (machine_turn (world_of self.old.followed) task self.old.machine)) }
+        ensures end { IfOk result (λ end. end
+            ≡ turn_end (machine_turn (world_of self.old.followed) task self.old.machine)) }
         ensures passed { OnOk result (HasPassed (step_passed task) self.new self.old out.new.items out.old.items) }
         ensures given { self.new.seated.given ≡ self.old.seated.given }
         ensures err { OnErr result (self.new ≡ self.old) }
@@ -165,8 +184,10 @@ impl<W: Watcher> Session<W> {
     /// generation; else they are refused by the first rule that they break, and but for the watchers, who hear of it,
     /// nothing changes.
     pub fn apply(&mut self, files: Files, out: &mut Vec<u8>) -> Result<Applied, AllocError>
-        ensures applied { IfOk result (λ a. a ≡ applied_as (judged_after self.old.followed (files_in files)) self.old.followed) }
-        ensures passed { OnOk result (HasPassed (apply_passed (files_in files)) self.new self.old out.new.items out.old.items) }
+        ensures applied { IfOk result (λ a. a
+            ≡ applied_as (judged_after self.old.followed (files_in files)) self.old.followed) }
+        ensures passed { OnOk result (HasPassed
+            (apply_passed (files_in files)) self.new self.old out.new.items out.old.items) }
         ensures given { self.new.seated.given ≡ self.old.seated.given }
         ensures err { OnErr result (self.new ≡ self.old) }
         ensures kept { OnErr result (out.new.items ≡ out.old.items) }
@@ -188,7 +209,8 @@ impl<W: Watcher> Session<W> {
         out: &mut Vec<u8>,
     ) -> Result<Remapped, AllocError>
         ensures remapped { IfOk result (λ r. r ≡ remapped_as (remap_of task map.now self.old)) }
-        ensures passed { OnOk result (HasPassed (remap_passed task map.now) self.new self.old out.new.items out.old.items) }
+        ensures passed { OnOk result (HasPassed
+            (remap_passed task map.now) self.new self.old out.new.items out.old.items) }
         ensures given { self.new.seated.given ≡ self.old.seated.given }
         ensures err { OnErr result (self.new ≡ self.old) }
         ensures kept { out.new.items ≡ out.old.items }

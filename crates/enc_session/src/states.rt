@@ -16,14 +16,16 @@ use std::alloc::{AllocError, Global};
 
 /// Appends the stack of a frame, from the bottom up.
 fn push_stack(alloc: Global, frame: &FrameRef<'_>, out: &mut Vec<u8>) -> Result<(), AllocError>
-    ensures { OnOk result (out.new.items ≡ out.old.items ++ bracketed_values (codes "stack") (reverse frame.now.stack)) }
+    ensures { OnOk result (out.new.items ≡ out.old.items ++ bracketed_values (codes "stack")
+        (reverse frame.now.stack)) }
 {
     push_bracketed(alloc, "stack", frame.stack(), out)
 }
 
 /// Appends where a frame stands: its method, and the offset of its next instruction.
 fn push_place(frame: &FrameRef<'_>, out: &mut Vec<u8>) -> Result<(), AllocError>
-    ensures { OnOk result (out.new.items ≡ out.old.items ++ (codes "  frame " ++ token_text frame.now.method ++ 0x20 ∷ label frame.now.offset)) }
+    ensures { OnOk result (out.new.items
+        ≡ out.old.items ++ (codes "  frame " ++ token_text frame.now.method ++ 0x20 ∷ label frame.now.offset)) }
 {
     push_str(out, "  frame ")?;
     push_token(out, frame.method())?;
@@ -33,7 +35,9 @@ fn push_place(frame: &FrameRef<'_>, out: &mut Vec<u8>) -> Result<(), AllocError>
 
 /// Appends what a frame holds, a space before each: its arguments, its local variables and its stack.
 fn push_held(alloc: Global, frame: &FrameRef<'_>, out: &mut Vec<u8>) -> Result<(), AllocError>
-    ensures { OnOk result (out.new.items ≡ out.old.items ++ (0x20 ∷ bracketed_values (codes "args") frame.now.args ++ 0x20 ∷ bracketed_values (codes "locals") frame.now.locals ++ 0x20 ∷ bracketed_values (codes "stack") (reverse frame.now.stack))) }
+    ensures { OnOk result (out.new.items ≡ out.old.items ++ (0x20 ∷ bracketed_values (codes "args") frame.now.args
+        ++ 0x20 ∷ bracketed_values (codes "locals") frame.now.locals ++ 0x20 ∷ bracketed_values (codes "stack")
+        (reverse frame.now.stack))) }
 {
     push_str(out, " ")?;
     push_bracketed(alloc, "args", frame.args(), out)?;
@@ -77,7 +81,8 @@ fn push_frames(
     task: u32,
     out: &mut Vec<u8>,
 ) -> Result<(), AllocError>
-    ensures { OnOk result (out.new.items ≡ out.old.items ++ flat_map frame_line (reverse (frames_in machine.now task))) }
+    ensures { OnOk result (out.new.items
+        ≡ out.old.items ++ flat_map frame_line (reverse (frames_in machine.now task))) }
 {
     for i in 0..machine.depth(task) {
         push_frame_at(alloc, machine, task, i, out)?;

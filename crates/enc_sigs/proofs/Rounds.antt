@@ -20,3 +20,5 @@ words_none mix bytes = refl
 pub words_more : (mix state : Mix) (bytes : List ℕ) (n : ℕ) → state ≡ mixed_words mix bytes n → mixed state (from_le_bytes w64 (drop (8 * n) bytes)) ≡ mixed_words mix bytes (n + 1)
 unfolding mixed_words
 words_more mix state bytes n e = let more : n + 1 ≡ suc n = omega arith in rw (more, e) refl
+
+pub ruleset words_steps = (words_none, words_more)

@@ -13,16 +13,19 @@ tokens_agree same t u = is_token t u || same t u
 -- types are equal, but for tokens
 unfoldable pub forests_agree : (Token → Token → Bool) → Forest → Forest → Bool
 forests_agree same none none = true
-forests_agree same (more e t n k r) (more f u m l s) = e == f && tokens_agree same t u && n == m && forests_agree same k l && forests_agree same r s
+forests_agree same (more e t n k r) (more f u m l s) =
+    e == f && tokens_agree same t u && n == m && forests_agree same k l && forests_agree same r s
 forests_agree same _ _ = false
 
 -- the same of one type
 abbrev pub trees_agree : (Token → Token → Bool) → Tree → Tree → Bool
-trees_agree same x y = x.element == y.element && tokens_agree same x.token y.token && x.number == y.number && forests_agree same x.kids y.kids
+trees_agree same x y = x.element == y.element && tokens_agree same x.token y.token && x.number == y.number
+    && forests_agree same x.kids y.kids
 
 -- signatures of one kind are equal, but for tokens
 abbrev pub sig_trees_agree : (Token → Token → Bool) → SigTree → SigTree → Bool
-sig_trees_agree same x y = x.kind == y.kind && x.generics == y.generics && forests_agree same (forest_of x.parts) (forest_of y.parts)
+sig_trees_agree same x y = x.kind == y.kind && x.generics == y.generics
+    && forests_agree same (forest_of x.parts) (forest_of y.parts)
 
 -- both are there and agree
 abbrev pub if_both : {A : Type 0} → (A → A → Bool) → Option A → Option A → Bool

@@ -18,7 +18,8 @@ use Rattle.enc_sigs.specs.Tree.{Tree, SigTree, forest_of}
 
 -- a number, and behind it what depends on it
 abbrev pub upon : {B : Type 0} → Reader ℕ → (ℕ → Reader B) → Reader (ℕ × B)
-upon {B} r s bytes = option_and_then (λ (p : ℕ × List ℕ). option_map (λ (q : B × List ℕ). ((p.0, q.0), q.1)) (s p.0 p.1)) (r bytes)
+upon {B} r s bytes = option_and_then
+    (λ (p : ℕ × List ℕ). option_map (λ (q : B × List ℕ). ((p.0, q.0), q.1)) (s p.0 p.1)) (r bytes)
 
 -- nothing: the number is given
 abbrev pub given : ℕ → Reader ℕ
@@ -47,7 +48,8 @@ is_counted count n = is_coded n && nat_le 1 (n / 4) && nat_le (n / 4) (count (ta
 
 -- a token whose number passes the test (II.23.2.8)
 unfoldable pub token_in : (ℕ → Bool) → Reader Token
-token_in good bytes = option_and_then (λ (p : ℕ × List ℕ). if good p.0 then Some (token_named p.0, p.1) else None) (number_in bytes)
+token_in good bytes = option_and_then (λ (p : ℕ × List ℕ). if good p.0 then Some (token_named p.0, p.1) else None)
+    (number_in bytes)
 
 -- so many things one behind the other
 unfoldable pub many : {A : Type 0} → Reader A → ℕ → Reader (List A)
@@ -109,7 +111,8 @@ array_in one b =
 -- a generic instance: a class or a value type, and the arguments (II.23.2.12)
 unfoldable pub instance_in : (ℕ → Bool) → Reader Tree → ℕ → Reader Tree
 instance_in good one b =
-    giving (λ (p : ℕ × (Token × List Tree)). tree b p.1.0 p.0 p.1.1) (both (byte_in (λ c. c == 0x11 || c == 0x12)) (both (token_in good) (list_in one)))
+    giving (λ (p : ℕ × (Token × List Tree)). tree b p.1.0 p.0 p.1.1)
+    (both (byte_in (λ c. c == 0x11 || c == 0x12)) (both (token_in good) (list_in one)))
 
 -- a method's first byte: how it is called in the low four bits, and three flags (II.23.2.1, II.23.2.3)
 unfoldable pub is_calling : ℕ → Bool
@@ -139,7 +142,8 @@ marked_in one n = more_in (wrapped_in one 0x41) (many one n)
 -- so many parameters, one of which may stand behind a sentinel (II.23.2.2)
 unfoldable pub params : Reader Tree → ℕ → Reader (List Tree)
 params one zero bytes = Some ([], bytes)
-params one (suc n) bytes = if begins 0x41 bytes then marked_in one n (drop 1 bytes) else more_in one (params one n) bytes
+params one (suc n) bytes = if begins 0x41 bytes then marked_in one n (drop 1 bytes)
+    else more_in one (params one n) bytes
 
 -- the count of parameters, the return type, the parameters (II.23.2.1 to II.23.2.3)
 unfoldable pub parts_in : Reader Tree → Reader (List Tree)
@@ -180,15 +184,23 @@ accessed_in one = giving (λ (p : ℕ × (Tree × List Tree)). p.1.0 ∷ p.1.1) 
 
 -- a signature of each kind (II.23.2.1 to II.23.2.6, II.23.2.14, II.23.2.15)
 unfoldable pub front_in : (ℕ → Bool) → SigKind → Reader SigTree
-front_in good Method = giving (λ (p : (ℕ × ℕ) × List Tree). record { form = Method; kind = p.0.0; generics = p.0.1; parts = p.1 }) (method_in (type_in good))
+front_in good Method = giving (λ (p : (ℕ × ℕ) × List Tree). record {
+  form = Method;
+  kind = p.0.0;
+  generics = p.0.1;
+  parts = p.1;
+}) (method_in (type_in good))
 front_in good Field =
-    giving (λ (p : ℕ × Tree). record { form = Field; kind = p.0; generics = 0; parts = p.1 ∷ [] }) (both (byte_in (λ b. b == 0x06)) (type_in good))
+    giving (λ (p : ℕ × Tree). record { form = Field; kind = p.0; generics = 0; parts = p.1 ∷ [] })
+    (both (byte_in (λ b. b == 0x06)) (type_in good))
 front_in good Locals =
-    giving (λ (p : ℕ × List Tree). record { form = Locals; kind = p.0; generics = 0; parts = p.1 }) (both (byte_in (λ b. b == 0x07)) (list_in (type_in good)))
+    giving (λ (p : ℕ × List Tree). record { form = Locals; kind = p.0; generics = 0; parts = p.1 })
+    (both (byte_in (λ b. b == 0x07)) (list_in (type_in good)))
 front_in good Property =
     giving (λ (p : ℕ × List Tree). record { form = Property; kind = p.0; generics = 0; parts = p.1 })
     (both (byte_in (λ b. b == 0x08 || b == 0x28)) (accessed_in (type_in good)))
-front_in good TypeSpec = giving (λ (t : Tree). record { form = TypeSpec; kind = 0; generics = 0; parts = t ∷ [] }) (type_in good)
+front_in good TypeSpec = giving (λ (t : Tree). record { form = TypeSpec; kind = 0; generics = 0; parts = t ∷ [] })
+    (type_in good)
 front_in good MethodSpec =
     giving (λ (p : ℕ × List Tree). record { form = MethodSpec; kind = p.0; generics = 0; parts = p.1 })
     (both (byte_in (λ b. b == 0x0A)) (list_in (type_in good)))

@@ -7,12 +7,14 @@ use Rattle.enc_sigs.specs.Spelling.{sig_bytes}
 
 -- what is written of a signature that was read is read as the same tree
 abbrev pub WrittenReadsBack : Type 0
-WrittenReadsBack = (good : ℕ → Bool) (kind : SigKind) (bytes : List ℕ) (s : SigTree) → NamesTables good → sig_in good kind bytes ≡ Some s
+WrittenReadsBack = (good : ℕ → Bool) (kind : SigKind) (bytes : List ℕ) (s : SigTree) → NamesTables good
+    → sig_in good kind bytes ≡ Some s
     → sig_in good kind (sig_bytes s) ≡ Some s
 
 -- what is read with one test of a token is read the same with a wider one
 abbrev pub WiderTestsRead : Type 0
-WiderTestsRead = (good test : ℕ → Bool) (kind : SigKind) (bytes : List ℕ) (s : SigTree) → ((n : ℕ) → good n ≡ true → test n ≡ true)
+WiderTestsRead = (good test : ℕ → Bool) (kind : SigKind) (bytes : List ℕ) (s : SigTree)
+    → ((n : ℕ) → good n ≡ true → test n ≡ true)
     → sig_in good kind bytes ≡ Some s → sig_in test kind bytes ≡ Some s
 
 -- the two tests of a token let through only numbers that name a table
@@ -27,8 +29,10 @@ fits_below (suc depth) fit = fit depth
 -- types stand in one another at most so deep; a sentinel and the numbers of an array or of a pointer are no level
 unfoldable pub fits_depth : Forest → ℕ → Bool
 fits_depth none depth = true
-fits_depth (more e t n k r) depth = (if e == 0 || e == 0x41 then fits_depth k depth else fits_below depth (fits_depth k)) && fits_depth r depth
+fits_depth (more e t n k r) depth =
+    (if e == 0 || e == 0x41 then fits_depth k depth else fits_below depth (fits_depth k)) && fits_depth r depth
 
 -- no type that is read stands deeper than 100
 abbrev pub DepthIsBounded : Type 0
-DepthIsBounded = (good : ℕ → Bool) (kind : SigKind) (bytes : List ℕ) (s : SigTree) → sig_in good kind bytes ≡ Some s → fits_depth (forest_of s.parts) 100 ≡ true
+DepthIsBounded = (good : ℕ → Bool) (kind : SigKind) (bytes : List ℕ) (s : SigTree) → sig_in good kind bytes ≡ Some s
+    → fits_depth (forest_of s.parts) 100 ≡ true

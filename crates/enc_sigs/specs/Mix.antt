@@ -23,7 +23,8 @@ rounds key mix (suc n) = round (rounds key mix n) (bit_xor key n)
 unfoldable pub added : Mix → Mix → Mix
 added a b = record { high = bit_xor a.high b.high; low = bit_xor a.low b.low }
 
--- a number of 64 bits mixed in: eight rounds with it for a key, and what there was before (the construction of Davies and Meyer)
+-- a number of 64 bits mixed in: eight rounds with it for a key, and what there was before (the construction of
+-- Davies and Meyer)
 unfoldable pub mixed : Mix → ℕ → Mix
 mixed mix n = added mix (rounds n mix 8)
 
@@ -40,7 +41,8 @@ mixed_words mix bytes (suc n) = mixed (mixed_words mix bytes n) (from_le_bytes w
 unfoldable pub mixed_bytes : Mix → List ℕ → Mix
 mixed_bytes mix bytes = mixed_words mix bytes (length bytes / 8 + 1)
 
--- the length of some bytes and so many at either end mixed in, so that long texts that share their bytes cost no more than short ones
+-- the length of some bytes and so many at either end mixed in, so that long texts that share their bytes cost no
+-- more than short ones
 unfoldable pub mixed_ends : ℕ → Mix → List ℕ → Mix
 mixed_ends most mix bytes =
     let size = length bytes in

@@ -9,7 +9,8 @@ use Rattle.enc_sigs.specs.declared.form.Form.TheVariants as form
 use Rattle.enc_sigs.specs.declared.kind.SigKind.{SigKind}
 use Rattle.enc_sigs.specs.declared.kind.SigKind.TheVariants.{Field}
 
--- a token stands behind the first byte of a class or value type, of a modifier and of a generic instance (II.23.2.7, II.23.2.8, II.23.2.12)
+-- a token stands behind the first byte of a class or value type, of a modifier and of a generic instance (II.23.2.7,
+-- II.23.2.8, II.23.2.12)
 abbrev pub form_has_token : Option Form → Bool
 form_has_token (Some form.Named) = true
 form_has_token (Some form.Modified) = true
@@ -25,7 +26,12 @@ forest_moved f none = none
 forest_moved f (more e t n k r) = more e (if has_token e then f t else t) n (forest_moved f k) (forest_moved f r)
 
 abbrev pub tree_moved : (Token → Token) → Tree → Tree
-tree_moved f t = record { element = t.element; token = if has_token t.element then f t.token else t.token; number = t.number; kids = forest_moved f t.kids }
+tree_moved f t = record {
+  element = t.element;
+  token = if has_token t.element then f t.token else t.token;
+  number = t.number;
+  kids = forest_moved f t.kids;
+}
 
 -- a signature with each token moved
 unfoldable pub sig_moved : (Token → Token) → SigTree → SigTree

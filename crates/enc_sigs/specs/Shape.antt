@@ -1,4 +1,5 @@
--- Shapes of signatures: mixes that signatures have in common which are equal but for tokens of equal keys. They tell which signatures are worth comparing;
+-- Shapes of signatures: mixes that signatures have in common which are equal but for tokens of equal keys. They tell
+-- which signatures are worth comparing;
 -- that shapes are equal says nothing.
 use Rattle.std.specs.Prelude.{◌≡◌, ℕ, zero, suc, Bool, true, ◌||◌, ◌==◌, List, [], ◌∷◌, drop, Option, Some, None, option_map, option_and_then, if◌then◌else◌}
 use Rattle.enc_base.specs.declared.token.Token.{Token}
@@ -57,7 +58,8 @@ modified_shape key one = in_turn (token_shape key) one
 
 -- generic instances (II.23.2.12)
 unfoldable pub instance_shape : (Token → Mix) → Shaping → Shaping
-instance_shape key one = in_turn (number_shape (byte_in (λ c. c == 0x11 || c == 0x12))) (in_turn (token_shape key) (counted_shape one))
+instance_shape key one = in_turn (number_shape (byte_in (λ c. c == 0x11 || c == 0x12)))
+    (in_turn (token_shape key) (counted_shape one))
 
 -- the parameter behind a sentinel, and so many more
 unfoldable pub marked_shape : Shaping → ℕ → Shaping
@@ -66,7 +68,8 @@ marked_shape one n = in_turn one (many_shape one n)
 -- so many parameters
 unfoldable pub params_shape : Shaping → ℕ → Shaping
 params_shape one zero h bytes = Some (h, bytes)
-params_shape one (suc n) h bytes = if begins 0x41 bytes then marked_shape one n h (drop 1 bytes) else in_turn one (params_shape one n) h bytes
+params_shape one (suc n) h bytes =
+    if begins 0x41 bytes then marked_shape one n h (drop 1 bytes) else in_turn one (params_shape one n) h bytes
 
 -- the count of parameters, the return type, the parameters (II.23.2.1)
 unfoldable pub parts_shape : Shaping → Shaping
@@ -95,7 +98,8 @@ formed_shape key one form.Pointer = method_shape one
 unfoldable pub elem_shape : (Token → Mix) → ℕ → Shaping
 elem_shape key zero h bytes = None
 elem_shape key (suc depth) h [] = None
-elem_shape key (suc depth) h (b ∷ rest) = option_and_then (λ f. formed_shape key (elem_shape key depth) f (mixed h b) rest) (form_of b)
+elem_shape key (suc depth) h (b ∷ rest) =
+    option_and_then (λ f. formed_shape key (elem_shape key depth) f (mixed h b) rest) (form_of b)
 
 -- types of the greatest depth that is allowed
 unfoldable pub type_shape : (Token → Mix) → Shaping
@@ -110,7 +114,8 @@ unfoldable pub front_shape : (Token → Mix) → SigKind → Shaping
 front_shape key Method = method_shape (type_shape key)
 front_shape key Field = in_turn (number_shape (byte_in (λ b. b == 0x06))) (type_shape key)
 front_shape key Locals = in_turn (number_shape (byte_in (λ b. b == 0x07))) (counted_shape (type_shape key))
-front_shape key Property = in_turn (number_shape (byte_in (λ b. b == 0x08 || b == 0x28))) (accessed_shape (type_shape key))
+front_shape key Property = in_turn (number_shape (byte_in (λ b. b == 0x08 || b == 0x28)))
+    (accessed_shape (type_shape key))
 front_shape key TypeSpec = type_shape key
 front_shape key MethodSpec = in_turn (number_shape (byte_in (λ b. b == 0x0A))) (counted_shape (type_shape key))
 
@@ -129,5 +134,6 @@ GivesKeys post key = (t : Token) (k : Mix) → post t k → k ≡ key t
 
 -- signatures that are equal but for tokens of equal keys have one shape
 abbrev pub AlikeHaveOneShape : Type 0
-AlikeHaveOneShape = (same : Token → Token → Bool) (key : Token → Mix) (kind : SigKind) (a b : List ℕ) → ((t u : Token) → same t u ≡ true → key t ≡ key u)
+AlikeHaveOneShape = (same : Token → Token → Bool) (key : Token → Mix) (kind : SigKind) (a b : List ℕ)
+    → ((t u : Token) → same t u ≡ true → key t ≡ key u)
     → sigs_agree same kind a b ≡ true → sig_shape key kind a ≡ sig_shape key kind b

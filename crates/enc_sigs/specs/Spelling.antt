@@ -72,11 +72,13 @@ numerals_of kind (Some t) = numerals_bytes kind t
 
 -- an array: its type, its rank, its sizes and its lower bounds (II.23.2.13)
 unfoldable pub array_bytes : ℕ → List Tree → List (List ℕ) → List ℕ
-array_bytes rank kids parts = front_of parts ++ (number_bytes rank ++ (numerals_of Size (slice_get kids 1) ++ numerals_of Bound (slice_get kids 2)))
+array_bytes rank kids parts = front_of parts
+    ++ (number_bytes rank ++ (numerals_of Size (slice_get kids 1) ++ numerals_of Bound (slice_get kids 2)))
 
 -- a pointer to a function
 unfoldable pub pointer_bytes : ℕ → List Tree → List (List ℕ) → List ℕ
-pointer_bytes calling (generics ∷ ts) (x ∷ parts) = (calling % 0x100) ∷ (generics_bytes calling generics.number ++ parts_bytes parts)
+pointer_bytes calling (generics ∷ ts) (x ∷ parts) =
+    (calling % 0x100) ∷ (generics_bytes calling generics.number ++ parts_bytes parts)
 pointer_bytes calling _ _ = []
 
 -- what follows the first byte: the token, the number, the parts and what these spell

@@ -19,7 +19,8 @@ pub record Tree : Type 0 where
   pub number : ℕ
   pub kids : Forest
 
--- a signature: what it is of, its first byte (0 of a type spec), the count of its generic parameters, and its parts, the return type or the type first
+-- a signature: what it is of, its first byte (0 of a type spec), the count of its generic parameters, and its parts,
+-- the return type or the type first
 pub record SigTree : Type 0 where
   pub form : SigKind
   pub kind : ℕ
@@ -102,9 +103,11 @@ coded_forest =
 
 abbrev pub coded_tree : Coded Tree
 coded_tree =
-    code_by (ℕ × ((ℕ × ℕ) × (ℕ × Forest))) (coded× coded_ℕ (coded× (coded× coded_ℕ coded_ℕ) (coded× coded_ℕ coded_forest)))
+    code_by (ℕ × ((ℕ × ℕ) × (ℕ × Forest)))
+    (coded× coded_ℕ (coded× (coded× coded_ℕ coded_ℕ) (coded× coded_ℕ coded_forest)))
     (λ t. (t.element, ((t.token.table, t.token.row), (t.number, t.kids))))
-    (λ p. record { element = p.0; token = record { table = p.1.0.0; row = p.1.0.1 }; number = p.1.1.0; kids = p.1.1.1 }) (λ _. refl)
+    (λ p. record { element = p.0; token = record { table = p.1.0.0; row = p.1.0.1 }; number = p.1.1.0; kids = p.1.1.1 })
+    (λ _. refl)
 
 -- kinds of signatures by number
 abbrev pub form_number : SigKind → ℕ
@@ -136,5 +139,7 @@ coded_form = code_by ℕ coded_ℕ form_number nth_form nth_form_is
 
 abbrev pub coded_sig : Coded SigTree
 coded_sig =
-    code_by (SigKind × (ℕ × (ℕ × List Tree))) (coded× coded_form (coded× coded_ℕ (coded× coded_ℕ (coded_list coded_tree))))
-    (λ s. (s.form, (s.kind, (s.generics, s.parts)))) (λ p. record { form = p.0; kind = p.1.0; generics = p.1.1.0; parts = p.1.1.1 }) (λ _. refl)
+    code_by (SigKind × (ℕ × (ℕ × List Tree)))
+    (coded× coded_form (coded× coded_ℕ (coded× coded_ℕ (coded_list coded_tree))))
+    (λ s. (s.form, (s.kind, (s.generics, s.parts))))
+    (λ p. record { form = p.0; kind = p.1.0; generics = p.1.1.0; parts = p.1.1.1 }) (λ _. refl)

@@ -69,7 +69,8 @@ modified_walk same one = onward (token_walk same) one
 
 -- generic instances (II.23.2.12)
 unfoldable pub instance_walk : (Token → Token → Bool) → Walk → Walk
-instance_walk same one = onward (alike_alone (byte_in (λ c. c == 0x11 || c == 0x12))) (onward (token_walk same) (counted_walk one))
+instance_walk same one = onward (alike_alone (byte_in (λ c. c == 0x11 || c == 0x12)))
+    (onward (token_walk same) (counted_walk one))
 
 -- the parameter behind a sentinel, which is left out of the first, and so many more
 unfoldable pub marked_walk : Walk → ℕ → Walk
@@ -78,7 +79,8 @@ marked_walk one n a b = if begins 0x41 b then onward one (many_walk one n) a (dr
 -- so many parameters
 unfoldable pub params_walk : Walk → ℕ → Walk
 params_walk one zero a b = Some (a, b)
-params_walk one (suc n) a b = if begins 0x41 a then marked_walk one n (drop 1 a) b else onward one (params_walk one n) a b
+params_walk one (suc n) a b = if begins 0x41 a then marked_walk one n (drop 1 a) b
+    else onward one (params_walk one n) a b
 
 -- the count of parameters, the return type, the parameters (II.23.2.1)
 unfoldable pub parts_walk : Walk → Walk
@@ -106,7 +108,8 @@ formed_walk same one form.Pointer = method_walk one
 -- types, where types stand in one another at most so deep
 unfoldable pub elem_walk : (Token → Token → Bool) → ℕ → Walk
 elem_walk same zero a b = None
-elem_walk same (suc depth) (x ∷ a) (y ∷ b) = if x == y then option_and_then (λ f. formed_walk same (elem_walk same depth) f a b) (form_of x) else None
+elem_walk same (suc depth) (x ∷ a) (y ∷ b) =
+    if x == y then option_and_then (λ f. formed_walk same (elem_walk same depth) f a b) (form_of x) else None
 elem_walk same (suc depth) _ _ = None
 
 -- types of the greatest depth that is allowed

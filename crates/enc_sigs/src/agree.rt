@@ -26,7 +26,8 @@ fn behind_byte<'a, 'b>(byte: u8, a: &'a [u8], b: &'b [u8]) -> Option<(&'a [u8], 
 /// What is behind the first byte of properties.
 #[tactic(auto, unfolding(crate::specs::Walk::alike_alone, crate::specs::Grammar::byte_in))]
 fn behind_property<'a, 'b>(a: &'a [u8], b: &'b [u8]) -> Option<(&'a [u8], &'b [u8])>
-    ensures { option_map (λ x. (x.0.now, x.1.now)) result ≡ alike_alone (byte_in (λ b. b == 0x08 || b == 0x28)) a.now b.now }
+    ensures { option_map (λ x. (x.0.now, x.1.now)) result
+        ≡ alike_alone (byte_in (λ b. b == 0x08 || b == 0x28)) a.now b.now }
 {
     match (a, b) {
         ([0x08, a @ ..], [0x08, b @ ..]) => Some((a, b)),
@@ -43,7 +44,8 @@ fn counted_of_both<'a, 'b, F: Fn(Token, Token) -> bool>(
     same: &F,
 ) -> Option<(&'a [u8], &'b [u8])>
     requires { F.IsAlwaysCallable same.now }
-    ensures { (rel : Token → Token → Bool) → Tells (F.post same.now) rel → option_map (λ x. (x.0.now, x.1.now)) result ≡ counted_walk (type_walk rel) a.now b.now }
+    ensures { (rel : Token → Token → Bool) → Tells (F.post same.now) rel
+        → option_map (λ x. (x.0.now, x.1.now)) result ≡ counted_walk (type_walk rel) a.now b.now }
 {
     let (count, a, b) = count_of_both(a, b)?;
     many_of_both(count, DEPTH, a, b, same)
@@ -57,7 +59,8 @@ fn accessed_of_both<'a, 'b, F: Fn(Token, Token) -> bool>(
     same: &F,
 ) -> Option<(&'a [u8], &'b [u8])>
     requires { F.IsAlwaysCallable same.now }
-    ensures { (rel : Token → Token → Bool) → Tells (F.post same.now) rel → option_map (λ x. (x.0.now, x.1.now)) result ≡ accessed_walk (type_walk rel) a.now b.now }
+    ensures { (rel : Token → Token → Bool) → Tells (F.post same.now) rel
+        → option_map (λ x. (x.0.now, x.1.now)) result ≡ accessed_walk (type_walk rel) a.now b.now }
 {
     let (count, a, b) = count_of_both(a, b)?;
     let (a, b) = elem_of_both(DEPTH, a, b, same)?;
@@ -73,7 +76,8 @@ fn front_of_both<'a, 'b, F: Fn(Token, Token) -> bool>(
     same: &F,
 ) -> Option<(&'a [u8], &'b [u8])>
     requires { F.IsAlwaysCallable same.now }
-    ensures { (rel : Token → Token → Bool) → Tells (F.post same.now) rel → option_map (λ x. (x.0.now, x.1.now)) result ≡ front_walk rel kind a.now b.now }
+    ensures { (rel : Token → Token → Bool) → Tells (F.post same.now) rel
+        → option_map (λ x. (x.0.now, x.1.now)) result ≡ front_walk rel kind a.now b.now }
 {
     match kind {
         SigKind::Method => method_of_both(DEPTH, a, b, same),

@@ -29,7 +29,12 @@ impl Model for Elem {
 
     ghost coded = { coded_tree };
 
-    ghost view = { λ a. record { element = a.element; token = a.token; number = a.number; kids = forest_of a.kids.items } };
+    ghost view = { λ a. record {
+      element = a.element;
+      token = a.token;
+      number = a.number;
+      kids = forest_of a.kids.items;
+    } };
 
     ghost size = { tree_size };
 

@@ -68,7 +68,8 @@ fn past_formed<'a>(
     bytes: &'a [u8],
     rows: &RowTest<'_>,
 ) -> Option<&'a [u8]>
-    ensures { option_map (λ x. x.now) result ≡ left_after (formed_in (test_of rows.now) (elem_in (test_of rows.now) depth) form b bytes.now) }
+    ensures { option_map (λ x. x.now) result
+        ≡ left_after (formed_in (test_of rows.now) (elem_in (test_of rows.now) depth) form b bytes.now) }
 {
     match form {
         Form::Bare => Some(bytes),
@@ -86,7 +87,8 @@ fn past_formed<'a>(
 #[cycle(judge)]
 #[tactic(auto, unfolding(crate::specs::Grammar::modified_in))]
 fn past_modified<'a>(b: u8, depth: u32, bytes: &'a [u8], rows: &RowTest<'_>) -> Option<&'a [u8]>
-    ensures { option_map (λ x. x.now) result ≡ left_after (modified_in (test_of rows.now) (elem_in (test_of rows.now) depth) b bytes.now) }
+    ensures { option_map (λ x. x.now) result
+        ≡ left_after (modified_in (test_of rows.now) (elem_in (test_of rows.now) depth) b bytes.now) }
 {
     let _ = b;
     let (_, rest) = tested_token(bytes, rows)?;
@@ -125,7 +127,8 @@ fn past_many<'a>(count: u32, depth: u32, bytes: &'a [u8], rows: &RowTest<'_>) ->
 #[cycle(judge)]
 #[tactic(auto, unfolding(crate::specs::Grammar::instance_in, crate::specs::Grammar::byte_in, crate::specs::Grammar::list_in))]
 fn past_instance<'a>(b: u8, depth: u32, bytes: &'a [u8], rows: &RowTest<'_>) -> Option<&'a [u8]>
-    ensures { option_map (λ x. x.now) result ≡ left_after (instance_in (test_of rows.now) (elem_in (test_of rows.now) depth) b bytes.now) }
+    ensures { option_map (λ x. x.now) result
+        ≡ left_after (instance_in (test_of rows.now) (elem_in (test_of rows.now) depth) b bytes.now) }
 {
     let _ = b;
     let [class, rest @ ..] = bytes else {

@@ -118,7 +118,7 @@ fn word_at(bytes: &[u8], at: usize) -> u64
 }
 
 /// Bytes mixed in, eight at a time.
-#[tactic(auto, using(crate::proofs::Rounds::words_none, crate::proofs::Rounds::words_more), unfolding(crate::specs::Mix::mixed_bytes))]
+#[tactic(auto, using(crate::proofs::Rounds::words_steps), unfolding(crate::specs::Mix::mixed_bytes))]
 fn mixed_bytes(mix: Mix, bytes: &[u8]) -> Mix
     ensures { result ≡ mixed_bytes mix bytes.now }
 {

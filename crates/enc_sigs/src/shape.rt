@@ -41,7 +41,8 @@ fn calling_shape(mix: Mix, bytes: &[u8]) -> Option<(Mix, &[u8])>
 /// The byte behind a generic instance's first.
 #[tactic(auto, unfolding(crate::specs::Shape::number_shape, crate::specs::Grammar::byte_in))]
 fn class_shape(mix: Mix, bytes: &[u8]) -> Option<(Mix, &[u8])>
-    ensures { option_map (λ x. (x.0, x.1.now)) result ≡ number_shape (byte_in (λ c. c == 0x11 || c == 0x12)) mix bytes.now }
+    ensures { option_map (λ x. (x.0, x.1.now)) result
+        ≡ number_shape (byte_in (λ c. c == 0x11 || c == 0x12)) mix bytes.now }
 {
     match bytes {
         [0x11, rest @ ..] => Some((mixed(mix, 0x11), rest)),
@@ -52,7 +53,8 @@ fn class_shape(mix: Mix, bytes: &[u8]) -> Option<(Mix, &[u8])>
 
 /// So many sizes or lower bounds.
 fn many_numerals_shape(kind: Numeral, count: u32, mix: Mix, bytes: &[u8]) -> Option<(Mix, &[u8])>
-    ensures { option_map (λ x. (x.0, x.1.now)) result ≡ many_shape (number_shape (numeral_in kind)) count mix bytes.now }
+    ensures { option_map (λ x. (x.0, x.1.now)) result
+        ≡ many_shape (number_shape (numeral_in kind)) count mix bytes.now }
 {
     let mut mix = mix;
     let mut rest = bytes;
@@ -83,7 +85,8 @@ fn token_shape<'a, F: Fn(Token) -> Mix>(
     key: &F,
 ) -> Option<(Mix, &'a [u8])>
     requires { F.IsAlwaysCallable key.now }
-    ensures { (keys : Token → TheMix) → GivesKeys (F.post key.now) keys → option_map (λ x. (x.0, x.1.now)) result ≡ token_shape keys mix bytes.now }
+    ensures { (keys : Token → TheMix) → GivesKeys (F.post key.now) keys
+        → option_map (λ x. (x.0, x.1.now)) result ≡ token_shape keys mix bytes.now }
 {
     let (token, rest) = coded_token(bytes)?;
     Some((mixed_both(mix, key(token)), rest))
@@ -98,7 +101,8 @@ fn elem_shape<'a, F: Fn(Token) -> Mix>(
     key: &F,
 ) -> Option<(Mix, &'a [u8])>
     requires { F.IsAlwaysCallable key.now }
-    ensures { (keys : Token → TheMix) → GivesKeys (F.post key.now) keys → option_map (λ x. (x.0, x.1.now)) result ≡ elem_shape keys depth mix bytes.now }
+    ensures { (keys : Token → TheMix) → GivesKeys (F.post key.now) keys
+        → option_map (λ x. (x.0, x.1.now)) result ≡ elem_shape keys depth mix bytes.now }
 {
     if depth == 0 {
         return None;
@@ -116,7 +120,8 @@ fn opened_shape<'a, F: Fn(Token) -> Mix>(
     key: &F,
 ) -> Option<(Mix, &'a [u8])>
     requires { F.IsAlwaysCallable key.now }
-    ensures { (keys : Token → TheMix) → GivesKeys (F.post key.now) keys → option_map (λ x. (x.0, x.1.now)) result ≡ elem_shape keys (suc depth) mix bytes.now }
+    ensures { (keys : Token → TheMix) → GivesKeys (F.post key.now) keys
+        → option_map (λ x. (x.0, x.1.now)) result ≡ elem_shape keys (suc depth) mix bytes.now }
 {
     let [first, rest @ ..] = bytes else {
         return None;
@@ -136,7 +141,8 @@ fn formed_shape<'a, F: Fn(Token) -> Mix>(
     key: &F,
 ) -> Option<(Mix, &'a [u8])>
     requires { F.IsAlwaysCallable key.now }
-    ensures { (keys : Token → TheMix) → GivesKeys (F.post key.now) keys → option_map (λ x. (x.0, x.1.now)) result ≡ formed_shape keys (elem_shape keys depth) form mix bytes.now }
+    ensures { (keys : Token → TheMix) → GivesKeys (F.post key.now) keys
+        → option_map (λ x. (x.0, x.1.now)) result ≡ formed_shape keys (elem_shape keys depth) form mix bytes.now }
 {
     match form {
         Form::Bare => Some((mix, bytes)),
@@ -160,7 +166,8 @@ fn modified_shape<'a, F: Fn(Token) -> Mix>(
     key: &F,
 ) -> Option<(Mix, &'a [u8])>
     requires { F.IsAlwaysCallable key.now }
-    ensures { (keys : Token → TheMix) → GivesKeys (F.post key.now) keys → option_map (λ x. (x.0, x.1.now)) result ≡ modified_shape keys (elem_shape keys depth) mix bytes.now }
+    ensures { (keys : Token → TheMix) → GivesKeys (F.post key.now) keys
+        → option_map (λ x. (x.0, x.1.now)) result ≡ modified_shape keys (elem_shape keys depth) mix bytes.now }
 {
     let (mix, rest) = token_shape(mix, bytes, key)?;
     elem_shape(depth, mix, rest, key)
@@ -176,7 +183,8 @@ fn array_shape<'a, F: Fn(Token) -> Mix>(
     key: &F,
 ) -> Option<(Mix, &'a [u8])>
     requires { F.IsAlwaysCallable key.now }
-    ensures { (keys : Token → TheMix) → GivesKeys (F.post key.now) keys → option_map (λ x. (x.0, x.1.now)) result ≡ array_shape (elem_shape keys depth) mix bytes.now }
+    ensures { (keys : Token → TheMix) → GivesKeys (F.post key.now) keys
+        → option_map (λ x. (x.0, x.1.now)) result ≡ array_shape (elem_shape keys depth) mix bytes.now }
 {
     let (mix, rest) = elem_shape(depth, mix, bytes, key)?;
     let (mix, rest) = numeral_shape(Numeral::Size, mix, rest)?;
@@ -194,7 +202,8 @@ fn many_shape<'a, F: Fn(Token) -> Mix>(
     key: &F,
 ) -> Option<(Mix, &'a [u8])>
     requires { F.IsAlwaysCallable key.now }
-    ensures { (keys : Token → TheMix) → GivesKeys (F.post key.now) keys → option_map (λ x. (x.0, x.1.now)) result ≡ many_shape (elem_shape keys depth) count mix bytes.now }
+    ensures { (keys : Token → TheMix) → GivesKeys (F.post key.now) keys
+        → option_map (λ x. (x.0, x.1.now)) result ≡ many_shape (elem_shape keys depth) count mix bytes.now }
 {
     let mut mix = mix;
     let mut rest = bytes;
@@ -218,7 +227,8 @@ fn instance_shape<'a, F: Fn(Token) -> Mix>(
     key: &F,
 ) -> Option<(Mix, &'a [u8])>
     requires { F.IsAlwaysCallable key.now }
-    ensures { (keys : Token → TheMix) → GivesKeys (F.post key.now) keys → option_map (λ x. (x.0, x.1.now)) result ≡ instance_shape keys (elem_shape keys depth) mix bytes.now }
+    ensures { (keys : Token → TheMix) → GivesKeys (F.post key.now) keys
+        → option_map (λ x. (x.0, x.1.now)) result ≡ instance_shape keys (elem_shape keys depth) mix bytes.now }
 {
     let (mix, rest) = class_shape(mix, bytes)?;
     let (mix, rest) = token_shape(mix, rest, key)?;
@@ -236,7 +246,8 @@ fn params_shape<'a, F: Fn(Token) -> Mix>(
     key: &F,
 ) -> Option<(Mix, &'a [u8])>
     requires { F.IsAlwaysCallable key.now }
-    ensures { (keys : Token → TheMix) → GivesKeys (F.post key.now) keys → option_map (λ x. (x.0, x.1.now)) result ≡ params_shape (elem_shape keys depth) count mix bytes.now }
+    ensures { (keys : Token → TheMix) → GivesKeys (F.post key.now) keys
+        → option_map (λ x. (x.0, x.1.now)) result ≡ params_shape (elem_shape keys depth) count mix bytes.now }
 {
     let mut mix = mix;
     let mut rest = bytes;
@@ -267,7 +278,8 @@ fn marked_shape<'a, F: Fn(Token) -> Mix>(
     key: &F,
 ) -> Option<(Mix, &'a [u8])>
     requires { F.IsAlwaysCallable key.now }
-    ensures { (keys : Token → TheMix) → GivesKeys (F.post key.now) keys → option_map (λ x. (x.0, x.1.now)) result ≡ marked_shape (elem_shape keys depth) more mix bytes.now }
+    ensures { (keys : Token → TheMix) → GivesKeys (F.post key.now) keys
+        → option_map (λ x. (x.0, x.1.now)) result ≡ marked_shape (elem_shape keys depth) more mix bytes.now }
 {
     let (mix, rest) = elem_shape(depth, mix, bytes, key)?;
     many_shape(more, depth, mix, rest, key)
@@ -283,7 +295,8 @@ fn parts_shape<'a, F: Fn(Token) -> Mix>(
     key: &F,
 ) -> Option<(Mix, &'a [u8])>
     requires { F.IsAlwaysCallable key.now }
-    ensures { (keys : Token → TheMix) → GivesKeys (F.post key.now) keys → option_map (λ x. (x.0, x.1.now)) result ≡ parts_shape (elem_shape keys depth) mix bytes.now }
+    ensures { (keys : Token → TheMix) → GivesKeys (F.post key.now) keys
+        → option_map (λ x. (x.0, x.1.now)) result ≡ parts_shape (elem_shape keys depth) mix bytes.now }
 {
     let (count, rest) = unsigned_front(bytes)?;
     let (mix, rest) = elem_shape(depth, mixed(mix, u64::from(count)), rest, key)?;
@@ -300,7 +313,8 @@ fn method_shape<'a, F: Fn(Token) -> Mix>(
     key: &F,
 ) -> Option<(Mix, &'a [u8])>
     requires { F.IsAlwaysCallable key.now }
-    ensures { (keys : Token → TheMix) → GivesKeys (F.post key.now) keys → option_map (λ x. (x.0, x.1.now)) result ≡ method_shape (elem_shape keys depth) mix bytes.now }
+    ensures { (keys : Token → TheMix) → GivesKeys (F.post key.now) keys
+        → option_map (λ x. (x.0, x.1.now)) result ≡ method_shape (elem_shape keys depth) mix bytes.now }
 {
     let (mix, rest) = calling_shape(mix, bytes)?;
     parts_shape(depth, mix, rest, key)
@@ -323,7 +337,8 @@ fn byte_shape(byte: u8, mix: Mix, bytes: &[u8]) -> Option<(Mix, &[u8])>
 /// The first byte of a property.
 #[tactic(auto, unfolding(crate::specs::Shape::number_shape, crate::specs::Grammar::byte_in))]
 fn property_shape(mix: Mix, bytes: &[u8]) -> Option<(Mix, &[u8])>
-    ensures { option_map (λ x. (x.0, x.1.now)) result ≡ number_shape (byte_in (λ b. b == 0x08 || b == 0x28)) mix bytes.now }
+    ensures { option_map (λ x. (x.0, x.1.now)) result
+        ≡ number_shape (byte_in (λ b. b == 0x08 || b == 0x28)) mix bytes.now }
 {
     match bytes {
         [0x08, rest @ ..] => Some((mixed(mix, 0x08), rest)),
@@ -340,7 +355,8 @@ fn counted_shape<'a, F: Fn(Token) -> Mix>(
     key: &F,
 ) -> Option<(Mix, &'a [u8])>
     requires { F.IsAlwaysCallable key.now }
-    ensures { (keys : Token → TheMix) → GivesKeys (F.post key.now) keys → option_map (λ x. (x.0, x.1.now)) result ≡ counted_shape (type_shape keys) mix bytes.now }
+    ensures { (keys : Token → TheMix) → GivesKeys (F.post key.now) keys
+        → option_map (λ x. (x.0, x.1.now)) result ≡ counted_shape (type_shape keys) mix bytes.now }
 {
     let (count, rest) = unsigned_front(bytes)?;
     many_shape(count, DEPTH, mixed(mix, u64::from(count)), rest, key)
@@ -354,7 +370,8 @@ fn accessed_shape<'a, F: Fn(Token) -> Mix>(
     key: &F,
 ) -> Option<(Mix, &'a [u8])>
     requires { F.IsAlwaysCallable key.now }
-    ensures { (keys : Token → TheMix) → GivesKeys (F.post key.now) keys → option_map (λ x. (x.0, x.1.now)) result ≡ accessed_shape (type_shape keys) mix bytes.now }
+    ensures { (keys : Token → TheMix) → GivesKeys (F.post key.now) keys
+        → option_map (λ x. (x.0, x.1.now)) result ≡ accessed_shape (type_shape keys) mix bytes.now }
 {
     let (count, rest) = unsigned_front(bytes)?;
     let (mix, rest) = elem_shape(DEPTH, mixed(mix, u64::from(count)), rest, key)?;
@@ -370,7 +387,8 @@ fn front_shape<'a, F: Fn(Token) -> Mix>(
     key: &F,
 ) -> Option<(Mix, &'a [u8])>
     requires { F.IsAlwaysCallable key.now }
-    ensures { (keys : Token → TheMix) → GivesKeys (F.post key.now) keys → option_map (λ x. (x.0, x.1.now)) result ≡ front_shape keys kind mix bytes.now }
+    ensures { (keys : Token → TheMix) → GivesKeys (F.post key.now) keys
+        → option_map (λ x. (x.0, x.1.now)) result ≡ front_shape keys kind mix bytes.now }
 {
     match kind {
         SigKind::Method => method_shape(DEPTH, mix, bytes, key),

@@ -54,7 +54,8 @@ pub fn calling_of_both<'a, 'b>(a: &'a [u8], b: &'b [u8]) -> Option<(&'a [u8], &'
 /// The same of the byte behind a generic instance's first.
 #[tactic(auto, unfolding(crate::specs::Walk::alike_alone, crate::specs::Grammar::byte_in))]
 fn class_of_both<'a, 'b>(a: &'a [u8], b: &'b [u8]) -> Option<(&'a [u8], &'b [u8])>
-    ensures { option_map (λ x. (x.0.now, x.1.now)) result ≡ alike_alone (byte_in (λ c. c == 0x11 || c == 0x12)) a.now b.now }
+    ensures { option_map (λ x. (x.0.now, x.1.now)) result
+        ≡ alike_alone (byte_in (λ c. c == 0x11 || c == 0x12)) a.now b.now }
 {
     match (a, b) {
         ([0x11, a @ ..], [0x11, b @ ..]) => Some((a, b)),
@@ -70,7 +71,8 @@ fn many_numerals_of_both<'a, 'b>(
     a: &'a [u8],
     b: &'b [u8],
 ) -> Option<(&'a [u8], &'b [u8])>
-    ensures { option_map (λ x. (x.0.now, x.1.now)) result ≡ many_walk (alike_alone (numeral_in kind)) count a.now b.now }
+    ensures { option_map (λ x. (x.0.now, x.1.now)) result
+        ≡ many_walk (alike_alone (numeral_in kind)) count a.now b.now }
 {
     let mut a = a;
     let mut b = b;
@@ -101,7 +103,8 @@ fn token_of_both<'a, 'b, F: Fn(Token, Token) -> bool>(
     same: &F,
 ) -> Option<(&'a [u8], &'b [u8])>
     requires { F.IsAlwaysCallable same.now }
-    ensures { (rel : Token → Token → Bool) → Tells (F.post same.now) rel → option_map (λ x. (x.0.now, x.1.now)) result ≡ token_walk rel a.now b.now }
+    ensures { (rel : Token → Token → Bool) → Tells (F.post same.now) rel
+        → option_map (λ x. (x.0.now, x.1.now)) result ≡ token_walk rel a.now b.now }
 {
     let (t, a) = coded_token(a)?;
     let (u, b) = coded_token(b)?;
@@ -120,7 +123,8 @@ pub fn elem_of_both<'a, 'b, F: Fn(Token, Token) -> bool>(
     same: &F,
 ) -> Option<(&'a [u8], &'b [u8])>
     requires { F.IsAlwaysCallable same.now }
-    ensures { (rel : Token → Token → Bool) → Tells (F.post same.now) rel → option_map (λ x. (x.0.now, x.1.now)) result ≡ elem_walk rel depth a.now b.now }
+    ensures { (rel : Token → Token → Bool) → Tells (F.post same.now) rel
+        → option_map (λ x. (x.0.now, x.1.now)) result ≡ elem_walk rel depth a.now b.now }
 {
     if depth == 0 {
         return None;
@@ -138,7 +142,8 @@ fn opened_of_both<'a, 'b, F: Fn(Token, Token) -> bool>(
     same: &F,
 ) -> Option<(&'a [u8], &'b [u8])>
     requires { F.IsAlwaysCallable same.now }
-    ensures { (rel : Token → Token → Bool) → Tells (F.post same.now) rel → option_map (λ x. (x.0.now, x.1.now)) result ≡ elem_walk rel (suc depth) a.now b.now }
+    ensures { (rel : Token → Token → Bool) → Tells (F.post same.now) rel
+        → option_map (λ x. (x.0.now, x.1.now)) result ≡ elem_walk rel (suc depth) a.now b.now }
 {
     let ([x, a @ ..], [y, b @ ..]) = (a, b) else {
         return None;
@@ -161,7 +166,8 @@ fn formed_of_both<'a, 'b, F: Fn(Token, Token) -> bool>(
     same: &F,
 ) -> Option<(&'a [u8], &'b [u8])>
     requires { F.IsAlwaysCallable same.now }
-    ensures { (rel : Token → Token → Bool) → Tells (F.post same.now) rel → option_map (λ x. (x.0.now, x.1.now)) result ≡ formed_walk rel (elem_walk rel depth) form a.now b.now }
+    ensures { (rel : Token → Token → Bool) → Tells (F.post same.now) rel
+        → option_map (λ x. (x.0.now, x.1.now)) result ≡ formed_walk rel (elem_walk rel depth) form a.now b.now }
 {
     match form {
         Form::Bare => Some((a, b)),
@@ -185,7 +191,8 @@ fn modified_of_both<'a, 'b, F: Fn(Token, Token) -> bool>(
     same: &F,
 ) -> Option<(&'a [u8], &'b [u8])>
     requires { F.IsAlwaysCallable same.now }
-    ensures { (rel : Token → Token → Bool) → Tells (F.post same.now) rel → option_map (λ x. (x.0.now, x.1.now)) result ≡ modified_walk rel (elem_walk rel depth) a.now b.now }
+    ensures { (rel : Token → Token → Bool) → Tells (F.post same.now) rel
+        → option_map (λ x. (x.0.now, x.1.now)) result ≡ modified_walk rel (elem_walk rel depth) a.now b.now }
 {
     let (a, b) = token_of_both(a, b, same)?;
     elem_of_both(depth, a, b, same)
@@ -201,7 +208,8 @@ fn array_of_both<'a, 'b, F: Fn(Token, Token) -> bool>(
     same: &F,
 ) -> Option<(&'a [u8], &'b [u8])>
     requires { F.IsAlwaysCallable same.now }
-    ensures { (rel : Token → Token → Bool) → Tells (F.post same.now) rel → option_map (λ x. (x.0.now, x.1.now)) result ≡ array_walk (elem_walk rel depth) a.now b.now }
+    ensures { (rel : Token → Token → Bool) → Tells (F.post same.now) rel
+        → option_map (λ x. (x.0.now, x.1.now)) result ≡ array_walk (elem_walk rel depth) a.now b.now }
 {
     let (a, b) = elem_of_both(depth, a, b, same)?;
     let (a, b) = numeral_of_both(Numeral::Size, a, b)?;
@@ -219,7 +227,8 @@ pub fn many_of_both<'a, 'b, F: Fn(Token, Token) -> bool>(
     same: &F,
 ) -> Option<(&'a [u8], &'b [u8])>
     requires { F.IsAlwaysCallable same.now }
-    ensures { (rel : Token → Token → Bool) → Tells (F.post same.now) rel → option_map (λ x. (x.0.now, x.1.now)) result ≡ many_walk (elem_walk rel depth) count a.now b.now }
+    ensures { (rel : Token → Token → Bool) → Tells (F.post same.now) rel
+        → option_map (λ x. (x.0.now, x.1.now)) result ≡ many_walk (elem_walk rel depth) count a.now b.now }
 {
     let mut a = a;
     let mut b = b;
@@ -243,7 +252,8 @@ fn instance_of_both<'a, 'b, F: Fn(Token, Token) -> bool>(
     same: &F,
 ) -> Option<(&'a [u8], &'b [u8])>
     requires { F.IsAlwaysCallable same.now }
-    ensures { (rel : Token → Token → Bool) → Tells (F.post same.now) rel → option_map (λ x. (x.0.now, x.1.now)) result ≡ instance_walk rel (elem_walk rel depth) a.now b.now }
+    ensures { (rel : Token → Token → Bool) → Tells (F.post same.now) rel
+        → option_map (λ x. (x.0.now, x.1.now)) result ≡ instance_walk rel (elem_walk rel depth) a.now b.now }
 {
     let (a, b) = class_of_both(a, b)?;
     let (a, b) = token_of_both(a, b, same)?;
@@ -261,7 +271,8 @@ fn params_of_both<'a, 'b, F: Fn(Token, Token) -> bool>(
     same: &F,
 ) -> Option<(&'a [u8], &'b [u8])>
     requires { F.IsAlwaysCallable same.now }
-    ensures { (rel : Token → Token → Bool) → Tells (F.post same.now) rel → option_map (λ x. (x.0.now, x.1.now)) result ≡ params_walk (elem_walk rel depth) count a.now b.now }
+    ensures { (rel : Token → Token → Bool) → Tells (F.post same.now) rel
+        → option_map (λ x. (x.0.now, x.1.now)) result ≡ params_walk (elem_walk rel depth) count a.now b.now }
 {
     let mut a = a;
     let mut b = b;
@@ -292,7 +303,8 @@ fn marked_of_both<'a, 'b, F: Fn(Token, Token) -> bool>(
     same: &F,
 ) -> Option<(&'a [u8], &'b [u8])>
     requires { F.IsAlwaysCallable same.now }
-    ensures { (rel : Token → Token → Bool) → Tells (F.post same.now) rel → option_map (λ x. (x.0.now, x.1.now)) result ≡ marked_walk (elem_walk rel depth) more a.now b.now }
+    ensures { (rel : Token → Token → Bool) → Tells (F.post same.now) rel
+        → option_map (λ x. (x.0.now, x.1.now)) result ≡ marked_walk (elem_walk rel depth) more a.now b.now }
 {
     let b = behind_sentinel(b)?;
     let (a, b) = elem_of_both(depth, a, b, same)?;
@@ -309,7 +321,8 @@ fn parts_of_both<'a, 'b, F: Fn(Token, Token) -> bool>(
     same: &F,
 ) -> Option<(&'a [u8], &'b [u8])>
     requires { F.IsAlwaysCallable same.now }
-    ensures { (rel : Token → Token → Bool) → Tells (F.post same.now) rel → option_map (λ x. (x.0.now, x.1.now)) result ≡ parts_walk (elem_walk rel depth) a.now b.now }
+    ensures { (rel : Token → Token → Bool) → Tells (F.post same.now) rel
+        → option_map (λ x. (x.0.now, x.1.now)) result ≡ parts_walk (elem_walk rel depth) a.now b.now }
 {
     let (count, a, b) = count_of_both(a, b)?;
     let (a, b) = elem_of_both(depth, a, b, same)?;
@@ -326,7 +339,8 @@ pub fn method_of_both<'a, 'b, F: Fn(Token, Token) -> bool>(
     same: &F,
 ) -> Option<(&'a [u8], &'b [u8])>
     requires { F.IsAlwaysCallable same.now }
-    ensures { (rel : Token → Token → Bool) → Tells (F.post same.now) rel → option_map (λ x. (x.0.now, x.1.now)) result ≡ method_walk (elem_walk rel depth) a.now b.now }
+    ensures { (rel : Token → Token → Bool) → Tells (F.post same.now) rel
+        → option_map (λ x. (x.0.now, x.1.now)) result ≡ method_walk (elem_walk rel depth) a.now b.now }
 {
     let (a, b) = calling_of_both(a, b)?;
     parts_of_both(depth, a, b, same)

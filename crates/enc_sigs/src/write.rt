@@ -116,14 +116,16 @@ fn write_generics(calling: u32, generics: u32, out: &mut Vec<u8>) -> Result<(), 
 
 /// Appends how many types these are.
 fn write_count(kids: &[Elem], out: &mut Vec<u8>) -> Result<(), AllocError>
-    ensures { IfOk result (λ _. out.new.items ≡ out.old.items ++ number_bytes (length (spellings (forest_of kids.now)))) }
+    ensures { IfOk result (λ _. out.new.items
+        ≡ out.old.items ++ number_bytes (length (spellings (forest_of kids.now)))) }
 {
     write_number(kids.len(), out)
 }
 
 /// Appends how many types these are without the first.
 fn write_count_behind(kids: &[Elem], out: &mut Vec<u8>) -> Result<(), AllocError>
-    ensures { IfOk result (λ _. out.new.items ≡ out.old.items ++ number_bytes (length (spellings (forest_of kids.now)) - 1)) }
+    ensures { IfOk result (λ _. out.new.items
+        ≡ out.old.items ++ number_bytes (length (spellings (forest_of kids.now)) - 1)) }
 {
     write_number(kids.len().saturating_sub(1), out)
 }
@@ -135,7 +137,8 @@ fn write_moved_token<F: Fn(Token) -> Token>(
     out: &mut Vec<u8>,
 ) -> Result<(), AllocError>
     requires { F.IsAlwaysCallable moved.now }
-    ensures { (f : Token → Token) → GivesTokens (F.post moved.now) f → IfOk result (λ _. out.new.items ≡ out.old.items ++ token_bytes (f token)) }
+    ensures { (f : Token → Token) → GivesTokens (F.post moved.now) f
+        → IfOk result (λ _. out.new.items ≡ out.old.items ++ token_bytes (f token)) }
 {
     write_token(moved(token), out)
 }
@@ -149,7 +152,8 @@ fn write_elem<F: Fn(Token) -> Token>(
     out: &mut Vec<u8>,
 ) -> Result<(), AllocError>
     requires { F.IsAlwaysCallable moved.now }
-    ensures { (f : Token → Token) → GivesTokens (F.post moved.now) f → IfOk result (λ _. out.new.items ≡ out.old.items ++ tree_bytes (tree_moved f elem.now)) }
+    ensures { (f : Token → Token) → GivesTokens (F.post moved.now) f
+        → IfOk result (λ _. out.new.items ≡ out.old.items ++ tree_bytes (tree_moved f elem.now)) }
 {
     write_byte(elem.element, out)?;
     write_within(form_by(elem.element), elem, moved, out)
@@ -165,7 +169,10 @@ fn write_within<F: Fn(Token) -> Token>(
     out: &mut Vec<u8>,
 ) -> Result<(), AllocError>
     requires { F.IsAlwaysCallable moved.now }
-    ensures { (f : Token → Token) → GivesTokens (F.post moved.now) f → IfOk result (λ _. out.new.items ≡ out.old.items ++ formed_bytes form (if form_has_token form then f elem.now.token else elem.now.token) elem.now.number (trees (forest_moved f elem.now.kids)) (spellings (forest_moved f elem.now.kids))) }
+    ensures { (f : Token → Token) → GivesTokens (F.post moved.now) f → IfOk result
+        (λ _. out.new.items ≡ out.old.items ++ formed_bytes form (if form_has_token form then f elem.now.token
+        else elem.now.token) elem.now.number (trees (forest_moved f elem.now.kids))
+        (spellings (forest_moved f elem.now.kids))) }
 {
     let kids = elem.kids();
     let Some(form) = form else {
@@ -195,7 +202,8 @@ fn write_elems<F: Fn(Token) -> Token>(
     out: &mut Vec<u8>,
 ) -> Result<(), AllocError>
     requires { F.IsAlwaysCallable moved.now }
-    ensures { (f : Token → Token) → GivesTokens (F.post moved.now) f → IfOk result (λ _. out.new.items ≡ out.old.items ++ joined (spellings (forest_moved f (forest_of kids.now)))) }
+    ensures { (f : Token → Token) → GivesTokens (F.post moved.now) f
+        → IfOk result (λ _. out.new.items ≡ out.old.items ++ joined (spellings (forest_moved f (forest_of kids.now)))) }
 {
     let mut rest = kids;
     while let [kid, more @ ..] = rest {
@@ -214,7 +222,8 @@ fn write_first<F: Fn(Token) -> Token>(
     out: &mut Vec<u8>,
 ) -> Result<(), AllocError>
     requires { F.IsAlwaysCallable moved.now }
-    ensures { (f : Token → Token) → GivesTokens (F.post moved.now) f → IfOk result (λ _. out.new.items ≡ out.old.items ++ front_of (spellings (forest_moved f (forest_of kids.now)))) }
+    ensures { (f : Token → Token) → GivesTokens (F.post moved.now) f →
+        IfOk result (λ _. out.new.items ≡ out.old.items ++ front_of (spellings (forest_moved f (forest_of kids.now)))) }
 {
     match kids {
         [kid, ..] => write_elem(kid, moved, out),
@@ -232,7 +241,9 @@ fn write_array<F: Fn(Token) -> Token>(
     out: &mut Vec<u8>,
 ) -> Result<(), AllocError>
     requires { F.IsAlwaysCallable moved.now }
-    ensures { (f : Token → Token) → GivesTokens (F.post moved.now) f → IfOk result (λ _. out.new.items ≡ out.old.items ++ array_bytes rank (trees (forest_moved f (forest_of kids.now))) (spellings (forest_moved f (forest_of kids.now)))) }
+    ensures { (f : Token → Token) → GivesTokens (F.post moved.now) f → IfOk result
+        (λ _. out.new.items ≡ out.old.items ++ array_bytes rank (trees (forest_moved f (forest_of kids.now)))
+        (spellings (forest_moved f (forest_of kids.now)))) }
 {
     write_first(kids, moved, out)?;
     write_number(rank as usize, out)?;
@@ -249,7 +260,8 @@ fn write_counted<F: Fn(Token) -> Token>(
     out: &mut Vec<u8>,
 ) -> Result<(), AllocError>
     requires { F.IsAlwaysCallable moved.now }
-    ensures { (f : Token → Token) → GivesTokens (F.post moved.now) f → IfOk result (λ _. out.new.items ≡ out.old.items ++ counted_bytes (spellings (forest_moved f (forest_of kids.now)))) }
+    ensures { (f : Token → Token) → GivesTokens (F.post moved.now) f → IfOk result
+        (λ _. out.new.items ≡ out.old.items ++ counted_bytes (spellings (forest_moved f (forest_of kids.now)))) }
 {
     write_count(kids, out)?;
     write_elems(kids, moved, out)
@@ -265,7 +277,9 @@ fn write_instance<F: Fn(Token) -> Token>(
     out: &mut Vec<u8>,
 ) -> Result<(), AllocError>
     requires { F.IsAlwaysCallable moved.now }
-    ensures { (f : Token → Token) → GivesTokens (F.post moved.now) f → IfOk result (λ _. out.new.items ≡ out.old.items ++ (class % 0x100) ∷ (token_bytes (f token) ++ counted_bytes (spellings (forest_moved f (forest_of kids.now))))) }
+    ensures { (f : Token → Token) → GivesTokens (F.post moved.now) f → IfOk result
+        (λ _. out.new.items ≡ out.old.items ++ (class % 0x100)
+        ∷ (token_bytes (f token) ++ counted_bytes (spellings (forest_moved f (forest_of kids.now))))) }
 {
     write_byte((class % 0x100) as u8, out)?;
     write_moved_token(token, moved, out)?;
@@ -281,7 +295,8 @@ fn write_parts<F: Fn(Token) -> Token>(
     out: &mut Vec<u8>,
 ) -> Result<(), AllocError>
     requires { F.IsAlwaysCallable moved.now }
-    ensures { (f : Token → Token) → GivesTokens (F.post moved.now) f → IfOk result (λ _. out.new.items ≡ out.old.items ++ parts_bytes (spellings (forest_moved f (forest_of kids.now)))) }
+    ensures { (f : Token → Token) → GivesTokens (F.post moved.now) f → IfOk result
+        (λ _. out.new.items ≡ out.old.items ++ parts_bytes (spellings (forest_moved f (forest_of kids.now)))) }
 {
     write_count_behind(kids, out)?;
     write_elems(kids, moved, out)
@@ -297,7 +312,9 @@ fn write_pointer<F: Fn(Token) -> Token>(
     out: &mut Vec<u8>,
 ) -> Result<(), AllocError>
     requires { F.IsAlwaysCallable moved.now }
-    ensures { (f : Token → Token) → GivesTokens (F.post moved.now) f → IfOk result (λ _. out.new.items ≡ out.old.items ++ pointer_bytes calling (trees (forest_moved f (forest_of kids.now))) (spellings (forest_moved f (forest_of kids.now)))) }
+    ensures { (f : Token → Token) → GivesTokens (F.post moved.now) f → IfOk result
+        (λ _. out.new.items ≡ out.old.items ++ pointer_bytes calling (trees (forest_moved f (forest_of kids.now)))
+        (spellings (forest_moved f (forest_of kids.now)))) }
 {
     let [generics, parts @ ..] = kids else {
         return Ok(());
@@ -315,7 +332,9 @@ fn write_front<F: Fn(Token) -> Token>(
     out: &mut Vec<u8>,
 ) -> Result<(), AllocError>
     requires { F.IsAlwaysCallable moved.now }
-    ensures { (f : Token → Token) → GivesTokens (F.post moved.now) f → IfOk result (λ _. out.new.items ≡ out.old.items ++ front_bytes front.now.form front.now.kind front.now.generics (spellings (forest_moved f (forest_of front.now.parts)))) }
+    ensures { (f : Token → Token) → GivesTokens (F.post moved.now) f → IfOk result
+        (λ _. out.new.items ≡ out.old.items ++ front_bytes front.now.form front.now.kind front.now.generics
+        (spellings (forest_moved f (forest_of front.now.parts)))) }
 {
     let parts = front.parts.as_slice();
     match front.form {
@@ -353,7 +372,8 @@ fn write_whole<F: Fn(Token) -> Token>(
     out: &mut Vec<u8>,
 ) -> Result<(), AllocError>
     requires { F.IsAlwaysCallable moved.now }
-    ensures { (f : Token → Token) → GivesTokens (F.post moved.now) f → out.new.items ≡ (if is_ok result then out.old.items ++ sig_bytes (sig_moved f front.now) else out.old.items) }
+    ensures { (f : Token → Token) → GivesTokens (F.post moved.now) f
+        → out.new.items ≡ (if is_ok result then out.old.items ++ sig_bytes (sig_moved f front.now) else out.old.items) }
 {
     let mut bytes = Vec::new(alloc);
     write_front(front, moved, &mut bytes)?;
@@ -371,8 +391,10 @@ pub fn write_moved<F: Fn(Token) -> Token>(
     out: &mut Vec<u8>,
 ) -> Result<(), AllocError>
     requires callable { F.IsAlwaysCallable moved }
-    ensures written { (f : Token → Token) → GivesTokens (F.post moved) f → out.new.items ≡ (if is_ok result then out.old.items ++ sig_bytes (sig_moved f sig.now) else out.old.items) }
-    ensures back { (f : Token → Token) → GivesTokens (F.post moved) f → all_tokens (stays_in_table f) (forest_of sig.now.parts) ≡ true → IsSpelled (sig_moved f sig.now) }
+    ensures written { (f : Token → Token) → GivesTokens (F.post moved) f
+        → out.new.items ≡ (if is_ok result then out.old.items ++ sig_bytes (sig_moved f sig.now) else out.old.items) }
+    ensures back { (f : Token → Token) → GivesTokens (F.post moved) f
+        → all_tokens (stays_in_table f) (forest_of sig.now.parts) ≡ true → IsSpelled (sig_moved f sig.now) }
 {
     written_laws();
     write_whole(alloc, &sig.front, &moved, out)

@@ -12,7 +12,8 @@ use Rattle.enc_text.specs.Text.{digits, token_text, quoted}
 
 -- how many hexadecimal digits an offset is written with: four, or as many as it has
 abbrev pub label_digits : ℕ → ℕ
-label_digits n = if nat_lt n 0x10000 then 4 else if nat_lt n 0x100000 then 5 else if nat_lt n 0x1000000 then 6 else if nat_lt n 0x10000000 then 7 else 8
+label_digits n = if nat_lt n 0x10000 then 4 else if nat_lt n 0x100000 then 5 else if nat_lt n 0x1000000 then 6
+    else if nat_lt n 0x10000000 then 7 else 8
 
 -- an offset in the code
 unfoldable pub label : ℕ → List ℕ
@@ -65,7 +66,8 @@ extra_text faulting = []
 
 -- the line of a clause: its kind, the protected code, the handler, and the class or the filter
 unfoldable pub handler_text : Handler → List ℕ
-handler_text h = 0x20 ∷ 0x20 ∷ kind_text h.kind ++ 0x20 ∷ range_text h.tries ++ 0x20 ∷ range_text h.handler ++ extra_text h.kind ++ 0x0a ∷ []
+handler_text h = 0x20 ∷ 0x20 ∷ kind_text h.kind ++ 0x20 ∷ range_text h.tries ++ 0x20 ∷ range_text h.handler
+    ++ extra_text h.kind ++ 0x0a ∷ []
 
 -- the most values on the stack, with which the line of a body's header begins
 unfoldable pub stack_text : ℕ → List ℕ
@@ -86,4 +88,5 @@ header_text stack init locals = stack_text stack ++ init_text init ++ locals_tex
 
 -- the lines of a body: its header, its instructions, and its clauses
 unfoldable pub body_text : Body → List ℕ
-body_text b = header_text b.stack b.init b.locals ++ flat_map instruction_text b.code ++ flat_map handler_text b.handlers
+body_text b = header_text b.stack b.init b.locals ++ flat_map instruction_text b.code
+    ++ flat_map handler_text b.handlers

@@ -51,7 +51,8 @@ named_cell (Some (Run table)) name cell = []
 named_cell (Some c) name cell = equation c name cell
 
 unfoldable pub cell_text : Module → Token → ℕ → List ℕ
-cell_text m token i = named_cell (column_in token.table i) (unwrap_or (column_name_in token.table i) []) (cell_of m token i)
+cell_text m token i = named_cell (column_in token.table i) (unwrap_or (column_name_in token.table i) [])
+    (cell_of m token i)
 
 -- ` @G.R`: the generation, and the row's position there
 unfoldable pub row_place_text : RowPlace → List ℕ
@@ -65,7 +66,8 @@ line_text m place token =
 
 -- the line of a child row's owner
 unfoldable pub owner_text : Module → Token → List ℕ
-owner_text m token = if is_child_table token.table then codes "  owner " ++ token_text (unwrap_or (owner_of m token) nil) ++ 0x0a ∷ [] else []
+owner_text m token = if is_child_table token.table
+    then codes "  owner " ++ token_text (unwrap_or (owner_of m token) nil) ++ 0x0a ∷ [] else []
 
 -- what the children in a table are called
 abbrev pub kids_name : ℕ → List ℕ
@@ -104,4 +106,5 @@ debug_text pdb token = if token.table == 0x06 then points_text (pdb token) else 
 -- the row's line, its owner's line, the lines of its children, those of its body, and those of its points
 unfoldable pub row_text_of : Module → PlainPdb → RowPlace → Token → List ℕ
 row_text_of m pdb place token =
-    line_text m place token ++ owner_text m token ++ flat_map (kids_text m token) (runs_in token.table) ++ code_text m token ++ debug_text pdb token
+    line_text m place token ++ owner_text m token ++ flat_map (kids_text m token) (runs_in token.table)
+    ++ code_text m token ++ debug_text pdb token

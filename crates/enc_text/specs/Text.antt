@@ -76,4 +76,5 @@ place_text (place.Log k) = codes "log " ++ decimal k
 
 -- the line of a refused file
 unfoldable pub refused_line : List ℕ → Refusal → List ℕ
-refused_line name e = codes "refused " ++ name ++ 0x20 ∷ refusal_code_text e.code ++ 0x20 ∷ place_text e.place ++ 0x0a ∷ []
+refused_line name e = codes "refused " ++ name ++ 0x20 ∷ refusal_code_text e.code ++ 0x20 ∷ place_text e.place ++ 0x0a
+    ∷ []

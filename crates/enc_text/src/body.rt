@@ -29,7 +29,8 @@ fn push_instruction<V: ModuleView>(
     out: &mut Vec<u8>,
 ) -> Result<(), AllocError>
     requires { IsTrue (is_op instr.now.op) }
-    ensures { OnOk result (out.new.items ≡ out.old.items ++ instruction_text (instruction_told (V.users view.now) (at, (instr_seen (instr.now, end)).0))) }
+    ensures { OnOk result (out.new.items ≡ out.old.items ++ instruction_text
+        (instruction_told (V.users view.now) (at, (instr_seen (instr.now, end)).0))) }
 {
     push_str(out, "  ")?;
     push_label(at, out)?;
@@ -47,7 +48,8 @@ fn push_instructions<V: ModuleView>(
     out: &mut Vec<u8>,
 ) -> Result<(), AllocError>
     requires few { length code.now.code.now < 2 ^ 32 }
-    ensures { OnOk result (out.new.items ≡ out.old.items ++ flat_map instruction_text (map (instruction_told (V.users view.now)) (instructions_of code.now.code.now))) }
+    ensures { OnOk result (out.new.items ≡ out.old.items ++ flat_map instruction_text
+        (map (instruction_told (V.users view.now)) (instructions_of code.now.code.now))) }
 {
     let mut at = 0;
     while let Some((instr, end)) = instr_at(code, at) {
@@ -105,7 +107,8 @@ fn push_clause(clause: Clause, out: &mut Vec<u8>) -> Result<(), AllocError>
 
 /// Appends the lines of a section's clauses.
 fn push_section(section: &SectionRef<'_>, out: &mut Vec<u8>) -> Result<(), AllocError>
-    ensures { OnOk result (out.new.items ≡ out.old.items ++ flat_map handler_text (map handler_meant (clauses_in section.now.fat section.now.count section.now.clauses.now))) }
+    ensures { OnOk result (out.new.items ≡ out.old.items ++ flat_map handler_text
+        (map handler_meant (clauses_in section.now.fat section.now.count section.now.clauses.now))) }
 {
     let mut rest = section.clauses;
     for i in 0..section.count {
@@ -118,7 +121,8 @@ fn push_section(section: &SectionRef<'_>, out: &mut Vec<u8>) -> Result<(), Alloc
 /// Appends the lines of all clauses of these sections, which stand whole.
 fn push_sections(sections: &[u8], out: &mut Vec<u8>) -> Result<(), AllocError>
     requires { IsTrue (is_some (all_sections sections.now)) }
-    ensures { OnOk result (out.new.items ≡ out.old.items ++ flat_map handler_text (map handler_meant (clauses_of sections.now))) }
+    ensures { OnOk result (out.new.items
+        ≡ out.old.items ++ flat_map handler_text (map handler_meant (clauses_of sections.now))) }
 {
     let mut rest = sections;
     while let Some((section, behind)) = section_front(rest) {
@@ -133,7 +137,8 @@ fn push_sections(sections: &[u8], out: &mut Vec<u8>) -> Result<(), AllocError>
 
 /// Appends the lines of all clauses of a body. Sections of which one isn't whole have none.
 fn push_clauses(sections: &[u8], out: &mut Vec<u8>) -> Result<(), AllocError>
-    ensures { OnOk result (out.new.items ≡ out.old.items ++ flat_map handler_text (map handler_meant (clauses_of sections.now))) }
+    ensures { OnOk result (out.new.items
+        ≡ out.old.items ++ flat_map handler_text (map handler_meant (clauses_of sections.now))) }
 {
     match behind_sections(sections) {
         None => Ok(()),
@@ -197,7 +202,8 @@ pub fn push_body<V: ModuleView>(
     out: &mut Vec<u8>,
 ) -> Result<(), AllocError>
     requires few { length code.now.code.now < 2 ^ 32 }
-    ensures { OnOk result (out.new.items ≡ out.old.items ++ body_text (body_of (V.users view.now) (code_seen code.now))) }
+    ensures { OnOk result (out.new.items
+        ≡ out.old.items ++ body_text (body_of (V.users view.now) (code_seen code.now))) }
 {
     push_header(alloc, code.max, code.init, code.locals, out)?;
     push_instructions(alloc, view, code, out)?;

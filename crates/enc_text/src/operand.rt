@@ -145,7 +145,8 @@ pub fn push_argument<V: ModuleView>(
     arg: &Arg<'_>,
     out: &mut Vec<u8>,
 ) -> Result<(), AllocError>
-    ensures { OnOk result (out.new.items ≡ out.old.items ++ argument_text (told (V.users view.now) (arg_seen end arg.now))) }
+    ensures { OnOk result (out.new.items
+        ≡ out.old.items ++ argument_text (told (V.users view.now) (arg_seen end arg.now))) }
 {
     match *arg {
         Arg::None => Ok(()),

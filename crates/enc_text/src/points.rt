@@ -60,7 +60,8 @@ fn push_point<P: PointSource>(
     point: Point,
     out: &mut Vec<u8>,
 ) -> Result<(), AllocError>
-    ensures { OnOk result (out.new.items ≡ out.old.items ++ point_text (plain_point (P.documents source.now method) point)) }
+    ensures { OnOk result (out.new.items
+        ≡ out.old.items ++ point_text (plain_point (P.documents source.now method) point)) }
 {
     push_str(out, "  point ")?;
     push_label(point.offset, out)?;
@@ -83,7 +84,8 @@ fn push_each_point<P: PointSource>(
     points: &Points,
     out: &mut Vec<u8>,
 ) -> Result<(), AllocError>
-    ensures { OnOk result (out.new.items ≡ out.old.items ++ flat_map point_text (map (plain_point (P.documents source.now method)) points.now.points)) }
+    ensures { OnOk result (out.new.items
+        ≡ out.old.items ++ flat_map point_text (map (plain_point (P.documents source.now method)) points.now.points)) }
 {
     for i in 0..points.len() {
         push_point(alloc, source, method, points.point(i), out)?;

@@ -67,7 +67,8 @@ fn push_equation<V: ModuleView>(
     requires row { IsTrue (has_row (V.meaning view.now) token) }
     requires column { column_in token.table i ≡ Some column }
     requires cell { (table : ℕ) → column ≢ Column.Run table }
-    ensures { OnOk result (out.new.items ≡ out.old.items ++ equation column (unwrap_or (column_name_in token.table i) []) (cell_of (V.meaning view.now) token i)) }
+    ensures { OnOk result (out.new.items ≡ out.old.items ++ equation column
+        (unwrap_or (column_name_in token.table i) []) (cell_of (V.meaning view.now) token i)) }
 {
     push_str(out, " ")?;
     push_str(out, column_name(token.table, i).unwrap_or(""))?;
@@ -102,7 +103,8 @@ fn push_cells<V: ModuleView>(
     out: &mut Vec<u8>,
 ) -> Result<(), AllocError>
     requires { IsTrue (has_row (V.meaning view.now) token) }
-    ensures { OnOk result (out.new.items ≡ out.old.items ++ joined_below (cell_text (V.meaning view.now) token) (length (columns_in token.table))) }
+    ensures { OnOk result (out.new.items ≡ out.old.items ++ joined_below (cell_text (V.meaning view.now) token)
+        (length (columns_in token.table))) }
 {
     for i in 0..columns_of(token.table).len() {
         push_cell(alloc, view, token, i as u8, out)?;
@@ -218,7 +220,8 @@ fn push_all_kids<V: ModuleView>(
     out: &mut Vec<u8>,
 ) -> Result<(), AllocError>
     requires { IsTrue (has_row (V.meaning view.now) token) }
-    ensures { OnOk result (out.new.items ≡ out.old.items ++ flat_map (kids_text (V.meaning view.now) token) (runs_in token.table)) }
+    ensures { OnOk result (out.new.items ≡ out.old.items ++ flat_map (kids_text (V.meaning view.now) token)
+        (runs_in token.table)) }
 {
     match token.table {
         0x02 => {
@@ -279,7 +282,8 @@ fn push_row<V: ModuleView, P: PointSource>(
     out: &mut Vec<u8>,
 ) -> Result<(), AllocError>
     requires { IsTrue (has_row (V.meaning view.now) token) }
-    ensures { OnOk result (out.new.items ≡ out.old.items ++ row_text_of (V.meaning view.now) (P.debug source.now) place token) }
+    ensures { OnOk result (out.new.items ≡ out.old.items ++ row_text_of (V.meaning view.now)
+        (P.debug source.now) place token) }
 {
     push_line(alloc, view, place, token, out)?;
     push_owner(view, token, out)?;
@@ -301,7 +305,8 @@ pub fn row_text<V: ModuleView, P: PointSource>(
     out: &mut Vec<u8>,
 ) -> Result<(), AllocError>
     requires { IsTrue (has_row (V.meaning view.now) token) }
-    ensures text { OnOk result (out.new.items ≡ out.old.items ++ row_text_of (V.meaning view.now) (P.debug source.now) place token) }
+    ensures text { OnOk result (out.new.items ≡ out.old.items ++ row_text_of (V.meaning view.now)
+        (P.debug source.now) place token) }
     ensures memory { OnErr result (out.new.items ≡ out.old.items) }
 {
     let mut text = Vec::new(alloc);

@@ -122,7 +122,8 @@ fn push_char_within(c: char, out: &mut Vec<u8>)
 
 /// The character of a pair of surrogates, `None` where the units are none.
 fn pair_char(high: u16, low: u16) -> Option<char>
-    ensures { result ≡ (if is_high_surrogate high && is_low_surrogate low then Some (surrogate_pair_char high low) else None) }
+    ensures { result ≡ (if is_high_surrogate high && is_low_surrogate low then Some (surrogate_pair_char high low)
+        else None) }
 {
     if 0xd800 <= high && high < 0xdc00 && 0xdc00 <= low && low < 0xe000 {
         return char::from_u32(

@@ -46,7 +46,8 @@ IsFrontSaved verdict old new = (saves : List (List ℕ × List ℕ)) × AreSaves
 abbrev pub IsPartSaved : Verdict → Option Files → Option Files → Type 0
 IsPartSaved verdict old new = (saves : List (List ℕ × List ℕ)) × AreSaves verdict saves × IsSavedAndPart saves old new
 
--- the files afterwards: at a whole status and at 5 those of the verdict; at 3 and 4 as before, or saving stopped on the way
+-- the files afterwards: at a whole status and at 5 those of the verdict; at 3 and 4 as before, or saving stopped on
+-- the way
 pub record Leaves (status : ℕ) (verdict : Verdict) (old new : Option Files) : Type 0 where
   pub whole : answer_is_whole status ≡ true → IsSaved verdict old new
   pub fault : status ≡ 5 → IsSaved verdict old new

@@ -34,7 +34,8 @@ unfoldable pub row_or_absent : Module → PlainPdb → RowPlace → Token → Li
 row_or_absent m debug place token = if has_row m token then row_text_of m debug place token else absent_line token
 
 unfoldable pub shown : Token → Followed → List ℕ
-shown token f = row_or_absent (chain_with f.base f.deltas).plain (pdb_with f.debug f.debugs) (place_of f.deltas token) token
+shown token f = row_or_absent (chain_with f.base f.deltas).plain (pdb_with f.debug f.debugs)
+    (place_of f.deltas token) token
 
 unfoldable pub listed_as : Followed → List ℕ
 listed_as f = listing_of f.base f.deltas
@@ -49,13 +50,16 @@ IsOutput (shows token f) output = output ≡ shown token f
 IsOutput (lists f) output = output ≡ listed_as f
 IsOutput (counts f) output = output ≡ counted_as f
 IsOutput (applies out f) output = output ≡ saved_line (dll out ∷ pdb out ∷ [])
-IsOutput (compacts out f) output = output ≡ saved_line (dll out ∷ pdb out ∷ []) ++ moved_lines (moves_listed (plain_of f))
+IsOutput (compacts out f) output =
+    output ≡ saved_line (dll out ∷ pdb out ∷ []) ++ moved_lines (moves_listed (plain_of f))
 IsOutput (merges out f) output = output ≡ saved_line (meta out ∷ il out ∷ pdb out ∷ [])
 IsOutput (writes out e) output = output ≡ saved_line (meta out ∷ il out ∷ pdb out ∷ [])
 IsOutput (runs handed f deltas script) output = IsRunText deltas handed f script output
-IsOutput (generates start count out) output = output ≡ case_line start.digits count.digits (edited_by generated_base (generated_lists start.value count.value))
+IsOutput (generates start count out) output =
+    output ≡ case_line start.digits count.digits (edited_by generated_base (generated_lists start.value count.value))
 
--- the files that say a module and its plain PDB: bytes that mean the one, and bytes that mean the other and tell the module's entry point
+-- the files that say a module and its plain PDB: bytes that mean the one, and bytes that mean the other and tell the
+-- module's entry point
 pub record AreFilesOf (out : List ℕ) (m : Module) (debug : PlainPdb) (saves : List (List ℕ × List ℕ)) : Type 0 where
   pub image : List ℕ
   pub symbols : List ℕ
@@ -65,7 +69,8 @@ pub record AreFilesOf (out : List ℕ) (m : Module) (debug : PlainPdb) (saves : 
   pub entry_is : entry_told symbols ≡ Some m.entry
 
 -- the same in the order of an ordinary module, whose table stream is `#~` and which has no rows in Ptr tables
-pub record AreFilesOfOrdinary (out : List ℕ) (m : Module) (debug : PlainPdb) (saves : List (List ℕ × List ℕ)) : Type 0 where
+pub record AreFilesOfOrdinary (out : List ℕ) (m : Module) (debug : PlainPdb)
+    (saves : List (List ℕ × List ℕ)) : Type 0 where
   pub files : AreFilesOf out (module_moved m) (pdb_moved m debug) saves
   pub plain : IsPlainImage files.image
 
@@ -75,7 +80,8 @@ pub record AreFilesOfList (out : List ℕ) (e : Edited) (saves : List (List ℕ 
   pub saved : saves ≡ (meta out, files.meta) ∷ (il out, files.il) ∷ (pdb out, files.pdb) ∷ []
   pub stand : StandsFor (chain_with e.followed.base e.followed.deltas) e.list files
 
--- the files of one delta that stands for the last two of those that follow a base: it is accepted after the others, and with it they make the same module and
+-- the files of one delta that stands for the last two of those that follow a base: it is accepted after the others,
+-- and with it they make the same module and
 -- plain PDB
 pub record AreFilesOfMerged (out : List ℕ) (f : Followed) (saves : List (List ℕ × List ℕ)) : Type 0 where
   pub files : DeltaBytes
@@ -84,9 +90,11 @@ pub record AreFilesOfMerged (out : List ℕ) (f : Followed) (saves : List (List 
   pub first : Source
   pub older : List Source
   pub deltas : f.deltas ≡ second ∷ first ∷ older
-  pub stand : StandsForBoth (chain_with f.base older) first second (pdb_with f.debug (drop 2 f.debugs)) (debug_after f) files
+  pub stand : StandsForBoth (chain_with f.base older) first second (pdb_with f.debug (drop 2 f.debugs))
+      (debug_after f) files
 
--- what may be saved of it, in order, each a name and its bytes: `apply`, `compact`, `merge`, `write` and `gen` alone save
+-- what may be saved of it, in order, each a name and its bytes: `apply`, `compact`, `merge`, `write` and `gen` alone
+-- save
 abbrev pub IsSaves : Done → List (List ℕ × List ℕ) → Type 0
 IsSaves (applies out f) saves = AreFilesOf out (plain_of f) (debug_after f) saves
 IsSaves (compacts out f) saves = AreFilesOfOrdinary out (plain_of f) (debug_after f) saves

@@ -30,7 +30,8 @@ IsSavedFront saves old new = (n : ℕ) × (new ≡ after_saves (take n saves) ol
 
 -- the first of the saves are made, and of the next one its name may hold a part
 abbrev pub IsSavedAndPart : List (List ℕ × List ℕ) → Option Files → Option Files → Type 0
-IsSavedAndPart saves old new = (n : ℕ) × IsSomeAnd (slice_get saves n) (λ s. IsSavedInPart s.0 s.1 (after_saves (take n saves) old) new)
+IsSavedAndPart saves old new =
+    (n : ℕ) × IsSomeAnd (slice_get saves n) (λ s. IsSavedInPart s.0 s.1 (after_saves (take n saves) old) new)
 
 -- the files after an ending of these saves: after all of them; after the first of them; or these and a part of the next
 abbrev pub SavesAt : Ending → List (List ℕ × List ℕ) → Option Files → Option Files → Type 0

@@ -22,7 +22,8 @@ example_token = record { table = 1; row = 1 }
 
 -- its printed line
 abbrev pub example_line : List ℕ
-example_line = codes "01000001 TypeRef ResolutionScope=23000001 TypeName=\"Object\" TypeNamespace=\"System\" @0.1" ++ 0x0a ∷ []
+example_line = codes "01000001 TypeRef ResolutionScope=23000001 TypeName=\"Object\" TypeNamespace=\"System\" @0.1"
+    ++ 0x0a ∷ []
 
 abbrev pub ExampleIsShown : Type 0
 ExampleIsShown = printed (judge_all (codes "m") example_base []) (shown example_token) ≡ Ok example_line
@@ -58,20 +59,24 @@ abbrev pub example_added : Token
 example_added = record { table = 1; row = 2 }
 
 abbrev pub example_added_line : List ℕ
-example_added_line = codes "01000002 TypeRef ResolutionScope=23000001 TypeName=\"String\" TypeNamespace=\"System\" @1.1" ++ 0x0a ∷ []
+example_added_line = codes "01000002 TypeRef ResolutionScope=23000001 TypeName=\"String\" TypeNamespace=\"System\" @1.1"
+    ++ 0x0a ∷ []
 
 abbrev pub ExampleIsExtended : Type 0
-ExampleIsExtended = printed (judge_all (codes "m") example_base example_files) (shown example_added) ≡ Ok example_added_line
+ExampleIsExtended = printed (judge_all (codes "m") example_base example_files) (shown example_added)
+    ≡ Ok example_added_line
 
 -- the delta's EncId
 abbrev pub example_id : List ℕ
-example_id = 0x01 ∷ 0x02 ∷ 0x03 ∷ 0x04 ∷ 0x05 ∷ 0x06 ∷ 0x07 ∷ 0x08 ∷ 0x09 ∷ 0x0a ∷ 0x0b ∷ 0x0c ∷ 0x0d ∷ 0x0e ∷ 0x0f ∷ 0x10 ∷ []
+example_id = 0x01 ∷ 0x02 ∷ 0x03 ∷ 0x04 ∷ 0x05 ∷ 0x06 ∷ 0x07 ∷ 0x08 ∷ 0x09 ∷ 0x0a ∷ 0x0b ∷ 0x0c ∷ 0x0d ∷ 0x0e ∷ 0x0f
+    ∷ 0x10 ∷ []
 
 -- the listing of both
 abbrev pub example_lines : List ℕ
 example_lines =
     codes "generation 0 rows 3 strings 30 users 0 blobs 0 guids 1\ngeneration 1 " ++
-    ((guid_text example_id ++ codes " rows 1 strings 8 users 0 blobs 0 guids 2\n") ++ codes "  01000002 insert 1.1 newest 1.1\n")
+    ((guid_text example_id ++ codes " rows 1 strings 8 users 0 blobs 0 guids 2\n")
+    ++ codes "  01000002 insert 1.1 newest 1.1\n")
 
 abbrev pub ExampleIsListed : Type 0
 ExampleIsListed = printed (judge_all (codes "m") example_base example_files) listed_as ≡ Ok example_lines

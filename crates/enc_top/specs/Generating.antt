@@ -50,7 +50,8 @@ StandInTurn out list f (l ∷ lists) saves after =
     × (saves ≡ delta_saves (delta_name out list) d ++ rest)
     × StandInTurn out (list + 1) (followed_by f a) lists rest after
 
--- the saves of a case: the generated base, each list's delta, and the module with all of them, which is the base with all lists made directly
+-- the saves of a case: the generated base, each list's delta, and the module with all of them, which is the base
+-- with all lists made directly
 pub record AreFilesOfCase (out : List ℕ) (lists : List EditList) (saves : List (List ℕ × List ℕ)) : Type 0 where
   pub image : List ℕ
   pub symbols : List ℕ

@@ -14,12 +14,15 @@ pub record Course (T : Type 0) : Type 0 where
   pub faults_after : ℕ
 
 abbrev pub course : {T : Type 0} → Option T → Option T → ℕ → ℕ → Course T
-course old new faults_before faults_after = record { old = old; new = new; faults_before = faults_before; faults_after = faults_after }
+course old new faults_before faults_after =
+    record { old = old; new = new; faults_before = faults_before; faults_after = faults_after }
 
 -- what a call with these words and watchers does: its status, what became of the files, and what was printed
-pub record Serves (texts : List (List ℕ)) (watchers : List Watching) (status : ℕ) (store : Course Files) (sink : Course (List ℕ)) : Type 0 where
+pub record Serves (texts : List (List ℕ)) (watchers : List Watching) (status : ℕ) (store : Course Files)
+    (sink : Course (List ℕ)) : Type 0 where
   pub known : status ≤ 6
-  pub verdict : IfSome store.old (λ files. answer_is_whole status ≡ true → status ≡ status_of (verdict_of watchers texts files))
+  pub verdict : IfSome store.old (λ files. answer_is_whole status ≡ true
+      → status ≡ status_of (verdict_of watchers texts files))
   pub prints : IfSome store.old (λ files. Prints status (verdict_of watchers texts files) sink.old sink.new)
   pub files : IfSome store.old (λ files. Leaves status (verdict_of watchers texts files) store.old store.new)
   pub complete : IfSome store.old
@@ -41,5 +44,6 @@ IsServed words watchers status store sink = Serves words watchers status store s
 
 -- and what it says
 abbrev pub ServedCallsServe : Type 0
-ServedCallsServe = (words : List (List ℕ)) (watchers : List Watching) (status : ℕ) (store : Course Files) (sink : Course (List ℕ))
+ServedCallsServe = (words : List (List ℕ)) (watchers : List Watching) (status : ℕ) (store : Course Files)
+    (sink : Course (List ℕ))
     → IsServed words watchers status store sink → Serves words watchers status store sink

@@ -1,4 +1,5 @@
--- For the contracts of private functions: what the program's stop, which is called a halt here, says of the stop that is defined.
+-- For the contracts of private functions: what the program's stop, which is called a halt here, says of the stop
+-- that is defined.
 use Rattle.std.specs.Prelude.{◌≡◌, ◌≢◌, ℕ, List, [], Result, Ok, Err}
 use Rattle.enc_base.specs.declared.refusal.ReadFault.{ReadFault}
 use Rattle.enc_base.specs.declared.refusal.ReadFault.TheVariants as fault
@@ -58,13 +59,15 @@ IsUnread name fault.Memory h = h ≡ halt.Memory
 
 -- what becomes of a module that isn't written: the stop at the limit that it passes, or want of memory
 abbrev pub IsUnwritten : List ℕ → RewriteFault → Halt → Type 0
-IsUnwritten out (TooLarge heap) h = OnPlan h (IsPlanOf (Err (past_limit (file_past out (limit.Heap heap)) (limit.Heap heap))))
+IsUnwritten out (TooLarge heap) h =
+    OnPlan h (IsPlanOf (Err (past_limit (file_past out (limit.Heap heap)) (limit.Heap heap))))
 IsUnwritten out Image h = OnPlan h (IsPlanOf (Err (past_limit (file_past out limit.Image) limit.Image)))
 IsUnwritten out Memory h = h ≡ halt.Memory
 
 -- what becomes of a delta that isn't accepted: its PDB is refused, or its metadata; or want of memory
 abbrev pub IsUnaccepted : List ℕ → List ℕ → ReadFault → Halt → Type 0
-IsUnaccepted name debug_name (fault.Refused e) h = OnPlan h (IsPlanOf (Err (refused_file (refused_name name debug_name e) e)))
+IsUnaccepted name debug_name (fault.Refused e) h =
+    OnPlan h (IsPlanOf (Err (refused_file (refused_name name debug_name e) e)))
 IsUnaccepted name debug_name fault.Memory h = h ≡ halt.Memory
 
 -- what becomes of a text that isn't read as an edit list: the stop of its fault, or want of memory

@@ -34,8 +34,10 @@ use Rattle.enc_words.specs.declared.limits.Limit.{Limit}
 use Rattle.enc_words.specs.declared.limits.Limit.TheVariants as limit
 use Rattle.enc_words.specs.Words.{Numeral, Job, show, list, check, apply, compact, merge, write, run, gen, job_of}
 
--- why a command does nothing: the words are none; a file that must be there is absent; a file is refused, by a rule or by its length,
--- or as an edit list or a script: it isn't one, or one of its edits breaks a rule; or the last delta isn't merged with the one before it, as a reference lies
+-- why a command does nothing: the words are none; a file that must be there is absent; a file is refused, by a rule
+-- or by its length,
+-- or as an edit list or a script: it isn't one, or one of its edits breaks a rule; or the last delta isn't merged
+-- with the one before it, as a reference lies
 -- too deep in others
 pub data Stop : Type 0 where
   no_command : Stop
@@ -214,7 +216,8 @@ can_be_written out f = unless_past out f (rewrite_limit (plain_of f) (debug_afte
 
 -- the same of the module whose rows have the order of an ordinary one, and of its PDB
 unfoldable pub can_be_compacted : List ℕ → Followed → Result Followed Stop
-can_be_compacted out f = unless_past out f (rewrite_limit (module_moved (plain_of f)) (pdb_moved (plain_of f) (debug_after f)))
+can_be_compacted out f = unless_past out f
+    (rewrite_limit (module_moved (plain_of f)) (pdb_moved (plain_of f) (debug_after f)))
 
 -- what a plain PDB weighs that has what is known of the methods of the last two deltas
 abbrev pub weight_by : Source → List Source → PlainPdb → ℕ
@@ -224,7 +227,8 @@ weight_by base deltas p = 0
 unfoldable pub weight_of_last : Followed → ℕ
 weight_of_last f = weight_by f.base f.deltas (debug_after f)
 
--- the PDB of one delta in the place of the last two isn't too long, and in the module no reference lies too deep in others
+-- the PDB of one delta in the place of the last two isn't too long, and in the module no reference lies too deep in
+-- others
 abbrev pub unless_heavy : List ℕ → Followed → Bool → Result Followed Stop
 unless_heavy out f false = Ok f
 unless_heavy out f true = Err (past_limit (pdb out) (limit.Heap stream.Pdb))
@@ -270,8 +274,10 @@ accept_text files base edits deltas = do
   g ← judge_all base f fs
   Ok (record { followed = g; text = text })
 
--- what an accepted command does with them: it shows a token's row, lists them, counts the deltas, saves the one module that has all
--- edits, as it is or in the order of an ordinary one, one delta that stands for the last two, or the delta of an edit list; it runs a script over a base, with the watchers that are handed in and the deltas that the script
+-- what an accepted command does with them: it shows a token's row, lists them, counts the deltas, saves the one
+-- module that has all
+-- edits, as it is or in the order of an ordinary one, one delta that stands for the last two, or the delta of an
+-- edit list; it runs a script over a base, with the watchers that are handed in and the deltas that the script
 -- names; or it saves a generated case
 pub data Done : Type 0 where
   shows : Token → Followed → Done
@@ -366,7 +372,8 @@ write_on files base edits out deltas = do
   t ← accept_text files base edits deltas
   text_on edits out t
 
--- the names of the deltas that a script applies, each once, in the order in which they come first, behind those that came before
+-- the names of the deltas that a script applies, each once, in the order in which they come first, behind those that
+-- came before
 abbrev pub with_name : List (List ℕ) → List ℕ → List (List ℕ)
 with_name names name = if list_any (bytes_eq name) names then names else names ++ name ∷ []
 
@@ -377,14 +384,19 @@ deltas_named names (_ ∷ commands) = deltas_named names commands
 
 -- a delta's files, as a run finds them
 abbrev pub as_named : DeltaFiles → NamedFiles
-as_named f = record { metadata_name = f.name; debug_name = f.debug_name; files = record { metadata = f.metadata; code = f.code; debug = f.debug } }
+as_named f = record {
+  metadata_name = f.name;
+  debug_name = f.debug_name;
+  files = record { metadata = f.metadata; code = f.code; debug = f.debug };
+}
 
 unfoldable pub load_named : Files → List Command → ℕ → Result (List NamedFiles) Stop
 load_named files commands before = do
   fs ← load_deltas files (deltas_named [] commands) before
   Ok (map as_named fs)
 
--- `run BASE SCRIPT`: the base and the script are loaded and judged, and then each delta that the script names is loaded once
+-- `run BASE SCRIPT`: the base and the script are loaded and judged, and then each delta that the script names is
+-- loaded once
 unfoldable pub run_on : List Watching → Files → List ℕ → List ℕ → Verdict
 run_on handed files base script = do
   f ← load_base files base 0

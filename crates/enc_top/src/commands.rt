@@ -44,7 +44,9 @@ pub fn plan_of<S: Store, W: Watcher>(
 ) -> Result<Plan, Stop>
     ensures cause { HasCause Stop.Failed (S.faults store.old) (S.faults store.new) result }
     ensures stays { S.told store.new ≡ S.told store.old }
-    ensures plan { IfSome (S.told store.old) (λ files. IfPlan result (IsPlanOf (verdict_of (map (λ w. record { kind = W.kind_of w; limit = W.limit w; heard = W.heard w }) watchers.items) (texts words.now) files))) }
+    ensures plan { IfSome (S.told store.old) (λ files. IfPlan result (IsPlanOf
+        (verdict_of (map (λ w. record { kind = W.kind_of w; limit = W.limit w; heard = W.heard w }) watchers.items)
+        (texts words.now) files))) }
     ensures usage { job_of (texts words.now) ≡ None → IfPlan result (IsPlanOf (Err no_command)) }
     ensures words { IfPlan result (λ plan. plan.outcome ≡ Outcome.Usage → job_of (texts words.now) ≡ None) }
     ensures asked { IsErrOf result Stop.Failed → IsSome (job_of (texts words.now)) }

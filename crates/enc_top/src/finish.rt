@@ -23,7 +23,8 @@ fn save_all<S: Store>(saves: &[Save], store: &mut S) -> Result<(), SaveError>
 /// Prints the output of a plan whose saves are made.
 fn print<K: Sink>(plan: &Plan, out: &mut K) -> Ending
     ensures sink { IsTold (result ≡ Ending.SinkFault) (K.faults out.old) (K.faults out.new) }
-    ensures ending { (result ≡ Ending.Whole plan.now.outcome) ⊎ ((result ≡ Ending.Memory) ⊎ (result ≡ Ending.SinkFault)) }
+    ensures ending { (result ≡ Ending.Whole plan.now.outcome) ⊎
+        ((result ≡ Ending.Memory) ⊎ (result ≡ Ending.SinkFault)) }
     ensures prints { PrintsAt result plan.now.output.items (K.told out.old) (K.told out.new) }
 {
     match out.put(&plan.output) {

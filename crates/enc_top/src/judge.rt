@@ -54,7 +54,8 @@ pub struct Judged {
 /// Adds a delta that breaks no rule, with its PDB.
 fn add(alloc: Global, held: &mut Judged, checked: Checked) -> Result<(), AllocError>
     requires { first_meta (chain_of_all held.old.agg) checked.delta ≡ None }
-    ensures { IfOk result (λ u. followed held.new ≡ followed_by (followed held.old) (accepted checked.delta checked.pdb)) }
+    ensures { IfOk result (λ u. followed held.new
+        ≡ followed_by (followed held.old) (accepted checked.delta checked.pdb)) }
 {
     let Checked { delta, pdb } = checked;
     let changed = new_bodies(alloc, &delta)?;
@@ -91,7 +92,8 @@ fn unaccepted(alloc: Global, name: &str, debug_name: &str, fault: ReadFault) -> 
 /// The files of a delta judged after the deltas before it, and added.
 pub fn judge_delta(alloc: Global, held: &mut Judged, file: DeltaFile) -> Result<(), Stop>
     requires within { KnowWithin held.old }
-    ensures step { Adds held.old held.new result (in_delta (file_seen file) (judged (chain_of_all held.old.agg) (delta_of file.metadata.items file.code.items) (bytes_seen file.debug))) }
+    ensures step { Adds held.old held.new result (in_delta (file_seen file)
+        (judged (chain_of_all held.old.agg) (delta_of file.metadata.items file.code.items) (bytes_seen file.debug))) }
     ensures within { OnOk result (KnowWithin held.new) }
     ensures quiet { StopsQuietly result }
     ensures no_fault { ¬ (IsErrOf result Stop.Failed) }
@@ -121,7 +123,8 @@ pub fn judge_delta(alloc: Global, held: &mut Judged, file: DeltaFile) -> Result<
 /// All deltas, in order.
 fn judge_deltas(alloc: Global, held: &mut Judged, files: Vec<DeltaFile>) -> Result<(), Stop>
     requires within { KnowWithin held.old }
-    ensures step { Comes (λ u. followed held.new) result (deltas_judged (followed held.old) (map file_seen files.items)) }
+    ensures step { Comes (λ u. followed held.new) result
+        (deltas_judged (followed held.old) (map file_seen files.items)) }
     ensures within { OnOk result (KnowWithin held.new) }
     ensures quiet { StopsQuietly result }
     ensures no_fault { ¬ (IsErrOf result Stop.Failed) }
@@ -163,7 +166,8 @@ fn judge_pdb(
     image: &Image,
     bytes: Option<Vec<u8>>,
 ) -> Result<Option<Pdb>, Stop>
-    ensures step { Comes (λ (p : Option Source). p) result (in_file (pdb base.now) (base_pdb image.now (bytes_seen bytes))) }
+    ensures step { Comes (λ (p : Option Source). p) result
+        (in_file (pdb base.now) (base_pdb image.now (bytes_seen bytes))) }
     ensures quiet { StopsQuietly result }
     ensures no_fault { ¬ (IsErrOf result Stop.Failed) }
 {

@@ -108,7 +108,8 @@ impl Loaded {
     ) -> Result<Vec<u8>, Stop>
         ensures cause { HasCause Stop.Failed (S.faults store.old) (S.faults store.new) result }
         ensures stays { S.told store.new ≡ S.told store.old }
-        ensures step { IfSome (S.told store.old) (λ files. Comes (λ b. b.items) result (one_of files name.now self.old)) }
+        ensures step { IfSome (S.told store.old)
+            (λ files. Comes (λ b. b.items) result (one_of files name.now self.old)) }
         ensures quiet { StopsQuietly result }
         ensures counted { IfOk result (λ b. self.new ≡ self.old + length b.items) }
         ensures short { IfOk result (λ b. length b.items ≤ file_limit) }
@@ -149,7 +150,8 @@ impl Loaded {
     ) -> Result<Option<Vec<u8>>, Stop>
         ensures cause { HasCause Stop.Failed (S.faults store.old) (S.faults store.new) result }
         ensures stays { S.told store.new ≡ S.told store.old }
-        ensures step { IfSome (S.told store.old) (λ files. Comes bytes_seen result (optional_of files name.now self.old)) }
+        ensures step { IfSome (S.told store.old)
+            (λ files. Comes bytes_seen result (optional_of files name.now self.old)) }
         ensures quiet { StopsQuietly result }
         ensures counted { IfOk result (λ b. self.new ≡ self.old + optional_size (bytes_seen b)) }
     {
@@ -244,7 +246,8 @@ pub fn load_deltas<S: Store>(
 ) -> Result<Vec<DeltaFile>, Stop>
     ensures cause { HasCause Stop.Failed (S.faults store.old) (S.faults store.new) result }
     ensures stays { S.told store.new ≡ S.told store.old }
-    ensures step { IfSome (S.told store.old) (λ files. Comes (λ fs. map file_seen fs.items) result (deltas_from files (texts deltas.now) loaded.old)) }
+    ensures step { IfSome (S.told store.old)
+        (λ files. Comes (λ fs. map file_seen fs.items) result (deltas_from files (texts deltas.now) loaded.old)) }
     ensures quiet { StopsQuietly result }
     ensures many { IfOk result (λ fs. length fs.items ≡ length deltas.now) }
     ensures short { IfOk result (λ fs. AreShort (map file_seen fs.items)) }

@@ -25,13 +25,21 @@ fn serve<S: Store, K: Sink, W: Watcher>(
     out: &mut K,
     watchers: Vec<W>,
 ) -> Ending
-    ensures verdict { IfSome (S.told store.old) (λ files. IfWhole result (λ outcome. outcome ≡ outcome_of (verdict_of (map (λ w. record { kind = W.kind_of w; limit = W.limit w; heard = W.heard w }) watchers.items) (texts words.now) files))) }
-    ensures prints { IfSome (S.told store.old) (λ files. PrintsFor result (verdict_of (map (λ w. record { kind = W.kind_of w; limit = W.limit w; heard = W.heard w }) watchers.items) (texts words.now) files) (K.told out.old) (K.told out.new)) }
-    ensures files { IfSome (S.told store.old) (λ files. LeavesAt result (verdict_of (map (λ w. record { kind = W.kind_of w; limit = W.limit w; heard = W.heard w }) watchers.items) (texts words.now) files) (S.told store.old) (S.told store.new)) }
-    ensures usage { job_of (texts words.now) ≡ None → PrintsFor result (Err no_command) (K.told out.old) (K.told out.new) }
+    ensures verdict { IfSome (S.told store.old) (λ files. IfWhole result (λ outcome. outcome
+        ≡ outcome_of (verdict_of (map (λ w. record { kind = W.kind_of w; limit = W.limit w; heard = W.heard w })
+        watchers.items) (texts words.now) files))) }
+    ensures prints { IfSome (S.told store.old) (λ files. PrintsFor result (verdict_of
+        (map (λ w. record { kind = W.kind_of w; limit = W.limit w; heard = W.heard w }) watchers.items)
+        (texts words.now) files) (K.told out.old) (K.told out.new)) }
+    ensures files { IfSome (S.told store.old) (λ files. LeavesAt result (verdict_of
+        (map (λ w. record { kind = W.kind_of w; limit = W.limit w; heard = W.heard w }) watchers.items)
+        (texts words.now) files) (S.told store.old) (S.told store.new)) }
+    ensures usage { job_of (texts words.now) ≡ None
+        → PrintsFor result (Err no_command) (K.told out.old) (K.told out.new) }
     ensures no_job { job_of (texts words.now) ≡ None → IfWhole result (λ outcome. outcome ≡ Outcome.Usage) }
     ensures words { result ≡ Ending.Whole Outcome.Usage → job_of (texts words.now) ≡ None }
-    ensures unchanged { IfWhole result (λ outcome. (outcome ≡ Outcome.Accepted) ⊎ (S.told store.new ≡ S.told store.old)) }
+    ensures unchanged { IfWhole result
+        (λ outcome. (outcome ≡ Outcome.Accepted) ⊎ (S.told store.new ≡ S.told store.old)) }
     ensures memory { result ≡ Ending.Memory → K.told out.new ≡ K.told out.old }
     ensures nothing { result ≡ Ending.StoreFault → K.told out.new ≡ K.told out.old }
     ensures asked { result ≡ Ending.StoreFault → IsSome (job_of (texts words.now)) }
@@ -55,10 +63,22 @@ fn run_with<S: Store, K: Sink, W: Watcher>(
     watchers: Vec<W>,
 ) -> u8
     ensures known { result ≤ 6 }
-    ensures verdict { IfSome (S.told store.old) (λ files. answer_is_whole result ≡ true → result ≡ status_of (verdict_of (map (λ w. record { kind = W.kind_of w; limit = W.limit w; heard = W.heard w }) watchers.items) (texts words.now) files)) }
-    ensures prints { IfSome (S.told store.old) (λ files. Prints result (verdict_of (map (λ w. record { kind = W.kind_of w; limit = W.limit w; heard = W.heard w }) watchers.items) (texts words.now) files) (K.told out.old) (K.told out.new)) }
-    ensures files { IfSome (S.told store.old) (λ files. Leaves result (verdict_of (map (λ w. record { kind = W.kind_of w; limit = W.limit w; heard = W.heard w }) watchers.items) (texts words.now) files) (S.told store.old) (S.told store.new)) }
-    ensures complete { IfSome (S.told store.old) (λ files. ¬ Rose (S.faults store.old) (S.faults store.new) → ¬ Rose (K.faults out.old) (K.faults out.new) → (result ≡ status_of (verdict_of (map (λ w. record { kind = W.kind_of w; limit = W.limit w; heard = W.heard w }) watchers.items) (texts words.now) files)) ⊎ (result ≡ 3)) }
+    ensures verdict { IfSome (S.told store.old) (λ files. answer_is_whole result ≡ true
+        → result ≡ status_of (verdict_of (map (λ w. record { kind = W.kind_of w; limit = W.limit w; heard = W.heard w })
+        watchers.items) (texts words.now) files)) }
+    ensures prints { IfSome (S.told store.old) (λ files. Prints result (verdict_of
+        (map (λ w. record { kind = W.kind_of w; limit = W.limit w; heard = W.heard w }) watchers.items)
+        (texts words.now) files) (K.told out.old) (K.told out.new)) }
+    ensures files { IfSome (S.told store.old) (λ files. Leaves result (verdict_of
+        (map (λ w. record { kind = W.kind_of w; limit = W.limit w; heard = W.heard w }) watchers.items)
+        (texts words.now) files) (S.told store.old) (S.told store.new)) }
+    ensures complete { IfSome (S.told store.old) (λ files. ¬ Rose (S.faults store.old) (S.faults store.new)
+        → ¬ Rose (K.faults out.old) (K.faults out.new)
+        → (result ≡ status_of (verdict_of (map (λ w. record {
+          kind = W.kind_of w;
+          limit = W.limit w;
+          heard = W.heard w;
+        }) watchers.items) (texts words.now) files)) ⊎ (result ≡ 3)) }
     ensures usage { job_of (texts words.now) ≡ None → Prints result (Err no_command) (K.told out.old) (K.told out.new) }
     ensures no_job { job_of (texts words.now) ≡ None → answer_is_whole result ≡ true → result ≡ 2 }
     ensures words { result ≡ 2 → job_of (texts words.now) ≡ None }
@@ -81,7 +101,9 @@ fn serve_with<S: Store, K: Sink, W: Watcher>(
     out: &mut K,
     watchers: Vec<W>,
 ) -> u8
-    ensures { IsServed (texts words.now) (map (λ w. record { kind = W.kind_of w; limit = W.limit w; heard = W.heard w }) watchers.items) result (course (S.told store.old) (S.told store.new) (S.faults store.old) (S.faults store.new)) (course (K.told out.old) (K.told out.new) (K.faults out.old) (K.faults out.new)) }
+    ensures { IsServed (texts words.now) (map (λ w. record { kind = W.kind_of w; limit = W.limit w; heard = W.heard w })
+        watchers.items) result (course (S.told store.old) (S.told store.new) (S.faults store.old) (S.faults store.new))
+        (course (K.told out.old) (K.told out.new) (K.faults out.old) (K.faults out.new)) }
 {
     run_with(alloc, words, store, out, watchers)
 }
@@ -98,7 +120,9 @@ pub fn run_tool<S: Store, K: Sink>(
     out: &mut K,
     watchers: Vec<Box<dyn Watcher>>,
 ) -> u8
-    ensures { IsServed (texts words.now) (map (λ w. record { kind = kind_of w; limit = limit w; heard = heard w }) watchers.items) result (course (S.told store.old) (S.told store.new) (S.faults store.old) (S.faults store.new)) (course (K.told out.old) (K.told out.new) (K.faults out.old) (K.faults out.new)) }
+    ensures { IsServed (texts words.now) (map (λ w. record { kind = kind_of w; limit = limit w; heard = heard w })
+        watchers.items) result (course (S.told store.old) (S.told store.new) (S.faults store.old) (S.faults store.new))
+        (course (K.told out.old) (K.told out.new) (K.faults out.old) (K.faults out.new)) }
 {
     serve_with(alloc, words, store, out, watchers)
 }

@@ -20,12 +20,14 @@ class_extending base = record { cells = number 0 ∷ text [] ∷ text [] ∷ ref
 -- two TypeRefs, and two classes, of which the first extends System.Object, and the second extends the first
 abbrev pub example_module : Module
 example_module = record {
-  tables = [] ∷ (system_type (codes "Object") ∷ system_type (codes "String") ∷ []) ∷ (class_extending 0x01000001 ∷ class_extending 0x02000001 ∷ []) ∷ [];
+  tables = [] ∷ (system_type (codes "Object") ∷ system_type (codes "String") ∷ [])
+      ∷ (class_extending 0x01000001 ∷ class_extending 0x02000001 ∷ []) ∷ [];
   resources = [];
   entry = 0;
 }
 
--- a small section of four clauses: a catch of the second class at 0 to 9, a finally at 0 to 13, a fault at 0 to 17, a catch of System.Object at 0 to 21
+-- a small section of four clauses: a catch of the second class at 0 to 9, a finally at 0 to 13, a fault at 0 to 17,
+-- a catch of System.Object at 0 to 21
 abbrev pub example_sections : List ℕ
 example_sections =
     0x01 ∷ 0x34 ∷ 0x00 ∷ 0x00 ∷
@@ -40,7 +42,8 @@ caught_at offset thrown = catch_among example_module 1 (handlers_of example_sect
 abbrev pub next_from : Option ℕ → Stop → Option ℕ
 next_from past stop = next_among (handlers_of example_sections) past 5 stop
 
--- an object of the second class is caught where that is; one of the first, and one that is thrown behind, by System.Object; and none behind that
+-- an object of the second class is caught where that is; one of the first, and one that is thrown behind, by
+-- System.Object; and none behind that
 abbrev pub ExampleCatches : Type 0
 ExampleCatches =
     (caught_at 5 (Class (token_of 0x02000002)) ≡ Some 0)
@@ -50,7 +53,8 @@ ExampleCatches =
     × (caught_at 5 Array ≡ Some 3)
     × (caught_at 22 Text ≡ None)
 
--- on the way out from offset 5: by leave the finally alone, and none where it protects the target; by a thrown object the finally, the fault, and no more
+-- on the way out from offset 5: by leave the finally alone, and none where it protects the target; by a thrown
+-- object the finally, the fault, and no more
 abbrev pub ExampleRuns : Type 0
 ExampleRuns =
     (next_from None (Leave 26) ≡ Some 1)

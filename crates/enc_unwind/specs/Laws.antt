@@ -21,21 +21,25 @@ IsFirstPassing test clauses answer = MatchOption answer
 -- the clause that catches is the first that protects the offset and takes the object
 abbrev pub FirstCatches : Type 0
 FirstCatches = (m : Module) (stack : ℕ) (clauses : List Handler) (offset : ℕ) (thrown : Thrown) → 0 < stack
-    → IsFirstPassing (λ (k : ℕ) (c : Handler). protects c offset && takes m thrown c.kind) clauses (catch_among m stack clauses offset thrown)
+    → IsFirstPassing (λ (k : ℕ) (c : Handler). protects c offset && takes m thrown c.kind) clauses
+    (catch_among m stack clauses offset thrown)
 
 -- without a value on the stack there is none
 abbrev pub NoneCatchesUnheld : Type 0
-NoneCatchesUnheld = (m : Module) (clauses : List Handler) (offset : ℕ) (thrown : Thrown) → catch_among m 0 clauses offset thrown ≡ None
+NoneCatchesUnheld = (m : Module) (clauses : List Handler) (offset : ℕ) (thrown : Thrown)
+    → catch_among m 0 clauses offset thrown ≡ None
 
 -- the next clause is the first behind the last one tried that protects the offset and runs
 abbrev pub FirstRuns : Type 0
 FirstRuns = (clauses : List Handler) (past : Option ℕ) (offset : ℕ) (stop : Stop)
-    → IsFirstPassing (λ (k : ℕ) (c : Handler). is_after past k && protects c offset && runs_on stop k c) clauses (next_among clauses past offset stop)
+    → IsFirstPassing (λ (k : ℕ) (c : Handler). is_after past k && protects c offset && runs_on stop k c) clauses
+    (next_among clauses past offset stop)
 
 -- what runs at a leave is a finally clause, so no fault clause, and doesn't protect where it goes
 abbrev pub FinallyRunsAtLeave : Type 0
 FinallyRunsAtLeave = (clauses : List Handler) (past : Option ℕ) (offset goal k : ℕ) (c : Handler)
-    → next_among clauses past offset (Leave goal) ≡ Some k → slice_get clauses k ≡ Some c → (c.kind ≡ finishing) × (protects c goal ≡ false)
+    → next_among clauses past offset (Leave goal) ≡ Some k → slice_get clauses k ≡ Some c
+    → (c.kind ≡ finishing) × (protects c goal ≡ false)
 
 -- an object of a class is caught by its class and by each that the class extends
 abbrev pub BasesCatch : Type 0

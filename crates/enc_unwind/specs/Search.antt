@@ -1,4 +1,5 @@
--- Which clause of a body comes next: a catch clause for a thrown object, a finally or a fault clause on the way out (ECMA-335 I.12.4.2, II.25.4.6).
+-- Which clause of a body comes next: a catch clause for a thrown object, a finally or a fault clause on the way out
+-- (ECMA-335 I.12.4.2, II.25.4.6).
 use Rattle.std.specs.Prelude.{ℕ, Bool, true, false, not, ◌&&◌, List, length, Option, Some, None, option_and_then, slice_get, map, nat_lt, nat_le, ◌==◌, if◌then◌else◌}
 use Rattle.std.specs.List.{list_any}
 use Rattle.enc_base.specs.Order.{first_below}
@@ -27,7 +28,8 @@ is_handled offset clauses = list_any (is_in_handler offset) clauses
 
 -- the number of the first clause that passes a test of its number and itself
 abbrev pub answer_at : (ℕ → Handler → Bool) → List Handler → ℕ → Option ℕ
-answer_at test clauses k = option_and_then (λ (clause : Handler). if test k clause then Some k else None) (slice_get clauses k)
+answer_at test clauses k = option_and_then (λ (clause : Handler). if test k clause then Some k else None)
+    (slice_get clauses k)
 
 unfoldable pub first_clause : (ℕ → Handler → Bool) → List Handler → Option ℕ
 first_clause test clauses = first_below (answer_at test clauses) (length clauses)
@@ -37,7 +39,8 @@ abbrev pub takes : Module → Thrown → HandlerKind → Bool
 takes m thrown (catching class) = is_caught_by m thrown class
 takes m thrown _ = false
 
--- the first catch clause that protects an offset and takes a thrown object; a body that holds no value on its stack has none
+-- the first catch clause that protects an offset and takes a thrown object; a body that holds no value on its stack
+-- has none
 unfoldable pub catch_among : Module → ℕ → List Handler → ℕ → Thrown → Option ℕ
 catch_among m stack clauses offset thrown =
     if stack == 0 then None
@@ -58,7 +61,8 @@ abbrev pub is_after : Option ℕ → ℕ → Bool
 is_after None k = true
 is_after (Some last) k = nat_lt last k
 
--- a clause runs on the way out: by leave, each finally that doesn't protect where it goes; by a thrown object, each finally and fault,
+-- a clause runs on the way out: by leave, each finally that doesn't protect where it goes; by a thrown object, each
+-- finally and fault,
 -- up to the clause that takes it
 abbrev pub runs_on : Stop → ℕ → Handler → Bool
 runs_on (Leave goal) k clause = is_finally clause.kind && not (protects clause goal)
@@ -68,7 +72,8 @@ runs_on All k clause = runs_always clause.kind
 -- the next clause that runs on the way out from an offset
 unfoldable pub next_among : List Handler → Option ℕ → ℕ → Stop → Option ℕ
 next_among clauses past offset stop =
-    first_clause (λ (k : ℕ) (clause : Handler). is_after past k && protects clause offset && runs_on stop k clause) clauses
+    first_clause (λ (k : ℕ) (clause : Handler). is_after past k && protects clause offset
+    && runs_on stop k clause) clauses
 
 -- the clauses of a body's data sections
 abbrev pub handlers_of : List ℕ → List Handler

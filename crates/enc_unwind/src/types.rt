@@ -33,7 +33,8 @@ fn class_base<V: ModuleView>(view: &V, class: Token) -> Token
 
 /// Whether a token is a TypeRef that is alike another token.
 fn is_type_ref_alike<V: ModuleView>(view: &V, token: Token, caught: Token) -> bool
-    ensures { result ≡ list_any (λ (t : TheToken). tokens_alike (cells_of (V.meaning view.now)) t caught) (type_refs token) }
+    ensures { result ≡ list_any (λ (t : TheToken). tokens_alike (cells_of (V.meaning view.now)) t caught)
+        (type_refs token) }
 {
     token.table == TYPE_REF && alike(view, token, caught)
 }
@@ -41,7 +42,8 @@ fn is_type_ref_alike<V: ModuleView>(view: &V, token: Token, caught: Token) -> bo
 /// Whether an object of a class is of a type: a class of its path, or the TypeRef behind them, is alike
 /// it. The path is climbed once, by as many steps as there are rows of TypeDef.
 fn is_of_class<V: ModuleView>(view: &V, class: Token, caught: Token) -> bool
-    ensures { result ≡ list_any (λ (t : TheToken). tokens_alike (cells_of (V.meaning view.now)) t caught) (types_of (V.meaning view.now) class) }
+    ensures { result ≡ list_any (λ (t : TheToken). tokens_alike (cells_of (V.meaning view.now)) t caught)
+        (types_of (V.meaning view.now) class) }
 {
     let mut current = class;
     for _step in 0..view.count(TYPE_DEF) {

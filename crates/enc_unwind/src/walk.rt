@@ -12,7 +12,8 @@ use enc_il::{SectionRef, behind_sections, clause_front, clause_size, rest_at, se
 /// The number of the first clause of a section that passes, where the section's first has this number.
 fn first_in<T: ClauseTest>(section: &SectionRef<'_>, first: u32, test: &T) -> Option<u32>
     requires { first + section.now.count < 2 ^ 32 }
-    ensures { result ≡ first_from (T.test test.now) first (map handler_meant (clauses_in section.now.fat section.now.count section.now.clauses.now)) }
+    ensures { result ≡ first_from (T.test test.now) first
+        (map handler_meant (clauses_in section.now.fat section.now.count section.now.clauses.now)) }
 {
     let mut rest = section.clauses;
     for i in 0..section.count {

@@ -45,3 +45,5 @@ all_stand users m pdb methods each size = record {
   within = le_of_eq size;
   each = λ method is there. stands_at users m pdb methods each size method.table method.row is there;
 }
+
+pub ruleset begun_steps = (each_none, each_more, all_stand)

@@ -44,7 +44,8 @@ unfoldable pub last_row : List NewVersion → ℕ
 last_row [] = 0
 last_row (n ∷ rest) = max n.method.row (last_row rest)
 
--- new bodies were committed: the newest of each method is what they bring it, and else what was before; rows go on to their last
+-- new bodies were committed: the newest of each method is what they bring it, and else what was before; rows go on
+-- to their last
 pub record AreCommitted (new : List NewVersion) (before after : List (Option Version)) : Type 0 where
   pub newest : (method : Token) → newest_of after method ≡ or_else (brought new method) (newest_of before method)
   pub count : length after ≡ max (length before) (last_row new)

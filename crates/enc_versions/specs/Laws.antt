@@ -20,15 +20,18 @@ pub record Meant : Type 0 where
 abbrev pub IsMethodOf : Meant → Token → Type 0
 IsMethodOf m method = (method.table ≡ method_def) × IsTrue (has_row m.plain method)
 
--- new bodies are those of a change: each that is brought is its method's; other methods keep body and points where they were there, and have no body where
+-- new bodies are those of a change: each that is brought is its method's; other methods keep body and points where
+-- they were there, and have no body where
 -- they are new
 pub record AreNewIn (new : List NewVersion) (m n : Meant) : Type 0 where
   pub rows : length (rows_in m.plain method_def) ≤ length (rows_in n.plain method_def)
   pub within : last_row new ≤ length (rows_in n.plain method_def)
   pub changed : (method : Token) → IsMethodOf n method → (v : Version) → brought new method ≡ Some v
       → IsVersionOf n.users n.plain n.pdb method (Some v)
-  pub kept : (method : Token) → IsMethodOf m method → brought new method ≡ None → cell_of n.plain method 0 ≡ cell_of m.plain method 0
-  pub known : (method : Token) (b : Body) → IsMethodOf m method → cell_of m.plain method 0 ≡ Some (body (Some b)) → brought new method ≡ None
+  pub kept : (method : Token) → IsMethodOf m method → brought new method ≡ None
+      → cell_of n.plain method 0 ≡ cell_of m.plain method 0
+  pub known : (method : Token) (b : Body) → IsMethodOf m method → cell_of m.plain method 0 ≡ Some (body (Some b))
+      → brought new method ≡ None
       → n.pdb method ≡ m.pdb method
   pub added : (method : Token) → IsMethodOf n method → has_row m.plain method ≡ false → brought new method ≡ None
       → cell_of n.plain method 0 ≡ Some (body None)

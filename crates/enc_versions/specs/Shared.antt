@@ -8,4 +8,5 @@ use Rattle.enc_versions.specs.declared.shared.Shared.{Shared}
 -- each body that is remembered is that of its place, and each user text that it names is there
 abbrev pub AreShared : (ℕ → Option (List ℕ)) → (ℕ → Option Body) → Shared → Type 0
 AreShared users places shared = (place : ℕ)
-    → IfSome (get nat_cmp shared.bodies place) (λ b. (places place ≡ Some (body_of users b.value)) × IsTrue (texts_are_there users b.value.code))
+    → IfSome (get nat_cmp shared.bodies place) (λ b. (places place ≡ Some (body_of users b.value))
+    × IsTrue (texts_are_there users b.value.code))

@@ -1,4 +1,5 @@
--- Where a frame may stop: where a sequence point begins that isn't hidden (Portable PDB v1.0), and with it an instruction (ECMA-335 III.1.2).
+-- Where a frame may stop: where a sequence point begins that isn't hidden (Portable PDB v1.0), and with it an
+-- instruction (ECMA-335 III.1.2).
 use Rattle.std.specs.Prelude.{◌≡◌, ℕ, Bool, ◌&&◌, ◌||◌, List, is_some, ◌==◌}
 use Rattle.std.specs.BTreeSet.{BTreeSet, contains}
 use Rattle.std.specs.List.{list_any}
@@ -24,4 +25,5 @@ AreStops code points stops = (offset : ℕ) → contains nat_cmp stops offset �
 
 -- a set with the offset of one point more, where a test passes there and the point isn't hidden
 abbrev pub KeepsStop : (ℕ → Bool) → Point → BTreeSet ℕ → BTreeSet ℕ → Type 0
-KeepsStop starts p old new = (offset : ℕ) → contains nat_cmp new offset ≡ (contains nat_cmp old offset || (starts offset && stands_at offset p))
+KeepsStop starts p old new = (offset : ℕ)
+    → contains nat_cmp new offset ≡ (contains nat_cmp old offset || (starts offset && stands_at offset p))

@@ -30,7 +30,13 @@ impl Model for Stored {
 
     ghost Value = { Code };
 
-    ghost view = { λ b. record { max = b.max; init = b.init; locals = b.locals; code = b.code; sections = b.sections } };
+    ghost view = { λ b. record {
+      max = b.max;
+      init = b.init;
+      locals = b.locals;
+      code = b.code;
+      sections = b.sections;
+    } };
 
     ghost invariant = { λ b. (length b.code < 2 ^ 32) × (length b.sections < 2 ^ 32) };
 }

@@ -112,7 +112,8 @@ fn put(slots: &mut Vec<Slot>, new: Ready)
     requires method { IsTrue (is_method_token new.method) }
     requires row { new.method.row ≤ length slots.old.items }
     ensures count { length slots.new.items ≡ length slots.old.items }
-    ensures newest { (method : TheToken) → newest_of slots.new.items method ≡ or_else (brought_by new method) (newest_of slots.old.items method) }
+    ensures newest { (method : TheToken)
+        → newest_of slots.new.items method ≡ or_else (brought_by new method) (newest_of slots.old.items method) }
     ensures capacity { vec_capacity slots.new ≡ vec_capacity slots.old }
 {
     let at = new.method.row as usize - 1;
@@ -126,7 +127,8 @@ fn put_all(slots: &mut Vec<Slot>, ready: Vec<Ready>)
     requires methods { IsTrue (list_all (λ (v : NewVersion). is_method_token v.method) ready.items) }
     requires rows { last_row ready.items ≤ length slots.old.items }
     ensures count { length slots.new.items ≡ length slots.old.items }
-    ensures newest { (method : TheToken) → newest_of slots.new.items method ≡ or_else (brought ready.items method) (newest_of slots.old.items method) }
+    ensures newest { (method : TheToken)
+        → newest_of slots.new.items method ≡ or_else (brought ready.items method) (newest_of slots.old.items method) }
     ensures capacity { vec_capacity slots.new ≡ vec_capacity slots.old }
 {
     for new in ready {

@@ -42,7 +42,8 @@ impl Shared {
         requires shared { AreShared (V.users view.now) (V.places view.now) self.old }
         ensures shared { IfOk result (λ _. AreShared (V.users view.now) (V.places view.now) self.new) }
         ensures texts { IfOk result (λ b. IfSome b (λ s. IsTrue (texts_are_there (V.users view.now) s.value.code))) }
-        ensures body { IfOk result (λ b. cell_of (V.meaning view.now) method 0 ≡ Some (body (option_map (λ s. body_of (V.users view.now) s.value) b))) }
+        ensures body { IfOk result (λ b. cell_of (V.meaning view.now) method 0
+            ≡ Some (body (option_map (λ s. body_of (V.users view.now) s.value) b))) }
     {
         let place = view.code_place(method);
         match self.bodies.get(&place) {

@@ -32,7 +32,8 @@ fn keep_stop(stops: &mut BTreeSet<u32>, marks: &[bool], point: Point) -> Result<
 
 /// The offsets of the points at which a frame may stop, by the marks of where instructions begin.
 fn marked_stops(alloc: Global, marks: &[bool], points: &Points) -> Result<BTreeSet<u32>, AllocError>
-    ensures { IfOk result (λ s. (offset : ℕ) → contains nat_cmp s offset ≡ (mark_at marks.now offset && is_at_point points.now.points offset)) }
+    ensures { IfOk result (λ s. (offset : ℕ)
+        → contains nat_cmp s offset ≡ (mark_at marks.now offset && is_at_point points.now.points offset)) }
 {
     let mut stops = BTreeSet::new(alloc);
     for i in 0..points.len() {

@@ -68,7 +68,8 @@ fn slot_of<V: ModuleView, P: PointSource>(
     requires table { method.table ≡ method_def }
     requires shared { AreShared (V.users view.now) (V.places view.now) shared.old }
     ensures shared { IfOk result (λ _. AreShared (V.users view.now) (V.places view.now) shared.new) }
-    ensures version { IfOk result (λ s. IsVersionOf (V.users view.now) (V.meaning view.now) (P.debug points.now) method s) }
+    ensures version { IfOk result (λ s. IsVersionOf (V.users view.now) (V.meaning view.now)
+        (P.debug points.now) method s) }
 {
     let Some(stored) = shared.body(view, method)? else {
         return Ok(Slot { code: None });
@@ -93,14 +94,15 @@ fn nth_method<V: ModuleView>(view: &V, n: u32) -> Token
 }
 
 /// The bodies of all methods, with their points.
-#[tactic(auto, using(crate::proofs::Begun::each_none, crate::proofs::Begun::each_more, crate::proofs::Begun::all_stand))]
+#[tactic(auto, using(crate::proofs::Begun::begun_steps))]
 fn slots_of<V: ModuleView, P: PointSource>(
     alloc: Global,
     view: &V,
     points: &P,
 ) -> Result<Vec<Slot>, AllocError>
     ensures count { IfOk result (λ s. length s.items ≡ length (rows_in (V.meaning view.now) method_def)) }
-    ensures versions { IfOk result (λ s. AreVersionsOf (V.users view.now) (V.meaning view.now) (P.debug points.now) s.items) }
+    ensures versions { IfOk result
+        (λ s. AreVersionsOf (V.users view.now) (V.meaning view.now) (P.debug points.now) s.items) }
 {
     let mut shared = Shared::new(alloc);
     let mut slots = Vec::new(alloc);
@@ -120,7 +122,8 @@ impl Versions {
         points: &P,
     ) -> Result<Versions, AllocError>
         ensures count { IfOk result (λ v. length v.methods ≡ length (rows_in (V.meaning view.now) method_def)) }
-        ensures versions { IfOk result (λ v. AreVersionsOf (V.users view.now) (V.meaning view.now) (P.debug points.now) v.methods) }
+        ensures versions { IfOk result
+            (λ v. AreVersionsOf (V.users view.now) (V.meaning view.now) (P.debug points.now) v.methods) }
     {
         let slots = slots_of(alloc, view, points)?;
         Ok(Versions { slots, alloc })

@@ -71,3 +71,7 @@ field_owner_type m f owner at e = (owner_both m f owner e).0 ∙ field_owners f.
 
 pub field_owner_row : (m : Module) (f owner : Token) → f.table ≡ field → owner_of m f ≡ Some owner → IsTrue (has_row m owner)
 field_owner_row m f owner at e = (owner_both m f owner e).1
+
+pub ruleset declared_steps = (is_child, owner_is, owner_type, owner_row)
+
+pub ruleset declaring_steps = (is_field_child, owner_is, field_owner_type, field_owner_row)

@@ -6,4 +6,5 @@ use Rattle.enc_frames.specs.Machine.{Task, version_world}
 use Rattle.enc_vm.specs.Placed.{AreTasksPlaced}
 
 abbrev pub ArePlacedAnywhere : List (Task Version) → Type 0
-ArePlacedAnywhere tasks = (users : ℕ → Option (List ℕ)) (m : Module) (methods : List (Option Version)) → AreTasksPlaced (version_world users m methods) tasks
+ArePlacedAnywhere tasks = (users : ℕ → Option (List ℕ)) (m : Module) (methods : List (Option Version))
+    → AreTasksPlaced (version_world users m methods) tasks

@@ -52,7 +52,8 @@ entering s method t = record { shared = s; thread = Some t; shown = record nothi
 -- the types that were touched, with one more in the order of tokens
 unfoldable pub with_type : Token → List Token → List Token
 with_type type [] = type ∷ []
-with_type type (t ∷ rest) = if nat_lt (number_of type) (number_of t) then type ∷ t ∷ rest else if is_token type t then t ∷ rest else t ∷ with_type type rest
+with_type type (t ∷ rest) = if nat_lt (number_of type) (number_of t) then type ∷ t ∷ rest else if is_token type t
+    then t ∷ rest else t ∷ with_type type rest
 
 abbrev pub with_touched : Token → Shared → Shared
 with_touched type s = record s { touched = with_type type s.touched }
@@ -60,15 +61,20 @@ with_touched type s = record s { touched = with_type type s.touched }
 abbrev pub is_touched : Token → Shared → Bool
 is_touched type s = list_any (λ (t : Token). is_token t type) s.touched
 
--- a type is touched before an instruction goes on: the first time it is marked, and its constructor is entered, where it has one, which is the whole step then
-abbrev pub touch_first : {C : Type 0} → World C → Shared → Thread C → Token → (Shared → Result (Made C) Trap) → Option Token → Result (Made C) Trap
+-- a type is touched before an instruction goes on: the first time it is marked, and its constructor is entered,
+-- where it has one, which is the whole step then
+abbrev pub touch_first : {C : Type 0} → World C → Shared → Thread C → Token → (Shared → Result (Made C) Trap)
+    → Option Token → Result (Made C) Trap
 touch_first w s t type go None = go (with_touched type s)
-touch_first w s t type go (Some constructor) = enter w t t.top constructor [] >>= λ u. Ok (entering (with_touched type s) constructor u)
+touch_first w s t type go (Some constructor) =
+    enter w t t.top constructor [] >>= λ u. Ok (entering (with_touched type s) constructor u)
 
-unfoldable pub touch : {C : Type 0} → World C → Shared → Thread C → Token → (Shared → Result (Made C) Trap) → Result (Made C) Trap
+unfoldable pub touch : {C : Type 0} → World C → Shared → Thread C → Token → (Shared → Result (Made C) Trap)
+    → Result (Made C) Trap
 touch w s t type go = if is_touched type s then go s else touch_first w s t type go (type_constructor w.plain type)
 
-abbrev pub touch_if : {C : Type 0} → Bool → World C → Shared → Thread C → Token → (Shared → Result (Made C) Trap) → Result (Made C) Trap
+abbrev pub touch_if : {C : Type 0} → Bool → World C → Shared → Thread C → Token → (Shared → Result (Made C) Trap)
+    → Result (Made C) Trap
 touch_if needed w s t type go = if needed then touch w s t type go else go s
 
 -- the type that a member is of
@@ -77,7 +83,8 @@ declaring m member = unwrap_or (owner_of m member) nil
 
 -- the method that a callvirt names: where it is virtual (flag 40) an object is there to walk from (III.4.2)
 unfoldable pub named_virtually : Module → Token → Result CallShape Trap
-named_virtually m t = named_method m t >>= λ (shape : CallShape). ask X2 (shape.this || not (is_virtual m t)) >>= λ _. Ok shape
+named_virtually m t = named_method m t >>= λ (shape : CallShape). ask X2
+    (shape.this || not (is_virtual m t)) >>= λ _. Ok shape
 
 -- a call of a static method or of a constructor touches
 abbrev pub call_touches : Module → Token → Bool
@@ -91,7 +98,8 @@ object_of (v ∷ rest) = reference v >>= not_null
 abbrev pub ask_object : Bool → List Value → Result Bool Trap
 ask_object wanted args = if wanted then (object_of args >>= λ _. Ok true) else Ok true
 
--- the method that a virtual call reaches on an object: none on a text or an array; X9 where the object isn't of the class that declares the method
+-- the method that a virtual call reaches on an object: none on a text or an array; X9 where the object isn't of the
+-- class that declares the method
 abbrev pub class_of_shape : Option ObjectShape → Option Token
 class_of_shape (Some (shape.Object class)) = Some class
 class_of_shape _ = None
@@ -101,7 +109,8 @@ class_of_object s id = class_of_shape (shape_in s id)
 
 unfoldable pub reached_on : Module → Store → ℕ → Token → Result Token Trap
 reached_on m s id method =
-    or_trap (if is_interface m (declaring m method) then X10 else X9) (option_and_then (λ class. target_of m class method) (class_of_object s id))
+    or_trap (if is_interface m (declaring m method) then X10 else X9)
+    (option_and_then (λ class. target_of m class method) (class_of_object s id))
 
 -- which method is entered: the named one, or the one that the object has for it
 abbrev pub chosen : Bool → Module → Store → List Value → Token → Result Token Trap
@@ -109,9 +118,11 @@ chosen true m s args method = object_of args >>= λ id. reached_on m s id method
 chosen false m s args method = Ok method
 
 -- a call, by whether the object may be null, and whether the object tells the method
-unfoldable pub call_with : {C : Type 0} → World C → Bool → Bool → ℕ → Token → CallShape → Thread C → Shared → Result (Made C) Trap
+unfoldable pub call_with : {C : Type 0} → World C → Bool → Bool → ℕ → Token → CallShape → Thread C → Shared
+    → Result (Made C) Trap
 call_with w asks virtual next method shape t s =
-    arguments (length (argument_kinds shape)) t.top.stack >>= λ taken. fit_all (argument_kinds shape) taken >>= λ args. ask_object asks args >>= λ _.
+    arguments (length (argument_kinds shape)) t.top.stack >>= λ taken. fit_all
+    (argument_kinds shape) taken >>= λ args. ask_object asks args >>= λ _.
     chosen virtual w.plain s.store args method >>= λ target.
     enter w t (moved_on next (drop (length (argument_kinds shape)) t.top.stack) t.top) target args >>= λ u.
     Ok (entering s target u)
@@ -120,7 +131,8 @@ call_with w asks virtual next method shape t s =
 unfoldable pub call : {C : Type 0} → World C → ℕ → Token → Shared → Thread C → Result (Made C) Trap
 call w next method s t =
     named_method w.plain method >>= λ shape.
-    touch_if (call_touches w.plain method) w s t (declaring w.plain method) (call_with w false false next method shape t)
+    touch_if (call_touches w.plain method) w s t (declaring w.plain method)
+    (call_with w false false next method shape t)
 
 unfoldable pub call_virtual : {C : Type 0} → World C → ℕ → Token → Shared → Thread C → Result (Made C) Trap
 call_virtual w next method s t =
@@ -131,10 +143,14 @@ call_virtual w next method s t =
 -- newobj: the object goes on the caller's stack first
 unfoldable pub construct : {C : Type 0} → World C → ℕ → Token → CallShape → Thread C → Shared → Result (Made C) Trap
 construct w next method shape t s =
-    arguments (length shape.takes) t.top.stack >>= λ taken. fit_all shape.takes taken >>= λ args. or_trap X10 (w.now method) >>= λ code.
-    ask X11 (nat_lt (length t.below + 1) most_frames) >>= λ _. new_in (Instance (declaring w.plain method)) 0 s.store >>= λ n.
-    pushed ((w.body t.top.code).stack) (Obj n.1) (moved_on next (drop (length shape.takes) t.top.stack) t.top) >>= λ caller.
-    Ok (entering (record s { store = n.0 }) method (record { top = new_frame w method code (Obj n.1 ∷ args); below = caller ∷ t.below; flight = None }))
+    arguments (length shape.takes) t.top.stack >>= λ taken. fit_all shape.takes taken >>= λ args. or_trap X10
+    (w.now method) >>= λ code.
+    ask X11 (nat_lt (length t.below + 1) most_frames) >>= λ _. new_in
+    (Instance (declaring w.plain method)) 0 s.store >>= λ n.
+    pushed ((w.body t.top.code).stack) (Obj n.1)
+    (moved_on next (drop (length shape.takes) t.top.stack) t.top) >>= λ caller.
+    Ok (entering (record s { store = n.0 }) method
+    (record { top = new_frame w method code (Obj n.1 ∷ args); below = caller ∷ t.below; flight = None }))
 
 unfoldable pub new_object : {C : Type 0} → World C → ℕ → Token → Shared → Thread C → Result (Made C) Trap
 new_object w next method s t =
@@ -148,13 +164,19 @@ handed w (Some v) f = pushed ((w.body f.code).stack) v f
 
 -- the frame is left; the task ends with its last one
 abbrev pub left_to : {C : Type 0} → World C → Shared → Token → Option Value → List (Frame C) → Result (Made C) Trap
-left_to w s method value [] = Ok (record { shared = s; thread = None; shown = record nothing_shown { left = Some method } })
+left_to w s method value [] = Ok
+    (record { shared = s; thread = None; shown = record nothing_shown { left = Some method } })
 left_to w s method value (f ∷ below) =
     handed w value f >>= λ g.
-    Ok (record { shared = s; thread = Some (record { top = g; below = below; flight = None }); shown = record nothing_shown { left = Some method } })
+    Ok (record {
+      shared = s;
+      thread = Some (record { top = g; below = below; flight = None });
+      shown = record nothing_shown { left = Some method };
+    })
 
 -- ret (III.3.57)
 unfoldable pub return_from : {C : Type 0} → World C → Shared → Thread C → Result (Made C) Trap
 return_from w s t =
-    or_trap X2 (call_shape w.plain t.top.method) >>= λ (shape : CallShape). value_given shape.gives t.top.stack >>= λ value.
+    or_trap X2 (call_shape w.plain t.top.method) >>= λ (shape : CallShape).
+    value_given shape.gives t.top.stack >>= λ value.
     left_to w s t.top.method value t.below

@@ -27,25 +27,34 @@ AreBodiesOf users m methods = (debug : PlainPdb) × AreVersionsOf users m debug 
 
 -- a frame is left
 abbrev pub left_with : Shared → Token → Option Value → List (Frame Version) → Result (Made Version) Trap
-left_with s method value [] = Ok (record { shared = s; thread = None; shown = record nothing_shown { left = Some method } })
+left_with s method value [] = Ok
+    (record { shared = s; thread = None; shown = record nothing_shown { left = Some method } })
 left_with s method value (f ∷ below) =
     handed_in value f >>= λ g.
-    Ok (record { shared = s; thread = Some (record { top = g; below = below; flight = None }); shown = record nothing_shown { left = Some method } })
+    Ok (record {
+      shared = s;
+      thread = Some (record { top = g; below = below; flight = None });
+      shown = record nothing_shown { left = Some method };
+    })
 
 -- and with it its value
 abbrev pub returned : Module → Shared → Thread Version → Result (Made Version) Trap
 returned m s t =
-    or_trap X2 (call_shape m t.top.method) >>= λ (shape : CallShape). value_given shape.gives t.top.stack >>= λ value. left_with s t.top.method value t.below
+    or_trap X2 (call_shape m t.top.method) >>= λ (shape : CallShape). value_given shape.gives t.top.stack >>= λ value.
+    left_with s t.top.method value t.below
 
 -- what a change of frames makes
 abbrev pub made_by : FrameChange → Shared → Thread Version → Made Version
 made_by Stays s t = record { shared = s; thread = Some t; shown = nothing_shown }
 made_by (Entered method) s t = entering s method t
 made_by (Left method) s t = record { shared = s; thread = Some t; shown = record nothing_shown { left = Some method } }
-made_by (LeftLast method) s t = record { shared = s; thread = None; shown = record nothing_shown { left = Some method } }
+made_by (LeftLast method) s t =
+    record { shared = s; thread = None; shown = record nothing_shown { left = Some method } }
 
--- it makes what is defined of what all tasks share and of the frames, or traps where that does, and then changes nothing; without memory it changes nothing
-abbrev pub Makes : Result FrameChange Stop → Shared → Shared → Thread Version → Thread Version → Result (Made Version) Trap → Type 0
+-- it makes what is defined of what all tasks share and of the frames, or traps where that does, and then changes
+-- nothing; without memory it changes nothing
+abbrev pub Makes : Result FrameChange Stop → Shared → Shared → Thread Version → Thread Version
+    → Result (Made Version) Trap → Type 0
 Makes (Ok change) s r t u said = said ≡ Ok (made_by change s t)
 Makes (Err (stop.Trap trap)) s r t u said = (said ≡ Err trap) × (s ≡ r) × (t ≡ u)
 Makes (Err stop.Memory) s r t u said = (s ≡ r) × (t ≡ u)

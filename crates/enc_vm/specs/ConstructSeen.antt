@@ -37,9 +37,11 @@ held_begun next n v t = record {
 }
 
 -- an object is made, and its constructor's frame is entered
-abbrev pub object_entered : Token → ℕ → ℕ → Frame Version → Store → Thread Version → Result (Store × Thread Version) Trap
+abbrev pub object_entered : Token → ℕ → ℕ → Frame Version → Store → Thread Version
+    → Result (Store × Thread Version) Trap
 object_entered class next n frame s t =
-    new_in (Instance class) 0 s >>= λ o. pushed t.top.code.code.max (Obj o.1) (moved_on next (drop n t.top.stack) t.top) >>= λ caller.
+    new_in (Instance class) 0 s >>= λ o. pushed t.top.code.code.max (Obj o.1)
+    (moved_on next (drop n t.top.stack) t.top) >>= λ caller.
     Ok (o.0, record { top = with_object_first (Obj o.1) frame; below = caller ∷ t.below; flight = None })
 
 -- what a constructor is called with, from the top of a stack, with null in the place of its object
@@ -55,7 +57,8 @@ abbrev pub frame_made : World Version → Module → Token → List Value → Re
 frame_made w m method args = or_trap X10 (w.now method) >>= λ code. Ok (frame_at m method code args)
 
 -- a new object by these arguments of its constructor, which are so many values on the stack
-abbrev pub constructed_on : World Version → Module → ℕ → ℕ → Token → Token → List Value → Thread Version → Shared → Result (Made Version) Trap
+abbrev pub constructed_on : World Version → Module → ℕ → ℕ → Token → Token → List Value → Thread Version → Shared
+    → Result (Made Version) Trap
 constructed_on w m next n class method args t s =
     frame_made w m method args >>= λ f. ask X11 (nat_lt (length t.below + 1) most_frames) >>= λ _.
     object_entered class next n f s.store t >>= λ x. Ok (entered_by s method x)

@@ -1,4 +1,5 @@
--- For the contracts of private functions: what an instruction makes of what all tasks share and of the frames, which are changed in place.
+-- For the contracts of private functions: what an instruction makes of what all tasks share and of the frames, which
+-- are changed in place.
 use Rattle.std.specs.Prelude.{◌≡◌, ◌∷◌, Option, Some, None, Result, Ok, Err}
 use Rattle.std.specs.declared.alloc.AllocError.{AllocError}
 use Rattle.enc_objects.specs.declared.trap.Trap.{Trap}
@@ -28,7 +29,8 @@ effect_made (Frames change) s t = made_by change s t
 effect_made (Wrote units) s t = record { shared = s; thread = Some t; shown = writing units }
 
 -- it makes what is defined, or traps where that does, and then changes nothing; without memory it changes nothing
-abbrev pub Performs : Result Effect Stop → Shared → Shared → Thread Version → Thread Version → Result (Made Version) Trap → Type 0
+abbrev pub Performs : Result Effect Stop → Shared → Shared → Thread Version → Thread Version
+    → Result (Made Version) Trap → Type 0
 Performs (Ok effect) s r t u said = said ≡ Ok (effect_made effect s t)
 Performs (Err (stop.Trap trap)) s r t u said = (said ≡ Err trap) × (s ≡ r) × (t ≡ u)
 Performs (Err stop.Memory) s r t u said = (s ≡ r) × (t ≡ u)
@@ -52,10 +54,17 @@ step_end_of (state.Trapped trap) = end.Trapped trap
 
 -- a step that came to this
 abbrev pub stepped_as : TaskState → Seen → Shared → Thread Version → Stepped Version
-stepped_as state seen s t = record { shared = s; task = task_by state t; end = ending_of state; line = seen.line; shown = shown_in seen }
+stepped_as state seen s t = record {
+  shared = s;
+  task = task_by state t;
+  end = ending_of state;
+  line = seen.line;
+  shown = shown_in seen;
+}
 
 -- a step of the frames came to what is defined; without memory nothing has changed
-abbrev pub Turns : Result Outcome AllocError → Shared → Shared → Thread Version → Thread Version → Stepped Version → Type 0
+abbrev pub Turns : Result Outcome AllocError → Shared → Shared → Thread Version → Thread Version → Stepped Version
+    → Type 0
 Turns (Ok o) s r t u said = said ≡ stepped_as o.state o.seen s t
 Turns (Err e) s r t u said = (s ≡ r) × (t ≡ u)
 
@@ -63,7 +72,8 @@ Turns (Err e) s r t u said = (s ≡ r) × (t ≡ u)
 abbrev pub ended_as : Ending → Seen → Shared → Task Version → Stepped Version
 ended_as ending seen s t = record { shared = s; task = t; end = ending; line = seen.line; shown = shown_in seen }
 
-abbrev pub Steps : Result StepEnd AllocError → Seen → Shared → Shared → Task Version → Task Version → Option (Stepped Version) → Type 0
+abbrev pub Steps : Result StepEnd AllocError → Seen → Shared → Shared → Task Version → Task Version
+    → Option (Stepped Version) → Type 0
 Steps (Ok end.Absent) seen s r t u said = ⊥
 Steps (Ok end.Idle) seen s r t u said = (said ≡ None) × (s ≡ r) × (t ≡ u)
 Steps (Ok end.Ran) seen s r t u said = said ≡ Some (ended_as ran seen s t)

@@ -7,7 +7,8 @@ use Rattle.enc_frames.specs.declared.stop.Stop.{Stop}
 use Rattle.enc_vm.specs.declared.flights.FlightEnd.{FlightEnd}
 use Rattle.enc_vm.specs.declared.flights.FlightEnd.TheVariants.{Stays, Left, LeftLast}
 
--- the frames are what is defined, and the end tells the method that was left; where the last frame was left nothing is said of the frames
+-- the frames are what is defined, and the end tells the method that was left; where the last frame was left nothing
+-- is said of the frames
 abbrev pub FliesTo : FlightEnd → Thread Version → Thread Version → Flown Version → Type 0
 FliesTo Stays new old said = said ≡ record { thread = Some new; left = None }
 FliesTo (Left method) new old said = said ≡ record { thread = Some new; left = Some method }

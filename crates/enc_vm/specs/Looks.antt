@@ -52,10 +52,12 @@ flight_in s task = option_and_then object_on_its_way (task_at s task)
 
 -- what frames that hold versions mean looks as they do
 abbrev pub StatesLookAlike : Type 0
-StatesLookAlike = (users : ℕ → Option (List ℕ)) (s : MachineState Version) (task : ℕ) → state_in (state_meant users s) task ≡ state_in s task
+StatesLookAlike = (users : ℕ → Option (List ℕ)) (s : MachineState Version) (task : ℕ)
+    → state_in (state_meant users s) task ≡ state_in s task
 
 abbrev pub FlightsLookAlike : Type 0
-FlightsLookAlike = (users : ℕ → Option (List ℕ)) (s : MachineState Version) (task : ℕ) → flight_in (state_meant users s) task ≡ flight_in s task
+FlightsLookAlike = (users : ℕ → Option (List ℕ)) (s : MachineState Version) (task : ℕ)
+    → flight_in (state_meant users s) task ≡ flight_in s task
 
 abbrev pub FramesLookAlike : Type 0
 FramesLookAlike =

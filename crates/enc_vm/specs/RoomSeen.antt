@@ -1,4 +1,5 @@
--- For the contracts of private functions: room for what a step may write, by its instruction and the value on the top of the innermost frame's stack.
+-- For the contracts of private functions: room for what a step may write, by its instruction and the value on the
+-- top of the innermost frame's stack.
 use Rattle.std.specs.Prelude.{◌≡◌, ℕ, ◌+◌, ◌≤◌, Bool, true, false, not, List, length, Option, Some, None, Result, Ok, Err}
 use Rattle.enc_frames.specs.Acts.{bare_act, numbered_act, branch_act, token_act}
 use Rattle.enc_frames.specs.Console.{digits_of_number, or_empty}

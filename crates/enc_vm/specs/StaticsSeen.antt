@@ -23,5 +23,7 @@ abbrev pub accessed_on : StaticAccess → Kind → ℕ → Token → Thread Vers
 accessed_on access k next field t s = stored s t (accessed access k next field s.store t.top)
 
 -- and its type is touched before
-abbrev pub accessed_by : World Version → Module → StaticAccess → ℕ → Token → Shared → Thread Version → Result (Made Version) Trap
-accessed_by w m access next field s t = named_field m field >>= λ k. touch w s t (declaring m field) (accessed_on access k next field t)
+abbrev pub accessed_by : World Version → Module → StaticAccess → ℕ → Token → Shared → Thread Version
+    → Result (Made Version) Trap
+accessed_by w m access next field s t =
+    named_field m field >>= λ k. touch w s t (declaring m field) (accessed_on access k next field t)

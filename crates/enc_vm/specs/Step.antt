@@ -35,7 +35,8 @@ begin_of size (x ∷ rest) = x.0
 -- the instruction at an offset, and where the one behind it begins
 unfoldable pub instruction_among : ℕ → ℕ → List (ℕ × Instruction (List ℕ)) → Option (Instruction (List ℕ) × ℕ)
 instruction_among size offset [] = None
-instruction_among size offset (x ∷ rest) = if x.0 == offset then Some (x.1, begin_of size rest) else instruction_among size offset rest
+instruction_among size offset (x ∷ rest) =
+    if x.0 == offset then Some (x.1, begin_of size rest) else instruction_among size offset rest
 
 abbrev pub instruction_of : {C : Type 0} → World C → Frame C → Option (Instruction (List ℕ) × ℕ)
 instruction_of w f = instruction_among (w.body f.code).size f.offset (w.body f.code).code
@@ -53,7 +54,8 @@ abbrev pub threaded : {C : Type 0} → Shared → Result (Thread C) Trap → Res
 threaded s r = r >>= λ t. Ok (record { shared = s; thread = Some t; shown = nothing_shown })
 
 -- a static field: its kind, then the touch of its type
-abbrev pub on_static : {C : Type 0} → World C → Shared → Thread C → Token → (Kind → Shared → Result (Made C) Trap) → Result (Made C) Trap
+abbrev pub on_static : {C : Type 0} → World C → Shared → Thread C → Token → (Kind → Shared → Result (Made C) Trap)
+    → Result (Made C) Trap
 on_static w s t field go = named_field w.plain field >>= λ k. touch w s t (declaring w.plain field) (go k)
 
 -- a call goes to a method of the module or to a member outside
@@ -65,11 +67,16 @@ unfoldable pub act_on : {C : Type 0} → World C → ℕ → Act → Shared → 
 act_on w next (act.Frame a) s t = framed s t (frame_act w next a t.top)
 act_on w next (act.Object a) s t = stored s t (object_act w next a s.store t.top)
 act_on w next act.Return s t = return_from w s t
-act_on w next (act.Call method) s t = if is_own_method method then call w next method s t else call_outside w false next method s t
-act_on w next (act.CallVirtual method) s t = if is_own_method method then call_virtual w next method s t else call_outside w true next method s t
-act_on w next (act.NewObject method) s t = if is_own_method method then new_object w next method s t else new_outside w next method s t
-act_on w next (act.LoadStatic field) s t = on_static w s t field (λ k u. stored u t (load_static k ((w.body t.top.code).stack) next field u.store t.top))
-act_on w next (act.StoreStatic field) s t = on_static w s t field (λ k u. stored u t (store_static k next field u.store t.top))
+act_on w next (act.Call method) s t =
+    if is_own_method method then call w next method s t else call_outside w false next method s t
+act_on w next (act.CallVirtual method) s t =
+    if is_own_method method then call_virtual w next method s t else call_outside w true next method s t
+act_on w next (act.NewObject method) s t =
+    if is_own_method method then new_object w next method s t else new_outside w next method s t
+act_on w next (act.LoadStatic field) s t =
+    on_static w s t field (λ k u. stored u t (load_static k ((w.body t.top.code).stack) next field u.store t.top))
+act_on w next (act.StoreStatic field) s t =
+    on_static w s t field (λ k u. stored u t (store_static k next field u.store t.top))
 act_on w next act.Throw s t = threaded s (throw_object w s.store t)
 act_on w next act.EndFinally s t = threaded s (end_finally ((w.body t.top.code).handlers) t)
 
@@ -125,10 +132,22 @@ end_after (Some t) = ran
 end_after None = done
 
 abbrev pub stepped : {C : Type 0} → Option ℕ → Made C → Stepped C
-stepped line m = record { shared = m.shared; task = task_after m.thread; end = end_after m.thread; line = line; shown = m.shown }
+stepped line m = record {
+  shared = m.shared;
+  task = task_after m.thread;
+  end = end_after m.thread;
+  line = line;
+  shown = m.shown;
+}
 
 abbrev pub trapped_in : {C : Type 0} → Option ℕ → Shared → Thread C → Trap → Stepped C
-trapped_in line s t x = record { shared = s; task = trapped x (t.top ∷ t.below); end = stopped x; line = line; shown = nothing_shown }
+trapped_in line s t x = record {
+  shared = s;
+  task = trapped x (t.top ∷ t.below);
+  end = stopped x;
+  line = line;
+  shown = nothing_shown;
+}
 
 abbrev pub stepped_by : {C : Type 0} → Option ℕ → Shared → Thread C → Result (Made C) Trap → Stepped C
 stepped_by line s t (Ok m) = stepped line m
@@ -162,7 +181,8 @@ abbrev pub constructor_runs : Module → Option Token → Bool
 constructor_runs m None = true
 constructor_runs m (Some c) = is_some (run_body m c)
 
--- a method that a task can begin with: static, without parameters, of a kind that the interpreter runs, and so its type's constructor
+-- a method that a task can begin with: static, without parameters, of a kind that the interpreter runs, and so its
+-- type's constructor
 unfoldable pub may_spawn : Module → Token → Bool
 may_spawn m method =
     method.table == tables.method_def && has_row m method && is_static_method m method
@@ -183,7 +203,8 @@ abbrev pub frame_now : {C : Type 0} → World C → Token → Option (Frame C)
 frame_now w method = option_map (λ code. new_frame w method code []) (w.now method)
 
 abbrev pub constructor_frame : {C : Type 0} → World C → Shared → Token → Option (Frame C)
-constructor_frame w s type = if is_touched type s then None else option_and_then (frame_now w) (type_constructor w.plain type)
+constructor_frame w s type = if is_touched type s then None
+    else option_and_then (frame_now w) (type_constructor w.plain type)
 
 -- the machine with a task more
 abbrev pub with_task : {C : Type 0} → World C → Token → Frame C → MachineState C → MachineState C

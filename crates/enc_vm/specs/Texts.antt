@@ -23,5 +23,6 @@ machine_texts users s = list_all (task_texts users) s.tasks
 -- where more texts are there, a machine means the same, and its texts are there still
 abbrev pub MoreTextsMeanTheSame : Type 0
 MoreTextsMeanTheSame =
-    (users others : ℕ → Option (List ℕ)) (s : MachineState Version) → KeepsTexts users others → IsTrue (machine_texts users s)
+    (users others : ℕ → Option (List ℕ)) (s : MachineState Version) → KeepsTexts users others
+    → IsTrue (machine_texts users s)
     → (state_meant others s ≡ state_meant users s) × IsTrue (machine_texts others s)

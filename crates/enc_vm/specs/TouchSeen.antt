@@ -25,15 +25,18 @@ abbrev pub constructed_in : World Version → Token → Thread Version → Share
 constructed_in w constructor t s = enter w t t.top constructor [] >>= λ u. Ok (entering s constructor u)
 
 -- the instruction goes on behind the first touch of a type, or the type's constructor is entered
-abbrev pub first_by : World Version → Option Token → (Shared → Result (Made Version) Trap) → Thread Version → Shared → Result (Made Version) Trap
+abbrev pub first_by : World Version → Option Token → (Shared → Result (Made Version) Trap) → Thread Version → Shared
+    → Result (Made Version) Trap
 first_by w None go t s = go s
 first_by w (Some constructor) go t s = constructed_in w constructor t s
 
-abbrev pub first_on : World Version → FirstTouch → (Shared → Result (Made Version) Trap) → Thread Version → Store → Result (Made Version) Trap
+abbrev pub first_on : World Version → FirstTouch → (Shared → Result (Made Version) Trap) → Thread Version → Store
+    → Result (Made Version) Trap
 first_on w first go t store = first_by w first.constructor go t (shared_by store first.touched)
 
 -- and behind any touch
-abbrev pub touched_on : World Version → Option FirstTouch → (Shared → Result (Made Version) Trap) → Thread Version → Store → List Token
+abbrev pub touched_on : World Version → Option FirstTouch → (Shared → Result (Made Version) Trap) → Thread Version
+    → Store → List Token
     → Result (Made Version) Trap
 touched_on w None go t store touched = go (shared_by store touched)
 touched_on w (Some first) go t store touched = first_on w first go t store

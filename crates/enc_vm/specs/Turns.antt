@@ -15,7 +15,8 @@ use Rattle.enc_vm.specs.declared.ends.StepEnd.TheVariants as end
 use Rattle.enc_vm.specs.declared.ends.SpawnEnd.{SpawnEnd}
 use Rattle.enc_vm.specs.declared.ends.SpawnEnd.TheVariants as spawned
 
--- nothing where no task has the number, nothing where it has ended or trapped, and else how it ended, the machine behind it and what it shows
+-- nothing where no task has the number, nothing where it has ended or trapped, and else how it ended, the machine
+-- behind it and what it shows
 pub data MachineTurn (C : Type 0) : Type 0 where
   absent : MachineTurn C
   idle : MachineTurn C
@@ -36,7 +37,8 @@ abbrev pub shown_in : Seen → Shown
 shown_in seen = record { entered = seen.entered; left = seen.left; wrote = seen.wrote }
 
 -- a step's answer, the machine behind it and what it shows are those of the turn; without memory nothing has changed
-abbrev pub IsTurn : {C : Type 0} → Result StepEnd AllocError → Seen → MachineState C → MachineState C → MachineTurn C → Type 0
+abbrev pub IsTurn : {C : Type 0} → Result StepEnd AllocError → Seen → MachineState C → MachineState C → MachineTurn C
+    → Type 0
 IsTurn (Ok end.Absent) seen new old said = (said ≡ absent) × (new ≡ old)
 IsTurn (Ok end.Idle) seen new old said = (said ≡ idle) × (new ≡ old)
 IsTurn (Ok end.Ran) seen new old said = said ≡ went ran new seen.line (shown_in seen)
@@ -44,7 +46,8 @@ IsTurn (Ok end.Ended) seen new old said = said ≡ went done new seen.line (show
 IsTurn (Ok (end.Trapped trap)) seen new old said = said ≡ went (stopped trap) new seen.line (shown_in seen)
 IsTurn (Err e) seen new old said = new ≡ old
 
--- a spawn's answer and the machine behind it are what is defined; where there is no new task, and without memory, nothing has changed
+-- a spawn's answer and the machine behind it are what is defined; where there is no new task, and without memory,
+-- nothing has changed
 abbrev pub IsSpawn : {C : Type 0} → Result SpawnEnd AllocError → MachineState C → MachineState C → Spawning C → Type 0
 IsSpawn (Ok (spawned.Task n)) new old said = said ≡ begun n new
 IsSpawn (Ok spawned.Limit) new old said = (said ≡ too_many) × (new ≡ old)
@@ -52,18 +55,22 @@ IsSpawn (Ok spawned.Method) new old said = (said ≡ no_method) × (new ≡ old)
 IsSpawn (Err e) new old said = new ≡ old
 
 -- the turn of the plain machine: of a module and each PDB that the newest versions stand for
-abbrev pub IsPlainTurn : (ℕ → Option (List ℕ)) → Module → List (Option Version) → ℕ → Result StepEnd AllocError → Seen → MachineState Version
+abbrev pub IsPlainTurn : (ℕ → Option (List ℕ)) → Module → List (Option Version) → ℕ → Result StepEnd AllocError → Seen
+    → MachineState Version
     → MachineState Version → Type 0
 IsPlainTurn users m methods task result seen new old =
     (debug : PlainPdb) → AreVersionsOf users m debug methods
-    → IsTurn result seen (state_meant users new) (state_meant users old) (machine_turn (plain_world m debug) task (state_meant users old))
+    → IsTurn result seen (state_meant users new) (state_meant users old)
+    (machine_turn (plain_world m debug) task (state_meant users old))
 
 -- and its spawn
-abbrev pub IsPlainSpawn : (ℕ → Option (List ℕ)) → Module → List (Option Version) → Token → Result SpawnEnd AllocError → MachineState Version
+abbrev pub IsPlainSpawn : (ℕ → Option (List ℕ)) → Module → List (Option Version) → Token → Result SpawnEnd AllocError
+    → MachineState Version
     → MachineState Version → Type 0
 IsPlainSpawn users m methods method result new old =
     (debug : PlainPdb) → AreVersionsOf users m debug methods
-    → IsSpawn result (state_meant users new) (state_meant users old) (spawn_in (plain_world m debug) method (state_meant users old))
+    → IsSpawn result (state_meant users new) (state_meant users old)
+    (spawn_in (plain_world m debug) method (state_meant users old))
 
 -- what is shown stays as it was where there was no step, and without memory
 abbrev pub KeepsSeen : Result StepEnd AllocError → Seen → Seen → Type 0

@@ -56,8 +56,11 @@ impl Thread {
     ) -> Result<Effect, Stop>
         requires versions { AreBodiesOf (V.users view.now) (V.meaning view.now) versions.now.methods }
         requires stands { StandsForModule dispatch.now (V.meaning view.now) }
-        requires placed { IsFramePlaced (version_world (V.users view.now) (V.meaning view.now) versions.now.methods) self.old.top }
-        ensures { Performs result (shared_by objects.new touched.new) (shared_by objects.old touched.old) self.new self.old (advance (version_world (V.users view.now) (V.meaning view.now) versions.now.methods) (shared_by objects.old touched.old) self.old) }
+        requires placed { IsFramePlaced
+            (version_world (V.users view.now) (V.meaning view.now) versions.now.methods) self.old.top }
+        ensures { Performs result (shared_by objects.new touched.new) (shared_by objects.old touched.old) self.new
+            self.old (advance (version_world (V.users view.now) (V.meaning view.now) versions.now.methods)
+            (shared_by objects.old touched.old) self.old) }
     {
         let code = self.top.code().clone()?;
         match instruction_in(code.as_ref(), self.top.offset()) {

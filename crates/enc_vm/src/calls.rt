@@ -192,7 +192,10 @@ impl Thread {
         requires table { method.table ≡ method_def }
         requires versions { AreBodiesOf (V.users view.now) (V.meaning view.now) versions.now.methods }
         requires stands { StandsForModule dispatch.now (V.meaning view.now) }
-        ensures { (touched : List TheToken) → Makes result (shared_by objects.now touched) (shared_by objects.now touched) self.new self.old (called_on (version_world (V.users view.now) (V.meaning view.now) versions.now.methods) (V.meaning view.now) manner.asks manner.by_object next n method args.items self.old (shared_by objects.now touched)) }
+        ensures { (touched : List TheToken) → Makes result (shared_by objects.now touched)
+            (shared_by objects.now touched) self.new self.old (called_on (version_world (V.users view.now)
+            (V.meaning view.now) versions.now.methods) (V.meaning view.now) manner.asks manner.by_object next n method
+            args.items self.old (shared_by objects.now touched)) }
     {
         let _ = ask_object(manner.asks, args.as_slice())?;
         let target = chosen(
@@ -227,7 +230,10 @@ impl Thread {
         requires table { method.table ≡ method_def }
         requires versions { AreBodiesOf (V.users view.now) (V.meaning view.now) versions.now.methods }
         requires stands { StandsForModule dispatch.now (V.meaning view.now) }
-        ensures { (touched : List TheToken) → Makes result (shared_by objects.now touched) (shared_by objects.now touched) self.new self.old (call_with (version_world (V.users view.now) (V.meaning view.now) versions.now.methods) manner.asks manner.by_object next method shape.now self.old (shared_by objects.now touched)) }
+        ensures { (touched : List TheToken) → Makes result (shared_by objects.now touched)
+            (shared_by objects.now touched) self.new self.old (call_with (version_world (V.users view.now)
+            (V.meaning view.now) versions.now.methods) manner.asks manner.by_object next method shape.now self.old
+            (shared_by objects.now touched)) }
     {
         let n = called_count(shape);
         match called_args(alloc, self.top.stack(), shape) {
@@ -250,7 +256,8 @@ impl Thread {
         constructor: Token,
     ) -> Result<FrameChange, Stop>
         requires versions { AreBodiesOf (V.users view.now) (V.meaning view.now) versions.now.methods }
-        ensures { (s : Shared) → Makes result s s self.new self.old (constructed_in (version_world (V.users view.now) (V.meaning view.now) versions.now.methods) constructor self.old s) }
+        ensures { (s : Shared) → Makes result s s self.new self.old (constructed_in
+            (version_world (V.users view.now) (V.meaning view.now) versions.now.methods) constructor self.old s) }
     {
         let next = self.top.offset();
         match self.enter(alloc, view, versions, constructor, Vec::new(alloc), next, 0) {
@@ -281,7 +288,10 @@ impl Thread {
         requires table { method.table ≡ method_def }
         requires versions { AreBodiesOf (V.users view.now) (V.meaning view.now) versions.now.methods }
         requires stands { StandsForModule dispatch.now (V.meaning view.now) }
-        ensures { Makes result (shared_by objects.now touched.new) (shared_by objects.now touched.old) self.new self.old (first_on (version_world (V.users view.now) (V.meaning view.now) versions.now.methods) first (call_with (version_world (V.users view.now) (V.meaning view.now) versions.now.methods) manner.asks manner.by_object next method shape.now self.old) self.old objects.now) }
+        ensures { Makes result (shared_by objects.now touched.new) (shared_by objects.now touched.old) self.new self.old
+            (first_on (version_world (V.users view.now) (V.meaning view.now) versions.now.methods) first
+            (call_with (version_world (V.users view.now) (V.meaning view.now) versions.now.methods) manner.asks
+            manner.by_object next method shape.now self.old) self.old objects.now) }
     {
         let Some(constructor) = first.constructor else {
             let change = self.call_with(
@@ -313,7 +323,11 @@ impl Thread {
         requires table { method.table ≡ method_def }
         requires versions { AreBodiesOf (V.users view.now) (V.meaning view.now) versions.now.methods }
         requires stands { StandsForModule dispatch.now (V.meaning view.now) }
-        ensures { Makes result (shared_by objects.now touched.new) (shared_by objects.now touched.old) self.new self.old (touch_if (call_touches (V.meaning view.now) method) (version_world (V.users view.now) (V.meaning view.now) versions.now.methods) (shared_by objects.now touched.old) self.old (declaring (V.meaning view.now) method) (call_with (version_world (V.users view.now) (V.meaning view.now) versions.now.methods) manner.asks manner.by_object next method shape.now self.old)) }
+        ensures { Makes result (shared_by objects.now touched.new) (shared_by objects.now touched.old) self.new self.old
+            (touch_if (call_touches (V.meaning view.now) method) (version_world (V.users view.now)
+            (V.meaning view.now) versions.now.methods) (shared_by objects.now touched.old) self.old
+            (declaring (V.meaning view.now) method) (call_with (version_world (V.users view.now)
+            (V.meaning view.now) versions.now.methods) manner.asks manner.by_object next method shape.now self.old)) }
     {
         if !call_touches(view, method) {
             return self.call_with(
@@ -376,7 +390,9 @@ impl Thread {
     ) -> Result<FrameChange, Stop>
         requires versions { AreBodiesOf (V.users view.now) (V.meaning view.now) versions.now.methods }
         requires stands { StandsForModule dispatch.now (V.meaning view.now) }
-        ensures { Makes result (shared_by objects.now touched.new) (shared_by objects.now touched.old) self.new self.old (call (version_world (V.users view.now) (V.meaning view.now) versions.now.methods) next method (shared_by objects.now touched.old) self.old) }
+        ensures { Makes result (shared_by objects.now touched.new) (shared_by objects.now touched.old) self.new self.old
+            (call (version_world (V.users view.now) (V.meaning view.now) versions.now.methods) next method
+            (shared_by objects.now touched.old) self.old) }
     {
         let shape = named_method(view, method)?;
         let manner = Manner {
@@ -403,7 +419,9 @@ impl Thread {
     ) -> Result<FrameChange, Stop>
         requires versions { AreBodiesOf (V.users view.now) (V.meaning view.now) versions.now.methods }
         requires stands { StandsForModule dispatch.now (V.meaning view.now) }
-        ensures { Makes result (shared_by objects.now touched.new) (shared_by objects.now touched.old) self.new self.old (call_virtual (version_world (V.users view.now) (V.meaning view.now) versions.now.methods) next method (shared_by objects.now touched.old) self.old) }
+        ensures { Makes result (shared_by objects.now touched.new) (shared_by objects.now touched.old) self.new self.old
+            (call_virtual (version_world (V.users view.now) (V.meaning view.now) versions.now.methods) next method
+            (shared_by objects.now touched.old) self.old) }
     {
         let shape = named_virtually(view, method)?;
         let by_object = is_by_object(view, &shape, method);

@@ -82,7 +82,10 @@ impl Thread {
     ) -> Result<(), Stop>
         requires there { n ≤ length self.old.top.stack }
         requires room { length self.old.below < 1023 }
-        ensures { Does result (objects.new, self.new) (objects.old, self.old) (object_entered class next n frame objects.old self.old) }
+        ensures { Does result (objects.new, self.new) (
+          objects.old,
+          self.old,
+        ) (object_entered class next n frame objects.old self.old) }
     {
         if objects.is_full(0) {
             return Err(Stop::Trap(Trap::X12));
@@ -140,7 +143,8 @@ fn frame_now<V: ModuleView>(
     args: Vec<Value>,
 ) -> Result<Frame, Stop>
     requires versions { AreBodiesOf (V.users view.now) (V.meaning view.now) versions.now.methods }
-    ensures { GivesOrStops result (frame_made (version_world (V.users view.now) (V.meaning view.now) versions.now.methods) (V.meaning view.now) method args.items) }
+    ensures { GivesOrStops result (frame_made (version_world (V.users view.now)
+        (V.meaning view.now) versions.now.methods) (V.meaning view.now) method args.items) }
 {
     let Some(code) = code_now(view, versions, method) else {
         return Err(Stop::Trap(Trap::X10));
@@ -166,7 +170,10 @@ impl Thread {
     ) -> Result<FrameChange, Stop>
         requires there { n ≤ length self.old.top.stack }
         requires versions { AreBodiesOf (V.users view.now) (V.meaning view.now) versions.now.methods }
-        ensures { (touched : List TheToken) → Makes result (shared_by objects.new touched) (shared_by objects.old touched) self.new self.old (constructed_on (version_world (V.users view.now) (V.meaning view.now) versions.now.methods) (V.meaning view.now) next n class method args.items self.old (shared_by objects.old touched)) }
+        ensures { (touched : List TheToken) → Makes result (shared_by objects.new touched)
+            (shared_by objects.old touched) self.new self.old (constructed_on (version_world (V.users view.now)
+            (V.meaning view.now) versions.now.methods) (V.meaning view.now) next n class method args.items self.old
+            (shared_by objects.old touched)) }
     {
         let frame = frame_now(alloc, view, versions, method, args)?;
         if self.below.len() >= MOST_FRAMES - 1 {
@@ -193,7 +200,9 @@ impl Thread {
         requires row { IsTrue (has_row (V.meaning view.now) method) }
         requires table { method.table ≡ method_def }
         requires versions { AreBodiesOf (V.users view.now) (V.meaning view.now) versions.now.methods }
-        ensures { (touched : List TheToken) → Makes result (shared_by objects.new touched) (shared_by objects.old touched) self.new self.old (construct (version_world (V.users view.now) (V.meaning view.now) versions.now.methods) next method shape.now self.old (shared_by objects.old touched)) }
+        ensures { (touched : List TheToken) → Makes result (shared_by objects.new touched)
+            (shared_by objects.old touched) self.new self.old (construct (version_world (V.users view.now)
+            (V.meaning view.now) versions.now.methods) next method shape.now self.old (shared_by objects.old touched)) }
     {
         let n = shape.takes().len();
         let class = declaring(view, method);
@@ -224,7 +233,10 @@ impl Thread {
         requires row { IsTrue (has_row (V.meaning view.now) method) }
         requires table { method.table ≡ method_def }
         requires versions { AreBodiesOf (V.users view.now) (V.meaning view.now) versions.now.methods }
-        ensures { Makes result (shared_by objects.new touched.new) (shared_by objects.old touched.old) self.new self.old (first_on (version_world (V.users view.now) (V.meaning view.now) versions.now.methods) first (construct (version_world (V.users view.now) (V.meaning view.now) versions.now.methods) next method shape.now self.old) self.old objects.old) }
+        ensures { Makes result (shared_by objects.new touched.new) (shared_by objects.old touched.old) self.new self.old
+            (first_on (version_world (V.users view.now) (V.meaning view.now) versions.now.methods) first
+            (construct (version_world (V.users view.now) (V.meaning view.now) versions.now.methods) next method
+            shape.now self.old) self.old objects.old) }
     {
         let Some(constructor) = first.constructor else {
             let change = self.construct(alloc, view, versions, objects, next, method, shape)?;
@@ -251,7 +263,11 @@ impl Thread {
         requires row { IsTrue (has_row (V.meaning view.now) method) }
         requires table { method.table ≡ method_def }
         requires versions { AreBodiesOf (V.users view.now) (V.meaning view.now) versions.now.methods }
-        ensures { Makes result (shared_by objects.new touched.new) (shared_by objects.old touched.old) self.new self.old (touch (version_world (V.users view.now) (V.meaning view.now) versions.now.methods) (shared_by objects.old touched.old) self.old (declaring (V.meaning view.now) method) (construct (version_world (V.users view.now) (V.meaning view.now) versions.now.methods) next method shape.now self.old)) }
+        ensures { Makes result (shared_by objects.new touched.new) (shared_by objects.old touched.old) self.new self.old
+            (touch (version_world (V.users view.now) (V.meaning view.now) versions.now.methods)
+            (shared_by objects.old touched.old) self.old (declaring (V.meaning view.now) method)
+            (construct (version_world (V.users view.now) (V.meaning view.now) versions.now.methods) next method
+            shape.now self.old)) }
     {
         let owner = declaring(view, method);
         match first_touch(alloc, view, touched, owner) {
@@ -268,7 +284,8 @@ impl Thread {
 fn is_for_object<V: ModuleView>(view: &V, method: Token, shape: &MethodShape<'_>) -> bool
     requires row { IsTrue (has_row (V.meaning view.now) method) }
     requires table { method.table ≡ method_def }
-    ensures { result ≡ (shape.now.this && not (is_value_type (cells_of (V.meaning view.now)) (declaring (V.meaning view.now) method))) }
+    ensures { result ≡ (shape.now.this
+        && not (is_value_type (cells_of (V.meaning view.now)) (declaring (V.meaning view.now) method))) }
 {
     let class = declaring(view, method);
     shape.has_this() && !is_value_type(&Viewed { view }, class)
@@ -289,7 +306,9 @@ impl Thread {
         method: Token,
     ) -> Result<FrameChange, Stop>
         requires versions { AreBodiesOf (V.users view.now) (V.meaning view.now) versions.now.methods }
-        ensures { Makes result (shared_by objects.new touched.new) (shared_by objects.old touched.old) self.new self.old (new_object (version_world (V.users view.now) (V.meaning view.now) versions.now.methods) next method (shared_by objects.old touched.old) self.old) }
+        ensures { Makes result (shared_by objects.new touched.new) (shared_by objects.old touched.old) self.new self.old
+            (new_object (version_world (V.users view.now) (V.meaning view.now) versions.now.methods) next method
+            (shared_by objects.old touched.old) self.old) }
     {
         let shape = named_method(view, method)?;
         if !is_for_object(view, method, &shape) {

@@ -15,7 +15,7 @@ use enc_schema::columns::{METHOD_DEF_FLAGS, TYPE_DEF_FLAGS};
 use std::alloc::{AllocError, Global};
 
 /// The type that declares a method (ECMA-335 II.22.37).
-#[tactic(auto, using(crate::proofs::Declared::is_child, crate::proofs::Declared::owner_is, crate::proofs::Declared::owner_type, crate::proofs::Declared::owner_row))]
+#[tactic(auto, using(crate::proofs::Declared::declared_steps))]
 pub(crate) fn declaring<V: ModuleView>(view: &V, method: Token) -> Token
     requires row { IsTrue (has_row (V.meaning view.now) method) }
     requires table { method.table ≡ method_def }

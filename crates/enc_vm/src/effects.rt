@@ -31,7 +31,9 @@ impl Thread {
         next: u32,
         act: FrameAct,
     ) -> Result<Effect, Stop>
-        ensures { (users : ℕ → Option (List ℕ)) (methods : List (Option Version)) (s : Shared) → Performs result s s self.new self.old (framed s self.old (frame_act (version_world users (V.meaning view.now) methods) next act self.old.top)) }
+        ensures { (users : ℕ → Option (List ℕ)) (methods : List (Option Version)) (s : Shared)
+            → Performs result s s self.new self.old (framed s self.old
+            (frame_act (version_world users (V.meaning view.now) methods) next act self.old.top)) }
     {
         match self.top.act(alloc, view, next, act) {
             Err(stop) => Err(stop),
@@ -49,7 +51,10 @@ impl Thread {
         act: ObjectAct,
     ) -> Result<Effect, Stop>
         requires stands { StandsForModule dispatch.now (V.meaning view.now) }
-        ensures { (users : ℕ → Option (List ℕ)) (methods : List (Option Version)) (touched : List TheToken) → Performs result (shared_by objects.new touched) (shared_by objects.old touched) self.new self.old (stored (shared_by objects.old touched) self.old (object_act (version_world users (V.meaning view.now) methods) next act objects.old self.old.top)) }
+        ensures { (users : ℕ → Option (List ℕ)) (methods : List (Option Version)) (touched : List TheToken)
+            → Performs result (shared_by objects.new touched) (shared_by objects.old touched) self.new self.old
+            (stored (shared_by objects.old touched) self.old
+            (object_act (version_world users (V.meaning view.now) methods) next act objects.old self.old.top)) }
     {
         match act_on_objects(view, dispatch, objects, &mut self.top, next, act) {
             Err(stop) => Err(stop),
@@ -59,7 +64,9 @@ impl Thread {
 
     /// `ret`.
     pub(crate) fn return_one<V: ModuleView>(&mut self, view: &V) -> Result<Effect, Stop>
-        ensures { (users : ℕ → Option (List ℕ)) (methods : List (Option Version)) (s : Shared) → Performs result s s self.new self.old (return_from (version_world users (V.meaning view.now) methods) s self.old) }
+        ensures { (users : ℕ → Option (List ℕ)) (methods : List (Option Version)) (s : Shared)
+            → Performs result s s self.new self.old
+            (return_from (version_world users (V.meaning view.now) methods) s self.old) }
     {
         match self.leave_method(view) {
             Err(stop) => Err(stop),
@@ -73,7 +80,10 @@ impl Thread {
         view: &V,
         objects: &Objects,
     ) -> Result<Effect, Stop>
-        ensures { (users : ℕ → Option (List ℕ)) (methods : List (Option Version)) (touched : List TheToken) → Performs result (shared_by objects.now touched) (shared_by objects.now touched) self.new self.old (threaded (shared_by objects.now touched) (throw_object (version_world users (V.meaning view.now) methods) objects.now self.old)) }
+        ensures { (users : ℕ → Option (List ℕ)) (methods : List (Option Version)) (touched : List TheToken)
+            → Performs result (shared_by objects.now touched) (shared_by objects.now touched) self.new self.old
+            (threaded (shared_by objects.now touched)
+            (throw_object (version_world users (V.meaning view.now) methods) objects.now self.old)) }
     {
         match self.throw_object(view, objects) {
             Err(stop) => Err(stop),
@@ -88,7 +98,9 @@ impl Thread {
         alloc: Global,
         view: &V,
     ) -> Result<Effect, Stop>
-        ensures { (users : ℕ → Option (List ℕ)) (methods : List (Option Version)) (s : Shared) → Performs result s s self.new self.old (threaded s (end_finally (((version_world users (V.meaning view.now) methods).body self.old.top.code).handlers) self.old)) }
+        ensures { (users : ℕ → Option (List ℕ)) (methods : List (Option Version)) (s : Shared)
+            → Performs result s s self.new self.old (threaded s (end_finally
+            (((version_world users (V.meaning view.now) methods).body self.old.top.code).handlers) self.old)) }
     {
         match self.end_finally(alloc) {
             Err(stop) => Err(stop),
@@ -100,7 +112,8 @@ impl Thread {
 impl Thread {
     /// An instruction on two values.
     pub(crate) fn on_two(&mut self, op: Op, next: u32) -> Result<Effect, Stop>
-        ensures { (s : Shared) → Performs result s s self.new self.old (framed s self.old (on_upper_two op next self.old.top)) }
+        ensures { (s : Shared) → Performs result s s self.new self.old
+            (framed s self.old (on_upper_two op next self.old.top)) }
     {
         match self.top.on_upper_two(op, next) {
             Err(stop) => Err(stop),
@@ -110,7 +123,8 @@ impl Thread {
 
     /// An instruction on one value.
     pub(crate) fn on_one(&mut self, op: Op, next: u32) -> Result<Effect, Stop>
-        ensures { (s : Shared) → Performs result s s self.new self.old (framed s self.old (on_top op next self.old.top)) }
+        ensures { (s : Shared) → Performs result s s self.new self.old
+            (framed s self.old (on_top op next self.old.top)) }
     {
         match self.top.on_top(op, next) {
             Err(stop) => Err(stop),

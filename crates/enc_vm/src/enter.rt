@@ -29,7 +29,8 @@ pub(crate) fn code_now<'a, V: ModuleView>(
     method: Token,
 ) -> Option<&'a Rc<Code>>
     requires versions { AreBodiesOf (V.users view.now) (V.meaning view.now) versions.now.methods }
-    ensures code { option_map (λ c. c.now.value) result ≡ (version_world (V.users view.now) (V.meaning view.now) versions.now.methods).now method }
+    ensures code { option_map (λ c. c.now.value) result
+        ≡ (version_world (V.users view.now) (V.meaning view.now) versions.now.methods).now method }
     ensures table { IfSome result (λ c. method.table ≡ method_def) }
 {
     if method.table != METHOD_DEF {
@@ -66,7 +67,9 @@ impl Thread {
         n: usize,
     ) -> Result<(), Stop>
         requires versions { AreBodiesOf (V.users view.now) (V.meaning view.now) versions.now.methods }
-        ensures { Does result self.new self.old (enter (version_world (V.users view.now) (V.meaning view.now) versions.now.methods) self.old (moved_on next (drop n self.old.top.stack) self.old.top) method args.items) }
+        ensures { Does result self.new self.old (enter (version_world (V.users view.now)
+            (V.meaning view.now) versions.now.methods) self.old
+            (moved_on next (drop n self.old.top.stack) self.old.top) method args.items) }
     {
         let Some(code) = code_now(view, versions, method) else {
             return Err(Stop::Trap(Trap::X10));

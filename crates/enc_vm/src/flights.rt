@@ -37,7 +37,8 @@ impl Thread {
 impl Thread {
     /// The way out by `leave` goes on behind a handler of the innermost frame, which ends.
     fn resume(&mut self, alloc: Global, handler: Running, goal: u32) -> Result<(), Stop>
-        ensures { Does result self.new self.old (Ok (resumed_by (own_clauses self.old.top) self.old handler (TheReason.Leave goal) (record self.old.top { running = without_first self.old.top.running }))) }
+        ensures { Does result self.new self.old (Ok (resumed_by (own_clauses self.old.top) self.old handler
+            (TheReason.Leave goal) (record self.old.top { running = without_first self.old.top.running }))) }
     {
         self.top.resume(alloc, handler, goal)
     }
@@ -75,7 +76,8 @@ pub(crate) enum FlightEnd {
 impl Thread {
     /// The handler of a clause begins on the way of an object.
     fn handle(&mut self, alloc: Global, flight: Flight, clause: u32) -> Result<(), Stop>
-        ensures { Does result (Some self.new) (Some self.old) (Ok (handled (own_clauses self.old.top) self.old flight clause).thread) }
+        ensures { Does result (Some self.new) (Some self.old)
+            (Ok (handled (own_clauses self.old.top) self.old flight clause).thread) }
     {
         let on_way = Flight {
             tried: Some(clause),
@@ -95,7 +97,8 @@ impl Thread {
 
     /// The innermost frame takes the object.
     fn take(&mut self, alloc: Global, flight: Flight) -> Result<(), Stop>
-        ensures { Does result (Some self.new) (Some self.old) (Ok (object_taken (own_clauses self.old.top) self.old flight).thread) }
+        ensures { Does result (Some self.new) (Some self.old)
+            (Ok (object_taken (own_clauses self.old.top) self.old flight).thread) }
     {
         self.top.take(alloc, flight.clause, flight.object)?;
         self.flight = None;

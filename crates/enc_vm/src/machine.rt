@@ -71,7 +71,8 @@ impl Machine {
     ) -> Result<SpawnEnd, AllocError>
         requires sound { IsSound (V.meaning view.now) }
         requires versions { AreBodiesOf (V.users view.now) (V.meaning view.now) versions.now.methods }
-        ensures { IsSpawn result self.new self.old (spawn_in (version_world (V.users view.now) (V.meaning view.now) versions.now.methods) method self.old) }
+        ensures { IsSpawn result self.new self.old
+            (spawn_in (version_world (V.users view.now) (V.meaning view.now) versions.now.methods) method self.old) }
     {
         if self.tasks.len() >= MOST_TASKS {
             return Ok(SpawnEnd::Limit);
@@ -106,7 +107,8 @@ impl Machine {
         requires sound { IsSound (V.meaning view.now) }
         requires versions { AreBodiesOf (V.users view.now) (V.meaning view.now) versions.now.methods }
         requires stands { StandsForModule dispatch.now (V.meaning view.now) }
-        ensures turn { IsTurn result seen.new self.new self.old (machine_turn (version_world (V.users view.now) (V.meaning view.now) versions.now.methods) task self.old) }
+        ensures turn { IsTurn result seen.new self.new self.old
+            (machine_turn (version_world (V.users view.now) (V.meaning view.now) versions.now.methods) task self.old) }
         ensures seen { KeepsSeen result seen.new seen.old }
     {
         let Some(i) = task.checked_sub(1) else {
@@ -139,9 +141,12 @@ impl Machine {
     ) -> Result<SpawnEnd, AllocError>
         requires sound { IsSound (V.meaning view.now) }
         requires versions { AreBodiesOf (V.users view.now) (V.meaning view.now) versions.now.methods }
-        ensures plain { IsPlainSpawn (V.users view.now) (V.meaning view.now) versions.now.methods method result self.new self.old }
-        ensures kept { IsSpawn result self.new self.old (spawn_in (version_world (V.users view.now) (V.meaning view.now) versions.now.methods) method self.old) }
-        ensures texts { IsTrue (machine_texts (V.users view.now) self.old) → IsTrue (machine_texts (V.users view.now) self.new) }
+        ensures plain { IsPlainSpawn (V.users view.now)
+            (V.meaning view.now) versions.now.methods method result self.new self.old }
+        ensures kept { IsSpawn result self.new self.old
+            (spawn_in (version_world (V.users view.now) (V.meaning view.now) versions.now.methods) method self.old) }
+        ensures texts { IsTrue (machine_texts (V.users view.now) self.old)
+            → IsTrue (machine_texts (V.users view.now) self.new) }
     {
         self.spawn_version(view, versions, method)
     }
@@ -161,9 +166,12 @@ impl Machine {
         requires sound { IsSound (V.meaning view.now) }
         requires versions { AreBodiesOf (V.users view.now) (V.meaning view.now) versions.now.methods }
         requires stands { StandsForModule dispatch.now (V.meaning view.now) }
-        ensures plain { IsPlainTurn (V.users view.now) (V.meaning view.now) versions.now.methods task result seen.new self.new self.old }
-        ensures kept { IsTurn result seen.new self.new self.old (machine_turn (version_world (V.users view.now) (V.meaning view.now) versions.now.methods) task self.old) }
-        ensures texts { IsTrue (machine_texts (V.users view.now) self.old) → IsTrue (machine_texts (V.users view.now) self.new) }
+        ensures plain { IsPlainTurn (V.users view.now)
+            (V.meaning view.now) versions.now.methods task result seen.new self.new self.old }
+        ensures kept { IsTurn result seen.new self.new self.old
+            (machine_turn (version_world (V.users view.now) (V.meaning view.now) versions.now.methods) task self.old) }
+        ensures texts { IsTrue (machine_texts (V.users view.now) self.old)
+            → IsTrue (machine_texts (V.users view.now) self.new) }
         ensures seen { KeepsSeen result seen.new seen.old }
     {
         self.step_version(view, versions, dispatch, task, seen)

@@ -30,7 +30,9 @@ use std::alloc::Global;
 
 /// What an instruction makes of a task that changes objects and the innermost frame, and may write.
 fn effect_of(written: Written) -> Result<Effect, Stop>
-    ensures { (new old : Store) (f : TheFrame Version) (touched : List TheToken) (t : TheThread Version) (said : Result (Made Version) Trap) → MakesWriting written new old f touched t said → Performs result (shared_by new touched) (shared_by old touched) (record t { top = f }) t said }
+    ensures { (new old : Store) (f : TheFrame Version) (touched : List TheToken) (t : TheThread Version)
+        (said : Result (Made Version) Trap) → MakesWriting written new old f touched t said
+        → Performs result (shared_by new touched) (shared_by old touched) (record t { top = f }) t said }
 {
     match written {
         Err(stop) => Err(stop),
@@ -50,7 +52,10 @@ impl Thread {
         next: u32,
         member: Token,
     ) -> Result<Effect, Stop>
-        ensures { (methods : List (Option Version)) (touched : List TheToken) → Performs result (shared_by objects.new touched) (shared_by objects.old touched) self.new self.old (call_outside (version_world (V.users view.now) (V.meaning view.now) methods) asked next member (shared_by objects.old touched) self.old) }
+        ensures { (methods : List (Option Version)) (touched : List TheToken) →
+            Performs result (shared_by objects.new touched) (shared_by objects.old touched) self.new self.old
+            (call_outside (version_world (V.users view.now) (V.meaning view.now) methods) asked next member
+            (shared_by objects.old touched) self.old) }
     {
         let written = call_outside(alloc, view, objects, &mut self.top, asked, next, member);
         effect_of(written)
@@ -64,7 +69,10 @@ impl Thread {
         next: u32,
         member: Token,
     ) -> Result<Effect, Stop>
-        ensures { (methods : List (Option Version)) (touched : List TheToken) → Performs result (shared_by objects.new touched) (shared_by objects.old touched) self.new self.old (new_outside (version_world (V.users view.now) (V.meaning view.now) methods) next member (shared_by objects.old touched) self.old) }
+        ensures { (methods : List (Option Version)) (touched : List TheToken) →
+            Performs result (shared_by objects.new touched) (shared_by objects.old touched) self.new self.old
+            (new_outside (version_world (V.users view.now) (V.meaning view.now) methods) next member
+            (shared_by objects.old touched) self.old) }
     {
         let written = new_outside(view, objects, &mut self.top, next, member);
         effect_of(written)
@@ -85,7 +93,9 @@ impl Thread {
     ) -> Result<Effect, Stop>
         requires versions { AreBodiesOf (V.users view.now) (V.meaning view.now) versions.now.methods }
         requires stands { StandsForModule dispatch.now (V.meaning view.now) }
-        ensures { Performs result (shared_by objects.new touched.new) (shared_by objects.old touched.old) self.new self.old (act_on (version_world (V.users view.now) (V.meaning view.now) versions.now.methods) next (TheAct.Call method) (shared_by objects.old touched.old) self.old) }
+        ensures { Performs result (shared_by objects.new touched.new) (shared_by objects.old touched.old) self.new
+            self.old (act_on (version_world (V.users view.now) (V.meaning view.now) versions.now.methods) next
+            (TheAct.Call method) (shared_by objects.old touched.old) self.old) }
     {
         if method.table != METHOD_DEF {
             return self.call_out(alloc, view, objects, false, next, method);
@@ -113,7 +123,9 @@ impl Thread {
     ) -> Result<Effect, Stop>
         requires versions { AreBodiesOf (V.users view.now) (V.meaning view.now) versions.now.methods }
         requires stands { StandsForModule dispatch.now (V.meaning view.now) }
-        ensures { Performs result (shared_by objects.new touched.new) (shared_by objects.old touched.old) self.new self.old (act_on (version_world (V.users view.now) (V.meaning view.now) versions.now.methods) next (TheAct.CallVirtual method) (shared_by objects.old touched.old) self.old) }
+        ensures { Performs result (shared_by objects.new touched.new) (shared_by objects.old touched.old) self.new
+            self.old (act_on (version_world (V.users view.now) (V.meaning view.now) versions.now.methods) next
+            (TheAct.CallVirtual method) (shared_by objects.old touched.old) self.old) }
     {
         if method.table != METHOD_DEF {
             return self.call_out(alloc, view, objects, true, next, method);
@@ -141,7 +153,9 @@ impl Thread {
         method: Token,
     ) -> Result<Effect, Stop>
         requires { AreBodiesOf (V.users view.now) (V.meaning view.now) versions.now.methods }
-        ensures { Performs result (shared_by objects.new touched.new) (shared_by objects.old touched.old) self.new self.old (act_on (version_world (V.users view.now) (V.meaning view.now) versions.now.methods) next (TheAct.NewObject method) (shared_by objects.old touched.old) self.old) }
+        ensures { Performs result (shared_by objects.new touched.new) (shared_by objects.old touched.old) self.new
+            self.old (act_on (version_world (V.users view.now) (V.meaning view.now) versions.now.methods) next
+            (TheAct.NewObject method) (shared_by objects.old touched.old) self.old) }
     {
         if method.table != METHOD_DEF {
             return self.new_out(view, objects, next, method);
@@ -164,7 +178,9 @@ impl Thread {
         field: Token,
     ) -> Result<Effect, Stop>
         requires { AreBodiesOf (V.users view.now) (V.meaning view.now) versions.now.methods }
-        ensures { Performs result (shared_by objects.new touched.new) (shared_by objects.old touched.old) self.new self.old (act_on (version_world (V.users view.now) (V.meaning view.now) versions.now.methods) next (TheAct.LoadStatic field) (shared_by objects.old touched.old) self.old) }
+        ensures { Performs result (shared_by objects.new touched.new) (shared_by objects.old touched.old) self.new
+            self.old (act_on (version_world (V.users view.now) (V.meaning view.now) versions.now.methods) next
+            (TheAct.LoadStatic field) (shared_by objects.old touched.old) self.old) }
     {
         match self.load_static(alloc, view, versions, objects, touched, next, field) {
             Err(stop) => Err(stop),
@@ -184,7 +200,9 @@ impl Thread {
         field: Token,
     ) -> Result<Effect, Stop>
         requires { AreBodiesOf (V.users view.now) (V.meaning view.now) versions.now.methods }
-        ensures { Performs result (shared_by objects.new touched.new) (shared_by objects.old touched.old) self.new self.old (act_on (version_world (V.users view.now) (V.meaning view.now) versions.now.methods) next (TheAct.StoreStatic field) (shared_by objects.old touched.old) self.old) }
+        ensures { Performs result (shared_by objects.new touched.new) (shared_by objects.old touched.old) self.new
+            self.old (act_on (version_world (V.users view.now) (V.meaning view.now) versions.now.methods) next
+            (TheAct.StoreStatic field) (shared_by objects.old touched.old) self.old) }
     {
         match self.store_static(alloc, view, versions, objects, touched, next, field) {
             Err(stop) => Err(stop),

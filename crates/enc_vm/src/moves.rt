@@ -32,7 +32,8 @@ impl Machine {
     /// The code that the innermost frame of a task keeps. None exactly where no task has the number, or where it
     /// has no frame.
     pub fn top_code(&self, task: u32) -> Option<&Rc<Code>>
-        ensures { option_map (λ c. c.now.value) result ≡ option_map (λ (f : TheFrame _). f.code) (innermost_in self.now task) }
+        ensures { option_map (λ c. c.now.value) result
+            ≡ option_map (λ (f : TheFrame _). f.code) (innermost_in self.now task) }
     {
         match self.innermost(task) {
             None => None,
@@ -49,7 +50,8 @@ impl Machine {
 
     /// Whether the innermost frame of a task runs a handler, false where it has no frame.
     pub fn handling(&self, task: u32) -> bool
-        ensures { result ≡ option_map_or (λ (f : TheFrame _). not (length f.running == 0)) (innermost_in self.now task) false }
+        ensures { result ≡ option_map_or (λ (f : TheFrame _). not (length f.running == 0))
+            (innermost_in self.now task) false }
     {
         match self.innermost(task) {
             None => false,

@@ -43,7 +43,9 @@ impl Thread {
     ) -> Result<Effect, Stop>
         requires versions { AreBodiesOf (V.users view.now) (V.meaning view.now) versions.now.methods }
         requires stands { StandsForModule dispatch.now (V.meaning view.now) }
-        ensures { Performs result (shared_by objects.new touched.new) (shared_by objects.old touched.old) self.new self.old (act_on (version_world (V.users view.now) (V.meaning view.now) versions.now.methods) next act (shared_by objects.old touched.old) self.old) }
+        ensures { Performs result (shared_by objects.new touched.new) (shared_by objects.old touched.old) self.new
+            self.old (act_on (version_world (V.users view.now) (V.meaning view.now) versions.now.methods) next act
+            (shared_by objects.old touched.old) self.old) }
     {
         match act {
             Act::Frame(act) => self.act_on_frame(alloc, view, next, act),
@@ -83,7 +85,9 @@ impl Thread {
     ) -> Result<Effect, Stop>
         requires versions { AreBodiesOf (V.users view.now) (V.meaning view.now) versions.now.methods }
         requires stands { StandsForModule dispatch.now (V.meaning view.now) }
-        ensures { Performs result (shared_by objects.new touched.new) (shared_by objects.old touched.old) self.new self.old (act_or_trap (version_world (V.users view.now) (V.meaning view.now) versions.now.methods) next act (shared_by objects.old touched.old) self.old) }
+        ensures { Performs result (shared_by objects.new touched.new) (shared_by objects.old touched.old) self.new
+            self.old (act_or_trap (version_world (V.users view.now) (V.meaning view.now) versions.now.methods) next act
+            (shared_by objects.old touched.old) self.old) }
     {
         match act {
             None => Err(Stop::Trap(Trap::X2)),
@@ -107,7 +111,9 @@ impl Thread {
     ) -> Result<Effect, Stop>
         requires versions { AreBodiesOf (V.users view.now) (V.meaning view.now) versions.now.methods }
         requires stands { StandsForModule dispatch.now (V.meaning view.now) }
-        ensures { Performs result (shared_by objects.new touched.new) (shared_by objects.old touched.old) self.new self.old (bare_on (version_world (V.users view.now) (V.meaning view.now) versions.now.methods) next op (shared_by objects.old touched.old) self.old) }
+        ensures { Performs result (shared_by objects.new touched.new) (shared_by objects.old touched.old) self.new
+            self.old (bare_on (version_world (V.users view.now) (V.meaning view.now) versions.now.methods) next op
+            (shared_by objects.old touched.old) self.old) }
     {
         if is_binary(op) {
             return self.on_two(op, next);
@@ -131,7 +137,8 @@ impl Thread {
 impl Thread {
     /// `switch`, whose distances count from its end.
     fn switch(&mut self, distances: &[u8], next: u32) -> Result<Effect, Stop>
-        ensures { (s : Shared) → Performs result s s self.new self.old (framed s self.old (switch_to (all_reached next distances.now) next self.old.top)) }
+        ensures { (s : Shared) → Performs result s s self.new self.old
+            (framed s self.old (switch_to (all_reached next distances.now) next self.old.top)) }
     {
         match self.top.switch_to(distances, next, next) {
             Err(stop) => Err(stop),
@@ -148,7 +155,10 @@ impl Thread {
         next: u32,
         offset: u32,
     ) -> Result<Effect, Stop>
-        ensures { (methods : List (Option Version)) (touched : List TheToken) → Performs result (shared_by objects.new touched) (shared_by objects.old touched) self.new self.old (stored (shared_by objects.old touched) self.old (load_text self.old.top.code.code.max next (units_of (unwrap_or (V.users view.now offset) [])) objects.old self.old.top)) }
+        ensures { (methods : List (Option Version)) (touched : List TheToken) →
+            Performs result (shared_by objects.new touched) (shared_by objects.old touched) self.new self.old
+            (stored (shared_by objects.old touched) self.old (load_text self.old.top.code.code.max next
+            (units_of (unwrap_or (V.users view.now offset) [])) objects.old self.old.top)) }
     {
         let units = units_told(alloc, view, offset)?;
         match load_text(objects, &mut self.top, next, units.as_slice()) {
@@ -172,7 +182,10 @@ impl Thread {
     ) -> Result<Effect, Stop>
         requires versions { AreBodiesOf (V.users view.now) (V.meaning view.now) versions.now.methods }
         requires stands { StandsForModule dispatch.now (V.meaning view.now) }
-        ensures { Performs result (shared_by objects.new touched.new) (shared_by objects.old touched.old) self.new self.old (perform (version_world (V.users view.now) (V.meaning view.now) versions.now.methods) next instr.entry.op (told (V.users view.now) (arg_seen next instr.entry.arg)) (shared_by objects.old touched.old) self.old) }
+        ensures { Performs result (shared_by objects.new touched.new) (shared_by objects.old touched.old) self.new
+            self.old (perform (version_world (V.users view.now) (V.meaning view.now) versions.now.methods) next
+            instr.entry.op (told (V.users view.now) (arg_seen next instr.entry.arg))
+            (shared_by objects.old touched.old) self.old) }
     {
         let op = instr.op;
         match instr.arg {

@@ -28,7 +28,8 @@ pub(crate) enum FrameChange {
 impl Thread {
     /// The innermost frame is left, and its value goes to the nearest below; the task ends with its last one.
     fn leave(&mut self, value: Option<Value>) -> Result<FrameChange, Stop>
-        ensures { (s : Shared) → Makes result s s self.new self.old (left_with s self.old.top.method value self.old.below) }
+        ensures { (s : Shared) → Makes result s s self.new self.old
+            (left_with s self.old.top.method value self.old.below) }
     {
         let method = self.top.method();
         self.below.hand(value)?;
@@ -43,7 +44,9 @@ impl Thread {
     /// `ret`: X2 where the method's types have no kinds (ECMA-335 III.3.57).
     #[tactic(auto, using(crate::proofs::Handed::return_is))]
     pub(crate) fn leave_method<V: ModuleView>(&mut self, view: &V) -> Result<FrameChange, Stop>
-        ensures { (users : ℕ → Option (List ℕ)) (methods : List (Option Version)) (s : Shared) → Makes result s s self.new self.old (returned_from (version_world users (V.meaning view.now) methods) s self.old) }
+        ensures { (users : ℕ → Option (List ℕ)) (methods : List (Option Version)) (s : Shared)
+            → Makes result s s self.new self.old
+            (returned_from (version_world users (V.meaning view.now) methods) s self.old) }
     {
         let Some(shape) = method_shape(view, self.top.method()) else {
             return Err(Stop::Trap(Trap::X2));

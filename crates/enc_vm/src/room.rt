@@ -104,7 +104,9 @@ impl Thread {
     /// Room for what the instruction writes at which the innermost frame stands.
     #[tactic(auto, using(crate::proofs::RoomAt::room_at))]
     fn room(&self, objects: &Objects) -> u32
-        ensures { (users : ℕ → Option (List ℕ)) (m : Module) (methods : List (Option Version)) → IsFramePlaced (version_world users m methods) self.now.top → IsRoomAt objects.now result self.now.top.stack (instruction_of (version_world users m methods) self.now.top) }
+        ensures { (users : ℕ → Option (List ℕ)) (m : Module) (methods : List (Option Version))
+            → IsFramePlaced (version_world users m methods) self.now.top → IsRoomAt objects.now result
+            self.now.top.stack (instruction_of (version_world users m methods) self.now.top) }
     {
         let code = self.top.code();
         match instruction_in(code.as_ref(), self.top.offset()) {
@@ -117,7 +119,9 @@ impl Thread {
 impl Task {
     /// Room for what its next step writes.
     fn room(&self, objects: &Objects) -> u32
-        ensures { (users : ℕ → Option (List ℕ)) (m : Module) (methods : List (Option Version)) → IsTaskPlaced (version_world users m methods) self.now → IsRoomForTask (version_world users m methods) objects.now result self.now }
+        ensures { (users : ℕ → Option (List ℕ)) (m : Module) (methods : List (Option Version))
+            → IsTaskPlaced (version_world users m methods) self.now
+            → IsRoomForTask (version_world users m methods) objects.now result self.now }
     {
         match self.state {
             TaskState::Ended => 0,
@@ -133,7 +137,9 @@ impl Task {
 impl Machine {
     /// Room for what a task's next step writes.
     fn room(&self, task: u32) -> u32
-        ensures { (users : ℕ → Option (List ℕ)) (m : Module) (methods : List (Option Version)) → IfSome (task_at self.now task) (IsRoomForTask (version_world users m methods) self.now.shared.store result) }
+        ensures { (users : ℕ → Option (List ℕ)) (m : Module) (methods : List (Option Version))
+            → IfSome (task_at self.now task)
+            (IsRoomForTask (version_world users m methods) self.now.shared.store result) }
     {
         let Some(i) = task.checked_sub(1) else {
             return 0;
@@ -147,7 +153,8 @@ impl Machine {
     /// A number that isn't less than that of the UTF-16 units that a task's next step writes, so that room for them
     /// can be made first: none unless it calls a member outside. It takes no memory.
     pub fn write_units<V: ModuleView>(&self, _view: &V, task: u32) -> u32
-        ensures { (users : ℕ → Option (List ℕ)) (methods : List (Option Version)) → WritesAtMost result (machine_turn (version_world users (V.meaning _view.now) methods) task self.now) }
+        ensures { (users : ℕ → Option (List ℕ)) (methods : List (Option Version))
+            → WritesAtMost result (machine_turn (version_world users (V.meaning _view.now) methods) task self.now) }
     {
         self.room(task)
     }

@@ -81,7 +81,8 @@ pub(crate) fn frame_now<V: ModuleView>(
     method: Token,
 ) -> Result<Option<Frame>, AllocError>
     requires { AreBodiesOf (V.users view.now) (V.meaning view.now) versions.now.methods }
-    ensures { IfOk result (λ f. f ≡ frame_now (version_world (V.users view.now) (V.meaning view.now) versions.now.methods) method) }
+    ensures { IfOk result (λ f. f ≡ frame_now
+        (version_world (V.users view.now) (V.meaning view.now) versions.now.methods) method) }
 {
     let Some(code) = code_now(view, versions, method) else {
         return Ok(None);
@@ -102,7 +103,8 @@ pub(crate) fn constructor_frame<V: ModuleView>(
     requires row { IsTrue (has_row (V.meaning view.now) owner) }
     requires table { owner.table ≡ type_def }
     requires versions { AreBodiesOf (V.users view.now) (V.meaning view.now) versions.now.methods }
-    ensures { (s : Store) → IfOk result (λ f. f ≡ constructor_frame (version_world (V.users view.now) (V.meaning view.now) versions.now.methods) (shared_by s touched.now) owner) }
+    ensures { (s : Store) → IfOk result (λ f. f ≡ constructor_frame
+        (version_world (V.users view.now) (V.meaning view.now) versions.now.methods) (shared_by s touched.now) owner) }
 {
     if touched.has(owner) {
         return Ok(None);

@@ -34,7 +34,7 @@ pub(crate) enum StaticAccess {
 }
 
 /// The type that declares a field (ECMA-335 II.22.37).
-#[tactic(auto, using(crate::proofs::Declared::is_field_child, crate::proofs::Declared::owner_is, crate::proofs::Declared::field_owner_type, crate::proofs::Declared::field_owner_row))]
+#[tactic(auto, using(crate::proofs::Declared::declaring_steps))]
 fn declaring<V: ModuleView>(view: &V, field: Token) -> Token
     requires row { IsTrue (has_row (V.meaning view.now) field) }
     requires table { field.table ≡ fields }
@@ -54,7 +54,10 @@ fn access_in(
     next: u32,
     field: Token,
 ) -> Result<(), Stop>
-    ensures { Does result (objects.new, frame.new) (objects.old, frame.old) (accessed how kind next field objects.old frame.old) }
+    ensures { Does result (objects.new, frame.new) (
+      objects.old,
+      frame.old,
+    ) (accessed how kind next field objects.old frame.old) }
 {
     match how {
         StaticAccess::Load => load_static(objects, frame, kind, next, field),
@@ -72,7 +75,9 @@ impl Thread {
         next: u32,
         field: Token,
     ) -> Result<FrameChange, Stop>
-        ensures { (touched : List TheToken) → Makes result (shared_by objects.new touched) (shared_by objects.old touched) self.new self.old (accessed_on how kind next field self.old (shared_by objects.old touched)) }
+        ensures { (touched : List TheToken) → Makes result (shared_by objects.new touched)
+            (shared_by objects.old touched) self.new self.old
+            (accessed_on how kind next field self.old (shared_by objects.old touched)) }
     {
         match access_in(objects, &mut self.top, how, kind, next, field) {
             Err(stop) => Err(stop),
@@ -95,7 +100,9 @@ impl Thread {
         field: Token,
     ) -> Result<FrameChange, Stop>
         requires versions { AreBodiesOf (V.users view.now) (V.meaning view.now) versions.now.methods }
-        ensures { Makes result (shared_by objects.new touched.new) (shared_by objects.old touched.old) self.new self.old (first_on (version_world (V.users view.now) (V.meaning view.now) versions.now.methods) first (accessed_on how kind next field self.old) self.old objects.old) }
+        ensures { Makes result (shared_by objects.new touched.new) (shared_by objects.old touched.old) self.new self.old
+            (first_on (version_world (V.users view.now) (V.meaning view.now) versions.now.methods) first
+            (accessed_on how kind next field self.old) self.old objects.old) }
     {
         let Some(constructor) = first.constructor else {
             let change = self.access(objects, how, kind, next, field)?;
@@ -123,7 +130,10 @@ impl Thread {
         requires row { IsTrue (has_row (V.meaning view.now) field) }
         requires table { field.table ≡ fields }
         requires versions { AreBodiesOf (V.users view.now) (V.meaning view.now) versions.now.methods }
-        ensures { Makes result (shared_by objects.new touched.new) (shared_by objects.old touched.old) self.new self.old (touch (version_world (V.users view.now) (V.meaning view.now) versions.now.methods) (shared_by objects.old touched.old) self.old (declaring (V.meaning view.now) field) (accessed_on how kind next field self.old)) }
+        ensures { Makes result (shared_by objects.new touched.new) (shared_by objects.old touched.old) self.new self.old
+            (touch (version_world (V.users view.now) (V.meaning view.now) versions.now.methods)
+            (shared_by objects.old touched.old) self.old (declaring (V.meaning view.now) field)
+            (accessed_on how kind next field self.old)) }
     {
         let owner = declaring(view, field);
         match first_touch(alloc, view, touched, owner) {
@@ -148,7 +158,9 @@ impl Thread {
         field: Token,
     ) -> Result<FrameChange, Stop>
         requires versions { AreBodiesOf (V.users view.now) (V.meaning view.now) versions.now.methods }
-        ensures { Makes result (shared_by objects.new touched.new) (shared_by objects.old touched.old) self.new self.old (accessed_by (version_world (V.users view.now) (V.meaning view.now) versions.now.methods) (V.meaning view.now) how next field (shared_by objects.old touched.old) self.old) }
+        ensures { Makes result (shared_by objects.new touched.new) (shared_by objects.old touched.old) self.new self.old
+            (accessed_by (version_world (V.users view.now) (V.meaning view.now) versions.now.methods)
+            (V.meaning view.now) how next field (shared_by objects.old touched.old) self.old) }
     {
         let kind = named_field(view, field)?;
         self.touch_and_access(
@@ -169,7 +181,9 @@ impl Thread {
         field: Token,
     ) -> Result<FrameChange, Stop>
         requires versions { AreBodiesOf (V.users view.now) (V.meaning view.now) versions.now.methods }
-        ensures { Makes result (shared_by objects.new touched.new) (shared_by objects.old touched.old) self.new self.old (act_on (version_world (V.users view.now) (V.meaning view.now) versions.now.methods) next (LoadStatic field) (shared_by objects.old touched.old) self.old) }
+        ensures { Makes result (shared_by objects.new touched.new) (shared_by objects.old touched.old) self.new self.old
+            (act_on (version_world (V.users view.now) (V.meaning view.now) versions.now.methods) next (LoadStatic field)
+            (shared_by objects.old touched.old) self.old) }
     {
         let how = StaticAccess::Load;
         self.on_static(alloc, view, versions, objects, touched, how, next, field)
@@ -188,7 +202,9 @@ impl Thread {
         field: Token,
     ) -> Result<FrameChange, Stop>
         requires versions { AreBodiesOf (V.users view.now) (V.meaning view.now) versions.now.methods }
-        ensures { Makes result (shared_by objects.new touched.new) (shared_by objects.old touched.old) self.new self.old (act_on (version_world (V.users view.now) (V.meaning view.now) versions.now.methods) next (StoreStatic field) (shared_by objects.old touched.old) self.old) }
+        ensures { Makes result (shared_by objects.new touched.new) (shared_by objects.old touched.old) self.new self.old
+            (act_on (version_world (V.users view.now) (V.meaning view.now) versions.now.methods) next
+            (StoreStatic field) (shared_by objects.old touched.old) self.old) }
     {
         let how = StaticAccess::Store;
         self.on_static(alloc, view, versions, objects, touched, how, next, field)

@@ -54,7 +54,8 @@ struct Outcome {
 
 /// What a step came to that made this of its task.
 fn came_to(line: Option<u32>, effect: Effect) -> Outcome
-    ensures { (s : Shared) (t : TheThread Version) → stepped line (effect_made effect s t) ≡ stepped_as result.state result.seen s t }
+    ensures { (s : Shared) (t : TheThread Version)
+        → stepped line (effect_made effect s t) ≡ stepped_as result.state result.seen s t }
 {
     let nothing = Seen {
         line,
@@ -109,7 +110,8 @@ fn effect_of_flight(end: FlightEnd) -> Effect
 
 /// What a step came to that trapped.
 fn trapped_at(line: Option<u32>, trap: Trap) -> Outcome
-    ensures { (s : Shared) (t : TheThread Version) → trapped_in line s t trap ≡ stepped_as result.state result.seen s t }
+    ensures { (s : Shared) (t : TheThread Version)
+        → trapped_in line s t trap ≡ stepped_as result.state result.seen s t }
 {
     Outcome {
         state: TaskState::Trapped(trap),
@@ -135,7 +137,8 @@ impl Thread {
     /// The start line of the sequence point at which the innermost frame stands.
     #[tactic(auto, unfolding(enc_frames::specs::Machine::version_world))]
     fn line(&self) -> Option<u32>
-        ensures { (users : ℕ → Option (List ℕ)) (m : Module) (methods : List (Option Version)) → result ≡ line_of (version_world users m methods) self.now.top }
+        ensures { (users : ℕ → Option (List ℕ)) (m : Module) (methods : List (Option Version))
+            → result ≡ line_of (version_world users m methods) self.now.top }
     {
         self.top.line()
     }
@@ -143,7 +146,8 @@ impl Thread {
     /// A step by the object that is on its way.
     #[tactic(auto, using(crate::proofs::FlightTurns::flight_turn))]
     fn step_flight(&mut self, alloc: Global, flight: Flight) -> Result<Outcome, AllocError>
-        ensures { (s : Shared) → Turns result s s self.new self.old (stepped None (flight_made s (fly (own_clauses self.old.top) self.old flight))) }
+        ensures { (s : Shared) → Turns result s s self.new self.old
+            (stepped None (flight_made s (fly (own_clauses self.old.top) self.old flight))) }
     {
         match self.fly(alloc, flight) {
             Err(_) => Err(AllocError),
@@ -163,8 +167,12 @@ impl Thread {
     ) -> Result<Outcome, AllocError>
         requires versions { AreBodiesOf (V.users view.now) (V.meaning view.now) versions.now.methods }
         requires stands { StandsForModule dispatch.now (V.meaning view.now) }
-        requires placed { IsFramePlaced (version_world (V.users view.now) (V.meaning view.now) versions.now.methods) self.old.top }
-        ensures { Turns result (shared_by objects.new touched.new) (shared_by objects.old touched.old) self.new self.old (stepped_by (line_of (version_world (V.users view.now) (V.meaning view.now) versions.now.methods) self.old.top) (shared_by objects.old touched.old) self.old (advance (version_world (V.users view.now) (V.meaning view.now) versions.now.methods) (shared_by objects.old touched.old) self.old)) }
+        requires placed { IsFramePlaced
+            (version_world (V.users view.now) (V.meaning view.now) versions.now.methods) self.old.top }
+        ensures { Turns result (shared_by objects.new touched.new) (shared_by objects.old touched.old) self.new self.old
+            (stepped_by (line_of (version_world (V.users view.now) (V.meaning view.now) versions.now.methods)
+            self.old.top) (shared_by objects.old touched.old) self.old (advance (version_world (V.users view.now)
+            (V.meaning view.now) versions.now.methods) (shared_by objects.old touched.old) self.old)) }
     {
         let line = self.line();
         match self.advance(alloc, view, versions, dispatch, objects, touched) {
@@ -186,8 +194,11 @@ impl Thread {
     ) -> Result<Outcome, AllocError>
         requires versions { AreBodiesOf (V.users view.now) (V.meaning view.now) versions.now.methods }
         requires stands { StandsForModule dispatch.now (V.meaning view.now) }
-        requires placed { IsFramePlaced (version_world (V.users view.now) (V.meaning view.now) versions.now.methods) self.old.top }
-        ensures { Turns result (shared_by objects.new touched.new) (shared_by objects.old touched.old) self.new self.old (stepped_with (version_world (V.users view.now) (V.meaning view.now) versions.now.methods) (shared_by objects.old touched.old) self.old self.old.flight) }
+        requires placed { IsFramePlaced
+            (version_world (V.users view.now) (V.meaning view.now) versions.now.methods) self.old.top }
+        ensures { Turns result (shared_by objects.new touched.new) (shared_by objects.old touched.old) self.new self.old
+            (stepped_with (version_world (V.users view.now) (V.meaning view.now) versions.now.methods)
+            (shared_by objects.old touched.old) self.old self.old.flight) }
     {
         match self.flight {
             Some(flight) => self.step_flight(alloc, flight),
@@ -211,8 +222,11 @@ impl Task {
     ) -> Result<StepEnd, AllocError>
         requires versions { AreBodiesOf (V.users view.now) (V.meaning view.now) versions.now.methods }
         requires stands { StandsForModule dispatch.now (V.meaning view.now) }
-        requires placed { IsTaskPlaced (version_world (V.users view.now) (V.meaning view.now) versions.now.methods) self.old }
-        ensures steps { Steps result seen.new (shared_by objects.new touched.new) (shared_by objects.old touched.old) self.new self.old (step_task (version_world (V.users view.now) (V.meaning view.now) versions.now.methods) (shared_by objects.old touched.old) self.old) }
+        requires placed { IsTaskPlaced
+            (version_world (V.users view.now) (V.meaning view.now) versions.now.methods) self.old }
+        ensures steps { Steps result seen.new (shared_by objects.new touched.new)
+            (shared_by objects.old touched.old) self.new self.old (step_task (version_world (V.users view.now)
+            (V.meaning view.now) versions.now.methods) (shared_by objects.old touched.old) self.old) }
         ensures seen { KeepsSeen result seen.new seen.old }
     {
         match self.state {

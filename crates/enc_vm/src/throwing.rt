@@ -28,7 +28,8 @@ impl Thread {
     /// frame stands (ECMA-335 I.12.4.2.5).
     #[tactic(auto, using(crate::proofs::Thrown::taker_is))]
     fn taker<V: ModuleView>(&self, view: &V, thrown: Thrown) -> Option<(usize, u32)>
-        ensures { (users : ℕ → Option (List ℕ)) (methods : List (Option Version)) → result ≡ taker (version_world users (V.meaning view.now) methods) thrown self.now.top self.now.below }
+        ensures { (users : ℕ → Option (List ℕ)) (methods : List (Option Version))
+            → result ≡ taker (version_world users (V.meaning view.now) methods) thrown self.now.top self.now.below }
     {
         if let Some(clause) = self.top.catching(view, thrown, self.top.offset()) {
             return Some((self.below.len(), clause));
@@ -58,7 +59,9 @@ impl Thread {
         view: &V,
         objects: &Objects,
     ) -> Result<(), Stop>
-        ensures { (users : ℕ → Option (List ℕ)) (methods : List (Option Version)) → Does result self.new self.old (throw_object (version_world users (V.meaning view.now) methods) objects.now self.old) }
+        ensures { (users : ℕ → Option (List ℕ)) (methods : List (Option Version))
+            → Does result self.new self.old
+            (throw_object (version_world users (V.meaning view.now) methods) objects.now self.old) }
     {
         let object = self.thrown()?;
         let thrown = thrown_of(objects.shape(object));

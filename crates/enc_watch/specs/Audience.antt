@@ -49,7 +49,8 @@ with_event event w = record { kind = w.kind; limit = w.limit; heard = w.heard ++
 
 -- what a watcher makes of an event: it fails where its limit is reached, and else hears it, where it finds memory
 abbrev pub hearing : Event → Bool → Watching → Result Watching HearError
-hearing event deaf w = if has_reached w.limit w.heard then Err Failed else if deaf then Err Memory else Ok (with_event event w)
+hearing event deaf w = if has_reached w.limit w.heard then Err Failed else if deaf then Err Memory
+    else Ok (with_event event w)
 
 -- the watchers that are left, the lines of those that are gone, and which of the hearings behind these find no memory
 pub record Heard : Type 0 where
@@ -63,13 +64,18 @@ is_deaf [] = false
 is_deaf (b ∷ rest) = b
 
 abbrev pub behind_seat : ℕ → Result Watching HearError → Heard → Heard
-behind_seat number (Ok w) h = record { seats = record { number = number; watching = w } ∷ h.seats; text = h.text; deaf = h.deaf }
+behind_seat number (Ok w) h = record {
+  seats = record { number = number; watching = w } ∷ h.seats;
+  text = h.text;
+  deaf = h.deaf;
+}
 behind_seat number (Err fault) h = record { seats = h.seats; text = fault_line number fault ++ h.text; deaf = h.deaf }
 
 -- an event told to all, in order of number; one that doesn't hear it is gone
 unfoldable pub told_event : Event → List Bool → List Seat → Heard
 told_event event deaf [] = record { seats = []; text = []; deaf = deaf }
-told_event event deaf (s ∷ seats) = behind_seat s.number (hearing event (is_deaf deaf) s.watching) (told_event event (drop 1 deaf) seats)
+told_event event deaf (s ∷ seats) =
+    behind_seat s.number (hearing event (is_deaf deaf) s.watching) (told_event event (drop 1 deaf) seats)
 
 -- text that comes first
 abbrev pub behind_text : List ℕ → Heard → Heard
@@ -79,14 +85,17 @@ behind_text text h = record { seats = h.seats; text = text ++ h.text; deaf = h.d
 unfoldable pub told_events : List Event → List Bool → List Seat → Heard
 told_events [] deaf seats = record { seats = seats; text = []; deaf = deaf }
 told_events (event ∷ events) deaf seats =
-    behind_text (told_event event deaf seats).text (told_events events (told_event event deaf seats).deaf (told_event event deaf seats).seats)
+    behind_text (told_event event deaf seats).text
+    (told_events events (told_event event deaf seats).deaf (told_event event deaf seats).seats)
 
--- they were told, and the lines of those that are gone were appended: of each hearing it is free only whether it found memory
+-- they were told, and the lines of those that are gone were appended: of each hearing it is free only whether it
+-- found memory
 pub record AreTold (events : List Event) (new old : List Seat) (now before : List ℕ) : Type 0 where
   pub deaf : List Bool
   pub text : List ℕ
   pub appended : now ≡ before ++ text
-  pub told : (more : List Bool) → told_events events (deaf ++ more) old ≡ record { seats = new; text = text; deaf = more }
+  pub told : (more : List Bool) →
+      told_events events (deaf ++ more) old ≡ record { seats = new; text = text; deaf = more }
 
 -- the longest line that may tell that a watcher is gone, and such lines of all
 abbrev pub seat_room : Seat → ℕ

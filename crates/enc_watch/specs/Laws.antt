@@ -22,7 +22,8 @@ times_heard at heard = length (filter (is_hit at) heard)
 abbrev pub HitsAreTimesHeard : Type 0
 HitsAreTimesHeard =
     (at : MethodLine) (heard : List Event)
-    → lookup (is_at (line_ordering at)) (hits_in heard) ≡ (if times_heard at heard == 0 then None else Some (times_heard at heard))
+    → lookup (is_at (line_ordering at)) (hits_in heard)
+    ≡ (if times_heard at heard == 0 then None else Some (times_heard at heard))
 
 -- it tells them in the order of token and line, each once
 abbrev pub HitsAreInOrder : Type 0

@@ -8,7 +8,8 @@ use Rattle.enc_watch.specs.Audience.{Seat, Heard, hearing, told_event}
 -- what came of a hearing, and the watcher behind it
 abbrev pub IsHearing : Result Unit HearError → Event → Seat → Seat → Type 0
 IsHearing (Ok _) event new old = (new.number ≡ old.number) × (hearing event false old.watching ≡ Ok new.watching)
-IsHearing (Err Failed) event new old = (new.number ≡ old.number) × ((deaf : Bool) → hearing event deaf old.watching ≡ Err Failed)
+IsHearing (Err Failed) event new old =
+    (new.number ≡ old.number) × ((deaf : Bool) → hearing event deaf old.watching ≡ Err Failed)
 IsHearing (Err Memory) event new old = (new.number ≡ old.number) × (hearing event true old.watching ≡ Err Memory)
 
 -- the watcher at a place was told, and no other
@@ -23,7 +24,8 @@ pub record IsHeardAt (result : Result Unit HearError) (event : Event) (i : ℕ) 
 abbrev pub in_front : List Seat → List ℕ → Heard → Heard
 in_front kept text h = record { seats = kept ++ h.seats; text = text ++ h.text; deaf = h.deaf }
 
--- an event was told to the first of some watchers: those of them that are left, the others, and the text with the lines of those that are gone
+-- an event was told to the first of some watchers: those of them that are left, the others, and the text with the
+-- lines of those that are gone
 pub record IsHalfTold (event : Event) (kept rest old : List Seat) (now before : List ℕ) : Type 0 where
   pub deaf : List Bool
   pub text : List ℕ

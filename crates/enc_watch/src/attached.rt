@@ -23,7 +23,10 @@ impl<W: Watcher> Model for Attached<W> {
 
     ghost Value = { Seat };
 
-    ghost view = { λ a. record { number = a.number; watching = record { kind = W.kind_of a.watcher; limit = W.limit a.watcher; heard = W.heard a.watcher } } };
+    ghost view = { λ a. record {
+      number = a.number;
+      watching = record { kind = W.kind_of a.watcher; limit = W.limit a.watcher; heard = W.heard a.watcher };
+    } };
 
     ghost invariant = { λ a. a.name.items ≡ line_front a.number };
 }
@@ -65,7 +68,10 @@ fn append(out: &mut Vec<u8>, bytes: &[u8])
 impl<W: Watcher> Attached<W> {
     /// A watcher with its number. Without memory it is handed back.
     pub(crate) fn new(alloc: Global, number: u32, watcher: W) -> Result<Attached<W>, W>
-        ensures ok { IfOk result (λ a. a ≡ record { number = number; watching = record { kind = W.kind_of watcher; limit = W.limit watcher; heard = W.heard watcher } }) }
+        ensures ok { IfOk result (λ a. a ≡ record {
+          number = number;
+          watching = record { kind = W.kind_of watcher; limit = W.limit watcher; heard = W.heard watcher };
+        }) }
         ensures err { IfErr result (λ w. w ≡ watcher) }
     {
         match name_of(alloc, number) {

@@ -35,11 +35,31 @@ fn is_kind(a: WatchKind, b: WatchKind) -> bool
 
 /// The place of the first of a kind, None where there is none.
 fn place_of<W: Watcher>(watchers: &[W], kind: WatchKind) -> Option<usize>
-    ensures none { IfNone result (first_of_kind kind (map (λ w. record { kind = W.kind_of w; limit = W.limit w; heard = W.heard w }) watchers.now) ≡ None) }
+    ensures none { IfNone result (first_of_kind kind
+        (map (λ w. record { kind = W.kind_of w; limit = W.limit w; heard = W.heard w }) watchers.now) ≡ None) }
     ensures low { IfSome result (λ i. i < length watchers.now) }
-    ensures first { IfSome result (λ i. first_of_kind kind (map (λ w. record { kind = W.kind_of w; limit = W.limit w; heard = W.heard w }) watchers.now) ≡ slice_get (map (λ w. record { kind = W.kind_of w; limit = W.limit w; heard = W.heard w }) watchers.now) i) }
-    ensures rest { IfSome result (λ i. without_kind kind (map (λ w. record { kind = W.kind_of w; limit = W.limit w; heard = W.heard w }) watchers.now) ≡ remove (map (λ w. record { kind = W.kind_of w; limit = W.limit w; heard = W.heard w }) watchers.now) i) }
-    ensures all { IfNone result (without_kind kind (map (λ w. record { kind = W.kind_of w; limit = W.limit w; heard = W.heard w }) watchers.now) ≡ map (λ w. record { kind = W.kind_of w; limit = W.limit w; heard = W.heard w }) watchers.now) }
+    ensures first { IfSome result (λ i. first_of_kind kind (map (λ w. record {
+      kind = W.kind_of w;
+      limit = W.limit w;
+      heard = W.heard w;
+    }) watchers.now) ≡ slice_get
+        (map (λ w. record { kind = W.kind_of w; limit = W.limit w; heard = W.heard w }) watchers.now) i) }
+    ensures rest { IfSome result (λ i. without_kind kind (map (λ w. record {
+      kind = W.kind_of w;
+      limit = W.limit w;
+      heard = W.heard w;
+    }) watchers.now)
+        ≡ remove (map (λ w. record { kind = W.kind_of w; limit = W.limit w; heard = W.heard w }) watchers.now) i) }
+    ensures all { IfNone result (without_kind kind (map (λ w. record {
+      kind = W.kind_of w;
+      limit = W.limit w;
+      heard = W.heard w;
+    }) watchers.now) ≡ map (λ w. record {
+      kind = W.kind_of w;
+      limit = W.limit w;
+      heard =
+          W.heard w;
+    }) watchers.now) }
 {
     for i in 0..watchers.len() {
         if is_kind(watchers[i].kind(), kind) {
@@ -52,14 +72,16 @@ fn place_of<W: Watcher>(watchers: &[W], kind: WatchKind) -> Option<usize>
 impl<W: Watcher> Handed<W> {
     /// These watchers.
     pub fn from_vec(watchers: Vec<W>) -> Handed<W>
-        ensures { result ≡ map (λ w. record { kind = W.kind_of w; limit = W.limit w; heard = W.heard w }) watchers.items }
+        ensures { result ≡ map (λ w. record { kind = W.kind_of w; limit = W.limit w; heard = W.heard w })
+            watchers.items }
     {
         Handed { watchers }
     }
 
     /// Takes the first of a kind, None where there is none.
     pub fn take(&mut self, kind: WatchKind) -> Option<W>
-        ensures taken { option_map (λ w. record { kind = W.kind_of w; limit = W.limit w; heard = W.heard w }) result ≡ first_of_kind kind self.old }
+        ensures taken { option_map (λ w. record { kind = W.kind_of w; limit = W.limit w; heard = W.heard w }) result
+            ≡ first_of_kind kind self.old }
         ensures left { self.new ≡ without_kind kind self.old }
     {
         match place_of(&self.watchers, kind) {

@@ -1,4 +1,5 @@
-//! Watchers of a session: what happens is told to each, and each reports what it heard; and those that are attached, in order of their numbers.
+//! Watchers of a session: what happens is told to each, and each reports what it heard; and those that are
+//! attached, in order of their numbers.
 #![tactic(auto)]
 
 mod attached;

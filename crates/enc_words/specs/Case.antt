@@ -28,5 +28,6 @@ sum_loaded m = sum_by (λ (r : Row). loaded_in_body (slice_get r.cells 0)) (rows
 -- the line of a case, with its words as they were given
 unfoldable pub case_line : List ℕ → List ℕ → Module → List ℕ
 case_line start count m =
-    codes "gen " ++ start ++ 0x20 ∷ count ++ codes " methods " ++ decimal (row_count m tables.method_def) ++ codes " sum " ++ decimal (sum_loaded m)
+    codes "gen " ++ start ++ 0x20 ∷ count ++ codes " methods " ++ decimal (row_count m tables.method_def)
+    ++ codes " sum " ++ decimal (sum_loaded m)
     ++ 0x0a ∷ []

@@ -1,4 +1,5 @@
--- The listing of a base and its deltas: a line for each generation, and under a delta's a line for each token of its EncMap.
+-- The listing of a base and its deltas: a line for each generation, and under a delta's a line for each token of its
+-- EncMap.
 use Rattle.std.specs.Prelude.{ℕ, ◌-◌, List, [], ◌∷◌, ◌++◌, length, drop, flat_map, unwrap_or, decimal, codes, Bool, true, false, sum_by}
 use Rattle.enc_base.specs.declared.token.Token.{Token}
 use Rattle.enc_meta.specs.declared.heaps.HeapLengths.{HeapLengths}
@@ -38,11 +39,13 @@ abbrev pub change_text : Bool → List ℕ
 change_text true = codes " insert "
 change_text false = codes " update "
 
--- a token of a generation's EncMap: a new row of the chain before or one of its rows, where it stands in this generation, and its newest place
+-- a token of a generation's EncMap: a new row of the chain before or one of its rows, where it stands in this
+-- generation, and its newest place
 unfoldable pub token_line : Chain → ℕ → Source → List Source → Token → List ℕ
 token_line before g d deltas token =
     codes "  " ++ token_text token ++ change_text (is_insert before token) ++
-    at_text (record { generation = g; row = unwrap_or (place_in (listed d) token) 0 }) ++ codes " newest " ++ at_text (place_of deltas token) ++ 0x0a ∷ []
+    at_text (record { generation = g; row = unwrap_or (place_in (listed d) token) 0 }) ++ codes " newest " ++ at_text
+    (place_of deltas token) ++ 0x0a ∷ []
 
 -- the first line of a delta, the g-th generation
 unfoldable pub head_text : ℕ → List ℕ → ℕ → HeapLengths → List ℕ
@@ -51,12 +54,14 @@ head_text g id rows lengths = codes "generation " ++ decimal g ++ 0x20 ∷ guid_
 -- the lines of a delta after the chain before it
 unfoldable pub delta_text : Chain → ℕ → Source → List Source → List ℕ
 delta_text before g d deltas =
-    head_text g (own_guid before d 3) (length (listed d)) (lengths_of d.heaps) ++ flat_map (token_line before g d deltas) (listed d)
+    head_text g (own_guid before d 3) (length (listed d)) (lengths_of d.heaps) ++ flat_map
+    (token_line before g d deltas) (listed d)
 
 -- the lines up to a generation, where some deltas stand the newest first; all of them say where tokens are newest
 unfoldable pub lines_upto : Source → List Source → List Source → List ℕ
 lines_upto base deltas [] = base_text base
-lines_upto base deltas (d ∷ older) = lines_upto base deltas older ++ delta_text (chain_with base older) (length (d ∷ older)) d deltas
+lines_upto base deltas (d ∷ older) =
+    lines_upto base deltas older ++ delta_text (chain_with base older) (length (d ∷ older)) d deltas
 
 unfoldable pub listing_of : Source → List Source → List ℕ
 listing_of base deltas = lines_upto base deltas deltas

@@ -15,8 +15,10 @@ pub record Numeral : Type 0 where
   pub digits : List ℕ
   pub value : ℕ
 
--- what a command asks for: a row of a base with deltas, their listing, whether all are accepted, the one module that has all edits,
--- under a name of its own, the same in the order of an ordinary module, one delta that stands for the last two, the delta of an edit list, in
+-- what a command asks for: a row of a base with deltas, their listing, whether all are accepted, the one module that
+-- has all edits,
+-- under a name of its own, the same in the order of an ordinary module, one delta that stands for the last two, the
+-- delta of an edit list, in
 -- a file, that follows them, what a script prints over a base, or a generated case by its two numbers
 pub data Job : Type 0 where
   show : List ℕ → Token → List (List ℕ) → Job
@@ -43,7 +45,8 @@ are_names base deltas = is_name base && list_all is_name deltas
 
 -- `show BASE TOKEN DELTA..`
 abbrev pub show_of : List (List ℕ) → Option Job
-show_of (base ∷ token ∷ deltas) = if are_names base deltas then option_map (λ t. show base t deltas) (token_of_word token) else None
+show_of (base ∷ token ∷ deltas) =
+    if are_names base deltas then option_map (λ t. show base t deltas) (token_of_word token) else None
 show_of _ = None
 
 -- `list BASE DELTA..`
@@ -74,7 +77,8 @@ merge_of _ = None
 
 -- `write BASE EDITS OUT DELTA..`
 abbrev pub write_of : List (List ℕ) → Option Job
-write_of (base ∷ edits ∷ out ∷ deltas) = if are_names base (edits ∷ out ∷ deltas) then Some (write base edits out deltas) else None
+write_of (base ∷ edits ∷ out ∷ deltas) =
+    if are_names base (edits ∷ out ∷ deltas) then Some (write base edits out deltas) else None
 write_of _ = None
 
 -- `run BASE SCRIPT`
@@ -89,7 +93,8 @@ is_digit b = nat_le 0x30 b && nat_le b 0x39
 -- 1 to so many decimal digits that say a number up to a bound
 unfoldable pub numeral_of : ℕ → ℕ → List ℕ → Option Numeral
 numeral_of most bound word =
-    if nat_le 1 (length word) && nat_le (length word) most && list_all is_digit word && nat_le (digits_value 10 word) bound
+    if nat_le 1 (length word) && nat_le (length word) most && list_all is_digit word
+    && nat_le (digits_value 10 word) bound
     then Some (record { digits = word; value = digits_value 10 word }) else None
 
 abbrev pub gen_with : List ℕ → Option Numeral → Option Numeral → Option Job

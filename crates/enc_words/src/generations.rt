@@ -78,7 +78,8 @@ fn push_token_line(
 ) -> Result<(), AllocError>
     requires low { 0 < generation }
     requires high { generation ≤ length agg.now.deltas }
-    ensures { OnOk result (out.new.items ≡ out.old.items ++ token_line (chain_before agg.now generation) generation delta.now agg.now.deltas token) }
+    ensures { OnOk result (out.new.items
+        ≡ out.old.items ++ token_line (chain_before agg.now generation) generation delta.now agg.now.deltas token) }
 {
     push_str(out, "  ")?;
     push_token(out, token)?;
@@ -101,7 +102,8 @@ fn push_tokens(
 ) -> Result<(), AllocError>
     requires low { 0 < generation }
     requires high { generation ≤ length agg.now.deltas }
-    ensures { OnOk result (out.new.items ≡ out.old.items ++ flat_map (token_line (chain_before agg.now generation) generation delta.now agg.now.deltas) tokens.now) }
+    ensures { OnOk result (out.new.items ≡ out.old.items ++ flat_map
+        (token_line (chain_before agg.now generation) generation delta.now agg.now.deltas) tokens.now) }
 {
     for i in 0..tokens.len() {
         push_token_line(alloc, agg, generation, delta, tokens[i], out)?;
@@ -158,7 +160,8 @@ fn push_listed(
     requires high { generation ≤ length agg.now.deltas }
     requires delta { Some delta.now ≡ delta_at agg.now.deltas generation }
     requires tokens { tokens.now ≡ listed delta.now }
-    ensures { OnOk result (out.new.items ≡ out.old.items ++ delta_text (chain_before agg.now generation) generation delta.now agg.now.deltas) }
+    ensures { OnOk result (out.new.items
+        ≡ out.old.items ++ delta_text (chain_before agg.now generation) generation delta.now agg.now.deltas) }
 {
     let id = id_of(agg, generation, delta);
     let rows = tokens.len() as u64;
@@ -177,7 +180,8 @@ fn push_delta(
     requires low { 0 < generation }
     requires high { generation ≤ length agg.now.deltas }
     requires delta { Some delta.now ≡ delta_at agg.now.deltas generation }
-    ensures { OnOk result (out.new.items ≡ out.old.items ++ delta_text (chain_before agg.now generation) generation delta.now agg.now.deltas) }
+    ensures { OnOk result (out.new.items
+        ≡ out.old.items ++ delta_text (chain_before agg.now generation) generation delta.now agg.now.deltas) }
 {
     let tokens = delta.tokens(alloc)?;
     push_listed(alloc, agg, generation, delta, &tokens, out)

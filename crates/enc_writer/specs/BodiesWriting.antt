@@ -26,7 +26,13 @@ use Rattle.enc_writer.specs.Writing.{method_token}
 
 -- the parts of a body that is written: its code is assembled, and its clauses are apart
 abbrev pub parts_of : Built → BodyValue → Code
-parts_of h b = record { max = b.max; init = b.init; locals = b.locals; code = code_bytes (user_offset h) 0 b.code; sections = [] }
+parts_of h b = record {
+  max = b.max;
+  init = b.init;
+  locals = b.locals;
+  code = code_bytes (user_offset h) 0 b.code;
+  sections = [];
+}
 
 -- where it begins behind so many bytes, and the bytes with it
 abbrev pub place_given : Built → ℕ → BodyValue → ℕ
@@ -55,7 +61,8 @@ users_written c l = joined_user (heaps_joined c.heaps (heaps_written c l))
 -- a body that is given stands at a place, whatever code comes behind; without a body the place is 0
 abbrev pub StandsFirm : Chain → EditList → List ℕ → ℕ → Option BodyValue → Type 0
 StandsFirm c l il place None = place ≡ 0
-StandsFirm c l il place (Some b) = (behind : List ℕ) → StandsIn (count_after c l.edits) (users_written c l) (il ++ behind) place (body_stated b)
+StandsFirm c l il place (Some b) =
+    (behind : List ℕ) → StandsIn (count_after c l.edits) (users_written c l) (il ++ behind) place (body_stated b)
 
 -- so does that of the edit at a place of the list
 abbrev pub StandsOf : Chain → EditList → List ℕ → ℕ → ℕ → Type 0
@@ -76,7 +83,10 @@ PutsPlace old new row place = (q : ℕ) → get nat_cmp new q ≡ place_known ol
 
 -- the methods that so many edits are about are known, each with the place of its body
 pub record ArePlacedUpto (c : Chain) (l : EditList) (n : ℕ) (il : List ℕ) (methods : BTreeMap ℕ ℕ) : Type 0 where
-  pub edited : (row place : ℕ) → get nat_cmp methods row ≡ Some place → is_edited c.plain l.edits (method_token row) ≡ true
+  pub edited : (row place : ℕ) → get nat_cmp methods row ≡ Some place
+      → is_edited c.plain l.edits (method_token row) ≡ true
   pub placed : (row place : ℕ) → get nat_cmp methods row ≡ Some place → (behind : List ℕ)
-      → PlacesBody (count_after c l.edits) (users_written c l) (il ++ behind) place (slice_get (cells_written c.plain l.edits (method_token row)) 0)
-  pub known : (k row : ℕ) → k < n → slice_get (rows_edited c.plain l.edits) k ≡ Some (method_token row) → is_some (get nat_cmp methods row) ≡ true
+      → PlacesBody (count_after c l.edits) (users_written c l) (il ++ behind) place
+      (slice_get (cells_written c.plain l.edits (method_token row)) 0)
+  pub known : (k row : ℕ) → k < n → slice_get (rows_edited c.plain l.edits) k ≡ Some (method_token row)
+      → is_some (get nat_cmp methods row) ≡ true

@@ -18,4 +18,5 @@ pub record HoldFiles (c : Chain) (l : EditList) (d : DeltaBytes) : Type 0 where
 
 -- such files are written for the list, where each point stands in the code of its body
 abbrev pub FilesStand : Type 0
-FilesStand = (c : Chain) (l : EditList) (d : DeltaBytes) → MayFollow c l → list_all points_lie_within l.edits ≡ true → HoldFiles c l d → IsWrittenFor c l d
+FilesStand = (c : Chain) (l : EditList) (d : DeltaBytes) → MayFollow c l → list_all points_lie_within l.edits ≡ true
+    → HoldFiles c l d → IsWrittenFor c l d

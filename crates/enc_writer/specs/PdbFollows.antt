@@ -16,7 +16,8 @@ use Rattle.enc_written.specs.Holds.{MayFollow, SaysDelta}
 
 -- the points of a list that breaks no rule can be written, and its edits are about methods where they give bodies
 abbrev pub PointsCanBeWritten : Type 0
-PointsCanBeWritten = (c : Chain) (l : EditList) → MayFollow c l → (points_stand l ≡ true) × AreMethods (rows_edited c.plain l.edits) l.edits
+PointsCanBeWritten = (c : Chain) (l : EditList) → MayFollow c l
+    → (points_stand l ≡ true) × AreMethods (rows_edited c.plain l.edits) l.edits
 
 -- none of its rows is out of place by the code of the delta
 abbrev pub PdbsFollow : Type 0
@@ -28,5 +29,6 @@ PdbsFollow = (c : Chain) (l : EditList) (s : Source) (bytes : List ℕ) → MayF
 abbrev pub PdbsOfListsMean : Type 0
 PdbsOfListsMean = (c : Chain) (l : EditList) (s : Source) (bytes : List ℕ) → MayFollow c l → SaysDelta c l s
     → (points : SaysEdits l (rows_edited c.plain l.edits) bytes)
-    → (before : PlainPdb) (method : Token) → pdb_changed before (record { pdb = Some points.source; changed = new_bodies s }) method
+    → (before : PlainPdb) (method : Token)
+    → pdb_changed before (record { pdb = Some points.source; changed = new_bodies s }) method
     ≡ pdb_edited before (rows_edited c.plain l.edits) l method

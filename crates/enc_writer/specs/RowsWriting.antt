@@ -32,19 +32,25 @@ pub record AreRowsReady (c : Chain) (l : EditList) (h : Built) (il : List ℕ) (
 
 -- a number says the cell that the edits give the column, whatever the code is, and fits the column
 pub record SaysPlain (c : Chain) (l : EditList) (u : Token) (i : ℕ) (column : Column) (x : ℕ) : Type 0 where
-  pub says : (il : List ℕ) → SaysCell (reading_with c l (joined_with c l) il) u i column x (slice_get (cells_written c.plain l.edits u) i)
+  pub says : (il : List ℕ) → SaysCell (reading_with c l (joined_with c l) il) u i column x
+      (slice_get (cells_written c.plain l.edits u) i)
   pub fit : number_fits column x ≡ true
 
 -- a number says the cell that the edits give the column, in the column of a body the place of that, and fits the column
-pub record SaysNumber (c : Chain) (l : EditList) (il : List ℕ) (u : Token) (i : ℕ) (column : Column) (x : ℕ) : Type 0 where
-  pub says : SaysCell (reading_with c l (joined_with c l) il) u i column x (slice_get (cells_written c.plain l.edits u) i)
-  pub body : is_body u.table i ≡ true → PlacesBody (count_after c l.edits) (joined_user (joined_with c l)) il x (slice_get (cells_written c.plain l.edits u) i)
+pub record SaysNumber (c : Chain) (l : EditList) (il : List ℕ) (u : Token) (i : ℕ) (column : Column)
+    (x : ℕ) : Type 0 where
+  pub says : SaysCell (reading_with c l (joined_with c l) il) u i column x
+      (slice_get (cells_written c.plain l.edits u) i)
+  pub body : is_body u.table i ≡ true → PlacesBody (count_after c l.edits) (joined_user (joined_with c l)) il x
+      (slice_get (cells_written c.plain l.edits u) i)
   pub fit : number_fits column x ≡ true
 
 -- so do the first so many numbers of a row, and all of them, one for each column
-pub record DeltaFrontSays (c : Chain) (l : EditList) (il : List ℕ) (u : Token) (many : ℕ) (numbers : List ℕ) : Type 0 where
+pub record DeltaFrontSays (c : Chain) (l : EditList) (il : List ℕ) (u : Token) (many : ℕ)
+    (numbers : List ℕ) : Type 0 where
   pub count : length numbers ≡ many
-  pub each : (i : ℕ) (column : Column) (x : ℕ) → column_in u.table i ≡ Some column → slice_get numbers i ≡ Some x → SaysNumber c l il u i column x
+  pub each : (i : ℕ) (column : Column) (x : ℕ) → column_in u.table i ≡ Some column → slice_get numbers i ≡ Some x
+      → SaysNumber c l il u i column x
 
 abbrev pub DeltaRowSays : Chain → EditList → List ℕ → Token → List ℕ → Type 0
 DeltaRowSays c l il u numbers = DeltaFrontSays c l il u (length (columns_in u.table)) numbers

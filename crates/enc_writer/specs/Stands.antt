@@ -27,8 +27,10 @@ use Rattle.enc_writer.specs.declared.bytes.DeltaBytes.{DeltaBytes}
 use Rattle.enc_writer.specs.declared.fault.EditFault.{EditFault}
 use Rattle.enc_writer.specs.declared.fault.EditFault.TheVariants.{Memory, Broken}
 
--- the files of a delta stand for an edit list after a chain: they are accepted; the chain with them has the module and the plain PDB with all edits made
--- directly; their EncId is the list's; their EncMap lists, besides the Module, exactly the rows that edits are about (those added, and the methods whose bodies
+-- the files of a delta stand for an edit list after a chain: they are accepted; the chain with them has the module
+-- and the plain PDB with all edits made
+-- directly; their EncId is the list's; their EncMap lists, besides the Module, exactly the rows that edits are about
+-- (those added, and the methods whose bodies
 -- are replaced); a method whose points have several documents has Document nil
 pub record StandsFor (c : Chain) (l : EditList) (d : DeltaBytes) : Type 0 where
   pub source : Source
@@ -36,17 +38,21 @@ pub record StandsFor (c : Chain) (l : EditList) (d : DeltaBytes) : Type 0 where
   pub stands : judged c (delta_of d.meta d.il) (Some d.pdb) ≡ Ok (accepted source (Some symbols))
   pub means : (extended c source).plain ≡ edited c.plain l.edits
   pub debug : (before : PlainPdb) (method : Token)
-      → pdb_changed before (debug_of_accepted (accepted source (Some symbols))) method ≡ pdb_edited before (rows_edited c.plain l.edits) l method
+      → pdb_changed before (debug_of_accepted (accepted source (Some symbols))) method
+      ≡ pdb_edited before (rows_edited c.plain l.edits) l method
   pub enc_id : (extended c source).ids ≡ c.ids ++ l.enc_id ∷ []
-  pub lists : (u : Token) → list_any (λ t. is_token t u) (listed source) ≡ list_any (λ t. is_token t u) (rows_edited c.plain l.edits)
+  pub lists : (u : Token) → list_any (λ t. is_token t u) (listed source)
+      ≡ list_any (λ t. is_token t u) (rows_edited c.plain l.edits)
   pub several : (k : ℕ) (t : Token) → slice_get (named_tokens symbols) k ≡ Some t
-      → IsNilOverSeveral (debug_at (Some (symbols, nth_row tables.method_debug_information k))).points (document_told symbols k)
+      → IsNilOverSeveral (debug_at (Some (symbols, nth_row tables.method_debug_information k))).points
+      (document_told symbols k)
 
 -- the metadata is in the form of a delta: an uncompressed table stream, and `#JTD` (II.24.2.1)
 abbrev pub HasDeltaForm : List ℕ → Type 0
 HasDeltaForm bytes = (root : Root) × ((root_of bytes ≡ Ok root) × ((root.uncompressed ≡ true) × (root.jtd ≡ true)))
 
--- files that are written for a list: they stand for it, their metadata has the form of a delta and says what it states, and their PDB says its points
+-- files that are written for a list: they stand for it, their metadata has the form of a delta and says what it
+-- states, and their PDB says its points
 pub record IsWrittenFor (c : Chain) (l : EditList) (d : DeltaBytes) : Type 0 where
   pub rules : first_edit c l ≡ None
   pub stands : StandsFor c l d

@@ -24,10 +24,13 @@ abbrev pub method_token : ℕ → Token
 method_token row = record { table = tables.method_def; row = row }
 
 -- the methods that edits are about are known, each with the place of its body in the code, 0 where it has none
-pub record MethodsPlaced (c : Chain) (l : EditList) (heaps : List Counted) (il : List ℕ) (methods : BTreeMap ℕ ℕ) : Type 0 where
-  pub edited : (row place : ℕ) → get nat_cmp methods row ≡ Some place → is_edited c.plain l.edits (method_token row) ≡ true
+pub record MethodsPlaced (c : Chain) (l : EditList) (heaps : List Counted) (il : List ℕ)
+    (methods : BTreeMap ℕ ℕ) : Type 0 where
+  pub edited : (row place : ℕ) → get nat_cmp methods row ≡ Some place
+      → is_edited c.plain l.edits (method_token row) ≡ true
   pub placed : (row place : ℕ) → get nat_cmp methods row ≡ Some place
-      → PlacesBody (count_after c l.edits) (joined_user heaps) il place (slice_get (cells_written c.plain l.edits (method_token row)) 0)
+      → PlacesBody (count_after c l.edits) (joined_user heaps) il place
+      (slice_get (cells_written c.plain l.edits (method_token row)) 0)
   pub others : (row : ℕ) → get nat_cmp methods row ≡ None → is_edited c.plain l.edits (method_token row) ≡ false
 
 -- each number of a row fits its column where indices take four bytes
@@ -43,12 +46,14 @@ abbrev pub OthersStay : ℕ → List (List (List ℕ)) → List (List (List ℕ)
 OthersStay table old new = (k : ℕ) → (k == table) ≡ false → rows_at new k ≡ rows_at old k
 
 -- the rows of a table are those of its edited rows, and fit
-pub record IsTableWritten (c : Chain) (l : EditList) (heaps : List Counted) (il : List ℕ) (table : ℕ) (rows : List (List (List ℕ))) : Type 0 where
+pub record IsTableWritten (c : Chain) (l : EditList) (heaps : List Counted) (il : List ℕ) (table : ℕ)
+    (rows : List (List (List ℕ))) : Type 0 where
   pub say : SayRows c l heaps il (tokens_written c l.edits table) (rows_at rows table)
   pub fit : table_fits_wide rows table ≡ true
 
 -- so is each listed table below one; and those from it on have no rows
-pub record AreTablesWritten (c : Chain) (l : EditList) (heaps : List Counted) (il : List ℕ) (upto : ℕ) (rows : List (List (List ℕ))) : Type 0 where
+pub record AreTablesWritten (c : Chain) (l : EditList) (heaps : List Counted) (il : List ℕ) (upto : ℕ)
+    (rows : List (List (List ℕ))) : Type 0 where
   pub below : (table : ℕ) → table < upto → is_listed_table table ≡ true → IsTableWritten c l heaps il table rows
   pub behind : (table : ℕ) → nat_lt table upto ≡ false → rows_at rows table ≡ []
   pub unlisted : (table : ℕ) → is_listed_table table ≡ false → rows_at rows table ≡ []
@@ -62,7 +67,8 @@ pub record IsModuleWritten (c : Chain) (l : EditList) (rows : List (List (List �
 
 -- the rows of all tables are those of the delta
 pub record AreRowsWritten (c : Chain) (l : EditList) (il : List ℕ) (rows : List (List (List ℕ))) : Type 0 where
-  pub listed : (table : ℕ) → table < 64 → is_listed_table table ≡ true → IsTableWritten c l (heaps_joined c.heaps (heaps_written c l)) il table rows
+  pub listed : (table : ℕ) → table < 64 → is_listed_table table ≡ true
+      → IsTableWritten c l (heaps_joined c.heaps (heaps_written c l)) il table rows
   pub behind : (table : ℕ) → nat_lt table 64 ≡ false → rows_at rows table ≡ []
   pub single : IsModuleWritten c l rows
   pub log : rows_at rows tables.enc_log ≡ map entry_numbers (log_written c.plain l.edits)

@@ -145,7 +145,8 @@ pub(crate) fn bodies_of<C: ChainView>(
 ) -> Result<Bodies, AllocError>
     requires may { MayFollow context.now.chain context.now.list }
     requires heaps { heaps.old ≡ heaps_written context.now.chain context.now.list }
-    ensures placed { IfOk result (λ b. MethodsPlaced context.now.chain context.now.list (heaps_joined context.now.chain.heaps heaps.old) b.il.items b.methods) }
+    ensures placed { IfOk result (λ b. MethodsPlaced context.now.chain context.now.list
+        (heaps_joined context.now.chain.heaps heaps.old) b.il.items b.methods) }
     ensures same { heaps.new ≡ heaps.old }
 {
     let mut il = Vec::new(alloc);

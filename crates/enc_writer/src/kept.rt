@@ -14,7 +14,8 @@ use std::alloc::AllocError;
 pub(crate) fn text_offset(heaps: &mut HeapBuilder, text: &[u8]) -> Result<u32, AllocError>
     requires clean { IsTrue (not (list_any (λ c. c == 0) text.now)) }
     requires kept { is_kept heaps.old.texts text.now ≡ true }
-    ensures offset { IfOk result (λ x. (before : List Counted) → ArePast before heaps.old.starts → joined_text (heaps_joined before heaps.old) x ≡ Some text.now) }
+    ensures offset { IfOk result (λ x. (before : List Counted) → ArePast before heaps.old.starts
+        → joined_text (heaps_joined before heaps.old) x ≡ Some text.now) }
     ensures low { IfOk result (λ x. x < 2 ^ 32) }
     ensures same { heaps.new ≡ heaps.old }
 {
@@ -30,7 +31,8 @@ pub(crate) fn text_offset(heaps: &mut HeapBuilder, text: &[u8]) -> Result<u32, A
 #[tactic(auto, using(enc_rewriter::proofs::KeptValues::blob_kept, enc_meta::proofs::BuiltMeanings::blobs_are_read))]
 pub(crate) fn blob_offset(heaps: &mut HeapBuilder, blob: &[u8]) -> Result<u32, AllocError>
     requires kept { is_kept heaps.old.blobs blob.now ≡ true }
-    ensures offset { IfOk result (λ x. (before : List Counted) → ArePast before heaps.old.starts → joined_blob (heaps_joined before heaps.old) x ≡ Some blob.now) }
+    ensures offset { IfOk result (λ x. (before : List Counted) → ArePast before heaps.old.starts
+        → joined_blob (heaps_joined before heaps.old) x ≡ Some blob.now) }
     ensures low { IfOk result (λ x. x < 2 ^ 32) }
     ensures same { heaps.new ≡ heaps.old }
 {

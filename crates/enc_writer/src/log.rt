@@ -87,7 +87,8 @@ fn push_entry(entry: Entry, tables: &mut TableBuilder) -> Result<(), AllocError>
 fn push_owner(edit: &Edit, row: Token, tables: &mut TableBuilder) -> Result<(), AllocError>
     requires numbers { list_all has_number (owner_entries edit.now row) ≡ true }
     requires few { count_at tables.old enc_log + length (owner_entries edit.now row) < 2 ^ 24 }
-    ensures pushed { OnOk result (rows_at tables.new enc_log ≡ rows_at tables.old enc_log ++ map entry_numbers (owner_entries edit.now row)) }
+    ensures pushed { OnOk result (rows_at tables.new enc_log ≡ rows_at tables.old enc_log ++ map entry_numbers
+        (owner_entries edit.now row)) }
     ensures others { OnOk result (OthersStay enc_log tables.old tables.new) }
 {
     let Edit::Add { table, owner, .. } = edit else {
@@ -112,7 +113,8 @@ fn push_owner(edit: &Edit, row: Token, tables: &mut TableBuilder) -> Result<(), 
 fn push_entries(edit: &Edit, row: Token, tables: &mut TableBuilder) -> Result<(), AllocError>
     requires numbers { list_all has_number (entries_for edit.now row) ≡ true }
     requires few { count_at tables.old enc_log + length (entries_for edit.now row) < 2 ^ 24 }
-    ensures pushed { OnOk result (rows_at tables.new enc_log ≡ rows_at tables.old enc_log ++ map entry_numbers (entries_for edit.now row)) }
+    ensures pushed { OnOk result (rows_at tables.new enc_log ≡ rows_at tables.old enc_log ++ map entry_numbers
+        (entries_for edit.now row)) }
     ensures others { OnOk result (OthersStay enc_log tables.old tables.new) }
 {
     push_owner(edit, row, tables)?;
@@ -135,8 +137,10 @@ fn push_edit<C: ChainView>(
 ) -> Result<(), AllocError>
     requires may { MayFollow context.now.chain context.now.list }
     requires there { k < length context.now.list.edits }
-    requires few { count_at tables.old enc_log + length (entries_at references context.now.chain context.now.list k) < 2 ^ 24 }
-    ensures pushed { OnOk result (rows_at tables.new enc_log ≡ rows_at tables.old enc_log ++ map entry_numbers (entries_at references context.now.chain context.now.list k)) }
+    requires few { count_at tables.old enc_log + length (entries_at references context.now.chain context.now.list k)
+        < 2 ^ 24 }
+    ensures pushed { OnOk result (rows_at tables.new enc_log ≡ rows_at tables.old enc_log ++ map entry_numbers
+        (entries_at references context.now.chain context.now.list k)) }
     ensures others { OnOk result (OthersStay enc_log tables.old tables.new) }
 {
     let edit = edit_at(context, k);
@@ -155,8 +159,10 @@ fn push_edits<C: ChainView>(
     tables: &mut TableBuilder,
 ) -> Result<(), AllocError>
     requires may { MayFollow context.now.chain context.now.list }
-    requires few { count_at tables.old enc_log + length (entries_logged references context.now.chain context.now.list) < 2 ^ 24 - 1 }
-    ensures pushed { OnOk result (rows_at tables.new enc_log ≡ rows_at tables.old enc_log ++ map entry_numbers (entries_logged references context.now.chain context.now.list)) }
+    requires few { count_at tables.old enc_log + length (entries_logged references context.now.chain context.now.list)
+        < 2 ^ 24 - 1 }
+    ensures pushed { OnOk result (rows_at tables.new enc_log ≡ rows_at tables.old enc_log ++ map entry_numbers
+        (entries_logged references context.now.chain context.now.list)) }
     ensures others { OnOk result (OthersStay enc_log tables.old tables.new) }
 {
     for k in 0..context.edits().len() {
@@ -174,7 +180,8 @@ pub(crate) fn push_log<C: ChainView>(
 ) -> Result<(), AllocError>
     requires may { MayFollow context.now.chain context.now.list }
     requires none { rows_at tables.old enc_log ≡ [] }
-    ensures log { OnOk result (rows_at tables.new enc_log ≡ map entry_numbers (log_written context.now.chain.plain context.now.list.edits)) }
+    ensures log { OnOk result (rows_at tables.new enc_log
+        ≡ map entry_numbers (log_written context.now.chain.plain context.now.list.edits)) }
     ensures others { OnOk result (OthersStay enc_log tables.old tables.new) }
 {
     push_edits(context, true, tables)?;

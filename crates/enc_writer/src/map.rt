@@ -39,10 +39,12 @@ fn push_if_edited<C: ChainView>(
     tables: &mut TableBuilder,
 ) -> Result<(), AllocError>
     requires may { MayFollow context.now.chain context.now.list }
-    requires bodies { MethodsPlaced context.now.chain context.now.list (joined_with context.now.chain context.now.list) bodies.now.il.items bodies.now.methods }
+    requires bodies { MethodsPlaced context.now.chain context.now.list
+        (joined_with context.now.chain context.now.list) bodies.now.il.items bodies.now.methods }
     requires there { n < count_after context.now.chain context.now.list.edits table }
     requires so_far { RowsMapped context.now.chain context.now.list table n (rows_at tables.old enc_map) }
-    ensures says { OnOk result (RowsMapped context.now.chain context.now.list table (n + 1) (rows_at tables.new enc_map)) }
+    ensures says { OnOk result (RowsMapped context.now.chain context.now.list table (n + 1)
+        (rows_at tables.new enc_map)) }
     ensures others { OnOk result (OthersStay enc_map tables.old tables.new) }
 {
     let row = Token { table, row: n + 1 };
@@ -61,10 +63,12 @@ fn push_tokens<C: ChainView>(
     tables: &mut TableBuilder,
 ) -> Result<(), AllocError>
     requires may { MayFollow context.now.chain context.now.list }
-    requires bodies { MethodsPlaced context.now.chain context.now.list (joined_with context.now.chain context.now.list) bodies.now.il.items bodies.now.methods }
+    requires bodies { MethodsPlaced context.now.chain context.now.list
+        (joined_with context.now.chain context.now.list) bodies.now.il.items bodies.now.methods }
     requires table { table < 64 }
     requires so_far { TablesMapped context.now.chain context.now.list table (rows_at tables.old enc_map) }
-    ensures says { OnOk result (TablesMapped context.now.chain context.now.list (table + 1) (rows_at tables.new enc_map)) }
+    ensures says { OnOk result (TablesMapped context.now.chain context.now.list (table + 1)
+        (rows_at tables.new enc_map)) }
     ensures others { OnOk result (OthersStay enc_map tables.old tables.new) }
 {
     let count = context.counts().rows[table as usize];
@@ -81,9 +85,11 @@ pub(crate) fn push_map<C: ChainView>(
     tables: &mut TableBuilder,
 ) -> Result<(), AllocError>
     requires may { MayFollow context.now.chain context.now.list }
-    requires bodies { MethodsPlaced context.now.chain context.now.list (heaps_joined context.now.chain.heaps (heaps_written context.now.chain context.now.list)) bodies.now.il.items bodies.now.methods }
+    requires bodies { MethodsPlaced context.now.chain context.now.list (heaps_joined context.now.chain.heaps
+        (heaps_written context.now.chain context.now.list)) bodies.now.il.items bodies.now.methods }
     requires none { rows_at tables.old enc_map ≡ [] }
-    ensures map { OnOk result (rows_at tables.new enc_map ≡ map token_numbers (map_written context.now.chain context.now.list.edits)) }
+    ensures map { OnOk result (rows_at tables.new enc_map
+        ≡ map token_numbers (map_written context.now.chain context.now.list.edits)) }
     ensures others { OnOk result (OthersStay enc_map tables.old tables.new) }
 {
     for table in 0..64 {

@@ -36,7 +36,8 @@ fn mvid_number<C: ChainView>(chain: &C, list: &EditList) -> u32
 /// The number of the last EncId; 0 where no delta was applied.
 fn last_number<C: ChainView>(chain: &C) -> u32
     requires names { NamesGuids (C.chain chain.now) }
-    ensures { joined_guid (C.chain chain.now).heaps result ≡ Some (id_of (C.chain chain.now) (length (C.chain chain.now).ids)) }
+    ensures { joined_guid (C.chain chain.now).heaps result
+        ≡ Some (id_of (C.chain chain.now) (length (C.chain chain.now).ids)) }
 {
     guid_number(chain, chain.enc_id(chain.generations() - 1))
 }
@@ -49,7 +50,8 @@ fn own_number<C: ChainView>(
 ) -> Result<u32, AllocError>
     requires may { MayFollow (C.chain chain.now) list.now }
     requires heaps { heaps.old ≡ heaps_written (C.chain chain.now) list.now }
-    ensures number { IfOk result (λ k. joined_guid (heaps_joined (C.chain chain.now).heaps (heaps_written (C.chain chain.now) list.now)) k ≡ Some list.now.enc_id) }
+    ensures number { IfOk result (λ k. joined_guid (heaps_joined (C.chain chain.now).heaps
+        (heaps_written (C.chain chain.now) list.now)) k ≡ Some list.now.enc_id) }
     ensures same { heaps.new ≡ heaps.old }
 {
     heaps.laws();

@@ -83,7 +83,8 @@ fn coded_token<C: ChainView>(context: &Context<'_, C>, row: Token, i: u8, kind: 
     requires may { MayFollow context.now.chain context.now.list }
     requires row { is_edited context.now.chain.plain context.now.list.edits row ≡ true }
     requires column { column_in row.table i ≡ Some (Coded kind) }
-    ensures cell { slice_get (cells_written context.now.chain.plain context.now.list.edits row) i ≡ Some (refer result) }
+    ensures cell { slice_get (cells_written context.now.chain.plain context.now.list.edits row) i
+        ≡ Some (refer result) }
     ensures sound { is_reference (edited context.now.chain.plain context.now.list.edits) (Coded kind) result ≡ true }
     ensures low { result.row < 2 ^ 24 }
 {

@@ -38,7 +38,8 @@ fn push_number<C: ChainView>(
     requires row { is_edited context.now.chain.plain context.now.list.edits row ≡ true }
     requires column { column_in row.table i ≡ Some column }
     requires so_far { DeltaFrontSays context.now.chain context.now.list bodies.now.il.items row i numbers.old.items }
-    ensures says { OnOk result (DeltaFrontSays context.now.chain context.now.list bodies.now.il.items row (i + 1) numbers.new.items) }
+    ensures says { OnOk result (DeltaFrontSays context.now.chain context.now.list bodies.now.il.items row
+        (i + 1) numbers.new.items) }
     ensures same { heaps.new ≡ heaps.old }
 {
     let number = number_at(context, heaps, bodies, row, i, column)?;
@@ -57,7 +58,8 @@ fn row_numbers<C: ChainView>(
 ) -> Result<Vec<u32>, AllocError>
     requires ready { AreRowsReady context.now.chain context.now.list heaps.old bodies.now.il.items bodies.now.methods }
     requires row { is_edited context.now.chain.plain context.now.list.edits row ≡ true }
-    ensures says { IfOk result (λ numbers. DeltaRowSays context.now.chain context.now.list bodies.now.il.items row numbers.items) }
+    ensures says { IfOk result (λ numbers. DeltaRowSays context.now.chain context.now.list bodies.now.il.items row
+        numbers.items) }
     ensures same { heaps.new ≡ heaps.old }
 {
     let columns = columns_of(row.table);
@@ -88,8 +90,10 @@ fn push_row<C: ChainView>(
 ) -> Result<(), AllocError>
     requires ready { AreRowsReady context.now.chain context.now.list heaps.old bodies.now.il.items bodies.now.methods }
     requires row { is_edited context.now.chain.plain context.now.list.edits (nth_row table n) ≡ true }
-    requires so_far { RowsWritten context.now.chain context.now.list bodies.now.il.items table n (rows_at tables.old table) }
-    ensures says { OnOk result (RowsWritten context.now.chain context.now.list bodies.now.il.items table (n + 1) (rows_at tables.new table)) }
+    requires so_far { RowsWritten context.now.chain context.now.list bodies.now.il.items table n
+        (rows_at tables.old table) }
+    ensures says { OnOk result (RowsWritten context.now.chain context.now.list bodies.now.il.items table (n + 1)
+        (rows_at tables.new table)) }
     ensures others { OnOk result (OthersStay table tables.old tables.new) }
     ensures same { heaps.new ≡ heaps.old }
 {
@@ -101,7 +105,8 @@ fn push_row<C: ChainView>(
 
 /// Whether edits are about a method.
 fn is_edited_method<C: ChainView>(context: &Context<'_, C>, bodies: &Bodies, row: Token) -> bool
-    requires bodies { MethodsPlaced context.now.chain context.now.list (joined_with context.now.chain context.now.list) bodies.now.il.items bodies.now.methods }
+    requires bodies { MethodsPlaced context.now.chain context.now.list
+        (joined_with context.now.chain context.now.list) bodies.now.il.items bodies.now.methods }
     requires method { row.table ≡ method_def }
     ensures { result ≡ is_edited context.now.chain.plain context.now.list.edits row }
 {
@@ -125,7 +130,8 @@ pub(crate) fn is_edited_row<C: ChainView>(
     bodies: &Bodies,
     row: Token,
 ) -> bool
-    requires bodies { MethodsPlaced context.now.chain context.now.list (joined_with context.now.chain context.now.list) bodies.now.il.items bodies.now.methods }
+    requires bodies { MethodsPlaced context.now.chain context.now.list
+        (joined_with context.now.chain context.now.list) bodies.now.il.items bodies.now.methods }
     requires may { MayFollow context.now.chain context.now.list }
     requires there { row.row ≤ count_after context.now.chain context.now.list.edits row.table }
     ensures { result ≡ is_edited context.now.chain.plain context.now.list.edits row }
@@ -148,8 +154,10 @@ fn push_if_edited<C: ChainView>(
 ) -> Result<(), AllocError>
     requires ready { AreRowsReady context.now.chain context.now.list heaps.old bodies.now.il.items bodies.now.methods }
     requires there { n < count_after context.now.chain context.now.list.edits table }
-    requires so_far { RowsWritten context.now.chain context.now.list bodies.now.il.items table n (rows_at tables.old table) }
-    ensures says { OnOk result (RowsWritten context.now.chain context.now.list bodies.now.il.items table (n + 1) (rows_at tables.new table)) }
+    requires so_far { RowsWritten context.now.chain context.now.list bodies.now.il.items table n
+        (rows_at tables.old table) }
+    ensures says { OnOk result (RowsWritten context.now.chain context.now.list bodies.now.il.items table (n + 1)
+        (rows_at tables.new table)) }
     ensures others { OnOk result (OthersStay table tables.old tables.new) }
     ensures same { heaps.new ≡ heaps.old }
 {
@@ -163,7 +171,8 @@ fn push_if_edited<C: ChainView>(
 /// methods, and else the chain's.
 pub(crate) fn first_row<C: ChainView>(context: &Context<'_, C>, table: u8) -> u32
     requires may { MayFollow context.now.chain context.now.list }
-    ensures none { (k : ℕ) → k < result → is_edited context.now.chain.plain context.now.list.edits (nth_row table k) ≡ false }
+    ensures none { (k : ℕ) → k < result
+        → is_edited context.now.chain.plain context.now.list.edits (nth_row table k) ≡ false }
     ensures low { result ≤ count_after context.now.chain context.now.list.edits table }
 {
     if table == METHOD_DEF {
@@ -185,7 +194,8 @@ fn push_table<C: ChainView>(
     requires ready { AreRowsReady context.now.chain context.now.list heaps.old bodies.now.il.items bodies.now.methods }
     requires table { table < 64 }
     requires none { rows_at tables.old table ≡ [] }
-    ensures written { OnOk result (IsTableWritten context.now.chain context.now.list (joined_with context.now.chain context.now.list) bodies.now.il.items table tables.new) }
+    ensures written { OnOk result (IsTableWritten context.now.chain context.now.list
+        (joined_with context.now.chain context.now.list) bodies.now.il.items table tables.new) }
     ensures others { OnOk result (OthersStay table tables.old tables.new) }
     ensures same { heaps.new ≡ heaps.old }
 {
@@ -214,8 +224,10 @@ fn push_if_listed<C: ChainView>(
 ) -> Result<(), AllocError>
     requires ready { AreRowsReady context.now.chain context.now.list heaps.old bodies.now.il.items bodies.now.methods }
     requires table { table < 64 }
-    requires so_far { AreTablesWritten context.now.chain context.now.list (joined_with context.now.chain context.now.list) bodies.now.il.items table tables.old }
-    ensures written { OnOk result (AreTablesWritten context.now.chain context.now.list (joined_with context.now.chain context.now.list) bodies.now.il.items (table + 1) tables.new) }
+    requires so_far { AreTablesWritten context.now.chain context.now.list
+        (joined_with context.now.chain context.now.list) bodies.now.il.items table tables.old }
+    ensures written { OnOk result (AreTablesWritten context.now.chain context.now.list
+        (joined_with context.now.chain context.now.list) bodies.now.il.items (table + 1) tables.new) }
     ensures same { heaps.new ≡ heaps.old }
 {
     if !is_listed(table) {
@@ -236,9 +248,11 @@ pub(crate) fn push_tables<C: ChainView>(
 ) -> Result<(), AllocError>
     requires may { MayFollow context.now.chain context.now.list }
     requires heaps { heaps.old ≡ heaps_written context.now.chain context.now.list }
-    requires bodies { MethodsPlaced context.now.chain context.now.list (heaps_joined context.now.chain.heaps heaps.old) bodies.now.il.items bodies.now.methods }
+    requires bodies { MethodsPlaced context.now.chain context.now.list
+        (heaps_joined context.now.chain.heaps heaps.old) bodies.now.il.items bodies.now.methods }
     requires none { (k : ℕ) → rows_at tables.old k ≡ [] }
-    ensures written { OnOk result (AreTablesWritten context.now.chain context.now.list (heaps_joined context.now.chain.heaps heaps.old) bodies.now.il.items 64 tables.new) }
+    ensures written { OnOk result (AreTablesWritten context.now.chain context.now.list
+        (heaps_joined context.now.chain.heaps heaps.old) bodies.now.il.items 64 tables.new) }
     ensures same { heaps.new ≡ heaps.old }
 {
     for table in 0..64 {

@@ -28,7 +28,8 @@ fn tables_of<C: ChainView>(
     requires may { MayFollow context.now.chain context.now.list }
     requires names { NamesGuids context.now.chain }
     requires heaps { heaps.old ≡ heaps_written context.now.chain context.now.list }
-    requires bodies { MethodsPlaced context.now.chain context.now.list (heaps_joined context.now.chain.heaps (heaps_written context.now.chain context.now.list)) bodies.now.il.items bodies.now.methods }
+    requires bodies { MethodsPlaced context.now.chain context.now.list (heaps_joined context.now.chain.heaps
+        (heaps_written context.now.chain context.now.list)) bodies.now.il.items bodies.now.methods }
     ensures written { IfOk result (λ t. AreRowsWritten context.now.chain context.now.list bodies.now.il.items t) }
     ensures same { heaps.new ≡ heaps.old }
 {
@@ -50,7 +51,8 @@ pub(crate) fn metadata_of<C: ChainView>(
     requires may { MayFollow context.now.chain context.now.list }
     requires names { NamesGuids context.now.chain }
     requires heaps { heaps ≡ heaps_written context.now.chain context.now.list }
-    requires bodies { MethodsPlaced context.now.chain context.now.list (heaps_joined context.now.chain.heaps (heaps_written context.now.chain context.now.list)) bodies.now.il.items bodies.now.methods }
+    requires bodies { MethodsPlaced context.now.chain context.now.list (heaps_joined context.now.chain.heaps
+        (heaps_written context.now.chain context.now.list)) bodies.now.il.items bodies.now.methods }
     ensures { IfOk result (λ v. IsMetadata context.now.chain context.now.list bodies.now.il.items v.items) }
 {
     let mut heaps = heaps;

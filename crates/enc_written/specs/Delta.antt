@@ -22,13 +22,15 @@ is_edited m edits u = list_any (λ t. is_token t u) (rows_edited m edits)
 
 -- the rows of a table that edits are about, rising
 unfoldable pub tokens_written : Chain → List Edit → ℕ → List Token
-tokens_written c edits table = filter (is_edited c.plain edits) (map (nth_row table) (below (count_after c edits table)))
+tokens_written c edits table =
+    filter (is_edited c.plain edits) (map (nth_row table) (below (count_after c edits table)))
 
 -- EncMap: those of all tables, one table behind the other
 unfoldable pub map_written : Chain → List Edit → List Token
 map_written c edits = flat_map (tokens_written c edits) (below 64)
 
--- the code of an entry of EncLog that gives its token a child of a table: methods, fields, parameters, properties, events
+-- the code of an entry of EncLog that gives its token a child of a table: methods, fields, parameters, properties,
+-- events
 abbrev pub add_code : ℕ → ℕ
 add_code table =
     if table == tables.method_def then 1
@@ -44,11 +46,13 @@ add_entry a = record { token = a.owner; code = add_code a.child.table }
 unfoldable pub entries_for : Edit → Token → List Entry
 entries_for e row = map add_entry (attached_by e row) ++ record { token = row; code = 0 } ∷ []
 
--- the edit adds a row that refers to something else: one of AssemblyRef, MemberRef, MethodSpec, ModuleRef, StandAloneSig, TypeRef or TypeSpec (ECMA-335 II.22)
+-- the edit adds a row that refers to something else: one of AssemblyRef, MemberRef, MethodSpec, ModuleRef,
+-- StandAloneSig, TypeRef or TypeSpec (ECMA-335 II.22)
 abbrev pub is_reference_table : ℕ → Bool
 is_reference_table table =
     list_any (λ t. t == table)
-    (tables.assembly_ref ∷ tables.member_ref ∷ tables.method_spec ∷ tables.module_ref ∷ tables.stand_alone_sig ∷ tables.type_ref ∷ tables.type_spec ∷ [])
+    (tables.assembly_ref ∷ tables.member_ref ∷ tables.method_spec ∷ tables.module_ref ∷ tables.stand_alone_sig
+    ∷ tables.type_ref ∷ tables.type_spec ∷ [])
 
 abbrev pub adds_reference : Edit → Bool
 adds_reference (Add table owner cells code points) = is_reference_table table
@@ -60,11 +64,13 @@ entries_if b entries = if b then entries else []
 -- the entries of those edits, behind others, that pass a test
 unfoldable pub entries_behind : (Edit → Bool) → Module → List Edit → List Edit → List Entry
 entries_behind asks m before [] = []
-entries_behind asks m before (e ∷ rest) = entries_if (asks e) (entries_for e (row_edited m before e)) ++ entries_behind asks m (before ++ e ∷ []) rest
+entries_behind asks m before (e ∷ rest) =
+    entries_if (asks e) (entries_for e (row_edited m before e)) ++ entries_behind asks m (before ++ e ∷ []) rest
 
 -- EncLog: the entries of all references, and behind them those of all else, each in the order of the edits
 unfoldable pub log_written : Module → List Edit → List Entry
-log_written m edits = entries_behind adds_reference m [] edits ++ entries_behind (λ e. not (adds_reference e)) m [] edits
+log_written m edits = entries_behind adds_reference m [] edits ++ entries_behind
+    (λ e. not (adds_reference e)) m [] edits
 
 -- the cells that the edits give a row that they are about
 unfoldable pub cells_written : Module → List Edit → Token → List Cell

@@ -67,13 +67,16 @@ PlacesBody count users il place (Some (body (Some b))) = StandsIn count users il
 PlacesBody count users il place _ = place ≡ 0
 
 -- the numbers of a row say the cells that the edits give it, and a method's body stands in the code
-pub record SaysRow (c : Chain) (l : EditList) (heaps : List Counted) (il : List ℕ) (u : Token) (number : ℕ → ℕ) : Type 0 where
+pub record SaysRow (c : Chain) (l : EditList) (heaps : List Counted) (il : List ℕ) (u : Token)
+    (number : ℕ → ℕ) : Type 0 where
   pub each : (i : ℕ) (column : Column) → column_in u.table i ≡ Some column
       → SaysCell (reading_with c l heaps il) u i column (number i) (slice_get (cells_written c.plain l.edits u) i)
   pub body : (u.table == tables.method_def) ≡ true
-      → PlacesBody (count_after c l.edits) (joined_user heaps) il (number 0) (slice_get (cells_written c.plain l.edits u) 0)
+      → PlacesBody (count_after c l.edits) (joined_user heaps) il (number 0)
+      (slice_get (cells_written c.plain l.edits u) 0)
 
--- the numbers of the Module row: the next generation, and the numbers of the base's Mvid, of the list's EncId and of the last EncId (ECMA-335 II.22.30)
+-- the numbers of the Module row: the next generation, and the numbers of the base's Mvid, of the list's EncId and of
+-- the last EncId (ECMA-335 II.22.30)
 pub record SaysModule (c : Chain) (l : EditList) (heaps : List Counted) (number : ℕ → ℕ) : Type 0 where
   pub generation : number columns.module_generation ≡ length c.ids + 1
   pub mvid : joined_guid heaps (number columns.module_mvid) ≡ Some (mvid_of c)
@@ -113,9 +116,11 @@ pub record SaysDelta (c : Chain) (l : EditList) (s : Source) : Type 0 where
   pub heaps : s.heaps ≡ heaps_built (heaps_written c l)
   pub good : IsGood (heaps_written c l)
   pub code : (il : List ℕ) × (s.loaded ≡ loaded_code il)
-      × ((table n : ℕ) (u : Token) → is_listed_table table ≡ true → slice_get (tokens_written c l.edits table) n ≡ Some u
+      × ((table n : ℕ) (u : Token) → is_listed_table table ≡ true
+      → slice_get (tokens_written c l.edits table) n ≡ Some u
       → SaysRow c l (heaps_joined c.heaps (heaps_written c l)) il u (raw_in s (nth_row table n)))
   pub single : SaysModule c l (heaps_joined c.heaps (heaps_written c l)) (raw_in s module_token)
   pub log : log_in s ≡ log_written c.plain l.edits
   pub map_ : map_in s ≡ map_written c l.edits
-  pub counts : (table : ℕ) → is_listed_table table ≡ true → rows_of s.layout table ≡ length (tokens_written c l.edits table)
+  pub counts : (table : ℕ) → is_listed_table table ≡ true
+      → rows_of s.layout table ≡ length (tokens_written c l.edits table)

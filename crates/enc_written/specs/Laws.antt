@@ -1,4 +1,5 @@
--- The delta of an edit list is read as it was written, breaks no rule, and makes the module with all edits made directly.
+-- The delta of an edit list is read as it was written, breaks no rule, and makes the module with all edits made
+-- directly.
 use Rattle.std.specs.Prelude.{◌≡◌, ℕ, ◌<◌, ◌^◌, true, List, None, Ok}
 use Rattle.enc_emit.specs.Written.{root_built, built_size}
 use Rattle.enc_emit.specs.declared.root_form.RootForm.TheVariants.{Delta}
@@ -17,7 +18,8 @@ metadata_written c l rows = root_built (record { heaps = heaps_written c l; rows
 
 -- parts that hold what a list states are read as a delta that says it
 abbrev pub DeltasAreRead : Type 0
-DeltasAreRead = (c : Chain) (l : EditList) (il : List ℕ) (rows : List (List (List ℕ))) → MayFollow c l → HoldDelta c l il rows
+DeltasAreRead = (c : Chain) (l : EditList) (il : List ℕ) (rows : List (List (List ℕ))) → MayFollow c l
+    → HoldDelta c l il rows
     → built_size (record { heaps = heaps_written c l; rows = rows }) true < 2 ^ 32
     → (s : Source) × (delta_of (metadata_written c l rows) il ≡ Ok s) × SaysDelta c l s
 
@@ -31,4 +33,5 @@ DeltasFollow = (c : Chain) (l : EditList) (s : Source) → MayFollow c l → Say
 
 -- and makes the module with all edits made directly
 abbrev pub DeltasMean : Type 0
-DeltasMean = (c : Chain) (l : EditList) (s : Source) → MayFollow c l → SaysDelta c l s → (extended c s).plain ≡ edited c.plain l.edits
+DeltasMean = (c : Chain) (l : EditList) (s : Source) → MayFollow c l → SaysDelta c l s
+    → (extended c s).plain ≡ edited c.plain l.edits

@@ -22,7 +22,8 @@ pub fn accept<S: Store>(
 ) -> Result<Judged, Stop>
     ensures cause { HasCause Stop.Failed (S.faults store.old) (S.faults store.new) result }
     ensures stays { S.told store.new ≡ S.told store.old }
-    ensures step { IfSome (S.told store.old) (λ files. Comes followed result (accept_from files base.now (texts deltas.now))) }
+    ensures step { IfSome (S.told store.old)
+        (λ files. Comes followed result (accept_from files base.now (texts deltas.now))) }
     ensures quiet { StopsQuietly result }
     ensures within { IfOk result (λ j. KnowWithin j) }
     ensures gone { IfOk result (λ j. HaveGone (length deltas.now) j) }
@@ -51,7 +52,8 @@ pub fn accept_text<S: Store>(
 ) -> Result<Texted, Stop>
     ensures cause { HasCause Stop.Failed (S.faults store.old) (S.faults store.new) result }
     ensures stays { S.told store.new ≡ S.told store.old }
-    ensures step { IfSome (S.told store.old) (λ files. Comes texted result (text_from files base.now edits.now (texts deltas.now))) }
+    ensures step { IfSome (S.told store.old)
+        (λ files. Comes texted result (text_from files base.now edits.now (texts deltas.now))) }
     ensures quiet { StopsQuietly result }
     ensures within { IfOk result (λ t. KnowWithin t.judged) }
 {

@@ -59,7 +59,10 @@ pub fn unwritten(alloc: Global, out: &str, fault: RewriteFault) -> Stop
 pub fn saving(alloc: Global, out: &str, written: Rewritten) -> Result<Plan, AllocError>
     ensures outcome { IfOk result (λ plan. plan.outcome ≡ Outcome.Accepted) }
     ensures output { IfOk result (λ plan. plan.output.items ≡ line_of_saved (dll out.now ∷ pdb out.now ∷ [])) }
-    ensures saves { IfOk result (λ plan. saves_of plan.saves.items ≡ (dll out.now, written.image) ∷ (pdb out.now, written.pdb) ∷ []) }
+    ensures saves { IfOk result (λ plan. saves_of plan.saves.items ≡ (dll out.now, written.image) ∷ (
+      pdb out.now,
+      written.pdb,
+    ) ∷ []) }
 {
     let dll = name_of(alloc, out, ".dll")?;
     let pdb = name_of(alloc, out, ".pdb")?;
@@ -106,7 +109,8 @@ pub fn apply<S: Store>(
 ) -> Result<Plan, Stop>
     ensures cause { HasCause Stop.Failed (S.faults store.old) (S.faults store.new) result }
     ensures stays { S.told store.new ≡ S.told store.old }
-    ensures plan { IfSome (S.told store.old) (λ files. IfPlan result (IsPlanOf (apply_on files base.now out.now (texts deltas.now)))) }
+    ensures plan { IfSome (S.told store.old)
+        (λ files. IfPlan result (IsPlanOf (apply_on files base.now out.now (texts deltas.now)))) }
     ensures told { IfPlan result (λ plan. plan.outcome ≢ Outcome.Usage) }
     ensures kept { IfPlan result (λ plan. (plan.outcome ≡ Outcome.Accepted) ⊎ (plan.saves.items ≡ [])) }
 {

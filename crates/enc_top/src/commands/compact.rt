@@ -33,8 +33,12 @@ fn saving_moved(
 ) -> Result<Plan, AllocError>
     requires { list_at order.now ≡ new_order (plain_of (followed judged.now)) }
     ensures outcome { IfOk result (λ plan. plan.outcome ≡ Outcome.Accepted) }
-    ensures output { IfOk result (λ plan. plan.output.items ≡ line_of_saved (dll out.now ∷ pdb out.now ∷ []) ++ moved_lines (moves_listed (plain_of (followed judged.now)))) }
-    ensures saves { IfOk result (λ plan. saves_of plan.saves.items ≡ (dll out.now, written.image) ∷ (pdb out.now, written.pdb) ∷ []) }
+    ensures output { IfOk result (λ plan. plan.output.items ≡ line_of_saved (dll out.now ∷ pdb out.now ∷ [])
+        ++ moved_lines (moves_listed (plain_of (followed judged.now)))) }
+    ensures saves { IfOk result (λ plan. saves_of plan.saves.items ≡ (dll out.now, written.image) ∷ (
+      pdb out.now,
+      written.pdb,
+    ) ∷ []) }
 {
     let mut plan = saving(alloc, out, written)?;
     let moves = moved_rows(alloc, &judged.agg, order)?;
@@ -72,7 +76,8 @@ pub fn compact<S: Store>(
 ) -> Result<Plan, Stop>
     ensures cause { HasCause Stop.Failed (S.faults store.old) (S.faults store.new) result }
     ensures stays { S.told store.new ≡ S.told store.old }
-    ensures plan { IfSome (S.told store.old) (λ files. IfPlan result (IsPlanOf (compact_on files base.now out.now (texts deltas.now)))) }
+    ensures plan { IfSome (S.told store.old)
+        (λ files. IfPlan result (IsPlanOf (compact_on files base.now out.now (texts deltas.now)))) }
     ensures told { IfPlan result (λ plan. plan.outcome ≢ Outcome.Usage) }
     ensures kept { IfPlan result (λ plan. (plan.outcome ≡ Outcome.Accepted) ⊎ (plan.saves.items ≡ [])) }
 {

@@ -42,7 +42,8 @@ fn push_module(
     written: Rewritten,
     saves: &mut Vec<Save>,
 ) -> Result<(), AllocError>
-    ensures { OnOk result (saves_of saves.new.items ≡ saves_of saves.old.items ++ module_saves name.now written.image written.pdb) }
+    ensures { OnOk result (saves_of saves.new.items
+        ≡ saves_of saves.old.items ++ module_saves name.now written.image written.pdb) }
 {
     saves.push(Save {
         name: name_of(alloc, name, ".dll")?,
@@ -90,7 +91,13 @@ fn base_file(alloc: Global, written: &Rewritten) -> Result<BaseFile, AllocError>
 
 /// The files of a delta, as they are loaded.
 fn delta_file(alloc: Global, name: &str, files: &DeltaBytes) -> Result<DeltaFile, AllocError>
-    ensures { IfOk result (λ f. file_seen f ≡ record { name = meta name.now; debug_name = pdb name.now; metadata = files.now.meta; code = files.now.il; debug = Some files.now.pdb }) }
+    ensures { IfOk result (λ f. file_seen f ≡ record {
+      name = meta name.now;
+      debug_name = pdb name.now;
+      metadata = files.now.meta;
+      code = files.now.il;
+      debug = Some files.now.pdb;
+    }) }
 {
     Ok(DeltaFile {
         name: name_of(alloc, name, ".meta")?,
@@ -234,8 +241,10 @@ fn ended(
 ) -> Result<Plan, AllocError>
     requires series { IsSeries out.now (generated_lists start.value count.value) series }
     requires last { MeansModule (plain_of (followed series.held)) written.image }
-    requires debug { MeansPdb (debug_after (followed series.held)) (row_count (plain_of (followed series.held)) method_def) written.pdb }
-    ensures plan { IfOk result (IsPlanOf (Ok (generates (numeral_seen start.entry) (numeral_seen count.entry) out.now))) }
+    requires debug { MeansPdb (debug_after (followed series.held))
+        (row_count (plain_of (followed series.held)) method_def) written.pdb }
+    ensures plan { IfOk result (IsPlanOf
+        (Ok (generates (numeral_seen start.entry) (numeral_seen count.entry) out.now))) }
     ensures told { IfOk result (λ plan. plan.outcome ≡ Outcome.Accepted) }
 {
     let Series { held, mut saves } = series;
@@ -259,7 +268,8 @@ fn end(
 ) -> Result<Plan, Stop>
     requires few { count.value ≤ 64 }
     requires series { IsSeries out.now (generated_lists start.value count.value) series }
-    ensures plan { IfPlan result (IsPlanOf (Ok (generates (numeral_seen start.entry) (numeral_seen count.entry) out.now))) }
+    ensures plan { IfPlan result (IsPlanOf
+        (Ok (generates (numeral_seen start.entry) (numeral_seen count.entry) out.now))) }
     ensures told { IfPlan result (λ plan. plan.outcome ≡ Outcome.Accepted) }
     ensures no_fault { ¬ (IsErrOf result Stop.Failed) }
 {
@@ -280,7 +290,8 @@ pub fn generate(
     out: &str,
 ) -> Result<Plan, Stop>
     requires few { count.value ≤ 64 }
-    ensures plan { IfPlan result (IsPlanOf (Ok (generates (numeral_seen start.entry) (numeral_seen count.entry) out.now))) }
+    ensures plan { IfPlan result (IsPlanOf
+        (Ok (generates (numeral_seen start.entry) (numeral_seen count.entry) out.now))) }
     ensures told { IfPlan result (λ plan. plan.outcome ≡ Outcome.Accepted) }
     ensures no_fault { ¬ (IsErrOf result Stop.Failed) }
 {

@@ -52,7 +52,8 @@ fn too_large(alloc: Global, out: &str) -> Stop
 fn merged(alloc: Global, out: &str, deltas: &[String], judged: &Judged) -> Result<Plan, Stop>
     requires two { 2 ≤ length judged.now.agg.deltas }
     requires go { AllGo judged.now.agg.deltas judged.now.debug.deltas }
-    ensures plan { IfPlan result (IsPlanOf (merged_on (meta (last_word (texts deltas.now))) out.now (followed judged.now))) }
+    ensures plan { IfPlan result (IsPlanOf
+        (merged_on (meta (last_word (texts deltas.now))) out.now (followed judged.now))) }
     ensures told { IfPlan result (λ plan. plan.outcome ≢ Outcome.Usage) }
     ensures kept { IfPlan result (λ plan. (plan.outcome ≡ Outcome.Accepted) ⊎ (plan.saves.items ≡ [])) }
     ensures no_fault { ¬ (IsErrOf result Stop.Failed) }
@@ -76,7 +77,8 @@ pub fn merge<S: Store>(
     requires two { 2 ≤ length deltas.now }
     ensures cause { HasCause Stop.Failed (S.faults store.old) (S.faults store.new) result }
     ensures stays { S.told store.new ≡ S.told store.old }
-    ensures plan { IfSome (S.told store.old) (λ files. IfPlan result (IsPlanOf (merge_on files base.now out.now (texts deltas.now)))) }
+    ensures plan { IfSome (S.told store.old)
+        (λ files. IfPlan result (IsPlanOf (merge_on files base.now out.now (texts deltas.now)))) }
     ensures told { IfPlan result (λ plan. plan.outcome ≢ Outcome.Usage) }
     ensures kept { IfPlan result (λ plan. (plan.outcome ≡ Outcome.Accepted) ⊎ (plan.saves.items ≡ [])) }
 {

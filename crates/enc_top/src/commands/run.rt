@@ -76,7 +76,8 @@ fn load_named<S: Store>(
     requires { list_all names_a_delta script.now ≡ true }
     ensures cause { HasCause Stop.Failed (S.faults store.old) (S.faults store.new) result }
     ensures stays { S.told store.new ≡ S.told store.old }
-    ensures step { IfSome (S.told store.old) (λ files. Comes (λ ds. map named_delta ds.items) result (named_from files script.now loaded.old)) }
+    ensures step { IfSome (S.told store.old)
+        (λ files. Comes (λ ds. map named_delta ds.items) result (named_from files script.now loaded.old)) }
     ensures quiet { StopsQuietly result }
 {
     let names = delta_names(alloc, script.as_slice())?;
@@ -93,7 +94,9 @@ fn ran<W: Watcher>(
     script: &Script,
 ) -> Result<Plan, AllocError>
     requires { length script.now < 2 ^ 32 }
-    ensures plan { IfOk result (λ plan. IsPlanOf (Ok (runs (map (λ w. record { kind = W.kind_of w; limit = W.limit w; heard = W.heard w }) watchers.items) (base_followed base) (map named_delta deltas.now) script.now)) plan) }
+    ensures plan { IfOk result (λ plan. IsPlanOf
+        (Ok (runs (map (λ w. record { kind = W.kind_of w; limit = W.limit w; heard = W.heard w }) watchers.items)
+        (base_followed base) (map named_delta deltas.now) script.now)) plan) }
 {
     let mut text = Vec::new(alloc);
     let JudgedBase { image, pdb } = base;
@@ -120,7 +123,9 @@ pub fn run<S: Store, W: Watcher>(
 ) -> Result<Plan, Stop>
     ensures cause { HasCause Stop.Failed (S.faults store.old) (S.faults store.new) result }
     ensures stays { S.told store.new ≡ S.told store.old }
-    ensures plan { IfSome (S.told store.old) (λ files. IfPlan result (IsPlanOf (run_on (map (λ w. record { kind = W.kind_of w; limit = W.limit w; heard = W.heard w }) watchers.items) files base.now script.now))) }
+    ensures plan { IfSome (S.told store.old) (λ files. IfPlan result (IsPlanOf
+        (run_on (map (λ w. record { kind = W.kind_of w; limit = W.limit w; heard = W.heard w }) watchers.items) files
+        base.now script.now))) }
     ensures told { IfPlan result (λ plan. plan.outcome ≢ Outcome.Usage) }
     ensures kept { IfPlan result (λ plan. (plan.outcome ≡ Outcome.Accepted) ⊎ (plan.saves.items ≡ [])) }
 {

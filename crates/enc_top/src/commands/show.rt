@@ -60,7 +60,8 @@ pub fn show<S: Store>(
 ) -> Result<Plan, Stop>
     ensures cause { HasCause Stop.Failed (S.faults store.old) (S.faults store.new) result }
     ensures stays { S.told store.new ≡ S.told store.old }
-    ensures plan { IfSome (S.told store.old) (λ files. IfPlan result (IsPlanOf (show_on files base.now token (texts deltas.now)))) }
+    ensures plan { IfSome (S.told store.old)
+        (λ files. IfPlan result (IsPlanOf (show_on files base.now token (texts deltas.now)))) }
     ensures quiet { IfPlan result IsQuiet }
 {
     let judged = accept(alloc, base, deltas, store)?;

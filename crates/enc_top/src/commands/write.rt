@@ -48,7 +48,10 @@ fn saves(
     pdb: String,
     files: DeltaBytes,
 ) -> Result<Vec<Save>, AllocError>
-    ensures { IfOk result (λ saves. saves_of saves.items ≡ (string_bytes meta, files.meta) ∷ (string_bytes il, files.il) ∷ (string_bytes pdb, files.pdb) ∷ []) }
+    ensures { IfOk result (λ saves. saves_of saves.items ≡ (string_bytes meta, files.meta) ∷ (
+      string_bytes il,
+      files.il,
+    ) ∷ (string_bytes pdb, files.pdb) ∷ []) }
 {
     let mut saves = Vec::new(alloc);
     saves.push(Save {
@@ -69,8 +72,12 @@ fn saves(
 /// The plan that saves what was written: metadata, code and PDB.
 pub fn saving(alloc: Global, out: &str, files: DeltaBytes) -> Result<Plan, AllocError>
     ensures outcome { IfOk result (λ plan. plan.outcome ≡ Outcome.Accepted) }
-    ensures output { IfOk result (λ plan. plan.output.items ≡ line_of_saved (meta out.now ∷ il out.now ∷ pdb out.now ∷ [])) }
-    ensures saves { IfOk result (λ plan. saves_of plan.saves.items ≡ (meta out.now, files.meta) ∷ (il out.now, files.il) ∷ (pdb out.now, files.pdb) ∷ []) }
+    ensures output { IfOk result (λ plan. plan.output.items
+        ≡ line_of_saved (meta out.now ∷ il out.now ∷ pdb out.now ∷ [])) }
+    ensures saves { IfOk result (λ plan. saves_of plan.saves.items ≡ (meta out.now, files.meta) ∷ (
+      il out.now,
+      files.il,
+    ) ∷ (pdb out.now, files.pdb) ∷ []) }
 {
     let meta = name_of(alloc, out, ".meta")?;
     let il = name_of(alloc, out, ".il")?;
@@ -93,7 +100,8 @@ fn written(
 ) -> Result<Plan, Stop>
     requires form { IsTrue (list_fits list.now) }
     requires points { IsTrue (list_all points_lie_within list.now.edits) }
-    ensures plan { IfPlan result (IsPlanOf (edits_on name.now out.now (record { followed = followed judged.now; list = list.now }))) }
+    ensures plan { IfPlan result (IsPlanOf
+        (edits_on name.now out.now (record { followed = followed judged.now; list = list.now }))) }
     ensures told { IfPlan result (λ plan. plan.outcome ≢ Outcome.Usage) }
     ensures kept { IfPlan result (λ plan. (plan.outcome ≡ Outcome.Accepted) ⊎ (plan.saves.items ≡ [])) }
     ensures no_fault { ¬ (IsErrOf result Stop.Failed) }
@@ -127,7 +135,8 @@ pub fn write<S: Store>(
 ) -> Result<Plan, Stop>
     ensures cause { HasCause Stop.Failed (S.faults store.old) (S.faults store.new) result }
     ensures stays { S.told store.new ≡ S.told store.old }
-    ensures plan { IfSome (S.told store.old) (λ files. IfPlan result (IsPlanOf (write_on files base.now edits.now out.now (texts deltas.now)))) }
+    ensures plan { IfSome (S.told store.old)
+        (λ files. IfPlan result (IsPlanOf (write_on files base.now edits.now out.now (texts deltas.now)))) }
     ensures told { IfPlan result (λ plan. plan.outcome ≢ Outcome.Usage) }
     ensures kept { IfPlan result (λ plan. (plan.outcome ≡ Outcome.Accepted) ⊎ (plan.saves.items ≡ [])) }
 {
