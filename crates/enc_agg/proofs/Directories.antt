@@ -4,8 +4,8 @@ use Rattle.std.specs.Prelude.{IsTrue, option_map, unwrap_or, slice_get}
 use Rattle.std.proofs.lemmas.Bool.{cases_lt}
 use Rattle.std.proofs.lemmas.List.{length-map, length-reverse, take_at, take_all}
 use Rattle.enc_base.specs.declared.token.Token.{Token}
-use Rattle.enc_index.specs.declared.key.Key.{Key}
-use Rattle.enc_index.specs.Index.{value_at, latest, either}
+use Rattle.enc_key_map.specs.declared.key.Key.{Key}
+use Rattle.enc_key_map.specs.Index.{value_at, latest, either}
 use Rattle.enc_rows.specs.Source.{Source}
 use Rattle.enc_schema.specs.Children.{is_child_table, owner_table}
 use Rattle.enc_plain.specs.Chain.{Chain}
@@ -25,8 +25,8 @@ use Rattle.enc_agg.specs.Seen.{sources, AllAdded, IsAdded, IsAggregate, found_or
 use Rattle.enc_agg.specs.Directory.{row_key, kids_key, place_seen, HasPlaces, IsBare, IsHeld, kept_one, kids_kept, with_kept, AreOwned, AreHeld, IsDirectory, AreBrought}
 use Rattle.std.proofs.lemmas.Bool.Decides.{nat_tests}
 use Rattle.enc_image.specs.Base.{cells_fault, module_in, chain_of_base}
-use Rattle.enc_places.specs.declared.places.Places.{Places}
-use Rattle.enc_places.proofs.Keeping.{get_front}
+use Rattle.enc_generation_map.specs.declared.places.Places.{Places}
+use Rattle.enc_generation_map.proofs.Keeping.{get_front}
 use Rattle.enc_agg.specs.Prepared.{IsWhole}
 use Rattle.enc_agg.proofs.Histories.{last_added, with_sound, ids_count}
 use Rattle.enc_agg.proofs.Children.{kids_after, owner_kept, owned_after, rows_grow}

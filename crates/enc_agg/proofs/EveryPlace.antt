@@ -5,16 +5,16 @@ use Rattle.std.specs.List.{list_any}
 use Rattle.std.proofs.lemmas.List.{length-append, length-map, length-reverse, reverse-append, take_all}
 use Rattle.enc_base.specs.declared.token.Token.{Token}
 use Rattle.enc_base.specs.Token.{is_token}
-use Rattle.enc_index.specs.declared.key.Key.{Key}
-use Rattle.enc_index.specs.declared.index.Index.{Index}
-use Rattle.enc_index.specs.Index.{value_at, latest, either}
+use Rattle.enc_key_map.specs.declared.key.Key.{Key}
+use Rattle.enc_key_map.specs.declared.index.Index.{Index}
+use Rattle.enc_key_map.specs.Index.{value_at, latest, either}
 use Rattle.enc_rows.specs.Source.{Source}
 use Rattle.enc_plain.specs.Sound.{IsSound}
 use Rattle.enc_plain.specs.declared.place.RowPlace.{RowPlace}
-use Rattle.enc_places.specs.declared.places.Places.{Places}
-use Rattle.enc_places.specs.declared.places.Listings.{Listings}
-use Rattle.enc_places.specs.Places.{place_key, places_kept, generation_kept, BeginWith, KeepsPlaces, KeepsAllPlaces, one_place, AreListings, AreOfThose}
-use Rattle.enc_places.proofs.Keeping.{those_all, all_listings, keeps_more, keeps_less, keeps_none, own_within, own_few, last_with}
+use Rattle.enc_generation_map.specs.declared.places.Places.{Places}
+use Rattle.enc_generation_map.specs.declared.places.Listings.{Listings}
+use Rattle.enc_generation_map.specs.Places.{place_key, places_kept, generation_kept, BeginWith, KeepsPlaces, KeepsAllPlaces, one_place, AreListings, AreOfThose}
+use Rattle.enc_generation_map.proofs.Keeping.{those_all, all_listings, keeps_more, keeps_less, keeps_none, own_within, own_few, last_with}
 use Rattle.enc_delta.specs.Delta.{listed, place_in}
 use Rattle.enc_agg.specs.declared.added.Added.{Added}
 use Rattle.enc_agg.specs.declared.aggregate.Ready.{Ready}

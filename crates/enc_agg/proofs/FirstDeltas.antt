@@ -18,14 +18,14 @@ use Rattle.enc_delta.specs.Pairs.{attached_of}
 use Rattle.enc_image.specs.Base.{cells_fault}
 use Rattle.enc_agg.specs.declared.added.Added.{Added}
 use Rattle.enc_agg.specs.declared.directory.Directory.{Directory}
-use Rattle.enc_places.specs.declared.places.Places.{Places}
+use Rattle.enc_generation_map.specs.declared.places.Places.{Places}
 use Rattle.enc_agg.specs.Earlier.{ComeFirst, StayChildren, IsEarlier, earlier_of}
 use Rattle.enc_agg.specs.Prepared.{IsWhole}
 use Rattle.enc_agg.specs.Extend.{extended, chain_with}
 use Rattle.enc_agg.specs.Follows.{Lands}
 use Rattle.enc_agg.specs.Seen.{sources, AllAdded}
 use Rattle.enc_agg.proofs.Children.{kids_after, owner_kept, pairs_owned, rows_grow}
-use Rattle.enc_places.proofs.Keeping.{get_front}
+use Rattle.enc_generation_map.proofs.Keeping.{get_front}
 use Rattle.enc_agg.proofs.Directories.{take_got}
 use Rattle.enc_agg.proofs.EveryPlace.{keeps_first}
 use Rattle.enc_agg.proofs.Generations.{reversed_part, all_without, sources_upto}

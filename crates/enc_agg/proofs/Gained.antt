@@ -10,9 +10,9 @@ use Rattle.std.proofs.lemmas.Option.{slice_get-map, slice_get-get_or}
 use Rattle.std.proofs.lemmas.List.Folds.{list_any_more}
 use Rattle.enc_base.specs.declared.token.Token.{Token}
 use Rattle.enc_base.specs.Token.{is_token}
-use Rattle.enc_index.specs.declared.key.Key.{Key}
-use Rattle.enc_index.specs.Key.{is_key}
-use Rattle.enc_index.specs.Index.{either}
+use Rattle.enc_key_map.specs.declared.key.Key.{Key}
+use Rattle.enc_key_map.specs.Key.{is_key}
+use Rattle.enc_key_map.specs.Index.{either}
 use Rattle.enc_rows.specs.Source.{Source}
 use Rattle.enc_schema.specs.Children.{is_child_table, owner_table}
 use Rattle.enc_plain.specs.Chain.{Chain, rows_before}
@@ -32,7 +32,7 @@ use Rattle.enc_agg.specs.Directory.{row_key, kids_key, IsHeld, AreOwned, AreHeld
 use Rattle.enc_agg.proofs.Pairs.{OwnedBy, AllOwned}
 use Rattle.enc_agg.proofs.Children.{attaches_row, pairs_owned, owned_at, kids_after, owner_new, once_at, rows_after, owned_after}
 use Rattle.enc_agg.proofs.Histories.{after_few}
-use Rattle.enc_places.proofs.Keeping.{get_front, get_behind}
+use Rattle.enc_generation_map.proofs.Keeping.{get_front, get_behind}
 
 two : (b : Bool) → (b ≡ true) ⊎ (b ≡ false)
 two true = inl refl

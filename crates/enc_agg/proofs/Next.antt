@@ -3,7 +3,7 @@ use Rattle.std.proofs.Common.{◌≡◌, ℕ, ◌+◌, ◌^◌, ◌<◌, ◌≤�
 use Rattle.std.specs.Prelude.{◌==◌, not, is_some, option_map, unwrap_or, slice_get, IsTrue, IfSome, MatchOption}
 use Rattle.std.proofs.lemmas.List.{take_at}
 use Rattle.enc_base.specs.declared.token.Token.{Token}
-use Rattle.enc_index.specs.Index.{value_at}
+use Rattle.enc_key_map.specs.Index.{value_at}
 use Rattle.enc_meta.specs.Joined.{joined_text, joined_blob, joined_user, joined_guid}
 use Rattle.enc_opcodes.specs.Body.{code_seen, body_of, texts_are_there, KeepsTexts}
 use Rattle.enc_opcodes.specs.declared.code.CodeRef.{CodeRef}

@@ -1,8 +1,8 @@
 -- For the contracts of private functions: what is kept of the deltas for look-ups.
 use Rattle.std.specs.Prelude.{◌≡◌, ℕ, zero, suc, ◌+◌, ◌-◌, ◌<◌, ◌≤◌, List, [], ◌∷◌, ◌++◌, length, Option, Some, None, option_map, unwrap_or, slice_get, IsTrue}
 use Rattle.enc_base.specs.declared.token.Token.{Token}
-use Rattle.enc_index.specs.declared.key.Key.{Key}
-use Rattle.enc_index.specs.Index.{value_at, latest}
+use Rattle.enc_key_map.specs.declared.key.Key.{Key}
+use Rattle.enc_key_map.specs.Index.{value_at, latest}
 use Rattle.enc_rows.specs.Source.{Source}
 use Rattle.enc_schema.specs.Children.{is_child_table, owner_table}
 use Rattle.enc_plain.specs.Chain.{Chain}

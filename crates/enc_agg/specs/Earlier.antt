@@ -6,8 +6,8 @@ use Rattle.enc_schema.specs.Children.{is_child_table}
 use Rattle.enc_plain.specs.Module.{Module, rows_in, has_row, owner_of, kids_of}
 use Rattle.enc_plain.specs.Sound.{IsSound}
 use Rattle.enc_agg.specs.declared.added.Added.{Added}
-use Rattle.enc_places.specs.declared.places.Places.{Places}
-use Rattle.enc_places.specs.Places.{KeepsPlaces}
+use Rattle.enc_generation_map.specs.declared.places.Places.{Places}
+use Rattle.enc_generation_map.specs.Places.{KeepsPlaces}
 use Rattle.enc_agg.specs.Extend.{chain_with}
 use Rattle.enc_agg.specs.Places.{every_place}
 use Rattle.enc_agg.specs.Seen.{History, sources, module_of_all, IsAggregate}

@@ -3,7 +3,7 @@ use Rattle.std.specs.Prelude.{ℕ, suc, List, [], ◌∷◌, ◌++◌, length, O
 use Rattle.enc_base.specs.declared.token.Token.{Token}
 use Rattle.enc_rows.specs.Source.{Source}
 use Rattle.enc_plain.specs.declared.place.RowPlace.{RowPlace}
-use Rattle.enc_places.specs.Places.{one_place}
+use Rattle.enc_generation_map.specs.Places.{one_place}
 use Rattle.enc_delta.specs.Delta.{listed, place_in}
 
 -- the place of a token in a generation whose map has these

@@ -1,7 +1,7 @@
 -- What an aggregate keeps, and what was made ready for it.
 use Rattle.std.specs.Prelude.{ℕ, suc, List, length, drop}
-use Rattle.enc_places.specs.declared.places.Places.{Places}
-use Rattle.enc_places.specs.Places.{KeepsAllPlaces, AreListings}
+use Rattle.enc_generation_map.specs.declared.places.Places.{Places}
+use Rattle.enc_generation_map.specs.Places.{KeepsAllPlaces, AreListings}
 use Rattle.enc_rows.specs.Source.{Source}
 use Rattle.enc_plain.specs.Sound.{IsSound}
 use Rattle.enc_delta.specs.Delta.{listed}

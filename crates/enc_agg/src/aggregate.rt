@@ -27,7 +27,7 @@ use enc_base::{Counts, Steps, StreamName, Token};
 use enc_delta::{Delta, enc_id_counted, inserts_of};
 use enc_image::Image;
 use enc_meta::{Heap, HeapLengths};
-use enc_places::{Listings, Places};
+use enc_generation_map::{Listings, Places};
 use enc_plain::{RowPlace, is_row};
 use std::alloc::{AllocError, Global};
 use std::marker::Model;

@@ -1,14 +1,14 @@
 //! What the deltas list and attach, kept once for all look-ups: where a row stands last, who owns a
 //! new child row, and which children a row gained.
 ghost use Rattle.std.specs.Prelude.{◌≡◌, ◌≤◌, ◌++◌, IfOk, length, option_map, reverse, take};
-ghost use Rattle.enc_index.specs.declared.key.Key.{Key as TheKey};
-ghost use Rattle.enc_index.specs.Index.{value_at, latest, either};
+ghost use Rattle.enc_key_map.specs.declared.key.Key.{Key as TheKey};
+ghost use Rattle.enc_key_map.specs.Index.{value_at, latest, either};
 ghost use Rattle.enc_agg.specs.Seen.{found_in, found_seen};
 ghost use Rattle.enc_agg.specs.Directory.{row_key, kids_key, place_seen, HasPlaces, IsBare, kept_one, with_kept};
 
 use crate::added::{Added, Found};
 use enc_base::Token;
-use enc_index::{Entry, Index, Key};
+use enc_key_map::{Entry, Index, Key};
 use enc_plain::RowPlace;
 use std::alloc::AllocError;
 

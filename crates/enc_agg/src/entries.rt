@@ -1,9 +1,9 @@
 //! What a delta brings to the directory of an aggregate.
 ghost use Rattle.std.specs.Prelude.{◌≡◌, ℕ, suc, ◌+◌, ◌<◌, ◌≤◌, ◌^◌, Some, None, IfOk, IsTrue, length, map, option_map, unwrap_or, if◌then◌else◌};
 ghost use Rattle.enc_base.specs.declared.token.Token.{Token as TheToken};
-ghost use Rattle.enc_index.specs.declared.key.Key.{Key as TheKey};
-ghost use Rattle.enc_index.specs.Key.{is_key};
-ghost use Rattle.enc_index.specs.Index.{value_at, latest, either};
+ghost use Rattle.enc_key_map.specs.declared.key.Key.{Key as TheKey};
+ghost use Rattle.enc_key_map.specs.Key.{is_key};
+ghost use Rattle.enc_key_map.specs.Index.{value_at, latest, either};
 ghost use Rattle.enc_schema.specs.Children.{is_child_table, owner_table};
 ghost use Rattle.enc_plain.specs.Module.{kids_of};
 ghost use Rattle.enc_delta.specs.Delta.{listed, log_in, place_in};
@@ -14,7 +14,7 @@ ghost use Rattle.enc_agg.specs.Extend.{extended};
 ghost use Rattle.enc_agg.specs.Follows.{Follows};
 ghost use Rattle.enc_agg.specs.Seen.{chain_of_all, module_of_all};
 ghost use Rattle.enc_agg.specs.Directory.{row_key, kids_key, AreOwned, AreHeld, AreBrought, IsSame, AreAsOwn, IsOwn};
-ghost use Rattle.enc_places.specs.Places.{AreListings};
+ghost use Rattle.enc_generation_map.specs.Places.{AreListings};
 ghost use Rattle.enc_agg.specs.Places.{every_place, place_listed};
 
 use crate::aggregate::Aggregate;
@@ -22,8 +22,8 @@ use crate::directory::{Directory, Entries, kids_key, row_key};
 use crate::kept::Kept;
 use enc_base::{Steps, Token};
 use enc_delta::{Delta, Pair, attached_of, log_of};
-use enc_index::Index;
-use enc_places::Listings;
+use enc_key_map::Index;
+use enc_generation_map::Listings;
 use enc_plain::{ChainView, RowPlace};
 use std::alloc::{AllocError, Global};
 use std::sync::ledger::Ledger;

@@ -1,11 +1,11 @@
 //! Values that a delta brings, for the index of all deltas and in one of its own.
 ghost use Rattle.std.specs.Prelude.{◌≡◌, [], Some, None, IfOk, if◌then◌else◌};
-ghost use Rattle.enc_index.specs.declared.key.Key.{Key as TheKey};
-ghost use Rattle.enc_index.specs.Key.{is_key};
-ghost use Rattle.enc_index.specs.Index.{latest, either};
+ghost use Rattle.enc_key_map.specs.declared.key.Key.{Key as TheKey};
+ghost use Rattle.enc_key_map.specs.Key.{is_key};
+ghost use Rattle.enc_key_map.specs.Index.{latest, either};
 ghost use Rattle.enc_agg.specs.Directory.{IsSame};
 
-use enc_index::{Entry, Index, Key, push_entry};
+use enc_key_map::{Entry, Index, Key, push_entry};
 use std::alloc::{AllocError, Global};
 
 /// The values of some keys, as entries with the room that they take in an index, and in an index.

@@ -1,16 +1,16 @@
 //! The places of a delta's tokens, for look-ups of earlier generations.
 ghost use Rattle.std.specs.Prelude.{◌≡◌, ℕ, ◌+◌, ◌<◌, ◌^◌, suc, IfOk, length};
 ghost use Rattle.enc_base.specs.declared.token.Token.{Token as TheToken};
-ghost use Rattle.enc_index.specs.Index.{value_at};
-ghost use Rattle.enc_places.specs.Places.{places_kept, AreListings, AreOfThose};
+ghost use Rattle.enc_key_map.specs.Index.{value_at};
+ghost use Rattle.enc_generation_map.specs.Places.{places_kept, AreListings, AreOfThose};
 ghost use Rattle.enc_agg.specs.Directory.{row_key};
 ghost use Rattle.enc_agg.specs.Places.{every_place, place_listed};
 
 use crate::aggregate::Aggregate;
 use crate::directory::row_key;
 use enc_base::Token;
-use enc_index::Index;
-use enc_places::{Listings, Places};
+use enc_key_map::Index;
+use enc_generation_map::{Listings, Places};
 use enc_plain::RowPlace;
 use std::alloc::{AllocError, Global};
 

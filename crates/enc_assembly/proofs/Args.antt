@@ -14,11 +14,11 @@ use Rattle.enc_opcodes.specs.declared.op.Operand.{Operand}
 use Rattle.enc_opcodes.specs.declared.op.Operand.TheVariants as operand
 use Rattle.enc_opcodes.specs.Instruction.{nothing, targets, text, is_reached, reached, target_at, all_reached, are_reached, text_or_token, switch_in, arg_in}
 use Rattle.enc_opcodes.specs.Sound.{operand_size}
-use Rattle.enc_edits.specs.declared.body.ArgValue.{ArgValue}
-use Rattle.enc_edits.specs.declared.body.ArgValue.TheVariants as arg
-use Rattle.enc_edits.specs.Form.{arg_fits}
-use Rattle.enc_edits.specs.Reach.{lies_in_reach, argument_reaches}
-use Rattle.enc_edits.specs.Sizes.{arg_meant}
+use Rattle.enc_edit_list.specs.declared.body.ArgValue.{ArgValue}
+use Rattle.enc_edit_list.specs.declared.body.ArgValue.TheVariants as arg
+use Rattle.enc_edit_list.specs.Form.{arg_fits}
+use Rattle.enc_edit_list.specs.Reach.{lies_in_reach, argument_reaches}
+use Rattle.enc_edit_list.specs.Sizes.{arg_meant}
 use Rattle.enc_assembly.specs.Assembly.{distance, switch_bytes, arg_bytes, arg_named, arg_is_small}
 use Rattle.enc_assembly.proofs.Distances.{reads_far, reads_near}
 use Rattle.enc_assembly.proofs.Numbers.{quad_between, low_byte, bits_8, bits_32, bits_64, plain_of}

@@ -13,10 +13,10 @@ use Rattle.enc_opcodes.specs.Instruction.{op_in, instr_in, IsChain}
 use Rattle.enc_opcodes.specs.Sound.{instruction_size, operand_size}
 use Rattle.enc_opcodes.specs.Laws.{CodesTell}
 use Rattle.enc_opcodes.proofs.Instructions.{chain_is_instructions, chain_is_whole}
-use Rattle.enc_edits.specs.declared.body.InstrValue.{InstrValue}
-use Rattle.enc_edits.specs.Form.{arg_fits, instr_fits}
-use Rattle.enc_edits.specs.Reach.{argument_reaches, branches_reach}
-use Rattle.enc_edits.specs.Sizes.{arg_meant, instr_meant, length_of_code}
+use Rattle.enc_edit_list.specs.declared.body.InstrValue.{InstrValue}
+use Rattle.enc_edit_list.specs.Form.{arg_fits, instr_fits}
+use Rattle.enc_edit_list.specs.Reach.{argument_reaches, branches_reach}
+use Rattle.enc_edit_list.specs.Sizes.{arg_meant, instr_meant, length_of_code}
 use Rattle.enc_assembly.specs.Assembly.{op_bytes, arg_bytes, instr_bytes, code_bytes, instr_named, placed_named, arg_is_small, are_small, AssembledIsRead}
 use Rattle.enc_assembly.proofs.Codes.{below_fe}
 use Rattle.enc_assembly.proofs.Args.{reads, arg_size}

@@ -7,7 +7,7 @@ use Rattle.std.proofs.lemmas.Int.{to_z-of_z}
 use Rattle.std.proofs.lemmas.List.{length-append, drop_at}
 use Rattle.std.proofs.lemmas.Nat.{from_le_bytes-to_le_bytes_8}
 use Rattle.enc_base.specs.Numbers.{little_endian_at}
-use Rattle.enc_edits.specs.Form.{lies_in}
+use Rattle.enc_edit_list.specs.Form.{lies_in}
 use Rattle.enc_il.proofs.Numbers.{byte_between}
 
 not_more : (a b : ℕ) → a ≤ b → nat_le a b ≡ true

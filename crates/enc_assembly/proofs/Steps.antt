@@ -5,9 +5,9 @@ use Rattle.std.specs.List.{list_all}
 use Rattle.std.proofs.lemmas.List.{append-nil}
 use Rattle.enc_meta.specs.Built.{Built}
 use Rattle.enc_opcodes.specs.Sound.{instruction_size}
-use Rattle.enc_edits.specs.declared.body.InstrValue.{InstrValue}
-use Rattle.enc_edits.specs.Form.{instr_fits}
-use Rattle.enc_edits.specs.Sizes.{instr_meant, length_of_code}
+use Rattle.enc_edit_list.specs.declared.body.InstrValue.{InstrValue}
+use Rattle.enc_edit_list.specs.Form.{instr_fits}
+use Rattle.enc_edit_list.specs.Sizes.{instr_meant, length_of_code}
 use Rattle.enc_assembly.specs.Assembly.{instr_bytes, code_bytes, arg_is_small, are_small, text_is_kept}
 
 -- what is left begins with the item at a place

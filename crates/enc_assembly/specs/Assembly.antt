@@ -10,12 +10,12 @@ use Rattle.enc_opcodes.specs.declared.op.Operand.{Operand}
 use Rattle.enc_opcodes.specs.declared.op.Operand.TheVariants as operand
 use Rattle.enc_opcodes.specs.Instruction.{Argument, nothing, number, target, targets, token, text, raw, Instruction, instructions_of, end_of}
 use Rattle.enc_opcodes.specs.Sound.{instruction_size}
-use Rattle.enc_edits.specs.declared.body.ArgValue.{ArgValue}
-use Rattle.enc_edits.specs.declared.body.ArgValue.TheVariants as arg
-use Rattle.enc_edits.specs.declared.body.InstrValue.{InstrValue}
-use Rattle.enc_edits.specs.Form.{instr_fits}
-use Rattle.enc_edits.specs.Sizes.{instr_meant, length_of_code}
-use Rattle.enc_edits.specs.Reach.{branches_reach}
+use Rattle.enc_edit_list.specs.declared.body.ArgValue.{ArgValue}
+use Rattle.enc_edit_list.specs.declared.body.ArgValue.TheVariants as arg
+use Rattle.enc_edit_list.specs.declared.body.InstrValue.{InstrValue}
+use Rattle.enc_edit_list.specs.Form.{instr_fits}
+use Rattle.enc_edit_list.specs.Sizes.{instr_meant, length_of_code}
+use Rattle.enc_edit_list.specs.Reach.{branches_reach}
 
 -- the code of an instruction: one byte, or FE and another
 abbrev pub op_bytes : Op → List ℕ

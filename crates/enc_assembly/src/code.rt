@@ -2,13 +2,13 @@
 ghost use Rattle.std.specs.Prelude.{◌≡◌, ◌<◌, ◌^◌, ◌++◌, ◌+◌, true, List, length, slice_get, Some, IfOk};
 ghost use Rattle.std.specs.List.{list_all};
 ghost use Rattle.enc_meta.specs.Built.{user_offset};
-ghost use Rattle.enc_edits.specs.Form.{instr_fits};
-ghost use Rattle.enc_edits.specs.Sizes.{length_of_code};
-ghost use Rattle.enc_edits.specs.declared.body.InstrValue.{InstrValue as TheInstr};
+ghost use Rattle.enc_edit_list.specs.Form.{instr_fits};
+ghost use Rattle.enc_edit_list.specs.Sizes.{length_of_code};
+ghost use Rattle.enc_edit_list.specs.declared.body.InstrValue.{InstrValue as TheInstr};
 ghost use Rattle.enc_assembly.specs.Assembly.{code_bytes, are_small, text_is_kept};
 
 use crate::instr::push_instr;
-use enc_edits::{InstrValue, instruction_size};
+use enc_edit_list::{InstrValue, instruction_size};
 use enc_meta::HeapBuilder;
 use std::alloc::{AllocError, Global};
 

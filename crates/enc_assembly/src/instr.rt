@@ -5,13 +5,13 @@ ghost use Rattle.enc_base.specs.Token.{number_of};
 ghost use Rattle.enc_opcodes.specs.Opcodes.{is_op};
 ghost use Rattle.enc_meta.specs.Built.{is_kept, unit_bytes, user_offset};
 ghost use Rattle.enc_opcodes.specs.Sound.{operand_size, instruction_size};
-ghost use Rattle.enc_edits.specs.Form.{arg_fits, instr_fits};
-ghost use Rattle.enc_edits.specs.Sizes.{arg_meant, instr_meant};
-ghost use Rattle.enc_edits.specs.declared.body.ArgValue.TheVariants.{Num, Target};
+ghost use Rattle.enc_edit_list.specs.Form.{arg_fits, instr_fits};
+ghost use Rattle.enc_edit_list.specs.Sizes.{arg_meant, instr_meant};
+ghost use Rattle.enc_edit_list.specs.declared.body.ArgValue.TheVariants.{Num, Target};
 ghost use Rattle.enc_assembly.specs.Assembly.{op_bytes, distance, switch_bytes, arg_bytes, instr_bytes, token_is_small, arg_is_small, text_is_kept};
 
 use enc_base::{Token, Units, push_word};
-use enc_edits::{ArgValue, InstrValue};
+use enc_edit_list::{ArgValue, InstrValue};
 use enc_meta::{BuildFault, HeapBuilder};
 use enc_opcodes::{Op, Operand};
 use std::alloc::AllocError;

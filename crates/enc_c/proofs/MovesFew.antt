@@ -12,7 +12,7 @@ use Rattle.enc_schema.specs.Tables as tables
 use Rattle.enc_plain.specs.Module.{Module}
 use Rattle.enc_plain.specs.Sound.{IsSound, row_count}
 use Rattle.enc_plain.proofs.Columns.{both_left, both_right}
-use Rattle.enc_order.specs.Orders.{moved_by, new_order, standing_rows}
+use Rattle.enc_row_order.specs.Orders.{moved_by, new_order, standing_rows}
 use Rattle.enc_compact.specs.Moved.{moves_in, moves_listed, moves_of_row}
 use Rattle.enc_compact.proofs.MovesLow.{moved_few}
 use Rattle.enc_compact.proofs.NewOrder.{new_order_are}

@@ -9,7 +9,7 @@ use Rattle.enc_base.specs.declared.refusal.Place.TheVariants as place
 use Rattle.enc_base.specs.declared.refusal.StreamName.TheVariants as stream
 use Rattle.enc_base.specs.declared.refusal.Refusal.{Refusal}
 use Rattle.enc_text.specs.Text.{refused_line}
-use Rattle.enc_words.specs.Lines.{broken_line, deep_line, limit_line, unlisted_line}
+use Rattle.enc_command_line.specs.Lines.{broken_line, deep_line, limit_line, unlisted_line}
 use Rattle.enc_c.specs.declared.reason.Reason.{Reason}
 use Rattle.enc_c.specs.declared.reason.Reason.TheVariants.{File, Json, Element, Edit, Heap, Image, Deep}
 use Rattle.enc_c.specs.Refusals.{numbers_at, numbers_of, refusal_by, words_of}

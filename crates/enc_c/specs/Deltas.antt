@@ -9,12 +9,12 @@ use Rattle.enc_plain.specs.Debug.{PlainPdb}
 use Rattle.enc_agg.specs.Extend.{chain_with}
 use Rattle.enc_ppdb.specs.PdbChain.{pdb_with}
 use Rattle.enc_ppdb.specs.Written.{most_pdb_weight}
-use Rattle.enc_depth.specs.Depth.{first_deep}
-use Rattle.enc_edits.specs.declared.edit.EditList.{EditList}
+use Rattle.enc_reference_depth.specs.Depth.{first_deep}
+use Rattle.enc_edit_list.specs.declared.edit.EditList.{EditList}
 use Rattle.enc_jobs.specs.Edits.{edits_said}
 use Rattle.enc_jobs.specs.declared.fault.JobFault.{JobFault}
 use Rattle.enc_jobs.specs.declared.fault.JobFault.TheVariants as fault
-use Rattle.enc_merged.specs.Merged.{after_both}
+use Rattle.enc_merged_delta.specs.Merged.{after_both}
 use Rattle.enc_merge.specs.Merges.{StandsForBoth, weight_of_both}
 use Rattle.enc_rules.specs.First.{first_edit}
 use Rattle.enc_writer.specs.Stands.{IsWrittenFor}

@@ -1,8 +1,8 @@
 -- Types and members by their names, and user texts by their offsets, as they are asked for.
 use Rattle.std.specs.Prelude.{ℕ, Bool, ◌&&◌, ◌||◌, ◌==◌, List, Option, Some, None, Result, Ok, Err, if◌then◌else◌}
 use Rattle.enc_base.specs.declared.token.Token.{Token}
-use Rattle.enc_find.specs.Members.{members_named}
-use Rattle.enc_find.specs.Types.{type_named}
+use Rattle.enc_lookup.specs.Members.{members_named}
+use Rattle.enc_lookup.specs.Types.{type_named}
 use Rattle.enc_plain.specs.Module.{Module}
 use Rattle.enc_schema.specs.Children.{is_child_table, owner_table}
 use Rattle.enc_schema.specs.Tables as tables

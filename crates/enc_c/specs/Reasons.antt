@@ -12,8 +12,8 @@ use Rattle.enc_schema.specs.Children.{is_child_table}
 use Rattle.enc_schema.specs.Schema.{columns_in}
 use Rattle.enc_schema.specs.Tables as tables
 use Rattle.enc_text.specs.Text.{refused_line, token_text}
-use Rattle.enc_words.specs.Lines.{broken_line, deep_line, fault_text, limit_line, limit_text, unlisted_line}
-use Rattle.enc_words.specs.declared.limits.Limit.TheVariants as limit
+use Rattle.enc_command_line.specs.Lines.{broken_line, deep_line, fault_text, limit_line, limit_text, unlisted_line}
+use Rattle.enc_command_line.specs.declared.limits.Limit.TheVariants as limit
 use Rattle.enc_c.specs.declared.reason.Reason.{Reason}
 use Rattle.enc_c.specs.declared.reason.Reason.TheVariants.{File, Json, Element, Edit, Heap, Image, Deep}
 use Rattle.enc_c.specs.declared.refusal.RefusalNumbers.{RefusalNumbers}

@@ -2,7 +2,7 @@
 ghost use Rattle.std.specs.Prelude.{◌≡◌, IsTrue, IfOk, map};
 ghost use Rattle.std.specs.List.{list_all};
 ghost use Rattle.enc_compact.specs.Moved.{module_moved, pdb_moved};
-ghost use Rattle.enc_order.specs.Orders.{new_order};
+ghost use Rattle.enc_row_order.specs.Orders.{new_order};
 ghost use Rattle.enc_rewriter.specs.Limits.{TellsLimit, rewrite_limit};
 ghost use Rattle.enc_rewriter.specs.Rewritten.{IsPlainImage, RewritesTo};
 ghost use Rattle.enc_schema.specs.Schema.{list_at};

@@ -10,7 +10,7 @@ use enc_jobs::JobFault;
 use enc_schema::tables::{TYPE_REF, TYPE_SPEC};
 use enc_schema::{columns_of, is_child_table};
 use enc_text::refused_line;
-use enc_words::{Limit, broken_line, deep_line, limit_line, unlisted_line};
+use enc_command_line::{Limit, broken_line, deep_line, limit_line, unlisted_line};
 use std::alloc::{AllocError, Global};
 
 /// Why something is refused.

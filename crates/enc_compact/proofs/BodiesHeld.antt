@@ -5,8 +5,8 @@ use Rattle.std.specs.BTreeMap.{BTreeMap, get, Updates}
 use Rattle.std.specs.Ordering.{nat_cmp}
 use Rattle.enc_base.specs.Token.{nth_row}
 use Rattle.enc_base.specs.declared.token.Token.{Token}
-use Rattle.enc_moves.specs.Body.{body_moved, MeansMoved}
-use Rattle.enc_moves.specs.Held.{Held, held_code}
+use Rattle.enc_token_map.specs.Body.{body_moved, MeansMoved}
+use Rattle.enc_token_map.specs.Held.{Held, held_code}
 use Rattle.enc_opcodes.specs.Body.{Code, Body, code_seen, body_of, texts_are_there}
 use Rattle.enc_opcodes.specs.declared.code.CodeRef.{CodeRef}
 use Rattle.enc_plain.specs.Cell.{Cell, body}
@@ -14,7 +14,7 @@ use Rattle.enc_plain.specs.Module.{Module, has_row, cell_of}
 use Rattle.enc_plain.specs.Sound.{IsSound, row_count}
 use Rattle.enc_compact.specs.Held.{number_in_slots, held_by, HeldSays, SlotHolds, CellHolds, AreHeldUpto, AreBodiesHeld, AreSlotsKnown}
 use Rattle.enc_compact.specs.Mover.{moved_low}
-use Rattle.enc_order.specs.Orders.{Orders, moved_by, new_order, new_of}
+use Rattle.enc_row_order.specs.Orders.{Orders, moved_by, new_order, new_of}
 use Rattle.enc_compact.proofs.HeldKept.{rows_of, row_slot, held_still, low_still, last_held, last_low, one_known, one_slot}
 use Rattle.enc_compact.proofs.MovesLow.{same_low}
 use Rattle.enc_compact.proofs.NewOrder.{new_order_are}

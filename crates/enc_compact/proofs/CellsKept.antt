@@ -5,8 +5,8 @@ use Rattle.std.proofs.lemmas.Bool.{or_cases, and_parts, and_from}
 use Rattle.std.proofs.lemmas.Bool.Decides.{nat_tests}
 use Rattle.enc_base.specs.Token.{nil, is_token}
 use Rattle.enc_base.specs.declared.token.Token.{Token}
-use Rattle.enc_moves.specs.Body.{body_moved}
-use Rattle.enc_moves.specs.Laws.{MovedStaysSound}
+use Rattle.enc_token_map.specs.Body.{body_moved}
+use Rattle.enc_token_map.specs.Laws.{MovedStaysSound}
 use Rattle.enc_opcodes.specs.Body.{Body, begins_locals, may_name, is_named, locals_are_good}
 use Rattle.enc_opcodes.specs.Sound.{body_is_sound}
 use Rattle.enc_opcodes.proofs.Sounds.{good_local, sound_locals}
@@ -22,7 +22,7 @@ use Rattle.enc_plain.proofs.CellsOf.{blob_there}
 use Rattle.enc_plain.proofs.ColumnKinds.{alone_kind}
 use Rattle.enc_plain.proofs.KindsOf.{kind_of_cell, row_there}
 use Rattle.enc_plain.specs.Signatures.{signature_column}
-use Rattle.enc_order.specs.Orders.{Orders, place_in_order, moved_by}
+use Rattle.enc_row_order.specs.Orders.{Orders, place_in_order, moved_by}
 use Rattle.enc_compact.specs.Moved.{AreOrders, KeepLayouts, holds_signatures, signature_moved, cell_moved, module_with}
 use Rattle.enc_sigs.specs.Moved.{MovedBeginsAlike, MovedFieldFront}
 use Rattle.enc_compact.proofs.CountsKept.{each_row}

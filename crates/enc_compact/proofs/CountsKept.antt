@@ -4,7 +4,7 @@ use Rattle.enc_base.specs.declared.token.Token.{Token}
 use Rattle.enc_rows.proofs.Listed.{length_below}
 use Rattle.enc_plain.specs.Module.{Module, rows_in, has_row}
 use Rattle.enc_plain.specs.Sound.{HasTables, HasCounts}
-use Rattle.enc_order.specs.Orders.{Orders, moved_by}
+use Rattle.enc_row_order.specs.Orders.{Orders, moved_by}
 use Rattle.enc_compact.specs.Moved.{AreOrders, rows_moved, module_with}
 use Rattle.enc_compact.proofs.Places.{before, moved_before}
 use Rattle.enc_compact.proofs.Rows.{no_order, none_moved, rows_new, count_moved, has_before}

@@ -31,7 +31,7 @@ use Rattle.enc_plain.specs.Sound.{row_count, is_reference, class_size_at, class_
 use Rattle.enc_plain.proofs.Applied.{same_is}
 use Rattle.enc_plain.proofs.CellsOf.{blob_there, token_there}
 use Rattle.enc_plain.proofs.ColumnKinds.{field_signature}
-use Rattle.enc_order.specs.Orders.{Orders, place_in_order, moved_by, standing_rows}
+use Rattle.enc_row_order.specs.Orders.{Orders, place_in_order, moved_by, standing_rows}
 use Rattle.enc_compact.specs.Moved.{AreOrders, KeepLayouts, is_layout_of, holds_signatures, module_with}
 use Rattle.enc_sigs.specs.Moved.{sig_moved, FieldFrontMoves, MovedFieldFront}
 use Rattle.enc_compact.proofs.KindsKept.{blob_at}

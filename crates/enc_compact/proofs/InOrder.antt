@@ -10,7 +10,7 @@ use Rattle.enc_plain.specs.Module.{Module}
 use Rattle.enc_plain.specs.Sound.{IsSound, row_count, all_kids}
 use Rattle.enc_rewriter.specs.Numbers.{in_order_from, is_in_row_order}
 use Rattle.enc_rewriter.specs.Rewritten.{stands_in_order}
-use Rattle.enc_order.specs.Orders.{standing_rows}
+use Rattle.enc_row_order.specs.Orders.{standing_rows}
 use Rattle.enc_compact.specs.Laws.{MovedStandsInOrder}
 use Rattle.enc_compact.specs.Moved.{module_moved}
 

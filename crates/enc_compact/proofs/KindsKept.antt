@@ -5,7 +5,7 @@ use Rattle.enc_base.specs.declared.token.Token.{Token}
 use Rattle.enc_plain.specs.Cell.{Cell, number, text, blob, guid, refer, body, field, Kind, blobs, kind_in, cell_count, cell_kind}
 use Rattle.enc_plain.specs.Module.{Module, Row, has_row, cell_of}
 use Rattle.enc_plain.specs.Sound.{HasTables, HasKinds}
-use Rattle.enc_order.specs.Orders.{Orders, moved_by}
+use Rattle.enc_row_order.specs.Orders.{Orders, moved_by}
 use Rattle.enc_compact.specs.Moved.{AreOrders, cell_moved, row_moved, module_with}
 use Rattle.enc_compact.proofs.CountsKept.{each_row}
 use Rattle.enc_compact.proofs.Rows.{was_row, cells_many, moved_cell}

@@ -3,7 +3,7 @@ use Rattle.std.proofs.Common.{◌≡◌, ℕ, ◌+◌, Bool, true, false, map, r
 use Rattle.std.specs.Prelude.{◌==◌, ◌&&◌, nat_le}
 use Rattle.std.proofs.lemmas.Bool.Decides.{nat_tests}
 use Rattle.enc_base.specs.declared.token.Token.{Token}
-use Rattle.enc_moves.specs.Laws.{MovedStaysSound}
+use Rattle.enc_token_map.specs.Laws.{MovedStaysSound}
 use Rattle.enc_sigs.specs.Moved.{MovedReadsBack, MovedBeginsAlike, MovedFieldFront}
 use Rattle.enc_rows.specs.Sums.{below}
 use Rattle.enc_schema.specs.Children.{is_child_table}
@@ -12,7 +12,7 @@ use Rattle.enc_plain.specs.Sound.{IsSound, row_count, all_kids}
 use Rattle.enc_plain.specs.SoundDebug.{is_method_of}
 use Rattle.enc_compact.specs.Laws.{MovedIsSound, MovedPdbIsSound, MovedKnowsWithin, MovedStandsInOrder}
 use Rattle.enc_compact.specs.Moved.{AreOrders, module_moved, pdb_moved}
-use Rattle.enc_order.specs.Orders.{old_row, new_order, old_of, standing_rows}
+use Rattle.enc_row_order.specs.Orders.{old_row, new_order, old_of, standing_rows}
 use Rattle.enc_compact.proofs.NewOrder.{new_order_are, layouts_kept, kids_stand}
 use Rattle.enc_compact.proofs.Owners.{old_there, kids_in_order}
 use Rattle.enc_compact.proofs.Places.{is_order}

@@ -8,8 +8,8 @@ use Rattle.enc_rows.specs.Sums.{below}
 use Rattle.enc_plain.specs.Module.{Module}
 use Rattle.enc_plain.specs.Sound.{row_count}
 use Rattle.enc_compact.specs.Moved.{moves_of_row, moves_in, moves_listed}
-use Rattle.enc_order.specs.Orders.{standing_rows, new_of}
-use Rattle.enc_order.proofs.Rowed.{more_upto}
+use Rattle.enc_row_order.specs.Orders.{standing_rows, new_of}
+use Rattle.enc_row_order.proofs.Rowed.{more_upto}
 
 -- those of the first rows of a table
 abbrev pub moves_upto : Module → ℕ → ℕ → List (Token × Token)

@@ -8,7 +8,7 @@ use Rattle.enc_plain.specs.Module.{Module}
 use Rattle.enc_plain.specs.Sound.{row_count, HasCounts}
 use Rattle.enc_compact.specs.Moved.{AreOrders}
 use Rattle.enc_compact.specs.Mover.{comes_past, moved_low}
-use Rattle.enc_order.specs.Orders.{Orders, place_in_order, moved_by}
+use Rattle.enc_row_order.specs.Orders.{Orders, place_in_order, moved_by}
 use Rattle.enc_compact.proofs.Places.{is_order, new_bounds, new_absent}
 
 not_past : (a b : ℕ) → (a < 2 ^ 24 → b < 2 ^ 24) → (nat_lt a (2 ^ 24) && not (nat_lt b (2 ^ 24))) ≡ false

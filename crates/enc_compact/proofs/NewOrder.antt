@@ -11,11 +11,11 @@ use Rattle.enc_plain.specs.Rows.{token_at}
 use Rattle.enc_plain.specs.Sound.{IsSound}
 use Rattle.enc_plain.proofs.Applied.{same_is}
 use Rattle.enc_compact.specs.Moved.{AreOrders, KeepLayouts, is_layout_of}
-use Rattle.enc_order.specs.Orders.{Orders, standing_rows, kids_listed, moved_by, place_in_order, by_depth, by_owner, by_method}
-use Rattle.enc_order.specs.Orders.{by_key, by_param, by_attribute, key_columns, key_from, order_key, keyed_rows, new_order}
-use Rattle.enc_order.specs.Sorted.{sorted_by}
-use Rattle.enc_order.proofs.OneOrder.{of_key, sorted_ties}
-use Rattle.enc_order.proofs.Permutes.{new_order_permutes}
+use Rattle.enc_row_order.specs.Orders.{Orders, standing_rows, kids_listed, moved_by, place_in_order, by_depth, by_owner, by_method}
+use Rattle.enc_row_order.specs.Orders.{by_key, by_param, by_attribute, key_columns, key_from, order_key, keyed_rows, new_order}
+use Rattle.enc_row_order.specs.Sorted.{sorted_by}
+use Rattle.enc_row_order.proofs.OneOrder.{of_key, sorted_ties}
+use Rattle.enc_row_order.proofs.Permutes.{new_order_permutes}
 
 pub new_order_are : (m : Module) → IsSound m → AreOrders m (new_order m)
 new_order_are m sound = record { each = new_order_permutes m sound }

@@ -16,7 +16,7 @@ use Rattle.enc_plain.specs.Module.{Module, Row, rows_in, row_at, row_of, kids_at
 use Rattle.enc_plain.specs.Sound.{row_count, all_kids, IsOwned, HasTables, IsSound}
 use Rattle.enc_plain.proofs.AttachedTo.{run_at}
 use Rattle.enc_plain.proofs.Owned.{count_cons, count_append}
-use Rattle.enc_order.specs.Orders.{Orders, place_in_order, old_row, moved_by, standing_rows, kids_listed}
+use Rattle.enc_row_order.specs.Orders.{Orders, place_in_order, old_row, moved_by, standing_rows, kids_listed}
 use Rattle.enc_compact.specs.Moved.{AreOrders, children_moved, kids_moved, row_moved, rows_moved, module_with}
 use Rattle.enc_compact.proofs.Places.{IsOrder, is_order, new_at, new_there, new_old, old_new}
 use Rattle.enc_compact.proofs.Rows.{rows_new, count_moved, row_any, row_any_low, was_row}

@@ -13,7 +13,7 @@ use Rattle.enc_rows.proofs.Listed.{length_below}
 use Rattle.enc_plain.specs.Module.{Module}
 use Rattle.enc_plain.specs.Sound.{row_count}
 use Rattle.enc_plain.proofs.Owned.{count_cons}
-use Rattle.enc_order.specs.Orders.{Orders, place_behind, place_in_order, old_row, moved_by, standing_rows}
+use Rattle.enc_row_order.specs.Orders.{Orders, place_behind, place_in_order, old_row, moved_by, standing_rows}
 use Rattle.enc_compact.specs.Moved.{AreOrders}
 
 -- how often a number stands among so many behind one

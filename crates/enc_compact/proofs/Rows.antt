@@ -13,7 +13,7 @@ use Rattle.enc_plain.specs.Module.{Module, Row, rows_in, row_at, row_of, has_row
 use Rattle.enc_plain.specs.Rows.{number_of_cell, bytes_of_cell, token_of_cell, number_at, bytes_at, token_at}
 use Rattle.enc_plain.specs.Sound.{row_count, HasTables}
 use Rattle.enc_plain.proofs.CellsOf.{has_cells, cell_there}
-use Rattle.enc_order.specs.Orders.{Orders, place_in_order, old_row, moved_by}
+use Rattle.enc_row_order.specs.Orders.{Orders, place_in_order, old_row, moved_by}
 use Rattle.enc_compact.specs.Moved.{AreOrders, holds_signatures, signature_moved, cell_moved, cells_moved, row_moved, rows_moved, module_with}
 use Rattle.enc_compact.proofs.Places.{IsOrder, is_order, order_bounds, order_has, new_at, new_there, before, moved_before, nil_stays, get_within}
 

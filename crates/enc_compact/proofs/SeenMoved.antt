@@ -8,7 +8,7 @@ use Rattle.std.proofs.lemmas.Bool.Decides.{nat_tests}
 use Rattle.std.proofs.lemmas.List.{length-map}
 use Rattle.enc_base.specs.Token.{token_of, number_of}
 use Rattle.enc_base.specs.declared.token.Token.{Token}
-use Rattle.enc_moves.specs.Body.{body_moved}
+use Rattle.enc_token_map.specs.Body.{body_moved}
 use Rattle.enc_opcodes.specs.Body.{Body}
 use Rattle.enc_schema.specs.Children.{is_child_table}
 use Rattle.enc_plain.specs.Cell.{Cell, blob, body, blobs, kind_in}
@@ -17,7 +17,7 @@ use Rattle.enc_plain.specs.Module.{Module, rows_in, has_row, cell_of, kids_of, o
 use Rattle.enc_plain.specs.Sound.{IsSound, IsOwned, row_count}
 use Rattle.enc_plain.proofs.Owned.{kid_owner, has_owner}
 use Rattle.enc_compact.specs.Moved.{cell_moved, children_moved, entry_moved, module_with, module_moved, pdb_moved}
-use Rattle.enc_order.specs.Orders.{Orders, place_in_order, old_row, moved_by, new_order, new_of, old_of}
+use Rattle.enc_row_order.specs.Orders.{Orders, place_in_order, old_row, moved_by, new_order, new_of, old_of}
 use Rattle.enc_compact.specs.Seen.{bodies_moved, pdb_by, place_number, blob_numbered}
 use Rattle.enc_compact.proofs.HeldKept.{rows_of}
 use Rattle.enc_compact.proofs.KindsKept.{blob_at}

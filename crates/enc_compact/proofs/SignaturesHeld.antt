@@ -22,7 +22,7 @@ use Rattle.enc_plain.proofs.CellsOf.{blob_there}
 use Rattle.enc_compact.specs.Held.{number_in_slots, bytes_by, SlotSays, AreSaidUpto, AreSignaturesHeld}
 use Rattle.enc_compact.specs.Held.{HeldOf, held_at, AreTablesHeld, AreAllHeld, blob_held, blob_seen, AreSlotsKnown}
 use Rattle.enc_compact.specs.Moved.{signature_moved, blob_moved, holds_signatures}
-use Rattle.enc_order.specs.Orders.{new_of}
+use Rattle.enc_row_order.specs.Orders.{new_of}
 use Rattle.enc_compact.proofs.Rows.{none_past}
 use Rattle.enc_compact.proofs.HeldKept.{rows_of, row_slot, front_get, last_get, held_still, low_still, last_held, last_low, one_known, one_slot}
 use Rattle.enc_compact.proofs.SignaturesKept.{signature_is}

@@ -19,7 +19,7 @@ use Rattle.enc_plain.specs.Signatures.{signature_column, member_kind, alone_kind
 use Rattle.enc_plain.specs.Sound.{row_count, HasTables, HasCounts, HasKinds, HasSignatures}
 use Rattle.enc_plain.proofs.CellsOf.{blob_there}
 use Rattle.enc_plain.proofs.SignatureColumns.{signature_kind}
-use Rattle.enc_order.specs.Orders.{Orders, place_in_order, moved_by}
+use Rattle.enc_row_order.specs.Orders.{Orders, place_in_order, moved_by}
 use Rattle.enc_compact.specs.Moved.{AreOrders, spelled_or, signature_moved, holds_signatures, module_with}
 use Rattle.enc_sigs.specs.Moved.{sig_moved, GoesTo, MovedReadsBack, MovedBeginsAlike}
 use Rattle.enc_compact.proofs.CountsKept.{each_row}

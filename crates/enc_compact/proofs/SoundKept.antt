@@ -1,5 +1,5 @@
 -- A sound module is sound in whatever orders its rows stand.
-use Rattle.enc_moves.specs.Laws.{MovedStaysSound}
+use Rattle.enc_token_map.specs.Laws.{MovedStaysSound}
 use Rattle.enc_compact.specs.Moved.{OrdersKeepSound}
 use Rattle.enc_sigs.specs.Moved.{MovedReadsBack, MovedBeginsAlike, MovedFieldFront}
 use Rattle.enc_compact.proofs.CellsKept.{cells_kept}

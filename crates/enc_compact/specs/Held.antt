@@ -5,8 +5,8 @@ use Rattle.std.specs.BTreeMap.{BTreeMap, get}
 use Rattle.std.specs.Ordering.{nat_cmp}
 use Rattle.enc_base.specs.Token.{nth_row}
 use Rattle.enc_base.specs.declared.token.Token.{Token}
-use Rattle.enc_moves.specs.Body.{body_moved}
-use Rattle.enc_moves.specs.Held.{Held}
+use Rattle.enc_token_map.specs.Body.{body_moved}
+use Rattle.enc_token_map.specs.Held.{Held}
 use Rattle.enc_opcodes.specs.Body.{Code, Body, body_of, texts_are_there}
 use Rattle.enc_plain.specs.Cell.{Cell, body}
 use Rattle.enc_plain.specs.Module.{Module, cells_of, cell_of}
@@ -15,7 +15,7 @@ use Rattle.enc_plain.specs.Signatures.{signature_column}
 use Rattle.enc_plain.specs.Sound.{IsSound, row_count}
 use Rattle.enc_schema.specs.Tables as tables
 use Rattle.enc_compact.specs.Moved.{signature_moved, holds_signatures}
-use Rattle.enc_order.specs.Orders.{Orders, moved_by, new_order}
+use Rattle.enc_row_order.specs.Orders.{Orders, moved_by, new_order}
 
 -- the number of a row, from 1: 0 where there is none
 abbrev pub number_in_slots : List ℕ → ℕ → ℕ

@@ -4,7 +4,7 @@ use Rattle.enc_plain.specs.Debug.{PlainPdb}
 use Rattle.enc_plain.specs.Module.{Module}
 use Rattle.enc_plain.specs.Sound.{IsSound, row_count, all_kids}
 use Rattle.enc_plain.specs.SoundDebug.{IsSoundPdb, KnowsWithin}
-use Rattle.enc_order.specs.Orders.{standing_rows}
+use Rattle.enc_row_order.specs.Orders.{standing_rows}
 use Rattle.enc_schema.specs.Children.{is_child_table}
 use Rattle.enc_schema.specs.Tables as tables
 use Rattle.enc_compact.specs.Moved.{module_moved, pdb_moved}

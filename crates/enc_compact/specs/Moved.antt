@@ -5,8 +5,8 @@ use Rattle.std.specs.List.Sorted.{IsPermutation}
 use Rattle.std.specs.Option.{option_map_or}
 use Rattle.enc_base.specs.Token.{nth_row, token_of, number_of, is_token}
 use Rattle.enc_base.specs.declared.token.Token.{Token}
-use Rattle.enc_moves.specs.Body.{body_moved}
-use Rattle.enc_order.specs.Orders.{Orders, moved_by, new_order, old_of, standing_rows}
+use Rattle.enc_token_map.specs.Body.{body_moved}
+use Rattle.enc_row_order.specs.Orders.{Orders, moved_by, new_order, old_of, standing_rows}
 use Rattle.enc_plain.specs.Apply.{childless}
 use Rattle.enc_plain.specs.Cell.{Cell, number, text, blob, guid, refer, body, field}
 use Rattle.enc_plain.specs.Debug.{PlainPdb}

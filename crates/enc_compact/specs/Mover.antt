@@ -3,7 +3,7 @@ use Rattle.std.specs.Prelude.{◌≡◌, ℕ, ◌<◌, ◌^◌, Bool, true, fals
 use Rattle.std.proofs.Common.{arith}
 use Rattle.std.proofs.lemmas.Bool.Decides.{nat_tests}
 use Rattle.enc_base.specs.declared.token.Token.{Token}
-use Rattle.enc_order.specs.Orders.{Orders, moved_by}
+use Rattle.enc_row_order.specs.Orders.{Orders, moved_by}
 
 -- a token of a row that its number has room for stays where it would come to one that it hasn't
 abbrev pub comes_past : Token → Token → Bool

@@ -1,9 +1,9 @@
 -- What a moved module means as a view.
 use Rattle.std.specs.Prelude.{ℕ, ◌+◌, ◌*◌, ◌/◌, ◌%◌, ◌^◌, List, Option, Some, None, option_map}
 use Rattle.enc_base.specs.declared.token.Token.{Token}
-use Rattle.enc_moves.specs.Body.{body_moved}
+use Rattle.enc_token_map.specs.Body.{body_moved}
 use Rattle.enc_opcodes.specs.Body.{Body}
-use Rattle.enc_order.specs.Orders.{Orders, moved_by, new_order, old_row}
+use Rattle.enc_row_order.specs.Orders.{Orders, moved_by, new_order, old_row}
 use Rattle.enc_plain.specs.Cell.{Cell, blob}
 use Rattle.enc_plain.specs.Debug.{PlainPdb}
 use Rattle.enc_plain.specs.Module.{Module, cell_of}

@@ -1,8 +1,8 @@
 //! The bodies whose bytes change when tokens move.
 ghost use Rattle.std.specs.Prelude.{◌≡◌, ◌+◌, ◌<◌, ◌^◌, ◌++◌, List, length, IfOk, OnOk, IsTrue};
 ghost use Rattle.enc_compact.specs.Held.{number_in_slots, held_by, SlotHolds, CellHolds, AreBodiesHeld, AreSlotsKnown};
-ghost use Rattle.enc_order.specs.Orders.{moved_by, new_order};
-ghost use Rattle.enc_moves.specs.Held.{Held, held_code};
+ghost use Rattle.enc_row_order.specs.Orders.{moved_by, new_order};
+ghost use Rattle.enc_token_map.specs.Held.{Held, held_code};
 ghost use Rattle.enc_opcodes.specs.Body.{code_seen};
 ghost use Rattle.enc_plain.specs.Module.{has_row, cell_of};
 ghost use Rattle.enc_plain.specs.Sound.{IsSound};
@@ -12,9 +12,9 @@ ghost use Rattle.enc_schema.specs.Tables.{method_def};
 use crate::mover::Mover;
 use crate::slots::{known_at, slot_at};
 use enc_base::Token;
-use enc_moves::MovedBody;
+use enc_token_map::MovedBody;
 use enc_opcodes::CodeRef;
-use enc_order::Order;
+use enc_row_order::Order;
 use enc_plain::ModuleView;
 use enc_schema::tables::METHOD_DEF;
 use std::alloc::{AllocError, Global};

@@ -1,7 +1,7 @@
 //! A module in the order of an ordinary one.
 ghost use Rattle.std.specs.Prelude.{◌≡◌, IfOk};
 ghost use Rattle.enc_compact.specs.Moved.{pdb_moved};
-ghost use Rattle.enc_order.specs.Orders.{new_order};
+ghost use Rattle.enc_row_order.specs.Orders.{new_order};
 ghost use Rattle.enc_plain.specs.Sound.{IsSound};
 ghost use Rattle.enc_schema.specs.Schema.{list_at};
 
@@ -9,7 +9,7 @@ use crate::bodies::HeldBodies;
 use crate::module::MovedModule;
 use crate::points::PlainPoints;
 use crate::signatures::HeldSignatures;
-use enc_order::Order;
+use enc_row_order::Order;
 use enc_plain::{ModuleView, PointSource};
 use std::alloc::{AllocError, Global};
 use std::rc::Rc;

@@ -1,7 +1,7 @@
 //! What holds of moved modules, as the contract of a function that does nothing.
 ghost use Rattle.enc_compact.specs.Laws.{MovedIsSound, MovedPdbIsSound, MovedKnowsWithin, MovedStandsInOrder};
 
-use enc_moves::moved_body_law;
+use enc_token_map::moved_body_law;
 use enc_sigs::moved_laws;
 
 /// A sound module stays sound, and so does its plain PDB; its children stand in the order of their rows.

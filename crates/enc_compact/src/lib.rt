@@ -13,7 +13,7 @@ mod signatures;
 mod slots;
 
 pub use compacted::{Compacted, compact};
-pub use enc_order::Order;
+pub use enc_row_order::Order;
 pub use laws::compact_laws;
 pub use module::MovedModule;
 pub use moves::moved_rows;

@@ -1,7 +1,7 @@
 //! A module whose rows were moved, as a view.
 ghost use Rattle.std.specs.Prelude.{◌≡◌, ◌<◌, ◌^◌, IfOk, IsTrue};
 ghost use Rattle.enc_compact.specs.Moved.{children_moved, module_moved};
-ghost use Rattle.enc_order.specs.Orders.{new_of, old_of};
+ghost use Rattle.enc_row_order.specs.Orders.{new_of, old_of};
 ghost use Rattle.enc_compact.specs.Seen.{bodies_moved, blob_numbered};
 ghost use Rattle.enc_plain.specs.Module.{has_row};
 ghost use Rattle.enc_plain.specs.Sound.{IsSound};
@@ -10,7 +10,7 @@ use crate::bodies::HeldBodies;
 use crate::signatures::HeldSignatures;
 use enc_base::Token;
 use enc_opcodes::CodeRef;
-use enc_order::Order;
+use enc_row_order::Order;
 use enc_plain::{ModuleView, is_row};
 use std::alloc::{AllocError, Global};
 use std::marker::Model;

@@ -2,11 +2,11 @@
 ghost use Rattle.std.specs.Prelude.{◌≡◌, ◌++◌, ◌∷◌, [], IfOk, OnOk, if◌then◌else◌};
 ghost use Rattle.enc_base.specs.Token.{is_token};
 ghost use Rattle.enc_compact.specs.Moved.{moves_in, moves_listed};
-ghost use Rattle.enc_order.specs.Orders.{new_order};
+ghost use Rattle.enc_row_order.specs.Orders.{new_order};
 ghost use Rattle.enc_schema.specs.Schema.{list_at};
 
 use enc_base::Token;
-use enc_order::Order;
+use enc_row_order::Order;
 use enc_plain::ModuleView;
 use enc_schema::tables::TABLE_COUNT;
 use std::alloc::{AllocError, Global};

@@ -3,7 +3,7 @@ ghost use Rattle.std.specs.Prelude.{◌≡◌, ◌+◌, ◌<◌, ◌^◌, ◌++�
 ghost use Rattle.enc_compact.specs.Held.{number_in_slots, bytes_by, blob_seen, SlotSays};
 ghost use Rattle.enc_compact.specs.Held.{AreSaidUpto, AreSignaturesHeld, AreAllHeld, AreSlotsKnown};
 ghost use Rattle.enc_compact.specs.Moved.{holds_signatures, signature_moved};
-ghost use Rattle.enc_order.specs.Orders.{moved_by};
+ghost use Rattle.enc_row_order.specs.Orders.{moved_by};
 ghost use Rattle.enc_plain.specs.Module.{has_row, cells_of};
 ghost use Rattle.enc_plain.specs.Rows.{bytes_at};
 ghost use Rattle.enc_plain.specs.Signatures.{is_signature, signature_column};
@@ -12,7 +12,7 @@ ghost use Rattle.enc_schema.specs.Schema.{list_at};
 
 use crate::slots::{known_at, slot_at};
 use enc_base::{Bytes, Counts, Token};
-use enc_order::Order;
+use enc_row_order::Order;
 use enc_plain::{ModuleView, kind_in_table, signature_column};
 use enc_schema::tables::TABLE_COUNT;
 use enc_sigs::{SigFault, read_sig, write_moved};

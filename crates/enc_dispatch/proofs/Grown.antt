@@ -1,7 +1,7 @@
 -- An index that stands for the first rows of a module, and has grown by what comes with the others, stands for the module.
 use Rattle.std.proofs.Common.{◌≡◌, ℕ, ◌+◌, ◌-◌, ◌<◌, ◌≤◌, ◌^◌, List, Option, ◌++◌, length, length-append, sym, ap, subst, ◌∙◌, arith}
 use Rattle.enc_base.specs.Order.{or_else, first_below}
-use Rattle.enc_index.specs.Index.{value_at, either, latest}
+use Rattle.enc_key_map.specs.Index.{value_at, either, latest}
 use Rattle.enc_plain.specs.Module.{Module, cells_of}
 use Rattle.enc_plain.specs.Sound.{row_count, IsSound}
 use Rattle.enc_dispatch.specs.declared.growth.Growth.{Growth}

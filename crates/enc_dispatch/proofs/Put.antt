@@ -6,11 +6,11 @@ use Rattle.enc_base.specs.Order.{or_else, first_below}
 use Rattle.enc_base.specs.Token.{nth_row, is_token}
 use Rattle.enc_base.specs.declared.token.Token.{Token}
 use Rattle.enc_base.proofs.First.{first_none, first_suc}
-use Rattle.enc_index.specs.declared.index.Index.{Index}
-use Rattle.enc_index.specs.declared.index.Entry.{Entry}
-use Rattle.enc_index.specs.declared.key.Key.{Key}
-use Rattle.enc_index.specs.Key.{is_key}
-use Rattle.enc_index.specs.Index.{value_at, either, latest_one, entry_key, value_of}
+use Rattle.enc_key_map.specs.declared.index.Index.{Index}
+use Rattle.enc_key_map.specs.declared.index.Entry.{Entry}
+use Rattle.enc_key_map.specs.declared.key.Key.{Key}
+use Rattle.enc_key_map.specs.Key.{is_key}
+use Rattle.enc_key_map.specs.Index.{value_at, either, latest_one, entry_key, value_of}
 use Rattle.enc_plain.specs.Module.{Module, cells_of}
 use Rattle.enc_plain.specs.Rows.{token_at}
 use Rattle.enc_plain.proofs.Applied.{same_is}

@@ -8,7 +8,7 @@ use Rattle.enc_base.specs.Numbers.{has_flag}
 use Rattle.enc_base.specs.Order.{or_else}
 use Rattle.enc_base.specs.Token.{nth_row, is_token}
 use Rattle.enc_base.specs.declared.token.Token.{Token}
-use Rattle.enc_index.specs.Index.{value_at}
+use Rattle.enc_key_map.specs.Index.{value_at}
 use Rattle.enc_plain.specs.Module.{Module, rows_in, has_row, has_kid, kids_of, owner_of}
 use Rattle.enc_plain.proofs.CellsOf.{number_absent}
 use Rattle.enc_schema.specs.Tables as tables

@@ -4,8 +4,8 @@ use Rattle.std.specs.Prelude.{nat_lt}
 use Rattle.enc_base.specs.Order.{or_else, first_below}
 use Rattle.enc_base.specs.declared.token.Token.{Token}
 use Rattle.enc_base.proofs.First.{first_none}
-use Rattle.enc_index.specs.declared.index.Index.{Index}
-use Rattle.enc_index.specs.Index.{value_at}
+use Rattle.enc_key_map.specs.declared.index.Index.{Index}
+use Rattle.enc_key_map.specs.Index.{value_at}
 use Rattle.enc_plain.specs.Module.{Module, kids_of, cells_of}
 use Rattle.enc_plain.specs.Sound.{row_count, IsSound}
 use Rattle.enc_schema.specs.Tables as tables

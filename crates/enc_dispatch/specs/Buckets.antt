@@ -3,9 +3,9 @@
 use Rattle.std.specs.Prelude.{◌≡◌, ℕ, zero, suc, Bool, false, Option, Some, None, ◌+◌, ◌-◌, ◌%◌, ◌/◌, ◌^◌, ◌&&◌, ◌==◌, List, length, if◌then◌else◌}
 use Rattle.enc_base.specs.Token.{nth_row}
 use Rattle.enc_base.specs.declared.token.Token.{Token}
-use Rattle.enc_index.specs.declared.index.Index.{Index}
-use Rattle.enc_index.specs.declared.key.Key.{Key}
-use Rattle.enc_index.specs.Index.{value_at, either}
+use Rattle.enc_key_map.specs.declared.index.Index.{Index}
+use Rattle.enc_key_map.specs.declared.key.Key.{Key}
+use Rattle.enc_key_map.specs.Index.{value_at, either}
 use Rattle.enc_plain.specs.Keys.{signature_key}
 use Rattle.enc_plain.specs.Rows.{Rows, bytes_at}
 use Rattle.enc_schema.specs.Columns as columns

@@ -2,9 +2,9 @@
 -- index has none.
 use Rattle.std.specs.Prelude.{List, [], ◌∷◌, Option, Some, None}
 use Rattle.enc_base.specs.Order.{or_else}
-use Rattle.enc_index.specs.declared.index.Entry.{Entry}
-use Rattle.enc_index.specs.declared.key.Key.{Key}
-use Rattle.enc_index.specs.Index.{latest_one}
+use Rattle.enc_key_map.specs.declared.index.Entry.{Entry}
+use Rattle.enc_key_map.specs.declared.key.Key.{Key}
+use Rattle.enc_key_map.specs.Index.{latest_one}
 
 -- the first value that some entries give a key
 abbrev pub earliest : {V : Type 0} → List (Entry V) → Key → Option V

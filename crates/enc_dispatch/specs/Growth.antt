@@ -4,9 +4,9 @@ use Rattle.std.specs.List.{list_any}
 use Rattle.enc_base.specs.Order.{or_else, first_below}
 use Rattle.enc_base.specs.Token.{nth_row}
 use Rattle.enc_base.specs.declared.token.Token.{Token}
-use Rattle.enc_index.specs.declared.index.Index.{Index}
-use Rattle.enc_index.specs.declared.key.Key.{Key}
-use Rattle.enc_index.specs.Index.{value_at, either, latest}
+use Rattle.enc_key_map.specs.declared.index.Index.{Index}
+use Rattle.enc_key_map.specs.declared.key.Key.{Key}
+use Rattle.enc_key_map.specs.Index.{value_at, either, latest}
 use Rattle.enc_plain.specs.Module.{Module, has_row, cells_of, kids_of, owner_of}
 use Rattle.enc_plain.specs.Sound.{row_count}
 use Rattle.enc_schema.specs.Tables as tables

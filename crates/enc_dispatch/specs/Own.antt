@@ -1,7 +1,7 @@
 -- For the contracts of private functions: a class's own virtual methods, by slot.
 use Rattle.std.specs.Prelude.{◌≡◌, ℕ, Option, Some, None, List, option_map, filter, slice_get, ◌==◌, if◌then◌else◌}
-use Rattle.enc_index.specs.declared.index.Index.{Index}
-use Rattle.enc_index.specs.Index.{value_at}
+use Rattle.enc_key_map.specs.declared.index.Index.{Index}
+use Rattle.enc_key_map.specs.Index.{value_at}
 use Rattle.enc_plain.specs.Module.{Module, kids_of}
 use Rattle.enc_schema.specs.Tables as tables
 use Rattle.enc_dispatch.specs.declared.method_part.MethodPart.{MethodPart}

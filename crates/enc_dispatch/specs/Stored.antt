@@ -2,8 +2,8 @@
 use Rattle.std.specs.Prelude.{◌≡◌, ℕ, List, Option, Some, None, ◌&&◌, ◌==◌, if◌then◌else◌}
 use Rattle.enc_base.specs.Token.{nth_row, is_token}
 use Rattle.enc_base.specs.declared.token.Token.{Token}
-use Rattle.enc_index.specs.declared.index.Index.{Index}
-use Rattle.enc_index.specs.declared.key.Key.{Key}
+use Rattle.enc_key_map.specs.declared.index.Index.{Index}
+use Rattle.enc_key_map.specs.declared.key.Key.{Key}
 use Rattle.enc_plain.specs.Module.{Module, owner_of}
 use Rattle.enc_schema.specs.Tables as tables
 use Rattle.enc_dispatch.specs.declared.class_part.ClassPart.{ClassPart}

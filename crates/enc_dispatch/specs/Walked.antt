@@ -4,7 +4,7 @@ use Rattle.std.specs.List.{list_any}
 use Rattle.enc_base.specs.Order.{or_else}
 use Rattle.enc_base.specs.Token.{is_token}
 use Rattle.enc_base.specs.declared.token.Token.{Token}
-use Rattle.enc_index.specs.Index.{value_at}
+use Rattle.enc_key_map.specs.Index.{value_at}
 use Rattle.enc_schema.specs.Tables as tables
 use Rattle.enc_dispatch.specs.declared.class_part.ClassPart.{ClassPart}
 use Rattle.enc_dispatch.specs.declared.method_part.MethodPart.{MethodPart}

@@ -14,7 +14,7 @@ use crate::own_method::OwnMethod;
 use crate::rows_read::RowsRead;
 use crate::slots::Slots;
 use enc_base::Token;
-use enc_index::Index;
+use enc_key_map::Index;
 use enc_plain::ModuleView;
 use std::alloc::{AllocError, Global};
 use std::marker::Model;
@@ -34,7 +34,7 @@ pub struct Dispatch {
 
 impl Model for Dispatch {
     ghost use Rattle.enc_dispatch.specs.Stored.{DispatchParts};
-    ghost use Rattle.enc_index.specs.contracts.tree.Tree as tree;
+    ghost use Rattle.enc_key_map.specs.contracts.tree.Tree as tree;
     ghost use Rattle.enc_dispatch.specs.contracts.own_method.OwnMethod as own_method;
     ghost use Rattle.enc_dispatch.specs.contracts.impl_part.ImplPart as impl_part;
     ghost use Rattle.enc_base.specs.contracts.token.Token as token;

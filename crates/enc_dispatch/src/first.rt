@@ -2,11 +2,11 @@
 ghost use Rattle.std.specs.Prelude.{◌≡◌, Some, None, IfOk, if◌then◌else◌};
 ghost use Rattle.enc_base.specs.Order.{or_else};
 ghost use Rattle.enc_dispatch.specs.Entries.{earliest, where_none};
-ghost use Rattle.enc_index.specs.declared.key.Key.{Key as TheKey};
-ghost use Rattle.enc_index.specs.Key.{is_key};
-ghost use Rattle.enc_index.specs.Index.{value_at, either};
+ghost use Rattle.enc_key_map.specs.declared.key.Key.{Key as TheKey};
+ghost use Rattle.enc_key_map.specs.Key.{is_key};
+ghost use Rattle.enc_key_map.specs.Index.{value_at, either};
 
-use enc_index::{Entry, Index, Key};
+use enc_key_map::{Entry, Index, Key};
 use std::alloc::{AllocError, Global};
 
 /// Appends a value, unless an index has one of its key.

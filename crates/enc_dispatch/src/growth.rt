@@ -4,7 +4,7 @@ use crate::impl_part::ImplPart;
 use crate::method_part::MethodPart;
 use crate::own_method::OwnMethod;
 use enc_base::Token;
-use enc_index::Entry;
+use enc_key_map::Entry;
 
 /// What comes to an index with rows that are added to its module: parts that stand behind those that
 /// are there, and entries, of which the first of each key counts where the index has none; of the heads

@@ -1,7 +1,7 @@
 //! The rows of MethodImpl, by class and declaration (ECMA-335 II.22.27).
 ghost use Rattle.std.specs.Prelude.{◌≡◌, ◌<◌, ◌^◌, ◌≤◌, ◌-◌, ◌&&◌, ◌==◌, ℕ, IfOk};
 ghost use Rattle.enc_base.specs.Order.{or_else};
-ghost use Rattle.enc_index.specs.Index.{value_at};
+ghost use Rattle.enc_key_map.specs.Index.{value_at};
 ghost use Rattle.enc_plain.specs.Sound.{row_count};
 ghost use Rattle.enc_schema.specs.Tables.{method_def, method_impl, type_def};
 ghost use Rattle.enc_dispatch.specs.Entries.{earliest, where_none};
@@ -13,7 +13,7 @@ use crate::first::push_first;
 use crate::impl_part::ImplPart;
 use crate::keys::impl_key;
 use enc_base::Token;
-use enc_index::{Entry, Index};
+use enc_key_map::{Entry, Index};
 use enc_plain::{CellView, ModuleView, Viewed};
 use enc_schema::tables::{METHOD_DEF, METHOD_IMPL, TYPE_DEF};
 use std::alloc::{AllocError, Global};

@@ -2,7 +2,7 @@
 ghost use Rattle.std.specs.Prelude.{◌≡◌, ◌<◌, ◌^◌, ◌≤◌, ◌-◌, ℕ, IfOk};
 ghost use Rattle.enc_base.specs.Order.{or_else};
 ghost use Rattle.enc_base.specs.declared.token.Token.{Token as TheToken};
-ghost use Rattle.enc_index.specs.Index.{value_at};
+ghost use Rattle.enc_key_map.specs.Index.{value_at};
 ghost use Rattle.enc_plain.specs.Sound.{row_count};
 ghost use Rattle.enc_schema.specs.Tables.{interface_impl};
 ghost use Rattle.enc_dispatch.specs.Entries.{earliest, where_none};
@@ -14,7 +14,7 @@ use crate::columns::{INTERFACE_IMPL_CLASS, INTERFACE_IMPL_INTERFACE};
 use crate::first::push_first;
 use crate::keys::interface_key;
 use enc_base::Token;
-use enc_index::{Entry, Index};
+use enc_key_map::{Entry, Index};
 use enc_plain::{CellView, ModuleView, Viewed};
 use enc_schema::tables::{INTERFACE_IMPL, TYPE_DEF};
 use std::alloc::{AllocError, Global};

@@ -3,7 +3,7 @@ ghost use Rattle.std.specs.Prelude.{◌≡◌};
 ghost use Rattle.enc_dispatch.specs.Stored.{own_key, impl_key, interface_key};
 
 use enc_base::Token;
-use enc_index::Key;
+use enc_key_map::Key;
 use enc_schema::tables::{METHOD_DEF, METHOD_IMPL};
 
 /// What a class's virtual method stands by: the class's row and the slot.

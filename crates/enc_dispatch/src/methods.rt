@@ -1,8 +1,8 @@
 //! What the index keeps of each method.
 ghost use Rattle.std.specs.Prelude.{◌≡◌, ◌+◌, ◌<◌, ◌≤◌, ◌^◌, ◌++◌, [], Some, IfOk, length, slice_get};
 ghost use Rattle.enc_base.specs.Token.{nth_row};
-ghost use Rattle.enc_index.specs.declared.key.Key.{Key as TheKey};
-ghost use Rattle.enc_index.specs.Index.{value_at, latest};
+ghost use Rattle.enc_key_map.specs.declared.key.Key.{Key as TheKey};
+ghost use Rattle.enc_key_map.specs.Index.{value_at, latest};
 ghost use Rattle.enc_plain.specs.Module.{cells_of, owner_of};
 ghost use Rattle.enc_plain.specs.Sound.{row_count};
 ghost use Rattle.enc_schema.specs.Tables.{method_def};

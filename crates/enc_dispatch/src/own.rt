@@ -1,7 +1,7 @@
 //! The virtual methods of classes, by class and slot.
 ghost use Rattle.std.specs.Prelude.{◌≡◌, ◌++◌, ℕ, IfOk, IsTrue, ◌<◌, ◌-◌, get_or, length, filter, nat_lt};
 ghost use Rattle.enc_base.specs.Order.{or_else};
-ghost use Rattle.enc_index.specs.Index.{value_at};
+ghost use Rattle.enc_key_map.specs.Index.{value_at};
 ghost use Rattle.enc_plain.specs.Module.{has_row};
 ghost use Rattle.enc_dispatch.specs.Entries.{earliest, where_none};
 ghost use Rattle.enc_dispatch.specs.Growth.{later_kids, AreOwners};
@@ -17,7 +17,7 @@ use crate::own_method::OwnMethod;
 use crate::path::nth_part;
 use crate::wanted::Wanted;
 use enc_base::Token;
-use enc_index::{Entry, Index};
+use enc_key_map::{Entry, Index};
 use enc_plain::{CellView, ModuleView, Viewed};
 use enc_schema::columns::METHOD_DEF_FLAGS;
 use enc_schema::tables::{METHOD_DEF, TYPE_DEF};

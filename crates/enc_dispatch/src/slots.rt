@@ -1,16 +1,16 @@
 //! The slots of methods: each method is given the one of the first method that shares it.
 ghost use Rattle.std.specs.Prelude.{◌≡◌, ◌+◌, ◌-◌, ◌<◌, ◌≤◌, ◌^◌, ◌++◌, ◌∷◌, [], ℕ, Some, None, IfOk, length, slice_get, if◌then◌else◌};
 ghost use Rattle.enc_base.specs.Token.{nth_row};
-ghost use Rattle.enc_index.specs.declared.key.Key.{Key as TheKey};
-ghost use Rattle.enc_index.specs.Key.{is_key};
-ghost use Rattle.enc_index.specs.Index.{value_at, either, latest};
+ghost use Rattle.enc_key_map.specs.declared.key.Key.{Key as TheKey};
+ghost use Rattle.enc_key_map.specs.Key.{is_key};
+ghost use Rattle.enc_key_map.specs.Index.{value_at, either, latest};
 ghost use Rattle.enc_schema.specs.Tables.{method_def};
 ghost use Rattle.enc_dispatch.specs.Buckets.{alike_first, bucket_key, stored_head, head_over, AreBuckets};
 ghost use Rattle.enc_dispatch.specs.Slots.{slot_in};
 
 use crate::names::MethodNames;
 use enc_base::Token;
-use enc_index::{Entry, Index, Key, push_entry};
+use enc_key_map::{Entry, Index, Key, push_entry};
 use enc_plain::CellView;
 use enc_schema::tables::METHOD_DEF;
 use std::alloc::{AllocError, Global};

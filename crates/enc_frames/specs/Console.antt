@@ -2,9 +2,9 @@
 use Rattle.std.specs.Prelude.{ℕ, drop, ◌%◌, ◌^◌, ℤ, pos, Bool, true, false, not, ◌||◌, List, [], ◌∷◌, ◌++◌, length, Option, Some, None, option_map, unwrap_or, slice_get, Result, Ok, Err, bytes_eq, int_lt, unsigned_abs, is_some, decimal, if◌then◌else◌}
 use Rattle.std.specs.Int.{w32, cast_signed}
 use Rattle.enc_base.specs.declared.token.Token.{Token}
-use Rattle.enc_kinds.specs.Outside.{outside_of}
-use Rattle.enc_kinds.specs.declared.outside.Outside.{Outside}
-use Rattle.enc_kinds.specs.declared.outside.Outside.TheVariants as outside
+use Rattle.enc_machine_types.specs.Outside.{outside_of}
+use Rattle.enc_machine_types.specs.declared.outside.Outside.{Outside}
+use Rattle.enc_machine_types.specs.declared.outside.Outside.TheVariants as outside
 use Rattle.enc_objects.specs.Objects.{Store, units_held}
 use Rattle.enc_objects.specs.Values.{truth}
 use Rattle.enc_objects.specs.declared.object.Content.TheVariants.{Instance, Text}

@@ -1,6 +1,6 @@
 -- What instructions do to one frame, and to objects beside it (ECMA-335 III.3, III.4).
 use Rattle.std.specs.Prelude.{ℕ, Ok}
-use Rattle.enc_kinds.specs.Types.{type_kind}
+use Rattle.enc_machine_types.specs.Types.{type_kind}
 use Rattle.enc_objects.specs.Objects.{Store}
 use Rattle.enc_objects.specs.declared.trap.Trap.TheVariants.{X2}
 use Rattle.enc_frames.specs.Handlers.{leave_to}

@@ -1,7 +1,7 @@
 -- Frames at their first instruction, the nearest of some frames, and what all tasks share by its parts.
 use Rattle.std.specs.Prelude.{List, [], ◌∷◌, map, Option, Some, None, unwrap_or, Result, Ok, slice_set}
 use Rattle.enc_base.specs.declared.token.Token.{Token}
-use Rattle.enc_kinds.specs.Members.{local_kinds}
+use Rattle.enc_machine_types.specs.Members.{local_kinds}
 use Rattle.enc_objects.specs.Objects.{Store}
 use Rattle.enc_objects.specs.Values.{default_of}
 use Rattle.enc_objects.specs.declared.trap.Trap.{Trap}

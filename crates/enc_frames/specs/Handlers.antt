@@ -2,7 +2,7 @@
 use Rattle.std.specs.Prelude.{ℕ, ◌-◌, Bool, List, [], ◌∷◌, length, filter, Option, Some, None, option_map, slice_get, Result, Ok, codes, ◌==◌, if◌then◌else◌}
 use Rattle.enc_base.specs.Order.{or_else}
 use Rattle.enc_base.specs.declared.token.Token.{Token}
-use Rattle.enc_kinds.specs.Members.{is_named_as}
+use Rattle.enc_machine_types.specs.Members.{is_named_as}
 use Rattle.enc_objects.specs.Objects.{Store, shape_in}
 use Rattle.enc_objects.specs.declared.shape.Shape.{Shape}
 use Rattle.enc_objects.specs.declared.shape.Shape.TheVariants as shape

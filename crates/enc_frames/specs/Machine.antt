@@ -9,7 +9,7 @@ use Rattle.enc_plain.specs.Debug.{PlainPdb}
 use Rattle.enc_plain.specs.Module.{Module}
 use Rattle.enc_versions.specs.Version.{Version, newest_of}
 use Rattle.enc_versions.specs.StandFor.{lines_read, lines_known}
-use Rattle.enc_kinds.specs.Members.{run_body}
+use Rattle.enc_machine_types.specs.Members.{run_body}
 use Rattle.enc_frames.specs.declared.handler.Running.{Running}
 use Rattle.enc_frames.specs.declared.handler.Flight.{Flight}
 

@@ -3,7 +3,7 @@ use Rattle.std.specs.Prelude.{ℕ, drop, ℤ, pos, Bool, true, false, not, ◌&&
 use Rattle.std.specs.Int.{w32, cast_signed}
 use Rattle.enc_base.specs.declared.token.Token.{Token}
 use Rattle.enc_dispatch.specs.Path.{is_class, extends, implements}
-use Rattle.enc_kinds.specs.Members.{field_kind}
+use Rattle.enc_machine_types.specs.Members.{field_kind}
 use Rattle.enc_plain.specs.System.{is_of_system}
 use Rattle.enc_objects.specs.Objects.{Store, is_full, with_object, next_object, new_array_of, shape_in, field_in, with_field, static_in, with_static, element_in, with_element}
 use Rattle.enc_objects.specs.declared.kind.Kind.{Kind}

@@ -1,6 +1,6 @@
 -- For the contracts of private functions: the kind of a field, or of a type, and what is done by it.
 use Rattle.enc_base.specs.declared.token.Token.{Token}
-use Rattle.enc_kinds.specs.Types.{type_kind}
+use Rattle.enc_machine_types.specs.Types.{type_kind}
 use Rattle.enc_objects.specs.declared.kind.Kind.{Kind}
 use Rattle.enc_objects.specs.declared.trap.Trap.TheVariants.{X2}
 use Rattle.enc_plain.specs.Module.{Module}

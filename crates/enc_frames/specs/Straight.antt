@@ -2,8 +2,8 @@
 -- (ECMA-335 III.3).
 use Rattle.std.specs.Prelude.{ℕ, drop, Bool, not, List, ◌∷◌, length, Option, None, option_and_then, unwrap_or, slice_get, slice_set, Result, Ok, Err, nat_lt, ◌==◌, if◌then◌else◌}
 use Rattle.enc_base.specs.declared.token.Token.{Token}
-use Rattle.enc_kinds.specs.Elements.{CallShape}
-use Rattle.enc_kinds.specs.Members.{call_shape, local_kinds}
+use Rattle.enc_machine_types.specs.Elements.{CallShape}
+use Rattle.enc_machine_types.specs.Members.{call_shape, local_kinds}
 use Rattle.enc_objects.specs.Instructions.{on_two, on_one}
 use Rattle.enc_objects.specs.Values.{modulo}
 use Rattle.enc_objects.specs.declared.kind.Kind.{Kind}

@@ -8,7 +8,7 @@ ghost use Rattle.enc_frames.specs.Values.{fit_all};
 use crate::stack::Stack;
 use crate::stop::Stop;
 use crate::values::fit;
-use enc_kinds::{Kinds, MethodShape};
+use enc_machine_types::{Kinds, MethodShape};
 use enc_objects::{Kind, Trap, Value};
 use std::alloc::{AllocError, Global};
 

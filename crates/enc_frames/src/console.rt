@@ -1,6 +1,6 @@
 //! Members outside of the module: each is one step.
 ghost use Rattle.std.specs.Prelude.{◌≡◌, false, []};
-ghost use Rattle.enc_kinds.specs.declared.outside.Outside.TheVariants as outside;
+ghost use Rattle.enc_machine_types.specs.declared.outside.Outside.TheVariants as outside;
 ghost use Rattle.enc_objects.specs.Objects.{Store};
 ghost use Rattle.enc_plain.specs.Module.{cells_of};
 ghost use Rattle.enc_plain.specs.Rows.{token_at};
@@ -18,7 +18,7 @@ use crate::texts::{
 };
 use crate::values::{reference, word};
 use enc_base::{Token, Units};
-use enc_kinds::{Outside, outside_of};
+use enc_machine_types::{Outside, outside_of};
 use enc_objects::{Objects, Trap, Value};
 use enc_plain::{CellView, ModuleView, Viewed};
 use enc_schema::columns::MEMBER_REF_CLASS;

@@ -1,6 +1,6 @@
 //! Frames at their methods' first instructions (ECMA-335 I.12.3.2).
 ghost use Rattle.std.specs.Prelude.{◌≡◌, [], map, unwrap_or, IfOk};
-ghost use Rattle.enc_kinds.specs.Members.{local_kinds};
+ghost use Rattle.enc_machine_types.specs.Members.{local_kinds};
 ghost use Rattle.enc_objects.specs.Values.{default_of};
 ghost use Rattle.enc_schema.specs.Tables.{method_def};
 ghost use Rattle.enc_frames.specs.FramesSeen.{frame_at};
@@ -11,7 +11,7 @@ use crate::frame::Frame;
 use crate::handlers::RunningHandlers;
 use crate::stack::Stack;
 use enc_base::Token;
-use enc_kinds::local_kinds;
+use enc_machine_types::local_kinds;
 use enc_objects::Value;
 use enc_plain::ModuleView;
 use enc_versions::Code;

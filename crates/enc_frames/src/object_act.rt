@@ -1,7 +1,7 @@
 //! What instructions do to objects and their frame (ECMA-335 III.4).
 ghost use Rattle.std.specs.Prelude.{◌≡◌, ℕ, List, Option};
 ghost use Rattle.enc_dispatch.specs.Index.{StandsForModule};
-ghost use Rattle.enc_kinds.specs.Types.{type_kind};
+ghost use Rattle.enc_machine_types.specs.Types.{type_kind};
 ghost use Rattle.enc_objects.specs.declared.trap.Trap.TheVariants.{X2};
 ghost use Rattle.enc_versions.specs.Version.{Version};
 ghost use Rattle.enc_frames.specs.Does.{Does};
@@ -19,7 +19,7 @@ use crate::places::named_field;
 use crate::stop::Stop;
 use enc_base::Token;
 use enc_dispatch::Dispatch;
-use enc_kinds::type_kind;
+use enc_machine_types::type_kind;
 use enc_objects::{Kind, Objects, Trap};
 use enc_plain::ModuleView;
 

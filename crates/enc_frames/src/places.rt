@@ -8,7 +8,7 @@ ghost use Rattle.enc_frames.specs.Straight.{argument_kinds, argument_kind, local
 
 use crate::frame::Frame;
 use enc_base::Token;
-use enc_kinds::{MethodShape, field_kind, local_kind_at, method_shape};
+use enc_machine_types::{MethodShape, field_kind, local_kind_at, method_shape};
 use enc_objects::{Kind, Trap};
 use enc_plain::ModuleView;
 use enc_schema::tables::{FIELD, METHOD_DEF};

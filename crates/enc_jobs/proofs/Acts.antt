@@ -7,9 +7,9 @@ use Rattle.std.proofs.lemmas.Bool.Decides.{nat_tests}
 use Rattle.std.proofs.lemmas.List.{map-append}
 use Rattle.std.proofs.lemmas.List.Folds.{list_any-append}
 use Rattle.enc_schema.specs.Tables.{method_def}
-use Rattle.enc_edits.specs.declared.edit.Cell.{Cell as CellValue}
-use Rattle.enc_edits.specs.declared.edit.Edit.{Edit}
-use Rattle.enc_edits.specs.declared.edit.Edit.TheVariants.{Body as Replace}
+use Rattle.enc_edit_list.specs.declared.edit.Cell.{Cell as CellValue}
+use Rattle.enc_edit_list.specs.declared.edit.Edit.{Edit}
+use Rattle.enc_edit_list.specs.declared.edit.Edit.TheVariants.{Body as Replace}
 use Rattle.enc_jobs.specs.Generated.{Turn, adds, replaces, next_state, drawn, turn_drawn, state_behind, turns_from, is_of_row, methods_added, name_added, named_row, body_loading, adds_plain_row, adds_method, edit_of_turn, edits_of_turns}
 use Rattle.enc_jobs.proofs.NamesApart.{Apart, Each, each_none, each_more, each_both, in_either, apart_none, apart_one, apart_both, same_added, added_whole}
 

@@ -9,10 +9,10 @@ use Rattle.enc_schema.specs.Schema.{columns_in}
 use Rattle.enc_schema.specs.Tables.{method_def}
 use Rattle.enc_opcodes.specs.Opcodes.{is_op, entry_of}
 use Rattle.enc_opcodes.specs.Sound.{instruction_size}
-use Rattle.enc_edits.specs.declared.edit.Edit.{Edit}
-use Rattle.enc_edits.specs.Added.{adds_to, adding, rows_added}
-use Rattle.enc_edits.specs.Form.{edit_fits, body_fits, stated_columns, cells_fit}
-use Rattle.enc_edits.specs.Sizes.{length_of_code}
+use Rattle.enc_edit_list.specs.declared.edit.Edit.{Edit}
+use Rattle.enc_edit_list.specs.Added.{adds_to, adding, rows_added}
+use Rattle.enc_edit_list.specs.Form.{edit_fits, body_fits, stated_columns, cells_fit}
+use Rattle.enc_edit_list.specs.Sizes.{length_of_code}
 use Rattle.enc_jobs.specs.Generated.{body_loading, adds_plain_row, adds_method}
 use Rattle.enc_jobs.proofs.NamesApart.{Each}
 use Rattle.enc_jobs.proofs.Acts.{Act, plain_row, method, code, edit_of_act, edits_of_acts, name_in, new_names}

@@ -18,11 +18,11 @@ use Rattle.enc_plain.specs.Chain.{Chain}
 use Rattle.enc_plain.specs.Module.{Module, Row, rows_in, cell_of}
 use Rattle.enc_plain.specs.Sound.{row_count, IsSound}
 use Rattle.enc_plain.proofs.KindsOf.{row_there as has_row_there}
-use Rattle.enc_edits.specs.declared.body.BodyValue.{BodyValue}
-use Rattle.enc_edits.specs.declared.edit.EditList.{EditList}
-use Rattle.enc_edits.specs.Added.{rows_added}
-use Rattle.enc_edits.specs.Form.{edit_fits, list_fits}
-use Rattle.enc_edits.specs.Sizes.{placed}
+use Rattle.enc_edit_list.specs.declared.body.BodyValue.{BodyValue}
+use Rattle.enc_edit_list.specs.declared.edit.EditList.{EditList}
+use Rattle.enc_edit_list.specs.Added.{rows_added}
+use Rattle.enc_edit_list.specs.Form.{edit_fits, list_fits}
+use Rattle.enc_edit_list.specs.Sizes.{placed}
 use Rattle.enc_rules.specs.Edited.{body_stated, edited}
 use Rattle.enc_rules.specs.First.{first_at}
 use Rattle.enc_rules.specs.Listed.{count_after, body_given}
@@ -31,18 +31,18 @@ use Rattle.enc_rows.specs.Sums.{below}
 use Rattle.enc_rewriter.proofs.Gathered.{starts_after}
 use Rattle.enc_rewriter.specs.Values.{texts_named, users_of_body, with_one, with_all, all_values, no_heaps, heaps_for, passes_limit}
 use Rattle.enc_rewriter.specs.declared.pass.Pass.TheVariants as pass
-use Rattle.enc_edited.specs.Applied.{alone, rules_of_rows, MayApply}
-use Rattle.enc_edited.specs.Encoded.{body_of_row, users_of_row}
-use Rattle.enc_edited.specs.Plain.{body_in_cell}
-use Rattle.enc_edited.proofs.Agreed.{numbers_agree, bytes_agree}
-use Rattle.enc_edited.proofs.CellCases.{CellCase, stated, given, old, cell_case}
-use Rattle.enc_edited.proofs.Changed.{counts_after}
-use Rattle.enc_edited.proofs.HeldBodies.{method_cell, said_of_row}
-use Rattle.enc_edited.proofs.KeptSound.{sound_after}
-use Rattle.enc_edited.proofs.MethodTexts.{method_texts}
-use Rattle.enc_edited.proofs.NoneBroken.{unbroken, nothing_breaks}
-use Rattle.enc_edited.proofs.Rest.{each_of}
-use Rattle.enc_edited.proofs.Unbroken.{BreakNothing}
+use Rattle.enc_memory_module.specs.Applied.{alone, rules_of_rows, MayApply}
+use Rattle.enc_memory_module.specs.Encoded.{body_of_row, users_of_row}
+use Rattle.enc_memory_module.specs.Plain.{body_in_cell}
+use Rattle.enc_memory_module.proofs.Agreed.{numbers_agree, bytes_agree}
+use Rattle.enc_memory_module.proofs.CellCases.{CellCase, stated, given, old, cell_case}
+use Rattle.enc_memory_module.proofs.Changed.{counts_after}
+use Rattle.enc_memory_module.proofs.HeldBodies.{method_cell, said_of_row}
+use Rattle.enc_memory_module.proofs.KeptSound.{sound_after}
+use Rattle.enc_memory_module.proofs.MethodTexts.{method_texts}
+use Rattle.enc_memory_module.proofs.NoneBroken.{unbroken, nothing_breaks}
+use Rattle.enc_memory_module.proofs.Rest.{each_of}
+use Rattle.enc_memory_module.proofs.Unbroken.{BreakNothing}
 use Rattle.enc_jobs.specs.Generated.{named_row, body_loading}
 use Rattle.enc_jobs.proofs.Acts.{Act, plain_row, method, code, edit_of_act, edits_of_acts, new_names, IsGoodAct}
 use Rattle.enc_jobs.proofs.ActsAdded.{all_many, act_there, added_few, filter_few, none_pass, method_fits, code_fits_form, names_added}

@@ -14,15 +14,15 @@ use Rattle.enc_plain.specs.Chain.{Chain}
 use Rattle.enc_plain.specs.Module.{Row}
 use Rattle.enc_plain.specs.Signatures.{signature_column}
 use Rattle.enc_plain.specs.Sound.{row_count}
-use Rattle.enc_edits.specs.declared.edit.Cell.{Cell as CellValue}
-use Rattle.enc_edits.specs.declared.edit.Cell.TheVariants as cell
-use Rattle.enc_edits.specs.declared.edit.Edit.{Edit}
-use Rattle.enc_edits.specs.Added.{adds_to, rows_added}
-use Rattle.enc_edits.specs.Form.{edit_fits, stated_columns, cells_fit}
+use Rattle.enc_edit_list.specs.declared.edit.Cell.{Cell as CellValue}
+use Rattle.enc_edit_list.specs.declared.edit.Cell.TheVariants as cell
+use Rattle.enc_edit_list.specs.declared.edit.Edit.{Edit}
+use Rattle.enc_edit_list.specs.Added.{adds_to, rows_added}
+use Rattle.enc_edit_list.specs.Form.{edit_fits, stated_columns, cells_fit}
 use Rattle.enc_rules.specs.Listed.{count_after}
 use Rattle.enc_rules.specs.Rules.{cells_break}
-use Rattle.enc_edited.specs.Applied.{alone}
-use Rattle.enc_edited.specs.Begun.{begun}
+use Rattle.enc_memory_module.specs.Applied.{alone}
+use Rattle.enc_memory_module.specs.Begun.{begun}
 use Rattle.enc_jobs.specs.Generated.{named_row, adds_mscorlib, adds_object, adds_type, base_method, base_edits}
 use Rattle.enc_jobs.proofs.NamesApart.{Apart, Each, each_none, each_more, each_both, name_of_base, base_apart, base_whole}
 use Rattle.enc_jobs.proofs.Acts.{Act, plain_row, method, code, edits_of_acts, new_names, IsGoodAct}

@@ -9,8 +9,8 @@ use Rattle.enc_plain.specs.Cell.{Cell, text, blob}
 use Rattle.enc_plain.specs.Chain.{Chain, rows_before}
 use Rattle.enc_plain.specs.Module.{cells_of}
 use Rattle.enc_plain.specs.Rows.{Rows, bytes_of_cell, bytes_at}
-use Rattle.enc_edits.specs.declared.edit.Edit.{Edit}
-use Rattle.enc_edits.specs.Added.{adds_to, adding}
+use Rattle.enc_edit_list.specs.declared.edit.Edit.{Edit}
+use Rattle.enc_edit_list.specs.Added.{adds_to, adding}
 use Rattle.enc_rules.specs.Listed.{cells_added, edit_of, rows_listed}
 use Rattle.enc_rules.specs.Rules.{texts_of_edit, users_of_edit, blobs_of_edit, with_texts, with_users, with_blobs, heaps_after_edit, with_edits, passes_limits}
 use Rattle.enc_rewriter.specs.declared.pass.Pass.TheVariants as pass

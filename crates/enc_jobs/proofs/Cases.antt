@@ -7,14 +7,14 @@ use Rattle.enc_opcodes.specs.Body.{Body}
 use Rattle.enc_plain.specs.Cell.{body}
 use Rattle.enc_plain.specs.Module.{Module, cell_of, row_of}
 use Rattle.enc_plain.specs.Sound.{row_count}
-use Rattle.enc_edits.specs.declared.edit.Edit.{Edit}
-use Rattle.enc_edits.specs.declared.edit.EditList.{EditList}
-use Rattle.enc_edits.specs.Added.{rows_added}
-use Rattle.enc_edits.specs.Form.{list_fits}
+use Rattle.enc_edit_list.specs.declared.edit.Edit.{Edit}
+use Rattle.enc_edit_list.specs.declared.edit.EditList.{EditList}
+use Rattle.enc_edit_list.specs.Added.{rows_added}
+use Rattle.enc_edit_list.specs.Form.{list_fits}
 use Rattle.enc_rules.specs.Edited.{edited}
-use Rattle.enc_edited.proofs.Begun.{sound_begun}
-use Rattle.enc_edited.specs.Applied.{alone, MayApply}
-use Rattle.enc_edited.specs.Begun.{begun}
+use Rattle.enc_memory_module.proofs.Begun.{sound_begun}
+use Rattle.enc_memory_module.specs.Applied.{alone, MayApply}
+use Rattle.enc_memory_module.specs.Begun.{begun}
 use Rattle.enc_jobs.specs.Generated.{base_edits, base_mvid, generated_base, turns_from, state_after, methods_added, list_of_turns, lists_from, generated_lists, edited_by}
 use Rattle.enc_jobs.proofs.NamesApart.{base_named}
 use Rattle.enc_jobs.proofs.Acts.{Act, edits_of_acts, new_names, same_edits}

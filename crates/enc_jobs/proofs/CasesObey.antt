@@ -11,10 +11,10 @@ use Rattle.enc_meta.specs.Joined.{joined_lengths}
 use Rattle.enc_meta.specs.declared.heaps.HeapLengths.{HeapLengths}
 use Rattle.enc_plain.specs.Chain.{Chain}
 use Rattle.enc_plain.specs.Module.{Module}
-use Rattle.enc_edits.specs.declared.edit.EditList.{EditList}
+use Rattle.enc_edit_list.specs.declared.edit.EditList.{EditList}
 use Rattle.enc_rules.specs.First.{edit_rules, first_at, first_edit}
 use Rattle.enc_rules.specs.Rules.{id_is_taken, heaps_are_full, there_are_too_many, heap_passes, heaps_with}
-use Rattle.enc_edited.specs.Applied.{rules_of_rows, MayApply}
+use Rattle.enc_memory_module.specs.Applied.{rules_of_rows, MayApply}
 use Rattle.enc_jobs.specs.Generated.{generated_base, generated_lists, edited_by}
 use Rattle.enc_jobs.specs.Laws.{AreLittle, IsDrawnChain, BaseIsLittle, GeneratedObeys, GeneratedStaysLittle, GeneratedIsLight}
 use Rattle.enc_jobs.proofs.Cases.{generated_follow}

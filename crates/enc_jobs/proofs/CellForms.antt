@@ -8,9 +8,9 @@ use Rattle.serde_json.specs.Data.{Data}
 use Rattle.serde_json.specs.Find.{as_str, as_number, as_u64}
 use Rattle.enc_schema.specs.declared.column.Column.{Column}
 use Rattle.enc_schema.specs.declared.column.Column.TheVariants.{Num8, Num16, Num32, Text, Guid, Blob, Index, Coded, Run}
-use Rattle.enc_edits.specs.declared.edit.Cell.{Cell as CellValue}
-use Rattle.enc_edits.specs.declared.edit.Cell.TheVariants as cell
-use Rattle.enc_edits.specs.Form.{cell_fits, cells_fit}
+use Rattle.enc_edit_list.specs.declared.edit.Cell.{Cell as CellValue}
+use Rattle.enc_edit_list.specs.declared.edit.Cell.TheVariants as cell
+use Rattle.enc_edit_list.specs.Form.{cell_fits, cells_fit}
 use Rattle.enc_jobs.specs.Json.{number_said, hex_said, token_said, guid_said}
 use Rattle.enc_jobs.specs.Cell.{text_cell_said, cell_said, cells_said}
 use Rattle.enc_jobs.proofs.Inverse.{map_some, then_some, if_some, unless_some, first_some}

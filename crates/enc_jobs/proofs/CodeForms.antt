@@ -10,10 +10,10 @@ use Rattle.enc_opcodes.specs.declared.op.Operand.TheVariants as operand
 use Rattle.enc_opcodes.specs.declared.code.Clause.{Clause}
 use Rattle.enc_opcodes.specs.Opcodes.{op_named, is_op}
 use Rattle.enc_opcodes.specs.Laws.{NamedAreFound}
-use Rattle.enc_edits.specs.declared.body.ArgValue.{ArgValue}
-use Rattle.enc_edits.specs.declared.body.ArgValue.TheVariants as arg
-use Rattle.enc_edits.specs.declared.body.InstrValue.{InstrValue}
-use Rattle.enc_edits.specs.Form.{lies_in, arg_fits, instr_fits, clause_is_stated, body_fits}
+use Rattle.enc_edit_list.specs.declared.body.ArgValue.{ArgValue}
+use Rattle.enc_edit_list.specs.declared.body.ArgValue.TheVariants as arg
+use Rattle.enc_edit_list.specs.declared.body.InstrValue.{InstrValue}
+use Rattle.enc_edit_list.specs.Form.{lies_in, arg_fits, instr_fits, clause_is_stated, body_fits}
 use Rattle.enc_jobs.specs.declared.code.Offsets.{Offsets}
 use Rattle.enc_jobs.specs.declared.code.Code.{Code}
 use Rattle.enc_jobs.specs.declared.body.Placed.{Placed}

@@ -7,13 +7,13 @@ use Rattle.enc_base.specs.Token.{is_token}
 use Rattle.enc_base.specs.declared.token.Token.{Token}
 use Rattle.enc_schema.specs.Tables.{method_def}
 use Rattle.enc_plain.specs.Debug.{MethodDebug, unknown, plain_point}
-use Rattle.enc_edits.specs.declared.edit.DocumentValue.{DocumentValue}
-use Rattle.enc_edits.specs.declared.edit.Edit.{Edit}
-use Rattle.enc_edits.specs.declared.edit.Edit.TheVariants.{Body as Replace}
-use Rattle.enc_edits.specs.declared.edit.EditList.{EditList}
+use Rattle.enc_edit_list.specs.declared.edit.DocumentValue.{DocumentValue}
+use Rattle.enc_edit_list.specs.declared.edit.Edit.{Edit}
+use Rattle.enc_edit_list.specs.declared.edit.Edit.TheVariants.{Body as Replace}
+use Rattle.enc_edit_list.specs.declared.edit.EditList.{EditList}
 use Rattle.enc_rules.specs.Listed.{body_given, points_given}
 use Rattle.enc_rules.specs.Rules.{gives_body, has_points}
-use Rattle.enc_pdb_delta.specs.Stated.{points_lie_within, stands_within, document_numbered, locals_row, debug_stated, edit_giving, debug_or_kept, pdb_edited}
+use Rattle.enc_pdb_writer.specs.Stated.{points_lie_within, stands_within, document_numbered, locals_row, debug_stated, edit_giving, debug_or_kept, pdb_edited}
 use Rattle.enc_jobs.specs.Generated.{Turn, adds, replaces, named_row, body_loading, adds_method, name_added, is_of_row, edit_of_turn, edits_of_turns, list_of_turns, turns_from, methods_added, state_after, lists_from}
 use Rattle.enc_jobs.specs.Laws.{GeneratedLie, GeneratedTellsNothing}
 

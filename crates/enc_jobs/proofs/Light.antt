@@ -11,8 +11,8 @@ use Rattle.enc_opcodes.specs.Sound.{instruction_size}
 use Rattle.enc_plain.specs.Apply.{Change, Attached, change_at, put_row, put_at, change_row, put, apply, with_child, attach, attach_all}
 use Rattle.enc_plain.specs.Cell.{Cell, number, text, blob, guid, refer, body, field}
 use Rattle.enc_plain.specs.Module.{Module, Row, rows_in, row_at, row_of, cells_of}
-use Rattle.enc_edits.specs.declared.edit.Edit.{Edit}
-use Rattle.enc_edits.specs.Sizes.{length_of_code, placed}
+use Rattle.enc_edit_list.specs.declared.edit.Edit.{Edit}
+use Rattle.enc_edit_list.specs.Sizes.{length_of_code, placed}
 use Rattle.enc_rules.specs.Edited.{body_stated, cells_stated, cells_with, cells_edited, changes_behind, attached_in, edited}
 use Rattle.enc_rewriter.specs.Values.{texts_named}
 use Rattle.enc_jobs.specs.Generated.{named_row, body_loading, adds_method}

@@ -3,9 +3,9 @@ use Rattle.std.proofs.Common.{◌≡◌, ℕ, ◌+◌, ◌*◌, ◌<◌, ◌≤�
 use Rattle.enc_schema.specs.Tables.{type_def}
 use Rattle.enc_plain.specs.Module.{Module}
 use Rattle.enc_plain.specs.Sound.{row_count}
-use Rattle.enc_edits.specs.Added.{rows_added}
+use Rattle.enc_edit_list.specs.Added.{rows_added}
 use Rattle.enc_rules.specs.Listed.{count_after}
-use Rattle.enc_edited.specs.Applied.{alone}
+use Rattle.enc_memory_module.specs.Applied.{alone}
 use Rattle.enc_jobs.specs.Generated.{turns_from, name_added, methods_added}
 use Rattle.enc_jobs.proofs.NamesApart.{Apart, Each, each_both, name_of_base, same_added, base_or_added, apart_both}
 use Rattle.enc_jobs.proofs.Acts.{Act, edits_of_acts, new_names, acts_of_turns, names_numbered, turns_apart, turns_once, acts_short, acts_good, IsGoodAct, names_many, turns_good, turns_many}

@@ -6,9 +6,9 @@ use Rattle.std.proofs.lemmas.Fmt.{length-decimal-le}
 use Rattle.std.proofs.lemmas.List.Sums.{sum_by-cons}
 use Rattle.enc_rows.specs.Sums.{below}
 use Rattle.enc_plain.specs.Module.{Module, Row}
-use Rattle.enc_edits.specs.declared.edit.EditList.{EditList}
+use Rattle.enc_edit_list.specs.declared.edit.EditList.{EditList}
 use Rattle.enc_rules.specs.Edited.{cells_stated, edited}
-use Rattle.enc_edited.specs.Begun.{module_row, begun}
+use Rattle.enc_memory_module.specs.Begun.{module_row, begun}
 use Rattle.enc_jobs.specs.Generated.{Turn, adds, replaces, is_of_row, name_added, base_mvid, generated_base, turns_from, methods_added, state_after, list_of_turns, lists_from, generated_lists, edited_by}
 use Rattle.enc_jobs.proofs.NamesApart.{name_of_base}
 use Rattle.enc_jobs.proofs.Acts.{Act, plain_row, method, code, edits_of_acts, acts_of_turn, acts_of_turns, same_edits, acts_short, turns_many}

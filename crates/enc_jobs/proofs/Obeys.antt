@@ -22,13 +22,13 @@ use Rattle.enc_plain.specs.Signatures.{signature_column, kind_in_table, is_signa
 use Rattle.enc_delta.specs.Changes.{is_out_of_layout, has_no_slot, is_member, asked_of}
 use Rattle.enc_delta.specs.Rules.{is_insert}
 use Rattle.enc_delta.specs.Twins.{is_twin, members, has_twin}
-use Rattle.enc_edits.specs.declared.edit.Cell.{Cell as CellValue}
-use Rattle.enc_edits.specs.declared.edit.Edit.{Edit}
-use Rattle.enc_edits.specs.declared.edit.EditList.{EditList}
-use Rattle.enc_edits.specs.Added.{rows_added}
-use Rattle.enc_edits.specs.Form.{edit_fits, stated_columns}
-use Rattle.enc_edits.specs.Reach.{branches_reach}
-use Rattle.enc_edits.specs.Sizes.{length_of_code, placed}
+use Rattle.enc_edit_list.specs.declared.edit.Cell.{Cell as CellValue}
+use Rattle.enc_edit_list.specs.declared.edit.Edit.{Edit}
+use Rattle.enc_edit_list.specs.declared.edit.EditList.{EditList}
+use Rattle.enc_edit_list.specs.Added.{rows_added}
+use Rattle.enc_edit_list.specs.Form.{edit_fits, stated_columns}
+use Rattle.enc_edit_list.specs.Reach.{branches_reach}
+use Rattle.enc_edit_list.specs.Sizes.{length_of_code, placed}
 use Rattle.enc_rules.specs.Edited.{body_stated, row_edited, rows_edited, attached_in}
 use Rattle.enc_rules.specs.Listed.{count_after, rows_listed, body_given, edit_of}
 use Rattle.enc_rules.specs.Rules.{of_child, row_is_edited_twice, owner_is_missing, owner_breaks, table_is_closed, table_breaks, token_is_missing, token_breaks, cells_break, body_is_broken, given_stands, is_il, room_of_edit, gives_body, body_is_missing_or_stands, field_is_out_of_layout, method_has_no_slot, member_has_twin, signature_is_bad, new_signature_breaks, locals_are_bad, locals_break, points_are_bad, has_points}

@@ -5,8 +5,8 @@ use Rattle.std.proofs.lemmas.Bool.Decides.{nat_tests}
 use Rattle.std.specs.Prelude.{nat_lt, if◌then◌else◌}
 use Rattle.enc_opcodes.specs.Sound.{instruction_size}
 use Rattle.enc_opcodes.specs.Instruction.{Instruction}
-use Rattle.enc_edits.specs.declared.body.InstrValue.{InstrValue}
-use Rattle.enc_edits.specs.Sizes.{instr_meant, length_of_code, placed}
+use Rattle.enc_edit_list.specs.declared.body.InstrValue.{InstrValue}
+use Rattle.enc_edit_list.specs.Sizes.{instr_meant, length_of_code, placed}
 use Rattle.enc_jobs.specs.declared.fault.Refused.{Refused}
 use Rattle.enc_jobs.specs.declared.fault.Refused.TheVariants.{Memory, Form}
 use Rattle.enc_jobs.specs.declared.code.Offsets.{Offsets}

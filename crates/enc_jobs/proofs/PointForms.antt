@@ -8,14 +8,14 @@ use Rattle.serde_json.specs.Data.{Data}
 use Rattle.serde_json.specs.Find.{get, as_str, as_bool}
 use Rattle.enc_seqpoints.specs.declared.point.Point.{Point}
 use Rattle.enc_opcodes.specs.Sound.{operand_size, instruction_size}
-use Rattle.enc_edits.specs.declared.body.BodyValue.{BodyValue}
-use Rattle.enc_edits.specs.declared.body.InstrValue.{InstrValue}
-use Rattle.enc_edits.specs.declared.edit.Edit.{Edit}
-use Rattle.enc_edits.specs.declared.edit.Edit.TheVariants.{Add, Body}
-use Rattle.enc_edits.specs.declared.edit.EditList.{EditList}
-use Rattle.enc_edits.specs.Form.{stated_columns}
-use Rattle.enc_edits.specs.Sizes.{arg_meant, instr_meant, length_of_code}
-use Rattle.enc_pdb_delta.specs.Stated.{stands_within, points_lie_within}
+use Rattle.enc_edit_list.specs.declared.body.BodyValue.{BodyValue}
+use Rattle.enc_edit_list.specs.declared.body.InstrValue.{InstrValue}
+use Rattle.enc_edit_list.specs.declared.edit.Edit.{Edit}
+use Rattle.enc_edit_list.specs.declared.edit.Edit.TheVariants.{Add, Body}
+use Rattle.enc_edit_list.specs.declared.edit.EditList.{EditList}
+use Rattle.enc_edit_list.specs.Form.{stated_columns}
+use Rattle.enc_edit_list.specs.Sizes.{arg_meant, instr_meant, length_of_code}
+use Rattle.enc_pdb_writer.specs.Stated.{stands_within, points_lie_within}
 use Rattle.enc_jobs.specs.declared.code.Code.{Code}
 use Rattle.enc_jobs.specs.declared.code.Offsets.{Offsets}
 use Rattle.enc_jobs.specs.declared.body.Placed.{Placed}

@@ -8,8 +8,8 @@ use Rattle.enc_plain.specs.Chain.{Chain, rows_before}
 use Rattle.enc_plain.specs.Module.{Module, rows_in, row_of, cells_of}
 use Rattle.enc_plain.specs.Rows.{number_at, bytes_at}
 use Rattle.enc_plain.specs.Sound.{row_count}
-use Rattle.enc_edits.specs.declared.edit.Edit.{Edit}
-use Rattle.enc_edits.specs.Added.{adding, rows_added}
+use Rattle.enc_edit_list.specs.declared.edit.Edit.{Edit}
+use Rattle.enc_edit_list.specs.Added.{adding, rows_added}
 use Rattle.enc_rules.specs.Listed.{edit_of, rows_listed}
 use Rattle.enc_rules.proofs.RowsListed.{number_new, bytes_new, number_old, bytes_old}
 use Rattle.enc_jobs.specs.Generated.{named_row, adds_method}

@@ -5,8 +5,8 @@ use Rattle.std.proofs.lemmas.Option.{slice_get_cases}
 use Rattle.std.specs.Prelude.{slice_get, filter}
 use Rattle.serde_json.specs.Data.{Data}
 use Rattle.enc_schema.specs.declared.column.Column.{Column}
-use Rattle.enc_edits.specs.Form.{is_stated}
-use Rattle.enc_edits.specs.declared.edit.Cell.{Cell as CellValue}
+use Rattle.enc_edit_list.specs.Form.{is_stated}
+use Rattle.enc_edit_list.specs.declared.edit.Cell.{Cell as CellValue}
 use Rattle.enc_jobs.specs.declared.fault.Refused.{Refused}
 use Rattle.enc_jobs.specs.declared.fault.Refused.TheVariants.{Memory, Form}
 use Rattle.enc_jobs.specs.Outcome.{ReadsAs}

@@ -7,11 +7,11 @@ use Rattle.enc_base.proofs.First.{silent}
 use Rattle.enc_delta.specs.Changes.{is_out_of_layout, has_no_slot}
 use Rattle.enc_delta.specs.Rules.{is_insert}
 use Rattle.enc_plain.specs.Chain.{Chain}
-use Rattle.enc_edits.specs.declared.edit.EditList.{EditList}
+use Rattle.enc_edit_list.specs.declared.edit.EditList.{EditList}
 use Rattle.enc_rules.specs.First.{first_at}
 use Rattle.enc_rules.specs.Listed.{count_after, edit_of, rows_listed}
 use Rattle.enc_rules.specs.Rules.{there_are_too_many, row_is_edited_twice, owner_is_missing, table_is_closed, token_is_missing, body_is_broken, field_is_out_of_layout, method_has_no_slot, member_has_twin, signature_is_bad, locals_are_bad, points_are_bad}
-use Rattle.enc_edited.specs.Applied.{alone, rules_of_rows}
+use Rattle.enc_memory_module.specs.Applied.{alone, rules_of_rows}
 
 rows_twice : (c : Chain) (l : EditList) (k : ℕ) → row_is_edited_twice c l k ≡ row_is_edited_twice (alone c.plain) l k
 unfolding row_is_edited_twice

@@ -6,10 +6,10 @@ use Rattle.enc_opcodes.specs.declared.op.Operand.{Operand}
 use Rattle.enc_opcodes.specs.declared.op.Operand.TheVariants as operand
 use Rattle.enc_opcodes.specs.Instruction.{Argument}
 use Rattle.enc_opcodes.specs.Sound.{target_count, operand_size, instruction_size}
-use Rattle.enc_edits.specs.declared.body.ArgValue.{ArgValue}
-use Rattle.enc_edits.specs.declared.body.ArgValue.TheVariants as arg
-use Rattle.enc_edits.specs.declared.body.InstrValue.{InstrValue}
-use Rattle.enc_edits.specs.Sizes.{arg_meant, instr_meant, length_of_code}
+use Rattle.enc_edit_list.specs.declared.body.ArgValue.{ArgValue}
+use Rattle.enc_edit_list.specs.declared.body.ArgValue.TheVariants as arg
+use Rattle.enc_edit_list.specs.declared.body.InstrValue.{InstrValue}
+use Rattle.enc_edit_list.specs.Sizes.{arg_meant, instr_meant, length_of_code}
 use Rattle.enc_jobs.specs.Json.{elements_of}
 use Rattle.enc_jobs.specs.Lists.{every}
 use Rattle.enc_jobs.specs.Instr.{instr_said}

@@ -5,9 +5,9 @@ use Rattle.std.proofs.lemmas.Option.{slice_get-get_or}
 use Rattle.std.specs.List.{range_with_len}
 use Rattle.enc_rows.specs.Sums.{below}
 use Rattle.std.specs.Prelude.{slice_get, get_or, Some}
-use Rattle.enc_edits.specs.declared.edit.Edit.{Edit}
-use Rattle.enc_edits.specs.declared.edit.EditList.{EditList}
-use Rattle.enc_edited.proofs.Rest.{rest_next, none_left}
+use Rattle.enc_edit_list.specs.declared.edit.Edit.{Edit}
+use Rattle.enc_edit_list.specs.declared.edit.EditList.{EditList}
+use Rattle.enc_memory_module.proofs.Rest.{rest_next, none_left}
 use Rattle.enc_jobs.specs.Generated.{Turn, next_state, turn_drawn, state_behind, turns_from, state_after, edit_of_turn, edits_of_turns, list_of_turns, lists_from, methods_added, base_method}
 
 take_is : {A : Type 0} (xs : List A) (k : ℕ) (x : A) → slice_get xs k ≡ Some x → take (suc k) xs ≡ take k xs ++ x ∷ []

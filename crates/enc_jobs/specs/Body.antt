@@ -5,7 +5,7 @@ use Rattle.serde_json.specs.Find.{get, as_bool}
 use Rattle.enc_base.specs.Token.{nil}
 use Rattle.enc_seqpoints.specs.declared.point.Point.{Point}
 use Rattle.enc_opcodes.specs.Instruction.{◌>>=◌}
-use Rattle.enc_edits.specs.declared.body.BodyValue.{BodyValue}
+use Rattle.enc_edit_list.specs.declared.body.BodyValue.{BodyValue}
 use Rattle.enc_jobs.specs.declared.body.Method.{Method}
 use Rattle.enc_jobs.specs.declared.body.Placed.{Placed}
 use Rattle.enc_jobs.specs.Json.{at_key_or, has_only, number_said, token_said}

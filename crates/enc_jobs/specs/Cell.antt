@@ -6,8 +6,8 @@ use Rattle.serde_json.specs.Find.{as_str}
 use Rattle.enc_schema.specs.declared.column.Column.{Column}
 use Rattle.enc_schema.specs.declared.column.Column.TheVariants.{Num8, Num16, Num32, Text, Guid, Blob, Index, Coded, Run}
 use Rattle.enc_opcodes.specs.Instruction.{◌>>=◌}
-use Rattle.enc_edits.specs.declared.edit.Cell.{Cell as CellValue}
-use Rattle.enc_edits.specs.declared.edit.Cell.TheVariants as cell
+use Rattle.enc_edit_list.specs.declared.edit.Cell.{Cell as CellValue}
+use Rattle.enc_edit_list.specs.declared.edit.Cell.TheVariants as cell
 use Rattle.enc_jobs.specs.Lists.{with_first}
 use Rattle.enc_jobs.specs.Json.{number_said, word_said, hex_said, token_said, guid_said}
 

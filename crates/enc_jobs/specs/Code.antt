@@ -2,10 +2,10 @@
 use Rattle.std.specs.Prelude.{ℕ, ◌^◌, List, map, Option, Some, None, option_map, nat_lt, slice_get, if◌then◌else◌}
 use Rattle.serde_json.specs.Data.{Data}
 use Rattle.enc_opcodes.specs.Instruction.{◌>>=◌}
-use Rattle.enc_edits.specs.declared.body.ArgValue.{ArgValue}
-use Rattle.enc_edits.specs.declared.body.ArgValue.TheVariants as arg
-use Rattle.enc_edits.specs.declared.body.InstrValue.{InstrValue}
-use Rattle.enc_edits.specs.Sizes.{length_of_code, placed}
+use Rattle.enc_edit_list.specs.declared.body.ArgValue.{ArgValue}
+use Rattle.enc_edit_list.specs.declared.body.ArgValue.TheVariants as arg
+use Rattle.enc_edit_list.specs.declared.body.InstrValue.{InstrValue}
+use Rattle.enc_edit_list.specs.Sizes.{length_of_code, placed}
 use Rattle.enc_jobs.specs.declared.code.Offsets.{Offsets}
 use Rattle.enc_jobs.specs.declared.code.Code.{Code}
 use Rattle.enc_jobs.specs.Json.{elements_of}

@@ -12,11 +12,11 @@ use Rattle.enc_schema.specs.Children.{is_child_table}
 use Rattle.enc_schema.specs.Names.{table_name_in}
 use Rattle.enc_schema.specs.Tables.{method_def}
 use Rattle.enc_opcodes.specs.Instruction.{◌>>=◌}
-use Rattle.enc_edits.specs.declared.edit.Edit.{Edit}
-use Rattle.enc_edits.specs.declared.edit.Edit.TheVariants.{Add, Body}
-use Rattle.enc_edits.specs.declared.edit.EditList.{EditList}
-use Rattle.enc_edits.specs.declared.edit.DocumentValue.{DocumentValue}
-use Rattle.enc_edits.specs.Form.{stated_columns}
+use Rattle.enc_edit_list.specs.declared.edit.Edit.{Edit}
+use Rattle.enc_edit_list.specs.declared.edit.Edit.TheVariants.{Add, Body}
+use Rattle.enc_edit_list.specs.declared.edit.EditList.{EditList}
+use Rattle.enc_edit_list.specs.declared.edit.DocumentValue.{DocumentValue}
+use Rattle.enc_edit_list.specs.Form.{stated_columns}
 use Rattle.enc_jobs.specs.declared.fault.JobFault.{JobFault}
 use Rattle.enc_jobs.specs.declared.fault.JobFault.TheVariants.{J1, J2}
 use Rattle.enc_jobs.specs.declared.list.Head.{Head}

@@ -14,13 +14,13 @@ use Rattle.enc_rules.specs.Rules.{heaps_with}
 use Rattle.enc_rewriter.specs.Limits.{rewrite_limit}
 use Rattle.enc_rewriter.specs.Values.{heaps_for}
 use Rattle.enc_rewriter.specs.Weight.{module_weight}
-use Rattle.enc_edits.specs.declared.body.ArgValue.{ArgValue}
-use Rattle.enc_edits.specs.declared.body.ArgValue.TheVariants as arg
-use Rattle.enc_edits.specs.declared.body.InstrValue.{InstrValue}
-use Rattle.enc_edits.specs.declared.edit.EditList.{EditList}
-use Rattle.enc_edits.specs.Form.{list_fits}
-use Rattle.enc_pdb_delta.specs.Stated.{points_lie_within, pdb_edited}
-use Rattle.enc_edited.specs.Applied.{MayApply}
+use Rattle.enc_edit_list.specs.declared.body.ArgValue.{ArgValue}
+use Rattle.enc_edit_list.specs.declared.body.ArgValue.TheVariants as arg
+use Rattle.enc_edit_list.specs.declared.body.InstrValue.{InstrValue}
+use Rattle.enc_edit_list.specs.declared.edit.EditList.{EditList}
+use Rattle.enc_edit_list.specs.Form.{list_fits}
+use Rattle.enc_pdb_writer.specs.Stated.{points_lie_within, pdb_edited}
+use Rattle.enc_memory_module.specs.Applied.{MayApply}
 use Rattle.enc_jobs.specs.declared.code.Code.{Code}
 use Rattle.enc_jobs.specs.declared.command.Command.{Command}
 use Rattle.enc_jobs.specs.declared.command.Command.TheVariants.{Apply}

@@ -17,7 +17,7 @@ use crate::fault::Refused;
 use crate::point::points;
 use crate::value::{at_key, has_only, number, token};
 use enc_base::Token;
-use enc_edits::{BodyValue, ClauseList, PointList, TargetList};
+use enc_edit_list::{BodyValue, ClauseList, PointList, TargetList};
 use serde_json::Value;
 use std::alloc::Global;
 

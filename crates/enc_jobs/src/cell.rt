@@ -3,15 +3,15 @@ ghost use Rattle.std.specs.Prelude.{◌≡◌, ◌<◌, ◌==◌, length, map, f
 ghost use Rattle.std.specs.List.{list_any};
 ghost use Rattle.serde_json.specs.View.{view};
 ghost use Rattle.enc_schema.specs.Schema.{columns_in};
-ghost use Rattle.enc_edits.specs.declared.edit.Cell.TheVariants.{Num};
-ghost use Rattle.enc_edits.specs.Form.{is_stated, begins_with_rva, stated_columns};
+ghost use Rattle.enc_edit_list.specs.declared.edit.Cell.TheVariants.{Num};
+ghost use Rattle.enc_edit_list.specs.Form.{is_stated, begins_with_rva, stated_columns};
 ghost use Rattle.enc_jobs.specs.Outcome.{ReadsAs};
 ghost use Rattle.enc_jobs.specs.Cell.{text_cell_said, cell_said, cells_said};
 ghost use Rattle.enc_jobs.specs.Json.{number_said};
 
 use crate::fault::Refused;
 use crate::value::{blob, bytes_of, guid, number, text, token};
-use enc_edits::{Cell, Cells};
+use enc_edit_list::{Cell, Cells};
 use enc_schema::tables::{FIELD_RVA, METHOD_DEF};
 use enc_schema::{Column, columns_of};
 use serde_json::Value;
@@ -110,7 +110,7 @@ fn columns_behind_rva(table: u8) -> &'static [Column]
 }
 
 /// The cells of a row that is added to a table: one for each column but runs and RVA.
-#[tactic(auto, unfolding(enc_edits::specs::Form::stated_columns))]
+#[tactic(auto, unfolding(enc_edit_list::specs::Form::stated_columns))]
 pub fn cells(alloc: Global, table: u8, items: &[Value]) -> Result<Cells, Refused>
     ensures { ReadsAs result (cells_said (stated_columns table) (map view items.now)) }
 {

@@ -9,7 +9,7 @@ ghost use Rattle.enc_jobs.specs.Clause.{catch_said, filter_said, plain_said, cla
 use crate::code::{Offsets, start_at};
 use crate::fault::Refused;
 use crate::value::{at_key, elements, has_only, text, token_number, word};
-use enc_edits::ClauseList;
+use enc_edit_list::ClauseList;
 use enc_opcodes::Clause;
 use serde_json::Value;
 use std::alloc::Global;

@@ -3,7 +3,7 @@ ghost use Rattle.std.specs.Prelude.{◌≡◌, ◌+◌, ◌<◌, ◌^◌, nat_lt
 ghost use Rattle.std.specs.Result.{result_map_both};
 ghost use Rattle.serde_json.specs.View.{view};
 ghost use Rattle.enc_opcodes.specs.Sound.{instruction_size};
-ghost use Rattle.enc_edits.specs.Sizes.{instr_meant, length_of_code, placed};
+ghost use Rattle.enc_edit_list.specs.Sizes.{instr_meant, length_of_code, placed};
 ghost use Rattle.enc_jobs.specs.Outcome.{ReadsAs};
 ghost use Rattle.enc_jobs.specs.Lists.{every};
 ghost use Rattle.enc_jobs.specs.Code.{within_word, offsets_of, arg_placed, instr_placed, code_said};
@@ -11,7 +11,7 @@ ghost use Rattle.enc_jobs.specs.Code.{within_word, offsets_of, arg_placed, instr
 use crate::fault::Refused;
 use crate::instr::instrs;
 use crate::value::elements;
-use enc_edits::{ArgValue, InstrList, InstrValue, TargetList, instruction_size};
+use enc_edit_list::{ArgValue, InstrList, InstrValue, TargetList, instruction_size};
 use serde_json::Value;
 use std::alloc::Global;
 

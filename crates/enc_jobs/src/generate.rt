@@ -8,7 +8,7 @@ mod edits;
 mod lists;
 
 use base::make_base;
-use enc_edited::PlainModule;
+use enc_memory_module::PlainModule;
 pub use lists::EditLists;
 use lists::make_lists;
 use std::alloc::{AllocError, Global};

@@ -10,7 +10,7 @@ ghost use Rattle.enc_jobs.specs.Points.{at_said, hidden_said, shown_said, point_
 use crate::code::start_at;
 use crate::fault::Refused;
 use crate::value::{at_key, elements, has_only, pair, word};
-use enc_edits::{PointList, TargetList};
+use enc_edit_list::{PointList, TargetList};
 use enc_seqpoints::Point;
 use serde_json::Value;
 use std::alloc::Global;

@@ -22,8 +22,8 @@ use Rattle.enc_agg.specs.Seen.{History}
 use Rattle.enc_agg.proofs.Fitting.{fits, has_tables}
 use Rattle.enc_agg.proofs.Viewing.{body_listed, kept_cell}
 use Rattle.enc_checker.specs.Check.{code_size, new_code}
-use Rattle.enc_merged.specs.Merged.{SaysMerged, is_in_map}
-use Rattle.enc_merged.proofs.BodiesSaid.{body_lasts, body_said}
+use Rattle.enc_merged_delta.specs.Merged.{SaysMerged, is_in_map}
+use Rattle.enc_merged_delta.proofs.BodiesSaid.{body_lasts, body_said}
 use Rattle.enc_merge.specs.Writing.{AreLast, Both, chain_of_both}
 use Rattle.enc_merge.proofs.NewestRows.{place_any}
 

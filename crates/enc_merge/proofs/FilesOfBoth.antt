@@ -1,7 +1,7 @@
 -- Files that hold what two deltas say stand for them.
 use Rattle.std.proofs.Common.{ap, ◌∙◌}
 use Rattle.enc_delta.specs.Delta.{delta_of}
-use Rattle.enc_merged.specs.Laws.{MergedFollows, MergedIsNamed, MergedMeans}
+use Rattle.enc_merged_delta.specs.Laws.{MergedFollows, MergedIsNamed, MergedMeans}
 use Rattle.enc_writer.proofs.FilesStand.{accepted_files}
 use Rattle.enc_merge.proofs.LastTwo.{may_merge}
 use Rattle.enc_merge.proofs.PdbStands.{none_misplaced, same_debug, several_nil}

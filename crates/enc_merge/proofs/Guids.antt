@@ -6,8 +6,8 @@ use Rattle.enc_meta.specs.Joined.{first_guid, joined_guid, joined_lengths, guid_
 use Rattle.enc_meta.specs.declared.heaps.HeapLengths.{HeapLengths}
 use Rattle.enc_rows.specs.Sums.{below}
 use Rattle.enc_rows.proofs.Pieces.{pieces_more}
-use Rattle.enc_merged.specs.Merged.{guids_joined}
-use Rattle.enc_merged.proofs.HeapLengths.{first_there}
+use Rattle.enc_merged_delta.specs.Merged.{guids_joined}
+use Rattle.enc_merged_delta.proofs.HeapLengths.{first_there}
 
 abbrev pub entry_of : List Counted → ℕ → List ℕ
 entry_of heaps k = unwrap_or (first_guid (map (λ (h : Counted). h.guids) heaps) k) []

@@ -10,9 +10,9 @@ use Rattle.enc_agg.specs.Place.{delta_at}
 use Rattle.enc_agg.specs.Seen.{History, chain_of_all}
 use Rattle.enc_agg.proofs.SoundDeltas.{chains_are_sound}
 use Rattle.enc_base.specs.Numbers.{padded}
-use Rattle.enc_depth.specs.Depth.{IsShallow}
-use Rattle.enc_merged.specs.Held.{shift_of}
-use Rattle.enc_merged.specs.Merged.{MayMerge}
+use Rattle.enc_reference_depth.specs.Depth.{IsShallow}
+use Rattle.enc_merged_delta.specs.Held.{shift_of}
+use Rattle.enc_merged_delta.specs.Merged.{MayMerge}
 use Rattle.enc_merge.specs.Merges.{ShortLast}
 use Rattle.enc_merge.specs.Writing.{AreLast, Both, chain_of_both}
 

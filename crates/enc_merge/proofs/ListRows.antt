@@ -7,7 +7,7 @@ use Rattle.enc_schema.specs.Schema.{columns_in}
 use Rattle.enc_schema.specs.Tables.{enc_log, enc_map}
 use Rattle.enc_delta.specs.Rules.{counted, counts, stands_in}
 use Rattle.enc_delta.specs.declared.entry.Entry.{Entry}
-use Rattle.enc_written.specs.Holds.{entry_numbers}
+use Rattle.enc_list_delta.specs.Holds.{entry_numbers}
 
 -- EncMap has one column, and EncLog two
 pub map_columns : nat_lt 0 (length (columns_in enc_map)) ≡ true

@@ -35,14 +35,14 @@ use Rattle.enc_agg.specs.Extend.{extended}
 use Rattle.enc_agg.specs.Follows.{Lands}
 use Rattle.enc_agg.specs.Seen.{History}
 use Rattle.enc_agg.proofs.Tokens.{all_filter, place_token}
-use Rattle.enc_written.specs.Holds.{token_numbers}
-use Rattle.enc_written.proofs.ReadBack.{IsDeltaReadAs, counted_is_read}
-use Rattle.enc_written.proofs.WrittenSays.{is_low, log_says, map_says, token_back}
-use Rattle.enc_depth.specs.Depth.{IsShallow}
-use Rattle.enc_merged.specs.Held.{RowHeld, heaps_with_merged, il_merged, number_of_both, reading_merged}
-use Rattle.enc_merged.specs.Merged.{SaysMerged, SaysRowMerged, after_both, has_tokens, heaps_merged, is_in_either, is_in_map}
-use Rattle.enc_merged.proofs.Among.{lists, number_there, self}
-use Rattle.enc_merged.proofs.Counts.{held, order_of}
+use Rattle.enc_list_delta.specs.Holds.{token_numbers}
+use Rattle.enc_list_delta.proofs.ReadBack.{IsDeltaReadAs, counted_is_read}
+use Rattle.enc_list_delta.proofs.WrittenSays.{is_low, log_says, map_says, token_back}
+use Rattle.enc_reference_depth.specs.Depth.{IsShallow}
+use Rattle.enc_merged_delta.specs.Held.{RowHeld, heaps_with_merged, il_merged, number_of_both, reading_merged}
+use Rattle.enc_merged_delta.specs.Merged.{SaysMerged, SaysRowMerged, after_both, has_tokens, heaps_merged, is_in_either, is_in_map}
+use Rattle.enc_merged_delta.proofs.Among.{lists, number_there, self}
+use Rattle.enc_merged_delta.proofs.Counts.{held, order_of}
 use Rattle.enc_merge.specs.Merges.{HasNumbersOfBoth}
 use Rattle.enc_merge.specs.Writing.{AreLast, AreOfEither, AreRowsHeld, AreBothTables, Both, MetadataIsRead, chain_of_both, heaps_put, tokens_of}
 use Rattle.enc_merge.proofs.LastTwo.{may_merge}

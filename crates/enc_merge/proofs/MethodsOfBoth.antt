@@ -18,10 +18,10 @@ use Rattle.enc_agg.specs.Extend.{extended}
 use Rattle.enc_agg.specs.Seen.{History}
 use Rattle.enc_agg.proofs.Fitting.{count_is, has_tables}
 use Rattle.enc_agg.proofs.SoundDeltas.{delta_keeps_sound}
-use Rattle.enc_written.proofs.WrittenSays.{token_back}
-use Rattle.enc_merged.specs.Merged.{is_in_either, is_in_map}
-use Rattle.enc_merged.proofs.Among.{number_there}
-use Rattle.enc_merged.proofs.Counts.{grows, held}
+use Rattle.enc_list_delta.proofs.WrittenSays.{token_back}
+use Rattle.enc_merged_delta.specs.Merged.{is_in_either, is_in_map}
+use Rattle.enc_merged_delta.proofs.Among.{number_there}
+use Rattle.enc_merged_delta.proofs.Counts.{grows, held}
 use Rattle.enc_merge.specs.Merges.{methods_listed}
 use Rattle.enc_merge.specs.Writing.{AreLast, AreOfEither, Both, chain_of_both, tokens_of}
 use Rattle.enc_merge.proofs.TokenRows.{either_lists}

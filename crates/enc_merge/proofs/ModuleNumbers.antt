@@ -16,10 +16,10 @@ use Rattle.enc_delta.specs.Rules.{heaps_after, module_token, own_guid, guids_bre
 use Rattle.enc_delta.proofs.Unbroken.{landed}
 use Rattle.enc_agg.specs.Extend.{extended}
 use Rattle.enc_agg.specs.Seen.{History}
-use Rattle.enc_merged.specs.Held.{heaps_with_merged}
-use Rattle.enc_merged.proofs.HeapLengths.{guids_unbroken}
-use Rattle.enc_merged.proofs.MovedEntries.{both_guid, guid_stays}
-use Rattle.enc_merged.proofs.Silent.{unbroken_is}
+use Rattle.enc_merged_delta.specs.Held.{heaps_with_merged}
+use Rattle.enc_merged_delta.proofs.HeapLengths.{guids_unbroken}
+use Rattle.enc_merged_delta.proofs.MovedEntries.{both_guid, guid_stays}
+use Rattle.enc_merged_delta.proofs.Silent.{unbroken_is}
 use Rattle.enc_merge.specs.Writing.{AreLast, Both, IsModuleHeld}
 use Rattle.enc_merge.proofs.Guids.{entry_there}
 

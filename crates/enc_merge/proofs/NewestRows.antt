@@ -17,12 +17,12 @@ use Rattle.enc_plain.specs.Sound.{number_fits}
 use Rattle.enc_plain.specs.declared.place.RowPlace.{RowPlace}
 use Rattle.enc_delta.specs.Delta.{listed, of_table, place_in}
 use Rattle.enc_delta.specs.Rows.{own_row}
-use Rattle.enc_depth.specs.Depth.{IsShallow}
+use Rattle.enc_reference_depth.specs.Depth.{IsShallow}
 use Rattle.enc_agg.specs.Place.{place_of, place_or}
 use Rattle.enc_agg.specs.Seen.{History}
 use Rattle.enc_ppdb.proofs.Positions.{position_any}
-use Rattle.enc_merged.specs.Held.{IsNumberOfBoth, NumberHeld, NumbersAreHeld, RowHeld, in_column, number_moved, number_of_both, place_moved, shift_of, text_moved}
-use Rattle.enc_merged.specs.Merged.{is_in_either, is_in_map}
+use Rattle.enc_merged_delta.specs.Held.{IsNumberOfBoth, NumberHeld, NumbersAreHeld, RowHeld, in_column, number_moved, number_of_both, place_moved, shift_of, text_moved}
+use Rattle.enc_merged_delta.specs.Merged.{is_in_either, is_in_map}
 use Rattle.enc_merge.specs.Writing.{AreLast, Both, FrontHeld, IsNewest, chain_of_both}
 use Rattle.enc_merge.specs.declared.rows.Newest.{Newest}
 use Rattle.enc_merge.proofs.LastTwo.{may_merge, shift_low}

@@ -26,11 +26,11 @@ use Rattle.enc_ppdb.specs.PdbChain.{DebugDelta, PdbHistory, debug_at, debug_or, 
 use Rattle.enc_ppdb.specs.Points.{names_method, row_for}
 use Rattle.enc_ppdb.specs.Written.{IsNilOverSeveral, document_told}
 use Rattle.enc_ppdb.proofs.Positions.{position_any}
-use Rattle.enc_pdb_delta.proofs.Lists.{first_passes, one_of_some, some_by_one}
+use Rattle.enc_pdb_writer.proofs.Lists.{first_passes, one_of_some, some_by_one}
 use Rattle.enc_checker.specs.Check.{code_size, code_sizes, new_bodies, new_code, own_methods}
-use Rattle.enc_merged.specs.Merged.{SaysMerged, is_in_either, is_in_map}
-use Rattle.enc_merged.proofs.Among.{lists}
-use Rattle.enc_merged.proofs.BodiesSaid.{at_place}
+use Rattle.enc_merged_delta.specs.Merged.{SaysMerged, is_in_either, is_in_map}
+use Rattle.enc_merged_delta.proofs.Among.{lists}
+use Rattle.enc_merged_delta.proofs.BodiesSaid.{at_place}
 use Rattle.enc_merge.specs.Merges.{GoesWith, methods_listed}
 use Rattle.enc_merge.specs.Writing.{AreLast, Both, IsPdbOfBoth, chain_of_both, changes_debug, methods_changed}
 use Rattle.enc_merge.proofs.CodeOfBoth.{code_lasts, code_of_first, code_of_second}

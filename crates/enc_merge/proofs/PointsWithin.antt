@@ -19,10 +19,10 @@ use Rattle.enc_ppdb.specs.Misplaced.{debug_token, first_misplaced, is_misplaced,
 use Rattle.enc_ppdb.specs.Pdb.{points_of}
 use Rattle.enc_ppdb.specs.PdbChain.{DebugDelta, debug_at, delta_row, documents_at, points_at, row_in_file}
 use Rattle.enc_ppdb.specs.Points.{names_method, row_for}
-use Rattle.enc_pdb_delta.proofs.Lists.{PassesAt, first_passes}
+use Rattle.enc_pdb_writer.proofs.Lists.{PassesAt, first_passes}
 use Rattle.enc_checker.specs.Check.{code_size, code_sizes, new_bodies, new_code, own_methods}
-use Rattle.enc_merged.specs.Merged.{is_in_map}
-use Rattle.enc_merged.proofs.Among.{lists, self}
+use Rattle.enc_merged_delta.specs.Merged.{is_in_map}
+use Rattle.enc_merged_delta.proofs.Among.{lists, self}
 use Rattle.enc_merge.specs.Merges.{GoesWith, PdbGoes}
 use Rattle.enc_merge.proofs.CodeOfBoth.{no_code}
 

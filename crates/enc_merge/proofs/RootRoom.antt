@@ -28,8 +28,8 @@ use Rattle.enc_delta.specs.Rules.{heaps_after}
 use Rattle.enc_delta.proofs.Unbroken.{landed}
 use Rattle.enc_agg.specs.Extend.{extended}
 use Rattle.enc_agg.specs.Seen.{History}
-use Rattle.enc_merged.specs.Merged.{after_both, guids_joined, has_tokens}
-use Rattle.enc_merged.proofs.HeapLengths.{few_guids, guids_long, room}
+use Rattle.enc_merged_delta.specs.Merged.{after_both, guids_joined, has_tokens}
+use Rattle.enc_merged_delta.proofs.HeapLengths.{few_guids, guids_long, room}
 use Rattle.enc_merge.specs.Writing.{AreLast, AreBothTables, Both, heaps_put, tokens_of}
 use Rattle.enc_merge.proofs.TokenRows.{as_many}
 

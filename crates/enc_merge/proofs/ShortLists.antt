@@ -31,7 +31,7 @@ use Rattle.enc_delta.proofs.ListsSets.{Rises, rises}
 use Rattle.enc_agg.specs.Extend.{extended}
 use Rattle.enc_agg.specs.Follows.{Lands}
 use Rattle.enc_agg.specs.Seen.{History}
-use Rattle.enc_merged.proofs.LogSets.{same_in}
+use Rattle.enc_merged_delta.proofs.LogSets.{same_in}
 use Rattle.enc_merge.proofs.ListRows.{filter_few}
 use Rattle.enc_merge.specs.Writing.{AreLast, AreOfEither, Both}
 

@@ -17,8 +17,8 @@ use Rattle.enc_rows.specs.Sums.{sum_below}
 use Rattle.enc_plain.specs.Debug.{Document, PlainPoint, PlainPdb}
 use Rattle.enc_ppdb.specs.Written.{document_weight, documents_of, method_weight, most_pdb_weight, nth_method, pdb_weight, IsPdbFault}
 use Rattle.enc_ppdb.proofs.PdbRows.{documents_there, has_row, have_rows}
-use Rattle.enc_pdb_delta.proofs.DocumentsWithin.{documents_within, is_among, points_among, sum_within}
-use Rattle.enc_pdb_delta.proofs.Weighed.{sum_listed}
+use Rattle.enc_pdb_writer.proofs.DocumentsWithin.{documents_within, is_among, points_among, sum_within}
+use Rattle.enc_pdb_writer.proofs.Weighed.{sum_listed}
 use Rattle.enc_merge.specs.Points.{debug_of_rows, nth_listed}
 
 -- the n-th of some methods stands for the n-th row

@@ -18,12 +18,12 @@ use Rattle.enc_delta.specs.Rules.{stands_in}
 use Rattle.enc_agg.specs.Extend.{extended}
 use Rattle.enc_agg.specs.Follows.{Lands}
 use Rattle.enc_agg.specs.Seen.{History}
-use Rattle.enc_written.proofs.WrittenSays.{token_back}
-use Rattle.enc_merged.specs.Held.{RowHeld}
-use Rattle.enc_merged.specs.Merged.{has_tokens, is_in_either, is_in_map}
-use Rattle.enc_merged.proofs.Among.{self}
-use Rattle.enc_merged.proofs.Counts.{held}
-use Rattle.enc_merged.proofs.MapRules.{is_apart, none_apart, others_have}
+use Rattle.enc_list_delta.proofs.WrittenSays.{token_back}
+use Rattle.enc_merged_delta.specs.Held.{RowHeld}
+use Rattle.enc_merged_delta.specs.Merged.{has_tokens, is_in_either, is_in_map}
+use Rattle.enc_merged_delta.proofs.Among.{self}
+use Rattle.enc_merged_delta.proofs.Counts.{held}
+use Rattle.enc_merged_delta.proofs.MapRules.{is_apart, none_apart, others_have}
 use Rattle.enc_merge.proofs.ListRows.{filter_few, take_more}
 use Rattle.enc_merge.specs.Writing.{AreLast, AreOfEither, AreRowsHeld, AreTokensHeld, Both, tokens_of}
 

@@ -20,9 +20,9 @@ use Rattle.enc_delta.specs.Rules.{module_token, too_many}
 use Rattle.enc_delta.proofs.Unbroken.{unbroken}
 use Rattle.enc_agg.specs.Follows.{Follows}
 use Rattle.enc_agg.specs.Seen.{History}
-use Rattle.enc_merged.specs.Held.{RowHeld}
-use Rattle.enc_merged.specs.Merged.{has_tokens}
-use Rattle.enc_merged.proofs.Silent.{first_silent}
+use Rattle.enc_merged_delta.specs.Held.{RowHeld}
+use Rattle.enc_merged_delta.specs.Merged.{has_tokens}
+use Rattle.enc_merged_delta.proofs.Silent.{first_silent}
 use Rattle.enc_merge.specs.Writing.{AreLast, AreRowsHeld, AreBothTables, Both, tokens_of}
 
 abbrev wide_shape : List ℕ → Shape

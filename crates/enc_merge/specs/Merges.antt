@@ -22,9 +22,9 @@ use Rattle.enc_ppdb.specs.PdbChain.{DebugDelta, PdbHistory, debug_at, pdb_change
 use Rattle.enc_ppdb.specs.Written.{IsNilOverSeveral, document_told, most_pdb_weight, pdb_weight}
 use Rattle.enc_checker.specs.Check.{Accepted, accepted, code_sizes, judged, new_bodies}
 use Rattle.enc_checker.specs.Within.{debug_of_accepted}
-use Rattle.enc_depth.specs.Depth.{first_deep}
-use Rattle.enc_merged.specs.Held.{il_merged, il_of, number_of_both}
-use Rattle.enc_merged.specs.Merged.{after_both, heaps_merged, is_in_either, is_in_map}
+use Rattle.enc_reference_depth.specs.Depth.{first_deep}
+use Rattle.enc_merged_delta.specs.Held.{il_merged, il_of, number_of_both}
+use Rattle.enc_merged_delta.specs.Merged.{after_both, heaps_merged, is_in_either, is_in_map}
 use Rattle.enc_writer.specs.declared.bytes.DeltaBytes.{DeltaBytes}
 use Rattle.enc_merge.specs.Points.{debug_of_rows}
 use Rattle.enc_merge.specs.declared.fault.MergeFault.{MergeFault}

@@ -22,13 +22,13 @@ use Rattle.enc_delta.specs.Seen.{WasRead}
 use Rattle.enc_agg.specs.Extend.{chain_with, extended}
 use Rattle.enc_agg.specs.Follows.{Follows}
 use Rattle.enc_agg.specs.Seen.{History}
-use Rattle.enc_depth.specs.Depth.{IsShallow}
-use Rattle.enc_merged.specs.Held.{HaveShortCode, IsNumberOfBoth, RowHeld, heaps_with_merged, il_merged, shift_of}
-use Rattle.enc_merged.specs.Merged.{SaysMerged, after_both, guids_joined, has_tokens, is_in_map}
-use Rattle.enc_written.specs.Holds.{entry_numbers}
+use Rattle.enc_reference_depth.specs.Depth.{IsShallow}
+use Rattle.enc_merged_delta.specs.Held.{HaveShortCode, IsNumberOfBoth, RowHeld, heaps_with_merged, il_merged, shift_of}
+use Rattle.enc_merged_delta.specs.Merged.{SaysMerged, after_both, guids_joined, has_tokens, is_in_map}
+use Rattle.enc_list_delta.specs.Holds.{entry_numbers}
 use Rattle.enc_ppdb.specs.PdbChain.{DebugDelta, PdbHistory, is_named_by, pdb_with}
 use Rattle.enc_ppdb.specs.Written.{most_pdb_weight}
-use Rattle.enc_pdb_delta.specs.Methods.{SaysMethods}
+use Rattle.enc_pdb_writer.specs.Methods.{SaysMethods}
 use Rattle.enc_checker.specs.Check.{new_code}
 use Rattle.enc_writer.specs.declared.bytes.DeltaBytes.{DeltaBytes}
 use Rattle.enc_merge.specs.Merges.{GoesWith, HasNumbersOfBoth, StandsForBoth, methods_listed}

@@ -2,8 +2,8 @@
 ghost use Rattle.std.specs.Prelude.{◌≡◌, ◌++◌, IfOk};
 ghost use Rattle.enc_meta.specs.BuiltSeen.{heap_bytes_seen};
 ghost use Rattle.enc_meta.specs.HeapKinds.{stream_counted};
-ghost use Rattle.enc_merged.specs.Held.{il_merged as merged_il};
-ghost use Rattle.enc_merged.specs.Merged.{guids_joined};
+ghost use Rattle.enc_merged_delta.specs.Held.{il_merged as merged_il};
+ghost use Rattle.enc_merged_delta.specs.Merged.{guids_joined};
 ghost use Rattle.enc_merge.specs.Writing.{heaps_put};
 
 use crate::last::{Last, in_fours};
@@ -51,7 +51,7 @@ pub(crate) fn heaps_merged(alloc: Global, last: &Last<'_>) -> Result<HeapBytes, 
 }
 
 /// The code of the first, and that of the second at the next multiple of four.
-#[tactic(auto, unfolding(enc_merged::specs::Held::il_merged))]
+#[tactic(auto, unfolding(enc_merged_delta::specs::Held::il_merged))]
 pub(crate) fn il_merged(alloc: Global, last: &Last<'_>) -> Result<Vec<u8>, AllocError>
     ensures { IfOk result (λ il. il.items ≡ merged_il last.now.first last.now.second) }
 {

@@ -2,7 +2,7 @@
 ghost use Rattle.std.specs.Prelude.{◌≡◌, ◌≤◌, ◌<◌, ◌+◌, ◌^◌, length};
 ghost use Rattle.enc_base.specs.Numbers.{padded as fours_of};
 ghost use Rattle.enc_meta.specs.HeapKinds.{stream_counted};
-ghost use Rattle.enc_merged.specs.Held.{shift_of};
+ghost use Rattle.enc_merged_delta.specs.Held.{shift_of};
 ghost use Rattle.enc_merge.specs.Merges.{ShortLast};
 ghost use Rattle.enc_merge.specs.Writing.{AreLast};
 

@@ -5,7 +5,7 @@ ghost use Rattle.enc_delta.specs.Delta.{listed, log_in};
 ghost use Rattle.enc_delta.specs.Rules.{counted, counts};
 ghost use Rattle.enc_rows.specs.Written.{count_at, rows_at};
 ghost use Rattle.enc_schema.specs.Tables.{enc_log, enc_map};
-ghost use Rattle.enc_written.specs.Holds.{entry_numbers};
+ghost use Rattle.enc_list_delta.specs.Holds.{entry_numbers};
 ghost use Rattle.enc_merge.specs.Writing.{AreOfEither, StayBut};
 
 use enc_delta::{Delta, Entry, log_of};

@@ -1,7 +1,7 @@
 //! The delta that stands for the last two deltas of a chain.
 ghost use Rattle.std.specs.Prelude.{◌≡◌, ◌≤◌, false, length, nat_lt, IfOk};
 ghost use Rattle.enc_agg.specs.Seen.{chain_of_all};
-ghost use Rattle.enc_depth.specs.Depth.{IsShallow};
+ghost use Rattle.enc_reference_depth.specs.Depth.{IsShallow};
 ghost use Rattle.enc_ppdb.specs.PdbChain.{pdb_with};
 ghost use Rattle.enc_ppdb.specs.Written.{most_pdb_weight};
 ghost use Rattle.enc_merge.specs.Merges.{AllGo, MergesLast, ShortLast, methods_listed, weight_of_both};
@@ -16,8 +16,8 @@ use crate::methods::methods_of;
 use crate::pdb::{pdb_merged, weigh};
 use enc_agg::Aggregate;
 use enc_base::{Bytes, Token};
-use enc_depth::first_deep;
-use enc_merged::{
+use enc_reference_depth::first_deep;
+use enc_merged_delta::{
     merged_follows_law, merged_is_named_law, merged_means_law, pairs_are_of_both_law,
 };
 use enc_ppdb::PdbChain;

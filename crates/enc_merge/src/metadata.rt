@@ -1,6 +1,6 @@
 //! The metadata of the delta that stands for two (ECMA-335 II.24.2).
 ghost use Rattle.std.specs.Prelude.{true, IfOk};
-ghost use Rattle.enc_depth.specs.Depth.{IsShallow};
+ghost use Rattle.enc_reference_depth.specs.Depth.{IsShallow};
 ghost use Rattle.enc_merge.specs.Writing.{AreOfEither, AreBothTables, IsMetadataOfBoth, MetadataIsRead, chain_of_both};
 
 use crate::heaps::heaps_merged;

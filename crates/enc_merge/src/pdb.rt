@@ -13,7 +13,7 @@ use crate::methods::changed_methods;
 use crate::points::SomePoints;
 use enc_base::Token;
 use enc_meta::BuildFault;
-use enc_pdb_delta::write_methods;
+use enc_pdb_writer::write_methods;
 use enc_ppdb::{PdbChain, pdb_parts};
 use std::alloc::{AllocError, Global};
 

@@ -1,18 +1,18 @@
 //! The rows of the delta that stands for two (ECMA-335 II.22).
 ghost use Rattle.std.specs.Prelude.{◌≡◌, ◌<◌, ◌^◌, ◌+◌, ◌==◌, [], ℕ, true, Some, length, IfOk, OnOk};
-ghost use Rattle.enc_depth.specs.Depth.{IsShallow};
+ghost use Rattle.enc_reference_depth.specs.Depth.{IsShallow};
 ghost use Rattle.enc_meta.specs.Joined.{joined_text};
 ghost use Rattle.enc_plain.specs.Cell.{is_body};
 ghost use Rattle.enc_rows.specs.Written.{rows_at};
 ghost use Rattle.enc_schema.specs.Schema.{column_in};
-ghost use Rattle.enc_merged.specs.Held.{IsNumberOfBoth, RowHeld, place_moved, text_moved};
-ghost use Rattle.enc_merged.specs.Merged.{has_tokens, is_in_either};
+ghost use Rattle.enc_merged_delta.specs.Held.{IsNumberOfBoth, RowHeld, place_moved, text_moved};
+ghost use Rattle.enc_merged_delta.specs.Merged.{has_tokens, is_in_either};
 ghost use Rattle.enc_merge.specs.Writing.{AreOfEither, AreTokensHeld, FrontHeld, IsNewest, chain_of_both, tokens_of};
 
 use crate::last::Last;
 use enc_base::Token;
 use enc_delta::Delta;
-use enc_merged::numbers_are_held_law;
+use enc_merged_delta::numbers_are_held_law;
 use enc_plain::ChainView;
 use enc_rows::TableBuilder;
 use enc_schema::columns::METHOD_DEF_RVA;

@@ -3,11 +3,11 @@ use Rattle.std.proofs.Common.{◌≡◌, ℕ, ◌+◌, ◌*◌, ◌^◌, Bool, t
 use Rattle.std.specs.Prelude.{◌&&◌, ◌==◌, if◌then◌else◌, unwrap_or}
 use Rattle.std.proofs.lemmas.Bool.{eqb-true}
 use Rattle.enc_base.specs.declared.token.Token.{Token}
-use Rattle.enc_index.specs.declared.index.Index.{Index}
-use Rattle.enc_index.specs.declared.index.Entry.{Entry}
-use Rattle.enc_index.specs.declared.key.Key.{Key}
-use Rattle.enc_index.specs.Key.{is_key}
-use Rattle.enc_index.specs.Index.{value_at, entry_key, value_of, latest_one, either}
+use Rattle.enc_key_map.specs.declared.index.Index.{Index}
+use Rattle.enc_key_map.specs.declared.index.Entry.{Entry}
+use Rattle.enc_key_map.specs.declared.key.Key.{Key}
+use Rattle.enc_key_map.specs.Key.{is_key}
+use Rattle.enc_key_map.specs.Index.{value_at, entry_key, value_of, latest_one, either}
 use Rattle.enc_sigs.specs.declared.mix.Mix.{Mix}
 use Rattle.enc_sigs.proofs.Shared.{both_left, both_right}
 use Rattle.enc_plain.specs.Rows.{Rows}

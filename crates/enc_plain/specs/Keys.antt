@@ -6,9 +6,9 @@ use Rattle.enc_sigs.specs.Mix.{mix_of, mixed, mixed_both, mixed_ends, finished}
 use Rattle.enc_sigs.specs.declared.mix.Mix.{Mix}
 use Rattle.enc_sigs.specs.Shape.{sig_shape}
 use Rattle.enc_sigs.specs.declared.kind.SigKind.TheVariants.{TypeSpec}
-use Rattle.enc_index.specs.declared.index.Index.{Index}
-use Rattle.enc_index.specs.declared.key.Key.{Key}
-use Rattle.enc_index.specs.Index.{value_at}
+use Rattle.enc_key_map.specs.declared.index.Index.{Index}
+use Rattle.enc_key_map.specs.declared.key.Key.{Key}
+use Rattle.enc_key_map.specs.Index.{value_at}
 use Rattle.enc_plain.specs.Rows.{Rows, bytes_at, token_at}
 use Rattle.enc_plain.specs.Signatures.{kind_in_table, signature_column}
 use Rattle.enc_schema.specs.Tables as tables

@@ -1,6 +1,6 @@
 //! Rows with the keys of those of their references that were asked for, so that each is found once.
 ghost use Rattle.std.specs.Prelude.{◌≡◌, ℕ, ◌+◌, ◌*◌, ◌^◌, ◌<◌, List, Some, IfSome, length, is_some};
-ghost use Rattle.enc_index.specs.declared.key.Key.{Key as TheKey};
+ghost use Rattle.enc_key_map.specs.declared.key.Key.{Key as TheKey};
 ghost use Rattle.enc_plain.specs.Cell.{blobs, kind_in};
 ghost use Rattle.enc_plain.specs.Keys.{names_key, scoped_key, ref_key, spec_shape, spec_key, key_of, signature_key};
 ghost use Rattle.enc_plain.specs.Rows.{bytes_at, AreStoredAt};
@@ -11,7 +11,7 @@ use crate::keys::{assembly_ref_key, module_ref_key, names_key, scope_of, spec_of
 use crate::known::spec_place;
 use crate::signature::kind_in_table;
 use enc_base::Token;
-use enc_index::{Entry, Index, Key};
+use enc_key_map::{Entry, Index, Key};
 use enc_schema::tables::{ASSEMBLY_REF, MODULE_REF, TYPE_REF, TYPE_SPEC};
 use enc_sigs::{Mix, SigKind, coded_token, finished, mix_of, mixed_both, sig_shape};
 use std::alloc::{AllocError, Global};

@@ -7,13 +7,13 @@ use Rattle.std.proofs.lemmas.List.{reverse-append, reverse-reverse, length-appen
 use Rattle.std.proofs.lemmas.Option.{get_or_from_slice_get, slice_get_within}
 use Rattle.enc_base.specs.Token.{is_token, nth_row}
 use Rattle.enc_base.specs.declared.token.Token.{Token}
-use Rattle.enc_index.specs.declared.key.Key.{Key}
-use Rattle.enc_index.specs.Key.{is_key}
-use Rattle.enc_index.specs.Index.{value_at, latest, either}
-use Rattle.enc_places.specs.declared.places.Listings.{Listings}
-use Rattle.enc_places.specs.declared.places.Places.{Places}
-use Rattle.enc_places.specs.Places.{place_key, places_kept, generation_kept, BeginWith, KeepsPlaces, KeepsAllPlaces, one_place, AreOfThose}
-use Rattle.enc_places.proofs.Keeping.{get_front, get_behind, those_behind, all_listings, keeps_more, keeps_less, keeps_none, own_within, own_few, last_with}
+use Rattle.enc_key_map.specs.declared.key.Key.{Key}
+use Rattle.enc_key_map.specs.Key.{is_key}
+use Rattle.enc_key_map.specs.Index.{value_at, latest, either}
+use Rattle.enc_generation_map.specs.declared.places.Listings.{Listings}
+use Rattle.enc_generation_map.specs.declared.places.Places.{Places}
+use Rattle.enc_generation_map.specs.Places.{place_key, places_kept, generation_kept, BeginWith, KeepsPlaces, KeepsAllPlaces, one_place, AreOfThose}
+use Rattle.enc_generation_map.proofs.Keeping.{get_front, get_behind, those_behind, all_listings, keeps_more, keeps_less, keeps_none, own_within, own_few, last_with}
 use Rattle.enc_plain.specs.SoundDebug.{IsSoundPdb}
 use Rattle.enc_plain.specs.declared.place.RowPlace.{RowPlace}
 use Rattle.enc_rows.specs.Source.{Source}

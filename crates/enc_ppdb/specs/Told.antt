@@ -3,9 +3,9 @@ use Rattle.std.specs.Prelude.{ℕ, suc, ◌+◌, ◌^◌, ◌<◌, reverse, Bool
 use Rattle.std.specs.List.{list_any}
 use Rattle.enc_base.specs.Token.{is_token}
 use Rattle.enc_base.specs.declared.token.Token.{Token}
-use Rattle.enc_places.specs.declared.places.Listings.{Listings}
-use Rattle.enc_places.specs.declared.places.Places.{Places}
-use Rattle.enc_places.specs.Places.{one_place, KeepsPlaces, KeepsAllPlaces, AreListings}
+use Rattle.enc_generation_map.specs.declared.places.Listings.{Listings}
+use Rattle.enc_generation_map.specs.declared.places.Places.{Places}
+use Rattle.enc_generation_map.specs.Places.{one_place, KeepsPlaces, KeepsAllPlaces, AreListings}
 use Rattle.enc_plain.specs.SoundDebug.{IsSoundPdb}
 use Rattle.enc_plain.specs.declared.place.RowPlace.{RowPlace}
 use Rattle.enc_rows.specs.Source.{Source}

@@ -6,14 +6,14 @@ ghost use Rattle.enc_ppdb.specs.Sound.{KeepsSound};
 ghost use Rattle.enc_ppdb.specs.KnownAt.{known_at};
 ghost use Rattle.enc_ppdb.specs.PlacedAt.{file_number};
 ghost use Rattle.enc_ppdb.specs.Told.{every_told, AreToldBy};
-ghost use Rattle.enc_places.specs.Places.{KeepsPlaces};
+ghost use Rattle.enc_generation_map.specs.Places.{KeepsPlaces};
 
 use crate::known::{Known, document_at, points_at};
 use crate::methods::MethodList;
 use crate::pdb::{Pdb, PdbDelta};
 use crate::told::told;
 use enc_base::Token;
-use enc_places::{Listings, Places};
+use enc_generation_map::{Listings, Places};
 use enc_plain::{DocumentRef, PointSource};
 use enc_seqpoints::Points;
 use std::alloc::{AllocError, Global};

@@ -21,7 +21,7 @@ mod write;
 mod writer;
 
 pub use chain::{EarlierPdb, PdbChain};
-pub use enc_places::Listings;
+pub use enc_generation_map::Listings;
 pub use hash::{SHA_256, source_hash};
 pub use laws::pdb_means_law;
 pub use methods::MethodList;

@@ -1,14 +1,14 @@
 //! The methods of which a delta tells something, kept for look-ups.
 ghost use Rattle.std.specs.Prelude.{◌≡◌, ℕ, ◌+◌, ◌<◌, ◌^◌, ◌++◌, List, IfOk, map};
 ghost use Rattle.enc_base.specs.declared.token.Token.{Token as TheToken};
-ghost use Rattle.enc_places.specs.Places.{places_kept, AreOfThose};
+ghost use Rattle.enc_generation_map.specs.Places.{places_kept, AreOfThose};
 ghost use Rattle.enc_ppdb.specs.Fault.{named_tokens};
 ghost use Rattle.enc_ppdb.specs.Told.{method_named_by, told_methods, own_told};
 
 use crate::methods::MethodList;
 use crate::pdb::PdbDelta;
 use enc_base::Token;
-use enc_places::{Listings, Places};
+use enc_generation_map::{Listings, Places};
 use enc_plain::RowPlace;
 use std::alloc::{AllocError, Global};
 

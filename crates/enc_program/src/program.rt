@@ -1,10 +1,10 @@
 //! From the words behind a program's name to its status.
 ghost use Rattle.std.specs.Prelude.{◌≡◌, None, IfSome, map};
-ghost use Rattle.enc_words.specs.Words.{texts};
-ghost use Rattle.enc_top.specs.Served.{course, IsServed};
+ghost use Rattle.enc_command_line.specs.Words.{texts};
+ghost use Rattle.enc_commands.specs.Served.{course, IsServed};
 
 use enc_outside::{FileFault, FileStore, OutSink, Sink, Store};
-use enc_top::run_tool;
+use enc_commands::run_tool;
 use enc_watch::{Cover, Trace, Watcher};
 use std::alloc::{AllocError, Global};
 use std::env;

@@ -3,7 +3,7 @@ use Rattle.std.proofs.Common.{◌≡◌, ℕ, zero, suc, ◌≤◌, Bool, true, 
 use Rattle.std.proofs.lemmas.Bool.Decides.{nat_tests}
 use Rattle.enc_base.specs.declared.token.Token.{Token}
 use Rattle.enc_frames.specs.Machine.{code_meant}
-use Rattle.enc_kinds.specs.Members.{method_body, body_of_cell}
+use Rattle.enc_machine_types.specs.Members.{method_body, body_of_cell}
 use Rattle.enc_opcodes.specs.Body.{Body, Code, body_of, instruction_told, is_instruction_start, texts_are_there}
 use Rattle.enc_opcodes.specs.Instruction.{Instruction, instructions_of}
 use Rattle.enc_opcodes.specs.Sound.{begins_at}

@@ -4,7 +4,7 @@ use Rattle.std.specs.Prelude.{is_some, reverse, unwrap_or}
 use Rattle.std.proofs.lemmas.List.{length-reverse}
 use Rattle.std.specs.List.{list_any}
 use Rattle.enc_frames.specs.Machine.{PlainCode, Frame, Thread, Task, going, ended, trapped, MachineState, code_meant}
-use Rattle.enc_kinds.specs.Members.{local_kinds, method_body, run_body, call_shape, if_runs, runs_body}
+use Rattle.enc_machine_types.specs.Members.{local_kinds, method_body, run_body, call_shape, if_runs, runs_body}
 use Rattle.enc_objects.specs.declared.kind.Kind.{Kind}
 use Rattle.enc_objects.specs.declared.value.Value.{Value}
 use Rattle.enc_opcodes.specs.Body.{Body, body_of, is_instruction_start}

@@ -2,7 +2,7 @@
 use Rattle.std.proofs.Common.{◌≡◌, ℕ, true, false, List, Option, Some, None, sym, ap, ◌∙◌, option_map}
 use Rattle.std.specs.Prelude.{is_some}
 use Rattle.enc_frames.specs.Machine.{code_meant}
-use Rattle.enc_kinds.specs.Members.{body_of_cell, run_body}
+use Rattle.enc_machine_types.specs.Members.{body_of_cell, run_body}
 use Rattle.enc_objects.specs.declared.kind.Kind.{Kind}
 use Rattle.enc_opcodes.specs.Body.{Body, code_seen}
 use Rattle.enc_base.specs.declared.token.Token.{Token}

@@ -5,7 +5,7 @@ use Rattle.std.specs.List.{list_any}
 use Rattle.std.specs.Option.{option_map_or}
 use Rattle.enc_base.specs.declared.token.Token.{Token}
 use Rattle.enc_frames.specs.Machine.{PlainCode, Frame, Thread, Task, going, ended, trapped, MachineState}
-use Rattle.enc_kinds.specs.Members.{local_kinds, method_body, run_body}
+use Rattle.enc_machine_types.specs.Members.{local_kinds, method_body, run_body}
 use Rattle.enc_objects.specs.Values.{default_of}
 use Rattle.enc_objects.specs.declared.kind.Kind.{Kind}
 use Rattle.enc_objects.specs.declared.kind.Kind.TheVariants as kind

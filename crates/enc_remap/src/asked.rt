@@ -1,7 +1,7 @@
 //! Whether a frame could go on in the newest body of its method, for a host that has frames of its own.
 ghost use Rattle.std.specs.Prelude.{◌≡◌, ℕ, ◌<◌, ◌^◌, List, Option, Some, length, option_map, is_some, IfOk, IfSome, IsTrue};
 ghost use Rattle.enc_frames.specs.Machine.{code_meant};
-ghost use Rattle.enc_kinds.specs.Members.{method_body};
+ghost use Rattle.enc_machine_types.specs.Members.{method_body};
 ghost use Rattle.enc_opcodes.specs.Body.{body_of, code_seen};
 ghost use Rattle.enc_remap.specs.Asked.{broken_of, may_remap as rule_of_remap, version_seen};
 ghost use Rattle.enc_remap.specs.Remap.{newest_code};

@@ -1,6 +1,6 @@
 //! Where a frame is to go on, or the first rule that the move breaks.
 ghost use Rattle.std.specs.Prelude.{◌≡◌, Some, length, option_map, is_some, IfOk, IfErr, IfSome};
-ghost use Rattle.enc_kinds.specs.Members.{method_body, run_body};
+ghost use Rattle.enc_machine_types.specs.Members.{method_body, run_body};
 ghost use Rattle.enc_opcodes.specs.Body.{body_of, code_seen};
 ghost use Rattle.enc_remap.specs.Remap.{first_broken, led_from, move_of, move_rules};
 ghost use Rattle.enc_remap.specs.Seen.{IsGoal, frame_rules, version_codes};
@@ -10,7 +10,7 @@ ghost use Rattle.enc_vm.specs.CallsSeen.{AreBodiesOf};
 
 use crate::kinds::{kinds_behind, kinds_of};
 use enc_base::Token;
-use enc_kinds::{Kinds, method_shape, runs_body};
+use enc_machine_types::{Kinds, method_shape, runs_body};
 use enc_opcodes::CodeRef;
 use enc_plain::{ModuleView, PairList};
 use enc_unwind::is_handled;

@@ -1,10 +1,10 @@
 //! The kinds of local variables of two bodies.
 ghost use Rattle.std.specs.Prelude.{◌≡◌, [], unwrap_or};
-ghost use Rattle.enc_kinds.specs.Members.{local_kinds};
+ghost use Rattle.enc_machine_types.specs.Members.{local_kinds};
 ghost use Rattle.enc_remap.specs.Remap.{kinds_behind, kind_number};
 
 use enc_base::Token;
-use enc_kinds::{Kinds, local_kinds};
+use enc_machine_types::{Kinds, local_kinds};
 use enc_objects::Kind;
 use enc_plain::ModuleView;
 

@@ -12,15 +12,15 @@ use Rattle.enc_opcodes.specs.declared.code.Clause.{Clause}
 use Rattle.enc_plain.specs.Cell.{numbers, kind_in}
 use Rattle.enc_plain.specs.Chain.{Chain}
 use Rattle.enc_plain.specs.Rows.{Rows}
-use Rattle.enc_edits.specs.Sizes.{instr_meant, length_of_code, placed}
-use Rattle.enc_edits.specs.declared.body.BodyValue.{BodyValue}
-use Rattle.enc_edits.specs.declared.body.InstrValue.{InstrValue}
-use Rattle.enc_edits.specs.declared.edit.Edit.{Edit}
-use Rattle.enc_edits.specs.declared.edit.EditList.{EditList}
+use Rattle.enc_edit_list.specs.Sizes.{instr_meant, length_of_code, placed}
+use Rattle.enc_edit_list.specs.declared.body.BodyValue.{BodyValue}
+use Rattle.enc_edit_list.specs.declared.body.InstrValue.{InstrValue}
+use Rattle.enc_edit_list.specs.declared.edit.Edit.{Edit}
+use Rattle.enc_edit_list.specs.declared.edit.EditList.{EditList}
 use Rattle.enc_rules.specs.Edited.{body_stated, rows_edited}
 use Rattle.enc_rules.specs.Listed.{count_after, rows_listed, body_given}
 use Rattle.enc_rules.specs.Marked.{is_marked, value_is_sound, clause_is_sound, body_breaks}
-use Rattle.enc_edits.specs.Reach.{branches_reach}
+use Rattle.enc_edit_list.specs.Reach.{branches_reach}
 use Rattle.enc_rules.specs.Rules.{room_of, room_of_edit, gives_body, is_il, given_stands, body_is_missing_or_stands, body_is_broken}
 use Rattle.enc_rules.specs.Sums.{most_room}
 use Rattle.enc_rules.proofs.EditAt.{judged_at}

@@ -5,7 +5,7 @@ use Rattle.enc_base.specs.declared.token.Token.{Token}
 use Rattle.enc_sigs.specs.Grammar.{is_counted, table_of}
 use Rattle.enc_plain.specs.Rows.{Rows, bytes_at}
 use Rattle.enc_plain.specs.Signatures.{is_signature}
-use Rattle.enc_edits.specs.declared.edit.Edit.{Edit}
+use Rattle.enc_edit_list.specs.declared.edit.Edit.{Edit}
 use Rattle.enc_rules.specs.Rules.{new_signature_breaks}
 
 -- two functions with the same values are one

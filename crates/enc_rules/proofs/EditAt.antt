@@ -10,9 +10,9 @@ use Rattle.enc_schema.specs.Schema.{columns_in}
 use Rattle.enc_plain.specs.Cell.{blobs, kind_in}
 use Rattle.enc_plain.specs.Chain.{Chain}
 use Rattle.enc_plain.specs.Module.{Module}
-use Rattle.enc_edits.specs.declared.edit.Edit.{Edit}
-use Rattle.enc_edits.specs.declared.edit.Edit.TheVariants.{Add, Body as Replace}
-use Rattle.enc_edits.specs.declared.edit.EditList.{EditList}
+use Rattle.enc_edit_list.specs.declared.edit.Edit.{Edit}
+use Rattle.enc_edit_list.specs.declared.edit.Edit.TheVariants.{Add, Body as Replace}
+use Rattle.enc_edit_list.specs.declared.edit.EditList.{EditList}
 use Rattle.enc_rules.specs.Edited.{row_edited, rows_behind, rows_edited}
 use Rattle.enc_rules.specs.First.{first_such}
 use Rattle.enc_rules.specs.Rules.{at_edit}

@@ -13,8 +13,8 @@ use Rattle.enc_meta.specs.declared.builder.BuildFault.TheVariants.{Memory, TooLa
 use Rattle.enc_plain.proofs.Columns.{both_left, both_right}
 use Rattle.enc_plain.specs.Rows.{Rows}
 use Rattle.enc_plain.specs.Chain.{Chain}
-use Rattle.enc_edits.specs.declared.edit.Edit.{Edit}
-use Rattle.enc_edits.specs.declared.edit.EditList.{EditList}
+use Rattle.enc_edit_list.specs.declared.edit.Edit.{Edit}
+use Rattle.enc_edit_list.specs.declared.edit.EditList.{EditList}
 use Rattle.enc_meta.specs.Joined.{joined_lengths}
 use Rattle.enc_rules.proofs.Fronts.{front_of}
 use Rattle.enc_rules.specs.Listed.{rows_listed}

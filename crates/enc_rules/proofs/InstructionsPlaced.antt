@@ -3,10 +3,10 @@ use Rattle.std.proofs.Common.{◌≡◌, ℕ, zero, suc, ◌+◌, ◌-◌, ◌<�
 use Rattle.std.specs.Prelude.{◌&&◌, ◌||◌, ◌==◌, replicate}
 use Rattle.std.proofs.lemmas.Bool.Decides.{nat_tests}
 use Rattle.enc_opcodes.specs.Sound.{instruction_size, begins_at}
-use Rattle.enc_edits.specs.Sizes.{instr_meant, length_of_code, placed}
-use Rattle.enc_edits.specs.declared.body.InstrValue.{InstrValue}
+use Rattle.enc_edit_list.specs.Sizes.{instr_meant, length_of_code, placed}
+use Rattle.enc_edit_list.specs.declared.body.InstrValue.{InstrValue}
 use Rattle.enc_rules.specs.Marked.{is_marked}
-use Rattle.enc_edits.specs.Reach.{argument_reaches, branches_reach}
+use Rattle.enc_edit_list.specs.Reach.{argument_reaches, branches_reach}
 use Rattle.enc_rules.proofs.Fronts.{front_is}
 
 abbrev behind : List InstrValue → List InstrValue

@@ -4,9 +4,9 @@ use Rattle.std.specs.Prelude.{◌^◌, ◌&&◌, ◌||◌, not, min, sum_by, nat
 use Rattle.std.specs.List.{list_all}
 use Rattle.enc_seqpoints.specs.Spelling.{blob_of}
 use Rattle.enc_plain.specs.Chain.{Chain}
-use Rattle.enc_edits.specs.declared.edit.DocumentValue.{DocumentValue}
-use Rattle.enc_edits.specs.declared.edit.Edit.{Edit}
-use Rattle.enc_edits.specs.declared.edit.EditList.{EditList}
+use Rattle.enc_edit_list.specs.declared.edit.DocumentValue.{DocumentValue}
+use Rattle.enc_edit_list.specs.declared.edit.Edit.{Edit}
+use Rattle.enc_edit_list.specs.declared.edit.EditList.{EditList}
 use Rattle.enc_rules.specs.Listed.{points_given}
 use Rattle.enc_rules.specs.Rules.{has_points, has_document, room_of_points, room_of_document, points_are_bad}
 use Rattle.enc_rules.specs.Sums.{most_room, points_break}

@@ -4,7 +4,7 @@ use Rattle.std.specs.Prelude.{if◌then◌else◌}
 use Rattle.enc_base.specs.Order.{or_else, first_below}
 use Rattle.enc_base.proofs.First.{silent}
 use Rattle.enc_plain.specs.Chain.{Chain}
-use Rattle.enc_edits.specs.declared.edit.EditList.{EditList}
+use Rattle.enc_edit_list.specs.declared.edit.EditList.{EditList}
 use Rattle.enc_rules.specs.First.{list_rules, edit_rules, first_of_list, first_at, first_edit}
 use Rattle.enc_rules.specs.Rules.{heap_passes}
 

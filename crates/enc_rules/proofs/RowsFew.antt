@@ -18,13 +18,13 @@ use Rattle.enc_plain.specs.Sound.{row_count}
 use Rattle.enc_delta.specs.declared.pairs.Pair.{Pair}
 use Rattle.enc_delta.specs.Members.{ArePairs, pair_seen}
 use Rattle.enc_seqpoints.specs.declared.point.Point.{Point}
-use Rattle.enc_edits.specs.declared.body.BodyValue.{BodyValue}
-use Rattle.enc_edits.specs.declared.edit.Cell.{Cell as CellValue}
-use Rattle.enc_edits.specs.declared.edit.Edit.{Edit}
-use Rattle.enc_edits.specs.declared.edit.Edit.TheVariants.{Add, Body as Replace}
-use Rattle.enc_edits.specs.declared.edit.EditList.{EditList}
-use Rattle.enc_edits.specs.Form.{edit_fits, list_fits, is_known_table, owner_fits, cells_fit, stated_columns, code_fits}
-use Rattle.enc_edits.specs.Added.{adds_to, adding, rows_added}
+use Rattle.enc_edit_list.specs.declared.body.BodyValue.{BodyValue}
+use Rattle.enc_edit_list.specs.declared.edit.Cell.{Cell as CellValue}
+use Rattle.enc_edit_list.specs.declared.edit.Edit.{Edit}
+use Rattle.enc_edit_list.specs.declared.edit.Edit.TheVariants.{Add, Body as Replace}
+use Rattle.enc_edit_list.specs.declared.edit.EditList.{EditList}
+use Rattle.enc_edit_list.specs.Form.{edit_fits, list_fits, is_known_table, owner_fits, cells_fit, stated_columns, code_fits}
+use Rattle.enc_edit_list.specs.Added.{adds_to, adding, rows_added}
 use Rattle.enc_rules.specs.Edited.{row_edited, attached_by, attached_behind, attached_in}
 use Rattle.enc_rules.specs.Listed.{count_after}
 use Rattle.enc_rules.specs.Rules.{there_are_too_many, has_owner}

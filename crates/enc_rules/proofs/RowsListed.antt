@@ -10,11 +10,11 @@ use Rattle.enc_plain.specs.Cell.{Cell, body, field}
 use Rattle.enc_plain.specs.Chain.{Chain}
 use Rattle.enc_plain.specs.Module.{cells_of}
 use Rattle.enc_plain.specs.Rows.{cell_at, number_at, bytes_at, token_at, number_of_cell, bytes_of_cell, token_of_cell}
-use Rattle.enc_edits.specs.declared.body.BodyValue.{BodyValue}
-use Rattle.enc_edits.specs.declared.edit.Cell.{Cell as CellValue}
-use Rattle.enc_edits.specs.declared.edit.Cell.TheVariants as cell
-use Rattle.enc_edits.specs.declared.edit.Edit.{Edit}
-use Rattle.enc_edits.specs.declared.edit.Edit.TheVariants.{Add, Body as Replace}
+use Rattle.enc_edit_list.specs.declared.body.BodyValue.{BodyValue}
+use Rattle.enc_edit_list.specs.declared.edit.Cell.{Cell as CellValue}
+use Rattle.enc_edit_list.specs.declared.edit.Cell.TheVariants as cell
+use Rattle.enc_edit_list.specs.declared.edit.Edit.{Edit}
+use Rattle.enc_edit_list.specs.declared.edit.Edit.TheVariants.{Add, Body as Replace}
 use Rattle.enc_rules.specs.Edited.{cell_stated, body_stated, cells_stated}
 use Rattle.enc_rules.specs.Listed.{AfterList, edit_of, cells_added, rows_listed}
 use Rattle.enc_rules.specs.Known.{stated_in, stated_of, number_of_value, bytes_of_value, token_of_value, cell_key, blobs_listed, listed_rows}

@@ -5,7 +5,7 @@ use Rattle.std.proofs.lemmas.Bool.Decides.{nat_tests}
 use Rattle.enc_base.specs.Order.{or_else, first_below}
 use Rattle.enc_base.proofs.First.{first_none, first_suc}
 use Rattle.enc_plain.specs.Chain.{Chain}
-use Rattle.enc_edits.specs.declared.edit.EditList.{EditList}
+use Rattle.enc_edit_list.specs.declared.edit.EditList.{EditList}
 use Rattle.enc_rules.specs.First.{EditRule, first_such, first_at}
 use Rattle.enc_rules.specs.Sooner.{sooner}
 

@@ -12,8 +12,8 @@ use Rattle.enc_schema.specs.Coding.{tables_of, tag_bits, table_with, decoded, na
 use Rattle.enc_schema.proofs.Codes.{decoded_at}
 use Rattle.enc_schema.proofs.TableNames.{tags_fit}
 use Rattle.enc_plain.specs.Sound.{is_tables}
-use Rattle.enc_edits.specs.declared.edit.Cell.{Cell as CellValue}
-use Rattle.enc_edits.specs.Form.{is_stated}
+use Rattle.enc_edit_list.specs.declared.edit.Cell.{Cell as CellValue}
+use Rattle.enc_edit_list.specs.Form.{is_stated}
 use Rattle.enc_rules.specs.Rules.{value_breaks, cells_break}
 
 -- whether the cells from one on break for the columns from another on

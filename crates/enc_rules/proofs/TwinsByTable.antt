@@ -21,10 +21,10 @@ use Rattle.enc_delta.specs.Twins.{Asked, has_twin, twin_fault}
 use Rattle.enc_delta.specs.TwinLaw.{IsLeastOf, child_number}
 use Rattle.enc_delta.proofs.ListsChildren.{two}
 use Rattle.enc_delta.proofs.LeastTwin.{names_least_twin}
-use Rattle.enc_edits.specs.Added.{adds_to, adding, rows_added}
-use Rattle.enc_edits.specs.declared.edit.Edit.{Edit}
-use Rattle.enc_edits.specs.declared.edit.Edit.TheVariants.{Add, Body as Replace}
-use Rattle.enc_edits.specs.declared.edit.EditList.{EditList}
+use Rattle.enc_edit_list.specs.Added.{adds_to, adding, rows_added}
+use Rattle.enc_edit_list.specs.declared.edit.Edit.{Edit}
+use Rattle.enc_edit_list.specs.declared.edit.Edit.TheVariants.{Add, Body as Replace}
+use Rattle.enc_edit_list.specs.declared.edit.EditList.{EditList}
 use Rattle.enc_rules.specs.Edited.{row_edited, attached_by, attached_behind, attached_in}
 use Rattle.enc_rules.specs.First.{first_such}
 use Rattle.enc_rules.specs.Listed.{rows_listed}

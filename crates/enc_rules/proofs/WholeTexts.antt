@@ -16,14 +16,14 @@ use Rattle.enc_plain.specs.Rows.{bytes_of_cell, bytes_at, cell_at}
 use Rattle.enc_plain.specs.Sound.{IsSound, cell_is_sound}
 use Rattle.enc_plain.proofs.CellsOf.{text_there, bytes_absent}
 use Rattle.enc_plain.proofs.Columns.{both_left, both_right}
-use Rattle.enc_edits.specs.Added.{adds_to, adding}
-use Rattle.enc_edits.specs.Form.{cell_fits, cells_fit, stated_columns, edit_fits, list_fits, is_known_table, owner_fits, code_fits}
-use Rattle.enc_edits.specs.declared.body.BodyValue.{BodyValue}
-use Rattle.enc_edits.specs.declared.edit.Cell.{Cell as CellValue}
-use Rattle.enc_edits.specs.declared.edit.Cell.TheVariants as cell
-use Rattle.enc_edits.specs.declared.edit.Edit.{Edit}
-use Rattle.enc_edits.specs.declared.edit.Edit.TheVariants.{Add, Body as Replace}
-use Rattle.enc_edits.specs.declared.edit.EditList.{EditList}
+use Rattle.enc_edit_list.specs.Added.{adds_to, adding}
+use Rattle.enc_edit_list.specs.Form.{cell_fits, cells_fit, stated_columns, edit_fits, list_fits, is_known_table, owner_fits, code_fits}
+use Rattle.enc_edit_list.specs.declared.body.BodyValue.{BodyValue}
+use Rattle.enc_edit_list.specs.declared.edit.Cell.{Cell as CellValue}
+use Rattle.enc_edit_list.specs.declared.edit.Cell.TheVariants as cell
+use Rattle.enc_edit_list.specs.declared.edit.Edit.{Edit}
+use Rattle.enc_edit_list.specs.declared.edit.Edit.TheVariants.{Add, Body as Replace}
+use Rattle.enc_edit_list.specs.declared.edit.EditList.{EditList}
 use Rattle.enc_rules.specs.Edited.{cell_stated, cells_stated}
 use Rattle.enc_rules.specs.Filled.{has_no_zero, have_no_zero}
 use Rattle.enc_rules.specs.Listed.{edit_of, cells_added, rows_listed}

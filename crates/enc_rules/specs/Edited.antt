@@ -8,13 +8,13 @@ use Rattle.enc_plain.specs.Cell.{Cell, number, text, blob, guid, refer, body, fi
 use Rattle.enc_plain.specs.Module.{Module, cells_of}
 use Rattle.enc_plain.specs.Apply.{Change, Attached, apply, attach_all}
 use Rattle.enc_plain.specs.Sound.{row_count}
-use Rattle.enc_edits.specs.declared.body.BodyValue.{BodyValue}
-use Rattle.enc_edits.specs.declared.edit.Cell.{Cell as CellValue}
-use Rattle.enc_edits.specs.declared.edit.Cell.TheVariants as cell
-use Rattle.enc_edits.specs.declared.edit.Edit.{Edit}
-use Rattle.enc_edits.specs.declared.edit.Edit.TheVariants.{Add, Body as Replace}
-use Rattle.enc_edits.specs.Sizes.{length_of_code, placed}
-use Rattle.enc_edits.specs.Added.{rows_added}
+use Rattle.enc_edit_list.specs.declared.body.BodyValue.{BodyValue}
+use Rattle.enc_edit_list.specs.declared.edit.Cell.{Cell as CellValue}
+use Rattle.enc_edit_list.specs.declared.edit.Cell.TheVariants as cell
+use Rattle.enc_edit_list.specs.declared.edit.Edit.{Edit}
+use Rattle.enc_edit_list.specs.declared.edit.Edit.TheVariants.{Add, Body as Replace}
+use Rattle.enc_edit_list.specs.Sizes.{length_of_code, placed}
+use Rattle.enc_edit_list.specs.Added.{rows_added}
 
 -- the cell that a value states; a token of row 0 names nothing
 abbrev pub cell_stated : CellValue → Cell

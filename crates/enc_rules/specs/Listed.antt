@@ -7,11 +7,11 @@ use Rattle.enc_plain.specs.Cell.{Cell}
 use Rattle.enc_plain.specs.Module.{cells_of}
 use Rattle.enc_plain.specs.Rows.{Rows}
 use Rattle.enc_plain.specs.Chain.{Chain, rows_before}
-use Rattle.enc_edits.specs.declared.body.BodyValue.{BodyValue}
-use Rattle.enc_edits.specs.declared.edit.Edit.{Edit}
-use Rattle.enc_edits.specs.declared.edit.Edit.TheVariants.{Add, Body as Replace}
-use Rattle.enc_edits.specs.declared.edit.EditList.{EditList}
-use Rattle.enc_edits.specs.Added.{adding, rows_added}
+use Rattle.enc_edit_list.specs.declared.body.BodyValue.{BodyValue}
+use Rattle.enc_edit_list.specs.declared.edit.Edit.{Edit}
+use Rattle.enc_edit_list.specs.declared.edit.Edit.TheVariants.{Add, Body as Replace}
+use Rattle.enc_edit_list.specs.declared.edit.EditList.{EditList}
+use Rattle.enc_edit_list.specs.Added.{adding, rows_added}
 use Rattle.enc_rules.specs.Edited.{cells_stated}
 
 -- a chain, and an edit list after it

@@ -5,9 +5,9 @@ use Rattle.enc_opcodes.specs.Body.{handler_meant}
 use Rattle.enc_opcodes.specs.Sound.{argument_is_sound, handler_is_sound}
 use Rattle.enc_opcodes.specs.declared.code.Clause.{Clause}
 use Rattle.enc_plain.specs.Rows.{Rows}
-use Rattle.enc_edits.specs.Sizes.{arg_meant}
-use Rattle.enc_edits.specs.declared.body.InstrValue.{InstrValue}
-use Rattle.enc_edits.specs.declared.edit.Edit.{Edit}
+use Rattle.enc_edit_list.specs.Sizes.{arg_meant}
+use Rattle.enc_edit_list.specs.declared.body.InstrValue.{InstrValue}
+use Rattle.enc_edit_list.specs.declared.edit.Edit.{Edit}
 use Rattle.enc_rules.specs.Listed.{body_given}
 use Rattle.enc_rules.specs.Rules.{gives_body, is_il, body_is_missing_or_stands}
 

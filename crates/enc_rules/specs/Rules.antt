@@ -22,19 +22,19 @@ use Rattle.enc_plain.specs.Sound.{can_name}
 use Rattle.enc_delta.specs.Rules.{may_change}
 use Rattle.enc_delta.specs.Changes.{asked_of, is_out_of_layout, has_no_slot, are_locals}
 use Rattle.enc_delta.specs.Twins.{has_twin}
-use Rattle.enc_edits.specs.declared.body.ArgValue.{ArgValue}
-use Rattle.enc_edits.specs.declared.body.ArgValue.TheVariants as arg
-use Rattle.enc_edits.specs.declared.body.BodyValue.{BodyValue}
-use Rattle.enc_edits.specs.declared.body.InstrValue.{InstrValue}
-use Rattle.enc_edits.specs.declared.edit.Cell.{Cell as CellValue}
-use Rattle.enc_edits.specs.declared.edit.Cell.TheVariants as cell
-use Rattle.enc_edits.specs.declared.edit.DocumentValue.{DocumentValue}
-use Rattle.enc_edits.specs.declared.edit.Edit.{Edit}
-use Rattle.enc_edits.specs.declared.edit.Edit.TheVariants.{Add, Body as Replace}
-use Rattle.enc_edits.specs.declared.edit.EditList.{EditList}
-use Rattle.enc_edits.specs.Form.{stated_columns}
-use Rattle.enc_edits.specs.Reach.{branches_reach}
-use Rattle.enc_edits.specs.Sizes.{length_of_code}
+use Rattle.enc_edit_list.specs.declared.body.ArgValue.{ArgValue}
+use Rattle.enc_edit_list.specs.declared.body.ArgValue.TheVariants as arg
+use Rattle.enc_edit_list.specs.declared.body.BodyValue.{BodyValue}
+use Rattle.enc_edit_list.specs.declared.body.InstrValue.{InstrValue}
+use Rattle.enc_edit_list.specs.declared.edit.Cell.{Cell as CellValue}
+use Rattle.enc_edit_list.specs.declared.edit.Cell.TheVariants as cell
+use Rattle.enc_edit_list.specs.declared.edit.DocumentValue.{DocumentValue}
+use Rattle.enc_edit_list.specs.declared.edit.Edit.{Edit}
+use Rattle.enc_edit_list.specs.declared.edit.Edit.TheVariants.{Add, Body as Replace}
+use Rattle.enc_edit_list.specs.declared.edit.EditList.{EditList}
+use Rattle.enc_edit_list.specs.Form.{stated_columns}
+use Rattle.enc_edit_list.specs.Reach.{branches_reach}
+use Rattle.enc_edit_list.specs.Sizes.{length_of_code}
 use Rattle.enc_rules.specs.Edited.{body_stated, rows_edited, attached_by, attached_in}
 use Rattle.enc_rules.specs.Listed.{count_after, rows_listed, body_given, points_given}
 

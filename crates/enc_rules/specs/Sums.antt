@@ -2,7 +2,7 @@
 use Rattle.std.specs.Prelude.{ℕ, ◌^◌, Bool, not, ◌&&◌, ◌||◌, nat_lt, is_ok}
 use Rattle.std.specs.List.{list_all}
 use Rattle.enc_seqpoints.specs.Spelling.{blob_of}
-use Rattle.enc_edits.specs.declared.edit.Edit.{Edit}
+use Rattle.enc_edit_list.specs.declared.edit.Edit.{Edit}
 use Rattle.enc_rules.specs.Listed.{points_given}
 use Rattle.enc_rules.specs.Rules.{has_points, has_document}
 

@@ -3,11 +3,11 @@ ghost use Rattle.std.specs.Prelude.{◌≡◌, ◌≤◌, ◌<◌, ◌^◌, ◌&
 ghost use Rattle.std.specs.List.{list_all};
 ghost use Rattle.enc_opcodes.specs.Body.{is_named, is_user, range_is_good, kind_meant, nil_or, locals_are_good};
 ghost use Rattle.enc_opcodes.specs.Sound.{handler_kind_is_sound};
-ghost use Rattle.enc_edits.specs.Sizes.{length_of_code};
+ghost use Rattle.enc_edit_list.specs.Sizes.{length_of_code};
 ghost use Rattle.enc_rules.specs.First.{first_such};
 ghost use Rattle.enc_rules.specs.Known.{listed_counts, listed_rows};
 ghost use Rattle.enc_rules.specs.Marked.{is_marked, value_is_sound, clause_is_sound, body_breaks};
-ghost use Rattle.enc_edits.specs.Reach.{branches_reach};
+ghost use Rattle.enc_edit_list.specs.Reach.{branches_reach};
 ghost use Rattle.enc_rules.specs.Rules.{room_of_edit, is_il, given_stands, body_is_broken};
 ghost use Rattle.enc_rules.specs.Sums.{most_room};
 
@@ -16,7 +16,7 @@ use crate::instructions::{branches_reach, length_of_code, marks_of};
 use crate::signatures::body_given;
 use crate::sums::capped;
 use enc_base::Token;
-use enc_edits::{ArgValue, BodyValue, Edit, InstrValue};
+use enc_edit_list::{ArgValue, BodyValue, Edit, InstrValue};
 use enc_opcodes::{Clause, Operand};
 use enc_plain::{CellView, ChainView};
 use enc_schema::columns::METHOD_DEF_IMPL_FLAGS;

@@ -1,6 +1,6 @@
 //! The tokens that edits name.
 ghost use Rattle.std.specs.Prelude.{◌≡◌, ◌<◌, ◌^◌, length, filter, drop, slice_get, Some, option_map, if◌then◌else◌, IfSome};
-ghost use Rattle.enc_edits.specs.Form.{is_stated, begins_with_rva};
+ghost use Rattle.enc_edit_list.specs.Form.{is_stated, begins_with_rva};
 ghost use Rattle.enc_plain.specs.Sound.{can_name};
 ghost use Rattle.enc_schema.specs.Schema.{columns_in};
 ghost use Rattle.enc_rules.specs.First.{first_such};
@@ -9,7 +9,7 @@ ghost use Rattle.enc_rules.specs.Rules.{names_row, value_breaks, cells_break, to
 
 use crate::context::Context;
 use enc_base::Token;
-use enc_edits::{Cell, Edit};
+use enc_edit_list::{Cell, Edit};
 use enc_plain::ChainView;
 use enc_schema::tables::{FIELD_RVA, METHOD_DEF};
 use enc_schema::{Column, columns_of, encode_coded};
@@ -107,7 +107,7 @@ fn columns_behind_rva(table: u8) -> &'static [Column]
 }
 
 /// The edit has a cell that names no row, or a method that is none.
-#[tactic(auto, unfolding(enc_edits::specs::Form::stated_columns))]
+#[tactic(auto, unfolding(enc_edit_list::specs::Form::stated_columns))]
 fn token_breaks<C: ChainView>(context: &Context<'_, C>, edit: &Edit) -> bool
     ensures { result ≡ token_breaks (listed_counts context.now) edit.now }
 {

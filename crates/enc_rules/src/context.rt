@@ -11,7 +11,7 @@ ghost use Rattle.enc_rules.specs.Known.{stated_of, stated_in, number_of_value, b
 
 use enc_base::{Counts, Token};
 use enc_delta::Pair;
-use enc_edits::{Added, Cell, Edit, EditList};
+use enc_edit_list::{Added, Cell, Edit, EditList};
 use enc_plain::{CellView, ChainView, Viewed};
 use enc_schema::tables::{FIELD_RVA, METHOD_DEF};
 use std::marker::Model;

@@ -1,7 +1,7 @@
 //! The first rule that an edit list breaks after its chain.
 ghost use Rattle.std.specs.Prelude.{◌≡◌, false, IfOk, IsTrue, length};
 ghost use Rattle.enc_base.specs.Order.{first_below};
-ghost use Rattle.enc_edits.specs.Form.{list_fits};
+ghost use Rattle.enc_edit_list.specs.Form.{list_fits};
 ghost use Rattle.enc_plain.specs.Sound.{IsSound};
 ghost use Rattle.enc_rules.specs.First.{first_at, edit_rules, first_edit};
 ghost use Rattle.enc_rules.specs.Rules.{heaps_are_full};
@@ -17,7 +17,7 @@ use crate::points::points_are_bad;
 use crate::rows::{context_of, row_is_edited_twice};
 use crate::signatures::{locals_are_bad, signature_is_bad};
 use crate::whole::first_of_list;
-use enc_edits::{Added, EditList};
+use enc_edit_list::{Added, EditList};
 use enc_plain::ChainView;
 use std::alloc::{AllocError, Global};
 

@@ -1,17 +1,17 @@
 //! Whether the heaps have room for what the edits bring.
 ghost use Rattle.std.specs.Prelude.{◌≡◌, ◌<◌, ◌^◌, false, None, flat_map, length, IfOk, IfSome, IsTrue};
-ghost use Rattle.enc_edits.specs.Form.{edit_fits, list_fits};
+ghost use Rattle.enc_edit_list.specs.Form.{edit_fits, list_fits};
 ghost use Rattle.enc_meta.specs.Built.{AreWithinLimits, unit_bytes, with_text, with_user, with_blob};
 ghost use Rattle.enc_plain.specs.Sound.{IsSound};
 ghost use Rattle.enc_rules.specs.Filled.{Fills, has_no_zero, have_no_zero};
 ghost use Rattle.enc_rules.specs.First.{first_edit, first_such};
 ghost use Rattle.enc_rules.specs.Known.{listed_rows};
 ghost use Rattle.enc_rules.specs.Rules.{heaps_with, heap_passes, heaps_are_full, heaps_after_edit, with_texts, with_users, with_blobs, texts_in_cell, blobs_in_cell, users_in_argument, texts_of_edit, users_of_edit, blobs_of_edit};
-ghost use Rattle.enc_edits.specs.declared.body.InstrValue.{InstrValue as TheInstr};
+ghost use Rattle.enc_edit_list.specs.declared.body.InstrValue.{InstrValue as TheInstr};
 
 use crate::context::Context;
 use crate::signatures::body_given;
-use enc_edits::{ArgValue, Cell, Edit, InstrValue};
+use enc_edit_list::{ArgValue, Cell, Edit, InstrValue};
 use enc_meta::{BuildFault, HeapBuilder};
 use enc_plain::{CellView, ChainView};
 use enc_schema::columns::{METHOD_DEF_NAME, METHOD_DEF_SIGNATURE};

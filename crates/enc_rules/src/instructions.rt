@@ -2,14 +2,14 @@
 ghost use Rattle.std.specs.Prelude.{◌≡◌, ℕ, ◌≤◌, ◌<◌, ◌^◌, ◌+◌, min, if◌then◌else◌, nat_le, IfOk};
 ghost use Rattle.std.specs.List.{list_all};
 ghost use Rattle.enc_opcodes.specs.Sound.{instruction_size, begins_at};
-ghost use Rattle.enc_edits.specs.Sizes.{instr_meant, length_of_code, placed};
-ghost use Rattle.enc_edits.specs.Reach.{lies_close, lies_in_reach, argument_reaches, branches_reach};
-ghost use Rattle.enc_edits.specs.declared.body.ArgValue.TheVariants.{Target, Targets};
+ghost use Rattle.enc_edit_list.specs.Sizes.{instr_meant, length_of_code, placed};
+ghost use Rattle.enc_edit_list.specs.Reach.{lies_close, lies_in_reach, argument_reaches, branches_reach};
+ghost use Rattle.enc_edit_list.specs.declared.body.ArgValue.TheVariants.{Target, Targets};
 ghost use Rattle.enc_rules.specs.Marked.{is_marked};
 ghost use Rattle.enc_rules.specs.Sums.{most_room};
 
 use crate::sums::capped;
-use enc_edits::{ArgValue, InstrValue, instruction_size};
+use enc_edit_list::{ArgValue, InstrValue, instruction_size};
 use enc_opcodes::Operand;
 use std::alloc::{AllocError, Global};
 

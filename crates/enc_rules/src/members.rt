@@ -12,7 +12,7 @@ ghost use Rattle.enc_rules.specs.Told.{adds_row, adds_child, has_twin_in, row_of
 use crate::context::Context;
 use enc_base::{Place, Token};
 use enc_delta::{Pair, has_no_slot, is_out_of_layout, twin_among};
-use enc_edits::Edit;
+use enc_edit_list::Edit;
 use enc_plain::ChainView;
 use enc_schema::is_child_table;
 use enc_schema::tables::{EVENT, FIELD, METHOD_DEF, PROPERTY};

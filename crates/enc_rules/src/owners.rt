@@ -6,7 +6,7 @@ ghost use Rattle.enc_rules.specs.Rules.{owner_breaks, owner_is_missing, table_br
 
 use crate::context::Context;
 use enc_delta::may_change;
-use enc_edits::Edit;
+use enc_edit_list::Edit;
 use enc_plain::ChainView;
 use enc_schema::tables::{ENC_LOG, ENC_MAP, MODULE};
 use enc_schema::{is_child_table, owner_table};

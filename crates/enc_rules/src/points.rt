@@ -9,7 +9,7 @@ ghost use Rattle.enc_rules.specs.Sums.{most_room, points_break};
 
 use crate::context::Context;
 use crate::sums::capped;
-use enc_edits::{DocumentValue, Edit};
+use enc_edit_list::{DocumentValue, Edit};
 use enc_plain::ChainView;
 use enc_seqpoints::{Point, WriteFault, write_points};
 use std::alloc::{AllocError, Global};

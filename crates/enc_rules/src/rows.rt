@@ -1,7 +1,7 @@
 //! The rows that edits are about, and the children that they give to owners.
 ghost use Rattle.std.specs.Prelude.{◌≡◌, ◌<◌, ◌^◌, ◌++◌, ℕ, map, take, length, false, option_map, slice_get, slice_index, IfOk, IsTrue, IfSome};
 ghost use Rattle.std.specs.List.{list_all};
-ghost use Rattle.enc_edits.specs.Form.{edit_fits, list_fits};
+ghost use Rattle.enc_edit_list.specs.Form.{edit_fits, list_fits};
 ghost use Rattle.enc_plain.specs.Sound.{IsSound};
 ghost use Rattle.enc_delta.specs.Members.{ArePairs, pair_seen};
 ghost use Rattle.enc_rules.specs.Edited.{row_edited, rows_edited, attached_by, attached_in};
@@ -13,7 +13,7 @@ ghost use Rattle.enc_rules.specs.Rules.{there_are_too_many, row_is_edited_twice}
 use crate::context::{Context, Known};
 use enc_base::{Counts, Token};
 use enc_delta::Pair;
-use enc_edits::{Added, Edit, EditList};
+use enc_edit_list::{Added, Edit, EditList};
 use enc_plain::{ChainView, Viewed};
 use enc_schema::is_child_table;
 use std::alloc::{AllocError, Global};

@@ -10,7 +10,7 @@ ghost use Rattle.enc_rules.specs.Told.{is_about};
 
 use crate::context::Context;
 use enc_base::Token;
-use enc_edits::{BodyValue, Edit};
+use enc_edit_list::{BodyValue, Edit};
 use enc_plain::{CellView, ChainView, is_signature, signature_column};
 use enc_schema::columns::STAND_ALONE_SIG_SIGNATURE;
 use enc_schema::tables::STAND_ALONE_SIG;

@@ -7,7 +7,7 @@ ghost use Rattle.enc_rules.specs.Listed.{count_after};
 ghost use Rattle.enc_rules.specs.Rules.{id_is_taken, heaps_are_full, there_are_too_many, has_owner};
 
 use enc_delta::is_used;
-use enc_edits::{Added, Edit, EditList};
+use enc_edit_list::{Added, Edit, EditList};
 use enc_plain::ChainView;
 use enc_schema::is_child_table;
 

@@ -7,7 +7,7 @@ use Rattle.enc_base.specs.Token.{is_token}
 use Rattle.enc_base.specs.declared.token.Token.{Token}
 use Rattle.enc_checker.specs.Check.{new_bodies}
 use Rattle.enc_frames.specs.Machine.{PlainCode}
-use Rattle.enc_kinds.specs.Members.{body_of_cell}
+use Rattle.enc_machine_types.specs.Members.{body_of_cell}
 use Rattle.enc_opcodes.specs.Body.{Body}
 use Rattle.enc_plain.specs.Cell.{Cell, number, text, blob, guid, refer, body, field}
 use Rattle.enc_plain.specs.Debug.{PlainPdb, MethodDebug}

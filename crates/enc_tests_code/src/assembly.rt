@@ -1,14 +1,14 @@
 ghost use Rattle.std.specs.Prelude.{◌≡◌, ℕ, List, true};
 ghost use Rattle.std.specs.List.{list_all};
 ghost use Rattle.enc_meta.specs.Built.{Built};
-ghost use Rattle.enc_edits.specs.Form.{instr_fits};
-ghost use Rattle.enc_edits.specs.Sizes.{length_of_code};
-ghost use Rattle.enc_edits.specs.declared.body.InstrValue.{InstrValue as TheInstr};
+ghost use Rattle.enc_edit_list.specs.Form.{instr_fits};
+ghost use Rattle.enc_edit_list.specs.Sizes.{length_of_code};
+ghost use Rattle.enc_edit_list.specs.declared.body.InstrValue.{InstrValue as TheInstr};
 ghost use Rattle.enc_assembly.specs.Assembly.{are_small, text_is_kept};
 
 use enc_assembly::assemble;
 use enc_base::Token;
-use enc_edits::*;
+use enc_edit_list::*;
 use enc_meta::{HeapBuilder, HeapLengths};
 use enc_opcodes::{Op, Operand};
 use std::test::Fail;

@@ -2,9 +2,9 @@
 use Rattle.std.proofs.Common.{◌≡◌, ℕ, Bool, List, [], ◌++◌, length, drop, Option, option_map, Result, Ok, Err, refl, ap, ◌∙◌}
 use Rattle.std.specs.Prelude.{not, ◌||◌, is_some}
 use Rattle.enc_base.specs.declared.token.Token.{Token}
-use Rattle.enc_kinds.specs.Outside.{outside_of}
-use Rattle.enc_kinds.specs.declared.outside.Outside.{Outside}
-use Rattle.enc_kinds.specs.declared.outside.Outside.TheVariants as outside
+use Rattle.enc_machine_types.specs.Outside.{outside_of}
+use Rattle.enc_machine_types.specs.declared.outside.Outside.{Outside}
+use Rattle.enc_machine_types.specs.declared.outside.Outside.TheVariants as outside
 use Rattle.enc_objects.specs.Objects.{Store}
 use Rattle.enc_objects.specs.declared.object.Content.TheVariants.{Instance, Text}
 use Rattle.enc_objects.specs.declared.trap.Trap.{Trap}

@@ -4,7 +4,7 @@ use Rattle.std.specs.Prelude.{◌==◌, option_map, option_and_then, reverse, if
 use Rattle.enc_base.specs.declared.token.Token.{Token}
 use Rattle.enc_dispatch.specs.Path.{before_class}
 use Rattle.enc_dispatch.specs.Target.{walk_down, class_target, from_interface, first_given, interface_target, is_interface, target_by, target_of}
-use Rattle.enc_kinds.specs.Elements.{CallShape}
+use Rattle.enc_machine_types.specs.Elements.{CallShape}
 use Rattle.enc_objects.specs.declared.trap.Trap.{Trap}
 use Rattle.enc_plain.specs.Module.{Module, has_row, owner_of}
 use Rattle.enc_plain.specs.Sound.{row_count}

@@ -3,8 +3,8 @@ use Rattle.std.proofs.Common.{◌≡◌, ℕ, ◌+◌, Bool, false, not, ◌&&�
 use Rattle.std.proofs.lemmas.List.{length-map}
 use Rattle.enc_base.specs.declared.token.Token.{Token}
 use Rattle.enc_dispatch.specs.Walks.{is_virtual}
-use Rattle.enc_kinds.specs.Elements.{CallShape}
-use Rattle.enc_kinds.specs.Members.{call_shape, type_constructor}
+use Rattle.enc_machine_types.specs.Elements.{CallShape}
+use Rattle.enc_machine_types.specs.Members.{call_shape, type_constructor}
 use Rattle.enc_objects.specs.declared.object.Content.TheVariants.{Instance}
 use Rattle.enc_objects.specs.declared.trap.Trap.{Trap}
 use Rattle.enc_objects.specs.declared.trap.Trap.TheVariants.{X2, X10, X11}

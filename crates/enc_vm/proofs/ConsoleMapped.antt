@@ -1,9 +1,9 @@
 -- Members outside do the same whatever the codes of frames are.
 use Rattle.std.proofs.Common.{◌≡◌, ℕ, Bool, not, ◌||◌, List, length, Option, refl, is_some}
 use Rattle.enc_base.specs.declared.token.Token.{Token}
-use Rattle.enc_kinds.specs.Outside.{outside_of}
-use Rattle.enc_kinds.specs.declared.outside.Outside.{Outside}
-use Rattle.enc_kinds.specs.declared.outside.Outside.TheVariants as outside
+use Rattle.enc_machine_types.specs.Outside.{outside_of}
+use Rattle.enc_machine_types.specs.declared.outside.Outside.{Outside}
+use Rattle.enc_machine_types.specs.declared.outside.Outside.TheVariants as outside
 use Rattle.enc_objects.specs.declared.object.Content.TheVariants.{Instance, Text}
 use Rattle.enc_objects.specs.declared.trap.Trap.TheVariants.{X2, X5}
 use Rattle.enc_objects.specs.declared.value.Value.{Value}

@@ -3,8 +3,8 @@ use Rattle.std.proofs.Common.{◌≡◌, ℕ, ◌+◌, ◌<◌, Bool, true, fals
 use Rattle.std.specs.Prelude.{is_some, option_map, option_and_then, slice_get, if◌then◌else◌, ◌==◌, nat_lt}
 use Rattle.std.proofs.lemmas.Bool.Decides.{nat_tests}
 use Rattle.enc_base.specs.declared.token.Token.{Token}
-use Rattle.enc_kinds.specs.Elements.{CallShape}
-use Rattle.enc_kinds.specs.Members.{call_shape, run_body, if_runs, runs_body, method_body, body_of_cell}
+use Rattle.enc_machine_types.specs.Elements.{CallShape}
+use Rattle.enc_machine_types.specs.Members.{call_shape, run_body, if_runs, runs_body, method_body, body_of_cell}
 use Rattle.enc_objects.specs.declared.trap.Trap.TheVariants.{X10, X11}
 use Rattle.enc_objects.specs.declared.value.Value.{Value}
 use Rattle.enc_opcodes.specs.Body.{Body, body_of}

@@ -1,8 +1,8 @@
 -- Values that are handed to the nearest frame.
 use Rattle.std.proofs.Common.{◌≡◌, ℕ, List, [], ◌∷◌, Option, Some, None, Result, Ok, Err, refl, ap, ◌∙◌}
 use Rattle.enc_base.specs.declared.token.Token.{Token}
-use Rattle.enc_kinds.specs.Elements.{CallShape}
-use Rattle.enc_kinds.specs.Members.{call_shape}
+use Rattle.enc_machine_types.specs.Elements.{CallShape}
+use Rattle.enc_machine_types.specs.Members.{call_shape}
 use Rattle.enc_objects.specs.declared.trap.Trap.{Trap}
 use Rattle.enc_objects.specs.declared.trap.Trap.TheVariants.{X2}
 use Rattle.enc_objects.specs.declared.value.Value.{Value}

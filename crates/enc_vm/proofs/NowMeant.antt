@@ -2,7 +2,7 @@
 use Rattle.std.proofs.Common.{◌≡◌, ℕ, zero, suc, Bool, true, false, ◌&&◌, List, [], ◌∷◌, length, Option, Some, None, IsTrue, IfSome, refl, sym, ap, ◌∙◌, inl, inr, arith, is_some, if◌then◌else◌, ◌==◌, option_map, option_and_then, slice_get, filter}
 use Rattle.std.proofs.lemmas.Bool.Decides.{nat_tests}
 use Rattle.enc_base.specs.declared.token.Token.{Token}
-use Rattle.enc_kinds.specs.Members.{call_shape, run_body, if_runs, runs_body, method_body, body_of_cell}
+use Rattle.enc_machine_types.specs.Members.{call_shape, run_body, if_runs, runs_body, method_body, body_of_cell}
 use Rattle.enc_opcodes.specs.Body.{Body, body_of}
 use Rattle.enc_plain.proofs.CellsOf.{has_cells}
 use Rattle.enc_plain.proofs.Columns.{part_cases}

@@ -2,7 +2,7 @@
 use Rattle.std.proofs.Common.{◌≡◌, ℕ, true, ◌&&◌, List, Option, Some, None, refl, inl, inr, subst, is_some, ◌%◌, ◌==◌, option_map}
 use Rattle.std.proofs.lemmas.Bool.{and_parts}
 use Rattle.enc_base.specs.declared.token.Token.{Token}
-use Rattle.enc_kinds.specs.Members.{call_shape, run_body, if_runs, runs_body, method_body, body_of_cell}
+use Rattle.enc_machine_types.specs.Members.{call_shape, run_body, if_runs, runs_body, method_body, body_of_cell}
 use Rattle.enc_opcodes.specs.Body.{Body, body_of}
 use Rattle.enc_opcodes.specs.Sound.{body_is_sound}
 use Rattle.enc_plain.proofs.Columns.{part_cases}

@@ -6,7 +6,7 @@ use Rattle.std.specs.declared.alloc.AllocError.{AllocError}
 use Rattle.enc_base.specs.Token.{is_token}
 use Rattle.enc_objects.specs.Objects.{Store}
 use Rattle.enc_base.specs.declared.token.Token.{Token}
-use Rattle.enc_kinds.specs.Members.{call_shape, method_of_row, run_body, type_constructor, if_runs, method_body, body_of_cell}
+use Rattle.enc_machine_types.specs.Members.{call_shape, method_of_row, run_body, type_constructor, if_runs, method_body, body_of_cell}
 use Rattle.enc_opcodes.specs.Body.{Body, body_of}
 use Rattle.enc_plain.specs.Cell.{Cell}
 use Rattle.enc_plain.specs.Module.{Module, has_row}

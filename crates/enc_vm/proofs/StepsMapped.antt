@@ -2,8 +2,8 @@
 use Rattle.std.proofs.Common.{◌≡◌, ℕ, ◌+◌, true, false, List, [], ◌∷◌, ◌++◌, map, length, Option, Some, None, Result, Ok, Err, refl, sym, ap, ap₂, ◌∙◌, option_map, option_and_then, is_some, if◌then◌else◌, nat_le}
 use Rattle.std.proofs.lemmas.List.{length-map, map-append}
 use Rattle.enc_base.specs.declared.token.Token.{Token}
-use Rattle.enc_kinds.specs.Members.{type_constructor}
-use Rattle.enc_kinds.specs.Types.{type_kind}
+use Rattle.enc_machine_types.specs.Members.{type_constructor}
+use Rattle.enc_machine_types.specs.Types.{type_kind}
 use Rattle.enc_objects.specs.Instructions.{binary_in, unary_in}
 use Rattle.enc_objects.specs.Objects.{Store}
 use Rattle.enc_objects.specs.declared.kind.Kind.{Kind}

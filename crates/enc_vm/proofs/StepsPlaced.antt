@@ -1,8 +1,8 @@
 -- A step of a task whose frames are placed leaves them placed, and a new task's are.
 use Rattle.std.proofs.Common.{◌≡◌, ℕ, true, false, List, [], Option, Some, None, Result, Ok, Err, is_some, option_map, option_and_then}
 use Rattle.enc_base.specs.declared.token.Token.{Token}
-use Rattle.enc_kinds.specs.Members.{type_constructor}
-use Rattle.enc_kinds.specs.Types.{type_kind}
+use Rattle.enc_machine_types.specs.Members.{type_constructor}
+use Rattle.enc_machine_types.specs.Types.{type_kind}
 use Rattle.enc_objects.specs.Instructions.{binary_in, unary_in}
 use Rattle.enc_objects.specs.Objects.{Store}
 use Rattle.enc_objects.specs.declared.kind.Kind.{Kind}

@@ -8,7 +8,7 @@ use Rattle.enc_base.specs.declared.token.Token.{Token}
 use Rattle.enc_opcodes.proofs.Bodies.{body_told_alike}
 use Rattle.enc_plain.proofs.MoreTexts.{texts_more}
 use Rattle.enc_plain.specs.Module.{Module}
-use Rattle.enc_kinds.specs.Members.{run_body}
+use Rattle.enc_machine_types.specs.Members.{run_body}
 use Rattle.enc_opcodes.specs.Body.{KeepsTexts}
 use Rattle.enc_versions.specs.Version.{Version, newest_of}
 use Rattle.enc_versions.proofs.Known.{newest_texts}

@@ -5,7 +5,7 @@ use Rattle.std.proofs.lemmas.Bool.Decides.{nat_tests}
 use Rattle.std.specs.List.{list_any}
 use Rattle.enc_base.specs.Token.{is_token}
 use Rattle.enc_base.specs.declared.token.Token.{Token}
-use Rattle.enc_kinds.specs.Members.{type_constructor, call_shape}
+use Rattle.enc_machine_types.specs.Members.{type_constructor, call_shape}
 use Rattle.enc_objects.specs.Objects.{Store}
 use Rattle.enc_objects.specs.declared.trap.Trap.{Trap}
 use Rattle.enc_objects.specs.declared.trap.Trap.TheVariants.{X2}
@@ -13,7 +13,7 @@ use Rattle.enc_schema.specs.Tables.{method_def}
 use Rattle.enc_plain.specs.Module.{Module}
 use Rattle.enc_versions.specs.Version.{Version}
 use Rattle.enc_dispatch.specs.Walks.{is_virtual}
-use Rattle.enc_kinds.specs.Elements.{CallShape}
+use Rattle.enc_machine_types.specs.Elements.{CallShape}
 use Rattle.enc_vm.specs.Calls.{with_type, touch, touch_first, touch_if, named_virtually, call_touches, declaring, call_with, call, call_virtual}
 use Rattle.enc_frames.specs.Straight.{named_method}
 use Rattle.enc_vm.specs.CallsSeen.{Makes}

@@ -2,9 +2,9 @@
 use Rattle.std.proofs.Common.{◌≡◌, refl, ℕ, zero, suc, ◌+◌, ◌≤◌, ℤ, Bool, true, false, not, ◌||◌, List, length, drop, ◌++◌, Option, Some, None, Result, Ok, Err, is_some, arith, length-append}
 use Rattle.std.specs.Prelude.{option_map, IfSome, if◌then◌else◌}
 use Rattle.enc_base.specs.declared.token.Token.{Token}
-use Rattle.enc_kinds.specs.Outside.{outside_of}
-use Rattle.enc_kinds.specs.declared.outside.Outside.{Outside}
-use Rattle.enc_kinds.specs.declared.outside.Outside.TheVariants as outside
+use Rattle.enc_machine_types.specs.Outside.{outside_of}
+use Rattle.enc_machine_types.specs.declared.outside.Outside.{Outside}
+use Rattle.enc_machine_types.specs.declared.outside.Outside.TheVariants as outside
 use Rattle.enc_objects.specs.Instructions.{binary_in, unary_in}
 use Rattle.enc_objects.specs.Objects.{Store, units_held}
 use Rattle.enc_objects.specs.declared.object.Content.TheVariants.{Instance, Text}

@@ -6,8 +6,8 @@ use Rattle.enc_base.specs.declared.token.Token.{Token}
 use Rattle.enc_plain.specs.ValueType.{is_value_type}
 use Rattle.enc_dispatch.specs.Target.{target_of, is_interface}
 use Rattle.enc_dispatch.specs.Walks.{is_virtual}
-use Rattle.enc_kinds.specs.Elements.{CallShape}
-use Rattle.enc_kinds.specs.Members.{call_shape, local_kinds, is_static_method, is_constructor, type_constructor}
+use Rattle.enc_machine_types.specs.Elements.{CallShape}
+use Rattle.enc_machine_types.specs.Members.{call_shape, local_kinds, is_static_method, is_constructor, type_constructor}
 use Rattle.enc_objects.specs.Objects.{Store, shape_in}
 use Rattle.enc_objects.specs.Values.{default_of}
 use Rattle.enc_objects.specs.declared.object.Content.TheVariants.{Instance}

@@ -1,8 +1,8 @@
 -- A step of a task, and a new task (ECMA-335 I.12.3.2).
 use Rattle.std.specs.Prelude.{ℕ, zero, suc, ◌+◌, Bool, true, false, ◌&&◌, List, [], ◌∷◌, ◌++◌, length, Option, Some, None, option_map, option_and_then, is_some, slice_get, slice_set, Result, Ok, Err, nat_le, ◌==◌, if◌then◌else◌}
 use Rattle.enc_base.specs.declared.token.Token.{Token}
-use Rattle.enc_kinds.specs.Elements.{takes_nothing}
-use Rattle.enc_kinds.specs.Members.{is_static_method, type_constructor, run_body}
+use Rattle.enc_machine_types.specs.Elements.{takes_nothing}
+use Rattle.enc_machine_types.specs.Members.{is_static_method, type_constructor, run_body}
 use Rattle.enc_objects.specs.Instructions.{binary_in, unary_in}
 use Rattle.enc_objects.specs.declared.kind.Kind.{Kind}
 use Rattle.enc_objects.specs.declared.trap.Trap.{Trap}

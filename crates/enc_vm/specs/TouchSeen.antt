@@ -3,7 +3,7 @@ use Rattle.std.specs.Prelude.{List, [], Option, Some, None, Result, Ok, if◌the
 use Rattle.std.specs.List.{list_any}
 use Rattle.enc_base.specs.Token.{is_token}
 use Rattle.enc_base.specs.declared.token.Token.{Token}
-use Rattle.enc_kinds.specs.Members.{type_constructor}
+use Rattle.enc_machine_types.specs.Members.{type_constructor}
 use Rattle.enc_plain.specs.Module.{Module}
 use Rattle.enc_objects.specs.Objects.{Store}
 use Rattle.enc_objects.specs.declared.trap.Trap.{Trap}

@@ -25,7 +25,7 @@ use crate::touched::Touched;
 use enc_base::Token;
 use enc_dispatch::Dispatch;
 use enc_frames::{Stack, Stop, called_kinds, fitting, named_method, reference};
-use enc_kinds::MethodShape;
+use enc_machine_types::MethodShape;
 use enc_objects::{Objects, Shape, Trap, Value};
 use enc_plain::{ModuleView, is_row};
 use enc_versions::Versions;

@@ -21,7 +21,7 @@ use crate::thread::Thread;
 use crate::touched::Touched;
 use enc_base::Token;
 use enc_frames::{Frame, Stack, Stop, fitting, named_method, new_frame, taken_kinds};
-use enc_kinds::MethodShape;
+use enc_machine_types::MethodShape;
 use enc_objects::{Objects, Trap, Value};
 use enc_plain::{ModuleView, Viewed, is_value_type};
 use enc_versions::Versions;

@@ -9,7 +9,7 @@ ghost use Rattle.enc_vm.specs.TouchSeen.{first_touch};
 
 use crate::touched::Touched;
 use enc_base::Token;
-use enc_kinds::{find_type_constructor, is_constructor, is_static_method};
+use enc_machine_types::{find_type_constructor, is_constructor, is_static_method};
 use enc_plain::{CellView, ModuleView, Viewed};
 use enc_schema::columns::{METHOD_DEF_FLAGS, TYPE_DEF_FLAGS};
 use std::alloc::{AllocError, Global};

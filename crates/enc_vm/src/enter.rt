@@ -10,7 +10,7 @@ ghost use Rattle.enc_frames.specs.Straight.{moved_on};
 use crate::thread::Thread;
 use enc_base::Token;
 use enc_frames::{Stop, new_frame};
-use enc_kinds::{method_shape, runs_body};
+use enc_machine_types::{method_shape, runs_body};
 use enc_objects::{Trap, Value};
 use enc_plain::{ModuleView, is_row};
 use enc_schema::tables::METHOD_DEF;

@@ -8,7 +8,7 @@ ghost use Rattle.enc_frames.specs.Machine.{Shared, version_world};
 use crate::thread::Thread;
 use enc_base::Token;
 use enc_frames::Stop;
-use enc_kinds::method_shape;
+use enc_machine_types::method_shape;
 use enc_objects::{Trap, Value};
 use enc_plain::ModuleView;
 

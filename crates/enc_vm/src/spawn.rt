@@ -1,6 +1,6 @@
 //! New tasks (ECMA-335 I.12.3.2).
 ghost use Rattle.std.specs.Prelude.{◌≡◌, is_some, IfOk, IsTrue};
-ghost use Rattle.enc_kinds.specs.Members.{run_body, type_constructor};
+ghost use Rattle.enc_machine_types.specs.Members.{run_body, type_constructor};
 ghost use Rattle.enc_objects.specs.Objects.{Store};
 ghost use Rattle.enc_plain.specs.Module.{has_row};
 ghost use Rattle.enc_schema.specs.Tables.{method_def, type_def};
@@ -15,7 +15,7 @@ use crate::thread::Thread;
 use crate::touched::Touched;
 use enc_base::Token;
 use enc_frames::{Callers, Frame, new_frame};
-use enc_kinds::{find_type_constructor, is_called_with_nothing, is_static_method};
+use enc_machine_types::{find_type_constructor, is_called_with_nothing, is_static_method};
 use enc_plain::{ModuleView, is_row};
 use enc_schema::tables::METHOD_DEF;
 use enc_versions::Versions;

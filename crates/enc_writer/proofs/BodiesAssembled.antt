@@ -14,12 +14,12 @@ use Rattle.enc_opcodes.specs.declared.op.Operand.{Operand}
 use Rattle.enc_opcodes.specs.Instruction.{Argument, text, Instruction}
 use Rattle.enc_opcodes.specs.Body.{told, instruction_told, handler_meant, nil_or, may_name, is_named, is_user, locals_are_good, text_is_there}
 use Rattle.enc_opcodes.specs.Sound.{instruction_size, begins_at, argument_is_sound, instruction_is_sound, handler_is_sound, are_whole, body_is_sound}
-use Rattle.enc_edits.specs.declared.body.ArgValue.{ArgValue}
-use Rattle.enc_edits.specs.declared.body.ArgValue.TheVariants as arg
-use Rattle.enc_edits.specs.declared.body.BodyValue.{BodyValue}
-use Rattle.enc_edits.specs.declared.body.InstrValue.{InstrValue}
-use Rattle.enc_edits.specs.Form.{instr_fits}
-use Rattle.enc_edits.specs.Sizes.{arg_meant, instr_meant, length_of_code, placed}
+use Rattle.enc_edit_list.specs.declared.body.ArgValue.{ArgValue}
+use Rattle.enc_edit_list.specs.declared.body.ArgValue.TheVariants as arg
+use Rattle.enc_edit_list.specs.declared.body.BodyValue.{BodyValue}
+use Rattle.enc_edit_list.specs.declared.body.InstrValue.{InstrValue}
+use Rattle.enc_edit_list.specs.Form.{instr_fits}
+use Rattle.enc_edit_list.specs.Sizes.{arg_meant, instr_meant, length_of_code, placed}
 use Rattle.enc_rules.specs.Edited.{body_stated}
 use Rattle.enc_assembly.specs.Assembly.{code_bytes, arg_named, placed_named, token_is_small, arg_is_small, are_small, text_is_kept}
 use Rattle.enc_assembly.proofs.Chained.{code_size}

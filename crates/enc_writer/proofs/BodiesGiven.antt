@@ -18,22 +18,22 @@ use Rattle.enc_il.specs.Written.{IsWritable, code_again, sections_written}
 use Rattle.enc_il.proofs.ClausesWritten.{clauses_are_read}
 use Rattle.enc_plain.specs.Bodies.{body_loaded, code_is_good}
 use Rattle.enc_plain.specs.Chain.{Chain}
-use Rattle.enc_edits.specs.declared.body.BodyValue.{BodyValue}
-use Rattle.enc_edits.specs.declared.body.InstrValue.{InstrValue}
-use Rattle.enc_edits.specs.declared.edit.Edit.{Edit}
-use Rattle.enc_edits.specs.declared.edit.Edit.TheVariants.{Add, Body as Replace}
-use Rattle.enc_edits.specs.declared.edit.EditList.{EditList}
-use Rattle.enc_edits.specs.Form.{instr_fits, clause_is_stated, body_fits, edit_fits, is_known_table, owner_fits, cells_fit, stated_columns}
-use Rattle.enc_edits.specs.Reach.{branches_reach}
-use Rattle.enc_edits.specs.Sizes.{length_of_code, placed}
+use Rattle.enc_edit_list.specs.declared.body.BodyValue.{BodyValue}
+use Rattle.enc_edit_list.specs.declared.body.InstrValue.{InstrValue}
+use Rattle.enc_edit_list.specs.declared.edit.Edit.{Edit}
+use Rattle.enc_edit_list.specs.declared.edit.Edit.TheVariants.{Add, Body as Replace}
+use Rattle.enc_edit_list.specs.declared.edit.EditList.{EditList}
+use Rattle.enc_edit_list.specs.Form.{instr_fits, clause_is_stated, body_fits, edit_fits, is_known_table, owner_fits, cells_fit, stated_columns}
+use Rattle.enc_edit_list.specs.Reach.{branches_reach}
+use Rattle.enc_edit_list.specs.Sizes.{length_of_code, placed}
 use Rattle.enc_rules.specs.Edited.{body_stated, row_edited}
 use Rattle.enc_rules.specs.Listed.{body_given, count_after, rows_listed}
 use Rattle.enc_rules.specs.Rules.{room_of, room_of_edit, is_il, given_stands, body_is_broken}
 use Rattle.enc_rules.proofs.RowsEdited.{row_there, take_next}
-use Rattle.enc_edited.proofs.AddedRow.{form_at}
+use Rattle.enc_memory_module.proofs.AddedRow.{form_at}
 use Rattle.enc_assembly.specs.Assembly.{AssembledIsRead, code_bytes, text_is_kept}
-use Rattle.enc_written.specs.Holds.{MayFollow, StandsIn, heaps_written}
-use Rattle.enc_written.proofs.TokensUnbroken.{nothing_breaks, counts_fit}
+use Rattle.enc_list_delta.specs.Holds.{MayFollow, StandsIn, heaps_written}
+use Rattle.enc_list_delta.proofs.TokensUnbroken.{nothing_breaks, counts_fit}
 use Rattle.enc_writer.specs.BodiesWriting.{CanBeWritten, HasWidths, HasRoom, parts_of, place_given, with_given, users_written, StandsFirm, StandsOf}
 use Rattle.enc_writer.proofs.BodiesAssembled.{AreRead, all_told, all_there, body_small, locals_low}
 use Rattle.enc_writer.proofs.HeapsPast.{chain_past}

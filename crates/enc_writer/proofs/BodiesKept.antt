@@ -11,17 +11,17 @@ use Rattle.enc_base.specs.Numbers.{spelled}
 use Rattle.enc_meta.specs.Built.{Built, is_among, is_kept, blob_bytes, mark_of, user_bytes, place_among, offset_in, user_offset, joined_end, unit_bytes}
 use Rattle.enc_meta.proofs.Reading.{spelled_some}
 use Rattle.enc_plain.specs.Chain.{Chain}
-use Rattle.enc_edits.specs.declared.body.ArgValue.{ArgValue}
-use Rattle.enc_edits.specs.declared.body.ArgValue.TheVariants as arg
-use Rattle.enc_edits.specs.declared.body.BodyValue.{BodyValue}
-use Rattle.enc_edits.specs.declared.body.InstrValue.{InstrValue}
-use Rattle.enc_edits.specs.declared.edit.Edit.{Edit}
-use Rattle.enc_edits.specs.declared.edit.EditList.{EditList}
+use Rattle.enc_edit_list.specs.declared.body.ArgValue.{ArgValue}
+use Rattle.enc_edit_list.specs.declared.body.ArgValue.TheVariants as arg
+use Rattle.enc_edit_list.specs.declared.body.BodyValue.{BodyValue}
+use Rattle.enc_edit_list.specs.declared.body.InstrValue.{InstrValue}
+use Rattle.enc_edit_list.specs.declared.edit.Edit.{Edit}
+use Rattle.enc_edit_list.specs.declared.edit.EditList.{EditList}
 use Rattle.enc_assembly.specs.Assembly.{text_is_kept}
 use Rattle.enc_rules.specs.Listed.{body_given}
 use Rattle.enc_rules.specs.Rules.{users_of_edit, users_in_argument, users_in_body, heaps_with, passes_limits}
-use Rattle.enc_written.specs.Holds.{MayFollow, heaps_written}
-use Rattle.enc_written.proofs.TokensUnbroken.{heaps_have_room}
+use Rattle.enc_list_delta.specs.Holds.{MayFollow, heaps_written}
+use Rattle.enc_list_delta.proofs.TokensUnbroken.{heaps_have_room}
 use Rattle.enc_writer.proofs.ValuesKept.{user_brought, is_itself, among_front, among_behind}
 
 -- a value that is kept wherever it is among some is kept for each of these

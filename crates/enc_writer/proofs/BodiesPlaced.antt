@@ -14,20 +14,20 @@ use Rattle.enc_plain.specs.Cell.{Cell, body, cell_count}
 use Rattle.enc_plain.specs.Chain.{Chain}
 use Rattle.enc_plain.specs.Module.{Module, cells_of}
 use Rattle.enc_opcodes.specs.Body.{Body}
-use Rattle.enc_edits.specs.declared.body.BodyValue.{BodyValue}
-use Rattle.enc_edits.specs.declared.edit.Edit.{Edit}
-use Rattle.enc_edits.specs.declared.edit.Edit.TheVariants.{Add, Body as Replace}
-use Rattle.enc_edits.specs.declared.edit.EditList.{EditList}
+use Rattle.enc_edit_list.specs.declared.body.BodyValue.{BodyValue}
+use Rattle.enc_edit_list.specs.declared.edit.Edit.{Edit}
+use Rattle.enc_edit_list.specs.declared.edit.Edit.TheVariants.{Add, Body as Replace}
+use Rattle.enc_edit_list.specs.declared.edit.EditList.{EditList}
 use Rattle.enc_rules.specs.Edited.{body_stated, row_edited, rows_edited, cells_stated, cells_with, cells_edited}
 use Rattle.enc_rules.specs.Listed.{body_given, count_after}
 use Rattle.enc_rules.proofs.RowsEdited.{row_there, rows_all}
-use Rattle.enc_edited.proofs.Changed.{edit_found}
-use Rattle.enc_edited.proofs.Landed.{apart}
-use Rattle.enc_written.specs.Delta.{is_edited, cells_written}
-use Rattle.enc_written.specs.Holds.{MayFollow, PlacesBody, heaps_written}
-use Rattle.enc_written.proofs.CellsRead.{given, edited_row, many_cells, sound_edited}
-use Rattle.enc_written.proofs.TokensAbout.{about_edit, edit_about, self}
-use Rattle.enc_written.proofs.TokensUnbroken.{nothing_breaks}
+use Rattle.enc_memory_module.proofs.Changed.{edit_found}
+use Rattle.enc_memory_module.proofs.Landed.{apart}
+use Rattle.enc_list_delta.specs.Delta.{is_edited, cells_written}
+use Rattle.enc_list_delta.specs.Holds.{MayFollow, PlacesBody, heaps_written}
+use Rattle.enc_list_delta.proofs.CellsRead.{given, edited_row, many_cells, sound_edited}
+use Rattle.enc_list_delta.proofs.TokensAbout.{about_edit, edit_about, self}
+use Rattle.enc_list_delta.proofs.TokensUnbroken.{nothing_breaks}
 use Rattle.enc_writer.specs.BodiesWriting.{StandsFirm, StandsOf, ArePlacedUpto, PutsPlace, place_known, users_written}
 use Rattle.enc_writer.specs.Writing.{MethodsPlaced, method_token}
 

@@ -5,7 +5,7 @@ use Rattle.std.specs.List.{list_all, list_any}
 use Rattle.std.proofs.lemmas.Bool.Decides.{nat_tests}
 use Rattle.std.proofs.lemmas.Bool.{and_parts, and_from}
 use Rattle.enc_base.specs.Token.{token_of}
-use Rattle.enc_edits.specs.Form.{clause_is_stated}
+use Rattle.enc_edit_list.specs.Form.{clause_is_stated}
 use Rattle.enc_opcodes.specs.declared.op.Operand.{Operand}
 use Rattle.enc_opcodes.specs.declared.code.Clause.{Clause}
 use Rattle.enc_opcodes.specs.Clause.{clauses_of}

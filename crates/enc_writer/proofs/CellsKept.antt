@@ -8,20 +8,20 @@ use Rattle.enc_plain.specs.Chain.{Chain}
 use Rattle.enc_plain.specs.Rows.{bytes_at}
 use Rattle.enc_schema.specs.Schema.{columns_in, column_in}
 use Rattle.enc_schema.specs.declared.column.Column.TheVariants.{Text, Blob}
-use Rattle.enc_edits.specs.declared.edit.Cell.{Cell as CellValue}
-use Rattle.enc_edits.specs.declared.edit.Cell.TheVariants as cell
-use Rattle.enc_edits.specs.declared.edit.Edit.{Edit}
-use Rattle.enc_edits.specs.declared.edit.Edit.TheVariants.{Add, Body as Replace}
-use Rattle.enc_edits.specs.declared.edit.EditList.{EditList}
+use Rattle.enc_edit_list.specs.declared.edit.Cell.{Cell as CellValue}
+use Rattle.enc_edit_list.specs.declared.edit.Cell.TheVariants as cell
+use Rattle.enc_edit_list.specs.declared.edit.Edit.{Edit}
+use Rattle.enc_edit_list.specs.declared.edit.Edit.TheVariants.{Add, Body as Replace}
+use Rattle.enc_edit_list.specs.declared.edit.EditList.{EditList}
 use Rattle.enc_rules.specs.Edited.{cell_stated, body_stated, cells_stated, cells_edited, row_edited, rows_edited}
 use Rattle.enc_rules.specs.Listed.{rows_listed}
 use Rattle.enc_rules.specs.Rules.{texts_in_cell, blobs_in_cell, texts_of_edit, blobs_of_edit}
 use Rattle.enc_rewriter.proofs.Says.{text_kind, blob_kind}
-use Rattle.enc_edited.proofs.Landed.{lands}
-use Rattle.enc_edited.proofs.Changed.{IsEditOf, edit_found}
-use Rattle.enc_written.specs.Delta.{is_edited, cells_written}
-use Rattle.enc_written.specs.Holds.{MayFollow, heaps_written}
-use Rattle.enc_written.proofs.CellsRead.{given}
+use Rattle.enc_memory_module.proofs.Landed.{lands}
+use Rattle.enc_memory_module.proofs.Changed.{IsEditOf, edit_found}
+use Rattle.enc_list_delta.specs.Delta.{is_edited, cells_written}
+use Rattle.enc_list_delta.specs.Holds.{MayFollow, heaps_written}
+use Rattle.enc_list_delta.proofs.CellsRead.{given}
 use Rattle.enc_rules.proofs.RowsEdited.{row_there}
 use Rattle.enc_writer.proofs.RowsStated.{IsStated, is_stated, text_stated, blob_stated}
 use Rattle.enc_writer.proofs.ValuesKept.{text_brought, blob_brought, is_itself, among_front, among_behind}

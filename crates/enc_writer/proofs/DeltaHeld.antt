@@ -15,13 +15,13 @@ use Rattle.enc_schema.specs.Tables as tables
 use Rattle.enc_schema.specs.Widths.{index_width, coded_width}
 use Rattle.enc_schema.specs.declared.column.Column.{Column}
 use Rattle.enc_schema.specs.declared.column.Column.TheVariants.{Num8, Num16, Num32, Text, Guid, Blob, Index, Coded, Run}
-use Rattle.enc_edits.specs.declared.edit.EditList.{EditList}
+use Rattle.enc_edit_list.specs.declared.edit.EditList.{EditList}
 use Rattle.enc_rules.specs.Listed.{count_after}
-use Rattle.enc_written.specs.Delta.{is_edited, tokens_written, map_written}
-use Rattle.enc_written.specs.Holds.{MayFollow, heaps_written, SayRows, token_numbers, is_listed_table, HoldDelta}
-use Rattle.enc_written.proofs.TokensAbout.{stands_after}
-use Rattle.enc_written.proofs.TokensUnbroken.{nothing_breaks}
-use Rattle.enc_written.proofs.TokensWritten.{none_passing}
+use Rattle.enc_list_delta.specs.Delta.{is_edited, tokens_written, map_written}
+use Rattle.enc_list_delta.specs.Holds.{MayFollow, heaps_written, SayRows, token_numbers, is_listed_table, HoldDelta}
+use Rattle.enc_list_delta.proofs.TokensAbout.{stands_after}
+use Rattle.enc_list_delta.proofs.TokensUnbroken.{nothing_breaks}
+use Rattle.enc_list_delta.proofs.TokensWritten.{none_passing}
 use Rattle.enc_writer.specs.Writing.{row_fits_wide, table_fits_wide, AreRowsWritten}
 use Rattle.enc_writer.proofs.RootSize.{HasRows, many_say}
 

@@ -18,27 +18,27 @@ use Rattle.enc_schema.specs.Tables as tables
 use Rattle.enc_delta.specs.Delta.{delta_of, listed}
 use Rattle.enc_delta.specs.Judged.{first_meta}
 use Rattle.enc_agg.specs.Extend.{extended}
-use Rattle.enc_edits.specs.declared.edit.Edit.{Edit}
-use Rattle.enc_edits.specs.declared.edit.EditList.{EditList}
+use Rattle.enc_edit_list.specs.declared.edit.Edit.{Edit}
+use Rattle.enc_edit_list.specs.declared.edit.EditList.{EditList}
 use Rattle.enc_rules.specs.Edited.{rows_edited}
-use Rattle.enc_edited.proofs.Unbroken.{BreakNothing}
+use Rattle.enc_memory_module.proofs.Unbroken.{BreakNothing}
 use Rattle.enc_ppdb.specs.Fault.{pdb_delta_of, named_tokens}
 use Rattle.enc_ppdb.specs.Misplaced.{first_misplaced}
 use Rattle.enc_ppdb.specs.Points.{names_method}
 use Rattle.enc_ppdb.specs.PdbChain.{debug_at}
 use Rattle.enc_ppdb.specs.Written.{IsNilOverSeveral, document_told}
-use Rattle.enc_pdb_delta.specs.Stated.{edit_giving}
-use Rattle.enc_pdb_delta.specs.Written.{gives_points, method_named, SaysEdits}
-use Rattle.enc_pdb_delta.proofs.Lists.{some_by_one}
-use Rattle.enc_pdb_delta.proofs.Told.{names_itself}
+use Rattle.enc_pdb_writer.specs.Stated.{edit_giving}
+use Rattle.enc_pdb_writer.specs.Written.{gives_points, method_named, SaysEdits}
+use Rattle.enc_pdb_writer.proofs.Lists.{some_by_one}
+use Rattle.enc_pdb_writer.proofs.Told.{names_itself}
 use Rattle.enc_checker.specs.Check.{accepted, judged, with_pdb, code_sizes}
-use Rattle.enc_written.specs.Delta.{is_edited, map_written}
-use Rattle.enc_written.specs.Holds.{MayFollow, SaysDelta, heaps_written}
-use Rattle.enc_written.proofs.LogRulesSets.{map_lists, map_only}
-use Rattle.enc_written.proofs.ModuleRules.{guid_is}
-use Rattle.enc_written.proofs.Tokens.{listed_is}
-use Rattle.enc_written.proofs.TokensUnbroken.{nothing_breaks}
-use Rattle.enc_written.specs.Laws.{DeltasAreRead, DeltasFollow, DeltasMean, metadata_written}
+use Rattle.enc_list_delta.specs.Delta.{is_edited, map_written}
+use Rattle.enc_list_delta.specs.Holds.{MayFollow, SaysDelta, heaps_written}
+use Rattle.enc_list_delta.proofs.LogRulesSets.{map_lists, map_only}
+use Rattle.enc_list_delta.proofs.ModuleRules.{guid_is}
+use Rattle.enc_list_delta.proofs.Tokens.{listed_is}
+use Rattle.enc_list_delta.proofs.TokensUnbroken.{nothing_breaks}
+use Rattle.enc_list_delta.specs.Laws.{DeltasAreRead, DeltasFollow, DeltasMean, metadata_written}
 use Rattle.enc_writer.specs.Files.{FilesStand}
 use Rattle.enc_writer.specs.Stands.{HasDeltaForm}
 use Rattle.enc_writer.specs.Writing.{IsMetadata}

@@ -6,11 +6,11 @@ use Rattle.enc_meta.specs.Built.{is_guid_kept, with_entry, entry_passes, guid_pa
 use Rattle.enc_meta.specs.Joined.{joined_lengths, guid_entries}
 use Rattle.enc_meta.specs.declared.heaps.HeapLengths.{HeapLengths}
 use Rattle.enc_plain.specs.Chain.{Chain}
-use Rattle.enc_edits.specs.declared.edit.EditList.{EditList}
+use Rattle.enc_edit_list.specs.declared.edit.EditList.{EditList}
 use Rattle.enc_rules.specs.Rules.{heaps_are_full, heaps_with}
-use Rattle.enc_written.specs.Holds.{MayFollow, heaps_written}
-use Rattle.enc_written.proofs.HeapRules.{starts_are, guids_are}
-use Rattle.enc_written.proofs.TokensUnbroken.{other_rules}
+use Rattle.enc_list_delta.specs.Holds.{MayFollow, heaps_written}
+use Rattle.enc_list_delta.proofs.HeapRules.{starts_are, guids_are}
+use Rattle.enc_list_delta.proofs.TokensUnbroken.{other_rules}
 
 right_false : (a b : Bool) → (a || b) ≡ false → b ≡ false
 right_false true b h = absurd (cc)

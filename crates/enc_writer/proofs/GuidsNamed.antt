@@ -30,7 +30,7 @@ use Rattle.enc_delta.specs.Pairs.{attached_of}
 use Rattle.enc_delta.proofs.OneHeapMore.{guid_behind}
 use Rattle.enc_agg.specs.Extend.{changes_of, extended, chain_with}
 use Rattle.enc_agg.proofs.Numbers.{guid_last}
-use Rattle.enc_edited.proofs.CellCases.{cell_of_cells}
+use Rattle.enc_memory_module.proofs.CellCases.{cell_of_cells}
 use Rattle.enc_writer.specs.Stands.{NamesGuids}
 
 -- a change of another row leaves the Module's

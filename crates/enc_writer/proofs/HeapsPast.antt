@@ -8,9 +8,9 @@ use Rattle.enc_meta.specs.Joined.{joined_lengths, guid_entries}
 use Rattle.enc_meta.specs.BuiltLaws.{ArePast}
 use Rattle.enc_meta.specs.declared.heaps.HeapLengths.{HeapLengths}
 use Rattle.enc_plain.specs.Chain.{Chain}
-use Rattle.enc_edits.specs.declared.edit.EditList.{EditList}
-use Rattle.enc_written.specs.Holds.{heaps_written}
-use Rattle.enc_written.proofs.HeapRules.{starts_are}
+use Rattle.enc_edit_list.specs.declared.edit.EditList.{EditList}
+use Rattle.enc_list_delta.specs.Holds.{heaps_written}
+use Rattle.enc_list_delta.proofs.HeapRules.{starts_are}
 
 no_more : (high : ℕ) (heaps : List Counted) → guid_entries heaps ≤ high → list_all (λ (c : Counted). nat_lt (length c.guids) (16 * high + 16)) heaps ≡ true
 no_more high [] low = refl

@@ -13,18 +13,18 @@ use Rattle.enc_schema.specs.Tables.{enc_log}
 use Rattle.enc_plain.specs.Chain.{Chain}
 use Rattle.enc_plain.specs.Module.{Module}
 use Rattle.enc_delta.specs.declared.entry.Entry.{Entry}
-use Rattle.enc_edits.specs.declared.edit.Edit.{Edit}
-use Rattle.enc_edits.specs.declared.edit.Edit.TheVariants.{Add, Body as Replace}
-use Rattle.enc_edits.specs.declared.edit.EditList.{EditList}
+use Rattle.enc_edit_list.specs.declared.edit.Edit.{Edit}
+use Rattle.enc_edit_list.specs.declared.edit.Edit.TheVariants.{Add, Body as Replace}
+use Rattle.enc_edit_list.specs.declared.edit.EditList.{EditList}
 use Rattle.enc_rules.specs.Edited.{row_edited, rows_edited}
 use Rattle.enc_rules.specs.Listed.{count_after}
 use Rattle.enc_rules.specs.Rules.{there_are_too_many, has_owner, is_row_of, owner_breaks}
 use Rattle.enc_rules.proofs.RowsEdited.{row_there, take_next, owner_is}
-use Rattle.enc_written.specs.Delta.{adds_reference, entries_for, entries_if, entries_behind, log_written}
-use Rattle.enc_written.specs.Holds.{MayFollow, entry_numbers}
-use Rattle.enc_written.proofs.TokensUnbroken.{other_rules, nothing_breaks, counts_fit}
-use Rattle.enc_written.proofs.TokensAbout.{stands_after, edit_about}
-use Rattle.enc_written.proofs.LogRulesEdits.{own_entry, owner_entry}
+use Rattle.enc_list_delta.specs.Delta.{adds_reference, entries_for, entries_if, entries_behind, log_written}
+use Rattle.enc_list_delta.specs.Holds.{MayFollow, entry_numbers}
+use Rattle.enc_list_delta.proofs.TokensUnbroken.{other_rules, nothing_breaks, counts_fit}
+use Rattle.enc_list_delta.proofs.TokensAbout.{stands_after, edit_about}
+use Rattle.enc_list_delta.proofs.LogRulesEdits.{own_entry, owner_entry}
 use Rattle.enc_writer.specs.LogWriting.{is_asked, entries_logged, entries_upto, entries_given, entries_at, has_number}
 
 -- EncLog has two columns

@@ -16,17 +16,17 @@ use Rattle.enc_rows.specs.Sums.{below}
 use Rattle.enc_rows.proofs.Runs.{range_more}
 use Rattle.enc_schema.specs.Schema.{columns_in}
 use Rattle.enc_schema.specs.Tables.{enc_map}
-use Rattle.enc_edits.specs.declared.edit.EditList.{EditList}
+use Rattle.enc_edit_list.specs.declared.edit.EditList.{EditList}
 use Rattle.enc_rules.specs.Edited.{rows_edited}
 use Rattle.enc_rules.specs.Listed.{count_after}
 use Rattle.enc_rules.proofs.RowsEdited.{rows_all}
 use Rattle.enc_rules.proofs.RowsFew.{edits_short}
-use Rattle.enc_written.specs.Delta.{is_edited, tokens_written, map_written}
-use Rattle.enc_written.specs.Holds.{MayFollow, token_numbers}
-use Rattle.enc_written.proofs.TokensUnbroken.{other_rules, counts_fit}
-use Rattle.enc_written.proofs.TokensWritten.{Rise, rise_append, rise_to, passing_rise, all_passing, one_more, none_passing}
-use Rattle.enc_written.proofs.TokensByTable.{all_rise, all_pass}
-use Rattle.enc_written.proofs.Tokens.{all_about}
+use Rattle.enc_list_delta.specs.Delta.{is_edited, tokens_written, map_written}
+use Rattle.enc_list_delta.specs.Holds.{MayFollow, token_numbers}
+use Rattle.enc_list_delta.proofs.TokensUnbroken.{other_rules, counts_fit}
+use Rattle.enc_list_delta.proofs.TokensWritten.{Rise, rise_append, rise_to, passing_rise, all_passing, one_more, none_passing}
+use Rattle.enc_list_delta.proofs.TokensByTable.{all_rise, all_pass}
+use Rattle.enc_list_delta.proofs.Tokens.{all_about}
 use Rattle.enc_writer.specs.RowsWriting.{edited_below}
 use Rattle.enc_writer.specs.MapWriting.{tokens_below, TablesMapped, RowsMapped}
 

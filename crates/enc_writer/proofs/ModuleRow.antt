@@ -14,12 +14,12 @@ use Rattle.enc_plain.specs.Sound.{IsSound}
 use Rattle.enc_plain.proofs.KindsOf.{row_there}
 use Rattle.enc_rows.specs.Written.{rows_at}
 use Rattle.enc_schema.specs.Schema.{columns_in}
-use Rattle.enc_edits.specs.declared.edit.EditList.{EditList}
+use Rattle.enc_edit_list.specs.declared.edit.EditList.{EditList}
 use Rattle.enc_rules.specs.Rules.{there_are_too_many}
-use Rattle.enc_written.specs.Holds.{MayFollow, heaps_written}
-use Rattle.enc_written.proofs.HeapRules.{guids_are}
-use Rattle.enc_written.proofs.ModuleRules.{same_bytes}
-use Rattle.enc_written.proofs.TokensUnbroken.{other_rules}
+use Rattle.enc_list_delta.specs.Holds.{MayFollow, heaps_written}
+use Rattle.enc_list_delta.proofs.HeapRules.{guids_are}
+use Rattle.enc_list_delta.proofs.ModuleRules.{same_bytes}
+use Rattle.enc_list_delta.proofs.TokensUnbroken.{other_rules}
 use Rattle.enc_writer.specs.Writing.{row_fits_wide, IsModuleWritten}
 use Rattle.enc_writer.proofs.GuidsNamed.{named_further}
 use Rattle.enc_writer.proofs.HeapsPast.{chain_past}

@@ -29,13 +29,13 @@ use Rattle.enc_schema.specs.declared.column.Column.TheVariants.{Num8, Num16, Num
 use Rattle.enc_rewriter.proofs.Gathers.{body_column, field_column}
 use Rattle.enc_rewriter.proofs.RefersTo.{index_kind, coded_kind, index_says, coded_says}
 use Rattle.enc_rewriter.proofs.Says.{text_kind, blob_kind, number_kind}
-use Rattle.enc_edits.specs.declared.edit.EditList.{EditList}
+use Rattle.enc_edit_list.specs.declared.edit.EditList.{EditList}
 use Rattle.enc_rules.specs.Listed.{rows_listed, count_after}
-use Rattle.enc_written.specs.Delta.{is_edited, cells_written}
-use Rattle.enc_written.specs.Holds.{MayFollow, reading_with, SaysCell, PlacesBody}
-use Rattle.enc_written.proofs.TokensAbout.{stands_after}
-use Rattle.enc_written.proofs.TokensWritten.{one_of}
-use Rattle.enc_written.proofs.TokensUnbroken.{nothing_breaks}
+use Rattle.enc_list_delta.specs.Delta.{is_edited, cells_written}
+use Rattle.enc_list_delta.specs.Holds.{MayFollow, reading_with, SaysCell, PlacesBody}
+use Rattle.enc_list_delta.proofs.TokensAbout.{stands_after}
+use Rattle.enc_list_delta.proofs.TokensWritten.{one_of}
+use Rattle.enc_list_delta.proofs.TokensUnbroken.{nothing_breaks}
 use Rattle.enc_writer.specs.Writing.{MethodsPlaced, method_token}
 use Rattle.enc_writer.specs.RowsWriting.{joined_with, SaysPlain, SaysNumber}
 use Rattle.enc_writer.proofs.RowsStated.{after, stated_at, IsStated, is_stated, number_stated, text_stated, blob_stated, token_stated, body_there, stated_sound}

@@ -13,19 +13,19 @@ use Rattle.enc_plain.specs.Chain.{Chain}
 use Rattle.enc_rows.specs.Source.{Source, raw_in}
 use Rattle.enc_delta.specs.Delta.{loaded_code, listed, place_in}
 use Rattle.enc_delta.specs.Rows.{own_row}
-use Rattle.enc_edits.specs.declared.body.BodyValue.{BodyValue}
-use Rattle.enc_edits.specs.declared.edit.Edit.{Edit}
-use Rattle.enc_edits.specs.declared.edit.EditList.{EditList}
-use Rattle.enc_edits.specs.Sizes.{length_of_code}
+use Rattle.enc_edit_list.specs.declared.body.BodyValue.{BodyValue}
+use Rattle.enc_edit_list.specs.declared.edit.Edit.{Edit}
+use Rattle.enc_edit_list.specs.declared.edit.EditList.{EditList}
+use Rattle.enc_edit_list.specs.Sizes.{length_of_code}
 use Rattle.enc_rules.specs.Edited.{body_stated, rows_edited}
 use Rattle.enc_rules.specs.Listed.{body_given}
-use Rattle.enc_pdb_delta.specs.Laws.{size_given}
+use Rattle.enc_pdb_writer.specs.Laws.{size_given}
 use Rattle.enc_checker.specs.Check.{new_code, code_size}
-use Rattle.enc_written.specs.Delta.{is_edited, tokens_written, cells_written}
-use Rattle.enc_written.specs.Holds.{MayFollow, SaysDelta, heaps_written}
-use Rattle.enc_written.proofs.BodyRules.{IsMethod, BodyCase, has, lacks, body_case}
-use Rattle.enc_written.proofs.Placed.{placed}
-use Rattle.enc_written.proofs.TokensAbout.{edit_about}
+use Rattle.enc_list_delta.specs.Delta.{is_edited, tokens_written, cells_written}
+use Rattle.enc_list_delta.specs.Holds.{MayFollow, SaysDelta, heaps_written}
+use Rattle.enc_list_delta.proofs.BodyRules.{IsMethod, BodyCase, has, lacks, body_case}
+use Rattle.enc_list_delta.proofs.Placed.{placed}
+use Rattle.enc_list_delta.proofs.TokensAbout.{edit_about}
 use Rattle.enc_writer.proofs.BodiesPlaced.{first_cell}
 
 -- a method that edits are about is one that the delta lists

@@ -6,20 +6,20 @@ use Rattle.enc_base.specs.declared.token.Token.{Token}
 use Rattle.enc_plain.specs.Chain.{Chain}
 use Rattle.enc_plain.proofs.Applied.{same_is}
 use Rattle.enc_rows.specs.Source.{Source}
-use Rattle.enc_edits.specs.declared.edit.EditList.{EditList}
+use Rattle.enc_edit_list.specs.declared.edit.EditList.{EditList}
 use Rattle.enc_rules.specs.Edited.{rows_edited}
 use Rattle.enc_rules.specs.Listed.{body_given}
 use Rattle.enc_ppdb.specs.Misplaced.{size_for}
 use Rattle.enc_ppdb.specs.Points.{names_method}
-use Rattle.enc_pdb_delta.specs.Laws.{AreSizes}
-use Rattle.enc_pdb_delta.specs.Written.{method_named}
-use Rattle.enc_pdb_delta.proofs.Lists.{some_by_one}
-use Rattle.enc_pdb_delta.proofs.Misplaced.{none_is_misplaced}
-use Rattle.enc_pdb_delta.proofs.Told.{given_at, named_is, names_itself}
+use Rattle.enc_pdb_writer.specs.Laws.{AreSizes}
+use Rattle.enc_pdb_writer.specs.Written.{method_named}
+use Rattle.enc_pdb_writer.proofs.Lists.{some_by_one}
+use Rattle.enc_pdb_writer.proofs.Misplaced.{none_is_misplaced}
+use Rattle.enc_pdb_writer.proofs.Told.{given_at, named_is, names_itself}
 use Rattle.enc_checker.specs.Check.{new_code, code_size, code_sizes, own_methods}
-use Rattle.enc_written.specs.Holds.{MayFollow, SaysDelta}
-use Rattle.enc_written.proofs.Tokens.{listed_of_table}
-use Rattle.enc_written.proofs.TokensAbout.{edit_about}
+use Rattle.enc_list_delta.specs.Holds.{MayFollow, SaysDelta}
+use Rattle.enc_list_delta.proofs.Tokens.{listed_of_table}
+use Rattle.enc_list_delta.proofs.TokensAbout.{edit_about}
 use Rattle.enc_writer.specs.PdbFollows.{PdbsFollow}
 use Rattle.enc_writer.proofs.PdbCode.{edited_method, code_of_edit, size_is}
 

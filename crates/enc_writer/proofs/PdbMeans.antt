@@ -9,20 +9,20 @@ use Rattle.enc_plain.specs.Chain.{Chain}
 use Rattle.enc_plain.proofs.Applied.{same_is}
 use Rattle.enc_rows.specs.Source.{Source}
 use Rattle.enc_delta.proofs.MembersBeside.{any_filter}
-use Rattle.enc_edits.specs.declared.edit.Edit.{Edit}
-use Rattle.enc_edits.specs.declared.edit.EditList.{EditList}
+use Rattle.enc_edit_list.specs.declared.edit.Edit.{Edit}
+use Rattle.enc_edit_list.specs.declared.edit.EditList.{EditList}
 use Rattle.enc_rules.specs.Edited.{rows_edited}
 use Rattle.enc_rules.specs.Listed.{body_given}
 use Rattle.enc_rules.specs.Rules.{gives_body}
-use Rattle.enc_pdb_delta.specs.Stated.{edit_giving}
-use Rattle.enc_pdb_delta.proofs.Edited.{pdbs_are_edited}
-use Rattle.enc_pdb_delta.proofs.Givings.{gives_at}
-use Rattle.enc_pdb_delta.proofs.Lists.{PassesAt, some_by_one, one_of_some}
-use Rattle.enc_pdb_delta.proofs.Told.{GivenAt, given_at}
+use Rattle.enc_pdb_writer.specs.Stated.{edit_giving}
+use Rattle.enc_pdb_writer.proofs.Edited.{pdbs_are_edited}
+use Rattle.enc_pdb_writer.proofs.Givings.{gives_at}
+use Rattle.enc_pdb_writer.proofs.Lists.{PassesAt, some_by_one, one_of_some}
+use Rattle.enc_pdb_writer.proofs.Told.{GivenAt, given_at}
 use Rattle.enc_checker.specs.Check.{new_code, new_bodies, own_methods}
-use Rattle.enc_written.specs.Holds.{MayFollow, SaysDelta}
-use Rattle.enc_written.proofs.Tokens.{is_written, listed_of_table}
-use Rattle.enc_written.proofs.TokensAbout.{IsEdit, about_edit, self}
+use Rattle.enc_list_delta.specs.Holds.{MayFollow, SaysDelta}
+use Rattle.enc_list_delta.proofs.Tokens.{is_written, listed_of_table}
+use Rattle.enc_list_delta.proofs.TokensAbout.{IsEdit, about_edit, self}
 use Rattle.enc_writer.specs.PdbFollows.{PdbsOfListsMean}
 use Rattle.enc_writer.proofs.PdbCode.{code_of_edit, is_there}
 use Rattle.enc_writer.proofs.PdbFollows.{has_method}

@@ -12,23 +12,23 @@ use Rattle.enc_seqpoints.specs.Spelling.{blob_of}
 use Rattle.enc_plain.specs.Chain.{Chain}
 use Rattle.enc_plain.specs.Rows.{Rows, number_at}
 use Rattle.enc_schema.specs.Columns as columns
-use Rattle.enc_edits.specs.Form.{edit_fits, is_known_table, owner_fits, cells_fit, stated_columns}
-use Rattle.enc_edits.specs.Sizes.{length_of_code}
-use Rattle.enc_edits.specs.declared.body.BodyValue.{BodyValue}
-use Rattle.enc_edits.specs.declared.edit.Edit.{Edit}
-use Rattle.enc_edits.specs.declared.edit.Edit.TheVariants.{Add, Body as Replace}
-use Rattle.enc_edits.specs.declared.edit.EditList.{EditList}
+use Rattle.enc_edit_list.specs.Form.{edit_fits, is_known_table, owner_fits, cells_fit, stated_columns}
+use Rattle.enc_edit_list.specs.Sizes.{length_of_code}
+use Rattle.enc_edit_list.specs.declared.body.BodyValue.{BodyValue}
+use Rattle.enc_edit_list.specs.declared.edit.Edit.{Edit}
+use Rattle.enc_edit_list.specs.declared.edit.Edit.TheVariants.{Add, Body as Replace}
+use Rattle.enc_edit_list.specs.declared.edit.EditList.{EditList}
 use Rattle.enc_rules.specs.Edited.{rows_edited}
 use Rattle.enc_rules.specs.Listed.{body_given, points_given, count_after, rows_listed}
 use Rattle.enc_rules.specs.Rules.{room_of, room_of_edit, gives_body, is_il, body_is_missing_or_stands, body_is_broken, has_document, has_points, room_of_points, room_of_document, points_are_bad}
 use Rattle.enc_rules.proofs.RowsEdited.{row_there, rows_all}
-use Rattle.enc_edited.proofs.AddedRow.{form_at}
-use Rattle.enc_edited.proofs.Landed.{apart}
-use Rattle.enc_pdb_delta.specs.Stated.{locals_row, edit_points_stand, points_stand, AreMethods}
-use Rattle.enc_pdb_delta.proofs.Lists.{all_of_each}
-use Rattle.enc_written.specs.Holds.{MayFollow}
-use Rattle.enc_written.proofs.TokensAbout.{stands_after, edit_about, self}
-use Rattle.enc_written.proofs.TokensUnbroken.{nothing_breaks, other_rules, counts_fit}
+use Rattle.enc_memory_module.proofs.AddedRow.{form_at}
+use Rattle.enc_memory_module.proofs.Landed.{apart}
+use Rattle.enc_pdb_writer.specs.Stated.{locals_row, edit_points_stand, points_stand, AreMethods}
+use Rattle.enc_pdb_writer.proofs.Lists.{all_of_each}
+use Rattle.enc_list_delta.specs.Holds.{MayFollow}
+use Rattle.enc_list_delta.proofs.TokensAbout.{stands_after, edit_about, self}
+use Rattle.enc_list_delta.proofs.TokensUnbroken.{nothing_breaks, other_rules, counts_fit}
 use Rattle.enc_writer.specs.PdbFollows.{PointsCanBeWritten}
 use Rattle.enc_writer.proofs.BodiesGiven.{some_room, given, can}
 

@@ -26,13 +26,13 @@ use Rattle.enc_rows.proofs.Stands.{pieces_length}
 use Rattle.enc_schema.specs.Schema.{schema, list_at, columns_in}
 use Rattle.enc_schema.specs.Widths.{Shape, width_of, space_of}
 use Rattle.enc_schema.specs.declared.column.Column.{Column}
-use Rattle.enc_edits.specs.declared.edit.EditList.{EditList}
+use Rattle.enc_edit_list.specs.declared.edit.EditList.{EditList}
 use Rattle.enc_rules.specs.Rules.{passes_limits, heaps_with}
-use Rattle.enc_written.specs.Delta.{tokens_written, map_written}
-use Rattle.enc_written.specs.Holds.{MayFollow, heaps_written, SayRows, is_listed_table}
-use Rattle.enc_written.proofs.HeapRules.{starts_are, guids_are}
-use Rattle.enc_written.proofs.TokensUnbroken.{heaps_have_room}
-use Rattle.enc_written.proofs.TokensWritten.{one_of}
+use Rattle.enc_list_delta.specs.Delta.{tokens_written, map_written}
+use Rattle.enc_list_delta.specs.Holds.{MayFollow, heaps_written, SayRows, is_listed_table}
+use Rattle.enc_list_delta.proofs.HeapRules.{starts_are, guids_are}
+use Rattle.enc_list_delta.proofs.TokensUnbroken.{heaps_have_room}
+use Rattle.enc_list_delta.proofs.TokensWritten.{one_of}
 use Rattle.enc_writer.proofs.GuidRoom.{guid_room}
 use Rattle.enc_writer.proofs.MapSays.{lists_more}
 

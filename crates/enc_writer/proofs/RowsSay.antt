@@ -20,13 +20,13 @@ use Rattle.enc_rows.specs.Written.{rows_at}
 use Rattle.enc_schema.specs.Schema.{schema, list_at, columns_in, column_in}
 use Rattle.enc_schema.specs.declared.column.Column.{Column}
 use Rattle.enc_schema.specs.declared.column.Column.TheVariants.{Num32}
-use Rattle.enc_edits.specs.declared.edit.EditList.{EditList}
+use Rattle.enc_edit_list.specs.declared.edit.EditList.{EditList}
 use Rattle.enc_rules.specs.Listed.{count_after}
-use Rattle.enc_written.specs.Delta.{is_edited, tokens_written}
-use Rattle.enc_written.specs.Holds.{MayFollow, SaysRow, SayRows, is_listed_table}
-use Rattle.enc_written.proofs.TokensAbout.{stands_after, old_about, new_about}
-use Rattle.enc_written.proofs.TokensWritten.{one_more, none_passing, one_of}
-use Rattle.enc_written.proofs.TokensUnbroken.{nothing_breaks, counts_fit}
+use Rattle.enc_list_delta.specs.Delta.{is_edited, tokens_written}
+use Rattle.enc_list_delta.specs.Holds.{MayFollow, SaysRow, SayRows, is_listed_table}
+use Rattle.enc_list_delta.proofs.TokensAbout.{stands_after, old_about, new_about}
+use Rattle.enc_list_delta.proofs.TokensWritten.{one_more, none_passing, one_of}
+use Rattle.enc_list_delta.proofs.TokensUnbroken.{nothing_breaks, counts_fit}
 use Rattle.enc_writer.specs.Writing.{MethodsPlaced, method_token, row_fits_wide, OthersStay, IsTableWritten, AreTablesWritten}
 use Rattle.enc_writer.specs.RowsWriting.{joined_with, SaysNumber, DeltaFrontSays, DeltaRowSays, edited_below, RowsWritten}
 

@@ -9,20 +9,20 @@ use Rattle.enc_plain.specs.Rows.{number_at, bytes_at, token_at}
 use Rattle.enc_plain.specs.Sound.{IsSound, cell_is_sound, row_count}
 use Rattle.enc_plain.proofs.CellsOf.{number_there, text_there, blob_there, token_there}
 use Rattle.enc_agg.proofs.Viewing.{has_is}
-use Rattle.enc_edits.specs.declared.edit.EditList.{EditList}
+use Rattle.enc_edit_list.specs.declared.edit.EditList.{EditList}
 use Rattle.enc_rules.specs.Edited.{edited}
 use Rattle.enc_rules.specs.Listed.{rows_listed, count_after}
-use Rattle.enc_edited.proofs.CellCases.{cell_of_cells}
-use Rattle.enc_edited.proofs.Grown.{count_is}
-use Rattle.enc_edited.proofs.Unbroken.{BreakNothing}
+use Rattle.enc_memory_module.proofs.CellCases.{cell_of_cells}
+use Rattle.enc_memory_module.proofs.Grown.{count_is}
+use Rattle.enc_memory_module.proofs.Unbroken.{BreakNothing}
 use Rattle.enc_schema.specs.Schema.{column_in}
 use Rattle.enc_schema.specs.declared.column.Column.{Column}
-use Rattle.enc_written.specs.Delta.{is_edited, cells_written}
-use Rattle.enc_written.specs.Holds.{MayFollow}
-use Rattle.enc_written.proofs.CellsRead.{sound_edited, edited_row}
-use Rattle.enc_written.proofs.RowsSeen.{AreSeenAlike, listed_seen}
-use Rattle.enc_written.proofs.SameRows.{same_function}
-use Rattle.enc_written.proofs.TokensUnbroken.{nothing_breaks}
+use Rattle.enc_list_delta.specs.Delta.{is_edited, cells_written}
+use Rattle.enc_list_delta.specs.Holds.{MayFollow}
+use Rattle.enc_list_delta.proofs.CellsRead.{sound_edited, edited_row}
+use Rattle.enc_list_delta.proofs.RowsSeen.{AreSeenAlike, listed_seen}
+use Rattle.enc_list_delta.proofs.SameRows.{same_function}
+use Rattle.enc_list_delta.proofs.TokensUnbroken.{nothing_breaks}
 
 -- the module with all edits
 abbrev pub after : Chain → EditList → Module

@@ -8,12 +8,12 @@ use Rattle.enc_meta.proofs.Places.{with_new, with_kept}
 use Rattle.enc_meta.proofs.Standing.{same_bytes}
 use Rattle.enc_plain.specs.Rows.{Rows}
 use Rattle.enc_plain.specs.Chain.{Chain}
-use Rattle.enc_edits.specs.declared.edit.Edit.{Edit}
-use Rattle.enc_edits.specs.declared.edit.EditList.{EditList}
+use Rattle.enc_edit_list.specs.declared.edit.Edit.{Edit}
+use Rattle.enc_edit_list.specs.declared.edit.EditList.{EditList}
 use Rattle.enc_rules.specs.Listed.{rows_listed}
 use Rattle.enc_rules.specs.Rules.{texts_of_edit, users_of_edit, blobs_of_edit, with_texts, with_users, with_blobs, heaps_after_edit, with_edits}
-use Rattle.enc_written.specs.Holds.{heaps_written}
-use Rattle.enc_written.proofs.ModuleRules.{same_bytes as equal}
+use Rattle.enc_list_delta.specs.Holds.{heaps_written}
+use Rattle.enc_list_delta.proofs.ModuleRules.{same_bytes as equal}
 
 -- values with more of them, in order
 unfoldable all_with : List (List ℕ) → List (List ℕ) → List (List ℕ)

@@ -12,16 +12,16 @@ use Rattle.enc_schema.specs.Tables.{method_def}
 use Rattle.enc_opcodes.specs.Body.{Code}
 use Rattle.enc_il.specs.Written.{clause_fits, place_for, with_body}
 use Rattle.enc_plain.specs.Chain.{Chain}
-use Rattle.enc_edits.specs.Form.{instr_fits}
-use Rattle.enc_edits.specs.declared.body.BodyValue.{BodyValue}
-use Rattle.enc_edits.specs.declared.body.InstrValue.{InstrValue}
-use Rattle.enc_edits.specs.declared.edit.EditList.{EditList}
+use Rattle.enc_edit_list.specs.Form.{instr_fits}
+use Rattle.enc_edit_list.specs.declared.body.BodyValue.{BodyValue}
+use Rattle.enc_edit_list.specs.declared.body.InstrValue.{InstrValue}
+use Rattle.enc_edit_list.specs.declared.edit.EditList.{EditList}
 use Rattle.enc_assembly.specs.Assembly.{code_bytes, are_small, text_is_kept}
 use Rattle.enc_rules.specs.Edited.{body_stated, rows_edited}
 use Rattle.enc_rules.specs.Listed.{body_given, count_after}
 use Rattle.enc_rules.specs.Rules.{room_of_edit}
-use Rattle.enc_written.specs.Delta.{is_edited, cells_written}
-use Rattle.enc_written.specs.Holds.{StandsIn, PlacesBody, heaps_written}
+use Rattle.enc_list_delta.specs.Delta.{is_edited, cells_written}
+use Rattle.enc_list_delta.specs.Holds.{StandsIn, PlacesBody, heaps_written}
 use Rattle.enc_writer.specs.Writing.{method_token}
 
 -- the parts of a body that is written: its code is assembled, and its clauses are apart

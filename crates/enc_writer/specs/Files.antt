@@ -2,11 +2,11 @@
 use Rattle.std.specs.Prelude.{◌≡◌, true}
 use Rattle.std.specs.List.{list_all}
 use Rattle.enc_plain.specs.Chain.{Chain}
-use Rattle.enc_edits.specs.declared.edit.EditList.{EditList}
+use Rattle.enc_edit_list.specs.declared.edit.EditList.{EditList}
 use Rattle.enc_rules.specs.Edited.{rows_edited}
-use Rattle.enc_pdb_delta.specs.Stated.{points_lie_within}
-use Rattle.enc_pdb_delta.specs.Written.{SaysEdits}
-use Rattle.enc_written.specs.Holds.{MayFollow}
+use Rattle.enc_pdb_writer.specs.Stated.{points_lie_within}
+use Rattle.enc_pdb_writer.specs.Written.{SaysEdits}
+use Rattle.enc_list_delta.specs.Holds.{MayFollow}
 use Rattle.enc_writer.specs.declared.bytes.DeltaBytes.{DeltaBytes}
 use Rattle.enc_writer.specs.Stands.{IsWrittenFor}
 use Rattle.enc_writer.specs.Writing.{IsMetadata}

@@ -3,10 +3,10 @@ use Rattle.std.specs.Prelude.{ℕ, Bool, true, false, not, List, [], map, take, 
 use Rattle.enc_base.specs.declared.token.Token.{Token}
 use Rattle.enc_plain.specs.Chain.{Chain}
 use Rattle.enc_delta.specs.declared.entry.Entry.{Entry}
-use Rattle.enc_edits.specs.declared.edit.Edit.{Edit}
-use Rattle.enc_edits.specs.declared.edit.EditList.{EditList}
+use Rattle.enc_edit_list.specs.declared.edit.Edit.{Edit}
+use Rattle.enc_edit_list.specs.declared.edit.EditList.{EditList}
 use Rattle.enc_rules.specs.Edited.{rows_edited, attached_by}
-use Rattle.enc_written.specs.Delta.{add_entry, adds_reference, entries_for, entries_if, entries_behind}
+use Rattle.enc_list_delta.specs.Delta.{add_entry, adds_reference, entries_for, entries_if, entries_behind}
 
 -- the edit is one of those that add references, or one of all others
 abbrev pub is_asked : Bool → Edit → Bool

@@ -3,9 +3,9 @@ use Rattle.std.specs.Prelude.{◌≡◌, ℕ, List, ◌++◌, map, flat_map}
 use Rattle.enc_base.specs.declared.token.Token.{Token}
 use Rattle.enc_plain.specs.Chain.{Chain}
 use Rattle.enc_rows.specs.Sums.{below}
-use Rattle.enc_edits.specs.declared.edit.EditList.{EditList}
-use Rattle.enc_written.specs.Delta.{tokens_written}
-use Rattle.enc_written.specs.Holds.{token_numbers}
+use Rattle.enc_edit_list.specs.declared.edit.EditList.{EditList}
+use Rattle.enc_list_delta.specs.Delta.{tokens_written}
+use Rattle.enc_list_delta.specs.Holds.{token_numbers}
 use Rattle.enc_writer.specs.RowsWriting.{edited_below}
 
 -- the edited rows of all tables below one, table by table

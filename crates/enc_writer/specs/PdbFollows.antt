@@ -5,14 +5,14 @@ use Rattle.enc_base.specs.declared.token.Token.{Token}
 use Rattle.enc_plain.specs.Chain.{Chain}
 use Rattle.enc_plain.specs.Debug.{PlainPdb}
 use Rattle.enc_rows.specs.Source.{Source}
-use Rattle.enc_edits.specs.declared.edit.EditList.{EditList}
+use Rattle.enc_edit_list.specs.declared.edit.EditList.{EditList}
 use Rattle.enc_rules.specs.Edited.{rows_edited}
 use Rattle.enc_ppdb.specs.Misplaced.{first_misplaced}
 use Rattle.enc_ppdb.specs.PdbChain.{pdb_changed}
-use Rattle.enc_pdb_delta.specs.Stated.{pdb_edited, points_lie_within, points_stand, AreMethods}
-use Rattle.enc_pdb_delta.specs.Written.{SaysEdits}
+use Rattle.enc_pdb_writer.specs.Stated.{pdb_edited, points_lie_within, points_stand, AreMethods}
+use Rattle.enc_pdb_writer.specs.Written.{SaysEdits}
 use Rattle.enc_checker.specs.Check.{code_sizes, new_bodies}
-use Rattle.enc_written.specs.Holds.{MayFollow, SaysDelta}
+use Rattle.enc_list_delta.specs.Holds.{MayFollow, SaysDelta}
 
 -- the points of a list that breaks no rule can be written, and its edits are about methods where they give bodies
 abbrev pub PointsCanBeWritten : Type 0

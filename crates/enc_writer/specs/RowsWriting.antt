@@ -15,9 +15,9 @@ use Rattle.enc_rows.specs.Sums.{below}
 use Rattle.enc_rules.specs.Listed.{count_after}
 use Rattle.enc_schema.specs.Schema.{columns_in, column_in}
 use Rattle.enc_schema.specs.declared.column.Column.{Column}
-use Rattle.enc_edits.specs.declared.edit.EditList.{EditList}
-use Rattle.enc_written.specs.Delta.{is_edited, cells_written}
-use Rattle.enc_written.specs.Holds.{MayFollow, heaps_written, reading_with, SaysCell, PlacesBody, SayRows}
+use Rattle.enc_edit_list.specs.declared.edit.EditList.{EditList}
+use Rattle.enc_list_delta.specs.Delta.{is_edited, cells_written}
+use Rattle.enc_list_delta.specs.Holds.{MayFollow, heaps_written, reading_with, SaysCell, PlacesBody, SayRows}
 use Rattle.enc_writer.specs.Writing.{MethodsPlaced, row_fits_wide}
 
 -- the joined heaps with those of the delta

@@ -12,17 +12,17 @@ use Rattle.enc_rows.specs.Source.{Source}
 use Rattle.enc_schema.specs.Tables as tables
 use Rattle.enc_delta.specs.Delta.{delta_of, listed}
 use Rattle.enc_agg.specs.Extend.{extended}
-use Rattle.enc_edits.specs.declared.edit.EditList.{EditList}
+use Rattle.enc_edit_list.specs.declared.edit.EditList.{EditList}
 use Rattle.enc_rules.specs.Edited.{rows_edited, edited}
 use Rattle.enc_rules.specs.First.{first_edit}
 use Rattle.enc_ppdb.specs.Fault.{named_tokens}
 use Rattle.enc_ppdb.specs.PdbChain.{debug_at, pdb_changed}
 use Rattle.enc_ppdb.specs.Written.{IsNilOverSeveral, document_told}
-use Rattle.enc_pdb_delta.specs.Stated.{pdb_edited}
-use Rattle.enc_pdb_delta.specs.Written.{SaysEdits}
+use Rattle.enc_pdb_writer.specs.Stated.{pdb_edited}
+use Rattle.enc_pdb_writer.specs.Written.{SaysEdits}
 use Rattle.enc_checker.specs.Check.{accepted, judged}
 use Rattle.enc_checker.specs.Within.{debug_of_accepted}
-use Rattle.enc_written.specs.Holds.{SaysDelta}
+use Rattle.enc_list_delta.specs.Holds.{SaysDelta}
 use Rattle.enc_writer.specs.declared.bytes.DeltaBytes.{DeltaBytes}
 use Rattle.enc_writer.specs.declared.fault.EditFault.{EditFault}
 use Rattle.enc_writer.specs.declared.fault.EditFault.TheVariants.{Memory, Broken}

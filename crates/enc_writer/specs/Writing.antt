@@ -12,12 +12,12 @@ use Rattle.enc_schema.specs.declared.column.Column.{Column}
 use Rattle.enc_rows.specs.Written.{rows_at}
 use Rattle.enc_plain.specs.Chain.{Chain}
 use Rattle.enc_plain.specs.Sound.{number_fits}
-use Rattle.enc_edits.specs.declared.edit.EditList.{EditList}
+use Rattle.enc_edit_list.specs.declared.edit.EditList.{EditList}
 use Rattle.enc_rules.specs.Listed.{count_after}
-use Rattle.enc_written.specs.Delta.{is_edited, tokens_written, map_written, log_written, cells_written}
+use Rattle.enc_list_delta.specs.Delta.{is_edited, tokens_written, map_written, log_written, cells_written}
 use Rattle.enc_meta.specs.BuiltLaws.{heaps_joined}
-use Rattle.enc_written.specs.Holds.{heaps_written, SaysModule, SayRows, PlacesBody, entry_numbers, token_numbers, is_listed_table, HoldDelta}
-use Rattle.enc_written.specs.Laws.{metadata_written}
+use Rattle.enc_list_delta.specs.Holds.{heaps_written, SaysModule, SayRows, PlacesBody, entry_numbers, token_numbers, is_listed_table, HoldDelta}
+use Rattle.enc_list_delta.specs.Laws.{metadata_written}
 use Rattle.enc_emit.specs.Written.{built_size}
 
 abbrev pub method_token : ℕ → Token

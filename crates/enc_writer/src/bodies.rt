@@ -8,14 +8,14 @@ ghost use Rattle.enc_meta.specs.BuiltLaws.{heaps_joined};
 ghost use Rattle.enc_rules.specs.Edited.{rows_edited};
 ghost use Rattle.enc_rules.specs.Listed.{body_given};
 ghost use Rattle.enc_rules.specs.Rules.{room_of};
-ghost use Rattle.enc_written.specs.Holds.{MayFollow, heaps_written};
+ghost use Rattle.enc_list_delta.specs.Holds.{MayFollow, heaps_written};
 ghost use Rattle.enc_writer.specs.BodiesWriting.{CanBeWritten, HasRoom, HasWidths, PutsPlace, StandsOf, place_given, with_given};
 ghost use Rattle.enc_writer.specs.Writing.{MethodsPlaced};
 
 use crate::edit::{edit_at, row_at};
 use enc_assembly::{assemble, assembled_law};
 use enc_base::{Token, push_zeros};
-use enc_edits::{BodyValue, Edit};
+use enc_edit_list::{BodyValue, Edit};
 use enc_il::write_body;
 use enc_meta::HeapBuilder;
 use enc_opcodes::{Clause, CodeRef};

@@ -3,7 +3,7 @@ ghost use Rattle.std.specs.Prelude.{◌≡◌, ◌<◌, Some, length, slice_get}
 ghost use Rattle.enc_rules.specs.Edited.{rows_edited};
 
 use enc_base::Token;
-use enc_edits::Edit;
+use enc_edit_list::Edit;
 use enc_plain::ChainView;
 use enc_rules::Context;
 

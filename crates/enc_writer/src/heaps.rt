@@ -1,6 +1,6 @@
 //! The heaps of a delta (ECMA-335 II.24.2.3 to II.24.2.5).
 ghost use Rattle.std.specs.Prelude.{◌≡◌, IfOk};
-ghost use Rattle.enc_written.specs.Holds.{MayFollow, heaps_written};
+ghost use Rattle.enc_list_delta.specs.Holds.{MayFollow, heaps_written};
 
 use enc_meta::{BuildFault, HeapBuilder};
 use enc_plain::ChainView;

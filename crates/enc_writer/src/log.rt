@@ -4,15 +4,15 @@ ghost use Rattle.std.specs.List.{list_all};
 ghost use Rattle.enc_rows.specs.Written.{rows_at, count_at};
 ghost use Rattle.enc_schema.specs.Tables.{enc_log};
 ghost use Rattle.enc_rules.specs.Edited.{rows_edited};
-ghost use Rattle.enc_written.specs.Delta.{add_code, adds_reference, entries_for, is_reference_table, log_written};
-ghost use Rattle.enc_written.specs.Holds.{MayFollow, entry_numbers};
+ghost use Rattle.enc_list_delta.specs.Delta.{add_code, adds_reference, entries_for, is_reference_table, log_written};
+ghost use Rattle.enc_list_delta.specs.Holds.{MayFollow, entry_numbers};
 ghost use Rattle.enc_writer.specs.Writing.{OthersStay};
 ghost use Rattle.enc_writer.specs.LogWriting.{entries_at, entries_logged, has_number, is_asked, owner_entries};
 
 use crate::edit::{edit_at, row_at};
 use enc_base::Token;
 use enc_delta::Entry;
-use enc_edits::Edit;
+use enc_edit_list::Edit;
 use enc_plain::ChainView;
 use enc_rows::TableBuilder;
 use enc_rules::Context;
@@ -109,7 +109,7 @@ fn push_owner(edit: &Edit, row: Token, tables: &mut TableBuilder) -> Result<(), 
 }
 
 /// Adds the entries of an edit: one that gives its row to the owner, where it has one, and one for the row.
-#[tactic(auto, unfolding(enc_written::specs::Delta::entries_for))]
+#[tactic(auto, unfolding(enc_list_delta::specs::Delta::entries_for))]
 fn push_entries(edit: &Edit, row: Token, tables: &mut TableBuilder) -> Result<(), AllocError>
     requires numbers { list_all has_number (entries_for edit.now row) ≡ true }
     requires few { count_at tables.old enc_log + length (entries_for edit.now row) < 2 ^ 24 }

@@ -3,8 +3,8 @@ ghost use Rattle.std.specs.Prelude.{◌≡◌, ◌+◌, ◌-◌, ◌^◌, ◌<�
 ghost use Rattle.enc_rows.specs.Written.{rows_at, count_at};
 ghost use Rattle.enc_rules.specs.Listed.{count_after};
 ghost use Rattle.enc_schema.specs.Tables.{enc_map};
-ghost use Rattle.enc_written.specs.Delta.{map_written};
-ghost use Rattle.enc_written.specs.Holds.{MayFollow, heaps_written, token_numbers};
+ghost use Rattle.enc_list_delta.specs.Delta.{map_written};
+ghost use Rattle.enc_list_delta.specs.Holds.{MayFollow, heaps_written, token_numbers};
 ghost use Rattle.enc_writer.specs.Writing.{MethodsPlaced, OthersStay};
 ghost use Rattle.enc_writer.specs.RowsWriting.{joined_with};
 ghost use Rattle.enc_writer.specs.MapWriting.{TablesMapped, RowsMapped};

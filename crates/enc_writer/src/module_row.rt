@@ -5,13 +5,13 @@ ghost use Rattle.enc_meta.specs.Joined.{joined_guid};
 ghost use Rattle.enc_plain.specs.Chain.{mvid_of, id_of};
 ghost use Rattle.enc_rows.specs.Written.{rows_at};
 ghost use Rattle.enc_schema.specs.Tables.{«module»};
-ghost use Rattle.enc_written.specs.Holds.{MayFollow, heaps_written};
+ghost use Rattle.enc_list_delta.specs.Holds.{MayFollow, heaps_written};
 ghost use Rattle.enc_writer.specs.Stands.{NamesGuids};
 ghost use Rattle.enc_writer.specs.Writing.{IsModuleWritten, OthersStay};
 
 use crate::guids::guid_number;
 use enc_base::Token;
-use enc_edits::EditList;
+use enc_edit_list::EditList;
 use enc_meta::{BuildFault, HeapBuilder};
 use enc_plain::ChainView;
 use enc_rows::TableBuilder;

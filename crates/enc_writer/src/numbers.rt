@@ -5,8 +5,8 @@ ghost use Rattle.enc_plain.specs.Sound.{is_reference};
 ghost use Rattle.enc_schema.specs.Schema.{columns_in, column_in};
 ghost use Rattle.enc_schema.specs.declared.column.Column.TheVariants.{Text, Blob, Index, Coded};
 ghost use Rattle.enc_rules.specs.Edited.{edited};
-ghost use Rattle.enc_written.specs.Delta.{is_edited, cells_written};
-ghost use Rattle.enc_written.specs.Holds.{MayFollow, heaps_written};
+ghost use Rattle.enc_list_delta.specs.Delta.{is_edited, cells_written};
+ghost use Rattle.enc_list_delta.specs.Holds.{MayFollow, heaps_written};
 ghost use Rattle.enc_writer.specs.RowsWriting.{AreRowsReady, SaysPlain, SaysNumber};
 
 use crate::bodies::Bodies;

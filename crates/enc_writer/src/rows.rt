@@ -7,8 +7,8 @@ ghost use Rattle.enc_schema.specs.Schema.{column_in};
 ghost use Rattle.enc_schema.specs.Tables.{method_def};
 ghost use Rattle.enc_meta.specs.BuiltLaws.{heaps_joined};
 ghost use Rattle.enc_rules.specs.Listed.{count_after};
-ghost use Rattle.enc_written.specs.Delta.{is_edited};
-ghost use Rattle.enc_written.specs.Holds.{MayFollow, heaps_written, is_listed_table};
+ghost use Rattle.enc_list_delta.specs.Delta.{is_edited};
+ghost use Rattle.enc_list_delta.specs.Holds.{MayFollow, heaps_written, is_listed_table};
 ghost use Rattle.enc_writer.specs.Writing.{MethodsPlaced, OthersStay, IsTableWritten, AreTablesWritten};
 ghost use Rattle.enc_writer.specs.RowsWriting.{AreRowsReady, DeltaFrontSays, DeltaRowSays, RowsWritten, joined_with};
 

@@ -1,8 +1,8 @@
 //! All rows of a delta, and the metadata root that holds them (ECMA-335 II.24.2).
 ghost use Rattle.std.specs.Prelude.{◌≡◌, IfOk};
 ghost use Rattle.enc_meta.specs.BuiltLaws.{heaps_joined};
-ghost use Rattle.enc_written.specs.Holds.{MayFollow, heaps_written, HoldDelta};
-ghost use Rattle.enc_written.specs.Laws.{metadata_written};
+ghost use Rattle.enc_list_delta.specs.Holds.{MayFollow, heaps_written, HoldDelta};
+ghost use Rattle.enc_list_delta.specs.Laws.{metadata_written};
 ghost use Rattle.enc_writer.specs.Stands.{NamesGuids};
 ghost use Rattle.enc_writer.specs.Writing.{AreRowsWritten, IsMetadata, MethodsPlaced};
 

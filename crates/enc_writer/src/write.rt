@@ -2,10 +2,10 @@
 ghost use Rattle.std.specs.Prelude.{◌≡◌, None, IfOk, IsTrue};
 ghost use Rattle.std.specs.List.{list_all};
 ghost use Rattle.enc_agg.specs.Seen.{chain_of_all};
-ghost use Rattle.enc_edits.specs.Form.{list_fits};
-ghost use Rattle.enc_pdb_delta.specs.Stated.{points_lie_within};
+ghost use Rattle.enc_edit_list.specs.Form.{list_fits};
+ghost use Rattle.enc_pdb_writer.specs.Stated.{points_lie_within};
 ghost use Rattle.enc_rules.specs.First.{first_edit};
-ghost use Rattle.enc_written.specs.Holds.{MayFollow};
+ghost use Rattle.enc_list_delta.specs.Holds.{MayFollow};
 ghost use Rattle.enc_writer.specs.Stands.{NamesGuids, IsWrittenFor, WritesEdits};
 ghost use Rattle.enc_writer.specs.Files.{HoldFiles, FilesStand};
 
@@ -17,11 +17,11 @@ use crate::laws::{pdbs_follow_law, pdbs_mean_law, points_law};
 use crate::tables::metadata_of;
 use enc_agg::Aggregate;
 use enc_base::Bytes;
-use enc_edits::{Added, EditList};
-use enc_pdb_delta::write_pdb_delta;
+use enc_edit_list::{Added, EditList};
+use enc_pdb_writer::write_pdb_delta;
 use enc_plain::ChainView;
 use enc_rules::{Context, context_of, first_broken};
-use enc_written::{deltas_are_read_law, deltas_follow_law, deltas_mean_law};
+use enc_list_delta::{deltas_are_read_law, deltas_follow_law, deltas_mean_law};
 use std::alloc::{AllocError, Global};
 
 /// The files of a list that breaks no rule after its chain.

@@ -3,7 +3,7 @@ ghost use Rattle.std.specs.Prelude.{◌≡◌, ◌<◌, ◌≤◌, ◌+◌, ◌*
 ghost use Rattle.enc_jobs.specs.Generated.{next_state, drawn, turn_drawn, state_behind, turns_from, state_after, is_of_row, is_adding};
 ghost use Rattle.enc_jobs.specs.Drawn.{turn_of};
 
-use enc_edits::ListOf;
+use enc_edit_list::ListOf;
 use std::alloc::{AllocError, Global};
 use std::marker::Model;
 

@@ -6,7 +6,7 @@ ghost use Rattle.enc_jobs.specs.Generated.{is_of_row, edit_of_turn, edits_of_tur
 use crate::generate::base::METHODS;
 use crate::generate::draw::{Act, AllTurns, Turn, turns_from};
 use crate::generate::edits::{method, name_added, replacing};
-use enc_edits::{Documents, EditList, Edits, ListOf};
+use enc_edit_list::{Documents, EditList, Edits, ListOf};
 use std::alloc::{AllocError, Global};
 
 /// Edit lists, in order.

@@ -2,7 +2,7 @@ use Rattle.std.proofs.Common.{◌≡◌, ap, map, take, get_or, ◌∙◌, arith
 use Rattle.std.proofs.lemmas.List.{take_all, length-map}
 use Rattle.enc_delta.specs.Members.{pair_seen}
 use Rattle.enc_delta.specs.Pairs.{attached_of}
-use Rattle.enc_index.specs.Index.{latest}
+use Rattle.enc_key_map.specs.Index.{latest}
 use Rattle.enc_agg.specs.Seen.{chain_of_all}
 use Rattle.enc_agg.specs.Directory.{kids_key, row_key}
 use Rattle.enc_agg.proofs.Gained.{held_step, owner_snoc, last_owner, owners_known, kids_known, pair_owned, take_pair, others_known}

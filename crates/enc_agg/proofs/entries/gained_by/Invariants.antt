@@ -1,7 +1,7 @@
 use Rattle.std.proofs.Common.{◌≡◌, ◌++◌, length, take, map}
 use Rattle.std.specs.Prelude.{IsTrue, ℕ}
 use Rattle.enc_base.specs.declared.token.Token.{Token as TheToken}
-use Rattle.enc_index.specs.Index.{latest}
+use Rattle.enc_key_map.specs.Index.{latest}
 use Rattle.enc_schema.specs.Children.{is_child_table, owner_table}
 use Rattle.enc_plain.specs.Module.{kids_of}
 use Rattle.enc_plain.specs.Apply.{gained}

@@ -1,6 +1,6 @@
 use Rattle.std.proofs.Common.{◌≡◌, ◌+◌, ◌≤◌, take}
 use Rattle.enc_base.specs.declared.token.Token.{Token as TheToken}
-use Rattle.enc_index.specs.Index.{latest}
+use Rattle.enc_key_map.specs.Index.{latest}
 use Rattle.enc_agg.specs.Directory.{row_key, IsSame}
 use Rattle.enc_agg.proofs.Gained.{placed}
 use Rattle.enc_agg.proofs.entries.places_of.Given as goal

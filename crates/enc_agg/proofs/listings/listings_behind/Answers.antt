@@ -1,6 +1,6 @@
 use Rattle.std.proofs.Common.{refl, ◌∙◌}
-use Rattle.enc_index.specs.Index.{value_at}
-use Rattle.enc_places.proofs.Keeping.{those_more, no_listings}
+use Rattle.enc_key_map.specs.Index.{value_at}
+use Rattle.enc_generation_map.proofs.Keeping.{those_more, no_listings}
 use Rattle.enc_agg.specs.Directory.{row_key}
 use Rattle.enc_agg.proofs.listings.listings_behind.Goals as goal
 

@@ -1,6 +1,6 @@
 use Rattle.std.proofs.Common.{take}
-use Rattle.enc_index.specs.Index.{value_at}
-use Rattle.enc_places.specs.Places.{AreOfThose}
+use Rattle.enc_key_map.specs.Index.{value_at}
+use Rattle.enc_generation_map.specs.Places.{AreOfThose}
 use Rattle.enc_agg.specs.Directory.{row_key}
 use Rattle.enc_agg.proofs.listings.listings_behind.Given as goal
 

@@ -1,6 +1,6 @@
 use Rattle.std.proofs.Common.{◌≡◌, ◌+◌, ◌++◌, drop}
 use Rattle.enc_meta.specs.Built.{user_offset}
-use Rattle.enc_edits.specs.Sizes.{length_of_code}
+use Rattle.enc_edit_list.specs.Sizes.{length_of_code}
 use Rattle.enc_assembly.specs.Assembly.{code_bytes}
 use Rattle.enc_assembly.proofs.code.assemble.Given as goal
 

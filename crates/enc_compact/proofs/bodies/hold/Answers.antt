@@ -1,7 +1,7 @@
 use Rattle.std.proofs.Common.{arith}
 use Rattle.enc_opcodes.specs.Body.{code_seen}
 use Rattle.enc_schema.specs.Schema.{list_at}
-use Rattle.enc_order.specs.Orders.{moved_by, new_order}
+use Rattle.enc_row_order.specs.Orders.{moved_by, new_order}
 use Rattle.enc_compact.proofs.BodiesHeld.{code_at, held_says, none_holds, last_holds}
 use Rattle.enc_compact.proofs.bodies.hold.Goals as goal
 

@@ -1,5 +1,5 @@
 use Rattle.std.proofs.Common.{sym, ◌∙◌}
-use Rattle.enc_order.specs.Orders.{moved_by, new_order}
+use Rattle.enc_row_order.specs.Orders.{moved_by, new_order}
 use Rattle.enc_compact.proofs.BodiesHeld.{place_holds, place_known}
 use Rattle.enc_compact.proofs.bodies.slot_of.Goals as goal
 

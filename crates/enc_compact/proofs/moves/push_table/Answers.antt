@@ -1,5 +1,5 @@
 use Rattle.std.proofs.Common.{◌≡◌, ◌+◌, ap, ◌∙◌, arith}
-use Rattle.enc_order.specs.Orders.{Orders, moved_by}
+use Rattle.enc_row_order.specs.Orders.{Orders, moved_by}
 use Rattle.enc_compact.proofs.MovesListed.{rows_begin, one_row, rows_end}
 use Rattle.enc_compact.proofs.moves.push_table.Goals as goal
 

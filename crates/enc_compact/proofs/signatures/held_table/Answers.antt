@@ -1,6 +1,6 @@
 use Rattle.std.proofs.Common.{◌<◌, arith}
 use Rattle.enc_schema.specs.Schema.{list_at}
-use Rattle.enc_order.specs.Orders.{moved_by}
+use Rattle.enc_row_order.specs.Orders.{moved_by}
 use Rattle.enc_compact.proofs.HeldKept.{row_met}
 use Rattle.enc_compact.proofs.SignaturesHeld.{row_says}
 use Rattle.enc_compact.proofs.signatures.held_table.Goals as goal

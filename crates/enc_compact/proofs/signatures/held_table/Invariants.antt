@@ -1,7 +1,7 @@
 use Rattle.std.proofs.Common.{◌+◌, ◌<◌, length}
 use Rattle.enc_schema.specs.Schema.{list_at}
 use Rattle.enc_compact.specs.Held.{SlotSays, AreSaidUpto, AreSlotsKnown}
-use Rattle.enc_order.specs.Orders.{moved_by}
+use Rattle.enc_row_order.specs.Orders.{moved_by}
 use Rattle.enc_compact.proofs.signatures.held_table.Given as goal
 
 abbrev pub invariant-loop-n : goal.invariant-loop-n

@@ -1,6 +1,6 @@
 use Rattle.std.proofs.Common.{slice_index, rules}
 use Rattle.enc_schema.specs.Schema.{list_at}
-use Rattle.enc_order.specs.Orders.{moved_by}
+use Rattle.enc_row_order.specs.Orders.{moved_by}
 use Rattle.enc_compact.proofs.SignaturesHeld.{no_fault, written_is}
 use Rattle.enc_compact.proofs.signatures.moved_signature.Goals as goal
 

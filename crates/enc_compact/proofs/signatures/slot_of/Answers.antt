@@ -1,7 +1,7 @@
 use Rattle.std.proofs.Common.{sym, ◌∙◌}
 use Rattle.enc_plain.proofs.SignatureColumns.{signature_kind}
 use Rattle.enc_schema.specs.Schema.{list_at}
-use Rattle.enc_order.specs.Orders.{moved_by}
+use Rattle.enc_row_order.specs.Orders.{moved_by}
 use Rattle.enc_compact.proofs.SignaturesHeld.{own_signature, place_says, own_says, blob_known}
 use Rattle.enc_compact.proofs.signatures.slot_of.Goals as goal
 

@@ -1,6 +1,6 @@
 use Rattle.std.proofs.Common.{ap, sym, ◌∙◌}
 use Rattle.enc_dispatch.specs.Entries.{earliest}
-use Rattle.enc_index.specs.Index.{value_at, either}
+use Rattle.enc_key_map.specs.Index.{value_at, either}
 use Rattle.enc_dispatch.proofs.Put.{put_before}
 use Rattle.enc_dispatch.proofs.first.put_from_behind.Goals as goal
 

@@ -1,7 +1,7 @@
 use Rattle.std.proofs.Common.{◌≡◌, length}
 use Rattle.enc_dispatch.specs.Entries.{earliest}
-use Rattle.enc_index.specs.declared.key.Key.{Key}
-use Rattle.enc_index.specs.Index.{value_at, either}
+use Rattle.enc_key_map.specs.declared.key.Key.{Key}
+use Rattle.enc_key_map.specs.Index.{value_at, either}
 use Rattle.enc_dispatch.proofs.first.put_from_behind.Given as goal
 
 abbrev pub invariant-loop-entry : goal.invariant-loop-entry

@@ -1,6 +1,6 @@
 use Rattle.std.proofs.Common.{sym, ◌∙◌}
 use Rattle.std.proofs.lemmas.Result.{IfOk-weaker}
-use Rattle.enc_index.specs.Index.{value_at}
+use Rattle.enc_key_map.specs.Index.{value_at}
 use Rattle.enc_dispatch.specs.Entries.{earliest}
 use Rattle.enc_dispatch.proofs.Put.{impl_other, impl_put}
 use Rattle.enc_dispatch.proofs.impls.push_impl.Goals as goal

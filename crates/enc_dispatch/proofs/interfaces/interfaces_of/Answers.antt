@@ -1,5 +1,5 @@
 use Rattle.std.proofs.Common.{ap, ◌∙◌}
-use Rattle.enc_index.specs.Index.{value_at}
+use Rattle.enc_key_map.specs.Index.{value_at}
 use Rattle.enc_dispatch.specs.Entries.{earliest}
 use Rattle.enc_dispatch.specs.Path.{says_interface}
 use Rattle.enc_dispatch.specs.Stored.{class_at, interface_key}

@@ -1,6 +1,6 @@
 use Rattle.std.proofs.Common.{◌≡◌, ℕ}
 use Rattle.enc_base.specs.declared.token.Token.{Token}
-use Rattle.enc_index.specs.Index.{value_at}
+use Rattle.enc_key_map.specs.Index.{value_at}
 use Rattle.enc_dispatch.specs.Entries.{earliest, where_none}
 use Rattle.enc_dispatch.specs.Growth.{later_answer}
 use Rattle.enc_dispatch.specs.Path.{says_interface}

@@ -1,5 +1,5 @@
 use Rattle.std.proofs.lemmas.Result.{IfOk-weaker}
-use Rattle.enc_index.specs.Index.{value_at}
+use Rattle.enc_key_map.specs.Index.{value_at}
 use Rattle.enc_dispatch.specs.Entries.{earliest}
 use Rattle.enc_dispatch.proofs.Put.{interface_other, interface_put}
 use Rattle.enc_dispatch.proofs.interfaces.push_interface.Goals as goal

@@ -1,6 +1,6 @@
 use Rattle.std.proofs.Common.{◌≡◌, ◌++◌, length}
-use Rattle.enc_index.specs.declared.key.Key.{Key}
-use Rattle.enc_index.specs.Index.{value_at, latest}
+use Rattle.enc_key_map.specs.declared.key.Key.{Key}
+use Rattle.enc_key_map.specs.Index.{value_at, latest}
 use Rattle.enc_dispatch.specs.Buckets.{IsSlotOf, head_over, AreBuckets}
 use Rattle.enc_dispatch.specs.Growth.{EachLater}
 use Rattle.enc_dispatch.proofs.methods.slots_of.Given as goal

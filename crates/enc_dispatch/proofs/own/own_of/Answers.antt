@@ -1,5 +1,5 @@
 use Rattle.std.proofs.Common.{ap, ◌∙◌, ◌++◌, take_all, length, ◌≤◌, arith}
-use Rattle.enc_index.specs.Index.{value_at}
+use Rattle.enc_key_map.specs.Index.{value_at}
 use Rattle.enc_dispatch.specs.Entries.{where_none}
 use Rattle.enc_dispatch.specs.Growth.{later_kids}
 use Rattle.enc_dispatch.specs.Own.{own_among}

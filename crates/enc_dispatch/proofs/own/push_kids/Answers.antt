@@ -1,5 +1,5 @@
 use Rattle.std.proofs.Common.{◌++◌}
-use Rattle.enc_index.specs.Index.{value_at}
+use Rattle.enc_key_map.specs.Index.{value_at}
 use Rattle.enc_dispatch.specs.Stored.{own_key}
 use Rattle.enc_dispatch.proofs.Owns.{own_start}
 use Rattle.enc_dispatch.proofs.own.push_kids.Goals as goal

@@ -1,6 +1,6 @@
 use Rattle.std.proofs.Common.{◌≡◌, ◌++◌, ℕ, take}
 use Rattle.enc_base.specs.Order.{or_else}
-use Rattle.enc_index.specs.Index.{value_at}
+use Rattle.enc_key_map.specs.Index.{value_at}
 use Rattle.enc_dispatch.specs.Entries.{earliest, where_none}
 use Rattle.enc_dispatch.specs.Own.{own_among, in_class}
 use Rattle.enc_dispatch.specs.Stored.{own_key}

@@ -1,5 +1,5 @@
 use Rattle.std.proofs.Common.{◌≡◌, ◌++◌, length}
-use Rattle.enc_kinds.specs.Fronts.{all_kinds}
+use Rattle.enc_machine_types.specs.Fronts.{all_kinds}
 use Rattle.enc_frames.proofs.arguments.add_kinds.Given as goal
 
 -- what was added and what is left are all

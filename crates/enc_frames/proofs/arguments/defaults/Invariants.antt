@@ -1,5 +1,5 @@
 use Rattle.std.proofs.Common.{◌≡◌, ◌++◌, length, map}
-use Rattle.enc_kinds.specs.Fronts.{all_kinds}
+use Rattle.enc_machine_types.specs.Fronts.{all_kinds}
 use Rattle.enc_objects.specs.Values.{default_of}
 use Rattle.enc_frames.proofs.arguments.defaults.Given as goal
 

@@ -1,7 +1,7 @@
 use Rattle.std.proofs.Common.{◌≡◌, length, map, drop}
 use Rattle.std.specs.Prelude.{filter}
 use Rattle.serde_json.specs.View.{view}
-use Rattle.enc_edits.specs.Form.{is_stated}
+use Rattle.enc_edit_list.specs.Form.{is_stated}
 use Rattle.enc_jobs.specs.Cell.{cells_said}
 use Rattle.enc_jobs.proofs.Loops.{behind}
 use Rattle.enc_jobs.proofs.cell.cells_in.Given as goal

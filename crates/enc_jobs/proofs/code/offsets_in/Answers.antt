@@ -1,7 +1,7 @@
 use Rattle.std.proofs.Common.{◌+◌, ◌∙◌, sym, arith}
 use Rattle.enc_jobs.proofs.Places.{places_more, size_more, within_is, offsets_done}
 use Rattle.enc_opcodes.specs.Sound.{instruction_size}
-use Rattle.enc_edits.specs.Sizes.{instr_meant}
+use Rattle.enc_edit_list.specs.Sizes.{instr_meant}
 use Rattle.enc_jobs.proofs.code.offsets_in.Goals as goal
 
 pub loop-instr-preserved : goal.loop-instr-preserved

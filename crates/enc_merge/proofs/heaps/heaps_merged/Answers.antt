@@ -1,6 +1,6 @@
 use Rattle.std.proofs.Common.{refl, ap, subst, ◌∙◌}
 use Rattle.enc_plain.specs.Chain.{Chain}
-use Rattle.enc_merged.specs.Merged.{guids_joined}
+use Rattle.enc_merged_delta.specs.Merged.{guids_joined}
 use Rattle.enc_merge.specs.Writing.{AreLast, heaps_put}
 use Rattle.enc_merge.proofs.LastTwo.{chain_is}
 use Rattle.enc_merge.proofs.heaps.heaps_merged.Goals as goal

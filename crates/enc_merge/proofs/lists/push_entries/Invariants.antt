@@ -2,7 +2,7 @@ use Rattle.std.proofs.Common.{◌≡◌, ◌++◌, map, take}
 use Rattle.enc_rows.specs.Written.{rows_at}
 use Rattle.enc_schema.specs.Tables.{enc_log}
 use Rattle.enc_delta.specs.Rules.{counted}
-use Rattle.enc_written.specs.Holds.{entry_numbers}
+use Rattle.enc_list_delta.specs.Holds.{entry_numbers}
 use Rattle.enc_merge.specs.Writing.{StayBut}
 use Rattle.enc_merge.proofs.lists.push_entries.Given as goal
 

@@ -1,7 +1,7 @@
 use Rattle.std.proofs.Common.{sym, ap, ◌∙◌, subst}
 use Rattle.enc_plain.specs.Chain.{Chain}
 use Rattle.enc_meta.specs.Joined.{joined_text}
-use Rattle.enc_merged.specs.Held.{text_moved}
+use Rattle.enc_merged_delta.specs.Held.{text_moved}
 use Rattle.enc_merge.specs.Writing.{AreLast}
 use Rattle.enc_merge.proofs.LastTwo.{chain_is}
 use Rattle.enc_merge.proofs.NewestRows.{number_held, body_fits, body_held, text_held, other_held}

@@ -1,5 +1,5 @@
 use Rattle.std.proofs.Common.{◌<◌, length, take, sym, subst, rules}
-use Rattle.enc_merged.specs.Held.{RowHeld}
+use Rattle.enc_merged_delta.specs.Held.{RowHeld}
 use Rattle.enc_merge.specs.Writing.{tokens_of}
 use Rattle.enc_merge.proofs.TokenRows.{either_lists, token_table, some_columns, token_held, no_tokens_held, tokens_more, table_has_room}
 use Rattle.enc_merge.proofs.rows.push_rows.Goals as goal

@@ -1,6 +1,6 @@
 use Rattle.std.proofs.Common.{sym}
 use Rattle.std.proofs.lemmas.Option.{get_or_from_slice_get, slice_get_within}
-use Rattle.enc_places.proofs.Keeping.{those_more, no_listings}
+use Rattle.enc_generation_map.proofs.Keeping.{those_more, no_listings}
 use Rattle.enc_ppdb.specs.Told.{own_told}
 use Rattle.enc_ppdb.proofs.told.list_changed.Goals as goal
 

@@ -1,5 +1,5 @@
 use Rattle.std.proofs.Common.{take}
-use Rattle.enc_places.specs.Places.{AreOfThose}
+use Rattle.enc_generation_map.specs.Places.{AreOfThose}
 use Rattle.enc_ppdb.specs.Told.{own_told}
 use Rattle.enc_ppdb.proofs.told.list_changed.Given as goal
 

@@ -1,6 +1,6 @@
 use Rattle.std.proofs.Common.{List, ◌++◌, map, take}
 use Rattle.enc_base.specs.declared.token.Token.{Token as TheToken}
-use Rattle.enc_places.specs.Places.{AreOfThose}
+use Rattle.enc_generation_map.specs.Places.{AreOfThose}
 use Rattle.enc_ppdb.specs.Fault.{named_tokens}
 use Rattle.enc_ppdb.specs.Told.{method_named_by, own_told}
 use Rattle.enc_ppdb.proofs.told.list_named.Given as goal

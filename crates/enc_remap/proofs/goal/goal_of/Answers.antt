@@ -1,6 +1,6 @@
 use Rattle.std.proofs.Common.{rules, ◌≡◌, Some, None, true, false}
 use Rattle.std.specs.Prelude.{is_some}
-use Rattle.enc_kinds.specs.Members.{run_body}
+use Rattle.enc_machine_types.specs.Members.{run_body}
 use Rattle.enc_remap.specs.Remap.{kinds_behind, led_from}
 use Rattle.enc_unwind.specs.Search.{handlers_of, is_handled}
 use Rattle.enc_versions.specs.Stops.{is_at_point, is_stop_in}

@@ -1,6 +1,6 @@
 use Rattle.std.proofs.Common.{rules, ◌≡◌, true, false, ◌&&◌, sym, ap, ◌∙◌}
 use Rattle.std.specs.Prelude.{is_some}
-use Rattle.enc_kinds.specs.Members.{call_shape, runs_body}
+use Rattle.enc_machine_types.specs.Members.{call_shape, runs_body}
 use Rattle.enc_opcodes.specs.Body.{body_of, code_seen}
 use Rattle.enc_remap.proofs.Rules.{body_runs}
 use Rattle.enc_remap.proofs.goal.runs_code.Goals as goal

@@ -1,8 +1,8 @@
 use Rattle.std.proofs.Common.{ap, ◌∙◌}
 use Rattle.std.specs.Prelude.{Bool, List}
 use Rattle.enc_opcodes.specs.Sound.{begins_at}
-use Rattle.enc_edits.specs.Sizes.{placed}
-use Rattle.enc_edits.specs.declared.body.InstrValue.{InstrValue}
+use Rattle.enc_edit_list.specs.Sizes.{placed}
+use Rattle.enc_edit_list.specs.declared.body.InstrValue.{InstrValue}
 use Rattle.enc_rules.specs.Known.{listed_counts}
 use Rattle.enc_rules.specs.Marked.{is_marked}
 use Rattle.enc_rules.proofs.BodiesAt.{stands_marked}

@@ -1,6 +1,6 @@
 use Rattle.std.proofs.Common.{◌≡◌, ◌≤◌}
 use Rattle.std.specs.Prelude.{filter}
-use Rattle.enc_edits.specs.Form.{is_stated}
+use Rattle.enc_edit_list.specs.Form.{is_stated}
 use Rattle.enc_rules.specs.Known.{listed_counts}
 use Rattle.enc_rules.specs.Rules.{cells_break}
 use Rattle.enc_rules.proofs.TokensNamed.{left}

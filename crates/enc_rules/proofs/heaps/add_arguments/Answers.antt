@@ -1,7 +1,7 @@
 use Rattle.std.proofs.Common.{◌-◌, sym, ap, ◌∙◌, take, drop, length}
 use Rattle.std.specs.Prelude.{flat_map}
 use Rattle.enc_meta.specs.Built.{Built}
-use Rattle.enc_edits.specs.declared.body.InstrValue.{InstrValue}
+use Rattle.enc_edit_list.specs.declared.body.InstrValue.{InstrValue}
 use Rattle.enc_rules.specs.Rules.{passes_limits, with_users, users_in_argument}
 use Rattle.enc_rules.proofs.Filling.{fills_later, filled_front, filled_none, passes_users, users_append, users_none}
 use Rattle.enc_rules.proofs.heaps.add_arguments.Goals as goal

@@ -1,6 +1,6 @@
 use Rattle.std.proofs.Common.{◌≡◌, length}
 use Rattle.std.specs.Prelude.{flat_map}
-use Rattle.enc_edits.specs.declared.body.InstrValue.{InstrValue}
+use Rattle.enc_edit_list.specs.declared.body.InstrValue.{InstrValue}
 use Rattle.enc_rules.specs.Rules.{with_users, users_in_argument}
 use Rattle.enc_rules.proofs.heaps.add_arguments.Given as goal
 

@@ -1,6 +1,6 @@
 use Rattle.std.proofs.Common.{sym, ap, ◌∙◌}
 use Rattle.std.specs.Prelude.{flat_map}
-use Rattle.enc_edits.specs.Form.{edit_fits}
+use Rattle.enc_edit_list.specs.Form.{edit_fits}
 use Rattle.enc_rules.specs.Filled.{has_no_zero, have_no_zero}
 use Rattle.enc_rules.specs.Rules.{texts_in_cell}
 use Rattle.enc_rules.proofs.WholeTexts.{added_whole, name_whole}

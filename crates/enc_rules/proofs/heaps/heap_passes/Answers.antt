@@ -1,7 +1,7 @@
 use Rattle.std.proofs.Common.{sym, ap, ◌∙◌, arith, length}
 use Rattle.enc_meta.specs.Built.{Built, none_from}
 use Rattle.enc_meta.specs.Joined.{joined_lengths}
-use Rattle.enc_edits.specs.Form.{list_fits}
+use Rattle.enc_edit_list.specs.Form.{list_fits}
 use Rattle.enc_rules.specs.Known.{listed_rows}
 use Rattle.enc_rules.specs.Listed.{AfterList}
 use Rattle.enc_rules.specs.Rules.{heap_passes, heaps_after_edit}

@@ -1,5 +1,5 @@
 use Rattle.std.proofs.Common.{sym, ◌∙◌, arith}
-use Rattle.enc_edits.specs.Reach.{branches_reach}
+use Rattle.enc_edit_list.specs.Reach.{branches_reach}
 use Rattle.enc_rules.proofs.InstructionsPlaced.{length_front, reach_more, reach_stops, reach_none}
 use Rattle.enc_rules.proofs.instructions.branches_reach.Goals as goal
 

@@ -1,6 +1,6 @@
 use Rattle.std.proofs.Common.{◌≡◌, ◌+◌, length}
-use Rattle.enc_edits.specs.Sizes.{length_of_code}
-use Rattle.enc_edits.specs.Reach.{branches_reach}
+use Rattle.enc_edit_list.specs.Sizes.{length_of_code}
+use Rattle.enc_edit_list.specs.Reach.{branches_reach}
 use Rattle.enc_rules.proofs.instructions.branches_reach.Given as goal
 
 abbrev pub invariant-loop-rest : goal.invariant-loop-rest

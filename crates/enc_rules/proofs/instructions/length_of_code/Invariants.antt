@@ -1,6 +1,6 @@
 use Rattle.std.proofs.Common.{◌≡◌, ◌+◌, ◌≤◌, length}
 use Rattle.std.specs.Prelude.{min}
-use Rattle.enc_edits.specs.Sizes.{length_of_code}
+use Rattle.enc_edit_list.specs.Sizes.{length_of_code}
 use Rattle.enc_rules.specs.Sums.{most_room}
 use Rattle.enc_rules.proofs.instructions.length_of_code.Given as goal
 

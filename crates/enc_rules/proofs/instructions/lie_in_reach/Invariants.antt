@@ -1,6 +1,6 @@
 use Rattle.std.proofs.Common.{◌≡◌, length}
 use Rattle.std.specs.List.{list_all}
-use Rattle.enc_edits.specs.Reach.{lies_in_reach}
+use Rattle.enc_edit_list.specs.Reach.{lies_in_reach}
 use Rattle.enc_rules.proofs.instructions.lie_in_reach.Given as goal
 
 abbrev pub invariant-loop-rest : goal.invariant-loop-rest

@@ -1,7 +1,7 @@
 use Rattle.std.proofs.Common.{◌<◌, ◌∙◌, arith, length}
 use Rattle.std.proofs.lemmas.List.{length-set}
 use Rattle.enc_opcodes.specs.Sound.{begins_at}
-use Rattle.enc_edits.specs.Sizes.{placed}
+use Rattle.enc_edit_list.specs.Sizes.{placed}
 use Rattle.enc_rules.proofs.InstructionsPlaced.{length_front, marked_more, marked_all}
 use Rattle.enc_rules.proofs.instructions.marks_of.Goals as goal
 

@@ -1,7 +1,7 @@
 use Rattle.std.proofs.Common.{◌≡◌, ℕ, ◌+◌, length}
 use Rattle.std.specs.Prelude.{◌||◌}
 use Rattle.enc_opcodes.specs.Sound.{begins_at}
-use Rattle.enc_edits.specs.Sizes.{length_of_code, placed}
+use Rattle.enc_edit_list.specs.Sizes.{length_of_code, placed}
 use Rattle.enc_rules.specs.Marked.{is_marked}
 use Rattle.enc_rules.proofs.instructions.marks_of.Given as goal
 

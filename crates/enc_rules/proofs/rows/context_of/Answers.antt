@@ -1,4 +1,4 @@
-use Rattle.enc_edits.specs.Form.{list_fits}
+use Rattle.enc_edit_list.specs.Form.{list_fits}
 use Rattle.enc_rules.proofs.RowsFew.{rows_few, edits_short}
 use Rattle.enc_rules.proofs.rows.context_of.Goals as goal
 

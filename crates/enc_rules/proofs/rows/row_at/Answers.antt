@@ -2,8 +2,8 @@ use Rattle.std.proofs.Common.{◌≡◌, ◌+◌, Some, take, refl, ap, ◌∙�
 use Rattle.std.specs.Prelude.{slice_get, option_map}
 use Rattle.std.proofs.lemmas.Option.{slice_get_read}
 use Rattle.enc_plain.specs.Sound.{row_count}
-use Rattle.enc_edits.specs.declared.edit.Edit.TheVariants.{Add}
-use Rattle.enc_edits.specs.Added.{rows_added}
+use Rattle.enc_edit_list.specs.declared.edit.Edit.TheVariants.{Add}
+use Rattle.enc_edit_list.specs.Added.{rows_added}
 use Rattle.enc_rules.specs.Edited.{row_edited}
 use Rattle.enc_rules.proofs.RowsFew.{rank_few}
 use Rattle.enc_rules.proofs.rows.row_at.Goals as goal

@@ -1,5 +1,5 @@
 use Rattle.std.proofs.Common.{sym, ◌∙◌, ap, arith, length}
-use Rattle.enc_edits.specs.declared.edit.Edit.{Edit}
+use Rattle.enc_edit_list.specs.declared.edit.Edit.{Edit}
 use Rattle.enc_rules.specs.Known.{listed_rows}
 use Rattle.enc_rules.specs.Listed.{body_given}
 use Rattle.enc_rules.specs.Rules.{locals_break, locals_are_bad}

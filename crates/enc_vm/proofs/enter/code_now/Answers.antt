@@ -1,6 +1,6 @@
 use Rattle.std.proofs.Common.{rules, arith, ◌∙◌, sym, ap}
 use Rattle.enc_opcodes.specs.Body.{Code, body_of}
-use Rattle.enc_kinds.specs.Members.{runs_body}
+use Rattle.enc_machine_types.specs.Members.{runs_body}
 use Rattle.enc_versions.specs.Version.{Version}
 use Rattle.enc_vm.proofs.Entered.{other_table_now, no_row_now, none_now, shapeless_now, unrun_now, run_now}
 use Rattle.enc_vm.proofs.enter.code_now.Goals as goal

@@ -1,7 +1,7 @@
 use Rattle.std.proofs.Common.{List, length, sym, ap, subst, ◌∙◌, arith}
 use Rattle.enc_meta.specs.Built.{Built}
 use Rattle.enc_meta.specs.BuiltLaws.{heaps_joined}
-use Rattle.enc_edits.specs.declared.edit.Edit.{Edit}
+use Rattle.enc_edit_list.specs.declared.edit.Edit.{Edit}
 use Rattle.enc_writer.specs.Writing.{MethodsPlaced}
 use Rattle.enc_writer.proofs.BodiesPlaced.{one_placed, all_placed}
 use Rattle.enc_writer.proofs.bodies.bodies_of.Goals as goal

@@ -2,7 +2,7 @@ use Rattle.std.proofs.Common.{◌≡◌, sym, ap, subst, ◌∙◌, length}
 use Rattle.std.proofs.lemmas.Result.{on_ok_weaker}
 use Rattle.enc_meta.specs.Built.{Built}
 use Rattle.enc_meta.specs.BuiltLaws.{IsGood}
-use Rattle.enc_written.specs.Holds.{heaps_written}
+use Rattle.enc_list_delta.specs.Holds.{heaps_written}
 use Rattle.enc_writer.specs.BodiesWriting.{CanBeWritten, StandsOf, place_given, with_given}
 use Rattle.enc_writer.proofs.BodiesGiven.{given, given_grows, can, stands_of_edit, none_of_edit, room_before, room_behind, room_beside, if_both}
 use Rattle.enc_writer.proofs.bodies.push_given.Goals as goal

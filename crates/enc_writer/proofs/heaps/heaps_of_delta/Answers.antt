@@ -3,7 +3,7 @@ use Rattle.std.proofs.lemmas.Bool.{false≢true}
 use Rattle.enc_meta.specs.Built.{Built, with_guid, guid_passes}
 use Rattle.enc_rules.specs.Listed.{AfterList}
 use Rattle.enc_rules.specs.Rules.{heaps_with}
-use Rattle.enc_written.specs.Holds.{heaps_written}
+use Rattle.enc_list_delta.specs.Holds.{heaps_written}
 use Rattle.enc_writer.proofs.GuidRoom.{id_fits}
 use Rattle.enc_writer.proofs.heaps.heaps_of_delta.Goals as goal
 

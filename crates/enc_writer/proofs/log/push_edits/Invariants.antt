@@ -1,7 +1,7 @@
 use Rattle.std.proofs.Common.{◌≡◌, ◌++◌, map}
 use Rattle.enc_rows.specs.Written.{rows_at}
 use Rattle.enc_schema.specs.Tables.{enc_log}
-use Rattle.enc_written.specs.Holds.{entry_numbers}
+use Rattle.enc_list_delta.specs.Holds.{entry_numbers}
 use Rattle.enc_writer.specs.Writing.{OthersStay}
 use Rattle.enc_writer.specs.LogWriting.{entries_upto}
 use Rattle.enc_writer.proofs.log.push_edits.Given as goal

@@ -6,7 +6,7 @@ use Rattle.enc_meta.specs.BuiltLaws.{ArePast, heaps_joined}
 use Rattle.enc_meta.specs.Joined.{joined_text}
 use Rattle.enc_plain.specs.Rows.{bytes_at}
 use Rattle.enc_rules.specs.Listed.{rows_listed}
-use Rattle.enc_written.specs.Holds.{heaps_written}
+use Rattle.enc_list_delta.specs.Holds.{heaps_written}
 use Rattle.enc_rewriter.proofs.Says.{text_kind}
 use Rattle.enc_writer.proofs.HeapsPast.{chain_past}
 use Rattle.enc_writer.proofs.CellsKept.{text_is_kept}

@@ -1,6 +1,6 @@
 use Rattle.std.proofs.Common.{sym, arith}
 use Rattle.enc_rows.specs.Written.{rows_at}
-use Rattle.enc_written.proofs.TokensUnbroken.{counts_fit}
+use Rattle.enc_list_delta.proofs.TokensUnbroken.{counts_fit}
 use Rattle.enc_writer.proofs.RowsSay.{none_written}
 use Rattle.enc_writer.proofs.rows.push_if_edited.Goals as goal
 

@@ -3,8 +3,8 @@ use Rattle.enc_meta.specs.Built.{Built}
 use Rattle.enc_meta.specs.BuiltLaws.{IsGood}
 use Rattle.enc_emit.specs.Written.{Parts, root_built}
 use Rattle.enc_emit.specs.declared.root_form.RootForm.TheVariants.{Delta}
-use Rattle.enc_written.specs.Holds.{heaps_written}
-use Rattle.enc_written.specs.Laws.{metadata_written}
+use Rattle.enc_list_delta.specs.Holds.{heaps_written}
+use Rattle.enc_list_delta.specs.Laws.{metadata_written}
 use Rattle.enc_writer.proofs.DeltaHeld.{delta_held, indices_fit, rows_are_few}
 use Rattle.enc_writer.proofs.RootSize.{root_fits}
 use Rattle.enc_writer.proofs.tables.metadata_of.Goals as goal

@@ -1,8 +1,8 @@
 use Rattle.std.proofs.Common.{subst, sym, ap}
 use Rattle.enc_agg.specs.Seen.{chain_of_all}
 use Rattle.enc_rules.specs.Listed.{AfterList}
-use Rattle.enc_written.specs.Holds.{MayFollow}
-use Rattle.enc_written.proofs.TokensUnbroken.{other_rules}
+use Rattle.enc_list_delta.specs.Holds.{MayFollow}
+use Rattle.enc_list_delta.proofs.TokensUnbroken.{other_rules}
 use Rattle.enc_writer.specs.Stands.{NamesGuids}
 use Rattle.enc_writer.specs.Files.{HoldFiles}
 use Rattle.enc_writer.proofs.GuidsNamed.{chain_names}

@@ -1,5 +1,5 @@
 use Rattle.std.proofs.Common.{sym, ◌∙◌, arith}
-use Rattle.enc_index.specs.Index.{value_at}
+use Rattle.enc_key_map.specs.Index.{value_at}
 use Rattle.enc_agg.specs.Directory.{kids_key}
 use Rattle.enc_agg.proofs.Directories.{none_kept, none_more, one_kept}
 use Rattle.enc_agg.proofs.directory.Directory.push_kids.Goals as goal

@@ -1,5 +1,5 @@
 use Rattle.std.proofs.Common.{◌≡◌, ◌≤◌, ◌-◌, ◌++◌, length}
-use Rattle.enc_index.specs.Index.{value_at}
+use Rattle.enc_key_map.specs.Index.{value_at}
 use Rattle.enc_agg.specs.Directory.{kids_key, kids_kept}
 use Rattle.enc_agg.proofs.directory.Directory.push_kids.Given as goal
 

@@ -1,5 +1,5 @@
 use Rattle.std.proofs.Common.{◌<◌, arith}
-use Rattle.enc_order.specs.Orders.{moved_by, new_order}
+use Rattle.enc_row_order.specs.Orders.{moved_by, new_order}
 use Rattle.enc_compact.proofs.BodiesHeld.{method_holds}
 use Rattle.enc_compact.proofs.HeldKept.{row_met}
 use Rattle.enc_compact.proofs.bodies.HeldBodies.of.Goals as goal

@@ -1,6 +1,6 @@
 use Rattle.std.proofs.Common.{◌≡◌, ◌+◌, ◌<◌, length}
 use Rattle.enc_compact.specs.Held.{SlotHolds, AreHeldUpto, AreSlotsKnown}
-use Rattle.enc_order.specs.Orders.{moved_by, new_order}
+use Rattle.enc_row_order.specs.Orders.{moved_by, new_order}
 use Rattle.enc_compact.proofs.bodies.HeldBodies.of.Given as goal
 
 abbrev pub invariant-loop-n : goal.invariant-loop-n

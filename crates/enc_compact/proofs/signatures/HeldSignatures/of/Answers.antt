@@ -1,5 +1,5 @@
 use Rattle.enc_schema.specs.Schema.{list_at}
-use Rattle.enc_order.specs.Orders.{moved_by}
+use Rattle.enc_row_order.specs.Orders.{moved_by}
 use Rattle.enc_compact.proofs.SignaturesHeld.{table_said}
 use Rattle.enc_compact.proofs.signatures.HeldSignatures.of.Goals as goal
 

@@ -1,5 +1,5 @@
 use Rattle.std.proofs.Common.{ap, ◌∙◌, ◌++◌}
-use Rattle.enc_index.specs.Index.{value_at, either, latest}
+use Rattle.enc_key_map.specs.Index.{value_at, either, latest}
 use Rattle.enc_plain.specs.Module.{cells_of}
 use Rattle.enc_dispatch.specs.Buckets.{bucket_key, stored_head, head_over}
 use Rattle.enc_dispatch.specs.Entries.{where_none}

@@ -1,6 +1,6 @@
 use Rattle.std.proofs.Common.{◌≡◌, ap, length, arith}
 use Rattle.enc_base.specs.Numbers.{padded}
-use Rattle.enc_merged.specs.Held.{first_loaded}
+use Rattle.enc_merged_delta.specs.Held.{first_loaded}
 use Rattle.enc_merge.proofs.last.Last.shift.Goals as goal
 
 pub overflow_cast-result : goal.overflow_cast-result

@@ -1,0 +1,26 @@
+use Rattle.std.proofs.Common.{Err, subst}
+use Rattle.enc_merge.specs.declared.fault.MergeFault.{MergeFault}
+use Rattle.enc_command_line.specs.Words.{texts}
+use Rattle.enc_commands.specs.Loads.{followed}
+use Rattle.enc_commands.specs.Verdict.{last_word, meta}
+use Rattle.enc_merge.proofs.AcceptedGo.{short_last}
+use Rattle.enc_commands.proofs.Merging.{MergesOf, plan_of_deep, plan_of_heavy, plan_of_merged}
+use Rattle.enc_commands.proofs.commands.merge.merged.Goals as goal
+
+pub merge_last-requires-clause-short : goal.merge_last-requires-clause-short
+merge_last-requires-clause-short c = short_last c.args.judged.now.agg.deltas c.args.judged.now.debug.deltas c.requires.go
+
+pub returns-in_ok-saving-in-Ok-clause-plan : goal.returns-in_ok-saving-in-Ok-clause-plan
+returns-in_ok-saving-in-Ok-clause-plan c =
+    plan_of_merged (meta (last_word (texts c.args.deltas.now))) c.args.out.now (followed c.args.judged.now) c.in_ok-saving-in-Ok.field-0 c.in-Ok.files c.requires.two c.requires.go c.in-Ok.ensures
+    c.in_ok-saving-in-Ok.ensures.outcome c.in_ok-saving-in-Ok.ensures.output c.in_ok-saving-in-Ok.ensures.saves
+
+pub returns-in-Err-TooLarge-clause-plan : goal.returns-in-Err-TooLarge-clause-plan
+returns-in-Err-TooLarge-clause-plan c =
+    plan_of_heavy (meta (last_word (texts c.args.deltas.now))) c.args.out.now (followed c.args.judged.now) c.too_large.result c.requires.two c.requires.go
+    (subst (λ (e : MergeFault). MergesOf (followed c.args.judged.now) (Err e)) c.in-Err-TooLarge.field-0-is c.in-Err-TooLarge.ensures) c.too_large.ensures.plan
+
+pub returns-in-Err-Deep-clause-plan : goal.returns-in-Err-Deep-clause-plan
+returns-in-Err-Deep-clause-plan c =
+    plan_of_deep (meta (last_word (texts c.args.deltas.now))) c.args.out.now (followed c.args.judged.now) c.in-Err-Deep.token c.deep.result c.requires.two c.requires.go
+    (subst (λ (e : MergeFault). MergesOf (followed c.args.judged.now) (Err e)) c.in-Err-Deep.field-0-is c.in-Err-Deep.ensures) c.deep.ensures.plan

@@ -1,0 +1,19 @@
+//! The top call: words, a store and a sink in; a status out.
+#![tactic(auto)]
+
+mod commands;
+mod ending;
+mod finish;
+mod judge;
+mod laws;
+mod load;
+mod plan;
+mod plans;
+mod run;
+mod stop;
+
+pub use enc_plain::RowPlace;
+pub use enc_text::row_text;
+pub use enc_command_line::listing;
+pub use laws::{example_delta_row, example_listing, example_row, served_law};
+pub use run::run_tool;

@@ -1,5 +1,0 @@
-use Rattle.enc_depth.proofs.Layouts.{layouts_last}
-use Rattle.enc_depth.proofs.laws.layouts_last_law.Goals as goal
-
-pub returns : goal.returns
-returns c = layouts_last

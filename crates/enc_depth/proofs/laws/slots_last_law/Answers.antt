@@ -1,5 +1,0 @@
-use Rattle.enc_depth.proofs.Layouts.{slots_last}
-use Rattle.enc_depth.proofs.laws.slots_last_law.Goals as goal
-
-pub returns : goal.returns
-returns c = slots_last

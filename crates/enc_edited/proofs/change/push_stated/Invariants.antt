@@ -1,6 +1,0 @@
-use Rattle.std.proofs.Common.{◌≡◌, ◌++◌, take, map}
-use Rattle.enc_rules.specs.Edited.{cell_stated}
-use Rattle.enc_edited.proofs.change.push_stated.Given as goal
-
-abbrev pub invariant-loop-k : goal.invariant-loop-k
-invariant-loop-k l = l.out.items ≡ l.fn.out.items ++ map cell_stated (take l.k l.values)

@@ -1,6 +1,0 @@
-use Rattle.std.proofs.Common.{◌≡◌, true, take}
-use Rattle.enc_edited.specs.Standing.{code_is_held}
-use Rattle.enc_edited.proofs.copy.copied_code.Given as goal
-
-abbrev pub invariant-loop-k : goal.invariant-loop-k
-invariant-loop-k l = record { same : l.out ≡ take l.k l.code; held : code_is_held (take l.k l.code) ≡ true }

@@ -1,5 +1,0 @@
-use Rattle.std.proofs.Common.{◌≡◌, take}
-use Rattle.enc_edited.proofs.copy.copied_targets.Given as goal
-
-abbrev pub invariant-loop-target : goal.invariant-loop-target
-invariant-loop-target l = l.out ≡ take l.target-index l.targets

@@ -1,7 +1,0 @@
-use Rattle.std.proofs.Common.{◌≡◌, None}
-use Rattle.enc_base.specs.Order.{first_below}
-use Rattle.enc_find.specs.Types.{outermost_at}
-use Rattle.enc_find.proofs.types.outermost.Given as goal
-
-abbrev pub invariant-loop-n : goal.invariant-loop-n
-invariant-loop-n g l = first_below (outermost_at (g.V.ModuleView.meaning l.view) l.namespace l.name) l.n ≡ None

@@ -1,8 +1,0 @@
-use Rattle.std.proofs.Common.{sym}
-use Rattle.enc_il.proofs.Sections.{behind_is}
-use Rattle.enc_kinds.specs.Filters.{filters}
-use Rattle.enc_kinds.proofs.FilterClauses.{none_whole}
-use Rattle.enc_kinds.proofs.runs.has_filter.Goals as goal
-
-pub returns-in-None : goal.returns-in-None
-returns-in-None c = none_whole filters c.args.code.now.sections.now (behind_is c.args.code.now.sections.now (sym c.in-None.ensures.behind))

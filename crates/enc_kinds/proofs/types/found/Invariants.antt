@@ -1,7 +1,0 @@
-use Rattle.std.proofs.Common.{◌≡◌, map, drop}
-use Rattle.enc_kinds.specs.Types.{found}
-use Rattle.enc_kinds.specs.Seen.{system_kind_seen}
-use Rattle.enc_kinds.proofs.types.found.Given as goal
-
-abbrev pub invariant-loop-row : goal.invariant-loop-row
-invariant-loop-row l = found l.name (map system_kind_seen l.rows) ≡ found l.name (map system_kind_seen (drop l.row-index l.rows))

@@ -1,5 +1,0 @@
-use Rattle.enc_merged.proofs.MergedFollows.{merged_follows}
-use Rattle.enc_merged.proofs.laws.merged_follows_law.Goals as goal
-
-pub returns : goal.returns
-returns c = merged_follows

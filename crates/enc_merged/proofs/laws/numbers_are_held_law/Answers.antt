@@ -1,5 +1,0 @@
-use Rattle.enc_merged.proofs.NumbersHeld.{numbers_are_held}
-use Rattle.enc_merged.proofs.laws.numbers_are_held_law.Goals as goal
-
-pub returns : goal.returns
-returns c = numbers_are_held

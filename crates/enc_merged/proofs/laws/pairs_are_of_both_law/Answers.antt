@@ -1,5 +1,0 @@
-use Rattle.enc_merged.proofs.LogPairs.{pairs_are}
-use Rattle.enc_merged.proofs.laws.pairs_are_of_both_law.Goals as goal
-
-pub returns : goal.returns
-returns c = pairs_are

@@ -1,5 +1,0 @@
-use Rattle.enc_merged.proofs.SameRows.{rows_are}
-use Rattle.enc_merged.proofs.laws.rows_are_of_both_law.Goals as goal
-
-pub returns : goal.returns
-returns c = rows_are

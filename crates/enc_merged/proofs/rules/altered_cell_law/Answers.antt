@@ -1,5 +1,0 @@
-use Rattle.enc_merged.proofs.KeptByBoth.{keeps_updates}
-use Rattle.enc_merged.proofs.rules.altered_cell_law.Goals as goal
-
-pub returns : goal.returns
-returns c = keeps_updates

@@ -1,5 +1,0 @@
-use Rattle.enc_merged.proofs.HeapLengths.{keeps_heaps}
-use Rattle.enc_merged.proofs.rules.heap_fault_law.Goals as goal
-
-pub returns : goal.returns
-returns c = keeps_heaps

@@ -1,5 +1,0 @@
-use Rattle.enc_merged.proofs.ModuleRow.{keeps_id}
-use Rattle.enc_merged.proofs.rules.id_taken_law.Goals as goal
-
-pub returns : goal.returns
-returns c = keeps_id

@@ -1,5 +1,0 @@
-use Rattle.enc_merged.proofs.ModuleRow.{keeps_base}
-use Rattle.enc_merged.proofs.rules.other_base_law.Goals as goal
-
-pub returns : goal.returns
-returns c = keeps_base

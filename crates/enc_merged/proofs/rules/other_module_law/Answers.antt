@@ -1,5 +1,0 @@
-use Rattle.enc_merged.proofs.ModuleRow.{keeps_module}
-use Rattle.enc_merged.proofs.rules.other_module_law.Goals as goal
-
-pub returns : goal.returns
-returns c = keeps_module

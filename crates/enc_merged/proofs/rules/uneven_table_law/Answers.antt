@@ -1,5 +1,0 @@
-use Rattle.enc_merged.proofs.MapRules.{keeps_even}
-use Rattle.enc_merged.proofs.rules.uneven_table_law.Goals as goal
-
-pub returns : goal.returns
-returns c = keeps_even

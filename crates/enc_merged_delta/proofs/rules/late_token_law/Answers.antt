@@ -1,0 +1,5 @@
+use Rattle.enc_merged_delta.proofs.MapRules.{keeps_rising}
+use Rattle.enc_merged_delta.proofs.rules.late_token_law.Goals as goal
+
+pub returns : goal.returns
+returns c = keeps_rising

@@ -1,0 +1,5 @@
+use Rattle.enc_merged_delta.proofs.MapRules.{keeps_order}
+use Rattle.enc_merged_delta.proofs.rules.skipped_row_law.Goals as goal
+
+pub returns : goal.returns
+returns c = keeps_order

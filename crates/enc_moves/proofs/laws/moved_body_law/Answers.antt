@@ -1,8 +1,0 @@
-use Rattle.enc_moves.proofs.Kept.{stays_sound, keeps_texts}
-use Rattle.enc_moves.proofs.laws.moved_body_law.Goals as goal
-
-pub returns-clause-sound : goal.returns-clause-sound
-returns-clause-sound c = stays_sound
-
-pub returns-clause-texts : goal.returns-clause-texts
-returns-clause-texts c = keeps_texts

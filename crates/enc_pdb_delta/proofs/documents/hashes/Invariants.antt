@@ -1,6 +1,0 @@
-use Rattle.std.proofs.Common.{◌≡◌, map, take}
-use Rattle.enc_pdb_delta.specs.Listed.{hash_of}
-use Rattle.enc_pdb_delta.proofs.documents.hashes.Given as goal
-
-abbrev pub invariant-loop-document : goal.invariant-loop-document
-invariant-loop-document l = l.hashes.items ≡ map hash_of (take l.document-index l.documents)

@@ -1,5 +1,0 @@
-use Rattle.enc_pdb_delta.proofs.Misplaced.{none_is_misplaced}
-use Rattle.enc_pdb_delta.proofs.laws.none_is_misplaced_law.Goals as goal
-
-pub returns : goal.returns
-returns c = none_is_misplaced

@@ -1,5 +1,0 @@
-use Rattle.enc_pdb_delta.proofs.Edited.{pdbs_are_edited}
-use Rattle.enc_pdb_delta.proofs.laws.pdbs_are_edited_law.Goals as goal
-
-pub returns : goal.returns
-returns c = pdbs_are_edited

@@ -1,7 +1,0 @@
-use Rattle.std.proofs.Common.{take}
-use Rattle.enc_top.specs.Series.{IsSeries}
-use Rattle.enc_top.proofs.commands.generate.add_lists.Given as goal
-
--- the deltas of the lists so far were made
-abbrev pub invariant-loop-k : goal.invariant-loop-k
-invariant-loop-k l = IsSeries l.out (take l.k l.lists) l.series

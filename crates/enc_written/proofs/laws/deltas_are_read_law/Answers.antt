@@ -1,5 +1,0 @@
-use Rattle.enc_written.proofs.Follows.{deltas_are_read}
-use Rattle.enc_written.proofs.laws.deltas_are_read_law.Goals as goal
-
-pub returns : goal.returns
-returns c = deltas_are_read

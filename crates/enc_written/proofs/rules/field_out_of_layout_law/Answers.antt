@@ -1,5 +1,0 @@
-use Rattle.enc_written.proofs.MemberRules.{keeps_layout}
-use Rattle.enc_written.proofs.rules.field_out_of_layout_law.Goals as goal
-
-pub returns : goal.returns
-returns c = keeps_layout

@@ -1,5 +1,0 @@
-use Rattle.enc_written.proofs.MapRules.{keeps_rising}
-use Rattle.enc_written.proofs.rules.late_token_law.Goals as goal
-
-pub returns : goal.returns
-returns c = keeps_rising

@@ -1,5 +1,0 @@
-use Rattle.enc_written.proofs.MemberRules.{keeps_slots}
-use Rattle.enc_written.proofs.rules.method_without_slot_law.Goals as goal
-
-pub returns : goal.returns
-returns c = keeps_slots

@@ -1,5 +1,0 @@
-use Rattle.enc_written.proofs.ModuleRules.{keeps_next}
-use Rattle.enc_written.proofs.rules.not_next_law.Goals as goal
-
-pub returns : goal.returns
-returns c = keeps_next

@@ -1,5 +1,0 @@
-use Rattle.enc_written.proofs.MapRules.{keeps_order}
-use Rattle.enc_written.proofs.rules.skipped_row_law.Goals as goal
-
-pub returns : goal.returns
-returns c = keeps_order
