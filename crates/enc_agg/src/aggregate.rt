@@ -5,7 +5,7 @@ ghost use Rattle.enc_meta.specs.Joined.{joined_user};
 ghost use Rattle.enc_plain.specs.Module.{rows_in, has_row};
 ghost use Rattle.enc_plain.specs.Sound.{IsSound};
 ghost use Rattle.enc_rows.specs.Layout.{rows_of};
-ghost use Rattle.enc_schema.specs.Tables.{enc_map};
+ghost use Rattle.enc_base.specs.Tables.{enc_map};
 ghost use Rattle.enc_delta.specs.Delta.{listed};
 ghost use Rattle.enc_delta.specs.Rules.{inserts};
 ghost use Rattle.enc_delta.specs.Judged.{first_meta};

@@ -3,7 +3,7 @@ ghost use Rattle.std.specs.Prelude.{◌≡◌, ℕ, ◌<◌, ◌^◌, ◌==◌, 
 ghost use Rattle.enc_opcodes.specs.Body.{body_of, code_seen, texts_are_there, KeepsTexts};
 ghost use Rattle.enc_plain.specs.Cell.{body};
 ghost use Rattle.enc_plain.specs.Module.{has_row, cell_of};
-ghost use Rattle.enc_schema.specs.Tables.{method_def};
+ghost use Rattle.enc_base.specs.Tables.{method_def};
 ghost use Rattle.enc_agg.specs.Seen.{module_of_all, users_of_all, body_with, place_of_all};
 ghost use Rattle.enc_agg.specs.Stored.{code_stored};
 

@@ -2,7 +2,7 @@
 ghost use Rattle.std.specs.Prelude.{◌≡◌, ℕ, ◌<◌, ◌≤◌, ◌^◌, Some, None, IfOk, IfSome, IsTrue, length, option_map, reverse, slice_get, refl};
 ghost use Rattle.enc_opcodes.specs.Body.{body_of, code_seen, texts_are_there};
 ghost use Rattle.enc_schema.specs.Children.{is_child_table, owner_table};
-ghost use Rattle.enc_schema.specs.Tables.{method_def};
+ghost use Rattle.enc_base.specs.Tables.{method_def};
 ghost use Rattle.enc_plain.specs.Cell.{body};
 ghost use Rattle.enc_plain.specs.Module.{cell_of, has_row, kids_of};
 ghost use Rattle.enc_plain.specs.Sound.{IsSound};

@@ -1,4 +1,4 @@
-//! Tokens, numbers, refusals and the counter of steps: what every other crate speaks of.
+//! Tokens, tables, numbers, refusals and the counter of steps: what every other crate speaks of.
 #![tactic(auto)]
 
 mod bytes;
@@ -8,6 +8,7 @@ mod laws;
 mod number;
 mod refusal;
 mod steps;
+pub mod tables;
 mod token;
 mod units;
 

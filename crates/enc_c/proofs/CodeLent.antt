@@ -6,7 +6,7 @@ use Rattle.enc_opcodes.specs.Body.{Body, body_of, code_seen}
 use Rattle.enc_opcodes.specs.declared.code.CodeRef.{CodeRef}
 use Rattle.enc_plain.specs.Cell.{Cell, body}
 use Rattle.enc_plain.specs.Module.{Module, cell_of, has_row}
-use Rattle.enc_schema.specs.Tables.{method_def}
+use Rattle.enc_base.specs.Tables.{method_def}
 use Rattle.enc_c.specs.Code.{asked_body, body_told}
 use Rattle.enc_c.specs.declared.status.Status.{Status}
 use Rattle.enc_c.specs.declared.status.Status.TheVariants.{Absent, Unlike}

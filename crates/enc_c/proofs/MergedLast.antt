@@ -7,7 +7,7 @@ use Rattle.enc_ppdb.specs.PdbChain.{DebugDelta, pdb_with}
 use Rattle.enc_merge.specs.Merges.{AllGo, MergesBoth}
 use Rattle.enc_merge.specs.declared.fault.MergeFault.{MergeFault}
 use Rattle.enc_merge.specs.declared.fault.MergeFault.TheVariants.{Memory, TooLarge, Deep as TooDeep}
-use Rattle.enc_writer.specs.declared.bytes.DeltaBytes.{DeltaBytes}
+use Rattle.enc_emit.specs.declared.delta_bytes.DeltaBytes.{DeltaBytes}
 use Rattle.enc_c.specs.declared.deltas.Unwritten.TheVariants.{Because}
 use Rattle.enc_c.specs.declared.reason.Reason.TheVariants.{Heap, Deep}
 use Rattle.enc_c.specs.Deltas.{StandsForLast, unmerged, unmerged_two}

@@ -3,7 +3,7 @@ use Rattle.std.specs.Prelude.{◌≡◌, ℕ, ◌+◌, ◌==◌, List, length, n
 use Rattle.enc_base.specs.Token.{number_of}
 use Rattle.enc_base.specs.declared.token.Token.{Token}
 use Rattle.enc_base.specs.declared.refusal.StreamName.{StreamName}
-use Rattle.enc_schema.specs.Tables as tables
+use Rattle.enc_base.specs.Tables as tables
 use Rattle.enc_plain.specs.Module.{has_row, rows_in}
 use Rattle.enc_plain.specs.Chain.{Chain, id_of}
 use Rattle.enc_plain.specs.Debug.{debug_of}

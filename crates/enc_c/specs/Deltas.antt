@@ -18,7 +18,7 @@ use Rattle.enc_merged_delta.specs.Merged.{after_both}
 use Rattle.enc_merge.specs.Merges.{StandsForBoth, weight_of_both}
 use Rattle.enc_rules.specs.First.{first_edit}
 use Rattle.enc_writer.specs.Stands.{IsWrittenFor}
-use Rattle.enc_writer.specs.declared.bytes.DeltaBytes.{DeltaBytes}
+use Rattle.enc_emit.specs.declared.delta_bytes.DeltaBytes.{DeltaBytes}
 use Rattle.enc_c.specs.declared.deltas.Unwritten.{Unwritten}
 use Rattle.enc_c.specs.declared.deltas.Unwritten.TheVariants.{Only, Because}
 use Rattle.enc_c.specs.declared.reason.Reason.TheVariants.{Json, Element, Edit, Heap, Deep}

@@ -1,7 +1,7 @@
 -- What always holds of an open handle.
 use Rattle.std.specs.Prelude.{◌≡◌, Bool, true, false, List, length}
 use Rattle.enc_rows.specs.Source.{Source}
-use Rattle.enc_schema.specs.Tables as tables
+use Rattle.enc_base.specs.Tables as tables
 use Rattle.enc_plain.specs.Sound.{row_count}
 use Rattle.enc_plain.specs.SoundDebug.{KnowsWithin}
 use Rattle.enc_ppdb.specs.PdbChain.{DebugDelta}

@@ -5,7 +5,7 @@ use Rattle.enc_lookup.specs.Members.{members_named}
 use Rattle.enc_lookup.specs.Types.{type_named}
 use Rattle.enc_plain.specs.Module.{Module}
 use Rattle.enc_schema.specs.Children.{is_child_table, owner_table}
-use Rattle.enc_schema.specs.Tables as tables
+use Rattle.enc_base.specs.Tables as tables
 use Rattle.enc_c.specs.Cells.{of_row}
 use Rattle.enc_c.specs.declared.status.Status.{Status}
 use Rattle.enc_c.specs.declared.status.Status.TheVariants.{Absent, Unlike}

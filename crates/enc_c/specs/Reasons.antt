@@ -10,7 +10,7 @@ use Rattle.enc_base.specs.declared.refusal.StreamName.{StreamName}
 use Rattle.enc_jobs.specs.declared.fault.JobFault.TheVariants as fault
 use Rattle.enc_schema.specs.Children.{is_child_table}
 use Rattle.enc_schema.specs.Schema.{columns_in}
-use Rattle.enc_schema.specs.Tables as tables
+use Rattle.enc_base.specs.Tables as tables
 use Rattle.enc_text.specs.Text.{refused_line, token_text}
 use Rattle.enc_command_line.specs.Lines.{broken_line, deep_line, fault_text, limit_line, limit_text, unlisted_line}
 use Rattle.enc_command_line.specs.declared.limits.Limit.TheVariants as limit

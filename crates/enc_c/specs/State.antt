@@ -1,7 +1,7 @@
 -- What an open handle means: a base, the deltas that follow it, and what their PDBs say.
 use Rattle.std.specs.Prelude.{ℕ, Bool, true, ◌&&◌, nat_le, List, [], ◌∷◌, length, Option, Some, None, Result, Ok, Err}
 use Rattle.enc_base.specs.declared.refusal.Refusal.{Refusal}
-use Rattle.enc_schema.specs.Tables as tables
+use Rattle.enc_base.specs.Tables as tables
 use Rattle.enc_rows.specs.Source.{Source}
 use Rattle.enc_plain.specs.Module.{Module, rows_in}
 use Rattle.enc_plain.specs.Chain.{Chain}

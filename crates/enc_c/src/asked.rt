@@ -16,9 +16,9 @@ use crate::points::{PointNumbers, document_name, points};
 use crate::refusal::stream_by;
 use crate::status::Status;
 use enc_base::Token;
+use enc_base::tables::METHOD_DEF;
 use enc_opcodes::CodeRef;
 use enc_plain::{ChainView, ModuleView, is_row};
-use enc_schema::tables::METHOD_DEF;
 use enc_text::row_text;
 use std::alloc::{AllocError, Global};
 

@@ -1,15 +1,15 @@
 //! The body of a method, over any view of a module.
 ghost use Rattle.std.specs.Prelude.{◌≡◌, Err, IfErr, IfOk, IsTrue};
-ghost use Rattle.enc_schema.specs.Tables.{method_def};
+ghost use Rattle.enc_base.specs.Tables.{method_def};
 ghost use Rattle.enc_plain.specs.Module.{has_row};
 ghost use Rattle.enc_c.specs.Code.{asked_body, body_lent, CopiesCode};
 
 use crate::copy::copy_out;
 use crate::status::Status;
 use enc_base::Token;
+use enc_base::tables::METHOD_DEF;
 use enc_opcodes::CodeRef;
 use enc_plain::{ModuleView, is_row};
-use enc_schema::tables::METHOD_DEF;
 
 /// What stands before the code of a body.
 #[repr(C)]

@@ -10,10 +10,11 @@ use crate::reason::{Reason, numbers_of_reason};
 use crate::refusal::RefusalNumbers;
 use crate::status::Status;
 use enc_base::StreamName;
+use enc_emit::DeltaBytes;
 use enc_jobs::{JobFault, read_edits};
 use enc_merge::{MergeFault, merge_last};
 use enc_plain::ChainView;
-use enc_writer::{DeltaBytes, EditFault, write_delta};
+use enc_writer::{EditFault, write_delta};
 use std::alloc::Global;
 
 /// Why a delta isn't written: what its call comes to, with a reason or without.

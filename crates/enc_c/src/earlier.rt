@@ -2,7 +2,7 @@
 ghost use Rattle.std.specs.Prelude.{◌≡◌, ◌==◌, None, Some, if◌then◌else◌};
 ghost use Rattle.enc_agg.specs.Seen.{module_of_all};
 ghost use Rattle.enc_plain.specs.Module.{has_row};
-ghost use Rattle.enc_schema.specs.Tables.{method_def};
+ghost use Rattle.enc_base.specs.Tables.{method_def};
 ghost use Rattle.enc_c.specs.Earlier.{asked_document_at, asked_points_at, asked_move, asked_row_at, rule_told};
 ghost use Rattle.enc_c.specs.SessionNumbers.{pairs_of};
 ghost use Rattle.enc_c.specs.Family.{OrMemory, items_listed};
@@ -14,10 +14,10 @@ use crate::session_numbers::PairNumbers;
 use crate::status::Status;
 use enc_agg::Earlier;
 use enc_base::Token;
+use enc_base::tables::METHOD_DEF;
 use enc_plain::is_row;
 use enc_ppdb::EarlierPdb;
 use enc_remap::{Edition, Standing, may_remap};
-use enc_schema::tables::METHOD_DEF;
 use enc_text::row_text;
 use std::alloc::{AllocError, Global};
 

@@ -1,6 +1,6 @@
 //! What an open handle holds.
 ghost use Rattle.std.specs.Prelude.{◌≡◌, ◌<◌, ◌∷◌, Ok, None, IfOk, OnErr, length};
-ghost use Rattle.enc_schema.specs.Tables.{method_def};
+ghost use Rattle.enc_base.specs.Tables.{method_def};
 ghost use Rattle.enc_plain.specs.Module.{rows_in};
 ghost use Rattle.enc_image.specs.Base.{chain_of_base};
 ghost use Rattle.enc_ppdb.specs.Fault.{pdb_of};
@@ -13,6 +13,7 @@ ghost use Rattle.enc_c.specs.Kept.{IsKept};
 ghost use Rattle.enc_c.specs.Outcomes.{bytes_held, ReadsState, Becomes};
 
 use enc_agg::Aggregate;
+use enc_base::tables::METHOD_DEF;
 use enc_base::{ReadFault, Steps};
 use enc_checker::{Checked, Files, check, new_bodies, within_law};
 use enc_delta::Delta;
@@ -20,7 +21,6 @@ use enc_image::Image;
 use enc_merge::goes_law;
 use enc_plain::ModuleView;
 use enc_ppdb::{Pdb, PdbChain};
-use enc_schema::tables::METHOD_DEF;
 use std::alloc::{AllocError, Global};
 use std::marker::{Brand, Model};
 use std::sync::ledger::{Blank, Ledger};

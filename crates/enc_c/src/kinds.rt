@@ -3,8 +3,8 @@ ghost use Rattle.std.specs.Prelude.{◌≡◌, option_map};
 ghost use Rattle.enc_plain.specs.Cell.{kind_of, kind_in};
 ghost use Rattle.enc_c.specs.Kinds.{kind_seen};
 
+use enc_base::tables::{FIELD_RVA, METHOD_DEF};
 use enc_schema::columns::METHOD_DEF_RVA;
-use enc_schema::tables::{FIELD_RVA, METHOD_DEF};
 use enc_schema::{Column, column_of};
 
 /// The kinds of cells.

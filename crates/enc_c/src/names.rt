@@ -7,9 +7,9 @@ ghost use Rattle.enc_c.specs.Names.{asked_members, asked_type, asked_user, may_h
 
 use crate::status::Status;
 use enc_base::Token;
+use enc_base::tables::{EVENT, PROPERTY, TYPE_DEF};
 use enc_lookup::{members_named, type_named};
 use enc_plain::{ModuleView, is_row};
-use enc_schema::tables::{EVENT, PROPERTY, TYPE_DEF};
 use enc_schema::{is_child_table, owner_table};
 use std::alloc::Global;
 

@@ -5,12 +5,12 @@ ghost use Rattle.enc_c.specs.Family.{OrMemory, items_listed};
 
 use crate::refusal::{RefusalNumbers, number_of_stream, numbers_of, refusal_by, stream_by};
 use crate::status::Status;
+use enc_base::tables::{TYPE_REF, TYPE_SPEC};
 use enc_base::{Code, Place, Refusal, StreamName, Token};
+use enc_command_line::{Limit, broken_line, deep_line, limit_line, unlisted_line};
 use enc_jobs::JobFault;
-use enc_schema::tables::{TYPE_REF, TYPE_SPEC};
 use enc_schema::{columns_of, is_child_table};
 use enc_text::refused_line;
-use enc_command_line::{Limit, broken_line, deep_line, limit_line, unlisted_line};
 use std::alloc::{AllocError, Global};
 
 /// Why something is refused.

@@ -13,7 +13,7 @@ use Rattle.enc_base.specs.declared.refusal.Refusal.{Refusal}
 use Rattle.enc_base.specs.declared.token.Token.{Token}
 use Rattle.enc_rows.specs.Layout.{rows_of}
 use Rattle.enc_rows.specs.Source.{Source}
-use Rattle.enc_schema.specs.Tables as tables
+use Rattle.enc_base.specs.Tables as tables
 use Rattle.enc_plain.specs.Cell.{Cell}
 use Rattle.enc_plain.specs.Chain.{Chain}
 use Rattle.enc_plain.specs.Debug.{MethodDebug, PlainPdb, unknown, debug_of}

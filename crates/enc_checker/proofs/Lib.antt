@@ -1,2 +1,3 @@
 pub mod OwnMethods
 pub mod KnownWithin
+pub mod AcceptedFiles

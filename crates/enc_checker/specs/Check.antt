@@ -9,7 +9,7 @@ use Rattle.enc_plain.specs.Bodies.{code_loaded}
 use Rattle.enc_plain.specs.Chain.{Chain}
 use Rattle.enc_rows.specs.Source.{Source, raw_in}
 use Rattle.enc_schema.specs.Columns as columns
-use Rattle.enc_schema.specs.Tables as tables
+use Rattle.enc_base.specs.Tables as tables
 use Rattle.enc_delta.specs.Delta.{listed, of_table}
 use Rattle.enc_delta.specs.Rows.{own_row}
 use Rattle.enc_delta.specs.Judged.{first_meta}

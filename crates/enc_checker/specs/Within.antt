@@ -2,7 +2,7 @@
 use Rattle.std.specs.Prelude.{◌≡◌, ℕ, List, ◌∷◌, length, Option, Some, None, Result, Ok}
 use Rattle.enc_base.specs.declared.refusal.Refusal.{Refusal}
 use Rattle.enc_rows.specs.Source.{Source}
-use Rattle.enc_schema.specs.Tables as tables
+use Rattle.enc_base.specs.Tables as tables
 use Rattle.enc_plain.specs.Chain.{Chain}
 use Rattle.enc_plain.specs.Module.{rows_in}
 use Rattle.enc_plain.specs.SoundDebug.{KnowsWithin}

@@ -8,7 +8,7 @@ use enc_delta::Delta;
 use enc_opcodes::CodeRef;
 use enc_ppdb::{CodeSizes, MethodList};
 use enc_schema::columns::METHOD_DEF_RVA;
-use enc_schema::tables::METHOD_DEF;
+use enc_base::tables::METHOD_DEF;
 use std::alloc::{AllocError, Global};
 
 /// The body of a method in a delta; None where it has none there.

@@ -1,7 +1,7 @@
 -- The line of a generated case: how many methods a module has, and the sum of what they load.
 use Rattle.std.specs.Prelude.{ℕ, ◌%◌, ◌^◌, ◌==◌, List, [], ◌∷◌, ◌++◌, sum_by, Option, Some, codes, decimal, slice_get, if◌then◌else◌}
 use Rattle.std.specs.Int.{w64, cast_unsigned}
-use Rattle.enc_schema.specs.Tables as tables
+use Rattle.enc_base.specs.Tables as tables
 use Rattle.enc_opcodes.specs.Instruction.{Argument, number, Instruction}
 use Rattle.enc_plain.specs.Cell.{Cell, body}
 use Rattle.enc_plain.specs.Module.{Module, Row, rows_in}

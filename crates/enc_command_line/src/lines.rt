@@ -12,7 +12,7 @@ use enc_agg::Aggregate;
 use enc_base::Token;
 use enc_jobs::JobFault;
 use enc_plain::ModuleView;
-use enc_schema::tables::METHOD_DEF;
+use enc_base::tables::METHOD_DEF;
 use enc_text::{push_decimal, push_long, push_str, push_token, stream_name};
 use std::alloc::{AllocError, Global};
 

@@ -1,6 +1,6 @@
 //! The sum of the numbers that the methods of a module load.
 ghost use Rattle.std.specs.Prelude.{◌≡◌, ◌<◌, ◌^◌, ◌%◌, ℕ, List, length, sum_by, IsTrue};
-ghost use Rattle.enc_schema.specs.Tables.{method_def};
+ghost use Rattle.enc_base.specs.Tables.{method_def};
 ghost use Rattle.enc_opcodes.specs.Instruction.{Instruction, instructions_of};
 ghost use Rattle.enc_il.specs.Seen.{instr_seen};
 ghost use Rattle.enc_plain.specs.Module.{has_row, cell_of};
@@ -10,7 +10,7 @@ use enc_base::Token;
 use enc_il::instr_at;
 use enc_opcodes::{Arg, CodeRef, Instr};
 use enc_plain::ModuleView;
-use enc_schema::tables::METHOD_DEF;
+use enc_base::tables::METHOD_DEF;
 
 /// What an instruction loads, if it is `ldc.i4` with an operand, as a number of 64 bits.
 fn loaded(instr: &Instr<'_>, end: u32) -> u64

@@ -15,7 +15,7 @@ use Rattle.enc_ppdb.specs.Written.{MeansPdb}
 use Rattle.enc_checker.specs.Check.{Accepted, accepted, judged}
 use Rattle.enc_rewriter.specs.Rewritten.{MeansModule, RewritesTo}
 use Rattle.enc_edit_list.specs.declared.edit.EditList.{EditList}
-use Rattle.enc_writer.specs.declared.bytes.DeltaBytes.{DeltaBytes}
+use Rattle.enc_emit.specs.declared.delta_bytes.DeltaBytes.{DeltaBytes}
 use Rattle.enc_writer.specs.Stands.{StandsFor, IsWrittenFor}
 use Rattle.enc_jobs.specs.Generated.{generated_base, turns_from, state_after, methods_added, lists_from, generated_lists}
 use Rattle.enc_jobs.specs.Laws.{IsDrawnChain, BaseIsLittle, GeneratedStaysLittle, GeneratedTellsNothing}

@@ -29,7 +29,7 @@ use Rattle.enc_pdb_writer.specs.Stated.{points_lie_within}
 use Rattle.enc_rules.specs.Edited.{rows_edited, edited}
 use Rattle.enc_rules.specs.First.{first_edit}
 use Rattle.enc_list_delta.specs.Holds.{heaps_written}
-use Rattle.enc_writer.specs.declared.bytes.DeltaBytes.{DeltaBytes}
+use Rattle.enc_emit.specs.declared.delta_bytes.DeltaBytes.{DeltaBytes}
 use Rattle.enc_writer.specs.declared.fault.EditFault.{EditFault}
 use Rattle.enc_writer.specs.declared.fault.EditFault.TheVariants.{Broken}
 use Rattle.enc_writer.specs.Stands.{IsWrittenFor, WritesEdits}

@@ -23,7 +23,7 @@ use Rattle.enc_ppdb.specs.Written.{most_pdb_weight}
 use Rattle.enc_command_line.specs.Lines.{saved_line}
 use Rattle.enc_command_line.specs.Words.{texts}
 use Rattle.enc_command_line.specs.declared.limits.Limit.TheVariants as limit
-use Rattle.enc_writer.specs.declared.bytes.DeltaBytes.{DeltaBytes}
+use Rattle.enc_emit.specs.declared.delta_bytes.DeltaBytes.{DeltaBytes}
 use Rattle.enc_commands.specs.Plans.{saves_of, IsPlanOf}
 use Rattle.enc_commands.specs.Stops.{Comes, OnPlan}
 use Rattle.enc_commands.specs.declared.plan.Outcome.TheVariants.{Accepted as Done}

@@ -6,7 +6,7 @@ use Rattle.enc_jobs.specs.declared.fault.JobFault.{JobFault}
 use Rattle.enc_jobs.specs.declared.fault.JobFault.TheVariants as job
 use Rattle.enc_jobs.specs.Outcome.{GivesList}
 use Rattle.enc_rules.specs.First.{first_edit}
-use Rattle.enc_writer.specs.declared.bytes.DeltaBytes.{DeltaBytes}
+use Rattle.enc_emit.specs.declared.delta_bytes.DeltaBytes.{DeltaBytes}
 use Rattle.enc_writer.specs.Stands.{IsWrittenFor}
 use Rattle.enc_command_line.specs.Lines.{saved_line}
 use Rattle.enc_commands.specs.Plans.{saves_of, IsPlanOf}

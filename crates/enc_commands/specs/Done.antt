@@ -5,7 +5,7 @@ use Rattle.enc_plain.specs.declared.place.RowPlace.{RowPlace}
 use Rattle.enc_plain.specs.Module.{Module, has_row}
 use Rattle.enc_plain.specs.Debug.{PlainPdb}
 use Rattle.enc_plain.specs.Sound.{row_count}
-use Rattle.enc_schema.specs.Tables as tables
+use Rattle.enc_base.specs.Tables as tables
 use Rattle.enc_agg.specs.Extend.{chain_with}
 use Rattle.enc_agg.specs.Place.{place_of}
 use Rattle.enc_ppdb.specs.Pdb.{entry_told}
@@ -16,7 +16,7 @@ use Rattle.enc_rewriter.specs.Rewritten.{MeansModule, IsPlainImage}
 use Rattle.enc_merge.specs.Merges.{StandsForBoth}
 use Rattle.enc_rows.specs.Source.{Source}
 use Rattle.enc_script.specs.Run.{IsRunText}
-use Rattle.enc_writer.specs.declared.bytes.DeltaBytes.{DeltaBytes}
+use Rattle.enc_emit.specs.declared.delta_bytes.DeltaBytes.{DeltaBytes}
 use Rattle.enc_writer.specs.Stands.{StandsFor}
 use Rattle.enc_text.specs.Text.{refused_line}
 use Rattle.enc_text.specs.RowText.{row_text_of}

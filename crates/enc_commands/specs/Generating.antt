@@ -1,6 +1,6 @@
 -- What `gen` saves: the generated base, a delta for each generated list, and the module after all lists.
 use Rattle.std.specs.Prelude.{◌≡◌, ℕ, ◌+◌, List, [], ◌∷◌, ◌++◌, Some, Ok, codes, decimal}
-use Rattle.enc_schema.specs.Tables as tables
+use Rattle.enc_base.specs.Tables as tables
 use Rattle.enc_plain.specs.Debug.{PlainPdb, unknown}
 use Rattle.enc_plain.specs.Sound.{row_count}
 use Rattle.enc_delta.specs.Delta.{delta_of}
@@ -10,7 +10,7 @@ use Rattle.enc_ppdb.specs.Written.{MeansPdb}
 use Rattle.enc_checker.specs.Check.{Accepted, judged}
 use Rattle.enc_rewriter.specs.Rewritten.{MeansModule}
 use Rattle.enc_edit_list.specs.declared.edit.EditList.{EditList}
-use Rattle.enc_writer.specs.declared.bytes.DeltaBytes.{DeltaBytes}
+use Rattle.enc_emit.specs.declared.delta_bytes.DeltaBytes.{DeltaBytes}
 use Rattle.enc_writer.specs.Stands.{StandsFor}
 use Rattle.enc_jobs.specs.Generated.{generated_base, edited_by}
 use Rattle.enc_commands.specs.Verdict.{dll, meta, il, pdb, Followed, followed_by, base_pdb, plain_of, debug_after}

@@ -9,7 +9,7 @@ use Rattle.enc_commands.specs.declared.load.DeltaFile.{DeltaFile}
 use Rattle.enc_commands.specs.declared.stop.Stop.{Stop as Halt}
 use Rattle.enc_plain.specs.Sound.{row_count}
 use Rattle.enc_plain.specs.SoundDebug.{KnowsWithin}
-use Rattle.enc_schema.specs.Tables as tables
+use Rattle.enc_base.specs.Tables as tables
 use Rattle.enc_merge.specs.Merges.{AllGo}
 use Rattle.enc_commands.specs.Verdict.{Stop, BaseFiles, DeltaFiles, Followed, file_limit, plain_of, debug_after, followed_by, WithText}
 use Rattle.enc_checker.specs.Check.{Accepted}

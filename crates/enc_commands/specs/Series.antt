@@ -1,14 +1,14 @@
 -- For the contracts of private functions: the files of a generated case as far as they are made.
 use Rattle.std.specs.Prelude.{◌≡◌, ◌≤◌, ℕ, List, ◌++◌, Some, Result, Ok, Err, slice_get}
 use Rattle.enc_base.specs.declared.token.Token.{Token}
-use Rattle.enc_schema.specs.Tables as tables
+use Rattle.enc_base.specs.Tables as tables
 use Rattle.enc_plain.specs.Sound.{row_count}
 use Rattle.enc_plain.specs.Debug.{unknown}
 use Rattle.enc_ppdb.specs.Written.{MeansPdb}
 use Rattle.enc_rewriter.specs.Rewritten.{MeansModule}
 use Rattle.enc_edit_list.specs.declared.edit.EditList.{EditList}
 use Rattle.enc_agg.specs.Seen.{chain_of_all}
-use Rattle.enc_writer.specs.declared.bytes.DeltaBytes.{DeltaBytes}
+use Rattle.enc_emit.specs.declared.delta_bytes.DeltaBytes.{DeltaBytes}
 use Rattle.enc_writer.specs.Stands.{IsWrittenFor}
 use Rattle.enc_jobs.specs.Generated.{generated_base, generated_lists}
 use Rattle.enc_jobs.specs.Laws.{IsDrawnChain}

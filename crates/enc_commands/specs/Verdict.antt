@@ -6,7 +6,7 @@ use Rattle.enc_outside.specs.Outside.{Files}
 use Rattle.enc_base.specs.declared.token.Token.{Token}
 use Rattle.enc_base.specs.declared.refusal.Refusal.{Refusal}
 use Rattle.enc_rows.specs.Source.{Source}
-use Rattle.enc_schema.specs.Tables as tables
+use Rattle.enc_base.specs.Tables as tables
 use Rattle.enc_base.specs.declared.refusal.StreamName.TheVariants as stream
 use Rattle.enc_plain.specs.Module.{rows_in}
 use Rattle.enc_rewriter.specs.Limits.{Passed, too_large, too_heavy, rewrite_limit}

@@ -1,6 +1,6 @@
 //! Judging a base and its deltas, each after those before it, with their PDBs.
 ghost use Rattle.std.specs.Prelude.{◌≡◌, ◌≢◌, ◌<◌, ◌∷◌, Option, None, length, map, Ok, IfOk, OnOk, IsErrOf, string_bytes};
-ghost use Rattle.enc_schema.specs.Tables.{method_def};
+ghost use Rattle.enc_base.specs.Tables.{method_def};
 ghost use Rattle.enc_plain.specs.Module.{rows_in};
 ghost use Rattle.enc_image.specs.Base.{base_of, chain_of_base};
 ghost use Rattle.enc_ppdb.specs.Fault.{pdb_of};
@@ -18,13 +18,13 @@ use crate::load::{BaseFile, DeltaFile, name_of};
 use crate::plans::unread;
 use crate::stop::Stop;
 use enc_agg::Aggregate;
+use enc_base::tables::METHOD_DEF;
 use enc_base::{Code, ReadFault, Steps};
 use enc_checker::{Checked, Files, check, new_bodies, within_law};
 use enc_delta::Delta;
 use enc_image::Image;
 use enc_plain::ModuleView;
 use enc_ppdb::{Pdb, PdbChain};
-use enc_schema::tables::METHOD_DEF;
 use std::alloc::{AllocError, Global};
 use std::marker::Brand;
 use std::sync::ledger::{Blank, Ledger};

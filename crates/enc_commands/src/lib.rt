@@ -12,8 +12,8 @@ mod plans;
 mod run;
 mod stop;
 
+pub use enc_command_line::listing;
 pub use enc_plain::RowPlace;
 pub use enc_text::row_text;
-pub use enc_command_line::listing;
 pub use laws::{example_delta_row, example_listing, example_row, served_law};
 pub use run::run_tool;

@@ -10,8 +10,8 @@ ghost use Rattle.enc_commands.specs.Loads.{bytes_seen, base_seen, file_seen, Are
 
 use crate::plans::{missing, too_long};
 use crate::stop::Stop;
-use enc_outside::Store;
 use enc_command_line::{FILE_LIMIT, Limit, TOTAL_LIMIT};
+use enc_outside::Store;
 use std::alloc::{AllocError, Global};
 use std::marker::Model;
 

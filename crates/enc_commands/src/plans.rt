@@ -7,11 +7,11 @@ ghost use Rattle.enc_commands.specs.Stops.{OnPlan, IsQuiet, IsUnread, IsUnlisted
 use crate::plan::{Outcome, Plan};
 use crate::stop::Stop;
 use enc_base::{ReadFault, Refusal, Token};
-use enc_jobs::JobFault;
-use enc_text::refused_line;
 use enc_command_line::{
     Limit, broken_line, deep_line, limit_line, missing_line, unlisted_line, usage_line,
 };
+use enc_jobs::JobFault;
+use enc_text::refused_line;
 use std::alloc::Global;
 
 /// A plan that saves nothing.

@@ -5,7 +5,7 @@ use Rattle.std.specs.List.{range_with_len}
 use Rattle.std.proofs.lemmas.Bool.{and_from, eq-eqb}
 use Rattle.enc_rows.specs.Sums.{below}
 use Rattle.enc_schema.specs.Children.{is_child_table}
-use Rattle.enc_schema.specs.Tables as tables
+use Rattle.enc_base.specs.Tables as tables
 use Rattle.enc_plain.specs.Module.{Module}
 use Rattle.enc_plain.specs.Sound.{IsSound, row_count, all_kids}
 use Rattle.enc_rewriter.specs.Numbers.{in_order_from, is_in_row_order}

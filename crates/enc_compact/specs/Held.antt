@@ -13,7 +13,7 @@ use Rattle.enc_plain.specs.Module.{Module, cells_of, cell_of}
 use Rattle.enc_plain.specs.Rows.{bytes_at}
 use Rattle.enc_plain.specs.Signatures.{signature_column}
 use Rattle.enc_plain.specs.Sound.{IsSound, row_count}
-use Rattle.enc_schema.specs.Tables as tables
+use Rattle.enc_base.specs.Tables as tables
 use Rattle.enc_compact.specs.Moved.{signature_moved, holds_signatures}
 use Rattle.enc_row_order.specs.Orders.{Orders, moved_by, new_order}
 

@@ -6,7 +6,7 @@ use Rattle.enc_plain.specs.Sound.{IsSound, row_count, all_kids}
 use Rattle.enc_plain.specs.SoundDebug.{IsSoundPdb, KnowsWithin}
 use Rattle.enc_row_order.specs.Orders.{standing_rows}
 use Rattle.enc_schema.specs.Children.{is_child_table}
-use Rattle.enc_schema.specs.Tables as tables
+use Rattle.enc_base.specs.Tables as tables
 use Rattle.enc_compact.specs.Moved.{module_moved, pdb_moved}
 
 -- a sound module stays sound

@@ -17,7 +17,7 @@ use Rattle.enc_plain.specs.Sound.{IsSound, row_count}
 use Rattle.enc_rows.specs.Sums.{below}
 use Rattle.enc_schema.specs.Children.{runs_in}
 use Rattle.enc_schema.specs.Columns as columns
-use Rattle.enc_schema.specs.Tables as tables
+use Rattle.enc_base.specs.Tables as tables
 use Rattle.enc_sigs.specs.Grammar.{sig_in, is_coded}
 use Rattle.enc_sigs.specs.Moved.{sig_moved}
 use Rattle.enc_sigs.specs.Spelling.{sig_bytes}

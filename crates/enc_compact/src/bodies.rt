@@ -7,7 +7,7 @@ ghost use Rattle.enc_opcodes.specs.Body.{code_seen};
 ghost use Rattle.enc_plain.specs.Module.{has_row, cell_of};
 ghost use Rattle.enc_plain.specs.Sound.{IsSound};
 ghost use Rattle.enc_schema.specs.Schema.{list_at};
-ghost use Rattle.enc_schema.specs.Tables.{method_def};
+ghost use Rattle.enc_base.specs.Tables.{method_def};
 
 use crate::mover::Mover;
 use crate::slots::{known_at, slot_at};
@@ -16,7 +16,7 @@ use enc_token_map::MovedBody;
 use enc_opcodes::CodeRef;
 use enc_row_order::Order;
 use enc_plain::ModuleView;
-use enc_schema::tables::METHOD_DEF;
+use enc_base::tables::METHOD_DEF;
 use std::alloc::{AllocError, Global};
 use std::collections::BTreeMap;
 

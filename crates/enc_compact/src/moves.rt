@@ -8,7 +8,7 @@ ghost use Rattle.enc_schema.specs.Schema.{list_at};
 use enc_base::Token;
 use enc_row_order::Order;
 use enc_plain::ModuleView;
-use enc_schema::tables::TABLE_COUNT;
+use enc_base::tables::TABLE_COUNT;
 use std::alloc::{AllocError, Global};
 
 /// Appends a row with its new place, where it moves.

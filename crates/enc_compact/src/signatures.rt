@@ -14,7 +14,7 @@ use crate::slots::{known_at, slot_at};
 use enc_base::{Bytes, Counts, Token};
 use enc_row_order::Order;
 use enc_plain::{ModuleView, kind_in_table, signature_column};
-use enc_schema::tables::TABLE_COUNT;
+use enc_base::tables::TABLE_COUNT;
 use enc_sigs::{SigFault, read_sig, write_moved};
 use std::alloc::{AllocError, Global};
 use std::collections::BTreeMap;

@@ -22,7 +22,7 @@ use Rattle.enc_delta.specs.Rules.{broken, at_token, least, is_insert, rows_with}
 use Rattle.enc_delta.specs.Pairs.{attached_of}
 use Rattle.enc_delta.specs.Rows.{own_row, rows_of_chain, rows_after}
 use Rattle.enc_delta.specs.Twins.{Asked, twin_fault}
-use Rattle.enc_schema.specs.Tables as tables
+use Rattle.enc_base.specs.Tables as tables
 use Rattle.enc_schema.specs.Columns as columns
 
 -- the columns in which an update may say something else: the flags and the name of a parameter (II.22.33), and those

@@ -12,7 +12,7 @@ use Rattle.enc_rows.specs.Layout.{Layout, rows_of, stream_tables}
 use Rattle.enc_rows.specs.Source.{Source, raw_in}
 use Rattle.enc_delta.specs.declared.entry.Entry.{Entry}
 use Rattle.enc_rows.specs.declared.form.Form.TheVariants as form
-use Rattle.enc_schema.specs.Tables as tables
+use Rattle.enc_base.specs.Tables as tables
 use Rattle.enc_schema.specs.Columns as columns
 
 -- the token of the Module row, which log and map may have and which means nothing there

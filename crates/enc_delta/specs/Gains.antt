@@ -5,7 +5,7 @@ use Rattle.enc_delta.specs.declared.members.Gain.{Gain}
 use Rattle.enc_delta.specs.declared.members.Gain.TheVariants as gain
 use Rattle.enc_delta.specs.Context.{Joined}
 use Rattle.enc_delta.specs.Changes.{breaks_layout, breaks_slots}
-use Rattle.enc_schema.specs.Tables as tables
+use Rattle.enc_base.specs.Tables as tables
 
 abbrev pub breaks : Joined → Gain → Attached → Bool
 breaks j gain.Field a = breaks_layout j.chain j.delta a

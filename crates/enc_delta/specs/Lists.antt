@@ -6,7 +6,7 @@ use Rattle.enc_base.specs.declared.token.Token.{Token}
 use Rattle.enc_plain.specs.Chain.{Chain, rows_before}
 use Rattle.enc_delta.specs.declared.entry.Entry.{Entry}
 use Rattle.enc_delta.specs.Rules.{counts, rows_with, parent_table, child_table}
-use Rattle.enc_schema.specs.Tables as tables
+use Rattle.enc_base.specs.Tables as tables
 
 -- each is a token by its number: its row fits three bytes
 abbrev pub AreTokens : List Token → Type 0

@@ -7,7 +7,7 @@ use Rattle.enc_base.specs.declared.token.Token.{Token}
 use Rattle.enc_sigs.specs.Mix.{mixed, mixed_ends, finished}
 use Rattle.enc_sigs.specs.declared.mix.Mix.{Mix}
 use Rattle.enc_schema.specs.Children.{is_child_table}
-use Rattle.enc_schema.specs.Tables as tables
+use Rattle.enc_base.specs.Tables as tables
 use Rattle.enc_plain.specs.Module.{Module, kids_of}
 use Rattle.enc_plain.specs.Apply.{Attached}
 use Rattle.enc_delta.specs.declared.pairs.Pair.{Pair}

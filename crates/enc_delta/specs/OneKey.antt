@@ -5,7 +5,7 @@ use Rattle.enc_plain.specs.Rows.{Rows, number_at}
 use Rattle.enc_plain.proofs.MemberKeys.{members_one}
 use Rattle.enc_delta.specs.Changes.{asked_of, is_member, same_signature}
 use Rattle.enc_delta.specs.Members.{AlikeHaveOneKey, AreInMemberTables}
-use Rattle.enc_schema.specs.Tables as tables
+use Rattle.enc_base.specs.Tables as tables
 use Rattle.enc_schema.specs.Columns as columns
 
 pub one_key : (rows : Rows) → AlikeHaveOneKey (asked_of rows) (member_key rows)

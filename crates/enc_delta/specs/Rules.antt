@@ -21,7 +21,7 @@ use Rattle.enc_plain.specs.Module.{cell_of}
 use Rattle.enc_plain.specs.Bodies.{body_loaded, body_is_good}
 use Rattle.enc_delta.specs.declared.entry.Entry.{Entry}
 use Rattle.enc_delta.specs.Delta.{listed, is_module, of_table}
-use Rattle.enc_schema.specs.Tables as tables
+use Rattle.enc_base.specs.Tables as tables
 use Rattle.enc_schema.specs.Columns as columns
 
 abbrev pub module_token : Token

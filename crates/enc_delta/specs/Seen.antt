@@ -11,7 +11,7 @@ use Rattle.enc_rows.specs.Layout.{IsWithin, rows_of}
 use Rattle.enc_rows.specs.Source.{Source}
 use Rattle.enc_delta.specs.declared.open.Opened.{Opened}
 use Rattle.enc_delta.specs.Delta.{delta_source, delta_of, map_token}
-use Rattle.enc_schema.specs.Tables as tables
+use Rattle.enc_base.specs.Tables as tables
 
 -- a root and its tables with the file's bytes
 abbrev pub opened_delta : List ℕ → List ℕ → Result Opened Refusal → Result Source Refusal

@@ -7,7 +7,7 @@ ghost use Rattle.enc_plain.specs.Module.{cell_of};
 ghost use Rattle.enc_delta.specs.Delta.{listed, of_table};
 ghost use Rattle.enc_delta.specs.Rules.{rows_with, users_after, has_body, broken_body_at, broken_body, lost_body_at, lost_body};
 ghost use Rattle.enc_delta.specs.Known.{is_delta_body, AreDeltaBodies};
-ghost use Rattle.enc_schema.specs.Tables.{method_def};
+ghost use Rattle.enc_base.specs.Tables.{method_def};
 
 use crate::cells::next_of;
 use crate::context::Context;
@@ -17,7 +17,7 @@ use enc_il::is_good_body;
 use enc_opcodes::CodeRef;
 use enc_plain::{ChainView, is_row};
 use enc_schema::columns::{METHOD_DEF_IMPL_FLAGS, METHOD_DEF_RVA};
-use enc_schema::tables::METHOD_DEF;
+use enc_base::tables::METHOD_DEF;
 use std::alloc::{AllocError, Global};
 use std::collections::BTreeSet;
 

@@ -7,14 +7,14 @@ ghost use Rattle.enc_delta.specs.Delta.{listed, of_table};
 ghost use Rattle.enc_delta.specs.Rules.{reading_after, cell_fault, row_fault, table_fault, bad_index, bad_offset, too_many_in, too_many};
 ghost use Rattle.enc_plain.specs.Reading.{cell_read};
 ghost use Rattle.enc_delta.specs.Cells.{speaks, begins_with};
-ghost use Rattle.enc_schema.specs.Tables.{table_count};
+ghost use Rattle.enc_base.specs.Tables.{table_count};
 
 use crate::context::Context;
 use crate::delta::nth_row;
 use crate::joined::{guid_after, has_text_after};
 use enc_base::{Place, Token};
 use enc_plain::ChainView;
-use enc_schema::tables::TABLE_COUNT;
+use enc_base::tables::TABLE_COUNT;
 use enc_schema::{Column, column_of, columns_of, decode_coded};
 
 const MODULE: Token = Token { table: 0, row: 1 };

@@ -4,7 +4,7 @@ ghost use Rattle.std.specs.List.{list_all};
 ghost use Rattle.enc_base.specs.declared.token.Token.{Token as TheToken};
 ghost use Rattle.enc_delta.specs.declared.entry.Entry.{Entry as TheEntry};
 ghost use Rattle.enc_rows.specs.Layout.{rows_of};
-ghost use Rattle.enc_schema.specs.Tables.{enc_map};
+ghost use Rattle.enc_base.specs.Tables.{enc_map};
 ghost use Rattle.enc_delta.specs.Delta.{log_in, listed, is_module};
 
 use crate::delta::Delta;

@@ -10,7 +10,7 @@ ghost use Rattle.enc_base.specs.Token.{nth_row};
 ghost use Rattle.enc_delta.specs.Delta.{delta_of, delta_source, entry_at, loaded_code, map_token, log_in, map_in, listed};
 ghost use Rattle.enc_base.specs.declared.refusal.ReadFault.TheVariants.{Memory};
 ghost use Rattle.enc_delta.specs.Seen.{ReadsDelta, IsDeltaOpened, IsRising, WasRead};
-ghost use Rattle.enc_schema.specs.Tables.{enc_log, enc_map};
+ghost use Rattle.enc_base.specs.Tables.{enc_log, enc_map};
 
 use crate::code::{body_from, code_at};
 use crate::entry::Entry;
@@ -21,7 +21,7 @@ use enc_opcodes::CodeRef;
 use enc_rows::Tables;
 use enc_schema::column_of;
 use enc_schema::columns::{ENC_LOG_FUNC_CODE, ENC_LOG_TOKEN, ENC_MAP_TOKEN};
-use enc_schema::tables::{ENC_LOG, ENC_MAP};
+use enc_base::tables::{ENC_LOG, ENC_MAP};
 use std::marker::Model;
 use std::sync::ledger::Ledger;
 

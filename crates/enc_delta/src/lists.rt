@@ -14,7 +14,7 @@ use crate::entry::Entry;
 use crate::known::is_insert;
 use enc_base::{Place, Token};
 use enc_plain::{ChainView, ModuleView};
-use enc_schema::tables::{
+use enc_base::tables::{
     EVENT, EVENT_MAP, FIELD, METHOD_DEF, PARAM, PROPERTY, PROPERTY_MAP, TYPE_DEF,
 };
 use std::alloc::{AllocError, Global};

@@ -14,7 +14,7 @@ use enc_base::{Place, Token};
 use enc_opcodes::CodeRef;
 use enc_plain::{CellView, ChainView};
 use enc_schema::columns::{METHOD_DEF_RVA, STAND_ALONE_SIG_SIGNATURE};
-use enc_schema::tables::{METHOD_DEF, STAND_ALONE_SIG};
+use enc_base::tables::{METHOD_DEF, STAND_ALONE_SIG};
 use std::alloc::{AllocError, Global};
 use std::collections::BTreeSet;
 

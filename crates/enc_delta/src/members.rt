@@ -17,7 +17,7 @@ ghost use Rattle.enc_plain.specs.Known.{AreKnownAlike};
 ghost use Rattle.enc_delta.specs.OneKey.{in_member_tables, one_key};
 ghost use Rattle.enc_plain.specs.ValueType.{is_value_type};
 ghost use Rattle.enc_delta.specs.Changes.{has_layout, is_out_of_layout, has_no_slot, least_child, is_member, asked_of, name_column, same_signature, field_out_of_layout, method_without_slot, twin_member};
-ghost use Rattle.enc_schema.specs.Tables.{type_def};
+ghost use Rattle.enc_base.specs.Tables.{type_def};
 
 use crate::context::Context;
 use crate::known::is_insert;
@@ -29,7 +29,7 @@ use enc_plain::{CellView, ChainView, KnownAlike, PlacedBlob, RefKeys, is_value_t
 use enc_schema::columns::{
     FIELD_FLAGS, FIELD_SIGNATURE, METHOD_DEF_FLAGS, METHOD_DEF_SIGNATURE, TYPE_DEF_FLAGS,
 };
-use enc_schema::tables::{EVENT, FIELD, METHOD_DEF, PROPERTY, TYPE_DEF};
+use enc_base::tables::{EVENT, FIELD, METHOD_DEF, PROPERTY, TYPE_DEF};
 use std::alloc::{AllocError, Global};
 use std::marker::Model;
 

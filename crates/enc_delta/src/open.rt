@@ -10,7 +10,7 @@ use enc_base::{Counts, Refusal};
 use enc_meta::{Root, TextEnds, read_root};
 use enc_rows::{Form, Tables};
 use enc_schema::columns::ENC_MAP_TOKEN;
-use enc_schema::tables::ENC_MAP;
+use enc_base::tables::ENC_MAP;
 
 /// A root, and the ends of the texts and the tables in it.
 #[derive(Drop)]

@@ -7,7 +7,7 @@ ghost use Rattle.enc_delta.specs.Cuts.{IsCutBy};
 
 use crate::pairs::Pair;
 use crate::twins::Members;
-use enc_schema::tables::{EVENT, FIELD, METHOD_DEF, PROPERTY};
+use enc_base::tables::{EVENT, FIELD, METHOD_DEF, PROPERTY};
 use enc_sigs::{Mix, finished, mixed, mixed_ends};
 use std::alloc::{AllocError, Global};
 

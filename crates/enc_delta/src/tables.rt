@@ -7,7 +7,7 @@ use crate::context::Context;
 use crate::delta::Delta;
 use enc_base::{Place, Token};
 use enc_plain::ChainView;
-use enc_schema::tables::{
+use enc_base::tables::{
     ASSEMBLY_REF, ENC_LOG, ENC_MAP, EVENT, EVENT_MAP, FIELD, GENERIC_PARAM_CONSTRAINT, IMPL_MAP,
     METHOD_DEF, MODULE, NESTED_CLASS, PARAM, PROPERTY, PROPERTY_MAP, TYPE_DEF, TYPE_REF,
 };

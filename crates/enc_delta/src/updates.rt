@@ -14,7 +14,7 @@ use crate::known::is_insert;
 use crate::members::is_one_place;
 use enc_base::{Place, Token};
 use enc_plain::{CellView, ChainView, KnownAlike, PlacedBlob, signature_column};
-use enc_schema::tables::{CUSTOM_ATTRIBUTE, FIELD_RVA, METHOD_DEF, PARAM};
+use enc_base::tables::{CUSTOM_ATTRIBUTE, FIELD_RVA, METHOD_DEF, PARAM};
 use enc_schema::{Column, column_of, columns_of};
 use std::alloc::Global;
 

@@ -17,7 +17,7 @@ use Rattle.enc_plain.proofs.CellsOf.{cell_there}
 use Rattle.enc_schema.specs.declared.column.Column.TheVariants.{Coded}
 use Rattle.enc_schema.specs.declared.column.Coding.TheVariants.{MethodDefOrRef}
 use Rattle.enc_schema.specs.Schema.{columns_in, column_in}
-use Rattle.enc_schema.specs.Tables as tables
+use Rattle.enc_base.specs.Tables as tables
 use Rattle.enc_dispatch.specs.declared.impl_part.ImplPart.{ImplPart}
 use Rattle.enc_dispatch.specs.Stored.{class_at, impl_key, impl_for}
 use Rattle.enc_dispatch.specs.Walks.{impl_class, impl_body, impl_declaration, method_at}

@@ -13,7 +13,7 @@ use Rattle.enc_dispatch.specs.Growth.{later_kids, later_answer, StandsUpTo, IsGr
 use Rattle.enc_dispatch.specs.Index.{StandsForModule}
 use Rattle.enc_dispatch.specs.Own.{own_among, AreAllOwn}
 use Rattle.enc_dispatch.specs.Parts.{EachPart, nth_part}
-use Rattle.enc_dispatch.specs.Path.{says_interface}
+use Rattle.enc_dispatch.specs.Interfaces.{says_interface}
 use Rattle.enc_dispatch.specs.Stored.{DispatchParts, Room, with_room, class_at, own_key, impl_key, interface_key, impl_for, IsClassPart, IsMethodPart}
 use Rattle.enc_dispatch.proofs.Bodies.{bodies_there}
 use Rattle.enc_dispatch.proofs.Found.{heads_same}

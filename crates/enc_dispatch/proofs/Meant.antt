@@ -11,10 +11,11 @@ use Rattle.enc_base.specs.declared.token.Token.{Token}
 use Rattle.enc_base.proofs.First.{first_suc, first_none}
 use Rattle.enc_plain.specs.Module.{Module, rows_in, has_row}
 use Rattle.enc_plain.specs.Sound.{row_count}
-use Rattle.enc_schema.specs.Tables as tables
+use Rattle.enc_base.specs.Tables as tables
 use Rattle.enc_dispatch.specs.declared.class_part.ClassPart.{ClassPart}
 use Rattle.enc_dispatch.specs.declared.impl_part.ImplPart.{ImplPart}
-use Rattle.enc_dispatch.specs.Path.{is_class, class_base, climb, path_of, is_on_path, has_interface, says_interface, implements, extends}
+use Rattle.enc_plain.specs.ClassPath.{is_class, class_base, climb, path_of, is_on_path, extends}
+use Rattle.enc_dispatch.specs.Interfaces.{has_interface, says_interface, implements}
 use Rattle.enc_dispatch.specs.Walks.{impl_class, impl_body, impl_declaration, impl_at, impl_of, method_at}
 use Rattle.enc_dispatch.specs.Target.{from_interface, is_interface}
 use Rattle.enc_dispatch.specs.Index.{StandsForModule}

@@ -13,7 +13,7 @@ use Rattle.enc_base.specs.declared.token.Token.{Token}
 use Rattle.enc_plain.specs.Module.{Module, rows_in, has_row, has_kid, kids_of, owner_of}
 use Rattle.enc_plain.specs.Sound.{row_count, IsSound}
 use Rattle.enc_plain.proofs.Owned.{position_cons, kid_owner, has_owner}
-use Rattle.enc_schema.specs.Tables as tables
+use Rattle.enc_base.specs.Tables as tables
 use Rattle.enc_dispatch.specs.Growth.{later_kids, AreOwners, EachLater, IsClassOfMethod}
 use Rattle.enc_dispatch.specs.Parts.{EachPart}
 use Rattle.enc_dispatch.specs.Stored.{class_at}

@@ -5,8 +5,9 @@ use Rattle.std.proofs.lemmas.Bool.{and_parts}
 use Rattle.std.proofs.lemmas.Bool.Decides.{nat_tests}
 use Rattle.enc_base.specs.declared.token.Token.{Token}
 use Rattle.enc_plain.specs.Module.{Module, has_row}
-use Rattle.enc_schema.specs.Tables as tables
-use Rattle.enc_dispatch.specs.Path.{is_class, class_base, climb, has_interface}
+use Rattle.enc_base.specs.Tables as tables
+use Rattle.enc_plain.specs.ClassPath.{is_class, class_base, climb}
+use Rattle.enc_dispatch.specs.Interfaces.{has_interface}
 use Rattle.enc_dispatch.specs.Target.{from_interface}
 use Rattle.enc_dispatch.proofs.Climbs.{drop_tail, drop_there}
 

@@ -14,12 +14,12 @@ use Rattle.enc_key_map.specs.Index.{value_at, either, latest_one, entry_key, val
 use Rattle.enc_plain.specs.Module.{Module, cells_of}
 use Rattle.enc_plain.specs.Rows.{token_at}
 use Rattle.enc_plain.proofs.Applied.{same_is}
-use Rattle.enc_schema.specs.Tables as tables
+use Rattle.enc_base.specs.Tables as tables
 use Rattle.enc_dispatch.specs.declared.impl_part.ImplPart.{ImplPart}
 use Rattle.enc_dispatch.specs.Columns.{interface_impl_class, interface_impl_interface}
 use Rattle.enc_dispatch.specs.Entries.{earliest, where_none}
 use Rattle.enc_dispatch.specs.Growth.{later_answer}
-use Rattle.enc_dispatch.specs.Path.{says_interface}
+use Rattle.enc_dispatch.specs.Interfaces.{says_interface}
 use Rattle.enc_dispatch.specs.Walks.{impl_class, impl_body, impl_declaration}
 use Rattle.enc_dispatch.specs.Stored.{class_at, impl_key, interface_key, impl_for}
 

@@ -11,11 +11,11 @@ use Rattle.enc_base.specs.declared.token.Token.{Token}
 use Rattle.enc_key_map.specs.Index.{value_at}
 use Rattle.enc_plain.specs.Module.{Module, rows_in, has_row, has_kid, kids_of, owner_of}
 use Rattle.enc_plain.proofs.CellsOf.{number_absent}
-use Rattle.enc_schema.specs.Tables as tables
+use Rattle.enc_base.specs.Tables as tables
 use Rattle.enc_schema.specs.Columns as columns
 use Rattle.enc_dispatch.specs.declared.method_part.MethodPart.{MethodPart}
 use Rattle.enc_dispatch.specs.declared.impl_part.ImplPart.{ImplPart}
-use Rattle.enc_dispatch.specs.Path.{is_class, before_class}
+use Rattle.enc_plain.specs.ClassPath.{is_class, before_class}
 use Rattle.enc_dispatch.specs.Walks.{impl_of, method_at, is_virtual, is_public, is_new_slot, same_slot, takes_slot, meets, first_method}
 use Rattle.enc_dispatch.specs.Target.{own_turn, turn, go_on, walk_down, class_target, from_interface, given_by, first_given, interface_target, is_interface, target_by, target_of}
 use Rattle.enc_dispatch.specs.Index.{StandsForModule}

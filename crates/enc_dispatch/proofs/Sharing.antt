@@ -12,7 +12,7 @@ use Rattle.enc_plain.specs.Alike.{signatures_alike}
 use Rattle.enc_plain.specs.Rows.{Rows, bytes_at}
 use Rattle.enc_plain.specs.Signatures.{kind_in_table}
 use Rattle.enc_plain.proofs.OneKey.{signatures_one}
-use Rattle.enc_schema.specs.Tables as tables
+use Rattle.enc_base.specs.Tables as tables
 use Rattle.enc_dispatch.specs.Buckets.{slot_key}
 use Rattle.enc_dispatch.specs.Slots.{shares_slot, shares_at, slot_in}
 use Rattle.enc_dispatch.proofs.Equivalence.{methods_equivalence}

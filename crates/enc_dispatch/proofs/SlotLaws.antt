@@ -7,9 +7,9 @@ use Rattle.enc_base.specs.Token.{is_token}
 use Rattle.enc_base.specs.declared.token.Token.{Token}
 use Rattle.enc_plain.specs.Module.{Module, rows_in, has_row, cells_of}
 use Rattle.enc_plain.specs.Sound.{row_count}
-use Rattle.enc_schema.specs.Tables as tables
+use Rattle.enc_base.specs.Tables as tables
 use Rattle.enc_dispatch.specs.Laws.{SlotsTellMethods, EachClassExtendsItself}
-use Rattle.enc_dispatch.specs.Path.{is_class, climb, is_on_path}
+use Rattle.enc_plain.specs.ClassPath.{is_class, climb, is_on_path}
 use Rattle.enc_dispatch.specs.Slots.{shares_slot}
 use Rattle.enc_dispatch.specs.Walks.{same_slot}
 use Rattle.enc_dispatch.proofs.Sharing.{slots_tell}

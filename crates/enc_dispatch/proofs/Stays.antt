@@ -12,7 +12,7 @@ use Rattle.enc_plain.specs.Module.{Module, has_row, cells_of}
 use Rattle.enc_plain.specs.Rows.{number_at, bytes_at}
 use Rattle.enc_plain.specs.Sound.{row_count, IsSound}
 use Rattle.enc_plain.proofs.OneKey.{signatures_one}
-use Rattle.enc_schema.specs.Tables as tables
+use Rattle.enc_base.specs.Tables as tables
 use Rattle.enc_dispatch.specs.declared.class_part.ClassPart.{ClassPart}
 use Rattle.enc_dispatch.specs.declared.method_part.MethodPart.{MethodPart}
 use Rattle.enc_dispatch.specs.declared.own_method.OwnMethod.{OwnMethod}
@@ -22,7 +22,8 @@ use Rattle.enc_dispatch.specs.Buckets.{slot_key, is_slot, is_first_of, newest_fi
 use Rattle.enc_dispatch.specs.Changed.{IsChangedBy}
 use Rattle.enc_dispatch.specs.Own.{virtual_slot, wanted_slot, row_part, own_among}
 use Rattle.enc_dispatch.specs.Parts.{EachPart}
-use Rattle.enc_dispatch.specs.Path.{class_base, says_interface}
+use Rattle.enc_plain.specs.ClassPath.{class_base}
+use Rattle.enc_dispatch.specs.Interfaces.{says_interface}
 use Rattle.enc_dispatch.specs.Slots.{shares_slot, shares_at, slot_in}
 use Rattle.enc_dispatch.specs.Stored.{impl_for, IsClassPart, IsMethodPart}
 use Rattle.enc_dispatch.specs.Walked.{slot_at}

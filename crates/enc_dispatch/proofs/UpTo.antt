@@ -8,7 +8,7 @@ use Rattle.enc_key_map.specs.declared.index.Index.{Index}
 use Rattle.enc_key_map.specs.Index.{value_at}
 use Rattle.enc_plain.specs.Module.{Module, kids_of, cells_of}
 use Rattle.enc_plain.specs.Sound.{row_count, IsSound}
-use Rattle.enc_schema.specs.Tables as tables
+use Rattle.enc_base.specs.Tables as tables
 use Rattle.enc_dispatch.specs.declared.method_part.MethodPart.{MethodPart}
 use Rattle.enc_dispatch.specs.declared.own_method.OwnMethod.{OwnMethod}
 use Rattle.enc_dispatch.specs.declared.rows_read.RowsRead.{RowsRead}
@@ -20,7 +20,7 @@ use Rattle.enc_dispatch.specs.Growth.{later_kids, IsOwnUpTo, StandsUpTo, AreCoun
 use Rattle.enc_dispatch.specs.Index.{StandsForModule}
 use Rattle.enc_dispatch.specs.Own.{own_among, AreAllOwn}
 use Rattle.enc_dispatch.specs.Parts.{EachPart}
-use Rattle.enc_dispatch.specs.Path.{says_interface}
+use Rattle.enc_dispatch.specs.Interfaces.{says_interface}
 use Rattle.enc_dispatch.specs.Stored.{DispatchParts, class_at, own_key, impl_key, interface_key, impl_for, IsClassPart, IsMethodPart}
 use Rattle.enc_dispatch.proofs.Each.{each_none}
 use Rattle.enc_dispatch.proofs.Found.{buckets_none}

@@ -4,7 +4,7 @@ use Rattle.std.specs.Prelude.{◌&&◌, ◌==◌, if◌then◌else◌}
 use Rattle.enc_base.specs.declared.token.Token.{Token}
 use Rattle.enc_plain.specs.Module.{Module, Row, row_of, has_row, kids_with, kids_of}
 use Rattle.enc_plain.proofs.CellsOf.{has_cells}
-use Rattle.enc_dispatch.specs.Path.{is_class, path_of}
+use Rattle.enc_plain.specs.ClassPath.{is_class, path_of}
 use Rattle.enc_dispatch.specs.Target.{turn, go_on, walk_down, class_target, given_by, first_given}
 use Rattle.enc_dispatch.specs.Walked.{place_on}
 use Rattle.enc_dispatch.specs.Walks.{method_at, first_method}

@@ -5,7 +5,7 @@ use Rattle.enc_plain.specs.Module.{Module}
 use Rattle.enc_dispatch.specs.declared.climb.Climb.{Climb}
 use Rattle.enc_dispatch.specs.declared.wanted.Wanted.{Wanted}
 use Rattle.enc_dispatch.specs.declared.wanted.Wanted.TheVariants.{Virtual, Public}
-use Rattle.enc_dispatch.specs.Path.{climb}
+use Rattle.enc_plain.specs.ClassPath.{climb}
 use Rattle.enc_dispatch.specs.Walks.{takes_slot, meets}
 
 -- the classes that a climb still meets

@@ -9,7 +9,7 @@ use Rattle.enc_key_map.specs.Index.{value_at, either}
 use Rattle.enc_plain.specs.Keys.{signature_key}
 use Rattle.enc_plain.specs.Rows.{Rows, bytes_at}
 use Rattle.enc_schema.specs.Columns as columns
-use Rattle.enc_schema.specs.Tables as tables
+use Rattle.enc_base.specs.Tables as tables
 use Rattle.enc_sigs.specs.Mix.{mix_of, mixed, mixed_ends, finished}
 use Rattle.enc_dispatch.specs.Parts.{EachPart}
 use Rattle.enc_dispatch.specs.Slots.{shares_slot, slot_in}

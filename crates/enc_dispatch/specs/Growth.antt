@@ -9,7 +9,7 @@ use Rattle.enc_key_map.specs.declared.key.Key.{Key}
 use Rattle.enc_key_map.specs.Index.{value_at, either, latest}
 use Rattle.enc_plain.specs.Module.{Module, has_row, cells_of, kids_of, owner_of}
 use Rattle.enc_plain.specs.Sound.{row_count}
-use Rattle.enc_schema.specs.Tables as tables
+use Rattle.enc_base.specs.Tables as tables
 use Rattle.enc_dispatch.specs.declared.growth.Growth.{Growth}
 use Rattle.enc_dispatch.specs.declared.rows_read.RowsRead.{RowsRead}
 use Rattle.enc_dispatch.specs.declared.method_part.MethodPart.{MethodPart}
@@ -20,7 +20,7 @@ use Rattle.enc_dispatch.specs.Buckets.{bucket_key, stored_head, AreBuckets}
 use Rattle.enc_dispatch.specs.Entries.{earliest, where_none}
 use Rattle.enc_dispatch.specs.Own.{own_among, own_in_class}
 use Rattle.enc_dispatch.specs.Parts.{EachPart}
-use Rattle.enc_dispatch.specs.Path.{says_interface}
+use Rattle.enc_dispatch.specs.Interfaces.{says_interface}
 use Rattle.enc_dispatch.specs.Stored.{DispatchParts, class_at, own_key, impl_key, interface_key, impl_for, IsClassPart, IsMethodPart}
 
 -- the methods of a class behind the first so many rows, in order of attachment

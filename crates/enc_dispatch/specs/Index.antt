@@ -5,14 +5,14 @@ use Rattle.enc_base.specs.declared.token.Token.{Token}
 use Rattle.enc_key_map.specs.Index.{value_at}
 use Rattle.enc_plain.specs.Module.{Module, has_row, cells_of}
 use Rattle.enc_plain.specs.Sound.{row_count}
-use Rattle.enc_schema.specs.Tables as tables
+use Rattle.enc_base.specs.Tables as tables
 use Rattle.enc_dispatch.specs.declared.method_part.MethodPart.{MethodPart}
 use Rattle.enc_dispatch.specs.declared.impl_part.ImplPart.{ImplPart}
 use Rattle.enc_dispatch.specs.declared.wanted.Wanted.TheVariants.{Virtual, Public}
 use Rattle.enc_dispatch.specs.Buckets.{stored_head, AreBuckets}
 use Rattle.enc_dispatch.specs.Own.{AreAllOwn}
 use Rattle.enc_dispatch.specs.Parts.{nth_part, EachPart}
-use Rattle.enc_dispatch.specs.Path.{says_interface}
+use Rattle.enc_dispatch.specs.Interfaces.{says_interface}
 use Rattle.enc_dispatch.specs.Stored.{DispatchParts, class_at, own_key, impl_key, interface_key, impl_for, IsClassPart, IsMethodPart, own_part}
 use Rattle.enc_dispatch.specs.Walks.{method_at, takes_slot, meets, first_method}
 

@@ -6,7 +6,7 @@ use Rattle.enc_plain.specs.Alike.{signatures_alike}
 use Rattle.enc_plain.specs.Module.{Module, has_row, cells_of}
 use Rattle.enc_plain.specs.Rows.{number_at, bytes_at, token_at}
 use Rattle.enc_schema.specs.Columns as columns
-use Rattle.enc_schema.specs.Tables as tables
+use Rattle.enc_base.specs.Tables as tables
 
 -- a row has in both modules the same number, text or blob, or token in a column
 abbrev pub keeps_number : Module → Module → Token → ℕ → Bool

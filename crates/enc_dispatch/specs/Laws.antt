@@ -2,7 +2,7 @@
 use Rattle.std.specs.Prelude.{◌≡◌, ℕ, Some, IsTrue, ◌==◌}
 use Rattle.enc_base.specs.declared.token.Token.{Token}
 use Rattle.enc_plain.specs.Module.{Module}
-use Rattle.enc_dispatch.specs.Path.{is_class, extends}
+use Rattle.enc_plain.specs.ClassPath.{is_class, extends}
 use Rattle.enc_dispatch.specs.Slots.{slot_of}
 use Rattle.enc_dispatch.specs.Walks.{same_slot}
 

@@ -1,5 +1,5 @@
 pub mod Columns
-pub mod Path
+pub mod Interfaces
 pub mod Walks
 pub mod Target
 pub mod Slots

@@ -7,7 +7,7 @@ use Rattle.enc_plain.specs.Alike.{signatures_alike}
 use Rattle.enc_plain.specs.Module.{Module, cells_of}
 use Rattle.enc_plain.specs.Rows.{Rows, bytes_at}
 use Rattle.enc_schema.specs.Columns as columns
-use Rattle.enc_schema.specs.Tables as tables
+use Rattle.enc_base.specs.Tables as tables
 
 -- methods of equal names and alike signatures, by the cells of rows
 unfoldable pub shares_slot : Rows → Token → Token → Bool

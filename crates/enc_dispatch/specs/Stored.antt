@@ -5,12 +5,12 @@ use Rattle.enc_base.specs.declared.token.Token.{Token}
 use Rattle.enc_key_map.specs.declared.index.Index.{Index}
 use Rattle.enc_key_map.specs.declared.key.Key.{Key}
 use Rattle.enc_plain.specs.Module.{Module, owner_of}
-use Rattle.enc_schema.specs.Tables as tables
+use Rattle.enc_base.specs.Tables as tables
 use Rattle.enc_dispatch.specs.declared.class_part.ClassPart.{ClassPart}
 use Rattle.enc_dispatch.specs.declared.method_part.MethodPart.{MethodPart}
 use Rattle.enc_dispatch.specs.declared.own_method.OwnMethod.{OwnMethod}
 use Rattle.enc_dispatch.specs.declared.impl_part.ImplPart.{ImplPart}
-use Rattle.enc_dispatch.specs.Path.{class_base}
+use Rattle.enc_plain.specs.ClassPath.{class_base}
 use Rattle.enc_dispatch.specs.Slots.{slot_of}
 use Rattle.enc_dispatch.specs.Target.{is_interface}
 use Rattle.enc_dispatch.specs.Walks.{impl_class, impl_body, impl_declaration, method_at, is_new_slot}

@@ -7,8 +7,9 @@ use Rattle.enc_base.specs.declared.token.Token.{Token}
 use Rattle.enc_plain.specs.Module.{Module, cells_of, owner_of}
 use Rattle.enc_plain.specs.Rows.{number_at}
 use Rattle.enc_schema.specs.Columns as columns
-use Rattle.enc_schema.specs.Tables as tables
-use Rattle.enc_dispatch.specs.Path.{path_of, before_class, has_interface}
+use Rattle.enc_base.specs.Tables as tables
+use Rattle.enc_plain.specs.ClassPath.{path_of, before_class}
+use Rattle.enc_dispatch.specs.Interfaces.{has_interface}
 use Rattle.enc_dispatch.specs.Walks.{impl_of, is_new_slot, takes_slot, meets, first_method}
 
 -- what a class's own virtual method does to the walk: one in a slot of its own ends it

@@ -5,7 +5,7 @@ use Rattle.enc_base.specs.Order.{or_else}
 use Rattle.enc_base.specs.Token.{is_token}
 use Rattle.enc_base.specs.declared.token.Token.{Token}
 use Rattle.enc_key_map.specs.Index.{value_at}
-use Rattle.enc_schema.specs.Tables as tables
+use Rattle.enc_base.specs.Tables as tables
 use Rattle.enc_dispatch.specs.declared.class_part.ClassPart.{ClassPart}
 use Rattle.enc_dispatch.specs.declared.method_part.MethodPart.{MethodPart}
 use Rattle.enc_dispatch.specs.declared.own_method.OwnMethod.{OwnMethod}
@@ -13,7 +13,7 @@ use Rattle.enc_dispatch.specs.declared.impl_part.ImplPart.{ImplPart}
 use Rattle.enc_dispatch.specs.declared.climb.Climb.{Climb}
 use Rattle.enc_dispatch.specs.Stored.{DispatchParts, own_key, impl_key, interface_key}
 use Rattle.enc_dispatch.specs.Parts.{nth_part}
-use Rattle.enc_dispatch.specs.Path.{is_on_path}
+use Rattle.enc_plain.specs.ClassPath.{is_on_path}
 use Rattle.enc_dispatch.specs.Walks.{method_at}
 
 -- the part of a class; other tokens have none

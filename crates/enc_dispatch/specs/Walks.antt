@@ -9,7 +9,7 @@ use Rattle.enc_plain.specs.Module.{Module, cells_of, kids_of}
 use Rattle.enc_plain.specs.Rows.{number_at, bytes_at, token_at}
 use Rattle.enc_plain.specs.Sound.{row_count}
 use Rattle.enc_schema.specs.Columns as columns
-use Rattle.enc_schema.specs.Tables as tables
+use Rattle.enc_base.specs.Tables as tables
 use Rattle.enc_dispatch.specs.Columns.{method_impl_class, method_impl_body, method_impl_declaration}
 
 -- a row of MethodImpl by its columns: whose it is, the method that it gives, and the method that this one stands for

@@ -1,19 +1,19 @@
 //! What the index keeps of each class.
 ghost use Rattle.std.specs.Prelude.{◌≡◌, ◌+◌, ◌<◌, ◌≤◌, ◌^◌, IfOk, length};
 ghost use Rattle.enc_plain.specs.Sound.{row_count};
-ghost use Rattle.enc_schema.specs.Tables.{type_def};
+ghost use Rattle.enc_base.specs.Tables.{type_def};
 ghost use Rattle.enc_dispatch.specs.Growth.{EachLater};
 ghost use Rattle.enc_dispatch.specs.Stored.{IsClassPart};
 
 use crate::class_part::ClassPart;
 use enc_base::Token;
+use enc_base::tables::TYPE_DEF;
 use enc_plain::{CellView, ModuleView, Viewed};
 use enc_schema::columns::{TYPE_DEF_EXTENDS, TYPE_DEF_FLAGS};
-use enc_schema::tables::TYPE_DEF;
 use std::alloc::{AllocError, Global};
 
 /// The part of the n-th class, from 0 (ECMA-335 II.22.37).
-#[tactic(auto, unfolding(enc_schema::specs::Schema::columns_in, crate::specs::Path::class_base))]
+#[tactic(auto, unfolding(enc_schema::specs::Schema::columns_in, enc_plain::specs::ClassPath::class_base))]
 fn class_of<V: ModuleView>(view: &V, n: u32) -> ClassPart
     requires { n < 2 ^ 24 }
     ensures { IsClassPart (V.meaning view.now) n result }

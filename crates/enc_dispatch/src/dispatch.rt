@@ -4,7 +4,8 @@ ghost use Rattle.enc_plain.specs.Module.{Module, has_row};
 ghost use Rattle.enc_plain.specs.Sound.{IsSound};
 ghost use Rattle.enc_dispatch.specs.Growth.{IsEmpty};
 ghost use Rattle.enc_dispatch.specs.Index.{StandsForModule};
-ghost use Rattle.enc_dispatch.specs.Path.{extends, implements};
+ghost use Rattle.enc_plain.specs.ClassPath.{extends};
+ghost use Rattle.enc_dispatch.specs.Interfaces.{implements};
 ghost use Rattle.enc_dispatch.specs.Target.{target_of};
 
 use crate::class_part::ClassPart;

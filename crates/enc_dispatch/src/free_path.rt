@@ -2,9 +2,10 @@
 ghost use Rattle.std.specs.Prelude.{◌≡◌, ◌<◌, ◌^◌, Some, IfSome, IsTrue, length, option_map, slice_get};
 ghost use Rattle.enc_base.specs.Order.{first_below};
 ghost use Rattle.enc_plain.specs.Sound.{row_count};
-ghost use Rattle.enc_schema.specs.Tables.{interface_impl, type_def};
+ghost use Rattle.enc_base.specs.Tables.{interface_impl, type_def};
 ghost use Rattle.enc_dispatch.specs.Asked.{left_of};
-ghost use Rattle.enc_dispatch.specs.Path.{is_class, class_base, path_of, says_interface, has_interface};
+ghost use Rattle.enc_plain.specs.ClassPath.{is_class, class_base, path_of};
+ghost use Rattle.enc_dispatch.specs.Interfaces.{says_interface, has_interface};
 ghost use Rattle.enc_dispatch.specs.Target.{from_interface};
 ghost use Rattle.enc_dispatch.specs.Walked.{path_with, place_on};
 
@@ -12,9 +13,9 @@ use crate::climb::Climb;
 use crate::columns::{INTERFACE_IMPL_CLASS, INTERFACE_IMPL_INTERFACE};
 use crate::path::is_same;
 use enc_base::Token;
+use enc_base::tables::{INTERFACE_IMPL, TYPE_DEF};
 use enc_plain::{CellView, ModuleView, Viewed, is_row};
 use enc_schema::columns::TYPE_DEF_EXTENDS;
-use enc_schema::tables::{INTERFACE_IMPL, TYPE_DEF};
 
 /// The token names a row of TypeDef.
 pub(crate) fn is_class<V: ModuleView>(view: &V, token: Token) -> bool
@@ -24,7 +25,7 @@ pub(crate) fn is_class<V: ModuleView>(view: &V, token: Token) -> bool
 }
 
 /// What a class extends; the token itself, where it is none of TypeDef.
-#[tactic(auto, unfolding(crate::specs::Path::class_base, enc_schema::specs::Schema::columns_in))]
+#[tactic(auto, unfolding(enc_plain::specs::ClassPath::class_base, enc_schema::specs::Schema::columns_in))]
 fn base<V: ModuleView>(view: &V, class: Token) -> Token
     ensures { class.table ≡ type_def → result ≡ class_base (V.meaning view.now) class }
 {
@@ -66,7 +67,7 @@ pub(crate) fn behind<V: ModuleView>(view: &V, climb: Climb) -> Option<Climb>
 }
 
 /// The interface, where the n-th row of InterfaceImpl, from 0, says that a class has it.
-#[tactic(auto, unfolding(crate::specs::Path::says_interface, enc_schema::specs::Schema::columns_in))]
+#[tactic(auto, unfolding(crate::specs::Interfaces::says_interface, enc_schema::specs::Schema::columns_in))]
 fn says_interface<V: ModuleView>(view: &V, class: Token, interface: Token, n: u32) -> Option<Token>
     requires { n < 2 ^ 24 }
     ensures { result ≡ says_interface (V.meaning view.now) class interface n }
@@ -101,7 +102,7 @@ fn said_interface<V: ModuleView>(view: &V, class: Token, interface: Token) -> Op
 }
 
 /// A class has an interface by a row of InterfaceImpl (ECMA-335 II.22.23).
-#[tactic(auto, unfolding(crate::specs::Path::has_interface))]
+#[tactic(auto, unfolding(crate::specs::Interfaces::has_interface))]
 fn has_interface<V: ModuleView>(view: &V, class: Token, interface: Token) -> bool
     ensures { result ≡ has_interface (V.meaning view.now) class interface }
 {

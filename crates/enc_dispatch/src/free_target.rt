@@ -5,8 +5,8 @@ ghost use Rattle.enc_dispatch.specs.Target.{target_of};
 
 use crate::free_walk::target_by;
 use enc_base::Token;
+use enc_base::tables::METHOD_DEF;
 use enc_plain::{ModuleView, is_row};
-use enc_schema::tables::METHOD_DEF;
 
 /// The method that a virtual call of a method reaches on an object of a class, None where there is none,
 /// asked of a view (ECMA-335 I.8.10.4, II.12.2). It takes no memory, and time for each class of the path:

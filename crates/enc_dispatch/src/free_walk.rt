@@ -1,8 +1,8 @@
 //! The walks over a path, asked of a view.
 ghost use Rattle.std.specs.Prelude.{◌≡◌, ◌<◌, ◌≤◌, ◌^◌, length, reverse, take, IfSome};
-ghost use Rattle.enc_schema.specs.Tables.{method_def, type_def};
+ghost use Rattle.enc_base.specs.Tables.{method_def, type_def};
 ghost use Rattle.enc_dispatch.specs.Asked.{left_of, is_wanted};
-ghost use Rattle.enc_dispatch.specs.Path.{path_of};
+ghost use Rattle.enc_plain.specs.ClassPath.{path_of};
 ghost use Rattle.enc_dispatch.specs.Target.{turn, walk_down, class_target, given_by, first_given, interface_target, is_interface, target_by};
 ghost use Rattle.enc_dispatch.specs.Walks.{impl_at, impl_of, same_slot, takes_slot, meets, first_method};
 
@@ -13,9 +13,9 @@ use crate::own::flags_of;
 use crate::path::is_same;
 use crate::wanted::Wanted;
 use enc_base::Token;
+use enc_base::tables::{METHOD_DEF, METHOD_IMPL};
 use enc_plain::{CellView, ModuleView, Viewed, signatures_alike};
 use enc_schema::columns::{METHOD_DEF_NAME, METHOD_DEF_SIGNATURE, TYPE_DEF_FLAGS};
-use enc_schema::tables::{METHOD_DEF, METHOD_IMPL};
 
 /// What the n-th row of MethodImpl, from 0, gives a class for either of two methods.
 #[tactic(auto, unfolding(crate::specs::Walks::impl_at, enc_schema::specs::Schema::columns_in))]

@@ -3,7 +3,7 @@ ghost use Rattle.std.specs.Prelude.{◌≡◌, ◌<◌, ◌^◌, ◌≤◌, ◌-
 ghost use Rattle.enc_base.specs.Order.{or_else};
 ghost use Rattle.enc_key_map.specs.Index.{value_at};
 ghost use Rattle.enc_plain.specs.Sound.{row_count};
-ghost use Rattle.enc_schema.specs.Tables.{method_def, method_impl, type_def};
+ghost use Rattle.enc_base.specs.Tables.{method_def, method_impl, type_def};
 ghost use Rattle.enc_dispatch.specs.Entries.{earliest, where_none};
 ghost use Rattle.enc_dispatch.specs.Growth.{later_answer};
 ghost use Rattle.enc_dispatch.specs.Stored.{impl_key, impl_for};
@@ -13,9 +13,9 @@ use crate::first::push_first;
 use crate::impl_part::ImplPart;
 use crate::keys::impl_key;
 use enc_base::Token;
+use enc_base::tables::{METHOD_DEF, METHOD_IMPL, TYPE_DEF};
 use enc_key_map::{Entry, Index};
 use enc_plain::{CellView, ModuleView, Viewed};
-use enc_schema::tables::{METHOD_DEF, METHOD_IMPL, TYPE_DEF};
 use std::alloc::{AllocError, Global};
 
 /// Whether a row of MethodImpl gives a class a MethodDef for another.

@@ -4,19 +4,19 @@ ghost use Rattle.enc_base.specs.Order.{or_else};
 ghost use Rattle.enc_base.specs.declared.token.Token.{Token as TheToken};
 ghost use Rattle.enc_key_map.specs.Index.{value_at};
 ghost use Rattle.enc_plain.specs.Sound.{row_count};
-ghost use Rattle.enc_schema.specs.Tables.{interface_impl};
+ghost use Rattle.enc_base.specs.Tables.{interface_impl};
 ghost use Rattle.enc_dispatch.specs.Entries.{earliest, where_none};
 ghost use Rattle.enc_dispatch.specs.Growth.{later_answer};
 ghost use Rattle.enc_dispatch.specs.Stored.{class_at, interface_key};
-ghost use Rattle.enc_dispatch.specs.Path.{says_interface};
+ghost use Rattle.enc_dispatch.specs.Interfaces.{says_interface};
 
 use crate::columns::{INTERFACE_IMPL_CLASS, INTERFACE_IMPL_INTERFACE};
 use crate::first::push_first;
 use crate::keys::interface_key;
 use enc_base::Token;
+use enc_base::tables::{INTERFACE_IMPL, TYPE_DEF};
 use enc_key_map::{Entry, Index};
 use enc_plain::{CellView, ModuleView, Viewed};
-use enc_schema::tables::{INTERFACE_IMPL, TYPE_DEF};
 use std::alloc::{AllocError, Global};
 
 /// Appends the n-th row of InterfaceImpl, from 0, where the index has none of its class and interface.

@@ -3,18 +3,18 @@ ghost use Rattle.std.specs.Prelude.{◌≡◌};
 ghost use Rattle.std.specs.List.{list_all};
 ghost use Rattle.enc_plain.specs.Known.{AreKnownAlike};
 ghost use Rattle.enc_plain.specs.Module.{cells_of};
-ghost use Rattle.enc_schema.specs.Tables.{method_def, type_def};
+ghost use Rattle.enc_base.specs.Tables.{method_def, type_def};
 ghost use Rattle.enc_dispatch.specs.Keeps.{keeps_signature, keeps_method, keeps_class, is_read, keeps_row, keeps};
 
 use crate::path::is_same;
 use enc_base::Token;
+use enc_base::tables::{
+    ASSEMBLY_REF, INTERFACE_IMPL, METHOD_DEF, METHOD_IMPL, MODULE_REF, TYPE_DEF, TYPE_REF,
+    TYPE_SPEC,
+};
 use enc_plain::{CellView, KnownAlike, ModuleView, Viewed, is_row};
 use enc_schema::columns::{
     METHOD_DEF_FLAGS, METHOD_DEF_NAME, METHOD_DEF_SIGNATURE, TYPE_DEF_EXTENDS, TYPE_DEF_FLAGS,
-};
-use enc_schema::tables::{
-    ASSEMBLY_REF, INTERFACE_IMPL, METHOD_DEF, METHOD_IMPL, MODULE_REF, TYPE_DEF, TYPE_REF,
-    TYPE_SPEC,
 };
 use std::alloc::Global;
 

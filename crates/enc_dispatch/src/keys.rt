@@ -3,8 +3,8 @@ ghost use Rattle.std.specs.Prelude.{◌≡◌};
 ghost use Rattle.enc_dispatch.specs.Stored.{own_key, impl_key, interface_key};
 
 use enc_base::Token;
+use enc_base::tables::{METHOD_DEF, METHOD_IMPL};
 use enc_key_map::Key;
-use enc_schema::tables::{METHOD_DEF, METHOD_IMPL};
 
 /// What a class's virtual method stands by: the class's row and the slot.
 pub(crate) fn own_key(class: u32, slot: u32) -> Key

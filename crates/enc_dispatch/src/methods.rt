@@ -5,7 +5,7 @@ ghost use Rattle.enc_key_map.specs.declared.key.Key.{Key as TheKey};
 ghost use Rattle.enc_key_map.specs.Index.{value_at, latest};
 ghost use Rattle.enc_plain.specs.Module.{cells_of, owner_of};
 ghost use Rattle.enc_plain.specs.Sound.{row_count};
-ghost use Rattle.enc_schema.specs.Tables.{method_def};
+ghost use Rattle.enc_base.specs.Tables.{method_def};
 ghost use Rattle.enc_dispatch.specs.Buckets.{AreBuckets, IsSlotOf, head_over};
 ghost use Rattle.enc_dispatch.specs.Growth.{EachLater, IsClassOfMethod};
 ghost use Rattle.enc_dispatch.specs.Stored.{IsMethodPart};
@@ -14,8 +14,8 @@ use crate::method_part::MethodPart;
 use crate::names::MethodNames;
 use crate::slots::{MoreSlots, Slots};
 use enc_base::Token;
+use enc_base::tables::{METHOD_DEF, TYPE_DEF};
 use enc_plain::{CellView, ModuleView, Viewed};
-use enc_schema::tables::{METHOD_DEF, TYPE_DEF};
 use std::alloc::{AllocError, Global};
 
 /// The slots of the methods behind the first so many, which are put behind one another. It takes memory

@@ -2,15 +2,15 @@
 ghost use Rattle.std.specs.Prelude.{◌≡◌, IfOk, Some};
 ghost use Rattle.enc_plain.specs.Alike.{signatures_alike};
 ghost use Rattle.enc_plain.specs.Rows.{bytes_at};
-ghost use Rattle.enc_schema.specs.Tables.{method_def};
+ghost use Rattle.enc_base.specs.Tables.{method_def};
 ghost use Rattle.enc_dispatch.specs.Buckets.{slot_key};
 ghost use Rattle.enc_dispatch.specs.Slots.{shares_slot};
 ghost use Rattle.enc_dispatch.specs.Walks.{method_at};
 
 use enc_base::Token;
+use enc_base::tables::METHOD_DEF;
 use enc_plain::{CellView, KnownAlike, PlacedBlob, RefKeys};
 use enc_schema::columns::{METHOD_DEF_NAME, METHOD_DEF_SIGNATURE};
-use enc_schema::tables::METHOD_DEF;
 use enc_sigs::{finished, mix_of, mixed, mixed_ends};
 use std::alloc::{AllocError, Global};
 use std::marker::Model;

@@ -17,10 +17,10 @@ use crate::own_method::OwnMethod;
 use crate::path::nth_part;
 use crate::wanted::Wanted;
 use enc_base::Token;
+use enc_base::tables::{METHOD_DEF, TYPE_DEF};
 use enc_key_map::{Entry, Index};
 use enc_plain::{CellView, ModuleView, Viewed};
 use enc_schema::columns::METHOD_DEF_FLAGS;
-use enc_schema::tables::{METHOD_DEF, TYPE_DEF};
 use std::alloc::{AllocError, Global};
 
 /// The parts of methods: those that are there, and those that come behind them.

@@ -2,14 +2,14 @@
 ghost use Rattle.std.specs.Prelude.{◌≡◌, ◌+◌, ◌<◌, ◌≤◌, ◌==◌, ℕ, IfOk, get_or, length, if◌then◌else◌};
 ghost use Rattle.std.specs.List.{list_any};
 ghost use Rattle.enc_plain.specs.Sound.{row_count, IsSound};
-ghost use Rattle.enc_schema.specs.Tables.{method_def};
+ghost use Rattle.enc_base.specs.Tables.{method_def};
 ghost use Rattle.enc_dispatch.specs.Growth.{AreOwners, EachLater, IsClassOfMethod};
 ghost use Rattle.enc_dispatch.specs.Parts.{EachPart};
 
 use crate::methods::owner_of_nth;
 use crate::own::later_kids;
+use enc_base::tables::{METHOD_DEF, TYPE_DEF};
 use enc_plain::ModuleView;
-use enc_schema::tables::{METHOD_DEF, TYPE_DEF};
 use std::alloc::{AllocError, Global};
 
 /// Puts a class at the places of its methods, given by their rows.

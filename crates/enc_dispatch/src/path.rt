@@ -2,7 +2,7 @@
 ghost use Rattle.std.specs.Prelude.{◌≡◌, ◌<◌, ◌+◌, ◌≤◌, Some, IfSome, length, option_map, slice_get};
 ghost use Rattle.enc_base.specs.Token.{is_token};
 ghost use Rattle.enc_dispatch.specs.Parts.{nth_part};
-ghost use Rattle.enc_dispatch.specs.Path.{is_on_path};
+ghost use Rattle.enc_plain.specs.ClassPath.{is_on_path};
 ghost use Rattle.enc_dispatch.specs.Walked.{class_part, left_in, path_in, path_with, is_interface_part, extends_in, has_interface_in, implements_in, from_interface_in, place_on};
 
 use crate::class_part::ClassPart;
@@ -10,7 +10,7 @@ use crate::climb::Climb;
 use crate::dispatch::Dispatch;
 use crate::keys::interface_key;
 use enc_base::Token;
-use enc_schema::tables::TYPE_DEF;
+use enc_base::tables::TYPE_DEF;
 
 /// The n-th part from 1; there is none at 0.
 pub(crate) fn nth_part<P: Copy>(parts: &[P], row: u32) -> Option<P>

@@ -13,8 +13,8 @@ use crate::keeps::all_keep;
 use crate::new_dispatch::{Change, NewDispatch};
 use crate::rows_read::RowsRead;
 use enc_base::Token;
+use enc_base::tables::{INTERFACE_IMPL, METHOD_DEF, METHOD_IMPL, TYPE_DEF};
 use enc_plain::ModuleView;
-use enc_schema::tables::{INTERFACE_IMPL, METHOD_DEF, METHOD_IMPL, TYPE_DEF};
 use std::alloc::{AllocError, Global};
 
 /// How many rows a module has of the tables of which an index keeps something.

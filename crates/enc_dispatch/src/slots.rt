@@ -4,15 +4,15 @@ ghost use Rattle.enc_base.specs.Token.{nth_row};
 ghost use Rattle.enc_key_map.specs.declared.key.Key.{Key as TheKey};
 ghost use Rattle.enc_key_map.specs.Key.{is_key};
 ghost use Rattle.enc_key_map.specs.Index.{value_at, either, latest};
-ghost use Rattle.enc_schema.specs.Tables.{method_def};
+ghost use Rattle.enc_base.specs.Tables.{method_def};
 ghost use Rattle.enc_dispatch.specs.Buckets.{alike_first, bucket_key, stored_head, head_over, AreBuckets};
 ghost use Rattle.enc_dispatch.specs.Slots.{slot_in};
 
 use crate::names::MethodNames;
 use enc_base::Token;
+use enc_base::tables::METHOD_DEF;
 use enc_key_map::{Entry, Index, Key, push_entry};
 use enc_plain::CellView;
-use enc_schema::tables::METHOD_DEF;
 use std::alloc::{AllocError, Global};
 
 /// The first methods of all slots, by their keys: of each key the newest, and behind each method the

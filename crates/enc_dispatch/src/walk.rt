@@ -9,7 +9,7 @@ use crate::keys::{impl_key, own_key};
 use crate::method_part::MethodPart;
 use crate::path::nth_part;
 use enc_base::Token;
-use enc_schema::tables::METHOD_DEF;
+use enc_base::tables::METHOD_DEF;
 
 /// The one of two rows of MethodImpl that comes first.
 fn earlier_impl(a: Option<ImplPart>, b: Option<ImplPart>) -> Option<ImplPart>

@@ -9,7 +9,7 @@ use Rattle.enc_meta.specs.Heaps.{Counted, counted_strings, heaps_of, part}
 use Rattle.enc_meta.specs.Built.{Built, heaps_built}
 use Rattle.enc_meta.specs.declared.root.Root.{Root}
 use Rattle.enc_meta.specs.declared.span.Span.{Span}
-use Rattle.enc_schema.specs.Tables.{field_ptr, method_ptr, param_ptr, event_ptr, property_ptr}
+use Rattle.enc_base.specs.Tables.{field_ptr, method_ptr, param_ptr, event_ptr, property_ptr}
 use Rattle.enc_rows.specs.Written.{count_at, stream_of, heap_bits}
 use Rattle.enc_emit.specs.declared.root_form.RootForm.{RootForm}
 use Rattle.enc_emit.specs.declared.root_form.RootForm.TheVariants.{Module, WideModule, Delta}

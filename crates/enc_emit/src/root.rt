@@ -7,9 +7,9 @@ ghost use Rattle.enc_emit.specs.Written.{has_ptr_rows as ptrs_have_rows, has_jtd
 
 use crate::root_form::{RootForm, has_jtd, is_delta};
 use crate::written::{pdb_root_bytes, root_bytes};
+use enc_base::tables::{EVENT_PTR, FIELD_PTR, METHOD_PTR, PARAM_PTR, PROPERTY_PTR};
 use enc_meta::{HeapBuilder, HeapBytes, HeapLengths};
 use enc_rows::{TableBuilder, heap_bits_law};
-use enc_schema::tables::{EVENT_PTR, FIELD_PTR, METHOD_PTR, PARAM_PTR, PROPERTY_PTR};
 use std::alloc::{AllocError, Global};
 use std::marker::Model;
 

@@ -10,7 +10,7 @@ use enc_image::Image;
 use enc_outside::{FileStore, Store};
 use enc_plain::{ModuleView, is_row};
 use enc_schema::columns::METHOD_DEF_NAME;
-use enc_schema::tables::METHOD_DEF;
+use enc_base::tables::METHOD_DEF;
 use std::alloc::Global;
 use std::io;
 use std::marker::Brand;

@@ -3,14 +3,15 @@ use Rattle.std.proofs.Common.{◌≡◌, ℕ, Bool, true, false, List, refl, sym
 use Rattle.std.specs.Prelude.{◌&&◌, ◌||◌, ◌==◌, bytes_eq, codes}
 use Rattle.std.specs.List.{list_any}
 use Rattle.enc_base.specs.declared.token.Token.{Token}
-use Rattle.enc_dispatch.specs.Path.{extends, implements, has_interface, is_on_path}
+use Rattle.enc_plain.specs.ClassPath.{extends, is_on_path}
+use Rattle.enc_dispatch.specs.Interfaces.{implements, has_interface}
 use Rattle.enc_plain.specs.System.{is_of_system}
 use Rattle.enc_plain.proofs.CellsOf.{bytes_absent}
 use Rattle.enc_plain.specs.Module.{Module, has_row, cells_of}
 use Rattle.enc_plain.specs.Rows.{bytes_at}
 use Rattle.enc_plain.specs.Sound.{row_count}
 use Rattle.enc_schema.specs.Columns as columns
-use Rattle.enc_schema.specs.Tables as tables
+use Rattle.enc_base.specs.Tables as tables
 use Rattle.enc_frames.proofs.Climbs.{no_climb}
 use Rattle.enc_frames.specs.Memory.{is_cast_type}
 

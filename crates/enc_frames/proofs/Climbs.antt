@@ -2,9 +2,9 @@
 use Rattle.std.proofs.Common.{◌≡◌, ℕ, zero, suc, Bool, true, false, List, [], ◌∷◌, refl, ap, ◌∙◌}
 use Rattle.std.specs.Prelude.{◌&&◌, ◌==◌, if◌then◌else◌}
 use Rattle.enc_base.specs.declared.token.Token.{Token}
-use Rattle.enc_dispatch.specs.Path.{class_base, climb}
+use Rattle.enc_plain.specs.ClassPath.{class_base, climb}
 use Rattle.enc_plain.specs.Module.{Module, has_row}
-use Rattle.enc_schema.specs.Tables as tables
+use Rattle.enc_base.specs.Tables as tables
 
 by_both : {A : Type 0} (b : Bool) (x : List A) → (if b && false then x else []) ≡ []
 by_both true x = refl

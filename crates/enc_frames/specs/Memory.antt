@@ -2,7 +2,8 @@
 use Rattle.std.specs.Prelude.{ℕ, drop, ℤ, pos, Bool, true, false, not, ◌&&◌, ◌||◌, List, ◌∷◌, length, Option, Some, None, Result, Ok, Err, codes, nat_lt, int_lt, ◌==◌, if◌then◌else◌, unsigned_abs}
 use Rattle.std.specs.Int.{w32, cast_signed}
 use Rattle.enc_base.specs.declared.token.Token.{Token}
-use Rattle.enc_dispatch.specs.Path.{is_class, extends, implements}
+use Rattle.enc_plain.specs.ClassPath.{is_class, extends}
+use Rattle.enc_dispatch.specs.Interfaces.{implements}
 use Rattle.enc_machine_types.specs.Members.{field_kind}
 use Rattle.enc_plain.specs.System.{is_of_system}
 use Rattle.enc_objects.specs.Objects.{Store, is_full, with_object, next_object, new_array_of, shape_in, field_in, with_field, static_in, with_static, element_in, with_element}
@@ -17,7 +18,7 @@ use Rattle.enc_objects.specs.declared.trap.Trap.TheVariants.{X2, X4, X5, X7, X8,
 use Rattle.enc_objects.specs.declared.value.Value.{Value}
 use Rattle.enc_objects.specs.declared.value.Value.TheVariants.{I4, Null, Obj}
 use Rattle.enc_plain.specs.Module.{Module}
-use Rattle.enc_schema.specs.Tables as tables
+use Rattle.enc_base.specs.Tables as tables
 use Rattle.enc_frames.specs.declared.heap.ArrayOf.{ArrayOf}
 use Rattle.enc_frames.specs.Machine.{Frame}
 use Rattle.enc_frames.specs.Results.{◌>>=◌, or_trap, ask}

@@ -13,7 +13,7 @@ use Rattle.enc_objects.specs.declared.trap.Trap.TheVariants.{X2}
 use Rattle.enc_objects.specs.declared.value.Value.{Value}
 use Rattle.enc_opcodes.specs.declared.op.Op.{Op}
 use Rattle.enc_plain.specs.Module.{Module}
-use Rattle.enc_schema.specs.Tables as tables
+use Rattle.enc_base.specs.Tables as tables
 use Rattle.enc_frames.specs.Machine.{Frame}
 use Rattle.enc_frames.specs.Results.{◌>>=◌, or_trap}
 use Rattle.enc_frames.specs.Values.{fit, upper, upper_two, pushed, word_of_value, is_set, tested}

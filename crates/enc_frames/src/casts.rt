@@ -1,7 +1,8 @@
 //! Casts (ECMA-335 III.4.3, III.4.6).
 ghost use Rattle.std.specs.Prelude.{◌≡◌, ◌||◌, if◌then◌else◌, IsTrue};
 ghost use Rattle.enc_dispatch.specs.Index.{StandsForModule};
-ghost use Rattle.enc_dispatch.specs.Path.{is_class, extends, implements};
+ghost use Rattle.enc_plain.specs.ClassPath.{is_class, extends};
+ghost use Rattle.enc_dispatch.specs.Interfaces.{implements};
 ghost use Rattle.enc_objects.specs.declared.value.Value.TheVariants.{Null};
 ghost use Rattle.enc_plain.specs.Module.{has_row};
 ghost use Rattle.enc_frames.specs.Does.{Does};
@@ -11,10 +12,10 @@ use crate::frame::Frame;
 use crate::stop::Stop;
 use crate::values::reference;
 use enc_base::Token;
+use enc_base::tables::TYPE_DEF;
 use enc_dispatch::Dispatch;
 use enc_objects::{Objects, Shape, Trap, Value};
 use enc_plain::{ModuleView, is_of_system, is_row};
-use enc_schema::tables::TYPE_DEF;
 
 /// Whether a token names a row of TypeDef.
 fn is_class<V: ModuleView>(view: &V, token: Token) -> bool

@@ -5,7 +5,7 @@ ghost use Rattle.enc_objects.specs.Objects.{Store};
 ghost use Rattle.enc_plain.specs.Module.{cells_of};
 ghost use Rattle.enc_plain.specs.Rows.{token_at};
 ghost use Rattle.enc_schema.specs.Columns.{member_ref_class};
-ghost use Rattle.enc_schema.specs.Tables.{member_ref};
+ghost use Rattle.enc_base.specs.Tables.{member_ref};
 ghost use Rattle.enc_frames.specs.FramesSeen.{shared_by};
 ghost use Rattle.enc_frames.specs.Console.{run_constructor, run_outside, call_outside, is_outside_constructor, new_outside};
 ghost use Rattle.enc_frames.specs.ConsoleSeen.{frame_alone, object_loaded, MakesWriting};

@@ -1,7 +1,7 @@
 //! Calls that are under way.
 ghost use Rattle.std.specs.Prelude.{◌≡◌, ◌<◌, ◌^◌, ◌==◌, length, not, OnOk, OnErr};
 ghost use Rattle.enc_opcodes.specs.Body.{code_seen};
-ghost use Rattle.enc_schema.specs.Tables.{method_def};
+ghost use Rattle.enc_base.specs.Tables.{method_def};
 ghost use Rattle.enc_frames.specs.Moves.{moved_to};
 
 use crate::cells::Cells;
@@ -31,7 +31,7 @@ pub struct Frame {
 
 impl Model for Frame {
     ghost use Rattle.std.specs.Prelude.{◌≡◌};
-    ghost use Rattle.enc_schema.specs.Tables.{method_def};
+    ghost use Rattle.enc_base.specs.Tables.{method_def};
     ghost use Rattle.enc_versions.specs.Version.{Version};
     ghost use Rattle.enc_frames.specs.Machine.{Frame as TheFrame};
 

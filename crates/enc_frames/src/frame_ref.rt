@@ -1,6 +1,6 @@
 //! Frames as they are shown.
 ghost use Rattle.std.specs.Prelude.{◌≡◌, ◌==◌, length, not, reverse};
-ghost use Rattle.enc_schema.specs.Tables.{method_def};
+ghost use Rattle.enc_base.specs.Tables.{method_def};
 
 use crate::frame::Frame;
 use enc_base::Token;

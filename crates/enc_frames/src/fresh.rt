@@ -2,7 +2,7 @@
 ghost use Rattle.std.specs.Prelude.{◌≡◌, [], map, unwrap_or, IfOk};
 ghost use Rattle.enc_machine_types.specs.Members.{local_kinds};
 ghost use Rattle.enc_objects.specs.Values.{default_of};
-ghost use Rattle.enc_schema.specs.Tables.{method_def};
+ghost use Rattle.enc_base.specs.Tables.{method_def};
 ghost use Rattle.enc_frames.specs.FramesSeen.{frame_at};
 
 use crate::arguments::defaults;

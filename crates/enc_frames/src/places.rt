@@ -1,17 +1,17 @@
 //! The kinds of a frame's arguments and local variables, and of what instructions name.
 ghost use Rattle.std.specs.Prelude.{◌≡◌, ◌<◌, slice_get, IsTrue, IfOk, Result, Ok, Err};
 ghost use Rattle.enc_plain.specs.Module.{has_row};
-ghost use Rattle.enc_schema.specs.Tables.{field, method_def};
+ghost use Rattle.enc_base.specs.Tables.{field, method_def};
 ghost use Rattle.enc_frames.specs.Straight.{named_method};
 ghost use Rattle.enc_frames.specs.Memory.{named_field};
 ghost use Rattle.enc_frames.specs.Straight.{argument_kinds, argument_kind, local_kind};
 
 use crate::frame::Frame;
 use enc_base::Token;
+use enc_base::tables::{FIELD, METHOD_DEF};
 use enc_machine_types::{MethodShape, field_kind, local_kind_at, method_shape};
 use enc_objects::{Kind, Trap};
 use enc_plain::ModuleView;
-use enc_schema::tables::{FIELD, METHOD_DEF};
 
 /// The kind of what a method is called with, by its number: the object first, where it has one.
 pub(crate) fn called_kind(shape: &MethodShape<'_>, n: u32) -> Option<Kind>

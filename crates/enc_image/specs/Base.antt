@@ -35,7 +35,7 @@ use Rattle.enc_meta.specs.Regions.{range_loaded}
 use Rattle.enc_plain.specs.Extent.{extent_in}
 use Rattle.enc_plain.specs.declared.extent.Extent.{Extent}
 use Rattle.enc_plain.specs.declared.extent.Extent.TheVariants.{Bytes, Class}
-use Rattle.enc_schema.specs.Tables as tables
+use Rattle.enc_base.specs.Tables as tables
 use Rattle.enc_schema.specs.Columns as columns
 
 -- the user texts of a file

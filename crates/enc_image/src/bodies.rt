@@ -9,7 +9,7 @@ ghost use Rattle.enc_plain.specs.Bodies.{code_is_good, code_loaded, body_is_good
 ghost use Rattle.enc_image.specs.Base.{users_of, has_locals, body_fault_at, body_fault};
 ghost use Rattle.enc_image.specs.Known.{is_body_at, AreBodies};
 ghost use Rattle.enc_image.specs.Seen.{source_seen};
-ghost use Rattle.enc_schema.specs.Tables.{method_def};
+ghost use Rattle.enc_base.specs.Tables.{method_def};
 
 use crate::code::code_at;
 use crate::judge::Cells;
@@ -18,7 +18,7 @@ use enc_il::{UserTexts, is_good_body};
 use enc_meta::Heaps;
 use enc_opcodes::CodeRef;
 use enc_schema::columns::{METHOD_DEF_IMPL_FLAGS, METHOD_DEF_RVA, STAND_ALONE_SIG_SIGNATURE};
-use enc_schema::tables::METHOD_DEF;
+use enc_base::tables::METHOD_DEF;
 use std::alloc::{AllocError, Global};
 use std::collections::BTreeSet;
 

@@ -10,7 +10,7 @@ ghost use Rattle.enc_rows.specs.Layout.{IsWithin, stream_has_row, rows_of};
 ghost use Rattle.enc_rows.specs.Source.{raw_in};
 ghost use Rattle.enc_image.specs.Base.{blob_or_none, data_extent, layout_size, size_of_class, extent_size, bytes_of_field, field_bytes, field_fault_at, field_fault};
 ghost use Rattle.enc_image.specs.Seen.{source_seen};
-ghost use Rattle.enc_schema.specs.Tables.{field_rva, type_def};
+ghost use Rattle.enc_base.specs.Tables.{field_rva, type_def};
 
 use crate::judge::Cells;
 use enc_base::{Place, Token};
@@ -19,7 +19,7 @@ use enc_schema::column_of;
 use enc_schema::columns::{
     CLASS_LAYOUT_CLASS_SIZE, CLASS_LAYOUT_PARENT, FIELD_RVA_FIELD, FIELD_RVA_RVA, FIELD_SIGNATURE,
 };
-use enc_schema::tables::{CLASS_LAYOUT, FIELD, FIELD_RVA, TYPE_DEF};
+use enc_base::tables::{CLASS_LAYOUT, FIELD, FIELD_RVA, TYPE_DEF};
 use std::alloc::{AllocError, Global};
 
 /// The number in a cell, 0 where there is no such row or column.

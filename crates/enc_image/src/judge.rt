@@ -15,7 +15,7 @@ use enc_base::{Code, Place, Refusal, Token};
 use enc_meta::Heaps;
 use enc_pe::{Container, LoadedFile};
 use enc_rows::Tables;
-use enc_schema::tables::TABLE_COUNT;
+use enc_base::tables::TABLE_COUNT;
 use enc_schema::{Column, column_of, columns_of};
 use std::alloc::{AllocError, Global};
 

@@ -10,7 +10,7 @@ ghost use Rattle.enc_image.specs.Base.{cells_fault, module_in, users_of, chain_o
 ghost use Rattle.enc_plain.specs.Sound.{IsSound, is_part};
 ghost use Rattle.enc_image.specs.Seen.{source_seen};
 ghost use Rattle.enc_rows.specs.Source.{raw_in};
-ghost use Rattle.enc_schema.specs.Tables.{method_def};
+ghost use Rattle.enc_base.specs.Tables.{method_def};
 
 use crate::code::code_at;
 use crate::fields::field_bytes;
@@ -23,7 +23,7 @@ use enc_opcodes::CodeRef;
 use enc_pe::LoadedFile;
 use enc_plain::{ModuleView, index_token};
 use enc_schema::columns::METHOD_DEF_RVA;
-use enc_schema::tables::{
+use enc_base::tables::{
     ENC_LOG, ENC_MAP, EVENT_PTR, FIELD_PTR, METHOD_PTR, PARAM_PTR, PROPERTY_PTR, TABLE_COUNT,
 };
 use enc_schema::{Column, column_of, decode_coded, owner_table};

@@ -6,7 +6,7 @@ use Rattle.std.proofs.lemmas.Bool.{false≢true}
 use Rattle.std.proofs.lemmas.Bool.Decides.{nat_tests}
 use Rattle.std.proofs.lemmas.List.{map-append}
 use Rattle.std.proofs.lemmas.List.Folds.{list_any-append}
-use Rattle.enc_schema.specs.Tables.{method_def}
+use Rattle.enc_base.specs.Tables.{method_def}
 use Rattle.enc_edit_list.specs.declared.edit.Cell.{Cell as CellValue}
 use Rattle.enc_edit_list.specs.declared.edit.Edit.{Edit}
 use Rattle.enc_edit_list.specs.declared.edit.Edit.TheVariants.{Body as Replace}

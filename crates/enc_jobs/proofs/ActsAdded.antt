@@ -6,7 +6,7 @@ use Rattle.std.proofs.lemmas.Bool.Decides.{nat_tests}
 use Rattle.std.proofs.lemmas.List.Sums.{sum_by-cons}
 use Rattle.std.proofs.lemmas.Option.{slice_get-map}
 use Rattle.enc_schema.specs.Schema.{columns_in}
-use Rattle.enc_schema.specs.Tables.{method_def}
+use Rattle.enc_base.specs.Tables.{method_def}
 use Rattle.enc_opcodes.specs.Opcodes.{is_op, entry_of}
 use Rattle.enc_opcodes.specs.Sound.{instruction_size}
 use Rattle.enc_edit_list.specs.declared.edit.Edit.{Edit}

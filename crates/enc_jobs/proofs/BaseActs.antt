@@ -9,7 +9,7 @@ use Rattle.enc_base.specs.declared.token.Token.{Token}
 use Rattle.enc_rows.specs.Sums.{below}
 use Rattle.enc_schema.specs.Coding.{tables_of}
 use Rattle.enc_schema.specs.Schema.{columns_in, list_at}
-use Rattle.enc_schema.specs.Tables.{assembly_ref, type_ref, type_def}
+use Rattle.enc_base.specs.Tables.{assembly_ref, type_ref, type_def}
 use Rattle.enc_plain.specs.Chain.{Chain}
 use Rattle.enc_plain.specs.Module.{Row}
 use Rattle.enc_plain.specs.Signatures.{signature_column}

@@ -2,7 +2,7 @@
 use Rattle.std.proofs.Common.{◌≡◌, ℕ, zero, suc, ◌+◌, ◌≤◌, ◌^◌, true, List, [], ◌∷◌, ◌++◌, length, take, Some, refl, sym, ap, ◌∙◌, arith, inl, subst, length-append, codes}
 use Rattle.std.specs.Prelude.{slice_get}
 use Rattle.enc_base.specs.declared.token.Token.{Token}
-use Rattle.enc_schema.specs.Tables.{type_def, method_def}
+use Rattle.enc_base.specs.Tables.{type_def, method_def}
 use Rattle.enc_opcodes.specs.Body.{Body}
 use Rattle.enc_plain.specs.Cell.{body}
 use Rattle.enc_plain.specs.Module.{Module, cell_of, row_of}

@@ -4,7 +4,7 @@ use Rattle.std.specs.Prelude.{sum_by}
 use Rattle.enc_base.specs.Token.{nth_row}
 use Rattle.enc_base.specs.declared.token.Token.{Token}
 use Rattle.enc_rows.specs.Sums.{sum_below}
-use Rattle.enc_schema.specs.Tables.{method_def}
+use Rattle.enc_base.specs.Tables.{method_def}
 use Rattle.enc_plain.specs.Debug.{PlainPdb, unknown}
 use Rattle.enc_plain.specs.Module.{Module, Row}
 use Rattle.enc_plain.specs.Sound.{row_count}

@@ -5,7 +5,7 @@ use Rattle.std.specs.List.{list_all, list_any}
 use Rattle.std.proofs.lemmas.Bool.{and_parts, and_from}
 use Rattle.enc_base.specs.Token.{is_token}
 use Rattle.enc_base.specs.declared.token.Token.{Token}
-use Rattle.enc_schema.specs.Tables.{method_def}
+use Rattle.enc_base.specs.Tables.{method_def}
 use Rattle.enc_plain.specs.Debug.{MethodDebug, unknown, plain_point}
 use Rattle.enc_edit_list.specs.declared.edit.DocumentValue.{DocumentValue}
 use Rattle.enc_edit_list.specs.declared.edit.Edit.{Edit}

@@ -5,7 +5,7 @@ use Rattle.std.proofs.lemmas.List.Sums.{sum_by-cons}
 use Rattle.enc_base.specs.declared.token.Token.{Token}
 use Rattle.enc_meta.specs.Built.{user_bytes}
 use Rattle.enc_schema.specs.Schema.{list_at}
-use Rattle.enc_schema.specs.Tables.{method_def}
+use Rattle.enc_base.specs.Tables.{method_def}
 use Rattle.enc_opcodes.specs.Body.{Body}
 use Rattle.enc_opcodes.specs.Sound.{instruction_size}
 use Rattle.enc_plain.specs.Apply.{Change, Attached, change_at, put_row, put_at, change_row, put, apply, with_child, attach, attach_all}

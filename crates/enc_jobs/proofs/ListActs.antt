@@ -1,6 +1,6 @@
 -- A list that is drawn, as acts, which obey behind a module with the methods of the base and of the lists before it.
 use Rattle.std.proofs.Common.{◌≡◌, ℕ, ◌+◌, ◌*◌, ◌<◌, ◌≤◌, ◌^◌, List, [], ◌++◌, length, sym, ◌∙◌, arith, ◌⊎◌, inl, inr, subst, length-append}
-use Rattle.enc_schema.specs.Tables.{type_def}
+use Rattle.enc_base.specs.Tables.{type_def}
 use Rattle.enc_plain.specs.Module.{Module}
 use Rattle.enc_plain.specs.Sound.{row_count}
 use Rattle.enc_edit_list.specs.Added.{rows_added}

@@ -9,7 +9,7 @@ use Rattle.enc_base.specs.Token.{is_token}
 use Rattle.enc_base.specs.declared.token.Token.{Token}
 use Rattle.enc_schema.specs.Children.{is_child_table}
 use Rattle.enc_schema.specs.Schema.{columns_in}
-use Rattle.enc_schema.specs.Tables.{type_def, method_def}
+use Rattle.enc_base.specs.Tables.{type_def, method_def}
 use Rattle.enc_sigs.specs.Grammar.{sig_in, front_in, method_in, calling_in, byte_in, is_calling, generics_in, parts_in, type_in, elem_in, form_of, formed_in, params}
 use Rattle.enc_base.specs.Readers.{number_in}
 use Rattle.enc_opcodes.specs.Body.{locals_are_good}

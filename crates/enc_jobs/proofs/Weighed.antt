@@ -12,7 +12,7 @@ use Rattle.enc_meta.specs.Built.{Built, is_kept, is_guid_kept, with_value, with_
 use Rattle.enc_schema.specs.Children.{is_child_table}
 use Rattle.enc_schema.specs.Schema.{list_at, schema, columns_in}
 use Rattle.enc_schema.specs.declared.column.Column.{Column}
-use Rattle.enc_schema.specs.Tables.{method_def, field_rva}
+use Rattle.enc_base.specs.Tables.{method_def, field_rva}
 use Rattle.enc_opcodes.specs.Body.{Body}
 use Rattle.enc_plain.specs.Cell.{Cell, text, blob, guid, body, field}
 use Rattle.enc_plain.specs.Module.{Module, Row, rows_in, row_of, cell_of}

@@ -10,7 +10,7 @@ use Rattle.enc_base.specs.Order.{first_below}
 use Rattle.enc_base.specs.declared.token.Token.{Token}
 use Rattle.enc_schema.specs.Children.{is_child_table}
 use Rattle.enc_schema.specs.Names.{table_name_in}
-use Rattle.enc_schema.specs.Tables.{method_def}
+use Rattle.enc_base.specs.Tables.{method_def}
 use Rattle.enc_opcodes.specs.Instruction.{◌>>=◌}
 use Rattle.enc_edit_list.specs.declared.edit.Edit.{Edit}
 use Rattle.enc_edit_list.specs.declared.edit.Edit.TheVariants.{Add, Body}

@@ -3,7 +3,7 @@ use Rattle.std.specs.Prelude.{ℕ, zero, suc, ◌+◌, ◌*◌, ◌/◌, ◌%◌
 use Rattle.std.specs.List.{list_any}
 use Rattle.enc_base.specs.Token.{nil}
 use Rattle.enc_base.specs.declared.token.Token.{Token}
-use Rattle.enc_schema.specs.Tables.{assembly_ref, type_ref, type_def, method_def}
+use Rattle.enc_base.specs.Tables.{assembly_ref, type_ref, type_def, method_def}
 use Rattle.enc_opcodes.specs.declared.op.Operand.TheVariants as operand
 use Rattle.enc_rows.specs.Sums.{below}
 use Rattle.enc_plain.specs.Module.{Module}

@@ -12,7 +12,7 @@ use crate::fault::Refused;
 use crate::value::{at_key, elements, has_only, text, token};
 use enc_base::Token;
 use enc_edit_list::Edit;
-use enc_schema::tables::METHOD_DEF;
+use enc_base::tables::METHOD_DEF;
 use enc_schema::{is_child_table, table_name};
 use serde_json::Value;
 use std::alloc::Global;

@@ -10,7 +10,7 @@ use Rattle.enc_meta.specs.BuiltLaws.{heaps_joined}
 use Rattle.enc_rows.specs.Layout.{rows_of}
 use Rattle.enc_rows.specs.Source.{Source, raw_in}
 use Rattle.enc_schema.specs.Schema.{columns_in, column_in, is_offset}
-use Rattle.enc_schema.specs.Tables as tables
+use Rattle.enc_base.specs.Tables as tables
 use Rattle.enc_schema.specs.declared.column.Column.{Column}
 use Rattle.enc_schema.specs.declared.column.Column.TheVariants.{Num8, Num16, Num32, Text, Guid, Blob, Index, Coded, Run}
 use Rattle.enc_plain.specs.Cell.{Cell, Kind, numbers, texts, blobs, guids, references, bodies, fields, kind_of, is_body, is_field, kind_in, cell_count}

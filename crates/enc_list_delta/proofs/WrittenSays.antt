@@ -16,7 +16,7 @@ use Rattle.enc_rows.specs.Sums.{below}
 use Rattle.enc_rows.specs.Written.{rows_at, count_at, has_cells, AreRows}
 use Rattle.enc_schema.specs.Children.{is_child_table}
 use Rattle.enc_schema.specs.Schema.{columns_in, column_in}
-use Rattle.enc_schema.specs.Tables as tables
+use Rattle.enc_base.specs.Tables as tables
 use Rattle.enc_schema.specs.declared.column.Column.{Column}
 use Rattle.enc_plain.specs.Cell.{Cell}
 use Rattle.enc_plain.specs.Chain.{Chain, mvid_of, id_of}

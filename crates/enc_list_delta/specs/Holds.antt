@@ -8,7 +8,7 @@ use Rattle.enc_meta.specs.Heaps.{Counted}
 use Rattle.enc_meta.specs.Joined.{joined_text, joined_blob, joined_guid, joined_user}
 use Rattle.enc_schema.specs.Columns as columns
 use Rattle.enc_schema.specs.Schema.{column_in}
-use Rattle.enc_schema.specs.Tables as tables
+use Rattle.enc_base.specs.Tables as tables
 use Rattle.enc_schema.specs.declared.column.Column.{Column}
 use Rattle.enc_schema.specs.declared.column.Column.TheVariants.{Run}
 use Rattle.enc_opcodes.specs.Body.{Body}

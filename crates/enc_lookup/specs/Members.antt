@@ -7,7 +7,7 @@ use Rattle.enc_plain.specs.Rows.{bytes_at, token_at}
 use Rattle.enc_plain.specs.Sound.{row_count}
 use Rattle.enc_schema.specs.Children.{is_child_table, owner_table}
 use Rattle.enc_schema.specs.Columns as columns
-use Rattle.enc_schema.specs.Tables as tables
+use Rattle.enc_base.specs.Tables as tables
 
 -- the column of a child table that has the name
 abbrev pub column_of_name : ℕ → ℕ

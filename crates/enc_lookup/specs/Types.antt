@@ -7,7 +7,7 @@ use Rattle.enc_plain.specs.Module.{Module, cells_of, has_row}
 use Rattle.enc_plain.specs.Rows.{bytes_at, number_at, token_at}
 use Rattle.enc_plain.specs.Sound.{row_count}
 use Rattle.enc_schema.specs.Columns as columns
-use Rattle.enc_schema.specs.Tables as tables
+use Rattle.enc_base.specs.Tables as tables
 
 -- a type of the module has these names (II.22.37)
 unfoldable pub has_names : Module → List ℕ → List ℕ → Token → Bool

@@ -7,7 +7,7 @@ ghost use Rattle.enc_schema.specs.Children.{is_child_table, owner_table as table
 use enc_base::Token;
 use enc_plain::{CellView, ModuleView, Viewed, is_row};
 use enc_schema::columns::{EVENT_NAME, FIELD_NAME, METHOD_DEF_NAME, PARAM_NAME, PROPERTY_NAME};
-use enc_schema::tables::{EVENT, FIELD, METHOD_DEF, PARAM, PROPERTY, TYPE_DEF};
+use enc_base::tables::{EVENT, FIELD, METHOD_DEF, PARAM, PROPERTY, TYPE_DEF};
 use enc_schema::{is_child_table, owner_table};
 use std::alloc::{AllocError, Global};
 

@@ -4,12 +4,12 @@ ghost use Rattle.enc_base.specs.Order.{first_below};
 ghost use Rattle.enc_lookup.specs.Types.{has_names, is_outermost, nested_at, outermost_at, type_named as the_type_named};
 ghost use Rattle.enc_plain.specs.Module.{has_row};
 ghost use Rattle.enc_plain.specs.Sound.{row_count};
-ghost use Rattle.enc_schema.specs.Tables.{nested_class, type_def};
+ghost use Rattle.enc_base.specs.Tables.{nested_class, type_def};
 
 use enc_base::Token;
 use enc_plain::{CellView, ModuleView, Viewed, is_row};
 use enc_schema::columns::{TYPE_DEF_FLAGS, TYPE_DEF_TYPE_NAME, TYPE_DEF_TYPE_NAMESPACE};
-use enc_schema::tables::{NESTED_CLASS, TYPE_DEF};
+use enc_base::tables::{NESTED_CLASS, TYPE_DEF};
 
 /// The type that a row of NestedClass says to be nested (ECMA-335 II.22.32).
 const NESTED_CLASS_NESTED_CLASS: u8 = 0;

@@ -9,7 +9,7 @@ use Rattle.enc_plain.specs.Cell.{Cell, body}
 use Rattle.enc_plain.specs.Module.{Module, cells_of, cell_of, kids_of}
 use Rattle.enc_plain.specs.Rows.{number_at, bytes_at}
 use Rattle.enc_schema.specs.Columns as columns
-use Rattle.enc_schema.specs.Tables as tables
+use Rattle.enc_base.specs.Tables as tables
 use Rattle.enc_machine_types.specs.Elements.{CallShape, call_shape_in, field_kind_in, local_kinds_in, takes_nothing}
 
 -- how a method is called

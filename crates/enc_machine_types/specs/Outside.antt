@@ -4,7 +4,7 @@ use Rattle.enc_base.specs.declared.token.Token.{Token}
 use Rattle.enc_plain.specs.Module.{Module, cells_of}
 use Rattle.enc_plain.specs.Rows.{bytes_at, token_at}
 use Rattle.enc_schema.specs.Columns as columns
-use Rattle.enc_schema.specs.Tables as tables
+use Rattle.enc_base.specs.Tables as tables
 use Rattle.enc_plain.specs.System.{is_of_system}
 use Rattle.enc_machine_types.specs.declared.outside.Outside.{Outside}
 use Rattle.enc_machine_types.specs.declared.outside.Outside.TheVariants.{NewObject, NewException, WriteLine, WriteLineText, WriteLineNumber, WriteText, ConcatTwo, ConcatThree, AreEqual, TextLength, TextUnit}

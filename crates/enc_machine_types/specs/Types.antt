@@ -6,7 +6,7 @@ use Rattle.enc_objects.specs.declared.kind.Kind.TheVariants as kind
 use Rattle.enc_plain.specs.Module.{Module, cells_of}
 use Rattle.enc_plain.specs.Rows.{bytes_at}
 use Rattle.enc_schema.specs.Columns as columns
-use Rattle.enc_schema.specs.Tables as tables
+use Rattle.enc_base.specs.Tables as tables
 use Rattle.enc_plain.specs.ValueType.{is_value_type}
 
 -- a name and what it has

@@ -2,7 +2,7 @@
 ghost use Rattle.std.specs.Prelude.{◌≡◌, Some, IfSome, IsTrue, option_and_then, slice_get};
 ghost use Rattle.enc_machine_types.specs.Elements.{takes_nothing};
 ghost use Rattle.enc_schema.specs.Columns.{method_def_signature};
-ghost use Rattle.enc_schema.specs.Tables.{field, method_def, type_def};
+ghost use Rattle.enc_base.specs.Tables.{field, method_def, type_def};
 ghost use Rattle.enc_plain.specs.Cell.{blobs, kind_in};
 ghost use Rattle.enc_plain.specs.Module.{cells_of, has_row};
 ghost use Rattle.enc_plain.specs.Rows.{bytes_at};
@@ -20,7 +20,7 @@ use enc_schema::columns::{
     FIELD_SIGNATURE, METHOD_DEF_FLAGS, METHOD_DEF_NAME, METHOD_DEF_SIGNATURE,
     STAND_ALONE_SIG_SIGNATURE,
 };
-use enc_schema::tables::{METHOD_DEF, STAND_ALONE_SIG};
+use enc_base::tables::{METHOD_DEF, STAND_ALONE_SIG};
 use std::alloc::Global;
 
 /// The blob in a row's column, without bytes where there is no such row.

@@ -1,6 +1,6 @@
 //! The members outside that a token names.
 ghost use Rattle.std.specs.Prelude.{◌≡◌, map, IfSome};
-ghost use Rattle.enc_schema.specs.Tables.{member_ref};
+ghost use Rattle.enc_base.specs.Tables.{member_ref};
 ghost use Rattle.enc_machine_types.specs.Outside.{is_system_member, first_member, outside_of};
 ghost use Rattle.enc_machine_types.specs.Seen.{member_seen};
 
@@ -11,7 +11,7 @@ use crate::outside::Outside::{
 use enc_base::Token;
 use enc_plain::{CellView, ModuleView, Viewed, is_of_system};
 use enc_schema::columns::{MEMBER_REF_CLASS, MEMBER_REF_NAME, MEMBER_REF_SIGNATURE};
-use enc_schema::tables::MEMBER_REF;
+use enc_base::tables::MEMBER_REF;
 
 /// A member of a type of the namespace System: the type's name, its own name, its signature, and which it
 /// is.

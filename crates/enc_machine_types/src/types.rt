@@ -1,6 +1,6 @@
 //! The kinds of types by their tokens (ECMA-335 I.8.2.2).
 ghost use Rattle.std.specs.Prelude.{◌≡◌, List, map};
-ghost use Rattle.enc_schema.specs.Tables.{type_def, type_ref};
+ghost use Rattle.enc_base.specs.Tables.{type_def, type_ref};
 ghost use Rattle.enc_plain.specs.Module.{cells_of};
 ghost use Rattle.enc_machine_types.specs.Types.{found, reference_kind, type_kind};
 ghost use Rattle.enc_machine_types.specs.Seen.{system_kind_seen};
@@ -9,7 +9,7 @@ use enc_base::Token;
 use enc_objects::Kind;
 use enc_plain::{CellView, ModuleView, Viewed, is_value_type};
 use enc_schema::columns::{TYPE_REF_TYPE_NAME, TYPE_REF_TYPE_NAMESPACE};
-use enc_schema::tables::{TYPE_DEF, TYPE_REF};
+use enc_base::tables::{TYPE_DEF, TYPE_REF};
 
 /// The name of a type of the namespace System, and its kind.
 struct SystemKind(&'static str, Kind);

@@ -3,7 +3,7 @@ use Rattle.std.specs.Prelude.{◌-◌, ℕ, List, [], ◌∷◌, replicate}
 use Rattle.enc_plain.specs.Cell.{number, text, guid}
 use Rattle.enc_meta.specs.Heaps.{nil_guid}
 use Rattle.enc_plain.specs.Module.{Module, Row}
-use Rattle.enc_schema.specs.Tables as tables
+use Rattle.enc_base.specs.Tables as tables
 
 -- the only row of Module: Generation 0, this name and this Mvid, nil EncId and EncBaseId (ECMA-335 II.22.30)
 abbrev pub module_row : List ℕ → List ℕ → Row

@@ -8,7 +8,7 @@ use Rattle.enc_opcodes.specs.Body.{Body, Code, body_at, body_of, texts_are_there
 use Rattle.enc_opcodes.specs.Sound.{body_is_sound}
 use Rattle.enc_plain.specs.Module.{Module, Row, rows_in}
 use Rattle.enc_plain.specs.Sound.{IsSound}
-use Rattle.enc_schema.specs.Tables.{method_def}
+use Rattle.enc_base.specs.Tables.{method_def}
 use Rattle.enc_edit_list.specs.declared.body.BodyValue.{BodyValue}
 use Rattle.enc_rewriter.specs.Values.{texts_named, users_of_body}
 use Rattle.enc_memory_module.specs.Plain.{body_in_cell}

@@ -4,7 +4,7 @@ use Rattle.enc_base.specs.declared.token.Token.{Token}
 use Rattle.enc_opcodes.specs.Body.{Body}
 use Rattle.enc_plain.specs.Cell.{Cell, blob, body}
 use Rattle.enc_plain.specs.Module.{Module, cell_of}
-use Rattle.enc_schema.specs.Tables.{method_def}
+use Rattle.enc_base.specs.Tables.{method_def}
 
 -- a module, and the bytes of the `#US` in which the code of its bodies has its user texts
 pub record InMemory : Type 0 where

@@ -3,7 +3,7 @@ use Rattle.std.specs.Prelude.{ℕ, ◌==◌, List, [], ◌∷◌, Option, option
 use Rattle.enc_plain.specs.Cell.{Cell, body, field}
 use Rattle.enc_edit_list.specs.declared.body.BodyValue.{BodyValue}
 use Rattle.enc_rules.specs.Edited.{body_stated}
-use Rattle.enc_schema.specs.Tables as tables
+use Rattle.enc_base.specs.Tables as tables
 
 -- the cell that no value states: a method's body, and that a field has no bytes
 abbrev pub front_stated : ℕ → Option BodyValue → List Cell

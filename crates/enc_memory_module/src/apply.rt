@@ -9,7 +9,7 @@ ghost use Rattle.enc_rewriter.specs.declared.pass.Pass.TheVariants.{Users};
 ghost use Rattle.enc_rules.specs.Edited.{edited, row_edited, attached_by};
 ghost use Rattle.enc_rules.specs.Listed.{count_after};
 ghost use Rattle.enc_schema.specs.Schema.{list_at};
-ghost use Rattle.enc_schema.specs.Tables.{method_def};
+ghost use Rattle.enc_base.specs.Tables.{method_def};
 ghost use Rattle.enc_memory_module.specs.Applied.{alone, MayApply};
 ghost use Rattle.enc_memory_module.specs.Encoded.{with_tables};
 ghost use Rattle.enc_memory_module.specs.Following.{changes_from, attached_from};
@@ -22,7 +22,7 @@ use enc_base::Token;
 use enc_edit_list::{Added, Edit, EditList};
 use enc_plain::ModuleView;
 use enc_schema::is_child_table;
-use enc_schema::tables::METHOD_DEF;
+use enc_base::tables::METHOD_DEF;
 use std::alloc::{AllocError, Global};
 
 /// The row that the edit at a place is about: the next of its table, or the method whose body it

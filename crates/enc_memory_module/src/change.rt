@@ -12,7 +12,7 @@ use crate::copy::{blob_cell, cell_with, field_cell, method_cell, push_cells, tex
 use crate::plain::{Held, Kids, PlainCell, PlainModule, PlainRow, PlainTable};
 use enc_base::Token;
 use enc_edit_list::{BodyValue, Cell, Edit};
-use enc_schema::tables::{FIELD_RVA, METHOD_DEF};
+use enc_base::tables::{FIELD_RVA, METHOD_DEF};
 use enc_schema::{run_index, runs_of};
 use std::alloc::{AllocError, Global};
 

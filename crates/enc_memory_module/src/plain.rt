@@ -9,7 +9,7 @@ ghost use Rattle.enc_memory_module.specs.Plain.{cell_number, blob_in, body_at_ro
 ghost use Rattle.enc_memory_module.specs.Encoded.{has_texts, with_tables};
 ghost use Rattle.enc_plain.specs.Sound.{IsSound};
 ghost use Rattle.enc_memory_module.specs.Begun.{module_row as row_of_module, begun};
-ghost use Rattle.enc_schema.specs.Tables.{table_count, method_def};
+ghost use Rattle.enc_base.specs.Tables.{table_count, method_def};
 
 use crate::copy::copied_tables;
 use enc_base::Token;
@@ -19,7 +19,7 @@ use enc_meta::user_text_at;
 use enc_opcodes::CodeRef;
 use enc_plain::ModuleView;
 use enc_schema::columns::FIELD_RVA_RVA;
-use enc_schema::tables::TABLE_COUNT;
+use enc_base::tables::TABLE_COUNT;
 use enc_schema::{is_child_table, owner_table, run_index};
 use std::alloc::{AllocError, Global};
 use std::marker::Model;

@@ -6,7 +6,7 @@ use Rattle.enc_opcodes.specs.Body.{Code, body_of}
 use Rattle.enc_rows.specs.Layout.{raw_cell}
 use Rattle.enc_rows.specs.Source.{Source, raw_in}
 use Rattle.enc_schema.specs.Schema.{column_in}
-use Rattle.enc_schema.specs.Tables as tables
+use Rattle.enc_base.specs.Tables as tables
 use Rattle.enc_schema.specs.declared.column.Column.{Column}
 use Rattle.enc_plain.specs.Bodies.{body_loaded, code_loaded}
 use Rattle.enc_plain.specs.Cell.{Cell, body}

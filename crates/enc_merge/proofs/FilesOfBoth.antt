@@ -2,7 +2,7 @@
 use Rattle.std.proofs.Common.{ap, ◌∙◌}
 use Rattle.enc_delta.specs.Delta.{delta_of}
 use Rattle.enc_merged_delta.specs.Laws.{MergedFollows, MergedIsNamed, MergedMeans}
-use Rattle.enc_writer.proofs.FilesStand.{accepted_files}
+use Rattle.enc_checker.proofs.AcceptedFiles.{accepted_files}
 use Rattle.enc_merge.proofs.LastTwo.{may_merge}
 use Rattle.enc_merge.proofs.PdbStands.{none_misplaced, same_debug, several_nil}
 use Rattle.enc_merge.specs.Writing.{FilesOfBothStand, MetadataIsRead}

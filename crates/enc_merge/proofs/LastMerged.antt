@@ -10,7 +10,7 @@ use Rattle.enc_merge.proofs.LastTwo.{chain_is}
 use Rattle.enc_ppdb.specs.PdbChain.{DebugDelta, PdbHistory, pdb_with}
 use Rattle.enc_ppdb.specs.Written.{most_pdb_weight}
 use Rattle.enc_reference_depth.specs.Depth.{first_deep}
-use Rattle.enc_writer.specs.declared.bytes.DeltaBytes.{DeltaBytes}
+use Rattle.enc_emit.specs.declared.delta_bytes.DeltaBytes.{DeltaBytes}
 use Rattle.enc_merge.specs.Merges.{AllGo, GoesWith, MergesBoth, MergesLast, weight_of_both}
 use Rattle.enc_merge.specs.Writing.{AreLast, Both, FilesOfBothStand, IsFilesOfBoth, TellsWeight, chain_of_both}
 use Rattle.enc_merge.specs.declared.fault.MergeFault.{MergeFault}

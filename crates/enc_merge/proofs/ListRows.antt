@@ -4,7 +4,7 @@ use Rattle.std.specs.Prelude.{◌^◌, ◌||◌, ◌==◌, nat_lt, filter}
 use Rattle.std.proofs.lemmas.List.{append-nil, length-append, length-map, map-append}
 use Rattle.std.proofs.lemmas.List.Folds.{list_any-append}
 use Rattle.enc_schema.specs.Schema.{columns_in}
-use Rattle.enc_schema.specs.Tables.{enc_log, enc_map}
+use Rattle.enc_base.specs.Tables.{enc_log, enc_map}
 use Rattle.enc_delta.specs.Rules.{counted, counts, stands_in}
 use Rattle.enc_delta.specs.declared.entry.Entry.{Entry}
 use Rattle.enc_list_delta.specs.Holds.{entry_numbers}

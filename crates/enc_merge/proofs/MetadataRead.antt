@@ -24,7 +24,7 @@ use Rattle.enc_rows.specs.Sums.{below}
 use Rattle.enc_rows.specs.Written.{rows_at, count_at, has_cells, AreRows}
 use Rattle.enc_schema.specs.Columns as columns
 use Rattle.enc_schema.specs.Schema.{column_in, columns_in}
-use Rattle.enc_schema.specs.Tables as tables
+use Rattle.enc_base.specs.Tables as tables
 use Rattle.enc_schema.specs.declared.column.Column.{Column}
 use Rattle.enc_schema.specs.declared.column.Column.TheVariants.{Num32}
 use Rattle.enc_delta.specs.Delta.{delta_of, entry_at, is_module, listed, loaded_code, log_in, map_in, of_table, place_in}

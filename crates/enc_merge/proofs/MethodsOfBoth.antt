@@ -8,7 +8,7 @@ use Rattle.std.proofs.lemmas.List.Kept.{IsStrictlyIncreasing-filter}
 use Rattle.enc_base.specs.Token.{nth_row, number_of, token_of}
 use Rattle.enc_base.specs.declared.token.Token.{Token}
 use Rattle.enc_rows.specs.Sums.{below}
-use Rattle.enc_schema.specs.Tables as tables
+use Rattle.enc_base.specs.Tables as tables
 use Rattle.enc_plain.specs.Chain.{rows_before}
 use Rattle.enc_plain.specs.Sound.{IsSound}
 use Rattle.enc_delta.specs.Delta.{listed, of_table}

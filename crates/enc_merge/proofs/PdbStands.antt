@@ -11,7 +11,7 @@ use Rattle.enc_base.specs.declared.token.Token.{Token}
 use Rattle.enc_rows.specs.Source.{Source}
 use Rattle.enc_rows.specs.Sums.{below}
 use Rattle.enc_rows.proofs.Listed.{get_below}
-use Rattle.enc_schema.specs.Tables as tables
+use Rattle.enc_base.specs.Tables as tables
 use Rattle.enc_plain.proofs.Applied.{same_is}
 use Rattle.enc_plain.specs.Chain.{rows_before}
 use Rattle.enc_plain.specs.Debug.{MethodDebug, unknown}

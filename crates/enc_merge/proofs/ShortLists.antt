@@ -21,7 +21,7 @@ use Rattle.enc_rows.specs.declared.form.Form.TheVariants as form
 use Rattle.enc_rows.proofs.Below.{sum_part}
 use Rattle.enc_rows.proofs.Listed.{length_below}
 use Rattle.enc_schema.specs.Schema.{columns_in}
-use Rattle.enc_schema.specs.Tables as tables
+use Rattle.enc_base.specs.Tables as tables
 use Rattle.enc_schema.specs.Widths.{Shape, row_width}
 use Rattle.enc_delta.specs.Delta.{delta_layout, delta_of, delta_source, entry_at, listed, log_in, source_in, source_with}
 use Rattle.enc_delta.specs.Rules.{changed, counted, counts, stands_in}

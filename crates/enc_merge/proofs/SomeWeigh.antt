@@ -12,7 +12,7 @@ use Rattle.enc_base.specs.declared.refusal.StreamName.TheVariants as stream
 use Rattle.enc_base.specs.declared.token.Token.{Token}
 use Rattle.enc_meta.specs.declared.builder.BuildFault.{BuildFault}
 use Rattle.enc_meta.specs.declared.builder.BuildFault.TheVariants.{TooLarge}
-use Rattle.enc_schema.specs.Tables as tables
+use Rattle.enc_base.specs.Tables as tables
 use Rattle.enc_rows.specs.Sums.{sum_below}
 use Rattle.enc_plain.specs.Debug.{Document, PlainPoint, PlainPdb}
 use Rattle.enc_ppdb.specs.Written.{document_weight, documents_of, method_weight, most_pdb_weight, nth_method, pdb_weight, IsPdbFault}

@@ -11,7 +11,7 @@ use Rattle.enc_plain.specs.Sound.{number_fits}
 use Rattle.enc_rows.specs.Source.{Source}
 use Rattle.enc_rows.specs.Written.{rows_at, counts_of, fits, has_cells, index_fits, is_word, row_indices_fit, AreRows, IndicesFit}
 use Rattle.enc_schema.specs.Schema.{columns_in}
-use Rattle.enc_schema.specs.Tables as tables
+use Rattle.enc_base.specs.Tables as tables
 use Rattle.enc_schema.specs.Widths.{Shape, index_width, coded_width}
 use Rattle.enc_schema.specs.declared.column.Column.{Column}
 use Rattle.enc_schema.specs.declared.column.Column.TheVariants.{Num8, Num16, Num32, Text, Guid, Blob, Index, Coded, Run}

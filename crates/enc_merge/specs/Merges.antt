@@ -8,7 +8,7 @@ use Rattle.enc_rows.specs.Sums.{below}
 use Rattle.enc_schema.specs.Columns as columns
 use Rattle.enc_schema.specs.Schema.{column_in}
 use Rattle.enc_schema.specs.declared.column.Column.{Column}
-use Rattle.enc_schema.specs.Tables as tables
+use Rattle.enc_base.specs.Tables as tables
 use Rattle.enc_plain.specs.Chain.{Chain, rows_before}
 use Rattle.enc_plain.specs.Debug.{PlainPdb}
 use Rattle.enc_delta.specs.Delta.{delta_of, log_in}
@@ -25,7 +25,7 @@ use Rattle.enc_checker.specs.Within.{debug_of_accepted}
 use Rattle.enc_reference_depth.specs.Depth.{first_deep}
 use Rattle.enc_merged_delta.specs.Held.{il_merged, il_of, number_of_both}
 use Rattle.enc_merged_delta.specs.Merged.{after_both, heaps_merged, is_in_either, is_in_map}
-use Rattle.enc_writer.specs.declared.bytes.DeltaBytes.{DeltaBytes}
+use Rattle.enc_emit.specs.declared.delta_bytes.DeltaBytes.{DeltaBytes}
 use Rattle.enc_merge.specs.Points.{debug_of_rows}
 use Rattle.enc_merge.specs.declared.fault.MergeFault.{MergeFault}
 use Rattle.enc_merge.specs.declared.fault.MergeFault.TheVariants.{Memory, TooLarge, Deep}

@@ -3,7 +3,7 @@ use Rattle.std.specs.Prelude.{◌-◌, ◌==◌, ◌&&◌, not, List, unwrap_or,
 use Rattle.enc_base.specs.Token.{nil}
 use Rattle.enc_base.specs.declared.token.Token.{Token}
 use Rattle.enc_plain.specs.Debug.{PlainPdb}
-use Rattle.enc_schema.specs.Tables as tables
+use Rattle.enc_base.specs.Tables as tables
 
 -- the method that a row of MethodDef stands for: the n-th of some, n from 1; nil where there is none
 unfoldable pub nth_listed : List Token → Token → Token

@@ -12,7 +12,7 @@ use Rattle.enc_rows.specs.Written.{AreRows, IndicesFit, heap_bits, rows_at, stre
 use Rattle.enc_schema.specs.Columns as columns
 use Rattle.enc_schema.specs.Schema.{column_in}
 use Rattle.enc_schema.specs.declared.column.Column.{Column}
-use Rattle.enc_schema.specs.Tables as tables
+use Rattle.enc_base.specs.Tables as tables
 use Rattle.enc_plain.specs.Chain.{Chain, id_of, mvid_of}
 use Rattle.enc_plain.specs.Sound.{IsSound}
 use Rattle.enc_delta.specs.Delta.{delta_of, listed, log_in, of_table}
@@ -30,7 +30,7 @@ use Rattle.enc_ppdb.specs.PdbChain.{DebugDelta, PdbHistory, is_named_by, pdb_wit
 use Rattle.enc_ppdb.specs.Written.{most_pdb_weight}
 use Rattle.enc_pdb_writer.specs.Methods.{SaysMethods}
 use Rattle.enc_checker.specs.Check.{new_code}
-use Rattle.enc_writer.specs.declared.bytes.DeltaBytes.{DeltaBytes}
+use Rattle.enc_emit.specs.declared.delta_bytes.DeltaBytes.{DeltaBytes}
 use Rattle.enc_merge.specs.Merges.{GoesWith, HasNumbersOfBoth, StandsForBoth, methods_listed}
 use Rattle.enc_merge.specs.Points.{debug_of_rows}
 use Rattle.enc_merge.specs.declared.fault.MergeFault.{MergeFault}

@@ -4,13 +4,13 @@ ghost use Rattle.enc_base.specs.Token.{number_of};
 ghost use Rattle.enc_delta.specs.Delta.{listed, log_in};
 ghost use Rattle.enc_delta.specs.Rules.{counted, counts};
 ghost use Rattle.enc_rows.specs.Written.{count_at, rows_at};
-ghost use Rattle.enc_schema.specs.Tables.{enc_log, enc_map};
+ghost use Rattle.enc_base.specs.Tables.{enc_log, enc_map};
 ghost use Rattle.enc_list_delta.specs.Holds.{entry_numbers};
 ghost use Rattle.enc_merge.specs.Writing.{AreOfEither, StayBut};
 
+use enc_base::tables::{ENC_LOG, ENC_MAP};
 use enc_delta::{Delta, Entry, log_of};
 use enc_rows::TableBuilder;
-use enc_schema::tables::{ENC_LOG, ENC_MAP};
 use std::alloc::{AllocError, Global};
 
 /// Puts the numbers of a delta's tokens behind others.

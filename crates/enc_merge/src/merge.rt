@@ -16,12 +16,12 @@ use crate::methods::methods_of;
 use crate::pdb::{pdb_merged, weigh};
 use enc_agg::Aggregate;
 use enc_base::{Bytes, Token};
-use enc_reference_depth::first_deep;
+use enc_emit::DeltaBytes;
 use enc_merged_delta::{
     merged_follows_law, merged_is_named_law, merged_means_law, pairs_are_of_both_law,
 };
 use enc_ppdb::PdbChain;
-use enc_writer::DeltaBytes;
+use enc_reference_depth::first_deep;
 use std::alloc::{AllocError, Global};
 
 /// The files, where the module after both is shallow and the PDB isn't too heavy.

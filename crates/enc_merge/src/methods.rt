@@ -5,9 +5,9 @@ ghost use Rattle.enc_merge.specs.Writing.{AreOfEither, changes_debug};
 
 use crate::last::Last;
 use enc_base::Token;
+use enc_base::tables::METHOD_DEF;
 use enc_checker::new_code;
 use enc_ppdb::PdbChain;
-use enc_schema::tables::METHOD_DEF;
 use std::alloc::{AllocError, Global};
 
 /// The methods that one of the two lists, by the numbers of all tokens that one of them lists.

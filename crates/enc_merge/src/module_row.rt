@@ -3,15 +3,15 @@ ghost use Rattle.std.specs.Prelude.{◌≡◌, ◌∷◌, [], ℕ, List, slice_i
 ghost use Rattle.enc_delta.specs.Rules.{module_token};
 ghost use Rattle.enc_rows.specs.Source.{raw_in};
 ghost use Rattle.enc_rows.specs.Written.{rows_at};
-ghost use Rattle.enc_schema.specs.Tables.{«module»};
+ghost use Rattle.enc_base.specs.Tables.{«module»};
 ghost use Rattle.enc_merge.specs.Writing.{IsModuleHeld, StayBut};
 
 use crate::last::Last;
 use enc_base::Token;
+use enc_base::tables::MODULE;
 use enc_delta::Delta;
 use enc_rows::TableBuilder;
 use enc_schema::columns::{MODULE_ENC_BASE_ID, MODULE_ENC_ID, MODULE_GENERATION, MODULE_MVID};
-use enc_schema::tables::MODULE;
 use std::alloc::AllocError;
 
 /// The Module row.

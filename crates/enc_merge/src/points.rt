@@ -3,8 +3,8 @@ ghost use Rattle.std.specs.Prelude.{◌≡◌};
 ghost use Rattle.enc_merge.specs.Points.{nth_listed, debug_of_rows};
 
 use enc_base::Token;
+use enc_base::tables::METHOD_DEF;
 use enc_plain::{DocumentRef, PointSource};
-use enc_schema::tables::METHOD_DEF;
 use enc_seqpoints::Points;
 use std::alloc::{AllocError, Global};
 

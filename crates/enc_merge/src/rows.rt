@@ -11,12 +11,12 @@ ghost use Rattle.enc_merge.specs.Writing.{AreOfEither, AreTokensHeld, FrontHeld,
 
 use crate::last::Last;
 use enc_base::Token;
+use enc_base::tables::METHOD_DEF;
 use enc_delta::Delta;
 use enc_merged_delta::numbers_are_held_law;
 use enc_plain::ChainView;
 use enc_rows::TableBuilder;
 use enc_schema::columns::METHOD_DEF_RVA;
-use enc_schema::tables::METHOD_DEF;
 use enc_schema::{Column, columns_of};
 use std::alloc::{AllocError, Global};
 

@@ -13,7 +13,7 @@ use Rattle.enc_plain.specs.Chain.{Chain}
 use Rattle.enc_plain.proofs.Applied.{same_is}
 use Rattle.enc_rows.specs.Layout.{rows_of}
 use Rattle.enc_schema.specs.Columns as columns
-use Rattle.enc_schema.specs.Tables as tables
+use Rattle.enc_base.specs.Tables as tables
 use Rattle.enc_rows.specs.Source.{Source}
 use Rattle.enc_delta.specs.Delta.{listed, of_table}
 use Rattle.enc_delta.specs.Judged.{late_token, skipped_row}

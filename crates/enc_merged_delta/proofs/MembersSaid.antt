@@ -5,7 +5,7 @@ use Rattle.std.proofs.lemmas.Bool.Decides.{nat_tests}
 use Rattle.enc_base.specs.declared.token.Token.{Token}
 use Rattle.enc_base.specs.Numbers.{has_flag}
 use Rattle.enc_schema.specs.Columns as columns
-use Rattle.enc_schema.specs.Tables as tables
+use Rattle.enc_base.specs.Tables as tables
 use Rattle.enc_rows.specs.Source.{Source}
 use Rattle.enc_plain.specs.Apply.{Attached}
 use Rattle.enc_plain.specs.Chain.{Chain, rows_before}

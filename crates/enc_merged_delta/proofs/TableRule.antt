@@ -9,7 +9,7 @@ use Rattle.enc_base.specs.declared.token.Token.{Token}
 use Rattle.enc_plain.specs.Chain.{Chain}
 use Rattle.enc_rows.specs.Layout.{rows_of}
 use Rattle.enc_rows.specs.Source.{Source}
-use Rattle.enc_schema.specs.Tables as tables
+use Rattle.enc_base.specs.Tables as tables
 use Rattle.enc_delta.specs.Delta.{listed, of_table, place_in}
 use Rattle.enc_delta.specs.Rules.{broken, may_change, closed_at, closed_table}
 use Rattle.enc_delta.proofs.Unbroken.{landed}

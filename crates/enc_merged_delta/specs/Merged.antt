@@ -10,7 +10,7 @@ use Rattle.enc_rows.specs.Layout.{rows_of}
 use Rattle.enc_rows.specs.Source.{Source, raw_in}
 use Rattle.enc_rows.specs.Sums.{below}
 use Rattle.enc_schema.specs.Columns as columns
-use Rattle.enc_schema.specs.Tables as tables
+use Rattle.enc_base.specs.Tables as tables
 use Rattle.enc_plain.specs.Bodies.{code_is_good, code_loaded}
 use Rattle.enc_plain.specs.Cell.{Kind, kind_in}
 use Rattle.enc_plain.specs.Chain.{Chain, id_of, mvid_of, rows_before}

@@ -6,7 +6,7 @@ use Rattle.enc_base.specs.Numbers.{little_endian_at, padded, has_flag}
 use Rattle.enc_base.specs.Token.{token_of, nil}
 use Rattle.enc_base.specs.Units.{units_of}
 use Rattle.enc_base.specs.declared.token.Token.{Token}
-use Rattle.enc_schema.specs.Tables.{type_ref, type_def, field, method_def, member_ref, stand_alone_sig, type_spec, method_spec}
+use Rattle.enc_base.specs.Tables.{type_ref, type_def, field, method_def, member_ref, stand_alone_sig, type_spec, method_spec}
 use Rattle.enc_opcodes.specs.declared.op.Operand.{Operand}
 use Rattle.enc_opcodes.specs.declared.op.Operand.TheVariants as operand
 use Rattle.enc_opcodes.specs.declared.code.Clause.{Clause}

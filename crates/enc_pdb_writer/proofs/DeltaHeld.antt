@@ -9,7 +9,7 @@ use Rattle.enc_plain.specs.Debug.{PlainPdb}
 use Rattle.enc_rows.specs.Written.{rows_at, count_at, counts_of, shape_of, fits, index_fits, row_indices_fit, IndicesFit}
 use Rattle.enc_rows.proofs.Layouts.{count_is}
 use Rattle.enc_schema.specs.Schema.{columns_in}
-use Rattle.enc_schema.specs.Tables as tables
+use Rattle.enc_base.specs.Tables as tables
 use Rattle.enc_schema.specs.Widths.{Shape, narrow, index_width}
 use Rattle.enc_schema.specs.declared.column.Column.{Column}
 use Rattle.enc_ppdb.specs.Written.{HoldPdb}

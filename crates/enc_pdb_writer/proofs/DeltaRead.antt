@@ -19,7 +19,7 @@ use Rattle.enc_rows.specs.Source.{Source, raw_in}
 use Rattle.enc_rows.specs.Sums.{below}
 use Rattle.enc_rows.specs.Written.{rows_at, count_at}
 use Rattle.enc_rows.proofs.Listed.{get_below, length_below}
-use Rattle.enc_schema.specs.Tables as tables
+use Rattle.enc_base.specs.Tables as tables
 use Rattle.enc_seqpoints.specs.Grammar.{method_points}
 use Rattle.enc_ppdb.specs.Fault.{is_document, are_there, all_there, is_method, unless_good, document_fault, method_fault, documents_fault, methods_fault, map_token_at, named_tokens, fits_map, pdb_delta_of}
 use Rattle.enc_ppdb.specs.Misplaced.{debug_token}

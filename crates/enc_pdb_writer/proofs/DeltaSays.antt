@@ -14,7 +14,7 @@ use Rattle.enc_plain.specs.Debug.{Document, PlainPoint, MethodDebug, plain_point
 use Rattle.enc_rows.specs.Layout.{rows_of}
 use Rattle.enc_rows.specs.Source.{Source}
 use Rattle.enc_rows.specs.Sums.{below}
-use Rattle.enc_schema.specs.Tables as tables
+use Rattle.enc_base.specs.Tables as tables
 use Rattle.enc_seqpoints.specs.declared.point.Point.{Point}
 use Rattle.enc_seqpoints.specs.Grammar.{MethodPoints}
 use Rattle.enc_edit_list.specs.declared.edit.DocumentValue.{DocumentValue}

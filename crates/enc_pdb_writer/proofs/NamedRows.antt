@@ -3,7 +3,7 @@ use Rattle.std.proofs.Common.{◌≡◌, ℕ, ◌+◌, ◌<◌, Bool, true, fals
 use Rattle.std.specs.Prelude.{◌==◌, if◌then◌else◌}
 use Rattle.std.proofs.lemmas.List.{take_more, map-append}
 use Rattle.enc_rows.specs.Written.{rows_at}
-use Rattle.enc_schema.specs.Tables as tables
+use Rattle.enc_base.specs.Tables as tables
 use Rattle.enc_pdb_writer.specs.Holding.{map_cells, MoreNamed}
 
 more_by : (b : Bool) (old mid new more cells : List (List ℕ)) → mid ≡ (if b then old ++ more else old) → new ≡ (if b then mid ++ cells else mid) → new ≡ (if b then old ++ (more ++ cells) else old)

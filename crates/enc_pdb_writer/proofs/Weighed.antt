@@ -13,7 +13,7 @@ use Rattle.enc_base.specs.Token.{nth_row}
 use Rattle.enc_base.specs.declared.token.Token.{Token}
 use Rattle.enc_rows.specs.Sums.{sum_below}
 use Rattle.enc_rows.proofs.Below.{sum_none, sum_suc}
-use Rattle.enc_schema.specs.Tables as tables
+use Rattle.enc_base.specs.Tables as tables
 use Rattle.enc_seqpoints.specs.declared.point.Point.{Point}
 use Rattle.enc_seqpoints.specs.Grammar.{MethodPoints, method_points}
 use Rattle.enc_plain.specs.Debug.{Document, plain_point, debug_of}

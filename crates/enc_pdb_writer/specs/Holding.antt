@@ -4,7 +4,7 @@ use Rattle.enc_base.specs.Token.{number_of}
 use Rattle.enc_meta.specs.Built.{Built, heaps_built}
 use Rattle.enc_plain.specs.Debug.{Document, PlainPdb}
 use Rattle.enc_rows.specs.Written.{rows_at, count_at}
-use Rattle.enc_schema.specs.Tables as tables
+use Rattle.enc_base.specs.Tables as tables
 use Rattle.enc_ppdb.specs.Misplaced.{debug_token}
 use Rattle.enc_ppdb.specs.Written.{nth_method, documents_of, pdb_starts, DocumentSays, MethodSays}
 

@@ -4,7 +4,7 @@ ghost use Rattle.std.specs.List.{list_all};
 ghost use Rattle.enc_plain.specs.SoundDebug.{IsSoundPdb};
 ghost use Rattle.enc_ppdb.specs.Written.{pdb_weight, TellsPdb};
 ghost use Rattle.enc_rows.specs.Written.{count_at, IndicesFit};
-ghost use Rattle.enc_schema.specs.Tables.{document as document_table, enc_map};
+ghost use Rattle.enc_base.specs.Tables.{document as document_table, enc_map};
 ghost use Rattle.enc_pdb_writer.specs.Holding.{map_cells, MoreNamed, HoldPdbDelta};
 ghost use Rattle.enc_pdb_writer.specs.Methods.{SaysMethods};
 
@@ -14,7 +14,7 @@ use enc_meta::BuildFault;
 use enc_plain::PointSource;
 use enc_ppdb::{PdbParts, pdb_parts};
 use enc_rows::TableBuilder;
-use enc_schema::tables::{ENC_MAP, METHOD_DEBUG_INFORMATION};
+use enc_base::tables::{ENC_MAP, METHOD_DEBUG_INFORMATION};
 use std::alloc::{AllocError, Global};
 
 /// Names the methods of rows in EncMap, in their order, by tokens of MethodDebugInformation.

@@ -9,7 +9,7 @@ use enc_base::Token;
 use enc_edit_list::Edit;
 use enc_plain::{DocumentRef, PointSource};
 use enc_rules::points_given;
-use enc_schema::tables::METHOD_DEF;
+use enc_base::tables::METHOD_DEF;
 use enc_seqpoints::{PointFault, Points, WriteFault, point_laws, read_points, write_points};
 use std::alloc::{AllocError, Global};
 use std::marker::Model;

@@ -6,7 +6,7 @@ use Rattle.enc_base.specs.declared.token.Token.{Token}
 use Rattle.enc_sigs.specs.Agree.{sigs_agree}
 use Rattle.enc_plain.specs.Rows.{Rows, number_at, bytes_at, token_at}
 use Rattle.enc_plain.specs.Signatures.{kind_in_table}
-use Rattle.enc_schema.specs.Tables as tables
+use Rattle.enc_base.specs.Tables as tables
 use Rattle.enc_schema.specs.Columns as columns
 
 -- both are rows of a table

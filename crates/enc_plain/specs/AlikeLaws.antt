@@ -4,7 +4,7 @@ use Rattle.enc_base.specs.Token.{is_token}
 use Rattle.enc_base.specs.declared.token.Token.{Token}
 use Rattle.enc_plain.specs.Rows.{Rows, bytes_at}
 use Rattle.enc_plain.specs.Alike.{tokens_alike}
-use Rattle.enc_schema.specs.Tables as tables
+use Rattle.enc_base.specs.Tables as tables
 
 -- each token is alike itself, whether it is a row or not
 abbrev pub EachIsAlikeItself : Type 0

@@ -5,7 +5,7 @@ use Rattle.enc_base.specs.declared.token.Token.{Token}
 use Rattle.enc_schema.specs.declared.column.Column.{Column}
 use Rattle.enc_schema.specs.declared.column.Column.TheVariants.{Num8, Num16, Num32, Text, Guid, Blob, Index, Coded, Run}
 use Rattle.enc_schema.specs.Schema.{columns_in, column_in}
-use Rattle.enc_schema.specs.Tables as tables
+use Rattle.enc_base.specs.Tables as tables
 
 -- a number; the bytes of a text, of a blob, of a GUID; a token, where nil names nothing; the body of a method, or
 -- that it has none; the initial bytes of a

@@ -6,7 +6,7 @@ use Rattle.enc_schema.specs.declared.column.Coding.TheVariants.{TypeDefOrRef}
 use Rattle.enc_schema.specs.Coding.{decoded}
 use Rattle.enc_plain.specs.declared.extent.Extent.{Extent}
 use Rattle.enc_plain.specs.declared.extent.Extent.TheVariants.{Bytes, Class}
-use Rattle.enc_schema.specs.Tables as tables
+use Rattle.enc_base.specs.Tables as tables
 
 -- how many bytes a kind of integer or float takes, from boolean to R8 (II.23.1.16)
 unfoldable pub size_of_kind : ℕ → Option ℕ

@@ -11,7 +11,7 @@ use Rattle.enc_key_map.specs.declared.key.Key.{Key}
 use Rattle.enc_key_map.specs.Index.{value_at}
 use Rattle.enc_plain.specs.Rows.{Rows, bytes_at, token_at}
 use Rattle.enc_plain.specs.Signatures.{kind_in_table, signature_column}
-use Rattle.enc_schema.specs.Tables as tables
+use Rattle.enc_base.specs.Tables as tables
 use Rattle.enc_schema.specs.Columns as columns
 
 -- of a token that is alike itself alone

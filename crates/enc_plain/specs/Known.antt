@@ -7,7 +7,7 @@ use Rattle.enc_plain.specs.Namesakes.{AreNamesakes}
 use Rattle.enc_plain.specs.Pairs.{AreAlikePairs}
 use Rattle.enc_plain.specs.Places.{AreRelatedPlaces}
 use Rattle.enc_plain.specs.Rows.{Rows}
-use Rattle.enc_schema.specs.Tables as tables
+use Rattle.enc_base.specs.Tables as tables
 
 -- signatures of TypeSpecs are alike
 abbrev pub AreKnownSpecs : Rows → (ℕ → Option (List ℕ)) → Specs → Type 0

@@ -22,3 +22,4 @@ pub mod SoundDebug
 pub mod Places
 pub mod System
 pub mod ValueType
+pub mod ClassPath

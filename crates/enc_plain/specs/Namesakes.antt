@@ -4,7 +4,7 @@ use Rattle.std.specs.Ordering.{nat_cmp}
 use Rattle.std.specs.BTreeMap.{get}
 use Rattle.enc_plain.specs.declared.namesakes.Namesakes.{Namesakes}
 use Rattle.enc_plain.specs.Rows.{Rows, bytes_at}
-use Rattle.enc_schema.specs.Tables as tables
+use Rattle.enc_base.specs.Tables as tables
 use Rattle.enc_schema.specs.Columns as columns
 
 -- the name and the namespace of a row of TypeRef (II.22.38)

@@ -5,7 +5,7 @@ use Rattle.enc_base.specs.Passed.{AllPass}
 use Rattle.enc_plain.specs.declared.pairs.Pairs.{Pairs}
 use Rattle.enc_plain.specs.Alike.{alike_in_table}
 use Rattle.enc_plain.specs.Rows.{Rows}
-use Rattle.enc_schema.specs.Tables as tables
+use Rattle.enc_base.specs.Tables as tables
 
 -- the pair of rows of a table that a number stands for is alike in the signatures of another
 abbrev pub is_alike_pair : Rows → ℕ → ℕ → ℕ → Bool

@@ -3,7 +3,7 @@ use Rattle.std.specs.Prelude.{ℕ, Bool, List, [], ◌∷◌, Option, Some, None
 use Rattle.enc_sigs.specs.declared.kind.SigKind.{SigKind}
 use Rattle.enc_sigs.specs.declared.kind.SigKind.TheVariants as kind
 use Rattle.enc_sigs.specs.Grammar.{sig_in, is_counted}
-use Rattle.enc_schema.specs.Tables as tables
+use Rattle.enc_base.specs.Tables as tables
 
 -- the column of a table that holds a signature: of Field, MethodDef, MemberRef, StandAloneSig, Property, TypeSpec
 -- and MethodSpec (II.22.15, 26, 25, 36, 34,

@@ -8,7 +8,7 @@ use Rattle.enc_schema.specs.declared.column.Column.{Column}
 use Rattle.enc_schema.specs.declared.column.Column.TheVariants.{Num8, Num16, Index, Coded}
 use Rattle.enc_schema.specs.Schema.{column_in}
 use Rattle.enc_schema.specs.Columns as columns
-use Rattle.enc_schema.specs.Tables as tables
+use Rattle.enc_base.specs.Tables as tables
 use Rattle.enc_schema.specs.Coding.{tables_of}
 use Rattle.enc_schema.specs.Children.{is_child_table, owner_table}
 use Rattle.enc_opcodes.specs.Body.{Body, begins_locals}

@@ -4,7 +4,7 @@ use Rattle.enc_base.specs.declared.token.Token.{Token}
 use Rattle.enc_plain.specs.Module.{Module, cells_of}
 use Rattle.enc_plain.specs.Rows.{bytes_at}
 use Rattle.enc_schema.specs.Columns as columns
-use Rattle.enc_schema.specs.Tables as tables
+use Rattle.enc_base.specs.Tables as tables
 
 -- a TypeRef of the namespace System with this name (II.22.38)
 unfoldable pub is_of_system : Module → List ℕ → Token → Bool

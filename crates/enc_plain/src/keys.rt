@@ -3,7 +3,7 @@
 ghost use Rattle.std.specs.Prelude.{◌≡◌};
 ghost use Rattle.enc_plain.specs.Keys.{token_key, name_mix, names_key, assembly_ref_key, module_ref_key};
 ghost use Rattle.enc_plain.specs.Rows.{token_at, bytes_at};
-ghost use Rattle.enc_schema.specs.Tables.{assembly_ref, module_ref, type_ref, type_spec};
+ghost use Rattle.enc_base.specs.Tables.{assembly_ref, module_ref, type_ref, type_spec};
 
 use crate::cells::CellView;
 use enc_base::Token;
@@ -11,7 +11,7 @@ use enc_schema::columns::{
     ASSEMBLY_REF_NAME, MODULE_REF_NAME, TYPE_REF_RESOLUTION_SCOPE, TYPE_REF_TYPE_NAME,
     TYPE_REF_TYPE_NAMESPACE, TYPE_SPEC_SIGNATURE,
 };
-use enc_schema::tables::{ASSEMBLY_REF, MODULE_REF};
+use enc_base::tables::{ASSEMBLY_REF, MODULE_REF};
 use enc_sigs::{Mix, mix_of, mixed, mixed_both, mixed_ends};
 
 /// How many bytes of a name count at either end.

@@ -2,7 +2,7 @@
 ghost use Rattle.std.specs.Prelude.{◌≡◌, ℕ, List, Option, true, bytes_eq};
 ghost use Rattle.enc_plain.specs.Alike.{alike_in_table, signatures_alike, tokens_alike};
 ghost use Rattle.enc_plain.specs.Known.{AreKnownAlike, AreKnownSpecs};
-ghost use Rattle.enc_schema.specs.Tables.{type_spec};
+ghost use Rattle.enc_base.specs.Tables.{type_spec};
 ghost use Rattle.enc_plain.specs.Namesakes.{AreNamesakes};
 ghost use Rattle.enc_plain.specs.Pairs.{AreAlikePairs};
 ghost use Rattle.enc_plain.specs.Rows.{Rows, AreStoredAt, bytes_at};
@@ -17,7 +17,7 @@ use crate::places::Places;
 use crate::signature::kind_in_table;
 use enc_base::Token;
 use enc_schema::columns::TYPE_SPEC_SIGNATURE;
-use enc_schema::tables::{TYPE_REF, TYPE_SPEC};
+use enc_base::tables::{TYPE_REF, TYPE_SPEC};
 use enc_sigs::sigs_agree;
 use std::alloc::Global;
 use std::cell::RefCell;

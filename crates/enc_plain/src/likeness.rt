@@ -6,7 +6,7 @@ ghost use Rattle.enc_plain.specs.Cell.{kind_in, numbers, texts, blobs};
 ghost use Rattle.enc_plain.specs.Module.{cells_of};
 ghost use Rattle.enc_plain.specs.Namesakes.{AreNamesakes};
 ghost use Rattle.enc_plain.specs.Rows.{bytes_at, token_at};
-ghost use Rattle.enc_schema.specs.Tables.{assembly_ref, type_ref, type_spec};
+ghost use Rattle.enc_base.specs.Tables.{assembly_ref, type_ref, type_spec};
 
 use crate::cells::{CellView, Viewed};
 use crate::namesakes::Namesakes;
@@ -19,7 +19,7 @@ use enc_schema::columns::{
     ASSEMBLY_REF_PUBLIC_KEY_OR_TOKEN, ASSEMBLY_REF_REVISION_NUMBER, MODULE_REF_NAME,
     TYPE_REF_RESOLUTION_SCOPE, TYPE_REF_TYPE_NAME, TYPE_REF_TYPE_NAMESPACE, TYPE_SPEC_SIGNATURE,
 };
-use enc_schema::tables::{ASSEMBLY_REF, MODULE_REF, TYPE_REF, TYPE_SPEC};
+use enc_base::tables::{ASSEMBLY_REF, MODULE_REF, TYPE_REF, TYPE_SPEC};
 use enc_sigs::sigs_agree;
 
 /// The tokens are the same.

@@ -4,10 +4,10 @@ ghost use Rattle.std.specs.Prelude.{◌≡◌, ◌+◌, ◌*◌, ◌^◌, ◌<�
 ghost use Rattle.enc_plain.specs.Alike.{alike_in_table};
 ghost use Rattle.enc_plain.specs.Pairs.{AreAlikePairs};
 ghost use Rattle.enc_plain.specs.Rows.{Rows};
-ghost use Rattle.enc_schema.specs.Tables.{type_ref, type_spec};
+ghost use Rattle.enc_base.specs.Tables.{type_ref, type_spec};
 
 use enc_base::Token;
-use enc_schema::tables::{TYPE_REF, TYPE_SPEC};
+use enc_base::tables::{TYPE_REF, TYPE_SPEC};
 use std::alloc::Global;
 use std::collections::BTreeSet;
 

@@ -4,7 +4,7 @@ ghost use Rattle.enc_key_map.specs.declared.key.Key.{Key as TheKey};
 ghost use Rattle.enc_plain.specs.Cell.{blobs, kind_in};
 ghost use Rattle.enc_plain.specs.Keys.{names_key, scoped_key, ref_key, spec_shape, spec_key, key_of, signature_key};
 ghost use Rattle.enc_plain.specs.Rows.{bytes_at, AreStoredAt};
-ghost use Rattle.enc_schema.specs.Tables.{type_ref, type_spec};
+ghost use Rattle.enc_base.specs.Tables.{type_ref, type_spec};
 
 use crate::cells::CellView;
 use crate::keys::{assembly_ref_key, module_ref_key, names_key, scope_of, spec_of, token_key};
@@ -12,7 +12,7 @@ use crate::known::spec_place;
 use crate::signature::kind_in_table;
 use enc_base::Token;
 use enc_key_map::{Entry, Index, Key};
-use enc_schema::tables::{ASSEMBLY_REF, MODULE_REF, TYPE_REF, TYPE_SPEC};
+use enc_base::tables::{ASSEMBLY_REF, MODULE_REF, TYPE_REF, TYPE_SPEC};
 use enc_sigs::{Mix, SigKind, coded_token, finished, mix_of, mixed_both, sig_shape};
 use std::alloc::{AllocError, Global};
 use std::marker::Model;

@@ -4,7 +4,7 @@ ghost use Rattle.enc_plain.specs.Cell.{kind_in, blobs};
 ghost use Rattle.enc_plain.specs.Signatures.{signature_column, member_kind, alone_kind, kind_in_table, is_signature};
 
 use enc_base::Counts;
-use enc_schema::tables::{
+use enc_base::tables::{
     FIELD, MEMBER_REF, METHOD_DEF, METHOD_SPEC, PROPERTY, STAND_ALONE_SIG, TYPE_SPEC,
 };
 use enc_sigs::{SigKind, is_sig};

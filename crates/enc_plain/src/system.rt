@@ -6,7 +6,7 @@ use crate::cells::{CellView, Viewed};
 use crate::view::ModuleView;
 use enc_base::Token;
 use enc_schema::columns::{TYPE_REF_TYPE_NAME, TYPE_REF_TYPE_NAMESPACE};
-use enc_schema::tables::TYPE_REF;
+use enc_base::tables::TYPE_REF;
 
 /// Whether the token is a TypeRef of the namespace System with this name, whatever its scope (ECMA-335
 /// II.22.38).

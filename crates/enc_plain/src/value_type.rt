@@ -1,12 +1,12 @@
 //! Which types are value types (ECMA-335 II.10.1.3).
 ghost use Rattle.std.specs.Prelude.{◌≡◌};
-ghost use Rattle.enc_schema.specs.Tables.{type_def};
+ghost use Rattle.enc_base.specs.Tables.{type_def};
 ghost use Rattle.enc_plain.specs.ValueType.{is_value_type};
 
 use crate::cells::CellView;
 use enc_base::Token;
 use enc_schema::columns::{TYPE_DEF_EXTENDS, TYPE_REF_TYPE_NAME, TYPE_REF_TYPE_NAMESPACE};
-use enc_schema::tables::TYPE_REF;
+use enc_base::tables::TYPE_REF;
 
 /// Whether the type extends System.ValueType or System.Enum, whatever its scope (ECMA-335
 /// II.10.1.3).

@@ -5,7 +5,7 @@ ghost use Rattle.enc_schema.specs.Children.{is_child_table, owner_table};
 ghost use Rattle.enc_plain.specs.Cell.{number, text, blob, guid, refer, body, field, kind_in, numbers, texts, blobs, guids, references};
 ghost use Rattle.enc_plain.specs.Module.{Module, rows_in, has_row, cell_of, owner_of, kids_of};
 ghost use Rattle.enc_plain.specs.Reading.{index_token};
-ghost use Rattle.enc_schema.specs.Tables.{field_rva, method_def};
+ghost use Rattle.enc_base.specs.Tables.{field_rva, method_def};
 
 use enc_base::Token;
 use enc_opcodes::CodeRef;

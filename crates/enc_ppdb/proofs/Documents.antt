@@ -7,7 +7,7 @@ use Rattle.std.proofs.lemmas.Bool.Decides.{nat_tests}
 use Rattle.enc_base.proofs.First.{silent}
 use Rattle.enc_rows.specs.Layout.{rows_of}
 use Rattle.enc_rows.specs.Source.{Source}
-use Rattle.enc_schema.specs.Tables as tables
+use Rattle.enc_base.specs.Tables as tables
 use Rattle.enc_plain.specs.Debug.{Document}
 use Rattle.enc_ppdb.specs.Fault.{is_document, document_fault, documents_fault}
 use Rattle.enc_ppdb.specs.PdbChain.{document_of, document_at}

@@ -17,7 +17,7 @@ use Rattle.enc_plain.specs.SoundDebug.{have_documents, IsSoundPdb}
 use Rattle.enc_rows.specs.Layout.{rows_of}
 use Rattle.enc_rows.specs.Source.{Source, raw_in}
 use Rattle.enc_rows.specs.Written.{rows_at, count_at}
-use Rattle.enc_schema.specs.Tables as tables
+use Rattle.enc_base.specs.Tables as tables
 use Rattle.enc_schema.specs.Columns as columns
 use Rattle.enc_seqpoints.specs.Grammar.{method_points}
 use Rattle.enc_ppdb.specs.Fault.{is_document, are_there, all_there, is_method, unless_good, document_fault, method_fault, documents_fault, methods_fault}

@@ -14,7 +14,7 @@ use Rattle.enc_plain.specs.SoundDebug.{have_documents, is_method_of, IsSoundPdb,
 use Rattle.enc_rows.specs.Layout.{is_pdb_table, rows_of}
 use Rattle.enc_rows.specs.Source.{Source}
 use Rattle.enc_rows.specs.Written.{count_at}
-use Rattle.enc_schema.specs.Tables as tables
+use Rattle.enc_base.specs.Tables as tables
 use Rattle.enc_seqpoints.specs.Grammar.{method_points}
 use Rattle.enc_ppdb.specs.Fault.{fits_methods, pdb_of}
 use Rattle.enc_ppdb.specs.Pdb.{pdb_source_of, points_of}

@@ -14,7 +14,7 @@ use Rattle.enc_plain.specs.SoundDebug.{numbered, can_be_spelled, have_documents,
 use Rattle.enc_rows.specs.Layout.{rows_of}
 use Rattle.enc_rows.specs.Source.{Source, raw_in}
 use Rattle.enc_schema.specs.Columns as columns
-use Rattle.enc_schema.specs.Tables as tables
+use Rattle.enc_base.specs.Tables as tables
 use Rattle.enc_seqpoints.specs.declared.point.Point.{Point}
 use Rattle.enc_seqpoints.specs.Grammar.{MethodPoints, points_in, is_row, after, opened}
 use Rattle.enc_seqpoints.specs.Spelling.{document_holds, is_later, are_writable, is_writable, preceded, records_of, header_bytes, first_document, blob_of}

@@ -17,7 +17,7 @@ use Rattle.enc_generation_map.proofs.Keeping.{get_front, get_behind, those_behin
 use Rattle.enc_plain.specs.SoundDebug.{IsSoundPdb}
 use Rattle.enc_plain.specs.declared.place.RowPlace.{RowPlace}
 use Rattle.enc_rows.specs.Source.{Source}
-use Rattle.enc_schema.specs.Tables as tables
+use Rattle.enc_base.specs.Tables as tables
 use Rattle.enc_ppdb.specs.Fault.{named_tokens}
 use Rattle.enc_ppdb.specs.KnownAt.{known_or, known_at}
 use Rattle.enc_ppdb.specs.PdbChain.{DebugDelta, base_row, delta_row, pdb_with}

@@ -12,7 +12,7 @@ use Rattle.enc_meta.specs.Heaps.{blob_at, guid_at}
 use Rattle.enc_rows.specs.Layout.{rows_of}
 use Rattle.enc_rows.specs.Source.{Source, raw_in}
 use Rattle.enc_rows.specs.Sums.{below}
-use Rattle.enc_schema.specs.Tables as tables
+use Rattle.enc_base.specs.Tables as tables
 use Rattle.enc_schema.specs.Columns as columns
 use Rattle.enc_seqpoints.specs.declared.point.Point.{Point}
 use Rattle.enc_seqpoints.specs.Grammar.{MethodPoints}

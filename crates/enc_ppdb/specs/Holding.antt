@@ -13,7 +13,7 @@ use Rattle.enc_meta.specs.declared.builder.BuildFault.TheVariants.{Memory, TooLa
 use Rattle.enc_plain.specs.Debug.{Document, PlainPoint, MethodDebug, PlainPdb}
 use Rattle.enc_rows.specs.Sums.{sum_below}
 use Rattle.enc_rows.specs.Written.{rows_at, count_at}
-use Rattle.enc_schema.specs.Tables as tables
+use Rattle.enc_base.specs.Tables as tables
 use Rattle.enc_seqpoints.specs.declared.point.Point.{Point}
 use Rattle.enc_seqpoints.specs.Grammar.{method_points, points_in}
 use Rattle.enc_ppdb.specs.Method.{one_document}

@@ -8,7 +8,7 @@ use Rattle.enc_plain.specs.Debug.{Document, MethodDebug, PlainPdb, unknown, debu
 use Rattle.enc_rows.specs.Layout.{rows_of}
 use Rattle.enc_rows.specs.Source.{Source, raw_in}
 use Rattle.enc_schema.specs.Columns as columns
-use Rattle.enc_schema.specs.Tables as tables
+use Rattle.enc_base.specs.Tables as tables
 use Rattle.enc_seqpoints.specs.Grammar.{MethodPoints, method_points}
 use Rattle.enc_ppdb.specs.Pdb.{name_of_document, points_of}
 use Rattle.enc_ppdb.specs.Points.{row_for}

@@ -13,7 +13,7 @@ use Rattle.enc_meta.specs.declared.ends.TextEnds.{TextEnds}
 use Rattle.enc_rows.specs.Layout.{Layout, IsWithin, rows_of}
 use Rattle.enc_rows.specs.Source.{Source}
 use Rattle.enc_rows.specs.Sums.{below}
-use Rattle.enc_schema.specs.Tables as tables
+use Rattle.enc_base.specs.Tables as tables
 use Rattle.enc_seqpoints.specs.declared.point.Point.{Point}
 use Rattle.enc_seqpoints.specs.Grammar.{MethodPoints}
 use Rattle.enc_ppdb.specs.Pdb.{points_of}

@@ -9,7 +9,7 @@ use Rattle.enc_generation_map.specs.Places.{one_place, KeepsPlaces, KeepsAllPlac
 use Rattle.enc_plain.specs.SoundDebug.{IsSoundPdb}
 use Rattle.enc_plain.specs.declared.place.RowPlace.{RowPlace}
 use Rattle.enc_rows.specs.Source.{Source}
-use Rattle.enc_schema.specs.Tables as tables
+use Rattle.enc_base.specs.Tables as tables
 use Rattle.enc_ppdb.specs.Fault.{named_tokens}
 use Rattle.enc_ppdb.specs.PdbChain.{DebugDelta, delta_row, pdb_with}
 

@@ -17,7 +17,7 @@ use Rattle.enc_rows.specs.Source.{Source, raw_in}
 use Rattle.enc_rows.specs.Sums.{sum_below}
 use Rattle.enc_rows.specs.Written.{rows_at, count_at}
 use Rattle.enc_schema.specs.Columns as columns
-use Rattle.enc_schema.specs.Tables as tables
+use Rattle.enc_base.specs.Tables as tables
 use Rattle.enc_seqpoints.specs.declared.point.Point.{Point}
 use Rattle.enc_seqpoints.specs.Grammar.{method_points, points_in}
 use Rattle.enc_ppdb.specs.Fault.{pdb_of}

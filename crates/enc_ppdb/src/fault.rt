@@ -14,7 +14,7 @@ use enc_schema::columns::{
     DOCUMENT_HASH, DOCUMENT_HASH_ALGORITHM, DOCUMENT_LANGUAGE, DOCUMENT_NAME,
     METHOD_DEBUG_INFORMATION_DOCUMENT, METHOD_DEBUG_INFORMATION_SEQUENCE_POINTS,
 };
-use enc_schema::tables::{DOCUMENT, METHOD_DEBUG_INFORMATION};
+use enc_base::tables::{DOCUMENT, METHOD_DEBUG_INFORMATION};
 use enc_seqpoints::{Point, PointFault, Points, read_points};
 use std::alloc::{AllocError, Global};
 

@@ -8,7 +8,7 @@ use crate::fault::{good_document, points_of};
 use crate::file::File;
 use enc_base::Token;
 use enc_plain::DocumentRef;
-use enc_schema::tables::DOCUMENT;
+use enc_base::tables::DOCUMENT;
 use enc_seqpoints::Points;
 use std::alloc::{AllocError, Global};
 use std::marker::Model;

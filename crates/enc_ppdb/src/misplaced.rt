@@ -4,7 +4,7 @@ ghost use Rattle.enc_ppdb.specs.Misplaced.{lesser_of, debug_token};
 ghost use Rattle.enc_ppdb.specs.Seen.{is_past_end};
 
 use enc_base::Token;
-use enc_schema::tables::METHOD_DEBUG_INFORMATION;
+use enc_base::tables::METHOD_DEBUG_INFORMATION;
 
 /// Whether there is no size, or it is less than the end of some points.
 pub(crate) fn is_past_end(size: Option<u32>, end: u64) -> bool

@@ -5,7 +5,7 @@ ghost use Rattle.enc_base.specs.Token.{nth_row as row_from};
 ghost use Rattle.enc_meta.specs.Built.{joined_size};
 ghost use Rattle.enc_plain.specs.SoundDebug.{IsSoundPdb};
 ghost use Rattle.enc_rows.specs.Written.{count_at, IndicesFit};
-ghost use Rattle.enc_schema.specs.Tables.{document as document_table, method_def, method_debug_information};
+ghost use Rattle.enc_base.specs.Tables.{document as document_table, method_def, method_debug_information};
 ghost use Rattle.std.specs.List.{list_all};
 ghost use Rattle.enc_seqpoints.specs.declared.point.Point.{Point as ThePoint};
 ghost use Rattle.enc_seqpoints.specs.Grammar.{method_points, points_in};
@@ -20,7 +20,7 @@ use enc_base::{StreamName, written_laws};
 use enc_meta::{BuildFault, HeapBuilder};
 use enc_plain::PointSource;
 use enc_rows::TableBuilder;
-use enc_schema::tables::{METHOD_DEBUG_INFORMATION, METHOD_DEF};
+use enc_base::tables::{METHOD_DEBUG_INFORMATION, METHOD_DEF};
 use enc_seqpoints::{Point, Points, WriteFault, point_laws, write_points};
 use std::alloc::{AllocError, Global};
 

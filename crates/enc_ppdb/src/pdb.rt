@@ -19,7 +19,7 @@ use crate::misplaced::{debug_token, is_past_end, lesser};
 use crate::named::named_of;
 use crate::sizes::CodeSizes;
 use enc_base::{Place, ReadFault, Token};
-use enc_schema::tables::{METHOD_DEBUG_INFORMATION, METHOD_DEF};
+use enc_base::tables::{METHOD_DEBUG_INFORMATION, METHOD_DEF};
 use enc_seqpoints::Points;
 use std::alloc::{AllocError, Global};
 use std::marker::Model;

@@ -4,7 +4,7 @@ ghost use Rattle.enc_ppdb.specs.Misplaced.{size_for};
 
 use crate::methods::MethodList;
 use enc_base::Token;
-use enc_schema::tables::METHOD_DEF;
+use enc_base::tables::METHOD_DEF;
 use std::alloc::{AllocError, Global};
 use std::marker::Model;
 

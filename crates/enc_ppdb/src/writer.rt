@@ -6,7 +6,7 @@ ghost use Rattle.enc_meta.specs.Built.{is_kept, is_guid_kept, blob_offset, guid_
 ghost use Rattle.enc_meta.specs.BuiltLaws.{IsGood};
 ghost use Rattle.enc_plain.specs.DebugSeen.{document_seen};
 ghost use Rattle.enc_rows.specs.Written.{count_at};
-ghost use Rattle.enc_schema.specs.Tables.{document as document_table};
+ghost use Rattle.enc_base.specs.Tables.{document as document_table};
 ghost use Rattle.enc_ppdb.specs.Written.{document_weight, most_pdb_weight, pdb_starts};
 ghost use Rattle.enc_ppdb.specs.Holding.{document_key, keeps_values, name_blob as name_blob_of, heaps_size, Grown, RefusesPdb, passes_with, is_unknown, OneDocument, RowGiven};
 
@@ -14,7 +14,7 @@ use enc_base::{StreamName, push_unsigned};
 use enc_meta::{BuildFault, HeapBuilder, HeapLengths};
 use enc_plain::DocumentRef;
 use enc_rows::TableBuilder;
-use enc_schema::tables::DOCUMENT;
+use enc_base::tables::DOCUMENT;
 use std::alloc::{AllocError, Global};
 use std::collections::BTreeMap;
 

@@ -10,7 +10,7 @@ use Rattle.enc_sigs.specs.Tree.{Forest, none, more, SigTree, forest_of}
 use Rattle.enc_plain.specs.Module.{Module, cells_of}
 use Rattle.enc_plain.specs.Rows.{Rows, bytes_at, token_at}
 use Rattle.enc_plain.specs.Sound.{row_count}
-use Rattle.enc_schema.specs.Tables as tables
+use Rattle.enc_base.specs.Tables as tables
 use Rattle.enc_schema.specs.Columns as columns
 
 -- the greatest depth of a token in types; one that names no type has the nil token

@@ -8,7 +8,7 @@ use Rattle.enc_sigs.specs.declared.kind.SigKind.TheVariants.{TypeSpec}
 use Rattle.enc_plain.specs.Module.{Module, cells_of}
 use Rattle.enc_plain.specs.Rows.{Rows, bytes_at, token_at}
 use Rattle.enc_plain.specs.Sound.{row_count}
-use Rattle.enc_schema.specs.Tables as tables
+use Rattle.enc_base.specs.Tables as tables
 use Rattle.enc_schema.specs.Columns as columns
 use Rattle.enc_reference_depth.specs.Depth.{deepest_in, depth_within, most_depth}
 use Rattle.enc_reference_depth.specs.declared.edges.Edge.{Edge}

@@ -4,7 +4,7 @@ ghost use Rattle.enc_reference_depth.specs.Edges.{AreEdges, AreFew, deep_count, 
 ghost use Rattle.enc_plain.specs.Module.{cells_of, has_row};
 ghost use Rattle.enc_plain.specs.Rows.{bytes_at};
 ghost use Rattle.enc_plain.specs.Sound.{IsSound, row_count};
-ghost use Rattle.enc_schema.specs.Tables.{type_ref, type_spec};
+ghost use Rattle.enc_base.specs.Tables.{type_ref, type_spec};
 ghost use Rattle.enc_sigs.specs.Grammar.{is_coded, sig_in};
 ghost use Rattle.enc_sigs.specs.Tree.{forest_of};
 ghost use Rattle.enc_sigs.specs.declared.kind.SigKind.TheVariants.{TypeSpec};
@@ -12,7 +12,7 @@ ghost use Rattle.enc_sigs.specs.declared.kind.SigKind.TheVariants.{TypeSpec};
 use enc_base::{Counts, Token};
 use enc_plain::ModuleView;
 use enc_schema::columns::{TYPE_REF_RESOLUTION_SCOPE, TYPE_SPEC_SIGNATURE};
-use enc_schema::tables::{TYPE_REF, TYPE_SPEC};
+use enc_base::tables::{TYPE_REF, TYPE_SPEC};
 use enc_sigs::{Elem, Sig, SigFault, SigKind, read_sig};
 use std::alloc::{AllocError, Global};
 

@@ -11,7 +11,7 @@ use Rattle.enc_plain.proofs.Columns.{part_cases}
 use Rattle.enc_plain.specs.Debug.{PlainPdb}
 use Rattle.enc_plain.specs.Module.{Module, has_row, rows_in, cell_of}
 use Rattle.enc_plain.specs.Sound.{IsSound}
-use Rattle.enc_schema.specs.Tables.{method_def}
+use Rattle.enc_base.specs.Tables.{method_def}
 use Rattle.enc_versions.specs.StandFor.{MethodLines, lines_read, lines_known, AreVersionsOf}
 use Rattle.enc_versions.specs.Version.{Version, newest_of}
 use Rattle.enc_vm.proofs.Anywhere.{sound_same}

@@ -10,7 +10,7 @@ use Rattle.enc_opcodes.specs.Body.{is_instruction_start}
 use Rattle.enc_opcodes.specs.Instruction.{instructions_of}
 use Rattle.enc_plain.specs.Module.{Module}
 use Rattle.enc_plain.specs.Sound.{IsSound}
-use Rattle.enc_schema.specs.Tables.{method_def}
+use Rattle.enc_base.specs.Tables.{method_def}
 use Rattle.enc_versions.specs.Stops.{is_at_point}
 use Rattle.enc_versions.specs.Version.{Version, newest_of}
 use Rattle.enc_vm.specs.CallsSeen.{AreBodiesOf}

@@ -5,7 +5,7 @@ use Rattle.enc_opcodes.specs.Body.{is_instruction_start}
 use Rattle.enc_opcodes.specs.Instruction.{instructions_of}
 use Rattle.enc_plain.specs.Module.{Module}
 use Rattle.enc_plain.specs.Sound.{IsSound}
-use Rattle.enc_schema.specs.Tables.{method_def}
+use Rattle.enc_base.specs.Tables.{method_def}
 use Rattle.enc_plain.specs.Debug.{PlainPdb}
 use Rattle.enc_versions.specs.StandFor.{AreVersionsOf}
 use Rattle.enc_versions.specs.Version.{Version, newest_of}

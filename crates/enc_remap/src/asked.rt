@@ -5,7 +5,7 @@ ghost use Rattle.enc_machine_types.specs.Members.{method_body};
 ghost use Rattle.enc_opcodes.specs.Body.{body_of, code_seen};
 ghost use Rattle.enc_remap.specs.Asked.{broken_of, may_remap as rule_of_remap, version_seen};
 ghost use Rattle.enc_remap.specs.Remap.{newest_code};
-ghost use Rattle.enc_schema.specs.Tables.{method_def};
+ghost use Rattle.enc_base.specs.Tables.{method_def};
 ghost use Rattle.enc_versions.specs.Stops.{is_at_point as is_point_in, is_stop_in};
 ghost use Rattle.enc_versions.specs.StandFor.{lines_known, lines_read};
 

@@ -4,7 +4,7 @@ ghost use Rattle.enc_machine_types.specs.Members.{method_body, run_body};
 ghost use Rattle.enc_opcodes.specs.Body.{body_of, code_seen};
 ghost use Rattle.enc_remap.specs.Remap.{first_broken, led_from, move_of, move_rules};
 ghost use Rattle.enc_remap.specs.Seen.{IsGoal, frame_rules, version_codes};
-ghost use Rattle.enc_schema.specs.Tables.{method_def};
+ghost use Rattle.enc_base.specs.Tables.{method_def};
 ghost use Rattle.enc_versions.specs.Version.{newest_of};
 ghost use Rattle.enc_vm.specs.CallsSeen.{AreBodiesOf};
 

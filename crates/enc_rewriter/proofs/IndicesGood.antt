@@ -21,7 +21,7 @@ use Rattle.enc_schema.proofs.ChildTables.{by_child}
 use Rattle.enc_schema.specs.Children.{is_child_table, owner_table, ptr_of}
 use Rattle.enc_schema.specs.Coding.{decoded}
 use Rattle.enc_schema.specs.Schema.{columns_in, column_in}
-use Rattle.enc_schema.specs.Tables as tables
+use Rattle.enc_base.specs.Tables as tables
 use Rattle.enc_schema.specs.declared.column.Column.{Column}
 use Rattle.enc_schema.specs.declared.column.Column.TheVariants.{Num8, Num16, Num32, Text, Guid, Blob, Index, Coded, Run}
 use Rattle.enc_rewriter.specs.Numbers.{run_first}

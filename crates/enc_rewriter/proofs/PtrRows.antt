@@ -10,7 +10,7 @@ use Rattle.enc_rows.specs.Written.{rows_at}
 use Rattle.enc_schema.proofs.ChildTables.{by_child}
 use Rattle.enc_schema.specs.Children.{is_child_table, ptr_of}
 use Rattle.enc_schema.specs.Schema.{columns_in}
-use Rattle.enc_schema.specs.Tables as tables
+use Rattle.enc_base.specs.Tables as tables
 use Rattle.enc_schema.specs.declared.column.Column.TheVariants.{Index}
 use Rattle.enc_rewriter.specs.Numbers.{is_in_row_order, rows_of_one, ptr_rows, HoldRows}
 use Rattle.enc_rewriter.specs.Placed.{Placed}

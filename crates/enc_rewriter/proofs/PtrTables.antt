@@ -10,7 +10,7 @@ use Rattle.enc_plain.specs.Module.{Module, Row}
 use Rattle.enc_plain.specs.Sound.{row_count, is_part, IsSound}
 use Rattle.enc_rows.specs.Written.{rows_at}
 use Rattle.enc_schema.specs.Children.{is_child_table, ptr_of}
-use Rattle.enc_schema.specs.Tables as tables
+use Rattle.enc_base.specs.Tables as tables
 use Rattle.enc_schema.proofs.ChildTables.{by_child}
 use Rattle.enc_rewriter.specs.Numbers.{nth_child, child_order, is_ptr_table, ptr_rows, KeepOthers, PtrsPushed, RowsSay, TableSays, TablesSay, HoldRows}
 use Rattle.enc_rewriter.specs.Placed.{Placed}

@@ -13,7 +13,7 @@ use Rattle.enc_schema.specs.declared.column.Column.TheVariants.{Num8, Num16, Num
 use Rattle.enc_schema.specs.Children.{is_child_table, ptr_of}
 use Rattle.enc_schema.specs.Schema.{columns_in}
 use Rattle.enc_schema.specs.Widths.{Shape, width_of, space_of}
-use Rattle.enc_schema.specs.Tables as tables
+use Rattle.enc_base.specs.Tables as tables
 use Rattle.enc_rows.specs.Sums.{below, sum_below}
 use Rattle.enc_rows.specs.Written.{rows_at, count_at, valid_of, shape_of, table_written, count_written, more_data, header_written, stream_of, AreRows}
 use Rattle.enc_rows.proofs.Below.{sum_none, sum_suc, sum_more}

@@ -22,7 +22,7 @@ use Rattle.enc_schema.proofs.ChildTables.{by_child}
 use Rattle.enc_schema.specs.Children.{is_child_table, owner_table, ptr_of}
 use Rattle.enc_schema.specs.Coding.{tables_of, each_table, tag_bits, table_with, decoded}
 use Rattle.enc_schema.specs.Schema.{columns_in, column_in}
-use Rattle.enc_schema.specs.Tables as tables
+use Rattle.enc_base.specs.Tables as tables
 use Rattle.enc_schema.specs.Widths.{Shape, row_count_of, index_width, coded_width}
 use Rattle.enc_schema.specs.declared.column.Coding.{Coding}
 use Rattle.enc_schema.specs.declared.column.Coding.TheVariants.{TypeDefOrRef, HasConstant, HasCustomAttribute, HasFieldMarshal, HasDeclSecurity, MemberRefParent, HasSemantics, MethodDefOrRef, MemberForwarded, Implementation, CustomAttributeType, ResolutionScope, TypeOrMethodDef, HasCustomDebugInformation}

@@ -9,7 +9,7 @@ use Rattle.enc_plain.specs.Debug.{PlainPdb}
 use Rattle.enc_plain.specs.Module.{Module}
 use Rattle.enc_plain.specs.Sound.{row_count}
 use Rattle.enc_ppdb.specs.Written.{pdb_weight, most_pdb_weight}
-use Rattle.enc_schema.specs.Tables as tables
+use Rattle.enc_base.specs.Tables as tables
 use Rattle.enc_rewriter.specs.Values.{heaps_for, too_large_heap}
 use Rattle.enc_rewriter.specs.Weight.{module_weight, most_weight}
 use Rattle.enc_rewriter.specs.declared.fault.RewriteFault.{RewriteFault}

@@ -17,7 +17,7 @@ use Rattle.enc_schema.specs.Children.{is_child_table, owner_table, ptr_of}
 use Rattle.enc_schema.specs.Schema.{columns_in, column_in}
 use Rattle.enc_schema.specs.declared.column.Column.{Column}
 use Rattle.enc_schema.specs.declared.column.Column.TheVariants.{Run}
-use Rattle.enc_schema.specs.Tables as tables
+use Rattle.enc_base.specs.Tables as tables
 use Rattle.enc_meta.specs.Built.{Built}
 use Rattle.enc_rewriter.specs.Placed.{Placed}
 use Rattle.enc_rewriter.specs.Values.{KeepValues}

@@ -10,7 +10,7 @@ use Rattle.enc_plain.specs.Module.{Module, cells_of, cell_of}
 use Rattle.enc_plain.specs.Rows.{number_at}
 use Rattle.enc_plain.specs.Sound.{row_count}
 use Rattle.enc_schema.specs.Columns as columns
-use Rattle.enc_schema.specs.Tables as tables
+use Rattle.enc_base.specs.Tables as tables
 
 -- the code, the RVA of each method's body and that of each row of FieldRVA, 0 for none
 pub record Placed : Type 0 where

@@ -22,7 +22,7 @@ use Rattle.enc_rows.specs.Written.{AreRows}
 use Rattle.enc_base.specs.Token.{nth_row}
 use Rattle.enc_schema.specs.Children.{is_child_table, ptr_of}
 use Rattle.enc_schema.specs.Columns as columns
-use Rattle.enc_schema.specs.Tables as tables
+use Rattle.enc_base.specs.Tables as tables
 use Rattle.enc_rewriter.specs.Values.{no_starts, heaps_for}
 use Rattle.enc_rewriter.specs.Numbers.{HoldRows, needs_jtd, is_in_row_order}
 use Rattle.enc_ppdb.specs.Written.{WritesPdb}

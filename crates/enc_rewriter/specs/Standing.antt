@@ -14,7 +14,7 @@ use Rattle.enc_plain.specs.Bodies.{body_loaded, code_loaded, code_is_good}
 use Rattle.enc_plain.specs.Cell.{body, field}
 use Rattle.enc_plain.specs.Module.{Module, cell_of}
 use Rattle.enc_plain.specs.Sound.{row_count}
-use Rattle.enc_schema.specs.Tables as tables
+use Rattle.enc_base.specs.Tables as tables
 use Rattle.enc_rows.specs.Sums.{sum_below}
 use Rattle.enc_rewriter.specs.Placed.{loaded_with, IsBodyPlaced, IsFieldPlaced}
 use Rattle.enc_rewriter.specs.Weight.{row_weight, body_weight, field_weight, most_weight}

@@ -10,7 +10,7 @@ use Rattle.enc_schema.specs.Children.{is_child_table}
 use Rattle.enc_schema.specs.Schema.{columns_in}
 use Rattle.enc_schema.specs.declared.column.Column.{Column}
 use Rattle.enc_schema.specs.declared.column.Column.TheVariants.{Num8, Num16}
-use Rattle.enc_schema.specs.Tables as tables
+use Rattle.enc_base.specs.Tables as tables
 
 -- a number by its width with its padding, and four bytes for each index, run and heap
 abbrev pub column_weight : Column → ℕ

@@ -14,7 +14,7 @@ ghost use Rattle.enc_rewriter.specs.Standing.{StandsAt, Weighs, is_known, known_
 ghost use Rattle.enc_rewriter.specs.Placed.{IsBodyPlaced};
 ghost use Rattle.enc_rewriter.specs.Values.{KeepValues, no_starts, texts_named};
 ghost use Rattle.enc_rewriter.specs.Weight.{bodies_weight};
-ghost use Rattle.enc_schema.specs.Tables.{method_def};
+ghost use Rattle.enc_base.specs.Tables.{method_def};
 
 use crate::code::patched;
 use enc_base::Token;
@@ -25,7 +25,7 @@ use enc_meta::HeapBuilder;
 use enc_opcodes::{Clause, CodeRef};
 use enc_pe::CODE_RVA;
 use enc_plain::ModuleView;
-use enc_schema::tables::METHOD_DEF;
+use enc_base::tables::METHOD_DEF;
 use std::alloc::{AllocError, Global};
 use std::collections::BTreeMap;
 

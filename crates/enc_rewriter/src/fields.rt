@@ -4,12 +4,12 @@ ghost use Rattle.enc_plain.specs.Sound.{row_count};
 ghost use Rattle.enc_rewriter.specs.Placed.{IsFieldPlaced};
 ghost use Rattle.enc_rewriter.specs.Standing.{IsFieldCellPlaced, AreFieldsPlaced, fields_before};
 ghost use Rattle.enc_rewriter.specs.Weight.{fields_weight};
-ghost use Rattle.enc_schema.specs.Tables.{field_rva};
+ghost use Rattle.enc_base.specs.Tables.{field_rva};
 
 use enc_base::{Token, push_zeros};
 use enc_pe::CODE_RVA;
 use enc_plain::ModuleView;
-use enc_schema::tables::FIELD_RVA;
+use enc_base::tables::FIELD_RVA;
 use std::alloc::{AllocError, Global};
 
 /// Writes bytes behind the code, at a multiple of eight, and answers their RVA.

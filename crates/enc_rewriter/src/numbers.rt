@@ -7,7 +7,7 @@ ghost use Rattle.enc_plain.specs.Module.{has_row, cell_of};
 ghost use Rattle.enc_plain.specs.Reading.{cell_read};
 ghost use Rattle.enc_plain.specs.Sound.{IsSound, row_count};
 ghost use Rattle.enc_schema.specs.Schema.{columns_in, column_in};
-ghost use Rattle.enc_schema.specs.Tables.{field_rva, method_def};
+ghost use Rattle.enc_base.specs.Tables.{field_rva, method_def};
 ghost use Rattle.enc_schema.specs.declared.column.Column.TheVariants.{Text, Blob, Guid};
 ghost use Rattle.enc_rewriter.specs.Numbers.{reading_by, PlainNumberSays, NumberSays, AreRuns};
 ghost use Rattle.enc_rewriter.specs.Values.{KeepValues};
@@ -21,7 +21,7 @@ use enc_base::Token;
 use enc_meta::HeapBuilder;
 use enc_plain::ModuleView;
 use enc_schema::Column;
-use enc_schema::tables::{FIELD_RVA, METHOD_DEF};
+use enc_base::tables::{FIELD_RVA, METHOD_DEF};
 use std::alloc::AllocError;
 
 /// The offset of the text in a column.

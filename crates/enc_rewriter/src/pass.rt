@@ -6,7 +6,7 @@ ghost use Rattle.enc_plain.specs.Cell.{kind_in, text, texts};
 ghost use Rattle.enc_plain.specs.Module.{has_row, cell_of};
 ghost use Rattle.enc_plain.specs.Sound.{IsSound, row_count};
 ghost use Rattle.enc_schema.specs.Schema.{columns_in, column_in};
-ghost use Rattle.enc_schema.specs.Tables.{method_def};
+ghost use Rattle.enc_base.specs.Tables.{method_def};
 ghost use Rattle.enc_rewriter.specs.Standing.{AreGathered};
 ghost use Rattle.enc_rewriter.specs.Values.{gathers as does_gather, values_at, values_of_row, values_of_table, all_values, with_all, IsPast};
 ghost use Rattle.enc_rewriter.specs.declared.pass.Pass.TheVariants.{Users};
@@ -16,7 +16,7 @@ use crate::users::add_named;
 use enc_base::Token;
 use enc_meta::BuildFault;
 use enc_plain::ModuleView;
-use enc_schema::tables::METHOD_DEF;
+use enc_base::tables::METHOD_DEF;
 use enc_schema::{Column, columns_of};
 use std::collections::BTreeSet;
 

@@ -11,7 +11,7 @@ ghost use Rattle.enc_rewriter.specs.Numbers.{is_in_row_order as are_in_row_order
 use enc_base::Token;
 use enc_plain::ModuleView;
 use enc_rows::TableBuilder;
-use enc_schema::tables::{EVENT, FIELD, METHOD_DEF, PARAM, PROPERTY};
+use enc_base::tables::{EVENT, FIELD, METHOD_DEF, PARAM, PROPERTY};
 use enc_schema::{owner_table, ptr_table};
 use std::alloc::{AllocError, Global};
 

@@ -12,7 +12,7 @@ ghost use Rattle.enc_rewriter.specs.Numbers.{run_first, runs_begin, list_of_runs
 use enc_base::Token;
 use enc_plain::ModuleView;
 use enc_schema::owner_table;
-use enc_schema::tables::{EVENT, FIELD, METHOD_DEF, PARAM, PROPERTY};
+use enc_base::tables::{EVENT, FIELD, METHOD_DEF, PARAM, PROPERTY};
 use std::alloc::{AllocError, Global};
 use std::marker::Model;
 

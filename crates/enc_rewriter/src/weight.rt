@@ -8,13 +8,13 @@ ghost use Rattle.enc_plain.specs.Sound.{IsSound, row_count};
 ghost use Rattle.enc_rewriter.specs.Standing.{bodies_before, fields_before, row_weights_before, AreWeighed};
 ghost use Rattle.enc_rewriter.specs.Values.{no_starts};
 ghost use Rattle.enc_rewriter.specs.Weight.{column_weight as weight_of_column, row_weight as weight_of_row, body_weight as weight_of_body, field_weight as weight_of_field, rows_weight as weight_of_rows, bodies_weight as weight_of_bodies, fields_weight as weight_of_fields, module_weight as weight_of_module, most_weight};
-ghost use Rattle.enc_schema.specs.Tables.{method_def, field_rva};
+ghost use Rattle.enc_base.specs.Tables.{method_def, field_rva};
 
 use crate::module_values::ModuleValues;
 use enc_base::Token;
 use enc_il::{behind_sections, section_front};
 use enc_plain::ModuleView;
-use enc_schema::tables::{FIELD_RVA, METHOD_DEF};
+use enc_base::tables::{FIELD_RVA, METHOD_DEF};
 use enc_schema::{Column, columns_of, is_child_table};
 use std::alloc::{AllocError, Global};
 use std::collections::BTreeMap;

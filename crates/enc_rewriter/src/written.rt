@@ -5,7 +5,7 @@ ghost use Rattle.enc_plain.specs.Sound.{row_count};
 ghost use Rattle.enc_plain.specs.SoundDebug.{IsSoundPdb, KnowsWithin};
 ghost use Rattle.enc_ppdb.specs.Written.{WritesPdb};
 ghost use Rattle.enc_rewriter.specs.Limits.{pdb_limit, rewrite_limit, TellsLimit};
-ghost use Rattle.enc_schema.specs.Tables.{method_def};
+ghost use Rattle.enc_base.specs.Tables.{method_def};
 ghost use Rattle.enc_rewriter.specs.Values.{KeepValues};
 ghost use Rattle.enc_rewriter.specs.Weight.{module_weight, most_weight};
 ghost use Rattle.enc_rewriter.specs.Rewritten.{root_form, image_of_parts, FitsImage, HoldModule, IsPlainImage, MeansModule, RewritesTo, stands_in_order};
@@ -18,7 +18,7 @@ use enc_meta::HeapBuilder;
 use enc_pe::{PeFault, write_pe};
 use enc_plain::{ModuleView, PointSource};
 use enc_ppdb::write_pdb;
-use enc_schema::tables::METHOD_DEF;
+use enc_base::tables::METHOD_DEF;
 use std::alloc::{AllocError, Global};
 
 /// A number of four bytes is one.

@@ -17,7 +17,7 @@ use Rattle.enc_plain.specs.Sound.{IsSound, row_count}
 use Rattle.enc_plain.proofs.CellsOf.{token_there}
 use Rattle.enc_rows.specs.Sums.{below}
 use Rattle.enc_rows.proofs.Listed.{get_below, length_below}
-use Rattle.enc_schema.specs.Tables.{type_def, nested_class}
+use Rattle.enc_base.specs.Tables.{type_def, nested_class}
 use Rattle.enc_row_order.specs.Depth.{enclosing, enclosing_at, depth_by, depth}
 use Rattle.enc_row_order.specs.Orders.{standing_rows}
 use Rattle.enc_row_order.specs.Walks.{type_walked, AreWalks, ended, walk_from, going_on, doubled, is_short}

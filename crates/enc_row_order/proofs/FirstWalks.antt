@@ -14,7 +14,7 @@ use Rattle.enc_plain.specs.Rows.{token_at}
 use Rattle.enc_plain.specs.Sound.{row_count}
 use Rattle.enc_rows.specs.Sums.{below}
 use Rattle.enc_rows.proofs.Listed.{get_below, length_below}
-use Rattle.enc_schema.specs.Tables.{type_def, nested_class}
+use Rattle.enc_base.specs.Tables.{type_def, nested_class}
 use Rattle.enc_row_order.specs.Depth.{enclosing, enclosing_at, depth_around, depth_by}
 use Rattle.enc_row_order.specs.Walks.{type_walked, AreWalks, AreFirst, ended, one_step, has_ended, is_free, noted}
 use Rattle.enc_row_order.specs.declared.depth.Walk.{Walk}

@@ -5,7 +5,7 @@ use Rattle.enc_plain.specs.Module.{Module}
 use Rattle.enc_plain.specs.Sound.{IsSound}
 use Rattle.enc_rows.specs.Sums.{below}
 use Rattle.enc_schema.specs.Schema.{list_at}
-use Rattle.enc_schema.specs.Tables as tables
+use Rattle.enc_base.specs.Tables as tables
 use Rattle.enc_row_order.specs.Orders.{Orders, standing_rows, new_order, by_depth, by_owner, by_method, by_key, by_param, by_attribute}
 use Rattle.enc_row_order.specs.Stages.{stage_of}
 use Rattle.enc_row_order.specs.declared.stage.Stage.{Stage}

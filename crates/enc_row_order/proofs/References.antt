@@ -12,7 +12,7 @@ use Rattle.enc_schema.specs.Schema.{column_in, columns_in}
 use Rattle.enc_schema.specs.declared.column.Coding.{Coding}
 use Rattle.enc_schema.specs.declared.column.Column.{Column}
 use Rattle.enc_schema.specs.declared.column.Column.TheVariants.{Num16, Num32, Index, Coded}
-use Rattle.enc_schema.specs.Tables.{type_def, nested_class}
+use Rattle.enc_base.specs.Tables.{type_def, nested_class}
 use Rattle.enc_row_order.proofs.FirstWalks.{IsType}
 
 -- the two columns whose cells aren't of their column's kind are of four bytes

@@ -12,8 +12,8 @@ use Rattle.enc_rows.specs.Sums.{below}
 use Rattle.enc_rows.proofs.Listed.{get_below, get_past, length_below}
 use Rattle.enc_schema.specs.Children.{is_child_table, owner_table}
 use Rattle.enc_schema.specs.Schema.{list_at}
-use Rattle.enc_schema.specs.Tables as tables
-use Rattle.enc_schema.specs.Tables.{table_count}
+use Rattle.enc_base.specs.Tables as tables
+use Rattle.enc_base.specs.Tables.{table_count}
 use Rattle.enc_row_order.specs.Depth.{depth}
 use Rattle.enc_row_order.specs.Keyed.{sorted_key, entry_row, numbered_row, entries_numbered}
 use Rattle.enc_row_order.specs.declared.sorting.Entry.{Entry}

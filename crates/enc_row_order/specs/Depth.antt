@@ -5,7 +5,7 @@ use Rattle.enc_base.specs.Token.{nth_row, is_token}
 use Rattle.enc_plain.specs.Module.{Module, cells_of}
 use Rattle.enc_plain.specs.Rows.{token_at}
 use Rattle.enc_plain.specs.Sound.{row_count}
-use Rattle.enc_schema.specs.Tables as tables
+use Rattle.enc_base.specs.Tables as tables
 
 -- the columns of NestedClass
 abbrev pub nested_class_nested_class : ℕ

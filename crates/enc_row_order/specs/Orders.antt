@@ -16,7 +16,7 @@ use Rattle.enc_schema.specs.declared.column.Column.TheVariants.{Num16, Index, Co
 use Rattle.enc_schema.specs.Children.{owner_table}
 use Rattle.enc_schema.specs.Coding.{tables_of, tag_bits}
 use Rattle.enc_schema.specs.Schema.{column_in}
-use Rattle.enc_schema.specs.Tables as tables
+use Rattle.enc_base.specs.Tables as tables
 use Rattle.enc_row_order.specs.Depth.{depth}
 use Rattle.enc_row_order.specs.Sorted.{sorted_by}
 

@@ -10,8 +10,8 @@ use Rattle.enc_row_order.specs.declared.stage.Stage.{Stage}
 use Rattle.enc_row_order.specs.declared.stage.Stage.TheVariants as stage
 use Rattle.enc_schema.specs.Children.{owner_table}
 use Rattle.enc_schema.specs.Schema.{list_at}
-use Rattle.enc_schema.specs.Tables as tables
-use Rattle.enc_schema.specs.Tables.{table_count}
+use Rattle.enc_base.specs.Tables as tables
+use Rattle.enc_base.specs.Tables.{table_count}
 
 abbrev pub stage_of : Stage → Module → Orders → Orders
 stage_of stage.Depth = by_depth

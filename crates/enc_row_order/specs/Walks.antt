@@ -7,7 +7,7 @@ use Rattle.enc_plain.specs.Sound.{row_count}
 use Rattle.enc_row_order.specs.Orders.{standing_rows}
 use Rattle.enc_row_order.specs.Depth.{depth, enclosing, enclosing_at, depth_by}
 use Rattle.enc_row_order.specs.declared.depth.Walk.{Walk}
-use Rattle.enc_schema.specs.Tables as tables
+use Rattle.enc_base.specs.Tables as tables
 
 -- the type that is type_walked from one by so many steps, None where the walk has ended before
 unfoldable pub type_walked : Module → ℕ → ℕ → Option ℕ

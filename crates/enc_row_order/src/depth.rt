@@ -8,7 +8,7 @@ ghost use Rattle.enc_rows.specs.Sums.{below};
 
 use enc_base::Token;
 use enc_plain::ModuleView;
-use enc_schema::tables::{NESTED_CLASS, TYPE_DEF};
+use enc_base::tables::{NESTED_CLASS, TYPE_DEF};
 use std::alloc::{AllocError, Global};
 
 /// The columns of NestedClass.

@@ -2,7 +2,7 @@
 ghost use Rattle.std.specs.Prelude.{◌≡◌, ◌≤◌, length};
 ghost use Rattle.enc_row_order.specs.Orders.{key_columns};
 
-use enc_schema::tables::{
+use enc_base::tables::{
     CLASS_LAYOUT, CONSTANT, CUSTOM_ATTRIBUTE, DECL_SECURITY, FIELD_LAYOUT, FIELD_MARSHAL,
     FIELD_RVA, GENERIC_PARAM, GENERIC_PARAM_CONSTRAINT, IMPL_MAP, INTERFACE_IMPL, METHOD_IMPL,
     METHOD_SEMANTICS, NESTED_CLASS,

@@ -9,7 +9,7 @@ use crate::rows::{Rows, rows_upto};
 use crate::stage::{Stage, staged};
 use enc_base::Token;
 use enc_plain::ModuleView;
-use enc_schema::tables::TABLE_COUNT;
+use enc_base::tables::TABLE_COUNT;
 use std::alloc::{AllocError, Global};
 use std::marker::Model;
 

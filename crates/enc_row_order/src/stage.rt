@@ -23,7 +23,7 @@ use crate::rows::Rows;
 use crate::sorting::{Entry, sorted_rows};
 use enc_plain::ModuleView;
 use enc_schema::owner_table;
-use enc_schema::tables::{
+use enc_base::tables::{
     CUSTOM_ATTRIBUTE, EVENT, FIELD, GENERIC_PARAM_CONSTRAINT, METHOD_DEF, PARAM, PROPERTY,
     TABLE_COUNT, TYPE_DEF,
 };

@@ -12,7 +12,7 @@ use Rattle.enc_schema.specs.Schema.{columns_in}
 use Rattle.enc_schema.specs.Widths.{row_width}
 use Rattle.enc_rows.specs.Sums.{below}
 use Rattle.enc_rows.specs.declared.form.Form.{Form}
-use Rattle.enc_schema.specs.Tables.{table_count}
+use Rattle.enc_base.specs.Tables.{table_count}
 use Rattle.enc_rows.specs.Layout.{Layout, one, has_table, tables_below, count_in, width_count, rows_begin, table_bytes, table_start, form_allows, laid_out, is_whole, whole_layout, layout_of}
 use Rattle.enc_rows.specs.Written.{rows_at, count_at, counts_of, valid_of, shape_of, table_written, count_written, more_data, header_written, stream_of, AreRows, layout_written}
 use Rattle.enc_rows.proofs.Below.{sum_none, sum_more, filled_below}

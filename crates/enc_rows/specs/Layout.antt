@@ -9,7 +9,7 @@ use Rattle.enc_base.specs.declared.refusal.Code.TheVariants.{F}
 use Rattle.enc_base.specs.declared.refusal.Place.TheVariants as place
 use Rattle.enc_meta.specs.declared.span.Span.{Span}
 use Rattle.enc_meta.specs.Heaps.{part}
-use Rattle.enc_schema.specs.Tables.{table_count, «module», enc_log, enc_map, document, method_debug_information, local_scope, local_variable, local_constant, import_scope, state_machine_method, custom_debug_information}
+use Rattle.enc_base.specs.Tables.{table_count, «module», enc_log, enc_map, document, method_debug_information, local_scope, local_variable, local_constant, import_scope, state_machine_method, custom_debug_information}
 use Rattle.enc_schema.specs.Schema.{column_in}
 use Rattle.enc_schema.specs.Widths.{Shape, width_of, row_width, column_start}
 use Rattle.enc_rows.specs.Sums.{sum_below, below}

@@ -6,7 +6,7 @@ ghost use Rattle.enc_rows.specs.Layout.{has_table, tables_below, count_in, width
 
 use crate::form::Form;
 use enc_base::{Counts, u32_at};
-use enc_schema::tables::{
+use enc_base::tables::{
     CUSTOM_DEBUG_INFORMATION, DOCUMENT, ENC_LOG, ENC_MAP, MODULE, TABLE_COUNT,
 };
 

@@ -8,7 +8,7 @@ use Rattle.enc_meta.specs.Joined.{joined_lengths}
 use Rattle.enc_meta.specs.Built.{Built, none_from, with_text, with_user, with_blob, text_bytes, user_bytes, blob_bytes, unit_bytes, joined_end}
 use Rattle.enc_schema.specs.declared.column.Column.{Column}
 use Rattle.enc_schema.specs.Children.{is_child_table, owner_table}
-use Rattle.enc_schema.specs.Tables as tables
+use Rattle.enc_base.specs.Tables as tables
 use Rattle.enc_schema.specs.Columns as columns
 use Rattle.enc_opcodes.specs.Sound.{body_is_sound}
 use Rattle.enc_rows.specs.Sums.{below}

@@ -20,7 +20,7 @@ use enc_edit_list::{ArgValue, BodyValue, Edit, InstrValue};
 use enc_opcodes::{Clause, Operand};
 use enc_plain::{CellView, ChainView};
 use enc_schema::columns::METHOD_DEF_IMPL_FLAGS;
-use enc_schema::tables::{
+use enc_base::tables::{
     FIELD, MEMBER_REF, METHOD_DEF, METHOD_SPEC, STAND_ALONE_SIG, TYPE_DEF, TYPE_REF, TYPE_SPEC,
 };
 use std::alloc::{AllocError, Global};

@@ -13,7 +13,7 @@ use enc_base::{Counts, Token};
 use enc_delta::Pair;
 use enc_edit_list::{Added, Cell, Edit, EditList};
 use enc_plain::{CellView, ChainView, Viewed};
-use enc_schema::tables::{FIELD_RVA, METHOD_DEF};
+use enc_base::tables::{FIELD_RVA, METHOD_DEF};
 use std::marker::Model;
 
 /// What is known of an edit list after a chain.

@@ -15,7 +15,7 @@ use enc_edit_list::{ArgValue, Cell, Edit, InstrValue};
 use enc_meta::{BuildFault, HeapBuilder};
 use enc_plain::{CellView, ChainView};
 use enc_schema::columns::{METHOD_DEF_NAME, METHOD_DEF_SIGNATURE};
-use enc_schema::tables::METHOD_DEF;
+use enc_base::tables::METHOD_DEF;
 use std::alloc::{AllocError, Global};
 
 /// Adds a text.

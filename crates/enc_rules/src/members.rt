@@ -15,7 +15,7 @@ use enc_delta::{Pair, has_no_slot, is_out_of_layout, twin_among};
 use enc_edit_list::Edit;
 use enc_plain::ChainView;
 use enc_schema::is_child_table;
-use enc_schema::tables::{EVENT, FIELD, METHOD_DEF, PROPERTY};
+use enc_base::tables::{EVENT, FIELD, METHOD_DEF, PROPERTY};
 use std::alloc::{AllocError, Global};
 
 /// The edit adds a field to a type that was there and has no place for it.

@@ -8,7 +8,7 @@ use crate::context::Context;
 use enc_delta::may_change;
 use enc_edit_list::Edit;
 use enc_plain::ChainView;
-use enc_schema::tables::{ENC_LOG, ENC_MAP, MODULE};
+use enc_base::tables::{ENC_LOG, ENC_MAP, MODULE};
 use enc_schema::{is_child_table, owner_table};
 
 /// The edit adds a row whose owner isn't one of its owners' table.

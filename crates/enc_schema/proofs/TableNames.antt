@@ -10,7 +10,7 @@ use Rattle.enc_schema.specs.declared.column.Column.{Column}
 use Rattle.enc_schema.specs.declared.column.Coding.{Coding}
 use Rattle.enc_schema.specs.declared.column.Coding.TheVariants.{TypeDefOrRef, HasConstant, HasCustomAttribute, HasFieldMarshal, HasDeclSecurity, MemberRefParent, HasSemantics, MethodDefOrRef, MemberForwarded, Implementation, CustomAttributeType, ResolutionScope, TypeOrMethodDef, HasCustomDebugInformation}
 use Rattle.enc_schema.specs.Schema.{list_at, schema, columns_in, column_in}
-use Rattle.enc_schema.specs.Tables.{table_count, document, custom_debug_information}
+use Rattle.enc_base.specs.Tables.{table_count, document, custom_debug_information}
 use Rattle.enc_schema.specs.Names.{names, names_in, table_name_in, column_name_in}
 use Rattle.enc_schema.specs.Coding.{tables_of, tag_bits}
 use Rattle.enc_schema.specs.Laws.{is_table, names_tables}

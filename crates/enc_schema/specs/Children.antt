@@ -2,7 +2,7 @@
 -- II.22.35).
 use Rattle.std.specs.Prelude.{ℕ, Bool, List, [], ◌∷◌, nat_lt, ◌==◌, if◌then◌else◌}
 use Rattle.enc_schema.specs.Columns.{type_def_field_list, type_def_method_list, method_def_param_list, event_map_event_list, property_map_property_list}
-use Rattle.enc_schema.specs.Tables.{type_def, field_ptr, field, method_ptr, method_def, param_ptr, param, event_map, event_ptr, event, property_map, property_ptr, property}
+use Rattle.enc_base.specs.Tables.{type_def, field_ptr, field, method_ptr, method_def, param_ptr, param, event_map, event_ptr, event, property_map, property_ptr, property}
 
 -- the Ptr table of a child table, 0 where it has none
 abbrev pub ptr_of : ℕ → ℕ

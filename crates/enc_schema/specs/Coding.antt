@@ -4,7 +4,7 @@ use Rattle.std.specs.List.{list_all}
 use Rattle.std.specs.Option.{option_map_or}
 use Rattle.enc_base.specs.declared.token.Token.{Token}
 use Rattle.enc_base.specs.Token.{nil}
-use Rattle.enc_schema.specs.Tables.{«module», type_ref, type_def, field, method_def, param, interface_impl, member_ref, decl_security, stand_alone_sig, event, property, module_ref, type_spec, assembly, assembly_ref, file, exported_type, manifest_resource, generic_param, method_spec, generic_param_constraint, document, local_scope, local_variable, local_constant, import_scope}
+use Rattle.enc_base.specs.Tables.{«module», type_ref, type_def, field, method_def, param, interface_impl, member_ref, decl_security, stand_alone_sig, event, property, module_ref, type_spec, assembly, assembly_ref, file, exported_type, manifest_resource, generic_param, method_spec, generic_param_constraint, document, local_scope, local_variable, local_constant, import_scope}
 use Rattle.enc_schema.specs.declared.column.Coding.{Coding}
 use Rattle.enc_schema.specs.declared.column.Coding.TheVariants.{TypeDefOrRef, HasConstant, HasCustomAttribute, HasFieldMarshal, HasDeclSecurity, MemberRefParent, HasSemantics, MethodDefOrRef, MemberForwarded, Implementation, CustomAttributeType, ResolutionScope, TypeOrMethodDef, HasCustomDebugInformation}
 

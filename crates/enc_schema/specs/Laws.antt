@@ -3,7 +3,7 @@ use Rattle.std.specs.Prelude.{◌≡◌, ℕ, ◌≤◌, ◌^◌, Bool, true, Li
 use Rattle.enc_schema.specs.declared.column.Column.{Column}
 use Rattle.enc_schema.specs.declared.column.Column.TheVariants.{Num8, Num16, Num32, Text, Guid, Blob, Index, Coded, Run}
 use Rattle.enc_schema.specs.declared.column.Coding.{Coding}
-use Rattle.enc_schema.specs.Tables.{table_count, document, custom_debug_information}
+use Rattle.enc_base.specs.Tables.{table_count, document, custom_debug_information}
 use Rattle.enc_schema.specs.Schema.{columns_in, column_in}
 use Rattle.enc_schema.specs.Names.{table_name_in, column_name_in}
 use Rattle.enc_schema.specs.Children.{is_child_table, owner_table, run_column, runs_in}

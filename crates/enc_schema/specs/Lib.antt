@@ -4,5 +4,4 @@ pub mod Names
 pub mod Widths
 pub mod Laws
 pub mod Children
-pub mod Tables
 pub mod Columns

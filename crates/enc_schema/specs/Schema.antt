@@ -1,6 +1,6 @@
 -- The columns of every table in the order of the standard (ECMA-335 II.22; Portable PDB from 30 on).
 use Rattle.std.specs.Prelude.{ℕ, List, [], ◌∷◌, Option, unwrap_or, slice_get, Bool, true, false}
-use Rattle.enc_schema.specs.Tables.{type_def, field, method_def, param, event, property, module_ref, assembly_ref, generic_param, document, local_variable, local_constant, import_scope}
+use Rattle.enc_base.specs.Tables.{type_def, field, method_def, param, event, property, module_ref, assembly_ref, generic_param, document, local_variable, local_constant, import_scope}
 use Rattle.enc_schema.specs.declared.column.Column.{Column}
 use Rattle.enc_schema.specs.declared.column.Column.TheVariants.{Num8, Num16, Num32, Text, Guid, Blob, Index, Coded, Run}
 use Rattle.enc_schema.specs.declared.column.Coding.TheVariants as coding

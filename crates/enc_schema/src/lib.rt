@@ -9,7 +9,6 @@ pub mod columns;
 mod laws;
 mod names;
 mod schema;
-pub mod tables;
 mod widths;
 
 pub use children::{is_child_table, owner_table, ptr_table, run_column, run_index, runs_of};

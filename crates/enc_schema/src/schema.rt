@@ -7,7 +7,7 @@ ghost use Rattle.enc_schema.specs.Schema.{list_at, columns_in, column_in};
 
 use crate::column::Coding;
 use crate::column::Column::{self, Blob, Coded, Guid, Index, Num8, Num16, Num32, Run, Text};
-use crate::tables::{
+use enc_base::tables::{
     ASSEMBLY_REF, DOCUMENT, EVENT, FIELD, GENERIC_PARAM, IMPORT_SCOPE, LOCAL_CONSTANT,
     LOCAL_VARIABLE, METHOD_DEF, MODULE_REF, PARAM, PROPERTY, TYPE_DEF,
 };

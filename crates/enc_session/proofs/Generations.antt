@@ -10,7 +10,7 @@ use Rattle.enc_base.specs.declared.token.Token.{Token}
 use Rattle.enc_checker.specs.Check.{new_bodies, own_methods}
 use Rattle.enc_delta.specs.Delta.{listed}
 use Rattle.enc_rows.specs.Source.{Source}
-use Rattle.enc_schema.specs.Tables.{method_def}
+use Rattle.enc_base.specs.Tables.{method_def}
 use Rattle.enc_session.specs.Recording.{body_generation}
 use Rattle.enc_session.specs.RecordingSeen.{generation_at, greatest_row, with_rows_to, brought_in, AreGenerationsOf}
 

@@ -6,7 +6,7 @@ use Rattle.enc_base.specs.Token.{is_token}
 use Rattle.enc_base.specs.declared.token.Token.{Token}
 use Rattle.enc_opcodes.specs.Body.{Body, body_of, texts_are_there}
 use Rattle.enc_rows.specs.Source.{Source}
-use Rattle.enc_schema.specs.Tables.{method_def}
+use Rattle.enc_base.specs.Tables.{method_def}
 use Rattle.enc_plain.specs.Cell.{body, bodies}
 use Rattle.enc_plain.specs.Chain.{Chain}
 use Rattle.enc_plain.specs.Debug.{PlainPdb}

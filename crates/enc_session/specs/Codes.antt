@@ -18,7 +18,7 @@ use Rattle.enc_plain.specs.Sound.{IsSound}
 use Rattle.enc_ppdb.specs.PdbChain.{delta_row, points_at, pdb_changed}
 use Rattle.enc_remap.specs.Remap.{newest_code}
 use Rattle.enc_rows.specs.Source.{Source}
-use Rattle.enc_schema.specs.Tables.{method_def}
+use Rattle.enc_base.specs.Tables.{method_def}
 use Rattle.enc_versions.specs.Commit.{NewVersion}
 use Rattle.enc_versions.specs.Laws.{Meant, AreNewIn}
 

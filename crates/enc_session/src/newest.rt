@@ -4,7 +4,7 @@ ghost use Rattle.enc_session.specs.RecordingSeen.{brought_in, generation_at, gre
 
 use enc_base::Token;
 use enc_ppdb::MethodList;
-use enc_schema::tables::METHOD_DEF;
+use enc_base::tables::METHOD_DEF;
 use std::alloc::{AllocError, Global};
 use std::marker::Model;
 

@@ -4,7 +4,7 @@ use Rattle.std.proofs.lemmas.Bool.{eqb-true, ltb-true}
 use Rattle.std.specs.Prelude.{◌&&◌, ◌==◌, nat_le, nat_lt, if◌then◌else◌}
 use Rattle.enc_base.specs.Numbers.{WrittenIsRead, SignedWrittenIsRead}
 use Rattle.enc_base.specs.declared.token.Token.{Token}
-use Rattle.enc_schema.specs.Tables.{type_def, type_ref}
+use Rattle.enc_base.specs.Tables.{type_def, type_ref}
 use Rattle.enc_sigs.specs.Tree.{SigTree, forest_of}
 use Rattle.enc_sigs.specs.Grammar.{table_of, token_named, is_coded}
 use Rattle.enc_sigs.specs.Spelling.{token_number, sig_bytes, IsSpelled}

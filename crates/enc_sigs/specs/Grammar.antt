@@ -5,7 +5,7 @@ use Rattle.enc_base.specs.Readers.{Reader, giving, both, number_in, signed_in}
 use Rattle.enc_base.specs.Token.{nil}
 use Rattle.enc_base.specs.declared.token.Token.{Token}
 use Rattle.enc_base.specs.declared.counts.Counts.{Counts}
-use Rattle.enc_schema.specs.Tables.{type_def, type_ref, type_spec}
+use Rattle.enc_base.specs.Tables.{type_def, type_ref, type_spec}
 use Rattle.enc_sigs.specs.declared.kind.SigKind.{SigKind}
 use Rattle.enc_sigs.specs.declared.kind.SigKind.TheVariants.{Method, Field, Locals, Property, TypeSpec, MethodSpec}
 use Rattle.enc_sigs.specs.declared.form.Form.{Form}

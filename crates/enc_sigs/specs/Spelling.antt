@@ -2,7 +2,7 @@
 use Rattle.std.specs.Prelude.{◌≡◌, ℕ, ◌+◌, ◌-◌, ◌*◌, ◌%◌, List, [], ◌∷◌, ◌++◌, length, slice_get, Option, Some, None, nat_lt, ◌==◌, if◌then◌else◌}
 use Rattle.enc_base.specs.Numbers.{spelled, spelled_signed, has_flag}
 use Rattle.enc_base.specs.declared.token.Token.{Token}
-use Rattle.enc_schema.specs.Tables.{type_def, type_ref}
+use Rattle.enc_base.specs.Tables.{type_def, type_ref}
 use Rattle.enc_sigs.specs.declared.kind.SigKind.{SigKind}
 use Rattle.enc_sigs.specs.declared.kind.SigKind.TheVariants.{Method, Field, Locals, Property, TypeSpec, MethodSpec}
 use Rattle.enc_sigs.specs.declared.form.Form.{Form}

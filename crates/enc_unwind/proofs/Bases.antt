@@ -6,7 +6,7 @@ use Rattle.std.proofs.Math.Bool.{or-true}
 use Rattle.std.proofs.lemmas.List.Folds.{list_any-append}
 use Rattle.enc_base.specs.Token.{is_token}
 use Rattle.enc_base.specs.declared.token.Token.{Token}
-use Rattle.enc_dispatch.specs.Path.{path_of}
+use Rattle.enc_plain.specs.ClassPath.{path_of}
 use Rattle.enc_plain.specs.Alike.{refs_alike, tokens_alike}
 use Rattle.enc_plain.specs.Module.{cells_of}
 use Rattle.enc_plain.specs.Rows.{Rows}

@@ -2,7 +2,7 @@
 use Rattle.std.proofs.Common.{◌≡◌, ℕ, zero, suc, Bool, true, false, List, ◌∷◌, ◌++◌, refl, ap, ◌∙◌}
 use Rattle.std.specs.List.{list_any}
 use Rattle.enc_base.specs.declared.token.Token.{Token}
-use Rattle.enc_dispatch.specs.Path.{is_class, class_base, climb}
+use Rattle.enc_plain.specs.ClassPath.{is_class, class_base, climb}
 use Rattle.enc_plain.specs.Module.{Module}
 use Rattle.enc_unwind.specs.Thrown.{behind_path, type_refs}
 

@@ -1,7 +1,7 @@
 -- The searches of the example are worked out by computing.
 use Rattle.std.proofs.Common.{refl}
 use Rattle.enc_base.specs.Order.{first_below}
-use Rattle.enc_dispatch.specs.Path.{class_base, climb}
+use Rattle.enc_plain.specs.ClassPath.{class_base, climb}
 use Rattle.enc_opcodes.specs.Clause.{section_of_kind, section_in, sections_in, data_sections, clause_in, clauses_in, clauses_of}
 use Rattle.enc_opcodes.specs.Instruction.{range_at}
 use Rattle.enc_plain.specs.Alike.{are_rows, type_refs_alike, assembly_refs_alike, module_refs_alike, refs_alike, type_specs_alike, tokens_alike}

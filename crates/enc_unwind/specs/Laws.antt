@@ -2,7 +2,7 @@
 use Rattle.std.specs.Prelude.{◌≡◌, ℕ, ◌<◌, Bool, true, false, ◌&&◌, List, Option, Some, None, MatchOption, slice_get}
 use Rattle.enc_base.specs.declared.token.Token.{Token}
 use Rattle.enc_opcodes.specs.Body.{Handler, finishing}
-use Rattle.enc_dispatch.specs.Path.{extends}
+use Rattle.enc_plain.specs.ClassPath.{extends}
 use Rattle.enc_plain.specs.Module.{Module}
 use Rattle.enc_unwind.specs.Search.{protects, takes, catch_among, is_after, runs_on, next_among}
 use Rattle.enc_unwind.specs.Thrown.{is_caught_by}

@@ -6,8 +6,8 @@ use Rattle.enc_plain.specs.Alike.{tokens_alike}
 use Rattle.enc_plain.specs.Module.{Module, cells_of}
 use Rattle.enc_plain.specs.System.{is_of_system}
 use Rattle.enc_schema.specs.Columns as columns
-use Rattle.enc_schema.specs.Tables as tables
-use Rattle.enc_dispatch.specs.Path.{path_of, class_base}
+use Rattle.enc_base.specs.Tables as tables
+use Rattle.enc_plain.specs.ClassPath.{path_of, class_base}
 use Rattle.enc_unwind.specs.declared.thrown.Thrown.{Thrown}
 use Rattle.enc_unwind.specs.declared.thrown.Thrown.TheVariants.{Class, Text, Array}
 

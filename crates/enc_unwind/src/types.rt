@@ -2,17 +2,17 @@
 ghost use Rattle.std.specs.Prelude.{◌≡◌, IsTrue};
 ghost use Rattle.std.specs.List.{list_any};
 ghost use Rattle.enc_base.specs.declared.token.Token.{Token as TheToken};
-ghost use Rattle.enc_dispatch.specs.Path.{is_class, class_base};
+ghost use Rattle.enc_plain.specs.ClassPath.{is_class, class_base};
 ghost use Rattle.enc_plain.specs.Alike.{tokens_alike};
 ghost use Rattle.enc_plain.specs.Module.{cells_of};
-ghost use Rattle.enc_schema.specs.Tables.{type_def, type_ref};
+ghost use Rattle.enc_base.specs.Tables.{type_def, type_ref};
 ghost use Rattle.enc_unwind.specs.Thrown.{type_refs, types_of, is_of_type, is_caught_by};
 
 use crate::thrown::Thrown;
 use enc_base::Token;
+use enc_base::tables::{TYPE_DEF, TYPE_REF};
 use enc_plain::{CellView, ModuleView, Viewed, alike, is_of_system, is_row};
 use enc_schema::columns::TYPE_DEF_EXTENDS;
-use enc_schema::tables::{TYPE_DEF, TYPE_REF};
 
 /// Whether the token names a row of TypeDef.
 fn is_class<V: ModuleView>(view: &V, token: Token) -> bool
@@ -23,7 +23,7 @@ fn is_class<V: ModuleView>(view: &V, token: Token) -> bool
 }
 
 /// What a class extends, nil where it extends nothing (ECMA-335 II.22.37).
-#[tactic(auto, unfolding(enc_dispatch::specs::Path::class_base, enc_schema::specs::Schema::columns_in))]
+#[tactic(auto, unfolding(enc_plain::specs::ClassPath::class_base, enc_schema::specs::Schema::columns_in))]
 fn class_base<V: ModuleView>(view: &V, class: Token) -> Token
     requires { class.table ≡ type_def }
     ensures { result ≡ class_base (V.meaning view.now) class }

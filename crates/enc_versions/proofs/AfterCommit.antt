@@ -10,7 +10,7 @@ use Rattle.enc_opcodes.proofs.Bodies.{body_told_alike}
 use Rattle.enc_plain.specs.Cell.{body}
 use Rattle.enc_plain.specs.Module.{Module, rows_in, has_row, cell_of}
 use Rattle.enc_plain.proofs.MoreTexts.{texts_more}
-use Rattle.enc_schema.specs.Tables.{method_def}
+use Rattle.enc_base.specs.Tables.{method_def}
 use Rattle.enc_versions.specs.Commit.{NewVersion, brought}
 use Rattle.enc_versions.specs.Laws.{Meant, AreNewIn, CommitStands}
 use Rattle.enc_versions.specs.StandFor.{IsVersionOf, AreVersionsOf, lines_known}

@@ -7,7 +7,7 @@ use Rattle.std.specs.Prelude.{length, get_or, IsTrue, ◌&&◌, nat_lt, nat_le}
 use Rattle.enc_base.specs.Token.{nth_row}
 use Rattle.enc_plain.specs.Debug.{PlainPdb}
 use Rattle.enc_plain.specs.Module.{Module, rows_in, has_row}
-use Rattle.enc_schema.specs.Tables.{method_def}
+use Rattle.enc_base.specs.Tables.{method_def}
 use Rattle.enc_versions.specs.StandFor.{IsVersionOf, AreVersionsOf}
 use Rattle.enc_versions.specs.Version.{Version, newest_of}
 

@@ -8,7 +8,7 @@ use Rattle.std.proofs.lemmas.List.{get_or-set_other}
 use Rattle.std.proofs.lemmas.Grind.{get_or-set_at}
 use Rattle.enc_base.specs.Order.{or_else}
 use Rattle.enc_base.specs.declared.token.Token.{Token}
-use Rattle.enc_schema.specs.Tables.{method_def}
+use Rattle.enc_base.specs.Tables.{method_def}
 use Rattle.enc_versions.specs.Commit.{NewVersion, version_in, is_entry, is_method_token, brought_by, brought, last_row}
 use Rattle.enc_versions.specs.Version.{Version, version_at, newest_of}
 use Rattle.enc_versions.specs.declared.list.CodeEntry.{CodeEntry}

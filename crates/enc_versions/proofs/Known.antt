@@ -6,7 +6,7 @@ use Rattle.enc_base.specs.declared.token.Token.{Token}
 use Rattle.enc_opcodes.specs.Body.{texts_are_there}
 use Rattle.enc_plain.specs.Debug.{PlainPdb}
 use Rattle.enc_plain.specs.Module.{Module, rows_in, has_row}
-use Rattle.enc_schema.specs.Tables.{method_def}
+use Rattle.enc_base.specs.Tables.{method_def}
 use Rattle.enc_versions.specs.StandFor.{IsVersionOf, AreVersionsOf}
 use Rattle.enc_versions.specs.Version.{Version, version_at, newest_of}
 

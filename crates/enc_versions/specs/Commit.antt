@@ -3,7 +3,7 @@ use Rattle.std.specs.Prelude.{◌≡◌, ℕ, ◌^◌, max, Bool, ◌&&◌, List
 use Rattle.enc_base.specs.Order.{or_else}
 use Rattle.enc_base.specs.Token.{is_token}
 use Rattle.enc_base.specs.declared.token.Token.{Token}
-use Rattle.enc_schema.specs.Tables.{method_def}
+use Rattle.enc_base.specs.Tables.{method_def}
 use Rattle.enc_versions.specs.Version.{Version, newest_of}
 use Rattle.enc_versions.specs.declared.list.CodeEntry.{CodeEntry}
 

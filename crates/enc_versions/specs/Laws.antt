@@ -5,7 +5,7 @@ use Rattle.enc_opcodes.specs.Body.{Body, KeepsTexts}
 use Rattle.enc_plain.specs.Cell.{body}
 use Rattle.enc_plain.specs.Debug.{PlainPdb}
 use Rattle.enc_plain.specs.Module.{Module, rows_in, has_row, cell_of}
-use Rattle.enc_schema.specs.Tables.{method_def}
+use Rattle.enc_base.specs.Tables.{method_def}
 use Rattle.enc_versions.specs.Commit.{NewVersion, brought, last_row, AreCommitted}
 use Rattle.enc_versions.specs.StandFor.{IsVersionOf, AreVersionsOf}
 use Rattle.enc_versions.specs.Version.{Version}

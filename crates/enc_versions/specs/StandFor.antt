@@ -5,7 +5,7 @@ use Rattle.enc_opcodes.specs.Body.{body_of, texts_are_there}
 use Rattle.enc_plain.specs.Cell.{body}
 use Rattle.enc_plain.specs.Debug.{PlainPdb, PlainPoint, MethodDebug}
 use Rattle.enc_plain.specs.Module.{Module, rows_in, has_row, cell_of}
-use Rattle.enc_schema.specs.Tables.{method_def}
+use Rattle.enc_base.specs.Tables.{method_def}
 use Rattle.enc_seqpoints.specs.Grammar.{MethodPoints}
 use Rattle.enc_seqpoints.specs.declared.point.Point.{Point}
 use Rattle.enc_versions.specs.Version.{Version, newest_of}

@@ -3,7 +3,7 @@ ghost use Rattle.std.specs.Prelude.{◌≡◌, ℕ, List, Option, Some, option_m
 ghost use Rattle.enc_opcodes.specs.Body.{Body, body_of, texts_are_there};
 ghost use Rattle.enc_plain.specs.Cell.{body};
 ghost use Rattle.enc_plain.specs.Module.{has_row, cell_of};
-ghost use Rattle.enc_schema.specs.Tables.{method_def};
+ghost use Rattle.enc_base.specs.Tables.{method_def};
 ghost use Rattle.enc_versions.specs.Shared.{AreShared};
 
 use crate::code::Stored;

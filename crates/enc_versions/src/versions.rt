@@ -1,7 +1,7 @@
 //! The newest body of each method.
 ghost use Rattle.std.specs.Prelude.{◌≡◌, ◌<◌, length, option_map, IsTrue, IfOk};
 ghost use Rattle.enc_plain.specs.Module.{rows_in, has_row};
-ghost use Rattle.enc_schema.specs.Tables.{method_def};
+ghost use Rattle.enc_base.specs.Tables.{method_def};
 ghost use Rattle.enc_base.specs.Token.{nth_row};
 ghost use Rattle.enc_versions.specs.Shared.{AreShared};
 ghost use Rattle.enc_versions.specs.StandFor.{IsVersionOf, AreVersionsOf, lines_read, lines_known};
@@ -11,7 +11,7 @@ use crate::code::Code;
 use crate::shared::Shared;
 use enc_base::Token;
 use enc_plain::{ModuleView, PointSource};
-use enc_schema::tables::METHOD_DEF;
+use enc_base::tables::METHOD_DEF;
 use enc_seqpoints::Points;
 use std::alloc::{AllocError, Global};
 use std::marker::Model;

@@ -9,7 +9,7 @@ use Rattle.enc_objects.specs.declared.trap.Trap.{Trap}
 use Rattle.enc_objects.specs.declared.trap.Trap.TheVariants.{X2}
 use Rattle.enc_opcodes.specs.Body.{body_of}
 use Rattle.enc_plain.specs.Module.{Module}
-use Rattle.enc_schema.specs.Tables as tables
+use Rattle.enc_base.specs.Tables as tables
 use Rattle.enc_versions.specs.Version.{Version}
 use Rattle.enc_frames.specs.Machine.{Thread, Shared, version_world}
 use Rattle.enc_frames.specs.Memory.{named_field}

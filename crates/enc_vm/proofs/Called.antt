@@ -2,13 +2,13 @@
 use Rattle.std.proofs.Common.{◌≡◌, ℕ, Bool, true, false, List, length, Option, Some, None, Result, Ok, Err, refl, sym, ap}
 use Rattle.std.specs.Prelude.{◌==◌, option_map, option_and_then, reverse, if◌then◌else◌}
 use Rattle.enc_base.specs.declared.token.Token.{Token}
-use Rattle.enc_dispatch.specs.Path.{before_class}
+use Rattle.enc_plain.specs.ClassPath.{before_class}
 use Rattle.enc_dispatch.specs.Target.{walk_down, class_target, from_interface, first_given, interface_target, is_interface, target_by, target_of}
 use Rattle.enc_machine_types.specs.Elements.{CallShape}
 use Rattle.enc_objects.specs.declared.trap.Trap.{Trap}
 use Rattle.enc_plain.specs.Module.{Module, has_row, owner_of}
 use Rattle.enc_plain.specs.Sound.{row_count}
-use Rattle.enc_schema.specs.Tables as tables
+use Rattle.enc_base.specs.Tables as tables
 use Rattle.enc_versions.specs.Version.{Version}
 use Rattle.enc_frames.specs.ArgumentsSeen.{fitting}
 use Rattle.enc_frames.specs.Values.{arguments}

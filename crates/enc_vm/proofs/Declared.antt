@@ -10,7 +10,7 @@ use Rattle.enc_plain.specs.Module.{Module, rows_in, has_row, has_kid, owner_of}
 use Rattle.enc_schema.specs.Children.{is_child_table, owner_table}
 use Rattle.enc_schema.specs.Columns as columns
 use Rattle.enc_schema.specs.Schema.{columns_in}
-use Rattle.enc_schema.specs.Tables.{field, method_def, type_def}
+use Rattle.enc_base.specs.Tables.{field, method_def, type_def}
 use Rattle.enc_vm.specs.Calls.{declaring}
 
 pub is_child : (table : ℕ) → table ≡ method_def → IsTrue (is_child_table table)

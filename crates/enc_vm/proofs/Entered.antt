@@ -11,7 +11,7 @@ use Rattle.enc_opcodes.specs.Body.{Body, body_of}
 use Rattle.enc_plain.specs.Cell.{Cell, body}
 use Rattle.enc_plain.proofs.CellsOf.{has_cells}
 use Rattle.enc_plain.specs.Module.{Module, Row, has_row, row_of, cell_of}
-use Rattle.enc_schema.specs.Tables.{method_def}
+use Rattle.enc_base.specs.Tables.{method_def}
 use Rattle.enc_versions.specs.Version.{Version, newest_of, version_at}
 use Rattle.enc_vm.specs.Calls.{new_frame, enter, most_frames}
 use Rattle.enc_vm.specs.CallsSeen.{AreBodiesOf}

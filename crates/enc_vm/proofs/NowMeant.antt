@@ -12,7 +12,7 @@ use Rattle.enc_plain.specs.Debug.{PlainPdb}
 use Rattle.enc_plain.specs.Module.{Module, Row, has_row, rows_in, row_at, row_of, cell_of}
 use Rattle.enc_plain.specs.Sound.{IsSound, HasKinds}
 use Rattle.enc_schema.specs.Schema.{columns_in, column_in}
-use Rattle.enc_schema.specs.Tables.{method_def}
+use Rattle.enc_base.specs.Tables.{method_def}
 use Rattle.enc_schema.specs.declared.column.Column.{Column}
 use Rattle.enc_schema.specs.declared.column.Column.TheVariants.{Num8, Num16, Num32, Text, Guid, Blob, Index, Coded, Run}
 use Rattle.enc_versions.specs.StandFor.{MethodLines, lines_read, lines_known, AreVersionsOf}

@@ -10,7 +10,7 @@ use Rattle.enc_machine_types.specs.Members.{call_shape, method_of_row, run_body,
 use Rattle.enc_opcodes.specs.Body.{Body, body_of}
 use Rattle.enc_plain.specs.Cell.{Cell}
 use Rattle.enc_plain.specs.Module.{Module, has_row}
-use Rattle.enc_schema.specs.Tables.{method_def}
+use Rattle.enc_base.specs.Tables.{method_def}
 use Rattle.enc_versions.specs.Version.{Version, newest_of}
 use Rattle.enc_vm.proofs.Entered.{frame_is, no_row_now, no_row_run}
 use Rattle.enc_vm.specs.Calls.{new_frame}

@@ -9,7 +9,7 @@ use Rattle.enc_machine_types.specs.Members.{type_constructor, call_shape}
 use Rattle.enc_objects.specs.Objects.{Store}
 use Rattle.enc_objects.specs.declared.trap.Trap.{Trap}
 use Rattle.enc_objects.specs.declared.trap.Trap.TheVariants.{X2}
-use Rattle.enc_schema.specs.Tables.{method_def}
+use Rattle.enc_base.specs.Tables.{method_def}
 use Rattle.enc_plain.specs.Module.{Module}
 use Rattle.enc_versions.specs.Version.{Version}
 use Rattle.enc_dispatch.specs.Walks.{is_virtual}

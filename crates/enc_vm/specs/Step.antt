@@ -12,7 +12,7 @@ use Rattle.enc_opcodes.specs.declared.op.Op.{Op}
 use Rattle.enc_plain.specs.Module.{Module, has_row, cells_of}
 use Rattle.enc_plain.specs.Rows.{bytes_at}
 use Rattle.enc_schema.specs.Columns as columns
-use Rattle.enc_schema.specs.Tables as tables
+use Rattle.enc_base.specs.Tables as tables
 use Rattle.enc_frames.specs.Acts.{bare_act, numbered_act, branch_act, token_act}
 use Rattle.enc_vm.specs.Calls.{touch, declaring, call, call_virtual, new_object, return_from, new_frame, with_touched, is_touched}
 use Rattle.enc_frames.specs.Console.{call_outside, new_outside}

@@ -1,7 +1,7 @@
 -- For the contracts of private functions: types in the order of their rows.
 use Rattle.std.specs.Prelude.{◌≡◌, ◌≤◌, ◌+◌, ℕ, List, [], ◌∷◌}
 use Rattle.enc_base.specs.declared.token.Token.{Token}
-use Rattle.enc_schema.specs.Tables as tables
+use Rattle.enc_base.specs.Tables as tables
 
 -- rows of TypeDef, each past those before it, and the first at least here
 abbrev pub AreTypesFrom : ℕ → List Token → Type 0

@@ -6,7 +6,7 @@ ghost use Rattle.enc_dispatch.specs.Target.{target_of, is_interface};
 ghost use Rattle.enc_dispatch.specs.Walks.{is_virtual};
 ghost use Rattle.enc_objects.specs.declared.trap.Trap.TheVariants.{X9, X10};
 ghost use Rattle.enc_plain.specs.Module.{has_row};
-ghost use Rattle.enc_schema.specs.Tables.{method_def};
+ghost use Rattle.enc_base.specs.Tables.{method_def};
 ghost use Rattle.enc_frames.specs.ArgumentsSeen.{GivesItems, fitting};
 ghost use Rattle.enc_vm.specs.Calls.{object_of, ask_object, class_of_object, reached_on, chosen, call_with, declaring, touch_if, call_touches, named_virtually, call, call_virtual};
 ghost use Rattle.enc_vm.specs.CallsSeen.{AreBodiesOf, Makes, called_on};

@@ -4,7 +4,7 @@ ghost use Rattle.enc_base.specs.declared.token.Token.{Token as TheToken};
 ghost use Rattle.enc_objects.specs.declared.value.Value.TheVariants.{Null};
 ghost use Rattle.enc_plain.specs.Module.{has_row, cells_of};
 ghost use Rattle.enc_plain.specs.ValueType.{is_value_type};
-ghost use Rattle.enc_schema.specs.Tables.{method_def};
+ghost use Rattle.enc_base.specs.Tables.{method_def};
 ghost use Rattle.enc_frames.specs.ArgumentsSeen.{GivesItems};
 ghost use Rattle.enc_vm.specs.Calls.{construct, declaring, new_object, touch};
 ghost use Rattle.enc_vm.specs.CallsSeen.{AreBodiesOf, Makes};

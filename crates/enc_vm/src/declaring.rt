@@ -3,7 +3,7 @@ ghost use Rattle.std.specs.Prelude.{◌≡◌, IsTrue, IfOk};
 ghost use Rattle.enc_dispatch.specs.Target.{is_interface};
 ghost use Rattle.enc_dispatch.specs.Walks.{is_virtual};
 ghost use Rattle.enc_plain.specs.Module.{has_row};
-ghost use Rattle.enc_schema.specs.Tables.{method_def, type_def};
+ghost use Rattle.enc_base.specs.Tables.{method_def, type_def};
 ghost use Rattle.enc_vm.specs.Calls.{call_touches, declaring};
 ghost use Rattle.enc_vm.specs.TouchSeen.{first_touch};
 

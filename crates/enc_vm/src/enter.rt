@@ -1,6 +1,6 @@
 //! Frames at their method's first instruction (ECMA-335 I.12.3.2).
 ghost use Rattle.std.specs.Prelude.{◌≡◌, ◌<◌, drop, option_map, IfSome};
-ghost use Rattle.enc_schema.specs.Tables.{method_def};
+ghost use Rattle.enc_base.specs.Tables.{method_def};
 ghost use Rattle.enc_vm.specs.Calls.{enter};
 ghost use Rattle.enc_vm.specs.CallsSeen.{AreBodiesOf};
 ghost use Rattle.enc_frames.specs.Does.{Does};
@@ -9,11 +9,11 @@ ghost use Rattle.enc_frames.specs.Straight.{moved_on};
 
 use crate::thread::Thread;
 use enc_base::Token;
+use enc_base::tables::METHOD_DEF;
 use enc_frames::{Stop, new_frame};
 use enc_machine_types::{method_shape, runs_body};
 use enc_objects::{Trap, Value};
 use enc_plain::{ModuleView, is_row};
-use enc_schema::tables::METHOD_DEF;
 use enc_versions::{Code, Versions};
 use std::alloc::Global;
 use std::rc::Rc;

@@ -20,11 +20,11 @@ use crate::returns::FrameChange;
 use crate::thread::Thread;
 use crate::touched::Touched;
 use enc_base::Token;
+use enc_base::tables::METHOD_DEF;
 use enc_dispatch::Dispatch;
 use enc_frames::{Stop, Written, call_outside, new_outside};
 use enc_objects::Objects;
 use enc_plain::ModuleView;
-use enc_schema::tables::METHOD_DEF;
 use enc_versions::Versions;
 use std::alloc::Global;
 

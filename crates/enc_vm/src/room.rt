@@ -18,11 +18,11 @@ use crate::ends::TaskState;
 use crate::machine::Machine;
 use crate::task::Task;
 use crate::thread::Thread;
+use enc_base::tables::METHOD_DEF;
 use enc_frames::{Act, Stack, bare_act, branch_act, numbered_act, token_act};
 use enc_objects::{Objects, Value};
 use enc_opcodes::{Arg, Instr};
 use enc_plain::ModuleView;
-use enc_schema::tables::METHOD_DEF;
 
 /// As many units as the digits of a number, with a sign, and a line end have at most.
 const NUMBER_ROOM: u32 = 12;

@@ -2,7 +2,7 @@
 ghost use Rattle.std.specs.Prelude.{◌≡◌, List, IsTrue};
 ghost use Rattle.enc_base.specs.declared.token.Token.{Token as TheToken};
 ghost use Rattle.enc_plain.specs.Module.{has_row};
-ghost use Rattle.enc_schema.specs.Tables.{field as fields, type_def};
+ghost use Rattle.enc_base.specs.Tables.{field as fields, type_def};
 ghost use Rattle.enc_vm.specs.Calls.{declaring, touch};
 ghost use Rattle.enc_vm.specs.CallsSeen.{AreBodiesOf, Makes};
 ghost use Rattle.enc_frames.specs.FramesSeen.{shared_by};

@@ -3,12 +3,12 @@ ghost use Rattle.std.specs.Prelude.{◌≡◌, ◌≤◌, ◌++◌, ◌∷◌, [
 ghost use Rattle.std.specs.List.{list_any};
 ghost use Rattle.enc_base.specs.Token.{is_token};
 ghost use Rattle.enc_base.specs.declared.token.Token.{Token as TheToken};
-ghost use Rattle.enc_schema.specs.Tables.{type_def};
+ghost use Rattle.enc_base.specs.Tables.{type_def};
 ghost use Rattle.enc_vm.specs.Calls.{with_type};
 ghost use Rattle.enc_vm.specs.Touched.{AreTypesFrom};
 
 use enc_base::Token;
-use enc_schema::tables::TYPE_DEF;
+use enc_base::tables::TYPE_DEF;
 use std::alloc::{AllocError, Global};
 use std::marker::Model;
 

@@ -8,7 +8,7 @@ use Rattle.enc_base.specs.Token.{nil}
 use Rattle.enc_base.specs.Units.{units_of}
 use Rattle.enc_base.specs.declared.token.Token.{Token}
 use Rattle.enc_meta.specs.Built.{Built, is_kept, user_offset, unit_bytes}
-use Rattle.enc_schema.specs.Tables.{type_ref, type_def, field, method_def, member_ref, stand_alone_sig, type_spec, method_spec}
+use Rattle.enc_base.specs.Tables.{type_ref, type_def, field, method_def, member_ref, stand_alone_sig, type_spec, method_spec}
 use Rattle.enc_opcodes.specs.declared.code.Clause.{Clause}
 use Rattle.enc_opcodes.specs.declared.op.Operand.{Operand}
 use Rattle.enc_opcodes.specs.Instruction.{Argument, text, Instruction}

@@ -9,7 +9,7 @@ use Rattle.std.proofs.lemmas.List.Sums.{sum_by-append, sum_by-cons}
 use Rattle.enc_meta.specs.Built.{Built, user_offset}
 use Rattle.enc_meta.specs.BuiltLaws.{IsGood}
 use Rattle.enc_meta.proofs.BuiltMeanings.{users_are_read}
-use Rattle.enc_schema.specs.Tables as tables
+use Rattle.enc_base.specs.Tables as tables
 use Rattle.enc_opcodes.specs.Clause.{clauses_of}
 use Rattle.enc_opcodes.specs.Instruction.{Instruction, instructions_of}
 use Rattle.enc_opcodes.specs.Body.{Code, Body, instruction_told, handler_meant, body_of, is_good, text_is_there, texts_are_there}

@@ -1,10 +1,9 @@
 -- The files that hold what a list states are accepted, and stand for it.
 use Rattle.std.proofs.Common.{◌≡◌, ℕ, Bool, true, false, List, [], ◌∷◌, ◌++◌, Option, Some, None, refl, sym, ap, subst, ◌∙◌}
-use Rattle.std.specs.Prelude.{Ok, Result, slice_get}
+use Rattle.std.specs.Prelude.{slice_get}
 use Rattle.std.specs.List.{list_any}
 use Rattle.enc_base.specs.Token.{is_token, nth_row}
 use Rattle.enc_base.specs.declared.token.Token.{Token}
-use Rattle.enc_base.specs.declared.refusal.Refusal.{Refusal}
 use Rattle.enc_emit.specs.Written.{root_built}
 use Rattle.enc_emit.proofs.Read.{counted_root_is_read}
 use Rattle.enc_meta.specs.Built.{heaps_built}
@@ -14,16 +13,14 @@ use Rattle.enc_rows.specs.Source.{Source}
 use Rattle.enc_rows.specs.Written.{heap_bits, stream_of}
 use Rattle.enc_plain.specs.Debug.{MethodDebug}
 use Rattle.enc_schema.specs.Columns as columns
-use Rattle.enc_schema.specs.Tables as tables
+use Rattle.enc_base.specs.Tables as tables
 use Rattle.enc_delta.specs.Delta.{delta_of, listed}
-use Rattle.enc_delta.specs.Judged.{first_meta}
 use Rattle.enc_agg.specs.Extend.{extended}
 use Rattle.enc_edit_list.specs.declared.edit.Edit.{Edit}
 use Rattle.enc_edit_list.specs.declared.edit.EditList.{EditList}
 use Rattle.enc_rules.specs.Edited.{rows_edited}
 use Rattle.enc_memory_module.proofs.Unbroken.{BreakNothing}
-use Rattle.enc_ppdb.specs.Fault.{pdb_delta_of, named_tokens}
-use Rattle.enc_ppdb.specs.Misplaced.{first_misplaced}
+use Rattle.enc_ppdb.specs.Fault.{named_tokens}
 use Rattle.enc_ppdb.specs.Points.{names_method}
 use Rattle.enc_ppdb.specs.PdbChain.{debug_at}
 use Rattle.enc_ppdb.specs.Written.{IsNilOverSeveral, document_told}
@@ -31,7 +28,7 @@ use Rattle.enc_pdb_writer.specs.Stated.{edit_giving}
 use Rattle.enc_pdb_writer.specs.Written.{gives_points, method_named, SaysEdits}
 use Rattle.enc_pdb_writer.proofs.Lists.{some_by_one}
 use Rattle.enc_pdb_writer.proofs.Told.{names_itself}
-use Rattle.enc_checker.specs.Check.{accepted, judged, with_pdb, code_sizes}
+use Rattle.enc_checker.proofs.AcceptedFiles.{accepted_files}
 use Rattle.enc_list_delta.specs.Delta.{is_edited, map_written}
 use Rattle.enc_list_delta.specs.Holds.{MayFollow, SaysDelta, heaps_written}
 use Rattle.enc_list_delta.proofs.LogRulesSets.{map_lists, map_only}
@@ -43,14 +40,6 @@ use Rattle.enc_writer.specs.Files.{FilesStand}
 use Rattle.enc_writer.specs.Stands.{HasDeltaForm}
 use Rattle.enc_writer.specs.Writing.{IsMetadata}
 use Rattle.enc_writer.specs.PdbFollows.{PdbsFollow, PdbsOfListsMean}
-
-accepted_pdb : (s p : Source) (bytes : List ℕ) → pdb_delta_of bytes ≡ Ok p → first_misplaced p (code_sizes s) ≡ None → with_pdb s (Some bytes) ≡ Ok (accepted s (Some p))
-unfolding with_pdb
-accepted_pdb s p bytes read placed = rw (read, placed) refl
-
-pub accepted_files : (c : Chain) (d : Result Source Refusal) (s p : Source) (bytes : List ℕ) → d ≡ Ok s → first_meta c s ≡ None → pdb_delta_of bytes ≡ Ok p → first_misplaced p (code_sizes s) ≡ None
-    → judged c d (Some bytes) ≡ Ok (accepted s (Some p))
-accepted_files c d s p bytes delta follows read placed = rw (delta, follows) (accepted_pdb s p bytes read placed)
 
 -- the rows that are listed
 lists_so : (c : Chain) (l : EditList) (s : Source) → MayFollow c l → SaysDelta c l s → (u : Token) → list_any (λ t. is_token t u) (listed s) ≡ list_any (λ t. is_token t u) (rows_edited c.plain l.edits)

@@ -15,7 +15,7 @@ use Rattle.enc_plain.proofs.Applied.{same_is}
 use Rattle.enc_rows.specs.Sums.{below}
 use Rattle.enc_rows.proofs.Runs.{range_more}
 use Rattle.enc_schema.specs.Schema.{columns_in}
-use Rattle.enc_schema.specs.Tables.{enc_map}
+use Rattle.enc_base.specs.Tables.{enc_map}
 use Rattle.enc_edit_list.specs.declared.edit.EditList.{EditList}
 use Rattle.enc_rules.specs.Edited.{rows_edited}
 use Rattle.enc_rules.specs.Listed.{count_after}

@@ -8,7 +8,7 @@ use Rattle.enc_base.specs.declared.token.Token.{Token}
 use Rattle.enc_meta.specs.Built.{Built, user_offset}
 use Rattle.enc_meta.specs.BuiltLaws.{heaps_joined}
 use Rattle.enc_meta.specs.Joined.{joined_user}
-use Rattle.enc_schema.specs.Tables.{method_def}
+use Rattle.enc_base.specs.Tables.{method_def}
 use Rattle.enc_opcodes.specs.Body.{Code}
 use Rattle.enc_il.specs.Written.{clause_fits, place_for, with_body}
 use Rattle.enc_plain.specs.Chain.{Chain}

@@ -7,7 +7,7 @@ use Rattle.enc_rules.specs.Edited.{rows_edited}
 use Rattle.enc_pdb_writer.specs.Stated.{points_lie_within}
 use Rattle.enc_pdb_writer.specs.Written.{SaysEdits}
 use Rattle.enc_list_delta.specs.Holds.{MayFollow}
-use Rattle.enc_writer.specs.declared.bytes.DeltaBytes.{DeltaBytes}
+use Rattle.enc_emit.specs.declared.delta_bytes.DeltaBytes.{DeltaBytes}
 use Rattle.enc_writer.specs.Stands.{IsWrittenFor}
 use Rattle.enc_writer.specs.Writing.{IsMetadata}
 

@@ -9,7 +9,7 @@ use Rattle.enc_meta.specs.Joined.{joined_guid}
 use Rattle.enc_meta.specs.Root.{root_of}
 use Rattle.enc_meta.specs.declared.root.Root.{Root}
 use Rattle.enc_rows.specs.Source.{Source}
-use Rattle.enc_schema.specs.Tables as tables
+use Rattle.enc_base.specs.Tables as tables
 use Rattle.enc_delta.specs.Delta.{delta_of, listed}
 use Rattle.enc_agg.specs.Extend.{extended}
 use Rattle.enc_edit_list.specs.declared.edit.EditList.{EditList}
@@ -23,7 +23,7 @@ use Rattle.enc_pdb_writer.specs.Written.{SaysEdits}
 use Rattle.enc_checker.specs.Check.{accepted, judged}
 use Rattle.enc_checker.specs.Within.{debug_of_accepted}
 use Rattle.enc_list_delta.specs.Holds.{SaysDelta}
-use Rattle.enc_writer.specs.declared.bytes.DeltaBytes.{DeltaBytes}
+use Rattle.enc_emit.specs.declared.delta_bytes.DeltaBytes.{DeltaBytes}
 use Rattle.enc_writer.specs.declared.fault.EditFault.{EditFault}
 use Rattle.enc_writer.specs.declared.fault.EditFault.TheVariants.{Memory, Broken}
 

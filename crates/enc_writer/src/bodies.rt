@@ -14,6 +14,7 @@ ghost use Rattle.enc_writer.specs.Writing.{MethodsPlaced};
 
 use crate::edit::{edit_at, row_at};
 use enc_assembly::{assemble, assembled_law};
+use enc_base::tables::METHOD_DEF;
 use enc_base::{Token, push_zeros};
 use enc_edit_list::{BodyValue, Edit};
 use enc_il::write_body;
@@ -21,7 +22,6 @@ use enc_meta::HeapBuilder;
 use enc_opcodes::{Clause, CodeRef};
 use enc_plain::ChainView;
 use enc_rules::{Context, body_given};
-use enc_schema::tables::METHOD_DEF;
 use std::alloc::{AllocError, Global};
 use std::collections::BTreeMap;
 

@@ -2,7 +2,6 @@
 #![tactic(auto)]
 
 mod bodies;
-mod bytes;
 mod edit;
 mod fault;
 mod guids;
@@ -17,6 +16,5 @@ mod rows;
 mod tables;
 mod write;
 
-pub use bytes::DeltaBytes;
 pub use fault::EditFault;
 pub use write::write_delta;

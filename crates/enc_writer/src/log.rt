@@ -2,7 +2,7 @@
 ghost use Rattle.std.specs.Prelude.{◌≡◌, ◌+◌, ◌-◌, ◌^◌, ◌<◌, [], ◌∷◌, ◌++◌, length, map, true, Some, slice_get, OnOk};
 ghost use Rattle.std.specs.List.{list_all};
 ghost use Rattle.enc_rows.specs.Written.{rows_at, count_at};
-ghost use Rattle.enc_schema.specs.Tables.{enc_log};
+ghost use Rattle.enc_base.specs.Tables.{enc_log};
 ghost use Rattle.enc_rules.specs.Edited.{rows_edited};
 ghost use Rattle.enc_list_delta.specs.Delta.{add_code, adds_reference, entries_for, is_reference_table, log_written};
 ghost use Rattle.enc_list_delta.specs.Holds.{MayFollow, entry_numbers};
@@ -11,16 +11,16 @@ ghost use Rattle.enc_writer.specs.LogWriting.{entries_at, entries_logged, has_nu
 
 use crate::edit::{edit_at, row_at};
 use enc_base::Token;
+use enc_base::tables::{
+    ASSEMBLY_REF, ENC_LOG, FIELD, MEMBER_REF, METHOD_DEF, METHOD_SPEC, MODULE_REF, PARAM, PROPERTY,
+    STAND_ALONE_SIG, TYPE_REF, TYPE_SPEC,
+};
 use enc_delta::Entry;
 use enc_edit_list::Edit;
 use enc_plain::ChainView;
 use enc_rows::TableBuilder;
 use enc_rules::Context;
 use enc_schema::is_child_table;
-use enc_schema::tables::{
-    ASSEMBLY_REF, ENC_LOG, FIELD, MEMBER_REF, METHOD_DEF, METHOD_SPEC, MODULE_REF, PARAM, PROPERTY,
-    STAND_ALONE_SIG, TYPE_REF, TYPE_SPEC,
-};
 use std::alloc::AllocError;
 
 /// The code of an entry that gives its token a child of a table.

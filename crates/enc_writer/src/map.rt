@@ -2,7 +2,7 @@
 ghost use Rattle.std.specs.Prelude.{◌≡◌, ◌+◌, ◌-◌, ◌^◌, ◌<◌, [], ◌∷◌, ◌++◌, map, OnOk};
 ghost use Rattle.enc_rows.specs.Written.{rows_at, count_at};
 ghost use Rattle.enc_rules.specs.Listed.{count_after};
-ghost use Rattle.enc_schema.specs.Tables.{enc_map};
+ghost use Rattle.enc_base.specs.Tables.{enc_map};
 ghost use Rattle.enc_list_delta.specs.Delta.{map_written};
 ghost use Rattle.enc_list_delta.specs.Holds.{MayFollow, heaps_written, token_numbers};
 ghost use Rattle.enc_writer.specs.Writing.{MethodsPlaced, OthersStay};
@@ -13,10 +13,10 @@ ghost use Rattle.enc_meta.specs.BuiltLaws.{heaps_joined};
 use crate::bodies::Bodies;
 use crate::rows::{first_row, is_edited_row};
 use enc_base::Token;
+use enc_base::tables::ENC_MAP;
 use enc_plain::ChainView;
 use enc_rows::TableBuilder;
 use enc_rules::Context;
-use enc_schema::tables::ENC_MAP;
 use std::alloc::AllocError;
 
 /// Adds the token of a row.

@@ -4,20 +4,20 @@ ghost use Rattle.enc_meta.specs.BuiltLaws.{heaps_joined};
 ghost use Rattle.enc_meta.specs.Joined.{joined_guid};
 ghost use Rattle.enc_plain.specs.Chain.{mvid_of, id_of};
 ghost use Rattle.enc_rows.specs.Written.{rows_at};
-ghost use Rattle.enc_schema.specs.Tables.{«module»};
+ghost use Rattle.enc_base.specs.Tables.{«module»};
 ghost use Rattle.enc_list_delta.specs.Holds.{MayFollow, heaps_written};
 ghost use Rattle.enc_writer.specs.Stands.{NamesGuids};
 ghost use Rattle.enc_writer.specs.Writing.{IsModuleWritten, OthersStay};
 
 use crate::guids::guid_number;
 use enc_base::Token;
+use enc_base::tables::MODULE;
 use enc_edit_list::EditList;
 use enc_meta::{BuildFault, HeapBuilder};
 use enc_plain::ChainView;
 use enc_rows::TableBuilder;
 use enc_rules::Context;
 use enc_schema::columns::MODULE_MVID;
-use enc_schema::tables::MODULE;
 use std::alloc::AllocError;
 
 /// The number of the base's Mvid.

@@ -12,10 +12,10 @@ ghost use Rattle.enc_writer.specs.RowsWriting.{AreRowsReady, SaysPlain, SaysNumb
 use crate::bodies::Bodies;
 use crate::kept::{blob_offset, text_offset};
 use enc_base::Token;
+use enc_base::tables::METHOD_DEF;
 use enc_meta::HeapBuilder;
 use enc_plain::{CellView, ChainView};
 use enc_rules::Context;
-use enc_schema::tables::METHOD_DEF;
 use enc_schema::{Coding, Column, encode_coded};
 use std::alloc::AllocError;
 

@@ -4,7 +4,7 @@ ghost use Rattle.enc_base.specs.Token.{nth_row};
 ghost use Rattle.enc_rows.specs.Written.{rows_at};
 ghost use Rattle.enc_plain.specs.Sound.{row_count};
 ghost use Rattle.enc_schema.specs.Schema.{column_in};
-ghost use Rattle.enc_schema.specs.Tables.{method_def};
+ghost use Rattle.enc_base.specs.Tables.{method_def};
 ghost use Rattle.enc_meta.specs.BuiltLaws.{heaps_joined};
 ghost use Rattle.enc_rules.specs.Listed.{count_after};
 ghost use Rattle.enc_list_delta.specs.Delta.{is_edited};
@@ -15,11 +15,11 @@ ghost use Rattle.enc_writer.specs.RowsWriting.{AreRowsReady, DeltaFrontSays, Del
 use crate::bodies::Bodies;
 use crate::numbers::number_at;
 use enc_base::Token;
+use enc_base::tables::{ENC_LOG, ENC_MAP, METHOD_DEF, MODULE};
 use enc_meta::HeapBuilder;
 use enc_plain::ChainView;
 use enc_rows::TableBuilder;
 use enc_rules::Context;
-use enc_schema::tables::{ENC_LOG, ENC_MAP, METHOD_DEF, MODULE};
 use enc_schema::{Column, columns_of};
 use std::alloc::{AllocError, Global};
 

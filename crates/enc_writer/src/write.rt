@@ -10,7 +10,6 @@ ghost use Rattle.enc_writer.specs.Stands.{NamesGuids, IsWrittenFor, WritesEdits}
 ghost use Rattle.enc_writer.specs.Files.{HoldFiles, FilesStand};
 
 use crate::bodies::bodies_of;
-use crate::bytes::DeltaBytes;
 use crate::fault::EditFault;
 use crate::heaps::heaps_of_delta;
 use crate::laws::{pdbs_follow_law, pdbs_mean_law, points_law};
@@ -18,10 +17,11 @@ use crate::tables::metadata_of;
 use enc_agg::Aggregate;
 use enc_base::Bytes;
 use enc_edit_list::{Added, EditList};
+use enc_emit::DeltaBytes;
+use enc_list_delta::{deltas_are_read_law, deltas_follow_law, deltas_mean_law};
 use enc_pdb_writer::write_pdb_delta;
 use enc_plain::ChainView;
 use enc_rules::{Context, context_of, first_broken};
-use enc_list_delta::{deltas_are_read_law, deltas_follow_law, deltas_mean_law};
 use std::alloc::{AllocError, Global};
 
 /// The files of a list that breaks no rule after its chain.

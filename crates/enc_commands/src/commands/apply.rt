@@ -15,9 +15,9 @@ use crate::plan::{Outcome, Plan, Save};
 use crate::plans::too_long;
 use crate::stop::Stop;
 use enc_base::StreamName;
+use enc_command_line::{Limit, saved_line};
 use enc_outside::Store;
 use enc_rewriter::{RewriteFault, Rewritten, rewrite};
-use enc_command_line::{Limit, saved_line};
 use std::alloc::{AllocError, Global};
 
 /// The name of the file that would pass a limit: that of the PDB, or of the module.

@@ -14,9 +14,9 @@ use crate::plan::{Outcome, Plan};
 use crate::plans::saving_nothing;
 use crate::stop::Stop;
 use enc_agg::Aggregate;
+use enc_command_line::push_accepted;
 use enc_outside::Store;
 use enc_plain::ChainView;
-use enc_command_line::push_accepted;
 use std::alloc::{AllocError, Global};
 
 /// How many deltas an aggregate has.

@@ -16,10 +16,10 @@ use crate::commands::apply::{saving, unwritten};
 use crate::judge::Judged;
 use crate::plan::{Outcome, Plan};
 use crate::stop::Stop;
+use enc_command_line::push_moves;
 use enc_compact::{Order, compact as compacted, compact_laws, moved_rows};
 use enc_outside::Store;
 use enc_rewriter::{Rewritten, rewrite};
-use enc_command_line::push_moves;
 use std::alloc::{AllocError, Global};
 
 /// The plan that saves what was written of a chain in the order of an ordinary module, and tells the rows

@@ -1,6 +1,6 @@
 //! The command `gen`: a generated base, the deltas of generated edit lists, and the module after all.
 ghost use Rattle.std.specs.Prelude.{◌≡◌, ◌≤◌, ◌<◌, ◌+◌, ◌++◌, ◌∷◌, [], Ok, Some, None, length, take, IsTrue, IfOk, OnOk, IsErrOf, string_bytes, map};
-ghost use Rattle.enc_schema.specs.Tables.{method_def};
+ghost use Rattle.enc_base.specs.Tables.{method_def};
 ghost use Rattle.enc_plain.specs.Sound.{row_count};
 ghost use Rattle.enc_ppdb.specs.Written.{MeansPdb};
 ghost use Rattle.enc_rewriter.specs.Limits.{IsFault};
@@ -20,12 +20,13 @@ use crate::load::{BaseFile, DeltaFile, name_of};
 use crate::plan::{Outcome, Plan, Save};
 use crate::stop::Stop;
 use enc_checker::within_law;
-use enc_memory_module::PlainModule;
+use enc_command_line::{Number, case_line};
+use enc_emit::DeltaBytes;
 use enc_jobs::{EditLists, case_laws, generated_laws, make_case};
+use enc_memory_module::PlainModule;
 use enc_ppdb::PdbChain;
 use enc_rewriter::{RewriteFault, Rewritten, rewrite};
-use enc_command_line::{Number, case_line};
-use enc_writer::{DeltaBytes, EditFault, write_delta};
+use enc_writer::{EditFault, write_delta};
 use std::alloc::{AllocError, Global};
 
 /// What was made so far: the base with its deltas, and the files to be saved.

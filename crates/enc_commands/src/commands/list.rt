@@ -13,8 +13,8 @@ use crate::judge::Judged;
 use crate::plan::{Outcome, Plan};
 use crate::plans::saving_nothing;
 use crate::stop::Stop;
-use enc_outside::Store;
 use enc_command_line::listing;
+use enc_outside::Store;
 use std::alloc::{AllocError, Global};
 
 /// The listing of an aggregate.

@@ -16,9 +16,9 @@ use crate::plan::{Outcome, Plan};
 use crate::plans::{too_deep, too_long};
 use crate::stop::Stop;
 use enc_base::{StreamName, Token};
+use enc_command_line::Limit;
 use enc_merge::{MergeFault, merge_last};
 use enc_outside::Store;
-use enc_command_line::Limit;
 use std::alloc::Global;
 
 /// The stop at a reference that lies too deep, in the last delta's metadata.

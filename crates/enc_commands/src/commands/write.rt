@@ -19,11 +19,12 @@ use crate::load::name_of;
 use crate::plan::{Outcome, Plan, Save};
 use crate::plans::{broken, unlisted};
 use crate::stop::Stop;
+use enc_command_line::saved_line;
 use enc_edit_list::EditList;
+use enc_emit::DeltaBytes;
 use enc_jobs::read_edits;
 use enc_outside::Store;
-use enc_command_line::saved_line;
-use enc_writer::{DeltaBytes, EditFault, write_delta};
+use enc_writer::{EditFault, write_delta};
 use std::alloc::{AllocError, Global};
 
 /// The edit list that a file says.

@@ -1,7 +1,7 @@
 //! The edits of a case: rows of the base, and methods that are added or replaced.
 ghost use Rattle.std.specs.Prelude.{◌≡◌, [], ◌∷◌, ◌++◌, IfOk, decimal, codes};
 ghost use Rattle.enc_base.specs.Token.{nil};
-ghost use Rattle.enc_schema.specs.Tables.{type_ref, method_def};
+ghost use Rattle.enc_base.specs.Tables.{type_ref, method_def};
 ghost use Rattle.enc_edit_list.specs.declared.edit.Edit.TheVariants.{Body as Replace};
 ghost use Rattle.enc_jobs.specs.Generated.{load_of, return as returning, body_loading, named_row, adds_plain_row, adds_method, adds_mscorlib, adds_object, adds_type, base_method, name_added};
 
@@ -10,7 +10,7 @@ use enc_edit_list::{
     ArgValue, BodyValue, Cell, Cells, ClauseList, Edit, InstrList, InstrValue, PointList,
 };
 use enc_opcodes::{Op, Operand};
-use enc_schema::tables::{ASSEMBLY_REF, METHOD_DEF, TYPE_DEF, TYPE_REF};
+use enc_base::tables::{ASSEMBLY_REF, METHOD_DEF, TYPE_DEF, TYPE_REF};
 use std::alloc::{AllocError, Global};
 
 /// The row of a table.

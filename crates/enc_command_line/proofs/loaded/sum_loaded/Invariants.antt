@@ -1,5 +1,5 @@
 use Rattle.std.proofs.Common.{◌≡◌, ◌^◌, ◌%◌, take}
-use Rattle.enc_schema.specs.Tables.{method_def}
+use Rattle.enc_base.specs.Tables.{method_def}
 use Rattle.enc_plain.specs.Module.{rows_in}
 use Rattle.enc_command_line.proofs.Sums.{rows_loaded}
 use Rattle.enc_command_line.proofs.loaded.sum_loaded.Given as goal

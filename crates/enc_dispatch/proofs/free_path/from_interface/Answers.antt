@@ -1,6 +1,6 @@
 use Rattle.std.proofs.Common.{sym, ◌∙◌}
 use Rattle.enc_dispatch.specs.Asked.{left_of}
-use Rattle.enc_dispatch.specs.Path.{path_of}
+use Rattle.enc_plain.specs.ClassPath.{path_of}
 use Rattle.enc_dispatch.specs.Target.{from_interface}
 use Rattle.enc_dispatch.proofs.PathSteps.{interface_end, interface_here, interface_next}
 use Rattle.enc_dispatch.proofs.free_path.from_interface.Goals as goal

@@ -1,7 +1,7 @@
 use Rattle.std.proofs.Common.{◌≡◌, ◌-◌, ◌<◌, length, arith}
 use Rattle.enc_plain.specs.Sound.{row_count}
-use Rattle.enc_schema.specs.Tables as tables
-use Rattle.enc_dispatch.specs.Path.{path_of}
+use Rattle.enc_base.specs.Tables as tables
+use Rattle.enc_plain.specs.ClassPath.{path_of}
 use Rattle.enc_dispatch.proofs.PathSteps.{nth_step, nth_end}
 use Rattle.enc_dispatch.proofs.free_path.nth_class.Goals as goal
 

@@ -1,7 +1,7 @@
 use Rattle.std.proofs.Common.{◌≡◌, ◌-◌, drop}
 use Rattle.enc_plain.specs.Sound.{row_count}
-use Rattle.enc_schema.specs.Tables as tables
-use Rattle.enc_dispatch.specs.Path.{climb, path_of}
+use Rattle.enc_base.specs.Tables as tables
+use Rattle.enc_plain.specs.ClassPath.{climb, path_of}
 use Rattle.enc_dispatch.proofs.free_path.nth_class.Given as goal
 
 abbrev pub invariant-loop : goal.invariant-loop

@@ -1,6 +1,6 @@
 use Rattle.std.proofs.Common.{sym, ◌∙◌, arith}
 use Rattle.enc_dispatch.specs.Asked.{left_of}
-use Rattle.enc_dispatch.specs.Path.{path_of}
+use Rattle.enc_plain.specs.ClassPath.{path_of}
 use Rattle.enc_dispatch.specs.Walked.{place_on}
 use Rattle.enc_dispatch.proofs.Climbs.{place_end, place_here, place_next}
 use Rattle.enc_dispatch.proofs.free_path.place_on_path.Goals as goal

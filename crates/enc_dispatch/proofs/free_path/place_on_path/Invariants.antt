@@ -1,6 +1,6 @@
 use Rattle.std.proofs.Common.{◌≡◌, ℕ, ◌+◌, ◌<◌, ◌^◌, option_map}
 use Rattle.enc_dispatch.specs.Asked.{left_of}
-use Rattle.enc_dispatch.specs.Path.{path_of}
+use Rattle.enc_plain.specs.ClassPath.{path_of}
 use Rattle.enc_dispatch.specs.Walked.{place_on}
 use Rattle.enc_dispatch.proofs.free_path.place_on_path.Given as goal
 

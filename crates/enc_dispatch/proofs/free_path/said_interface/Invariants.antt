@@ -1,6 +1,6 @@
 use Rattle.std.proofs.Common.{◌≡◌, None}
 use Rattle.enc_base.specs.Order.{first_below}
-use Rattle.enc_dispatch.specs.Path.{says_interface}
+use Rattle.enc_dispatch.specs.Interfaces.{says_interface}
 use Rattle.enc_dispatch.proofs.free_path.said_interface.Given as goal
 
 abbrev pub invariant-loop-n : goal.invariant-loop-n

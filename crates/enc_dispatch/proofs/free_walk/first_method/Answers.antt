@@ -1,6 +1,6 @@
 use Rattle.std.proofs.Common.{sym, ◌∙◌, arith}
 use Rattle.enc_plain.specs.Module.{kids_of}
-use Rattle.enc_schema.specs.Tables as tables
+use Rattle.enc_base.specs.Tables as tables
 use Rattle.enc_dispatch.specs.Asked.{is_wanted}
 use Rattle.enc_dispatch.specs.Walks.{first_method}
 use Rattle.enc_dispatch.proofs.WalkSteps.{first_of_rows, method_here, method_next, method_end, no_methods}

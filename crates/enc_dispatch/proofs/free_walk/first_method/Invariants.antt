@@ -1,6 +1,6 @@
 use Rattle.std.proofs.Common.{◌≡◌, drop}
 use Rattle.enc_plain.specs.Module.{kids_of}
-use Rattle.enc_schema.specs.Tables as tables
+use Rattle.enc_base.specs.Tables as tables
 use Rattle.enc_dispatch.specs.Asked.{is_wanted}
 use Rattle.enc_dispatch.proofs.WalkSteps.{first_of_rows}
 use Rattle.enc_dispatch.proofs.free_walk.first_method.Given as goal

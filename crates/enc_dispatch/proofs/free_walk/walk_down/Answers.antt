@@ -1,5 +1,5 @@
 use Rattle.std.proofs.Common.{sym, ◌∙◌, reverse, take, None, Some, arith}
-use Rattle.enc_dispatch.specs.Path.{path_of}
+use Rattle.enc_plain.specs.ClassPath.{path_of}
 use Rattle.enc_dispatch.specs.Target.{walk_down}
 use Rattle.enc_dispatch.proofs.WalkSteps.{walk_end, walk_step}
 use Rattle.enc_dispatch.proofs.free_walk.walk_down.Goals as goal

@@ -1,7 +1,7 @@
 use Rattle.std.proofs.Common.{ap, ◌∙◌}
 use Rattle.enc_key_map.specs.Index.{value_at}
 use Rattle.enc_dispatch.specs.Entries.{earliest}
-use Rattle.enc_dispatch.specs.Path.{says_interface}
+use Rattle.enc_dispatch.specs.Interfaces.{says_interface}
 use Rattle.enc_dispatch.specs.Stored.{class_at, interface_key}
 use Rattle.enc_dispatch.proofs.Put.{later_none}
 use Rattle.enc_dispatch.proofs.interfaces.interfaces_of.Goals as goal

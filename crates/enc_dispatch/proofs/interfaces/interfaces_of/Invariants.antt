@@ -3,7 +3,7 @@ use Rattle.enc_base.specs.declared.token.Token.{Token}
 use Rattle.enc_key_map.specs.Index.{value_at}
 use Rattle.enc_dispatch.specs.Entries.{earliest, where_none}
 use Rattle.enc_dispatch.specs.Growth.{later_answer}
-use Rattle.enc_dispatch.specs.Path.{says_interface}
+use Rattle.enc_dispatch.specs.Interfaces.{says_interface}
 use Rattle.enc_dispatch.specs.Stored.{class_at, interface_key}
 use Rattle.enc_dispatch.proofs.interfaces.interfaces_of.Given as goal
 

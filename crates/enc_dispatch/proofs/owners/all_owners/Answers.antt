@@ -3,7 +3,7 @@ use Rattle.std.specs.Prelude.{◌==◌, if◌then◌else◌}
 use Rattle.std.specs.List.{list_any}
 use Rattle.enc_plain.specs.Module.{kids_of}
 use Rattle.enc_plain.specs.Sound.{row_count}
-use Rattle.enc_schema.specs.Tables.{method_def, type_def}
+use Rattle.enc_base.specs.Tables.{method_def, type_def}
 use Rattle.enc_dispatch.specs.Stored.{class_at}
 use Rattle.enc_dispatch.proofs.Kept.{kids_there}
 use Rattle.enc_dispatch.proofs.Later.{all_later}

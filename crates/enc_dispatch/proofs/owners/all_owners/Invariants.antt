@@ -1,6 +1,6 @@
 use Rattle.std.proofs.Common.{◌≡◌, length}
 use Rattle.enc_plain.specs.Sound.{row_count}
-use Rattle.enc_schema.specs.Tables.{method_def}
+use Rattle.enc_base.specs.Tables.{method_def}
 use Rattle.enc_dispatch.proofs.OwnerClasses.{IsPut}
 use Rattle.enc_dispatch.proofs.owners.all_owners.Given as goal
 

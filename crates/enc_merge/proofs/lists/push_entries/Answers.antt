@@ -1,7 +1,7 @@
 use Rattle.std.proofs.Common.{◌<◌, ◌+◌, refl, ◌∙◌, length, rules}
 use Rattle.std.specs.Prelude.{◌^◌}
 use Rattle.enc_rows.specs.Written.{count_at, rows_at}
-use Rattle.enc_schema.specs.Tables.{enc_log}
+use Rattle.enc_base.specs.Tables.{enc_log}
 use Rattle.enc_delta.specs.Rules.{counted}
 use Rattle.enc_merge.proofs.ListRows.{no_entry_logged, entry_logged, log_has_room}
 use Rattle.enc_merge.proofs.lists.push_entries.Goals as goal

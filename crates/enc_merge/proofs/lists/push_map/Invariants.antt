@@ -1,6 +1,6 @@
 use Rattle.std.proofs.Common.{◌≡◌, ◌++◌, take}
 use Rattle.enc_rows.specs.Written.{rows_at}
-use Rattle.enc_schema.specs.Tables.{enc_map}
+use Rattle.enc_base.specs.Tables.{enc_map}
 use Rattle.enc_merge.specs.Writing.{StayBut}
 use Rattle.enc_merge.proofs.ListRows.{mapped}
 use Rattle.enc_merge.proofs.lists.push_map.Given as goal

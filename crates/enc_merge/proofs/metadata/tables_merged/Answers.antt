@@ -2,7 +2,7 @@ use Rattle.std.proofs.Common.{◌≡◌, length, ap, ◌∙◌, refl, arith}
 use Rattle.enc_delta.specs.Delta.{log_in}
 use Rattle.enc_delta.specs.Rules.{counted}
 use Rattle.enc_rows.specs.Written.{count_at, rows_at}
-use Rattle.enc_schema.specs.Tables.{enc_log, enc_map}
+use Rattle.enc_base.specs.Tables.{enc_log, enc_map}
 use Rattle.enc_merge.specs.Writing.{Both}
 use Rattle.enc_merge.proofs.ShortLists.{logs_few, tokens_few}
 use Rattle.enc_merge.proofs.metadata.tables_merged.Goals as goal

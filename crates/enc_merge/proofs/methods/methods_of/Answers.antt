@@ -1,6 +1,6 @@
 use Rattle.std.proofs.Common.{List, ◌∙◌, ap, arith}
 use Rattle.std.specs.Prelude.{ℕ}
-use Rattle.enc_schema.specs.Tables as tables
+use Rattle.enc_base.specs.Tables as tables
 use Rattle.enc_delta.specs.Delta.{of_table}
 use Rattle.enc_ppdb.proofs.DocumentsUpto.{take_ended}
 use Rattle.enc_merge.specs.Writing.{tokens_of}

@@ -1,5 +1,5 @@
 use Rattle.std.proofs.Common.{◌≡◌, take}
-use Rattle.enc_schema.specs.Tables as tables
+use Rattle.enc_base.specs.Tables as tables
 use Rattle.enc_delta.specs.Delta.{of_table}
 use Rattle.enc_merge.specs.Writing.{tokens_of}
 use Rattle.enc_merge.proofs.methods.methods_of.Given as goal

@@ -1,6 +1,6 @@
 use Rattle.std.proofs.Common.{◌≡◌, length, map, refl, ap, arith}
 use Rattle.enc_rows.specs.Written.{count_at}
-use Rattle.enc_schema.specs.Tables as tables
+use Rattle.enc_base.specs.Tables as tables
 use Rattle.enc_pdb_writer.specs.Holding.{map_cells}
 use Rattle.enc_pdb_writer.proofs.DeltaHeld.{documents_same, delta_held, delta_fits}
 use Rattle.enc_pdb_writer.proofs.methods.named_parts.Goals as goal

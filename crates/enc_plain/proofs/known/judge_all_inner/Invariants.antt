@@ -1,7 +1,7 @@
 use Rattle.std.proofs.Common.{◌≡◌}
 use Rattle.enc_plain.specs.Namesakes.{AreNamesakes}
 use Rattle.enc_plain.specs.Pairs.{AreAlikePairs}
-use Rattle.enc_schema.specs.Tables.{type_spec}
+use Rattle.enc_base.specs.Tables.{type_spec}
 use Rattle.enc_plain.proofs.known.judge_all_inner.Given as goal
 
 abbrev pub invariant-loop-a : goal.invariant-loop-a

@@ -1,7 +1,7 @@
 use Rattle.std.proofs.Common.{◌≡◌, ◌<◌, ◌∙◌, sym, arith}
 use Rattle.enc_base.proofs.First.{first_none}
 use Rattle.enc_rows.specs.Layout.{rows_of}
-use Rattle.enc_schema.specs.Tables as tables
+use Rattle.enc_base.specs.Tables as tables
 use Rattle.enc_ppdb.specs.Fault.{method_fault}
 use Rattle.enc_ppdb.proofs.RowsBroken.{ends_none, ends_step, end_good, first_bad, first_good, all_good}
 use Rattle.enc_ppdb.proofs.ends.ends_of.Goals as goal

@@ -1,6 +1,6 @@
 use Rattle.std.proofs.Common.{◌≤◌, ◌∙◌, arith}
 use Rattle.enc_rows.specs.Layout.{rows_of}
-use Rattle.enc_schema.specs.Tables as tables
+use Rattle.enc_base.specs.Tables as tables
 use Rattle.enc_ppdb.proofs.Documents.{document_numbered}
 use Rattle.enc_ppdb.proofs.known.document_in.Goals as goal
 

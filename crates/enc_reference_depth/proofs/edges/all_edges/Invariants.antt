@@ -1,6 +1,6 @@
 use Rattle.std.proofs.Common.{◌+◌}
 use Rattle.enc_plain.specs.Sound.{row_count}
-use Rattle.enc_schema.specs.Tables.{type_ref}
+use Rattle.enc_base.specs.Tables.{type_ref}
 use Rattle.enc_reference_depth.specs.Edges.{AreEdges}
 use Rattle.enc_reference_depth.proofs.edges.all_edges.Given as goal
 

@@ -4,7 +4,7 @@ use Rattle.enc_plain.specs.Sound.{row_count}
 use Rattle.enc_plain.proofs.CellsOf.{token_there}
 use Rattle.enc_rows.specs.Sums.{below}
 use Rattle.enc_row_order.specs.Walks.{AreFirst, ended}
-use Rattle.enc_schema.specs.Tables.{nested_class}
+use Rattle.enc_base.specs.Tables.{nested_class}
 use Rattle.enc_row_order.proofs.References.{row_here, nested_kind, enclosing_kind, nested_type}
 use Rattle.enc_row_order.proofs.FirstWalks.{first_begins, first_notes, first_ends, written_back}
 use Rattle.enc_row_order.proofs.depth.first_walks.Goals as goal

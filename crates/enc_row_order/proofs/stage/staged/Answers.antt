@@ -1,7 +1,7 @@
 use Rattle.std.proofs.Common.{◌≡◌, ◌∙◌, ap, map, arith}
 use Rattle.enc_rows.specs.Sums.{below}
 use Rattle.enc_schema.specs.Schema.{list_at}
-use Rattle.enc_schema.specs.Tables.{table_count}
+use Rattle.enc_base.specs.Tables.{table_count}
 use Rattle.enc_row_order.specs.Stages.{stage_of}
 use Rattle.enc_row_order.proofs.Staged.{no_tables, more_tables, all_tables, all_orders, stage_permutes}
 use Rattle.enc_row_order.proofs.stage.staged.Goals as goal

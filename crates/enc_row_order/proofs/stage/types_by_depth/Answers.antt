@@ -1,6 +1,6 @@
 use Rattle.std.proofs.Common.{◌∙◌, ◌<◌, ap, sym, subst}
 use Rattle.std.specs.Prelude.{◌^◌, length}
-use Rattle.enc_schema.specs.Tables.{type_def}
+use Rattle.enc_base.specs.Tables.{type_def}
 use Rattle.enc_row_order.specs.Keyed.{entries_numbered}
 use Rattle.enc_row_order.proofs.Staged.{depth_sorted, depths_few}
 use Rattle.enc_row_order.proofs.stage.types_by_depth.Goals as goal

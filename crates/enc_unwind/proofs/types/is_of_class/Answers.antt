@@ -4,7 +4,7 @@ use Rattle.enc_base.specs.declared.token.Token.{Token}
 use Rattle.enc_plain.specs.Alike.{tokens_alike}
 use Rattle.enc_plain.specs.Module.{Module, cells_of}
 use Rattle.enc_plain.specs.Sound.{row_count}
-use Rattle.enc_schema.specs.Tables.{type_def}
+use Rattle.enc_base.specs.Tables.{type_def}
 use Rattle.enc_unwind.specs.Thrown.{types_of}
 use Rattle.enc_unwind.proofs.Climbed.{types_in, found_here, found_behind, found_last, found_at_end}
 use Rattle.enc_unwind.proofs.types.is_of_class.Goals as goal

@@ -1,6 +1,6 @@
 use Rattle.std.proofs.Common.{◌≡◌, length, arith}
 use Rattle.enc_plain.specs.Module.{rows_in}
-use Rattle.enc_schema.specs.Tables.{method_def}
+use Rattle.enc_base.specs.Tables.{method_def}
 use Rattle.enc_versions.proofs.Begun.{all_stand}
 use Rattle.enc_versions.proofs.versions.slots_of.Goals as goal
 

@@ -1,6 +1,6 @@
 use Rattle.std.proofs.Common.{◌<◌, length, refl, ◌∙◌, rules}
 use Rattle.enc_rows.specs.Written.{rows_at}
-use Rattle.enc_schema.specs.Tables.{enc_log}
+use Rattle.enc_base.specs.Tables.{enc_log}
 use Rattle.enc_writer.proofs.LogSays.{none_logged, edit_logged, edit_has_room}
 use Rattle.enc_writer.proofs.log.push_edits.Goals as goal
 

@@ -1,6 +1,6 @@
 use Rattle.std.proofs.Common.{◌≡◌, ◌++◌, map}
 use Rattle.enc_rows.specs.Written.{rows_at}
-use Rattle.enc_schema.specs.Tables.{enc_log}
+use Rattle.enc_base.specs.Tables.{enc_log}
 use Rattle.enc_list_delta.specs.Holds.{entry_numbers}
 use Rattle.enc_writer.specs.Writing.{OthersStay}
 use Rattle.enc_writer.specs.LogWriting.{entries_upto}

@@ -1,5 +1,5 @@
 use Rattle.enc_rows.specs.Written.{rows_at}
-use Rattle.enc_schema.specs.Tables.{enc_log}
+use Rattle.enc_base.specs.Tables.{enc_log}
 use Rattle.enc_writer.proofs.LogSays.{references_have_room, others_have_room, all_logged}
 use Rattle.enc_writer.proofs.log.push_log.Goals as goal
 

@@ -1,5 +1,5 @@
 use Rattle.std.proofs.Common.{sym, arith}
-use Rattle.enc_schema.specs.Tables.{enc_map}
+use Rattle.enc_base.specs.Tables.{enc_map}
 use Rattle.enc_rows.specs.Written.{rows_at}
 use Rattle.enc_list_delta.proofs.TokensUnbroken.{counts_fit}
 use Rattle.enc_writer.proofs.MapSays.{none_mapped, one_mapped, few_mapped}

@@ -1,6 +1,6 @@
 use Rattle.std.proofs.Common.{◌≡◌, refl, subst, rules}
 use Rattle.enc_rows.specs.Written.{rows_at}
-use Rattle.enc_schema.specs.Tables.{enc_map}
+use Rattle.enc_base.specs.Tables.{enc_map}
 use Rattle.enc_writer.specs.MapWriting.{TablesMapped}
 use Rattle.enc_writer.proofs.MapSays.{no_table_mapped, all_mapped}
 use Rattle.enc_writer.proofs.map.push_map.Goals as goal

@@ -2,7 +2,7 @@ use Rattle.std.proofs.Common.{◌≡◌, ◌≤◌, refl, subst, rules}
 use Rattle.std.specs.Prelude.{slice_index}
 use Rattle.enc_rows.specs.Written.{rows_at}
 use Rattle.enc_rules.specs.Listed.{count_after}
-use Rattle.enc_schema.specs.Tables.{enc_map}
+use Rattle.enc_base.specs.Tables.{enc_map}
 use Rattle.enc_writer.specs.MapWriting.{RowsMapped}
 use Rattle.enc_writer.proofs.MapSays.{begin_mapped, table_mapped}
 use Rattle.enc_writer.proofs.map.push_tokens.Goals as goal

@@ -1,5 +1,5 @@
 use Rattle.enc_rows.specs.Written.{rows_at}
-use Rattle.enc_schema.specs.Tables.{enc_map}
+use Rattle.enc_base.specs.Tables.{enc_map}
 use Rattle.enc_writer.specs.Writing.{OthersStay}
 use Rattle.enc_writer.specs.MapWriting.{RowsMapped}
 use Rattle.enc_writer.proofs.map.push_tokens.Given as goal

@@ -1,5 +1,5 @@
 use Rattle.std.proofs.Common.{◌≡◌}
-use Rattle.enc_dispatch.specs.Path.{is_on_path}
+use Rattle.enc_plain.specs.ClassPath.{is_on_path}
 use Rattle.enc_dispatch.specs.Walked.{left_in, path_in}
 use Rattle.enc_dispatch.proofs.dispatch.Dispatch.has_on_path.Given as goal
 

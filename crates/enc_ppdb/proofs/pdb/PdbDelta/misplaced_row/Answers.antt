@@ -1,6 +1,6 @@
 use Rattle.std.proofs.Common.{◌<◌, ◌≤◌, ◌∙◌, length, ap, sym, arith}
 use Rattle.enc_rows.specs.Layout.{rows_of}
-use Rattle.enc_schema.specs.Tables as tables
+use Rattle.enc_base.specs.Tables as tables
 use Rattle.enc_ppdb.specs.Seen.{is_past_end}
 use Rattle.enc_ppdb.proofs.RowsBroken.{row_behind, row_stray, row_placed, ends_length, read_at, token_at}
 use Rattle.enc_ppdb.proofs.Rows.{as_many}

@@ -1,6 +1,6 @@
 use Rattle.std.proofs.Common.{◌≡◌, ◌∙◌, ap, map, arith}
 use Rattle.enc_rows.specs.Sums.{below}
-use Rattle.enc_schema.specs.Tables.{table_count}
+use Rattle.enc_base.specs.Tables.{table_count}
 use Rattle.enc_row_order.specs.Orders.{standing_rows}
 use Rattle.enc_row_order.proofs.Staged.{no_tables, more_tables, all_tables, all_orders, own_order, own_few, own_fit, own_rows}
 use Rattle.enc_row_order.proofs.order.Order.begin.Goals as goal

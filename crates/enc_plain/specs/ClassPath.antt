@@ -1,15 +1,13 @@
 -- The path of a class: the classes that it extends, one after the other (ECMA-335 II.22.37).
-use Rattle.std.specs.Prelude.{ℕ, zero, suc, Bool, ◌&&◌, List, [], ◌∷◌, Option, Some, None, option_map, is_some, ◌==◌, if◌then◌else◌}
+use Rattle.std.specs.Prelude.{ℕ, zero, suc, Bool, ◌&&◌, List, [], ◌∷◌, Option, Some, None, option_map, ◌==◌, if◌then◌else◌}
 use Rattle.std.specs.List.{list_any}
-use Rattle.enc_base.specs.Order.{first_below}
-use Rattle.enc_base.specs.Token.{nth_row, is_token}
+use Rattle.enc_base.specs.Token.{is_token}
 use Rattle.enc_base.specs.declared.token.Token.{Token}
+use Rattle.enc_base.specs.Tables as tables
+use Rattle.enc_schema.specs.Columns as columns
 use Rattle.enc_plain.specs.Module.{Module, has_row, cells_of}
 use Rattle.enc_plain.specs.Rows.{token_at}
 use Rattle.enc_plain.specs.Sound.{row_count}
-use Rattle.enc_schema.specs.Columns as columns
-use Rattle.enc_schema.specs.Tables as tables
-use Rattle.enc_dispatch.specs.Columns.{interface_impl_class, interface_impl_interface}
 
 -- the token names a row of TypeDef
 abbrev pub is_class : Module → Token → Bool
@@ -37,23 +35,6 @@ unfoldable pub before_class : Token → List Token → Option (List Token)
 before_class base [] = None
 before_class base (c ∷ rest) =
     if is_token c base then Some [] else option_map (λ (before : List Token). c ∷ before) (before_class base rest)
-
--- a row of InterfaceImpl says that a class has an interface (II.22.23)
-unfoldable pub says_interface : Module → Token → Token → ℕ → Option Token
-says_interface m class interface k =
-    if is_token (token_at (cells_of m) (nth_row tables.interface_impl k) interface_impl_class) class
-    && is_token (token_at (cells_of m) (nth_row tables.interface_impl k) interface_impl_interface) interface
-    then Some interface
-    else None
-
--- some row says so
-unfoldable pub has_interface : Module → Token → Token → Bool
-has_interface m class interface =
-    is_some (first_below (says_interface m class interface) (row_count m tables.interface_impl))
-
--- a class of the path has the interface
-abbrev pub implements : Module → Token → Token → Bool
-implements m class interface = list_any (λ (c : Token). has_interface m c interface) (path_of m class)
 
 -- the class is the base or extends it, in one step or more
 abbrev pub extends : Module → Token → Token → Bool
