@@ -9,8 +9,8 @@ ghost use Rattle.enc_agg.specs.Places.{every_place, place_listed};
 use crate::aggregate::Aggregate;
 use crate::directory::row_key;
 use enc_base::Token;
-use enc_key_map::Index;
 use enc_generation_map::{Listings, Places};
+use enc_key_map::Index;
 use enc_plain::RowPlace;
 use std::alloc::{AllocError, Global};
 

@@ -4,11 +4,11 @@ ghost use Rattle.enc_opcodes.specs.Body.{code_seen};
 ghost use Rattle.enc_checker.specs.Check.{new_code, code_size, code_sizes, new_bodies};
 
 use enc_base::Token;
+use enc_base::tables::METHOD_DEF;
 use enc_delta::Delta;
 use enc_opcodes::CodeRef;
 use enc_ppdb::{CodeSizes, MethodList};
 use enc_schema::columns::METHOD_DEF_RVA;
-use enc_base::tables::METHOD_DEF;
 use std::alloc::{AllocError, Global};
 
 /// The body of a method in a delta; None where it has none there.

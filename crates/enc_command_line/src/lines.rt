@@ -10,9 +10,9 @@ use crate::limits::Limit;
 use crate::loaded::sum_loaded;
 use enc_agg::Aggregate;
 use enc_base::Token;
+use enc_base::tables::METHOD_DEF;
 use enc_jobs::JobFault;
 use enc_plain::ModuleView;
-use enc_base::tables::METHOD_DEF;
 use enc_text::{push_decimal, push_long, push_str, push_token, stream_name};
 use std::alloc::{AllocError, Global};
 

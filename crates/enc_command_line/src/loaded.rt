@@ -7,10 +7,10 @@ ghost use Rattle.enc_plain.specs.Module.{has_row, cell_of};
 ghost use Rattle.enc_command_line.specs.Case.{loaded_by, loaded_in_body, sum_loaded as sum_of_loaded};
 
 use enc_base::Token;
+use enc_base::tables::METHOD_DEF;
 use enc_il::instr_at;
 use enc_opcodes::{Arg, CodeRef, Instr};
 use enc_plain::ModuleView;
-use enc_base::tables::METHOD_DEF;
 
 /// What an instruction loads, if it is `ldc.i4` with an operand, as a number of 64 bits.
 fn loaded(instr: &Instr<'_>, end: u32) -> u64

@@ -27,7 +27,7 @@ use Rattle.enc_commands.specs.Loads.{followed, KnowWithin}
 use Rattle.enc_commands.specs.Plans.{saves_of}
 use Rattle.enc_commands.specs.declared.commands.generate.Series.{Series}
 use Rattle.enc_commands.specs.declared.plan.Plan.{Plan}
-use Rattle.enc_commands.specs.declared.plan.Save.{Save}
+use Rattle.enc_saves.specs.declared.save.Save.{Save}
 use Rattle.enc_commands.specs.declared.stop.Stop.{Stop as Halt}
 use Rattle.enc_commands.specs.declared.stop.Stop.TheVariants as halt
 use Rattle.enc_commands.proofs.Drawn.{base_drawn, base_silent, drawn_more, nothing_more}

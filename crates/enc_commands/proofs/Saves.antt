@@ -4,7 +4,7 @@ use Rattle.std.specs.Prelude.{slice_get, string_bytes}
 use Rattle.enc_outside.specs.Outside.{Files, with_file, IsSavedInPart}
 use Rattle.enc_commands.specs.Ending.{after_saves}
 use Rattle.enc_commands.specs.Plans.{saves_of, SavesStop}
-use Rattle.enc_commands.specs.declared.plan.Save.{Save}
+use Rattle.enc_saves.specs.declared.save.Save.{Save}
 use Rattle.enc_outside.specs.declared.store.SaveError.{SaveError}
 use Rattle.enc_outside.specs.declared.store.SaveError.TheVariants.{Memory, Failed}
 

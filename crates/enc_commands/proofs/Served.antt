@@ -2,7 +2,7 @@
 use Rattle.std.proofs.Common.{◌≡◌, ℕ, List, [], Option, Some, None, refl, ◌∙◌, inl, inr}
 use Rattle.std.specs.Prelude.{◌⊎◌, IfSome, IsSome}
 use Rattle.enc_outside.specs.Outside.{Files}
-use Rattle.enc_commands.specs.declared.plan.Save.{Save}
+use Rattle.enc_saves.specs.declared.save.Save.{Save}
 use Rattle.enc_commands.specs.declared.plan.Outcome.{Outcome}
 use Rattle.enc_commands.specs.declared.plan.Outcome.TheVariants.{Accepted}
 use Rattle.enc_commands.specs.declared.ending.Ending.{Ending}

@@ -1,5 +1,5 @@
 -- What `gen` saves: the generated base, a delta for each generated list, and the module after all lists.
-use Rattle.std.specs.Prelude.{◌≡◌, ℕ, ◌+◌, List, [], ◌∷◌, ◌++◌, Some, Ok, codes, decimal}
+use Rattle.std.specs.Prelude.{◌≡◌, ℕ, ◌+◌, List, [], ◌∷◌, ◌++◌, Some, Ok}
 use Rattle.enc_base.specs.Tables as tables
 use Rattle.enc_plain.specs.Debug.{PlainPdb, unknown}
 use Rattle.enc_plain.specs.Sound.{row_count}
@@ -13,25 +13,13 @@ use Rattle.enc_edit_list.specs.declared.edit.EditList.{EditList}
 use Rattle.enc_emit.specs.declared.delta_bytes.DeltaBytes.{DeltaBytes}
 use Rattle.enc_writer.specs.Stands.{StandsFor}
 use Rattle.enc_jobs.specs.Generated.{generated_base, edited_by}
-use Rattle.enc_commands.specs.Verdict.{dll, meta, il, pdb, Followed, followed_by, base_pdb, plain_of, debug_after}
+pub use Rattle.enc_saves.specs.Names.{delta_name, last_name}
+pub use Rattle.enc_saves.specs.Saves.{module_saves, delta_saves}
+use Rattle.enc_commands.specs.Verdict.{Followed, followed_by, base_pdb, plain_of, debug_after}
 
 -- a PDB in which nothing is known
 abbrev pub no_points : PlainPdb
 no_points method = unknown
-
--- the names of a list's delta, and of the module after all
-abbrev pub delta_name : List ℕ → ℕ → List ℕ
-delta_name out list = out ++ codes "_" ++ decimal list
-
-abbrev pub last_name : List ℕ → List ℕ
-last_name out = out ++ codes "_all"
-
--- the saves of a module with its PDB, and those of a delta
-abbrev pub module_saves : List ℕ → List ℕ → List ℕ → List (List ℕ × List ℕ)
-module_saves name image symbols = (dll name, image) ∷ (pdb name, symbols) ∷ []
-
-abbrev pub delta_saves : List ℕ → DeltaBytes → List (List ℕ × List ℕ)
-delta_saves name d = (meta name, d.meta) ∷ (il name, d.il) ∷ (pdb name, d.pdb) ∷ []
 
 -- a module that was written, with its PDB, is the base of what follows
 pub record Begins (image symbols : List ℕ) (f : Followed) : Type 0 where

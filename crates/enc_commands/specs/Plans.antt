@@ -1,17 +1,13 @@
 -- For the contracts of private functions: what the plan of a verdict says, and where saving stops.
-use Rattle.std.specs.Prelude.{◌≡◌, ℕ, List, map, Option, string_bytes}
+use Rattle.std.specs.Prelude.{◌≡◌, ℕ, List, Option}
 use Rattle.enc_outside.specs.Outside.{Files}
 use Rattle.enc_outside.specs.declared.store.SaveError.{SaveError}
 use Rattle.enc_outside.specs.declared.store.SaveError.TheVariants.{Memory, Failed}
-use Rattle.enc_commands.specs.declared.plan.Save.{Save}
+pub use Rattle.enc_saves.specs.Saves.{saves_of}
 use Rattle.enc_commands.specs.declared.plan.Plan.{Plan}
 use Rattle.enc_commands.specs.Ending.{IsSavedFront, IsSavedAndPart}
 use Rattle.enc_commands.specs.Verdict.{Verdict}
 use Rattle.enc_commands.specs.Done.{IsAnswer, AreSaves, outcome_of}
-
--- the saves of a plan, each a name and its bytes
-abbrev pub saves_of : List Save → List (List ℕ × List ℕ)
-saves_of saves = map (λ (s : Save). (string_bytes s.name, s.bytes.items)) saves
 
 -- the files where saving stopped
 abbrev pub SavesStop : SaveError → List (List ℕ × List ℕ) → Option Files → Option Files → Type 0

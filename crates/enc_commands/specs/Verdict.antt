@@ -14,6 +14,7 @@ use Rattle.enc_image.specs.Base.{base_of, chain_of_base}
 use Rattle.enc_delta.specs.Delta.{delta_of}
 use Rattle.enc_ppdb.specs.Fault.{pdb_of}
 use Rattle.enc_checker.specs.Check.{judged}
+pub use Rattle.enc_saves.specs.Names.{dll, meta, il, pdb}
 pub use Rattle.enc_checker.specs.Followed.{Followed, followed_by, plain_of, debug_after, is_of_pdb}
 use Rattle.enc_agg.specs.Extend.{chain_with}
 use Rattle.enc_edit_list.specs.declared.edit.EditList.{EditList}
@@ -53,20 +54,6 @@ infixl 10 ◌>>=◌
 abbrev pub ◌>>=◌ : {A B : Type 0} → Result A Stop → (A → Result B Stop) → Result B Stop
 (Ok a) >>= f = f a
 (Err s) >>= f = Err s
-
--- the file of a base, and the files of a delta
-abbrev pub dll : List ℕ → List ℕ
-dll base = base ++ codes ".dll"
-
-abbrev pub meta : List ℕ → List ℕ
-meta delta = delta ++ codes ".meta"
-
-abbrev pub il : List ℕ → List ℕ
-il delta = delta ++ codes ".il"
-
--- the Portable PDB of a base or a delta, which may be absent
-abbrev pub pdb : List ℕ → List ℕ
-pdb word = word ++ codes ".pdb"
 
 -- the most bytes of a file, and of all files that are loaded
 abbrev pub file_limit : ℕ

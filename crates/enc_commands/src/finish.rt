@@ -5,8 +5,9 @@ ghost use Rattle.enc_commands.specs.Ending.{after_saves, SavesAt, PrintsAt, IfWh
 ghost use Rattle.enc_commands.specs.Plans.{saves_of, SavesStop};
 
 use crate::ending::Ending;
-use crate::plan::{Plan, Save};
+use crate::plan::Plan;
 use enc_outside::{PutError, SaveError, Sink, Store};
+use enc_saves::Save;
 
 /// Saves all, in order, up to the first that isn't saved.
 fn save_all<S: Store>(saves: &[Save], store: &mut S) -> Result<(), SaveError>

@@ -14,7 +14,7 @@ ghost use Rattle.enc_commands.specs.Verdict.{dll, pdb, in_file, in_delta, is_of_
 ghost use Rattle.enc_commands.specs.Stops.{Comes, StopsQuietly, OnPlan, IsQuiet, IsUnaccepted};
 ghost use Rattle.enc_commands.specs.Loads.{bytes_seen, base_followed, base_seen, file_seen, followed, KnowWithin, Adds};
 
-use crate::load::{BaseFile, DeltaFile, name_of};
+use crate::load::{BaseFile, DeltaFile};
 use crate::plans::unread;
 use crate::stop::Stop;
 use enc_agg::Aggregate;
@@ -25,6 +25,7 @@ use enc_delta::Delta;
 use enc_image::Image;
 use enc_plain::ModuleView;
 use enc_ppdb::{Pdb, PdbChain};
+use enc_saves::name_of;
 use std::alloc::{AllocError, Global};
 use std::marker::Brand;
 use std::sync::ledger::{Blank, Ledger};

@@ -12,6 +12,7 @@ use crate::plans::{missing, too_long};
 use crate::stop::Stop;
 use enc_command_line::{FILE_LIMIT, Limit, TOTAL_LIMIT};
 use enc_outside::Store;
+use enc_saves::name_of;
 use std::alloc::{AllocError, Global};
 use std::marker::Model;
 
@@ -46,15 +47,6 @@ impl Model for Loaded {
     ghost view = { λ l. l.bytes };
 
     ghost invariant = { λ l. l.bytes ≤ 536870912 };
-}
-
-/// The name of a file: a word and its ending.
-pub fn name_of(alloc: Global, word: &str, ending: &str) -> Result<String, AllocError>
-    ensures { IfOk result (λ name. string_bytes name ≡ word.now ++ ending.now) }
-{
-    let mut name = String::from_str(alloc, word)?;
-    name.push_str(ending)?;
-    Ok(name)
 }
 
 impl Loaded {

@@ -1,5 +1,7 @@
 //! What a command will save and print, before anything has happened.
 
+use enc_saves::Save;
+
 /// Which line of the table of statuses applies.
 #[derive(Clone, Copy, Debug, PartialEq, Eq)]
 pub enum Outcome {
@@ -11,13 +13,6 @@ pub enum Outcome {
     Usage,
     /// A file that must be there is absent.
     Missing,
-}
-
-/// A file to be saved.
-#[derive(Debug, Drop)]
-pub struct Save {
-    pub name: String,
-    pub bytes: Vec<u8>,
 }
 
 /// A whole answer: what is saved, in order, and then printed. A refusal is a plan too.

@@ -12,11 +12,11 @@ ghost use Rattle.enc_base.specs.Tables.{method_def};
 use crate::mover::Mover;
 use crate::slots::{known_at, slot_at};
 use enc_base::Token;
-use enc_token_map::MovedBody;
-use enc_opcodes::CodeRef;
-use enc_row_order::Order;
-use enc_plain::ModuleView;
 use enc_base::tables::METHOD_DEF;
+use enc_opcodes::CodeRef;
+use enc_plain::ModuleView;
+use enc_row_order::Order;
+use enc_token_map::MovedBody;
 use std::alloc::{AllocError, Global};
 use std::collections::BTreeMap;
 

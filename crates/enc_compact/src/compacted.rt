@@ -9,8 +9,8 @@ use crate::bodies::HeldBodies;
 use crate::module::MovedModule;
 use crate::points::PlainPoints;
 use crate::signatures::HeldSignatures;
-use enc_row_order::Order;
 use enc_plain::{ModuleView, PointSource};
+use enc_row_order::Order;
 use std::alloc::{AllocError, Global};
 use std::rc::Rc;
 

@@ -1,8 +1,8 @@
 //! What holds of moved modules, as the contract of a function that does nothing.
 ghost use Rattle.enc_compact.specs.Laws.{MovedIsSound, MovedPdbIsSound, MovedKnowsWithin, MovedStandsInOrder};
 
-use enc_token_map::moved_body_law;
 use enc_sigs::moved_laws;
+use enc_token_map::moved_body_law;
 
 /// A sound module stays sound, and so does its plain PDB; its children stand in the order of their rows.
 pub fn compact_laws()

@@ -3,8 +3,8 @@ ghost use Rattle.enc_compact.specs.Mover.{moved_low, moved_stays, moved_is_low};
 ghost use Rattle.enc_schema.specs.Schema.{list_at};
 
 use enc_base::Token;
-use enc_token_map::Moves;
 use enc_row_order::Order;
+use enc_token_map::Moves;
 
 /// Moves tokens by an order.
 #[derive(Drop)]

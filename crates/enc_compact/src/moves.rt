@@ -6,9 +6,9 @@ ghost use Rattle.enc_row_order.specs.Orders.{new_order};
 ghost use Rattle.enc_schema.specs.Schema.{list_at};
 
 use enc_base::Token;
-use enc_row_order::Order;
-use enc_plain::ModuleView;
 use enc_base::tables::TABLE_COUNT;
+use enc_plain::ModuleView;
+use enc_row_order::Order;
 use std::alloc::{AllocError, Global};
 
 /// Appends a row with its new place, where it moves.

@@ -3,8 +3,8 @@ ghost use Rattle.enc_compact.specs.Seen.{old_by, pdb_by};
 ghost use Rattle.enc_schema.specs.Schema.{list_at};
 
 use enc_base::Token;
-use enc_row_order::Order;
 use enc_plain::{DocumentRef, PointSource};
+use enc_row_order::Order;
 use enc_seqpoints::Points;
 use std::alloc::{AllocError, Global};
 use std::rc::Rc;

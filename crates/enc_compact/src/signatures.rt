@@ -11,10 +11,10 @@ ghost use Rattle.enc_plain.specs.Sound.{IsSound, row_count};
 ghost use Rattle.enc_schema.specs.Schema.{list_at};
 
 use crate::slots::{known_at, slot_at};
-use enc_base::{Bytes, Counts, Token};
-use enc_row_order::Order;
-use enc_plain::{ModuleView, kind_in_table, signature_column};
 use enc_base::tables::TABLE_COUNT;
+use enc_base::{Bytes, Counts, Token};
+use enc_plain::{ModuleView, kind_in_table, signature_column};
+use enc_row_order::Order;
 use enc_sigs::{SigFault, read_sig, write_moved};
 use std::alloc::{AllocError, Global};
 use std::collections::BTreeMap;

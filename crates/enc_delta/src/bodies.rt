@@ -12,12 +12,12 @@ ghost use Rattle.enc_base.specs.Tables.{method_def};
 use crate::cells::next_of;
 use crate::context::Context;
 use crate::delta::nth_row;
+use enc_base::tables::METHOD_DEF;
 use enc_base::{Place, Token};
 use enc_il::is_good_body;
 use enc_opcodes::CodeRef;
 use enc_plain::{ChainView, is_row};
 use enc_schema::columns::{METHOD_DEF_IMPL_FLAGS, METHOD_DEF_RVA};
-use enc_base::tables::METHOD_DEF;
 use std::alloc::{AllocError, Global};
 use std::collections::BTreeSet;
 

@@ -12,9 +12,9 @@ ghost use Rattle.enc_base.specs.Tables.{table_count};
 use crate::context::Context;
 use crate::delta::nth_row;
 use crate::joined::{guid_after, has_text_after};
+use enc_base::tables::TABLE_COUNT;
 use enc_base::{Place, Token};
 use enc_plain::ChainView;
-use enc_base::tables::TABLE_COUNT;
 use enc_schema::{Column, column_of, columns_of, decode_coded};
 
 const MODULE: Token = Token { table: 0, row: 1 };

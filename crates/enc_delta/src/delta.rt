@@ -15,13 +15,13 @@ ghost use Rattle.enc_base.specs.Tables.{enc_log, enc_map};
 use crate::code::{body_from, code_at};
 use crate::entry::Entry;
 use crate::open::{Opened, is_rising, open};
+use enc_base::tables::{ENC_LOG, ENC_MAP};
 use enc_base::{ReadFault, Steps, Token};
 use enc_meta::{HeapLengths, Heaps, Root, TextEnds};
 use enc_opcodes::CodeRef;
 use enc_rows::Tables;
 use enc_schema::column_of;
 use enc_schema::columns::{ENC_LOG_FUNC_CODE, ENC_LOG_TOKEN, ENC_MAP_TOKEN};
-use enc_base::tables::{ENC_LOG, ENC_MAP};
 use std::marker::Model;
 use std::sync::ledger::Ledger;
 

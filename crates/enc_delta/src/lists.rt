@@ -12,11 +12,11 @@ use crate::context::Context;
 use crate::copy::is_module;
 use crate::entry::Entry;
 use crate::known::is_insert;
-use enc_base::{Place, Token};
-use enc_plain::{ChainView, ModuleView};
 use enc_base::tables::{
     EVENT, EVENT_MAP, FIELD, METHOD_DEF, PARAM, PROPERTY, PROPERTY_MAP, TYPE_DEF,
 };
+use enc_base::{Place, Token};
+use enc_plain::{ChainView, ModuleView};
 use std::alloc::{AllocError, Global};
 
 /// The place of a token by its number.

@@ -10,11 +10,11 @@ ghost use Rattle.enc_delta.specs.Changes.{of_nth, locals_begin, bad_locals_in, b
 ghost use Rattle.enc_delta.specs.Known.{has_locals_at, HaveLocals};
 
 use crate::context::Context;
+use enc_base::tables::{METHOD_DEF, STAND_ALONE_SIG};
 use enc_base::{Place, Token};
 use enc_opcodes::CodeRef;
 use enc_plain::{CellView, ChainView};
 use enc_schema::columns::{METHOD_DEF_RVA, STAND_ALONE_SIG_SIGNATURE};
-use enc_base::tables::{METHOD_DEF, STAND_ALONE_SIG};
 use std::alloc::{AllocError, Global};
 use std::collections::BTreeSet;
 

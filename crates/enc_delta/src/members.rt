@@ -24,12 +24,12 @@ use crate::known::is_insert;
 use crate::lists::{lesser, placed};
 use crate::pairs::Pair;
 use crate::twins::{Members, twin_fault};
+use enc_base::tables::{EVENT, FIELD, METHOD_DEF, PROPERTY, TYPE_DEF};
 use enc_base::{Place, Token};
 use enc_plain::{CellView, ChainView, KnownAlike, PlacedBlob, RefKeys, is_value_type};
 use enc_schema::columns::{
     FIELD_FLAGS, FIELD_SIGNATURE, METHOD_DEF_FLAGS, METHOD_DEF_SIGNATURE, TYPE_DEF_FLAGS,
 };
-use enc_base::tables::{EVENT, FIELD, METHOD_DEF, PROPERTY, TYPE_DEF};
 use std::alloc::{AllocError, Global};
 use std::marker::Model;
 

@@ -6,11 +6,11 @@ ghost use Rattle.enc_delta.specs.Delta.{delta_layout, delta_of, delta_source};
 ghost use Rattle.enc_delta.specs.Seen.{opened_delta, IsDeltaOpened, IsRising};
 
 use crate::delta::nth_row;
+use enc_base::tables::ENC_MAP;
 use enc_base::{Counts, Refusal};
 use enc_meta::{Root, TextEnds, read_root};
 use enc_rows::{Form, Tables};
 use enc_schema::columns::ENC_MAP_TOKEN;
-use enc_base::tables::ENC_MAP;
 
 /// A root, and the ends of the texts and the tables in it.
 #[derive(Drop)]

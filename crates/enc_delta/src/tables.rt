@@ -5,12 +5,12 @@ ghost use Rattle.enc_delta.specs.Rules.{rows_for, may_change, uneven_at, closed_
 
 use crate::context::Context;
 use crate::delta::Delta;
-use enc_base::{Place, Token};
-use enc_plain::ChainView;
 use enc_base::tables::{
     ASSEMBLY_REF, ENC_LOG, ENC_MAP, EVENT, EVENT_MAP, FIELD, GENERIC_PARAM_CONSTRAINT, IMPL_MAP,
     METHOD_DEF, MODULE, NESTED_CLASS, PARAM, PROPERTY, PROPERTY_MAP, TYPE_DEF, TYPE_REF,
 };
+use enc_base::{Place, Token};
+use enc_plain::ChainView;
 
 /// How many of the tokens are of each table.
 fn table_counts(tokens: &[Token]) -> [usize; 256]

@@ -12,9 +12,9 @@ ghost use Rattle.enc_delta.specs.Changes.{may_differ, is_signature_column, cell_
 use crate::context::Context;
 use crate::known::is_insert;
 use crate::members::is_one_place;
+use enc_base::tables::{CUSTOM_ATTRIBUTE, FIELD_RVA, METHOD_DEF, PARAM};
 use enc_base::{Place, Token};
 use enc_plain::{CellView, ChainView, KnownAlike, PlacedBlob, signature_column};
-use enc_base::tables::{CUSTOM_ATTRIBUTE, FIELD_RVA, METHOD_DEF, PARAM};
 use enc_schema::{Column, column_of, columns_of};
 use std::alloc::Global;
 

@@ -4,13 +4,13 @@
 ghost use Rattle.std.specs.Prelude.{◌≡◌, ◌<◌};
 
 use enc_agg::Aggregate;
+use enc_base::tables::METHOD_DEF;
 use enc_base::{ReadFault, Steps, Token};
 use enc_checker::{Checked, Files, check};
 use enc_image::Image;
 use enc_outside::{FileStore, Store};
 use enc_plain::{ModuleView, is_row};
 use enc_schema::columns::METHOD_DEF_NAME;
-use enc_base::tables::METHOD_DEF;
 use std::alloc::Global;
 use std::io;
 use std::marker::Brand;

@@ -11,9 +11,9 @@ use crate::marks::is_start;
 use crate::section::{SectionRef, behind_sections, clause_size, section_front};
 use crate::texts::UserTexts;
 use crate::walk::{is_named, walk_of};
+use enc_base::tables::STAND_ALONE_SIG;
 use enc_base::{Counts, Token};
 use enc_opcodes::{Clause, CodeRef};
-use enc_base::tables::STAND_ALONE_SIG;
 use std::alloc::{AllocError, Global};
 
 /// Whether an instruction begins at each of these offsets.

@@ -8,11 +8,11 @@ ghost use Rattle.enc_il.specs.Judged.{mark_at, targets_of, named_texts, are_text
 ghost use Rattle.enc_il.specs.Seen.{arg_seen};
 
 use crate::instr::instr_at;
-use enc_base::{Counts, Token, u32_of};
-use enc_opcodes::{Arg, CodeRef, Operand};
 use enc_base::tables::{
     FIELD, MEMBER_REF, METHOD_DEF, METHOD_SPEC, STAND_ALONE_SIG, TYPE_DEF, TYPE_REF, TYPE_SPEC,
 };
+use enc_base::{Counts, Token, u32_of};
+use enc_opcodes::{Arg, CodeRef, Operand};
 use std::alloc::{AllocError, Global};
 
 /// What one pass over a code finds.

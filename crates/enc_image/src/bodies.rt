@@ -13,12 +13,12 @@ ghost use Rattle.enc_base.specs.Tables.{method_def};
 
 use crate::code::code_at;
 use crate::judge::Cells;
+use enc_base::tables::METHOD_DEF;
 use enc_base::{Place, Token};
 use enc_il::{UserTexts, is_good_body};
 use enc_meta::Heaps;
 use enc_opcodes::CodeRef;
 use enc_schema::columns::{METHOD_DEF_IMPL_FLAGS, METHOD_DEF_RVA, STAND_ALONE_SIG_SIGNATURE};
-use enc_base::tables::METHOD_DEF;
 use std::alloc::{AllocError, Global};
 use std::collections::BTreeSet;
 

@@ -13,13 +13,13 @@ ghost use Rattle.enc_image.specs.Seen.{source_seen};
 ghost use Rattle.enc_base.specs.Tables.{field_rva, type_def};
 
 use crate::judge::Cells;
+use enc_base::tables::{CLASS_LAYOUT, FIELD, FIELD_RVA, TYPE_DEF};
 use enc_base::{Place, Token};
 use enc_plain::{Extent, extent_in};
 use enc_schema::column_of;
 use enc_schema::columns::{
     CLASS_LAYOUT_CLASS_SIZE, CLASS_LAYOUT_PARENT, FIELD_RVA_FIELD, FIELD_RVA_RVA, FIELD_SIGNATURE,
 };
-use enc_base::tables::{CLASS_LAYOUT, FIELD, FIELD_RVA, TYPE_DEF};
 use std::alloc::{AllocError, Global};
 
 /// The number in a cell, 0 where there is no such row or column.

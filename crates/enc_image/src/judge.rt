@@ -11,11 +11,11 @@ ghost use Rattle.enc_image.specs.Seen.{source_seen};
 use crate::bodies::body_fault;
 use crate::fields::field_fault;
 use crate::signatures::signature_fault;
+use enc_base::tables::TABLE_COUNT;
 use enc_base::{Code, Place, Refusal, Token};
 use enc_meta::Heaps;
 use enc_pe::{Container, LoadedFile};
 use enc_rows::Tables;
-use enc_base::tables::TABLE_COUNT;
 use enc_schema::{Column, column_of, columns_of};
 use std::alloc::{AllocError, Global};
 

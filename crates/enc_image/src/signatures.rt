@@ -9,9 +9,9 @@ ghost use Rattle.enc_image.specs.Known.{is_signature_at, AreSignatures};
 ghost use Rattle.enc_image.specs.Seen.{source_seen};
 
 use crate::judge::Cells;
+use enc_base::tables::TABLE_COUNT;
 use enc_base::{Place, Token};
 use enc_plain::{is_signature, signature_column};
-use enc_base::tables::TABLE_COUNT;
 use std::alloc::{AllocError, Global};
 use std::collections::BTreeSet;
 

@@ -18,14 +18,14 @@ use crate::image::Image;
 use crate::judge::Cells;
 use crate::open::metadata;
 use enc_base::Token;
+use enc_base::tables::{
+    ENC_LOG, ENC_MAP, EVENT_PTR, FIELD_PTR, METHOD_PTR, PARAM_PTR, PROPERTY_PTR, TABLE_COUNT,
+};
 use enc_meta::{HeapLengths, Heaps};
 use enc_opcodes::CodeRef;
 use enc_pe::LoadedFile;
 use enc_plain::{ModuleView, index_token};
 use enc_schema::columns::METHOD_DEF_RVA;
-use enc_base::tables::{
-    ENC_LOG, ENC_MAP, EVENT_PTR, FIELD_PTR, METHOD_PTR, PARAM_PTR, PROPERTY_PTR, TABLE_COUNT,
-};
 use enc_schema::{Column, column_of, decode_coded, owner_table};
 use std::alloc::{AllocError, Global};
 

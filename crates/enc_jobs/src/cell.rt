@@ -11,8 +11,8 @@ ghost use Rattle.enc_jobs.specs.Json.{number_said};
 
 use crate::fault::Refused;
 use crate::value::{blob, bytes_of, guid, number, text, token};
-use enc_edit_list::{Cell, Cells};
 use enc_base::tables::{FIELD_RVA, METHOD_DEF};
+use enc_edit_list::{Cell, Cells};
 use enc_schema::{Column, columns_of};
 use serde_json::Value;
 use std::alloc::Global;

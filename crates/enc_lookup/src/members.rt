@@ -5,9 +5,9 @@ ghost use Rattle.enc_plain.specs.Sound.{row_count};
 ghost use Rattle.enc_schema.specs.Children.{is_child_table, owner_table as table_of_owners};
 
 use enc_base::Token;
+use enc_base::tables::{EVENT, FIELD, METHOD_DEF, PARAM, PROPERTY, TYPE_DEF};
 use enc_plain::{CellView, ModuleView, Viewed, is_row};
 use enc_schema::columns::{EVENT_NAME, FIELD_NAME, METHOD_DEF_NAME, PARAM_NAME, PROPERTY_NAME};
-use enc_base::tables::{EVENT, FIELD, METHOD_DEF, PARAM, PROPERTY, TYPE_DEF};
 use enc_schema::{is_child_table, owner_table};
 use std::alloc::{AllocError, Global};
 

@@ -7,9 +7,9 @@ ghost use Rattle.enc_plain.specs.Sound.{row_count};
 ghost use Rattle.enc_base.specs.Tables.{nested_class, type_def};
 
 use enc_base::Token;
+use enc_base::tables::{NESTED_CLASS, TYPE_DEF};
 use enc_plain::{CellView, ModuleView, Viewed, is_row};
 use enc_schema::columns::{TYPE_DEF_FLAGS, TYPE_DEF_TYPE_NAME, TYPE_DEF_TYPE_NAMESPACE};
-use enc_base::tables::{NESTED_CLASS, TYPE_DEF};
 
 /// The type that a row of NestedClass says to be nested (ECMA-335 II.22.32).
 const NESTED_CLASS_NESTED_CLASS: u8 = 0;

@@ -14,13 +14,13 @@ use crate::signature::{
     call_shape_in, field_kind_in, local_kind_in, local_kinds_in, takes_nothing,
 };
 use enc_base::Token;
+use enc_base::tables::{METHOD_DEF, STAND_ALONE_SIG};
 use enc_objects::Kind;
 use enc_plain::{CellView, ModuleView, Viewed, is_row};
 use enc_schema::columns::{
     FIELD_SIGNATURE, METHOD_DEF_FLAGS, METHOD_DEF_NAME, METHOD_DEF_SIGNATURE,
     STAND_ALONE_SIG_SIGNATURE,
 };
-use enc_base::tables::{METHOD_DEF, STAND_ALONE_SIG};
 use std::alloc::Global;
 
 /// The blob in a row's column, without bytes where there is no such row.

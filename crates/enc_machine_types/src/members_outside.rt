@@ -9,9 +9,9 @@ use crate::outside::Outside::{
     WriteLine, WriteLineNumber, WriteLineText, WriteText,
 };
 use enc_base::Token;
+use enc_base::tables::MEMBER_REF;
 use enc_plain::{CellView, ModuleView, Viewed, is_of_system};
 use enc_schema::columns::{MEMBER_REF_CLASS, MEMBER_REF_NAME, MEMBER_REF_SIGNATURE};
-use enc_base::tables::MEMBER_REF;
 
 /// A member of a type of the namespace System: the type's name, its own name, its signature, and which it
 /// is.

@@ -6,10 +6,10 @@ ghost use Rattle.enc_machine_types.specs.Types.{found, reference_kind, type_kind
 ghost use Rattle.enc_machine_types.specs.Seen.{system_kind_seen};
 
 use enc_base::Token;
+use enc_base::tables::{TYPE_DEF, TYPE_REF};
 use enc_objects::Kind;
 use enc_plain::{CellView, ModuleView, Viewed, is_value_type};
 use enc_schema::columns::{TYPE_REF_TYPE_NAME, TYPE_REF_TYPE_NAMESPACE};
-use enc_base::tables::{TYPE_DEF, TYPE_REF};
 
 /// The name of a type of the namespace System, and its kind.
 struct SystemKind(&'static str, Kind);

@@ -19,10 +19,10 @@ use crate::change::{attach, cells_edited, put};
 use crate::encode::{Encoded, encode};
 use crate::plain::{PlainModule, PlainRow, PlainTable};
 use enc_base::Token;
+use enc_base::tables::METHOD_DEF;
 use enc_edit_list::{Added, Edit, EditList};
 use enc_plain::ModuleView;
 use enc_schema::is_child_table;
-use enc_base::tables::METHOD_DEF;
 use std::alloc::{AllocError, Global};
 
 /// The row that the edit at a place is about: the next of its table, or the method whose body it

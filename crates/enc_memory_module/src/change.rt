@@ -11,8 +11,8 @@ ghost use Rattle.enc_memory_module.specs.Stated.{front_stated};
 use crate::copy::{blob_cell, cell_with, field_cell, method_cell, push_cells, text_cell};
 use crate::plain::{Held, Kids, PlainCell, PlainModule, PlainRow, PlainTable};
 use enc_base::Token;
-use enc_edit_list::{BodyValue, Cell, Edit};
 use enc_base::tables::{FIELD_RVA, METHOD_DEF};
+use enc_edit_list::{BodyValue, Cell, Edit};
 use enc_schema::{run_index, runs_of};
 use std::alloc::{AllocError, Global};
 

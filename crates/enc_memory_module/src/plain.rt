@@ -13,13 +13,13 @@ ghost use Rattle.enc_base.specs.Tables.{table_count, method_def};
 
 use crate::copy::copied_tables;
 use enc_base::Token;
+use enc_base::tables::TABLE_COUNT;
 use enc_edit_list::BodyValue;
 use enc_il::read_body;
 use enc_meta::user_text_at;
 use enc_opcodes::CodeRef;
 use enc_plain::ModuleView;
 use enc_schema::columns::FIELD_RVA_RVA;
-use enc_base::tables::TABLE_COUNT;
 use enc_schema::{is_child_table, owner_table, run_index};
 use std::alloc::{AllocError, Global};
 use std::marker::Model;

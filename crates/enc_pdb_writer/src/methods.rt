@@ -9,12 +9,12 @@ ghost use Rattle.enc_pdb_writer.specs.Holding.{map_cells, MoreNamed, HoldPdbDelt
 ghost use Rattle.enc_pdb_writer.specs.Methods.{SaysMethods};
 
 use enc_base::Token;
+use enc_base::tables::{ENC_MAP, METHOD_DEBUG_INFORMATION};
 use enc_emit::RootBuilder;
 use enc_meta::BuildFault;
 use enc_plain::PointSource;
 use enc_ppdb::{PdbParts, pdb_parts};
 use enc_rows::TableBuilder;
-use enc_base::tables::{ENC_MAP, METHOD_DEBUG_INFORMATION};
 use std::alloc::{AllocError, Global};
 
 /// Names the methods of rows in EncMap, in their order, by tokens of MethodDebugInformation.

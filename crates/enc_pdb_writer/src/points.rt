@@ -6,10 +6,10 @@ ghost use Rattle.enc_pdb_writer.specs.Listed.{said_by, said_at, can_be_said, can
 use crate::documents::StatedDocuments;
 use crate::edits::{MethodEdit, locals_row};
 use enc_base::Token;
+use enc_base::tables::METHOD_DEF;
 use enc_edit_list::Edit;
 use enc_plain::{DocumentRef, PointSource};
 use enc_rules::points_given;
-use enc_base::tables::METHOD_DEF;
 use enc_seqpoints::{PointFault, Points, WriteFault, point_laws, read_points, write_points};
 use std::alloc::{AllocError, Global};
 use std::marker::Model;

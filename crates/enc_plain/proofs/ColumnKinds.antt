@@ -63,4 +63,4 @@ pub ruleset member_steps = (member_class, member_name, member_signature)
 
 pub ruleset reference_steps = (reference_name, reference_space)
 
-pub ruleset column_kinds_steps = (type_base, reference_name, reference_space)
+pub ruleset base_steps = (type_base, reference_name, reference_space)

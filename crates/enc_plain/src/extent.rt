@@ -2,8 +2,8 @@
 ghost use Rattle.std.specs.Prelude.{◌≡◌, slice_get};
 ghost use Rattle.enc_plain.specs.Extent.{size_of_kind, class_of, class_in, extent_in};
 
-use enc_base::{Token, read_unsigned};
 use enc_base::tables::TYPE_DEF;
+use enc_base::{Token, read_unsigned};
 use enc_schema::{Coding, decode_coded};
 
 /// What tells how many bytes a field has.

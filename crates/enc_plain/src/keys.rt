@@ -7,11 +7,11 @@ ghost use Rattle.enc_base.specs.Tables.{assembly_ref, module_ref, type_ref, type
 
 use crate::cells::CellView;
 use enc_base::Token;
+use enc_base::tables::{ASSEMBLY_REF, MODULE_REF};
 use enc_schema::columns::{
     ASSEMBLY_REF_NAME, MODULE_REF_NAME, TYPE_REF_RESOLUTION_SCOPE, TYPE_REF_TYPE_NAME,
     TYPE_REF_TYPE_NAMESPACE, TYPE_SPEC_SIGNATURE,
 };
-use enc_base::tables::{ASSEMBLY_REF, MODULE_REF};
 use enc_sigs::{Mix, mix_of, mixed, mixed_both, mixed_ends};
 
 /// How many bytes of a name count at either end.

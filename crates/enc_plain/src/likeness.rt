@@ -13,13 +13,13 @@ use crate::namesakes::Namesakes;
 use crate::signature::kind_in_table;
 use crate::view::ModuleView;
 use enc_base::Token;
+use enc_base::tables::{ASSEMBLY_REF, MODULE_REF, TYPE_REF, TYPE_SPEC};
 use enc_schema::columns::{
     ASSEMBLY_REF_BUILD_NUMBER, ASSEMBLY_REF_CULTURE, ASSEMBLY_REF_FLAGS, ASSEMBLY_REF_HASH_VALUE,
     ASSEMBLY_REF_MAJOR_VERSION, ASSEMBLY_REF_MINOR_VERSION, ASSEMBLY_REF_NAME,
     ASSEMBLY_REF_PUBLIC_KEY_OR_TOKEN, ASSEMBLY_REF_REVISION_NUMBER, MODULE_REF_NAME,
     TYPE_REF_RESOLUTION_SCOPE, TYPE_REF_TYPE_NAME, TYPE_REF_TYPE_NAMESPACE, TYPE_SPEC_SIGNATURE,
 };
-use enc_base::tables::{ASSEMBLY_REF, MODULE_REF, TYPE_REF, TYPE_SPEC};
 use enc_sigs::sigs_agree;
 
 /// The tokens are the same.

@@ -11,8 +11,8 @@ use crate::keys::{assembly_ref_key, module_ref_key, names_key, scope_of, spec_of
 use crate::known::spec_place;
 use crate::signature::kind_in_table;
 use enc_base::Token;
-use enc_key_map::{Entry, Index, Key};
 use enc_base::tables::{ASSEMBLY_REF, MODULE_REF, TYPE_REF, TYPE_SPEC};
+use enc_key_map::{Entry, Index, Key};
 use enc_sigs::{Mix, SigKind, coded_token, finished, mix_of, mixed_both, sig_shape};
 use std::alloc::{AllocError, Global};
 use std::marker::Model;

@@ -5,8 +5,8 @@ ghost use Rattle.enc_plain.specs.System.{is_of_system};
 use crate::cells::{CellView, Viewed};
 use crate::view::ModuleView;
 use enc_base::Token;
-use enc_schema::columns::{TYPE_REF_TYPE_NAME, TYPE_REF_TYPE_NAMESPACE};
 use enc_base::tables::TYPE_REF;
+use enc_schema::columns::{TYPE_REF_TYPE_NAME, TYPE_REF_TYPE_NAMESPACE};
 
 /// Whether the token is a TypeRef of the namespace System with this name, whatever its scope (ECMA-335
 /// II.22.38).

@@ -5,12 +5,12 @@ ghost use Rattle.enc_plain.specs.ValueType.{is_value_type};
 
 use crate::cells::CellView;
 use enc_base::Token;
-use enc_schema::columns::{TYPE_DEF_EXTENDS, TYPE_REF_TYPE_NAME, TYPE_REF_TYPE_NAMESPACE};
 use enc_base::tables::TYPE_REF;
+use enc_schema::columns::{TYPE_DEF_EXTENDS, TYPE_REF_TYPE_NAME, TYPE_REF_TYPE_NAMESPACE};
 
 /// Whether the type extends System.ValueType or System.Enum, whatever its scope (ECMA-335
 /// II.10.1.3).
-#[tactic(auto, using(crate::proofs::ColumnKinds::column_kinds_steps), unfolding(crate::specs::ValueType::is_value_type))]
+#[tactic(auto, using(crate::proofs::ColumnKinds::base_steps), unfolding(crate::specs::ValueType::is_value_type))]
 pub fn is_value_type<R: CellView>(rows: &R, owner: Token) -> bool
     requires { owner.table ≡ type_def }
     ensures { result ≡ is_value_type (R.rows rows.now) owner }

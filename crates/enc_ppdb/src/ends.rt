@@ -5,8 +5,8 @@ ghost use Rattle.enc_ppdb.specs.Seen.{end_by, good_end, GivesEnds};
 
 use crate::fault::{are_there, nth_row, points_of, refused};
 use crate::file::File;
-use enc_base::{Place, ReadFault};
 use enc_base::tables::{DOCUMENT, METHOD_DEBUG_INFORMATION};
+use enc_base::{Place, ReadFault};
 use enc_seqpoints::Points;
 use std::alloc::{AllocError, Global};
 

@@ -8,13 +8,13 @@ ghost use Rattle.enc_ppdb.specs.Fault.{is_document, is_there, are_there, is_meth
 ghost use Rattle.enc_ppdb.specs.Seen.{good_document};
 
 use crate::file::File;
+use enc_base::tables::{DOCUMENT, METHOD_DEBUG_INFORMATION};
 use enc_base::{Code, Place, ReadFault, Refusal, Token};
 use enc_plain::{DocumentRef, NameRef};
 use enc_schema::columns::{
     DOCUMENT_HASH, DOCUMENT_HASH_ALGORITHM, DOCUMENT_LANGUAGE, DOCUMENT_NAME,
     METHOD_DEBUG_INFORMATION_DOCUMENT, METHOD_DEBUG_INFORMATION_SEQUENCE_POINTS,
 };
-use enc_base::tables::{DOCUMENT, METHOD_DEBUG_INFORMATION};
 use enc_seqpoints::{Point, PointFault, Points, read_points};
 use std::alloc::{AllocError, Global};
 

@@ -6,8 +6,8 @@ use crate::fault::nth_row;
 use crate::file::File;
 use crate::methods::MethodList;
 use enc_base::Token;
-use enc_schema::columns::ENC_MAP_TOKEN;
 use enc_base::tables::{ENC_MAP, METHOD_DEBUG_INFORMATION};
+use enc_schema::columns::ENC_MAP_TOKEN;
 use std::alloc::{AllocError, Global};
 
 /// A token of EncMap, from 0.

@@ -16,11 +16,11 @@ ghost use Rattle.enc_ppdb.specs.Holding.{heaps_size, RefusesPdb, documents_upto,
 
 use crate::fault::nth_row;
 use crate::writer::{Writer, add_blob, weighed};
+use enc_base::tables::{METHOD_DEBUG_INFORMATION, METHOD_DEF};
 use enc_base::{StreamName, written_laws};
 use enc_meta::{BuildFault, HeapBuilder};
 use enc_plain::PointSource;
 use enc_rows::TableBuilder;
-use enc_base::tables::{METHOD_DEBUG_INFORMATION, METHOD_DEF};
 use enc_seqpoints::{Point, Points, WriteFault, point_laws, write_points};
 use std::alloc::{AllocError, Global};
 

@@ -10,11 +10,11 @@ ghost use Rattle.enc_base.specs.Tables.{document as document_table};
 ghost use Rattle.enc_ppdb.specs.Written.{document_weight, most_pdb_weight, pdb_starts};
 ghost use Rattle.enc_ppdb.specs.Holding.{document_key, keeps_values, name_blob as name_blob_of, heaps_size, Grown, RefusesPdb, passes_with, is_unknown, OneDocument, RowGiven};
 
+use enc_base::tables::DOCUMENT;
 use enc_base::{StreamName, push_unsigned};
 use enc_meta::{BuildFault, HeapBuilder, HeapLengths};
 use enc_plain::DocumentRef;
 use enc_rows::TableBuilder;
-use enc_base::tables::DOCUMENT;
 use std::alloc::{AllocError, Global};
 use std::collections::BTreeMap;
 

@@ -3,8 +3,8 @@ ghost use Rattle.std.specs.Prelude.{◌≡◌, None, IfSome, map};
 ghost use Rattle.enc_command_line.specs.Words.{texts};
 ghost use Rattle.enc_commands.specs.Served.{course, IsServed};
 
-use enc_outside::{FileFault, FileStore, OutSink, Sink, Store};
 use enc_commands::run_tool;
+use enc_outside::{FileFault, FileStore, OutSink, Sink, Store};
 use enc_watch::{Cover, Trace, Watcher};
 use std::alloc::{AllocError, Global};
 use std::env;

@@ -5,8 +5,8 @@ ghost use Rattle.enc_plain.specs.Sound.{IsSound};
 
 use crate::depths::{all_depths, first_deep_row};
 use enc_base::Token;
-use enc_plain::ModuleView;
 use enc_base::tables::{TYPE_REF, TYPE_SPEC};
+use enc_plain::ModuleView;
 use std::alloc::{AllocError, Global};
 
 /// The first TypeRef of depth 100, or else the first such TypeSpec: a token has one more than its scope,

@@ -7,8 +7,8 @@ ghost use Rattle.enc_plain.specs.Sound.{IsSound};
 
 use crate::edges::{Edge, all_edges};
 use enc_base::Token;
-use enc_plain::ModuleView;
 use enc_base::tables::{TYPE_REF, TYPE_SPEC};
+use enc_plain::ModuleView;
 use std::alloc::{AllocError, Global};
 
 /// A walk that has counted so many ends there.

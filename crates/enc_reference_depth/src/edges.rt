@@ -9,10 +9,10 @@ ghost use Rattle.enc_sigs.specs.Grammar.{is_coded, sig_in};
 ghost use Rattle.enc_sigs.specs.Tree.{forest_of};
 ghost use Rattle.enc_sigs.specs.declared.kind.SigKind.TheVariants.{TypeSpec};
 
+use enc_base::tables::{TYPE_REF, TYPE_SPEC};
 use enc_base::{Counts, Token};
 use enc_plain::ModuleView;
 use enc_schema::columns::{TYPE_REF_RESOLUTION_SCOPE, TYPE_SPEC_SIGNATURE};
-use enc_base::tables::{TYPE_REF, TYPE_SPEC};
 use enc_sigs::{Elem, Sig, SigFault, SigKind, read_sig};
 use std::alloc::{AllocError, Global};
 

@@ -47,3 +47,4 @@ pub mod Unfaulted
 pub mod UserTexts
 pub mod Weights
 pub mod Seen
+pub mod PassSteps

@@ -18,6 +18,7 @@ ghost use Rattle.enc_base.specs.Tables.{method_def};
 
 use crate::code::patched;
 use enc_base::Token;
+use enc_base::tables::METHOD_DEF;
 use enc_il::{
     SectionRef, behind_sections, clause_front, clause_size, rest_at, section_front, write_body,
 };
@@ -25,7 +26,6 @@ use enc_meta::HeapBuilder;
 use enc_opcodes::{Clause, CodeRef};
 use enc_pe::CODE_RVA;
 use enc_plain::ModuleView;
-use enc_base::tables::METHOD_DEF;
 use std::alloc::{AllocError, Global};
 use std::collections::BTreeMap;
 

@@ -6,10 +6,10 @@ ghost use Rattle.enc_rewriter.specs.Standing.{IsFieldCellPlaced, AreFieldsPlaced
 ghost use Rattle.enc_rewriter.specs.Weight.{fields_weight};
 ghost use Rattle.enc_base.specs.Tables.{field_rva};
 
+use enc_base::tables::FIELD_RVA;
 use enc_base::{Token, push_zeros};
 use enc_pe::CODE_RVA;
 use enc_plain::ModuleView;
-use enc_base::tables::FIELD_RVA;
 use std::alloc::{AllocError, Global};
 
 /// Writes bytes behind the code, at a multiple of eight, and answers their RVA.

@@ -18,10 +18,10 @@ use crate::placed::PlacedCode;
 use crate::references::{coded_number, index_number};
 use crate::runs::{Runs, run_number};
 use enc_base::Token;
+use enc_base::tables::{FIELD_RVA, METHOD_DEF};
 use enc_meta::HeapBuilder;
 use enc_plain::ModuleView;
 use enc_schema::Column;
-use enc_base::tables::{FIELD_RVA, METHOD_DEF};
 use std::alloc::AllocError;
 
 /// The offset of the text in a column.

@@ -14,9 +14,9 @@ ghost use Rattle.enc_rewriter.specs.declared.pass.Pass.TheVariants.{Users};
 use crate::module_values::ModuleValues;
 use crate::users::add_named;
 use enc_base::Token;
+use enc_base::tables::METHOD_DEF;
 use enc_meta::BuildFault;
 use enc_plain::ModuleView;
-use enc_base::tables::METHOD_DEF;
 use enc_schema::{Column, columns_of};
 use std::collections::BTreeSet;
 
@@ -104,7 +104,7 @@ fn gathers(pass: Pass, table: u8, i: u8, column: Column) -> bool
 }
 
 /// Adds what a row's column has for a heap, where its pass gathers it.
-#[tactic(auto, using(crate::proofs::Gathers::kind_cases, crate::proofs::Seen::seen_still), unfolding(crate::specs::Values::values_at))]
+#[tactic(auto, using(crate::proofs::PassSteps::cell_steps), unfolding(crate::specs::Values::values_at))]
 fn add_gathered<'a, V: ModuleView>(
     view: &'a V,
     pass: Pass,
@@ -181,7 +181,7 @@ fn add_row<'a, V: ModuleView>(
 }
 
 /// Adds what a table's rows have for a heap.
-#[tactic(auto, using(crate::proofs::Fills::fills_steps, crate::proofs::Gathers::row_there), unfolding(crate::specs::Values::values_of_table))]
+#[tactic(auto, using(crate::proofs::PassSteps::table_steps), unfolding(crate::specs::Values::values_of_table))]
 fn add_table<'a, V: ModuleView>(
     view: &'a V,
     pass: Pass,

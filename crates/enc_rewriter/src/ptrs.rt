@@ -9,9 +9,9 @@ ghost use Rattle.enc_schema.specs.Children.{is_child_table, ptr_of, owner_table 
 ghost use Rattle.enc_rewriter.specs.Numbers.{is_in_row_order as are_in_row_order, rows_of_one, ptr_rows, nth_child as child_at, KeepOthers, PtrsPushed};
 
 use enc_base::Token;
+use enc_base::tables::{EVENT, FIELD, METHOD_DEF, PARAM, PROPERTY};
 use enc_plain::ModuleView;
 use enc_rows::TableBuilder;
-use enc_base::tables::{EVENT, FIELD, METHOD_DEF, PARAM, PROPERTY};
 use enc_schema::{owner_table, ptr_table};
 use std::alloc::{AllocError, Global};
 
@@ -77,7 +77,7 @@ fn push_kids(child: u8, kids: &[u32], tables: &mut TableBuilder) -> Result<(), A
 }
 
 /// Adds the rows of a child table's Ptr table, where it is asked for.
-#[tactic(auto, using(crate::proofs::KidsListed::few_listed, crate::proofs::RowsPushed::no_others), unfolding(crate::specs::Numbers::ptr_rows))]
+#[tactic(auto, using(crate::proofs::PassSteps::ptr_steps), unfolding(crate::specs::Numbers::ptr_rows))]
 fn push_ptrs<V: ModuleView>(
     alloc: Global,
     view: &V,

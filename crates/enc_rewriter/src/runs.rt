@@ -10,9 +10,9 @@ ghost use Rattle.enc_schema.specs.declared.column.Column.TheVariants.{Run};
 ghost use Rattle.enc_rewriter.specs.Numbers.{run_first, runs_begin, list_of_runs, AreRuns, has_wide_run as run_is_wide, needs_jtd as jtd_is_needed};
 
 use enc_base::Token;
+use enc_base::tables::{EVENT, FIELD, METHOD_DEF, PARAM, PROPERTY};
 use enc_plain::ModuleView;
 use enc_schema::owner_table;
-use enc_base::tables::{EVENT, FIELD, METHOD_DEF, PARAM, PROPERTY};
 use std::alloc::{AllocError, Global};
 use std::marker::Model;
 

@@ -12,9 +12,9 @@ ghost use Rattle.enc_base.specs.Tables.{method_def, field_rva};
 
 use crate::module_values::ModuleValues;
 use enc_base::Token;
+use enc_base::tables::{FIELD_RVA, METHOD_DEF};
 use enc_il::{behind_sections, section_front};
 use enc_plain::ModuleView;
-use enc_base::tables::{FIELD_RVA, METHOD_DEF};
 use enc_schema::{Column, columns_of, is_child_table};
 use std::alloc::{AllocError, Global};
 use std::collections::BTreeMap;

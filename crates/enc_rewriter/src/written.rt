@@ -13,12 +13,12 @@ ghost use Rattle.enc_rewriter.specs.Rewritten.{root_form, image_of_parts, FitsIm
 use crate::fault::RewriteFault;
 use crate::parts::{ModuleParts, parts_with, values_within};
 use enc_base::Bytes;
+use enc_base::tables::METHOD_DEF;
 use enc_emit::RootBuilder;
 use enc_meta::HeapBuilder;
 use enc_pe::{PeFault, write_pe};
 use enc_plain::{ModuleView, PointSource};
 use enc_ppdb::write_pdb;
-use enc_base::tables::METHOD_DEF;
 use std::alloc::{AllocError, Global};
 
 /// A number of four bytes is one.

@@ -7,8 +7,8 @@ ghost use Rattle.enc_plain.specs.Sound.{IsSound};
 ghost use Rattle.enc_rows.specs.Sums.{below};
 
 use enc_base::Token;
-use enc_plain::ModuleView;
 use enc_base::tables::{NESTED_CLASS, TYPE_DEF};
+use enc_plain::ModuleView;
 use std::alloc::{AllocError, Global};
 
 /// The columns of NestedClass.

@@ -8,8 +8,8 @@ ghost use Rattle.enc_schema.specs.Schema.{list_at};
 use crate::rows::{Rows, rows_upto};
 use crate::stage::{Stage, staged};
 use enc_base::Token;
-use enc_plain::ModuleView;
 use enc_base::tables::TABLE_COUNT;
+use enc_plain::ModuleView;
 use std::alloc::{AllocError, Global};
 use std::marker::Model;
 

@@ -21,12 +21,12 @@ use crate::kids::kids_listed;
 use crate::order::Order;
 use crate::rows::Rows;
 use crate::sorting::{Entry, sorted_rows};
-use enc_plain::ModuleView;
-use enc_schema::owner_table;
 use enc_base::tables::{
     CUSTOM_ATTRIBUTE, EVENT, FIELD, GENERIC_PARAM_CONSTRAINT, METHOD_DEF, PARAM, PROPERTY,
     TABLE_COUNT, TYPE_DEF,
 };
+use enc_plain::ModuleView;
+use enc_schema::owner_table;
 use std::alloc::{AllocError, Global};
 
 /// What rows are ordered by, one after the other: a stage stands on the order that those before it

@@ -5,10 +5,8 @@ ghost use Rattle.enc_rows.specs.Sums.{below};
 ghost use Rattle.enc_rows.specs.Layout.{has_table, tables_below, count_in, width_count, rows_begin, is_expected, form_allows, is_whole};
 
 use crate::form::Form;
+use enc_base::tables::{CUSTOM_DEBUG_INFORMATION, DOCUMENT, ENC_LOG, ENC_MAP, MODULE, TABLE_COUNT};
 use enc_base::{Counts, u32_at};
-use enc_base::tables::{
-    CUSTOM_DEBUG_INFORMATION, DOCUMENT, ENC_LOG, ENC_MAP, MODULE, TABLE_COUNT,
-};
 
 /// Whether the valid bits say that the stream has this table.
 pub fn is_there(valid: u64, table: u8) -> bool

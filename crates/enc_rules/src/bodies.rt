@@ -16,13 +16,13 @@ use crate::instructions::{branches_reach, length_of_code, marks_of};
 use crate::signatures::body_given;
 use crate::sums::capped;
 use enc_base::Token;
+use enc_base::tables::{
+    FIELD, MEMBER_REF, METHOD_DEF, METHOD_SPEC, STAND_ALONE_SIG, TYPE_DEF, TYPE_REF, TYPE_SPEC,
+};
 use enc_edit_list::{ArgValue, BodyValue, Edit, InstrValue};
 use enc_opcodes::{Clause, Operand};
 use enc_plain::{CellView, ChainView};
 use enc_schema::columns::METHOD_DEF_IMPL_FLAGS;
-use enc_base::tables::{
-    FIELD, MEMBER_REF, METHOD_DEF, METHOD_SPEC, STAND_ALONE_SIG, TYPE_DEF, TYPE_REF, TYPE_SPEC,
-};
 use std::alloc::{AllocError, Global};
 
 /// An instruction begins at the offset.

@@ -9,9 +9,9 @@ ghost use Rattle.enc_rules.specs.Rules.{names_row, value_breaks, cells_break, to
 
 use crate::context::Context;
 use enc_base::Token;
+use enc_base::tables::{FIELD_RVA, METHOD_DEF};
 use enc_edit_list::{Cell, Edit};
 use enc_plain::ChainView;
-use enc_base::tables::{FIELD_RVA, METHOD_DEF};
 use enc_schema::{Column, columns_of, encode_coded};
 
 /// Whether an edit has a cell for the column.

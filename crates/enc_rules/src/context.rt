@@ -9,11 +9,11 @@ ghost use Rattle.enc_rules.specs.Listed.{edit_of};
 ghost use Rattle.enc_rules.specs.Rules.{is_row_of};
 ghost use Rattle.enc_rules.specs.Known.{stated_of, stated_in, number_of_value, bytes_of_value, token_of_value, cell_key, listed_rows, listed_counts, blobs_listed};
 
+use enc_base::tables::{FIELD_RVA, METHOD_DEF};
 use enc_base::{Counts, Token};
 use enc_delta::Pair;
 use enc_edit_list::{Added, Cell, Edit, EditList};
 use enc_plain::{CellView, ChainView, Viewed};
-use enc_base::tables::{FIELD_RVA, METHOD_DEF};
 use std::marker::Model;
 
 /// What is known of an edit list after a chain.

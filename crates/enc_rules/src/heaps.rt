@@ -11,11 +11,11 @@ ghost use Rattle.enc_edit_list.specs.declared.body.InstrValue.{InstrValue as The
 
 use crate::context::Context;
 use crate::signatures::body_given;
+use enc_base::tables::METHOD_DEF;
 use enc_edit_list::{ArgValue, Cell, Edit, InstrValue};
 use enc_meta::{BuildFault, HeapBuilder};
 use enc_plain::{CellView, ChainView};
 use enc_schema::columns::{METHOD_DEF_NAME, METHOD_DEF_SIGNATURE};
-use enc_base::tables::METHOD_DEF;
 use std::alloc::{AllocError, Global};
 
 /// Adds a text.

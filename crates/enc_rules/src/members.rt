@@ -10,12 +10,12 @@ ghost use Rattle.enc_rules.specs.Rules.{of_child, field_is_out_of_layout, method
 ghost use Rattle.enc_rules.specs.Told.{adds_row, adds_child, has_twin_in, row_of_place, earlier};
 
 use crate::context::Context;
+use enc_base::tables::{EVENT, FIELD, METHOD_DEF, PROPERTY};
 use enc_base::{Place, Token};
 use enc_delta::{Pair, has_no_slot, is_out_of_layout, twin_among};
 use enc_edit_list::Edit;
 use enc_plain::ChainView;
 use enc_schema::is_child_table;
-use enc_base::tables::{EVENT, FIELD, METHOD_DEF, PROPERTY};
 use std::alloc::{AllocError, Global};
 
 /// The edit adds a field to a type that was there and has no place for it.

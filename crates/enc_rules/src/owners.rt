@@ -5,10 +5,10 @@ ghost use Rattle.enc_rules.specs.Known.{listed_counts};
 ghost use Rattle.enc_rules.specs.Rules.{owner_breaks, owner_is_missing, table_breaks, table_is_closed};
 
 use crate::context::Context;
+use enc_base::tables::{ENC_LOG, ENC_MAP, MODULE};
 use enc_delta::may_change;
 use enc_edit_list::Edit;
 use enc_plain::ChainView;
-use enc_base::tables::{ENC_LOG, ENC_MAP, MODULE};
 use enc_schema::{is_child_table, owner_table};
 
 /// The edit adds a row whose owner isn't one of its owners' table.

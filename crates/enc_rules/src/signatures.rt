@@ -10,10 +10,10 @@ ghost use Rattle.enc_rules.specs.Told.{is_about};
 
 use crate::context::Context;
 use enc_base::Token;
+use enc_base::tables::STAND_ALONE_SIG;
 use enc_edit_list::{BodyValue, Edit};
 use enc_plain::{CellView, ChainView, is_signature, signature_column};
 use enc_schema::columns::STAND_ALONE_SIG_SIGNATURE;
-use enc_base::tables::STAND_ALONE_SIG;
 
 /// The edit adds a row whose signature isn't one.
 fn signature_breaks<C: ChainView>(context: &Context<'_, C>, edit: &Edit, row: Token) -> bool

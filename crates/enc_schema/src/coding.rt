@@ -3,13 +3,13 @@ ghost use Rattle.std.specs.Prelude.{◌≡◌, ℕ, ◌+◌, ◌*◌, ◌/◌, �
 ghost use Rattle.enc_schema.specs.Coding.{tables_of as tables_by_tag, each_table, tag_bits as bits_of_tag, table_with as table_by_tag, decoded, named};
 
 use crate::column::Coding;
+use enc_base::Token;
 use enc_base::tables::{
     ASSEMBLY, ASSEMBLY_REF, DECL_SECURITY, DOCUMENT, EVENT, EXPORTED_TYPE, FIELD, FILE,
     GENERIC_PARAM, GENERIC_PARAM_CONSTRAINT, IMPORT_SCOPE, INTERFACE_IMPL, LOCAL_CONSTANT,
     LOCAL_SCOPE, LOCAL_VARIABLE, MANIFEST_RESOURCE, MEMBER_REF, METHOD_DEF, METHOD_SPEC, MODULE,
     MODULE_REF, PARAM, PROPERTY, STAND_ALONE_SIG, TYPE_DEF, TYPE_REF, TYPE_SPEC,
 };
-use enc_base::Token;
 
 /// What can have custom debug information, by tag; the first 22 can have custom attributes.
 static DEBUGGED: [Option<u8>; 27] = [

@@ -3,8 +3,8 @@ ghost use Rattle.std.specs.Prelude.{◌≡◌, [], OnOk, OnErr, slice_set};
 ghost use Rattle.enc_session.specs.RecordingSeen.{brought_in, generation_at, greatest_row, with_rows_to};
 
 use enc_base::Token;
-use enc_ppdb::MethodList;
 use enc_base::tables::METHOD_DEF;
+use enc_ppdb::MethodList;
 use std::alloc::{AllocError, Global};
 use std::marker::Model;
 

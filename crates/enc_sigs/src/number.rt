@@ -6,8 +6,8 @@ ghost use Rattle.enc_sigs.specs.Grammar.{byte_in, numeral_in, token_in, table_of
 
 use crate::form::{Form, Numeral};
 use crate::row_test::RowTest;
-use enc_base::{Counts, Token, signed_front, unsigned_front};
 use enc_base::tables::{TYPE_DEF, TYPE_REF, TYPE_SPEC};
+use enc_base::{Counts, Token, signed_front, unsigned_front};
 
 /// A size or a lower bound at the front.
 pub fn numeral(kind: Numeral, bytes: &[u8]) -> Option<(u32, &[u8])>

@@ -10,8 +10,8 @@ use crate::form::{Form, Numeral};
 use crate::kind::SigKind;
 use crate::number::form_by;
 use crate::sig::{Front, Sig};
-use enc_base::{Token, push_signed, push_unsigned, written_laws};
 use enc_base::tables::{TYPE_DEF, TYPE_REF};
+use enc_base::{Token, push_signed, push_unsigned, written_laws};
 use std::alloc::{AllocError, Global};
 
 /// Appends a number, where it can be spelled.

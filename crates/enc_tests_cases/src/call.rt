@@ -1,8 +1,8 @@
 //! One top call, which can be made over any files, and what it came to.
 
 use crate::store::CaseStore;
-use enc_outside::MemSink;
 use enc_commands::run_tool;
+use enc_outside::MemSink;
 use enc_watch::{Cover, Failing, Trace, Watcher};
 use std::alloc::{AllocError, Global};
 

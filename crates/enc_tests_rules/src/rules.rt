@@ -44,8 +44,9 @@ const BASE: [u8; 460] = [
     0x00, 0x01, 0x03, 0x07, 0x01, 0x08, 0x03, 0x28, 0x00, 0x08, 0x00, 0x00,
 ];
 
-const HEAD: &str =
-    r#"{"encId":"04030201-0605-0807-090a-0b0c0d0e0f10","documents":[{"name":"a.cs","language":"3f5162f8-07c6-11d3-9053-00c04fa302a1","source":"x"}],"edits":["#;
+const HEAD: &str = r#"{"encId":"04030201-0605-0807-090a-0b0c0d0e0f10","documents":[
+{"name":"a.cs","language":"3f5162f8-07c6-11d3-9053-00c04fa302a1","source":"x"}],
+"edits":["#;
 
 /// The base, with so many bytes of user texts behind it.
 fn base_with(rt: &impl Abort, alloc: Global, users: u32) -> Result<Aggregate, AllocError> {
@@ -95,8 +96,10 @@ fn finds_the_edit_with_which_a_heap_is_full(rt: HostRuntime) -> Result<(), Fail>
     // `#US` holds 2^24 bytes at most, of which the list needs one and its texts 16 and 4
     let text = with_edits(
         alloc,
-        r#"{"do":"body","method":"06000001","code":{"max":8,"code":[["ldstr","abcdefg"],["ldstr","abcdefg"],["pop"],["ret"]]}},
-{"do":"add","table":"MethodDef","owner":"02000002","cells":[0,22,"S","00000e"],"code":{"max":8,"code":[["ldstr","a"],["ret"]]}}"#,
+        r#"{"do":"body","method":"06000001","code":{"max":8,
+"code":[["ldstr","abcdefg"],["ldstr","abcdefg"],["pop"],["ret"]]}},
+{"do":"add","table":"MethodDef","owner":"02000002","cells":[0,22,"S","00000e"],
+"code":{"max":8,"code":[["ldstr","a"],["ret"]]}}"#,
     )?;
     for (users, broken) in [
         (0x100_0000 - 21, None),

@@ -1,7 +1,8 @@
-//! The constants that name tables and columns in `enc_schema`, each by its name.
+//! The constants that name tables and columns, each by its name.
 
-use enc_tests_lines::{Args, Fault, told};
-use enc_schema::{columns, tables};
+use crate::lines::{Args, Fault, told};
+use enc_base::tables;
+use enc_schema::columns;
 use std::alloc::Global;
 
 /// The tables by their constants, and how many a module can have.

@@ -1,43 +1,100 @@
-//! Answers calls of the lowest crates, a line each, so that what they answer stands as data beside
+//! Answers calls of the crates below the rules, a line each, so that what they answer stands as data beside
 //! answers from outside. docs/testing.md has the form.
 #![tactic(auto)]
 
 mod constants;
+mod dispatch;
+mod emit;
+mod il;
+mod lines;
 mod meta;
 mod numbers;
+mod objects;
 mod opcodes;
+mod pe;
 mod rows;
 mod schema;
+mod seqpoints;
 mod sigs;
+mod store;
+mod watchers;
 
-use enc_tests_lines::{Args, Fault, is_remark, line_with};
+use crate::lines::{Args, Fault, is_remark, line_with};
 use std::alloc::{AllocError, Global};
 use std::io::{self, BufRead, BufReader};
 
-/// What a call answers, as a text.
-fn answer_of(alloc: Global, call: &str, args: &mut Args<'_>) -> Result<String, Fault> {
+/// What a call on metadata answers, as a text; None where it is no such call.
+fn of_metadata(alloc: Global, call: &str, args: &mut Args<'_>) -> Result<Option<String>, Fault> {
     if let Some(answer) = numbers::answer(alloc, call, args)? {
-        return Ok(answer);
+        return Ok(Some(answer));
     }
     if let Some(answer) = sigs::answer(alloc, call, args)? {
-        return Ok(answer);
+        return Ok(Some(answer));
     }
     if let Some(answer) = schema::answer(alloc, call, args)? {
-        return Ok(answer);
+        return Ok(Some(answer));
     }
     if let Some(answer) = constants::answer(alloc, call, args)? {
-        return Ok(answer);
+        return Ok(Some(answer));
     }
     if let Some(answer) = opcodes::answer(alloc, call, args)? {
-        return Ok(answer);
+        return Ok(Some(answer));
     }
     if let Some(answer) = rows::answer(alloc, call, args)? {
-        return Ok(answer);
+        return Ok(Some(answer));
     }
     if let Some(answer) = meta::answer(alloc, call, args)? {
+        return Ok(Some(answer));
+    }
+    Ok(None)
+}
+
+/// What a call on code and images answers; None where it is no such call.
+fn of_code(alloc: Global, call: &str, args: &mut Args<'_>) -> Result<Option<String>, Fault> {
+    if let Some(answer) = emit::answer(alloc, call, args)? {
+        return Ok(Some(answer));
+    }
+    if let Some(answer) = il::answer(alloc, call, args)? {
+        return Ok(Some(answer));
+    }
+    if let Some(answer) = pe::answer(alloc, call, args)? {
+        return Ok(Some(answer));
+    }
+    if let Some(answer) = seqpoints::answer(alloc, call, args)? {
+        return Ok(Some(answer));
+    }
+    Ok(None)
+}
+
+/// What a call on the interpreter's parts answers; None where it is no such call.
+fn of_machine(alloc: Global, call: &str, args: &mut Args<'_>) -> Result<Option<String>, Fault> {
+    if let Some(answer) = objects::answer(alloc, call, args)? {
+        return Ok(Some(answer));
+    }
+    if let Some(answer) = dispatch::answer(alloc, call, args)? {
+        return Ok(Some(answer));
+    }
+    if let Some(answer) = store::answer(alloc, call, args)? {
+        return Ok(Some(answer));
+    }
+    if let Some(answer) = watchers::answer(alloc, call, args)? {
+        return Ok(Some(answer));
+    }
+    Ok(None)
+}
+
+/// What a call answers, as a text.
+fn answer_of(alloc: Global, call: &str, args: &mut Args<'_>) -> Result<String, Fault> {
+    if let Some(answer) = of_metadata(alloc, call, args)? {
         return Ok(answer);
     }
-    Err(Fault::Form)
+    if let Some(answer) = of_code(alloc, call, args)? {
+        return Ok(answer);
+    }
+    match of_machine(alloc, call, args)? {
+        Some(answer) => Ok(answer),
+        None => Err(Fault::Form),
+    }
 }
 
 /// The line with what it comes to: a call with its answer behind it, a remark or an empty line as it stands.

@@ -3,7 +3,7 @@
 //! they stand, as STRINGS,USERS,BLOBS,GUIDS, and values with `;` between them: `text:BYTES`, `user:UNITS`,
 //! `units:BYTES`, `blob:BYTES` and `guid:BYTES`.
 
-use enc_tests_lines::{Args, Fault, bytes_in, told, units_in};
+use crate::lines::{Args, Fault, bytes_in, told, units_in};
 use enc_meta::{
     BuildFault, HeapBuilder, HeapLengths, Heaps, Root, Span, TextEnds, read_root, user_text_at,
 };

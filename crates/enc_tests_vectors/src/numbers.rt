@@ -1,11 +1,11 @@
 //! Numbers of `enc_base`: fixed ones, compressed ones (ECMA-335 II.23.2), and tokens; bytes and UTF-16
 //! units that grow.
 
+use crate::lines::{Args, Fault, told};
 use enc_base::{
     Bytes, Token, Units, push_half, push_long, push_signed, push_unsigned, push_word, push_zeros,
     read_signed, read_unsigned, u8_at, u16_at, u32_at, u64_at,
 };
-use enc_tests_lines::{Args, Fault, told};
 use std::alloc::Global;
 use std::fmt::Display;
 

@@ -1,6 +1,6 @@
 //! The instructions of `enc_opcodes` by their codes and by their names (ECMA-335 III.1.2.1).
 
-use enc_tests_lines::{Args, Fault, told};
+use crate::lines::{Args, Fault, told};
 use enc_opcodes::{Op, op_from, op_name, op_of};
 use std::alloc::Global;
 

@@ -6,8 +6,8 @@
 ghost use Rattle.std.specs.Prelude.{◌≡◌, ℕ, nat_lt};
 ghost use Rattle.std.specs.List.{list_all};
 
+use crate::lines::{Args, Fault, numbers_in, token_in, told};
 use enc_base::{Counts, Token};
-use enc_tests_lines::{Args, Fault, numbers_in, token_in, told};
 use enc_meta::Span;
 use enc_rows::{Form, TableBuilder, Tables};
 use enc_schema::{column_of, columns_of};

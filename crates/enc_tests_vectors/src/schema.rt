@@ -1,8 +1,8 @@
 //! The tables of metadata, their columns, codings and widths (ECMA-335 II.22, II.24.2.6). A table is asked
 //! for by its number in two hexadecimal digits, a column by its number from 0.
 
+use crate::lines::{Args, Fault, told};
 use enc_base::Token;
-use enc_tests_lines::{Args, Fault, told};
 use enc_schema::{
     Coding, Column, Widths, column_name, column_of, columns_of, decode_coded, encode_coded,
     is_child_table, owner_table, ptr_table, run_column, run_index, runs_of, table_name, widths_of,

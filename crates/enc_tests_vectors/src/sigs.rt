@@ -1,8 +1,8 @@
 //! Signatures (ECMA-335 II.23.2). A signature is asked for as KIND BLOB ROWS: what it is of, its bytes, and
 //! how many rows the tables have that its tokens name.
 
+use crate::lines::{Args, Fault, token_in, told};
 use enc_base::{Counts, Token};
-use enc_tests_lines::{Args, Fault, token_in, told};
 use enc_sigs::{
     Elem, Mix, Sig, SigFault, SigKind, field_sig, finished, locals_sig, method_sig, method_spec,
     mix_of, mixed_ends, property_sig, read_sig, sigs_agree, type_spec, write_sig,

@@ -18,7 +18,8 @@ impl<W: Watcher> Model for Handed<W> {
 
     ghost Value = { List Watching };
 
-    ghost view = { λ h. map (λ w. record { kind = W.kind_of w; limit = W.limit w; heard = W.heard w }) h.watchers.items };
+    ghost view = { λ h. map (λ w. record { kind = W.kind_of w; limit = W.limit w; heard = W.heard w })
+        h.watchers.items };
 }
 
 /// Whether two kinds are one.

@@ -1,6 +1,6 @@
 -- The files that hold what a list states are accepted, and stand for it.
 use Rattle.std.proofs.Common.{◌≡◌, ℕ, Bool, true, false, List, [], ◌∷◌, ◌++◌, Option, Some, None, refl, sym, ap, subst, ◌∙◌}
-use Rattle.std.specs.Prelude.{slice_get}
+use Rattle.std.specs.Prelude.{Ok, slice_get}
 use Rattle.std.specs.List.{list_any}
 use Rattle.enc_base.specs.Token.{is_token, nth_row}
 use Rattle.enc_base.specs.declared.token.Token.{Token}

@@ -10,14 +10,14 @@ ghost use Rattle.enc_commands.specs.Loads.{followed, KnowWithin};
 
 use crate::commands::accept::accept;
 use crate::judge::Judged;
-use crate::load::name_of;
-use crate::plan::{Outcome, Plan, Save};
+use crate::plan::{Outcome, Plan};
 use crate::plans::too_long;
 use crate::stop::Stop;
 use enc_base::StreamName;
 use enc_command_line::{Limit, saved_line};
 use enc_outside::Store;
 use enc_rewriter::{RewriteFault, Rewritten, rewrite};
+use enc_saves::{Save, name_of};
 use std::alloc::{AllocError, Global};
 
 /// The name of the file that would pass a limit: that of the PDB, or of the module.

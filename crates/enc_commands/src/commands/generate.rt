@@ -7,17 +7,17 @@ ghost use Rattle.enc_rewriter.specs.Limits.{IsFault};
 ghost use Rattle.enc_rewriter.specs.Rewritten.{MeansModule, RewritesTo};
 ghost use Rattle.enc_jobs.specs.Generated.{generated_base, generated_lists, edited_by};
 ghost use Rattle.enc_commands.specs.Verdict.{meta, pdb, generates, plain_of, debug_after};
-ghost use Rattle.enc_commands.specs.Generating.{no_points, delta_name, last_name, module_saves, delta_saves};
+ghost use Rattle.enc_commands.specs.Generating.{no_points, delta_name, last_name};
 ghost use Rattle.enc_command_line.specs.Case.{case_line as line_of_case};
 ghost use Rattle.enc_commands.specs.Series.{AreDrawn, IsSeries, StandAt, NothingSaid};
 ghost use Rattle.enc_command_line.specs.Commands.{numeral_seen};
-ghost use Rattle.enc_commands.specs.Plans.{IsPlanOf, saves_of};
+ghost use Rattle.enc_commands.specs.Plans.{IsPlanOf};
 ghost use Rattle.enc_commands.specs.Stops.{IfPlan};
 ghost use Rattle.enc_commands.specs.Loads.{base_seen, file_seen, followed};
 
 use crate::judge::{Judged, judge_all, judge_delta};
-use crate::load::{BaseFile, DeltaFile, name_of};
-use crate::plan::{Outcome, Plan, Save};
+use crate::load::{BaseFile, DeltaFile};
+use crate::plan::{Outcome, Plan};
 use crate::stop::Stop;
 use enc_checker::within_law;
 use enc_command_line::{Number, case_line};
@@ -26,6 +26,7 @@ use enc_jobs::{EditLists, case_laws, generated_laws, make_case};
 use enc_memory_module::PlainModule;
 use enc_ppdb::PdbChain;
 use enc_rewriter::{RewriteFault, Rewritten, rewrite};
+use enc_saves::{Save, name_of, push_delta, push_module};
 use enc_writer::{EditFault, write_delta};
 use std::alloc::{AllocError, Global};
 
@@ -34,51 +35,6 @@ use std::alloc::{AllocError, Global};
 pub struct Series {
     pub held: Judged,
     pub saves: Vec<Save>,
-}
-
-/// Appends the saves of a module and its PDB.
-fn push_module(
-    alloc: Global,
-    name: &str,
-    written: Rewritten,
-    saves: &mut Vec<Save>,
-) -> Result<(), AllocError>
-    ensures { OnOk result (saves_of saves.new.items
-        ≡ saves_of saves.old.items ++ module_saves name.now written.image written.pdb) }
-{
-    saves.push(Save {
-        name: name_of(alloc, name, ".dll")?,
-        bytes: written.image.into_vec(),
-    })?;
-    saves.push(Save {
-        name: name_of(alloc, name, ".pdb")?,
-        bytes: written.pdb.into_vec(),
-    })?;
-    Ok(())
-}
-
-/// Appends the saves of a delta.
-fn push_delta(
-    alloc: Global,
-    name: &str,
-    files: DeltaBytes,
-    saves: &mut Vec<Save>,
-) -> Result<(), AllocError>
-    ensures { OnOk result (saves_of saves.new.items ≡ saves_of saves.old.items ++ delta_saves name.now files) }
-{
-    saves.push(Save {
-        name: name_of(alloc, name, ".meta")?,
-        bytes: files.meta.into_vec(),
-    })?;
-    saves.push(Save {
-        name: name_of(alloc, name, ".il")?,
-        bytes: files.il.into_vec(),
-    })?;
-    saves.push(Save {
-        name: name_of(alloc, name, ".pdb")?,
-        bytes: files.pdb.into_vec(),
-    })?;
-    Ok(())
 }
 
 /// The files of a module and its PDB, as they are loaded.

@@ -11,7 +11,6 @@ ghost use Rattle.enc_commands.specs.Loads.{followed};
 use crate::commands::accept::accept;
 use crate::commands::write::saving;
 use crate::judge::Judged;
-use crate::load::name_of;
 use crate::plan::{Outcome, Plan};
 use crate::plans::{too_deep, too_long};
 use crate::stop::Stop;
@@ -19,6 +18,7 @@ use enc_base::{StreamName, Token};
 use enc_command_line::Limit;
 use enc_merge::{MergeFault, merge_last};
 use enc_outside::Store;
+use enc_saves::name_of;
 use std::alloc::Global;
 
 /// The stop at a reference that lies too deep, in the last delta's metadata.

@@ -15,8 +15,7 @@ ghost use Rattle.enc_commands.specs.Loads.{followed, texted as text_accepted};
 
 use crate::commands::accept::{Texted, accept_text};
 use crate::judge::Judged;
-use crate::load::name_of;
-use crate::plan::{Outcome, Plan, Save};
+use crate::plan::{Outcome, Plan};
 use crate::plans::{broken, unlisted};
 use crate::stop::Stop;
 use enc_command_line::saved_line;
@@ -24,6 +23,7 @@ use enc_edit_list::EditList;
 use enc_emit::DeltaBytes;
 use enc_jobs::read_edits;
 use enc_outside::Store;
+use enc_saves::{Save, name_of};
 use enc_writer::{EditFault, write_delta};
 use std::alloc::{AllocError, Global};
 

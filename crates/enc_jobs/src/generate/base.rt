@@ -4,8 +4,8 @@ ghost use Rattle.enc_rows.specs.Sums.{below};
 ghost use Rattle.enc_jobs.specs.Generated.{base_method as method_of_base, base_edits, generated_base};
 
 use crate::generate::edits::{base_method, module_type, mscorlib, object, p_type};
-use enc_memory_module::{PlainModule, apply_edits};
 use enc_edit_list::{Documents, EditList, Edits};
+use enc_memory_module::{PlainModule, apply_edits};
 use std::alloc::{AllocError, Global};
 
 /// How many methods the base has.

@@ -5,12 +5,12 @@ ghost use Rattle.enc_base.specs.Tables.{type_ref, method_def};
 ghost use Rattle.enc_edit_list.specs.declared.edit.Edit.TheVariants.{Body as Replace};
 ghost use Rattle.enc_jobs.specs.Generated.{load_of, return as returning, body_loading, named_row, adds_plain_row, adds_method, adds_mscorlib, adds_object, adds_type, base_method, name_added};
 
+use enc_base::tables::{ASSEMBLY_REF, METHOD_DEF, TYPE_DEF, TYPE_REF};
 use enc_base::{Bytes, Token};
 use enc_edit_list::{
     ArgValue, BodyValue, Cell, Cells, ClauseList, Edit, InstrList, InstrValue, PointList,
 };
 use enc_opcodes::{Op, Operand};
-use enc_base::tables::{ASSEMBLY_REF, METHOD_DEF, TYPE_DEF, TYPE_REF};
 use std::alloc::{AllocError, Global};
 
 /// The row of a table.

@@ -2,7 +2,7 @@ use Rattle.std.proofs.Common.{ap}
 use Rattle.enc_rows.specs.Written.{rows_at}
 use Rattle.enc_emit.specs.Written.{Parts, has_jtd}
 use Rattle.enc_emit.proofs.Little.{little_same, little_fits, little_size}
-use Rattle.enc_tests_vectors_code.proofs.emit.finish.Goals as goal
+use Rattle.enc_tests_vectors.proofs.emit.finish.Goals as goal
 
 pub finish-requires-clause-fit : goal.finish-requires-clause-fit
 finish-requires-clause-fit c =

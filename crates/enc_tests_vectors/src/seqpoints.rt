@@ -1,6 +1,6 @@
 //! Blobs of sequence points by `enc_seqpoints` (Portable PDB v1.0, Sequence Points Blob), read and written.
 
-use enc_tests_lines::{Args, Fault, parts};
+use crate::lines::{Args, Fault, parts};
 use enc_seqpoints::{Point, PointFault, Points, WriteFault, read_points, write_points};
 use std::alloc::Global;
 

@@ -2,7 +2,7 @@ use Rattle.std.proofs.Common.{false, ap}
 use Rattle.enc_rows.specs.Written.{rows_at}
 use Rattle.enc_emit.specs.Written.{Parts}
 use Rattle.enc_emit.proofs.Little.{little_same, little_fits, little_pdb_size}
-use Rattle.enc_tests_vectors_code.proofs.emit.finish_pdb.Goals as goal
+use Rattle.enc_tests_vectors.proofs.emit.finish_pdb.Goals as goal
 
 pub finish_pdb-requires-clause-fit : goal.finish_pdb-requires-clause-fit
 finish_pdb-requires-clause-fit c =

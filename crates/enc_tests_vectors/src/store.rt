@@ -1,8 +1,8 @@
 //! The store of objects: a list of operations on a store that is empty at first (ECMA-335 I.8).
 
+use crate::lines::{Args, Fault};
 use crate::objects::{kind, spelled, value};
 use enc_base::Token;
-use enc_tests_lines::{Args, Fault};
 use enc_objects::{MakeFault, Objects, Shape, Value};
 use std::alloc::Global;
 

@@ -1,6 +1,5 @@
 //! Lines that ask a call and what it answers: the words of a line, and how answers are spelled. docs/testing.md has
 //! the form.
-#![tactic(auto)]
 
 mod answer;
 mod args;

@@ -2,11 +2,11 @@
 //! written.
 ghost use Rattle.std.specs.Prelude.{ℕ, Option, Some, None, List, [], ◌==◌, if◌then◌else◌};
 
+use crate::lines::{Args, Fault, parts};
 use enc_base::{Counts, Token};
 use enc_il::{
     UserTexts, clause, first_bad, instr_at, read_body, section_front, texts_are_there, write_body,
 };
-use enc_tests_lines::{Args, Fault, parts};
 use enc_opcodes::{Arg, Clause, CodeRef, op_name};
 use std::alloc::Global;
 

@@ -1,6 +1,6 @@
 //! Bytes that are spelled in parts: runs of equal bytes, and places that differ.
 
-use crate::args::{Args, Fault};
+use crate::lines::args::{Args, Fault};
 use std::alloc::Global;
 
 /// The bytes of hexadecimal digits.

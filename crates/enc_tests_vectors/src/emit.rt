@@ -3,8 +3,8 @@ ghost use Rattle.std.specs.Prelude.{◌≡◌, ◌≤◌, ◌==◌, IfOk, length
 ghost use Rattle.std.specs.List.{list_all, list_any};
 ghost use Rattle.enc_emit.specs.Little.{IsLittle};
 
+use crate::lines::{Args, Fault, parts};
 use enc_emit::{RootBuilder, RootForm};
-use enc_tests_lines::{Args, Fault, parts};
 use enc_meta::{HeapBuilder, HeapLengths};
 use enc_rows::TableBuilder;
 use enc_schema::columns_of;

@@ -1,6 +1,6 @@
 //! How answers are spelled.
 
-use crate::args::Fault;
+use crate::lines::args::Fault;
 use enc_base::{Code, Place, Refusal, StreamName, Token};
 use enc_schema::column_name;
 use std::alloc::Global;

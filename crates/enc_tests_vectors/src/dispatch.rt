@@ -1,10 +1,10 @@
 //! Which method a virtual call reaches, and which clause of a body catches or runs (ECMA-335 I.12.4.2.5, II.12.2).
 
+use crate::lines::{Args, Fault};
 use crate::store::spelled_token;
 use enc_base::{ReadFault, Token};
 use enc_dispatch::Dispatch;
 use enc_image::Image;
-use enc_tests_lines::{Args, Fault};
 use enc_opcodes::CodeRef;
 use enc_unwind::{Stop, Thrown, catch_in, next_handler};
 use std::alloc::Global;

@@ -1,7 +1,7 @@
 //! Watchers of a session: what each reports, those that are attached, and those that are there to be attached.
 
+use crate::lines::{Args, Fault};
 use enc_base::Code;
-use enc_tests_lines::{Args, Fault};
 use enc_objects::Trap;
 use enc_watch::{Audience, Cover, Event, Failing, Handed, HearError, Trace, WatchKind, Watcher};
 use std::alloc::Global;

@@ -1,7 +1,7 @@
 //! Images by `enc_pe` (ECMA-335 II.25), read, asked for the bytes at an RVA, and written.
 
+use crate::lines::{Args, Fault, parts};
 use enc_base::{Code, Place, Refusal};
-use enc_tests_lines::{Args, Fault, parts};
 use enc_pe::{Container, LoadedFile, PeFault, Sections, at_rva, from_rva, read_pe, write_pe};
 use std::alloc::Global;
 

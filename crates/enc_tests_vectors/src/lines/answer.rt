@@ -1,6 +1,6 @@
 //! A line with its answer.
 
-use crate::args::Fault;
+use crate::lines::args::Fault;
 use std::alloc::{AllocError, Global};
 
 /// Whether a line asks nothing: an empty one, or a remark, which begins with `#`.

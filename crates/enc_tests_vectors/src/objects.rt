@@ -1,6 +1,6 @@
 //! The interpreter's values, and what instructions on values alone give (ECMA-335 III.1.1, III.3).
 
-use enc_tests_lines::{Args, Fault};
+use crate::lines::{Args, Fault};
 use enc_objects::{Kind, Trap, Value, binary, convert, is_binary, is_unary};
 use enc_opcodes::{Op, Operand, op_of};
 use std::alloc::Global;
