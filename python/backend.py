@@ -35,8 +35,8 @@ URLS = (("Homepage", "https://wazhupen.invalid/"), ("Documentation", "https://wa
 AUTHOR = ("The Wazhupen authors", "wazhupen@wazhupen.invalid")
 # What an archive of sources has beside the package.
 BESIDE = ("backend.py", "make_columns.py", "make_rules.py", "pyproject.toml", "README.md")
-TESTS = ("test.py", "test_installed.py", "test_language.py", "test_threads.py", "testing.py")
-EXAMPLES = ("*.dll", "*.meta", "*.il", "bank/*", "edits/*", "scripts/*", "python/bank.py")
+TESTS = ("test.py", "test_installed.py", "test_language.py", "test_prepare.py", "test_threads.py", "testing.py")
+EXAMPLES = ("*.dll", "*.meta", "*.il", "bank/*", "edits/*", "prepare/*", "scripts/*", "python/bank.py")
 # What a wheel says of its files' date, so that two wheels of the same files are the same.
 DATE = (2026, 1, 1, 0, 0, 0)
 

@@ -14,8 +14,6 @@ from testing import CHAINS, HERE, Folder, every_token, needs, opened
 import enc
 from enc import _missing, columns
 
-# Files in which mypy finds something still: those of the report.
-UNTYPED = ("report.py", "_plot.py", "_sides.py", "_refusal_page.py", "_refused.py", "_sources.py", "_printed.py")
 TYPED = """
 import enc, enc.columns
 module = enc.Module("examples/k")
@@ -54,11 +52,10 @@ class Types(Folder):
     def test_mypy_strict(self):
         Path(self.path("typed.py")).write_text(TYPED)
         lines = self.mypy("enc", self.path("typed.py"))
-        mine = [line for line in lines if Path(line.split(":")[0]).name not in UNTYPED]
-        revealed = [re.search('Revealed type is "(.*)"', line) for line in mine]
+        revealed = [re.search('Revealed type is "(.*)"', line) for line in lines]
         told = [re.sub(r"(\w+\.)+(?=\w)", "", found.group(1)) for found in revealed if found]
         self.assertEqual([line.lower() for line in told], [line.lower() for line in WANTED])
-        self.assertEqual([line for line, found in zip(mine, revealed) if not found], [])
+        self.assertEqual([line for line, found in zip(lines, revealed) if not found], [])
 
     def test_classes_of_rows_are_made_of_the_tables(self):
         self.assertEqual((HERE / "enc" / "columns.py").read_text(encoding="utf-8"), make_columns.made())

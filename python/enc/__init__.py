@@ -24,6 +24,7 @@ from ._library import Limit
 from ._missing import Ambiguous, NoColumn, NoRow, NotFound
 from ._refused import Refused, RemapRefused, rule_words
 from .module import AtGeneration, Compacted, Module, Saved, View
+from .prepare import Prepared, PrepareError
 from .rows import Body, Clause, Entry, Lengths, Move, Place, Point, Row, Token, Value
 from .session import Event, Frame, Remapped, Session, Slot, Stepped
 from .tables import TABLES, Column, Table, table
@@ -50,6 +51,8 @@ __all__ = [
     "NotFound",
     "Place",
     "Point",
+    "PrepareError",
+    "Prepared",
     "Refused",
     "RemapRefused",
     "Remapped",

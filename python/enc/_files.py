@@ -6,6 +6,7 @@ import os
 from typing import NamedTuple, Optional, Tuple, Union
 
 from ._refused import Refused, rule_words
+from .prepare import Prepared, PrepareError, prepare
 
 Path = Union[str, "os.PathLike[str]"]
 Source = Union[bytes, bytearray, memoryview, Path]
@@ -99,13 +100,37 @@ def base_path(path: Path) -> str:
 
 def base_files(base: Source, pdb: Optional[Source]) -> Files:
     """A base, with the PDB beside it where none is given."""
-    if isinstance(base, (bytes, bytearray, memoryview)):
-        found, pdb_path = _pdb(pdb)
-        return Files(bytes(base), b"", found, (None, pdb_path))
-    path = base_path(base)
-    if pdb is None:
+    image, path = _base(base)
+    return _with_pdb(image, path, pdb)
+
+
+def prepared_files(base: Source, pdb: Optional[Source]) -> Tuple[Files, Tuple[str, ...]]:
+    """A base that is prepared, and what was done. The PDB that is given comes first, then the one that was in it, and
+    then the one beside it."""
+    image, path = _base(base)
+    made = prepared(image, path)
+    if pdb is None and made.pdb is not None:
+        return Files(made.module, b"", made.pdb, (path, path)), made.done
+    return _with_pdb(made.module, path, pdb), made.done
+
+
+def prepared(image: bytes, path: Optional[str]) -> Prepared:
+    """What `prepare` makes of a file; its PrepareError names the file."""
+    try:
+        return prepare(image)
+    except PrepareError as error:
+        raise PrepareError(str(error), path) from None
+
+
+def _base(base: Source) -> Tuple[bytes, Optional[str]]:
+    """The bytes of a base, and its path."""
+    return _part(base if isinstance(base, (bytes, bytearray, memoryview)) else base_path(base))
+
+
+def _with_pdb(image: bytes, path: Optional[str], pdb: Optional[Source]) -> Files:
+    """A base with a PDB that is given, else with the one beside it."""
+    if pdb is None and path is not None:
         pdb = _beside(os.path.splitext(path)[0] + ".pdb")
-    image = read(path)
     found, pdb_path = _pdb(pdb)
     return Files(image, b"", found, (path, pdb_path))
 

@@ -1,8 +1,8 @@
 """A delta's metadata as its file has it: its rows, its EncLog, its heaps (ECMA-335 II.24.2).
 
-`enc dump` shows it of a delta that is refused, which the library doesn't keep, and the EncLog of any delta. It is
-the one reader of metadata in this package; nothing of it is proved, and nothing else uses it. What can't be read is
-a ValueError."""
+`enc dump` shows it of a delta that is refused, which the library doesn't keep, and the EncLog of any delta; `prepare`
+asks the methods of a base before the library has it. It is the one reader of metadata in this package; nothing of it
+is proved. What can't be read is a ValueError."""
 
 from __future__ import annotations
 
@@ -72,21 +72,28 @@ def _width(column: Column, counts: Dict[str, int], wide: bool, flags: int) -> in
     return 4 if wide or most >= 1 << (16 - _bits(column.table)) else 2
 
 
-def _streams(metadata: bytes) -> Dict[str, bytes]:
-    """The streams of a root."""
+def _places(metadata: bytes) -> Dict[str, Tuple[int, int]]:
+    """Where the streams of a root begin, and their sizes. Of two with one name the first counts."""
     if metadata[:4] != b"BSJB":
         raise ValueError("it doesn't begin with BSJB")
     (length,) = struct.unpack_from("<I", metadata, 12)
     at = 16 + length
     (count,) = struct.unpack_from("<H", metadata, at + 2)
     at += 4
-    streams: Dict[str, bytes] = {}
+    places: Dict[str, Tuple[int, int]] = {}
     for _ in range(count):
         start, size = struct.unpack_from("<II", metadata, at)
-        name = metadata[at + 8 : metadata.index(b"\0", at + 8)]
-        streams.setdefault(name.decode("latin-1"), metadata[start : start + size])
-        at += 8 + (len(name) // 4 + 1) * 4
-    return streams
+        end = metadata.find(b"\0", at + 8)
+        if end < 0:
+            raise ValueError("the name of a stream has no end")
+        places.setdefault(metadata[at + 8 : end].decode("latin-1"), (start, size))
+        at += 8 + ((end - at - 8) // 4 + 1) * 4
+    return places
+
+
+def _streams(metadata: bytes) -> Dict[str, bytes]:
+    """The streams of a root."""
+    return {name: metadata[start : start + size] for name, (start, size) in _places(metadata).items()}
 
 
 def streams_in(image: bytes) -> Dict[str, bytes]:
@@ -112,32 +119,61 @@ def _rows(stream: bytes, of: Table, count: int, at: int, widths: List[int]) -> I
         yield tuple(cells)
 
 
-def raw(metadata: bytes) -> Raw:
-    """What stands in bare metadata."""
+class _Heads(NamedTuple):
+    """What the table stream begins with: its bytes, the flags of its heaps, the rows of each table that is there,
+    and whether indices are always wide."""
+
+    stream: bytes
+    flags: int
+    counts: Dict[int, int]
+    wide: bool
+
+    def first(self) -> int:
+        """Where the rows begin."""
+        return 24 + 4 * len(self.counts) + (4 if self.flags & 0x40 else 0)
+
+    def widths(self, number: int) -> List[int]:
+        """The bytes of each column of a table."""
+        if number >= len(TABLES):
+            raise ValueError(f"there is a table {number:02x}")
+        names = {TABLES[number].name: count for number, count in self.counts.items() if number < len(TABLES)}
+        return [_width(column, names, self.wide, self.flags) for column in TABLES[number].columns]
+
+
+def _heads(metadata: bytes) -> _Heads:
+    """What the table stream of a root begins with."""
     try:
-        streams = _streams(metadata)
-        stream = streams.get("#-", streams.get("#~", b""))
-        flags = stream[6]
+        places = _places(metadata)
+        start, size = places.get("#-", places.get("#~", (0, 0)))
+        stream = metadata[start : start + size]
         valid = struct.unpack_from("<Q", stream, 8)[0]
         present = [number for number in range(64) if valid >> number & 1]
         counts = dict(zip(present, struct.unpack_from(f"<{len(present)}I", stream, 24)))
-    except (struct.error, IndexError):
+    except struct.error:
         raise ValueError("its headers don't stand whole in it") from None
-    return Raw(streams, _tables(stream, flags, counts, "#JTD" in streams))
+    return _Heads(stream, stream[6], counts, "#JTD" in places)
 
 
-def _tables(stream: bytes, flags: int, counts: Dict[int, int], wide: bool) -> Dict[int, List[Tuple[int, ...]]]:
-    at = 24 + 4 * len(counts) + (4 if flags & 0x40 else 0)
-    names = {TABLES[number].name: count for number, count in counts.items() if number < len(TABLES)}
+def raw(metadata: bytes) -> Raw:
+    """What stands in bare metadata."""
+    heads = _heads(metadata)
+    at = heads.first()
     rows: Dict[int, List[Tuple[int, ...]]] = {}
-    for number, count in counts.items():
-        if number >= len(TABLES):
-            raise ValueError(f"there is a table {number:02x}")
-        of = TABLES[number]
-        widths = [_width(column, names, wide, flags) for column in of.columns]
-        rows[number] = list(_rows(stream, of, count, at, widths))
+    for number, count in heads.counts.items():
+        widths = heads.widths(number)
+        rows[number] = list(_rows(heads.stream, TABLES[number], count, at, widths))
         at += count * sum(widths)
-    return rows
+    return Raw(_streams(metadata), rows)
+
+
+def rows_of(metadata: bytes, which: str) -> Iterator[Tuple[int, ...]]:
+    """The cells of the rows of one table in bare metadata, one row after the other."""
+    heads, wanted = _heads(metadata), table(which)
+    at = heads.first()
+    for number, count in heads.counts.items():
+        if number < wanted.number:
+            at += count * sum(heads.widths(number))
+    return _rows(heads.stream, wanted, heads.counts.get(wanted.number, 0), at, heads.widths(wanted.number))
 
 
 def decoded(column: Column, number: int) -> Optional[Token]:

@@ -192,8 +192,7 @@ def _row(page: Asked, made: Refusal, found: _raw.Raw, place: Tuple[Token, str]) 
         now = _now(raw_cell(found, of, cells[i], begins, names).partition("=")[2], of) if cells else ""
         was = _old(of, old, names)
         shown.append(Cell(of.name, _with_words(token, of, now), _with_words(token, of, was), of.name in marked))
-    about = {"row": str(token), "row_name": names.of(token), "notes": notes}
-    return made._replace(is_new=is_new, cells=shown, **about)
+    return made._replace(is_new=is_new, cells=shown, row=str(token), row_name=names.of(token), notes=notes)
 
 
 def _now(text: str, column: Column) -> str:

@@ -437,7 +437,12 @@ class Module(View):
     `base` is a path, with `.dll` or without, or the bytes of a module. A PDB of the same name beside it is taken
     where there is one; `pdb` is another one, and `b""` is none.
 
-    Raises `Refused` where it breaks a rule, OSError where a file can't be read, MemoryError.
+    With `prepare=True` the base is one that a compiler wrote and the library refuses: what is in its way is taken out
+    in memory, as `enc.prepare` says, and `prepared` tells what was. An embedded PDB is then taken before one beside
+    the file.
+
+    Raises `Refused` where it breaks a rule, `PrepareError` where it can't be prepared, OSError where a file can't be
+    read, MemoryError.
 
     >>> with Module("examples/bank/bank") as module:
     ...     module.apply("examples/bank/bank1")
@@ -450,9 +455,10 @@ class Module(View):
 
     Any thread may ask it, apply to it and close it: threads take turns, and each answer is of one state."""
 
-    def __init__(self, base: Source, pdb: Optional[Source] = None) -> None:
-        files = _files.base_files(base, pdb)
+    def __init__(self, base: Source, pdb: Optional[Source] = None, *, prepare: bool = False) -> None:
+        files, done = _files.prepared_files(base, pdb) if prepare else (_files.base_files(base, pdb), ())
         self._at = None
+        self._done = done
         self._handle = Handle(_library.library(), "enc_close", f"the module {files.names[0] or 'of bytes'}")
         self._size = len(files.first) + len(files.pdb)
         refusal = _library.RefusalNumbers()
@@ -486,6 +492,15 @@ class Module(View):
     def close(self) -> None:
         """Frees what the module holds. A closed module answers nothing more (ValueError), and may be closed again."""
         self._handle.close()
+
+    @property
+    def prepared(self) -> Tuple[str, ...]:
+        """What was done to the base, in sentences; nothing where it wasn't prepared or nothing had to be done.
+
+        >>> Module("examples/bank/bank", prepare=True).prepared
+        ()
+        """
+        return self._done
 
     # Deltas.
 

@@ -9,6 +9,7 @@ import argparse
 import base64
 import functools
 import hashlib
+import importlib
 import importlib.util
 import json
 import os
@@ -53,21 +54,24 @@ def digest(text: str) -> str:
 
 def breaking(text: str) -> Any:
     """A name that may break behind its dots, commas and brackets, and nowhere else."""
-    from markupsafe import Markup, escape
-
-    shown = str(escape(text))
+    markupsafe = importlib.import_module("markupsafe")
+    shown = str(markupsafe.escape(text))
     for sign in (".", ", ", "("):
         shown = shown.replace(sign, f"{sign}<wbr>")
-    return Markup(shown)
+    return markupsafe.Markup(shown)
 
 
 @functools.lru_cache(None)
 def environment() -> Any:
     """Jinja's environment: all that isn't marked as safe is escaped."""
-    import jinja2
-
-    blocks = {"trim_blocks": True, "lstrip_blocks": True, "undefined": jinja2.StrictUndefined}
-    made = jinja2.Environment(loader=jinja2.FileSystemLoader(HERE), autoescape=True, **blocks)
+    jinja2 = importlib.import_module("jinja2")
+    made = jinja2.Environment(
+        loader=jinja2.FileSystemLoader(HERE),
+        autoescape=True,
+        trim_blocks=True,
+        lstrip_blocks=True,
+        undefined=jinja2.StrictUndefined,
+    )
     made.filters["number"] = lambda number: f"{number:,}"
     made.filters["cut"] = cut
     made.filters["some"] = some
