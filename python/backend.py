@@ -33,9 +33,19 @@ CLASSIFIERS = (
 # The project has no address yet: this is the one place for it, with pyproject.toml.
 URLS = (("Homepage", "https://wazhupen.invalid/"), ("Documentation", "https://wazhupen.invalid/docs/python.md"))
 AUTHOR = ("The Wazhupen authors", "wazhupen@wazhupen.invalid")
+# The programs that the package installs, as those of pyproject.toml.
+SCRIPTS = (("enc-tool", "enc.tool:main"),)
 # What an archive of sources has beside the package.
 BESIDE = ("backend.py", "make_columns.py", "make_rules.py", "pyproject.toml", "README.md")
-TESTS = ("test.py", "test_installed.py", "test_language.py", "test_prepare.py", "test_threads.py", "testing.py")
+TESTS = (
+    "test.py",
+    "test_installed.py",
+    "test_language.py",
+    "test_prepare.py",
+    "test_threads.py",
+    "test_tool.py",
+    "testing.py",
+)
 EXAMPLES = ("*.dll", "*.meta", "*.il", "bank/*", "edits/*", "prepare/*", "scripts/*", "python/bank.py")
 # What a wheel says of its files' date, so that two wheels of the same files are the same.
 DATE = (2026, 1, 1, 0, 0, 0)
@@ -102,6 +112,11 @@ def wheel_file():
     return f"Wheel-Version: 1.0\nGenerator: enc\nRoot-Is-Purelib: false\nTag: {tag()}\n".encode()
 
 
+def entry_points():
+    """The file entry_points.txt, of which an installer makes programs."""
+    return "".join(["[console_scripts]\n", *(f"{name} = {where}\n" for name, where in SCRIPTS)]).encode()
+
+
 def recorded(files, name):
     """The line of RECORD of a file."""
     digest = base64.urlsafe_b64encode(hashlib.sha256(files[name]).digest()).rstrip(b"=").decode()
@@ -120,6 +135,7 @@ def wheel_of(files, folder):
     """Writes a wheel with these files, and tells its name."""
     about = f"enc-{version()}.dist-info"
     files = {**files, f"{about}/METADATA": metadata(), f"{about}/WHEEL": wheel_file()}
+    files[f"{about}/entry_points.txt"] = entry_points()
     files[f"{about}/LICENSE"] = above("LICENSE").read_bytes()
     record = f"{about}/RECORD"
     files[record] = ("".join(recorded(files, name) for name in files) + f"{record},,\n").encode()
