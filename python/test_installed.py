@@ -58,6 +58,9 @@ class Installed(Folder):
         words = [sys.executable, "-c", asked, str(ROOT / "examples/k"), str(ROOT / "examples/k1")]
         got = subprocess.run(words, env=around, cwd=self.folder, capture_output=True, text=True)
         self.assertEqual(got.stdout.split(), [self.path("to/enc/__init__.py"), "1"], got.stderr)
+        words = [sys.executable, self.path("to/bin/enc-tool"), "find", str(ROOT / "examples/k"), "P::Say"]
+        got = subprocess.run(words, env=around, cwd=self.folder, capture_output=True, text=True)
+        self.assertEqual(got.stdout, "06000001  method  P::Say  public static void ()\n", got.stderr)
 
 
 class Archives(Folder):

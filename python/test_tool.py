@@ -1,6 +1,6 @@
 """Tests of the program enc-tool. Usage: python3 python/test_tool.py LIBENC.so [ENC] [WORDS OF unittest..]
 
-Its commands are run over the examples, over deltas that an edit list makes, and with wrong words. `./test` runs this."""
+Its commands are run over the examples, over deltas of edit lists, and with wrong words. `./test` runs this."""
 
 import contextlib
 import io
@@ -32,7 +32,7 @@ except ImportError:
 
 BANK = "examples/bank/bank"
 CHAIN = ("examples/bank/bank1", "examples/bank/bank2")
-EMPTY = {"max": 8, "code": [["ret"]]}
+METHOD = {"do": "add", "table": "MethodDef", "code": {"max": 8, "code": [["ret"]]}}
 FRAMES = (
     ('{"module": "bank", "token": "06000003", "generation": 2, "offset": 11}', "Account::Print", 16),
     ('{"module": "bank", "token": "06000003", "generation": 0, "offset": 11, "thread": 4}', "Account::Print", 15),
@@ -124,7 +124,8 @@ class Find(Tool):
         return [one["token"] for one in self.json("find", BANK, *words)]
 
     def test_a_full_name(self):
-        self.assertEqual(self.right("find", BANK, "Account::Deposit"), "06000002  method  Account::Deposit  public void (int)\n")
+        wanted = "06000002  method  Account::Deposit  public void (int)\n"
+        self.assertEqual(self.right("find", BANK, "Account::Deposit"), wanted)
 
     def test_the_ways_to_write_one(self):
         for name in ("Account.Deposit", "Account::Deposit(int)", "06000002", "0x06000002", "Acc*::Dep*", "*[D]eposit"):
@@ -147,7 +148,8 @@ class Find(Tool):
         self.assertEqual(self.json("find", BANK, "Account::Deposit"), [wanted])
 
     def test_nothing_found(self):
-        self.assertEqual(self.wrong(1, "find", BANK, "Deposit"), "nothing has the name Deposit: did you mean Account::Deposit?")
+        said = "nothing has the name Deposit: did you mean Account::Deposit?"
+        self.assertEqual(self.wrong(1, "find", BANK, "Deposit"), said)
         self.assertIn("did you mean Account::Print or", self.wrong(1, "find", BANK, "Account::Pritn"))
         self.assertIn("a name that fits *Nothing*: names are such as", self.wrong(1, "find", BANK, "*Nothing*"))
         self.assertIn("a name is such as", self.wrong(1, "find", BANK, "Qqqqqqqqq"))
@@ -162,8 +164,7 @@ class Find(Tool):
         inner = [
             {"do": "add", "table": "TypeDef", "cells": [2, "Inner", "", "01000001"]},
             {"do": "add", "table": "NestedClass", "cells": ["02000004", "02000003"]},
-            {"do": "add", "table": "MethodDef", "owner": "02000004", "cells": [0, 150, "Say", "00010108"], "code": EMPTY},
-            {"do": "add", "table": "MethodDef", "owner": "02000004", "cells": [0, 150, "Say", "0001010e"], "code": EMPTY},
+            *({**METHOD, "owner": "02000004", "cells": [0, 150, "Say", blob]} for blob in ("00010108", "0001010e")),
         ]
         second = self.written("u", inner, deltas=[first])
         names = [one["name"] for one in self.json("find", "examples/k", "Counter*", first, second)]
@@ -176,13 +177,14 @@ class Find(Tool):
         one = self.json("find", "examples/k", "Counter+Inner::Say(string)", first, second)
         self.assertEqual([found["signature"] for found in one], ["public static void (string)"])
         self.assertEqual(len(self.json("show", "examples/k", "Counter+Inner::Say", first, second)), 2)
-        self.assertIn("  property 17000001 Counter::Count\n", self.right("show", "examples/k", "15000001", first, second))
+        out = self.right("show", "examples/k", "15000001", first, second)
+        self.assertIn("  property 17000001 Counter::Count\n", out)
 
     def test_nothing_steers_a_terminal(self):
         hostile = {"do": "add", "table": "TypeDef", "cells": [1, "a\x1b[31m\u202eb", "", "00000000"]}
         delta = self.written("t", [hostile])
-        for words in (("find", "examples/k", "a*", delta), ("show", "examples/k", "02000003", delta), ("diff", "examples/k", delta)):
-            out = self.right(*words)
+        for words in (("find", "a*"), ("show", "02000003"), ("diff",)):
+            out = self.right(words[0], "examples/k", *words[1:], delta)
             self.assertIn("\\x1b[31m\\u202eb", out, words)
             self.assertNotRegex(out, "[\x1b\u202e]")
         self.assertEqual(self.json("find", "examples/k", "a*", delta)[0]["name"], hostile["cells"][1])
@@ -193,7 +195,8 @@ class Shown(Tool):
 
     def test_show_a_method(self):
         out = self.right("show", BANK, "Account::Print", *CHAIN)
-        self.assertTrue(out.startswith("06000003 method Account::Print\n  public void ()\n  from delta 2, row 2 there\n"))
+        begin = "06000003 method Account::Print\n  public void ()\n  from delta 2, row 2 there\n"
+        self.assertTrue(out.startswith(begin), out)
         self.assertIn("    // /src/Bank.cs:16:34-16:35\n    IL_000b call String.Concat(string, string) 0a000009\n", out)
         self.assertIn("  owner 02000002 Account\n", out)
         self.assertEqual(out, self.right("show", BANK, "06000003", *CHAIN))
@@ -227,7 +230,8 @@ class Shown(Tool):
         self.assertEqual(out[1], "06000002  2  Account::Deposit        public void (int)")
         self.assertEqual(len(out), 5)
         found = self.json("methods", BANK, *CHAIN, "--changed")
-        self.assertEqual([(one["name"], one["generation"], one["body"]) for one in found][-1], ("Account::PrintDeposits", 2, True))
+        last = found[-1]
+        self.assertEqual((last["name"], last["generation"], last["body"]), ("Account::PrintDeposits", 2, True))
         self.assertEqual(len(found), 3)
 
     def test_lines(self):
@@ -247,8 +251,8 @@ class Shown(Tool):
 
     def test_history(self):
         out = self.right("history", BANK, "Account::Print", *CHAIN)
-        wanted = ["  generation 0 base " + BANK, *(f"  generation {i + 1} updated {path}" for i, path in enumerate(CHAIN))]
-        self.assertEqual(out.splitlines(), ["06000003 method Account::Print", *wanted])
+        wanted = [f"  generation {i} updated {path}" for i, path in enumerate(CHAIN, 1)]
+        self.assertEqual(out.splitlines(), ["06000003 method Account::Print", "  generation 0 base " + BANK, *wanted])
         found = self.json("history", BANK, "04000002", *CHAIN)[0]["history"]
         self.assertEqual(found, [{"generation": 2, "change": "inserted", "file": CHAIN[1]}])
 
@@ -342,18 +346,18 @@ class Files(Tool):
 
     def test_each_file_of_a_delta(self):
         every = [delta + ending for delta in CHAIN for ending in (".il", ".meta", ".pdb")]
-        wanted = self.right("diff", BANK, *CHAIN).replace("bank1\n", "bank1.il\n").replace("bank2\n", "bank2.il\n")
-        self.assertEqual(self.right("diff", BANK, *every), wanted)
+        self.assertEqual(self.right("diff", BANK, *every), self.right("diff", BANK, *CHAIN))
 
     def test_a_delta_twice_is_refused(self):
         said = self.wrong(1, "find", BANK, "*", CHAIN[0], CHAIN[0])
-        self.assertTrue(said.startswith("refused examples/bank/bank1.meta: E2 at 00000001: its Generation isn't the next"))
+        begin = "refused examples/bank/bank1.meta: E2 at 00000001: its Generation isn't the next"
+        self.assertTrue(said.startswith(begin), said)
         self.assertIn("found Generation 0001; expected Generation 0002", said)
 
     def test_a_refused_delta_names_file_and_rule(self):
+        wanted = "refused examples/bank/bank2.meta: E2 at 00000001: its Generation isn't the next; found"
         for command in (("find", "*"), ("show", "Account"), ("lines", "Account::Print"), ("history", "Account")):
-            said = self.wrong(1, command[0], BANK, command[1], CHAIN[1])
-            self.assertRegex(said, r"refused examples/bank/bank2\.meta: E2 at 00000001: its Generation isn't the next; found")
+            self.assertIn(wanted, self.wrong(1, command[0], BANK, command[1], CHAIN[1]))
         for command in ("methods", "diff"):
             self.assertIn("bank2.meta: E2", self.wrong(1, command, BANK, CHAIN[1]))
 
@@ -373,7 +377,8 @@ class Files(Tool):
         said = "there is no examples/bank/bnak.dll and no examples/bank/bnak.exe: did you mean examples/bank/bank.dll?"
         self.assertIn(said, self.wrong(1, "methods", "examples/bank/bnak"))
         said = self.wrong(1, "methods", BANK, "examples/bank/bank3")
-        self.assertIn("no examples/bank/bank3.meta and no examples/bank/bank3.dmeta: did you mean examples/bank/bank", said)
+        wanted = "no examples/bank/bank3.meta and no examples/bank/bank3.dmeta: did you mean examples/bank/bank"
+        self.assertIn(wanted, said)
         self.copy("examples/bank/bank1.meta", "half.meta")
         self.assertIn("half.il: both are needed", self.wrong(1, "methods", BANK, self.path("half")))
         self.assertIn("is a folder: name the module in it", self.wrong(1, "methods", "examples/bank"))
@@ -443,7 +448,8 @@ class Words(Tool):
         self.assertRegex(made.stderr.decode(), r"\Aenc-tool: standard output: [^\n]+\n\Z")
 
     def test_an_output_that_is_closed(self):
-        made = subprocess.run(program("methods", BANK), stderr=subprocess.PIPE, env=around(), cwd=ROOT, preexec_fn=lambda: os.close(1))
+        words = ["sh", "-c", '"$@" >&-', "sh", *program("methods", BANK)]
+        made = subprocess.run(words, stderr=subprocess.PIPE, env=around(), cwd=ROOT)
         self.assertEqual((made.returncode, made.stderr.count(b"\n")), (5, 1), made.stderr)
 
     def test_a_narrow_encoding(self):
@@ -476,7 +482,8 @@ class Words(Tool):
             (("completion", ""), ["bash", "zsh", "fish"]),
             (("show", "examples/bank/bank1.m"), ["examples/bank/bank1.meta"]),
         ):
-            made = subprocess.run(["bash", "-c", asked, self.path("s"), "enc-tool", *words], capture_output=True, text=True, cwd=ROOT)
+            run = ["bash", "-c", asked, self.path("s"), "enc-tool", *words]
+            made = subprocess.run(run, capture_output=True, text=True, cwd=ROOT)
             self.assertEqual(made.stdout.split(), wanted, made.stderr)
 
     def test_the_program_is_installed(self):
@@ -529,7 +536,7 @@ class Symbolicate(Tool):
     def test_bad_lines_are_told_and_passed_over(self):
         good, bank = FRAMES[0][0], '{"module": "bank", "token": "06000003", '
         bad = (
-            ("nonsense", "it is no JSON"), ("[1]", "it is list and no object"), ('"x', "it is no JSON"), ("[" * 9000, "no JSON"),
+            ("nonsense", "it is no JSON"), ("[1]", "is list and no object"), ('"x', "no JSON"), ("[" * 9000, "no JSON"),
             ('{"module": "bank", "offset": 1}', 'there is no "token"'), (bank + '"offset": -1}', '"offset" is -1'),
             (bank + '"offset": 1.5}', '"offset" is 1.5'), (bank + '"offset": true}', '"offset" is true'),
             (bank + '"offset": 999}', "offset 999 is past the end of Account::Print"),
@@ -540,7 +547,7 @@ class Symbolicate(Tool):
             ('{"module": "bank", "token": "0600003", "offset": 1}', '"token" is "0600003"'),
             ('{"module": "bank", "token": [], "offset": 1}', '"token" is []'),
             ('{"module": "bank", "token": "02000002", "offset": 1}', "02000002 is no method"),
-            ('{"module": "bank", "token": "06000005", "generation": 1, "offset": 1}', "at generation 1 there is no row"),
+            ('{"module": "bank", "token": "06000005", "generation": 1, "offset": 1}', "at generation 1 there is no"),
         )  # fmt: skip
         lines = [good, "", *(line for line, _ in bad), good]
         status, out, said = ran("symbolicate", self.frames(*lines), "--modules", "examples/bank")
@@ -549,7 +556,31 @@ class Symbolicate(Tool):
         for number, ((_, why), line) in enumerate(zip(bad, said), 3):
             self.assertIn(f"frames.jsonl, line {number}: ", line)
             self.assertIn(why, line)
-        self.assertEqual(said[-1], f"enc-tool: {len(bad)} of {len(lines)} lines are passed over: the others are printed")
+        last = f"enc-tool: {len(bad)} of {len(lines)} lines are passed over: the others are printed"
+        self.assertEqual(said[-1], last)
+
+    def test_what_is_equal_in_python_is_no_number(self):
+        frames = [FRAMES[1][0].replace(': 0,', f": {value},") for value in ("0", "false", "0.0", "1", "true")]
+        self.assertEqual(len(set(frames)), 5)
+        status, out, said = ran("symbolicate", self.frames(*frames), "--modules", "examples/bank")
+        self.assertEqual((status, out.count("\n"), said.count("\n")), (1, 2, 4))
+
+    def test_lines_of_a_pipe_are_answered_as_they_come(self):
+        started = subprocess.Popen(
+            program("symbolicate", "--modules", "examples/bank"), stdin=subprocess.PIPE, stdout=subprocess.PIPE,
+            env=around(), cwd=ROOT,
+        )  # fmt: skip
+        for part in (FRAMES[0][0] + "\n" + FRAMES[1][0][:20], FRAMES[1][0][20:] + "\n" + "\n" + FRAMES[2][0]):
+            started.stdin.write(part.encode())
+            started.stdin.flush()
+            self.assertIn(b"Account::Print", started.stdout.readline())
+        out, _ = started.communicate(timeout=60)
+        self.assertEqual((started.returncode, out.count(b"\n"), b"Account::Deposit" in out), (0, 1, True))
+
+    def test_a_closed_standard_input(self):
+        words = ["sh", "-c", '"$@" <&-', "sh", *program("symbolicate", "--modules", "examples/bank")]
+        made = subprocess.run(words, capture_output=True, env=around(), cwd=ROOT)
+        self.assertEqual((made.returncode, made.stderr.count(b"\n")), (1, 1), made.stderr)
 
     def test_bytes_that_are_no_text(self):
         with open(self.path("f"), "wb") as file:
@@ -560,7 +591,7 @@ class Symbolicate(Tool):
 
     def test_other_keys_stay(self):
         frame = {"module": "bank", "token": "06000003", "offset": 0, "line": 5, "text": "caf\u00e9", "more": {"a": [1]}}
-        for line in (json.dumps(frame), json.dumps(frame, ensure_ascii=False)):
+        for line in (json.dumps(frame), json.dumps(frame, ensure_ascii=False), " " + json.dumps(frame)[:-1] + " \t}\r"):
             found = self.answers(self.frames(line), "--modules", "examples/bank")[0]
             self.assertEqual(found, {**frame, "line": 15, "name": "Account::Print", "document": "/src/Bank.cs"})
 
@@ -573,12 +604,19 @@ class Symbolicate(Tool):
         one, two = apart(*words), apart(*words, "--jobs", "2")
         self.assertEqual(one, two)
         self.assertEqual(one[0], 1)
-        self.assertEqual([json.loads(line)["id"] for line in one[1].splitlines()], [i for i in range(9000) if i % 1000])
-        self.assertEqual([int(line.split("line ")[1].split(":")[0]) for line in one[2].splitlines()[:-1]], list(range(1, 9000, 1000)))
+        found = [json.loads(line)["id"] for line in one[1].splitlines()]
+        self.assertEqual(found, [i for i in range(9000) if i % 1000])
+        told_of = [int(line.split("line ")[1].split(":")[0]) for line in one[2].splitlines()[:-1]]
+        self.assertEqual(told_of, list(range(1, 9000, 1000)))
 
     def test_a_module_is_opened_once(self):
         opened, made = [], enc.Module.__init__
-        with unittest.mock.patch.object(enc.Module, "__init__", lambda self, *given: (opened.append(given), made(self, *given))[1]):
+
+        def counted(module, *given):
+            opened.append(given)
+            made(module, *given)
+
+        with unittest.mock.patch.object(enc.Module, "__init__", counted):
             self.answers(self.frames(*(line for line, _, _ in FRAMES * 5)), "--modules", "examples/bank")
         self.assertEqual(len(opened), 1)
 
@@ -603,11 +641,11 @@ class Symbolicate(Tool):
     def test_wrong_words(self):
         self.assertIn("no module is given", self.wrong(2, "symbolicate", os.devnull))
         self.assertIn("isn't of the form NAME=BASE", self.wrong(2, "symbolicate", os.devnull, "--module", "bank"))
-        self.assertIn("should be 1 to", self.wrong(2, "symbolicate", os.devnull, "--modules", "examples", "--jobs", "0"))
+        self.assertIn("should be 1 to", self.wrong(2, "symbolicate", "--modules", "examples", "--jobs", "0"))
         self.assertIn("name a folder", self.wrong(1, "symbolicate", os.devnull, "--modules", self.path("no")))
         self.assertIn("there is no .dll", self.wrong(1, "symbolicate", os.devnull, "--modules", self.folder))
         self.assertIn("no.jsonl: ", self.wrong(1, "symbolicate", self.path("no.jsonl"), "--modules", "examples/bank"))
-        self.assertIn("one of them", self.wrong(2, "symbolicate", os.devnull, "--json", "--text", "--modules", "examples"))
+        self.assertIn("one of them", self.wrong(2, "symbolicate", "--json", "--text", "--modules", "examples"))
 
     def test_progress_is_for_a_terminal(self):
         lines = [json.dumps({**json.loads(FRAMES[0][0]), "id": i}) for i in range(60000)]
@@ -626,7 +664,8 @@ class Symbolicate(Tool):
             def isatty(self):
                 return True
 
-        for file, wanted in ((Terminal(), "\r\x1b[K[###############...............]  50% 7 frames\r\x1b[K"), (io.StringIO(), "")):
+        shown = "\r\x1b[K[###############...............]  50% 7 frames\r\x1b[K"
+        for file, wanted in ((Terminal(), shown), (io.StringIO(), "")):
             bar = _tool_screen.Bar(file, 100)
             bar.at(10, 1)
             bar._next = time.monotonic()

@@ -61,7 +61,8 @@ def base_file(word: str) -> str:
         if os.path.isfile(path) or (path != word and os.path.exists(path)):
             return path
     if os.path.isdir(word):
-        raise Problem(f"{safe(word)} is a folder: name the module in it, such as {safe(os.path.join(word, 'bank.dll'))}")
+        within = os.path.join(word, "bank.dll")
+        raise Problem(f"{safe(word)} is a folder: name the module in it, such as {safe(within)}")
     if os.path.exists(word):
         return word
     raise _no_file("module", word, tried[:2], ENDINGS)
@@ -96,6 +97,8 @@ def distinct(words: List[str]) -> List[str]:
         if meta != last or word in meant:
             found.append(word)
             last, meant = meta, []
+        elif _files.delta_paths(os.path.splitext(meta)[0])[0] == meta:
+            found[-1] = os.path.splitext(meta)[0]
         meant.append(word)
     return found
 

@@ -28,6 +28,7 @@ def completion_parser() -> Parser:
 
 
 def _options(command: Command) -> List[argparse.Action]:
+    """The options of a command."""
     return command.parser().options()
 
 
@@ -42,19 +43,21 @@ def _values(command: Command) -> Dict[str, List[str]]:
 
 
 def _takes_value(action: argparse.Action) -> bool:
+    """Whether a value stands behind an option."""
     return action.nargs != 0
 
 
 def _takes_file(action: argparse.Action) -> bool:
+    """Whether that is the name of a file or a folder."""
     return _takes_value(action) and action.metavar in ("FILE", "DIR", "NAME=BASE[,DELTA..]")
 
 
 def _bash(commands: Sequence[Command]) -> str:
     """The script for bash."""
-    cases, values = [], {}
+    cases, values, names = [], {}, " ".join(one.name for one in commands)
     for command in commands:
-        names = " ".join(name for action in _options(command) for name in action.option_strings)
-        cases.append(f'        {command.name}) options="{names}" ;;')
+        options = " ".join(name for action in _options(command) for name in action.option_strings)
+        cases.append(f'        {command.name}) options="{options}" ;;')
         values.update({name: " ".join(words) for name, words in _values(command).items()})
     of_values = [f'        {name}) words="{words}" ;;' for name, words in values.items()]
     lines = [
@@ -62,7 +65,7 @@ def _bash(commands: Sequence[Command]) -> str:
         "    local word=${COMP_WORDS[COMP_CWORD]} before=${COMP_WORDS[COMP_CWORD-1]} options= words=",
         "    COMPREPLY=()",
         '    if [ "$COMP_CWORD" = 1 ]; then',
-        f'        mapfile -t COMPREPLY < <(compgen -W "{" ".join(one.name for one in commands)} --help --version" -- "$word")',
+        f'        mapfile -t COMPREPLY < <(compgen -W "{names} --help --version" -- "$word")',
         "        return",
         "    fi",
         "    case ${COMP_WORDS[1]} in",

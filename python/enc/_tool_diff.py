@@ -4,6 +4,7 @@ from __future__ import annotations
 
 import argparse
 import shutil
+import sys
 from typing import Any, Iterator, List
 
 from . import _sides
@@ -46,16 +47,10 @@ def diff(given: argparse.Namespace, screen: Screen) -> int:
         title = f"{file_name(given.base)} and {some(len(chain.paths) - 1, 'delta')}"
         screen.document(facts_of(title, facts, None))
         return 0
-    columns = given.width or (shutil.get_terminal_size((_WIDTH, 24)).columns if _on_terminal() else _WIDTH)
-    for line in _lines(chain, facts, columns if given.side_by_side else 0, screen):
+    wide = shutil.get_terminal_size((_WIDTH, 24)).columns if is_terminal(sys.stdout) else _WIDTH
+    for line in _lines(chain, facts, given.width or wide if given.side_by_side else 0, screen):
         screen.put(line)
     return 0
-
-
-def _on_terminal() -> bool:
-    import sys
-
-    return is_terminal(sys.stdout)
 
 
 def _lines(chain: Chain, facts: Facts, width: int, screen: Screen) -> Iterator[str]:
@@ -78,6 +73,7 @@ def _lines(chain: Chain, facts: Facts, width: int, screen: Screen) -> Iterator[s
 
 
 def _counts(head: Head) -> str:
+    """How many rows a delta inserts and updates."""
     return f"  {some(head.inserted, 'row')} inserted, {head.updated:,} updated"
 
 

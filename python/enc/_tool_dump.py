@@ -140,8 +140,10 @@ def _generation(module: Module, number: int) -> Dict[str, Any]:
     """A generation."""
     entries = module.entries(number) if number else []
     inserted = sum(1 for entry in entries if entry.inserted)
-    about = {"is": "generation", "generation": number, "encId": str(module.enc_id(number)) if number else None}
-    return {**about, "inserted": inserted, "updated": len(entries) - inserted, "heaps": module.lengths(number)._asdict()}
+    enc_id = str(module.enc_id(number)) if number else None
+    about: Dict[str, Any] = {"is": "generation", "generation": number, "encId": enc_id}
+    about.update(inserted=inserted, updated=len(entries) - inserted, heaps=module.lengths(number)._asdict())
+    return about
 
 
 def _tokens(module: Module, wanted: dumping.Wanted) -> Iterator[Tuple[Token, Optional[str]]]:
@@ -163,13 +165,15 @@ def _rows(module: Module, wanted: dumping.Wanted, names: dumping.Names) -> Itera
     for token, change in _tokens(module, wanted):
         row: Printed = printed(first_lines(module.text(token)))
         cells = {name: unescaped(cell[1:-1]) if cell[:1] == '"' else cell for name, cell in row.cells.items()}
-        about: Dict[str, Any] = {"is": "row", "token": str(token), "table": token.table, "name": names.of(token) or None}
-        about.update(generation=row.place[0], position=row.place[1], columns=cells)
+        about: Dict[str, Any] = {"is": "row", "token": str(token), "table": token.table}
+        about.update(name=names.of(token) or None, generation=row.place[0], position=row.place[1], columns=cells)
         about["owner"] = str(Token(row.owner)) if row.owner else None
         yield {**about, "change": change} if change else about
 
 
-def _own(part: bytes, number: int, begins: Optional[Dict[str, int]], wanted: dumping.Wanted) -> Iterator[Dict[str, Any]]:
+def _own(
+    part: bytes, number: int, begins: Optional[Dict[str, int]], wanted: dumping.Wanted
+) -> Iterator[Dict[str, Any]]:
     """What a generation's own file has beside rows: of a delta EncLog and EncMap, and the heaps."""
     if number:
         try:

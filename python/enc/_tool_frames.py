@@ -118,17 +118,21 @@ class Desk:
         self._plain = {plain_name(name): name for name in modules}
         self._opened: Dict[str, Tuple[Module, FullNames]] = {}
         self._failed: Dict[str, str] = {}
-        self._bodies: Dict[Tuple[str, Any, Any], _Body] = {}
+        self._bodies: Dict[Tuple[Any, ...], _Body] = {}
 
     def answer(self, line: bytes) -> str:
         """The line with name, document and line; `BadLine` where it is no frame of a module that is given."""
         frame = self._read(line)
         body, at = self._placed(frame)
         line = line.strip()
-        if any(name in frame for name in _ADDED) or not line.isascii() or b"\r" in line:
-            document, number = body.said[at]
+        is_plain = line.isascii() and line[-1:] == b"}" and b"\r" not in line and b"\0" not in line
+        if is_plain and not any(name in frame for name in _ADDED):
+            return line.decode("ascii")[:-1].rstrip() + body.json[at]
+        document, number = body.said[at]
+        try:
             return json.dumps({**frame, "name": body.name, "document": document, "line": number})
-        return line.decode("ascii")[:-1].rstrip() + body.json[at]
+        except RecursionError:
+            raise BadLine("its values lie too deep in each other") from None
 
     def told(self, line: bytes) -> str:
         """The same as one line of text, as a stack trace has it."""
@@ -156,13 +160,14 @@ class Desk:
         offset = frame["offset"]
         if type(offset) is not int or offset < 0:
             offset = _whole(offset, _OFFSET, "offset", 'a number from 0, or such as "IL_000b"')
-        key = (frame["module"], frame["token"], frame.get("generation"))
+        token, generation = frame["token"], frame.get("generation")
+        key = (frame["module"], token, generation, type(token), type(generation))
         try:
             body = self._bodies.get(key)
         except TypeError:
             body = None
         if body is None:
-            body = self._body(*key)
+            body = self._body(*key[:3])
             if len(self._bodies) >= _MOST_BODIES:
                 self._bodies.clear()
             self._bodies[key] = body

@@ -66,6 +66,7 @@ class FullNames(Names):
         return self._full[token]
 
     def _full_of(self, token: Token, depth: int) -> str:
+        """The full name of a row that isn't known yet."""
         if not self.has(token):
             return ""
         if token.table in _TYPES:
@@ -79,6 +80,7 @@ class FullNames(Names):
         return "" if text == str(token) else text
 
     def _full_type(self, token: Token, depth: int) -> str:
+        """The full name of a type."""
         space, own = (self._module._own_name(token, column) for column in ("TypeNamespace", "TypeName"))
         name = f"{space}.{own}" if space else own
         if token.table == "TypeDef":
@@ -118,6 +120,7 @@ class FullNames(Names):
             return f"[{self._blob(token).hex()}]"
 
     def _reference_text(self, token: Token) -> str:
+        """The signature of a member of another assembly."""
         blob, scope = self._blob(token), self._scope_of(self.row(token))
         if signatures.is_field(blob):
             return self._type_text(signatures.field(blob), scope, SHORT)
@@ -160,6 +163,7 @@ def _spellings(names: FullNames, one: Named, with_parameters: bool) -> List[str]
 
 
 def _plain(name: str, ignore_case: bool) -> str:
+    """A name as it is compared."""
     name = name.replace("/", "+")
     return name.lower() if ignore_case else name
 
@@ -225,7 +229,8 @@ def _row(names: FullNames, module: Module, token: Token, tables: Sequence[str]) 
         except NoRow as missing:
             raise Problem(str(missing)) from None
     if tables == ("MethodDef",) and token.table != "MethodDef":
-        raise Problem(f"{token} is {kind_of(token)} {names.full(token)}, and no method: the tokens of methods begin with 06")
+        about = f"{token} is {kind_of(token)} {names.full(token)}"
+        raise Problem(f"{about}, and no method: the tokens of methods begin with 06")
     return Named(token, names.full(token))
 
 

@@ -110,7 +110,8 @@ def show(given: argparse.Namespace, screen: Screen) -> int:
     found = meant(names, chain.module, given.name)
     there = [one for one in found if one.token in view]
     if not there:
-        raise Problem(f"{found[0].token} {found[0].name} isn't there at generation {given.generation}: a later one adds it")
+        about = f"{found[0].token} {found[0].name}"
+        raise Problem(f"{about} isn't there at generation {given.generation}: a later one adds it")
     shown = [_shown(view, names, one) for one in there]
     if given.json:
         screen.document([one.fields() for one in shown])
@@ -126,7 +127,9 @@ def show(given: argparse.Namespace, screen: Screen) -> int:
 class _Shown:
     """A row that is shown."""
 
-    def __init__(self, named: Named, names: FullNames, row: Printed, il: List[_sides.Line], points: List[Point]) -> None:
+    def __init__(
+        self, named: Named, names: FullNames, row: Printed, il: List[_sides.Line], points: List[Point]
+    ) -> None:
         self.named = named
         self.names = names
         self.row = row
@@ -142,6 +145,7 @@ class _Shown:
         return found
 
     def _beside(self, token: str) -> str:
+        """A token and its name."""
         name = self.names.full(Token(token))
         return f"{token} {name}".rstrip()
 
@@ -154,8 +158,7 @@ class _Shown:
             for one in self.il
         ]
         columns = {name: unescaped(cell[1:-1]) if cell[:1] == '"' else cell for name, cell in self.row.cells.items()}
-        place = {"generation": generation, "position": position}
-        about = {**_fields(self.named, self.names), **place, "columns": columns}
+        about = {**_fields(self.named, self.names), "generation": generation, "position": position, "columns": columns}
         owner = str(Token(self.row.owner)) if self.row.owner else None
         points = [_point_fields(point) for point in self.points]
         return {**about, "owner": owner, "children": children, "il": code, "points": points}

@@ -74,6 +74,7 @@ class Bar:
             self._file.flush()
 
     def _text(self, done: int, count: int) -> str:
+        """The bar."""
         if not self._total:
             return f"{count:,} frames"
         part = min(1.0, done / self._total)

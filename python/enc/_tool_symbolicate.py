@@ -18,7 +18,9 @@ from ._tool_frames import BadLine, Desk, Files, folder_modules, given_module
 from ._tool_screen import Bar, Screen
 from ._tool_words import Parser, Problem, finished, safe
 
-# How many lines a process is given at once, and how many such heaps wait for each process.
+# How many lines are answered at once by this process, how many one of several is given, and how many such heaps wait
+# for each.
+_FEW = 200
 _LINES = 2000
 _WAITING = 3
 _MOST_JOBS = 256
@@ -37,7 +39,7 @@ class Answered(NamedTuple):
 
     text: str
     bad: List[str]
-    count: int
+    lines: int
     size: int
 
 
@@ -81,7 +83,10 @@ def _checked(given: argparse.Namespace) -> List[str]:
     for path in given.files:
         if path != "-":
             open(path, "rb").close()
-    return given.files or ["-"]
+    files: List[str] = given.files or ["-"]
+    if "-" in files and sys.stdin is None:
+        raise Problem("standard input is closed: name a file with frames")
+    return files
 
 
 def _total(files: List[str]) -> Optional[int]:
@@ -105,10 +110,28 @@ def _heaps(file: BinaryIO, name: str, count: int) -> Iterator[Numbered]:
         yield Numbered(name, first, lines)
 
 
+def _as_they_come(file: Any) -> Iterator[Numbered]:
+    """The lines of a pipe or a terminal: as many at once as are there, so that none waits for the next."""
+    first, begun = 1, []
+    while True:
+        part = file.read1(1 << 16)
+        *whole, rest = part.split(b"\n")
+        if whole or not part:
+            begun.append(whole[0] if whole else b"")
+            lines = [line + b"\n" for line in (b"".join(begun), *whole[1:])]
+            yield Numbered("", first, lines)
+            first, begun = first + len(lines), []
+        if not part:
+            return
+        begun.append(rest)
+
+
 def _read(files: List[str], count: int) -> Iterator[Numbered]:
     """The lines of all files, so many at once."""
     for path in files:
-        if path == "-":
+        if path == "-" and count < _LINES and _total([path]) is None:
+            yield from _as_they_come(sys.stdin.buffer)
+        elif path == "-":
             yield from _heaps(sys.stdin.buffer, "", count)
         else:
             with open(path, "rb") as file:
@@ -150,10 +173,9 @@ def _work(lines: Numbered, as_text: bool) -> Answered:
 
 
 def _by_one(modules: Dict[str, Files], files: List[str], as_text: bool) -> Iterator[Answered]:
-    """The answers of this process, line by line where they come so."""
+    """The answers of this process."""
     desk = Desk(modules)
-    count = 1 if files == ["-"] and _total(files) is None else 200
-    for lines in _read(files, count):
+    for lines in _read(files, _FEW):
         yield _answered(desk, lines, as_text)
 
 
@@ -192,14 +214,18 @@ def symbolicate(given: argparse.Namespace, screen: Screen) -> int:
     try:
         for answered in made:
             _put(answered, bar)
-            counts = [counts[0] + answered.count, counts[1] + answered.size, counts[2] + len(answered.bad)]
+            counts = [counts[0] + answered.lines, counts[1] + answered.size, counts[2] + len(answered.bad)]
             bar.at(counts[1], counts[0])
+            if "-" in files:
+                sys.stdout.flush()
     finally:
         bar.clear()
+    sys.stdout.flush()
     if counts[2]:
         raise Problem(f"{counts[2]:,} of {some(counts[0], 'line')} {_passed(counts[2])}: the others are printed")
     return 0
 
 
 def _passed(count: int) -> str:
+    """What has happened to bad lines."""
     return "is passed over" if count == 1 else "are passed over"

@@ -127,15 +127,16 @@ def main(words: Optional[List[str]] = None) -> int:
     wrong words, 3 where memory ran out, 5 where the output can't be written."""
     _ready()
     try:
-        status = _run(sys.argv[1:] if words is None else words)
+        try:
+            status = _run(sys.argv[1:] if words is None else words)
+        except SystemExit as end:
+            status = end.code if isinstance(end.code, int) else 0
         sys.stdout.flush()
         return status
     except Problem as problem:
         return _after(problem)
     except Refused as refused:
         return _after(Problem(refusal_line(refused)))
-    except SystemExit as end:
-        return end.code if isinstance(end.code, int) else 0
     except OSError as error:
         return _of_system(error)
     except KeyboardInterrupt:
