@@ -404,6 +404,18 @@ class Words(Tool):
         self.assertEqual(self.right("help", "find"), self.right("find", "--help"))
         self.assertEqual(self.right("--version"), f"enc-tool {enc.__version__}\n")
 
+    def test_the_examples_of_help(self):
+        for command in COMMANDS[:6]:
+            example = self.right(command.name, "--help").split("example:\n")[1].replace("'", "")
+            program, *words = example.split()
+            self.assertEqual((program, words[0]), ("enc-tool", command.name))
+            self.assertTrue(self.right(*words))
+
+    def test_without_a_library(self):
+        status, out, said = apart("methods", BANK, ENC_LIBRARY=self.path("no.so"))
+        self.assertEqual((status, out, said.count("\n")), (1, "", 1))
+        self.assertIn("ENC_LIBRARY may name a libenc.so", said)
+
     def test_wrong_words(self):
         self.assertIn("no command is given", self.wrong(2))
         self.assertIn("there is no command fnd: did you mean find?", self.wrong(2, "fnd"))

@@ -104,6 +104,9 @@ def _of_system(error: OSError) -> int:
     written."""
     if isinstance(error, BrokenPipeError) or error.errno == errno.EPIPE:
         return _quiet()
+    if error.errno is None:
+        _say(str(error))
+        return 1
     if error.filename is None:
         _say(f"standard output: {error.strerror or error}")
         return _quiet()
